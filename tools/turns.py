@@ -1,5 +1,5 @@
 #!/usr/bin/env python3
-"""Runs the gates of two checkouts in turns of half a minute, so that both have the same machine to themselves.
+"""Runs the gates of two checkouts, each from nothing, in turns of half a minute. So both have the same machine to themselves.
 
 usage: tools/turns.py OTHER [LOG]        this checkout's gate, and the gate of the folder OTHER; logs are LOG.this and LOG.other (default: gate)
 
@@ -56,7 +56,7 @@ class Gate:
 
     def __init__(self, name, top, log):
         self.name, self.sums = name, [0.0] * 4
-        command = [sys.executable, f"{HERE}/tools/gate.py", "-C", top]
+        command = [sys.executable, f"{HERE}/tools/gate.py", "-C", top, "rt", "ci", "--anew"]
         with open(log, "w", encoding="utf-8") as it:
             self.running = subprocess.Popen(command, stdin=subprocess.DEVNULL, stdout=it, stderr=subprocess.STDOUT)
         self.session = None
