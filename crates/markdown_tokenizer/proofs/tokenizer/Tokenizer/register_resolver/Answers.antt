@@ -1,6 +1,13 @@
 use Rattle.markdown_tokenizer.proofs.Runs.Resolvers.{turned}
-use Rattle.markdown_tokenizer.proofs.Prelude.{sym, ◌∙◌, IsDistinct-push}
+use Rattle.markdown_tokenizer.proofs.Prelude.{sym, ◌∙◌, rules, IsDistinct-push}
 use Rattle.markdown_tokenizer.proofs.tokenizer.Tokenizer.register_resolver.Goals as goal
+
+-- the next two for wrong bodies: the search finds them, and takes long where they are false
+pub invariant_of-self : goal.invariant_of-self
+invariant_of-self g c = search rules
+
+pub returns-then-contains-clause-ok : goal.returns-then-contains-clause-ok
+returns-then-contains-clause-ok g c = search rules
 
 pub invariant_of-self-2 : goal.invariant_of-self-2
 invariant_of-self-2 g c =
