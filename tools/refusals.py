@@ -1,10 +1,10 @@
 #!/usr/bin/env python3
-"""Makes one allocation fail in each test of mdtests and mdevents: the first one, then the second, and so on, up to a given number
-(default 20). Prints a row for each: how many tests passed, and how many ended as memory ran out.
+"""Makes one allocation fail in each test of mdtests: the first one, then the second, and so on, up to a given number (default 20).
+Prints a row for each: how many tests passed, and how many ended as memory ran out.
 
-Some tests must pass whichever allocation fails: in mdtests the module no_memory, and in mdevents the test that memory is no fault of
-the reader. Any other test of mdtests passes, ends in AllocError, or shows "out of memory" in what it compares. Any other test of
-mdevents may fail, as it compares without showing. The status is 1 if anything else is seen. Needs rt.
+Some tests must pass whichever allocation fails: the module no_memory, and the test that memory is no fault of the reader. The other
+tests of the program may fail, as they compare without showing. Any other test passes, ends in AllocError, or shows "out of memory" in
+what it compares. The status is 1 if anything else is seen. Needs rt.
 """
 
 import os
@@ -12,12 +12,10 @@ import re
 import subprocess
 import sys
 
-CRATES = os.path.join(os.path.dirname(os.path.abspath(__file__)), "../crates")
-# A crate, what the names of the tests begin with that have to pass, and whether the others show why they fail.
-TESTS = (
-    ("mdtests", "no_memory::", True),
-    ("mdevents", "tests::memory_is_no_fault_of_the_reader", False),
-)
+CRATE = os.path.join(os.path.dirname(os.path.abspath(__file__)), "../crates/mdtests")
+# What the names of the tests begin with that have to pass, and of those that compare without showing.
+PASSES = ("no_memory::", "calls::memory_is_no_fault_of_the_reader")
+SILENT = ("calls::", "written::")
 REFUSED = re.compile(r"Error: AllocError|left: .*out of memory|\bmemory\b")
 
 
@@ -29,35 +27,32 @@ def blocks(said):
         yield name, word == "ok", rest
 
 
-def refuse(number, crate, passes, shows):
-    """Refuses the growth of this number in each test of a crate: the row, and what is seen and may not be."""
+def refuse(number):
+    """Refuses the growth of this number in each test: how many passed, how many did not, and what is seen and may not be."""
     words = ["rt", "try", "--test", "--seconds", "400", "--fail-alloc", str(number)]
-    folder = os.path.join(CRATES, crate)
-    ran = subprocess.run(words, cwd=folder, capture_output=True, text=True, errors="replace")
+    ran = subprocess.run(words, cwd=CRATE, capture_output=True, text=True, errors="replace")
     tests = list(blocks(ran.stdout + ran.stderr))
     failed = [(name, rest) for name, passed, rest in tests if not passed]
     other = [
         name
         for name, rest in failed
-        if name.startswith(passes) or shows and not REFUSED.search(rest)
+        if name.startswith(PASSES) or not name.startswith(SILENT) and not REFUSED.search(rest)
     ]
-    if not any(name.startswith(passes) for name, _, _ in tests):
-        other.append(f"no test {passes} ran")
+    other += [f"no test {it} ran" for it in PASSES if not any(name.startswith(it) for name, _, _ in tests)]
     return len(tests) - len(failed), len(failed), other
 
 
 def main():
     most = int(sys.argv[1]) if len(sys.argv) > 1 else 20
     bad = False
-    print("| Crate | Growth | Passed | Refused |")
-    print("|---|---|---|---|")
-    for crate, passes, shows in TESTS:
-        for number in range(1, most + 1):
-            passed, refused, other = refuse(number, crate, passes, shows)
-            print(f"| {crate} | {number} | {passed} | {refused} |", flush=True)
-            for name in other:
-                print(f"refusals: {crate}, growth {number}: {name}", file=sys.stderr, flush=True)
-            bad = bad or bool(other)
+    print("| Growth | Passed | Refused |")
+    print("|---|---|---|")
+    for number in range(1, most + 1):
+        passed, refused, other = refuse(number)
+        print(f"| {number} | {passed} | {refused} |", flush=True)
+        for name in other:
+            print(f"refusals: growth {number}: {name}", file=sys.stderr, flush=True)
+        bad = bad or bool(other)
     return 1 if bad else 0
 
 

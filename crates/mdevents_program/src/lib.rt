@@ -4,6 +4,7 @@
 
 pub mod arguments;
 mod buffer;
+pub mod call;
 mod digits;
 pub mod failure;
 mod last_point;

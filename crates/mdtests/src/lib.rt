@@ -1,6 +1,8 @@
-//! Tests of the libraries, as a caller sees them. Each library is proved once so, and not again with its tests.
+//! Tests of the libraries and of the program, as a caller sees them. Each library is proved once so, and not again with its tests.
 #![tactic(auto)]
 
+#[cfg(test)]
+mod calls;
 #[cfg(test)]
 mod chunks;
 #[cfg(test)]
@@ -13,6 +15,8 @@ mod edit_map;
 mod every_cut;
 #[cfg(test)]
 mod examples;
+#[cfg(test)]
+mod fakes;
 #[cfg(test)]
 mod machines;
 #[cfg(test)]
@@ -43,3 +47,5 @@ mod tokenizer;
 mod values;
 #[cfg(test)]
 mod walks;
+#[cfg(test)]
+mod written;

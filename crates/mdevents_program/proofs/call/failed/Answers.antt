@@ -1,5 +1,5 @@
 use Rattle.std.proofs.Common.{refl}
-use Rattle.mdevents.proofs.failed.Goals as goal
+use Rattle.mdevents_program.proofs.call.failed.Goals as goal
 
 pub returns : goal.returns
 returns g c = refl

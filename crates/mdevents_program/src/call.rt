@@ -1,0 +1,86 @@
+//! What a call of the program does: what it reads and writes, what it shows on standard error, and its status.
+
+ghost use Rattle.std.specs.Prelude.{◌≡◌, ◌≤◌, IfOk, IfSome, IsErr, IsOkUnless, Ok, None};
+ghost use Rattle.std.specs.Io.KnownBytes.{Keeps};
+ghost use Rattle.std.specs.Process.{exit_status};
+ghost use Rattle.mdevents_program.specs.Program.{Prints, PrintsChosen};
+ghost use Rattle.mdevents_program.specs.Arguments.{CanCut};
+
+use crate::arguments::{Choice, USAGE, read_words};
+use crate::failure::Failure;
+use crate::program::write_events;
+use std::env;
+use std::io::{ErrorKind, Read, Write};
+use std::process::ExitCode;
+use std::rt::Env;
+
+/// Does what the arguments choose. The status is 0 only if all was written, 2 only if nothing was read or written, and
+/// else 1.
+pub fn answer_call<R: Read, W: Write>(
+    rt: &(impl Env + AllocGlobal + Eprint),
+    reader: &mut R,
+    writer: &mut W,
+) -> ExitCode
+    ensures status { exit_status result ≤ 2 }
+    ensures done { exit_status result ≡ 0 → (choice : _) × Prints choice R.remaining reader.old reader.new W.contents writer.old writer.new }
+    ensures reads { exit_status result ≡ 2 → Keeps (R.remaining reader.old) (R.remaining reader.new) }
+    ensures writes { exit_status result ≡ 2 → Keeps (W.contents writer.old) (W.contents writer.new) }
+{
+    let choice = choice_of(rt);
+    answer_choice(rt, choice, reader, writer)
+}
+
+/// Does what was chosen. The status is 0 only if all was written, and 1 if something failed; a line on standard error
+/// then says what. If nothing was chosen, the usage line is shown there, the status is 2, and nothing is read or
+/// written.
+pub fn answer_choice<R: Read, W: Write>(
+    rt: &(impl AllocGlobal + Eprint),
+    choice: Result<Option<Choice>, Failure>,
+    reader: &mut R,
+    writer: &mut W,
+) -> ExitCode
+    requires { IfOk choice (λ choice. IfSome choice CanCut) }
+    ensures status { exit_status result ≤ 2 }
+    ensures done { exit_status result ≡ 0 → PrintsChosen choice R.remaining reader.old reader.new W.contents writer.old writer.new }
+    ensures usage { choice ≡ Ok None → exit_status result ≡ 2 }
+    ensures usage_only { exit_status result ≡ 2 → choice ≡ Ok None }
+    ensures failed { IsErr choice → exit_status result ≡ 1 }
+    ensures reads { choice ≡ Ok None → Keeps (R.remaining reader.old) (R.remaining reader.new) }
+    ensures writes { choice ≡ Ok None → Keeps (W.contents writer.old) (W.contents writer.new) }
+{
+    match choice {
+        Ok(Some(choice)) => match write_events(rt.alloc(), reader, writer, &choice) {
+            Ok(()) => ExitCode::SUCCESS,
+            Err(failure) => failed(rt, failure),
+        },
+        Ok(None) => {
+            let _ = rt.eprintln(USAGE);
+            ExitCode::from(2)
+        }
+        Err(failure) => failed(rt, failure),
+    }
+}
+
+/// Shows a failure on standard error.
+fn failed(rt: &impl Eprint, failure: Failure) -> ExitCode
+    ensures { exit_status result ≡ 1 }
+{
+    let _ = rt.eprintln(failure);
+    ExitCode::FAILURE
+}
+
+/// What the arguments after the program's name choose. An argument that is not UTF-8 is not accepted.
+pub fn choice_of(rt: &(impl Env + AllocGlobal)) -> Result<Option<Choice>, Failure>
+    ensures cut { IfOk result (λ choice. IfSome choice CanCut) }
+    ensures cause { IsOkUnless result Failure.Memory }
+{
+    match env::args(rt) {
+        Ok(mut arguments) => {
+            let _ = arguments.next();
+            let words: Vec<String> = arguments.collect(rt.alloc())?;
+            Ok(read_words(words.as_slice()))
+        }
+        Err(error) if error.kind() == ErrorKind::InvalidData => Ok(None),
+        Err(_) => Err(Failure::Memory),
+    }
+}
