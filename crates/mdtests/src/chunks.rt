@@ -33,33 +33,38 @@ fn event_at(kind: Kind, name: Name, place: Place, link: Option<Link>) -> Event {
     }
 }
 
-/// Appends the events of a row.
-fn push_row(events: &mut Vec<Event>, row: &Row) -> Result<(), AllocError> {
+/// The event of a row, and the one after it if it has two.
+fn events_of(row: &Row) -> (Event, Option<Event>) {
     match *row {
-        Enter(name, place) => events.push(event_at(Kind::Enter, name, place, None))?,
-        Exit(name, place) => events.push(event_at(Kind::Exit, name, place, None))?,
-        Span(name, place, end) => {
-            events.push(event_at(Kind::Enter, name, place, None))?;
-            events.push(event_at(Kind::Exit, name, end, None))?;
-        }
+        Enter(name, place) => (event_at(Kind::Enter, name, place, None), None),
+        Exit(name, place) => (event_at(Kind::Exit, name, place, None), None),
+        Span(name, place, end) => (
+            event_at(Kind::Enter, name, place, None),
+            Some(event_at(Kind::Exit, name, end, None)),
+        ),
         Chunk(place, end, content, previous, next) => {
             let link = Link {
                 previous,
                 next,
                 content,
             };
-            events.push(event_at(Kind::Enter, Name::Data, place, Some(link)))?;
-            events.push(event_at(Kind::Exit, Name::Data, end, None))?;
+            (
+                event_at(Kind::Enter, Name::Data, place, Some(link)),
+                Some(event_at(Kind::Exit, Name::Data, end, None)),
+            )
         }
     }
-    Ok(())
 }
 
 /// The events of rows.
 pub(crate) fn listed(alloc: Global, rows: &[Row]) -> Result<Vec<Event>, AllocError> {
     let mut events = Vec::new(alloc);
     for row in rows {
-        push_row(&mut events, row)?;
+        let (first, second) = events_of(row);
+        events.push(first)?;
+        if let Some(event) = second {
+            events.push(event)?;
+        }
     }
     Ok(events)
 }

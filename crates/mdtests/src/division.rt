@@ -102,6 +102,26 @@ fn told(
     Ok(text)
 }
 
+/// Puts a child in the place of the chain that begins at an index, and returns what was done. A function that owns no lists is proved in
+/// less time.
+fn put_child(
+    alloc: Global,
+    events: &mut Vec<Event>,
+    bytes: &[u8],
+    index: usize,
+    child: &mut Vec<Event>,
+) -> Result<String, AllocError>
+    requires { IsWithinLimit 4 bytes.now }
+{
+    match edits_of(alloc, events.as_slice(), bytes, index, child)? {
+        None => String::from_str(alloc, "not ready"),
+        Some((sums, mut map)) => {
+            map.consume(events)?;
+            told(alloc, sums, child.len(), events.as_slice())
+        }
+    }
+}
+
 /// Puts a child in the place of the chain that begins at an index, in a document of at most 99 bytes.
 fn put(
     alloc: Global,
@@ -115,13 +135,7 @@ fn put(
     }
     let mut events = listed(alloc, list)?;
     let mut child = listed(alloc, child)?;
-    match edits_of(alloc, events.as_slice(), bytes, index, &mut child)? {
-        None => String::from_str(alloc, "not ready"),
-        Some((sums, mut map)) => {
-            map.consume(&mut events)?;
-            told(alloc, sums, child.len(), events.as_slice())
-        }
-    }
+    put_child(alloc, &mut events, bytes, index, &mut child)
 }
 
 /// `"a\nb\nc"`, a line a chunk, in one chain.

@@ -1,5 +1,6 @@
 //! Edits of small lists, with expected lists worked by hand.
 
+ghost use Rattle.markdown.specs.Edits.{AreDisjoint};
 ghost use Rattle.markdown.specs.Events.{EndsBelow};
 ghost use Rattle.std.specs.Prelude.{◌≡◌, ◌*◌, ◌^◌, ◌<◌, ◌≤◌, length, All, None, IfOk, IfSome};
 
@@ -33,54 +34,75 @@ fn linked(previous: Option<usize>, next: Option<usize>) -> Event
     Event { link, ..event(1) }
 }
 
-/// The columns of events, which identify them.
-fn columns(alloc: Global, events: &[Event]) -> Result<String, AllocError> {
+/// Makes the edits of a map, and returns the columns of the events then, which identify them.
+fn edited(alloc: Global, events: &mut Vec<Event>, map: &mut EditMap) -> Result<String, AllocError>
+    requires disjoint { AreDisjoint 0 map.old (length events.old.items) }
+    requires ends { All (EndsBelow (length events.old.items)) events.old.items }
+{
+    map.consume(events)?;
     let mut text = String::new(alloc);
-    for event in events {
+    for event in events.iter() {
         write!(text, "{} ", event.point.column)?;
     }
     Ok(text)
 }
 
-/// Six events, with three edits at index 2.
-fn edits_at_one_index(alloc: Global) -> Result<String, AllocError> {
-    let events = [event(1), event(2), event(3), event(4), event(5), event(6)];
-    let mut events = Vec::from_array(alloc, events)?;
+/// Three edits at index 2, of six events.
+fn three_edits(alloc: Global) -> Result<EditMap, AllocError>
+    ensures { IfOk result (λ map. AreDisjoint 0 map 6) }
+{
     let mut map = EditMap::new(alloc);
     map.add(2, 2, vec![in alloc; event(91)]?)?;
     map.add(2, 0, vec![in alloc; event(92)]?)?;
     map.add_before(2, 0, vec![in alloc; event(93)]?)?;
-    map.consume(&mut events)?;
-    columns(alloc, events.as_slice())
+    Ok(map)
 }
 
-/// An addition at the end, and an edit that is none.
-fn added_at_end(alloc: Global) -> Result<String, AllocError> {
-    let mut events = Vec::from_array(alloc, [event(1), event(2)])?;
+/// Six events, with three edits at index 2.
+fn edits_at_one_index(alloc: Global) -> Result<String, AllocError> {
+    let events = [event(1), event(2), event(3), event(4), event(5), event(6)];
+    let mut map = three_edits(alloc)?;
+    let mut events = Vec::from_array(alloc, events)?;
+    edited(alloc, &mut events, &mut map)
+}
+
+/// An edit that is none, and an addition at the end, of two events.
+fn addition_at_end(alloc: Global) -> Result<EditMap, AllocError>
+    ensures { IfOk result (λ map. AreDisjoint 0 map 2) }
+{
     let mut map = EditMap::new(alloc);
     map.add(0, 0, Vec::new(alloc))?;
     map.add(2, 0, vec![in alloc; event(91)]?)?;
-    map.consume(&mut events)?;
-    columns(alloc, events.as_slice())
+    Ok(map)
 }
 
-/// An addition in front of twenty-four that are there.
-fn added_in_front_of_many(alloc: Global) -> Result<String, AllocError> {
-    let mut events = Vec::from_array(alloc, [event(1), event(2)])?;
+/// An addition in front of twenty-four that are there, of two events.
+fn addition_before_many(alloc: Global) -> Result<EditMap, AllocError>
+    ensures { IfOk result (λ map. AreDisjoint 0 map 2) }
+{
     let mut map = EditMap::new(alloc);
     map.add(1, 0, Vec::from_array(alloc, [event(9); 24])?)?;
     map.add_before(1, 0, vec![in alloc; event(8)]?)?;
-    map.consume(&mut events)?;
-    columns(alloc, events.as_slice())
+    Ok(map)
+}
+
+/// Two events, with these edits.
+fn two_edited(alloc: Global, mut map: EditMap) -> Result<String, AllocError>
+    requires { AreDisjoint 0 map 2 }
+{
+    let mut events = Vec::from_array(alloc, [event(1), event(2)])?;
+    edited(alloc, &mut events, &mut map)
 }
 
 #[test]
 fn small_edits_are_made(rt: HostRuntime) -> Result<(), AllocError> {
     let alloc = rt.alloc();
     assert_shown(&rt, edits_at_one_index(alloc), "1 2 93 91 92 5 6 ")?;
-    assert_shown(&rt, added_at_end(alloc), "1 2 91 ")?;
+    let at_end = addition_at_end(alloc)?;
+    assert_shown(&rt, two_edited(alloc, at_end), "1 2 91 ")?;
     let want = "1 8 9 9 9 9 9 9 9 9 9 9 9 9 9 9 9 9 9 9 9 9 9 9 9 9 2 ";
-    assert_shown(&rt, added_in_front_of_many(alloc), want)
+    let before_many = addition_before_many(alloc)?;
+    assert_shown(&rt, two_edited(alloc, before_many), want)
 }
 
 /// The enter of the span that is `apart` spans before span k.
@@ -109,7 +131,7 @@ fn enter_behind(k: usize, apart: usize, count: usize) -> Option<usize>
 }
 
 /// Spans, one after the other, in as many chains as they are apart: event 2 k enters span k, and is linked to the enters of its
-/// neighbours.
+/// neighbours. The event after it is at column 2 k + 2.
 fn chains(alloc: Global, count: usize, apart: usize) -> Result<Vec<Event>, AllocError>
     requires { 2 * count < 2 ^ 64 }
     ensures len { IfOk result (λ v. length v.items ≡ 2 * count) }
@@ -118,7 +140,7 @@ fn chains(alloc: Global, count: usize, apart: usize) -> Result<Vec<Event>, Alloc
     let mut events = Vec::new(alloc);
     for k in 0..count {
         events.push(linked(enter_before(k, apart), enter_behind(k, apart, count)))?;
-        events.push(event(2))?;
+        events.push(event(2 * k + 2))?;
     }
     Ok(events)
 }
@@ -146,9 +168,9 @@ fn end_removed(alloc: Global) -> Result<String, AllocError> {
 fn ends_of_links_are_moved_or_removed(rt: HostRuntime) -> Result<(), AllocError> {
     let want =
         "enter Data 1:1 (0+0) Text None Some(6); enter Data 1:91 (0+0); enter Data 1:92 (0+0); \
-        enter Data 1:2 (0+0); enter Data 1:1 (0+0) Text None Some(8); enter Data 1:2 (0+0); \
-        enter Data 1:1 (0+0) Text Some(0) None; enter Data 1:2 (0+0); enter Data 1:1 (0+0) Text Some(4) None; \
-        enter Data 1:2 (0+0)";
+        enter Data 1:2 (0+0); enter Data 1:1 (0+0) Text None Some(8); enter Data 1:4 (0+0); \
+        enter Data 1:1 (0+0) Text Some(0) None; enter Data 1:6 (0+0); enter Data 1:1 (0+0) Text Some(4) None; \
+        enter Data 1:8 (0+0)";
     assert_shown(&rt, chains_moved(rt.alloc()), want)?;
     let want = "enter Data 1:1 (0+0) Text None None; enter Data 1:2 (0+0)";
     assert_shown(&rt, end_removed(rt.alloc()), want)
@@ -171,7 +193,7 @@ fn edits_from_the_last_to_the_first_are_made(rt: HostRuntime) {
     let events = chain_edited(rt.alloc()).expect(&rt, "memory");
     assert!(rt; events.len() == 400);
     for (index, event) in events.iter().enumerate() {
-        assert!(rt; event.point.column == [91, 92, 1, 2][index % 4]);
+        assert!(rt; event.point.column == [91, 92, 1, index / 2 + 1][index % 4]);
         if index % 4 == 2 {
             let previous = index.checked_sub(4);
             let next = index.checked_add(4).filter(|next| *next < 400);
