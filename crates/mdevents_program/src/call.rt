@@ -69,7 +69,10 @@ fn failed(rt: &impl Eprint, failure: Failure) -> ExitCode
     ExitCode::FAILURE
 }
 
-/// What the arguments after the program's name choose. An argument that is not UTF-8 is not accepted.
+/// What the arguments after the program's name choose; `None` if they are not accepted. An argument that is not UTF-8 is not
+/// accepted.
+///
+/// It fails only with `Memory`.
 pub fn choice_of(rt: &(impl Env + AllocGlobal)) -> Result<Option<Choice>, Failure>
     ensures cut { IfOk result (λ choice. IfSome choice CanCut) }
     ensures cause { IsOkUnless result Failure.Memory }
