@@ -32,15 +32,18 @@ def processes():
 def send(session, sign):
     """Holds each process of a session still, or lets it go on. What was made meanwhile is met by the next look."""
     while True:
-        states = {it: state for it, state, _, its in processes() if its == session and state != "Z"}
-        wanted = [it for it, state in states.items() if (state == "T") == (sign == signal.SIGCONT)]
-        for process in wanted:
-            try:
-                os.kill(process, sign)
-            except ProcessLookupError:
-                pass
+        found = [(it, state, parent) for it, state, parent, its in processes() if its == session and state != "Z"]
+        wanted = [(it, sign) for it, state, _ in found if (state == "T") == (sign == signal.SIGCONT)]
         if not wanted:
             return
+        # what starts another process waits (D), and cannot be held, until that one runs
+        starting = {it for it, state, _ in found if state == "D"}
+        wanted += [(it, signal.SIGCONT) for it, state, parent in found if state == "T" and parent in starting]
+        for process, its in wanted:
+            try:
+                os.kill(process, its)
+            except ProcessLookupError:
+                pass
         time.sleep(0.02)
 
 
