@@ -1,7 +1,10 @@
 #!/usr/bin/env python3
-"""Checks README.md and docs/ against the files that they name. Prints what fails, and ends with 1 if something does.
+"""Checks README.md and docs/ against the files that they name, and the wrong bodies against their table. Prints what fails, and ends
+with 1 if something does.
 
-usage: tools/docs.py [--take]        with --take each code block is first rewritten from the items that it names
+usage: tools/docs.py [--take] [--hand-in]
+  --take     each code block is first rewritten from the items that it names, and the numbers of wrong bodies are put in
+  --hand-in  also fails if crates changed since the last whole gate, or if a change can reach a wrong body since it was last rejected
 
 A fence names its file behind the language, and the items that it shows: ```rust crates/C/src/f.rt item item. `*` is the whole
 file. With no item each stretch between blank lines is text of the file. A block of code that names no file fails. Shown with items are the `use` lines that they need.
@@ -13,6 +16,10 @@ import subprocess
 import sys
 
 TOP = os.path.dirname(os.path.dirname(os.path.realpath(__file__)))
+sys.path.insert(0, f"{TOP}/wrong-bodies")
+sys.dont_write_bytecode = True
+import table  # noqa: E402
+
 FILES = subprocess.run(["git", "-C", TOP, "ls-files", "-co", "--exclude-standard"], capture_output=True, text=True).stdout.split("\n")
 FILES = [f for f in FILES if f and os.path.exists(f"{TOP}/{f}")]
 PATHS = set(FILES) | {f[:i] for f in FILES for i in range(len(f)) if f[i] == "/"}
@@ -26,6 +33,11 @@ PATH = re.compile(r"(?:\w+::)+\{?\w+\}?")  # markdown::tokenizer
 LEMMAS = re.compile(r"[A-Z]\w+\.[A-Z]\w+")  # Runs.Whole
 CITED = re.compile(r"Rattle\.(\w+)\.(specs|proofs)((?:\.\w+)*)")
 NAME = re.compile(r"[A-Za-z_][\w-]{2,}")
+# Sentences with numbers of wrong bodies
+COUNTED = {
+    "docs/maintaining/GATE.md": "`wrong-bodies/LIST` has all wrong bodies, {all}: `rt ci` tries {gate}, `wrong-bodies/try.sh` {prover}, `wrong-bodies/by_tests.py` {tests}, and `bindings/names.py --check` {script}.",
+    "README.md": "{outside} more wrong bodies are tried outside the gate. `wrong-bodies/LIST` has for each the commit at which it was last rejected.",
+}
 failed = []
 
 
@@ -160,19 +172,55 @@ def definitions():
             failed.extend(f"docs/DEFINITIONS.md: no {name} in {path}" for name in re.findall(r"`([^`]+)`", cells[2]) if name not in here)
 
 
+def counted(page, text, take):
+    """Holds the numbers of wrong bodies that a page has; with `take` they are written anew."""
+    if page not in COUNTED:
+        return text
+    of = [row.who if row.who in ("gate", "prover", "script") else "tests" for row in table.read()[1]]
+    numbers = {"all": len(of), "outside": len(of) - of.count("gate"), **{who: of.count(who) for who in ("gate", "prover", "tests", "script")}}
+    wanted = COUNTED[page].format(**numbers)
+    found = re.search(re.sub(r"\\{\w+\\}", r"\\d+", re.escape(COUNTED[page])), text)
+    if found and take:
+        text = text.replace(found[0], wanted)
+    elif not found or found[0] != wanted:
+        failed.append(f"{page}: not there: {wanted}")
+    return text
+
+
+def last_gate(is_handed_in):
+    """Holds the status of the README against the first row of the gate's page; before handing in also against what changed since."""
+    row = re.search(r"^\| [\d-]+ \| (\w{7,40}), .*?`(\d+ passed, 0 failed)`", read("docs/maintaining/GATE.md"), flags=re.M)
+    status = re.search(r"^Status: .* at commit (\w+), ended with `([^`]+)`", read("README.md"), flags=re.M)
+    if not row or not status or row.groups() != status.groups():
+        failed.append("README.md: its status is not that of the first row of docs/maintaining/GATE.md")
+    if not row or not is_handed_in:
+        return
+    git = ["git", "-C", TOP]
+    if subprocess.run([*git, "cat-file", "-e", f"{row[1]}^{{commit}}"], capture_output=True).returncode:
+        print(f"{row[1]} is not in this history: not asked what changed since")
+        return
+    changed = subprocess.run([*git, "diff", "--name-only", row[1], "--", "crates", "crates.txt", "HANDLES", ".ci"], capture_output=True, text=True).stdout.split()
+    failed.extend([f"docs/maintaining/GATE.md: {len(changed)} files changed since the last whole gate, as {changed[0]}"] if changed else [])
+    for words in (["try.py", "--gate"], ["by_tests.py"]):
+        old = subprocess.run([sys.executable, f"{TOP}/wrong-bodies/{words[0]}", *words[1:], "--old", "--show"], capture_output=True, text=True).stdout
+        failed.extend(f"{line}: not rejected since a change that reaches it" for line in old.split())
+
+
 def main():
     code = "\n".join(read(f) for f in FILES if re.match(r"(crates|bench|bindings|tools|wrong-bodies)/.*\.(rt|antt|py|sh|rs|c|h)$", f) and f != "tools/docs.py")
     source = {"std", "core"} | set(re.findall(r"\w+", code)) | set(re.findall(r"[\w'-]+", code))
     source |= {part for p in PATHS for part in re.findall(r"[\w-]+", os.path.basename(p))} | set(re.findall(r"\w+", " ".join(PATHS)))
     for page in PAGES:
         text = read(page)
-        new = blocks(page, text, "--take" in sys.argv[1:])
+        new = counted(page, blocks(page, text, "--take" in sys.argv[1:]), "--take" in sys.argv[1:])
         if new != text:
             with open(f"{TOP}/{page}", "w", encoding="utf-8") as it:
                 it.write(new)
         names(page, new, source)
     definitions()
     rooms()
+    last_gate("--hand-in" in sys.argv[1:])
+    failed.extend(table.disagreements())
     print("\n".join(failed), end="\n" if failed else "")
     sys.exit(1 if failed else 0)
 

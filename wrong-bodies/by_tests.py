@@ -1,12 +1,13 @@
 #!/usr/bin/env python3
-"""Tries the wrong bodies that meet their contracts, as they return that memory ran out although there is some. No proof can reject
-them, so a test must. Also tries the ones of the program's status. by-tests/LIST has a line for each: the edit, the crate of the test,
-and the test. In place of the test it has "refusals" if only a failing allocation shows it (tools/refusals.py), and "call" if only
-a call of the program with the arguments "--cut 0" shows it, which has status 2.
+"""Tries the wrong bodies of LIST that meet their contracts, as they return that memory ran out although there is some. No proof can
+reject them, so a test must. LIST has for each the path of the test; "refusals" if only a failing allocation shows it
+(tools/refusals.py); "call" if only a call of the program with the arguments "--cut 0" shows it, which has status 2.
 
 Works on a copy of the repository, from which it takes the other tests, and runs "rt try --test", once for edits that have different
-tests. Prints a row for each edit. The status is 1 if the test passes over one. usage: wrong-bodies/by_tests.py [WORD], for the edits
-whose line has the word.
+tests. Prints a row for each edit, and goes on: the test rejects it ("refused"), or passes over it ("PASSED"), or it can't be applied or
+compiled ("BAD EDIT"). Writes the commit of the crates into LIST for those that are rejected. The status is 1 if one is not.
+usage: wrong-bodies/by_tests.py [--old] [--keep] [--show] [WORD..], for the edits whose line in LIST has one of the words; --old is for
+those that have no commit, or since whose commit a source or the edit changed; with --keep LIST stays as it is; --show only prints them.
 """
 
 import os
@@ -16,8 +17,9 @@ import subprocess
 import sys
 import tempfile
 
-HERE = os.path.dirname(os.path.abspath(__file__))
-TOP = os.path.join(HERE, "..")
+sys.dont_write_bytecode = True
+import table  # noqa: E402
+
 TEST = re.compile(r"^( *)(?:///[^\n]*\n *)*#\[test\]\n *fn (\w+)\(.*?^\1\}\n", re.M | re.S)
 MEMORY = "memory_is_no_fault_of_the_reader"
 CALL = "call"
@@ -27,25 +29,12 @@ ALONE = (MEMORY, CALL)
 def copy(room):
     """Copies the repository's crates, without what rt made of them."""
     shutil.copytree(
-        os.path.join(TOP, "crates"),
+        os.path.join(table.TOP, "crates"),
         os.path.join(room, "crates"),
         ignore=shutil.ignore_patterns("out", "must-fail"),
     )
     for name in ("crates.txt", "HANDLES"):
-        shutil.copy(os.path.join(TOP, name), room)
-
-
-def apply(edit, crate):
-    """Applies an edit to a crate."""
-    lines = open(edit).read().splitlines()
-    path = os.path.join(crate, lines[0].removeprefix("file: "))
-    text = open(path).read()
-    for old, new in zip(lines[1::2], lines[2::2]):
-        old, new = old.removeprefix("old: "), new.removeprefix("new: ")
-        if text.count(old) != 1:
-            sys.exit(f"{edit}: its text stands {text.count(old)} times")
-        text = text.replace(old, new)
-    open(path, "w").write(text)
+        shutil.copy(os.path.join(table.TOP, name), room)
 
 
 def keep(crate, wanted):
@@ -53,70 +42,109 @@ def keep(crate, wanted):
     for folder, _, names in os.walk(os.path.join(crate, "src")):
         for name in names:
             path = os.path.join(folder, name)
-            text = open(path).read()
+            text = open(path, encoding="utf-8").read()
             rest = TEST.sub(lambda found: found[0] if found[2] in wanted else "", text)
-            open(path, "w").write(rest)
+            open(path, "w", encoding="utf-8").write(rest)
 
 
-def groups(word):
+def tests_of(row):
+    """Returns the crate of the tests, and the name of the test."""
+    if row.who == CALL:
+        return "mdevents", CALL
+    if row.who == "refusals":
+        return "mdtests", MEMORY
+    return row.who.split("::")[0], row.who.split("::")[-1]
+
+
+def groups(rows):
     """The edits that are tried together: edits of one crate with different tests. Each is then met only by its own test."""
     found = []
-    for line in open(os.path.join(HERE, "by-tests", "LIST")):
-        if word not in line:
-            continue
-        edit, tests, test = line.split()
-        wanted = MEMORY if test == "refusals" else test.split("::")[-1]
-        place = open(os.path.join(HERE, "by-tests", edit + ".edit")).read().split("\nnew:")[0]
+    for row in rows:
+        tests, wanted = tests_of(row)
+        place = open(os.path.join(table.TOP, table.edit_of(row)), encoding="utf-8").read().split("\nnew:")[0]
         for group in found:
             alone = wanted in ALONE or group[0][2] in ALONE
             if not alone and group[0][1] == tests and all(g[2] != wanted and g[3] != place for g in group):
-                group.append((edit, tests, wanted, place))
+                group.append((row, tests, wanted, place))
                 break
         else:
-            found.append([(edit, tests, wanted, place)])
+            found.append([(row, tests, wanted, place)])
     return found
 
 
-def passes(group):
-    """The edits of a group whose tests pass."""
+def tried(group):
+    """Tries a group. Returns what each edit came to: refused, PASSED or BAD EDIT, with why."""
+    came = {}
     with tempfile.TemporaryDirectory() as room:
         copy(room)
         crate = os.path.join(room, "crates", group[0][1])
-        left = {wanted: edit for edit, _, wanted, _ in group}
+        left = {}
+        for row, _, wanted, _ in group:
+            folder = os.path.join(room, "crates", row.crate)
+            texts, why = table.apply(os.path.join(table.TOP, table.edit_of(row)), folder)
+            if texts is None:
+                came[row] = "BAD EDIT", why
+                continue
+            left[wanted] = row
+            for file, text in texts.items():
+                open(os.path.join(folder, file), "w", encoding="utf-8").write(text)
         keep(crate, left)
-        for edit, _, _, _ in group:
-            path = os.path.join(HERE, "by-tests", edit + ".edit")
-            apply(path, os.path.join(room, "crates", edit.split("/")[0]))
+        said = ""
         if CALL in left:
             words = ["rt", "try", "--", "--cut", "0"]
             ran = subprocess.run(words, cwd=crate, input="", capture_output=True, text=True)
             said = ran.stdout + ran.stderr
             ended = re.search(r"^run=ended status=(\d+)", said, re.M)
-            if ended and ended[1] != "2":
-                print("refused", left.pop(CALL), "by its status", flush=True)
-            return left
-        for number in range(9 if MEMORY in left else 1):
+            if ended:
+                came[left.pop(CALL)] = ("refused", "by its status") if ended[1] != "2" else ("PASSED", "status 2")
+        for number in range(9 if MEMORY in left else 1 if left else 0):
             words = ["rt", "try", "--test", "--seconds", "400"]
             words += ["--fail-alloc", str(number)] if number else []
             ran = subprocess.run(words, cwd=crate, capture_output=True, text=True, errors="replace")
             said = ran.stdout + ran.stderr
             for wanted in [w for w in left if number == 0 or w == MEMORY]:
                 if re.search(rf"^test (?:\S*::)?{wanted} \.\.\. FAILED", said, re.M):
-                    print("refused", left.pop(wanted), wanted, flush=True)
-        if left:
-            print(said[-1500:], file=sys.stderr)
-        return left
+                    came[left.pop(wanted)] = "refused", wanted
+        for wanted, row in left.items():
+            passed = re.search(rf"^test (?:\S*::)?{wanted} \.\.\. ok", said, re.M)
+            came[row] = ("PASSED", wanted) if passed else ("BAD EDIT", said[-1500:])
+    bad = [it for it in group if came[it[0]][0] == "BAD EDIT" and it[2] in left]
+    if bad and len(group) > 1:
+        # what can't be compiled hides the others of its group
+        for it in bad:
+            came.update(tried([it]))
+    return came
 
 
-def main():
-    word = sys.argv[1] if len(sys.argv) > 1 else ""
-    bad = False
-    for group in groups(word):
-        for wanted, edit in passes(group).items():
-            print("PASSED ", edit, wanted, flush=True)
-            bad = True
+def is_old(row):
+    """Returns whether a row has no commit, or a source or its edit changed since."""
+    words = ["git", "-C", table.TOP, "diff", "--quiet", row.commit, "--", "crates/*/src", "crates.txt", table.edit_of(row)]
+    return row.commit == "-" or bool(subprocess.run(words, capture_output=True).returncode)
+
+
+def main(words):
+    options = {word for word in words if word.startswith("--")}
+    words = [word for word in words if not word.startswith("--")]
+    at, is_clean = table.state()
+    rows = [row for row in table.read()[1] if row.who not in ("gate", "prover", "script", "?")]
+    rows = [row for row in rows if not words or any(word in " ".join(row) for word in words)]
+    rows = [row for row in rows if "--old" not in options or is_old(row)]
+    if "--show" in options:
+        print("\n".join(map(table.edit_of, rows)))
+        return 0
+    bad = 0
+    for group in groups(rows):
+        came = tried(group)
+        for row, (result, why) in came.items():
+            print(f"{result:<8}  {table.edit_of(row)}  {why}", flush=True)
+            bad += result != "refused"
+        done = [row for row in came if came[row][0] == "refused"]
+        if is_clean and "--keep" not in options and done:
+            head, now = table.read()
+            table.write(head, [row._replace(commit=at) if row in done else row for row in now])
+    print(f"# {len(rows) - bad} of {len(rows)} refused")
     return 1 if bad else 0
 
 
 if __name__ == "__main__":
-    sys.exit(main())
+    sys.exit(main(sys.argv[1:]))

@@ -1,0 +1,239 @@
+#!/usr/bin/env python3
+"""Reads, checks and updates LIST, the table of all wrong bodies. Its head says what the columns are.
+
+usage: wrong-bodies/table.py           updates LIST: a line for each new edit, none for one that is gone. Who tries a new edit of
+                                       by-tests is written by hand, in place of the question mark
+       wrong-bodies/table.py --check   prints what does not agree, and ends with 1 if something does not. tools/docs.py does so too
+"""
+
+import collections
+import glob
+import os
+import re
+import subprocess
+import sys
+
+HERE = os.path.dirname(os.path.realpath(__file__))
+TOP = os.path.dirname(HERE)
+LIST = f"{HERE}/LIST"
+GATE = f"{TOP}/docs/maintaining/GATE.md"
+COLUMNS = ("CRATE", "FUNCTION", "WHAT IS WRONG", "TRIED BY", "COMMIT", "PROMISE")
+HEAD = re.compile(r"( *)(pub )?(?:pub\([^)]*\) )?(?:const |unsafe |extern \"C\" )*fn (\w+)")
+BLOCK = re.compile(r"(?:unsafe )?(impl|trait)\b(.*)")
+CONST = re.compile(r" *(?:pub(?:\([^)]*\))? )?(?:const|static) (\w+)")
+
+Row = collections.namedtuple("Row", "crate function what who commit promise")
+Place = collections.namedtuple("Place", "file module owner trait name public first body last")
+
+
+def edit_of(row):
+    """Returns where the file of a row's edit is, from the top of the repository."""
+    folder = f"crates/{row.crate}/must-fail"
+    if row.who != "gate":
+        is_prover = row.who in ("prover", "script")
+        folder = f"wrong-bodies/{row.crate}" if is_prover else f"wrong-bodies/by-tests/{row.crate}"
+    return f"{folder}/{row.function}-{row.what}.edit"
+
+
+def read():
+    """Returns the head of LIST, and its rows."""
+    lines = open(LIST, encoding="utf-8").read().split("\n")
+    head = [line for line in lines if line.startswith("#")]
+    cells = [re.split(r"  +", line.strip()) for line in lines if line.strip() and not line.startswith("#")]
+    return head, [Row(*them) for them in cells if len(them) == len(COLUMNS) and them != list(COLUMNS)]
+
+
+def write(head, rows):
+    """Writes LIST: the lines of each crate together, in columns."""
+    order = {name: at for at, name in enumerate(crates())}
+    rows = sorted(rows, key=lambda row: (order.get(row.crate, 99), row.function, row.what, row.who))
+    said = list(head)
+    for crate in dict.fromkeys(row.crate for row in rows):
+        own = [COLUMNS] + [row for row in rows if row.crate == crate]
+        wide = [max(len(row[at]) for row in own) for at in range(len(COLUMNS) - 1)]
+        said.append("")
+        said += ["  ".join([cell.ljust(to) for cell, to in zip(row, wide)] + [row[-1]]) for row in own]
+    with open(LIST, "w", encoding="utf-8") as it:
+        it.write("\n".join(said) + "\n")
+
+
+def crates():
+    """Returns the crates that crates.txt lists, and for each the ones below it that it names."""
+    lines = [line for line in open(f"{TOP}/crates.txt").read().split("\n") if line and not line.startswith("#")]
+    return {line.split(":")[0].split()[0]: line.split(":")[1].split() for line in lines}
+
+
+def below(crate):
+    """Returns all crates below a crate."""
+    uses = crates()
+    found = list(uses[crate])
+    for name in found:
+        found += [it for it in uses[name] if it not in found]
+    return found
+
+
+def places(file, text):
+    """Returns the functions and constants of a file of src, in the layout of rt fmt: lines of head, body and end."""
+    lines = text.split("\n")
+    module = ".".join(file.removeprefix("src/").removesuffix(".rt").removesuffix("/mod").split("/"))
+    owner = trait = ""
+    for at, line in enumerate(lines):
+        if m := BLOCK.match(line):
+            said = re.sub(r"<[^<>]*(?:<[^<>]*>[^<>]*)*>", "", m[2].split(" where ")[0]).strip(" {}")
+            trait, _, owner = said.rpartition(" for ") if m[1] == "impl" else ("", "", said)
+            trait, owner = (it.split("::")[-1].strip().split(":")[0].strip("&'_ ") for it in (trait, owner))
+        elif line == "}":
+            owner = trait = ""
+        if m := CONST.match(line):
+            last = next(i for i in range(at, len(lines)) if lines[i].endswith(";"))
+            yield Place(file, module, owner * (line[0] == " "), "", m[1], False, at, at, last)
+        if not (m := HEAD.match(line)):
+            continue
+        body = at
+        while not re.fullmatch(rf"{m[1]}\{{\}}?|{m[1]}[)f\w].*(\{{|\}}|;)", lines[body]):
+            body += 1
+        last = body
+        while lines[body].endswith("{") and lines[last] != m[1] + "}":
+            last += 1
+        inside = bool(m[1])
+        yield Place(file, module, owner * inside, trait * inside, m[3], bool(m[2]), at, body, last)
+
+
+def apply(path, folder):
+    """Applies an edit to the texts of a crate. Returns the texts that it changes by their file, and the lines that it is made at
+    (the file, the line, and the text as it is just before), or why it can't be applied."""
+    file, old, texts, made = "", None, {}, []
+    for line in open(path, encoding="utf-8").read().split("\n"):
+        if line.startswith("file: "):
+            file = line[6:].strip()
+        elif line.startswith("old: "):
+            old = line[5:]
+        elif line.startswith("new:"):
+            if not file or old is None or not os.path.isfile(f"{folder}/{file}"):
+                return None, f"there is no file {file}"
+            text = texts.get(file) or open(f"{folder}/{file}", encoding="utf-8").read()
+            if text.count(old) != 1:
+                return None, f"its text is in {file} {text.count(old)} times: {old.strip()}"
+            made.append((file, text[: text.index(old)].count("\n"), text))
+            texts[file], old = text.replace(old, line[4:].removeprefix(" ")), None
+    return (texts, made) if made else (None, "it has no pair of an old and a new text")
+
+
+def turned(made):
+    """Returns the functions and constants whose code an edit changes, and whether each of its changes is in code."""
+    found, is_code = [], True
+    for file, line, text in made:
+        here = [it for it in places(file, text) if it.first <= line <= it.last] if file.startswith("src/") else []
+        here = [it for it in here if line >= it.body or line == it.first]
+        is_code = is_code and bool(here)
+        found += here[-1:]
+    return found, is_code
+
+
+def names(place):
+    """Returns the names that an edit of this function may have."""
+    owners = [place.owner, place.trait, f"{place.owner}.{place.trait}", ""]
+    ends = {".".join(filter(None, (owner, name))) for owner in owners for name in (place.name, place.trait)}
+    modules = {place.module} | ({""} if place.module == "lib" else set())
+    return {".".join(filter(None, (module, end))) for module in modules for end in ends}
+
+
+def promises():
+    """Returns the promises of the gate's page: a list of promise, crate and edit."""
+    rows = re.findall(r"^\| ([^|]+) \| `(\w+)` \| (`[\w-]+-[^|]*) \|$", open(GATE, encoding="utf-8").read(), flags=re.M)
+    return [(promise, crate, edit) for promise, crate, edits in rows for edit in re.findall(r"`([^`]+)`", edits)]
+
+
+def promised(row, table):
+    """Returns the promises whose edit a row is."""
+    name = f"{row.function}-{row.what}"
+    return [promise for promise, crate, edit in table if crate == row.crate and (name == edit or name.endswith("." + edit))]
+
+
+def files():
+    """Returns the crate, name and kind of each edit that there is."""
+    for kind, pattern in (("gate", "crates/*/must-fail/*.edit"), ("prover", "wrong-bodies/*/*.edit"), ("tests", "wrong-bodies/by-tests/*/*.edit")):
+        for path in sorted(glob.glob(f"{TOP}/{pattern}")):
+            folder = os.path.dirname(path).removesuffix("/must-fail")
+            yield os.path.basename(folder), os.path.basename(path).removesuffix(".edit"), kind
+
+
+def without(head):
+    """Returns the functions that the head says need no edit."""
+    return {tuple(m) for line in head for m in re.findall(r"^# without: (\w+) ([\w.]+): ", line)}
+
+
+def disagreements():
+    """Returns what of LIST, of the edits, of the sources and of the pages does not agree."""
+    head, rows = read()
+    failed, table, seen, kept = [], promises(), set(), collections.defaultdict(list)
+    kinds = lambda row: row.who if row.who == "gate" else "prover" if row.who in ("prover", "script") else "tests"
+    listed = [(row.crate, f"{row.function}-{row.what}", kinds(row)) for row in rows]
+    failed += [f"wrong-bodies/LIST: twice: {' '.join(it)}" for it, times in collections.Counter(listed).items() if times > 1]
+    there = set(files())
+    failed += [f"wrong-bodies/LIST: no file of {' '.join(it)}" for it in sorted(set(listed) - there)]
+    failed += [f"wrong-bodies/LIST: no line for {' '.join(it)}" for it in sorted(there - set(listed))]
+    for row in rows:
+        path = edit_of(row)
+        if (row.crate, f"{row.function}-{row.what}", kinds(row)) not in there:
+            continue
+        texts, made = apply(f"{TOP}/{path}", f"{TOP}/crates/{row.crate}")
+        if texts is None:
+            failed.append(f"{path}: {made}")
+            continue
+        found, is_code = turned(made)
+        seen |= {(row.crate, it.file, it.owner, it.trait, it.name) for it in found} if is_code else set()
+        if is_code and not any(row.function in names(it) for it in found):
+            failed.append(f"{path}: it turns {', '.join(sorted({'.'.join(filter(None, (it.module, it.owner, it.name))) for it in found}))}, and not what its name says")
+        for promise in promised(row, table) if row.who == "gate" else []:
+            kept[promise].append(is_code)
+            if row.promise != promise:
+                failed.append(f"wrong-bodies/LIST: {row.function}-{row.what} has not the promise of the gate's page: {promise}")
+        if row.who == "gate" and not promised(row, table) or row.who != "gate" and row.promise != "-":
+            failed.append(f"{path}: an edit is in the gate if it breaks a promise of the gate's page, and only then")
+        if not re.fullmatch(r"gate|prover|script|call|refusals|\w+(::\w+)+", row.who):
+            failed.append(f"wrong-bodies/LIST: who tries {row.function}-{row.what}?")
+    failed += [f"docs/maintaining/GATE.md: no edit of a body breaks the promise: {it}" for it in dict.fromkeys(p for p, _, _ in table) if not any(kept[it])]
+    failed += [f"docs/maintaining/GATE.md: no edit {crate}: {edit}" for promise, crate, edit in table if not any(row.crate == crate and promise in promised(row, [(promise, crate, edit)]) and row.who == "gate" for row in rows)]
+    free = without(head)
+    for crate in dict.fromkeys(row.crate for row in rows):
+        for path in sorted(glob.glob(f"{TOP}/crates/{crate}/src/**/*.rt", recursive=True)):
+            file = os.path.relpath(path, f"{TOP}/crates/{crate}")
+            for it in places(file, open(path, encoding="utf-8").read()):
+                name = ".".join(filter(None, (it.module, it.owner, it.name)))
+                is_free = (crate, name) in free or it.module in ("laws", "tests") or it.trait
+                if it.public and not is_free and (crate, it.file, it.owner, it.trait, it.name) not in seen:
+                    failed.append(f"crates/{crate}/{file}: no wrong body of {name}")
+    return failed
+
+
+def update():
+    """Brings LIST up to the files and to the gate's page."""
+    head, rows = read()
+    table = promises()
+    old = {(row.crate, row.function, row.what): row for row in rows}
+    new = []
+    for crate, name, kind in files():
+        function, what = name.split("-", 1)
+        row = old.get((crate, function, what), Row(crate, function, what, "?", "-", "-"))
+        who = kind if kind == "gate" else row.who if row.who not in ("gate", "?") else {"prover": "prover", "tests": "?"}[kind]
+        row = row._replace(who=who)
+        new.append(row._replace(promise=" ".join(promised(row, table)[:1]) or "-" if kind == "gate" else "-"))
+    write(head, new)
+
+
+def state():
+    """Returns the commit that last changed what is tried, and whether the files here are those of that commit."""
+    git = lambda *words: subprocess.run(["git", "-C", TOP, *words], capture_output=True, text=True).stdout.strip()
+    parts = ("crates", "crates.txt", "HANDLES")
+    return git("log", "-1", "--format=%h", "--", *parts), not git("status", "--porcelain", "--", *parts)
+
+
+if __name__ == "__main__":
+    if sys.argv[1:] == ["--check"]:
+        found = disagreements()
+        print("\n".join(found), end="\n" if found else "")
+        sys.exit(1 if found else 0)
+    if sys.argv[1:]:
+        sys.exit(__doc__)
+    update()
