@@ -35,7 +35,7 @@ CITED = re.compile(r"Rattle\.(\w+)\.(specs|proofs)((?:\.\w+)*)")
 NAME = re.compile(r"[A-Za-z_][\w-]{2,}")
 # Sentences with numbers of wrong bodies
 COUNTED = {
-    "docs/maintaining/GATE.md": "`wrong-bodies/LIST` has all wrong bodies, {all}: `rt ci` tries {gate}, `wrong-bodies/try.sh` {prover}, `wrong-bodies/by_tests.py` {tests}, and `bindings/names.py --check` {script}.",
+    "docs/maintaining/GATE.md": "`wrong-bodies/LIST` has all {all} wrong bodies: `rt ci` tries {gate}, `wrong-bodies/try.sh` {prover}, and `wrong-bodies/by_tests.py` {tests}.",
     "README.md": "{outside} more wrong bodies are tried outside the gate. `wrong-bodies/LIST` has for each the commit at which it was last rejected.",
 }
 failed = []
@@ -176,8 +176,8 @@ def counted(page, text, take):
     """Holds the numbers of wrong bodies that a page has; with `take` they are written anew."""
     if page not in COUNTED:
         return text
-    of = [row.who if row.who in ("gate", "prover", "script") else "tests" for row in table.read()[1]]
-    numbers = {"all": len(of), "outside": len(of) - of.count("gate"), **{who: of.count(who) for who in ("gate", "prover", "tests", "script")}}
+    of = [row.who if row.who in ("gate", "prover") else "tests" for row in table.read()[1]]
+    numbers = {"all": len(of), "outside": len(of) - of.count("gate"), **{who: of.count(who) for who in ("gate", "prover", "tests")}}
     wanted = COUNTED[page].format(**numbers)
     found = re.search(re.sub(r"\\{\w+\\}", r"\\d+", re.escape(COUNTED[page])), text)
     if found and take:

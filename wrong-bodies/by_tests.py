@@ -1,7 +1,8 @@
 #!/usr/bin/env python3
 """Tries the wrong bodies of LIST that meet their contracts, as they return that memory ran out although there is some. No proof can
 reject them, so a test must. LIST has for each the path of the test; "refusals" if only a failing allocation shows it
-(tools/refusals.py); "call" if only a call of the program with the arguments "--cut 0" shows it, which has status 2.
+(tools/refusals.py); "call" if only a call of the program with the arguments "--cut 0" shows it, which has status 2; "script" if only
+bindings/names.py --check shows it.
 
 Works on a copy of the repository, from which it takes the other tests, and runs "rt try --test", once for edits that have different
 tests. Prints a row for each edit, and goes on: the test rejects it ("refused"), or passes over it ("PASSED"), or it can't be applied or
@@ -22,8 +23,8 @@ import table  # noqa: E402
 
 TEST = re.compile(r"^( *)(?:///[^\n]*\n *)*#\[test\]\n *fn (\w+)\(.*?^\1\}\n", re.M | re.S)
 MEMORY = "memory_is_no_fault_of_the_reader"
-CALL = "call"
-ALONE = (MEMORY, CALL)
+CALL, SCRIPT = "call", "script"
+ALONE = (MEMORY, CALL, SCRIPT)
 
 
 def copy(room):
@@ -33,6 +34,7 @@ def copy(room):
         os.path.join(room, "crates"),
         ignore=shutil.ignore_patterns("out", "must-fail"),
     )
+    shutil.copytree(os.path.join(table.TOP, "bindings"), os.path.join(room, "bindings"), ignore=shutil.ignore_patterns("out", "target"))
     for name in ("crates.txt", "HANDLES"):
         shutil.copy(os.path.join(table.TOP, name), room)
 
@@ -51,6 +53,8 @@ def tests_of(row):
     """Returns the crate of the tests, and the name of the test."""
     if row.who == CALL:
         return "mdevents", CALL
+    if row.who == SCRIPT:
+        return row.crate, SCRIPT
     if row.who == "refusals":
         return "mdtests", MEMORY
     return row.who.split("::")[0], row.who.split("::")[-1]
@@ -88,8 +92,15 @@ def tried(group):
             left[wanted] = row
             for file, text in texts.items():
                 open(os.path.join(folder, file), "w", encoding="utf-8").write(text)
-        keep(crate, left)
+        if SCRIPT not in left:
+            keep(crate, left)
         said = ""
+        if SCRIPT in left:
+            words = [sys.executable, os.path.join(room, "bindings", "names.py"), "--check"]
+            ran = subprocess.run(words, cwd=room, capture_output=True, text=True)
+            said = ran.stdout + ran.stderr
+            if ran.returncode != 1 or "Traceback" not in said:
+                came[left.pop(SCRIPT)] = ("refused", said.strip()) if ran.returncode else ("PASSED", "bindings/names.py --check")
         if CALL in left:
             words = ["rt", "try", "--", "--cut", "0"]
             ran = subprocess.run(words, cwd=crate, input="", capture_output=True, text=True)
@@ -126,7 +137,7 @@ def main(words):
     options = {word for word in words if word.startswith("--")}
     words = [word for word in words if not word.startswith("--")]
     at, is_clean = table.state()
-    rows = [row for row in table.read()[1] if row.who not in ("gate", "prover", "script", "?")]
+    rows = [row for row in table.read()[1] if row.who not in ("gate", "prover", "?")]
     rows = [row for row in rows if not words or any(word in " ".join(row) for word in words)]
     rows = [row for row in rows if "--old" not in options or is_old(row)]
     if "--show" in options:

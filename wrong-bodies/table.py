@@ -57,9 +57,10 @@ def write(head, rows):
         it.write("\n".join(said) + "\n")
 
 
-def crates():
-    """Returns the crates that crates.txt lists, and for each the ones below it that it names."""
-    lines = [line for line in open(f"{TOP}/crates.txt").read().split("\n") if line and not line.startswith("#")]
+def crates(text=None):
+    """Returns the crates that crates.txt lists, or this text of it, and for each the ones below it that it names."""
+    text = open(f"{TOP}/crates.txt", encoding="utf-8").read() if text is None else text
+    lines = [line for line in text.split("\n") if line and not line.startswith("#")]
     return {line.split(":")[0].split()[0]: line.split(":")[1].split() for line in lines}
 
 
@@ -191,8 +192,11 @@ def disagreements():
                 failed.append(f"wrong-bodies/LIST: {row.function}-{row.what} has not the promise of the gate's page: {promise}")
         if row.who == "gate" and not promised(row, table) or row.who != "gate" and row.promise != "-":
             failed.append(f"{path}: an edit is in the gate if it breaks a promise of the gate's page, and only then")
-        if not re.fullmatch(r"gate|prover|script|call|refusals|\w+(::\w+)+", row.who):
-            failed.append(f"wrong-bodies/LIST: who tries {row.function}-{row.what}?")
+        tests, _, test = row.who.partition("::")
+        source = f"{TOP}/crates/{tests}/src/{'/'.join(test.split('::')[:-1])}.rt"
+        is_test = test and os.path.isfile(source) and re.search(rf"#\[test\]\n *fn {test.split('::')[-1]}\(", open(source, encoding="utf-8").read())
+        if not is_test and row.who not in ("gate", "prover", "script", "call", "refusals"):
+            failed.append(f"wrong-bodies/LIST: no test {row.who}, which {row.function}-{row.what} needs")
     failed += [f"docs/maintaining/GATE.md: no edit of a body breaks the promise: {it}" for it in dict.fromkeys(p for p, _, _ in table) if not any(kept[it])]
     failed += [f"docs/maintaining/GATE.md: no edit {crate}: {edit}" for promise, crate, edit in table if not any(row.crate == crate and promise in promised(row, [(promise, crate, edit)]) and row.who == "gate" for row in rows)]
     free = without(head)

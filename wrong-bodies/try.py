@@ -246,7 +246,8 @@ class Since:
         self.edits = {it for it in [*found.stdout.split(), *new] if it.endswith(".edit")}
         for file in {*found.stdout.split(), *new} - self.edits:
             if file == "crates.txt":
-                self.around |= set(table.crates())
+                old = table.crates(git("show", f"{commit}:{file}").stdout)
+                self.around |= {crate for crate, uses in table.crates().items() if old.get(crate) != uses}
             elif m := re.match(r"crates/(\w+)/((src|specs|proofs)/.*\.(?:rt|antt))$", file):
                 old = git("show", f"{commit}:{file}").stdout
                 now = open(f"{table.TOP}/{file}", encoding="utf-8").read() if os.path.exists(f"{table.TOP}/{file}") else ""
