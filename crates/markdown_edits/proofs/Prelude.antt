@@ -35,11 +35,11 @@ pub use Rattle.markdown_edits.specs.OpenNames.{names_after, names_after_all}
 pub use Rattle.markdown_edits.specs.Shifts.{AreShifts, place_by, shifts}
 pub use Rattle.markdown_edits.specs.SpanWalks.{IsFront, IsLongestRunFrom, IsLongestRunTo, IsSpan, IsSpanRun, is_wanted, no_span, one_more}
 pub use Rattle.markdown_edits.specs.SpanWalksInner.{depth_after, flip, flip_kind, is_stop, mirror, run_len}
-pub use Rattle.markdown_edits.specs.Spliced.{moved, place_from, spliced}
+pub use Rattle.markdown_edits.specs.Spliced.{place_from, relinked_by, spliced}
 pub use Rattle.markdown_edits.specs.Stored.{IsAscending, IsPart, as_edit, edits_of, moved_by, part_edit, pooled}
 pub use Rattle.markdown_edits.specs.Survivors.{AreNew, KeepsLinks, KeepsOrder, StaysAsItWas, StaysUnlessRemoved, place_after}
 pub use Rattle.markdown_edits.specs.Woven.{Change, Identity, Tagged, as_listed, events_at, is_removed, of_list, place_in, placed_end, placed_in, woven}
-pub use Rattle.markdown_edits.specs.declared.pool.Entry.{Entry}
+pub use Rattle.markdown_edits.specs.declared.entry.Entry.{Entry}
 pub use Rattle.markdown_edits.specs.declared.replacement.Replacement.{Replacement}
 pub use Rattle.markdown_edits.specs.declared.shift.Shift.{Shift}
 pub use Rattle.std.proofs.lemmas.Bool.Decides.{nat_tests}

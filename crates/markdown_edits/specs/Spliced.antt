@@ -12,11 +12,11 @@ place_from (e ∷ es) removed added n =
     else (if nat_lt n (e.index + e.remove) then None else place_from es (removed + e.remove) (added + length e.additions) n)
 
 -- events with their link ends moved to their places
-abbrev pub moved : (ℕ → Option ℕ) → List Event → List Event
-moved place xs = map (relinked place) xs
+abbrev pub relinked_by : (ℕ → Option ℕ) → List Event → List Event
+relinked_by place xs = map (relinked place) xs
 
 -- the events xs, from index i on, with edits made in turn and link ends moved to their places
 abbrev pub spliced : (ℕ → Option ℕ) → List Edit → ℕ → List Event → List Event
-spliced place [] i xs = moved place xs
+spliced place [] i xs = relinked_by place xs
 spliced place (e ∷ es) i xs =
-    moved place (take (e.index - i) xs) ++ (e.additions ++ spliced place es (e.index + e.remove) (drop (e.index + e.remove - i) xs))
+    relinked_by place (take (e.index - i) xs) ++ (e.additions ++ spliced place es (e.index + e.remove) (drop (e.index + e.remove - i) xs))

@@ -3,7 +3,7 @@ use Rattle.std.specs.Prelude.{ℕ, ◌+◌, ◌≤◌, ◌<◌, List, [], ◌∷
 use Rattle.std.specs.List.{between, AllByRecursion}
 use Rattle.markdown_base.specs.declared.event.Event.{Event}
 use Rattle.markdown_edits.specs.Edits.{Edit, edit_at}
-use Rattle.markdown_edits.specs.declared.pool.Entry.{Entry}
+use Rattle.markdown_edits.specs.declared.entry.Entry.{Entry}
 use Rattle.markdown_edits.specs.declared.replacement.Replacement.{Replacement}
 
 -- the edit that is kept at an index

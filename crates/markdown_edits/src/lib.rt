@@ -2,6 +2,7 @@
 #![tactic(auto)]
 
 pub mod edit_map;
+mod entry;
 pub mod laws;
 pub mod links;
 pub mod part;

@@ -1,4 +1,7 @@
 //! Edits whose additions are parts of a list that stays.
+//!
+//! These are two calls of an [`EditMap`] which only division of a child needs. They are functions beside the type, so that
+//! its public methods stay those that a user of the map calls.
 
 ghost use Rattle.std.specs.Prelude.{◌≡◌, ◌+◌, ◌<◌, ◌^◌, OnOk, OnErr, IsOk, IsTrue};
 ghost use Rattle.markdown_edits.specs.Edits.{edit_at, is_no_edit, added_after, removal_at};

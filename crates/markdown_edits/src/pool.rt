@@ -8,24 +8,12 @@ ghost use Rattle.markdown_edits.specs.Shifts.{shifts, place_by};
 ghost use Rattle.markdown_edits.specs.Spliced.{spliced};
 ghost use Rattle.markdown_edits.specs.Stored.{moved_by, IsAscending};
 
+use crate::entry::Entry;
 use crate::splice::spliced_events;
 use markdown_base::event::Event;
 use std::alloc::{AllocError, Global};
 use std::marker::Model;
 use std::mem::swap;
-
-/// An edit whose additions are a part of a list.
-#[derive(Clone, Copy)]
-pub(crate) struct Entry {
-    /// The edit's index into the events.
-    pub(crate) index: usize,
-    /// How many events go, from the index on.
-    pub(crate) remove: usize,
-    /// Where its additions start in the list.
-    pub(crate) start: usize,
-    /// Where its additions end in the list.
-    pub(crate) end: usize,
-}
 
 /// Edits in the order in which they were added. The additions of all are in one list, so that an edit takes no memory of its own.
 #[derive(Drop)]

@@ -5,7 +5,7 @@ ghost use Rattle.markdown_edits.specs.Edits.{AreDisjoint};
 ghost use Rattle.markdown_edits.specs.Shifts.{shifts, place_by, AreShifts};
 ghost use Rattle.markdown_edits.specs.Stored.{pooled, IsPart};
 
-use crate::pool::Entry;
+use crate::entry::Entry;
 use markdown_base::event::Event;
 use std::alloc::{AllocError, Global};
 

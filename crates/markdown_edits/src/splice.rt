@@ -4,10 +4,10 @@ ghost use Rattle.std.specs.Prelude.{◌≡◌, ◌-◌, ◌≤◌, ◌++◌, len
 ghost use Rattle.markdown_base.specs.Events.{EndsBelow, relinked};
 ghost use Rattle.markdown_edits.specs.Edits.{AreDisjoint};
 ghost use Rattle.markdown_edits.specs.Shifts.{shifts, place_by, AreShifts, EndsFit};
-ghost use Rattle.markdown_edits.specs.Spliced.{moved, spliced};
+ghost use Rattle.markdown_edits.specs.Spliced.{relinked_by, spliced};
 ghost use Rattle.markdown_edits.specs.Stored.{pooled, IsPart};
 
-use crate::pool::Entry;
+use crate::entry::Entry;
 use crate::shift::{Shift, place_after, shifts_of};
 use markdown_base::event::{Event, Link};
 use std::alloc::{AllocError, Global};
@@ -17,10 +17,7 @@ fn moved_end(shifts: &[Shift], end: Option<usize>) -> Option<usize>
     requires { IfSome end (λ n. AreShifts n 0 shifts.now) }
     ensures { result ≡ option_and_then (place_by shifts.now 0 0) end }
 {
-    match end {
-        None => None,
-        Some(index) => place_after(shifts, index),
-    }
+    place_after(shifts, end?)
 }
 
 /// An event with both ends of its link moved to indices of the new list.
@@ -52,7 +49,7 @@ fn push_moved(
     requires ends { All (EndsFit shifts.now) events.now }
     requires order { from ≤ to }
     requires within { to ≤ length events.now }
-    ensures { OnOk result (out.new.items ≡ out.old.items ++ moved (place_by shifts.now 0 0) (take (to - from) (drop from events.now))) }
+    ensures { OnOk result (out.new.items ≡ out.old.items ++ relinked_by (place_by shifts.now 0 0) (take (to - from) (drop from events.now))) }
 {
     for event in &events[from..to] {
         out.push(moved_event(shifts, *event))?;

@@ -1,5 +1,5 @@
 -- The edited list by identities is the one by prefix sums.
-use Rattle.markdown_edits.proofs.Prelude.{◌≡◌, ℕ, ◌+◌, ◌-◌, ◌<◌, cond, ltb, List, [], ◌∷◌, map, length, take, drop, Option, Some, None, refl, sym, ◌∙◌, ap, subst, arith, option_map, All, map-append, length-map, All-head, All-tail, All-take, All-drop, Event, Link, relinked, with_ends, EndsBelow, Edit, AreDisjoint, as_addition, as_change, edited, of_list, Tagged, place_in, woven, placed_in, shifts, place_by, place_from, moved, spliced}
+use Rattle.markdown_edits.proofs.Prelude.{◌≡◌, ℕ, ◌+◌, ◌-◌, ◌<◌, cond, ltb, List, [], ◌∷◌, map, length, take, drop, Option, Some, None, refl, sym, ◌∙◌, ap, subst, arith, option_map, All, map-append, length-map, All-head, All-tail, All-take, All-drop, Event, Link, relinked, with_ends, EndsBelow, Edit, AreDisjoint, as_addition, as_change, edited, of_list, Tagged, place_in, woven, placed_in, shifts, place_by, place_from, relinked_by, spliced}
 use Rattle.markdown_edits.proofs.Edits.Passes.{olds, pass, AreApart, woven-pass}
 use Rattle.markdown_edits.proofs.Edits.FinalPlaces.{HasNo, old_place, old_place-pass}
 use Rattle.markdown_edits.proofs.Edits.Shifts.{place_by-shifts}
@@ -40,11 +40,11 @@ pub placed_in-additions : (ts : List Tagged) (xs : List Event) → placed_in ts 
 placed_in-additions ts [] = refl
 placed_in-additions ts (x ∷ xs) = rw (relinked-same x, placed_in-additions ts xs) refl
 
-pub placed_in-olds : (ts : List Tagged) (place : ℕ → Option ℕ) (n i : ℕ) (xs : List Event) → ((k : ℕ) → k < n → place_in (of_list k) ts ≡ place k) → All (EndsBelow n) xs → placed_in ts (olds i xs) ≡ moved place xs
+pub placed_in-olds : (ts : List Tagged) (place : ℕ → Option ℕ) (n i : ℕ) (xs : List Event) → ((k : ℕ) → k < n → place_in (of_list k) ts ≡ place k) → All (EndsBelow n) xs → placed_in ts (olds i xs) ≡ relinked_by place xs
 placed_in-olds ts place n i [] h b = refl
 placed_in-olds ts place n i (x ∷ xs) h b =
     rw (placed_in-olds ts place n (i + 1) xs h (All-tail (EndsBelow n) x xs b))
-    (ap (λ (y : Event). y ∷ moved place xs) (relinked-agree (λ k. place_in (of_list k) ts) place n x h (All-head (EndsBelow n) x xs b)))
+    (ap (λ (y : Event). y ∷ relinked_by place xs) (relinked-agree (λ k. place_in (of_list k) ts) place n x h (All-head (EndsBelow n) x xs b)))
 
 pub placed_in-pass : (ts : List Tagged) (place : ℕ → Option ℕ) (n : ℕ) → ((k : ℕ) → k < n → place_in (of_list k) ts ≡ place k) → (es : List Edit) (i : ℕ) (xs : List Event) → All (EndsBelow n) xs → placed_in ts (pass (map as_change es) i xs) ≡ spliced place es i xs
 placed_in-pass ts place n h [] i xs b = placed_in-olds ts place n i xs h b
@@ -77,12 +77,12 @@ edited-spliced es xs d b =
     ∙ old_place-edits es 0 0 k ∙ sym (place_by-shifts es 0 0 k) in
     ap (placed_in all) (woven-pass (map as_change es) 0 xs d') ∙ placed_in-pass all (place_after es) (length xs) place es 0 xs b
 
-moved-none : (n : ℕ) (xs : List Event) → All (EndsBelow n) xs → moved (place_by [] 0 0) xs ≡ xs
-moved-none n [] b = refl
-moved-none n (x ∷ xs) b =
+relinked_by-none : (n : ℕ) (xs : List Event) → All (EndsBelow n) xs → relinked_by (place_by [] 0 0) xs ≡ xs
+relinked_by-none n [] b = refl
+relinked_by-none n (x ∷ xs) b =
     let stays : (k : ℕ) → k < n → place_by [] 0 0 k ≡ Some k = λ k l. grind arith in
-    rw (relinked-agree (place_by [] 0 0) Some n x stays (All-head (EndsBelow n) x xs b), relinked-same x, moved-none n xs (All-tail (EndsBelow n) x xs b)) refl
+    rw (relinked-agree (place_by [] 0 0) Some n x stays (All-head (EndsBelow n) x xs b), relinked-same x, relinked_by-none n xs (All-tail (EndsBelow n) x xs b)) refl
 
 -- no edits change nothing
 pub edited-none : (xs : List Event) → All (EndsBelow (length xs)) xs → edited [] xs ≡ xs
-edited-none xs b = edited-spliced [] xs (omega arith) b ∙ moved-none (length xs) xs b
+edited-none xs b = edited-spliced [] xs (omega arith) b ∙ relinked_by-none (length xs) xs b
