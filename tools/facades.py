@@ -17,7 +17,7 @@ PARTS = {
     "mdconstructs": ["mdconstructs_tables", "mdconstructs_machines", "mdconstructs_text"],
 }
 NAMED = {
-    ("markdown_children", "specs", "Laws"): "ChildrenLaws",
+    ("markdown_children", "specs", "LawStatements"): "ChildrenLawStatements",
     ("mdconstructs_text", "specs", "Laws"): "TextLaws",
     ("mdconstructs_text", "proofs", "NoRefusals"): "TextNoRefusals",
     ("mdconstructs_text", "proofs", "Paragraphs"): "TextParagraphs",

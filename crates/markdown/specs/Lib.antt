@@ -49,7 +49,7 @@ pub use Rattle.markdown_tokenizer.specs.Gaps
 pub use Rattle.markdown_tokenizer.specs.Unwound
 pub use Rattle.markdown_children.specs.Chains
 pub use Rattle.markdown_children.specs.Ready
-pub use Rattle.markdown_children.specs.Laws as ChildrenLaws
+pub use Rattle.markdown_children.specs.LawStatements as ChildrenLawStatements
 pub use Rattle.markdown_children.specs.Parts
 pub use Rattle.markdown_children.specs.Children
 pub use Rattle.markdown_children.specs.Reads

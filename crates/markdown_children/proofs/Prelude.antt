@@ -73,7 +73,7 @@ pub use denote.Enum.Bare.{same_true, sameb, true_same}
 pub use Rattle.markdown_children.specs.ByteStarts.{byte_start, column_after, column_at, eighth_starts, is_of_byte, is_place, line_after, line_at, width_at}
 pub use Rattle.markdown_children.specs.Chains.{begins, chain_from, chain_of, content_at, fits, fitting_starts, lets_through, some_fits}
 pub use Rattle.markdown_children.specs.Children.{chain_changes, child_changes, first_chunk, part_changes, tagged_child, with_children}
-pub use Rattle.markdown_children.specs.Laws.{AreSpaced, ChangesAreApart, ChildrenFit, EditsGiveChildren, EndsInVoidEnter, FollowOneAnother, HasEndsWithin, IsInChain, IsInOneChain, IsTornNowhere, IsWholeFrom, LeadOnFrom, NoneTorn, StandSideBySide, chunk_numbers, part_numbers, passed_over}
+pub use Rattle.markdown_children.specs.LawStatements.{AreSpaced, ChangesAreApart, ChildrenFit, EditsGiveChildren, EndsInVoidEnter, FollowOneAnother, HasEndsWithin, IsInChain, IsInOneChain, IsTornNowhere, IsWholeFrom, LeadOnFrom, NoneTorn, StandSideBySide, chunk_numbers, part_numbers, passed_over}
 pub use Rattle.markdown_children.specs.Parts.{Divided, IsForward, StandBefore, all_edits, chain_edits, child_place, divided, divided_over, front_until, part_edits, parts, total}
 pub use Rattle.markdown_children.specs.Reads.{AreChildren, CanReadChain, Child, IsAtFirstParagraph, IsChild, IsChildFault, IsChildRefused, IsRead, IsSubtokenizeFault, StartAmong, lists, pieces_behind, pieces_of, start_at, text_from, text_of_chain}
 pub use Rattle.markdown_children.specs.Ready.{IsChunk, IsGap, IsReady, IsShownPlace, place_at}

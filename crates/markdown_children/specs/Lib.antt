@@ -1,6 +1,6 @@
 pub mod Chains
 pub mod Ready
-pub mod Laws
+pub mod LawStatements
 pub mod Parts
 pub mod Children
 pub mod Reads

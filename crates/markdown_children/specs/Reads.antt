@@ -29,7 +29,7 @@ use Rattle.markdown_edits.specs.SpanWalks.{IsLongestRunTo}
 use Rattle.markdown_edits.specs.Survivors.{StaysUnlessRemoved, KeepsLinks}
 use Rattle.markdown_children.specs.Chains.{content_at, chain_of, begins, fitting_starts}
 use Rattle.markdown_children.specs.Ready.{place_at}
-use Rattle.markdown_children.specs.Laws.{NoneTorn}
+use Rattle.markdown_children.specs.LawStatements.{NoneTorn}
 use Rattle.markdown_children.specs.Children.{first_chunk, child_changes, with_children}
 
 -- the event at an index is the first paragraph of a list item: task list items are on, and the paragraph is entered directly before; before

@@ -8,7 +8,7 @@ ghost use Rattle.markdown_tokenizer.specs.Configuration.{start_seen};
 ghost use Rattle.markdown_tokenizer.specs.Engine.{given_of};
 ghost use Rattle.markdown_children.specs.Chains.{chain_of, begins};
 ghost use Rattle.markdown_children.specs.Ready.{IsReady, place_at};
-ghost use Rattle.markdown_children.specs.Laws.{HasEndsWithin};
+ghost use Rattle.markdown_children.specs.LawStatements.{HasEndsWithin};
 ghost use Rattle.markdown_children.specs.Parts.{edits_of_chain, CountsOn, IsForward, StandBefore};
 ghost use Rattle.markdown_children.specs.Reads.{start_at, MayStart, GivesChild, GivesNoChild, GivesNoChildren};
 ghost use Rattle.markdown_children.specs.SoFar.{HasGathered, with_flag};

@@ -7,7 +7,7 @@ ghost use Rattle.std.specs.List.Sorted.{IsNonDecreasingBy};
 ghost use Rattle.markdown_base.specs.Events.{EachEnd, relinked};
 ghost use Rattle.markdown_edits.specs.Edits.{removed_by, added_by};
 ghost use Rattle.markdown_children.specs.Chains.{chain_of};
-ghost use Rattle.markdown_children.specs.Laws.{HasEndsWithin};
+ghost use Rattle.markdown_children.specs.LawStatements.{HasEndsWithin};
 ghost use Rattle.markdown_children.specs.Parts.{front_until, edits_of_chain, CountsOn, IsForward, StandBefore};
 ghost use Rattle.markdown_children.specs.Tables.{rest_table, table_place, AreAbove, AreRising, chunk_edit};
 

@@ -6,7 +6,7 @@ ghost use Rattle.std.specs.Prelude.{◌∷◌, List, ℕ};
 ghost use Rattle.markdown_base.specs.declared.event.Event.{Event};
 ghost use Rattle.markdown_edits.specs.Edits.{Edit};
 ghost use Rattle.markdown_children.specs.Reads.{CanReadChains, HasOneAnswer};
-ghost use Rattle.markdown_children.specs.Laws.{ForReadyLists, HasOrderedChains, ChildrenFit, EditsGiveChildren, IsPlacedWell, AreByChunk};
+ghost use Rattle.markdown_children.specs.LawStatements.{ForReadyLists, HasOrderedChains, ChildrenFit, EditsGiveChildren, IsPlacedWell, AreByChunk};
 ghost use Rattle.markdown_base.specs.declared.event.Point.{Point};
 
 use markdown_tokenizer::state::Machine;

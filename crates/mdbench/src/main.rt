@@ -7,7 +7,7 @@
 #![tactic(auto)]
 
 ghost use Rattle.std.specs.Prelude.{◌≡◌, ◌+◌, ◌*◌, ◌^◌, ◌<◌, ◌≤◌, length, All, None, IfOk, IfSome};
-ghost use Rattle.markdown.specs.ChildrenLaws.{HasEndsWithin};
+ghost use Rattle.markdown.specs.ChildrenLawStatements.{HasEndsWithin};
 ghost use Rattle.markdown.specs.Chains.{begins};
 ghost use Rattle.markdown.specs.Edits.{AreDisjoint};
 ghost use Rattle.markdown.specs.Events.{EndsBelow};

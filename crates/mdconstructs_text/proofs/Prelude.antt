@@ -42,7 +42,7 @@ pub use Rattle.markdown_children.proofs.ChildReads.Pieces.{chunks_can_be_read}
 pub use Rattle.markdown_children.proofs.Parts.Kept.{after_changes, joined-parts, split-at, untagged, untagged-olds}
 pub use Rattle.markdown_children.specs.Chains.{begins, chain_of, content_at, fits, fitting_starts, some_fits}
 pub use Rattle.markdown_children.specs.Children.{chain_changes, child_changes, part_changes, with_children}
-pub use Rattle.markdown_children.specs.Laws.{AreSpaced, IsWholeFrom, LeadOnFrom}
+pub use Rattle.markdown_children.specs.LawStatements.{AreSpaced, IsWholeFrom, LeadOnFrom}
 pub use Rattle.markdown_children.specs.Parts.{divided_over, front_until, parts}
 pub use Rattle.markdown_children.specs.Reads.{AreChildren, Child, lists, pieces_behind, pieces_of, start_name, text_of_chain}
 pub use Rattle.markdown_children.specs.Ready.{IsChunk, IsReady, IsShownPlace, place_at}

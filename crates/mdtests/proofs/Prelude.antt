@@ -10,7 +10,7 @@ pub use Rattle.markdown.proofs.Edits.Puts.{put-less}
 pub use Rattle.markdown.proofs.Positions.Points.{found-passes}
 pub use Rattle.markdown.proofs.Runs.Ranges.{HasRanges, ranges-at, ranges-gap, ranges-holds, ranges-passed, ranges-pushed, ranges-range, ranges-start}
 pub use Rattle.markdown.proofs.Runs.Whole.{start-is-point}
-pub use Rattle.markdown.specs.ChildrenLaws.{HasEndsWithin}
+pub use Rattle.markdown.specs.ChildrenLawStatements.{HasEndsWithin}
 pub use Rattle.markdown.specs.Configuration.{Choice, Configuration, TokenizerValue}
 pub use Rattle.markdown.specs.Edits.{AreDisjoint, Edit, edit_at, put_after}
 pub use Rattle.markdown.specs.Engine.{given_by, given_of}

@@ -5,7 +5,7 @@ ghost use Rattle.std.specs.Prelude.{◌≡◌, ◌+◌, ◌*◌, ◌<◌, true, 
 ghost use Rattle.markdown.specs.Events.{EndsBelow};
 ghost use Rattle.markdown.specs.Edits.{AreDisjoint};
 ghost use Rattle.markdown.specs.Chains.{begins};
-ghost use Rattle.markdown.specs.ChildrenLaws.{HasEndsWithin};
+ghost use Rattle.markdown.specs.ChildrenLawStatements.{HasEndsWithin};
 
 use crate::chunks::Row::{Chunk, Span};
 use crate::chunks::{QUOTE, Row, listed};
