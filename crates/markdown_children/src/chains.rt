@@ -13,10 +13,7 @@ pub(crate) fn next_of(events: &[Event], index: usize) -> Option<usize>
     requires { index < length events.now }
     ensures { result ≡ next_of events.now index }
 {
-    match events[index].link {
-        Some(link) => link.next,
-        None => None,
-    }
+    events[index].link?.next
 }
 
 /// The place of an event.

@@ -94,10 +94,7 @@ fn read_child<M: Machine>(
     let mut tokenizer = Tokenizer::new(alloc, place, parse_state);
     let read = read_chunks(&mut tokenizer, events, index, parse_state, filter, start);
     let events = tokenizer.into_events();
-    match read {
-        Ok(sub) => Ok((events, sub)),
-        Err(fault) => Err(fault),
-    }
+    Ok((events, read?))
 }
 
 /// Reads the chain that begins at `index` with a tokenizer that has read nothing: pushes the chunks, passes the gaps

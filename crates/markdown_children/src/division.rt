@@ -135,10 +135,7 @@ fn placed_end(chunks: &[Chunk], acc: (usize, usize), end: Option<usize>) -> Opti
     requires fits { IfSome end (λ n. All (λ c. c.index + 2 + acc.1 + n < 2 ^ 64) chunks.now) }
     ensures { result ≡ option_and_then (table_place chunks.now acc.0 acc.1) end }
 {
-    match end {
-        None => None,
-        Some(index) => place_in(chunks, acc, index),
-    }
+    place_in(chunks, acc, end?)
 }
 
 /// Changes the link ends of a child event to indices into the final list. An event without a link is not written to.

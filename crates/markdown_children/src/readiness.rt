@@ -6,7 +6,7 @@ ghost use Rattle.markdown_base.specs.Virtual.{IsWithinLimit};
 ghost use Rattle.markdown_base.specs.declared.event.Kind.TheVariants.{Exit};
 ghost use Rattle.markdown_edits.specs.OpenNames.{names_after};
 ghost use Rattle.markdown_children.specs.Ready.{IsReady};
-ghost use Rattle.markdown_children.specs.ReadyTests.{closes, link_at, is_number, is_chunk, leads_back_to, is_joined_on, is_joined_back, is_sound_at, is_same_point, is_in_line, has_no_link, is_gap, is_readable, AllBelow, FailsSomewhere};
+ghost use Rattle.markdown_children.specs.ReadyTests.{closes, link_at, is_chunk, leads_back_to, is_joined_on, is_joined_back, is_sound_at, is_in_line, has_no_link, is_gap, is_readable, AllBelow, FailsSomewhere};
 ghost use Rattle.markdown_children.specs.StartTests.{AreStarts, is_place_of, can_be_read_from};
 
 use crate::byte_starts::ByteStarts;
@@ -67,30 +67,14 @@ fn closes(alloc: Global, events: &[Event]) -> Result<bool, AllocError>
 fn exits_last(names: &mut Vec<Name>, name: Name) -> bool
     ensures { names_after Exit name (reverse names.old.items) ≡ cond result (Some (reverse names.new.items)) None }
 {
-    match names.pop() {
-        Some(last) => last == name,
-        None => false,
-    }
+    names.pop() == Some(name)
 }
 
 /// The link of the event at an index, if there is one.
 fn link_at(events: &[Event], index: usize) -> Option<Link>
     ensures { result ≡ link_at events.now index }
 {
-    match events.get(index) {
-        Some(event) => event.link,
-        None => None,
-    }
-}
-
-/// Whether there is a number, and it is `wanted`.
-fn is_number(number: Option<usize>, wanted: usize) -> bool
-    ensures { result ≡ is_number number wanted }
-{
-    match number {
-        Some(number) => number == wanted,
-        None => false,
-    }
+    events.get(index)?.link
 }
 
 /// Whether an event enters a void name, and the next one exits it.
@@ -112,10 +96,7 @@ fn is_chunk(events: &[Event], index: usize) -> bool
 fn leads_back_to(link: Option<Link>, index: usize, content: Content) -> bool
     ensures { result ≡ leads_back_to index content link }
 {
-    match link {
-        None => false,
-        Some(link) => is_number(link.previous, index) && link.content == content,
-    }
+    link.is_some_and(|link| link.previous == Some(index) && link.content == content)
 }
 
 /// Whether the next event in the chain, if there is one, links back to this one.
@@ -136,7 +117,7 @@ fn is_joined_back(events: &[Event], index: usize, link: Link) -> bool
         None => true,
         Some(previous) => match link_at(events, previous) {
             None => false,
-            Some(other) => is_number(other.next, index),
+            Some(other) => other.next == Some(index),
         },
     }
 }
@@ -168,19 +149,11 @@ fn are_sound(events: &[Event]) -> bool
     true
 }
 
-/// Whether two points are equal.
-fn is_same(place: Point, other: Point) -> bool
-    ensures { result ≡ is_same_point place other }
-{
-    (place.line == other.line && place.column == other.column)
-        && (place.index == other.index && place.vs == other.vs)
-}
-
 /// Whether there is no text between two places, or text that begins a line and ends in it.
 fn is_in_line(from: Point, to: Point) -> bool
     ensures { result ≡ is_in_line from to }
 {
-    !stands_before(to, from) && (is_same(from, to) || (from.column == 1 && to.line == from.line))
+    !stands_before(to, from) && (from == to || (from.column == 1 && to.line == from.line))
 }
 
 /// Whether no event has a link.
