@@ -4,8 +4,8 @@ use Rattle.std.specs.Prelude.{◌≡◌, ◌≢◌, ℕ, suc, ◌+◌, ◌*◌, 
 use Rattle.markdown_base.specs.declared.event.Point.{Point}
 use Rattle.markdown_base.specs.Virtual.{Seat, point, tab_width, in_tab, virtual_from, virtual, end_after}
 use Rattle.markdown_base.specs.Places.{stands_before, shown}
-use Rattle.markdown_tokenizer.specs.declared.waiting.Moves.{Moves}
-use Rattle.markdown_tokenizer.specs.declared.waiting.Moves.TheVariants.{Plain, Tab, Last, Line, Other}
+use Rattle.markdown_tokenizer.specs.declared.cursor.Moves.{Moves}
+use Rattle.markdown_tokenizer.specs.declared.cursor.Moves.TheVariants.{Plain, Tab, Last, Line, Other}
 
 -- the virtual bytes from a place on
 abbrev pub rest_at : (t : ℕ) → List ℕ → Point → List Seat
@@ -97,13 +97,13 @@ pub record MovesOver (t : ℕ) (bytes : List ℕ) (p : Point) (moves : Moves) : 
   pub ends : (seat : Seat) → IsSeatAt t bytes p seat → seat.end ≡ moved moves p
   pub flat : moves ≡ Plain → p.vs ≡ 0
 
--- the next virtual byte is this one, at the place itself and at an index before an end; the place moves so over it. It is before `ready`,
+-- the next virtual byte is this one, at the place itself and at an index before an end; the place moves so over it. It is before `plain_until`,
 -- or not at the beginning of a line
-pub record IsQuick (t : ℕ) (bytes : List ℕ) (p : Point) (ready end byte : ℕ) (moves : Moves) : Type 0 where
+pub record IsQuick (t : ℕ) (bytes : List ℕ) (p : Point) (plain_until end byte : ℕ) (moves : Moves) : Type 0 where
   pub seat : Seat
   pub at : IsSeatAt t bytes p seat
   pub here : seat.point ≡ p
   pub is : seat.byte ≡ byte
   pub before : p.index < end
-  pub there : (p.index < ready) ⊎ (p.column ≢ 1)
+  pub there : (p.index < plain_until) ⊎ (p.column ≢ 1)
   pub over : MovesOver t bytes p moves

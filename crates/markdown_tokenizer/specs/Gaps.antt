@@ -5,8 +5,8 @@ use Rattle.markdown_base.specs.declared.event.Point.{Point}
 use Rattle.markdown_base.specs.Virtual.{Seat, virtual}
 use Rattle.markdown_base.specs.Places.{stands_before, is_upto}
 use Rattle.markdown_tokenizer.specs.Text.{in_range}
-use Rattle.markdown_tokenizer.specs.declared.waiting.Moves.{Moves}
-use Rattle.markdown_tokenizer.specs.declared.waiting.Moves.TheVariants.{Other}
+use Rattle.markdown_tokenizer.specs.declared.cursor.Moves.{Moves}
+use Rattle.markdown_tokenizer.specs.declared.cursor.Moves.TheVariants.{Other}
 use Rattle.markdown_tokenizer.specs.Cursor.{IsPlace, moved}
 
 -- the place up to which the beginning of a line is passed, if it is
@@ -46,13 +46,13 @@ IsOutside skips after_previous =
     (p : Point) → skip_of skips after_previous.line ≡ Some p → (after_previous.column ≡ 1) ⊎ (stands_before after_previous p ≡ false)
 
 -- an index is not after an end; a place with a smaller index is in no tab, and no gap begins there
-pub record IsReadyAt (skips : List Point) (place : Point) (end ready : ℕ) : Type 0 where
-  pub before : ready ≤ end
-  pub flat : place.index < ready → place.vs ≡ 0
-  pub there : place.index < ready → resumed skips place ≡ place
+pub record IsPlainUntil (skips : List Point) (place : Point) (end plain_until : ℕ) : Type 0 where
+  pub before : plain_until ≤ end
+  pub flat : place.index < plain_until → place.vs ≡ 0
+  pub there : place.index < plain_until → resumed skips place ≡ place
 
 -- a place has moved over the next virtual byte, as it was known to; what is then known of the next one
-pub record HasMoved (skips : List Point) (moves : Moves) (old new : Point) (end ready : ℕ) : Type 0 where
+pub record HasMoved (skips : List Point) (moves : Moves) (old new : Point) (end plain_until : ℕ) : Type 0 where
   pub told : moves ≢ Other
   pub place : new ≡ moved moves old
-  pub ready_at : IsReadyAt skips new end ready
+  pub is_plain_until : IsPlainUntil skips new end plain_until

@@ -15,7 +15,7 @@ pub mod Work
 pub mod View
 pub mod Cursor
 pub mod Made
-pub mod Laws
+pub mod LawStatements
 pub mod Lent
 pub mod Cuts
 pub mod Gaps

@@ -23,15 +23,15 @@ ended_by false = Nok
 -- The choices that still wait, what to go on with, and from where
 pub record Unwinding : Type 0 where
   pub kept_choices : List KeptChoice
-  pub goal : GoesOn
+  pub continuation : GoesOn
   pub from : Progress
 
 abbrev pub unwinding : List KeptChoice → GoesOn → Progress → Unwinding
-unwinding kept_choices goal from = record { kept_choices = kept_choices; goal = goal; from = from }
+unwinding kept_choices continuation from = record { kept_choices = kept_choices; continuation = continuation; from = from }
 
 -- choices end, the last first, until one goes on with a state, or none is left
 abbrev pub unwound : List KeptChoice → GoesOn → Progress → Unwinding
-unwound [] goal from = unwinding [] goal from
+unwound [] continuation from = unwinding [] continuation from
 unwound (choice ∷ kept_choices) (Next name) from = unwinding (choice ∷ kept_choices) (Next name) from
 unwound (choice ∷ kept_choices) Ok from = unwound kept_choices (continuation_of choice true) (unwrap_or (saved_for choice true) from)
 unwound (choice ∷ kept_choices) Nok from = unwound kept_choices (continuation_of choice false) (unwrap_or (saved_for choice false) from)

@@ -12,12 +12,12 @@ use Rattle.markdown_base.specs.Virtual.{Seat, point}
 use Rattle.markdown_base.specs.Places.{point_at, shown, stands_before, is_upto}
 use Rattle.markdown_tokenizer.specs.declared.waiting.Waits.{Waits}
 use Rattle.markdown_tokenizer.specs.declared.waiting.Waits.TheVariants.{Nothing, Byte, End}
-use Rattle.markdown_tokenizer.specs.declared.waiting.Moves.{Moves}
-use Rattle.markdown_tokenizer.specs.declared.waiting.Moves.TheVariants.{Other}
+use Rattle.markdown_tokenizer.specs.declared.cursor.Moves.{Moves}
+use Rattle.markdown_tokenizer.specs.declared.cursor.Moves.TheVariants.{Other}
 use Rattle.markdown_tokenizer.specs.declared.waiting.Phase.{Phase}
 use Rattle.markdown_tokenizer.specs.declared.waiting.Phase.TheVariants.{Reading}
 use Rattle.markdown_tokenizer.specs.declared.waiting.GoesOn.{GoesOn}
-use Rattle.markdown_tokenizer.specs.declared.waiting.GoesOn.TheVariants as goal
+use Rattle.markdown_tokenizer.specs.declared.waiting.GoesOn.TheVariants as goes_on
 use Rattle.markdown_tokenizer.specs.declared.waiting.KeptChoice.{KeptChoice}
 use Rattle.markdown_tokenizer.specs.declared.waiting.Progress.{Progress}
 use Rattle.markdown_tokenizer.specs.declared.waiting.AttemptKind.{AttemptKind}
@@ -28,13 +28,13 @@ use Rattle.markdown_tokenizer.specs.Configuration.{Configuration, Choice, Saved,
 use Rattle.markdown_tokenizer.specs.Calls.{saved_at}
 use Rattle.markdown_tokenizer.specs.Sight.{seat_before, byte_of, end_place}
 use Rattle.markdown_tokenizer.specs.Cursor.{IsPlace, IsSeatAt, MovesOver}
-use Rattle.markdown_tokenizer.specs.Gaps.{kept_between, resumed, IsSkip, IsOutside, IsReadyAt}
+use Rattle.markdown_tokenizer.specs.Gaps.{kept_between, resumed, IsSkip, IsOutside, IsPlainUntil}
 use Rattle.markdown_tokenizer.specs.Made.{IsMade}
 
 abbrev pub state_of : GoesOn → State
-state_of (goal.Next name) = Next name
-state_of goal.Ok = Ok
-state_of goal.Nok = Nok
+state_of (goes_on.Next name) = Next name
+state_of goes_on.Ok = Ok
+state_of goes_on.Nok = Nok
 
 -- a name to go on with, or the state in which the work ends
 abbrev pub taken_continuation : Result StateName GoesOn → Result StateName State
@@ -193,9 +193,9 @@ pub record IsPlaced (g : Given) (size : ℕ) (passes : List Point) (within : Tex
 
 -- What is known of the next byte: the bytes of the document, up to which index one is looked for at the place itself, and, if a byte
 -- waits, how the place moves over it
-pub record IsKnown (own : List ℕ) (tab : ℕ) (bytes : List ℕ) (skips : List Point) (place : Point) (end ready : ℕ) (waits : Waits) (moves : Moves) : Type 0 where
+pub record NextByteIsKnown (own : List ℕ) (tab : ℕ) (bytes : List ℕ) (skips : List Point) (place : Point) (end plain_until : ℕ) (waits : Waits) (moves : Moves) : Type 0 where
   pub own_bytes : own ≡ bytes
-  pub ready_at : IsReadyAt skips place end ready
+  pub is_plain_until : IsPlainUntil skips place end plain_until
   pub there : waits ≡ Byte → moves ≢ Other → resumed skips place ≡ place
   pub over : waits ≡ Byte → moves ≢ Other → MovesOver tab bytes place moves
 
@@ -204,7 +204,7 @@ pub record IsKnown (own : List ℕ) (tab : ℕ) (bytes : List ℕ) (skips : List
 pub record IsSound {M R D : Type 0} (same : R → R → Bool) (t : Inside M R D) : Type 0 where
   pub placed : IsPlaced (seen t).given t.tab_size t.skips (text_within t) t.end
       t.after_previous t.previous t.byte t.waits t.ended t.closed t.phase
-  pub known : IsKnown t.bytes.now (tab_of t.parse_state.now) t.parse_state.now.bytes.now t.skips t.after_previous t.end.0 t.ready t.waits t.moves
+  pub known : NextByteIsKnown t.bytes.now (tab_of t.parse_state.now) t.parse_state.now.bytes.now t.skips t.after_previous t.end.0 t.plain_until t.waits t.moves
   pub made : t.phase ≡ Reading
       → IsMade t.parse_state.now.bytes.now t.events.items t.stack.items
       (shown t.parse_state.now.bytes.now t.after_previous)

@@ -1,16 +1,31 @@
 //! The cursor: the place of a reader in the virtual text of a document.
 
 ghost use Rattle.markdown_tokenizer.specs.Cursor.{goes_on, begins_pair, IsPlace, IsSeatAt, IsNextSeat, IsNextByte, is_before_pair, is_after_pair, moved, IsQuick, CanMove};
-ghost use Rattle.markdown_tokenizer.specs.Gaps.{skip_of, resumed, IsReadyAt, HasMoved};
+ghost use Rattle.markdown_tokenizer.specs.Gaps.{skip_of, resumed, IsPlainUntil, HasMoved};
 ghost use Rattle.markdown_base.specs.Places;
 ghost use Rattle.markdown_base.specs.Virtual.{IsWithinLimit, Seat};
-ghost use Rattle.markdown_tokenizer.specs.declared.waiting.Moves;
+ghost use Rattle.markdown_tokenizer.specs.View.{standing};
 ghost use Rattle.std.specs.Bool.{OnTrue};
 ghost use Rattle.std.specs.Prelude.{◌≡◌, ◌==◌, ◌&&◌, ◌||◌, nat_lt, ◌+◌, ◌%◌, ◌^◌, ◌<◌, ℕ, length, not, unwrap_or, IfSome, ◌≤◌, ◌≢◌, None};
 
 use crate::skips::Skips;
-use crate::waiting::Moves;
+use crate::waiting::Waits;
 use markdown_base::event::Point;
+
+/// How a place moves over the byte that waits.
+#[derive(Clone, Copy)]
+pub(crate) enum Moves {
+    /// By one index and one column, not in a tab.
+    Plain,
+    /// By one column, in a tab that goes on after the byte.
+    Tab,
+    /// By one index and one column: the byte is the last one of a tab.
+    Last,
+    /// By one index, to the beginning of the next line.
+    Line,
+    /// It is not known: the bytes of the document tell it.
+    Other,
+}
 
 /// Whether a CR LF begins at an index.
 fn is_pair(bytes: &[u8], index: usize) -> bool
@@ -51,7 +66,7 @@ pub(crate) fn seat_at(bytes: &[u8], point: Point) -> Option<(u8, Point)>
 }
 
 /// The next virtual byte from a place on. Returns `None` if it is not before the end of the text.
-pub(crate) fn next_byte(bytes: &[u8], point: Point, end: (usize, usize)) -> Option<u8>
+fn next_byte(bytes: &[u8], point: Point, end: (usize, usize)) -> Option<u8>
     requires within { 0 < point.vs → point.index < length bytes.now }
     ensures { (t : ℕ) → 0 < t → IsNextByte t bytes.now point end result }
 {
@@ -79,12 +94,37 @@ pub(crate) fn resumed<'a>(skips: &'a Skips, place: &'a Point) -> &'a Point
     }
 }
 
+/// As `next_byte`, from where the next byte is looked for: at the place, or, at the beginning of a line, after its gap.
+#[inline(always)]
+pub(crate) fn next_byte_from(
+    bytes: &[u8],
+    skips: &Skips,
+    place: &Point,
+    end: (usize, usize),
+) -> Option<u8>
+    requires within { let at = resumed skips.now place.now in 0 < at.vs → at.index < length bytes.now }
+    ensures { (t : ℕ) → 0 < t → IsNextByte t bytes.now (resumed skips.now place.now) end result }
+{
+    next_byte(bytes, *resumed(skips, place), end)
+}
+
 /// Whether the next byte is looked for at a place itself: it is in mid-line, or there are no gaps.
 #[inline(always)]
 pub(crate) fn is_where_more_is(skips: &Skips, place: &Point) -> bool
     ensures { OnTrue result (resumed skips.now place.now ≡ place.now) }
 {
     skips.is_empty() || place.column != 1
+}
+
+/// The place of an enter: after the previous byte. At the beginning of a line, while something waits, it is after the
+/// line's gap.
+pub(crate) fn standing(skips: &Skips, after_previous: Point, waits: Waits) -> Point
+    ensures { result ≡ standing skips.now after_previous waits }
+{
+    match waits {
+        Waits::Nothing => after_previous,
+        Waits::Byte | Waits::End => *resumed(skips, &after_previous),
+    }
 }
 
 /// Moves a place at the beginning of a line to after the line's gap.
@@ -140,8 +180,8 @@ fn goes_on_by(t: usize, column: usize) -> bool
 /// Up to which index bytes are known to be before the end of the text, at `end`: up to there, if the place is in no tab and no gap
 /// begins at it. Else 0.
 #[inline(always)]
-pub(crate) fn ready_at(skips: &Skips, place: &Point, end: usize) -> usize
-    ensures { IsReadyAt skips.now place.now end result }
+pub(crate) fn plain_until(skips: &Skips, place: &Point, end: usize) -> usize
+    ensures { IsPlainUntil skips.now place.now end result }
 {
     if place.vs == 0 && is_where_more_is(skips, place) {
         end
@@ -158,17 +198,17 @@ pub(crate) fn quick_byte(
     bytes: &[u8],
     t: &usize,
     point: &Point,
-    ready: usize,
+    plain_until: usize,
     end: usize,
 ) -> Option<(u8, Moves)>
     requires some { 0 < t.now }
     requires place { IsPlace t.now bytes.now point.now }
-    requires before { ready ≤ end }
+    requires before { plain_until ≤ end }
     requires inside { end ≤ length bytes.now }
-    requires plain { point.now.index < ready → point.now.vs ≡ 0 }
-    ensures { IfSome result (λ r. IsQuick t.now bytes.now point.now ready end r.0 r.1) }
+    requires plain { point.now.index < plain_until → point.now.vs ≡ 0 }
+    ensures { IfSome result (λ r. IsQuick t.now bytes.now point.now plain_until end r.0 r.1) }
 {
-    if point.index < ready {
+    if point.index < plain_until {
         let byte = bytes[point.index];
         if byte > b'\r' {
             return Some((byte, Moves::Plain));
@@ -210,7 +250,7 @@ pub(crate) fn pass_plain(point: &mut Point)
 #[inline(always)]
 pub(crate) fn step(moves: Moves, skips: &Skips, end: &usize, point: &mut Point) -> Option<usize>
     requires fits { moves ≢ Moves.Other → CanMove point.old }
-    ensures moved { IfSome result (λ ready. HasMoved skips.now moves point.old point.new end.now ready) }
+    ensures moved { IfSome result (λ plain_until. HasMoved skips.now moves point.old point.new end.now plain_until) }
     ensures same { result ≡ None → point.new ≡ point.old }
 {
     match moves {

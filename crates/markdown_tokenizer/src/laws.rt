@@ -3,7 +3,7 @@
 //! Each is a function that does nothing, whose contract is the law.
 
 ghost use Rattle.markdown_tokenizer.specs.Engine.{HasOneEnd};
-ghost use Rattle.markdown_tokenizer.specs.Laws.{CutsLeaveNoTrace, PushesAreOne, ChoicesPutBack};
+ghost use Rattle.markdown_tokenizer.specs.LawStatements.{CutsLeaveNoTrace, PushesAreOne, ChoicesPutBack};
 
 use crate::state::Machine;
 

@@ -1,18 +1,17 @@
 //! The tokenizer: it feeds the virtual bytes of a document to the states of a machine.
 //!
-//! This module has the tokenizer and the calls that states make. `running` calls the states, `resolve` runs resolvers, `look` has the
-//! calls that only read, and `state` has what states share.
+//! This module has the tokenizer and the calls that states make. `paths` has the fast and slow paths of those that each byte or span
+//! needs. `running` calls the states, `resolve` runs resolvers, `look` has the calls that only read, and `state` has what states share.
 
 mod fault;
 mod look;
+mod paths;
 mod resolve;
 mod running;
 mod state;
 
 use crate::count::Calls;
-use crate::cursor::{
-    is_after, is_where_more_is, pass, pass_plain, ready_at, resume, shown, shown_after, step,
-};
+use crate::cursor::{Moves, is_after, shown};
 use crate::parser::ParseState;
 use crate::places::bytes_are_below_256;
 pub use crate::places::{cuts_every, point_at};
@@ -26,8 +25,8 @@ pub use crate::tokenizer::state::{
     Container, ContainerState, Label, LabelKind, LabelStart, TokenizeState,
 };
 use crate::util::edit_map::EditMap;
-use crate::waiting::{AttemptKind, GoesOn, KeptChoice, Moves, Phase, Progress, Waits, standing};
-use markdown_base::event::{Event, Kind, Link, Name, Point};
+use crate::waiting::{AttemptKind, GoesOn, KeptChoice, Phase, Progress, Waits};
+use markdown_base::event::{Event, Link, Name, Point};
 use std::alloc::{AllocError, Global};
 use std::marker::Model;
 
@@ -70,7 +69,7 @@ pub struct Tokenizer<'a, M: MachineTypes> {
     byte: u8,
     /// An index up to which bytes are before the end of the text. If the place after the byte before has a smaller one, it is in no
     /// tab, and no gap begins there.
-    ready: usize,
+    plain_until: usize,
     /// The bytes of the document, those of `parse_state`. They are here too because each byte that is fed needs them.
     bytes: &'a [u8],
     /// The events so far.
@@ -108,8 +107,7 @@ impl<'a, M: MachineTypes> Model for Tokenizer<'a, M> {
     ghost invariant = { IsSound M.Resolver.eq };
 }
 
-ghost use Rattle.std.specs.Prelude.{◌≡◌, ◌+◌, ◌-◌, ◌<◌, ◌≤◌, ◌∷◌, ◌++◌, [], length, take, OnOk, OnErr, None, Some, vec_capacity, vec_len};
-ghost use Rattle.std.specs.Bool.{OnTrue, OnFalse};
+ghost use Rattle.std.specs.Prelude.{◌≡◌, ◌+◌, ◌-◌, ◌≤◌, OnOk, OnErr, None, Some};
 ghost use Rattle.markdown_base.specs.Places.{IsPointOf};
 ghost use Rattle.markdown_tokenizer.specs.Text.{FitsAfter, followed_by, passed, empty_text, IsDocument};
 ghost use Rattle.markdown_tokenizer.specs.Configuration.{at_configuration, start_seen};
@@ -124,67 +122,6 @@ fn link_items(events: &mut Vec<Event>, previous: usize, next: usize)
     ensures { events.new.items ≡ linked_to previous next events.old.items }
 {
     subtokenize::link_to(events.as_mut_slice(), previous, next);
-}
-
-/// Makes room for an event. Events grow by a quarter, so that little of their memory is unused. If there is not so much memory, they
-/// grow by one event. If it runs out of memory, nothing changes.
-///
-/// It is cold: nearly always there is room.
-#[cold]
-#[inline(never)]
-fn make_room(events: &mut Vec<Event>) -> Result<(), AllocError>
-    ensures items { events.new.items ≡ events.old.items }
-    ensures len { vec_len events.new ≡ vec_len events.old }
-    ensures room { OnOk result (vec_len events.new < vec_capacity events.new) }
-{
-    let more = if events.len() < 32 {
-        8
-    } else {
-        events.len() / 4
-    };
-    match events.reserve_exact(more) {
-        Ok(()) => Ok(()),
-        Err(_) => events.reserve_exact(1),
-    }
-}
-
-/// Puts an enter behind the events, and its name on the stack: there is room for both.
-#[inline(always)]
-fn put_enter(
-    events: &mut Vec<Event>,
-    stack: &mut Vec<Name>,
-    name: Name,
-    point: Point,
-    link: Option<Link>,
-)
-    requires event { vec_len events.old < vec_capacity events.old }
-    requires name { vec_len stack.old < vec_capacity stack.old }
-    ensures events { events.new.items ≡ events.old.items ++ record { kind = Kind.Enter; name = name; point = point; link = link } ∷ [] }
-    ensures stack { stack.new.items ≡ stack.old.items ++ name ∷ [] }
-{
-    stack.push_reserved(name);
-    events.push_reserved(Event {
-        kind: Kind::Enter,
-        name,
-        point,
-        link,
-    });
-}
-
-/// Puts an exit behind the events, for which there is room, and takes the last name from the stack.
-#[inline(always)]
-fn put_exit(events: &mut Vec<Event>, stack: &mut Vec<Name>, name: Name, point: Point)
-    requires { vec_len events.old < vec_capacity events.old }
-    ensures events { events.new.items ≡ events.old.items ++ record { kind = Kind.Exit; name = name; point = point; link = None } ∷ [] }
-    ensures stack { stack.new.items ≡ take (length stack.old.items - 1) stack.old.items }
-{
-    events.push_reserved(Event {
-        kind: Kind::Exit,
-        name,
-        point,
-        link: None,
-    });
-    let _ = stack.pop();
 }
 
 impl<'a, M: MachineTypes> Tokenizer<'a, M> {
@@ -223,7 +160,7 @@ impl<'a, M: MachineTypes> Tokenizer<'a, M> {
             moves: Moves::Other,
             previous: None,
             byte: 0,
-            ready: 0,
+            plain_until: 0,
             bytes: parse_state.bytes,
             events,
             stack,
@@ -252,67 +189,9 @@ impl<'a, M: MachineTypes> Tokenizer<'a, M> {
         requires { self.old.configuration.waiting ≡ Waits.Byte }
         ensures { self.new ≡ at_configuration self.old (consumed self.old.configuration) }
     {
-        match self.moves {
-            Moves::Plain => {
-                pass_plain(&mut self.after_previous);
-                self.previous = Some(self.byte);
-                self.ended = false;
-                self.waits = Waits::Nothing;
-                // `feed` sets it again before it is read. With it LLVM writes all that is next to it at once.
-                self.moves = Moves::Other;
-            }
-            _ => self.consume_apart(),
+        if !self.consume_plain() {
+            self.consume_known();
         }
-    }
-
-    /// As `consume`, if the byte may be in a tab, or may end a line.
-    ///
-    /// It is a function of its own, called last, as most bytes are not so.
-    #[inline(never)]
-    fn consume_apart(&mut self)
-        requires { self.old.configuration.waiting ≡ Waits.Byte }
-        ensures { self.new ≡ at_configuration self.old (consumed self.old.configuration) }
-    {
-        match step(
-            self.moves,
-            &self.skips,
-            &self.end.0,
-            &mut self.after_previous,
-        ) {
-            Some(ready) => {
-                self.ready = ready;
-                self.previous = Some(self.byte);
-                self.ended = false;
-                self.waits = Waits::Nothing;
-                self.moves = Moves::Other;
-            }
-            None => self.consume_rarely(),
-        }
-    }
-
-    /// As `consume`, whatever the byte is: after a gap, for a CR, at the end of the text, and for each byte that is fed while not
-    /// enough is known.
-    ///
-    /// It is cold: nearly always `feed` tells how the place moves.
-    #[cold]
-    #[inline(never)]
-    fn consume_rarely(&mut self)
-        requires { self.old.configuration.waiting ≡ Waits.Byte }
-        ensures { self.new ≡ at_configuration self.old (consumed self.old.configuration) }
-    {
-        let byte = self.byte;
-        resume(&self.skips, &mut self.after_previous);
-        pass(
-            self.parse_state.bytes,
-            &self.tab_size,
-            &mut self.after_previous,
-            byte,
-        );
-        self.ready = ready_at(&self.skips, &self.after_previous, self.end.0);
-        self.previous = Some(byte);
-        self.ended = false;
-        self.waits = Waits::Nothing;
-        self.moves = Moves::Other;
     }
 
     /// Begins a span: adds an enter at the current place, as it is shown (a CR LF at its CR). If it runs out of memory,
@@ -321,10 +200,10 @@ impl<'a, M: MachineTypes> Tokenizer<'a, M> {
         ensures ok { OnOk result (self.new ≡ with_enter name None self.old) }
         ensures err { OnErr result (self.new ≡ self.old) }
     {
-        if self.enter_here(name, None) {
+        if self.enter_fast(name, None) {
             return Ok(());
         }
-        self.enter_plain_apart(name)
+        self.enter_slow_unlinked(name)
     }
 
     /// As `enter`, with a link. If it runs out of memory, events and stack stay as they were.
@@ -332,58 +211,10 @@ impl<'a, M: MachineTypes> Tokenizer<'a, M> {
         ensures ok { OnOk result (self.new ≡ with_enter name (Some link) self.old) }
         ensures err { OnErr result (self.new ≡ self.old) }
     {
-        if self.enter_here(name, Some(link)) {
+        if self.enter_fast(name, Some(link)) {
             return Ok(());
         }
-        self.enter_apart(name, Some(link))
-    }
-
-    /// Begins a span, with a link if one is given, if there is room, and no gap to look for, as nearly always. Returns whether it did.
-    #[inline(always)]
-    fn enter_here(&mut self, name: Name, link: Option<Link>) -> bool
-        ensures done { OnTrue result (self.new ≡ with_enter name link self.old) }
-        ensures same { OnFalse result (self.new ≡ self.old) }
-    {
-        if self.events.len() < self.events.capacity()
-            && self.stack.len() < self.stack.capacity()
-            && is_where_more_is(&self.skips, &self.after_previous)
-        {
-            let point = shown_after(
-                self.parse_state.bytes,
-                self.previous.is_some(),
-                &self.after_previous,
-            );
-            put_enter(&mut self.events, &mut self.stack, name, point, link);
-            return true;
-        }
-        false
-    }
-
-    /// As `enter`, if there may be no room, or a gap. It is cold, as both are rare. It takes no link: `enter` would write one to memory
-    /// at each call, to hand it on.
-    #[cold]
-    #[inline(never)]
-    fn enter_plain_apart(&mut self, name: Name) -> Result<(), AllocError>
-        ensures ok { OnOk result (self.new ≡ with_enter name None self.old) }
-        ensures err { OnErr result (self.new ≡ self.old) }
-    {
-        self.enter_apart(name, None)
-    }
-
-    /// As `enter_here`, if there may be no room, or a gap: begins a span, with a link if one is given. It is cold, as both are rare. If it
-    /// runs out of memory, events and stack stay as they were.
-    #[cold]
-    #[inline(never)]
-    fn enter_apart(&mut self, name: Name, link: Option<Link>) -> Result<(), AllocError>
-        ensures ok { OnOk result (self.new ≡ with_enter name link self.old) }
-        ensures err { OnErr result (self.new ≡ self.old) }
-    {
-        make_room(&mut self.events)?;
-        self.stack.reserve(1)?;
-        let place = standing(&self.skips, self.after_previous, self.waits);
-        let point = shown(self.parse_state.bytes, place);
-        put_enter(&mut self.events, &mut self.stack, name, point, link);
-        Ok(())
+        self.enter_slow(name, Some(link))
     }
 
     /// Ends the innermost span: an exit at the place after the byte before.
@@ -395,30 +226,10 @@ impl<'a, M: MachineTypes> Tokenizer<'a, M> {
         ensures ok { OnOk result (self.new ≡ with_exit name self.old) }
         ensures err { OnErr result (self.new ≡ self.old) }
     {
-        if self.events.len() == self.events.capacity() {
-            return self.exit_apart(name);
+        if self.exit_fast(name) {
+            return Ok(());
         }
-        let point = shown_after(
-            self.parse_state.bytes,
-            self.previous.is_some(),
-            &self.after_previous,
-        );
-        put_exit(&mut self.events, &mut self.stack, name, point);
-        Ok(())
-    }
-
-    /// As `exit`, if there may be no room. It is cold: nearly always there is.
-    #[cold]
-    #[inline(never)]
-    fn exit_apart(&mut self, name: Name) -> Result<(), AllocError>
-        requires { CanExit name self.old }
-        ensures ok { OnOk result (self.new ≡ with_exit name self.old) }
-        ensures err { OnErr result (self.new ≡ self.old) }
-    {
-        make_room(&mut self.events)?;
-        let point = shown(self.parse_state.bytes, self.after_previous);
-        put_exit(&mut self.events, &mut self.stack, name, point);
-        Ok(())
+        self.exit_slow(name)
     }
 
     /// Links the event at `index`, an index into the events, to the one two places before it, as `link_to` does. Takes no memory.
@@ -515,7 +326,7 @@ impl<'a, M: MachineTypes> Tokenizer<'a, M> {
         if is_after(shown(self.parse_state.bytes, point), self.end) {
             self.skips.push(point)?;
             self.end = (point.index, point.vs);
-            self.ready = 0;
+            self.plain_until = 0;
             self.moves = Moves::Other;
         }
         Ok(())

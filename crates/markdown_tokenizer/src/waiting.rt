@@ -1,7 +1,5 @@
 //! What waits in a tokenizer: a byte, the end, or choices.
 
-use crate::cursor::resumed;
-use crate::skips::Skips;
 use markdown_base::event::Point;
 use markdown_base::state::{Name, State};
 
@@ -14,21 +12,6 @@ pub enum Waits {
     Byte,
     /// The end of the text.
     End,
-}
-
-/// How a place moves over the byte that waits.
-#[derive(Clone, Copy)]
-pub(crate) enum Moves {
-    /// By one index and one column, not in a tab.
-    Plain,
-    /// By one column, in a tab that goes on after the byte.
-    Tab,
-    /// By one index and one column: the byte is the last one of a tab.
-    Last,
-    /// By one index, to the beginning of the next line.
-    Line,
-    /// It is not known: the bytes of the document tell it.
-    Other,
 }
 
 /// Whether a choice goes back after `Ok`.
@@ -127,7 +110,7 @@ impl KeptChoice {
     ghost use Rattle.markdown_tokenizer.specs.Unwound.{continuation_of, saved_for};
 
     /// What it goes on with.
-    pub(crate) fn goal(&self, ok: bool) -> GoesOn
+    pub(crate) fn continuation(&self, ok: bool) -> GoesOn
         ensures { result ≡ continuation_of self.now ok }
     {
         if ok { self.ok } else { self.nok }
@@ -146,19 +129,7 @@ impl KeptChoice {
 }
 
 ghost use Rattle.std.specs.Prelude.{◌≡◌, reverse};
-ghost use Rattle.markdown_tokenizer.specs.View.{standing};
 ghost use Rattle.markdown_tokenizer.specs.Unwound.{unwound, ended_by, unwinding};
-
-/// The place of an enter: after the previous byte. At the beginning of a line, while something waits, it is after the
-/// line's gap.
-pub(crate) fn standing(skips: &Skips, after_previous: Point, waits: Waits) -> Point
-    ensures { result ≡ standing skips.now after_previous waits }
-{
-    match waits {
-        Waits::Nothing => after_previous,
-        Waits::Byte | Waits::End => *resumed(skips, &after_previous),
-    }
-}
 
 /// Ends choices, the last first, until one goes on with a state, or none is left. A choice that goes back restores what
 /// it saved. Returns what to go on with, and from where.
@@ -169,18 +140,18 @@ pub(crate) fn unwind(
 ) -> (GoesOn, Progress)
     ensures { unwinding (reverse kept_choices.new.items) result.0 result.1 ≡ unwound (reverse kept_choices.old.items) (ended_by ok) from }
 {
-    let mut goal = if ok { GoesOn::Ok } else { GoesOn::Nok };
+    let mut continuation = if ok { GoesOn::Ok } else { GoesOn::Nok };
     let mut from = from;
     loop {
-        let ok = match goal {
-            GoesOn::Next(_) => return (goal, from),
+        let ok = match continuation {
+            GoesOn::Next(_) => return (continuation, from),
             GoesOn::Ok => true,
             GoesOn::Nok => false,
         };
         match kept_choices.pop() {
-            None => return (goal, from),
+            None => return (continuation, from),
             Some(choice) => {
-                goal = choice.goal(ok);
+                continuation = choice.continuation(ok);
                 from = choice.saved_for(ok).unwrap_or(from);
             }
         }

@@ -1,5 +1,5 @@
 -- Each call that changes a text, the events or the choices of a tokenizer keeps what holds of its fields.
-use Rattle.markdown_tokenizer.proofs.Prelude.{AllByRecursion, ◌≡◌, ℕ, zero, suc, ◌≤◌, inl, inr, ◌<◌, List, [], ◌∷◌, ◌++◌, Bool, true, false, cond, Option, Some, None, length, refl, sym, ap, ◌∙◌, subst, arith, take, map, option_map, reverse, unwrap_or, Point, Event, Link, ParseOptions, Seat, point, shown, stands_before, is_upto, denotes_same, IsPointOf, point_at, Waits, Nothing, Byte, End, Reading, Inside, Given, Text, Piece, pushed, passed, IsDocument, IsText, CanFollow, FitsAfter, followed_by, followed_by_all, empty_text, extended, resumed, IsReadyAt, seen, text_within, end_point, seats_between, position_from, standing, reach, can_feed, IsReadTo, ByteWaits, IsWhatWaits, IsProgress, AreNested, IsSound, IsPlace, is_after_pair, IsMade, with_ends, unlinked, linked_to, updated_at, next_set, previous_set, with_next, with_previous, length-map, stands-self, Other, take-map, filter, is_kept, filter-append, in_range, virtual, seat_before, slice_get, get-front, length-append, end_or, byte_of, false_from_ne_true, nat_tests}
+use Rattle.markdown_tokenizer.proofs.Prelude.{AllByRecursion, ◌≡◌, ℕ, zero, suc, ◌≤◌, inl, inr, ◌<◌, List, [], ◌∷◌, ◌++◌, Bool, true, false, cond, Option, Some, None, length, refl, sym, ap, ◌∙◌, subst, arith, take, map, option_map, reverse, unwrap_or, Point, Event, Link, ParseOptions, Seat, point, shown, stands_before, is_upto, denotes_same, IsPointOf, point_at, Waits, Nothing, Byte, End, Reading, Inside, Given, Text, Piece, pushed, passed, IsDocument, IsText, CanFollow, FitsAfter, followed_by, followed_by_all, empty_text, extended, resumed, IsPlainUntil, seen, text_within, end_point, seats_between, position_from, standing, reach, can_feed, IsReadTo, ByteWaits, IsWhatWaits, IsProgress, AreNested, IsSound, IsPlace, is_after_pair, IsMade, with_ends, unlinked, linked_to, updated_at, next_set, previous_set, with_next, with_previous, length-map, stands-self, Other, take-map, filter, is_kept, filter-append, in_range, virtual, seat_before, slice_get, get-front, length-append, end_or, byte_of, false_from_ne_true, nat_tests}
 use Rattle.std.proofs.lemmas.Bool.{true_from_ne_false}
 use Rattle.markdown_base.specs.declared.event.Name.{Name}
 use Rattle.markdown_tokenizer.proofs.Positions.Standing.{shown-shown, place-of-point}
@@ -8,8 +8,8 @@ use Rattle.markdown_tokenizer.proofs.Positions.Gaps.{same-not_before, other-befo
 use Rattle.markdown_tokenizer.proofs.Positions.Cursors.{upto-order, upto-upto, end-upto, same-self, same-upto, same-back, range-continued, range-empty}
 use Rattle.markdown_tokenizer.proofs.Positions.Points.{point_at-point, point_at-is}
 use Rattle.markdown_tokenizer.proofs.Inside.Made.{made-new, made-bound, made-linked}
-use Rattle.markdown_tokenizer.proofs.Inside.Fields.{Saves, wide_of, text_between, next-more, within, here-all, kept-same, made-more, nested-map, bytes_within, tab_within, end_within, position_within, size_within, ReadWithin, WaitsWithin, ByteWithin, IsSeatWithin}
-use Rattle.markdown_tokenizer.proofs.Inside.Known.{known-other, ready-none}
+use Rattle.markdown_tokenizer.proofs.Inside.Fields.{Saves, MadeUpto, wide_of, text_between, next-more, within, here-all, kept-same, made-more, nested-map, bytes_within, tab_within, end_within, position_within, size_within, ReadWithin, WaitsWithin, ByteWithin, IsSeatWithin}
+use Rattle.markdown_tokenizer.proofs.Inside.Known.{known-other, plain-none}
 use Rattle.markdown_tokenizer.proofs.Inside.Spans.{same-choices}
 use Rattle.markdown_tokenizer.proofs.Inside.Steps.{looks_in, end-place-in}
 
@@ -100,8 +100,8 @@ module _ {M R D : Type 0} {same : R → R → Bool} (t : Inside M R D) (sound : 
     text-longer : followed_by (seen t).given (text_within t) (pushed f u) ≡ text_between (tab_within t) (bytes_within t) t.skips t.start u
     text-longer = ap (λ (seats : List Seat). record { start = t.start; seats = seats; end = u }) (sym longer-seats)
 
-    pub extended-sound : (ready : ℕ) → IsReadyAt t.skips t.after_previous to.0 ready → IsSound same (record t { end = to; ready = ready })
-    extended-sound ready r =
+    pub extended-sound : (plain_until : ℕ) → IsPlainUntil t.skips t.after_previous to.0 plain_until → IsSound same (record t { end = to; plain_until = plain_until })
+    extended-sound plain_until r =
         let e : end_point (tab_within t) (bytes_within t) to ≡ u = ap (λ (o : Option Point). unwrap_or o (point 1 1 0 0)) found in
         let more : size_within t ≤ length (seats_between (tab_within t) (bytes_within t) t.skips t.start u) =
         omega (arith, ap length longer-seats, length-append (text_within t).seats (filter (in_range f u) (virtual (tab_within t) (bytes_within t)))) in
@@ -126,7 +126,7 @@ module _ {M R D : Type 0} {same : R → R → Bool} (t : Inside M R D) (sound : 
                     (can_feed position (size_within t) t.closed) (can_feed position (length (seats_between (tab_within t) (bytes_within t) t.skips t.start u)) t.closed) (can-feed-more position (size_within t) _ t.closed more) (h.made reads);
               }) sound.kept_choices);
           once = sound.once;
-          known = record { own_bytes = sound.known.own_bytes; ready_at = r; there = sound.known.there; over = sound.known.over };
+          known = record { own_bytes = sound.known.own_bytes; is_plain_until = r; there = sound.known.there; over = sound.known.over };
         }
 
     pub extended-seen : seen (record t { end = to }) ≡ extended (seen t) (followed_by (seen t).given (seen t).text (pushed f u))
@@ -202,24 +202,21 @@ module _ {M R D : Type 0} {same : R → R → Bool} (t : Inside M R D) (sound : 
           assumption (upto-upto (tab_within t) (bytes_within t) after_previous (end_within t) q read.upto passed-later, outside, read.back ∙ ap (end_or t.start) (sym e), read.previous_is ∙ ap byte_of (sym e))
 
       module _ (events : List Event) (stack : List Name) {after_previous : Point} {previous : Option ℕ} (read : ReadWithin t after_previous previous) where
-        abbrev MadeUpto : Point → Type 0
-        MadeUpto p = IsMade (bytes_within t) events stack (shown (bytes_within t) after_previous) (shown (bytes_within t) p)
-
-        resumed-on : MadeUpto (resumed t.skips after_previous) → MadeUpto (resumed added after_previous)
+        resumed-on : MadeUpto t events stack after_previous (resumed t.skips after_previous) → MadeUpto t events stack after_previous (resumed added after_previous)
         resumed-on m = made-bound (bytes_within t) events stack (shown (bytes_within t) after_previous) (shown (bytes_within t) (resumed t.skips after_previous)) m (shown (bytes_within t) (resumed added after_previous))
             (added-shown (tab_within t) (bytes_within t) (wide_of t sound) t.skips t.start (end_within t) q sound.placed.skips (end-place-in t sound) passed-place is.first is.line is.before is.other
             after_previous read.place read.upto) (shown-shown (tab_within t) (bytes_within t) (resumed added after_previous))
 
-        standing-on : (w : Waits) → MadeUpto (standing t.skips after_previous w) → MadeUpto (standing added after_previous w)
+        standing-on : (w : Waits) → MadeUpto t events stack after_previous (standing t.skips after_previous w) → MadeUpto t events stack after_previous (standing added after_previous w)
         standing-on Nothing m = m
         standing-on _ m = resumed-on m
 
-        reach-on : (more : Bool) → MadeUpto (reach t.skips after_previous more) → MadeUpto (reach added after_previous more)
+        reach-on : (more : Bool) → MadeUpto t events stack after_previous (reach t.skips after_previous more) → MadeUpto t events stack after_previous (reach added after_previous more)
         reach-on true m = resumed-on m
         reach-on false m = m
 
       module _ (list : List Point) (put : list ≡ added) where
-        pub added-sound : IsSound same (record t { skips = list; end = (q.index, q.vs); ready = 0; moves = Other })
+        pub added-sound : IsSound same (record t { skips = list; end = (q.index, q.vs); plain_until = 0; moves = Other })
         added-sound =
             let e = start-end (tab_within t) (wide_of t sound) (bytes_within t) q fits.0 in
             let size = ap length seats-same in
@@ -256,7 +253,7 @@ module _ {M R D : Type 0} {same : R → R → Bool} (t : Inside M R D) (sound : 
                         (can_feed (position_within t p.after_previous) (size_within t) t.closed) (h.made reads));
                   }) sound.kept_choices);
               once = sound.once;
-              known = known-other list t.after_previous q.index t.bytes.now (tab_within t) (bytes_within t) sound.known.own_bytes 0 (ready-none list t.after_previous q.index) t.waits;
+              known = known-other list t.after_previous q.index t.bytes.now (tab_within t) (bytes_within t) sound.known.own_bytes 0 (plain-none list t.after_previous q.index) t.waits;
             }
 
         pub added-seen : seen (record t { skips = list; end = (q.index, q.vs) }) ≡ extended (seen t) (followed_by (seen t).given (seen t).text (passed q))

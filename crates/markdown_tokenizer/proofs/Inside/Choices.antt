@@ -1,7 +1,7 @@
 -- A choice begins.
 use Rattle.markdown_tokenizer.proofs.Prelude.{◌≡◌, List, [], ◌∷◌, ◌++◌, Bool, true, false, cond, Option, Some, None, length, refl, ap, arith, map, reverse, reverse-append, take-length, lt-ltb, AttemptKind, GoesOn, KeptChoice, Progress, Inside, Choice, Point, shown, Waits, Nothing, Byte, End, IsMade, seen, text_within, state_of, choice_at, choice_of, standing, reach, can_feed, AreNested, IsSound}
 use Rattle.std.proofs.lemmas.Bool.{or_left, or_right}
-use Rattle.markdown_tokenizer.proofs.Inside.Fields.{Saves, next-more, made-more, bytes_within, position_within, WaitsWithin}
+use Rattle.markdown_tokenizer.proofs.Inside.Fields.{Saves, MadeUpto, next-more, made-more, bytes_within, position_within, WaitsWithin}
 
 -- how far a tokenizer has read
 abbrev pub progress_of : {M R D : Type 0} → Inside M R D → Progress
@@ -11,17 +11,14 @@ abbrev pub saved_if : {M R D : Type 0} → Bool → Inside M R D → Option Prog
 saved_if saves t = cond saves (Some (progress_of t)) None
 
 module _ {M R D : Type 0} {same : R → R → Bool} (t : Inside M R D) (sound : IsSound same t) where
-  abbrev MadeUpto : Point → Type 0
-  MadeUpto p = IsMade (bytes_within t) t.events.items t.stack.items (shown (bytes_within t) t.after_previous) (shown (bytes_within t) p)
-
   abbrev can_feed_in : Bool
   can_feed_in = can_feed (position_within t t.after_previous) (length (text_within t).seats) t.closed
 
-  reach-by : (a : Bool) → (a ≡ true → can_feed_in ≡ true) → MadeUpto (reach t.skips t.after_previous a) → MadeUpto (reach t.skips t.after_previous can_feed_in)
+  reach-by : (a : Bool) → (a ≡ true → can_feed_in ≡ true) → MadeUpto t t.events.items t.stack.items t.after_previous (reach t.skips t.after_previous a) → MadeUpto t t.events.items t.stack.items t.after_previous (reach t.skips t.after_previous can_feed_in)
   reach-by a f m = made-more t sound sound.placed.read t.events.items t.stack.items a can_feed_in f m
 
   -- if something waits, more can be fed
-  waits-more : (w : Waits) → WaitsWithin t w → MadeUpto (standing t.skips t.after_previous w) → MadeUpto (reach t.skips t.after_previous can_feed_in)
+  waits-more : (w : Waits) → WaitsWithin t w → MadeUpto t t.events.items t.stack.items t.after_previous (standing t.skips t.after_previous w) → MadeUpto t t.events.items t.stack.items t.after_previous (reach t.skips t.after_previous can_feed_in)
   waits-more Nothing h m = reach-by false (λ e. absurd (cc)) m
   waits-more Byte h m = reach-by true (λ e. or_left _ t.closed (lt-ltb _ _ (next-more t sound sound.placed.read h.seat h.at h.before))) m
   waits-more End h m = reach-by true (λ e. or_right _ t.closed h.closed_too) m

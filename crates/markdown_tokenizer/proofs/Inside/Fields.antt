@@ -94,6 +94,10 @@ module _ {M R D : Type 0} (t : Inside M R D) where
   abbrev pub IsSeatWithin : Point → Seat → Type 0
   IsSeatWithin = IsSeatAt tab_within bytes_within
 
+  -- these events and open spans are made up to a place at which an enter may be, if the place after the byte before is this one
+  abbrev pub MadeUpto : List Event → List Name → (after_previous : Point) → Point → Type 0
+  MadeUpto events stack after_previous p = IsMade bytes_within events stack (shown bytes_within after_previous) (shown bytes_within p)
+
 -- what a choice of a tokenizer saved
 abbrev pub Saves : {M R D : Type 0} → Inside M R D → Progress → Type 0
 Saves t = IsProgress t.phase (tab_within t) (bytes_within t) t.skips (text_within t) t.events.items t.stack.items t.closed
@@ -174,16 +178,13 @@ module _ {M R D : Type 0} {same : R → R → Bool} (t : Inside M R D) (sound : 
       end-shown place = same-shown (tab_within t) (bytes_within t) (end_within t) here place looks.place (upto-same (tab_within t) (bytes_within t) (end_within t) here (ends-here (rest_at (tab_within t) (bytes_within t) here) refl) looks.upto)
 
     module _ (events : List Event) (stack : List Name) where
-      abbrev MadeUpto : Point → Type 0
-      MadeUpto p = IsMade (bytes_within t) events stack (shown (bytes_within t) after_previous) (shown (bytes_within t) p)
-
       -- an enter may be after a gap
-      pub made-later : MadeUpto after_previous → MadeUpto (resumed t.skips after_previous)
+      pub made-later : MadeUpto t events stack after_previous after_previous → MadeUpto t events stack after_previous (resumed t.skips after_previous)
       made-later m = made-bound (bytes_within t) events stack (shown (bytes_within t) after_previous) (shown (bytes_within t) after_previous) m (shown (bytes_within t) (resumed t.skips after_previous))
           looks.shown_later (shown-shown (tab_within t) (bytes_within t) (resumed t.skips after_previous))
 
       -- if more can be fed, an enter may have a later place
-      pub made-more : (a b : Bool) → (a ≡ true → b ≡ true) → MadeUpto (reach t.skips after_previous a) → MadeUpto (reach t.skips after_previous b)
+      pub made-more : (a b : Bool) → (a ≡ true → b ≡ true) → MadeUpto t events stack after_previous (reach t.skips after_previous a) → MadeUpto t events stack after_previous (reach t.skips after_previous b)
       made-more false true f m = made-later m
       made-more true false f m = absurd (let e : false ≡ true = f refl in cc)
       made-more _ _ f m = m

@@ -1,12 +1,12 @@
 -- Choices end, and what they go on with is fed: what that does to the fields of a tokenizer, and what it means.
-use Rattle.markdown_tokenizer.proofs.Prelude.{eqb-true, ◌≡◌, ◌==◌, ℕ, ◌≤◌, ◌<◌, List, [], ◌∷◌, ◌++◌, Bool, true, false, Option, Some, None, length, refl, sym, ap, ◌∙◌, subst, arith, take, length-take, ◌⊎◌, inl, inr, map, reverse, IfSome, IsSome, unwrap_or, Result, Vec, take-take, take-length, length-map, length_push, lt-ltb, le-ltb, Event, Kind, Enter, Exit, Point, State, Next, Ok, Nok, open_events, shown, stands-self, AttemptKind, Attempt, Check, GoesOn, KeptChoice, Other, Progress, Waits, Nothing, Byte, End, Reading, Inside, Configuration, Choice, Saved, Step, Local, TokenizerValue, unfed, restored, settled_at, settled_all, settled_to, answer_of, answer_in, EndsClosed, TakesUp, continuation_of, saved_for, ended_by, Unwinding, unwinding, unwound, resumed, IsReadyAt, IsMade, last_kind, IsNextByte, seen, text_within, state_of, choice_of, saved_of, standing, reach, can_feed, IsWhatWaits, AreNested, events_of, stack_of, IsSound}
+use Rattle.markdown_tokenizer.proofs.Prelude.{eqb-true, ◌≡◌, ◌==◌, ℕ, ◌≤◌, ◌<◌, List, [], ◌∷◌, ◌++◌, Bool, true, false, Option, Some, None, length, refl, sym, ap, ◌∙◌, subst, arith, take, length-take, ◌⊎◌, inl, inr, map, reverse, IfSome, IsSome, unwrap_or, Result, Vec, take-take, take-length, length-map, length_push, lt-ltb, le-ltb, Event, Kind, Enter, Exit, Point, State, Next, Ok, Nok, open_events, shown, stands-self, AttemptKind, Attempt, Check, GoesOn, KeptChoice, Other, Progress, Waits, Nothing, Byte, End, Reading, Inside, Configuration, Choice, Saved, Step, Local, TokenizerValue, unfed, restored, settled_at, settled_all, settled_to, answer_of, answer_in, EndsClosed, TakesUp, continuation_of, saved_for, ended_by, Unwinding, unwinding, unwound, resumed, IsPlainUntil, IsMade, last_kind, IsNextByte, seen, text_within, state_of, choice_of, saved_of, standing, reach, can_feed, IsWhatWaits, AreNested, events_of, stack_of, IsSound}
 use Rattle.std.proofs.lemmas.Bool.{or_from, or_left, or_right}
 use Rattle.std.proofs.lemmas.List.{length-reverse}
 use Rattle.std.specs.declared.result.Result.TheVariants as result
 use Rattle.markdown_base.specs.declared.event.Name.{Name}
 use Rattle.markdown_base.specs.declared.state.Name.{Name as StateName}
-use Rattle.markdown_tokenizer.specs.declared.waiting.GoesOn.TheVariants as continuation
-use Rattle.markdown_tokenizer.proofs.Inside.Fields.{Saves, wide_of, placed-there, looks, next-more, next-past, next-none-left, nested-as, bytes_within, tab_within, position_within, size_within}
+use Rattle.markdown_tokenizer.specs.declared.waiting.GoesOn.TheVariants as goes_on
+use Rattle.markdown_tokenizer.proofs.Inside.Fields.{Saves, MadeUpto, wide_of, placed-there, looks, next-more, next-past, next-none-left, nested-as, bytes_within, tab_within, position_within, size_within}
 use Rattle.markdown_tokenizer.proofs.Inside.Steps.{before-end}
 use Rattle.markdown_tokenizer.proofs.Inside.Spans.{same-front, same-choices}
 use Rattle.markdown_tokenizer.proofs.Inside.Known.{known-other}
@@ -37,13 +37,13 @@ module _ (P : Progress → Type 0) where
   from-one Check ok nok saved kept_choices from true now h = from-saved from saved kept_choices now h.0 h.1
   from-one _ ok nok saved kept_choices from false now h = from-saved from saved kept_choices now h.0 h.1
 
-  pub from-all : (kept_choices : List KeptChoice) (goal : GoesOn) (from : Progress) → P from → AreNested P from.events_len from.stack_len kept_choices
-      → let u = unwound kept_choices goal from in GoesFrom from u.kept_choices u.from
-  from-all (choice ∷ kept_choices) continuation.Ok from now h =
+  pub from-all : (kept_choices : List KeptChoice) (continuation : GoesOn) (from : Progress) → P from → AreNested P from.events_len from.stack_len kept_choices
+      → let u = unwound kept_choices continuation from in GoesFrom from u.kept_choices u.from
+  from-all (choice ∷ kept_choices) goes_on.Ok from now h =
       let one = from-one choice.kind choice.ok choice.nok choice.saved kept_choices from true now h in
       let all = from-all kept_choices (continuation_of choice true) (unwrap_or (saved_for choice true) from) one.0 one.1 in
       (all.0, all.1, (omega (arith, all.2.0, one.2.0), omega (arith, all.2.1, one.2.1)))
-  from-all (choice ∷ kept_choices) continuation.Nok from now h =
+  from-all (choice ∷ kept_choices) goes_on.Nok from now h =
       let one = from-one choice.kind choice.ok choice.nok choice.saved kept_choices from false now h in
       let all = from-all kept_choices (continuation_of choice false) (unwrap_or (saved_for choice false) from) one.0 one.1 in
       (all.0, all.1, (omega (arith, all.2.0, one.2.0), omega (arith, all.2.1, one.2.1)))
@@ -70,20 +70,20 @@ module _ {R D : Type 0} (position : Point → ℕ) (events : List Event) (stack 
   choices_of kept_choices = map (choice_of position stack) kept_choices
 
   abbrev pub step_of : Unwinding → Step R D
-  step_of u = record { configuration = at_from u.from; choices = choices_of u.kept_choices; answer = state_of u.goal }
+  step_of u = record { configuration = at_from u.from; choices = choices_of u.kept_choices; answer = state_of u.continuation }
 
   -- the code and the definition end the same choices
-  pub settled-unwound : (P : Progress → Type 0) (kept_choices : List KeptChoice) (goal : GoesOn) (from : Progress) → P from → AreNested P from.events_len from.stack_len kept_choices
-      → settled_all (at_from from) (choices_of kept_choices) (state_of goal) ≡ step_of (unwound kept_choices goal from)
-  settled-unwound P (choice ∷ kept_choices) continuation.Ok from now h =
+  pub settled-unwound : (P : Progress → Type 0) (kept_choices : List KeptChoice) (continuation : GoesOn) (from : Progress) → P from → AreNested P from.events_len from.stack_len kept_choices
+      → settled_all (at_from from) (choices_of kept_choices) (state_of continuation) ≡ step_of (unwound kept_choices continuation from)
+  settled-unwound P (choice ∷ kept_choices) goes_on.Ok from now h =
       let one = from-one P choice.kind choice.ok choice.nok choice.saved kept_choices from true now h in
       let e = settled-one P choice.kind choice.ok choice.nok choice.saved from true h.0 in
       ap (λ (k : Configuration R D). settled_all k (choices_of kept_choices) (state_of choice.ok)) e ∙ settled-unwound P kept_choices (continuation_of choice true) (unwrap_or (saved_for choice true) from) one.0 one.1
-  settled-unwound P (choice ∷ kept_choices) continuation.Nok from now h =
+  settled-unwound P (choice ∷ kept_choices) goes_on.Nok from now h =
       let one = from-one P choice.kind choice.ok choice.nok choice.saved kept_choices from false now h in
       let e = settled-one P choice.kind choice.ok choice.nok choice.saved from false h.0 in
       ap (λ (k : Configuration R D). settled_all k (choices_of kept_choices) (state_of choice.nok)) e ∙ settled-unwound P kept_choices (continuation_of choice false) (unwrap_or (saved_for choice false) from) one.0 one.1
-  settled-unwound P [] (continuation.Next name) from now h = refl
+  settled-unwound P [] (goes_on.Next name) from now h = refl
   settled-unwound P _ _ from now h = refl
 
 -- what waits makes no difference where a choice ends
@@ -122,24 +122,24 @@ takes-ended flush q true answer e f = rw e (refl, f)
 takes-ended flush q false answer e f = rw e (refl, f)
 
 -- Choices of a tokenizer that ended, and what the code kept of its events and its stack.
-pub record IsUnwound {M R D : Type 0} (t : Inside M R D) (ok : Bool) (kept_choices : Vec KeptChoice) (goal : GoesOn) (from : Progress) (events : Vec Event) (stack : Vec Name) (ready : ℕ) : Type 0 where
+pub record IsUnwound {M R D : Type 0} (t : Inside M R D) (ok : Bool) (kept_choices : Vec KeptChoice) (continuation : GoesOn) (from : Progress) (events : Vec Event) (stack : Vec Name) (plain_until : ℕ) : Type 0 where
   pub some : 0 < length t.kept_choices.items
-  pub ends : unwinding (reverse kept_choices.items) goal from ≡ unwound (reverse t.kept_choices.items) (ended_by ok) (progress_of t)
+  pub ends : unwinding (reverse kept_choices.items) continuation from ≡ unwound (reverse t.kept_choices.items) (ended_by ok) (progress_of t)
   pub cut : events.items ≡ take from.events_len t.events.items
   pub top : stack.items ≡ take from.stack_len t.stack.items
-  pub near : IsReadyAt t.skips from.after_previous t.end.0 ready
+  pub near : IsPlainUntil t.skips from.after_previous t.end.0 plain_until
 
 -- from what the calls of the code return
-pub unwound-by : {M R D : Type 0} (t : Inside M R D) (ok : Bool) (kept_choices : Vec KeptChoice) (goal : GoesOn) (from : Progress) (events : Vec Event) (stack : Vec Name) (ready events_len stack_len choices_len : ℕ) (none : Bool)
+pub unwound-by : {M R D : Type 0} (t : Inside M R D) (ok : Bool) (kept_choices : Vec KeptChoice) (continuation : GoesOn) (from : Progress) (events : Vec Event) (stack : Vec Name) (plain_until events_len stack_len choices_len : ℕ) (none : Bool)
     → none ≡ (choices_len == 0) → none ≡ false → choices_len ≡ length t.kept_choices.items → events_len ≡ length t.events.items → stack_len ≡ length t.stack.items
-    → unwinding (reverse kept_choices.items) goal from ≡ unwound (reverse t.kept_choices.items) (ended_by ok) (record { after_previous = t.after_previous; previous = t.previous; ended = t.ended; events_len = events_len; stack_len = stack_len })
-    → events.items ≡ take from.events_len t.events.items → stack.items ≡ take from.stack_len t.stack.items → IsReadyAt t.skips from.after_previous t.end.0 ready → IsUnwound t ok kept_choices goal from events stack ready
-unwound-by t ok kept_choices goal from events stack ready events_len stack_len choices_len none is some count a b ends cut top near =
+    → unwinding (reverse kept_choices.items) continuation from ≡ unwound (reverse t.kept_choices.items) (ended_by ok) (record { after_previous = t.after_previous; previous = t.previous; ended = t.ended; events_len = events_len; stack_len = stack_len })
+    → events.items ≡ take from.events_len t.events.items → stack.items ≡ take from.stack_len t.stack.items → IsPlainUntil t.skips from.after_previous t.end.0 plain_until → IsUnwound t ok kept_choices continuation from events stack plain_until
+unwound-by t ok kept_choices continuation from events stack plain_until events_len stack_len choices_len none is some count a b ends cut top near =
     let nonzero = is-not choices_len 0 (sym is ∙ some) in record { some = omega (arith, nonzero, count); ends = rw (a, b) at ends; cut = cut; top = top; near = near }
 
 -- a tokenizer whose choices end
-module _ {M R D : Type 0} {same : R → R → Bool} (t : Inside M R D) (sound : IsSound same t) {ok : Bool} {kept_choices : Vec KeptChoice} {goal : GoesOn} {from : Progress} {events : Vec Event} {stack : Vec Name} {ready : ℕ}
-    (h : IsUnwound t ok kept_choices goal from events stack ready) where
+module _ {M R D : Type 0} {same : R → R → Bool} (t : Inside M R D) (sound : IsSound same t) {ok : Bool} {kept_choices : Vec KeptChoice} {continuation : GoesOn} {from : Progress} {events : Vec Event} {stack : Vec Name} {plain_until : ℕ}
+    (h : IsUnwound t ok kept_choices continuation from events stack plain_until) where
   abbrev position_there : ℕ
   position_there = position_within t from.after_previous
 
@@ -147,7 +147,7 @@ module _ {M R D : Type 0} {same : R → R → Bool} (t : Inside M R D) (sound : 
   goes-from = subst (λ (u : Unwinding). GoesFrom (Saves t) (progress_of t) u.kept_choices u.from) (sym h.ends) (from-all (Saves t) (reverse t.kept_choices.items) (ended_by ok) (progress_of t) (saves-here t sound) sound.kept_choices)
 
   abbrev step_there : Step R D
-  step_there = step_of (position_within t) t.events.items t.stack.items (seen t).configuration.local (unwinding (reverse kept_choices.items) goal from)
+  step_there = step_of (position_within t) t.events.items t.stack.items (seen t).configuration.local (unwinding (reverse kept_choices.items) continuation from)
 
   -- what the definition comes to
   settled-is : settled_all (seen t).configuration (seen t).choices (answer_of ok) ≡ step_there
@@ -165,11 +165,8 @@ module _ {M R D : Type 0} {same : R → R → Bool} (t : Inside M R D) (sound : 
   front-stack : (n : ℕ) → n ≤ from.stack_len → take n stack.items ≡ take n t.stack.items
   front-stack n le = rw h.top (take-take n from.stack_len t.stack.items le)
 
-  abbrev MadeUpto : Point → Type 0
-  MadeUpto p = t.phase ≡ Reading → IsMade (bytes_within t) events.items stack.items (shown (bytes_within t) from.after_previous) (shown (bytes_within t) p)
-
-  reach-is : (b : Bool) → can_feed position_there (size_within t) t.closed ≡ b → MadeUpto (reach t.skips from.after_previous b)
-  reach-is b e = let cut = h.cut in let top = h.top in subst (λ (c : Bool). MadeUpto (reach t.skips from.after_previous c)) e (rw (cut, top) goes-from.0.made)
+  reach-is : (b : Bool) → can_feed position_there (size_within t) t.closed ≡ b → t.phase ≡ Reading → MadeUpto t events.items stack.items from.after_previous (reach t.skips from.after_previous b)
+  reach-is b e = let cut = h.cut in let top = h.top in subst (λ (c : Bool). t.phase ≡ Reading → MadeUpto t events.items stack.items from.after_previous (reach t.skips from.after_previous c)) e (rw (cut, top) goes-from.0.made)
 
   abbrev NextThere : Option ℕ → Type 0
   NextThere o = IsNextByte (tab_within t) (bytes_within t) (resumed t.skips from.after_previous) t.end o
@@ -191,10 +188,10 @@ module _ {M R D : Type 0} {same : R → R → Bool} (t : Inside M R D) (sound : 
 
   -- the fields once the choices have ended
   abbrev after : Waits → Bool → ℕ → Inside M R D
-  after waits ended byte = record t { kept_choices = kept_choices; after_previous = from.after_previous; previous = from.previous; events = events; stack = stack; waits = waits; ended = ended; byte = byte; ready = ready; moves = Other }
+  after waits ended byte = record t { kept_choices = kept_choices; after_previous = from.after_previous; previous = from.previous; events = events; stack = stack; waits = waits; ended = ended; byte = byte; plain_until = plain_until; moves = Other }
 
   sound-by : (waits : Waits) (ended : Bool) (byte : ℕ) → IsWhatWaits (tab_within t) (bytes_within t) t.skips (text_within t) from.after_previous byte t.closed waits → (ended ≡ true → t.closed ≡ true)
-      → MadeUpto (standing t.skips from.after_previous waits) → IsSound same (after waits ended byte)
+      → (t.phase ≡ Reading → MadeUpto t events.items stack.items from.after_previous (standing t.skips from.after_previous waits)) → IsSound same (after waits ended byte)
   sound-by waits ended byte w e m = record {
     placed = placed-there sound.placed goes-from.0.read w e sound.placed.reads;
     made = m;
@@ -203,7 +200,7 @@ module _ {M R D : Type 0} {same : R → R → Bool} (t : Inside M R D) (sound : 
         (omega (arith, goes-from.2.1, ap length h.top, length-take from.stack_len t.stack.items))
         (λ n le. let cut = h.cut in rw cut (take-take n from.events_len t.events.items le)) front-stack goes-from.1;
     once = sound.once;
-    known = known-other t.skips from.after_previous t.end.0 t.bytes.now (tab_within t) (bytes_within t) sound.known.own_bytes ready h.near waits;
+    known = known-other t.skips from.after_previous t.end.0 t.bytes.now (tab_within t) (bytes_within t) sound.known.own_bytes plain_until h.near waits;
   }
 
   -- a byte
@@ -234,33 +231,33 @@ module _ {M R D : Type 0} {same : R → R → Bool} (t : Inside M R D) (sound : 
       rw (choices, h.cut, h.top) refl
 
   -- no span is open where the reading has ended
-  pub closes : EndsClosed (settled_all (seen t).configuration (seen t).choices (answer_of ok)) → (goal ≡ continuation.Ok) ⊎ (goal ≡ continuation.Nok) → stack.items ≡ []
+  pub closes : EndsClosed (settled_all (seen t).configuration (seen t).choices (answer_of ok)) → (continuation ≡ goes_on.Ok) ⊎ (continuation ≡ goes_on.Nok) → stack.items ≡ []
   closes closed o =
-      let answered : IsSome (answer_in (state_of goal)) = elim o [ inl e ↦ rw e refl | inr e ↦ rw e refl ] in
+      let answered : IsSome (answer_in (state_of continuation)) = elim o [ inl e ↦ rw e refl | inr e ↦ rw e refl ] in
       h.top ∙ subst EndsClosed settled-is closed answered
 
   module _ (flush : Bool) where
     abbrev TakesThere : TokenizerValue M R D → Result StateName State → Type 0
     TakesThere new answer = let s = settled_all (seen t).configuration (seen t).choices (answer_of ok) in TakesUp flush (settled_to (seen t) s) new s.answer answer
 
-    by-step : (new : TokenizerValue M R D) (answer : Result StateName State) → TakesUp flush (settled_to (seen t) step_there) new (state_of goal) answer → TakesThere new answer
+    by-step : (new : TokenizerValue M R D) (answer : Result StateName State) → TakesUp flush (settled_to (seen t) step_there) new (state_of continuation) answer → TakesThere new answer
     by-step new answer takes = subst (λ (s : Step R D). TakesUp flush (settled_to (seen t) s) new s.answer answer) (sym settled-is) takes
 
     -- what waits, and for which state
-    pub takes-byte : (name : StateName) (byte : ℕ) → goal ≡ continuation.Next name → NextThere (Some byte) → TakesThere (seen (after Byte from.ended byte)) (result.Ok name)
+    pub takes-byte : (name : StateName) (byte : ℕ) → continuation ≡ goes_on.Next name → NextThere (Some byte) → TakesThere (seen (after Byte from.ended byte)) (result.Ok name)
     takes-byte name byte e n =
         let lt = byte-left byte n in
         by-step _ _ (rw e (refl, rw (lt-ltb position_there (size_within t) lt) (seen-there Byte from.ended byte), λ f. lt))
 
-    pub takes-end : (name : StateName) → goal ≡ continuation.Next name → flush ≡ true → NextThere None → TakesThere (seen (after End true t.byte)) (result.Ok name)
+    pub takes-end : (name : StateName) → continuation ≡ goes_on.Next name → flush ≡ true → NextThere None → TakesThere (seen (after End true t.byte)) (result.Ok name)
     takes-end name e f n =
         by-step _ _ (rw e (refl, rw (le-ltb position_there (size_within t) (none-left n)) (seen-there End true t.byte), λ g. absurd (let c : true ≡ false = sym f ∙ g in cc)))
 
-    pub takes-none : (name : StateName) → goal ≡ continuation.Next name → flush ≡ false → NextThere None → TakesThere (seen (after Nothing from.ended t.byte)) (result.Err (Next name))
+    pub takes-none : (name : StateName) → continuation ≡ goes_on.Next name → flush ≡ false → NextThere None → TakesThere (seen (after Nothing from.ended t.byte)) (result.Err (Next name))
     takes-none name e f n = by-step _ _ (rw e (seen-there Nothing from.ended t.byte, refl, f, none-left n))
 
-    pub takes-ok : goal ≡ continuation.Ok → TakesThere (seen (after Nothing from.ended t.byte)) (result.Err Ok)
+    pub takes-ok : continuation ≡ goes_on.Ok → TakesThere (seen (after Nothing from.ended t.byte)) (result.Err Ok)
     takes-ok e = by-step _ _ (rw e (seen-there Nothing from.ended t.byte, refl))
 
-    pub takes-nok : goal ≡ continuation.Nok → TakesThere (seen (after Nothing from.ended t.byte)) (result.Err Nok)
+    pub takes-nok : continuation ≡ goes_on.Nok → TakesThere (seen (after Nothing from.ended t.byte)) (result.Err Nok)
     takes-nok e = by-step _ _ (rw e (seen-there Nothing from.ended t.byte, refl))

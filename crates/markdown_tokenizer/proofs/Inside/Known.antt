@@ -1,5 +1,5 @@
 -- What is known of the next byte, call by call.
-use Rattle.markdown_tokenizer.proofs.Prelude.{◌≡◌, ◌≢◌, ℕ, suc, ◌+◌, ◌*◌, ◌≤◌, ◌<◌, ◌==◌, List, length, false, refl, arith, nat_lt, ◌&&◌, ◌||◌, mul-le-mul_left, mul-le-mul_right, mul-suc, nat_tests, Point, IsWithinLimit, Waits, Plain, Other, IsPlace, CanMove, moved, resumed, IsReadyAt, IsKnown}
+use Rattle.markdown_tokenizer.proofs.Prelude.{◌≡◌, ◌≢◌, ℕ, suc, ◌+◌, ◌*◌, ◌≤◌, ◌<◌, ◌==◌, List, length, false, refl, arith, nat_lt, ◌&&◌, ◌||◌, mul-le-mul_left, mul-le-mul_right, mul-suc, nat_tests, Point, IsWithinLimit, Waits, Plain, Other, IsPlace, CanMove, moved, resumed, IsPlainUntil, NextByteIsKnown}
 use Rattle.markdown_tokenizer.proofs.Positions.Order.{not-number}
 
 -- a gap begins only at the beginning of a line
@@ -8,20 +8,20 @@ resumed-in-line skips p h = let e = not-number p.column 1 h in rw e refl
 
 module _ (skips : List Point) (place : Point) (end : ℕ) where
   -- no index is below zero
-  pub ready-none : IsReadyAt skips place end 0
-  ready-none = record { before = omega arith; flat = λ h. absurd (omega arith); there = λ h. absurd (omega arith) }
+  pub plain-none : IsPlainUntil skips place end 0
+  plain-none = record { before = omega arith; flat = λ h. absurd (omega arith); there = λ h. absurd (omega arith) }
 
   -- after a plain byte as much is known as before
-  pub ready-plain : (ready : ℕ) → ready ≤ end → 1 ≤ place.column → IsReadyAt skips (moved Plain place) end ready
-  ready-plain ready before first = record {
+  pub plain-on : (plain_until : ℕ) → plain_until ≤ end → 1 ≤ place.column → IsPlainUntil skips (moved Plain place) end plain_until
+  plain-on plain_until before first = record {
     before = before;
     flat = λ h. refl;
     there = λ h. resumed-in-line skips (moved Plain place) (λ e. let f : place.column + 1 ≡ 1 = e in omega (arith, f, first));
   }
 
   -- it is not known how the place moves
-  pub known-other : (own : List ℕ) (tab : ℕ) (bytes : List ℕ) → own ≡ bytes → (ready : ℕ) → IsReadyAt skips place end ready → (waits : Waits) → IsKnown own tab bytes skips place end ready waits Other
-  known-other own tab bytes is ready r waits = record { own_bytes = is; ready_at = r; there = λ w o. absurd (o refl); over = λ w o. absurd (o refl) }
+  pub known-other : (own : List ℕ) (tab : ℕ) (bytes : List ℕ) → own ≡ bytes → (plain_until : ℕ) → IsPlainUntil skips place end plain_until → (waits : Waits) → NextByteIsKnown own tab bytes skips place end plain_until waits Other
+  known-other own tab bytes is plain_until r waits = record { own_bytes = is; is_plain_until = r; there = λ w o. absurd (o refl); over = λ w o. absurd (o refl) }
 
 -- a place before the end of a document can move
 pub place-fits : (t : ℕ) (bytes : List ℕ) (p : Point) → 0 < t → IsWithinLimit t bytes → IsPlace t bytes p → p.index < length bytes → CanMove p

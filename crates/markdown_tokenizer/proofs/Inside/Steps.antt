@@ -1,5 +1,5 @@
 -- Each call on a tokenizer keeps what holds of its fields, and does what its contract says.
-use Rattle.markdown_tokenizer.proofs.Prelude.{Bool, ◌≡◌, ◌≢◌, ℕ, ◌≤◌, ◌<◌, List, [], true, false, Option, Some, None, length, refl, sym, ap, ◌∙◌, subst, add-one, arith, inl, inr, map, OnTrue, is_some, lt-ltb, Point, Seat, shown, stands_before, IsShown, open_events, stands-self, Waits, Nothing, Byte, End, Moves, Other, Reading, Inside, at_configuration, sight, byte_of, point_of, current_of, point_or, consumed, fed, IsWellFormed, IsInText, resumed, IsReadyAt, seen, text_within, standing, EndWaits, IsKnown, IsSound, IsPlace, rest_at, is_before_pair, IsNextByte, CanMove, moved, IsQuick, IsMade, Exit, reverse, is_void, balanced_from_open}
+use Rattle.markdown_tokenizer.proofs.Prelude.{Bool, ◌≡◌, ◌≢◌, ℕ, ◌≤◌, ◌<◌, List, [], true, false, Option, Some, None, length, refl, sym, ap, ◌∙◌, subst, add-one, arith, inl, inr, map, OnTrue, is_some, lt-ltb, Point, Seat, shown, stands_before, IsShown, open_events, stands-self, Waits, Nothing, Byte, End, Moves, Other, Reading, Inside, at_configuration, sight, byte_of, point_of, current_of, point_or, consumed, fed, IsWellFormed, IsInText, resumed, IsPlainUntil, seen, text_within, standing, EndWaits, NextByteIsKnown, IsSound, IsPlace, rest_at, is_before_pair, IsNextByte, CanMove, moved, IsQuick, IsMade, Exit, reverse, is_void, balanced_from_open}
 use Rattle.markdown_base.specs.declared.event.Name.{Name}
 use Rattle.markdown_tokenizer.proofs.Positions.Order.{later-later}
 use Rattle.markdown_tokenizer.proofs.Positions.Seats.{one-seat}
@@ -103,7 +103,7 @@ module _ {M R D : Type 0} {same : R → R → Bool} (t : Inside M R D) (sound : 
         → seen (record t { waits = Byte; byte = byte }) ≡ at_configuration (seen t) (fed (seen t).text (seen t).configuration)
     fed-seen byte lt = let f = lt-ltb (seen t).configuration.position (length (seen t).text.seats) (fed-more lt) in rw f refl
 
-    pub fed-sound : (byte : ℕ) → is_before_pair seat.point t.end ≡ true → seat.byte ≡ byte → (moves : Moves) → IsKnown t.bytes.now (tab_within t) (bytes_within t) t.skips t.after_previous t.end.0 t.ready Byte moves
+    pub fed-sound : (byte : ℕ) → is_before_pair seat.point t.end ≡ true → seat.byte ≡ byte → (moves : Moves) → NextByteIsKnown t.bytes.now (tab_within t) (bytes_within t) t.skips t.after_previous t.end.0 t.plain_until Byte moves
         → IsSound same (record t { waits = Byte; byte = byte; moves = moves })
     fed-sound byte lt e moves known = record {
       placed = placed-there sound.placed sound.placed.read (record { seat = seat; at = n; before = before-end seat.point ∙ lt; is = sym e }) sound.placed.ended sound.placed.reads;
@@ -125,17 +125,17 @@ module _ {M R D : Type 0} {same : R → R → Bool} (t : Inside M R D) (sound : 
     made = made-here;
     kept_choices = sound.kept_choices;
     once = sound.once;
-    known = record { own_bytes = sound.known.own_bytes; ready_at = sound.known.ready_at; there = λ w o. cc; over = λ w o. cc };
+    known = record { own_bytes = sound.known.own_bytes; is_plain_until = sound.known.is_plain_until; there = λ w o. cc; over = λ w o. cc };
   }
 
   -- a byte is fed that is told by the one at its index
-  module _ (byte : ℕ) (moves : Moves) (q : IsQuick t.tab_size t.bytes.now t.after_previous t.ready t.end.0 byte moves) where
-    quick-in : IsQuick (tab_within t) (bytes_within t) t.after_previous t.ready t.end.0 byte moves
-    quick-in = subst (λ (n : ℕ). IsQuick n (bytes_within t) t.after_previous t.ready t.end.0 byte moves) sound.placed.tab
-        (subst (λ (b : List ℕ). IsQuick t.tab_size b t.after_previous t.ready t.end.0 byte moves) sound.known.own_bytes q)
+  module _ (byte : ℕ) (moves : Moves) (q : IsQuick t.tab_size t.bytes.now t.after_previous t.plain_until t.end.0 byte moves) where
+    quick-in : IsQuick (tab_within t) (bytes_within t) t.after_previous t.plain_until t.end.0 byte moves
+    quick-in = subst (λ (n : ℕ). IsQuick n (bytes_within t) t.after_previous t.plain_until t.end.0 byte moves) sound.placed.tab
+        (subst (λ (b : List ℕ). IsQuick t.tab_size b t.after_previous t.plain_until t.end.0 byte moves) sound.known.own_bytes q)
 
     quick-is-there : here_in ≡ t.after_previous
-    quick-is-there = elim quick-in.there [ inl h ↦ sound.known.ready_at.there h | inr h ↦ resumed-in-line t.skips t.after_previous h ]
+    quick-is-there = elim quick-in.there [ inl h ↦ sound.known.is_plain_until.there h | inr h ↦ resumed-in-line t.skips t.after_previous h ]
 
     quick-at : IsSeatWithin t here_in quick-in.seat
     quick-at = subst (λ (p : Point). IsSeatWithin t p quick-in.seat) (sym quick-is-there) quick-in.at
@@ -151,7 +151,7 @@ module _ {M R D : Type 0} {same : R → R → Bool} (t : Inside M R D) (sound : 
 
     pub quick-sound : IsSound same (record t { waits = Byte; byte = byte; moves = moves })
     quick-sound = fed-sound quick-in.seat quick-at byte quick-before quick-in.is moves
-        (record { own_bytes = sound.known.own_bytes; ready_at = sound.known.ready_at; there = λ w o. quick-is-there; over = λ w o. quick-in.over })
+        (record { own_bytes = sound.known.own_bytes; is_plain_until = sound.known.is_plain_until; there = λ w o. quick-is-there; over = λ w o. quick-in.over })
 
   -- the end is in the document
   pub end-inside : t.end.0 ≤ length (bytes_within t)
@@ -179,9 +179,9 @@ module _ {M R D : Type 0} {same : R → R → Bool} (t : Inside M R D) (sound : 
 
   -- a byte is consumed
   pub consumed-sound : (waits : ByteWithin t) (after_previous : Point) → after_previous ≡ waits.seat.end
-      → (ready : ℕ) → IsReadyAt t.skips after_previous t.end.0 ready
-      → IsSound same (record t { after_previous = after_previous; previous = Some t.byte; ended = false; waits = Nothing; moves = Other; ready = ready })
-  consumed-sound waits after_previous l ready r =
+      → (plain_until : ℕ) → IsPlainUntil t.skips after_previous t.end.0 plain_until
+      → IsSound same (record t { after_previous = after_previous; previous = Some t.byte; ended = false; waits = Nothing; moves = Other; plain_until = plain_until })
+  consumed-sound waits after_previous l plain_until r =
       let read : ReadWithin t after_previous (Some t.byte) = rw (l, waits.is) (read-next t sound sound.placed.read waits.seat waits.at waits.before) in
       let q = shown (bytes_within t) here_in in
       let s = seat-shown (tab_within t) (bytes_within t) (wide_of t sound) here_in waits.seat looks_in.place waits.at in
@@ -193,7 +193,7 @@ module _ {M R D : Type 0} {same : R → R → Bool} (t : Inside M R D) (sound : 
             later (stands-self (shown (bytes_within t) after_previous)) (shown-shown (tab_within t) (bytes_within t) after_previous) (shown-shown (tab_within t) (bytes_within t) after_previous);
         kept_choices = sound.kept_choices;
         once = sound.once;
-        known = record { own_bytes = sound.known.own_bytes; ready_at = r; there = λ w o. cc; over = λ w o. cc };
+        known = record { own_bytes = sound.known.own_bytes; is_plain_until = r; there = λ w o. cc; over = λ w o. cc };
       }
 
   pub consumed-seen : (waits : ByteWithin t) (after_previous : Point) → after_previous ≡ waits.seat.end

@@ -3,6 +3,6 @@ use Rattle.markdown_tokenizer.proofs.Prelude.{◌≡◌, List, [], ◌∷◌, re
 use Rattle.markdown_tokenizer.specs.declared.waiting.GoesOn.TheVariants.{Next}
 
 -- a state goes on
-pub unwound-next : (kept_choices : List KeptChoice) (goal : GoesOn) (name : Name) (from : Progress) → goal ≡ Next name → unwinding kept_choices goal from ≡ unwound kept_choices goal from
-unwound-next [] goal name from e = refl
-unwound-next (choice ∷ kept_choices) goal name from e = rw e refl
+pub unwound-next : (kept_choices : List KeptChoice) (continuation : GoesOn) (name : Name) (from : Progress) → continuation ≡ Next name → unwinding kept_choices continuation from ≡ unwound kept_choices continuation from
+unwound-next [] continuation name from e = refl
+unwound-next (choice ∷ kept_choices) continuation name from e = rw e refl

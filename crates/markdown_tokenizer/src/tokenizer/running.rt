@@ -1,7 +1,6 @@
 //! The work of a tokenizer: it calls states until a range is used up, or until the reading has ended.
 
-ghost use Rattle.std.specs.Prelude.{◌≡◌, ◌≢◌, ◌≤◌, ◌<◌, Contains, length, [], Option, false, true, IfOk, IfErr, IsErrOf, IsTrue};
-ghost use Rattle.std.specs.Bool.{OnTrue, OnFalse};
+ghost use Rattle.std.specs.Prelude.{◌≡◌, ◌≢◌, ◌≤◌, Contains, length, [], Option, false, true, IfOk, IfErr, IsErrOf, IsTrue};
 ghost use Rattle.markdown_base.specs.Virtual.{point};
 ghost use Rattle.markdown_tokenizer.specs.declared.waiting.Waits.TheVariants.{Nothing, End};
 ghost use Rattle.markdown_tokenizer.specs.Configuration.{at_configuration, start_seen};
@@ -15,11 +14,11 @@ ghost use Rattle.markdown_tokenizer.specs.View.{taken_continuation};
 ghost use Rattle.markdown_tokenizer.specs.Work.{IsInText, extended, answer_of, HoldsAll, LeadsAll, OnlyWorked, Stops, settled_all, EndsClosed, GoesOnTo, taken_up, taken_by_next};
 
 use super::{Fault, Tokenizer};
-use crate::cursor::{next_byte, quick_byte, ready_at, resumed};
+use crate::cursor::{Moves, next_byte_from, plain_until};
 use crate::parser::ParseState;
 use crate::state::{Machine, MachineTypes, Name, State};
 use crate::subtokenize::Subresult;
-use crate::waiting::{GoesOn, Moves, Phase, Progress, Waits, unwind};
+use crate::waiting::{GoesOn, Phase, Progress, Waits, unwind};
 use markdown_base::event::{Event, Point};
 use markdown_base::owned::Items;
 use std::alloc::{AllocError, Global};
@@ -83,64 +82,6 @@ fn read_cut<M: Machine>(
 }
 
 impl<'a, M: MachineTypes> Tokenizer<'a, M> {
-    /// Feeds the next byte of the text. Returns whether there is one.
-    #[inline(always)]
-    fn feed(&mut self) -> bool
-        ensures fed { OnTrue result (self.new ≡ at_configuration self.old (fed self.old.text self.old.configuration)) }
-        ensures more { OnTrue result (self.old.configuration.position < length self.old.text.seats) }
-        ensures same { OnFalse result (self.new ≡ self.old) }
-        ensures end { OnFalse result (length self.old.text.seats ≤ self.old.configuration.position) }
-    {
-        let next = quick_byte(
-            self.bytes,
-            &self.tab_size,
-            &self.after_previous,
-            self.ready,
-            self.end.0,
-        );
-        match next {
-            Some((byte, moves)) => match moves {
-                // Written once more, as here it is known what is stored: two of the stores become one.
-                Moves::Plain => {
-                    self.byte = byte;
-                    self.waits = Waits::Byte;
-                    self.moves = Moves::Plain;
-                    true
-                }
-                _ => {
-                    self.byte = byte;
-                    self.waits = Waits::Byte;
-                    self.moves = moves;
-                    true
-                }
-            },
-            None => self.feed_apart(),
-        }
-    }
-
-    /// As `feed`, whatever the next byte is.
-    ///
-    /// It is cold: nearly always `feed` finds the byte itself.
-    #[cold]
-    #[inline(never)]
-    fn feed_apart(&mut self) -> bool
-        ensures fed { OnTrue result (self.new ≡ at_configuration self.old (fed self.old.text self.old.configuration)) }
-        ensures more { OnTrue result (self.old.configuration.position < length self.old.text.seats) }
-        ensures same { OnFalse result (self.new ≡ self.old) }
-        ensures end { OnFalse result (length self.old.text.seats ≤ self.old.configuration.position) }
-    {
-        let place = resumed(&self.skips, &self.after_previous);
-        match next_byte(self.parse_state.bytes, *place, self.end) {
-            None => false,
-            Some(byte) => {
-                self.byte = byte;
-                self.waits = Waits::Byte;
-                self.moves = Moves::Other;
-                true
-            }
-        }
-    }
-
     /// Feeds the end.
     fn feed_end(&mut self)
         requires read { length self.old.text.seats ≤ self.old.configuration.position }
@@ -187,24 +128,22 @@ impl<'a, M: MachineTypes> Tokenizer<'a, M> {
             events_len: self.events.len(),
             stack_len: self.stack.len(),
         };
-        let (goal, from) = unwind(&mut self.kept_choices, ok, from);
+        let (continuation, from) = unwind(&mut self.kept_choices, ok, from);
         self.after_previous = from.after_previous;
         self.previous = from.previous;
         self.ended = from.ended;
         self.events.truncate(from.events_len);
         self.stack.truncate(from.stack_len);
         self.waits = Waits::Nothing;
-        self.ready = ready_at(&self.skips, &from.after_previous, self.end.0);
+        self.plain_until = plain_until(&self.skips, &from.after_previous, self.end.0);
         self.moves = Moves::Other;
-        let name = match goal {
+        let name = match continuation {
             GoesOn::Next(name) => name,
             GoesOn::Ok => return Err(GoesOn::Ok),
             GoesOn::Nok => return Err(GoesOn::Nok),
         };
         let bytes = self.parse_state.bytes;
-        let end = self.end;
-        let again = resumed(&self.skips, &from.after_previous);
-        match next_byte(bytes, *again, end) {
+        match next_byte_from(bytes, &self.skips, &from.after_previous, self.end) {
             Some(byte) => {
                 self.waits = Waits::Byte;
                 self.byte = byte;
@@ -220,6 +159,9 @@ impl<'a, M: MachineTypes> Tokenizer<'a, M> {
     }
 
     /// A tokenizer has read no more than its text.
+    ///
+    /// It does nothing. It is called where a proof needs this fact and no field is used: only a use of a field opens the invariant,
+    /// from which the fact comes.
     fn shows_in_text(&self)
         ensures { IsInText self.now }
     {
@@ -227,6 +169,8 @@ impl<'a, M: MachineTypes> Tokenizer<'a, M> {
     }
 
     /// If no span is open, the events are well formed, until a flush resolves.
+    ///
+    /// It does nothing, and is called as `shows_in_text` is.
     fn shows_events(&self)
         ensures { let t = self.now in t.phase ≡ Phase.Reading → t.configuration.stack ≡ [] → IsWellFormed t.given.bytes t.configuration }
     {
@@ -260,7 +204,7 @@ impl<'a, M: MachineTypes> Tokenizer<'a, M> {
             ForPoints t.given from to (λ f l. self.new ≡ extended t (followed_by t.given t.text (pushed f l))) }
     {
         self.end = to;
-        self.ready = ready_at(&self.skips, &self.after_previous, to.0);
+        self.plain_until = plain_until(&self.skips, &self.after_previous, to.0);
     }
 
     /// Takes out the definitions that states found. Takes no memory.

@@ -5,7 +5,7 @@ use Rattle.markdown_tokenizer.proofs.tokenizer.Tokenizer.extend.Goals as goal
 pub invariant_of-self : goal.invariant_of-self
 invariant_of-self g c =
     let r = rw (← c.self.view_is) at c.requires.range in
-    extended-sound c.self.inside c.self.invariant c.args.to r.0 r.1 r.3 r.4 (rw (← c.self.view_is) at c.requires.open_still) c.ready_at-self-inside.result c.ready_at-self-inside.ensures
+    extended-sound c.self.inside c.self.invariant c.args.to r.0 r.1 r.3 r.4 (rw (← c.self.view_is) at c.requires.open_still) c.plain_until-self-inside.result c.plain_until-self-inside.ensures
 
 pub returns : goal.returns
 returns g c =

@@ -1,17 +1,17 @@
 use Rattle.markdown_tokenizer.proofs.Prelude.{◌≡◌, ◌∙◌, refl, ap, inl, inr, Some, None, state_of, answer_of}
 use Rattle.markdown_tokenizer.proofs.Inside.GoingOn.{IsUnwound, none-by, takes-ended, unwound-by, next-there, within-there, byte-sound, end-sound, none-sound, ended-sound, closes, takes-byte, takes-end, takes-none, takes-ok, takes-nok}
 use Rattle.markdown_tokenizer.proofs.tokenizer.Tokenizer.go_on.Given.{Over}
-use Rattle.markdown_tokenizer.proofs.tokenizer.Tokenizer.go_on.Goals.{After-ready_at-self-inside, then-ok, else-ok}
+use Rattle.markdown_tokenizer.proofs.tokenizer.Tokenizer.go_on.Goals.{After-plain_until-self-inside, then-ok, else-ok}
 use Rattle.markdown_tokenizer.proofs.tokenizer.Tokenizer.go_on.Goals as goal
 
 -- the choices that ended
-ended : (g : Over) (c : After-ready_at-self-inside g)
-    → IsUnwound c.self.inside c.args.ok c.unwind-goal.new.kept_choices c.unwind-goal.result.0 c.unwind-goal.result.1 c.truncate.new.self c.truncate-2.new.self c.ready_at-self-inside.result
+ended : (g : Over) (c : After-plain_until-self-inside g)
+    → IsUnwound c.self.inside c.args.ok c.unwind-continuation.new.kept_choices c.unwind-continuation.result.0 c.unwind-continuation.result.1 c.truncate.new.self c.truncate-2.new.self c.plain_until-self-inside.result
 ended g c =
     let t = c.self.inside in
-    unwound-by t c.args.ok c.unwind-goal.new.kept_choices c.unwind-goal.result.0 c.unwind-goal.result.1 c.truncate.new.self c.truncate-2.new.self c.ready_at-self-inside.result
+    unwound-by t c.args.ok c.unwind-continuation.new.kept_choices c.unwind-continuation.result.0 c.unwind-continuation.result.1 c.truncate.new.self c.truncate-2.new.self c.plain_until-self-inside.result
     _ _ _ _ c.is_empty.ensures c.if-is_empty.false t.kept_choices.ok.0 (c.len.ensures ∙ t.events.ok.0) (c.len-2.ensures ∙ t.stack.ok.0)
-    c.unwind-goal.ensures c.truncate.ensures.items c.truncate-2.ensures.items c.ready_at-self-inside.ensures
+    c.unwind-continuation.ensures c.truncate.ensures.items c.truncate-2.ensures.items c.plain_until-self-inside.ensures
 
 pub returns-then-is_empty : goal.returns-then-is_empty
 returns-then-is_empty g c =
@@ -25,49 +25,49 @@ returns-then-is_empty g c =
 
 pub invariant_of-self : goal.invariant_of-self
 invariant_of-self g c =
-    let h = ended g (goal.at.invariant_of-self g c).After-ready_at-self-inside in
+    let h = ended g (goal.at.invariant_of-self g c).After-plain_until-self-inside in
     ended-sound c.self.inside c.self.invariant h (closes c.self.inside c.self.invariant h (rw (← c.self.view_is) at c.requires.ends) (inl c.in-Ok.is))
 
 pub returns-in-Ok : goal.returns-in-Ok
-returns-in-Ok g c = rw (← c.self.view_is) (takes-ok c.self.inside c.self.invariant (ended g (goal.at.returns-in-Ok g c).After-ready_at-self-inside) c.args.flush c.in-Ok.is)
+returns-in-Ok g c = rw (← c.self.view_is) (takes-ok c.self.inside c.self.invariant (ended g (goal.at.returns-in-Ok g c).After-plain_until-self-inside) c.args.flush c.in-Ok.is)
 
 pub invariant_of-self-in-Nok : goal.invariant_of-self-in-Nok
 invariant_of-self-in-Nok g c =
-    let h = ended g (goal.at.invariant_of-self-in-Nok g c).After-ready_at-self-inside in
+    let h = ended g (goal.at.invariant_of-self-in-Nok g c).After-plain_until-self-inside in
     ended-sound c.self.inside c.self.invariant h (closes c.self.inside c.self.invariant h (rw (← c.self.view_is) at c.requires.ends) (inr c.in-Nok.is))
 
 pub returns-in-Nok : goal.returns-in-Nok
-returns-in-Nok g c = rw (← c.self.view_is) (takes-nok c.self.inside c.self.invariant (ended g (goal.at.returns-in-Nok g c).After-ready_at-self-inside) c.args.flush c.in-Nok.is)
+returns-in-Nok g c = rw (← c.self.view_is) (takes-nok c.self.inside c.self.invariant (ended g (goal.at.returns-in-Nok g c).After-plain_until-self-inside) c.args.flush c.in-Nok.is)
 
-pub next_byte-requires : goal.next_byte-requires
-next_byte-requires g c = record { within = within-there c.self.inside c.self.invariant (ended g (goal.at.next_byte-requires g c).After-ready_at-self-inside) _ _ refl c.resumed-again.ensures }
+pub next_byte_from-requires : goal.next_byte_from-requires
+next_byte_from-requires g c = record { within = within-there c.self.inside c.self.invariant (ended g (goal.at.next_byte_from-requires g c).After-plain_until-self-inside) _ _ refl refl }
 
 pub invariant_of-self-in-Some : goal.invariant_of-self-in-Some
 invariant_of-self-in-Some g c =
-    let h = ended g (goal.at.invariant_of-self-in-Some g c).After-ready_at-self-inside in
-    byte-sound c.self.inside c.self.invariant h c.in-Some.byte (next-there c.self.inside c.self.invariant h _ _ (Some c.in-Some.byte) refl c.resumed-again.ensures c.in-Some.ensures)
+    let h = ended g (goal.at.invariant_of-self-in-Some g c).After-plain_until-self-inside in
+    byte-sound c.self.inside c.self.invariant h c.in-Some.byte (next-there c.self.inside c.self.invariant h _ _ (Some c.in-Some.byte) refl refl c.in-Some.ensures)
 
 pub invariant_of-self-then-flush : goal.invariant_of-self-then-flush
 invariant_of-self-then-flush g c =
-    let t = c.self.inside in let sound = c.self.invariant in let h = ended g (goal.at.invariant_of-self-then-flush g c).After-ready_at-self-inside in
-    end-sound t sound h (next-there t sound h _ _ None refl c.resumed-again.ensures c.in-None.ensures) ((rw (← c.self.view_is) at c.requires.closed) ∙ c.if-flush.true)
+    let t = c.self.inside in let sound = c.self.invariant in let h = ended g (goal.at.invariant_of-self-then-flush g c).After-plain_until-self-inside in
+    end-sound t sound h (next-there t sound h _ _ None refl refl c.in-None.ensures) ((rw (← c.self.view_is) at c.requires.closed) ∙ c.if-flush.true)
 
 pub invariant_of-self-else-flush : goal.invariant_of-self-else-flush
 invariant_of-self-else-flush g c =
-    let t = c.self.inside in let sound = c.self.invariant in let h = ended g (goal.at.invariant_of-self-else-flush g c).After-ready_at-self-inside in
-    none-sound t sound h (next-there t sound h _ _ None refl c.resumed-again.ensures c.in-None-2.ensures) ((rw (← c.self.view_is) at c.requires.closed) ∙ c.if-flush.false)
+    let t = c.self.inside in let sound = c.self.invariant in let h = ended g (goal.at.invariant_of-self-else-flush g c).After-plain_until-self-inside in
+    none-sound t sound h (next-there t sound h _ _ None refl refl c.in-None-2.ensures) ((rw (← c.self.view_is) at c.requires.closed) ∙ c.if-flush.false)
 
 pub returns-in-Some : goal.returns-in-Some
 returns-in-Some g c =
-    let t = c.self.inside in let sound = c.self.invariant in let h = ended g (goal.at.returns-in-Some g c).After-ready_at-self-inside in
-    rw (← c.self.view_is) (takes-byte t sound h c.args.flush c.in-Next.name c.in-Some.byte c.in-Next.is (next-there t sound h _ _ (Some c.in-Some.byte) refl c.resumed-again.ensures c.in-Some.ensures))
+    let t = c.self.inside in let sound = c.self.invariant in let h = ended g (goal.at.returns-in-Some g c).After-plain_until-self-inside in
+    rw (← c.self.view_is) (takes-byte t sound h c.args.flush c.in-Next.name c.in-Some.byte c.in-Next.is (next-there t sound h _ _ (Some c.in-Some.byte) refl refl c.in-Some.ensures))
 
 pub returns-in-None : goal.returns-in-None
 returns-in-None g c =
-    let t = c.self.inside in let sound = c.self.invariant in let h = ended g (goal.at.returns-in-None g c).After-ready_at-self-inside in
-    rw (← c.self.view_is) (takes-end t sound h c.args.flush c.in-Next.name c.in-Next.is c.if-flush.true (next-there t sound h _ _ None refl c.resumed-again.ensures c.in-None.ensures))
+    let t = c.self.inside in let sound = c.self.invariant in let h = ended g (goal.at.returns-in-None g c).After-plain_until-self-inside in
+    rw (← c.self.view_is) (takes-end t sound h c.args.flush c.in-Next.name c.in-Next.is c.if-flush.true (next-there t sound h _ _ None refl refl c.in-None.ensures))
 
 pub returns-in-None-2 : goal.returns-in-None-2
 returns-in-None-2 g c =
-    let t = c.self.inside in let sound = c.self.invariant in let h = ended g (goal.at.returns-in-None-2 g c).After-ready_at-self-inside in
-    rw (← c.self.view_is) (takes-none t sound h c.args.flush c.in-Next.name c.in-Next.is c.if-flush.false (next-there t sound h _ _ None refl c.resumed-again.ensures c.in-None-2.ensures))
+    let t = c.self.inside in let sound = c.self.invariant in let h = ended g (goal.at.returns-in-None-2 g c).After-plain_until-self-inside in
+    rw (← c.self.view_is) (takes-none t sound h c.args.flush c.in-Next.name c.in-Next.is c.if-flush.false (next-there t sound h _ _ None refl refl c.in-None-2.ensures))

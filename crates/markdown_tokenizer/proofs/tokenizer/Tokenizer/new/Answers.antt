@@ -1,6 +1,6 @@
 use Rattle.markdown_tokenizer.proofs.Prelude.{refl, Nothing}
 use Rattle.markdown_tokenizer.proofs.Inside.Fields.{read-start}
-use Rattle.markdown_tokenizer.proofs.Inside.Known.{known-other, ready-none}
+use Rattle.markdown_tokenizer.proofs.Inside.Known.{known-other, plain-none}
 use Rattle.markdown_tokenizer.proofs.Runs.Resolvers.{none-twice}
 use Rattle.markdown_tokenizer.proofs.Inside.Changes.{start-end, start-empty, start-found, start-text, start-made}
 use Rattle.markdown_tokenizer.proofs.tokenizer.Tokenizer.new.Goals as goal
@@ -28,7 +28,7 @@ invariant_of-result g c =
       made = λ _. rw (c.new-events.ensures.items, c.new-stack.ensures.items) (start-made tab apart.0 bytes p c.requires.place);
       kept_choices = rw c.new-kept_choices.ensures.items tt;
       once = rw c.new-resolvers.ensures.items (none-twice g.M.Resolver.PartialEq.eq);
-      known = known-other c.new-skips.result p p.index bytes tab bytes refl 0 (ready-none c.new-skips.result p p.index) Nothing;
+      known = known-other c.new-skips.result p p.index bytes tab bytes refl 0 (plain-none c.new-skips.result p p.index) Nothing;
     }
 
 pub returns-clause-start : goal.returns-clause-start

@@ -1,6 +1,6 @@
 use Rattle.markdown_tokenizer.proofs.Prelude.{refl, ◌∙◌}
 use Rattle.markdown_tokenizer.proofs.Inside.Steps.{byte-waits, consumed-sound, consumed-seen, told-fits, told-moved, unmoved}
-use Rattle.markdown_tokenizer.proofs.tokenizer.Tokenizer.consume_apart.Goals as goal
+use Rattle.markdown_tokenizer.proofs.tokenizer.Tokenizer.consume_known.Goals as goal
 
 pub step-requires : goal.step-requires
 step-requires g c =
@@ -13,7 +13,7 @@ invariant_of-self g c =
     let e = rw (← c.self.view_is) at c.requires in
     let w = byte-waits t sound e in
     let m = c.in-Some.ensures.moved in
-    consumed-sound t sound w c.step.new.point (m.place ∙ told-moved t sound w e m.told) c.in-Some.ready m.ready_at
+    consumed-sound t sound w c.step.new.point (m.place ∙ told-moved t sound w e m.told) c.in-Some.plain_until m.is_plain_until
 
 pub returns-in-Some : goal.returns-in-Some
 returns-in-Some g c =

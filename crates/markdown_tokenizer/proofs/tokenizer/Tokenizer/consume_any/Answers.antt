@@ -1,6 +1,6 @@
 use Rattle.markdown_tokenizer.proofs.Prelude.{ℕ, refl, sym, subst, IsSeatAt}
 use Rattle.markdown_tokenizer.proofs.Inside.Steps.{byte-waits, consumed-sound, consumed-seen, place-at, seat-at}
-use Rattle.markdown_tokenizer.proofs.tokenizer.Tokenizer.consume_rarely.Goals as goal
+use Rattle.markdown_tokenizer.proofs.tokenizer.Tokenizer.consume_any.Goals as goal
 
 pub pass-requires-clause-place : goal.pass-requires-clause-place
 pass-requires-clause-place g c = let tab = c.self.invariant.placed.tab in rw tab (place-at c.self.inside c.self.invariant _ _ refl c.resume.ensures)
@@ -10,7 +10,7 @@ invariant_of-self g c =
     let t = c.self.inside in let sound = c.self.invariant in
     let w = byte-waits t sound (rw (← c.self.view_is) at c.requires) in
     let tab = sound.placed.tab in
-    consumed-sound t sound w c.pass.new.point (c.pass.ensures w.seat (subst (λ (n : ℕ). IsSeatAt n t.parse_state.now.bytes.now c.resume.new.place w.seat) (sym tab) (seat-at t sound _ _ w.seat refl c.resume.ensures w.at))) c.ready_at-self-inside.result c.ready_at-self-inside.ensures
+    consumed-sound t sound w c.pass.new.point (c.pass.ensures w.seat (subst (λ (n : ℕ). IsSeatAt n t.parse_state.now.bytes.now c.resume.new.place w.seat) (sym tab) (seat-at t sound _ _ w.seat refl c.resume.ensures w.at))) c.plain_until-self-inside.result c.plain_until-self-inside.ensures
 
 pub returns : goal.returns
 returns g c =

@@ -1,5 +1,5 @@
 use Rattle.markdown_tokenizer.proofs.Inside.Spans.{exited-sound, exited-seen}
-use Rattle.markdown_tokenizer.proofs.tokenizer.Tokenizer.exit_apart.Goals as goal
+use Rattle.markdown_tokenizer.proofs.tokenizer.Tokenizer.exit_slow.Goals as goal
 
 pub invariant_of-self-2 : goal.invariant_of-self-2
 invariant_of-self-2 g c =

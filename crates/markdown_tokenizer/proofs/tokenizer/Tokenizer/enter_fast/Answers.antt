@@ -1,7 +1,7 @@
 use Rattle.markdown_tokenizer.proofs.Prelude.{refl}
 use Rattle.markdown_tokenizer.proofs.Inside.Spans.{entered-sound, entered-seen, entered-there}
 use Rattle.markdown_tokenizer.proofs.Inside.Steps.{after-byte}
-use Rattle.markdown_tokenizer.proofs.tokenizer.Tokenizer.enter_here.Goals as goal
+use Rattle.markdown_tokenizer.proofs.tokenizer.Tokenizer.enter_fast.Goals as goal
 
 pub shown_after-point-requires : goal.shown_after-point-requires
 shown_after-point-requires g c = record { after = after-byte c.self.inside c.self.invariant c.is_some.result c.is_some.ensures }

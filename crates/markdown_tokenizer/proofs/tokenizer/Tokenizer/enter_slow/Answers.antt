@@ -1,6 +1,6 @@
 use Rattle.markdown_tokenizer.proofs.Prelude.{refl}
 use Rattle.markdown_tokenizer.proofs.Inside.Spans.{entered-sound, entered-seen, entered-here}
-use Rattle.markdown_tokenizer.proofs.tokenizer.Tokenizer.enter_apart.Goals as goal
+use Rattle.markdown_tokenizer.proofs.tokenizer.Tokenizer.enter_slow.Goals as goal
 
 pub invariant_of-self-2 : goal.invariant_of-self-2
 invariant_of-self-2 g c =
