@@ -35,6 +35,7 @@ pub use Rattle.markdown_tokenizer.specs.Rules
 pub use Rattle.markdown_tokenizer.specs.Plain
 pub use Rattle.markdown_tokenizer.specs.Registering
 pub use Rattle.markdown_tokenizer.specs.Lawful
+pub use Rattle.markdown_tokenizer.specs.Reserves
 pub use Rattle.markdown_tokenizer.specs.Engine
 pub use Rattle.markdown_tokenizer.specs.Ranges
 pub use Rattle.markdown_tokenizer.specs.Fault

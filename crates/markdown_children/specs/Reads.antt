@@ -96,7 +96,7 @@ module _ {R D : Type 0} (g : Given) (rules : Given → Rules R D) where
     pub start : Name
     pub starts : start_at events c ≡ Some start
     pub ends : EndsIn g (rules g).step (text_from g events c) 0 (start_configuration flag) [] (Next start) r
-    pub within : r.calls ≤ (rules g).cost (text_from g events c) (start_configuration flag) (Next start)
+    pub within : r.calls ≤ (rules g).cost (text_from g events c) (start_configuration flag) [] (Next start)
 
   -- The child of the chain that begins at c: what resolvers make of its reading. The events are well formed before resolvers, and in shape
   -- (`IsInShape`) after them

@@ -2,3 +2,4 @@
 pub mod Bounds
 pub mod Ends
 pub mod Plain
+pub mod Reserves

@@ -1,5 +1,5 @@
 -- What pushing and flushing mean.
-use Rattle.std.specs.Prelude.{◌≡◌, ◌+◌, ◌≤◌, ◌⊎◌, ℕ, List, [], ◌∷◌, Some, Bool, true, false, cond, length, sum_by, ◌↔◌}
+use Rattle.std.specs.Prelude.{◌≡◌, ◌+◌, ◌≤◌, ◌⊎◌, ℕ, List, [], ◌∷◌, Some, Bool, true, false, cond, length, ◌↔◌}
 use Rattle.markdown_base.specs.declared.configuration.ParseOptions.{ParseOptions}
 use Rattle.markdown_base.specs.declared.event.Event.{Event}
 use Rattle.markdown_base.specs.declared.event.Point.{Point}
@@ -23,7 +23,7 @@ use Rattle.markdown_tokenizer.specs.Resolving.{IsResolved, IsResolvingRefused, I
 module _ {M R D : Type 0} (rules : Rules R D) where
   -- the calls made, and the calls that a state and the waiting choices may still take on a text
   abbrev pub budget : Text → TokenizerValue M R D → State → ℕ
-  budget text t state = t.calls + (rules.cost text t.configuration state + sum_by (rules.reserve text) t.choices)
+  budget text t state = t.calls + rules.cost text t.configuration t.choices state
 
   -- the invariant holds for a tokenizer and its current state
   abbrev pub HoldsOf : TokenizerValue M R D → State → Type 0
@@ -120,7 +120,7 @@ module _ {R D : Type 0} (g : Given) (rules : Rules R D) where
       → IsText g text → rules.holds text k choices state
       → (r : Reading R D) × EndsIn g rules.step text calls k choices state r
       × ((q : Reading R D) → EndsIn g rules.step text calls k choices state q → q ≡ r)
-      × (r.calls ≤ calls + (rules.cost text k state + sum_by (rules.reserve text) choices))
+      × (r.calls ≤ calls + rules.cost text k choices state)
 
 -- what a machine may read of a document; the options give the tab size
 abbrev pub given_by : List ℕ → ParseOptions → Given
@@ -160,7 +160,7 @@ module _ {R D : Type 0} (g : Given) (rules : Given → Rules R D) where
     pub events : list ≡ final.events
     pub well_formed : IsWellFormed g.bytes result.configuration
     pub in_shape : resolve ≡ true → IsInShape list
-    pub within : result.calls ≤ (rules g).cost (whole_text g) (start_configuration false) (Next start)
+    pub within : result.calls ≤ (rules g).cost (whole_text g) (start_configuration false) [] (Next start)
 
   -- the events of a tokenizer are what a run returns
   abbrev pub IsRunOf : {M : Type 0} → Bool → Name → TokenizerValue M R D → Subresult → Type 0
@@ -172,4 +172,4 @@ module _ {R D : Type 0} (g : Given) (rules : Given → Rules R D) where
     pub ends : StartEndsIn start result
     pub message : (result.answer ≡ Error m)
         ⊎ ((result.answer ≡ Ok) × IsResolvingRefused (rules g).resolver g (whole_text g) resolve result.configuration m)
-    pub within : result.calls ≤ (rules g).cost (whole_text g) (start_configuration false) (Next start)
+    pub within : result.calls ≤ (rules g).cost (whole_text g) (start_configuration false) [] (Next start)

@@ -1,5 +1,5 @@
 -- What a lawful machine keeps. Each law is about one call, one feeding, one settled choice or one piece added.
-use Rattle.std.specs.Prelude.{◌≡◌, ◌≢◌, ◌+◌, ◌≤◌, ◌⊎◌, List, [], ◌∷◌, ◌++◌, Bool, true, false, Option, IfSome, All, Contains, length, take, sum_by}
+use Rattle.std.specs.Prelude.{◌≡◌, ◌≢◌, ◌+◌, ◌≤◌, ◌⊎◌, List, [], ◌∷◌, ◌++◌, Bool, true, false, Option, IfSome, All, Contains, length, take}
 use Rattle.markdown_base.specs.declared.event.Point.{Point}
 use Rattle.markdown_base.specs.declared.state.Name.{Name}
 use Rattle.markdown_base.specs.declared.state.State.{State}
@@ -89,19 +89,18 @@ module _ {R D : Type 0} (g : Given) (rules : Rules R D) where
         → FitsAfter g text piece → k.ended ≡ false → rules.holds text k choices state
         → rules.holds (followed_by g text piece) k choices state
 
-  -- The cost before a call is at least one more than the cost of the state that it returns and the reserves of the choices that it pushes;
-  -- feeding costs nothing; and what a choice goes on with costs at most its reserve
+  -- The cost of the current state and all waiting choices falls at each call. Feeding costs nothing, and neither does the end of a choice
   pub record CostPays : Type 0 where
     pub for_calls : ForEachCall (λ text k choices name s.
-        1 + (rules.cost text s.configuration s.answer + sum_by (rules.reserve text) s.choices) ≤ rules.cost text k (Retry name))
+        1 + rules.cost text s.configuration (s.choices ++ choices) s.answer ≤ rules.cost text k choices (Retry name))
     pub for_feeding : (text : Text) (k : Configuration R D) (choices : List Choice) (name : Name) → IsText g text
-        → rules.holds text k choices (Next name) → rules.cost text (fed text k) (Retry name) ≤ rules.cost text k (Next name)
+        → rules.holds text k choices (Next name) → rules.cost text (fed text k) choices (Retry name) ≤ rules.cost text k choices (Next name)
     pub for_ok : (text : Text) (k : Configuration R D) (choice : Choice) (choices : List Choice) → IsText g text
         → rules.holds text k (choice ∷ choices) Ok
-        → rules.cost text (settled_at choice.kind choice.saved Ok k) choice.ok ≤ rules.reserve text choice
+        → rules.cost text (settled_at choice.kind choice.saved Ok k) choices choice.ok ≤ rules.cost text k (choice ∷ choices) Ok
     pub for_nok : (text : Text) (k : Configuration R D) (choice : Choice) (choices : List Choice) → IsText g text
         → rules.holds text k (choice ∷ choices) Nok
-        → rules.cost text (settled_at choice.kind choice.saved Nok k) choice.nok ≤ rules.reserve text choice
+        → rules.cost text (settled_at choice.kind choice.saved Nok k) choices choice.nok ≤ rules.cost text k (choice ∷ choices) Nok
 
   -- Once all was read, the invariant of resolvers holds for the registered ones, with the definitions and the list taken out. Each resolver
   -- keeps it for the ones that are left, and keeps the position and the stack. When none is left, the edits can be made, and leave the

@@ -8,6 +8,7 @@ pub mod Rules
 pub mod Plain
 pub mod Registering
 pub mod Lawful
+pub mod Reserves
 pub mod Engine
 pub mod Ranges
 pub mod Fault

@@ -8,13 +8,12 @@ use Rattle.markdown_tokenizer.specs.Sight.{Sight}
 use Rattle.markdown_tokenizer.specs.Resolving.{Resolved}
 
 -- `step`: the result of the call of a state, from what it may see. `holds`: the invariant, of a text, a configuration, the waiting choices
--- and the current state. `cost`, `reserve`: how many calls a state, and a waiting choice, may still take. `starts`: with which states a
+-- and the current state. `cost`: how many calls the current state and all waiting choices may still take. `starts`: with which states a
 -- reading may start. `resolver`: the result of a resolver. `resolves`: what holds before a list of resolvers runs
 pub record Rules (R D : Type 0) : Type 1 where
   pub step : Sight → Configuration R D → Name → Step R D
   pub holds : Text → Configuration R D → List Choice → State → Type 0
-  pub cost : Text → Configuration R D → State → ℕ
-  pub reserve : Text → Choice → ℕ
+  pub cost : Text → Configuration R D → List Choice → State → ℕ
   pub starts : List Name
   pub resolver : Sight → Configuration R D → R → Resolved R D
   pub resolves : Text → List R → Configuration R D → Type 0

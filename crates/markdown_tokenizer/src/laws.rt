@@ -4,6 +4,7 @@
 
 ghost use Rattle.markdown_tokenizer.specs.Engine.{HasOneEnd};
 ghost use Rattle.markdown_tokenizer.specs.LawStatements.{CutsLeaveNoTrace, PushesAreOne, ChoicesPutBack};
+ghost use Rattle.markdown_tokenizer.specs.Reserves.{ReservesAreEnough};
 
 use crate::state::Machine;
 
@@ -27,4 +28,10 @@ pub fn choices_put_back<R, D>()
 /// A lawful machine reads each text in one way, within its cost.
 pub fn reads_in_one_way<M: Machine>()
     ensures { (m : _) (g : _) → HasOneEnd g (M.rules m g) }
+{}
+
+/// A machine may state a cost for each state, and a reserve for each choice that waits: what may still be called when it ends. If
+/// these pay, then the cost of the state and the reserves of all choices that wait is a cost as the law `cost_pays` wants it.
+pub fn reserves_are_enough<M: Machine>()
+    ensures { ReservesAreEnough M.rules }
 {}

@@ -16,8 +16,8 @@ pub trait MachineTypes {
 
 /// A machine of states, which reads a text.
 ///
-/// Its rules say what the call of each state does (`step`), and what holds at each call (`holds`). They say how many calls it
-/// may still take (`cost`, `reserve`), and with which states it may start (`starts`). They also say what a resolver does
+/// Its rules say what the call of each state does (`step`), and what holds at each call (`holds`). They say how many calls
+/// the state and all choices that wait may still take (`cost`), and with which states it may start (`starts`). They also say what a resolver does
 /// (`resolver`), and what holds before a list of resolvers runs (`resolves`). The machine proves six laws about them.
 pub trait Machine: MachineTypes + Sized {
     ghost use Rattle.std.specs.Prelude.{◌≡◌, ◌≢◌, [], IfOk, IfErr};

@@ -58,6 +58,6 @@ pub use Rattle.mdconstructs_tables.specs.Misfits.{Reason, act, acts_fit, answer,
 pub use Rattle.mdconstructs_tables.specs.PlainTables.{IsPlainTable, are_plain_acts, are_plain_rows, are_plain_states}
 pub use Rattle.mdconstructs_tables.specs.PlainWrites.{RowsWritePlain, StatesWritePlain, WritePlain, WritesPlain}
 pub use Rattle.mdconstructs_tables.specs.Refusals.{RulesRefuseNothing, act_refuses, is_message, refusing, rows_refuse}
-pub use Rattle.mdconstructs_tables.specs.RowInvariant.{AnyWait, ArePaid, AreWaiting, AreWithin, Began, CanEnd, EndsWithEnter, HoldsAt, IsAtState, IsBelow, IsCallable, IsFed, IsOpen, IsSaved, IsSavedIn, IsStateAt, PaysRows, SightIsInOrder, Stands, answer_price, at_most, began_at, begun, behind, choice_price, chosen_price, class_at, class_in, events_saved, exit_place_at, is_read, next_price, once_read, outline, position_of, price_by, reserve_of, retry_price, row_price, since, state_price, table_cost, table_holds, table_rules, upto}
+pub use Rattle.mdconstructs_tables.specs.RowInvariant.{AnyWait, ArePaid, AreWaiting, AreWithin, Began, CanEnd, EndsWithEnter, HoldsAt, IsAtState, IsBelow, IsCallable, IsFed, IsOpen, IsSaved, IsSavedIn, IsStateAt, PaysRows, SightIsInOrder, Stands, answer_price, at_most, began_at, begun, behind, choice_price, chosen_price, class_at, class_in, events_saved, exit_place_at, is_read, next_price, once_read, outline, position_of, price_by, reserve_of, retry_price, row_price, since, state_price, table_cost, table_holds, table_reserve, table_rules, upto}
 pub use Rattle.mdconstructs_tables.specs.RowTest.{Frame, Shape, Stage, after, after_all, all_rows, allows, allows_all, answer_calls, at_stage, byte_read, byte_waits, calls_at, calls_le, calls_or, choice_calls, chosen_calls, counts_answer, counts_choice, counts_choices, end_waits, fed_calls, feeds, first_stage, fits_answer, fits_calls, fits_choice, fits_choices, fits_row, frame_of, fresh_at, fresh_fed, is_at, is_bare, is_byte_waiting, is_called, is_called_at, is_counted, is_end, is_fresh, is_fresh_fed, is_last, is_some, is_void_last, larger, may_go_on, may_start, needs_choice, next_calls, pays_row, plus, same_names, saves, start_shape, waits_in}
 pub use Rattle.mdconstructs_tables.specs.Rows.{Act, Begun, Called, Calls, Needs, Row, Rows, StateRows, Table, anywhere, at_a_byte, at_byte, at_bytes, before, choice_made_at, choose, chooses, class_of, consume, does, done, enter, enters, exit, here, links, named, nothing, past, picked, row, row_at, seen_after, step_at, step_of, table_step, when, with_choice_of, write}

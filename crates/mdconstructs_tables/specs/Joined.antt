@@ -14,19 +14,20 @@ abbrev pub has_state : {W R D : Type 0} → List (StateRows W R D) → Name → 
 has_state states name = is_some (named states name)
 
 module _ {R D : Type 0} (is_first : Name → Bool) (first second : Rules R D) where
-  -- a state costs what it costs in its machine; Ok, Nok and Error cost nothing
-  abbrev pub joined_cost : Text → Configuration R D → State → ℕ
-  joined_cost text k (Next name) = cond (is_first name) (first.cost text k (Next name)) (second.cost text k (Next name))
-  joined_cost text k (Retry name) = cond (is_first name) (first.cost text k (Retry name)) (second.cost text k (Retry name))
-  joined_cost text k _ = 0
+  -- A state costs what it costs in its machine. Once a reading ended it costs nothing more; the first makes no choice, so choices that
+  -- wait are the second's.
+  abbrev pub joined_cost : Text → Configuration R D → List Choice → State → ℕ
+  joined_cost text k choices (Next name) = cond (is_first name) (first.cost text k choices (Next name)) (second.cost text k choices (Next name))
+  joined_cost text k choices (Retry name) = cond (is_first name) (first.cost text k choices (Retry name)) (second.cost text k choices (Retry name))
+  joined_cost text k [] state = 0
+  joined_cost text k choices state = second.cost text k choices state
 
-  -- The rules of both. The first makes no choice, so the calls that choices may still take are the second's; both have the same resolvers.
+  -- The rules of both. Both have the same resolvers.
   abbrev pub joined_rules : Rules R D
   joined_rules = record {
     step = λ s k name. cond (is_first name) (first.step s k name) (second.step s k name);
     holds = λ text k choices state. first.holds text k choices state ⊎ second.holds text k choices state;
     cost = joined_cost;
-    reserve = second.reserve;
     starts = first.starts ++ second.starts;
     resolver = first.resolver;
     resolves = λ text rs k. first.resolves text rs k ⊎ second.resolves text rs k;

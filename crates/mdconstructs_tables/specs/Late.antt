@@ -9,10 +9,11 @@ use Rattle.markdown_tokenizer.specs.Text.{Given, Text}
 use Rattle.markdown_tokenizer.specs.Configuration.{Configuration, Choice, Saved}
 use Rattle.markdown_tokenizer.specs.Sight.{sight}
 use Rattle.markdown_tokenizer.specs.Rules.{Rules}
+use Rattle.markdown_tokenizer.specs.Reserves.{together}
 use Rattle.mdconstructs_tables.specs.Rows.{Act, consume, choose, Row, StateRows, Table, class_of}
 use Rattle.mdconstructs_tables.specs.Fitting.{IsFitBy}
 use Rattle.mdconstructs_tables.specs.RowTest.{saves, all_rows}
-use Rattle.mdconstructs_tables.specs.RowInvariant.{table_holds, reserve_of, table_rules}
+use Rattle.mdconstructs_tables.specs.RowInvariant.{table_cost, table_holds, reserve_of, table_rules}
 
 -- what a choice goes on with costs less the more was read, if its state does
 abbrev pub falls_on : (falling : Name → Bool) → State → Bool
@@ -80,8 +81,12 @@ module _ {W R D : Type 0} (table : Table W R D) (early : Name → Option W → B
   late_holds g text k choices state =
       table_holds table g text k choices state × AreFallingBehind (is_early early (class_of table.class (sight g text k).current) state) k.position choices
 
+  -- what a choice goes on with after Ok is called behind the place where it was made
+  abbrev pub late_reserve : Text → Choice → ℕ
+  late_reserve text c = reserve_of table true text c c.saved
+
   abbrev pub late_rules : Given → Rules R D
-  late_rules g = record (table_rules table g) { holds = late_holds g; reserve = λ text c. reserve_of table true text c c.saved }
+  late_rules g = record (table_rules table g) { holds = late_holds g; cost = together (table_cost table g) late_reserve }
 
 -- A table fits, and its choices end with Ok late
 pub record IsLate {W R D : Type 0} (table : Table W R D) (early : Name → Option W → Bool) (falling : Name → Bool) : Type 0 where

@@ -17,6 +17,7 @@ use Rattle.markdown_tokenizer.specs.Configuration.{Configuration, Local, Choice,
 use Rattle.markdown_tokenizer.specs.Sight.{Sight, sight, sight_of, end_place, byte_of}
 use Rattle.markdown_tokenizer.specs.Calls.{with_local, consumed, exited, CanExit}
 use Rattle.markdown_tokenizer.specs.Rules.{Rules}
+use Rattle.markdown_tokenizer.specs.Reserves.{together}
 use Rattle.markdown_tokenizer.specs.Plain.{finds_nothing, NothingResolves}
 use Rattle.mdconstructs_tables.specs.Rows.{Act, exit, consume, choose, Rows, row, when, Row, Calls, StateRows, Table, class_of, step_of, row_at, named, table_step}
 use Rattle.mdconstructs_tables.specs.RowTest.{is_void_last, Stage, byte_waits, Frame, allows_all, first_stage, start_shape, saves, fresh_at, fresh_fed, needs_choice, is_called_at, is_some, fits_choice, calls_at}
@@ -307,4 +308,4 @@ module _ {W R D : Type 0} (table : Table W R D) where
 
 -- the rules of a table
 abbrev pub table_rules : {W R D : Type 0} → Table W R D → Given → Rules R D
-table_rules table g = record { step = table_step table g; holds = table_holds table g; cost = table_cost table g; reserve = table_reserve table g; starts = table.starts; resolver = finds_nothing; resolves = NothingResolves }
+table_rules table g = record { step = table_step table g; holds = table_holds table g; cost = together (table_cost table g) (table_reserve table g); starts = table.starts; resolver = finds_nothing; resolves = NothingResolves }

@@ -70,7 +70,7 @@ module _ {M R D : Type 0} {g : Given} {rules : M → Given → Rules R D} {m : M
       -- the text is read to this end, within its cost
       pub record EndsWithin (q : Reading R D) : Type 0 where
         pub ends : EndsIn g (rules m g).step text 0 (start_configuration flag) [] (Next start) q
-        pub within : q.calls ≤ (rules m g).cost text (start_configuration flag) (Next start)
+        pub within : q.calls ≤ (rules m g).cost text (start_configuration flag) [] (Next start)
 
       -- an end of what is left, within what the budget pays for, is an end of the text
       reads-ends : (q : Reading R D) → EndsIn t.given (rules t.machine t.given).step t.text t.calls t.configuration t.choices state q → q.calls ≤ budget (rules t.machine t.given) t.text t state → EndsWithin q

@@ -1,5 +1,5 @@
 -- The work from the start to a turn: what holds at a call, and after it.
-use Rattle.markdown_tokenizer.proofs.Prelude.{◌≡◌, ◌≢◌, ◌-◌, ◌<◌, List, [], Bool, false, inl, inr, refl, sym, ap, subst, ◌∙◌, arith, sum_by-append, Name, State, Next, Retry, Ok, Nok, Error, Nothing, Byte, End, IsSome, lt-ltb, length, Given, IsText, followed_by_all, Configuration, Choice, TokenizerValue, at_configuration, fed, Sight, sight, Rules, stepped, DidStep, IsLawful, LeadsOn, budget, HoldsAll, Stops, settled_all, settled_to, EndsClosed, TakesUp, IsInText, answer_in}
+use Rattle.markdown_tokenizer.proofs.Prelude.{◌≡◌, ◌≢◌, ◌-◌, ◌<◌, List, [], Bool, false, inl, inr, refl, sym, ap, subst, ◌∙◌, arith, Name, State, Next, Retry, Ok, Nok, Error, Nothing, Byte, End, IsSome, lt-ltb, length, Given, IsText, followed_by_all, Configuration, Choice, TokenizerValue, at_configuration, fed, Sight, sight, Rules, stepped, DidStep, IsLawful, LeadsOn, budget, HoldsAll, Stops, settled_all, settled_to, EndsClosed, TakesUp, IsInText, answer_in}
 use Rattle.std.specs.declared.result.Result.TheVariants as result
 use Rattle.markdown_tokenizer.proofs.Readings.Bounds.{fed-ends, called-ends}
 use Rattle.markdown_tokenizer.proofs.Runs.Working.{Kept, fed-agrees, sight-agrees, leads-refl, leads-trans, leads-settled, settled-end, settled-ends, text-on, text-worked}
@@ -77,14 +77,13 @@ module _ {M R D : Type 0} {rules : M → Given → Rules R D} (laws : (m : M) (g
             let w = followed_by_all t.given u.text rest in
             let first = k.leads rest can only in let on = text-on t.given u.text rest is_here can in
             let pays = law.cost_pays.for_calls w u.configuration u.choices n on first.kept in
-            let there = (rules t.machine t.given).step (sight t.given w u.configuration) u.configuration n in
             leads-trans t.given (rules t.machine t.given) w t u (stepped u st) a (Retry n) st.answer first
             (subst (λ (q : Sight). let here = (rules t.machine t.given).step q u.configuration n in LeadsOn t.given (rules t.machine t.given) w u (Retry n) (stepped u here) here.answer)
             (sight-agrees t.given u.text rest flush u.configuration.position u.configuration.waiting only sound.within sound.byte k.waits)
             (record {
               kept = law.invariant_kept.by_calls w u.configuration u.choices n on first.kept;
               same = λ r. called-ends t.given (rules t.machine t.given).step w u.calls u.configuration u.choices n r;
-              paid = omega (arith, pays, sum_by-append ((rules t.machine t.given).reserve w) there.choices u.choices);
+              paid = omega (arith, pays);
             }));
       })
 

@@ -197,7 +197,7 @@ module _ {M R D : Type 0} (rules : M → Given → Rules R D) where
         subst (λ (x : Text). P m (given_by bytes options) x) run-whole (subst (λ (x : Given). P m x t.text) r.same_given (subst (λ (x : M). P x t.given t.text) r.machine h))
 
     run-within : (calls : ℕ) → calls ≤ budget (rules t.machine t.given) t.text t state
-        → calls ≤ (rules m (given_by bytes options)).cost (whole_text (given_by bytes options)) (start_configuration false) (Next start)
+        → calls ≤ (rules m (given_by bytes options)).cost (whole_text (given_by bytes options)) (start_configuration false) [] (Next start)
     run-within calls paid =
         let here = run-moved (λ x y w. calls ≤ budget (rules x y) w t state) paid in
         let text = run-whole in let before = rw text at ((r.outcome [] tt).paid) in omega (arith, before, here)

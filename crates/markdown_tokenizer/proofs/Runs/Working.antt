@@ -1,5 +1,5 @@
 -- Each step of the work leads on.
-use Rattle.markdown_tokenizer.proofs.Prelude.{◌≡◌, ◌≢◌, ◌≤◌, ◌<◌, ℕ, zero, suc, List, [], ◌∷◌, ◌++◌, Bool, true, false, cond, Option, None, length, refl, sym, ap, ◌∙◌, arith, subst, append_assoc, length-append, lt-ltb, sum_by-cons, append-nil, filter, slice_get, slice_get-get_or, IsSome, Message, State, Next, Ok, Nok, Error, Seat, virtual, denotes_same, get-front, AttemptKind, Attempt, Check, Waits, Nothing, Byte, End, Given, Text, Piece, pushed, passed, in_range, empty_text, followed_by, followed_by_all, CanFollow, IsText, Configuration, Choice, TokenizerValue, Saved, sight_in, seat_before, fed, settled_at, Rules, KeepsInvariant, IsLawful, LeadsOn, LeadsAll, settled_all, settled_to, OnlyWorked, answer_in}
+use Rattle.markdown_tokenizer.proofs.Prelude.{◌≡◌, ◌≢◌, ◌≤◌, ◌<◌, ℕ, zero, suc, List, [], ◌∷◌, ◌++◌, Bool, true, false, cond, Option, None, length, refl, sym, ap, ◌∙◌, arith, subst, append_assoc, length-append, lt-ltb, append-nil, filter, slice_get, slice_get-get_or, IsSome, Message, State, Next, Ok, Nok, Error, Seat, virtual, denotes_same, get-front, AttemptKind, Attempt, Check, Waits, Nothing, Byte, End, Given, Text, Piece, pushed, passed, in_range, empty_text, followed_by, followed_by_all, CanFollow, IsText, Configuration, Choice, TokenizerValue, Saved, sight_in, seat_before, fed, settled_at, Rules, KeepsInvariant, IsLawful, LeadsOn, LeadsAll, settled_all, settled_to, OnlyWorked, answer_in}
 use Rattle.markdown_tokenizer.proofs.Readings.Bounds.{settled-ok-ends, settled-nok-ends}
 
 -- A text that continues another has its seats in front, and begins where it does
@@ -93,14 +93,14 @@ module _ {M R D : Type 0} (given : Given) (rules : Rules R D) where
       let pays = laws.cost_pays.for_ok w k c cs is h in record {
         kept = rest.kept;
         same = λ r. let one = settled-ok-ends given rules.step w t.calls k c cs r in ((λ e. one.0 ((rest.same r).0 e)), (λ e. (rest.same r).1 (one.1 e)));
-        paid = omega (arith, pays, rest.paid, sum_by-cons (rules.reserve w) c cs);
+        paid = omega (arith, pays, rest.paid);
       }
   leads-settled laws w is t k (c ∷ cs) Nok h =
       let rest = leads-settled laws w is t (settled_at c.kind c.saved Nok k) cs c.nok (laws.invariant_kept.by_nok w k c cs is h) in
       let pays = laws.cost_pays.for_nok w k c cs is h in record {
         kept = rest.kept;
         same = λ r. let one = settled-nok-ends given rules.step w t.calls k c cs r in ((λ e. one.0 ((rest.same r).0 e)), (λ e. (rest.same r).1 (one.1 e)));
-        paid = omega (arith, pays, rest.paid, sum_by-cons (rules.reserve w) c cs);
+        paid = omega (arith, pays, rest.paid);
       }
   leads-settled laws w is t k cs s h = leads-refl w (settled_to t (record { configuration = k; choices = cs; answer = s })) s h
 

@@ -6,6 +6,8 @@ use Rattle.mdconstructs_tables.proofs.GrowingTexts.{seat-at}
 use Rattle.mdconstructs_tables.proofs.Tables.Holding.{read-before, waits-at, of_class, before_class, row_of, left_by}
 use Rattle.mdconstructs_tables.proofs.Tables.Waiting.{if-saved}
 use Rattle.mdconstructs_tables.proofs.Tables.Laws.{picked-passes, each-call, state-fits}
+use Rattle.markdown_tokenizer.proofs.Readings.Reserves.{together-pays}
+use Rattle.mdconstructs_tables.specs.RowInvariant.{table_reserve}
 
 -- Calls
 le-most : (c d : Calls) (n : ℕ) → calls_le c d ≡ true → at_most c n ≤ at_most d n
@@ -311,7 +313,7 @@ every-falls (Next name) = refl
 every-falls a = refl
 
 pub table-cost_pays : {W R D : Type 0} (table : Table W R D) (g : Given) → IsFit table → CostPays g (table_rules table g)
-table-cost_pays table g fit = record {
+table-cost_pays table g fit = together-pays (table_cost table g) (table_reserve table g) g (table_rules table g) (record {
   for_calls = λ text k choices name is h. calls-pay table g false fit text k choices name is h;
   for_feeding = λ text k choices name is h. feeding-pays table g false fit text k choices name h;
   for_ok = λ text k choice choices is h.
@@ -320,4 +322,4 @@ table-cost_pays table g fit = record {
       (saves choice.kind choice.nok) choice.saved w.saved in
       ok-pays table g false fit text k choice choices h (every-falls choice.ok) behind_it (elim choice.kind as (λ kind. CanGoBack false kind) [ Attempt ↦ tt | Check ↦ refl ]);
   for_nok = λ text k choice choices is h. nok-pays table g false fit text k choice choices h;
-}
+})

@@ -1,6 +1,5 @@
 -- The laws of two machines in one, from the laws of each.
-use Rattle.mdconstructs_tables.proofs.Rows.Misfits.{none-left}
-use Rattle.mdconstructs_tables.proofs.Prelude.{◌≡◌, ◌≢◌, ◌⊎◌, ◌+◌, ◌≤◌, inl, inr, List, [], ◌∷◌, ◌++◌, Bool, true, false, cond, Option, Some, None, refl, sym, ap, ◌∙◌, subst, arith, ◌==◌, sum_by, nat_tests, Contains-append_cases, false_from_ne_true, Point, Name, State, Next, Retry, Ok, Nok, Given, Text, IsText, Configuration, Choice, Step, sight, Rules, ForEachCall, IsLawful, IsAsFar, consumed, Byte, StateRows, Table, named, is_some, IsStateAt, table_holds, AreApart, has_state, joined_cost, joined_rules, cond_both, map, length, All, IfSome, take, unlinked}
+use Rattle.mdconstructs_tables.proofs.Prelude.{◌≡◌, ◌≢◌, ◌⊎◌, ◌+◌, ◌≤◌, inl, inr, List, [], ◌∷◌, ◌++◌, Bool, true, false, cond, Option, Some, None, refl, sym, ap, ◌∙◌, subst, arith, ◌==◌, nat_tests, Contains-append_cases, false_from_ne_true, Point, Name, State, Next, Retry, Ok, Nok, Given, Text, IsText, Configuration, Choice, Step, sight, Rules, ForEachCall, IsLawful, IsAsFar, consumed, Byte, StateRows, Table, named, is_some, IsStateAt, table_holds, AreApart, has_state, joined_rules, settled_at, cond_both, map, length, All, IfSome, take, unlinked}
 
 module _ {R D : Type 0} (is_first : Name → Bool) (g : Given) (first second : Rules R D) (apart : AreApart is_first first second) where
   abbrev both : Rules R D
@@ -26,15 +25,17 @@ module _ {R D : Type 0} (is_first : Name → Bool) (g : Given) (first second : R
       subst (λ b. P text k choices name (cond b (first.step (sight g text k) k name) (second.step (sight g text k) k name))) (sym (apart.second_called text k choices name h)) (other text k choices name is h)
 
   -- what goes on costs no more than in its own machine
-  first-costs : (text : Text) (k : Configuration R D) (choices : List Choice) (state : State) → first.holds text k choices state → joined_cost is_first first second text k state ≤ first.cost text k state
+  first-costs : (text : Text) (k : Configuration R D) (choices : List Choice) (state : State) → first.holds text k choices state → both.cost text k choices state ≤ first.cost text k choices state
   first-costs text k choices (Next name) h = let e = apart.first_fed text k choices name h in rw e (omega arith)
   first-costs text k choices (Retry name) h = let e = apart.first_called text k choices name h in rw e (omega arith)
-  first-costs text k choices state h = omega arith
+  first-costs text k [] state h = omega arith
+  first-costs text k (c ∷ choices) state h = let none = apart.no_choice text k (c ∷ choices) state h in absurd (cc)
 
-  second-costs : (text : Text) (k : Configuration R D) (choices : List Choice) (state : State) → second.holds text k choices state → joined_cost is_first first second text k state ≤ second.cost text k state
+  second-costs : (text : Text) (k : Configuration R D) (choices : List Choice) (state : State) → second.holds text k choices state → both.cost text k choices state ≤ second.cost text k choices state
   second-costs text k choices (Next name) h = let e = apart.second_fed text k choices name h in rw e (omega arith)
   second-costs text k choices (Retry name) h = let e = apart.second_called text k choices name h in rw e (omega arith)
-  second-costs text k choices state h = omega arith
+  second-costs text k [] state h = omega arith
+  second-costs text k (c ∷ choices) state h = omega arith
 
   pub joined-lawful : IsLawful g first → IsLawful g second → IsLawful g both
   joined-lawful one other = record {
@@ -70,13 +71,12 @@ module _ {R D : Type 0} (is_first : Name → Bool) (g : Given) (first second : R
           ];
         };
     cost_pays = record {
-      for_calls = each-call (λ text k choices name s. 1 + (both.cost text s.configuration s.answer + sum_by (both.reserve text) s.choices) ≤ both.cost text k (Retry name))
+      for_calls = each-call (λ text k choices name s. 1 + both.cost text s.configuration (s.choices ++ choices) s.answer ≤ both.cost text k choices (Retry name))
           (λ text k choices name is h.
           let s = first.step (sight g text k) k name in
           let after = one.invariant_kept.by_calls text k choices name is h in
-          let none = (none-left s.choices choices (apart.no_choice text s.configuration (s.choices ++ choices) s.answer after)).0 in
           let e = apart.first_called text k choices name h in
-          rw e (omega (arith, one.cost_pays.for_calls text k choices name is h, first-costs text s.configuration (s.choices ++ choices) s.answer after, ap (sum_by (second.reserve text)) none)))
+          rw e (omega (arith, one.cost_pays.for_calls text k choices name is h, first-costs text s.configuration (s.choices ++ choices) s.answer after)))
           (λ text k choices name is h.
           let s = second.step (sight g text k) k name in
           let after = other.invariant_kept.by_calls text k choices name is h in
@@ -88,11 +88,11 @@ module _ {R D : Type 0} (is_first : Name → Bool) (g : Given) (first second : R
       ];
       for_ok = λ text k choice choices is h. elim h [
         | inl h ↦ let none = apart.no_choice text k (choice ∷ choices) Ok h in absurd (cc)
-        | inr h ↦ omega (arith, other.cost_pays.for_ok text k choice choices is h, second-costs text _ choices choice.ok (other.invariant_kept.by_ok text k choice choices is h))
+        | inr h ↦ omega (arith, other.cost_pays.for_ok text k choice choices is h, second-costs text (settled_at choice.kind choice.saved Ok k) choices choice.ok (other.invariant_kept.by_ok text k choice choices is h))
       ];
       for_nok = λ text k choice choices is h. elim h [
         | inl h ↦ let none = apart.no_choice text k (choice ∷ choices) Nok h in absurd (cc)
-        | inr h ↦ omega (arith, other.cost_pays.for_nok text k choice choices is h, second-costs text _ choices choice.nok (other.invariant_kept.by_nok text k choice choices is h))
+        | inr h ↦ omega (arith, other.cost_pays.for_nok text k choice choices is h, second-costs text (settled_at choice.kind choice.saved Nok k) choices choice.nok (other.invariant_kept.by_nok text k choice choices is h))
       ];
     };
     resolvers_keep = record {

@@ -1,6 +1,8 @@
 -- The laws of a machine whose choices end with Ok late, from the test of its table.
-use Rattle.mdconstructs_tables.proofs.Prelude.{◌≡◌, ℕ, ◌+◌, ◌<◌, ◌||◌, not, List, [], ◌∷◌, ◌++◌, Bool, true, false, Option, refl, sym, ap, subst, arith, inl, inr, filter, and_parts, not-false, Name, State, Retry, Ok, Nok, Error, none-mapped, AttemptKind, Attempt, Check, Given, Text, followed_by, Configuration, Choice, Step, Sight, sight, consumed, with_local, saved_at, settled_at, IsLawful, plain, WritesPlain, Act, consume, choose, StateRows, Table, past, class_of, choice_made_at, done, does, chooses, step_at, table_step, table_holds, falls_on, is_early_end, is_early, fits_late, are_late, is_at_last, is_late_row, is_late_state, AreFallingBehind, IsLate, late_rules}
+use Rattle.mdconstructs_tables.proofs.Prelude.{◌≡◌, ℕ, ◌+◌, ◌<◌, ◌||◌, not, List, [], ◌∷◌, ◌++◌, Bool, true, false, Option, refl, sym, ap, subst, arith, inl, inr, filter, and_parts, not-false, Name, State, Retry, Ok, Nok, Error, none-mapped, AttemptKind, Attempt, Check, Given, Text, followed_by, Configuration, Choice, Step, Sight, sight, consumed, with_local, saved_at, settled_at, IsLawful, plain, WritesPlain, Act, consume, choose, StateRows, Table, past, class_of, choice_made_at, done, does, chooses, step_at, table_step, table_cost, table_holds, falls_on, is_early_end, is_early, fits_late, are_late, is_at_last, is_late_row, is_late_state, AreFallingBehind, IsLate, late_rules}
 use Rattle.markdown_tokenizer.proofs.Readings.Plain as machines
+use Rattle.markdown_tokenizer.proofs.Readings.Reserves.{together-pays}
+use Rattle.mdconstructs_tables.specs.Late.{late_reserve}
 use Rattle.mdconstructs_tables.proofs.Rows.Misfits.{named-out, named-same}
 use Rattle.mdconstructs_tables.proofs.Rows.Laws.{chooses-append}
 use Rattle.mdconstructs_tables.proofs.GrowingTexts.{Extends, extends, fed-position, waits-longer}
@@ -122,7 +124,7 @@ module _ {W R D : Type 0} (table : Table W R D) (early : Name → Option W → B
           by_pieces = λ text piece k choices state is fits fresh h.
               (kept.by_pieces text piece k choices state is fits fresh h.0, longer-behind state text (followed_by g text piece) k choices (extends g text piece) fresh h.0 h.1);
         })
-        (record {
+        (together-pays (table_cost table g) (late_reserve table early falling) g (late_rules table early falling g) (record {
           for_calls = λ text k choices name is h. calls-pay table g true is_late.fit text k choices name is h.0;
           for_feeding = λ text k choices name is h. feeding-pays table g true is_late.fit text k choices name h.0;
           for_ok = λ text k choice choices is h.
@@ -131,4 +133,4 @@ module _ {W R D : Type 0} (table : Table W R D) (early : Name → Option W → B
               let before = h.1.5 refl in
               ok-pays table g true is_late.fit text k choice choices h.0 h.1.3 (rw f (omega (arith, before))) (rw e tt);
           for_nok = λ text k choice choices is h. nok-pays table g true is_late.fit text k choice choices h.0;
-        })
+        }))
