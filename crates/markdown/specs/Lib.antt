@@ -30,6 +30,7 @@ pub use Rattle.markdown_tokenizer.specs.Configuration
 pub use Rattle.markdown_tokenizer.specs.Sight
 pub use Rattle.markdown_tokenizer.specs.Calls
 pub use Rattle.markdown_tokenizer.specs.Reading
+pub use Rattle.markdown_tokenizer.specs.Turns
 pub use Rattle.markdown_tokenizer.specs.Resolving
 pub use Rattle.markdown_tokenizer.specs.Rules
 pub use Rattle.markdown_tokenizer.specs.Plain

@@ -79,7 +79,7 @@ pub use Rattle.markdown_tokenizer.specs.Cuts.{cuts_every, is_cut, place_of}
 pub use Rattle.markdown_tokenizer.specs.Engine.{AreCuts, CanPush, FollowInOrder, ForPoints, HoldsOf, IsFlushed, IsPushed, IsRefused, IsRun, IsRunRefused, IsWellFormed, KeepsOutcome, LeadsOn, budget, given_by, given_of, whole_text}
 pub use Rattle.markdown_tokenizer.specs.Gaps.{AreSorted, IsOutside, IsPlainUntil, IsSkip, is_kept, is_kept_by, kept_between, resumed, skip_of}
 pub use Rattle.markdown_tokenizer.specs.Lawful.{ConsumesOnce, CostPays, DidStep, EndsWhenRead, IsAsFar, IsLawful, KeepsInvariant, OnlyAdds, ResolversKeep, stepped}
-pub use Rattle.markdown_tokenizer.specs.LawStatements.{IsOneRange, Later, added, here, went_back}
+pub use Rattle.markdown_tokenizer.specs.LawStatements.{IsOneRange, Later, added, here, went_back, LeavesOnly}
 pub use Rattle.markdown_tokenizer.specs.Made.{IsMade, VoidExitsFollow, last_kind}
 pub use Rattle.markdown_tokenizer.specs.Plain.{HaveNoLinks, IsPlain, KeepsPlain, NothingResolves, plain}
 pub use Rattle.markdown_tokenizer.specs.Ranges.{AfterGap, FollowOn, IsGapFrom, IsRangeFrom, after_any, after_gap}
@@ -88,9 +88,10 @@ pub use Rattle.markdown_tokenizer.specs.Resolving.{IsInShape, IsResolved, IsReso
 pub use Rattle.markdown_tokenizer.specs.Rules.{Rules}
 pub use Rattle.markdown_tokenizer.specs.Sight.{Sight, byte_of, current_of, end_or, end_place, point_of, point_or, seat_before, sight, sight_in, sight_of}
 pub use Rattle.markdown_tokenizer.specs.Text.{CanFollow, FitsAfter, Given, IsDocument, IsText, Piece, Text, empty_text, followed_by, followed_by_all, in_range, passed, pushed}
+pub use Rattle.markdown_tokenizer.specs.Turns.{AreCalledAlike, EndsFrom, Stand, Turns, no_turn, one_turn, stand, stand_of, turn}
 pub use Rattle.markdown_tokenizer.specs.Unwound.{Unwinding, continuation_of, ended_by, saved_for, unwinding, unwound}
 pub use Rattle.markdown_tokenizer.specs.View.{AreNested, ByteWaits, EndWaits, NextByteIsKnown, IsPlaced, IsProgress, IsReadTo, IsSound, IsWhatWaits, can_feed, choice_at, choice_of, end_point, events_of, position_from, reach, saved_at_place, saved_of, seats_between, seen, stack_of, standing, state_of, tab_of, text_within}
-pub use Rattle.markdown_tokenizer.specs.Work.{EndsClosed, HoldsAll, IsInText, LeadsAll, OnlyWorked, Stops, TakesUp, answer_in, answer_of, extended, resolved_in, settled_all, settled_to}
+pub use Rattle.markdown_tokenizer.specs.Work.{EndsClosed, HoldsAll, IsInText, LeadsAll, OnlyWorked, Stops, TakesUp, answer_in, answer_of, extended, resolved_in, settled_all, settled_to, ComesTo}
 pub use Rattle.markdown_tokenizer.specs.contracts.waiting.AttemptKind.{the_type}
 pub use Rattle.markdown_tokenizer.specs.declared.parser.ParseState.{ParseState}
 pub use Rattle.markdown_tokenizer.specs.declared.subtokenize.Subresult.{Subresult}

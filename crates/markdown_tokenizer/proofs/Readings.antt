@@ -3,3 +3,4 @@ pub mod Bounds
 pub mod Ends
 pub mod Plain
 pub mod Reserves
+pub mod Turns

@@ -1,5 +1,5 @@
 -- What pushing and flushing mean.
-use Rattle.std.specs.Prelude.{◌≡◌, ◌+◌, ◌≤◌, ◌⊎◌, ℕ, List, [], ◌∷◌, Some, Bool, true, false, cond, length, ◌↔◌}
+use Rattle.std.specs.Prelude.{◌≡◌, ◌+◌, ◌≤◌, ◌⊎◌, ℕ, List, [], ◌∷◌, Some, Bool, true, false, cond, length, ◌↔◌, None}
 use Rattle.markdown_base.specs.declared.configuration.ParseOptions.{ParseOptions}
 use Rattle.markdown_base.specs.declared.event.Event.{Event}
 use Rattle.markdown_base.specs.declared.event.Point.{Point}
@@ -18,6 +18,7 @@ use Rattle.markdown_tokenizer.specs.Text.{Given, Text, Piece, IsText, pushed, Fi
 use Rattle.markdown_tokenizer.specs.Configuration.{Configuration, Choice, TokenizerValue, start_configuration}
 use Rattle.markdown_tokenizer.specs.Rules.{Rules}
 use Rattle.markdown_tokenizer.specs.Reading.{Reading, EndsIn}
+use Rattle.markdown_tokenizer.specs.Turns.{turn, Turns, stand_of}
 use Rattle.markdown_tokenizer.specs.Resolving.{IsResolved, IsResolvingRefused, IsInShape}
 
 module _ {M R D : Type 0} (rules : Rules R D) where
@@ -64,7 +65,7 @@ ForPoints g from to P = (f t : Point) → point_at g.tab g.bytes from ≡ Some f
 
 module _ {M R D : Type 0} (rules : Rules R D) where
   -- What a push of a range leaves if it succeeds: the range, given by the places of its ends, is at the end of the text; the outcome is the
-  -- same for every rest; and all was read, or a message ended it
+  -- same for every rest; turn by turn the reading came to where it stands, and no turn is left; and all was read, or a message ended it
   pub record IsPushed (old : TokenizerValue M R D) (from to : ℕ × ℕ) (state : State)
       (new : TokenizerValue M R D) (answer : State) : Type 0 where
     pub given : new.given ≡ old.given
@@ -73,6 +74,9 @@ module _ {M R D : Type 0} (rules : Rules R D) where
     pub phase : new.phase ≡ phase.Reading
     pub text : ForPoints old.given from to (λ f t. new.text ≡ followed_by old.given old.text (pushed f t))
     pub outcome : KeepsOutcome old.given rules old state new answer
+    -- what is left is where turns end, so it is determined by what was found
+    pub stands : Turns old.given rules.step new.text (stand_of old state) (stand_of new answer)
+    pub used_up : turn old.given rules.step new.text new.configuration new.choices answer new.calls ≡ None
     pub read : (name : Name) → answer ≡ Next name → (new.configuration.position ≡ length new.text.seats)
         × (new.configuration.waiting ≡ Nothing)
     pub answers : ((name : Name) × (answer ≡ Next name)) ⊎ ((m : Message) × (answer ≡ Error m))

@@ -24,13 +24,25 @@ abbrev pub CutsLeaveNoTrace : Type 0
 CutsLeaveNoTrace = (g : Given) (text : Text) (a b c d : Point) → IsText g text → FitsAfter g text (pushed a b)
     → FitsAfter g (followed_by g text (pushed a b)) (pushed c d) → IsOneRange g text a b c d
 
--- If two pushes of the parts of a range are allowed, so is one push of the range, with the same outcome
+-- A push of a range can leave no other tokenizer, and return no other state
+abbrev pub LeavesOnly : {M R D : Type 0} → Rules R D → TokenizerValue M R D → (from to : ℕ × ℕ) → State → TokenizerValue M R D → State → Type 0
+LeavesOnly {M} {R} {D} rules old from to state new answer =
+    (other : TokenizerValue M R D) (last : State) → IsPushed rules old from to state other last → (other ≡ new) × (last ≡ answer)
+
+-- What a push leaves is determined: two tokenizers that are alike, and push the same range from the same state, are left alike
+abbrev pub PushesInOneWay : {M R D : Type 0} → (M → Given → Rules R D) → Type 0
+PushesInOneWay {M} {R} {D} rules = (old new : TokenizerValue M R D) (from to : ℕ × ℕ) (state answer : State)
+    → CanPush old.given old.text from to → IsPushed (rules old.machine old.given) old from to state new answer
+    → LeavesOnly (rules old.machine old.given) old from to state new answer
+
+-- If two pushes of the parts of a range are allowed, so is one push of the range. It leaves what the two pushes leave, and nothing else
 abbrev pub PushesAreOne : {M R D : Type 0} → (M → Given → Rules R D) → Type 0
 PushesAreOne {M} {R} {D} rules = (old mid new : TokenizerValue M R D) (a b c d : ℕ × ℕ) (first second third : State)
     → IsText old.given old.text
     → CanPush old.given old.text a b → IsPushed (rules old.machine old.given) old a b first mid second
     → CanPush mid.given mid.text c d → IsPushed (rules mid.machine mid.given) mid c d second new third
     → CanPush old.given old.text a d × IsPushed (rules old.machine old.given) old a d first new third
+    × LeavesOnly (rules old.machine old.given) old a d first new third
 
 module _ {R D : Type 0} where
   -- What reading on makes of a configuration. Parts of calls keep the events, but for the ends of their links, and add their own after them

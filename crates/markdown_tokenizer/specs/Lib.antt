@@ -3,6 +3,7 @@ pub mod Configuration
 pub mod Sight
 pub mod Calls
 pub mod Reading
+pub mod Turns
 pub mod Resolving
 pub mod Rules
 pub mod Plain

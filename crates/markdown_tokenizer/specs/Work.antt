@@ -9,6 +9,7 @@ use Rattle.markdown_tokenizer.specs.declared.waiting.Phase.TheVariants.{Reading}
 use Rattle.markdown_tokenizer.specs.Text.{Given, Text, IsText, Piece, CanFollow, followed_by_all}
 use Rattle.markdown_tokenizer.specs.Configuration.{Configuration, Choice, Step, TokenizerValue, at_configuration}
 use Rattle.markdown_tokenizer.specs.Reading.{fed, settled_at}
+use Rattle.markdown_tokenizer.specs.Turns.{Turns, stand_of}
 use Rattle.markdown_tokenizer.specs.Rules.{Rules}
 use Rattle.markdown_tokenizer.specs.Engine.{LeadsOn}
 use Rattle.markdown_tokenizer.specs.declared.subtokenize.Subresult.{Subresult}
@@ -115,6 +116,10 @@ module _ {M R D : Type 0} (g : Given) (rules : Rules R D) where
   abbrev pub LeadsAll : Bool → TokenizerValue M R D → State → TokenizerValue M R D → State → Type 0
   LeadsAll flush old state new answer = (rest : List Piece) → CanFollow g new.text rest → (flush ≡ true → rest ≡ [])
       → LeadsOn g rules (followed_by_all g new.text rest) old state new answer
+
+  -- if the end is not fed, turns lead from the old tokenizer to the new one
+  abbrev pub ComesTo : Bool → TokenizerValue M R D → State → TokenizerValue M R D → State → Type 0
+  ComesTo flush old state new answer = flush ≡ false → Turns g rules.step new.text (stand_of old state) (stand_of new answer)
 
 module _ {M R D : Type 0} (rules : Rules R D) where
   -- what resolvers make of a configuration, on the text of a tokenizer

@@ -3,8 +3,9 @@
 //! Each is a function that does nothing, whose contract is the law.
 
 ghost use Rattle.markdown_tokenizer.specs.Engine.{HasOneEnd};
-ghost use Rattle.markdown_tokenizer.specs.LawStatements.{CutsLeaveNoTrace, PushesAreOne, ChoicesPutBack};
+ghost use Rattle.markdown_tokenizer.specs.LawStatements.{CutsLeaveNoTrace, PushesAreOne, ChoicesPutBack, PushesInOneWay};
 ghost use Rattle.markdown_tokenizer.specs.Reserves.{ReservesAreEnough};
+ghost use Rattle.markdown_tokenizer.specs.Turns.{TurnsAreKept};
 
 use crate::state::Machine;
 
@@ -14,7 +15,13 @@ pub fn cuts_leave_no_trace()
     ensures { CutsLeaveNoTrace }
 {}
 
-/// Pushing a range in two parts is allowed only if pushing it at once is, and then the outcome is the same.
+/// What a push leaves, and what it returns, is a function of what it found.
+pub fn pushes_in_one_way<M: Machine>()
+    ensures { PushesInOneWay M.rules }
+{}
+
+/// Pushing a range in two parts is allowed only if pushing it at once is, and then it leaves the same tokenizer, and returns the
+/// same state.
 pub fn pushes_are_one<M: Machine>()
     ensures { PushesAreOne M.rules }
 {}
@@ -34,4 +41,9 @@ pub fn reads_in_one_way<M: Machine>()
 /// these pay, then the cost of the state and the reserves of all choices that wait is a cost as the law `cost_pays` wants it.
 pub fn reserves_are_enough<M: Machine>()
     ensures { ReservesAreEnough M.rules }
+{}
+
+/// What was read turn by turn need not be read again on a longer text, also of another document, on which calls are alike.
+pub fn turns_are_kept<R, D>()
+    ensures { TurnsAreKept R D }
 {}

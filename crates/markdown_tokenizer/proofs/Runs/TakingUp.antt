@@ -1,8 +1,15 @@
 -- The work from the start to a turn: what holds at a call, and after it.
-use Rattle.markdown_tokenizer.proofs.Prelude.{◌≡◌, ◌≢◌, ◌-◌, ◌<◌, List, [], Bool, false, inl, inr, refl, sym, ap, subst, ◌∙◌, arith, Name, State, Next, Retry, Ok, Nok, Error, Nothing, Byte, End, IsSome, lt-ltb, length, Given, IsText, followed_by_all, Configuration, Choice, TokenizerValue, at_configuration, fed, Sight, sight, Rules, stepped, DidStep, IsLawful, LeadsOn, budget, HoldsAll, Stops, settled_all, settled_to, EndsClosed, TakesUp, IsInText, answer_in}
+use Rattle.markdown_tokenizer.proofs.Prelude.{◌≡◌, ◌≢◌, ◌-◌, ◌<◌, List, [], Bool, false, inl, inr, refl, sym, ap, subst, ◌∙◌, arith, Name, State, Next, Retry, Ok, Nok, Error, Nothing, Byte, End, IsSome, lt-ltb, length, Given, IsText, followed_by_all, Configuration, Choice, TokenizerValue, at_configuration, fed, Sight, sight, Rules, stepped, DidStep, IsLawful, LeadsOn, budget, HoldsAll, Stops, settled_all, settled_to, EndsClosed, TakesUp, IsInText, answer_in, Waits, no_turn}
 use Rattle.std.specs.declared.result.Result.TheVariants as result
 use Rattle.markdown_tokenizer.proofs.Readings.Bounds.{fed-ends, called-ends}
+use Rattle.markdown_tokenizer.proofs.Readings.Turns.{turns-by-one, turns-on, turns-settled, turn-feeds, turn-calls, waits-seen}
 use Rattle.markdown_tokenizer.proofs.Runs.Working.{Kept, fed-agrees, sight-agrees, leads-refl, leads-trans, leads-settled, settled-end, settled-ends, text-on, text-worked}
+
+-- what waits is a byte if it is neither nothing nor the end
+waits-byte : (waits : Waits) → waits ≢ Nothing → waits ≢ End → waits ≡ Byte
+waits-byte Nothing h e = absurd (h refl)
+waits-byte Byte h e = refl
+waits-byte End h e = absurd (e refl)
 
 module _ {M R D : Type 0} {rules : M → Given → Rules R D} (laws : (m : M) (given : Given) → IsLawful given (rules m given)) where
   -- what the work kept since its start
@@ -19,6 +26,7 @@ module _ {M R D : Type 0} {rules : M → Given → Rules R D} (laws : (m : M) (g
     message = λ m e. (e, refl);
     waits = waits;
     leads = λ rest can only. leads-refl t.given (rules t.machine t.given) (followed_by_all t.given t.text rest) t a (h rest can only);
+    comes = λ f. no_turn;
   }
 
   -- a state is taken up
@@ -27,6 +35,9 @@ module _ {M R D : Type 0} {rules : M → Given → Rules R D} (laws : (m : M) (g
     same = record { given = k.same.given; machine = k.same.machine; text = k.same.text; closed = k.same.closed; phase = k.same.phase; counted = k.same.counted };
     message = λ e is_error. let f : Next m ≡ Error e = (k.message e is_error).0 in absurd cc;
     waits = λ f e. let lt = lt-ltb u.configuration.position (length u.text.seats) (h.2 f) in let e' : Byte ≡ End = rw lt at e in absurd cc;
+    comes = λ f.
+        turns-by-one t.given (rules t.machine t.given).step u.text (k.comes f)
+        (turn-feeds t.given (rules t.machine t.given).step u.text u.configuration u.choices m u.calls (h.2 f));
     leads = λ rest can only.
         let law = laws t.machine t.given in let w = followed_by_all t.given u.text rest in
         let first = k.leads rest can only in let on = text-on t.given u.text rest is can in
@@ -73,6 +84,11 @@ module _ {M R D : Type 0} {rules : M → Given → Rules R D} (laws : (m : M) (g
           | inl same ↦ sym same.0.1 ∙ ends
           | inr consumed ↦ let g : Nothing ≡ End = sym consumed.1.1 ∙ ends in absurd cc
         ]);
+        comes = λ f.
+            let byte = waits-byte u.configuration.waiting (law.invariant_kept.waits u.text u.configuration u.choices n is_here now) (k.waits f) in
+            turns-by-one t.given (rules t.machine t.given).step u.text (k.comes f)
+            (turn-calls t.given (rules t.machine t.given).step u.text u.configuration u.choices n u.calls
+            (waits-seen u.text u.configuration.position u.configuration.waiting byte (sound.byte byte)));
         leads = λ rest can only.
             let w = followed_by_all t.given u.text rest in
             let first = k.leads rest can only in let on = text-on t.given u.text rest is_here can in
@@ -98,6 +114,9 @@ module _ {M R D : Type 0} {rules : M → Given → Rules R D} (laws : (m : M) (g
           same = record { given = k.same.given; machine = k.same.machine; text = k.same.text; closed = k.same.closed; phase = k.same.phase; counted = k.same.counted };
           message = λ m is_error. let now = k.message m is_error in let error = now.0 in rw error (refl, now.1);
           waits = λ f ends. k.waits f (settled-end u.configuration u.choices s ends);
+          comes = λ f.
+              turns-on t.given (rules t.machine t.given).step u.text (k.comes f)
+              (turns-settled t.given (rules t.machine t.given).step u.text u.configuration u.choices s u.calls);
           leads = λ rest can only.
               let w = followed_by_all t.given u.text rest in let first = k.leads rest can only in
               leads-trans t.given (rules t.machine t.given) w t u (settled_to u e) a s e.answer first

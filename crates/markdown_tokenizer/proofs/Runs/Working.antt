@@ -1,6 +1,7 @@
 -- Each step of the work leads on.
-use Rattle.markdown_tokenizer.proofs.Prelude.{◌≡◌, ◌≢◌, ◌≤◌, ◌<◌, ℕ, zero, suc, List, [], ◌∷◌, ◌++◌, Bool, true, false, cond, Option, None, length, refl, sym, ap, ◌∙◌, arith, subst, append_assoc, length-append, lt-ltb, append-nil, filter, slice_get, slice_get-get_or, IsSome, Message, State, Next, Ok, Nok, Error, Seat, virtual, denotes_same, get-front, AttemptKind, Attempt, Check, Waits, Nothing, Byte, End, Given, Text, Piece, pushed, passed, in_range, empty_text, followed_by, followed_by_all, CanFollow, IsText, Configuration, Choice, TokenizerValue, Saved, sight_in, seat_before, fed, settled_at, Rules, KeepsInvariant, IsLawful, LeadsOn, LeadsAll, settled_all, settled_to, OnlyWorked, answer_in}
+use Rattle.markdown_tokenizer.proofs.Prelude.{◌≡◌, ◌≢◌, ◌≤◌, ◌<◌, ℕ, zero, suc, List, [], ◌∷◌, ◌++◌, Bool, true, false, cond, Option, None, length, refl, sym, ap, ◌∙◌, arith, subst, append_assoc, length-append, lt-ltb, append-nil, filter, slice_get, slice_get-get_or, IsSome, Message, State, Next, Ok, Nok, Error, Seat, virtual, denotes_same, get-front, AttemptKind, Attempt, Check, Waits, Nothing, Byte, End, Given, Text, Piece, pushed, passed, in_range, empty_text, followed_by, followed_by_all, CanFollow, IsText, Configuration, Choice, TokenizerValue, Saved, sight_in, seat_before, fed, settled_at, Rules, KeepsInvariant, IsLawful, LeadsOn, LeadsAll, settled_all, settled_to, OnlyWorked, answer_in, ComesTo, Name, Step, Sight, Stand, Turns, false≢true}
 use Rattle.markdown_tokenizer.proofs.Readings.Bounds.{settled-ok-ends, settled-nok-ends}
+use Rattle.markdown_tokenizer.proofs.Readings.Turns.{seen-waits, turns-kept}
 
 -- A text that continues another has its seats in front, and begins where it does
 pub record Continues (text w : Text) : Type 0 where
@@ -73,6 +74,18 @@ module _ (given : Given) (text : Text) (rest : List Piece) where
       rw (before, starts, there, slice_get-get_or text.seats p (record { byte = 0; point = text.start; end = text.start }) (byte refl)) refl
   sight-agrees false p End only within byte no_end = absurd (no_end refl refl)
 
+-- turns on a text are turns on the text followed by a piece
+pub turns-followed : {R D : Type 0} (given : Given) (step : Sight → Configuration R D → Name → Step R D) (text : Text) (piece : Piece) {a b : Stand R D}
+    → Turns given step text a b → Turns given step (followed_by given text piece) a b
+turns-followed given step text piece turns = turns-kept given given step step text (followed_by given text piece) (record {
+  longer = let c = continues-piece given text piece in omega (arith, ap length c.seats, length-append text.seats c.more);
+  alike = λ k name sees.
+      let waits = seen-waits text k.position k.waiting sees in
+      let same = sight-agrees given text (piece ∷ []) false k.position k.waiting (λ f. absurd (false≢true f)) (omega (arith, waits.1)) (λ _. waits.1)
+      (λ _ ends. let f : Byte ≡ End = sym waits.0 ∙ ends in absurd cc) in
+      ap (λ (q : Sight). step q k name) (sym same);
+}) turns
+
 module _ {M R D : Type 0} (given : Given) (rules : Rules R D) where
   pub leads-refl : (w : Text) (t : TokenizerValue M R D) (s : State) → rules.holds w t.configuration t.choices s → LeadsOn given rules w t s t s
   leads-refl w t s h = record { kept = h; same = λ r. ((λ e. e), (λ e. e)); paid = omega arith }
@@ -130,6 +143,7 @@ pub record Kept {M R D : Type 0} (given : Given) (rules : Rules R D) (flush : Bo
   pub same : OnlyWorked old new
   pub waits : flush ≡ false → new.configuration.waiting ≢ End
   pub leads : LeadsAll given rules flush old state new answer
+  pub comes : ComesTo given rules flush old state new answer
   pub message : (m : Message) → state ≡ Error m → (answer ≡ Error m) × (new ≡ old)
 
 -- the text stays if only work was done

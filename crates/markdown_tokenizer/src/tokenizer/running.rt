@@ -11,7 +11,7 @@ ghost use Rattle.markdown_tokenizer.specs.Reading.{fed};
 ghost use Rattle.markdown_tokenizer.specs.Resolving.{found, taken};
 ghost use Rattle.markdown_tokenizer.specs.Text.{IsDocument, IsText, empty_text, followed_by, pushed};
 ghost use Rattle.markdown_tokenizer.specs.View.{taken_continuation};
-ghost use Rattle.markdown_tokenizer.specs.Work.{IsInText, extended, answer_of, HoldsAll, LeadsAll, OnlyWorked, Stops, settled_all, EndsClosed, GoesOnTo, taken_up, taken_by_next};
+ghost use Rattle.markdown_tokenizer.specs.Work.{IsInText, extended, answer_of, HoldsAll, LeadsAll, ComesTo, OnlyWorked, Stops, settled_all, EndsClosed, GoesOnTo, taken_up, taken_by_next};
 
 use super::{Fault, Tokenizer};
 use crate::cursor::{Moves, next_byte_from, plain_until};
@@ -300,6 +300,7 @@ impl<'a, M: Machine> Tokenizer<'a, M> {
         requires waits { flush ≡ false → self.old.configuration.waiting ≢ End }
         ensures same { IfOk result (λ _. OnlyWorked self.old self.new) }
         ensures leads { let t = self.old in IfOk result (LeadsAll t.given (M.rules t.machine t.given) flush t state self.new) }
+        ensures comes { let t = self.old in IfOk result (ComesTo t.given (M.rules t.machine t.given) flush t state self.new) }
         ensures stops { IfOk result (λ answer. Stops flush self.new answer) }
         ensures message { (m : _) → state ≡ State.Error m → IfOk result (λ answer. (answer ≡ State.Error m) × (self.new ≡ self.old)) }
     {

@@ -10,7 +10,7 @@ pub returns-in-None : goal.returns-in-None
 returns-in-None g c =
     let k = kept-first g.met.M.Machine.lawful c.args.flush c.args.self.now c.args.state c.requires.waits c.requires.holds in
     let e = kept-last g.met.M.Machine.lawful c.requires.text k c.next_call.new.self c.next_call.new.state c.in-None.ensures in
-    record { same = e.0.same; leads = e.0.leads; stops = e.1; message = e.0.message }
+    record { same = e.0.same; leads = e.0.leads; comes = e.0.comes; stops = e.1; message = e.0.message }
 
 pub loop-answer-init : goal.loop-answer-init
 loop-answer-init g c =
@@ -37,19 +37,23 @@ pub returns-else-feed_next : goal.returns-else-feed_next
 returns-else-feed_next g c =
     let k = kept-answer g.met.M.Machine.lawful c.requires.text c.loop-answer.invariant c.shows_in_text.ensures c.in-Ok.ensures c.in-Next.is in
     let e = kept-last g.met.M.Machine.lawful c.requires.text k c.feed_next.new.self (Next c.in-Next.next) (c.if-feed_next.ensures c.in-Next.next) in
-    record { same = e.0.same; leads = e.0.leads; stops = e.1; message = e.0.message }
+    record { same = e.0.same; leads = e.0.leads; comes = e.0.comes; stops = e.1; message = e.0.message }
 
 pub returns-in-Err-go_on : goal.returns-in-Err-go_on
 returns-in-Err-go_on g c =
     let k = kept-answer g.met.M.Machine.lawful c.requires.text c.loop-answer.invariant c.shows_in_text.ensures c.in-Ok.ensures c.in-Ok-answer.is in
     let e = kept-last g.met.M.Machine.lawful c.requires.text k c.go_on.new.self _ c.in-Err-go_on.ensures in
-    rw c.state.ensures (record { same = e.0.same; leads = e.0.leads; stops = e.1; message = e.0.message })
+    rw c.state.ensures (record { same = e.0.same; leads = e.0.leads; comes = e.0.comes; stops = e.1; message = e.0.message })
 
 pub returns-in-Err-go_on-2 : goal.returns-in-Err-go_on-2
 returns-in-Err-go_on-2 g c =
     let k = kept-answer g.met.M.Machine.lawful c.requires.text c.loop-answer.invariant c.shows_in_text.ensures c.in-Ok.ensures c.in-Nok.is in
     let e = kept-last g.met.M.Machine.lawful c.requires.text k c.go_on-in-Nok.new.self _ c.in-Err-go_on-2.ensures in
-    rw c.state-in-Err-go_on-2.ensures (record { same = e.0.same; leads = e.0.leads; stops = e.1; message = e.0.message })
+    rw c.state-in-Err-go_on-2.ensures (record { same = e.0.same; leads = e.0.leads; comes = e.0.comes; stops = e.1; message = e.0.message })
+
+pub returns-in-Error-clause-comes : goal.returns-in-Error-clause-comes
+returns-in-Error-clause-comes g c =
+    (kept-answer g.met.M.Machine.lawful c.requires.text c.loop-answer.invariant c.shows_in_text.ensures c.in-Ok.ensures c.in-Error.is).comes
 
 pub returns-in-Error-clause-leads : goal.returns-in-Error-clause-leads
 returns-in-Error-clause-leads g c =
