@@ -1,7 +1,7 @@
 -- A choice begins.
-use Rattle.markdown_tokenizer.proofs.Prelude.{◌≡◌, List, [], ◌∷◌, ◌++◌, Bool, true, false, cond, Option, Some, None, length, refl, ap, arith, map, reverse, reverse-append, take-length, lt-ltb, AttemptKind, GoesOn, KeptChoice, Progress, Inside, Choice, Point, shown, Waits, Nothing, Byte, End, IsMade, seen, text_within, state_of, choice_at, choice_of, standing, reach, can_feed, AreNested, IsSound}
+use Rattle.markdown_tokenizer.proofs.Prelude.{◌≡◌, List, [], ◌∷◌, ◌++◌, Bool, true, false, cond, Option, Some, None, length, refl, ap, arith, map, reverse, reverse-append, take-length, lt-ltb, AttemptKind, GoesOn, KeptChoice, Progress, Inside, Choice, Waits, Nothing, Byte, End, seen, text_within, state_of, choice_at, choice_of, standing, reach, can_feed, AreNested, IsSound}
 use Rattle.std.proofs.lemmas.Bool.{or_left, or_right}
-use Rattle.markdown_tokenizer.proofs.Inside.Fields.{Saves, MadeUpto, next-more, made-more, bytes_within, position_within, WaitsWithin}
+use Rattle.markdown_tokenizer.proofs.Inside.Fields.{Saves, MadeUpto, next-more, made-more, position_within, WaitsWithin}
 
 -- how far a tokenizer has read
 abbrev pub progress_of : {M R D : Type 0} → Inside M R D → Progress
