@@ -26,23 +26,24 @@ pub some_content : (wanted o : Option Content) → some_fits wanted o ≡ true �
 some_content wanted None e = absurd (cc)
 some_content wanted (Some c) e = (c, refl)
 
+-- the content of the event at an index fits
+abbrev pub Fits : Option Content → List Event → ℕ → Type 0
+Fits wanted events k = fits wanted events k ≡ true
+
 module _ (tab : ℕ) (bytes : List ℕ) (wanted : Option Content) (events : List Event) (ready : IsReady tab bytes wanted events) where
   abbrev n : ℕ
   n = length events
 
-  abbrev Fits : ℕ → Type 0
-  Fits k = fits wanted events k ≡ true
-
   -- ---- chunks
 
-  pub chunk : (k : ℕ) → Fits k → IsChunk events k
+  pub chunk : (k : ℕ) → Fits wanted events k → IsChunk events k
   chunk k h = let c = some_content wanted (content_at events k) h in ready.chunks k c.0 c.1
 
-  pub inside : (k : ℕ) → Fits k → k + 1 < n
+  pub inside : (k : ℕ) → Fits wanted events k → k + 1 < n
   inside k h = let c = chunk k h in slice_get_within events (k + 1) c.exit c.exit_at
 
   -- the exit of a chunk is in no chain, so the next one begins behind it
-  pub apart : (k d : ℕ) → Fits k → Fits d → k < d → k + 2 ≤ d
+  pub apart : (k d : ℕ) → Fits wanted events k → Fits wanted events d → k < d → k + 2 ≤ d
   apart k d h m l =
       let c = chunk k h in
       let e = chunk d m in
@@ -51,14 +52,14 @@ module _ (tab : ℕ) (bytes : List ℕ) (wanted : Option Content) (events : List
       let kinds : Exit ≡ Enter = sym c.ended.exits ∙ ap (λ (x : Event). x.kind) same ∙ e.linked.enter in cc in
       omega arith
 
-  pub fits_next : (k d : ℕ) → Fits k → next_of events k ≡ Some d → Fits d
+  pub fits_next : (k d : ℕ) → Fits wanted events k → next_of events k ≡ Some d → Fits wanted events d
   fits_next k d h e = ap (some_fits wanted) (sym (ready.one_content k d e)) ∙ h
 
-  pub fits_back : (k d : ℕ) → Fits d → next_of events k ≡ Some d → Fits k
+  pub fits_back : (k d : ℕ) → Fits wanted events d → next_of events k ≡ Some d → Fits wanted events k
   fits_back k d h e = ap (some_fits wanted) (ready.one_content k d e) ∙ h
 
   -- no chunk that fits is between two neighbours
-  none_between : (p d i : ℕ) → Fits p → next_of events p ≡ Some d → Fits i → p < i → i < d → ⊥
+  none_between : (p d i : ℕ) → Fits wanted events p → next_of events p ≡ Some d → Fits wanted events i → p < i → i < d → ⊥
   none_between p d i h e m l r =
       let c = some_content wanted (content_at events i) m in
       none-some c.0 (sym ((ready.gaps p d h e).no_link i (apart p i h m l) r) ∙ c.1)
@@ -68,7 +69,7 @@ module _ (tab : ℕ) (bytes : List ℕ) (wanted : Option Content) (events : List
   abbrev rest_of : Option ℕ → List ℕ
   rest_of o = unwrap_or (option_map (chain_of events) o) []
 
-  enough : (f g k : ℕ) → Fits k → n ≤ f + k → n ≤ g + k → chain_from f events k ≡ chain_from g events k
+  enough : (f g k : ℕ) → Fits wanted events k → n ≤ f + k → n ≤ g + k → chain_from f events k ≡ chain_from g events k
   enough (suc f) (suc g) k h a b = ap (λ ks. k ∷ ks) (by_option (next_of events k) (λ e. rw e refl) (λ d e.
       let l = ready.forward k d e in
       rw e (enough f g d (fits_next k d h e) (omega arith) (omega arith))))
@@ -78,11 +79,11 @@ module _ (tab : ℕ) (bytes : List ℕ) (wanted : Option Content) (events : List
 
   -- before the event at i, the chain that goes on at o is open, and no other one that fits
   record IsOpen (i : ℕ) (o : Option ℕ) : Type 0 where
-    only : (p d : ℕ) → Fits p → next_of events p ≡ Some d → p < i → i ≤ d → o ≡ Some d
-    is : (d : ℕ) → o ≡ Some d → (p : ℕ) × Fits p × (next_of events p ≡ Some d) × (p < i) × (i ≤ d)
+    only : (p d : ℕ) → Fits wanted events p → next_of events p ≡ Some d → p < i → i ≤ d → o ≡ Some d
+    is : (d : ℕ) → o ≡ Some d → (p : ℕ) × Fits wanted events p × (next_of events p ≡ Some d) × (p < i) × (i ≤ d)
 
   -- where a chain is open, the chain at i is that one, and else it begins there
-  goes-from : (f i : ℕ) → Fits i → (o : Option ℕ) → IsOpen i o → chain_of events i ++ flat_map (chain_of events) (filter (begins wanted events) (range_with_len (i + 1) f)) ≡ rest_of o ++ flat_map (chain_of events) (filter (begins wanted events) (range_with_len i (suc f)))
+  goes-from : (f i : ℕ) → Fits wanted events i → (o : Option ℕ) → IsOpen i o → chain_of events i ++ flat_map (chain_of events) (filter (begins wanted events) (range_with_len (i + 1) f)) ≡ rest_of o ++ flat_map (chain_of events) (filter (begins wanted events) (range_with_len i (suc f)))
   goes-from f i h None so =
       let first : previous_of events i ≡ None = by_option (previous_of events i) (λ e. e) (λ p e.
       let on = (ready.joined p i).1 e in
@@ -114,7 +115,7 @@ module _ (tab : ℕ) (bytes : List ℕ) (wanted : Option Content) (events : List
       ∙ ap (λ ks. ks ++ flat_map (chain_of events) (filter (begins wanted events) (range_with_len (i + 1) f))) (sym (enough n (suc n) i h (omega arith) (omega arith)))
       ∙ goes-from f i h o so)
       (λ never.
-      let other : (p : ℕ) → Fits p → p ≡ i → ⊥ = λ p a s. let t : true ≡ false = sym a ∙ ap (fits wanted events) s ∙ never in cc in
+      let other : (p : ℕ) → Fits wanted events p → p ≡ i → ⊥ = λ p a s. let t : true ≡ false = sym a ∙ ap (fits wanted events) s ∙ never in cc in
       let open_still : IsOpen (i + 1) o = record {
         only = λ p d a e l m. let s = other p a in so.only p d a e (omega arith) (omega arith);
         is = λ d e. let w = so.is d e in let s = other d (fits_next w.0 d w.1 w.2) in let l : i ≤ d = w.4 in (w.0, w.1, w.2, omega (arith, w.3), omega arith);
@@ -124,7 +125,7 @@ module _ (tab : ℕ) (bytes : List ℕ) (wanted : Option Content) (events : List
 
   -- ---- chunks overlap nowhere
 
-  spaced : (f i from : ℕ) → f + i ≡ n → ((k : ℕ) → Fits k → i ≤ k → from ≤ k) → from ≤ n → AreSpaced from (filter (fits wanted events) (range_with_len i f)) n
+  spaced : (f i from : ℕ) → f + i ≡ n → ((k : ℕ) → Fits wanted events k → i ≤ k → from ≤ k) → from ≤ n → AreSpaced from (filter (fits wanted events) (range_with_len i f)) n
   spaced zero i from e above l = l
   spaced (suc f) i from e above l = by_test (fits wanted events i)
       (λ h. rw (filter-yes (fits wanted events) i (range_with_len (i + 1) f) h) (
@@ -135,7 +136,7 @@ module _ (tab : ℕ) (bytes : List ℕ) (wanted : Option Content) (events : List
 
   -- ---- chains are whole
 
-  whole : (f k : ℕ) → Fits k → n ≤ f + k → (ks : List ℕ) × (chain_from f events k ≡ k ∷ ks) × LeadOnFrom events k ks
+  whole : (f k : ℕ) → Fits wanted events k → n ≤ f + k → (ks : List ℕ) × (chain_from f events k ≡ k ∷ ks) × LeadOnFrom events k ks
   whole zero k h l = absurd (omega (arith, inside k h))
   whole (suc f) k h l = by_option (next_of events k)
       (λ e. ([], ap (λ o. k ∷ unwrap_or (option_map (λ d. chain_from f events d) o) []) e, e))
@@ -144,7 +145,7 @@ module _ (tab : ℕ) (bytes : List ℕ) (wanted : Option Content) (events : List
       let r = whole f d (fits_next k d h e) (omega arith) in
       (d ∷ r.0, ap (λ o. k ∷ unwrap_or (option_map (λ d. chain_from f events d) o) []) e ∙ ap (λ ks. k ∷ ks) r.1, (e, rises, r.2)))
 
-  pub whole-from : (k : ℕ) → Fits k → IsWholeFrom events k
+  pub whole-from : (k : ℕ) → Fits wanted events k → IsWholeFrom events k
   whole-from k h = whole n k h (omega arith)
 
   pub starts_fit : (ks : List ℕ) → AllByRecursion (λ k. fits wanted events k ≡ true) (filter (begins wanted events) ks)

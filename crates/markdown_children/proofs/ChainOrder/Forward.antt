@@ -1,20 +1,17 @@
 -- The chains of a ready list that fit go forward, and the edits of one of them.
 use Rattle.markdown_children.proofs.Prelude.{◌≡◌, ℕ, ◌+◌, ◌<◌, ◌≤◌, true, List, [], ◌∷◌, ◌++◌, length, Option, Some, refl, sym, ◌∙◌, ap, subst, arith, append-nil, All, slice_index_or, is_none, option_and_then, AllByRecursion, slice_get-get_or, Content, Event, EndsBelow, Edit, AreDisjoint, previous_of, chain_of, fits, begins, IsReady, LeadOnFrom, AreSpaced, divided, chain_edits, IsForward, and_parts, link_at}
-use Rattle.markdown_children.proofs.ChainOrder.Following.{by_option, inside, apart, fits_next, whole-from}
+use Rattle.markdown_children.proofs.ChainOrder.Following.{Fits, by_option, inside, apart, fits_next, whole-from}
 use Rattle.markdown_children.proofs.Parts.Edits.{all_edits-spaced}
 use Rattle.markdown_children.proofs.Ready.Tests.{link_next, read-at, link_previous, with-read, inside-link}
 
 module _ (tab : ℕ) (bytes : List ℕ) (wanted : Option Content) (events : List Event) (ready : IsReady tab bytes wanted events) where
-  abbrev Fits : ℕ → Type 0
-  Fits k = fits wanted events k ≡ true
-
-  pub begins-fits : (i : ℕ) → begins wanted events i ≡ true → Fits i
+  pub begins-fits : (i : ℕ) → begins wanted events i ≡ true → Fits wanted events i
   begins-fits i b = (and_parts (fits wanted events i) (is_none (previous_of events i)) b).0
 
   pub within : (i : ℕ) → begins wanted events i ≡ true → i + 1 < length events
   within i b = inside tab bytes wanted events ready i (begins-fits i b)
 
-  is-forward : (k : ℕ) → Fits k → IsForward events k
+  is-forward : (k : ℕ) → Fits wanted events k → IsForward events k
   is-forward k h = record {
     within = inside tab bytes wanted events ready k h;
     next = λ d e.
@@ -22,7 +19,7 @@ module _ (tab : ℕ) (bytes : List ℕ) (wanted : Option Content) (events : List
         (apart tab bytes wanted events ready k d h fit (ready.forward k d e), inside tab bytes wanted events ready d fit);
   }
 
-  forward-all : (k : ℕ) (ks : List ℕ) → Fits k → LeadOnFrom events k ks → AllByRecursion (IsForward events) (k ∷ ks)
+  forward-all : (k : ℕ) (ks : List ℕ) → Fits wanted events k → LeadOnFrom events k ks → AllByRecursion (IsForward events) (k ∷ ks)
   forward-all k [] h lead = (is-forward k h, tt)
   forward-all k (d ∷ ks) h lead = (is-forward k h, forward-all d ks (fits_next tab bytes wanted events ready k d h lead.0) lead.2)
 

@@ -1,22 +1,19 @@
 -- The chunks of a chain that fits can be read one after another.
 use Rattle.markdown_children.proofs.Prelude.{◌≡◌, ℕ, ◌+◌, true, List, [], ◌∷◌, Option, Some, ◌⊎◌, refl, sym, ◌∙◌, ap, subst, inl, inr, ⊎_elim, is_none, ParseOptions, Content, Event, Point, stands_before, denotes_same, next_of, previous_of, Given, Text, pushed, passed, followed_by, empty_text, FitsAfter, CanFollow, upto-order, upto-same, same-self, fits, begins, IsReady, place_at, LeadOnFrom, pieces_behind, pieces_of, CanReadChain, and_parts}
-use Rattle.markdown_children.proofs.ChainOrder.Following.{by_test, fits_next, whole-from}
+use Rattle.markdown_children.proofs.ChainOrder.Following.{Fits, by_test, fits_next, whole-from}
 
 module _ (tab : ℕ) (bytes : List ℕ) (options : ParseOptions) (wanted : Option Content) (events : List Event) (ready : IsReady tab bytes wanted events) where
   abbrev g : Given
   g = record { bytes = bytes; options = options; tab = tab }
 
-  abbrev Fits : ℕ → Type 0
-  Fits k = fits wanted events k ≡ true
-
   -- a chunk fits where the text ends at its enter
-  chunk-fits : (text : Text) (k : ℕ) → Fits k → denotes_same tab bytes (place_at events k) text.end ≡ true → FitsAfter g text (pushed (place_at events k) (place_at events (k + 1)))
+  chunk-fits : (text : Text) (k : ℕ) → Fits wanted events k → denotes_same tab bytes (place_at events k) text.end ≡ true → FitsAfter g text (pushed (place_at events k) (place_at events (k + 1)))
   chunk-fits text k h same =
       let r = ready.readable k h in
       (r.from.0, r.to.0, same, upto-order tab bytes (place_at events k) (place_at events (k + 1)) r.forward)
 
   -- a gap is within a line: there is none, or it ends later
-  gap-fits : (text : Text) (k d : ℕ) → Fits k → next_of events k ≡ Some d → text.end ≡ place_at events (k + 1) → FitsAfter g text (passed (place_at events d))
+  gap-fits : (text : Text) (k d : ℕ) → Fits wanted events k → next_of events k ≡ Some d → text.end ≡ place_at events (k + 1) → FitsAfter g text (passed (place_at events d))
   gap-fits text k d h e at =
       let gap = ready.gaps k d h e in
       let p : Point = place_at events d in
@@ -31,7 +28,7 @@ module _ (tab : ℕ) (bytes : List ℕ) (options : ParseOptions) (wanted : Optio
             gap.in_line),
       )
 
-  behind : (text : Text) (k : ℕ) (ks : List ℕ) → Fits k → LeadOnFrom events k ks → text.end ≡ place_at events (k + 1) → CanFollow g text (pieces_behind events ks)
+  behind : (text : Text) (k : ℕ) (ks : List ℕ) → Fits wanted events k → LeadOnFrom events k ks → text.end ≡ place_at events (k + 1) → CanFollow g text (pieces_behind events ks)
   behind text k [] h lead at = tt
   behind text k (d ∷ ks) h lead at =
       let fit = fits_next tab bytes wanted events ready k d h lead.0 in

@@ -68,8 +68,8 @@ module _ (child : ℕ → List Event) (xs : List Event) where
       abbrev LeadsBack : List Event → Type 0
       LeadsBack list = (i j : ℕ) → option_and_then on (slice_get list i) ≡ Some j → option_and_then back (slice_get list j) ≡ Some i
 
-      abbrev moved : Tagged → Event
-      moved u = relinked (placed_end ts u.identity) u.event
+      abbrev placed_event : Tagged → Event
+      placed_event u = relinked (placed_end ts u.identity) u.event
 
       -- the events of one list, which have these names
       via : (tag : ℕ → Identity) (list : List Event) → LeadsBack list → ((i k : ℕ) → placed_end ts (tag i) k ≡ place_in (tag k) ts) → ((i : ℕ) → source (tag i) ≡ slice_get list i) → ((i : ℕ) → is_same (tag i) (tag i) ≡ true)
@@ -77,21 +77,21 @@ module _ (child : ℕ → List Event) (xs : List Event) where
       via tag list lead ends src same p q n u is at e =
           let here : slice_get list n ≡ Some u.event = sym (src n) ∙ ap source (sym is) ∙ every-get IsSourced ts p u sourced at in
           let end : option_and_then (placed_end ts u.identity) (option_and_then on (Some u.event)) ≡ Some q =
-          sym (on-moved (placed_end ts u.identity) (Some u.event)) ∙ ap (option_and_then on) (sym (slice_get-map moved ts p ∙ ap (option_map moved) at)) ∙ e in
+          sym (on-moved (placed_end ts u.identity) (Some u.event)) ∙ ap (option_and_then on) (sym (slice_get-map placed_event ts p ∙ ap (option_map placed_event) at)) ∙ e in
           option_and_then_some (placed_end ts u.identity) (option_and_then on (Some u.event)) q end (λ m f g.
           let there = place_in-there (tag m) ts q (sym (ends n m) ∙ ap (λ b. placed_end ts b m) (sym is) ∙ g) in
           let v = there.0 in
           let other : slice_get list m ≡ Some v.event = sym (src m) ∙ ap source (sym there.2) ∙ every-get IsSourced ts q v sourced there.1 in
           let leads : option_and_then back (Some v.event) ≡ Some n = ap (option_and_then back) (sym other) ∙ lead n m (ap (option_and_then on) here ∙ f) in
           let self : place_in (tag n) ts ≡ Some p = ap (λ b. place_in b ts) (sym is) ∙ once-place ts p u once (ap (λ b. is_same b b) is ∙ same n) at in
-          ap (option_and_then back) (slice_get-map moved ts q ∙ ap (option_map moved) there.1)
+          ap (option_and_then back) (slice_get-map placed_event ts q ∙ ap (option_map placed_event) there.1)
           ∙ back-moved (placed_end ts v.identity) (Some v.event)
           ∙ ap (option_and_then (placed_end ts v.identity)) leads
           ∙ ap (λ b. placed_end ts b n) there.2 ∙ ends m n ∙ self)
 
       leads-back : LeadsBack xs → ((c : ℕ) → LeadsBack (child c)) → LeadsBack (placed ts)
       leads-back list children p q e = by_option (slice_get ts p)
-          (λ f. absurd (none-some q (sym (ap (option_and_then on) (slice_get-map moved ts p ∙ ap (option_map moved) f)) ∙ e)))
+          (λ f. absurd (none-some q (sym (ap (option_and_then on) (slice_get-map placed_event ts p ∙ ap (option_map placed_event) f)) ∙ e)))
           (λ u f. by u.identity u refl f)
         where
           by : (b : Identity) (u : Tagged) → u.identity ≡ b → slice_get ts p ≡ Some u → option_and_then back (slice_get (placed ts) q) ≡ Some p

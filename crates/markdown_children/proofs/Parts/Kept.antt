@@ -4,7 +4,7 @@
 -- stack one directly after another, as the child itself would, and that is balanced.
 use Rattle.markdown_children.proofs.Prelude.{◌≡◌, ℕ, zero, suc, true, ◌+◌, ◌-◌, ◌≤◌, List, [], ◌∷◌, ◌++◌, length, map, drop, take, Option, Some, None, refl, sym, ◌∙◌, ap, subst, arith, append-nil, take-append-drop, flat_map, slice_get, AllByRecursion, between, range_with_len, map-append, drop-drop, Content, Event, Point, IsBalanced, drop-at, names_after, names_after_all, Tagged, Change, woven, placed_in, olds, pass, woven-pass, names_after_all-append, names_after_balanced, balanced_from_open, IsBalanced-pair, names-none, chain_of, fits, fitting_starts, IsReady, place_at, LeadOnFrom, IsWholeFrom, AreSpaced, front_until, parts, Divided, divided_over, first_chunk, tagged_child, part_changes, chain_changes, child_changes, with_children, every-all, zero-add}
 use Rattle.markdown_base.specs.declared.event.Name.{Name}
-use Rattle.markdown_children.proofs.ChainOrder.Following.{chunk, starts_fit, follow_one_another}
+use Rattle.markdown_children.proofs.ChainOrder.Following.{Fits, chunk, starts_fit, follow_one_another}
 use Rattle.markdown_children.proofs.ChainOrder.Spaced.{length-parts, length-map_ends, changes_are_apart}
 
 -- ---- the parts together are the child
@@ -53,13 +53,7 @@ split-at events i k l =
     let z : i + (k - i) ≡ k = omega arith in
     sym (take-append-drop (k - i) (drop i events)) ∙ ap (λ ys. between i k events ++ ys) (drop-drop (k - i) i events ∙ ap (λ m. drop m events) z)
 
-module _ (tab : ℕ) (bytes : List ℕ) (wanted : Option Content) (events : List Event) (ready : IsReady tab bytes wanted events) where
-  abbrev n : ℕ
-  n = length events
-
-  abbrev Fits : ℕ → Type 0
-  Fits k = fits wanted events k ≡ true
-
+module _ (events : List Event) where
   -- the events from i on, after changes
   abbrev pub after_changes : List Change → ℕ → List Event
   after_changes ws i = untagged (pass ws i (drop i events))
@@ -77,8 +71,12 @@ module _ (tab : ℕ) (bytes : List ℕ) (wanted : Option Content) (events : List
       let rest : List Change = part_changes c (j + length p) ks ps ++ ws in
       after-step (record { index = d; remove = 2; events = tagged_child c j p }) rest i l ∙ ap (λ ys. between i d events ++ (ys ++ after_changes rest (d + 2))) (untagged-child c j p)
 
+module _ (tab : ℕ) (bytes : List ℕ) (wanted : Option Content) (events : List Event) (ready : IsReady tab bytes wanted events) where
+  abbrev n : ℕ
+  n = length events
+
   -- a chunk leaves each stack
-  names-chunk : (k : ℕ) → Fits k → (o : Option (List Name)) → names_after_all o (drop k events) ≡ names_after_all o (drop (k + 2) events)
+  names-chunk : (k : ℕ) → Fits wanted events k → (o : Option (List Name)) → names_after_all o (drop k events) ≡ names_after_all o (drop (k + 2) events)
   names-chunk k h o =
       let c = chunk tab bytes wanted events ready k h in
       let one : suc k ≡ k + 1 = omega arith in
@@ -91,12 +89,12 @@ module _ (tab : ℕ) (bytes : List ℕ) (wanted : Option Content) (events : List
 
   -- changes keep each stack from an index on
   abbrev KeepNames : List Change → ℕ → Type 0
-  KeepNames ws i = (o : Option (List Name)) → names_after_all o (after_changes ws i) ≡ names_after_all o (drop i events)
+  KeepNames ws i = (o : Option (List Name)) → names_after_all o (after_changes events ws i) ≡ names_after_all o (drop i events)
 
   -- behind the chunk at k its chain's other parts act as if they were adjacent
-  through : (c j k : ℕ) (ks more : List ℕ) (ps : List (List Event)) (ws : List Change) → Fits k → LeadOnFrom events k ks → length ks ≡ length ps → AreSpaced (k + 2) (ks ++ more) n
+  through : (c j k : ℕ) (ks more : List ℕ) (ps : List (List Event)) (ws : List Change) → Fits wanted events k → LeadOnFrom events k ks → length ks ≡ length ps → AreSpaced (k + 2) (ks ++ more) n
       → ((m : ℕ) → AreSpaced m more n → KeepNames ws m)
-      → (o : Option (List Name)) → names_after_all o (after_changes (part_changes c j ks ps ++ ws) (k + 2)) ≡ names_after_all (names_after_all o (joined ps)) (drop (k + 2) events)
+      → (o : Option (List Name)) → names_after_all o (after_changes events (part_changes c j ks ps ++ ws) (k + 2)) ≡ names_after_all (names_after_all o (joined ps)) (drop (k + 2) events)
   through c j k [] more [] ws h lead e sp kept o = kept (k + 2) sp o ∙ ap (λ p. names_after_all p (drop (k + 2) events)) (sym (names-none o))
   through c j k (d ∷ ks) more (p ∷ ps) ws h lead e sp kept o =
       let rest : List Change = part_changes c (j + length p) ks ps ++ ws in
@@ -104,27 +102,27 @@ module _ (tab : ℕ) (bytes : List ℕ) (wanted : Option Content) (events : List
       let fit = Rattle.markdown_children.proofs.ChainOrder.Following.fits_next tab bytes wanted events ready k d h lead.0 in
       let old : (q : Option (List Name)) → names_after_all q (drop (k + 2) events) ≡ names_after_all q (drop (d + 2) events) =
       λ q. ap (names_after_all q) (split-at events (k + 2) d sp.0) ∙ names_after_all-append q (between (k + 2) d events) (drop d events) ∙ ap (λ r. names_after_all r (drop d events)) (gap q) ∙ names-chunk d fit q in
-      rw (part_after c j (k + 2) d ks p ps ws sp.0, names-three o (between (k + 2) d events) p (after_changes rest (d + 2)), gap o)
+      rw (part_after events c j (k + 2) d ks p ps ws sp.0, names-three o (between (k + 2) d events) p (after_changes events rest (d + 2)), gap o)
       (through c (j + length p) d ks more ps ws fit lead.2 (omega arith) sp.1 kept (names_after_all o p)
       ∙ ap (λ q. names_after_all q (drop (d + 2) events)) (sym (names_after_all-append o p (joined ps))) ∙ sym (old (names_after_all o (p ++ joined ps))))
   through c j k ks more ps ws h lead e sp kept o = absurd (omega arith)
 
   -- a chain whose parts together are balanced
-  one_chain : (c i : ℕ) (ks more : List ℕ) (ps : List (List Event)) (ws : List Change) → Fits c → LeadOnFrom events c ks → length (c ∷ ks) ≡ length ps → IsBalanced (joined ps) → Unit {0}
+  one_chain : (c i : ℕ) (ks more : List ℕ) (ps : List (List Event)) (ws : List Change) → Fits wanted events c → LeadOnFrom events c ks → length (c ∷ ks) ≡ length ps → IsBalanced (joined ps) → Unit {0}
       → AreSpaced i (c ∷ (ks ++ more)) n → ((m : ℕ) → AreSpaced m more n → KeepNames ws m) → KeepNames (part_changes c 0 (c ∷ ks) ps ++ ws) i
   one_chain c i ks more [] ws h lead e b t sp kept o = absurd (omega arith)
   one_chain c i ks more (p ∷ ps) ws h lead e b t sp kept o =
       let q : Option (List Name) = names_after_all o (between i c events) in
-      rw (part_after c 0 i c ks p ps ws sp.0, names-three o (between i c events) p (after_changes (part_changes c (0 + length p) ks ps ++ ws) (c + 2)))
+      rw (part_after events c 0 i c ks p ps ws sp.0, names-three o (between i c events) p (after_changes events (part_changes c (0 + length p) ks ps ++ ws) (c + 2)))
       (through c (0 + length p) c ks more ps ws h lead (omega arith) sp.1 kept (names_after_all q p)
       ∙ ap (λ r. names_after_all r (drop (c + 2) events)) (sym (names_after_all-append q p (joined ps)) ∙ names-leave b q)
       ∙ sym (names-chunk c h q) ∙ sym (ap (names_after_all o) (split-at events i c sp.0) ∙ names_after_all-append o (between i c events) (drop c events)))
 
   -- what holds behind the last chain, and is kept by each chain, holds of the list with children
   module _ (Holds : List Change → ℕ → Type 0) (P : List Event → Type 0) (T : List ℕ → List (List Event) → Type 0) (last : (i : ℕ) → Holds [] i)
-      (chain : (c i : ℕ) (ks more : List ℕ) (ps : List (List Event)) (ws : List Change) → Fits c → LeadOnFrom events c ks → length (c ∷ ks) ≡ length ps → P (joined ps) → T (c ∷ ks) ps
+      (chain : (c i : ℕ) (ks more : List ℕ) (ps : List (List Event)) (ws : List Change) → Fits wanted events c → LeadOnFrom events c ks → length (c ∷ ks) ≡ length ps → P (joined ps) → T (c ∷ ks) ps
       → AreSpaced i (c ∷ (ks ++ more)) n → ((m : ℕ) → AreSpaced m more n → Holds ws m) → Holds (part_changes c 0 (c ∷ ks) ps ++ ws) i) where
-    all_chains : (cs : List ℕ) (children : List (List Event)) (i : ℕ) → AllByRecursion Fits cs → AllByRecursion (IsWholeFrom events) cs → AllByRecursion P children
+    all_chains : (cs : List ℕ) (children : List (List Event)) (i : ℕ) → AllByRecursion (Fits wanted events) cs → AllByRecursion (IsWholeFrom events) cs → AllByRecursion P children
         → AllByRecursion (λ (d : Divided). T d.chunks d.parts) (divided_over events cs children) → AreSpaced i (flat_map (chain_of events) cs) n
         → Holds (flat_map chain_changes (divided_over events cs children)) i
     all_chains (c ∷ cs) (child ∷ children) i fs wh bs ts sp =

@@ -4,7 +4,7 @@
 -- event of a child is followed by the next one of its part. The last one of a part is followed by the next one of its child, if nothing is
 -- between.
 use Rattle.markdown_children.proofs.Prelude.{◌≡◌, ℕ, zero, suc, ◌+◌, ◌-◌, ◌≤◌, true, List, [], ◌∷◌, ◌++◌, length, drop, take, Option, Some, refl, sym, ◌∙◌, ap, subst, arith, zero-add, slice_get, AllByRecursion, every-map, between, none-some, same_Some, Content, Event, Enter, Exit, is_void, relinked, IsVoidTight, drop-at, Tagged, Change, placed_end, placed_in, woven, pass, woven-pass, fits, IsReady, LeadOnFrom, AreSpaced, EndsInVoidEnter, StandSideBySide, IsTornNowhere, NoneTorn, part_changes, child_changes, with_children}
-use Rattle.markdown_children.proofs.ChainOrder.Following.{chunk, fits_next}
+use Rattle.markdown_children.proofs.ChainOrder.Following.{Fits, chunk, fits_next}
 use Rattle.markdown_children.proofs.ChainOrder.Spaced.{changes_are_apart}
 use Rattle.markdown_children.proofs.Parts.Kept.{joined, untagged, untagged-olds, after_changes, part_after, split-at, with_children_holds}
 
@@ -84,14 +84,8 @@ module _ (tab : ℕ) (bytes : List ℕ) (wanted : Option Content) (events : List
   abbrev n : ℕ
   n = length events
 
-  abbrev Fits : ℕ → Type 0
-  Fits k = fits wanted events k ≡ true
-
-  abbrev after : List Change → ℕ → List Event
-  after ws i = after_changes tab bytes wanted events ready ws i
-
   -- anything may follow the events before a chunk, as no void enter is directly before an enter
-  before-chunk : (i k : ℕ) (zs : List Event) → i ≤ k → Fits k → IsTightBefore (between i k events) zs
+  before-chunk : (i k : ℕ) (zs : List Event) → i ≤ k → Fits wanted events k → IsTightBefore (between i k events) zs
   before-chunk i k zs l h =
       let c = chunk tab bytes wanted events ready k h in
       let split = tight-split (between i k events) (drop k events) (subst IsTight (split-at events i k l) (tight-drop i events tight)) in
@@ -106,46 +100,46 @@ module _ (tab : ℕ) (bytes : List ℕ) (wanted : Option Content) (events : List
 
   -- if chunks are adjacent, the child goes on behind the one at k
   goes-on : (c j k : ℕ) (ks : List ℕ) (ps : List (List Event)) (ws : List Change) (f : Event) → slice_get (joined ps) 0 ≡ Some f → length ks ≡ length ps → StandSideBySide k ks ps
-      → slice_get (joined ps) 0 ≡ slice_get (after (part_changes c j ks ps ++ ws) (k + 2)) 0
+      → slice_get (joined ps) 0 ≡ slice_get (after_changes events (part_changes c j ks ps ++ ws) (k + 2)) 0
   goes-on c j k [] [] ws f at e s = absurd (none-some f at)
   goes-on c j k (d ∷ ks) ([] ∷ ps) ws f at e s =
       let more = goes-on c (j + 0) d ks ps ws f at (omega arith) s.1 in
-      let is : after (part_changes c j (d ∷ ks) ([] ∷ ps) ++ ws) (k + 2) ≡ after (part_changes c (j + 0) ks ps ++ ws) (d + 2) =
-      part_after tab bytes wanted events ready c j (k + 2) d ks [] ps ws (omega (arith, s.0)) ∙ ap (λ ys. ys ++ after (part_changes c (j + 0) ks ps ++ ws) (d + 2)) (between-none (k + 2) d s.0) in
+      let is : after_changes events (part_changes c j (d ∷ ks) ([] ∷ ps) ++ ws) (k + 2) ≡ after_changes events (part_changes c (j + 0) ks ps ++ ws) (d + 2) =
+      part_after events c j (k + 2) d ks [] ps ws (omega (arith, s.0)) ∙ ap (λ ys. ys ++ after_changes events (part_changes c (j + 0) ks ps ++ ws) (d + 2)) (between-none (k + 2) d s.0) in
       more ∙ ap (λ ys. slice_get ys 0) (sym is)
   goes-on c j k (d ∷ ks) ((x ∷ p) ∷ ps) ws f at e s =
-      let rest : List Event = after (part_changes c (j + length (x ∷ p)) ks ps ++ ws) (d + 2) in
-      let is : after (part_changes c j (d ∷ ks) ((x ∷ p) ∷ ps) ++ ws) (k + 2) ≡ (x ∷ p) ++ rest =
-      part_after tab bytes wanted events ready c j (k + 2) d ks (x ∷ p) ps ws (omega (arith, s)) ∙ ap (λ ys. ys ++ ((x ∷ p) ++ rest)) (between-none (k + 2) d s) in
+      let rest : List Event = after_changes events (part_changes c (j + length (x ∷ p)) ks ps ++ ws) (d + 2) in
+      let is : after_changes events (part_changes c j (d ∷ ks) ((x ∷ p) ∷ ps) ++ ws) (k + 2) ≡ (x ∷ p) ++ rest =
+      part_after events c j (k + 2) d ks (x ∷ p) ps ws (omega (arith, s)) ∙ ap (λ ys. ys ++ ((x ∷ p) ++ rest)) (between-none (k + 2) d s) in
       ap (λ ys. slice_get ys 0) (sym is)
   goes-on c j k ks ps ws f at e s = absurd (omega arith)
 
   -- a part, and all events behind the chunk at k
-  parts-tight : (c j k : ℕ) (p : List Event) (ks more : List ℕ) (ps : List (List Event)) (ws : List Change) → Fits k → LeadOnFrom events k ks → length ks ≡ length ps → AreSpaced (k + 2) (ks ++ more) n
-      → ((m : ℕ) → AreSpaced m more n → IsTight (after ws m)) → IsTight (p ++ joined ps) → IsTornNowhere (k ∷ ks) (p ∷ ps)
-      → IsTight (p ++ after (part_changes c j ks ps ++ ws) (k + 2))
+  parts-tight : (c j k : ℕ) (p : List Event) (ks more : List ℕ) (ps : List (List Event)) (ws : List Change) → Fits wanted events k → LeadOnFrom events k ks → length ks ≡ length ps → AreSpaced (k + 2) (ks ++ more) n
+      → ((m : ℕ) → AreSpaced m more n → IsTight (after_changes events ws m)) → IsTight (p ++ joined ps) → IsTornNowhere (k ∷ ks) (p ∷ ps)
+      → IsTight (p ++ after_changes events (part_changes c j ks ps ++ ws) (k + 2))
   parts-tight c j k p [] more [] ws h lead e sp rest t torn =
       let alone = (tight-split p [] t).0 in
-      tight-join p (after ws (k + 2)) (tight-moved p [] (after ws (k + 2)) alone (λ v. let l = last-exits p [] alone v in absurd (none-some l.1.0 l.1.1))) (rest (k + 2) sp)
+      tight-join p (after_changes events ws (k + 2)) (tight-moved p [] (after_changes events ws (k + 2)) alone (λ v. let l = last-exits p [] alone v in absurd (none-some l.1.0 l.1.1))) (rest (k + 2) sp)
   parts-tight c j k p (d ∷ ks) more (q ∷ ps) ws h lead e sp rest t torn =
-      let fit : Fits d = fits_next tab bytes wanted events ready k d h lead.0 in
+      let fit : Fits wanted events d = fits_next tab bytes wanted events ready k d h lead.0 in
       let both = tight-split p (q ++ joined ps) t in
-      let behind : List Event = q ++ after (part_changes c (j + length q) ks ps ++ ws) (d + 2) in
+      let behind : List Event = q ++ after_changes events (part_changes c (j + length q) ks ps ++ ws) (d + 2) in
       let tail : IsTight behind = parts-tight c (j + length q) d q ks more ps ws fit lead.2 (omega arith) sp.1 rest both.1 torn.1 in
       let all : IsTight (between (k + 2) d events ++ behind) = tight-join (between (k + 2) d events) behind (before-chunk (k + 2) d behind sp.0 fit) tail in
-      let is : after (part_changes c j (d ∷ ks) (q ∷ ps) ++ ws) (k + 2) ≡ between (k + 2) d events ++ behind = part_after tab bytes wanted events ready c j (k + 2) d ks q ps ws sp.0 in
-      tight-join p (after (part_changes c j (d ∷ ks) (q ∷ ps) ++ ws) (k + 2))
-      (tight-moved p (q ++ joined ps) (after (part_changes c j (d ∷ ks) (q ∷ ps) ++ ws) (k + 2)) both.0
+      let is : after_changes events (part_changes c j (d ∷ ks) (q ∷ ps) ++ ws) (k + 2) ≡ between (k + 2) d events ++ behind = part_after events c j (k + 2) d ks q ps ws sp.0 in
+      tight-join p (after_changes events (part_changes c j (d ∷ ks) (q ∷ ps) ++ ws) (k + 2))
+      (tight-moved p (q ++ joined ps) (after_changes events (part_changes c j (d ∷ ks) (q ∷ ps) ++ ws) (k + 2)) both.0
       (λ v. let l = last-exits p (q ++ joined ps) both.0 v in goes-on c j k (d ∷ ks) (q ∷ ps) ws l.1.0 l.1.1 e (torn.0 v)))
       (subst IsTight (sym is) all)
   parts-tight c j k p ks more ps ws h lead e sp rest t torn = absurd (omega arith)
 
-  one_chain : (c i : ℕ) (ks more : List ℕ) (ps : List (List Event)) (ws : List Change) → Fits c → LeadOnFrom events c ks → length (c ∷ ks) ≡ length ps → IsTight (joined ps) → IsTornNowhere (c ∷ ks) ps
-      → AreSpaced i (c ∷ (ks ++ more)) n → ((m : ℕ) → AreSpaced m more n → IsTight (after ws m)) → IsTight (after (part_changes c 0 (c ∷ ks) ps ++ ws) i)
+  one_chain : (c i : ℕ) (ks more : List ℕ) (ps : List (List Event)) (ws : List Change) → Fits wanted events c → LeadOnFrom events c ks → length (c ∷ ks) ≡ length ps → IsTight (joined ps) → IsTornNowhere (c ∷ ks) ps
+      → AreSpaced i (c ∷ (ks ++ more)) n → ((m : ℕ) → AreSpaced m more n → IsTight (after_changes events ws m)) → IsTight (after_changes events (part_changes c 0 (c ∷ ks) ps ++ ws) i)
   one_chain c i ks more [] ws h lead e t torn sp rest = absurd (omega arith)
   one_chain c i ks more (p ∷ ps) ws h lead e t torn sp rest =
-      let behind : List Event = p ++ after (part_changes c (0 + length p) ks ps ++ ws) (c + 2) in
-      subst IsTight (sym (part_after tab bytes wanted events ready c 0 i c ks p ps ws sp.0))
+      let behind : List Event = p ++ after_changes events (part_changes c (0 + length p) ks ps ++ ws) (c + 2) in
+      subst IsTight (sym (part_after events c 0 i c ks p ps ws sp.0))
       (tight-join (between i c events) behind (before-chunk i c behind sp.0 h) (parts-tight c (0 + length p) c p ks more ps ws h lead (omega arith) sp.1 rest t torn))
 
 pub with_children_tight : (tab : ℕ) (bytes : List ℕ) (wanted : Option Content) (events : List Event) (children : List (List Event)) → IsReady tab bytes wanted events → IsVoidTight events → AllByRecursion IsVoidTight children
@@ -154,7 +148,7 @@ with_children_tight tab bytes wanted events children ready tight bs torn =
     let ws : List Change = child_changes wanted events children in
     let old = tight-from events tight in
     let new : IsTight (untagged (pass ws 0 events)) =
-    with_children_holds tab bytes wanted events ready (λ vs i. IsTight (after_changes tab bytes wanted events ready vs i)) IsTight IsTornNowhere
+    with_children_holds tab bytes wanted events ready (λ vs i. IsTight (after_changes events vs i)) IsTight IsTornNowhere
     (λ i. subst IsTight (sym (untagged-olds i (drop i events))) (tight-drop i events old))
     (one_chain tab bytes wanted events ready old) children (every-map IsVoidTight IsTight tight-from children bs) torn in
     tight-to (with_children wanted events children)

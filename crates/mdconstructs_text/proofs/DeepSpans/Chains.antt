@@ -47,7 +47,7 @@ module _ (g : Given) (some : 0 < g.tab) (events : List Event) (ready : IsReady g
     (pairs : (k d : ℕ) → next_of events k ≡ Some d → FollowsChunk events k d) where
   -- the events from i on, after changes
   abbrev after : List Change → ℕ → List Event
-  after ws i = after_changes g.tab g.bytes (Some TextContent) events ready ws i
+  after ws i = after_changes events ws i
 
   -- they account for virtual bytes, and begin with an enter at the first
   abbrev Good : Seat → List Event → List Seat → Type 0
@@ -69,11 +69,11 @@ module _ (g : Given) (some : 0 < g.tab) (events : List Event) (ready : IsReady g
 
   up-to-chunk : (c j i k : ℕ) (ks more : List ℕ) (es : List Event) (ws : List Change) → AreSpaced i (k ∷ (ks ++ more)) (length events)
       → after (part_changes c j (k ∷ ks) (parts (map (λ k. place_at events (k + 1)) (k ∷ ks)) es) ++ ws) i ≡ between i k events ++ from_chunk k ks es ws
-  up-to-chunk c j i k [] more es ws spaced = part_after g.tab g.bytes (Some TextContent) events ready c j i k [] es [] ws spaced.0
+  up-to-chunk c j i k [] more es ws spaced = part_after events c j i k [] es [] ws spaced.0
   up-to-chunk c j i k (d ∷ ks) more es ws spaced =
       let front = front_until (place_at events (k + 1)) es in
       let left = drop (length front) es in
-      part_after g.tab g.bytes (Some TextContent) events ready c j i k (d ∷ ks) front (parts (map (λ k. place_at events (k + 1)) (d ∷ ks)) left) ws spaced.0
+      part_after events c j i k (d ∷ ks) front (parts (map (λ k. place_at events (k + 1)) (d ∷ ks)) left) ws spaced.0
       ∙ ap (λ l. between i k events ++ (front ++ l)) (up-to-chunk c (j + length front) (k + 2) d ks more left ws spaced.1)
 
   -- What is known of a child before a chunk takes its part: the virtual bytes of the chunk and of the chunks directly before it, the events
