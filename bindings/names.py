@@ -79,7 +79,7 @@ def rust(names, machines):
     """The Rust file."""
     derives = "Clone, Copy, Debug, PartialEq, Eq, PartialOrd, Ord, Hash"
     name_comments = comments_of(CRATES / "markdown_base/src/event.rt", "Name")
-    machine_comments = comments_of(CRATES / "mdevents_program/src/arguments.rt", "Which")
+    machine_comments = comments_of(CRATES / "mdconstructs_documents/src/choice.rt", "Which")
     lines = ["//! Names of spans and machines, with their numbers. Written by `bindings/names.py`.", "", "use std::fmt;", ""]
     lines += rust_enum("Machine", "A machine: what reads a document.", machines, machine_comments, "Clone, Copy, Debug, Default, PartialEq, Eq, Hash")
     lines[-1:] = ["", f"impl Machine {{", "    /// All machines, in the order of their numbers.", f"    pub const ALL: [Machine; {len(machines)}] = ["]

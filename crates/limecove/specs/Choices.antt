@@ -5,11 +5,11 @@ use Rattle.markdown.specs.declared.configuration.Constructs.{Constructs}
 use Rattle.markdown.specs.Engine.{given_by}
 use Rattle.markdown.specs.Presets.{default_constructs}
 use Rattle.markdown.specs.Text.{Given}
-use Rattle.mdevents_program.specs.declared.arguments.Choice.{Choice}
-use Rattle.mdevents_program.specs.declared.arguments.Which.{Which}
-use Rattle.mdevents_program.specs.declared.arguments.Which.TheVariants.{Lines, Paragraphs, Peek, Deep, Back, Save, Text}
-use Rattle.mdevents_program.specs.Arguments.{choice_together}
-use Rattle.mdevents_program.specs.Program.{options_with}
+use Rattle.mdconstructs.specs.declared.choice.Choice.{Choice}
+use Rattle.mdconstructs.specs.declared.choice.Which.{Which}
+use Rattle.mdconstructs.specs.declared.choice.Which.TheVariants.{Lines, Paragraphs, Peek, Deep, Back, Save, Text}
+use Rattle.mdconstructs.specs.Choices.{choice_together}
+use Rattle.mdconstructs.specs.Documents.{options_with}
 use Rattle.limecove.specs.declared.choose.Options.{Options}
 use Rattle.limecove.specs.declared.choose.TextOptions.{TextOptions}
 

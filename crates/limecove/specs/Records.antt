@@ -6,8 +6,8 @@ use Rattle.markdown.specs.declared.event.Content.TheVariants.{Flow, Content as C
 use Rattle.markdown.specs.declared.event.Event.{Event}
 use Rattle.markdown.specs.declared.event.Kind.{Kind}
 use Rattle.markdown.specs.declared.event.Kind.TheVariants.{Enter, Exit}
-use Rattle.mdevents_program.specs.declared.arguments.Choice.{Choice}
-use Rattle.mdevents_program.specs.Program.{AreEventsOf, options_with}
+use Rattle.mdconstructs.specs.declared.choice.Choice.{Choice}
+use Rattle.mdconstructs.specs.Documents.{AreEventsOf, options_with}
 use Rattle.limecove.specs.declared.choose.Options.{Options}
 use Rattle.limecove.specs.declared.record.Record.{Record}
 use Rattle.limecove.specs.Choices.{choice_of, constructs_of}

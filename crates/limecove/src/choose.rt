@@ -1,11 +1,11 @@
 //! Options as numbers, and what they choose.
 
 ghost use Rattle.std.specs.Prelude.{◌≡◌, IfSome};
-ghost use Rattle.mdevents_program.specs.Arguments.{CanCut};
+ghost use Rattle.mdconstructs.specs.Choices.{CanCut};
 ghost use Rattle.limecove.specs.Choices.{choice_of, constructs_of, machine_of, tab_of};
 
 use markdown::configuration::{Constructs, TabSize};
-use mdevents_program::arguments::{Choice, Which};
+use mdconstructs::choice::{Choice, Which, links_text};
 
 /// How text is read. A construct is on if its number is not 0.
 #[repr(C)]
@@ -43,7 +43,7 @@ pub(crate) fn choose(options: &Options) -> Option<Choice>
     let machine = machine_of(options.machine)?;
     let tab = tab_of(options.text.tab_size)?;
     let deep = options.deep != 0;
-    if deep && !matches!(machine, Which::Paragraphs | Which::Text) {
+    if deep && !links_text(machine) {
         return None;
     }
     let cut = if options.cut == 0 {

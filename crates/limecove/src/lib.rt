@@ -18,9 +18,7 @@ ghost use Rattle.limecove.specs.Records.{filled, HoldsEventsOf};
 
 use crate::choose::{Options, TextOptions, choose, constructs_of, tab_of};
 use crate::record::{Record, write_records};
-use mdconstructs::read_text;
-use mdevents_program::program::{events_of, options_with};
-use mdevents_program::read::limit_of;
+use mdconstructs::{events_of, limit_of, options_with, read_text};
 use std::alloc::Global;
 
 /// The version of the functions, options and records. It changes with each of their layouts and meanings.

@@ -38,3 +38,6 @@ pub use Rattle.mdconstructs_text.specs.TextEvents
 pub use Rattle.mdconstructs_text.specs.TextRules
 pub use Rattle.mdconstructs_text.specs.TextTable
 pub use Rattle.mdconstructs_text.specs.Laws as TextLaws
+pub use Rattle.mdconstructs_documents.specs.Choices
+pub use Rattle.mdconstructs_documents.specs.Documents
+pub use Rattle.mdconstructs_documents.specs.Runs

@@ -1,5 +1,4 @@
 pub mod Blocks
-pub mod DeepEvents
 pub mod OptionWords
 pub mod Pairs
 mod Prelude

@@ -1,13 +1,14 @@
 -- The program's command-line arguments, each a list of bytes.
-use Rattle.std.specs.Prelude.{ℕ, ◌≤◌, IfSome, ◌^◌, ◌&&◌, not, Bool, true, false, List, [], ◌∷◌, Option, Some, None, unwrap_or, codes, nat_lt, cond, filter_map}
+use Rattle.std.specs.Prelude.{ℕ, ◌^◌, ◌&&◌, Bool, true, false, List, [], ◌∷◌, Option, Some, None, unwrap_or, codes, nat_lt, cond, filter_map}
 use Rattle.std.specs.Char.{is_ascii_digit}
 use Rattle.std.specs.List.{list_all}
 use Rattle.std.specs.Option.{option_and_then, option_map}
 use Rattle.std.specs.Str.{bytes_eq}
 use Rattle.std.specs.Str.Parse.{digits_value}
-use Rattle.mdevents_program.specs.declared.arguments.Choice.{Choice}
-use Rattle.mdevents_program.specs.declared.arguments.Which.{Which}
-use Rattle.mdevents_program.specs.declared.arguments.Which.TheVariants.{Lines, Paragraphs, Peek, Deep, Back, Save, Text}
+use Rattle.mdconstructs.specs.declared.choice.Choice.{Choice}
+use Rattle.mdconstructs.specs.declared.choice.Which.{Which}
+use Rattle.mdconstructs.specs.declared.choice.Which.TheVariants.{Lines, Paragraphs, Peek, Deep, Back, Save, Text}
+use Rattle.mdconstructs.specs.Choices.{choice_together}
 
 -- the number of an argument of decimal digits, if it is above 0 and fits `usize`
 abbrev pub decimal_of : List ℕ → Option ℕ
@@ -81,20 +82,6 @@ at_most_one [] = Some None
 at_most_one (x ∷ []) = Some (Some x)
 at_most_one (x ∷ y ∷ xs) = None
 
--- whether a machine links chunks of text
-abbrev pub links_text : Which → Bool
-links_text Lines = false
-links_text Paragraphs = true
-links_text Peek = false
-links_text Deep = false
-links_text Back = false
-links_text Save = false
-links_text Text = true
-
--- the choice of a cut, of `--deep`, of a machine and of a tab size, if they are accepted together: `--deep` only with a machine that links
-abbrev pub choice_together : Option ℕ → Bool → Which → ℕ → Option Choice
-choice_together n is_deep which t = cond (is_deep && not (links_text which)) None (Some (record { cut = n; deep = is_deep; machine = which; tab = t }))
-
 -- what options choose, if there is at most one of each; the default machine is `lines`, and the default tab size 4
 abbrev pub chosen_by : List Spelled → Option Choice
 chosen_by options =
@@ -105,7 +92,3 @@ chosen_by options =
 -- what arguments choose, if they are accepted: what the options that they spell choose
 abbrev pub choice_of_words : List (List ℕ) → Option Choice
 choice_of_words words = option_and_then chosen_by (options_of words)
-
--- a cut is at least 1
-abbrev pub CanCut : Choice → Type 0
-CanCut choice = IfSome choice.cut (λ n. 1 ≤ n)

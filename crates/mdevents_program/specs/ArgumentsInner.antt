@@ -2,10 +2,11 @@
 use Rattle.std.specs.Prelude.{ℕ, true, List, [], ◌∷◌, Option, Some, None, unwrap_or, codes, cond}
 use Rattle.std.specs.Option.{option_and_then, option_map}
 use Rattle.std.specs.Str.{bytes_eq}
-use Rattle.mdevents_program.specs.declared.arguments.Choice.{Choice}
+use Rattle.mdconstructs.specs.declared.choice.Choice.{Choice}
 use Rattle.mdevents_program.specs.declared.arguments.SoFar.{SoFar}
-use Rattle.mdevents_program.specs.declared.arguments.Which.TheVariants.{Lines}
-use Rattle.mdevents_program.specs.Arguments.{decimal_of, which_of, tab_size_of, choice_together}
+use Rattle.mdconstructs.specs.declared.choice.Which.TheVariants.{Lines}
+use Rattle.mdconstructs.specs.Choices.{choice_together}
+use Rattle.mdevents_program.specs.Arguments.{decimal_of, which_of, tab_size_of}
 
 -- a value, if there was none before
 abbrev pub once : {A : Type 0} → Option A → Option A → Option A

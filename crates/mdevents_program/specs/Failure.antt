@@ -21,12 +21,3 @@ IsOfReading Write = ⊥
 IsOfReading TooLong = ⊤
 IsOfReading NotReady = ⊥
 IsOfReading (Message m) = ⊥
-
--- the failures of making the events: memory, links that cannot be followed, or a message
-abbrev pub IsOfMaking : Failure → Type 0
-IsOfMaking Memory = ⊤
-IsOfMaking Read = ⊥
-IsOfMaking Write = ⊥
-IsOfMaking TooLong = ⊥
-IsOfMaking NotReady = ⊤
-IsOfMaking (Message m) = ⊤

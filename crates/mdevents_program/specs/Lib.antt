@@ -4,4 +4,3 @@ pub mod Failure
 pub mod Printed
 pub mod Program
 pub mod Reading
-pub mod Runs

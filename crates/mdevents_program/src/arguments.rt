@@ -3,47 +3,16 @@
 ghost use Rattle.std.specs.Prelude.{◌≡◌, ◌≤◌, IfSome, map, string_bytes};
 ghost use Rattle.std.specs.Char.{is_ascii_digit};
 ghost use Rattle.std.specs.List.{list_all};
+ghost use Rattle.mdconstructs.specs.Choices.{CanCut};
+ghost use Rattle.mdevents_program.specs.Arguments.{choice_of_words, which_of, decimal_of, tab_size_of};
+ghost use Rattle.mdevents_program.specs.ArgumentsInner.{once, with_value, taken_of, chosen_after};
 
 use markdown::configuration::TabSize;
+use mdconstructs::choice::links_text;
+pub use mdconstructs::choice::{Choice, Which};
 
 /// The usage line. It is shown if the arguments are not accepted.
 pub const USAGE: &str = "usage: mdevents [--cut n] [--deep] [--machine name] [--tab n]";
-
-/// A machine that the program offers, by its name on the command line.
-#[derive(Clone, Copy, Debug, PartialEq, Eq)]
-pub enum Which {
-    /// `lines`: each line is a paragraph of data.
-    Lines,
-    /// `paragraphs`: adjacent lines are a paragraph. Each line is a chunk of text, linked to the chunk before.
-    Paragraphs,
-    /// `peek`: looks at the whole text first, and then reads each line as data.
-    Peek,
-    /// `deep`: tries something at each byte, which fails, and then reads each line as data.
-    Deep,
-    /// `back`: reads the first line as data, looks over the next line, goes back, and reads the rest as one more data.
-    Back,
-    /// `save`: passes the first line, tries something after it, which fails, and reads each line of the rest as data.
-    Save,
-    /// `text`: as `paragraphs`, but in the text of its chunks are code spans, autolinks and escapes.
-    Text,
-}
-
-/// What the arguments choose.
-#[derive(Clone, Copy, Debug, PartialEq, Eq)]
-pub struct Choice {
-    /// The document is cut after each this many virtual bytes, at least 1. `None`: it is not cut.
-    pub cut: Option<usize>,
-    /// Whether the chunks of text that the machine links are read too, and replaced by their events. Only the machines
-    /// `paragraphs` and `text` link any.
-    pub deep: bool,
-    /// The machine that reads.
-    pub machine: Which,
-    /// The distance from one tab stop to the next, in columns.
-    pub tab: TabSize,
-}
-
-ghost use Rattle.mdevents_program.specs.Arguments.{choice_of_words, links_text, which_of, decimal_of, tab_size_of, CanCut};
-ghost use Rattle.mdevents_program.specs.ArgumentsInner.{once, with_value, taken_of, chosen_after};
 
 /// Reads the arguments after the program's name: `--cut` with a number, `--deep`, `--machine` with a name, and `--tab` with a
 /// number from 1 to 16. They come in any order, each at most once. The default machine is `lines`, and the default tab size 4.
@@ -155,16 +124,6 @@ fn taken(so_far: SoFar) -> Option<Choice>
         machine,
         tab,
     })
-}
-
-/// Whether a machine links chunks of text.
-fn links_text(machine: Which) -> bool
-    ensures { result ≡ links_text machine }
-{
-    match machine {
-        Which::Paragraphs | Which::Text => true,
-        Which::Lines | Which::Peek | Which::Deep | Which::Back | Which::Save => false,
-    }
 }
 
 /// The machine with this name.

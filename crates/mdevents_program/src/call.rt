@@ -3,8 +3,8 @@
 ghost use Rattle.std.specs.Prelude.{◌≡◌, ◌≤◌, IfOk, IfSome, IsErr, IsOkUnless, Ok, None};
 ghost use Rattle.std.specs.Io.KnownBytes.{Keeps};
 ghost use Rattle.std.specs.Process.{exit_status};
+ghost use Rattle.mdconstructs.specs.Choices.{CanCut};
 ghost use Rattle.mdevents_program.specs.Program.{Prints, PrintsChosen};
-ghost use Rattle.mdevents_program.specs.Arguments.{CanCut};
 
 use crate::arguments::{Choice, USAGE, read_words};
 use crate::failure::Failure;

@@ -1,6 +1,6 @@
 //! Reading input to its end.
 
-ghost use Rattle.std.specs.Prelude.{◌≡◌, ◌≢◌, ◌↔◌, ◌+◌, ◌*◌, ◌^◌, ◌≤◌, ◌<◌, ℕ, List, ◌++◌, length, true, false, IfOk, IfErr, OnOk, OnErr, IsErrOf, Ok};
+ghost use Rattle.std.specs.Prelude.{◌≡◌, ◌≢◌, ◌<◌, ℕ, List, ◌++◌, length, true, false, IfOk, IfErr, OnOk, OnErr, IsErrOf, Ok};
 ghost use Rattle.std.specs.Io.KnownBytes.{Consumes, IsAtEnd};
 ghost use Rattle.mdevents_program.specs.Failure.{IsOfReading};
 ghost use Rattle.mdevents_program.specs.Reading.{ReadsWithinLimit, ReadsPastLimit};
@@ -8,15 +8,9 @@ ghost use Rattle.markdown.specs.Virtual.{IsWithinLimit};
 
 use crate::failure::Failure;
 use markdown::configuration::TabSize;
+use mdconstructs::limit::limit_of;
 use std::alloc::Global;
 use std::io::Read;
-
-/// The greatest length that is read: the tab size times this number, and one more, fits `usize`.
-pub fn limit_of(tab: TabSize) -> usize
-    ensures { (n : _) → (n ≤ result) ↔ (tab * n + 1 < 2 ^ 64) }
-{
-    (usize::MAX - 1) / tab.get()
-}
 
 /// Reads to the end: until a read returns 0 bytes. Returns `Failure::Read` for any error of the reader. Returns `Failure::TooLong`
 /// as soon as what was read is past the limit, which depends on the tab size; so it ends for every reader. Returns

@@ -1,6 +1,6 @@
 //! What the program writes for a document, machine by machine.
 
-ghost use Rattle.mdevents_program.specs.Arguments.{CanCut};
+ghost use Rattle.mdconstructs.specs.Choices.{CanCut};
 
 use markdown::configuration::TabSize;
 use mdevents_program::arguments::{Choice, Which};

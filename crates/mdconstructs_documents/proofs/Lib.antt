@@ -1,0 +1,2 @@
+mod DeepEvents
+mod Prelude

@@ -1,0 +1,77 @@
+use Rattle.mdconstructs_documents.proofs.Prelude.{false, FlowStart, TextStart, StringStart, back-reads, deep-reads, lines-read, peek-reads, save-reads, paragraphs-by-blocks, text-by-blocks, line_events, data_events, back_events, save_events, paragraph_events, IfOk-weaker, no-run-refused, lines_rules, paragraphs_rules, peek_rules, deep_rules, back_rules, save_rules, lines-refuse-nothing, paragraphs-refuse-nothing, peek-refuses-nothing, deep-refuses-nothing, back-refuses-nothing, save-refuses-nothing, text_rules, text-refuses-nothing, paragraphs-readable, text-readable}
+use Rattle.mdconstructs_documents.proofs.DeepEvents.{only-memory, none-refused-deep, all-ready, flat-events, with-data, with-texts}
+use Rattle.mdconstructs_documents.proofs.documents.read_as.Goals as goal
+
+pub returns-in-Lines-clause-events : goal.returns-in-Lines-clause-events
+returns-in-Lines-clause-events c =
+    let document = rw c.options_with.ensures at c.read_by.ensures.document in
+    rw c.in-Lines.is (IfOk-weaker c.read_by.result _ _ (λ events h. flat-events lines_rules FlowStart line_events lines-read _ c.args.bytes.now document events.items h) (rw c.options_with.ensures at c.read_by.ensures.events))
+
+pub returns-in-Paragraphs-clause-events : goal.returns-in-Paragraphs-clause-events
+returns-in-Paragraphs-clause-events c =
+    let document = rw c.options_with.ensures at c.read_deep_by.ensures.document in
+    rw (c.in-Paragraphs.is, c.if-choice.true) (IfOk-weaker c.read_deep_by.result _ _ (λ events h. with-data _ c.args.bytes.now document events.items h) (rw c.options_with.ensures at c.read_deep_by.ensures.events))
+
+pub returns-in-Paragraphs-2-clause-events : goal.returns-in-Paragraphs-2-clause-events
+returns-in-Paragraphs-2-clause-events c =
+    let document = rw c.options_with.ensures at c.read_by-in-Paragraphs-2.ensures.document in
+    rw (c.in-Paragraphs-2.is, c.if-choice.false) (IfOk-weaker c.read_by-in-Paragraphs-2.result _ _ (λ events h. flat-events paragraphs_rules FlowStart paragraph_events paragraphs-by-blocks _ c.args.bytes.now document events.items h) (rw c.options_with.ensures at c.read_by-in-Paragraphs-2.ensures.events))
+
+pub returns-in-Peek-clause-events : goal.returns-in-Peek-clause-events
+returns-in-Peek-clause-events c =
+    let document = rw c.options_with.ensures at c.read_by-in-Peek.ensures.document in
+    rw c.in-Peek.is (IfOk-weaker c.read_by-in-Peek.result _ _ (λ events h. flat-events peek_rules TextStart data_events peek-reads _ c.args.bytes.now document events.items h) (rw c.options_with.ensures at c.read_by-in-Peek.ensures.events))
+
+pub returns-in-Deep-clause-events : goal.returns-in-Deep-clause-events
+returns-in-Deep-clause-events c =
+    let document = rw c.options_with.ensures at c.read_by-in-Deep.ensures.document in
+    rw c.in-Deep.is (IfOk-weaker c.read_by-in-Deep.result _ _ (λ events h. flat-events deep_rules StringStart data_events deep-reads _ c.args.bytes.now document events.items h) (rw c.options_with.ensures at c.read_by-in-Deep.ensures.events))
+
+pub returns-in-Back-clause-events : goal.returns-in-Back-clause-events
+returns-in-Back-clause-events c =
+    let document = rw c.options_with.ensures at c.read_by-in-Back.ensures.document in
+    rw c.in-Back.is (IfOk-weaker c.read_by-in-Back.result _ _ (λ events h. flat-events back_rules TextStart back_events back-reads _ c.args.bytes.now document events.items h) (rw c.options_with.ensures at c.read_by-in-Back.ensures.events))
+
+pub returns-in-Save-clause-events : goal.returns-in-Save-clause-events
+returns-in-Save-clause-events c =
+    let document = rw c.options_with.ensures at c.read_by-in-Save.ensures.document in
+    rw c.in-Save.is (IfOk-weaker c.read_by-in-Save.result _ _ (λ events h. flat-events save_rules TextStart save_events save-reads _ c.args.bytes.now document events.items h) (rw c.options_with.ensures at c.read_by-in-Save.ensures.events))
+
+pub returns-in-Text-clause-events : goal.returns-in-Text-clause-events
+returns-in-Text-clause-events c =
+    let document = rw c.options_with.ensures at c.read_deep_by-in-Text.ensures.document in
+    rw (c.in-Text.is, c.if-choice-2.true) (IfOk-weaker c.read_deep_by-in-Text.result _ _ (λ events h. with-texts _ c.args.bytes.now document events.items h) (rw c.options_with.ensures at c.read_deep_by-in-Text.ensures.events))
+
+pub returns-clause-events : goal.returns-clause-events
+returns-clause-events c =
+    let document = rw c.options_with.ensures at c.read_by-in-Text-2.ensures.document in
+    rw (c.in-Text-2.is, c.if-choice-2.false) (IfOk-weaker c.read_by-in-Text-2.result _ _ (λ events h. flat-events text_rules FlowStart paragraph_events text-by-blocks _ c.args.bytes.now document events.items h) (rw c.options_with.ensures at c.read_by-in-Text-2.ensures.events))
+
+pub returns-in-Lines-clause-err : goal.returns-in-Lines-clause-err
+returns-in-Lines-clause-err c = only-memory c.read_by.result (λ m e. no-run-refused lines_rules lines-refuse-nothing _ false _ m (c.read_by.ensures.message m e)) c.read_by.ensures.ready c.read_by.ensures.cause
+
+pub returns-in-Paragraphs-clause-err : goal.returns-in-Paragraphs-clause-err
+returns-in-Paragraphs-clause-err c = only-memory c.read_deep_by.result (λ m e. none-refused-deep paragraphs_rules paragraphs-refuse-nothing _ _ _ m (c.read_deep_by.ensures.message m e))
+    (λ e. all-ready paragraphs_rules paragraphs-readable _ _ c.read_deep_by.ensures.document (c.read_deep_by.ensures.unready e)) c.read_deep_by.ensures.cause
+
+pub returns-in-Paragraphs-2-clause-err : goal.returns-in-Paragraphs-2-clause-err
+returns-in-Paragraphs-2-clause-err c = only-memory c.read_by-in-Paragraphs-2.result (λ m e. no-run-refused paragraphs_rules paragraphs-refuse-nothing _ false _ m (c.read_by-in-Paragraphs-2.ensures.message m e)) c.read_by-in-Paragraphs-2.ensures.ready c.read_by-in-Paragraphs-2.ensures.cause
+
+pub returns-in-Peek-clause-err : goal.returns-in-Peek-clause-err
+returns-in-Peek-clause-err c = only-memory c.read_by-in-Peek.result (λ m e. no-run-refused peek_rules peek-refuses-nothing _ false _ m (c.read_by-in-Peek.ensures.message m e)) c.read_by-in-Peek.ensures.ready c.read_by-in-Peek.ensures.cause
+
+pub returns-in-Deep-clause-err : goal.returns-in-Deep-clause-err
+returns-in-Deep-clause-err c = only-memory c.read_by-in-Deep.result (λ m e. no-run-refused deep_rules deep-refuses-nothing _ false _ m (c.read_by-in-Deep.ensures.message m e)) c.read_by-in-Deep.ensures.ready c.read_by-in-Deep.ensures.cause
+
+pub returns-in-Back-clause-err : goal.returns-in-Back-clause-err
+returns-in-Back-clause-err c = only-memory c.read_by-in-Back.result (λ m e. no-run-refused back_rules back-refuses-nothing _ false _ m (c.read_by-in-Back.ensures.message m e)) c.read_by-in-Back.ensures.ready c.read_by-in-Back.ensures.cause
+
+pub returns-in-Save-clause-err : goal.returns-in-Save-clause-err
+returns-in-Save-clause-err c = only-memory c.read_by-in-Save.result (λ m e. no-run-refused save_rules save-refuses-nothing _ false _ m (c.read_by-in-Save.ensures.message m e)) c.read_by-in-Save.ensures.ready c.read_by-in-Save.ensures.cause
+
+pub returns-in-Text-clause-err : goal.returns-in-Text-clause-err
+returns-in-Text-clause-err c = only-memory c.read_deep_by-in-Text.result (λ m e. none-refused-deep text_rules text-refuses-nothing _ _ _ m (c.read_deep_by-in-Text.ensures.message m e))
+    (λ e. all-ready text_rules text-readable _ _ c.read_deep_by-in-Text.ensures.document (c.read_deep_by-in-Text.ensures.unready e)) c.read_deep_by-in-Text.ensures.cause
+
+pub returns-clause-err : goal.returns-clause-err
+returns-clause-err c = only-memory c.read_by-in-Text-2.result (λ m e. no-run-refused text_rules text-refuses-nothing _ false _ m (c.read_by-in-Text-2.ensures.message m e)) c.read_by-in-Text-2.ensures.ready c.read_by-in-Text-2.ensures.cause

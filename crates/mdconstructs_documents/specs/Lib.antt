@@ -1,0 +1,3 @@
+pub mod Choices
+pub mod Documents
+pub mod Runs

@@ -1,0 +1,42 @@
+-- Inner: what a run of a machine returns, for private functions. No public clause cites this file.
+use Rattle.std.specs.Prelude.{◌⊎◌, ℕ, List, Some, false}
+use Rattle.markdown_base.specs.declared.configuration.ParseOptions.{ParseOptions}
+use Rattle.markdown_base.specs.declared.event.Content.TheVariants.{Text as TextContent}
+use Rattle.markdown_base.specs.declared.event.Event.{Event}
+use Rattle.markdown_base.specs.declared.message.Message.{Message}
+use Rattle.markdown_base.specs.declared.state.Name.{Name}
+use Rattle.markdown_tokenizer.specs.declared.subtokenize.Subresult.{Subresult}
+use Rattle.markdown_tokenizer.specs.Engine.{IsRun, IsRunRefused}
+use Rattle.markdown_children.specs.Ready.{IsReady}
+use Rattle.markdown_children.specs.Reads.{IsSubtokenized, IsSubtokenizeRefused}
+use Rattle.markdown_tokenizer.specs.Rules.{Rules}
+use Rattle.markdown_tokenizer.specs.Text.{Given}
+use Rattle.mdconstructs_documents.specs.Documents.{document}
+
+-- a machine
+module _ {R D : Type 0} (rules : Given → Rules R D) (options : ParseOptions) (bytes : List ℕ) where
+  -- events of a document, whose chains of text can be read, with the children of these in place of the chunks, all read by the machine
+  abbrev pub HasChildren : List Event → List Event → Type 0
+  HasChildren old new = IsReady options.tab_size bytes (Some TextContent) old × ((sub : Subresult) × IsSubtokenized (document options bytes) rules (Some TextContent) old new sub)
+
+  -- the first of these children that does not end in Ok ends in a message
+  abbrev pub HasRefusedChild : List Event → Message → Type 0
+  HasRefusedChild old m = IsReady options.tab_size bytes (Some TextContent) old × IsSubtokenizeRefused (document options bytes) rules (Some TextContent) old m
+
+-- a machine with a start
+module _ {R D : Type 0} (rules : Given → Rules R D) (start : Name) (options : ParseOptions) (bytes : List ℕ) where
+  -- a run of the machine over a document returns these events
+  abbrev pub Gives : List Event → Type 0
+  Gives events = (sub : Subresult) × IsRun (document options bytes) rules false start events sub
+
+  -- a run returns events, and with the children of their chains of text they are these
+  abbrev pub GivesDeep : List Event → Type 0
+  GivesDeep events = (flat : List Event) × Gives flat × HasChildren rules options bytes flat events
+
+  -- the run, or a child of its chains of text, ends in a message
+  abbrev pub IsRefusedDeep : Message → Type 0
+  IsRefusedDeep m = IsRunRefused (document options bytes) rules false start m ⊎ ((flat : List Event) × Gives flat × HasRefusedChild rules options bytes flat m)
+
+  -- a run returns events whose chains of text cannot be read
+  abbrev pub GivesUnready : Type 0
+  GivesUnready = (flat : List Event) × Gives flat × ¬ IsReady options.tab_size bytes (Some TextContent) flat

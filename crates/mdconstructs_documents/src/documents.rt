@@ -1,0 +1,99 @@
+//! The events of a document, by a choice of how it is read.
+
+ghost use Rattle.std.specs.Prelude.{◌≡◌, IfOk, IfErr};
+ghost use Rattle.markdown_base.specs.Virtual.{IsWithinLimit};
+ghost use Rattle.markdown_tokenizer.specs.Engine.{AreCuts};
+ghost use Rattle.mdconstructs_documents.specs.Choices.{CanCut};
+ghost use Rattle.mdconstructs_documents.specs.Documents.{options_with, cut_places, AreEventsOf};
+
+use crate::choice::{Choice, Which};
+use crate::making::{Unmade, read_by, read_deep_by};
+use markdown_base::configuration::{Constructs, ParseOptions, TabSize};
+use markdown_base::event::Event;
+use markdown_base::state::Name;
+use markdown_tokenizer::tokenizer::{Fault, cuts_every};
+use mdconstructs_machines::back::Back;
+use mdconstructs_machines::deep::Deep;
+use mdconstructs_machines::lines::Lines;
+use mdconstructs_machines::paragraphs::Paragraphs;
+use mdconstructs_machines::peek::Peek;
+use mdconstructs_machines::save::Save;
+use mdconstructs_text::text::Text;
+use std::alloc::{AllocError, Global};
+
+/// The events of a document, read by the machine that the choice names, with these constructs. The cuts leave no trace in them.
+///
+/// A cut in the choice must be at least 1. It fails only if it runs out of memory: no machine that can be chosen refuses a
+/// document, and the chains of text that such a machine makes can be read.
+pub fn events_of(
+    alloc: Global,
+    bytes: &[u8],
+    constructs: Constructs,
+    choice: &Choice,
+) -> Result<Vec<Event>, AllocError>
+    requires limit { IsWithinLimit choice.now.tab bytes.now }
+    requires cut { CanCut choice.now }
+    ensures { IfOk result (λ events. AreEventsOf choice.now.deep choice.now.machine (options_with constructs choice.now.tab) bytes.now events.items) }
+{
+    match read_as(alloc, bytes, constructs, choice) {
+        Ok(events) => Ok(events),
+        Err(Unmade::Fault(Fault::Memory)) => Err(AllocError),
+        Err(_) => unreachable!(),
+    }
+}
+
+/// The default options, but with these constructs and this size of tabs.
+pub fn options_with(constructs: Constructs, tab: TabSize) -> ParseOptions
+    ensures { result ≡ options_with constructs tab }
+{
+    ParseOptions {
+        constructs,
+        tab_size: tab,
+        ..ParseOptions::default()
+    }
+}
+
+/// As [`events_of`], with the reason for which there are no events.
+fn read_as(
+    alloc: Global,
+    bytes: &[u8],
+    constructs: Constructs,
+    choice: &Choice,
+) -> Result<Vec<Event>, Unmade>
+    requires limit { IsWithinLimit choice.now.tab bytes.now }
+    requires cut { CanCut choice.now }
+    ensures events { IfOk result (λ events. AreEventsOf choice.now.deep choice.now.machine (options_with constructs choice.now.tab) bytes.now events.items) }
+    ensures err { IfErr result (λ unmade. unmade ≡ Unmade.Fault Fault.Memory) }
+{
+    let cuts = cuts_of(alloc, bytes, choice)?;
+    let cuts = cuts.as_slice();
+    let options = &options_with(constructs, choice.tab);
+    match choice.machine {
+        Which::Lines => read_by(alloc, &Lines {}, Name::FlowStart, bytes, options, cuts),
+        Which::Paragraphs if choice.deep => {
+            read_deep_by(alloc, &Paragraphs {}, Name::FlowStart, bytes, options, cuts)
+        }
+        Which::Paragraphs => read_by(alloc, &Paragraphs {}, Name::FlowStart, bytes, options, cuts),
+        Which::Peek => read_by(alloc, &Peek {}, Name::TextStart, bytes, options, cuts),
+        Which::Deep => read_by(alloc, &Deep {}, Name::StringStart, bytes, options, cuts),
+        Which::Back => read_by(alloc, &Back {}, Name::TextStart, bytes, options, cuts),
+        Which::Save => read_by(alloc, &Save {}, Name::TextStart, bytes, options, cuts),
+        Which::Text if choice.deep => {
+            read_deep_by(alloc, &Text {}, Name::FlowStart, bytes, options, cuts)
+        }
+        Which::Text => read_by(alloc, &Text {}, Name::FlowStart, bytes, options, cuts),
+    }
+}
+
+/// The places at which a document is cut.
+fn cuts_of(alloc: Global, bytes: &[u8], choice: &Choice) -> Result<Vec<(usize, usize)>, AllocError>
+    requires limit { IsWithinLimit choice.now.tab bytes.now }
+    requires cut { CanCut choice.now }
+    ensures places { IfOk result (λ cuts. cuts.items ≡ cut_places choice.now bytes.now) }
+    ensures cuts { IfOk result (λ cuts. AreCuts choice.now.tab bytes.now cuts.items) }
+{
+    match choice.cut {
+        Some(n) => cuts_every(alloc, bytes, choice.tab, n),
+        None => Ok(Vec::new(alloc)),
+    }
+}

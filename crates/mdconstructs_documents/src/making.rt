@@ -1,0 +1,121 @@
+//! The events that any machine makes of a document, and why it makes none.
+
+ghost use Rattle.std.specs.Prelude.{◌≡◌, ◌≢◌, Contains, IfOk, IfErr, IsErrOf, Some, false};
+ghost use Rattle.markdown_base.specs.Virtual.{IsWithinLimit};
+ghost use Rattle.markdown_tokenizer.specs.Engine.{AreCuts, IsRunRefused};
+ghost use Rattle.markdown_tokenizer.specs.Text.{IsDocument};
+ghost use Rattle.markdown_tokenizer.specs.declared.tokenizer.fault.Fault.TheVariants.{Memory};
+ghost use Rattle.markdown_children.specs.Ready.{IsReady};
+ghost use Rattle.mdconstructs_documents.specs.Documents.{document};
+ghost use Rattle.mdconstructs_documents.specs.Runs.{Gives, GivesDeep, IsRefusedDeep, GivesUnready, HasChildren, HasRefusedChild};
+ghost use Rattle.mdconstructs_documents.specs.declared.making.Unmade.TheVariants.{Fault as OfFault};
+
+use markdown_base::configuration::ParseOptions;
+use markdown_base::event::{Content, Event};
+use markdown_base::state::Name;
+use markdown_children::subtokenize::{ready, subtokenize};
+use markdown_tokenizer::parser::ParseState;
+use markdown_tokenizer::state::Machine;
+use markdown_tokenizer::tokenizer::{Fault, run};
+use std::alloc::{AllocError, Global};
+
+/// Why a machine makes no events of a document.
+#[derive(Debug, Drop)]
+pub(crate) enum Unmade {
+    /// Reading the document, or a child, fails.
+    Fault(Fault),
+    /// The events have chains of text that cannot be read.
+    NotReady,
+}
+
+impl From<Fault> for Unmade {
+    ghost from_gives = { λ fault unmade. unmade ≡ OfFault fault };
+
+    /// A fault, as it is.
+    fn from(fault: Fault) -> Unmade {
+        Unmade::Fault(fault)
+    }
+}
+
+impl From<AllocError> for Unmade {
+    ghost from_gives = { λ _ unmade. unmade ≡ OfFault Memory };
+
+    /// A failed allocation is the fault `Memory`.
+    fn from(_error: AllocError) -> Unmade {
+        Unmade::Fault(Fault::Memory)
+    }
+}
+
+/// The events that a machine makes of a document, from this start.
+pub(crate) fn read_by<M: Machine>(
+    alloc: Global,
+    machine: &M,
+    start: Name,
+    bytes: &[u8],
+    options: &ParseOptions,
+    cuts: &[(usize, usize)],
+) -> Result<Vec<Event>, Unmade>
+    requires limit { IsWithinLimit options.now.tab_size bytes.now }
+    requires start { Contains (M.rules machine.now (document options.now bytes.now)).starts start }
+    requires cuts { AreCuts options.now.tab_size bytes.now cuts.now }
+    ensures events { IfOk result (λ events. Gives (M.rules machine.now) start options.now bytes.now events.items) }
+    ensures message { (m : _) → IsErrOf result (Unmade.Fault (Fault.Message m)) → IsRunRefused (document options.now bytes.now) (M.rules machine.now) false start m }
+    ensures ready { ¬ IsErrOf result Unmade.NotReady }
+    ensures cause { ¬ IsErrOf result (Unmade.Fault Fault.Failed) }
+    ensures document { IsDocument (document options.now bytes.now) }
+{
+    let Some(parse_state) = ParseState::new(bytes, options, machine) else {
+        unreachable!();
+    };
+    let (events, _) = run(alloc, &parse_state, start, cuts, false)?;
+    Ok(events)
+}
+
+/// The events that a machine makes of a document, from this start, with the children of their chains of text.
+pub(crate) fn read_deep_by<M: Machine>(
+    alloc: Global,
+    machine: &M,
+    start: Name,
+    bytes: &[u8],
+    options: &ParseOptions,
+    cuts: &[(usize, usize)],
+) -> Result<Vec<Event>, Unmade>
+    requires limit { IsWithinLimit options.now.tab_size bytes.now }
+    requires start { Contains (M.rules machine.now (document options.now bytes.now)).starts start }
+    requires text { Contains (M.rules machine.now (document options.now bytes.now)).starts Name.TextStart }
+    requires cuts { AreCuts options.now.tab_size bytes.now cuts.now }
+    ensures events { IfOk result (λ events. GivesDeep (M.rules machine.now) start options.now bytes.now events.items) }
+    ensures message { (m : _) → IsErrOf result (Unmade.Fault (Fault.Message m)) → IsRefusedDeep (M.rules machine.now) start options.now bytes.now m }
+    ensures unready { IsErrOf result Unmade.NotReady → GivesUnready (M.rules machine.now) start options.now bytes.now }
+    ensures cause { ¬ IsErrOf result (Unmade.Fault Fault.Failed) }
+    ensures document { IsDocument (document options.now bytes.now) }
+{
+    let events = read_by(alloc, machine, start, bytes, options, cuts)?;
+    with_children(alloc, machine, bytes, options, events)
+}
+
+/// The events with the children of their chains of text in place of the chunks. The same machine reads each child.
+fn with_children<M: Machine>(
+    alloc: Global,
+    machine: &M,
+    bytes: &[u8],
+    options: &ParseOptions,
+    mut events: Vec<Event>,
+) -> Result<Vec<Event>, Unmade>
+    requires limit { IsWithinLimit options.now.tab_size bytes.now }
+    requires start { Contains (M.rules machine.now (document options.now bytes.now)).starts Name.TextStart }
+    ensures events { IfOk result (λ new. HasChildren (M.rules machine.now) options.now bytes.now events.items new.items) }
+    ensures message { (m : _) → IsErrOf result (Unmade.Fault (Fault.Message m)) → HasRefusedChild (M.rules machine.now) options.now bytes.now events.items m }
+    ensures unready { IsErrOf result Unmade.NotReady → ¬ IsReady options.now.tab_size bytes.now (Some Content.Text) events.items }
+    ensures cause { ¬ IsErrOf result (Unmade.Fault Fault.Failed) }
+{
+    let text = Some(&Content::Text);
+    if !ready(alloc, events.as_slice(), bytes, options.tab_size, text)? {
+        return Err(Unmade::NotReady);
+    }
+    let Some(parse_state) = ParseState::new(bytes, options, machine) else {
+        unreachable!();
+    };
+    subtokenize(alloc, &mut events, &parse_state, text)?;
+    Ok(events)
+}

@@ -1,5 +1,0 @@
-use Rattle.mdevents_program.proofs.Prelude.{inr}
-use Rattle.mdevents_program.proofs.program.read_deep_by.Goals as goal
-
-pub returns-clause-message : goal.returns-clause-message
-returns-clause-message g c = λ m e. inr (_, c.in_ok-events.ensures.events, c.with_children.ensures.message m e)
