@@ -160,55 +160,85 @@ def files():
 
 
 def without(head):
-    """Returns the functions that the head says need no edit."""
-    return {tuple(m) for line in head for m in re.findall(r"^# without: (\w+) ([\w.]+): ", line)}
+    """Returns the functions that the head says need no edit; a star is all of a crate."""
+    return {tuple(m) for line in head for m in re.findall(r"^# without: (\w+) ([\w.*]+): ", line)}
+
+
+def kind(row):
+    """Returns which kind of folder a row's edit is in."""
+    return row.who if row.who == "gate" else "prover" if row.who in ("prover", "script") else "tests"
+
+
+def listed(rows):
+    """Holds the rows against the files."""
+    named = [(row.crate, f"{row.function}-{row.what}", kind(row)) for row in rows]
+    there = set(files())
+    yield from (f"wrong-bodies/LIST: twice: {' '.join(it)}" for it, times in collections.Counter(named).items() if times > 1)
+    yield from (f"wrong-bodies/LIST: no file of {' '.join(it)}" for it in sorted(set(named) - there))
+    yield from (f"wrong-bodies/LIST: no line for {' '.join(it)}" for it in sorted(there - set(named)))
+
+
+def is_tried(row):
+    """Returns whether it is known who tries a row's edit: a test must be there."""
+    if row.who in ("gate", "prover", "script", "call", "refusals"):
+        return True
+    crate, *modules, test = row.who.split("::")
+    source = f"{TOP}/crates/{crate}/src/{'/'.join(modules)}.rt"
+    return os.path.isfile(source) and bool(re.search(rf"#\[test\]\n *fn {test}\(", open(source, encoding="utf-8").read()))
+
+
+def stands(row, found, is_code, promise):
+    """Holds a row against what its edit turns, and against the promises of its edit on the gate's page."""
+    name, path = f"{row.function}-{row.what}", edit_of(row)
+    if is_code and not any(row.function in names(it) for it in found):
+        yield f"{path}: it turns {', '.join('.'.join(filter(None, (it.module, it.owner, it.name))) for it in found)}, and not what its name says"
+    if (row.who == "gate") != bool(promise):
+        yield f"{path}: an edit is in the gate if it breaks a promise of the gate's page, and only then"
+    elif row.promise not in (promise or ["-"]):
+        yield f"wrong-bodies/LIST: {name} has not the promise that the gate's page has: wrong-bodies/table.py"
+    if not is_tried(row):
+        yield f"wrong-bodies/LIST: no test {row.who}, which should reject {name}"
+
+
+def uncovered(seen, free):
+    """Returns the public functions that no edit turns, and the ones of the head that need not be there. Methods of traits are not asked."""
+    needed = set()
+    for crate in crates():
+        for path in sorted(glob.glob(f"{TOP}/crates/{crate}/src/**/*.rt", recursive=True)):
+            file = os.path.relpath(path, f"{TOP}/crates/{crate}")
+            for it in places(file, open(path, encoding="utf-8").read()):
+                name = ".".join(filter(None, (it.module, it.owner, it.name)))
+                if not it.public or it.trait or it.module in ("laws", "tests") or (crate, it) in seen:
+                    continue
+                excused = {(crate, name), (crate, "*")} & free
+                needed |= excused
+                if not excused:
+                    yield f"crates/{crate}/{file}: no wrong body of {name}"
+    yield from (f"wrong-bodies/LIST: its head need not name {name} of {crate}" for crate, name in sorted(free - needed))
 
 
 def disagreements():
     """Returns what of LIST, of the edits, of the sources and of the pages does not agree."""
     head, rows = read()
-    failed, table, seen, kept = [], promises(), set(), collections.defaultdict(list)
-    kinds = lambda row: row.who if row.who == "gate" else "prover" if row.who in ("prover", "script") else "tests"
-    listed = [(row.crate, f"{row.function}-{row.what}", kinds(row)) for row in rows]
-    failed += [f"wrong-bodies/LIST: twice: {' '.join(it)}" for it, times in collections.Counter(listed).items() if times > 1]
-    there = set(files())
-    failed += [f"wrong-bodies/LIST: no file of {' '.join(it)}" for it in sorted(set(listed) - there)]
-    failed += [f"wrong-bodies/LIST: no line for {' '.join(it)}" for it in sorted(there - set(listed))]
+    table, seen, kept = promises(), set(), set()
+    failed = list(listed(rows))
     for row in rows:
-        path = edit_of(row)
-        if (row.crate, f"{row.function}-{row.what}", kinds(row)) not in there:
+        if not os.path.isfile(f"{TOP}/{edit_of(row)}"):
             continue
-        texts, made = apply(f"{TOP}/{path}", f"{TOP}/crates/{row.crate}")
+        texts, made = apply(f"{TOP}/{edit_of(row)}", f"{TOP}/crates/{row.crate}")
         if texts is None:
-            failed.append(f"{path}: {made}")
+            failed.append(f"{edit_of(row)}: {made}")
             continue
         found, is_code = turned(made)
-        seen |= {(row.crate, it.file, it.owner, it.trait, it.name) for it in found} if is_code else set()
-        if is_code and not any(row.function in names(it) for it in found):
-            failed.append(f"{path}: it turns {', '.join(sorted({'.'.join(filter(None, (it.module, it.owner, it.name))) for it in found}))}, and not what its name says")
-        for promise in promised(row, table) if row.who == "gate" else []:
-            kept[promise].append(is_code)
-            if row.promise != promise:
-                failed.append(f"wrong-bodies/LIST: {row.function}-{row.what} has not the promise of the gate's page: {promise}")
-        if row.who == "gate" and not promised(row, table) or row.who != "gate" and row.promise != "-":
-            failed.append(f"{path}: an edit is in the gate if it breaks a promise of the gate's page, and only then")
-        tests, _, test = row.who.partition("::")
-        source = f"{TOP}/crates/{tests}/src/{'/'.join(test.split('::')[:-1])}.rt"
-        is_test = test and os.path.isfile(source) and re.search(rf"#\[test\]\n *fn {test.split('::')[-1]}\(", open(source, encoding="utf-8").read())
-        if not is_test and row.who not in ("gate", "prover", "script", "call", "refusals"):
-            failed.append(f"wrong-bodies/LIST: no test {row.who}, which {row.function}-{row.what} needs")
-    failed += [f"docs/maintaining/GATE.md: no edit of a body breaks the promise: {it}" for it in dict.fromkeys(p for p, _, _ in table) if not any(kept[it])]
-    failed += [f"docs/maintaining/GATE.md: no edit {crate}: {edit}" for promise, crate, edit in table if not any(row.crate == crate and promise in promised(row, [(promise, crate, edit)]) and row.who == "gate" for row in rows)]
-    free = without(head)
-    for crate in dict.fromkeys(row.crate for row in rows):
-        for path in sorted(glob.glob(f"{TOP}/crates/{crate}/src/**/*.rt", recursive=True)):
-            file = os.path.relpath(path, f"{TOP}/crates/{crate}")
-            for it in places(file, open(path, encoding="utf-8").read()):
-                name = ".".join(filter(None, (it.module, it.owner, it.name)))
-                is_free = (crate, name) in free or it.module in ("laws", "tests") or it.trait
-                if it.public and not is_free and (crate, it.file, it.owner, it.trait, it.name) not in seen:
-                    failed.append(f"crates/{crate}/{file}: no wrong body of {name}")
-    return failed
+        promise = promised(row, table)
+        failed += stands(row, found, is_code, promise)
+        if is_code:
+            seen |= {(row.crate, it) for it in found}
+            kept |= set(promise)
+    failed += [f"docs/maintaining/GATE.md: no edit of a body breaks the promise: {it}" for it in dict.fromkeys(it for it, _, _ in table) if it not in kept]
+    gate = [row for row in rows if row.who == "gate"]
+    failed += [f"docs/maintaining/GATE.md: no edit {it[1]}: {it[2]}" for it in table if not any(promised(row, [it]) for row in gate)]
+    return failed + list(uncovered(seen, without(head)))
 
 
 def update():
