@@ -5,6 +5,7 @@
 #![tactic(auto)]
 
 mod choose;
+pub mod laws;
 mod record;
 #[cfg(test)]
 mod tests;
@@ -21,7 +22,8 @@ use crate::record::{Record, write_records};
 use mdconstructs::{events_of, limit_of, options_with, read_text};
 use std::alloc::Global;
 
-/// The version of the functions, options and records. It changes with each of their layouts and meanings.
+/// The version of the functions, options and records. It changes with each of their layouts and meanings. A function that is added
+/// does not change it: a caller of that function cannot be linked to a library without it.
 pub const VERSION: u32 = 1;
 
 /// The document was read.
@@ -41,8 +43,18 @@ pub struct Answer {
     pub code: u32,
     /// [`VERSION`].
     pub version: u32,
-    /// How many events the document has. If there are more than records, the first events were written, as many as fit.
+    /// How many events the document has. If there are more than records, the first events were written, as many as fit. It is 0 if
+    /// the document was not read.
     pub count: usize,
+}
+
+/// The version of the library. A caller asks for it before its first call of the other functions, as these write to memory whose
+/// layout the version says.
+#[unsafe(no_mangle)]
+pub extern "C" fn limecove_version() -> u32
+    ensures { result ≡ VERSION }
+{
+    VERSION
 }
 
 /// Reads a whole document as text, and writes its events over the first records, as many as fit.
@@ -56,6 +68,7 @@ pub extern "C" fn limecove_read_text(
     ensures count { result.code ≡ READ → let g = text_document options.now bytes.now in result.count ≡ length (text_events g (whole_text g)) }
     ensures written { result.code ≡ READ → let g = text_document options.now bytes.now in records.new ≡ filled records.old (text_events g (whole_text g)) }
     ensures kept { result.code ≢ READ → records.new ≡ records.old }
+    ensures none { result.code ≢ READ → result.count ≡ 0 }
     ensures options { (result.code ≡ NO_SUCH_OPTIONS) ↔ (tab_of options.now.tab_size ≡ None) }
     ensures too_long { (result.code ≡ TOO_LONG) ↔ IsSomeAnd (tab_of options.now.tab_size) (λ tab. ¬ IsWithinLimit tab bytes.now) }
     ensures codes { result.code ≤ NO_SUCH_OPTIONS }
@@ -84,6 +97,7 @@ pub extern "C" fn limecove_read(
 ) -> Answer
     ensures read { result.code ≡ READ → HoldsEventsOf options.now bytes.now result.count records.old records.new }
     ensures kept { result.code ≢ READ → records.new ≡ records.old }
+    ensures none { result.code ≢ READ → result.count ≡ 0 }
     ensures options { (result.code ≡ NO_SUCH_OPTIONS) ↔ (choice_of options.now ≡ None) }
     ensures too_long { (result.code ≡ TOO_LONG) ↔ IsSomeAnd (choice_of options.now) (λ choice. ¬ IsWithinLimit choice.tab bytes.now) }
     ensures codes { result.code ≤ NO_SUCH_OPTIONS }

@@ -3,10 +3,11 @@
 use crate::choose::{Options, TextOptions};
 use crate::record::{NO_INDEX, Record};
 use crate::{
-    Answer, NO_SUCH_OPTIONS, OUT_OF_MEMORY, READ, VERSION, limecove_read, limecove_read_text,
+    Answer, NO_SUCH_OPTIONS, READ, VERSION, limecove_read, limecove_read_text, limecove_version,
 };
 use markdown::event::Name;
-use std::alloc::Global;
+use std::alloc::{AllocError, Global};
+use std::mem::size_of;
 
 /// What was in a record before a call.
 const OLD: Record = Record {
@@ -115,11 +116,8 @@ fn plain_code() -> [Record; 4] {
 }
 
 /// Whether a call returned that it read a document of this many events, and wrote these records: as many as fit below `room`,
-/// and nothing after them. A call may also run out of memory; then it must write nothing.
+/// and nothing after them. There is memory, so a call that runs out of it fails the test.
 fn holds(answer: Answer, events: &[Record], room: usize, records: &[Record]) -> bool {
-    if answer.code == OUT_OF_MEMORY {
-        return answer.count == 0 && records.iter().all(|record| *record == OLD);
-    }
     let written = events.len().min(room);
     answer
         == Answer {
@@ -205,4 +203,61 @@ fn options_that_choose_nothing_are_refused(rt: HostRuntime) {
     let answer = limecove_read_text(rt.alloc(), b"a", &no_tabs, &mut records);
     assert!(rt; answer == NOT_READ);
     assert!(rt; records.iter().all(|record| *record == OLD));
+}
+
+#[test]
+fn the_version_is_told(rt: HostRuntime) {
+    assert!(rt; limecove_version() == 1);
+}
+
+/// What crosses, with a value of its own in each field.
+fn crossing() -> (Record, Options, Answer) {
+    let record = Record {
+        kind: 1,
+        content: 2,
+        name: 3,
+        line: 4,
+        column: 5,
+        index: 6,
+        vs: 7,
+        previous: 8,
+        next: 9,
+    };
+    let text = TextOptions {
+        tab_size: 4,
+        code_text: 5,
+        autolink: 6,
+        character_escape: 7,
+    };
+    let options = Options {
+        machine: 1,
+        deep: 2,
+        cut: 3,
+        text,
+    };
+    let answer = Answer {
+        code: 1,
+        version: 2,
+        count: 3,
+    };
+    (record, options, answer)
+}
+
+/// `Debug` shows fields in the order of the source, and `#[repr(C)]` lays them out in it.
+#[test]
+fn fields_lie_in_their_order(rt: HostRuntime) -> Result<(), AllocError> {
+    let want =
+        "Record { kind: 1, content: 2, name: 3, line: 4, column: 5, index: 6, vs: 7, previous: 8, next: 9 }, \
+        Options { machine: 1, deep: 2, cut: 3, text: TextOptions { tab_size: 4, code_text: 5, autolink: 6, \
+        character_escape: 7 } }, Answer { code: 1, version: 2, count: 3 }";
+    let (record, options, answer) = crossing();
+    let made = format!(in rt.alloc(); "{record:?}, {options:?}, {answer:?}")?;
+    assert!(rt; made.as_str() == want);
+    Ok(())
+}
+
+#[test]
+fn sizes_are_those_of_the_header(rt: HostRuntime) {
+    assert!(rt; size_of::<Record>() == 56 && size_of::<Answer>() == 16);
+    assert!(rt; size_of::<Options>() == 40 && size_of::<TextOptions>() == 24);
 }
