@@ -10,7 +10,8 @@ for tool in rt ar; do
 done
 here=$(cd "$(dirname "$0")" && pwd)
 kit=$(dirname "$(rt doc)")
-(cd "$here/../crates/limecove" && rt lib "$@")
+# x86-64 is every processor of that kind. Without the flag the code would need x86-64-v2, and end by a signal where that is lacking.
+(cd "$here/../crates/limecove" && rt lib --cpu x86-64 "$@")
 rm -rf "$here/out"
 mkdir -p "$here/out"
 cp "$here/../crates/limecove/out/liblimecove.a" "$here/out"

@@ -1,9 +1,12 @@
 /* Limecove, the proved tokenizer engine, for C. Link out/liblimecove.a, which bindings/build.sh makes.
  *
+ * Ask for limecove_version() before the first call of another function: the others write to memory whose layout is that of their
+ * version.
+ *
  * The caller owns all memory that is passed. What a call takes for itself, it gives back before it returns. A call keeps no state,
  * so calls may run at the same time in several threads. A caller owes what the types say: a pointer is to as many bytes or records
- * as the length next to it says, it is not NULL (not even for none), and the records share no byte with the document or the options.
- * malloc, realloc and free are those of the program. */
+ * as the length next to it says, and the records share no byte with the document or the options. The document and the records may be
+ * NULL if their length is 0; the options may not. malloc, realloc and free are those of the program. */
 #ifndef LIMECOVE_H
 #define LIMECOVE_H
 
@@ -14,7 +17,8 @@
 extern "C" {
 #endif
 
-/* The version of this header. Each answer has that of the library. */
+/* The version of this header. limecove_version() and each answer have that of the library. It changes with each layout and meaning
+ * that changes, and not with a function that is added. */
 #define LIMECOVE_VERSION 1
 
 /* An index in a record's link that there is not. */
@@ -233,6 +237,9 @@ struct limecove_answer {
     uint32_t version; /* LIMECOVE_VERSION of the library */
     size_t count;     /* events of the document, also if there are more than records; 0 if it was not read */
 };
+
+/* The version of the library. If it is not LIMECOVE_VERSION, no other function may be called. */
+uint32_t limecove_version(void);
 
 /* Reads a document. Writes the first events over the first records, as many as fit, and nothing else. */
 struct limecove_answer limecove_read(const uint8_t *document, size_t document_len, const struct limecove_options *options,

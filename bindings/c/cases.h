@@ -12,6 +12,11 @@
         }                                                                                                                                  \
     } while (0)
 
+/* Each program calls it first. */
+static void ask_version(void) {
+    CHECK(limecove_version() == LIMECOVE_VERSION);
+}
+
 /* Random numbers, the same at each run (SplitMix64). */
 static uint64_t random_state = 1;
 

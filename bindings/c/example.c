@@ -2,6 +2,10 @@
 #include <stdio.h>
 
 int main(void) {
+    if (limecove_version() != LIMECOVE_VERSION) {
+        fprintf(stderr, "liblimecove.a has another version\n");
+        return 1;
+    }
     static const uint8_t document[] = "a `code` <https://b.c> \\* d\n";
     struct limecove_text_options options = LIMECOVE_DEFAULT_TEXT_OPTIONS;
     struct limecove_record records[64];
@@ -9,5 +13,5 @@ int main(void) {
     for (size_t i = 0; i < answer.count && i < 64; i++)
         if (records[i].name == LIMECOVE_NAME_CODE_TEXT)
             printf("%s code at line %zu, column %zu, byte %zu\n", records[i].kind ? "exit" : "enter", records[i].line, records[i].column, records[i].index);
-    return (int)answer.code;
+    return answer.code == LIMECOVE_READ ? 0 : 1;
 }

@@ -71,6 +71,7 @@ static void each_in_turn(size_t way, const uint8_t *document, size_t len, struct
 }
 
 int main(int argc, char **argv) {
+    ask_version();
     for (long n = argc > 1 ? atol(argv[1]) : 100; n > 0; n--) {
         size_t len;
         uint8_t *document = random_document(&len);

@@ -20,6 +20,23 @@ static void with_room(size_t way, const uint8_t *document, size_t len, struct li
     free(records);
 }
 
+/* NULL is a document of no bytes, and records of no room, in every way. */
+static void null_is_none(void) {
+    struct limecove_text_options text = LIMECOVE_DEFAULT_TEXT_OPTIONS;
+    struct limecove_record all[64], record;
+    const uint8_t *document = (const uint8_t *)"a `b`\n";
+    memset(&record, 0xa5, sizeof record);
+    for (size_t way = 0; way < WAYS; way++) {
+        struct limecove_answer answer = read_so(way, NULL, 0, text, 0, NULL, 0);
+        CHECK(answer.code == LIMECOVE_READ && answer.count == 0);
+        answer = read_so(way, NULL, 0, text, 1, &record, 1);
+        CHECK(answer.code == LIMECOVE_READ && answer.count == 0 && untouched(&record, sizeof record));
+        size_t count = read_so(way, document, 6, text, 0, all, 64).count;
+        answer = read_so(way, document, 6, text, 0, NULL, 0);
+        CHECK(answer.code == LIMECOVE_READ && answer.count == count);
+    }
+}
+
 /* Options that choose nothing: nothing is written. */
 static void refused(void) {
     struct limecove_record record;
@@ -30,11 +47,13 @@ static void refused(void) {
         struct limecove_answer answer = limecove_read((const uint8_t *)"a", 1, &options[i], &record, 1);
         CHECK(answer.code == LIMECOVE_NO_SUCH_OPTIONS && answer.count == 0 && untouched(&record, sizeof record));
     }
-    CHECK(limecove_read_text((const uint8_t *)"a", 1, &none, &record, 1).code == LIMECOVE_NO_SUCH_OPTIONS);
-    CHECK(untouched(&record, sizeof record));
+    struct limecove_answer answer = limecove_read_text((const uint8_t *)"a", 1, &none, &record, 1);
+    CHECK(answer.code == LIMECOVE_NO_SUCH_OPTIONS && answer.count == 0 && untouched(&record, sizeof record));
 }
 
 int main(int argc, char **argv) {
+    ask_version();
+    null_is_none();
     refused();
     for (long n = argc > 1 ? atol(argv[1]) : 200; n > 0; n--) {
         size_t len;
@@ -45,10 +64,8 @@ int main(int argc, char **argv) {
             size_t cut = below(5);
             size_t count = read_so(way, document, len, text, cut, all, 4096).count;
             CHECK(count <= 4096);
-            for (size_t room = 0; room < count; room += 1 + room / 3)
+            for (size_t room = 0; room <= count + 2; room++)
                 with_room(way, document, len, text, below(5), all, count, room);
-            with_room(way, document, len, text, below(5), all, count, count);
-            with_room(way, document, len, text, below(5), all, count, count + 1);
         }
         free(document);
     }

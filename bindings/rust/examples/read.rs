@@ -1,4 +1,5 @@
-//! Reads a file so many times, to be measured: `read MACHINE [--deep] FILE TIMES`. `bindings/measure.py` calls it.
+//! Reads a file so many times, to be measured, and prints how many events it has: `read MACHINE [--deep] FILE TIMES`.
+//! `bindings/measure.py` calls it, and `bindings/test.sh`.
 
 use limecove::{Machine, Options, tokenize};
 use std::{env, fs, hint};
@@ -19,7 +20,9 @@ fn main() {
         ..Options::default()
     };
     let document = fs::read(file).expect("a file");
+    let mut count = 0;
     for _ in 0..times.parse().expect("a number") {
-        hint::black_box(tokenize(&document, &options).expect("it is read"));
+        count = hint::black_box(tokenize(&document, &options).expect("it is read")).len();
     }
+    println!("{count}");
 }

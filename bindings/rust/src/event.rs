@@ -180,16 +180,20 @@ impl fmt::Display for Span {
 /// ```
 pub fn spans(events: &[Event]) -> Spans<'_> {
     Spans {
-        events: events.iter(),
-        open: Vec::new(),
+        events,
+        index: 0,
+        depth: 0,
     }
 }
 
-/// An iterator over spans, made by [`spans`].
+/// An iterator over spans, made by [`spans`]. It allocates nothing.
 #[derive(Clone, Debug)]
 pub struct Spans<'a> {
-    events: std::slice::Iter<'a, Event>,
-    open: Vec<&'a Event>,
+    events: &'a [Event],
+    /// Of the next event.
+    index: usize,
+    /// How many spans have begun before it, and have not ended.
+    depth: usize,
 }
 
 impl Iterator for Spans<'_> {
@@ -197,14 +201,16 @@ impl Iterator for Spans<'_> {
 
     fn next(&mut self) -> Option<Span> {
         loop {
-            let event = self.events.next()?;
+            let event = self.events.get(self.index)?;
+            self.index += 1;
             match event.kind() {
-                Kind::Enter => self.open.push(event),
+                Kind::Enter => self.depth += 1,
                 Kind::Exit => {
-                    let enter = self.open.pop()?;
+                    self.depth = self.depth.checked_sub(1)?;
+                    let enter = last_open(&self.events[..self.index - 1])?;
                     return Some(Span {
                         name: event.name(),
-                        depth: self.open.len(),
+                        depth: self.depth,
                         start: enter.point(),
                         end: event.point(),
                     });
@@ -212,4 +218,17 @@ impl Iterator for Spans<'_> {
             }
         }
     }
+}
+
+/// The last enter whose exit is not among these events.
+fn last_open(events: &[Event]) -> Option<&Event> {
+    let mut ended = 0;
+    for event in events.iter().rev() {
+        match event.kind() {
+            Kind::Exit => ended += 1,
+            Kind::Enter if ended == 0 => return Some(event),
+            Kind::Enter => ended -= 1,
+        }
+    }
+    None
 }

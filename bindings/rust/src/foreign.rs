@@ -1,10 +1,19 @@
-//! The functions of the static library, as `crates/limecove/src` declares them. Nothing compares the two declarations, so the tests
-//! of this crate call each.
+//! The functions of the static library, as `crates/limecove/src` declares them. `bindings/names.py --check` compares the fields and
+//! numbers of both declarations, and the tests of this crate call each function.
 //!
 //! A slice crosses as a pointer and a length. The allocator that the functions are given takes no bytes, so it is not passed.
 
 /// The version of these declarations.
 pub(crate) const VERSION: u32 = 1;
+
+/// The document was read.
+pub(crate) const READ: u32 = 0;
+/// The call ran out of memory.
+pub(crate) const OUT_OF_MEMORY: u32 = 1;
+/// The document is too long for its tab size.
+pub(crate) const TOO_LONG: u32 = 2;
+/// The options choose nothing.
+pub(crate) const NO_SUCH_OPTIONS: u32 = 3;
 
 /// An index in a record's link that there is not.
 pub(crate) const NO_INDEX: usize = usize::MAX;
@@ -52,6 +61,8 @@ pub(crate) struct Record {
 }
 
 unsafe extern "C" {
+    pub(crate) fn limecove_version() -> u32;
+
     pub(crate) fn limecove_read(
         document: *const u8,
         document_len: usize,

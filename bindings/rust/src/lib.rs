@@ -19,10 +19,12 @@ mod names;
 pub use crate::event::{Content, Event, Kind, Link, Point, Span, Spans, spans};
 use crate::foreign::{Answer, Record};
 pub use crate::names::{Machine, Name};
-use std::alloc::{Layout, alloc_zeroed};
+use std::alloc::{Layout, alloc_zeroed, realloc};
 use std::error;
 use std::fmt;
+use std::mem::ManuallyDrop;
 use std::num::NonZeroUsize;
+use std::sync::atomic::{AtomicBool, Ordering};
 
 /// How text is read. The default: code spans, autolinks and backslash escapes, and tab stops at every 4 columns.
 #[derive(Clone, Copy, Debug, PartialEq, Eq, Hash)]
@@ -98,6 +100,14 @@ impl error::Error for Error {}
 
 /// Reads a whole document.
 ///
+/// # Errors
+///
+/// As [`Error`] says. That memory ran out is an error too: neither this function nor [`spans`] aborts for it.
+///
+/// # Panics
+///
+/// If the library that is linked has another version. Nothing has been read or written then.
+///
 /// ```
 /// use limecove::{Machine, Options, tokenize};
 ///
@@ -129,6 +139,14 @@ pub fn tokenize(document: &[u8], options: &Options) -> Result<Vec<Event>, Error>
 }
 
 /// Reads a whole document as text, without paragraphs: code spans, autolinks and escapes, line endings, and all else as data.
+///
+/// # Errors
+///
+/// As those of [`tokenize`].
+///
+/// # Panics
+///
+/// As [`tokenize`].
 ///
 /// ```
 /// use limecove::{Name, TextOptions, spans, tokenize_text};
@@ -163,30 +181,54 @@ fn foreign_text(options: &TextOptions) -> foreign::TextOptions {
     }
 }
 
-/// The events that a call writes. It is made once if there is room for the events, and a second time if there is not.
+/// Panics if the library that is linked has another version than its declarations here. It is asked once, before the first call
+/// that writes: such a library may write records of another size.
+fn assert_version() {
+    static IS_SAME: AtomicBool = AtomicBool::new(false);
+    if !IS_SAME.load(Ordering::Relaxed) {
+        // SAFETY: the function takes nothing, and reads and writes nothing.
+        let version = unsafe { foreign::limecove_version() };
+        assert_eq!(
+            version,
+            foreign::VERSION,
+            "liblimecove.a has another version"
+        );
+        IS_SAME.store(true, Ordering::Relaxed);
+    }
+}
+
+/// For how many events there is room if the system does not give more.
+const FEW: usize = 16;
+
+/// The events that a call writes. It is made once if there is room for the events, and a second time if there is not. The room is
+/// guessed, and most of it is not needed. So it is done without if the system does not give it, or if it leaves the call too little.
 fn read(
     document: &[u8],
     mut call: impl FnMut(&mut [Event]) -> Answer,
 ) -> Result<Vec<Event>, Error> {
-    let mut events = zeroed(guess(document))?;
-    loop {
-        let answer = call(&mut events);
-        assert_eq!(
-            answer.version,
-            foreign::VERSION,
-            "liblimecove.a has another version"
-        );
-        match answer.code {
-            0 if answer.count <= events.len() => {
-                events.truncate(answer.count);
-                events.shrink_to_fit();
-                return Ok(events);
-            }
-            0 => events = zeroed(answer.count)?,
-            1 => return Err(Error::OutOfMemory),
-            2 => return Err(Error::TooLong),
-            _ => return Err(Error::Options),
+    assert_version();
+    let mut events = zeroed(guess(document)).or_else(|_| zeroed(FEW))?;
+    let mut answer = call(&mut events);
+    if answer.code == foreign::OUT_OF_MEMORY && events.len() > FEW {
+        drop(events);
+        events = zeroed(FEW)?;
+        answer = call(&mut events);
+    }
+    if answer.code == foreign::READ && answer.count > events.len() {
+        drop(events);
+        events = zeroed(answer.count)?;
+        answer = call(&mut events);
+    }
+    debug_assert_eq!(answer.version, foreign::VERSION);
+    match answer.code {
+        foreign::READ => {
+            events.truncate(answer.count);
+            Ok(fitted(events))
         }
+        foreign::OUT_OF_MEMORY => Err(Error::OutOfMemory),
+        foreign::TOO_LONG => Err(Error::TooLong),
+        foreign::NO_SUCH_OPTIONS => Err(Error::Options),
+        code => unreachable!("no answer has the code {code}"),
     }
 }
 
@@ -203,7 +245,7 @@ fn guess(document: &[u8]) -> usize {
         .chunks(255)
         .map(|piece| usize::from(sum(piece)))
         .sum();
-    ends.saturating_mul(10).saturating_add(16)
+    ends.saturating_mul(10).saturating_add(FEW)
 }
 
 /// Whether a span may begin or end at a byte like this.
@@ -227,20 +269,47 @@ fn zeroed(count: usize) -> Result<Vec<Event>, Error> {
     }
 }
 
+/// The events, in a block that has no room for more if the system gives one. If it does not, they stay where they are.
+fn fitted(events: Vec<Event>) -> Vec<Event> {
+    let (count, room) = (events.len(), events.capacity());
+    if count == 0 {
+        return Vec::new();
+    }
+    let Ok(layout) = Layout::array::<Event>(room) else {
+        return events;
+    };
+    let mut events = ManuallyDrop::new(events);
+    let block = events.as_mut_ptr();
+    // SAFETY: the block is of that layout, and is owned here alone. The smaller block has the first `count` events, and the old one
+    // is not used any more. If there is none, the old one is as it was.
+    unsafe {
+        let smaller = realloc(block.cast::<u8>(), layout, count * size_of::<Event>());
+        if smaller.is_null() {
+            return Vec::from_raw_parts(block, count, room);
+        }
+        Vec::from_raw_parts(smaller.cast::<Event>(), count, count)
+    }
+}
+
 #[cfg(test)]
 mod tests {
     use super::*;
+
+    /// An answer with this code and this many events.
+    fn answer(code: u32, count: usize) -> Answer {
+        Answer {
+            code,
+            version: foreign::VERSION,
+            count,
+        }
+    }
 
     /// How often a document is read if it has so many events.
     fn calls(document: &[u8], count: usize) -> usize {
         let mut calls = 0;
         let events = read(document, |_| {
             calls += 1;
-            Answer {
-                code: 0,
-                version: foreign::VERSION,
-                count,
-            }
+            answer(foreign::READ, count)
         });
         assert_eq!(events.unwrap().len(), count);
         calls
@@ -291,15 +360,45 @@ mod tests {
         }
     }
 
+    /// The rooms that calls get for a document, if it has so many events, and if a call runs out of memory where there is room for
+    /// more than so many.
+    fn rooms(document: &[u8], count: usize, most: usize) -> (Vec<usize>, Result<usize, Error>) {
+        let mut rooms = Vec::new();
+        let events = read(document, |events| {
+            rooms.push(events.len());
+            if events.len() > most {
+                answer(foreign::OUT_OF_MEMORY, 0)
+            } else {
+                answer(foreign::READ, count)
+            }
+        });
+        (rooms, events.map(|events| events.len()))
+    }
+
+    #[test]
+    fn a_guess_that_leaves_too_little_memory_is_given_back() {
+        assert_eq!(rooms(b"\n\n", 4, 36), (vec![36], Ok(4)));
+        assert_eq!(rooms(b"\n\n", 4, 35), (vec![36, FEW], Ok(4)));
+        assert_eq!(rooms(b"\n\n", 20, 35), (vec![36, FEW, 20], Ok(20)));
+        assert_eq!(
+            rooms(b"\n\n", 20, 19),
+            (vec![36, FEW, 20], Err(Error::OutOfMemory))
+        );
+        assert_eq!(rooms(b"", 4, 15), (vec![FEW], Err(Error::OutOfMemory)));
+    }
+
+    #[test]
+    fn events_take_no_more_room_than_they_need() {
+        let mut events = zeroed(1000).unwrap();
+        events.truncate(3);
+        let events = fitted(events);
+        assert_eq!((events.len(), events.capacity()), (3, 3));
+        assert_eq!(fitted(zeroed(0).unwrap()).capacity(), 0);
+    }
+
     #[test]
     fn codes_are_errors() {
-        let code = |code| {
-            read(b"", |_| Answer {
-                code,
-                version: foreign::VERSION,
-                count: 0,
-            })
-        };
+        let code = |code| read(b"", |_| answer(code, 0));
         assert_eq!(code(1), Err(Error::OutOfMemory));
         assert_eq!(code(2), Err(Error::TooLong));
         assert_eq!(code(3), Err(Error::Options));

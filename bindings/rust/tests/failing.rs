@@ -1,0 +1,138 @@
+//! Each allocation fails in turn, of this crate and of the library: a call then returns that it ran out of memory, or the events that it
+//! returns with enough memory. It never aborts. It has a `main` of its own, as no other thread may allocate meanwhile.
+//!
+//! `malloc`, `calloc` and `realloc` are those of this program: std's allocator calls them, and so does the library. The C library's
+//! own, glibc's, do their work.
+
+use limecove::{Error, Event, Machine, Options, TextOptions, spans, tokenize, tokenize_text};
+use std::ffi::c_void;
+use std::sync::atomic::{AtomicBool, AtomicIsize, AtomicUsize, Ordering::Relaxed};
+
+/// How many allocations succeed before one fails. None fails below 0.
+static LEFT: AtomicIsize = AtomicIsize::new(-1);
+/// Whether all that follow fail too.
+static STAYS: AtomicBool = AtomicBool::new(false);
+/// How many failed.
+static FAILED: AtomicUsize = AtomicUsize::new(0);
+
+unsafe extern "C" {
+    fn __libc_malloc(size: usize) -> *mut c_void;
+    fn __libc_calloc(count: usize, size: usize) -> *mut c_void;
+    fn __libc_realloc(block: *mut c_void, size: usize) -> *mut c_void;
+}
+
+/// Whether this allocation fails.
+fn fails() -> bool {
+    let left = LEFT.load(Relaxed);
+    if left > 0 || left == 0 && !STAYS.load(Relaxed) {
+        LEFT.store(left - 1, Relaxed);
+    }
+    FAILED.fetch_add(usize::from(left == 0), Relaxed);
+    left == 0
+}
+
+#[unsafe(no_mangle)]
+extern "C" fn malloc(size: usize) -> *mut c_void {
+    if fails() {
+        return std::ptr::null_mut();
+    }
+    // SAFETY: it is the C library's own `malloc`.
+    unsafe { __libc_malloc(size) }
+}
+
+#[unsafe(no_mangle)]
+extern "C" fn calloc(count: usize, size: usize) -> *mut c_void {
+    if fails() {
+        return std::ptr::null_mut();
+    }
+    // SAFETY: it is the C library's own `calloc`.
+    unsafe { __libc_calloc(count, size) }
+}
+
+/// # Safety
+///
+/// As of C's `realloc`.
+#[unsafe(no_mangle)]
+unsafe extern "C" fn realloc(block: *mut c_void, size: usize) -> *mut c_void {
+    if fails() {
+        return std::ptr::null_mut();
+    }
+    // SAFETY: it is the C library's own `realloc`, and the caller keeps its terms.
+    unsafe { __libc_realloc(block, size) }
+}
+
+/// What a call returns if the allocation after `left` others fails, and if it `stays` so also those after it. Then how many failed.
+fn failing<T>(left: isize, stays: bool, call: impl FnOnce() -> T) -> (T, usize) {
+    STAYS.store(stays, Relaxed);
+    FAILED.store(0, Relaxed);
+    LEFT.store(left, Relaxed);
+    let result = call();
+    LEFT.store(-1, Relaxed);
+    (result, FAILED.load(Relaxed))
+}
+
+/// How many calls ran out of memory, and how many managed without what they were refused.
+#[derive(Default)]
+struct Ends {
+    out: usize,
+    read: usize,
+}
+
+impl Ends {
+    /// Makes a call with each of its allocations failing, alone and with all after it.
+    fn of_each(&mut self, call: impl Fn() -> Result<Vec<Event>, Error>) {
+        let want = call().expect("there is memory");
+        for stays in [false, true] {
+            for left in 0.. {
+                let (result, failed) = failing(left, stays, &call);
+                match result {
+                    Ok(events) => {
+                        assert_eq!(events, want);
+                        let (count, refused) = failing(0, true, || spans(&events).count());
+                        assert_eq!((count, refused), (events.len() / 2, 0));
+                        if failed == 0 {
+                            break;
+                        }
+                        self.read += 1;
+                    }
+                    Err(error) => {
+                        assert!(error == Error::OutOfMemory && failed > 0);
+                        self.out += 1;
+                    }
+                }
+            }
+        }
+    }
+}
+
+fn main() {
+    let documents: [&[u8]; 5] = [
+        b"",
+        b"a `code` <https://b.c> \\* d\n> \te\r\nf",
+        &b"ab\n".repeat(40),
+        &b"`a` <b:c> ".repeat(20),
+        &b"`".repeat(500),
+    ];
+    let mut ends = Ends::default();
+    for document in documents {
+        for machine in Machine::ALL {
+            for deep in [false, true] {
+                if deep && !matches!(machine, Machine::Paragraphs | Machine::Text) {
+                    continue;
+                }
+                let options = Options {
+                    machine,
+                    deep,
+                    ..Options::default()
+                };
+                ends.of_each(|| tokenize(document, &options));
+            }
+        }
+        ends.of_each(|| tokenize_text(document, &TextOptions::default()));
+    }
+    assert!(ends.out > 0 && ends.read > 0);
+    println!(
+        "{} calls ran out of memory, and {} managed without",
+        ends.out, ends.read
+    );
+}
