@@ -7,8 +7,11 @@ same in each run too. Page faults are the ones for which nothing is read, less t
 memory that a run touches. (The greatest resident set of a process that this one starts would be this one's.) The bytes per second
 are from the fastest of five runs.
 
-usage: measure.py MDEVENTS MDBENCH [OTHER]. OTHER reads a document from standard input and writes the events of the machine of
-lines, as mdevents does without options.
+The last table has calls of the static library in place of runs: the instructions of a call of limecove_read, which also writes a
+record of each event, and of what mdevents does to make the events, without reading its input and without printing.
+
+usage: measure.py MDEVENTS MDBENCH ARCHIVE [OTHER]. ARCHIVE is archive.c with the static library. OTHER reads a document from standard
+input and writes the events of the machine of lines, as mdevents does without options.
 """
 
 import os
@@ -43,6 +46,20 @@ RUNS = [
     ("--machine deep", "one line", "a", (500, 1000, 2000)),
     ("--machine back", "plain", PLAIN, (10000, 100000)),
     ("--machine save", "plain", PLAIN, (10000, 100000)),
+]
+
+# the documents that the static library reads, with the options of mdevents that say the same
+CALLED = [
+    ("", "plain", PLAIN),
+    ("", "columns", COLUMNS),
+    ("", "tabs", TABS),
+    ("", "short", SHORT),
+    ("--machine paragraphs --deep", "quoted", QUOTED),
+    ("--machine text --deep", "plain", PLAIN),
+    ("--machine text --deep", "columns", COLUMNS),
+    ("--machine text --deep", "tabs", TABS),
+    ("--machine text --deep", "short", SHORT),
+    ("--machine text --deep", "markup", MARKUP),
 ]
 
 # what grows: the program, its options, what is made in it, its line, which is repeated
@@ -111,6 +128,30 @@ def instructions(program, options, document, counts):
     return whole, engine
 
 
+def making(program, options, document, counts):
+    """The instructions of all that the program does to make the events."""
+    valgrind("callgrind", [f"--callgrind-out-file={counts}"], program, options, document)
+    listed = subprocess.run(["callgrind_annotate", "--inclusive=yes", "--threshold=100", counts], capture_output=True, text=True, check=True)
+    found = re.findall(r"^ *([0-9,]+) \([ 0-9.]+%\)  .*::(?:events_of|read_as) ", listed.stdout, re.M)
+    return max(int(count.replace(",", "")) for count in found)
+
+
+def call(program, archive, folder):
+    """Prints the table of calls of the static library."""
+    counts = os.path.join(folder, "counts")
+    document = os.path.join(folder, "document")
+    size = 100000
+    print("| Options | Document | A call, instructions/byte | The same events in mdevents |")
+    print("|---|---|---|---|")
+    for options, name, line in CALLED:
+        with open(document, "w") as text:
+            text.write((line * (size // len(line) + 1))[:size])
+        words = options.split()
+        never, once = [instructions(archive, [document, times, *words], document, counts)[0] for times in ("0", "1")]
+        made = making(program, words, document, counts)
+        print(f"| {options or 'none'} | {name} | {(once - never) / size:.0f} | {made / size:.0f} |", flush=True)
+
+
 def grow(programs, folder):
     """Prints the table of what grows: the instructions for ten thousand and for a hundred thousand, and by how much they grow."""
     counts = os.path.join(folder, "counts")
@@ -172,6 +213,8 @@ if __name__ == "__main__":
         main(sys.argv[1], scratch)
         print()
         grow({"mdevents": sys.argv[1], "mdbench": sys.argv[2]}, scratch)
-        if len(sys.argv) > 3:
+        print()
+        call(sys.argv[1], sys.argv[3], scratch)
+        if len(sys.argv) > 4:
             print()
-            compare(sys.argv[1], sys.argv[3], scratch)
+            compare(sys.argv[1], sys.argv[4], scratch)

@@ -1,8 +1,9 @@
 #!/usr/bin/env bash
-# Builds the programs and prints tables of what they need: see measure.py. Needs rt, valgrind and python3.
+# Builds the programs and the static library, and prints tables of what they need: see measure.py. Needs rt, ar, cc, valgrind and
+# python3.
 # usage: bench/run.sh [OTHER]. OTHER is a program that is compared with mdevents, as one made from the Rust crate.
 set -eu
-for tool in rt valgrind callgrind_annotate python3; do
+for tool in rt ar cc valgrind callgrind_annotate python3; do
     if ! command -v "$tool" >/dev/null; then
         echo "bench: $tool is missing" >&2
         exit 1
@@ -20,8 +21,11 @@ build() {
 }
 
 log=$(mktemp)
-trap 'rm -f "$log"' EXIT
+archive=$(mktemp)
+trap 'rm -f "$log" "$archive"' EXIT
 # another program is built so, and measured by a script next to measure.py that prints a table of its own
 build mdevents
 build mdbench
-python3 "$here/measure.py" "$here/../crates/mdevents/out/mdevents" "$here/../crates/mdbench/out/mdbench" "$@"
+"$here/../bindings/build.sh" >"$log" 2>&1 || { cat "$log" >&2; exit 1; }
+cc -std=c99 -O2 -o "$archive" "$here/archive.c" "$here/../bindings/out/liblimecove.a"
+python3 "$here/measure.py" "$here/../crates/mdevents/out/mdevents" "$here/../crates/mdbench/out/mdbench" "$archive" "$@"
