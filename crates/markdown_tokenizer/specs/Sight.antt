@@ -1,4 +1,4 @@
--- What a state may look at.
+-- What a state sees of its place in the text. It may also look at the document, the events and what states share.
 use Rattle.std.specs.Prelude.{ℕ, zero, suc, Option, None, Some, slice_get}
 use Rattle.markdown_base.specs.declared.event.Point.{Point}
 use Rattle.markdown_base.specs.Virtual.{Seat}
