@@ -1,6 +1,6 @@
 //! Ranges of a document from outside: whether they can be pushed one after another.
 
-ghost use Rattle.std.specs.Prelude.{◌≡◌, ◌↔◌, true, IfSome, IsNone, IsTrue};
+ghost use Rattle.std.specs.Prelude.{◌≡◌, ◌↔◌, ◌∷◌, true, IfSome, IsNone, IsTrue};
 ghost use Rattle.markdown_base.specs.Places.{denotes_same, is_upto};
 ghost use Rattle.markdown_base.specs.Virtual.{IsWithinLimit};
 ghost use Rattle.markdown_tokenizer.specs.Ranges.{FollowOn, IsGapFrom, LeadsFrom, after_any};
@@ -23,25 +23,38 @@ pub fn follow_on(bytes: &[u8], tab_size: TabSize, end: Point, ranges: &[AfterGap
     requires limit { IsWithinLimit tab_size bytes.now }
     ensures { IsTrue result ↔ FollowOn tab_size bytes.now end ranges.now }
 {
-    let Some((range, rest)) = ranges.split_first() else {
-        return true;
-    };
-    let Some(start) = start_after(bytes, tab_size, end, range.0) else {
-        return false;
-    };
-    let Some(from) = point_at(bytes, tab_size, range.1) else {
-        return false;
-    };
-    let Some(to) = point_at(bytes, tab_size, range.2) else {
-        return false;
-    };
-    if !denote_same(bytes, tab_size, from, start) {
-        return false;
+    let mut place = end;
+    for range in ranges {
+        match end_after(bytes, tab_size, place, *range) {
+            Some(to) => place = to,
+            None => return false,
+        }
     }
-    if !is_up_to(bytes, tab_size, from, to) {
-        return false;
+    true
+}
+
+/// Where a text that ended at `end` ends after a range, whose gap is passed first. Returns `None` if the range cannot be pushed there.
+fn end_after(bytes: &[u8], tab: TabSize, end: Point, range: AfterGap) -> Option<Point>
+    requires limit { IsWithinLimit tab bytes.now }
+    ensures some { IfSome result (λ to. (rest : _) → FollowOn tab bytes.now end (range ∷ rest) ↔ FollowOn tab bytes.now to rest) }
+    ensures none { IsNone result → (rest : _) → ¬ FollowOn tab bytes.now end (range ∷ rest) }
+{
+    let Some(start) = start_after(bytes, tab, end, range.0) else {
+        return None;
+    };
+    let Some(from) = point_at(bytes, tab, range.1) else {
+        return None;
+    };
+    let Some(to) = point_at(bytes, tab, range.2) else {
+        return None;
+    };
+    if !denote_same(bytes, tab, from, start) {
+        return None;
     }
-    follow_on(bytes, tab_size, to, rest)
+    if !is_up_to(bytes, tab, from, to) {
+        return None;
+    }
+    Some(to)
 }
 
 /// Where a text that ended at `end` ends after the gap, if there is one. Returns `None` if the gap does not begin there.
