@@ -8,7 +8,7 @@ Works on a copy of the repository, from which it takes the other tests, and runs
 tests. Prints a row for each edit, and goes on: the test rejects it ("refused"), or passes over it ("PASSED"), or it can't be applied or
 compiled ("BAD EDIT"). Writes the commit of the crates into LIST for those that are rejected. The status is 1 if one is not.
 usage: wrong-bodies/by_tests.py [--old] [--keep] [--show] [WORD..], for the edits whose line in LIST has one of the words; --old is for
-those that have no commit, or since whose commit a source or the edit changed; with --keep LIST stays as it is; --show only prints them.
+those that have no commit, or since whose commit a source changed; with --keep LIST stays as it is; --show only prints them.
 """
 
 import os
@@ -128,9 +128,10 @@ def tried(group):
 
 
 def is_old(row):
-    """Returns whether a row has no commit, or a source or its edit changed since."""
-    words = ["git", "-C", table.TOP, "diff", "--quiet", row.commit, "--", "crates/*/src", "crates.txt", table.edit_of(row)]
-    return row.commit == "-" or bool(subprocess.run(words, capture_output=True).returncode)
+    """Returns whether LIST has no commit for a row, or a source changed since."""
+    commit = table.tried_at(row)
+    words = ["git", "-C", table.TOP, "diff", "--quiet", commit or "", "--", "crates/*/src", "crates.txt"]
+    return not commit or bool(subprocess.run(words, capture_output=True).returncode)
 
 
 def main(words):
@@ -152,7 +153,7 @@ def main(words):
         done = [row for row in came if came[row][0] == "refused"]
         if is_clean and "--keep" not in options and done:
             head, now = table.read()
-            table.write(head, [row._replace(commit=at) if row in done else row for row in now])
+            table.write(head, [row._replace(commit=table.stamp(row, at)) if row in done else row for row in now])
     print(f"# {len(rows) - bad} of {len(rows)} refused")
     return 1 if bad else 0
 

@@ -8,6 +8,7 @@ usage: wrong-bodies/table.py           updates LIST: a line for each new edit, n
 
 import collections
 import glob
+import hashlib
 import os
 import re
 import subprocess
@@ -33,6 +34,18 @@ def edit_of(row):
         is_prover = row.who in ("prover", "script")
         folder = f"wrong-bodies/{row.crate}" if is_prover else f"wrong-bodies/by-tests/{row.crate}"
     return f"{folder}/{row.function}-{row.what}.edit"
+
+
+def stamp(row, commit):
+    """Returns what LIST says of a row that was rejected at a commit: the commit, and the beginning of the sum of its edit."""
+    with open(f"{TOP}/{edit_of(row)}", "rb") as it:
+        return f"{commit}/{hashlib.sha256(it.read()).hexdigest()[:4]}"
+
+
+def tried_at(row):
+    """Returns the commit at which a row's edit, as it is now, was last rejected, or None."""
+    commit = row.commit.split("/")[0]
+    return commit if row.commit == stamp(row, commit) else None
 
 
 def read():
@@ -242,7 +255,7 @@ def disagreements():
 
 
 def update():
-    """Brings LIST up to the files and to the gate's page."""
+    """Brings LIST up to the files and to the gate's page. An edit that changed has no commit."""
     head, rows = read()
     table = promises()
     old = {(row.crate, row.function, row.what): row for row in rows}
@@ -252,6 +265,7 @@ def update():
         row = old.get((crate, function, what), Row(crate, function, what, "?", "-", "-"))
         who = kind if kind == "gate" else row.who if row.who not in ("gate", "?") else {"prover": "prover", "tests": "?"}[kind]
         row = row._replace(who=who)
+        row = row._replace(commit=row.commit if tried_at(row) else "-")
         new.append(row._replace(promise=" ".join(promised(row, table)[:1]) or "-" if kind == "gate" else "-"))
     write(head, new)
 

@@ -3,7 +3,7 @@
 
 usage: wrong-bodies/try.sh [--gate] [--since COMMIT | --old] [--keep] [--show] [CRATE..] [WORD..]
   CRATE, WORD     only edits of these crates; only edits whose name has one of these words
-  --since COMMIT  only edits that a change since COMMIT can reach
+  --since COMMIT  only edits that a change since COMMIT can reach, and edits that LIST has no commit for
   --old           only edits that a change can reach since the commit that LIST has for them, or that have none
   --gate          edits of the gate too
   --keep          LIST stays as it is
@@ -238,13 +238,12 @@ class Since:
 
     def __init__(self, commit):
         git = lambda *words: subprocess.run(["git", "-C", table.TOP, *words], capture_output=True, text=True)
-        found = git("diff", "--name-only", "--no-renames", commit, "--", "crates", "crates.txt", "wrong-bodies")
+        found = git("diff", "--name-only", "--no-renames", commit, "--", "crates", "crates.txt")
         if found.returncode:
             sys.exit(f"no commit {commit} here: {found.stderr.strip()}")
-        new = git("ls-files", "-o", "--exclude-standard", "--", "crates", "wrong-bodies").stdout.split()
+        new = git("ls-files", "-o", "--exclude-standard", "--", "crates").stdout.split()
         self.files, self.around = set(), set()
-        self.edits = {it for it in [*found.stdout.split(), *new] if it.endswith(".edit")}
-        for file in {*found.stdout.split(), *new} - self.edits:
+        for file in {*found.stdout.split(), *new}:
             if file == "crates.txt":
                 old = table.crates(git("show", f"{commit}:{file}").stdout)
                 self.around |= {crate for crate, uses in table.crates().items() if old.get(crate) != uses}
@@ -259,7 +258,7 @@ class Since:
     def reaches(self, edit):
         """Returns whether a change can reach an edit."""
         crate = edit.row.crate
-        if edit.path in self.edits or self.around & {crate, *table.below(crate)}:
+        if self.around & {crate, *table.below(crate)}:
             return True
         proofs = [f"crates/{crate}/proofs/{it.module.replace('.', '/')}/" for it in edit.found]
         names = {it.name for it in edit.found}
@@ -268,16 +267,14 @@ class Since:
 
 
 def is_old(edits):
-    """Returns the edits that a change can reach since the commit that LIST has for them, or that have none."""
+    """Returns the edits that have no commit in LIST, or that a change can reach since."""
     since = {}
     for it in edits:
-        if it.row.commit == "-":
+        commit = table.tried_at(it.row)
+        if commit and commit not in since:
+            since[commit] = Since(commit)
+        if not commit or since[commit].reaches(it):
             yield it
-        else:
-            known = since.setdefault(it.row.commit, None) or Since(it.row.commit)
-            since[it.row.commit] = known
-            if known.reaches(it):
-                yield it
 
 
 def main(words):
@@ -290,7 +287,7 @@ def main(words):
     edits = [it for it in edits if (not wanted or it.row.crate in wanted) and (not parts or any(part in it.path for part in parts))]
     if commit:
         since = Since(commit)
-        edits = [it for it in edits if since.reaches(it)]
+        edits = [it for it in edits if since.reaches(it) or not table.tried_at(it.row)]
     if "--old" in given:
         edits = list(is_old(edits))
     if "--show" in given:
@@ -311,7 +308,7 @@ def main(words):
             if is_clean and "--keep" not in given:
                 done = {it.row._replace(commit="") for it in own if it.result == "refused"}
                 head, rows = table.read()
-                table.write(head, [row._replace(commit=at) if row._replace(commit="") in done else row for row in rows])
+                table.write(head, [row._replace(commit=table.stamp(row, at)) if row._replace(commit="") in done else row for row in rows])
     bad = [it for it in edits if it.result != "refused"]
     print(f"# {len(edits) - len(bad)} of {len(edits)} refused, {time.time() - begun:.0f} seconds; not so:")
     for it in bad:
