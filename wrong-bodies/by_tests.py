@@ -17,6 +17,7 @@ import shutil
 import subprocess
 import sys
 import tempfile
+import time
 
 sys.dont_write_bytecode = True
 import table  # noqa: E402
@@ -146,10 +147,12 @@ def main(words):
         return 0
     bad = 0
     for group in groups(rows):
+        begun = time.time()
         came = tried(group)
         for row, (result, why) in came.items():
             print(f"{result:<8}  {table.edit_of(row)}  {why}", flush=True)
             bad += result != "refused"
+        print(f"# {len(group)} edits together, {time.time() - begun:.0f} seconds", flush=True)
         done = [row for row in came if came[row][0] == "refused"]
         if is_clean and "--keep" not in options and done:
             head, now = table.read()
