@@ -45,6 +45,7 @@ pub use Rattle.markdown_tokenizer.specs.View
 pub use Rattle.markdown_tokenizer.specs.Cursor
 pub use Rattle.markdown_tokenizer.specs.Made
 pub use Rattle.markdown_tokenizer.specs.LawStatements
+pub use Rattle.markdown_tokenizer.specs.Alike
 pub use Rattle.markdown_tokenizer.specs.Lent
 pub use Rattle.markdown_tokenizer.specs.Cuts
 pub use Rattle.markdown_tokenizer.specs.Gaps

@@ -1,4 +1,5 @@
 -- Runs of a tokenizer, from its start to its end.
+pub mod Alike
 pub mod Cuts
 pub mod Ranges
 pub mod Resolvers

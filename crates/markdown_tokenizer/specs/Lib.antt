@@ -18,6 +18,7 @@ pub mod View
 pub mod Cursor
 pub mod Made
 pub mod LawStatements
+pub mod Alike
 pub mod Lent
 pub mod Cuts
 pub mod Gaps

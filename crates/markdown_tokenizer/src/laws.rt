@@ -2,6 +2,7 @@
 //!
 //! Each is a function that does nothing, whose contract is the law.
 
+ghost use Rattle.markdown_tokenizer.specs.Alike.{CallsAreAlike};
 ghost use Rattle.markdown_tokenizer.specs.Engine.{HasOneEnd};
 ghost use Rattle.markdown_tokenizer.specs.LawStatements.{CutsLeaveNoTrace, PushesAreOne, ChoicesPutBack, PushesInOneWay};
 ghost use Rattle.markdown_tokenizer.specs.Reserves.{ReservesAreEnough};
@@ -46,4 +47,10 @@ pub fn reserves_are_enough<M: Machine>()
 /// What was read turn by turn need not be read again on a longer text, also of another document, on which calls are alike.
 pub fn turns_are_kept<R, D>()
     ensures { TurnsAreKept R D }
+{}
+
+/// If a machine looks no further than the byte that waits, its calls at the bytes of a text are the same in a document that begins
+/// alike.
+pub fn calls_are_alike<M: Machine>()
+    ensures { (m : _) → CallsAreAlike (M.rules m) }
 {}

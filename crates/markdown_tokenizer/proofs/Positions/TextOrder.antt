@@ -92,7 +92,8 @@ module _ (g : Given) (d : 0 < g.tab) where
   pieces-order text [] h fits = h
   pieces-order text (piece ∷ rest) h fits = pieces-order (followed_by g text piece) rest (piece-order text piece h fits.0) fits.1
 
-text-order : (g : Given) (text : Text) → IsText g text → AreInOrder g.bytes text.seats × AllByRecursion (λ s. stands_before s.point text.start ≡ false) text.seats
+-- the virtual bytes of a text are in order, and none is before its start
+pub text-order : (g : Given) (text : Text) → IsText g text → AreInOrder g.bytes text.seats × AllByRecursion (λ s. stands_before s.point text.start ≡ false) text.seats
 text-order g text is =
     let some : 0 < g.tab = omega (arith, is.document.tab.0) in
     let place = place-of-point g.tab g.bytes some text.start is.starts in
