@@ -25,6 +25,7 @@ pub use Rattle.markdown_edits.specs.Spliced
 pub use Rattle.markdown_edits.specs.Stored
 pub use Rattle.markdown_edits.specs.Survivors
 pub use Rattle.markdown_edits.specs.Woven
+pub use Rattle.markdown_tokenizer.specs.AtPlaces
 pub use Rattle.markdown_tokenizer.specs.Text
 pub use Rattle.markdown_tokenizer.specs.Configuration
 pub use Rattle.markdown_tokenizer.specs.Sight

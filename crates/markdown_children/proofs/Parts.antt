@@ -1,4 +1,5 @@
 -- Parts of a child, and the edits that put them in their place.
+pub mod AtPlaces
 pub mod Edits
 pub mod InShape
 pub mod Kept

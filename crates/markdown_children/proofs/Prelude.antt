@@ -59,6 +59,7 @@ pub use Rattle.markdown_tokenizer.proofs.Positions.Standing.{IsAmong}
 pub use Rattle.markdown_tokenizer.proofs.Readings.Bounds.{one-end}
 pub use Rattle.markdown_tokenizer.proofs.Runs.Whole.{err-if, ok-if}
 pub use Rattle.markdown_tokenizer.proofs.Runs.Working.{holds-on, leads-refl, leads-trans}
+pub use Rattle.markdown_tokenizer.specs.AtPlaces.{AreAtPlaces}
 pub use Rattle.markdown_tokenizer.specs.Configuration.{Configuration, TokenizerValue, start_configuration, start_seen}
 pub use Rattle.markdown_tokenizer.specs.Engine.{CanPush, ForPoints, IsFlushed, IsPushed, IsRefused, IsWellFormed, KeepsOutcome, LeadsOn, budget, given_by}
 pub use Rattle.markdown_tokenizer.specs.Lawful.{IsLawful}

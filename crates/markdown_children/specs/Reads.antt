@@ -18,11 +18,12 @@ use Rattle.markdown_tokenizer.specs.declared.subtokenize.Subresult.{Subresult}
 use Rattle.markdown_tokenizer.specs.declared.tokenizer.fault.Fault.{Fault}
 use Rattle.markdown_tokenizer.specs.declared.tokenizer.fault.Fault.TheVariants.{Memory, Failed}
 use Rattle.markdown_tokenizer.specs.declared.tokenizer.fault.Fault.TheVariants as fault
+use Rattle.markdown_tokenizer.specs.AtPlaces.{AreAtPlaces}
 use Rattle.markdown_tokenizer.specs.Text.{Given, Text as TextOf, Piece, pushed, passed, empty_text, followed_by_all, CanFollow}
 use Rattle.markdown_tokenizer.specs.Configuration.{Configuration, start_configuration}
 use Rattle.markdown_tokenizer.specs.Rules.{Rules}
 use Rattle.markdown_tokenizer.specs.Reading.{Reading, EndsIn}
-use Rattle.markdown_tokenizer.specs.Resolving.{IsResolved, IsResolvingRefused, IsInShape}
+use Rattle.markdown_tokenizer.specs.Resolving.{IsResolved, IsResolvingRefused, IsInShape, LeavesEvents}
 use Rattle.markdown_tokenizer.specs.Engine.{IsWellFormed, given_of}
 use Rattle.markdown_tokenizer.specs.declared.parser.ParseState.{ParseState}
 use Rattle.markdown_edits.specs.SpanWalks.{IsLongestRunTo}
@@ -99,7 +100,7 @@ module _ {R D : Type 0} (g : Given) (rules : Given → Rules R D) where
     pub within : r.calls ≤ (rules g).cost (text_from g events c) (start_configuration flag) [] (Next start)
 
   -- The child of the chain that begins at c: what resolvers make of its reading. The events are well formed before resolvers, and in shape
-  -- (`IsInShape`) after them
+  -- (`IsInShape`) after them; they still stand at places if resolving changes none
   pub record IsChild (events : List Event) (c : ℕ) (child : Child) : Type 0 where
     pub result : Reading R D
     pub read : IsRead events c result
@@ -107,7 +108,8 @@ module _ {R D : Type 0} (g : Given) (rules : Given → Rules R D) where
     pub final : Configuration R D
     pub resolved : IsResolved (rules g).resolver g (text_from g events c) true result.configuration final child.found
     pub left : child.events ≡ final.events
-    pub well_formed : IsWellFormed g.bytes result.configuration
+    pub well_formed : IsWellFormed g result.configuration
+    pub at_places : LeavesEvents true result.configuration → AreAtPlaces g.tab g.bytes child.events
     pub in_shape : IsInShape child.events
 
   -- The reading of the chain that begins at c, or a resolver after it, ends in this message
@@ -128,13 +130,15 @@ module _ {R D : Type 0} (g : Given) (rules : Given → Rules R D) where
   AreChildren events cs children = AllZip (IsChild events) cs children
 
   -- What `subtokenize` leaves: the list with the children of all chains that fit. It is balanced, and its links are in shape. Its void
-  -- spans are empty if they are in the old list and in the children, and no chunks tear one
+  -- spans are empty if they are in the old list and in the children, and no chunks tear one. Its events stand at places if those of the
+  -- old list and of the children do
   pub record IsSubtokenized (wanted : Option Content) (old new : List Event) (sub : Subresult) : Type 0 where
     pub children : List Child
     pub read : AreChildren old (fitting_starts wanted old) children
     pub events : new ≡ with_children wanted old (lists children)
     pub in_shape : IsInShape new
     pub tight : IsVoidTight old → AllByRecursion IsVoidTight (lists children) → NoneTorn wanted old (lists children) → IsVoidTight new
+    pub at_places : AreAtPlaces g.tab g.bytes old → AllByRecursion (AreAtPlaces g.tab g.bytes) (lists children) → AreAtPlaces g.tab g.bytes new
     pub stays : StaysUnlessRemoved (child_changes wanted old (lists children)) old
     pub links : KeepsLinks (child_changes wanted old (lists children)) old
     pub done : (sub.done ≡ true) ↔ (fitting_starts wanted old ≡ [])

@@ -1,4 +1,5 @@
 -- The fields of a tokenizer, call by call.
+pub mod AtPlaces
 pub mod Changes
 pub mod Choices
 pub mod Fields

@@ -7,7 +7,7 @@ pub use Rattle.std.proofs.lemmas.Bool.{and_parts, cases_lt, eqb-true, false_from
 pub use Rattle.std.proofs.lemmas.Bool.Decides.{nat_tests}
 pub use Rattle.std.proofs.lemmas.Grind.{flat_map-append}
 pub use Rattle.std.proofs.lemmas.List.{append-nil, append_cancel_left, drop_all, drop_more, get_or_append_left, get_or_push, length-map, length_push, map-append, reverse-append, take-append-le, take-map, take-take}
-pub use Rattle.std.proofs.lemmas.List.Elements.{All-nil, All-push, All-weaker, Contains-append_right, filter-append}
+pub use Rattle.std.proofs.lemmas.List.Elements.{All-nil, All-push, All-take, All-weaker, Contains-append_right, filter-append}
 pub use Rattle.std.proofs.lemmas.List.Folds.{find-append}
 pub use Rattle.std.proofs.lemmas.List.Quantifiers.{all_pairs_push}
 pub use Rattle.std.proofs.lemmas.List.Sorted.{IsPartitionPoint-from_clause, IsPartitionedBy-ltb}
@@ -76,6 +76,7 @@ pub use Rattle.markdown_tokenizer.specs.Calls.{CanExit, consumed, with_enter, wi
 pub use Rattle.markdown_tokenizer.specs.Configuration.{Choice, Configuration, Local, Saved, Step, TokenizerValue, at_configuration, start_configuration, start_seen}
 pub use Rattle.markdown_tokenizer.specs.Cursor.{Bounds, CanMove, IsNextByte, IsNextSeat, IsPlace, IsQuick, IsSeatAt, begins_pair, end_at, goes_on, is_after_pair, is_before_pair, moved, rest_at}
 pub use Rattle.markdown_tokenizer.specs.Cuts.{cuts_every, is_cut, place_of}
+pub use Rattle.markdown_tokenizer.specs.AtPlaces.{AreAtPlaces}
 pub use Rattle.markdown_tokenizer.specs.Engine.{AreCuts, CanPush, FollowInOrder, ForPoints, HoldsOf, IsFlushed, IsPushed, IsRefused, IsRun, IsRunRefused, IsWellFormed, KeepsOutcome, LeadsOn, budget, given_by, given_of, whole_text}
 pub use Rattle.markdown_tokenizer.specs.Gaps.{AreSorted, IsOutside, IsPlainUntil, IsSkip, is_kept, is_kept_by, kept_between, resumed, skip_of}
 pub use Rattle.markdown_tokenizer.specs.Lawful.{ConsumesOnce, CostPays, DidStep, EndsWhenRead, IsAsFar, IsLawful, KeepsInvariant, OnlyAdds, ResolversKeep, stepped}
@@ -84,7 +85,7 @@ pub use Rattle.markdown_tokenizer.specs.Made.{IsMade, VoidExitsFollow, last_kind
 pub use Rattle.markdown_tokenizer.specs.Plain.{HaveNoLinks, IsPlain, KeepsPlain, NothingResolves, plain}
 pub use Rattle.markdown_tokenizer.specs.Ranges.{AfterGap, FollowOn, IsGapFrom, IsRangeFrom, after_any, after_gap}
 pub use Rattle.markdown_tokenizer.specs.Reading.{EndsIn, after_choices, fed, more_calls, outcome, read, read_step, restored, settle, settled_at, unfed}
-pub use Rattle.markdown_tokenizer.specs.Resolving.{IsInShape, IsResolved, IsResolvingRefused, Resolved, found, refused, resolved_by, resolving, taken, with_more}
+pub use Rattle.markdown_tokenizer.specs.Resolving.{IsInShape, IsResolved, IsResolvingRefused, LeavesEvents, Resolved, found, refused, resolved_by, resolving, taken, with_more}
 pub use Rattle.markdown_tokenizer.specs.Rules.{Rules}
 pub use Rattle.markdown_tokenizer.specs.Sight.{Sight, byte_of, current_of, end_or, end_place, point_of, point_or, seat_before, sight, sight_in, sight_of}
 pub use Rattle.markdown_tokenizer.specs.Text.{CanFollow, FitsAfter, Given, IsDocument, IsText, Piece, Text, empty_text, followed_by, followed_by_all, in_range, passed, pushed}

@@ -14,12 +14,13 @@ use Rattle.markdown_tokenizer.specs.declared.subtokenize.Subresult.{Subresult}
 use Rattle.markdown_tokenizer.specs.declared.waiting.Waits.TheVariants.{Nothing}
 use Rattle.markdown_tokenizer.specs.declared.waiting.Phase.TheVariants as phase
 use Rattle.markdown_tokenizer.specs.declared.parser.ParseState.{ParseState}
+use Rattle.markdown_tokenizer.specs.AtPlaces.{AreAtPlaces}
 use Rattle.markdown_tokenizer.specs.Text.{Given, Text, Piece, IsText, pushed, FitsAfter, CanFollow, followed_by, followed_by_all}
 use Rattle.markdown_tokenizer.specs.Configuration.{Configuration, Choice, TokenizerValue, start_configuration}
 use Rattle.markdown_tokenizer.specs.Rules.{Rules}
 use Rattle.markdown_tokenizer.specs.Reading.{Reading, EndsIn}
 use Rattle.markdown_tokenizer.specs.Turns.{turn, Turns, stand_of}
-use Rattle.markdown_tokenizer.specs.Resolving.{IsResolved, IsResolvingRefused, IsInShape}
+use Rattle.markdown_tokenizer.specs.Resolving.{IsResolved, IsResolvingRefused, IsInShape, LeavesEvents}
 
 module _ {M R D : Type 0} (rules : Rules R D) where
   -- the calls made, and the calls that a state and the waiting choices may still take on a text
@@ -48,11 +49,12 @@ module _ {M R D : Type 0} (g : Given) (rules : Rules R D) where
   KeepsOutcome old state new answer =
       (rest : List Piece) → CanFollow g new.text rest → LeadsOn (followed_by_all g new.text rest) old state new answer
 
--- The events are balanced, each void span is empty, and their places are in order
-pub record IsWellFormed (bytes : List ℕ) {R D : Type 0} (k : Configuration R D) : Type 0 where
+-- The events are balanced, each void span is empty, and each event stands at a place of the document; these are in order
+pub record IsWellFormed (g : Given) {R D : Type 0} (k : Configuration R D) : Type 0 where
   pub balanced : IsBalanced k.events
   pub void_tight : IsVoidTight k.events
-  pub in_order : IsInOrder bytes k.events
+  pub at_places : AreAtPlaces g.tab g.bytes k.events
+  pub in_order : IsInOrder g.bytes k.events
 
 -- a range of the document, given by the places of its ends, each an index and a number in a tab, can be put at the end of a text
 abbrev pub CanPush : Given → Text → (from to : ℕ × ℕ) → Type 0
@@ -86,7 +88,7 @@ module _ {M R D : Type 0} (rules : Rules R D) where
 
   -- What a flush leaves and returns if it succeeds: what resolving makes of the configuration in which the reading ends. Without resolving
   -- that is the configuration without the definitions, which are returned. The events are well formed before resolvers, and in shape
-  -- (`IsInShape`) after them.
+  -- (`IsInShape`) after them; they still stand at places if resolving changes none.
   pub record IsFlushed (resolve : Bool) (old : TokenizerValue M R D) (state : State)
       (new : TokenizerValue M R D) (sub : Subresult) : Type 0 where
     pub given : new.given ≡ old.given
@@ -100,8 +102,9 @@ module _ {M R D : Type 0} (rules : Rules R D) where
     pub resolved : IsResolved rules.resolver old.given old.text resolve result.configuration new.configuration sub
     pub phase : new.phase ≡ cond resolve phase.Resolved phase.Reading
     pub settled : new.choices ≡ []
-    pub before : IsWellFormed old.given.bytes result.configuration
-    pub well_formed : resolve ≡ false → IsWellFormed old.given.bytes new.configuration
+    pub before : IsWellFormed old.given result.configuration
+    pub well_formed : resolve ≡ false → IsWellFormed old.given new.configuration
+    pub at_places : LeavesEvents resolve result.configuration → AreAtPlaces old.given.tab old.given.bytes new.configuration.events
     pub in_shape : resolve ≡ true → IsInShape new.configuration.events
 
   -- A flush returns this message: the reading ends in it, or a resolver after the reading
@@ -154,7 +157,7 @@ module _ {R D : Type 0} (g : Given) (rules : Given → Rules R D) where
   StartEndsIn start r = EndsIn g (rules g).step (whole_text g) 0 (start_configuration false) [] (Next start) r
 
   -- What a run returns: the events and definitions of the one reading of the whole text, within its cost of calls, and then of its
-  -- resolvers
+  -- resolvers. The events stand at places if resolving changes none
   pub record IsRun (resolve : Bool) (start : Name) (list : List Event) (sub : Subresult) : Type 0 where
     pub result : Reading R D
     pub ends : StartEndsIn start result
@@ -162,7 +165,8 @@ module _ {R D : Type 0} (g : Given) (rules : Given → Rules R D) where
     pub final : Configuration R D
     pub resolved : IsResolved (rules g).resolver g (whole_text g) resolve result.configuration final sub
     pub events : list ≡ final.events
-    pub well_formed : IsWellFormed g.bytes result.configuration
+    pub well_formed : IsWellFormed g result.configuration
+    pub at_places : LeavesEvents resolve result.configuration → AreAtPlaces g.tab g.bytes list
     pub in_shape : resolve ≡ true → IsInShape list
     pub within : result.calls ≤ (rules g).cost (whole_text g) (start_configuration false) [] (Next start)
 

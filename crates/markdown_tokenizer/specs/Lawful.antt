@@ -106,7 +106,7 @@ module _ {R D : Type 0} (g : Given) (rules : Rules R D) where
   -- keeps it for the ones that are left, and keeps the position and the stack. When none is left, the edits can be made, and leave the
   -- events in shape.
   pub record ResolversKeep : Type 0 where
-    pub at_end : (text : Text) (k : Configuration R D) → IsText g text → IsWellFormed g.bytes k → rules.holds text k [] Ok
+    pub at_end : (text : Text) (k : Configuration R D) → IsText g text → IsWellFormed g k → rules.holds text k [] Ok
         → rules.resolves text k.local.resolvers (with_resolvers (taken k) [])
     pub by_resolvers : (text : Text) (r : R) (rs : List R) (k new : Configuration R D) (more : Option Subresult) → IsText g text
         → rules.resolves text (r ∷ rs) k → rules.resolver (sight g text k) k r ≡ done new more

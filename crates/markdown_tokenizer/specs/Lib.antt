@@ -1,3 +1,4 @@
+pub mod AtPlaces
 pub mod Text
 pub mod Configuration
 pub mod Sight

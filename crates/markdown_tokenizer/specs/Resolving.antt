@@ -43,6 +43,11 @@ module _ {R D : Type 0} where
   abbrev pub edits_made : Configuration R D → Configuration R D
   edits_made k = record k { events = edited k.local.map k.events; local = record k.local { map = [] } }
 
+  -- resolving changes no event: it is not asked for, or no resolver is registered and no edit waits
+  abbrev pub LeavesEvents : Bool → Configuration R D → Type 0
+  LeavesEvents false k = Unit {0}
+  LeavesEvents true k = (k.local.resolvers ≡ []) × (k.local.map ≡ [])
+
   -- the edits that wait can be made: each ends before the next begins, and link ends are indices into the list
   abbrev pub CanBeEdited : Configuration R D → Type 0
   CanBeEdited k = AreDisjoint 0 k.local.map (length k.events) × All (EndsBelow (length k.events)) k.events

@@ -23,6 +23,7 @@ use Rattle.markdown_tokenizer.specs.declared.waiting.Progress.{Progress}
 use Rattle.markdown_tokenizer.specs.declared.waiting.AttemptKind.{AttemptKind}
 use Rattle.markdown_tokenizer.specs.declared.parser.ParseState.{ParseState}
 use Rattle.markdown_tokenizer.specs.declared.tokenizer.Tokenizer.TheInside.{Inside}
+use Rattle.markdown_tokenizer.specs.AtPlaces.{AreAtPlaces}
 use Rattle.markdown_tokenizer.specs.Text.{Given, Text, IsText}
 use Rattle.markdown_tokenizer.specs.Configuration.{Configuration, Choice, Saved, TokenizerValue}
 use Rattle.markdown_tokenizer.specs.Calls.{saved_at}
@@ -209,6 +210,7 @@ pub record IsSound {M R D : Type 0} (same : R → R → Bool) (t : Inside M R D)
       → IsMade t.parse_state.now.bytes.now t.events.items t.stack.items
       (shown t.parse_state.now.bytes.now t.after_previous)
       (shown t.parse_state.now.bytes.now (standing t.skips t.after_previous t.waits))
+  pub at_places : t.phase ≡ Reading → AreAtPlaces (tab_of t.parse_state.now) t.parse_state.now.bytes.now t.events.items
   pub kept_choices : AreNested
       (IsProgress t.phase (tab_of t.parse_state.now) t.parse_state.now.bytes.now t.skips (text_within t)
       t.events.items t.stack.items t.closed)

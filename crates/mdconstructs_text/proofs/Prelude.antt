@@ -44,7 +44,7 @@ pub use Rattle.markdown_children.specs.Chains.{begins, chain_of, content_at, fit
 pub use Rattle.markdown_children.specs.Children.{chain_changes, child_changes, part_changes, with_children}
 pub use Rattle.markdown_children.specs.LawStatements.{AreSpaced, IsWholeFrom, LeadOnFrom}
 pub use Rattle.markdown_children.specs.Parts.{divided_over, front_until, parts}
-pub use Rattle.markdown_children.specs.Reads.{AreChildren, Child, lists, pieces_behind, pieces_of, start_name, text_of_chain}
+pub use Rattle.markdown_children.specs.Reads.{AreChildren, Child, IsChild, lists, pieces_behind, pieces_of, start_name, text_of_chain}
 pub use Rattle.markdown_children.specs.Ready.{IsChunk, IsReady, IsShownPlace, place_at}
 pub use Rattle.markdown_edits.proofs.Balanced.{IsBalanced-append}
 pub use Rattle.markdown_edits.proofs.Edits.Passes.{woven-pass}
@@ -65,13 +65,14 @@ pub use Rattle.markdown_tokenizer.proofs.Readings.Bounds.{fed-ends, one-end, set
 pub use Rattle.markdown_tokenizer.proofs.Readings.Plain.{edited-same, no-links-shape}
 pub use Rattle.markdown_tokenizer.proofs.Runs.Whole.{start-is-point, start-upto}
 pub use Rattle.markdown_tokenizer.proofs.Runs.Working.{text-on}
+pub use Rattle.markdown_tokenizer.specs.AtPlaces.{AreAtPlaces}
 pub use Rattle.markdown_tokenizer.specs.Calls.{with_local, with_resolvers}
 pub use Rattle.markdown_tokenizer.specs.Configuration.{Choice, Configuration, Local, Step, start_configuration}
 pub use Rattle.markdown_tokenizer.specs.Cursor.{IsPlace, end_at, goes_on, rest_at}
-pub use Rattle.markdown_tokenizer.specs.Engine.{IsWellFormed, given_by, whole_text}
+pub use Rattle.markdown_tokenizer.specs.Engine.{given_by, whole_text}
 pub use Rattle.markdown_tokenizer.specs.Lawful.{KeepsInvariant}
 pub use Rattle.markdown_tokenizer.specs.Reading.{EndsIn, Reading, fed, settled_at}
-pub use Rattle.markdown_tokenizer.specs.Resolving.{IsResolved, done, edits_made, found, resolved_by, taken}
+pub use Rattle.markdown_tokenizer.specs.Resolving.{IsResolved, LeavesEvents, done, edits_made, found, resolved_by, taken}
 pub use Rattle.markdown_tokenizer.specs.Rules.{Rules}
 pub use Rattle.markdown_tokenizer.specs.Sight.{Sight, byte_of, current_of, end_or, end_place, next_place, point_of, point_or, seat_before, sight, sight_of}
 pub use Rattle.markdown_tokenizer.specs.Text.{CanFollow, FitsAfter, Given, IsDocument, IsText, Piece, Text, empty_text, followed_by, followed_by_all, passed, pushed}
@@ -107,7 +108,7 @@ pub use Rattle.mdconstructs_tables.specs.Refusals.{RulesRefuseNothing, refusing}
 pub use Rattle.mdconstructs_tables.specs.RowInvariant.{begun}
 pub use Rattle.mdconstructs_tables.specs.RowTest.{allows_all, start_shape}
 pub use Rattle.mdconstructs_tables.specs.Rows.{Rows, class_of, consume, enter, exit, picked, row, step_of, table_step, when}
-pub use Rattle.mdconstructs_text.specs.ChainTexts.{AreReadBy, HasReadableChains, chain_data, chain_events, chain_text, with_data, with_read, with_texts}
+pub use Rattle.mdconstructs_text.specs.ChainTexts.{AreReadAtPlaces, AreReadBy, HasReadableChains, chain_data, chain_events, chain_text, with_data, with_read, with_texts}
 pub use Rattle.mdconstructs_text.specs.Items.{Item, Part, autolink, autolink_at, autolink_to, backticks, before_backtick_string, code_span, code_span_at, ends_with, escape, escape_at, has_byte_at, if_on, is_allowed, is_backtick, is_backtick_or_line_feed, is_backtick_string, is_colon, is_greater_than, is_less_than, is_line_feed, is_scheme, is_scheme_byte, is_special, item_at, item_length, line_ending, or_else, part, part_at, part_length, passes, plain_length, plain_run, uri}
 pub use Rattle.mdconstructs_text.specs.Laws.Rules.{in-paragraphs, in-text, text-lawful}
 pub use Rattle.mdconstructs_text.specs.TextCosts.{TextByte, backslash, backtick, blank, colon, digit, greater, is_tick, less, letter, line_feed, mark, other, punctuation, text_byte}

@@ -3,7 +3,9 @@ use Rattle.std.specs.Prelude.{◌≡◌, ℕ, List, Some, false, map}
 use Rattle.markdown_base.specs.declared.event.Content.TheVariants as content
 use Rattle.markdown_base.specs.declared.event.Event.{Event}
 use Rattle.markdown_base.specs.declared.state.Name.{Name}
+use Rattle.markdown_base.specs.declared.state.TheConstants.Name.{TextStart}
 use Rattle.markdown_tokenizer.specs.declared.subtokenize.Subresult.{Subresult}
+use Rattle.markdown_tokenizer.specs.AtPlaces.{AreAtPlaces}
 use Rattle.markdown_tokenizer.specs.Engine.{IsRun}
 use Rattle.markdown_tokenizer.specs.Rules.{Rules}
 use Rattle.markdown_tokenizer.specs.Text.{Given, Text, IsDocument}
@@ -15,6 +17,10 @@ use Rattle.mdconstructs_machines.specs.LineEvents.{data_events}
 use Rattle.mdconstructs_machines.specs.Paragraphs.{paragraphs_rules}
 use Rattle.mdconstructs_text.specs.TextEvents.{text_events}
 use Rattle.mdconstructs_text.specs.TextRules.{text_rules}
+
+-- these are the events of a run of the machine of texts, from its start of texts, without resolving
+abbrev pub IsRunOfTexts : Given → List Event → Type 0
+IsRunOfTexts g events = (sub : Subresult) × IsRun g text_rules false TextStart events sub
 
 module _ (g : Given) (events : List Event) where
   -- the text of the chain that begins at an index
@@ -41,6 +47,11 @@ module _ (g : Given) (events : List Event) where
   -- what a machine's rules make of the list
   abbrev pub AreReadBy : (Given → Rules Unit Unit) → List Event → Type 0
   AreReadBy rules list = (new : List Event) (sub : Subresult) → IsSubtokenized g rules (Some content.Text) events new sub → new ≡ list
+
+  -- if the events of the list stand at places, so do those that a machine's rules make of it
+  abbrev pub AreReadAtPlaces : (Given → Rules Unit Unit) → Type 0
+  AreReadAtPlaces rules = (new : List Event) (sub : Subresult) → IsSubtokenized g rules (Some content.Text) events new sub
+      → AreAtPlaces g.tab g.bytes events → AreAtPlaces g.tab g.bytes new
 
   -- the machine of texts leaves the list with texts, and that of paragraphs the list with data
   abbrev pub AreReadAsTexts : Type 0

@@ -12,7 +12,7 @@ ghost use Rattle.mdconstructs_machines.specs.Innermost.{AccountFor, AccountsForD
 ghost use Rattle.mdconstructs_machines.specs.ParagraphEvents.{paragraph_events};
 ghost use Rattle.mdconstructs_machines.specs.Paragraphs.{paragraphs_rules};
 ghost use Rattle.mdconstructs_machines.specs.ReadAs.{IsReadAs};
-ghost use Rattle.mdconstructs_text.specs.ChainTexts.{AreReadAsData, AreReadAsTexts, HasReadableChains, with_data, with_texts};
+ghost use Rattle.mdconstructs_text.specs.ChainTexts.{AreReadAsData, AreReadAsTexts, AreReadAtPlaces, HasReadableChains, with_data, with_texts};
 ghost use Rattle.mdconstructs_text.specs.TextEvents.{text_events};
 ghost use Rattle.mdconstructs_text.specs.TextRules.{text_rules};
 
@@ -34,6 +34,12 @@ pub fn no_document_is_refused()
 /// the chain's text. The definition of these events has no states.
 pub fn chains_are_read_as_texts()
     ensures { (g : Given) (events : List Event) → IsDocument g → IsReady g.tab g.bytes (Some Content.Text) events → AreReadAsTexts g events }
+{}
+
+/// If the events of such a list stand at places of the document, so do those that `subtokenize` with `Text` makes of it: each has the
+/// line and the column of its place.
+pub fn chains_are_read_at_places()
+    ensures { (g : Given) (events : List Event) → IsDocument g → IsReady g.tab g.bytes (Some Content.Text) events → AreReadAtPlaces g events text_rules }
 {}
 
 /// If the chains of text of a list can be read, `subtokenize` by `Paragraphs` replaces each chunk by its part of the data and line

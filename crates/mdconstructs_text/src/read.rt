@@ -3,6 +3,7 @@
 ghost use Rattle.std.specs.Prelude.{◌≡◌, IfOk, IfErr};
 ghost use Rattle.markdown_base.specs.Virtual.{IsWithinLimit};
 ghost use Rattle.markdown_tokenizer.specs.Engine.{AreCuts, given_by, whole_text};
+ghost use Rattle.mdconstructs_text.specs.ChainTexts.{IsRunOfTexts};
 ghost use Rattle.mdconstructs_text.specs.TextEvents.{text_events};
 
 use crate::text::Text;
@@ -15,7 +16,7 @@ use std::alloc::Global;
 
 /// Reads a whole document as text, cut at these places. Code spans, autolinks and backslash escapes are read if the options have
 /// them on, line endings always, and all else is data (CommonMark, "Inlines"). The definition of these events has no states. The
-/// events do not depend on the cuts.
+/// events do not depend on the cuts. They are those of a run: balanced, in order, and each at a place of the document.
 ///
 /// The cuts are places, each a byte index and a number in a tab, in an order that never decreases. The only fault is
 /// `Memory`: it runs out of memory.
@@ -28,6 +29,7 @@ pub fn read_text(
     requires limit { IsWithinLimit options.now.tab_size bytes.now }
     requires cuts { AreCuts options.now.tab_size bytes.now cuts.now }
     ensures ok { IfOk result (λ events. let g = given_by bytes.now options.now in events.items ≡ text_events g (whole_text g)) }
+    ensures run { IfOk result (λ events. IsRunOfTexts (given_by bytes.now options.now) events.items) }
     ensures err { IfErr result (λ fault. fault ≡ Fault.Memory) }
 {
     let machine = Text {};

@@ -1,5 +1,5 @@
 -- The reading of a chain of a ready list: from its first chunk on, along its links.
-use Rattle.markdown_children.proofs.Prelude.{◌≡◌, ◌≢◌, ◌+◌, ◌<◌, ℕ, length, List, [], ◌∷◌, Option, Some, None, Bool, true, refl, sym, ap, ◌∙◌, subst, ◌↔◌, none-some, ParseOptions, Content, Event, Point, Message, Name, State, Next, Subresult, Fault, Memory, Failed, next_of, Given, Text, pushed, passed, empty_text, followed_by, followed_by_all, CanFollow, IsDocument, IsText, start_configuration, leads-refl, holds-on, TokenizerValue, Rules, given_by, CanPush, IsWellFormed, IsPushed, IsFlushed, IsRefused, fits, begins, IsReady, place_at, LeadOnFrom, IsAtFirstParagraph, start_at, pieces_behind, pieces_of, text_of_chain, IsChild, IsChildFault, IsLawful, text_from, StartAmong, with_flag, start_seen, Piece}
+use Rattle.markdown_children.proofs.Prelude.{AreAtPlaces, ◌≡◌, ◌≢◌, ◌+◌, ◌<◌, ℕ, length, List, [], ◌∷◌, Option, Some, None, Bool, true, refl, sym, ap, ◌∙◌, subst, ◌↔◌, none-some, ParseOptions, Content, Event, Point, Message, Name, State, Next, Subresult, Fault, Memory, Failed, next_of, Given, Text, pushed, passed, empty_text, followed_by, followed_by_all, CanFollow, IsDocument, IsText, start_configuration, leads-refl, holds-on, TokenizerValue, Rules, given_by, CanPush, IsWellFormed, IsPushed, IsFlushed, IsRefused, fits, begins, IsReady, place_at, LeadOnFrom, IsAtFirstParagraph, start_at, pieces_behind, pieces_of, text_of_chain, IsChild, IsChildFault, IsLawful, text_from, StartAmong, with_flag, start_seen, Piece}
 use Rattle.markdown_tokenizer.specs.declared.tokenizer.fault.Fault.TheVariants as fault
 use Rattle.markdown_children.proofs.ChainOrder.Following.{fits_next, whole-from, inside}
 use Rattle.markdown_children.proofs.ChildReads.Pieces.{chunks_can_be_read}
@@ -119,7 +119,8 @@ module _ {M R D : Type 0} {rules : M → Given → Rules R D} {m : M} {bytes : L
           final = v.configuration;
           resolved = q.1;
           left = refl;
-          well_formed = subst (λ (x : Given). IsWellFormed x.bytes f.result.configuration) r.reads.same_given f.before;
+          well_formed = subst (λ (x : Given). IsWellFormed x f.result.configuration) r.reads.same_given f.before;
+          at_places = λ e. subst (λ (x : Given). AreAtPlaces x.tab x.bytes v.configuration.events) r.reads.same_given (f.at_places e);
           in_shape = f.in_shape refl;
         }
 

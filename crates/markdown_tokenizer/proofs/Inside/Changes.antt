@@ -1,5 +1,5 @@
 -- Each call that changes a text, the events or the choices of a tokenizer keeps what holds of its fields.
-use Rattle.markdown_tokenizer.proofs.Prelude.{AllByRecursion, ◌≡◌, ℕ, zero, suc, ◌≤◌, inl, inr, ◌<◌, List, [], ◌∷◌, ◌++◌, Bool, true, false, cond, Option, Some, None, length, refl, sym, ap, ◌∙◌, subst, arith, take, map, option_map, reverse, unwrap_or, Point, Event, Link, ParseOptions, Seat, point, shown, stands_before, is_upto, denotes_same, IsPointOf, point_at, Waits, Nothing, Byte, End, Reading, Inside, Given, Text, Piece, pushed, passed, IsDocument, IsText, CanFollow, FitsAfter, followed_by, followed_by_all, empty_text, extended, resumed, IsPlainUntil, seen, text_within, end_point, seats_between, position_from, standing, reach, can_feed, IsReadTo, ByteWaits, IsWhatWaits, IsProgress, AreNested, IsSound, IsPlace, is_after_pair, IsMade, with_ends, unlinked, linked_to, updated_at, next_set, previous_set, with_next, with_previous, length-map, stands-self, Other, take-map, filter, is_kept, filter-append, in_range, virtual, seat_before, slice_get, get-front, length-append, end_or, byte_of, false_from_ne_true, nat_tests}
+use Rattle.markdown_tokenizer.proofs.Prelude.{AllByRecursion, AreAtPlaces, ◌≡◌, ℕ, zero, suc, ◌≤◌, inl, inr, ◌<◌, List, [], ◌∷◌, ◌++◌, Bool, true, false, cond, Option, Some, None, length, refl, sym, ap, ◌∙◌, subst, arith, take, map, option_map, reverse, unwrap_or, Point, Event, Link, ParseOptions, Seat, point, shown, stands_before, is_upto, denotes_same, IsPointOf, point_at, Waits, Nothing, Byte, End, Reading, Inside, Given, Text, Piece, pushed, passed, IsDocument, IsText, CanFollow, FitsAfter, followed_by, followed_by_all, empty_text, extended, resumed, IsPlainUntil, seen, text_within, end_point, seats_between, position_from, standing, reach, can_feed, IsReadTo, ByteWaits, IsWhatWaits, IsProgress, AreNested, IsSound, IsPlace, is_after_pair, IsMade, with_ends, unlinked, linked_to, updated_at, next_set, previous_set, with_next, with_previous, length-map, stands-self, Other, take-map, filter, is_kept, filter-append, in_range, virtual, seat_before, slice_get, get-front, length-append, end_or, byte_of, false_from_ne_true, nat_tests}
 use Rattle.std.proofs.lemmas.Bool.{true_from_ne_false}
 use Rattle.markdown_base.specs.declared.event.Name.{Name}
 use Rattle.markdown_tokenizer.proofs.Positions.Standing.{shown-shown, place-of-point}
@@ -7,6 +7,7 @@ use Rattle.markdown_tokenizer.proofs.Positions.Order.{after-before}
 use Rattle.markdown_tokenizer.proofs.Positions.Gaps.{same-not_before, other-before, skips-earlier, pushed-kept, pushed-skips, added-text, added-read, added-outside, added-resumed, added-skips, added-shown}
 use Rattle.markdown_tokenizer.proofs.Positions.Cursors.{upto-order, upto-upto, end-upto, same-self, same-upto, same-back, range-continued, range-empty}
 use Rattle.markdown_tokenizer.proofs.Positions.Points.{point_at-point, point_at-is}
+use Rattle.markdown_tokenizer.proofs.Inside.AtPlaces.{at-places-unlinked}
 use Rattle.markdown_tokenizer.proofs.Inside.Made.{made-new, made-bound, made-linked}
 use Rattle.markdown_tokenizer.proofs.Inside.Fields.{Saves, MadeUpto, wide_of, text_between, next-more, within, here-all, kept-same, made-more, nested-map, bytes_within, tab_within, end_within, position_within, size_within, ReadWithin, WaitsWithin, ByteWithin, IsSeatWithin}
 use Rattle.markdown_tokenizer.proofs.Inside.Known.{known-other, plain-none}
@@ -118,6 +119,7 @@ module _ {M R D : Type 0} {same : R → R → Bool} (t : Inside M R D) (sound : 
             ended = sound.placed.ended;
           };
           made = sound.made;
+          at_places = sound.at_places;
           kept_choices = rw e (nested-map (Saves t) (IsProgress t.phase (tab_within t) (bytes_within t) t.skips (text_between (tab_within t) (bytes_within t) t.skips t.start u) t.events.items t.stack.items t.closed)
               (length t.events.items) (length t.stack.items) (reverse t.kept_choices.items) (λ p a b h. let position = position_within t p.after_previous in record {
                 read = longer h.read;
@@ -245,6 +247,7 @@ module _ {M R D : Type 0} {same : R → R → Bool} (t : Inside M R D) (sound : 
                 ended = sound.placed.ended;
               };
               made = λ reads. rw put (standing-on t.events.items t.stack.items sound.placed.read t.waits (sound.made reads));
+              at_places = sound.at_places;
               kept_choices = rw (put, e) (nested-map (Saves t) (IsProgress t.phase (tab_within t) (bytes_within t) added text_added t.events.items t.stack.items t.closed)
                   (length t.events.items) (length t.stack.items) (reverse t.kept_choices.items) (λ p a b h. record {
                     read = read-on h.read;
@@ -297,6 +300,9 @@ module _ {M R D : Type 0} {same : R → R → Bool} (t : Inside M R D) (sound : 
   pub linked-made : t.phase ≡ Reading → IsMade (bytes_within t) events t.stack.items (shown (bytes_within t) t.after_previous) (shown (bytes_within t) (standing t.skips t.after_previous t.waits))
   linked-made reads = made-linked t.events.items events (sym events-unlinked) (bytes_within t) t.stack.items (shown (bytes_within t) t.after_previous)
       (shown (bytes_within t) (standing t.skips t.after_previous t.waits)) (sound.made reads)
+
+  pub linked-at-places : t.phase ≡ Reading → AreAtPlaces (tab_within t) (bytes_within t) events
+  linked-at-places reads = at-places-unlinked (tab_within t) (bytes_within t) t.events.items events (sym events-unlinked) (sound.at_places reads)
 
   pub linked-kept_choices : AreNested (IsProgress t.phase (tab_within t) (bytes_within t) t.skips (text_within t) events t.stack.items t.closed) (length events) (length t.stack.items) (reverse t.kept_choices.items)
   linked-kept_choices =

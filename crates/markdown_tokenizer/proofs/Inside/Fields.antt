@@ -196,6 +196,7 @@ module _ {M R D : Type 0} {same : R → R → Bool} (t : Inside M R D) (sound : 
         (elim t.waits as (λ (w : Waits). WaitsWithin t w → IsWhatWaits (tab_within t) (bytes_within t) t.skips (text_within t) t.after_previous t.byte true w)
         [ Nothing ↦ λ h. h | Byte ↦ λ h. h | End ↦ λ h. record { closed_too = refl; all = h.all } ] sound.placed.waiting) (λ _. refl) (λ e. absurd (let f : true ≡ false = e in cc));
     made = sound.made;
+    at_places = sound.at_places;
     kept_choices = nested-map (Saves t) (IsProgress t.phase (tab_within t) (bytes_within t) t.skips (text_within t) t.events.items t.stack.items true)
         (length t.events.items) (length t.stack.items) (reverse t.kept_choices.items) (λ p a b h.
         let position = position_within t p.after_previous in

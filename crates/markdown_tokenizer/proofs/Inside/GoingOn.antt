@@ -1,5 +1,5 @@
 -- Choices end, and what they go on with is fed: what that does to the fields of a tokenizer, and what it means.
-use Rattle.markdown_tokenizer.proofs.Prelude.{eqb-true, ◌≡◌, ◌==◌, ℕ, ◌≤◌, ◌<◌, List, [], ◌∷◌, ◌++◌, Bool, true, false, Option, Some, None, length, refl, sym, ap, ◌∙◌, subst, arith, take, length-take, ◌⊎◌, inl, inr, map, reverse, IfSome, IsSome, unwrap_or, Result, Vec, take-take, take-length, length-map, length_push, lt-ltb, le-ltb, Event, Kind, Enter, Exit, Point, State, Next, Ok, Nok, open_events, shown, stands-self, AttemptKind, Attempt, Check, GoesOn, KeptChoice, Other, Progress, Waits, Nothing, Byte, End, Reading, Inside, Configuration, Choice, Saved, Step, Local, TokenizerValue, unfed, restored, settled_at, settled_all, settled_to, answer_of, answer_in, EndsClosed, TakesUp, continuation_of, saved_for, ended_by, Unwinding, unwinding, unwound, resumed, IsPlainUntil, IsMade, last_kind, IsNextByte, seen, text_within, state_of, choice_of, saved_of, standing, reach, can_feed, IsWhatWaits, AreNested, events_of, stack_of, IsSound}
+use Rattle.markdown_tokenizer.proofs.Prelude.{eqb-true, ◌≡◌, ◌==◌, ℕ, ◌≤◌, ◌<◌, List, [], ◌∷◌, ◌++◌, Bool, true, false, Option, Some, None, length, refl, sym, ap, ◌∙◌, subst, arith, take, length-take, ◌⊎◌, inl, inr, map, reverse, IfSome, IsSome, All-take, IsPointOf, unwrap_or, Result, Vec, take-take, take-length, length-map, length_push, lt-ltb, le-ltb, Event, Kind, Enter, Exit, Point, State, Next, Ok, Nok, open_events, shown, stands-self, AttemptKind, Attempt, Check, GoesOn, KeptChoice, Other, Progress, Waits, Nothing, Byte, End, Reading, Inside, Configuration, Choice, Saved, Step, Local, TokenizerValue, unfed, restored, settled_at, settled_all, settled_to, answer_of, answer_in, EndsClosed, TakesUp, continuation_of, saved_for, ended_by, Unwinding, unwinding, unwound, resumed, IsPlainUntil, IsMade, last_kind, IsNextByte, seen, text_within, state_of, choice_of, saved_of, standing, reach, can_feed, IsWhatWaits, AreNested, events_of, stack_of, IsSound}
 use Rattle.std.proofs.lemmas.Bool.{or_from, or_left, or_right}
 use Rattle.std.proofs.lemmas.List.{length-reverse}
 use Rattle.std.specs.declared.result.Result.TheVariants as result
@@ -195,6 +195,7 @@ module _ {M R D : Type 0} {same : R → R → Bool} (t : Inside M R D) (sound : 
   sound-by waits ended byte w e m = record {
     placed = placed-there sound.placed goes-from.0.read w e sound.placed.reads;
     made = m;
+    at_places = λ reads. let cut = h.cut in rw cut (All-take (λ e. IsPointOf (tab_within t) (bytes_within t) e.point) from.events_len t.events.items (sound.at_places reads));
     kept_choices = same-front t from.events_len from.stack_len events.items stack.items (reverse kept_choices.items)
         (omega (arith, goes-from.2.0, ap length h.cut, length-take from.events_len t.events.items))
         (omega (arith, goes-from.2.1, ap length h.top, length-take from.stack_len t.stack.items))

@@ -229,7 +229,7 @@ module _ (xs ys : List Event) (same : map unlinked xs ≡ map unlinked ys) where
   length-unlinked : length ys ≡ length xs
   length-unlinked = sym (length-map ys unlinked) ∙ sym (ap length same) ∙ length-map xs unlinked
 
-  all-unlinked : (P : Point → Type 0) → All (λ e. P e.point) xs → All (λ e. P e.point) ys
+  pub all-unlinked : (P : Point → Type 0) → All (λ e. P e.point) xs → All (λ e. P e.point) ys
   all-unlinked P h k d lt = subst P (point-unlinked k d) (h k d (omega (arith, length-unlinked)))
 
   -- other links

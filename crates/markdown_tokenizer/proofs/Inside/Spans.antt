@@ -1,9 +1,9 @@
 -- A span begins or ends: the fields of a tokenizer keep what holds of them.
-use Rattle.markdown_tokenizer.proofs.Prelude.{◌≡◌, ℕ, suc, ◌-◌, ◌≤◌, ◌<◌, List, [], ◌∷◌, ◌++◌, Bool, Option, Some, None, length, refl, sym, ap, ◌∙◌, subst, arith, length-append, take, length-take, map, reverse, IfSome, All, take-append-le, take-take, Point, Event, Link, Enter, Exit, shown, Waits, Nothing, Byte, End, KeptChoice, Progress, Inside, Choice, CanExit, resumed, seen, text_within, standing, choice_of, saved_of, IsProgress, AreNested, IsSound, Vec, with_enter, with_exit, stands-self, saved_at_place, Saved, state_of}
+use Rattle.markdown_tokenizer.proofs.Prelude.{◌≡◌, ℕ, suc, ◌-◌, ◌≤◌, ◌<◌, List, [], ◌∷◌, ◌++◌, Bool, Option, Some, None, length, refl, sym, ap, ◌∙◌, subst, arith, length-append, take, length-take, map, reverse, IfSome, All, All-push, IsPointOf, take-append-le, take-take, Point, Event, Link, Enter, Exit, shown, Waits, Nothing, Byte, End, KeptChoice, Progress, Inside, Choice, CanExit, resumed, seen, text_within, standing, choice_of, saved_of, IsProgress, AreNested, IsSound, Vec, with_enter, with_exit, stands-self, saved_at_place, Saved, state_of}
 use Rattle.markdown_base.specs.declared.event.Name.{Name}
 use Rattle.markdown_tokenizer.proofs.Inside.Made.{made-enter, made-exit}
 use Rattle.markdown_tokenizer.proofs.Inside.Fields.{nested-as, Saves, bytes_within, tab_within, position_within}
-use Rattle.markdown_tokenizer.proofs.Inside.Steps.{here-is, after_previous-is}
+use Rattle.markdown_tokenizer.proofs.Inside.Steps.{here-is, after_previous-is, enter-is-point, exit-is-point}
 
 -- what choices saved, as a list of choices, with other positions and another stack, where each is seen as the same
 pub same-choices : (f g : Point → ℕ) (a b : List Name) (P : Progress → Type 0) (events stack : ℕ) (kept_choices : List KeptChoice)
@@ -25,6 +25,18 @@ pub same-front : {M R D : Type 0} (t : Inside M R D) (m n : ℕ) (events : List 
 same-front t m n events stack kept_choices more higher front top h =
     nested-as (Saves t) (IsProgress t.phase (tab_within t) (bytes_within t) t.skips (text_within t) events stack t.closed) m n (length events) (length stack) kept_choices
     (λ p a b k. let e = front p.events_len a in let s = top p.stack_len b in (omega arith, omega arith, record { read = k.read; ended = k.ended; made = rw (e, s) k.made })) h
+
+-- other room for the same events and the same open spans
+pub roomy-sound : {M R D : Type 0} {same : R → R → Bool} (t : Inside M R D) → IsSound same t → (events : Vec Event) (stack : Vec Name) → events.items ≡ t.events.items → stack.items ≡ t.stack.items
+    → IsSound same (record t { events = events; stack = stack })
+roomy-sound t sound events stack e s = record {
+  placed = sound.placed;
+  made = rw (e, s) sound.made;
+  at_places = rw e sound.at_places;
+  kept_choices = rw (e, s) sound.kept_choices;
+  once = sound.once;
+  known = sound.known;
+}
 
 -- the code's place, from its list of gaps
 pub entered-here : {M R D : Type 0} (t : Inside M R D) (slice : List Point) (place here : Point) → slice ≡ t.skips → place ≡ standing slice t.after_previous t.waits
@@ -51,6 +63,8 @@ module _ {M R D : Type 0} {same : R → R → Bool} (t : Inside M R D) (sound : 
       made = λ reads. rw (put, top, is) (let bound = shown (bytes_within t) (standing t.skips t.after_previous t.waits) in let m = sound.made reads in
           made-enter (bytes_within t) t.events.items t.stack.items (shown (bytes_within t) t.after_previous) bound m (record { kind = Enter; name = name; point = bound; link = link }) refl
           (stands-self bound) (stands-self bound) m.bound_shown);
+      at_places = λ reads. rw (put, is) (All-push (λ e. IsPointOf (tab_within t) (bytes_within t) e.point) t.events.items
+          (record { kind = Enter; name = name; point = shown (bytes_within t) (standing t.skips t.after_previous t.waits); link = link }) (sound.at_places reads) (enter-is-point t sound));
       kept_choices = same-front t (length t.events.items) (length t.stack.items) events.items stack.items (reverse t.kept_choices.items)
           (omega (arith, ap length put, length-append t.events.items (record { kind = Enter; name = name; point = here; link = link } ∷ [])))
           (omega (arith, ap length top, length-append t.stack.items (name ∷ [])))
@@ -94,6 +108,8 @@ module _ {M R D : Type 0} {same : R → R → Bool} (t : Inside M R D) (sound : 
         rw (put, top, is) (let left = shown (bytes_within t) t.after_previous in
         made-exit (bytes_within t) t.events.items t.stack.items left (shown (bytes_within t) (standing t.skips t.after_previous t.waits)) (sound.made reads)
         (record { kind = Exit; name = name; point = left; link = None }) refl refl can.top (λ o e. rw l (can.read o e)) can.void);
+    at_places = λ reads. rw (put, is) (All-push (λ e. IsPointOf (tab_within t) (bytes_within t) e.point) t.events.items
+        (record { kind = Exit; name = name; point = shown (bytes_within t) t.after_previous; link = None }) (sound.at_places reads) (exit-is-point t sound));
     kept_choices = same-front t (length t.events.items) (length t.stack.items - 1) events.items stack.items (reverse t.kept_choices.items)
         (omega (arith, ap length put, length-append t.events.items (record { kind = Exit; name = name; point = here; link = None } ∷ [])))
         (omega (arith, ap length top, length-take (length t.stack.items - 1) t.stack.items))

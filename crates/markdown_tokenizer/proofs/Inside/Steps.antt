@@ -1,5 +1,5 @@
 -- Each call on a tokenizer keeps what holds of its fields, and does what its contract says.
-use Rattle.markdown_tokenizer.proofs.Prelude.{Bool, ◌≡◌, ◌≢◌, ℕ, ◌≤◌, ◌<◌, List, [], true, false, Option, Some, None, length, refl, sym, ap, ◌∙◌, subst, add-one, arith, inl, inr, map, OnTrue, is_some, lt-ltb, Point, Seat, shown, stands_before, IsShown, open_events, stands-self, Waits, Nothing, Byte, End, Moves, Other, Reading, Inside, at_configuration, sight, byte_of, point_of, current_of, point_or, consumed, fed, IsWellFormed, IsInText, resumed, IsPlainUntil, seen, text_within, standing, EndWaits, NextByteIsKnown, IsSound, IsPlace, rest_at, is_before_pair, IsNextByte, CanMove, moved, IsQuick, IsMade, Exit, reverse, is_void, balanced_from_open}
+use Rattle.markdown_tokenizer.proofs.Prelude.{Bool, ◌≡◌, ◌≢◌, ℕ, ◌≤◌, ◌<◌, List, [], true, false, Option, Some, None, length, refl, sym, ap, ◌∙◌, subst, add-one, arith, inl, inr, map, OnTrue, is_some, lt-ltb, Point, Seat, shown, stands_before, IsPointOf, IsShown, open_events, stands-self, Waits, Nothing, Byte, End, Moves, Other, Reading, Inside, at_configuration, sight, byte_of, point_of, current_of, point_or, consumed, fed, IsWellFormed, IsInText, resumed, IsPlainUntil, seen, text_within, standing, EndWaits, NextByteIsKnown, IsSound, IsPlace, rest_at, is_before_pair, IsNextByte, CanMove, moved, IsQuick, IsMade, Exit, reverse, is_void, balanced_from_open}
 use Rattle.markdown_base.specs.declared.event.Name.{Name}
 use Rattle.markdown_tokenizer.proofs.Positions.Order.{later-later}
 use Rattle.markdown_tokenizer.proofs.Positions.Seats.{one-seat}
@@ -7,6 +7,7 @@ use Rattle.markdown_tokenizer.proofs.Positions.TextOrder.{read-shown}
 use Rattle.markdown_tokenizer.proofs.Positions.Standing.{next-begins, place-of-point, shown-shown, shown-upto, seat-shown, seat-passes}
 use Rattle.markdown_tokenizer.proofs.Positions.Gaps.{IsResumed}
 use Rattle.markdown_tokenizer.proofs.Positions.Points.{point_at-is, shown-line, shown-column, same-numbers}
+use Rattle.markdown_tokenizer.proofs.Inside.AtPlaces.{shown-is-point}
 use Rattle.markdown_tokenizer.proofs.Inside.Made.{made-consume, balanced-followed, followed-at}
 use Rattle.markdown_tokenizer.proofs.Inside.Known.{resumed-in-line, place-fits, not-before-index}
 use Rattle.markdown_tokenizer.proofs.Inside.Fields.{wide_of, placed-there, looks, within, next-seat, next-more, next-past, next-number, read-next, next-none-left, end-shown, made-later, bytes_within, tab_within, end_within, position_within, size_within, ReadWithin, WaitsWithin, ByteWithin, IsSeatWithin}
@@ -54,6 +55,14 @@ module _ {M R D : Type 0} {same : R → R → Bool} (t : Inside M R D) (sound : 
   pub after_previous-is : shown (bytes_within t) t.after_previous ≡ (sight (seen t).given (seen t).text (seen t).configuration).exit_place
   after_previous-is = ap (shown (bytes_within t)) sound.placed.read.back
 
+  -- the place of an enter, and of an exit, is a place of the document
+  pub enter-is-point : IsPointOf (tab_within t) (bytes_within t) (shown (bytes_within t) (standing t.skips t.after_previous t.waits))
+  enter-is-point = shown-is-point (tab_within t) (bytes_within t) (wide_of t sound) (standing t.skips t.after_previous t.waits)
+      (elim t.waits as (λ (w : Waits). IsPlace (tab_within t) (bytes_within t) (standing t.skips t.after_previous w)) [ Nothing ↦ sound.placed.read.place | Byte ↦ looks_in.place | End ↦ looks_in.place ])
+
+  pub exit-is-point : IsPointOf (tab_within t) (bytes_within t) (shown (bytes_within t) t.after_previous)
+  exit-is-point = shown-is-point (tab_within t) (bytes_within t) (wide_of t sound) t.after_previous sound.placed.read.place
+
   -- a place after a byte is shown at itself
   pub after-byte : (read : Bool) → read ≡ is_some t.previous → OnTrue read (shown (bytes_within t) t.after_previous ≡ t.after_previous)
   after-byte read e = rw e (elim t.previous as (λ (o : Option ℕ). (t.previous ≡ o) → OnTrue (is_some o) (shown (bytes_within t) t.after_previous ≡ t.after_previous)) [
@@ -71,11 +80,11 @@ module _ {M R D : Type 0} {same : R → R → Bool} (t : Inside M R D) (sound : 
     reads = sound.placed.reads;
   }
 
-  pub well-formed : t.phase ≡ Reading → t.stack.items ≡ [] → IsWellFormed (bytes_within t) (seen t).configuration
+  pub well-formed : t.phase ≡ Reading → t.stack.items ≡ [] → IsWellFormed (seen t).given (seen t).configuration
   well-formed reads e =
       let m = sound.made reads in
       let balanced = balanced_from_open t.events.items (m.nested ∙ ap (λ (stack : List Name). Some (reverse stack)) e) in
-      record { balanced = balanced; void_tight = followed-at is_void t.events.items (balanced-followed is_void balanced Exit m.tight); in_order = m.in_order }
+      record { balanced = balanced; void_tight = followed-at is_void t.events.items (balanced-followed is_void balanced Exit m.tight); at_places = sound.at_places reads; in_order = m.in_order }
 
   pub stack-is : t.phase ≡ Reading → t.stack.items ≡ map (λ e. e.name) (open_events t.events.items)
   stack-is reads = sym (sound.made reads).names
@@ -108,6 +117,7 @@ module _ {M R D : Type 0} {same : R → R → Bool} (t : Inside M R D) (sound : 
     fed-sound byte lt e moves known = record {
       placed = placed-there sound.placed sound.placed.read (record { seat = seat; at = n; before = before-end seat.point ∙ lt; is = sym e }) sound.placed.ended sound.placed.reads;
       made = made-here;
+      at_places = sound.at_places;
       kept_choices = sound.kept_choices;
       once = sound.once;
       known = known;
@@ -123,6 +133,7 @@ module _ {M R D : Type 0} {same : R → R → Bool} (t : Inside M R D) (sound : 
   end-fed-sound all closed = record {
     placed = placed-there sound.placed sound.placed.read (record { closed_too = closed; all = all }) (λ _. closed) sound.placed.reads;
     made = made-here;
+    at_places = sound.at_places;
     kept_choices = sound.kept_choices;
     once = sound.once;
     known = record { own_bytes = sound.known.own_bytes; is_plain_until = sound.known.is_plain_until; there = λ w o. cc; over = λ w o. cc };
@@ -191,6 +202,7 @@ module _ {M R D : Type 0} {same : R → R → Bool} (t : Inside M R D) (sound : 
         placed = placed-there sound.placed read tt (λ h. absurd cc) sound.placed.reads;
         made = λ reads. made-consume (bytes_within t) t.events.items t.stack.items (shown (bytes_within t) t.after_previous) q (made-here reads) (shown (bytes_within t) after_previous) (shown (bytes_within t) after_previous)
             later (stands-self (shown (bytes_within t) after_previous)) (shown-shown (tab_within t) (bytes_within t) after_previous) (shown-shown (tab_within t) (bytes_within t) after_previous);
+        at_places = sound.at_places;
         kept_choices = sound.kept_choices;
         once = sound.once;
         known = record { own_bytes = sound.known.own_bytes; is_plain_until = r; there = λ w o. cc; over = λ w o. cc };

@@ -1,6 +1,7 @@
 -- What a push and a flush leave.
 use Rattle.markdown_tokenizer.proofs.Prelude.{◌≡◌, ◌≤◌, ℕ, zero, List, [], Bool, true, false, cond, Some, ◌⊎◌, inl, inr, refl, sym, ap, ◌∙◌, arith, subst, add-zero, Message, Name, State, Next, Retry, Ok, Nok, Error, Given, Text, IsText, Phase, Subresult, Configuration, Choice, Step, TokenizerValue, Sight, EndsIn, more_calls, read, Rules, IsLawful, IsFlushed, IsRefused, IsWellFormed, IsResolved, IsResolvingRefused, IsInShape, budget, LeadsAll, Stops, OnlyWorked}
 use Rattle.markdown_tokenizer.specs.declared.waiting.Phase.TheVariants as phases
+use Rattle.markdown_tokenizer.proofs.Inside.AtPlaces.{resolved-at-places}
 use Rattle.markdown_tokenizer.proofs.Readings.Ends.{error-stays}
 
 -- a message, and Ok with no choice waiting, are their own outcome
@@ -44,7 +45,7 @@ module _ {M R D : Type 0} (rules : Rules R D) (t u : TokenizerValue M R D) (a s 
     })
 
     pub flush-ok : (sub : Subresult) → s ≡ Ok → u.choices ≡ [] → IsResolved rules.resolver t.given t.text resolve u.configuration k sub → p ≡ cond resolve phases.Resolved phases.Reading
-        → IsWellFormed t.given.bytes u.configuration → (resolve ≡ false → IsWellFormed t.given.bytes k) → (resolve ≡ true → IsInShape k.events) → IsFlushed rules resolve t a v sub
+        → IsWellFormed t.given u.configuration → (resolve ≡ false → IsWellFormed t.given k) → (resolve ≡ true → IsInShape k.events) → IsFlushed rules resolve t a v sub
     flush-ok sub ok none resolved phase before formed shape = rw same (record {
       given = only.given;
       machine = only.machine;
@@ -59,6 +60,7 @@ module _ {M R D : Type 0} (rules : Rules R D) (t u : TokenizerValue M R D) (a s 
       settled = none;
       before = before;
       well_formed = formed;
+      at_places = resolved-at-places t.given.tab t.given.bytes rules.resolver t.given t.text resolve u.configuration k sub resolved before.at_places;
       in_shape = shape;
     })
 

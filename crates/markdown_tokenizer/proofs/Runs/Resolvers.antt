@@ -26,6 +26,7 @@ phase-sound t sound phase resolvers once other closed =
     let bytes = t.parse_state.now.bytes.now in record {
       placed = placed-there sound.placed sound.placed.read sound.placed.waiting sound.placed.ended (λ e. absurd (let f : true ≡ false = sym closed ∙ e in cc));
       made = λ e. absurd (other e);
+      at_places = λ e. absurd (other e);
       kept_choices = nested-map (IsProgress t.phase (tab_of t.parse_state.now) bytes t.skips (text_within t) t.events.items t.stack.items t.closed) (IsProgress phase (tab_of t.parse_state.now) bytes t.skips (text_within t) t.events.items t.stack.items t.closed)
           (length t.events.items) (length t.stack.items) (reverse t.kept_choices.items) (λ p a b h. record { read = h.read; ended = h.ended; made = λ e. absurd (other e) }) sound.kept_choices;
       once = once;
@@ -39,6 +40,7 @@ events-sound t sound resolves alone edits events =
     let none = none-mapped (choice_of (position_from (tab_of t.parse_state.now) t.parse_state.now.bytes.now t.skips t.start) t.stack.items) (reverse t.kept_choices.items) alone in record {
       placed = sound.placed;
       made = λ e. absurd (let f : Resolving ≡ Reading = sym resolves ∙ e in cc);
+      at_places = λ e. absurd (let f : Resolving ≡ Reading = sym resolves ∙ e in cc);
       kept_choices = rw none tt;
       once = sound.once;
       known = sound.known;

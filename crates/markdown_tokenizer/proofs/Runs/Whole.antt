@@ -1,5 +1,5 @@
 -- A run over the whole document: how it begins and ends, and what holds at each cut.
-use Rattle.markdown_tokenizer.proofs.Prelude.{AllByRecursion, ◌≡◌, ◌+◌, ◌≤◌, ◌<◌, ◌==◌, ℕ, suc, List, [], ◌∷◌, ◌++◌, Bool, true, false, Some, length, inl, inr, refl, sym, ap, ◌∙◌, arith, subst, filter, find, slice_index, ◌&&◌, drop, get_or, Contains, Result, IsErrAnd, IfErr, flat_map, nat_tests, cases_lt, append-nil, Point, Name, State, Next, Seat, point, virtual, end_after, document_end, stands_before, shown, point_at, IsPointOf, is_upto, Given, Text, pushed, in_range, empty_text, followed_by, followed_by_all, FitsAfter, IsDocument, IsText, TokenizerValue, start_configuration, start_seen, Rules, KeepsInvariant, LeadsOn, KeepsOutcome, CanPush, IsPushed, IsFlushed, IsRefused, IsWellFormed, IsRun, IsRunRefused, AreCuts, budget, given_by, whole_text, FollowInOrder, IsResolved, IsResolvingRefused, IsInShape, EndsIn, Subresult, ParseOptions, Event, Message, every-map, rest_at, IsNextSeat, Bounds, drop_more, begins_pair, eqb-true, add-one}
+use Rattle.markdown_tokenizer.proofs.Prelude.{AllByRecursion, AreAtPlaces, ◌≡◌, ◌+◌, ◌≤◌, ◌<◌, ◌==◌, ℕ, suc, List, [], ◌∷◌, ◌++◌, Bool, true, false, Some, length, inl, inr, refl, sym, ap, ◌∙◌, arith, subst, filter, find, slice_index, ◌&&◌, drop, get_or, Contains, Result, IsErrAnd, IfErr, flat_map, nat_tests, cases_lt, append-nil, Point, Name, State, Next, Seat, point, virtual, end_after, document_end, stands_before, shown, point_at, IsPointOf, is_upto, Given, Text, pushed, in_range, empty_text, followed_by, followed_by_all, FitsAfter, IsDocument, IsText, TokenizerValue, start_configuration, start_seen, Rules, KeepsInvariant, LeadsOn, KeepsOutcome, CanPush, IsPushed, IsFlushed, IsRefused, IsWellFormed, IsRun, IsRunRefused, AreCuts, budget, given_by, whole_text, FollowInOrder, IsResolved, IsResolvingRefused, IsInShape, EndsIn, Subresult, ParseOptions, Event, Message, every-map, rest_at, IsNextSeat, Bounds, drop_more, begins_pair, eqb-true, add-one}
 use Rattle.std.specs.declared.result.Result.TheVariants as result
 use Rattle.std.proofs.lemmas.List.Elements.{Contains-push}
 pub use Rattle.std.proofs.lemmas.Result.{IfOk-weaker as ok-if}
@@ -219,7 +219,8 @@ module _ {M R D : Type 0} (rules : M → Given → Rules R D) where
         final = v.configuration;
         resolved = run-moved (λ x y w. IsResolved (rules x y).resolver y w resolve f.result.configuration v.configuration sub) f.resolved;
         events = events;
-        well_formed = subst (λ (x : Given). IsWellFormed x.bytes f.result.configuration) r.same_given f.before;
+        well_formed = subst (λ (x : Given). IsWellFormed x f.result.configuration) r.same_given f.before;
+        at_places = λ e. subst (AreAtPlaces options.tab_size bytes) (sym events) (subst (λ (x : Given). AreAtPlaces x.tab x.bytes v.configuration.events) r.same_given (f.at_places e));
         in_shape = λ e. subst IsInShape (sym events) (f.in_shape e);
         within = run-within f.result.calls (subst (λ (n : ℕ). n ≤ budget (rules t.machine t.given) t.text t state) f.calls f.within);
       }

@@ -1,5 +1,5 @@
 -- What the machines of paragraphs and of texts read of a document, from the start of paragraphs, has chains of text that can be read.
-use Rattle.mdconstructs_text.proofs.Prelude.{◌≡◌, ◌<◌, [], Some, false, inl, inr, refl, sym, ap, ◌∙◌, subst, arith, Contains, IsBalanced, IsVoidTight, IsInOrder, Next, Ok, FlowStart, virtual, Configuration, start_configuration, IsWellFormed, whole_text, KeepsInvariant, Reading, EndsIn, Rules, Given, Text, IsDocument, AreMutual, no-links-shape, IsReady, kept-well, knowing-lawful, paragraphs, knows_chunk, paragraphs_rules, paragraph_events, paragraphs-fit, paragraphs-known, reads-whole, HasReadableChains, text_rules, text-lawful}
+use Rattle.mdconstructs_text.proofs.Prelude.{◌≡◌, ◌<◌, [], Some, false, inl, inr, refl, sym, ap, ◌∙◌, subst, arith, Contains, IsBalanced, IsVoidTight, IsInOrder, Next, Ok, FlowStart, virtual, Configuration, start_configuration, whole_text, KeepsInvariant, Reading, EndsIn, Rules, Given, Text, IsDocument, AreMutual, no-links-shape, IsReady, kept-well, knowing-lawful, paragraphs, knows_chunk, paragraphs_rules, paragraph_events, paragraphs-fit, paragraphs-known, reads-whole, HasReadableChains, text_rules, text-lawful}
 use Rattle.markdown_base.specs.declared.event.Content.TheVariants.{Text as TextContent}
 use Rattle.mdconstructs_machines.proofs.BlockReads.Reads.{ReadsBlocks}
 use Rattle.mdconstructs_text.proofs.Paragraphs.ChunkPairs.{AreChunks}
@@ -19,20 +19,20 @@ module _ (rules : Given → Rules Unit Unit) where
 
   -- the chunks of a reading of a whole document follow one another, and can be read
   reading-readable : ReadsParagraphs → (g : Given) → IsDocument g → (r : Reading Unit Unit) → EndsIn g (rules g).step (whole_text g) 0 (start_configuration false) [] (Next FlowStart) r → r.answer ≡ Ok
-      → IsWellFormed g.bytes r.configuration → AreChunks g.tab g.bytes r.configuration.events × IsReady g.tab g.bytes (Some TextContent) r.configuration.events
-  reading-readable reads g document r ends well formed =
+      → IsBalanced r.configuration.events → IsVoidTight r.configuration.events → IsInOrder g.bytes r.configuration.events → AreChunks g.tab g.bytes r.configuration.events × IsReady g.tab g.bytes (Some TextContent) r.configuration.events
+  reading-readable reads g document r ends well balanced tight in_order =
       let text = whole_text g in
       let k = r.configuration in
       let none : AreChunks g.tab g.bytes [] = record { each = tt; pairs = λ k d is. absurd (cc) } in
       let kept = flow-kept g document (rules g).step (reads.flow g) in
       let chunks = kept-well g (rules g).step text (Known g document) kept 0 (start_configuration false) (Next FlowStart) r (none, inl refl) ends well in
       let holds = holds-at-end g rules (reads.law g) FlowStart (reads.starts g) text (whole-is-text g document) false r ends well in
-      (chunks, chunks-are-ready g.tab g.bytes k.events chunks formed.balanced formed.void_tight formed.in_order (reads.both g text k holds formed.balanced))
+      (chunks, chunks-are-ready g.tab g.bytes k.events chunks balanced tight in_order (reads.both g text k holds balanced))
 
   readable : ReadsParagraphs → HasReadableChains rules FlowStart
   readable reads g events sub document run =
       let same : run.result.configuration.events ≡ events = sym (run.events ∙ ap (λ (q : Configuration Unit Unit). q.events) run.resolved.0) in
-      subst (IsReady g.tab g.bytes (Some TextContent)) same (reading-readable reads g document run.result run.ends run.well run.well_formed).1
+      subst (IsReady g.tab g.bytes (Some TextContent)) same (reading-readable reads g document run.result run.ends run.well run.well_formed.balanced run.well_formed.void_tight run.well_formed.in_order).1
 
 paragraphs-reads : ReadsParagraphs paragraphs_rules
 paragraphs-reads = record {
@@ -62,9 +62,5 @@ document-readable g document =
     let some : 0 < g.tab = (let tab = document.tab.0 in omega (arith, tab)) in
     let it = reads-whole g (whole_text g) (paragraphs_rules g).step (paragraphs-reads.flow g) false 0 in
     let formed = paragraphs-formed g.tab g.bytes some in
-    let well : IsWellFormed g.bytes it.0.configuration = record {
-      balanced = subst IsBalanced (sym it.1.2) formed.0;
-      void_tight = subst IsVoidTight (sym it.1.2) formed.1;
-      in_order = subst (IsInOrder g.bytes) (sym it.1.2) formed.2;
-    } in
-    subst (λ l. AreChunks g.tab g.bytes l × IsReady g.tab g.bytes (Some TextContent) l) it.1.2 (reading-readable paragraphs_rules paragraphs-reads g document it.0 it.1.0 it.1.1 well)
+    subst (λ l. AreChunks g.tab g.bytes l × IsReady g.tab g.bytes (Some TextContent) l) it.1.2 (reading-readable paragraphs_rules paragraphs-reads g document it.0 it.1.0 it.1.1
+    (subst IsBalanced (sym it.1.2) formed.0) (subst IsVoidTight (sym it.1.2) formed.1) (subst (IsInOrder g.bytes) (sym it.1.2) formed.2))

@@ -1,5 +1,5 @@
 -- What reading a text from its start ends in, for a machine that leaves nothing to resolve; and so for the machine of texts, whose items are read one by one.
-use Rattle.mdconstructs_text.proofs.Prelude.{◌≡◌, List, [], Bool, true, false, Some, refl, sym, ◌∙◌, ap, subst, length, nat_lt, Contains, Event, Name, State, Next, Retry, Ok, TextStart, Subresult, Given, Text, IsText, Configuration, Step, start_configuration, with_local, fed, fed-ends, Sight, sight, Reading, EndsIn, Rules, row, done, resolved_by, taken, found, edits_made, IsResolved, with_resolvers, edited, one-end, KeepsInvariant, kept-well, lawful-kept, holds-at-start, counts, row_step, EndsWith, ℕ, zero, suc, ◌+◌, ◌≤◌, ◌==◌, ◌∷◌, ◌++◌, arith, eqb-true, take, drop, append-nil, append_assoc, drop-drop, flat_map, RawTextStart, TextBefore, Seat, Nothing, End, Local, is_special, spans_code, item_length, item_at, code_span_at, bytes_of, cut, item_events, text_events, at-front, goes-next, inl, inr, edited-none, edited-same, text_rules, text-lawful}
+use Rattle.mdconstructs_text.proofs.Prelude.{◌≡◌, List, [], Bool, true, false, Some, refl, sym, ◌∙◌, ap, subst, length, nat_lt, Contains, Event, Name, State, Next, Retry, Ok, TextStart, Subresult, Given, Text, IsText, Configuration, Step, start_configuration, with_local, fed, fed-ends, Sight, sight, Reading, EndsIn, Rules, row, done, resolved_by, taken, found, edits_made, IsResolved, LeavesEvents, with_resolvers, edited, one-end, KeepsInvariant, kept-well, lawful-kept, holds-at-start, counts, row_step, EndsWith, ℕ, zero, suc, ◌+◌, ◌≤◌, ◌==◌, ◌∷◌, ◌++◌, arith, eqb-true, take, drop, append-nil, append_assoc, drop-drop, flat_map, RawTextStart, TextBefore, Seat, Nothing, End, Local, is_special, spans_code, item_length, item_at, code_span_at, bytes_of, cut, item_events, text_events, at-front, goes-next, inl, inr, edited-none, edited-same, text_rules, text-lawful}
 use Rattle.mdconstructs_machines.proofs.LineReads.Steps.{leads-fed, leads-step, ended as ended-so}
 use Rattle.mdconstructs_text.proofs.Plain.Stretches.{seen}
 use Rattle.mdconstructs_text.proofs.Autolinks.Items.{adds-less}
@@ -104,6 +104,14 @@ module _ (g : Given) (text : Text) (is-text : IsText g text) where
   from-start flag =
       let k : Configuration Unit Unit = start_configuration flag in
       leads-on g text (text_step g) TextStart TextBefore (λ k. refl) k (text_events g text) (from-items (length text.seats) 0 false [] (counts k.local) text.seats refl (omega arith))
+
+-- The machine of texts leaves nothing to resolve
+pub texts-unresolved : (g : Given) (text : Text) → IsText g text → (flag : Bool) (r : Reading Unit Unit) → EndsIn g (text_rules g).step text 0 (start_configuration flag) [] (Next TextStart) r → r.answer ≡ Ok
+    → LeavesEvents true r.configuration
+texts-unresolved g text is flag r ends well = elim (holds-at-end g text_rules (text-lawful g).invariant_kept TextStart (1, omega arith, (cc)) text is flag r ends well) [
+  | inl h ↦ (h.known.resolvers, h.known.edits)
+  | inr h ↦ (h.0.0, h.0.1)
+]
 
 -- The machine of texts reads a text as its items, and so it is where all is resolved
 pub reads-items : (g : Given) → ReadsTexts g text_rules (text_events g)

@@ -1,5 +1,6 @@
-use Rattle.markdown_children.proofs.Prelude.{◌≡◌, ℕ, List, Option, length, sym, ◌∙◌, ap, subst, option_copied, Content, Event, IsBalanced, IsVoidTight, AreMutual, Edit, AreDisjoint, edited, given_by, err-if, IsInShape, HasEndsWithin, Child, lists, IsChild, StartAmong, SoFar, starts_below}
+use Rattle.markdown_children.proofs.Prelude.{◌≡◌, ℕ, List, Option, length, sym, ◌∙◌, ap, subst, option_copied, AreAtPlaces, Content, Event, IsBalanced, IsVoidTight, AreMutual, Edit, AreDisjoint, edited, given_by, err-if, IsInShape, HasEndsWithin, Child, lists, IsChild, StartAmong, SoFar, starts_below}
 use Rattle.markdown_children.proofs.ChildReads.SoFar.{lists-all}
+use Rattle.markdown_children.proofs.Parts.AtPlaces.{with_children_at_places}
 use Rattle.markdown_children.proofs.Parts.Edits.{edits_give_children}
 use Rattle.markdown_children.proofs.Parts.InShape.{children_fit}
 use Rattle.markdown_children.proofs.ChainOrder.Forward.{ends-inside}
@@ -48,6 +49,7 @@ returns-clause-ok g c =
       events = is;
       in_shape = subst IsInShape (sym is) (record { balanced = fit.balanced (each IsBalanced (λ c child is. is.in_shape.balanced)); inside = fit.inside; chained = fit.chained (each AreMutual (λ c child is. is.in_shape.chained)) });
       tight = λ old bs torn. subst IsVoidTight (sym is) (fit.tight old bs torn);
+      at_places = λ old new. subst (AreAtPlaces given.tab given.bytes) (sym is) (with_children_at_places given.tab given.bytes wanted events (lists s.children) old new);
       stays = fit.stays;
       links = fit.links;
       done = s.done;

@@ -19,6 +19,9 @@ returns-in-Ok-clause-ok c =
     let h = rw (c.in-Some.ensures.bytes, c.in-Some.ensures.options) at c.in-Ok.ensures.ok in
     h.events ∙ ap (λ (k : Configuration Unit Unit). k.events) h.resolved.0 ∙ (reads-whole g document h.result h.ends).1
 
+pub returns-in-Ok-clause-run : goal.returns-in-Ok-clause-run
+returns-in-Ok-clause-run c = (_, rw (c.in-Some.ensures.bytes, c.in-Some.ensures.options) at c.in-Ok.ensures.ok)
+
 pub unreachable-requires-in-Err-Message : goal.unreachable-requires-in-Err-Message
 unreachable-requires-in-Err-Message c =
     let g = given_by c.args.bytes.now c.args.options.now in

@@ -1,5 +1,9 @@
-use Rattle.markdown_tokenizer.proofs.Inside.Spans.{exited-sound, exited-seen}
+use Rattle.markdown_tokenizer.proofs.Prelude.{refl}
+use Rattle.markdown_tokenizer.proofs.Inside.Spans.{exited-sound, exited-seen, roomy-sound}
 use Rattle.markdown_tokenizer.proofs.tokenizer.Tokenizer.exit_slow.Goals as goal
+
+pub invariant_of-self : goal.invariant_of-self
+invariant_of-self g c = roomy-sound c.self.inside c.self.invariant c.make_room.new.events c.self.inside.stack c.make_room.ensures.items refl
 
 pub invariant_of-self-2 : goal.invariant_of-self-2
 invariant_of-self-2 g c =

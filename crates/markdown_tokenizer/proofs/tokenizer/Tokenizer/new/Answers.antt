@@ -1,4 +1,4 @@
-use Rattle.markdown_tokenizer.proofs.Prelude.{refl, Nothing}
+use Rattle.markdown_tokenizer.proofs.Prelude.{refl, All-nil, Event, IsPointOf, Nothing}
 use Rattle.markdown_tokenizer.proofs.Inside.Fields.{read-start}
 use Rattle.markdown_tokenizer.proofs.Inside.Known.{known-other, plain-none}
 use Rattle.markdown_tokenizer.proofs.Runs.Resolvers.{none-twice}
@@ -26,6 +26,7 @@ invariant_of-result g c =
         ended = λ h. absurd cc;
       };
       made = λ _. rw (c.new-events.ensures.items, c.new-stack.ensures.items) (start-made tab apart.0 bytes p c.requires.place);
+      at_places = λ _. rw c.new-events.ensures.items (All-nil (λ (e : Event). IsPointOf tab bytes e.point));
       kept_choices = rw c.new-kept_choices.ensures.items tt;
       once = rw c.new-resolvers.ensures.items (none-twice g.M.Resolver.PartialEq.eq);
       known = known-other c.new-skips.result p p.index bytes tab bytes refl 0 (plain-none c.new-skips.result p p.index) Nothing;

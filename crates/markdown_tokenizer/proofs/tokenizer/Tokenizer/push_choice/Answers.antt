@@ -15,6 +15,7 @@ invariant_of-self-2 g c =
     record {
       placed = sound.placed;
       made = sound.made;
+      at_places = sound.at_places;
       kept_choices = chosen-kept_choices t sound c.args.kind c.args.ok c.args.nok c.args.saves c.push.new.self.items put;
       once = sound.once;
       known = sound.known;

@@ -16,6 +16,7 @@ invariant_of-self-2 g c =
     record {
       placed = sound.placed;
       made = sound.made;
+      at_places = sound.at_places;
       kept_choices = sound.kept_choices;
       once = rw c.in_ok-push.ensures.items (IsDistinct-push laws items c.args.name sound.once (sym (turned g.M.Resolver.PartialEq.eq laws c.args.name items) ∙ absent));
       known = c.self.invariant.known;

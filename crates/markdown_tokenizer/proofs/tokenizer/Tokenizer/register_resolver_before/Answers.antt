@@ -9,6 +9,7 @@ invariant_of-self g c =
     record {
       placed = sound.placed;
       made = sound.made;
+      at_places = sound.at_places;
       kept_choices = sound.kept_choices;
       once = rw c.in_ok-insert.ensures.items (IsDistinct-cons same c.args.name items (none-equal same laws c.args.name items (sym (turned same laws c.args.name items) ∙ absent)) sound.once);
       known = c.self.invariant.known;
