@@ -19,7 +19,7 @@ ghost use Rattle.limecove.specs.Records.{filled, HoldsEventsOf};
 
 use crate::choose::{Options, TextOptions, choose, constructs_of, tab_of};
 use crate::record::{Record, write_records};
-use mdconstructs::{events_of, limit_of, options_with, read_text};
+use mdconstructs::{events_of, limit_of, options_with, text_events_of};
 use std::alloc::Global;
 
 /// The version of the functions, options and records. It changes with each of their layouts and meanings. A function that is added
@@ -81,7 +81,7 @@ pub extern "C" fn limecove_read_text(
         return ended(TOO_LONG, 0);
     }
     let options = options_with(constructs_of(options), tab);
-    match read_text(alloc, bytes, &options, &[]) {
+    match text_events_of(alloc, bytes, &options) {
         Ok(events) => ended(READ, write_records(records, events.as_slice())),
         Err(_) => ended(OUT_OF_MEMORY, 0),
     }

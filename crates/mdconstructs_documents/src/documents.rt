@@ -2,7 +2,8 @@
 
 ghost use Rattle.std.specs.Prelude.{◌≡◌, IfOk, IfErr};
 ghost use Rattle.markdown_base.specs.Virtual.{IsWithinLimit};
-ghost use Rattle.markdown_tokenizer.specs.Engine.{AreCuts};
+ghost use Rattle.markdown_tokenizer.specs.Engine.{AreCuts, given_by, whole_text};
+ghost use Rattle.mdconstructs_text.specs.TextEvents.{text_events};
 ghost use Rattle.mdconstructs_documents.specs.Choices.{CanCut};
 ghost use Rattle.mdconstructs_documents.specs.Documents.{options_with, cut_places, AreEventsOf};
 
@@ -40,6 +41,34 @@ pub fn events_of(
         Err(Unmade::Fault(Fault::Memory)) => Err(AllocError),
         Err(_) => unreachable!(),
     }
+}
+
+/// The events of a whole document, read as text: those of `read_text`. It reads by the same run of the machine of texts as
+/// [`events_of`]. So a library that has both has the engine's loop for that machine once, with the machine's states in it.
+///
+/// It fails only if it runs out of memory.
+pub fn text_events_of(
+    alloc: Global,
+    bytes: &[u8],
+    options: &ParseOptions,
+) -> Result<Vec<Event>, AllocError>
+    requires limit { IsWithinLimit options.now.tab_size bytes.now }
+    ensures { IfOk result (λ events. let g = given_by bytes.now options.now in events.items ≡ text_events g (whole_text g)) }
+{
+    match read_as_text(alloc, bytes, options) {
+        Ok(events) => Ok(events),
+        Err(Unmade::Fault(Fault::Memory)) => Err(AllocError),
+        Err(_) => unreachable!(),
+    }
+}
+
+/// As [`text_events_of`], with the reason for which there are no events.
+fn read_as_text(alloc: Global, bytes: &[u8], options: &ParseOptions) -> Result<Vec<Event>, Unmade>
+    requires limit { IsWithinLimit options.now.tab_size bytes.now }
+    ensures events { IfOk result (λ events. let g = given_by bytes.now options.now in events.items ≡ text_events g (whole_text g)) }
+    ensures err { IfErr result (λ unmade. unmade ≡ Unmade.Fault Fault.Memory) }
+{
+    read_by(alloc, &Text {}, Name::TextStart, bytes, options, &[])
 }
 
 /// The default options, but with these constructs and this size of tabs.
