@@ -18,8 +18,8 @@ use markdown::util::skip::to;
 use mdconstructs::Text;
 use std::alloc::{AllocError, Global};
 
-/// The places of the code spans of a document, a line each, as `1:5 to 1:8`. The document is pushed in ranges of `size` virtual
-/// bytes; the result does not depend on it. Returns `None` if the document is too long: the tab size times its length, and one
+/// The places of the code spans of a document, a line each, as `1:5 to 1:8`, and how many events there are. The document is
+/// pushed in ranges of `size` virtual bytes; the result does not depend on it. Returns `None` if the document is too long: the tab size times its length, and one
 /// more, must fit `usize`.
 pub fn code_spans(alloc: Global, bytes: &[u8], size: usize) -> Result<Option<String>, Fault>
     requires { 0 < size }
@@ -106,7 +106,7 @@ fn drop_first(alloc: Global, events: &mut Vec<Event>, name: event::Name) -> Resu
     map.consume(events)
 }
 
-/// The places of the code spans among events, a line each.
+/// The places of the code spans among events, a line each, and how many events there are.
 fn listed(alloc: Global, events: &[Event]) -> Result<String, AllocError> {
     let mut text = String::new(alloc);
     for event in events {
@@ -118,5 +118,6 @@ fn listed(alloc: Global, events: &[Event]) -> Result<String, AllocError> {
             }
         }
     }
+    writeln!(text, "{} events", events.len())?;
     Ok(text)
 }
