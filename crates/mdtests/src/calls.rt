@@ -11,21 +11,93 @@ use std::alloc::Global;
 use std::process::ExitCode;
 
 /// Whether the program's arguments choose this, and nothing fails.
-fn chooses(alloc: Global, words: &[u8], cut: usize, deep: bool, machine: Which) -> bool {
+fn chooses(
+    alloc: Global,
+    words: &[u8],
+    cut: usize,
+    deep: bool,
+    machine: Which,
+    tab: usize,
+) -> bool {
+    let Some(tab) = TabSize::new(tab) else {
+        return false;
+    };
     let system = (CalledWith::new(words), alloc);
     let chosen = choice_of(&system);
-    chosen == Ok(Some(choice(cut, deep, machine, TabSize::default())))
+    chosen == Ok(Some(choice(cut, deep, machine, tab)))
 }
+
+/// Arguments, and what they choose: the cut, whether chunks are read too, the machine and the tab size.
+const CHOSEN: &[(&[u8], usize, bool, Which, usize)] = &[
+    (b"mdevents", 0, false, Which::Lines, 4),
+    (
+        b"mdevents --tab 16 --machine lines",
+        0,
+        false,
+        Which::Lines,
+        16,
+    ),
+    (
+        b"mdevents --tab 16 --deep --machine paragraphs",
+        0,
+        true,
+        Which::Paragraphs,
+        16,
+    ),
+    (
+        b"mdevents --tab 16 --machine peek",
+        0,
+        false,
+        Which::Peek,
+        16,
+    ),
+    (
+        b"mdevents --machine deep --tab 16",
+        0,
+        false,
+        Which::Deep,
+        16,
+    ),
+    (
+        b"mdevents --machine back --tab 16",
+        0,
+        false,
+        Which::Back,
+        16,
+    ),
+    (
+        b"mdevents --machine save --tab 16",
+        0,
+        false,
+        Which::Save,
+        16,
+    ),
+    (
+        b"mdevents --machine text --tab 16 --deep",
+        0,
+        true,
+        Which::Text,
+        16,
+    ),
+    (
+        b"mdevents --machine paragraphs --tab 4 --deep --cut 1",
+        1,
+        true,
+        Which::Paragraphs,
+        4,
+    ),
+];
 
 /// The words may be many, and a number may have many digits.
 #[test]
 fn takes_the_words_after_the_name(rt: HostRuntime) {
-    let words = b"mdevents --machine paragraphs --tab 4 --deep --cut 1";
-    assert!(rt; chooses(rt.alloc(), words, 1, true, Which::Paragraphs));
+    for &(words, cut, deep, machine, tab) in CHOSEN {
+        assert!(rt; chooses(rt.alloc(), words, cut, deep, machine, tab));
+    }
     let mut long = [b'0'; 1000];
     long[..15].copy_from_slice(b"mdevents --cut ");
     long[999] = b'7';
-    assert!(rt; chooses(rt.alloc(), &long, 7, false, Which::Lines));
+    assert!(rt; chooses(rt.alloc(), &long, 7, false, Which::Lines, 4));
 }
 
 /// How a call of the program ended: its status, what it wrote and what it showed on standard error.
@@ -83,6 +155,10 @@ const PARAGRAPH: &[u8] =
 
 const DATA: &[u8] = b"enter Data 1:1 (0+0)\nexit Data 1:3 (2+0)\n";
 
+/// With tab stops at every eight columns, a code span behind a tab.
+const CODE_BEHIND_A_TAB: &[u8] =
+    b"enter Paragraph 1:1 (0+0)\nenter Data 1:1 (0+0)\nexit Data 1:9 (1+0)\nenter CodeText 1:9 (1+0)\nenter CodeTextSequence 1:9 (1+0)\nexit CodeTextSequence 1:10 (2+0)\nenter CodeTextData 1:10 (2+0)\nexit CodeTextData 1:11 (3+0)\nenter CodeTextSequence 1:11 (3+0)\nexit CodeTextSequence 1:12 (4+0)\nexit CodeText 1:12 (4+0)\nexit Paragraph 1:12 (4+0)\n";
+
 /// Arguments, the status, what is written for `ab`, and what is shown on standard error.
 const CALLS: &[(&[u8], u8, &[u8], &[u8])] = &[
     (b"mdevents", 0, PARAGRAPH, b""),
@@ -103,6 +179,12 @@ const CALLS: &[(&[u8], u8, &[u8], &[u8])] = &[
     (b"mdevents --tab 17", 2, b"", USAGE_SHOWN),
     (b"mdevents --machine forth", 2, b"", USAGE_SHOWN),
     (b"mdevents --deep", 2, b"", USAGE_SHOWN),
+    (
+        b"mdevents --machine text --deep --tab 4 --cut 1 x",
+        2,
+        b"",
+        USAGE_SHOWN,
+    ),
     (b"mdevents --machine lines --deep", 2, b"", USAGE_SHOWN),
     (b"mdevents ", 2, b"", USAGE_SHOWN),
     (b"mdevents \xff", 2, b"", USAGE_SHOWN),
@@ -114,6 +196,9 @@ fn does_what_the_words_choose(rt: HostRuntime) {
         let ended = call(rt.alloc(), words, b"ab", ALL, ALL, false);
         assert!(rt; ended.is(status, written, shown));
     }
+    let words = b"mdevents --machine text --deep --tab 8";
+    let ended = call(rt.alloc(), words, b"\t`a`", ALL, ALL, false);
+    assert!(rt; ended.is(0, CODE_BEHIND_A_TAB, b""));
 }
 
 /// Reads four bytes, one a read, and the end. A body that reads again after an error succeeds too early.

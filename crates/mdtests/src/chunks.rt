@@ -90,6 +90,14 @@ pub(crate) const EMPTY_CHUNK: [Row; 5] = [
     Exit(Name::Paragraph, (2, 2, 3, 0)),
 ];
 
+/// A paragraph that begins with a chunk of no text, in a chain of its own.
+pub(crate) const ONE_EMPTY_CHUNK: [Row; 4] = [
+    Enter(Name::Paragraph, (1, 1, 0, 0)),
+    Chunk((1, 1, 0, 0), (1, 1, 0, 0), Content::Text, None, None),
+    Span(Name::Data, (1, 1, 0, 0), (1, 2, 1, 0)),
+    Exit(Name::Paragraph, (1, 2, 1, 0)),
+];
+
 /// A chain around another one, in `"ab\ncd"`.
 pub(crate) const CHAIN_AROUND_ANOTHER: [Row; 4] = [
     Chunk((1, 1, 0, 0), (1, 2, 1, 0), Content::String, None, Some(6)),

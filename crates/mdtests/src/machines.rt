@@ -6,6 +6,7 @@ ghost use Rattle.markdown.specs.Presets.{default_parse_options};
 ghost use Rattle.markdown.specs.Engine.{given_by};
 
 use crate::shown::{assert_shown, shown};
+use crate::written::repeated;
 use markdown::configuration::ParseOptions;
 use markdown::parser::ParseState;
 use markdown::state::{Machine, Name};
@@ -135,6 +136,53 @@ fn any_byte_is_text(rt: HostRuntime) -> Result<(), AllocError> {
             _ => "Data 1:1 (0+0) to 1:2 (1+0)",
         };
         assert_shown(&rt, lines_of_text(rt.alloc(), &[byte], 99), want)?;
+    }
+    Ok(())
+}
+
+/// The events of a part, this many times, by the machine of words or as text.
+fn lines_of_many(
+    alloc: Global,
+    part: &[u8],
+    count: usize,
+    words: bool,
+) -> Result<String, AllocError> {
+    let text = repeated(alloc, b"", part, count)?;
+    let bytes = text.as_slice();
+    if bytes.len() > 9999 {
+        return Err(AllocError);
+    }
+    if words {
+        lines_by(alloc, &Words {}, Name::TextStart, bytes, 9999, false)
+    } else {
+        lines_of_text(alloc, bytes, 9999)
+    }
+}
+
+/// A part, how many times it is read, whether by the machine of words, and how its events end. An angle bracket that begins no
+/// autolink is data of its own.
+const MANY: &[(&[u8], usize, bool, &str)] = &[
+    (
+        b"<",
+        6000,
+        false,
+        "; Data 1:5999 (5998+0) to 1:6000 (5999+0); Data 1:6000 (5999+0) to 1:6001 (6000+0)",
+    ),
+    (
+        b"#b ",
+        100,
+        true,
+        "; HeadingAtxSequence 1:298 (297+0) to 1:299 (298+0); Data 1:299 (298+0) to 1:300 (299+0); \
+        SpaceOrTab 1:300 (299+0) to 1:301 (300+0)",
+    ),
+];
+
+/// Texts may be long, and have many choices or tags.
+#[test]
+fn long_texts_are_read(rt: HostRuntime) -> Result<(), AllocError> {
+    for &(part, count, words, end) in MANY {
+        let made = lines_of_many(rt.alloc(), part, count, words)?;
+        assert!(rt; made.as_str().ends_with(end));
     }
     Ok(())
 }

@@ -7,7 +7,9 @@ ghost use Rattle.markdown.specs.Engine.{given_by};
 ghost use Rattle.markdown.specs.Reads.{start_name};
 
 use crate::chunks::Row::{Chunk, Enter, Exit, Span};
-use crate::chunks::{CHAIN_AROUND_ANOTHER, CHAIN_AROUND_CHILDREN, EMPTY_CHUNK, QUOTE, Row, listed};
+use crate::chunks::{
+    CHAIN_AROUND_ANOTHER, CHAIN_AROUND_CHILDREN, EMPTY_CHUNK, ONE_EMPTY_CHUNK, QUOTE, Row, listed,
+};
 use crate::shown::{assert_shown, push_answer, push_events};
 use markdown::configuration::ParseOptions;
 use markdown::event::{Content, Event, Name};
@@ -176,6 +178,14 @@ const LISTS: &[(&[Row], &[u8], Reader, &str)] = &[
         "done: false, notes: 0, definitions:\n\
             enter Paragraph 1:1 (0+0); Data 1:1 (0+0) to 1:2 (1+0); LineEnding 1:2 (1+0) to 2:1 (2+0); \
             Data 2:1 (2+0) to 2:2 (3+0); exit Paragraph 2:2 (3+0)",
+    ),
+    // A chain of no text has no events.
+    (
+        &ONE_EMPTY_CHUNK,
+        b"a",
+        Reader::Lines,
+        "done: false, notes: 0, definitions:\n\
+            enter Paragraph 1:1 (0+0); Data 1:1 (0+0) to 1:2 (1+0); exit Paragraph 1:2 (1+0)",
     ),
     // A chain around the edits keeps both ends.
     (

@@ -45,8 +45,16 @@ fn register(t: &mut Tokenizer<Types>) -> Result<(), AllocError> {
     t.register_resolver(3)
 }
 
-/// Begins and registers. Appends the events, whether each resolver is registered once, in order, and how many spans are open after
-/// three hundred more.
+/// Forty-seven more resolvers are registered.
+fn register_more(t: &mut Tokenizer<Types>) -> Result<(), AllocError> {
+    for name in 4..51 {
+        t.register_resolver(name)?;
+    }
+    Ok(())
+}
+
+/// Begins and registers. Appends the events, whether each resolver is registered once, in order, how many spans are open after
+/// three hundred more, and how many resolvers there are then.
 fn push_all(text: &mut String, t: &mut Tokenizer<Types>) -> Result<(), AllocError> {
     begin(t)?;
     push_events(text, t.events())?;
@@ -55,7 +63,12 @@ fn push_all(text: &mut String, t: &mut Tokenizer<Types>) -> Result<(), AllocErro
     for _ in 0..300 {
         t.enter(Name::BlockQuote)?;
     }
-    write!(text, "; in order: {in_order}; {} open", t.stack().len())
+    register_more(t)?;
+    let (open, resolvers) = (t.stack().len(), t.resolvers().len());
+    write!(
+        text,
+        "; in order: {in_order}; {open} open, {resolvers} resolvers"
+    )
 }
 
 /// What is begun and registered by a new tokenizer.
@@ -78,6 +91,6 @@ fn spans_choices_and_resolvers_begin(rt: HostRuntime) -> Result<(), AllocError> 
         machine: &Types {},
     };
     let want =
-        "enter Paragraph 1:1 (0+0); enter Data 1:1 (0+0) Text None None; in order: true; 302 open";
+        "enter Paragraph 1:1 (0+0); enter Data 1:1 (0+0) Text None None; in order: true; 302 open, 50 resolvers";
     assert_shown(&rt, begun(rt.alloc(), &parse_state), want)
 }

@@ -93,7 +93,7 @@ const WRITTEN: &[(&[u8], Which, bool, usize, &[u8])] = &[
     (b"a\r\nb", Which::Lines, false, 4, TWO_LINES),
     (b"\ta", Which::Lines, false, 4, AFTER_TAB),
     (b"\ta", Which::Lines, false, 2, AFTER_TAB_OF_TWO),
-    (b"a\xc3\xa9\xff", Which::Save, false, 4, b""),
+    (b"a\0\xc3\xa9\xff", Which::Save, false, 4, b""),
     (b"a\nb\nc", Which::Peek, false, 4, THREE_DATA),
     (b"a\nb\nc", Which::Back, false, 4, FIRST_AND_REST),
     (b"a\n> b", Which::Save, false, 4, SECOND_LINE),
@@ -139,6 +139,21 @@ fn writes_the_events_of_long_documents(rt: HostRuntime) -> Result<(), AllocError
     Ok(())
 }
 
+/// A beginning, and then a line, this many times.
+pub(crate) fn repeated(
+    alloc: Global,
+    before: &[u8],
+    line: &[u8],
+    count: usize,
+) -> Result<Vec<u8>, AllocError> {
+    let mut text = Vec::new(alloc);
+    text.extend_from_slice(before)?;
+    for _ in 0..count {
+        text.extend_from_slice(line)?;
+    }
+    Ok(text)
+}
+
 /// What is written for a beginning, and then a line, this many times.
 fn of_lines(
     alloc: Global,
@@ -149,11 +164,7 @@ fn of_lines(
 ) -> Result<Vec<u8>, AllocError>
     requires { CanCut choice.now }
 {
-    let mut document = Vec::new(alloc);
-    document.extend_from_slice(before)?;
-    for _ in 0..count {
-        document.extend_from_slice(line)?;
-    }
+    let document = repeated(alloc, before, line, count)?;
     let mut reader = document.as_slice();
     let mut written = Vec::new(alloc);
     match write_events(alloc, &mut reader, &mut written, choice) {
