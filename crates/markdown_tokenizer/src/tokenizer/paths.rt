@@ -83,7 +83,7 @@ fn put_exit(events: &mut Vec<Event>, stack: &mut Vec<Name>, name: Name, point: P
 impl<'a, M: MachineTypes> Tokenizer<'a, M> {
     /// Consumes the byte that waits if it is in no tab and ends no line, as nearly every byte. Returns whether it did.
     #[inline(always)]
-    pub(super) fn consume_plain(&mut self) -> bool
+    pub(crate) fn consume_plain(&mut self) -> bool
         requires { self.old.configuration.waiting ≡ Waits.Byte }
         ensures done { OnTrue result (self.new ≡ at_configuration self.old (consumed self.old.configuration)) }
         ensures same { OnFalse result (self.new ≡ self.old) }
@@ -104,7 +104,7 @@ impl<'a, M: MachineTypes> Tokenizer<'a, M> {
 
     /// As `consume`. It is called for a byte in a tab, and for a line ending. A byte of which less is known goes on to `consume_any`.
     #[inline(never)]
-    pub(super) fn consume_known(&mut self)
+    pub(crate) fn consume_known(&mut self)
         requires { self.old.configuration.waiting ≡ Waits.Byte }
         ensures { self.new ≡ at_configuration self.old (consumed self.old.configuration) }
     {
@@ -146,7 +146,7 @@ impl<'a, M: MachineTypes> Tokenizer<'a, M> {
 
     /// Begins a span, with a link if one is given, if there is room, and no gap to look for, as nearly always. Returns whether it did.
     #[inline(always)]
-    pub(super) fn enter_fast(&mut self, name: Name, link: Option<Link>) -> bool
+    pub(crate) fn enter_fast(&mut self, name: Name, link: Option<Link>) -> bool
         ensures done { OnTrue result (self.new ≡ with_enter name link self.old) }
         ensures same { OnFalse result (self.new ≡ self.old) }
     {
@@ -169,7 +169,7 @@ impl<'a, M: MachineTypes> Tokenizer<'a, M> {
     /// each call, to hand it on.
     #[cold]
     #[inline(never)]
-    pub(super) fn enter_slow_unlinked(&mut self, name: Name) -> Result<(), AllocError>
+    pub(crate) fn enter_slow_unlinked(&mut self, name: Name) -> Result<(), AllocError>
         ensures ok { OnOk result (self.new ≡ with_enter name None self.old) }
         ensures err { OnErr result (self.new ≡ self.old) }
     {
@@ -179,7 +179,7 @@ impl<'a, M: MachineTypes> Tokenizer<'a, M> {
     /// As `enter`, with a link if one is given. It is called if there may be no room, or a gap to look for.
     #[cold]
     #[inline(never)]
-    pub(super) fn enter_slow(&mut self, name: Name, link: Option<Link>) -> Result<(), AllocError>
+    pub(crate) fn enter_slow(&mut self, name: Name, link: Option<Link>) -> Result<(), AllocError>
         ensures ok { OnOk result (self.new ≡ with_enter name link self.old) }
         ensures err { OnErr result (self.new ≡ self.old) }
     {
@@ -193,7 +193,7 @@ impl<'a, M: MachineTypes> Tokenizer<'a, M> {
 
     /// Ends the innermost span if there is room, as nearly always. Returns whether it did.
     #[inline(always)]
-    pub(super) fn exit_fast(&mut self, name: Name) -> bool
+    pub(crate) fn exit_fast(&mut self, name: Name) -> bool
         requires { CanExit name self.old }
         ensures done { OnTrue result (self.new ≡ with_exit name self.old) }
         ensures same { OnFalse result (self.new ≡ self.old) }
@@ -213,7 +213,7 @@ impl<'a, M: MachineTypes> Tokenizer<'a, M> {
     /// As `exit`. It is called if there is no room.
     #[cold]
     #[inline(never)]
-    pub(super) fn exit_slow(&mut self, name: Name) -> Result<(), AllocError>
+    pub(crate) fn exit_slow(&mut self, name: Name) -> Result<(), AllocError>
         requires { CanExit name self.old }
         ensures ok { OnOk result (self.new ≡ with_exit name self.old) }
         ensures err { OnErr result (self.new ≡ self.old) }
@@ -228,7 +228,7 @@ impl<'a, M: MachineTypes> Tokenizer<'a, M> {
     ///
     /// If the byte at the index of the place is enough to tell it, as nearly always, it is fed here.
     #[inline(always)]
-    pub(super) fn feed(&mut self) -> bool
+    pub(crate) fn feed(&mut self) -> bool
         ensures fed { OnTrue result (self.new ≡ at_configuration self.old (fed self.old.text self.old.configuration)) }
         ensures more { OnTrue result (self.old.configuration.position < length self.old.text.seats) }
         ensures same { OnFalse result (self.new ≡ self.old) }
