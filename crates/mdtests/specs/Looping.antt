@@ -20,19 +20,21 @@ use Rattle.mdconstructs.specs.RowInvariant.{IsFed}
 abbrev pub again : Choice
 again = record { kind = Attempt; ok = Next TextStart; nok = Nok; saved = None }
 
--- the state that tries: at a byte, and at the end
-abbrev pub tries : Option ℕ → Configuration Unit Unit → Step Unit Unit
-tries None k = record { configuration = k; choices = []; answer = Ok }
-tries (Some byte) k = record { configuration = consumed k; choices = again ∷ []; answer = Next DataInside }
+-- what the state that tries does, at the end and at a byte
+abbrev pub looks_on : Option ℕ → Configuration Unit Unit → Step Unit Unit
+looks_on None k = record { configuration = k; choices = []; answer = Ok }
+looks_on (Some byte) k = record { configuration = consumed k; choices = again ∷ []; answer = Next DataInside }
 
 -- what was tried is there at once
 abbrev pub looping_step : Sight → Configuration Unit Unit → Name → Step Unit Unit
-looping_step s k name = cond (name.number == DataInside.number) (record { configuration = k; choices = []; answer = Ok }) (tries s.current k)
+looping_step s k name = cond (name.number == DataInside.number) (record { configuration = k; choices = []; answer = Ok }) (looks_on s.current k)
 
 -- the attempt waits while what was tried is read, and only then
 abbrev pub waits_for : Name → List Choice
 waits_for name = cond (name.number == DataInside.number) (again ∷ []) []
 
+-- The invariant: no span is open, the attempt waits where it has to, and something waits exactly where a state is called. A reading ends
+-- once the end was fed
 abbrev pub looping_holds : Text → Configuration Unit Unit → List Choice → State → Type 0
 looping_holds text k choices (Next name) = (k.stack ≡ []) × (choices ≡ waits_for name) × (k.waiting ≡ Nothing)
 looping_holds text k choices (Retry name) = (k.stack ≡ []) × (choices ≡ waits_for name) × IsFed k.waiting k.position k.ended text
@@ -43,12 +45,14 @@ looping_holds text k choices _ = ⊥
 abbrev pub round : Text → Configuration Unit Unit → ℕ
 round text k = 2 * (length text.seats - k.position) + 1
 
+-- what was tried takes one call more than what comes after it
 abbrev pub looping_cost : Text → Configuration Unit Unit → List Choice → State → ℕ
 looping_cost text k choices (Next name) = cond (name.number == DataInside.number) (round text k + 1) (round text k)
 looping_cost text k choices (Retry name) = cond (name.number == DataInside.number) (round text k + 1) (round text k)
 looping_cost text k [] state = 0
 looping_cost text k choices state = round text k
 
+-- what it does and keeps
 abbrev pub looping_parts : Rules Unit Unit
 looping_parts = record {
   step = looping_step;

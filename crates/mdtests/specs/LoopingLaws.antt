@@ -21,18 +21,18 @@ use Rattle.markdown.specs.Plain.{IsPlain}
 use Rattle.mdconstructs.specs.RowInvariant.{IsFed}
 use Rattle.markdown_tokenizer.proofs.Readings.Plain as machines
 use Rattle.mdconstructs_tables.proofs.GrowingTexts.{seat-at, extends, fed-position, waits-longer}
-use Rattle.mdtests.specs.Looping.{again, tries, looping_step, waits_for, looping_holds, round, looping_cost, looping_rules, looping_parts}
+use Rattle.mdtests.specs.Looping.{again, looks_on, looping_step, waits_for, looping_holds, round, looping_cost, looping_rules, looping_parts}
 
--- what is at each call: the attempt waits where what was tried is read, and nothing waits where the state tries
+-- what is at each call: the attempt waits where what was tried is read, and nothing waits where the state looks_on
 at-call : (P : Bool → List Choice → Step Unit Unit → Type 0) (o : Option ℕ) (k : Configuration Unit Unit) (b : Bool) (choices : List Choice) → choices ≡ cond b (again ∷ []) []
-    → P true (again ∷ []) (record { configuration = k; choices = []; answer = Ok }) → P false [] (tries o k)
-    → P b choices (cond b (record { configuration = k; choices = []; answer = Ok }) (tries o k))
+    → P true (again ∷ []) (record { configuration = k; choices = []; answer = Ok }) → P false [] (looks_on o k)
+    → P b choices (cond b (record { configuration = k; choices = []; answer = Ok }) (looks_on o k))
 at-call P o k true choices e one other = rw e one
 at-call P o k false choices e one other = rw e other
 
 at-try : (Q : Step Unit Unit → Type 0) (text : Text) (k : Configuration Unit Unit) (w : Waits) → k.waiting ≡ w → IsFed w k.position k.ended text
-    → (k.ended ≡ true → Q (tries None k)) → ((byte : ℕ) → k.waiting ≡ Byte → k.position < length text.seats → Q (tries (Some byte) k))
-    → Q (tries (current_of text k.position w) k)
+    → (k.ended ≡ true → Q (looks_on None k)) → ((byte : ℕ) → k.waiting ≡ Byte → k.position < length text.seats → Q (looks_on (Some byte) k))
+    → Q (looks_on (current_of text k.position w) k)
 at-try Q text k Nothing e fed one two = absurd fed
 at-try Q text k Byte e fed one two = let (s, is) = seat-at text k.position fed in rw is (two s.byte e fed)
 at-try Q text k End e fed one two = one fed.0
@@ -41,8 +41,8 @@ module _ (g : Given) where
   -- a law about each call
   each-call : (P : Text → Configuration Unit Unit → Bool → List Choice → Step Unit Unit → Type 0)
       → ((text : Text) (k : Configuration Unit Unit) → k.stack ≡ [] → P text k true (again ∷ []) (record { configuration = k; choices = []; answer = Ok }))
-      → ((text : Text) (k : Configuration Unit Unit) → k.stack ≡ [] → k.ended ≡ true → P text k false [] (tries None k))
-      → ((text : Text) (k : Configuration Unit Unit) (byte : ℕ) → k.stack ≡ [] → k.waiting ≡ Byte → k.position < length text.seats → P text k false [] (tries (Some byte) k))
+      → ((text : Text) (k : Configuration Unit Unit) → k.stack ≡ [] → k.ended ≡ true → P text k false [] (looks_on None k))
+      → ((text : Text) (k : Configuration Unit Unit) (byte : ℕ) → k.stack ≡ [] → k.waiting ≡ Byte → k.position < length text.seats → P text k false [] (looks_on (Some byte) k))
       → (text : Text) (k : Configuration Unit Unit) (choices : List Choice) (name : Name) → looping_holds text k choices (Retry name)
       → P text k (name.number == DataInside.number) choices (looping_step (sight g text k) k name)
   each-call P one two three text k choices name h =
@@ -131,7 +131,7 @@ module _ (g : Given) where
     for_nok = λ text k choice choices is h. absurd h;
   }
 
-  step-plain : (b : Bool) (o : Option ℕ) (k : Configuration Unit Unit) → IsPlain k → IsPlain (cond b (record { configuration = k; choices = []; answer = Ok }) (tries o k)).configuration
+  step-plain : (b : Bool) (o : Option ℕ) (k : Configuration Unit Unit) → IsPlain k → IsPlain (cond b (record { configuration = k; choices = []; answer = Ok }) (looks_on o k)).configuration
   step-plain true o k h = h
   step-plain false None k h = h
   step-plain false (Some byte) k h = h
