@@ -23,7 +23,7 @@ pub use mdconstructs_machines::wrap::Wrap;
 pub use mdconstructs_machines::{
     back, begin, deep, fail, lines, paragraphs, peek, save, words, wrap,
 };
-pub use mdconstructs_tables::marker;
+pub use mdconstructs_tables::{chunks, marker};
 pub use mdconstructs_text::read::read_text;
 pub use mdconstructs_text::text::Text;
 pub use mdconstructs_text::{read, text};

@@ -34,6 +34,7 @@ pub use Rattle.markdown_tokenizer.specs.declared.waiting.AttemptKind.{AttemptKin
 pub use Rattle.markdown_tokenizer.specs.declared.waiting.AttemptKind.TheVariants.{Attempt, Check}
 pub use Rattle.markdown_tokenizer.specs.declared.waiting.Waits.{Waits}
 pub use Rattle.markdown_tokenizer.specs.declared.waiting.Waits.TheVariants.{Byte, End, Nothing}
+pub use Rattle.mdconstructs_tables.specs.Chunks.{chunk_before, connected, last_event}
 pub use Rattle.mdconstructs_tables.proofs.Rows.Calls.{callable}
 pub use Rattle.mdconstructs_tables.proofs.Tables.Refusals.{nothing-found, refuse-nothing, table-steps}
 pub use Rattle.mdconstructs_tables.specs.Fitting.{IsFit}
@@ -56,7 +57,7 @@ pub use Rattle.mdconstructs_machines.specs.Laws.Save.{save-none}
 pub use Rattle.mdconstructs_machines.specs.LineEvents.{all_of, back_events, data_events, data_line, ending_of, is_line_ending, joined, line_events, line_text, lines_in, paragraph_line, save_events}
 pub use Rattle.mdconstructs_machines.specs.Lines.{flow_start, lines, lines_rules, paragraph_inside, paragraph_inside_rows}
 pub use Rattle.mdconstructs_machines.specs.ParagraphEvents.{Block, Chunk, Marked, as_linked, begins, blank, block_marks, blocks_marks, blocks_of, chunk_at, chunk_of, continued, is_blank, is_quoted, line_marks, lines_marks, mark_of, marked_span, paragraph, paragraph_events, with_links}
-pub use Rattle.mdconstructs_machines.specs.Paragraphs.{CanLinkChunk, chunk_before, connected, flow_start_rows, is_quote_mark, last_event, paragraph_line_start_rows, paragraph_start_rows, paragraphs, paragraphs_rules, text_link}
+pub use Rattle.mdconstructs_machines.specs.Paragraphs.{CanLinkChunk, flow_start_rows, is_quote_mark, paragraph_line_start_rows, paragraph_start_rows, paragraphs, paragraphs_rules, text_link}
 pub use Rattle.mdconstructs_machines.specs.Peek.{peek, peek_rules}
 pub use Rattle.mdconstructs_machines.specs.ReadAs.{IsReadAs}
 pub use Rattle.mdconstructs_machines.specs.Save.{save, save_rules}

@@ -1,6 +1,6 @@
 -- The machine of paragraphs: adjacent lines are a paragraph. Each line is a chunk of text, linked to the chunk before. A line may begin
 -- with a quote mark.
-use Rattle.std.specs.Prelude.{◌≡◌, ℕ, ◌-◌, ◌==◌, ◌∷◌, ◌++◌, [], List, Bool, true, false, Option, Some, None, length}
+use Rattle.std.specs.Prelude.{◌≡◌, ℕ, ◌==◌, ◌∷◌, ◌++◌, [], List, Bool, true, false, Option, Some, None, length}
 use Rattle.markdown_base.specs.declared.event.Content.TheVariants.{Text as TextContent}
 use Rattle.markdown_base.specs.declared.event.Event.{Event}
 use Rattle.markdown_base.specs.declared.event.Link.{Link}
@@ -11,10 +11,11 @@ use Rattle.markdown_base.specs.declared.state.TheConstants.Name.{FlowStart, Para
 use Rattle.markdown_tokenizer.specs.Text.{Given}
 use Rattle.markdown_tokenizer.specs.Configuration.{Configuration, Local, Choice, TokenizerValue}
 use Rattle.markdown_tokenizer.specs.Sight.{Sight, sight_of}
-use Rattle.markdown_tokenizer.specs.Calls.{entered, linked}
+use Rattle.markdown_tokenizer.specs.Calls.{entered}
 use Rattle.markdown_edits.specs.Links.{CanLink, IsLinkedEnter, IsEndedBy, content_of}
 use Rattle.markdown_tokenizer.specs.Rules.{Rules}
 use Rattle.mdconstructs_tables.specs.Rows.{enter, enter_link, exit, consume, links, write, Rows, row, when, at_byte, StateRows, calls, state, Table}
+use Rattle.mdconstructs_tables.specs.Chunks.{is_connected, alone, last_event, chunk_before, connected}
 use Rattle.mdconstructs_tables.specs.Knowledge.{knowing_rules}
 use Rattle.mdconstructs_tables.specs.LinkShapes.{next_end, AreInShape}
 use Rattle.mdconstructs_machines.specs.Tables.{LineByte, line_ending, other, line_byte, is_other, is_any, counts}
@@ -28,32 +29,9 @@ is_quote_mark (Some byte) = byte == 62
 abbrev pub at_quote_mark : {R D : Type 0} → Given → Sight → Configuration R D → Bool
 at_quote_mark g s k = is_quote_mark s.current
 
--- a chunk came before in the paragraph
-abbrev pub is_connected : {R D : Type 0} → Given → Sight → Configuration R D → Bool
-is_connected g s k = k.local.tokenize_state.connect
-
--- no chunk came before in the paragraph
-abbrev pub alone : {R D : Type 0} → Configuration R D → Local R D
-alone k = record k.local { tokenize_state = record k.local.tokenize_state { connect = false } }
-
--- the index of the last event
-abbrev pub last_event : {R D : Type 0} → Configuration R D → ℕ
-last_event k = length k.events - 1
-
-abbrev pub chunk_before : {R D : Type 0} → Configuration R D → ℕ
-chunk_before k = k.local.tokenize_state.start
-
--- the last event is the chunk that came before
-abbrev pub connected : {R D : Type 0} → Configuration R D → Local R D
-connected k = record k.local { tokenize_state = record k.local.tokenize_state { start = last_event k; connect = true } }
-
 -- a chunk is read as text
 abbrev pub text_link : Link
 text_link = record { previous = None; next = None; content = TextContent }
-
--- the chunk that the last event begins is linked to the previous chunk
-abbrev pub chained : {R D : Type 0} → Configuration R D → Configuration R D
-chained k = linked (chunk_before k) (last_event k) k
 
 -- a chunk that begins here can be linked to the previous chunk, if there is one in the paragraph
 abbrev pub CanLinkChunk : {M R D : Type 0} → TokenizerValue M R D → Type 0

@@ -1,13 +1,10 @@
 //! The machine of paragraphs: adjacent lines are a paragraph. Each line is a chunk of text, linked to the chunk before. A
 //! line may begin with a quote mark.
 
-ghost use Rattle.std.specs.Prelude.{◌≡◌, IfOk};
-ghost use Rattle.markdown_tokenizer.specs.Calls.{with_local};
-ghost use Rattle.markdown_tokenizer.specs.Configuration.{at_configuration};
-ghost use Rattle.markdown_edits.specs.Links.{CanLink};
+ghost use Rattle.std.specs.Prelude.{IfOk};
 ghost use Rattle.mdconstructs_tables.specs.RowInvariant.{DoesAll, IsCallable, step_in};
 ghost use Rattle.mdconstructs_machines.specs.Tables.{line_byte};
-ghost use Rattle.mdconstructs_machines.specs.Paragraphs.{flow_start, paragraph_line_start, paragraph_start, paragraph_inside, alone, chunk_before, connected, last_event, chained, CanLinkChunk};
+ghost use Rattle.mdconstructs_machines.specs.Paragraphs.{flow_start, paragraph_line_start, paragraph_start, paragraph_inside, CanLinkChunk};
 
 use crate::begin::begin;
 use crate::reading::{data_inside, data_start};
@@ -15,6 +12,7 @@ use markdown_tokenizer::event::{self, Content, Link};
 use markdown_tokenizer::state::{Machine, MachineTypes, Name, State};
 use markdown_tokenizer::subtokenize::Subresult;
 use markdown_tokenizer::tokenizer::{Fault, Tokenizer};
+use mdconstructs_tables::chunks::{connect, disconnect, is_connected, link_chunk};
 use mdconstructs_tables::marker;
 use std::alloc::{AllocError, Global};
 
@@ -163,42 +161,4 @@ pub fn paragraph_inside<'a, M: MachineTypes>(t: &mut Tokenizer<'a, M>) -> Result
             Ok(State::Next(Name::ParagraphInside))
         }
     }
-}
-
-/// The index of the last event.
-fn last_event<'a, M: MachineTypes>(t: &Tokenizer<'a, M>) -> usize
-    ensures { result ≡ last_event t.now.configuration }
-{
-    t.events().len().saturating_sub(1)
-}
-
-/// Whether a chunk came before in the paragraph.
-fn is_connected<'a, M: MachineTypes>(t: &Tokenizer<'a, M>) -> bool
-    ensures { result ≡ t.now.configuration.local.tokenize_state.connect }
-{
-    t.tokenize_state.connect
-}
-
-/// Links the chunk that the last event begins to the previous chunk, if there is one in the paragraph.
-fn link_chunk<'a, M: MachineTypes>(t: &mut Tokenizer<'a, M>)
-    requires { CanLink t.old.configuration.events (chunk_before t.old.configuration) (last_event t.old.configuration) }
-    ensures { t.new ≡ at_configuration t.old (chained t.old.configuration) }
-{
-    let before = t.tokenize_state.start;
-    t.link_to(before, last_event(t));
-}
-
-/// Notes that no chunk came before in the paragraph.
-fn disconnect<'a, M: MachineTypes>(t: &mut Tokenizer<'a, M>)
-    ensures { t.new ≡ at_configuration t.old (with_local t.old.configuration (alone t.old.configuration)) }
-{
-    t.tokenize_state.connect = false;
-}
-
-/// Notes the last event as the chunk that came before.
-fn connect<'a, M: MachineTypes>(t: &mut Tokenizer<'a, M>)
-    ensures { t.new ≡ at_configuration t.old (with_local t.old.configuration (connected t.old.configuration)) }
-{
-    t.tokenize_state.start = last_event(t);
-    t.tokenize_state.connect = true;
 }

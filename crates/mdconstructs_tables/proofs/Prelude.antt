@@ -48,6 +48,7 @@ pub use Rattle.markdown_tokenizer.specs.declared.waiting.AttemptKind.{AttemptKin
 pub use Rattle.markdown_tokenizer.specs.declared.waiting.AttemptKind.TheVariants.{Attempt, Check}
 pub use Rattle.markdown_tokenizer.specs.declared.waiting.Waits.{Waits}
 pub use Rattle.markdown_tokenizer.specs.declared.waiting.Waits.TheVariants.{Byte, End, Nothing}
+pub use Rattle.mdconstructs_tables.specs.Chunks.{chunk_before}
 pub use Rattle.mdconstructs_tables.specs.Fitting.{AllFall, Falls, IsFit, IsFitBy, every}
 pub use Rattle.mdconstructs_tables.specs.Joined.{AreApart, has_state, joined_cost, joined_rules}
 pub use Rattle.mdconstructs_tables.specs.Knowledge.{AllKeepKnowing, EachRow, IsKnown, KeepsKnowing, KnownAfter, LeavesShape, knowing_rules}

@@ -4,6 +4,7 @@
 ghost use Rattle.std.specs.Prelude.{◌≡◌, OnOk};
 ghost use Rattle.mdconstructs_tables.specs.Markers.{IsMarkable, marked};
 
+pub mod chunks;
 pub mod laws;
 
 use markdown_tokenizer::event::Name;

@@ -31,6 +31,7 @@ use markdown::{
     CompileOptions as RootCompileOptions, Constructs as RootConstructs, Options as RootOptions,
     ParseOptions as RootParseOptions,
 };
+use mdconstructs::chunks::{connect, disconnect, is_connected, last_event, link_chunk};
 use mdconstructs::{
     Back, Choice, Deep, Fail, Lines, Paragraphs, Peek, Save, Text, Which, Words, Wrap, events_of,
     limit_of, options_with, read_text,

@@ -1,5 +1,5 @@
-use Rattle.mdconstructs_machines.proofs.Prelude.{◌≡◌, ap, chunk_before}
-use Rattle.mdconstructs_machines.proofs.paragraphs.link_chunk.Goals as goal
+use Rattle.mdconstructs_tables.proofs.Prelude.{◌≡◌, ap, chunk_before}
+use Rattle.mdconstructs_tables.proofs.chunks.link_chunk.Goals as goal
 
 pub link_to-requires : goal.link_to-requires
 link_to-requires g c =
