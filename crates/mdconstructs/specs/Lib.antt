@@ -24,7 +24,7 @@ pub use Rattle.mdconstructs_machines.specs.ParagraphEvents
 pub use Rattle.mdconstructs_machines.specs.Paragraphs
 pub use Rattle.mdconstructs_machines.specs.Peek
 pub use Rattle.mdconstructs_machines.specs.ReadAs
-pub use Rattle.mdconstructs_machines.specs.Reading
+pub use Rattle.mdconstructs_machines.specs.DataRows
 pub use Rattle.mdconstructs_machines.specs.Save
 pub use Rattle.mdconstructs_machines.specs.Spans
 pub use Rattle.mdconstructs_machines.specs.Tables
@@ -34,6 +34,7 @@ pub use Rattle.mdconstructs_machines.specs.Wrap
 pub use Rattle.mdconstructs_machines.specs.Laws
 pub use Rattle.mdconstructs_text.specs.ChainTexts
 pub use Rattle.mdconstructs_text.specs.Items
+pub use Rattle.mdconstructs_text.specs.TextBytes
 pub use Rattle.mdconstructs_text.specs.TextCosts
 pub use Rattle.mdconstructs_text.specs.TextEvents
 pub use Rattle.mdconstructs_text.specs.TextRules

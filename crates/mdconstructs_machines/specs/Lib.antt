@@ -10,7 +10,7 @@ pub mod ParagraphEvents
 pub mod Paragraphs
 pub mod Peek
 pub mod ReadAs
-pub mod Reading
+pub mod DataRows
 pub mod Save
 pub mod Spans
 pub mod Tables

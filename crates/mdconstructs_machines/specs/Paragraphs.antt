@@ -19,7 +19,7 @@ use Rattle.mdconstructs_tables.specs.Chunks.{is_connected, alone, last_event, ch
 use Rattle.mdconstructs_tables.specs.Knowledge.{knowing_rules}
 use Rattle.mdconstructs_tables.specs.LinkShapes.{next_end, AreInShape}
 use Rattle.mdconstructs_machines.specs.Tables.{LineByte, line_ending, other, line_byte, is_other, is_any, counts}
-use Rattle.mdconstructs_machines.specs.Reading.{data_start, data_inside}
+use Rattle.mdconstructs_machines.specs.DataRows.{data_start, data_inside}
 
 -- a quote mark, `>`, waits
 abbrev pub is_quote_mark : Option ℕ → Bool

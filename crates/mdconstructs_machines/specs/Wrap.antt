@@ -24,7 +24,7 @@ use Rattle.mdconstructs_machines.specs.contracts.wrap.Resolver.{the_type}
 use Rattle.mdconstructs_machines.specs.declared.wrap.Resolver.{Resolver}
 use Rattle.mdconstructs_machines.specs.declared.wrap.Resolver.TheVariants.{A, B, C}
 use Rattle.mdconstructs_machines.specs.Tables.{LineByte, line_byte, counts}
-use Rattle.mdconstructs_machines.specs.Reading.{data_start, data_inside}
+use Rattle.mdconstructs_machines.specs.DataRows.{data_start, data_inside}
 use Rattle.mdconstructs_machines.specs.Messages.{refusal}
 
 -- whether two names of resolvers are equal

@@ -88,7 +88,7 @@ pub use Rattle.mdconstructs_machines.proofs.LineReads.Data.{data-read}
 pub use Rattle.mdconstructs_machines.proofs.LineReads.Rows.{line-ending-read, row_step, waits_class}
 pub use Rattle.mdconstructs_machines.proofs.LineReads.Steps.{EndsWith, at-front, goes-next, held}
 pub use Rattle.mdconstructs_machines.specs.Innermost.{AccountFor, ended_next, innermost_spans, span_over, stretch_bytes}
-pub use Rattle.mdconstructs_machines.specs.Laws.Paragraphs.{begins-chunk, can-follow, chunk_at, known-before, paragraphs-fit, paragraphs-known}
+pub use Rattle.mdconstructs_machines.specs.Laws.Paragraphs.{begins-chunk, can-follow, chunk_enter, known-before, paragraphs-fit, paragraphs-known}
 pub use Rattle.mdconstructs_machines.specs.LineEvents.{all_of, data_events, data_line, ending_of, is_line_ending, joined, line_text, lines_in}
 pub use Rattle.mdconstructs_machines.specs.ParagraphEvents.{Block, Chunk, Marked, as_linked, block_marks, blocks_marks, blocks_of, chunk_of, line_marks, lines_marks, mark_of, marked_span, paragraph, paragraph_events}
 pub use Rattle.mdconstructs_machines.specs.Paragraphs.{CanLinkChunk, flow_start, flow_start_rows, knows_chunk, paragraph_inside, paragraph_inside_rows, paragraph_line_start, paragraph_line_start_rows, paragraph_start, paragraph_start_rows, paragraphs, paragraphs_rules}
@@ -112,7 +112,7 @@ pub use Rattle.mdconstructs_tables.specs.Rows.{Rows, class_of, consume, enter, e
 pub use Rattle.mdconstructs_text.specs.ChainTexts.{AreReadAtPlaces, AreReadBy, HasReadableChains, chain_data, chain_events, chain_text, with_data, with_read, with_texts}
 pub use Rattle.mdconstructs_text.specs.Items.{Item, Part, autolink, autolink_at, autolink_to, backticks, before_backtick_string, code_span, code_span_at, ends_with, escape, escape_at, has_byte_at, if_on, is_allowed, is_backtick, is_backtick_or_line_feed, is_backtick_string, is_colon, is_greater_than, is_less_than, is_line_feed, is_scheme, is_scheme_byte, is_special, item_at, item_length, line_ending, or_else, part, part_at, part_length, passes, plain_length, plain_run, uri}
 pub use Rattle.mdconstructs_text.specs.Laws.Rules.{in-paragraphs, in-text, text-lawful}
-pub use Rattle.mdconstructs_text.specs.TextCosts.{TextByte, backslash, backtick, blank, colon, digit, greater, is_tick, less, letter, line_feed, mark, other, punctuation, text_byte}
+pub use Rattle.mdconstructs_text.specs.TextBytes.{TextByte, backslash, backtick, blank, colon, digit, greater, is_tick, less, letter, line_feed, mark, other, punctuation, text_byte}
 pub use Rattle.mdconstructs_text.specs.TextEvents.{bytes_of, cut, event, item_events, leaf, part_events, pieces, seat_events, text_events}
 pub use Rattle.mdconstructs_text.specs.TextRules.{flow, text_rules}
-pub use Rattle.mdconstructs_text.specs.TextTable.{autolink_open, autolink_open_rows, autolink_scheme, autolink_scheme_rows, autolink_start, autolink_url, autolink_url_rows, data_at_break, data_at_break_rows, data_inside, data_inside_rows, escape_inside, escape_inside_rows, escape_start, escape_start_rows, escaped, escapes, has_room, has_scheme, links_by_itself, more_than, raw_flow_after, raw_flow_before_content_chunk, raw_flow_content_chunk, raw_flow_content_chunk_rows, raw_text_between, raw_text_between_rows, raw_text_data, raw_text_data_rows, raw_text_sequence_close, raw_text_sequence_close_rows, raw_text_sequence_open, raw_text_sequence_open_rows, raw_text_start, raw_text_start_rows, scheme_goes_on, sizes_are_equal, spans_code, text_before, text_before_data, text_before_data_rows, text_before_rows, text_start, texts, tries}
+pub use Rattle.mdconstructs_text.specs.TextTable.{autolink_open, autolink_open_rows, autolink_scheme, autolink_scheme_rows, autolink_start, autolink_url, autolink_url_rows, data_at_break, data_at_break_rows, data_inside, data_inside_rows, escape_inside, escape_inside_rows, escape_start, escape_start_rows, escaped, escapes_are_on, has_room, has_scheme, autolinks_are_on, more_than, raw_flow_after, raw_flow_before_content_chunk, raw_flow_content_chunk, raw_flow_content_chunk_rows, raw_text_between, raw_text_between_rows, raw_text_data, raw_text_data_rows, raw_text_sequence_close, raw_text_sequence_close_rows, raw_text_sequence_open, raw_text_sequence_open_rows, raw_text_start, raw_text_start_rows, scheme_goes_on, sizes_are_equal, code_spans_are_on, text_before, text_before_data, text_before_data_rows, text_before_rows, text_start, texts, tries}

@@ -1,5 +1,6 @@
 pub mod ChainTexts
 pub mod Items
+pub mod TextBytes
 pub mod TextCosts
 pub mod TextEvents
 pub mod TextRules

@@ -11,7 +11,8 @@ use Rattle.markdown_tokenizer.specs.Sight.{Sight}
 use Rattle.mdconstructs_tables.specs.Rows.{enter, exit, consume, write, choose, Rows, row, when, at_byte, here, at_a_byte, at_bytes, a_choice, StateRows, costs, state, Table}
 use Rattle.mdconstructs_machines.specs.Tables.{counts}
 use Rattle.mdconstructs_text.specs.Items.{scheme_size_max}
-use Rattle.mdconstructs_text.specs.TextCosts.{TextByte, line_feed, backtick, less, greater, backslash, colon, letter, digit, mark, punctuation, blank, text_byte, is_tick, ends_code_data, outside, left, ticks, waits_at, by_left, at_tick, before_data}
+use Rattle.mdconstructs_text.specs.TextBytes.{TextByte, line_feed, backtick, less, greater, backslash, colon, letter, digit, mark, punctuation, blank, text_byte, is_tick, ends_code_data}
+use Rattle.mdconstructs_text.specs.TextCosts.{outside, left, ticks, waits_at, by_left, at_tick, before_data}
 
 -- one more, up to the greatest number that a size can have
 abbrev pub more_than : ℕ → ℕ
@@ -46,16 +47,16 @@ abbrev pub has_room : Given → Sight → Configuration Unit Unit → Bool
 has_room g s k = nat_lt k.local.tokenize_state.size_b scheme_size_max
 
 -- the options have code spans on
-abbrev pub spans_code : Given → Sight → Configuration Unit Unit → Bool
-spans_code g s k = g.options.constructs.code_text
+abbrev pub code_spans_are_on : Given → Sight → Configuration Unit Unit → Bool
+code_spans_are_on g s k = g.options.constructs.code_text
 
 -- the options have autolinks on
-abbrev pub links_by_itself : Given → Sight → Configuration Unit Unit → Bool
-links_by_itself g s k = g.options.constructs.autolink
+abbrev pub autolinks_are_on : Given → Sight → Configuration Unit Unit → Bool
+autolinks_are_on g s k = g.options.constructs.autolink
 
 -- the options have backslash escapes on
-abbrev pub escapes : Given → Sight → Configuration Unit Unit → Bool
-escapes g s k = g.options.constructs.character_escape
+abbrev pub escapes_are_on : Given → Sight → Configuration Unit Unit → Bool
+escapes_are_on g s k = g.options.constructs.character_escape
 
 -- a construct is tried if it is on; if not, data is read
 abbrev pub tries : (Given → Sight → Configuration Unit Unit → Bool) → Name → Rows Unit Unit
@@ -79,9 +80,9 @@ text_start =
 abbrev pub text_before_rows : (previous current : Option TextByte) → Rows Unit Unit
 text_before_rows _ None = row [] Ok
 text_before_rows _ (Some line_feed) = line_ending_then TextBefore
-text_before_rows _ (Some backtick) = tries spans_code RawTextStart
-text_before_rows _ (Some less) = tries links_by_itself AutolinkStart
-text_before_rows _ (Some backslash) = tries escapes CharacterEscapeStart
+text_before_rows _ (Some backtick) = tries code_spans_are_on RawTextStart
+text_before_rows _ (Some less) = tries autolinks_are_on AutolinkStart
+text_before_rows _ (Some backslash) = tries escapes_are_on CharacterEscapeStart
 text_before_rows _ (Some _) = row [] (Retry TextBeforeData)
 
 -- their state: no span is open

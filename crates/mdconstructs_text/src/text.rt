@@ -8,9 +8,9 @@ ghost use Rattle.markdown_tokenizer.specs.Sight.{sight_of};
 ghost use Rattle.markdown_tokenizer.specs.declared.waiting.Waits.TheVariants.{Byte};
 ghost use Rattle.mdconstructs_tables.specs.Rows.{class_of, picked, step_of};
 ghost use Rattle.mdconstructs_tables.specs.RowInvariant.{DoesAll, IsCallable, step_in};
-ghost use Rattle.mdconstructs_text.specs.TextCosts.{text_byte, is_tick};
+ghost use Rattle.mdconstructs_text.specs.TextBytes.{text_byte, is_tick};
 ghost use Rattle.mdconstructs_text.specs.TextRules.{text_rules};
-ghost use Rattle.mdconstructs_text.specs.TextTable.{size_b_is, size_c_is, size_b_grows, size_c_grows, sizes_are_equal, has_scheme, has_room, scheme_goes_on, spans_code, links_by_itself, escapes, text_start, text_before, text_before_data, data_at_break, data_inside, raw_text_start, raw_text_sequence_open, raw_text_between, raw_text_data, raw_text_sequence_close, raw_flow_after, raw_flow_before_content_chunk, raw_flow_content_chunk, autolink_start, autolink_open, autolink_scheme, autolink_url, escape_start, escape_inside};
+ghost use Rattle.mdconstructs_text.specs.TextTable.{size_b_is, size_c_is, size_b_grows, size_c_grows, sizes_are_equal, has_scheme, has_room, scheme_goes_on, code_spans_are_on, autolinks_are_on, escapes_are_on, text_start, text_before, text_before_data, data_at_break, data_inside, raw_text_start, raw_text_sequence_open, raw_text_between, raw_text_data, raw_text_sequence_close, raw_flow_after, raw_flow_before_content_chunk, raw_flow_content_chunk, autolink_start, autolink_open, autolink_scheme, autolink_url, escape_start, escape_inside};
 
 use markdown_tokenizer::event;
 use markdown_tokenizer::state::{Machine, MachineTypes, Name, State};
@@ -114,7 +114,7 @@ fn text_before<'a>(t: &mut Tokenizer<'a, Text>) -> Result<State, AllocError>
             Ok(State::Next(Name::TextBefore))
         }
         Some(b'`') => {
-            if !spans_code(t) {
+            if !code_spans_are_on(t) {
                 return Ok(State::Retry(Name::TextBeforeData));
             }
             t.attempt(
@@ -124,7 +124,7 @@ fn text_before<'a>(t: &mut Tokenizer<'a, Text>) -> Result<State, AllocError>
             Ok(State::Retry(Name::RawTextStart))
         }
         Some(b'<') => {
-            if !links_by_itself(t) {
+            if !autolinks_are_on(t) {
                 return Ok(State::Retry(Name::TextBeforeData));
             }
             t.attempt(
@@ -134,7 +134,7 @@ fn text_before<'a>(t: &mut Tokenizer<'a, Text>) -> Result<State, AllocError>
             Ok(State::Retry(Name::AutolinkStart))
         }
         Some(b'\\') => {
-            if !escapes(t) {
+            if !escapes_are_on(t) {
                 return Ok(State::Retry(Name::TextBeforeData));
             }
             t.attempt(
@@ -277,7 +277,7 @@ fn raw_text_sequence_close<'a>(t: &mut Tokenizer<'a, Text>) -> Result<State, All
             t.consume();
             Ok(State::Next(Name::RawTextSequenceClose))
         }
-        _ => after_run(t),
+        _ => after_closing(t),
     }
 }
 
@@ -419,7 +419,7 @@ fn after_opening<'a>(t: &mut Tokenizer<'a, Text>) -> Result<State, AllocError>
 }
 
 /// After a backtick string that may close a code span.
-fn after_run<'a>(t: &mut Tokenizer<'a, Text>) -> Result<State, AllocError>
+fn after_closing<'a>(t: &mut Tokenizer<'a, Text>) -> Result<State, AllocError>
     requires called { IsCallable text_byte raw_text_sequence_close t.old }
     requires other { is_tick (class_of text_byte (sight_of t.old).current) ≡ false }
     ensures { IfOk result (DoesAll (step_in text_byte raw_text_sequence_close t.old) t.old t.new) }
@@ -496,22 +496,22 @@ fn has_room<'a>(t: &Tokenizer<'a, Text>) -> bool
 }
 
 /// Whether code spans are on.
-fn spans_code<'a>(t: &Tokenizer<'a, Text>) -> bool
-    ensures { result ≡ spans_code t.now.given (sight_of t.now) t.now.configuration }
+fn code_spans_are_on<'a>(t: &Tokenizer<'a, Text>) -> bool
+    ensures { result ≡ code_spans_are_on t.now.given (sight_of t.now) t.now.configuration }
 {
     t.parse_state().options.constructs.code_text
 }
 
 /// Whether autolinks are on.
-fn links_by_itself<'a>(t: &Tokenizer<'a, Text>) -> bool
-    ensures { result ≡ links_by_itself t.now.given (sight_of t.now) t.now.configuration }
+fn autolinks_are_on<'a>(t: &Tokenizer<'a, Text>) -> bool
+    ensures { result ≡ autolinks_are_on t.now.given (sight_of t.now) t.now.configuration }
 {
     t.parse_state().options.constructs.autolink
 }
 
 /// Whether backslash escapes are on.
-fn escapes<'a>(t: &Tokenizer<'a, Text>) -> bool
-    ensures { result ≡ escapes t.now.given (sight_of t.now) t.now.configuration }
+fn escapes_are_on<'a>(t: &Tokenizer<'a, Text>) -> bool
+    ensures { result ≡ escapes_are_on t.now.given (sight_of t.now) t.now.configuration }
 {
     t.parse_state().options.constructs.character_escape
 }

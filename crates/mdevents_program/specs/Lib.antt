@@ -3,4 +3,4 @@ pub mod ArgumentsInner
 pub mod Failure
 pub mod Printed
 pub mod Program
-pub mod Reading
+pub mod Input

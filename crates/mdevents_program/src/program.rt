@@ -4,7 +4,7 @@ ghost use Rattle.std.specs.Prelude.{◌≢◌, IfErr, OnOk, IsErrOf};
 ghost use Rattle.std.specs.Io.KnownBytes.{Keeps};
 ghost use Rattle.mdconstructs.specs.Choices.{CanCut};
 ghost use Rattle.mdevents_program.specs.Program.{Prints, PrintsFront};
-ghost use Rattle.mdevents_program.specs.Reading.{ReadsWithinLimit, ReadsPastLimit};
+ghost use Rattle.mdevents_program.specs.Input.{ReadsWithinLimit, ReadsPastLimit};
 
 use crate::arguments::Choice;
 use crate::failure::Failure;

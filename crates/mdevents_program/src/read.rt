@@ -3,7 +3,7 @@
 ghost use Rattle.std.specs.Prelude.{◌≡◌, ◌≢◌, ◌<◌, ℕ, List, ◌++◌, length, true, false, IfOk, IfErr, OnOk, OnErr, IsErrOf, Ok};
 ghost use Rattle.std.specs.Io.KnownBytes.{Consumes, IsAtEnd};
 ghost use Rattle.mdevents_program.specs.Failure.{IsOfReading};
-ghost use Rattle.mdevents_program.specs.Reading.{ReadsWithinLimit, ReadsPastLimit};
+ghost use Rattle.mdevents_program.specs.Input.{ReadsWithinLimit, ReadsPastLimit};
 ghost use Rattle.markdown.specs.Virtual.{IsWithinLimit};
 
 use crate::failure::Failure;

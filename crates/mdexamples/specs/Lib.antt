@@ -1,4 +1,3 @@
 pub mod Headings
-pub mod HeadingsLaws
 pub mod Labels
-pub mod LabelsLaws
+pub mod Laws

@@ -30,7 +30,7 @@ impl MachineTypes for Headings {
 impl Machine for Headings {
     ghost use Rattle.mdconstructs_tables.proofs.Tables.Lawful.{writing-lawful};
     ghost use Rattle.mdexamples.specs.Headings.{headings, headings_rules};
-    ghost use Rattle.mdexamples.specs.HeadingsLaws.{headings-fit, headings-plain};
+    ghost use Rattle.mdexamples.specs.Laws.Headings.{headings-fit, headings-plain};
 
     ghost rules = { λ _. headings_rules };
 

@@ -28,7 +28,7 @@ impl MachineTypes for Labels {
 impl Machine for Labels {
     ghost use Rattle.mdconstructs_tables.proofs.Tables.Lawful.{late-lawful};
     ghost use Rattle.mdexamples.specs.Labels.{labels, labels_rules, begins_label, follows_label};
-    ghost use Rattle.mdexamples.specs.LabelsLaws.{labels-late, labels-plain};
+    ghost use Rattle.mdexamples.specs.Laws.Labels.{labels-late, labels-plain};
 
     ghost rules = { λ _. labels_rules };
 

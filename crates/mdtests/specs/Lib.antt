@@ -1,6 +1,6 @@
 pub mod Documents
 pub mod Found
 pub mod Starved
-pub mod StarvedLaws
+pub mod Laws
 pub mod Looping
 pub mod LoopingLaws

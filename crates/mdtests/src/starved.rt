@@ -37,7 +37,7 @@ impl MachineTypes for Starved {
 impl Machine for Starved {
     ghost use Rattle.mdconstructs_tables.proofs.Tables.Lawful.{plain-lawful};
     ghost use Rattle.mdtests.specs.Starved.{starved, starved_rules};
-    ghost use Rattle.mdtests.specs.StarvedLaws.{starved-fit, starved-plain};
+    ghost use Rattle.mdtests.specs.Laws.Starved.{starved-fit, starved-plain};
 
     ghost rules = { λ _. starved_rules };
 

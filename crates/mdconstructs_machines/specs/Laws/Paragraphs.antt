@@ -24,7 +24,7 @@ use Rattle.mdconstructs_tables.proofs.LinkShapes.{more-shape, linked-shape}
 use Rattle.mdconstructs_tables.specs.Fitting.{IsFit}
 use Rattle.mdconstructs_tables.specs.Knowledge.{KeepsKnowing, IsKnown}
 use Rattle.mdconstructs_machines.specs.Tables.{LineByte, line_ending, other}
-use Rattle.mdconstructs_machines.specs.Reading.{data_start, data_inside}
+use Rattle.mdconstructs_machines.specs.DataRows.{data_start, data_inside}
 use Rattle.mdconstructs_machines.specs.Paragraphs.{text_link, flow_start, paragraph_line_start, paragraph_start, paragraph_inside, text_start, paragraphs, BeginsChunk, EndsWithChunk, HasChunk, KnowsChunk, Knows, knows_chunk, CanLinkChunk}
 
 fits : (previous current : Option LineByte) → misfits paragraphs previous current ≡ []
@@ -36,13 +36,13 @@ pub paragraphs-fit : IsFit paragraphs
 paragraphs-fit = record { fits = fits; paid = (tt, (tt, (tt, (tt, (tt, (tt, (tt, tt))))))); falls = (tt, (tt, (tt, (tt, (tt, (tt, (tt, tt))))))) }
 
 -- the event that begins a chunk
-abbrev pub chunk_at : Point → Event
-chunk_at place = record { kind = Enter; name = Data; point = place; link = Some text_link }
+abbrev pub chunk_enter : Point → Event
+chunk_enter place = record { kind = Enter; name = Data; point = place; link = Some text_link }
 
-pub begins-chunk : (place : Point) → BeginsChunk (chunk_at place)
+pub begins-chunk : (place : Point) → BeginsChunk (chunk_enter place)
 begins-chunk place = record { linked = record { enter = refl; void = refl; linked = refl }; named = refl; text = refl; last = refl }
 
-begins-linked : (place : Point) (previous : ℕ) → BeginsChunk (with_previous previous (chunk_at place))
+begins-linked : (place : Point) (previous : ℕ) → BeginsChunk (with_previous previous (chunk_enter place))
 begins-linked place previous = record { linked = record { enter = refl; void = refl; linked = refl }; named = refl; text = refl; last = refl }
 
 -- a chunk stays if events are added
@@ -97,10 +97,10 @@ chunk-inside : (events : List Event) (index : ℕ) → HasChunk events index →
 chunk-inside events index h = omega (arith, ap length h.events_are, length-append h.before (h.first ∷ h.last ∷ h.after), h.index_is)
 
 -- the chunk that begins can follow the one before
-pub can-link : (events : List Event) (place : Point) (index next : ℕ) → HasChunk events index → next ≡ length events → CanLink (events ++ chunk_at place ∷ []) index next
+pub can-link : (events : List Event) (place : Point) (index next : ℕ) → HasChunk events index → next ≡ length events → CanLink (events ++ chunk_enter place ∷ []) index next
 unfolding more-chunk
 can-link events place index next h last =
-    let e = chunk_at place in
+    let e = chunk_enter place in
     let there = more-chunk events e index h in
     let inside = chunk-inside events index h in
     let first : slice_get (events ++ e ∷ []) index ≡ Some h.first =
@@ -118,16 +118,16 @@ can-link events place index next h last =
 
 -- and if it does, it is the last event
 linked-last : (events : List Event) (place : Point) (index next : ℕ) → HasChunk events index → next ≡ length events
-    → linked_to index next (events ++ chunk_at place ∷ []) ≡ updated_at index (with_next next) events ++ with_previous index (chunk_at place) ∷ []
+    → linked_to index next (events ++ chunk_enter place ∷ []) ≡ updated_at index (with_next next) events ++ with_previous index (chunk_enter place) ∷ []
 linked-last events place index next h last =
     let inside = chunk-inside events index h in
-    ap (updated_at next (with_previous index)) (updated-front index (with_next next) events (chunk_at place ∷ []) (omega (arith, inside)))
-    ∙ updated-last next (with_previous index) (updated_at index (with_next next) events) (chunk_at place) (last ∙ sym (updated-length index (with_next next) events))
+    ap (updated_at next (with_previous index)) (updated-front index (with_next next) events (chunk_enter place ∷ []) (omega (arith, inside)))
+    ∙ updated-last next (with_previous index) (updated_at index (with_next next) events) (chunk_enter place) (last ∙ sym (updated-length index (with_next next) events))
 
 pub ends-linked : (events : List Event) (place : Point) (index next : ℕ) → HasChunk events index → next ≡ length events
-    → let linked = linked_to index next (events ++ chunk_at place ∷ []) in EndsWithChunk linked (length linked - 1)
+    → let linked = linked_to index next (events ++ chunk_enter place ∷ []) in EndsWithChunk linked (length linked - 1)
 ends-linked events place index next h last =
-    ends-with (linked_to index next (events ++ chunk_at place ∷ [])) (updated_at index (with_next next) events) (with_previous index (chunk_at place)) (linked-last events place index next h last)
+    ends-with (linked_to index next (events ++ chunk_enter place ∷ [])) (updated_at index (with_next next) events) (with_previous index (chunk_enter place)) (linked-last events place index next h last)
     (begins-linked place index)
 
 pub last-index : (events : List Event) (e : Event) → length (events ++ e ∷ []) - 1 ≡ length events
@@ -146,10 +146,10 @@ has-link (Some l) h = (l, refl)
 
 -- the links of chunks stay in shape if the last event is linked to the chunk before
 pub linked-in-shape : (events : List Event) (place : Point) (index next : ℕ) → HasChunk events index → next ≡ length events → AreInShape events
-    → AreInShape (linked_to index next (events ++ chunk_at place ∷ []))
+    → AreInShape (linked_to index next (events ++ chunk_enter place ∷ []))
 unfolding more-chunk
 linked-in-shape events place index next h last shape =
-    let e = chunk_at place in
+    let e = chunk_enter place in
     let xs = events ++ e ∷ [] in
     let there = more-chunk events e index h in
     let inside = chunk-inside events index h in
@@ -184,7 +184,7 @@ line-start g s k (c ∷ cs) b w h = absurd h
 start : KeepsKnowing paragraphs knows_chunk paragraph_start
 start g s k [] b None h = known-on _ _ _ _ _ _ h refl refl h.chunk h.shape
 start g s k [] b (Some w) h =
-    let e = chunk_at s.enter_place in
+    let e = chunk_enter s.enter_place in
     let last = last-index k.events e in (
       λ c. known-on _ _ _ _ _ _ h refl refl (ends-linked k.events s.enter_place k.local.tokenize_state.start (length (k.events ++ e ∷ []) - 1) (h.chunk c) last)
           (linked-in-shape k.events s.enter_place k.local.tokenize_state.start (length (k.events ++ e ∷ []) - 1) (h.chunk c) last h.shape),
@@ -239,7 +239,7 @@ pub can-follow : {M : Type 0} (t : TokenizerValue M Unit Unit) → KnowsChunk fa
 can-follow t known =
     let k = t.configuration in
     let place = (sight_of t).enter_place in
-    λ there. can-link k.events place k.local.tokenize_state.start _ (known there) (last-index k.events (chunk_at place))
+    λ there. can-link k.events place k.local.tokenize_state.start _ (known there) (last-index k.events (chunk_enter place))
 
 -- once all was read no edit waits, and the events stay in shape
 at-end : (k : Configuration Unit Unit) → IsBalanced k.events → knows_chunk k.events k.local [] Ok

@@ -32,7 +32,7 @@ use Rattle.mdconstructs_tables.proofs.Tables.Costs.{table-cost_pays}
 use Rattle.mdconstructs_machines.specs.declared.wrap.Resolver.{Resolver}
 use Rattle.mdconstructs_machines.specs.declared.wrap.Resolver.TheVariants.{A, B, C}
 use Rattle.mdconstructs_machines.specs.Tables.{LineByte, line_ending, other, line_byte, counts}
-use Rattle.mdconstructs_machines.specs.Reading.{data_start_rows, data_inside_rows, data_start, data_inside}
+use Rattle.mdconstructs_machines.specs.DataRows.{data_start_rows, data_inside_rows, data_start, data_inside}
 use Rattle.mdconstructs_machines.specs.Messages.{refusal}
 use Rattle.mdconstructs_machines.specs.Wrap.{same_resolver, text_start, wrap, renamed, first_place, begin_event, end_event, one_definition, IsFlat, begins_paragraph, ends_paragraph, wrap_resolver, wrap_resolves, registered_at, IsUnedited, IsUnwrapped, wrap_rules}
 

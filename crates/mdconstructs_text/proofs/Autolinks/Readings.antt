@@ -1,5 +1,5 @@
 -- Autolinks, as the machine of texts reads them: if one is there, it is read whole, with its events; if not, what was tried leaves nothing.
-use Rattle.mdconstructs_text.proofs.Prelude.{at-front, ◌≡◌, ℕ, ◌+◌, ◌<◌, ◌≤◌, ◌∷◌, [], List, Bool, true, false, cond, refl, sym, ◌∙◌, ap, subst, Option, Some, None, inl, inr, arith, take, drop, nat_le, ◌&&◌, ◌==◌, and-false, and-true, cases_lt, eqb-true, lt-ltb, drop-drop, drop-map, is_ascii_alphabetic, prefix_len, drop-next, Event, Autolink, AutolinkProtocol, Name, Next, Retry, TextBefore, AutolinkStart, AutolinkOpen, AutolinkSchemeInsideOrEmailAtext, AutolinkUrlInside, Seat, Nothing, Byte, Given, Text, Configuration, Local, Choice, byte_of, counts, Item, autolink, passes, has_byte_at, is_scheme_byte, is_allowed, uri, autolink_to, autolink_at, is_colon, is_greater_than, bytes_of, Rows, TextByte, text_byte, class_of, row, Nok, row_step, sight, held, has_room, has_scheme, links_by_itself, autolink_open_rows, autolink_scheme_rows, autolink_url_rows, nat_tests, consume, letter, scheme_goes_on, zero, suc, length-prefix_len, list_all, is_scheme, more_than}
+use Rattle.mdconstructs_text.proofs.Prelude.{at-front, ◌≡◌, ℕ, ◌+◌, ◌<◌, ◌≤◌, ◌∷◌, [], List, Bool, true, false, cond, refl, sym, ◌∙◌, ap, subst, Option, Some, None, inl, inr, arith, take, drop, nat_le, ◌&&◌, ◌==◌, and-false, and-true, cases_lt, eqb-true, lt-ltb, drop-drop, drop-map, is_ascii_alphabetic, prefix_len, drop-next, Event, Autolink, AutolinkProtocol, Name, Next, Retry, TextBefore, AutolinkStart, AutolinkOpen, AutolinkSchemeInsideOrEmailAtext, AutolinkUrlInside, Seat, Nothing, Byte, Given, Text, Configuration, Local, Choice, byte_of, counts, Item, autolink, passes, has_byte_at, is_scheme_byte, is_allowed, uri, autolink_to, autolink_at, is_colon, is_greater_than, bytes_of, Rows, TextByte, text_byte, class_of, row, Nok, row_step, sight, held, has_room, has_scheme, autolinks_are_on, autolink_open_rows, autolink_scheme_rows, autolink_url_rows, nat_tests, consume, letter, scheme_goes_on, zero, suc, length-prefix_len, list_all, is_scheme, more_than}
 use Rattle.std.proofs.lemmas.Bool.{le-leb, lt-leb, le-ltb}
 use Rattle.markdown_base.specs.declared.event.Name.{Name as EventName}
 use Rattle.mdconstructs_text.proofs.Texts.Steps.{between_items, text_step, leads-called, leads-seen, leads-tested, leads-ok, before_class}
@@ -306,7 +306,7 @@ module _ (g : Given) (text : Text) where
       decides-before g text p ended events (s ∷ ss) (between_items p Byte ended events local) (shows ss link_spans (p + 1) begun (counts (counts local))) [] waits (Retry TextBefore)
       (Retry AutolinkOpen) o
       (λ es h.
-      leads-tried g text links_by_itself AutolinkStart p ended events local (byte-rows g text p 60 s (at-front text.seats p s ss here) is) on es
+      leads-tried g text autolinks_are_on AutolinkStart p ended events local (byte-rows g text p 60 s (at-front text.seats p s ss here) is) on es
       (leads-called g text (between_items p Byte ended events (counts local)) waits AutolinkStart es
       (goes-next g text ss link_spans (p + 1) begun (counts (counts local)) waits AutolinkOpen (drop-next text.seats p s ss here) es h)))
       decided

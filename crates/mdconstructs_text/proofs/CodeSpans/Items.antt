@@ -1,5 +1,5 @@
 -- Code spans as items: if one is there, it is read with its events; if not, data is read from its first backtick.
-use Rattle.mdconstructs_text.proofs.Prelude.{at-front, ◌≡◌, ℕ, suc, ◌+◌, ◌-◌, ◌^◌, ◌<◌, ◌≤◌, ◌∷◌, ◌++◌, [], List, Bool, true, false, cond, refl, sym, ◌∙◌, ap, subst, Option, Some, None, arith, length, take, drop, option_map, append_assoc, take_at, drop-drop, drop-take, take-take, length-take, length-drop, flat_map, between, Event, CodeText, CodeTextSequence, CodeTextData, Retry, Ok, Nok, TextBefore, RawTextStart, RawTextSequenceOpen, RawTextSequenceClose, RawTextBetween, RawFlowAfter, Seat, Nothing, Byte, Given, Text, Local, Choice, byte_of, counts, code_span, is_backtick, is_backtick_or_line_feed, backticks, part_length, part_at, code_span_at, bytes_of, leaf, part_events, pieces, item_events, drop-map, held, backtick, spans_code, sizes_are_equal, raw_text_start_rows, raw_text_sequence_open_rows, raw_text_sequence_close_rows}
+use Rattle.mdconstructs_text.proofs.Prelude.{at-front, ◌≡◌, ℕ, suc, ◌+◌, ◌-◌, ◌^◌, ◌<◌, ◌≤◌, ◌∷◌, ◌++◌, [], List, Bool, true, false, cond, refl, sym, ◌∙◌, ap, subst, Option, Some, None, arith, length, take, drop, option_map, append_assoc, take_at, drop-drop, drop-take, take-take, length-take, length-drop, flat_map, between, Event, CodeText, CodeTextSequence, CodeTextData, Retry, Ok, Nok, TextBefore, RawTextStart, RawTextSequenceOpen, RawTextSequenceClose, RawTextBetween, RawFlowAfter, Seat, Nothing, Byte, Given, Text, Local, Choice, byte_of, counts, code_span, is_backtick, is_backtick_or_line_feed, backticks, part_length, part_at, code_span_at, bytes_of, leaf, part_events, pieces, item_events, drop-map, held, backtick, code_spans_are_on, sizes_are_equal, raw_text_start_rows, raw_text_sequence_open_rows, raw_text_sequence_close_rows}
 use Rattle.std.proofs.lemmas.Bool.{eq-eqb}
 use Rattle.mdconstructs_text.proofs.Texts.Cutting.{cut-enough}
 use Rattle.mdconstructs_text.proofs.Texts.Steps.{EndsWith, Leads, between_items, leads-called, leads-fed, leads-seen, leads-tested, leads-ok, before_class}
@@ -103,7 +103,7 @@ module _ (g : Given) (text : Text) where
         counts read,
         (omega (arith, passed-counts size_b grows_b (λ c h. more-is (size_b c) h) is_backtick l first (omega (arith, short)))),
         λ es h.
-            leads-tried g text spans_code RawTextStart p ended events local (byte-rows g text p 96 s front is) on es
+            leads-tried g text code_spans_are_on RawTextStart p ended events local (byte-rows g text p 96 s front is) on es
             (leads-seen g text raw_text_start_rows (between_items p Byte ended events (counts local)) cs RawTextStart es (ap byte_of front)
             (class-rows g text raw_text_start_rows p s backtick (tick-class s.byte tick)) refl
             (loops-from g text in_run cs RawTextSequenceOpen is_backtick grows_b

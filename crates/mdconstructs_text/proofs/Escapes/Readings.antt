@@ -1,6 +1,6 @@
 -- How the machine of texts reads a backslash escape: if one is there, it is read whole, with its events; if not, the attempt leaves
 -- nothing.
-use Rattle.mdconstructs_text.proofs.Prelude.{at-front, ◌≡◌, ℕ, ◌+◌, ◌∷◌, ◌++◌, [], List, Bool, true, false, cond, refl, sym, ap, subst, Some, None, drop, slice_get, ◌&&◌, ◌==◌, is_ascii_punctuation, drop-next, Event, CharacterEscape, CharacterEscapeMarker, CharacterEscapeValue, Enter, Exit, Retry, TextBefore, CharacterEscapeStart, CharacterEscapeInside, Seat, Nothing, Byte, Given, Text, Local, byte_of, point_or, end_or, counts, escape, escape_at, bytes_of, item_events, event, escapes, escape_start_rows, escape_inside_rows, append_assoc, take-append_seam, passes, arith, held}
+use Rattle.mdconstructs_text.proofs.Prelude.{at-front, ◌≡◌, ℕ, ◌+◌, ◌∷◌, ◌++◌, [], List, Bool, true, false, cond, refl, sym, ap, subst, Some, None, drop, slice_get, ◌&&◌, ◌==◌, is_ascii_punctuation, drop-next, Event, CharacterEscape, CharacterEscapeMarker, CharacterEscapeValue, Enter, Exit, Retry, TextBefore, CharacterEscapeStart, CharacterEscapeInside, Seat, Nothing, Byte, Given, Text, Local, byte_of, point_or, end_or, counts, escape, escape_at, bytes_of, item_events, event, escapes_are_on, escape_start_rows, escape_inside_rows, append_assoc, take-append_seam, passes, arith, held}
 use Rattle.mdconstructs_text.proofs.Texts.Steps.{Leads, between_items, leads-seen, leads-ok, before_class}
 use Rattle.mdconstructs_text.proofs.Plain.Items.{outer, byte-rows, leads-tried, Tried, refused}
 use Rattle.mdconstructs_text.proofs.Plain.Stretches.{shows, first_byte, goes-next}
@@ -20,7 +20,7 @@ module _ (g : Given) (text : Text) (p : ℕ) (ended : Bool) (events : List Event
       (Retry CharacterEscapeInside)
   begins ss here es h =
       let at = at-front text.seats p s ss here in
-      leads-tried g text escapes CharacterEscapeStart p ended events local (byte-rows g text p 92 s at is) on es
+      leads-tried g text escapes_are_on CharacterEscapeStart p ended events local (byte-rows g text p 92 s at is) on es
       (leads-seen g text escape_start_rows (between_items p Byte ended events (counts local)) (outer p ended events ∷ []) CharacterEscapeStart es (ap byte_of at) refl refl
       (goes-next g text ss (CharacterEscape ∷ []) (p + 1) begun_escape (counts (counts local)) (outer p ended events ∷ []) CharacterEscapeInside (drop-next text.seats p s ss here) es h))
 

@@ -1,5 +1,5 @@
 -- In a whole document, what the states of paragraphs keep: of two chunks that are linked the one follows the other.
-use Rattle.mdconstructs_text.proofs.Prelude.{◌≡◌, ℕ, ◌+◌, ◌-◌, List, [], ◌∷◌, ◌++◌, true, false, Option, Some, None, length, length-append, ◌⊎◌, inl, inr, refl, sym, ap, ◌∙◌, subst, arith, nat_lt, Event, Enter, Exit, Data, BlockQuoteMarker, Point, IsPointOf, Name, State, Next, Retry, Ok, Nok, Error, FlowStart, ParagraphLineStart, ParagraphStart, ParagraphInside, with_local, Configuration, Choice, Step, whole_text, fed, Sight, sight, Given, IsDocument, place_at, next_end, Rows, class_of, step_of, IsKept, EachRow, picked-row, LineByte, line_byte, counts, flow_start_rows, paragraph_line_start_rows, paragraph_start_rows, paragraph_inside_rows, chunk_before, chunk_at, begins-chunk, get-front, waits_class}
+use Rattle.mdconstructs_text.proofs.Prelude.{◌≡◌, ℕ, ◌+◌, ◌-◌, List, [], ◌∷◌, ◌++◌, true, false, Option, Some, None, length, length-append, ◌⊎◌, inl, inr, refl, sym, ap, ◌∙◌, subst, arith, nat_lt, Event, Enter, Exit, Data, BlockQuoteMarker, Point, IsPointOf, Name, State, Next, Retry, Ok, Nok, Error, FlowStart, ParagraphLineStart, ParagraphStart, ParagraphInside, with_local, Configuration, Choice, Step, whole_text, fed, Sight, sight, Given, IsDocument, place_at, next_end, Rows, class_of, step_of, IsKept, EachRow, picked-row, LineByte, line_byte, counts, flow_start_rows, paragraph_line_start_rows, paragraph_start_rows, paragraph_inside_rows, chunk_before, chunk_enter, begins-chunk, get-front, waits_class}
 use Rattle.mdconstructs_machines.specs.Tables.{line_ending, other}
 use Rattle.mdconstructs_machines.proofs.BlockReads.Reads.{ReadsBlocks}
 use Rattle.mdconstructs_machines.proofs.LineReads.Rows.{HasRows}
@@ -115,14 +115,14 @@ module _ (g : Given) (document : IsDocument g) where
     from-start-of-chunk b (Some w) e h known =
         let at = (sight g (whole_text g) k).enter_place in
         let i = length k.events in
-        let es = k.events ++ chunk_at at ∷ [] in
+        let es = k.events ++ chunk_enter at ∷ [] in
         let last = length es - 1 in
-        let more = length-append k.events (chunk_at at ∷ []) in
+        let more = length-append k.events (chunk_enter at ∷ []) in
         let is : i ≡ last = omega (arith, more) in
-        let one = chunks-more g.tab g.bytes k.events (chunk_at at) (inr (record { linked = (begins-chunk at).linked; text = refl }), here-is-point g document k.position k.waiting) refl h in
-        let here : place_at es i ≡ place g document k.position = place-at-event es i (chunk_at at) (last-get k.events (chunk_at at) i refl) ∙ (has-byte g document k.position k.waiting w e).here in (
+        let one = chunks-more g.tab g.bytes k.events (chunk_enter at) (inr (record { linked = (begins-chunk at).linked; text = refl }), here-is-point g document k.position k.waiting) refl h in
+        let here : place_at es i ≡ place g document k.position = place-at-event es i (chunk_enter at) (last-get k.events (chunk_enter at) i refl) ∙ (has-byte g document k.position k.waiting w e).here in (
           λ c.
-              let follows = more-follows k.events (chunk_at at) (chunk_before k) i (place g document k.position) (place_at es i) (omega arith) here (known c) in
+              let follows = more-follows k.events (chunk_enter at) (chunk_before k) i (place g document k.position) (place_at es i) (omega arith) here (known c) in
               let pair = subst (IsPair es (chunk_before k)) is (record { within = omega (arith, more); follows = follows }) in
               let long = linked-length (chunk_before k) last es in
               (chunks-linked g.tab g.bytes es (chunk_before k) last pair one, inr (inr (inr (refl, omega (arith, long, more))))),

@@ -1,5 +1,5 @@
 -- What reading a text from its start ends in, for a machine that leaves nothing to resolve; and so for the machine of texts, whose items are read one by one.
-use Rattle.mdconstructs_text.proofs.Prelude.{◌≡◌, List, [], Bool, true, false, Some, refl, sym, ◌∙◌, ap, subst, length, nat_lt, Contains, Event, Name, State, Next, Retry, Ok, TextStart, Subresult, Given, Text, IsText, Configuration, Step, start_configuration, with_local, fed, fed-ends, Sight, sight, Reading, EndsIn, Rules, row, done, resolved_by, taken, found, edits_made, IsResolved, LeavesEvents, with_resolvers, edited, one-end, KeepsInvariant, kept-well, lawful-kept, holds-at-start, counts, row_step, EndsWith, ℕ, zero, suc, ◌+◌, ◌≤◌, ◌==◌, ◌∷◌, ◌++◌, arith, eqb-true, take, drop, append-nil, append_assoc, drop-drop, flat_map, RawTextStart, TextBefore, Seat, Nothing, End, Local, is_special, spans_code, item_length, item_at, code_span_at, bytes_of, cut, item_events, text_events, at-front, goes-next, inl, inr, edited-none, edited-same, text_rules, text-lawful}
+use Rattle.mdconstructs_text.proofs.Prelude.{◌≡◌, List, [], Bool, true, false, Some, refl, sym, ◌∙◌, ap, subst, length, nat_lt, Contains, Event, Name, State, Next, Retry, Ok, TextStart, Subresult, Given, Text, IsText, Configuration, Step, start_configuration, with_local, fed, fed-ends, Sight, sight, Reading, EndsIn, Rules, row, done, resolved_by, taken, found, edits_made, IsResolved, LeavesEvents, with_resolvers, edited, one-end, KeepsInvariant, kept-well, lawful-kept, holds-at-start, counts, row_step, EndsWith, ℕ, zero, suc, ◌+◌, ◌≤◌, ◌==◌, ◌∷◌, ◌++◌, arith, eqb-true, take, drop, append-nil, append_assoc, drop-drop, flat_map, RawTextStart, TextBefore, Seat, Nothing, End, Local, is_special, code_spans_are_on, item_length, item_at, code_span_at, bytes_of, cut, item_events, text_events, at-front, goes-next, inl, inr, edited-none, edited-same, text_rules, text-lawful}
 use Rattle.mdconstructs_machines.proofs.LineReads.Steps.{leads-fed, leads-step, ended as ended-so}
 use Rattle.mdconstructs_text.proofs.Plain.Stretches.{seen}
 use Rattle.mdconstructs_text.proofs.Autolinks.Items.{adds-less}
@@ -71,7 +71,7 @@ module _ (g : Given) (text : Text) (is-text : IsText g text) where
       by false true less back e f h i =
           let is = eqb-true s.byte 96 f in
           subst (Adds g text p ended events local (s ∷ ss)) (sym (tick-at g.options.constructs s.byte (bytes_of ss) is))
-          (from-construct g text spans_code RawTextStart p ended events local s ss here (byte-rows g text p 96 s (at-front text.seats p s ss here) is) g.options.constructs.code_text refl
+          (from-construct g text code_spans_are_on RawTextStart p ended events local s ss here (byte-rows g text p 96 s (at-front text.seats p s ss here) is) g.options.constructs.code_text refl
           (code_span_at (bytes_of (s ∷ ss))) (tries-code-span g text (runs-of-text g text is-text) p ended events local s ss here is))
       by false false true back e f h i = adds-less g text (text-joined g text is-text) p ended events local s ss here (eqb-true s.byte 60 h)
       by false false false true e f h i = adds-backslash g text p ended events local s ss here (eqb-true s.byte 92 i)

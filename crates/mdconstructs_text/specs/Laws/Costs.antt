@@ -8,7 +8,8 @@ use Rattle.markdown_base.specs.Virtual.{Seat}
 use Rattle.markdown_tokenizer.specs.Text.{Text}
 use Rattle.markdown_tokenizer.specs.Sight.{byte_of}
 use Rattle.mdconstructs_tables.specs.Rows.{class_of}
-use Rattle.mdconstructs_text.specs.TextCosts.{TextByte, line_feed, backtick, less, greater, backslash, colon, letter, digit, mark, punctuation, blank, other, text_byte, is_tick, ends_code_data, leading, outside, waits_at}
+use Rattle.mdconstructs_text.specs.TextBytes.{TextByte, line_feed, backtick, less, greater, backslash, colon, letter, digit, mark, punctuation, blank, other, text_byte, is_tick, ends_code_data}
+use Rattle.mdconstructs_text.specs.TextCosts.{leading, outside, waits_at}
 use Rattle.markdown_base.proofs.Common.{drop-at}
 
 -- Numbers of bytes

@@ -7,7 +7,8 @@ use Rattle.mdconstructs_tables.specs.Misfits.{misfits}
 use Rattle.mdconstructs_tables.specs.RowInvariant.{PaysRows}
 use Rattle.mdconstructs_tables.specs.Fitting.{IsFitBy}
 use Rattle.mdconstructs_tables.specs.Late.{IsLate}
-use Rattle.mdconstructs_text.specs.TextCosts.{TextByte, line_feed, backtick, less, greater, backslash, colon, letter, digit, mark, punctuation, blank, other, is_tick, ends_code_data, leading, waits_at}
+use Rattle.mdconstructs_text.specs.TextBytes.{TextByte, line_feed, backtick, less, greater, backslash, colon, letter, digit, mark, punctuation, blank, other, is_tick, ends_code_data}
+use Rattle.mdconstructs_text.specs.TextCosts.{leading, waits_at}
 use Rattle.mdconstructs_text.specs.TextTable.{size_b_is, size_c_is, size_b_grows, size_c_grows, text_start, text_before, text_before_data, data_at_break, data_inside, raw_text_start, raw_text_sequence_open, raw_text_between, raw_text_data, raw_text_sequence_close, raw_flow_after, raw_flow_before_content_chunk, raw_flow_content_chunk, autolink_start, autolink_open, autolink_scheme, autolink_url, escape_start, escape_inside, text_states, texts, begins_construct, follows_construct}
 use Rattle.mdconstructs_text.specs.Laws.Costs.{outside-falls, outside-later, leading-left, at-tick, at-other, data-tick, data-other, break-tick, break-other, construct, short-construct, data-instead, raw-start, open-tick, open-other, between-tick, between-other, raw-data-ends, raw-data-other, close-tick, before-chunk, chunk-tick, chunk-other, chunk-end}
 

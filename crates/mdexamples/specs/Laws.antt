@@ -1,0 +1,3 @@
+-- Laws about the machines of the examples.
+pub mod Headings
+pub mod Labels

@@ -1,0 +1,2 @@
+-- Laws about the machines of the tests.
+pub mod Starved
