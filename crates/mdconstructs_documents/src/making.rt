@@ -1,6 +1,6 @@
 //! The events that any machine makes of a document, and why it makes none.
 
-ghost use Rattle.std.specs.Prelude.{◌≡◌, ◌≢◌, Contains, IfOk, IfErr, IsErrOf, Some, false};
+ghost use Rattle.std.specs.Prelude.{◌≡◌, Contains, IfOk, IsErrOf, Some, false};
 ghost use Rattle.markdown_base.specs.Virtual.{IsWithinLimit};
 ghost use Rattle.markdown_tokenizer.specs.Engine.{AreCuts, IsRunRefused};
 ghost use Rattle.markdown_tokenizer.specs.Text.{IsDocument};

@@ -18,8 +18,8 @@ last-more o [] x = refl
 last-more o (y ∷ ys) x = last-more (Some y) ys x
 
 -- the byte that waits ends where the next byte is
-pub next-left : (g : Given) (text : Text) (p : ℕ) (w : Waits) → p < length text.seats → (sight_in g text p Byte).next ≡ (sight_in g text (p + 1) w).exit_place
-next-left g text p w h = let (s, is) = seat-at text p h in rw (add-one, is) refl
+pub next-is-left : (g : Given) (text : Text) (p : ℕ) (w : Waits) → p < length text.seats → (sight_in g text p Byte).next ≡ (sight_in g text (p + 1) w).exit_place
+next-is-left g text p w h = let (s, is) = seat-at text p h in rw (add-one, is) refl
 
 pub fed-position : {R D : Type 0} (text : Text) (k : Configuration R D) → (fed text k).position ≡ k.position
 fed-position {R} {D} text k = elim (nat_lt k.position (length text.seats)) as (λ b. (cond {A = Configuration R D} b (record { position = k.position; waiting = Byte; ended = k.ended; events = k.events; stack = k.stack; local = k.local }) (record { position = k.position; waiting = End; ended = true; events = k.events; stack = k.stack; local = k.local })).position ≡ k.position) [ true ↦ refl | false ↦ refl ]

@@ -1,3 +1,4 @@
+pub mod CostNumbers
 pub mod GrowingTexts
 pub mod KeptByReading
 pub mod LinkShapes

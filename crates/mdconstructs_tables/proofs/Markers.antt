@@ -1,6 +1,6 @@
 -- A byte that waits can be a span of its own.
 use Rattle.mdconstructs_tables.proofs.Prelude.{◌≡◌, ◌<◌, ◌≤◌, List, [], ◌∷◌, ◌++◌, true, Some, None, length, refl, sym, ap, ◌∙◌, subst, arith, length-append, All, IfSome, last_or, All-weaker, Event, Enter, open_events, stands_before, Nothing, Choice, TokenizerValue, at_configuration, sight_of, CanExit, consumed, entered, IsBelow, IsMarkable, IfSome_then, EventName}
-use Rattle.mdconstructs_tables.proofs.GrowingTexts.{open-more, last-more, next-left}
+use Rattle.mdconstructs_tables.proofs.GrowingTexts.{open-more, last-more, next-is-left}
 
 -- choices that are below some spans saved no more of the stack than there is
 pub stack-below : (base more stack : List EventName) (cs : List Choice) → stack ≡ base ++ more → All (IsBelow base) cs → All (IsBelow stack) cs
@@ -11,7 +11,7 @@ module _ {M R D : Type 0} (name : EventName) (t : TokenizerValue M R D) (can : I
   read = at_configuration t (consumed (entered name None (sight_of t).enter_place t.configuration))
 
   left : (sight_of read).exit_place ≡ (sight_of t).next
-  left = let waits = can.waits in rw waits (sym (next-left t.given t.text t.configuration.position Nothing can.inside))
+  left = let waits = can.waits in rw waits (sym (next-is-left t.given t.text t.configuration.position Nothing can.inside))
 
   pub can-mark : CanExit name read
   can-mark =

@@ -49,14 +49,14 @@ pub use Rattle.markdown_tokenizer.specs.declared.waiting.AttemptKind.TheVariants
 pub use Rattle.markdown_tokenizer.specs.declared.waiting.Waits.{Waits}
 pub use Rattle.markdown_tokenizer.specs.declared.waiting.Waits.TheVariants.{Byte, End, Nothing}
 pub use Rattle.mdconstructs_tables.specs.Chunks.{chunk_before}
-pub use Rattle.mdconstructs_tables.specs.Fitting.{AllFall, Falls, IsFit, IsFitBy, every}
+pub use Rattle.mdconstructs_tables.specs.Fitting.{AllFall, Falls, HasNoMisfits, IsFit, IsFitBy, every}
 pub use Rattle.mdconstructs_tables.specs.Joined.{AreApart, has_state, joined_cost, joined_rules}
-pub use Rattle.mdconstructs_tables.specs.Knowledge.{AllKeepKnowing, EachRow, IsKnown, KeepsKnowing, KnownAfter, LeavesShape, knowing_rules}
+pub use Rattle.mdconstructs_tables.specs.Knowledge.{AllKeepKnowing, EachRow, IsKnownThroughout, KeepsKnowing, KnownAfter, LeavesShape, knowing_rules}
 pub use Rattle.mdconstructs_tables.specs.Late.{AreFallingBehind, CanGoBack, IsLate, are_late, falls_on, fits_late, is_at_last, is_early, is_early_end, is_late_row, is_late_state, late_rules}
 pub use Rattle.mdconstructs_tables.specs.LinkShapes.{AreInShape, next_end, previous_end}
 pub use Rattle.mdconstructs_tables.specs.Markers.{IsMarkable, marked}
 pub use Rattle.mdconstructs_tables.specs.Misfits.{Reason, act, acts_fit, answer, choice, choices_fit, misfit, misfits, named_misfit, named_start, spans, spans_fit, start, unless, unpaid, with_reason}
-pub use Rattle.mdconstructs_tables.specs.PlainTables.{IsPlainTable, are_plain_acts, are_plain_rows, are_plain_states}
+pub use Rattle.mdconstructs_tables.specs.PlainTables.{ArePlain, IsPlainTable, are_plain_acts, are_plain_rows, are_plain_states}
 pub use Rattle.mdconstructs_tables.specs.PlainWrites.{RowsWritePlain, StatesWritePlain, WritePlain, WritesPlain}
 pub use Rattle.mdconstructs_tables.specs.Refusals.{RulesRefuseNothing, act_refuses, is_message, refusing, rows_refuse}
 pub use Rattle.mdconstructs_tables.specs.RowInvariant.{AnyWait, ArePaid, AreWaiting, AreWithin, Began, CanEnd, EndsWithEnter, HoldsAt, IsAtState, IsBelow, IsCallable, IsFed, IsOpen, IsSaved, IsSavedIn, IsStateAt, PaysRows, SightIsInOrder, Stands, answer_price, at_most, began_at, begun, behind, choice_price, chosen_price, class_at, class_in, events_saved, exit_place_at, is_read, next_price, once_read, outline, position_of, price_by, reserve_of, retry_price, row_price, since, state_price, table_cost, table_holds, table_reserve, table_rules, upto}

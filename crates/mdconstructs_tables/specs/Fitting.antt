@@ -15,10 +15,15 @@ abbrev pub AllFall : {W R D : Type 0} → (falling : Name → Bool) → List (St
 AllFall falling [] = Unit {0}
 AllFall falling (state ∷ states) = Falls falling state state.calls × AllFall falling states
 
+module _ {W R D : Type 0} where
+  -- the test names no state as a misfit
+  abbrev pub HasNoMisfits : Table W R D → Type 0
+  HasNoMisfits table = (previous current : Option W) → misfits table previous current ≡ []
+
 -- A table fits: the test names no state as a misfit, and the machine's own costs are enough for its calls, with `late` for choices that end
 -- with Ok late. The states of `falling` cost less the more was read.
 pub record IsFitBy {W R D : Type 0} (table : Table W R D) (late : Bool) (falling : Name → Bool) : Type 0 where
-  pub fits : (previous current : Option W) → misfits table previous current ≡ []
+  pub fits : HasNoMisfits table
   pub paid : ArePaid table late table.states
   pub falls : AllFall falling table.states
 

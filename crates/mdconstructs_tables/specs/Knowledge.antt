@@ -51,7 +51,7 @@ module _ {W R D : Type 0} (table : Table W R D) (knows : List Event → Local R 
 
   -- What a machine knows holds at each start. Feeding, the rows of each state, and the end of a choice keep it. Once all was read it says
   -- that no resolver is registered, and that the edits can be made and leave the events in shape.
-  pub record IsKnown : Type 0 where
+  pub record IsKnownThroughout : Type 0 where
     pub at_starts : (flag : Bool) → let k : Configuration R D = start_configuration flag in All (λ name. knows k.events k.local [] (Next name)) table.starts
     pub by_feeding : (events : List Event) (local : Local R D) (choices : List Choice) (name : Name) → knows events local choices (Next name) → knows events local choices (Retry name)
     pub by_rows : AllKeepKnowing table.states

@@ -33,7 +33,11 @@ module _ {W R D : Type 0} where
   are_plain_states [] previous current = true
   are_plain_states (state ∷ states) previous current = are_plain_rows (state.rows previous current) && are_plain_states states previous current
 
+  -- no state links or writes, whatever waits
+  abbrev pub ArePlain : Table W R D → Type 0
+  ArePlain table = (previous current : Option W) → are_plain_states table.states previous current ≡ true
+
   -- no state links or writes, and what each call writes first registers no resolver and makes no edit
   pub record IsPlainTable (table : Table W R D) : Type 0 where
     pub first : IsPlainWrite (λ (k : Configuration R D). table.first k.local)
-    pub rows : (previous current : Option W) → are_plain_states table.states previous current ≡ true
+    pub rows : ArePlain table

@@ -9,7 +9,7 @@ ghost use Rattle.markdown_tokenizer.specs.Lawful.{IsLawful};
 ghost use Rattle.markdown_tokenizer.specs.Plain.{plain};
 ghost use Rattle.markdown_tokenizer.specs.Text.{Given};
 ghost use Rattle.mdconstructs_tables.specs.Fitting.{IsFit};
-ghost use Rattle.mdconstructs_tables.specs.Knowledge.{IsKnown, knowing_rules};
+ghost use Rattle.mdconstructs_tables.specs.Knowledge.{IsKnownThroughout, knowing_rules};
 ghost use Rattle.mdconstructs_tables.specs.Late.{IsLate, late_rules};
 ghost use Rattle.mdconstructs_tables.specs.PlainTables.{IsPlainTable};
 ghost use Rattle.mdconstructs_tables.specs.PlainWrites.{WritesPlain};
@@ -47,5 +47,5 @@ pub trait Knowledge {
 /// A table's rules are lawful on every document if the table has no misfits, its own costs are enough, and its rows keep what
 /// the machine knows.
 pub fn knowing_tables_are_lawful<K: Knowledge>()
-    ensures { IsFit K.table → IsKnown K.table K.knows → (g : Given) → IsLawful g (knowing_rules K.table K.knows g) }
+    ensures { IsFit K.table → IsKnownThroughout K.table K.knows → (g : Given) → IsLawful g (knowing_rules K.table K.knows g) }
 {}

@@ -1,4 +1,5 @@
 -- Whole documents are read block by block, and a paragraph line by line: the quote mark of a line, and its chunk.
+use Rattle.markdown_base.proofs.Seats.{end-after-append}
 use Rattle.mdconstructs_machines.proofs.Prelude.{AllByRecursion, ◌≡◌, ℕ, zero, suc, ◌+◌, ◌≤◌, ◌∷◌, ◌++◌, [], List, Bool, true, false, ◌⊎◌, inl, inr, refl, sym, ◌∙◌, ap, subst, Option, Some, None, arith, length, append_assoc, append-nil, every-append, Event, Enter, Exit, Paragraph, BlankLineEnding, Point, Name, Next, Retry, FlowStart, ParagraphLineStart, Seat, end_after, Nothing, Byte, End, Given, Text, Configuration, Local, Step, start_configuration, whole_text, Rules, Sight, point_or, end_or, is_line_ending, lines_in, all_of, IsReadAs, event, line_ending, other, counts, flow_start_rows, Block, Marked, continued, paragraph, marked_span, line_marks, lines_marks, blocks_marks, blocks_of, with_links, paragraph_events, ◌==◌, cond, take, drop, slice_get, Data, BlockQuoteMarker, ParagraphStart, sight, byte_of, Rows, row, enter, exit, consume, picked, step_of, paragraph_line_start_rows, paragraph_start_rows, is_quote_mark, Chunk, is_quoted}
 use Rattle.mdconstructs_machines.proofs.BlockReads.Reads.{first_line, after_line, line-on, after-less, blank-block, other-block, Run, in_paragraph, connects, begins_at, Stands, stands-next, ReadsBlocks, Goes, Stops, reads-rest, begins-chunk}
 use Rattle.mdconstructs_machines.proofs.BlockReads.Links.{IsBefore, KnowsLast, links-plain, before-next, EndsIn, known-before, known-plain}
@@ -155,11 +156,6 @@ module _ (g : Given) (text : Text) (step : Sight → Configuration Unit Unit →
       (is-class g text p s true (at-front text.seats p s ss here.0) stops) es
       (subst (λ q. EndsWith g text step (held [] p Byte b (events ++ event g.bytes Exit Paragraph q ∷ []) (counts local)) [] (Retry FlowStart) es) (sym here.1) h)
 
--- the place after two stretches is that after the second, from that after the first
-end-append : (p : Point) (xs ys : List Seat) → end_after p (xs ++ ys) ≡ end_after (end_after p xs) ys
-end-append p [] ys = refl
-end-append p (x ∷ xs) ys = end-append x.end xs ys
-
 -- what is added one after another
 nest : (ms : List Marked) (x : Marked) (one more : List Marked) (y : Marked) (rest : List Marked)
     → ((((ms ++ x ∷ []) ++ one) ++ more) ++ y ∷ []) ++ rest ≡ ms ++ ((x ∷ ((one ++ more) ++ y ∷ [])) ++ rest)
@@ -177,7 +173,7 @@ paragraph-marked bytes s ss lines place block ms others no_end =
     let spanned : Point → List Marked = λ q. (event bytes Enter Paragraph s.point, None) ∷ (inside ++ (event bytes Exit Paragraph q, None) ∷ []) in
     let span : marked_span bytes None Paragraph (first ++ all_of lines) inside ≡ spanned (end_after (end_after place first) (all_of lines)) =
     subst (λ line. marked_span bytes None Paragraph (line ++ all_of lines) inside ≡ spanned (end_after (end_after place line) (all_of lines))) (sym (line-on s ss no_end))
-    (ap spanned (end-append s.end (first_line ss) (all_of lines))) in
+    (ap spanned (end-after-append s.end (first_line ss) (all_of lines))) in
     nest ms (event bytes Enter Paragraph s.point, None) (line_marks bytes (block, 0) first) (lines_marks bytes block 1 lines)
     (event bytes Exit Paragraph (end_after (end_after place first) (all_of lines)), None) (blocks_marks bytes (suc block) others)
     ∙ ap (λ l. ms ++ (l ++ blocks_marks bytes (suc block) others)) (sym span)
@@ -232,7 +228,7 @@ module _ (g : Given) (text : Text) (step : Sight → Configuration Unit Unit →
                   stops = run.stops;
                   shorter = omega (arith, less, shorter);
                 },
-                subst (λ q. ReadsRun (held in_paragraph p Byte b (with_links ms) local) run.rest q block (ms ++ (marks ++ lines_marks g.bytes block (suc n) run.lines))) (sym (end-append place first (all_of run.lines)))
+                subst (λ q. ReadsRun (held in_paragraph p Byte b (with_links ms) local) run.rest q block (ms ++ (marks ++ lines_marks g.bytes block (suc n) run.lines))) (sym (end-after-append place first (all_of run.lines)))
                     (subst (ReadsRun (held in_paragraph p Byte b (with_links ms) local) run.rest (end_after (end_after place first) (all_of run.lines)) block) (append_assoc ms marks (lines_marks g.bytes block (suc n) run.lines))
                     (record { to = r.to; ended = r.ended; after = r.after; stands = r.stands; before = r.before; goes = λ es h. line.goes es (r.goes es h) })),
               )

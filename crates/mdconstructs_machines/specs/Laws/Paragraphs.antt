@@ -22,7 +22,7 @@ use Rattle.mdconstructs_tables.specs.LinkShapes.{next_end, previous_end, AreInSh
 use Rattle.mdconstructs_tables.specs.Misfits.{misfits}
 use Rattle.mdconstructs_tables.proofs.LinkShapes.{more-shape, linked-shape}
 use Rattle.mdconstructs_tables.specs.Fitting.{IsFit}
-use Rattle.mdconstructs_tables.specs.Knowledge.{KeepsKnowing, IsKnown}
+use Rattle.mdconstructs_tables.specs.Knowledge.{KeepsKnowing, IsKnownThroughout}
 use Rattle.mdconstructs_machines.specs.Tables.{LineByte, line_ending, other}
 use Rattle.mdconstructs_machines.specs.DataRows.{data_start, data_inside}
 use Rattle.mdconstructs_machines.specs.Paragraphs.{text_link, flow_start, paragraph_line_start, paragraph_start, paragraph_inside, text_start, paragraphs, BeginsChunk, EndsWithChunk, HasChunk, KnowsChunk, Knows, knows_chunk, CanLinkChunk}
@@ -250,7 +250,7 @@ at-end k balanced h =
     let same = edited-none k.events h.shape.inside in
     (h.resolvers, rw none (omega arith, h.shape.inside), rw (none, same) shape)
 
-pub paragraphs-known : IsKnown paragraphs knows_chunk
+pub paragraphs-known : IsKnownThroughout paragraphs knows_chunk
 paragraphs-known = record {
   at_starts = at-starts;
   by_feeding = still-known;

@@ -21,7 +21,7 @@ use Rattle.markdown_tokenizer.proofs.Readings.Plain.{no-links-more, no-links-bel
 use Rattle.markdown_tokenizer.specs.Configuration.{Configuration, Local, Choice, start_configuration}
 use Rattle.mdconstructs_tables.specs.Misfits.{misfits}
 use Rattle.mdconstructs_tables.specs.Fitting.{IsFit}
-use Rattle.mdconstructs_tables.specs.Knowledge.{KeepsKnowing, IsKnown}
+use Rattle.mdconstructs_tables.specs.Knowledge.{KeepsKnowing, IsKnownThroughout}
 use Rattle.mdconstructs_machines.specs.Words.{WordByte, blank, other, text_start, blanks, word_start, tag, word, words, is_start, blanks_may_be_open, BeginWithBlanks, DropNoMoreThanBlanks, KnowsEdits, knows_edits}
 
 fits : (previous current : Option WordByte) → misfits words previous current ≡ []
@@ -154,7 +154,7 @@ ends-well events map balanced unlinked (inl none) =
     ((omega arith, no-links-below (length events) events unlinked), subst IsInShape (sym (edited-same events unlinked)) (no-links-shape events unlinked balanced))
 ends-well events map balanced unlinked (inr h) = subst (λ m. Ends events m) (sym h.0) (without-blanks events balanced unlinked h.1)
 
-pub words-known : IsKnown words knows_edits
+pub words-known : IsKnownThroughout words knows_edits
 words-known = record {
   at_starts = at-starts;
   by_feeding = still-known;

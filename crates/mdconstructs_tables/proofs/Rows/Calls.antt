@@ -1,7 +1,7 @@
 -- What the code of a state may do where it is called, from the test of its acts.
 use Rattle.mdconstructs_tables.proofs.Prelude.{◌≡◌, ◌≢◌, ◌==◌, ℕ, ◌<◌, ◌&&◌, ◌||◌, not, List, [], ◌∷◌, ◌++◌, Bool, true, false, Option, Some, None, length, map, refl, sym, ap, ◌∙◌, subst, arith, append_assoc, length-append, All, IfSome, reverse, last_or, nat_tests, All-head, All-tail, All-weaker, and_parts, slice_get_past, Event, Enter, Name, Retry, open_events, open_events_from-unlinked, option_map, is_void, unlinked, stands_before, or-leads, Waits, Nothing, Byte, End, Text, Configuration, Local, TokenizerValue, sight, sight_of, byte_of, CanExit, IsAsFar, Act, enters, exit, consume, done, with_choice_of, StateRows, Called, Table, class_of, does, chooses, named, Stage, byte_read, Shape, is_last, allows_all, after_all, start_shape, is_called_at, is_some, since, IsFed, class_in, begun, IsBelow, table_holds, IsAtState, once_read, CanEnd, IsCallable, IsMarkable, cond-false, IfSome_then, EventName}
 use Rattle.mdconstructs_tables.proofs.Rows.Laws.{Waited, reached, sight_at, HasShape, below_all, is-last, last-above, last-long, to-before, left-at, here-at, has-after-all, does-then, chooses-then, allows-parts}
-use Rattle.mdconstructs_tables.proofs.GrowingTexts.{next-left}
+use Rattle.mdconstructs_tables.proofs.GrowingTexts.{next-is-left}
 use Rattle.mdconstructs_tables.proofs.Markers.{stack-below}
 use Rattle.mdconstructs_tables.proofs.Tables.Holding.{met-at, read-before, ahead-at, start-sight, begins}
 
@@ -137,7 +137,7 @@ allowed class state t can =
     record {
       called = can;
       byte = λ never. never-at-end class state.called k.waiting k.position k.ended t.text can.fed never can.spans.called;
-      stands = λ waits. let inside = rw waits at can.fed in rw waits (sym (next-left t.given t.text t.configuration.position Nothing inside));
+      stands = λ waits. let inside = rw waits at can.fed in rw waits (sym (next-is-left t.given t.text t.configuration.position Nothing inside));
       marks = λ waits. record {
         waits = waits;
         inside = rw waits at can.fed;

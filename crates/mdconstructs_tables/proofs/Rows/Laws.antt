@@ -1,7 +1,7 @@
 -- What a row keeps: lemmas for the laws of tables.
 use Rattle.mdconstructs_tables.proofs.Markers.{stack-below}
 use Rattle.mdconstructs_tables.proofs.Prelude.{◌≡◌, suc, ◌+◌, ◌-◌, ◌<◌, ◌≤◌, not, List, [], ◌∷◌, ◌++◌, Bool, true, false, Option, Some, None, length, map, refl, sym, ap, ◌∙◌, subst, arith, take, append_assoc, length-append, All, last_or, and_from, and_parts, append-nil, map-append, All-push, All-take, All-weaker, All-cons, Event, Enter, Exit, Point, State, Nok, open_events, unlinked, stands_before, stands-self, Nothing, Byte, AttemptKind, Attempt, Given, Text, Configuration, Choice, Sight, sight, consumed, linked-unlinked, IsAsFar, same_name-true, before-upto, Act, enters, exit, consume, links, write, choose, past, done, seen_after, choice_made_at, with_choice_of, does, chooses, Stage, end_waits, byte_waits, byte_read, Shape, is_byte_waiting, is_end, is_last, allows, after, allows_all, after_all, same_names, outline, EndsWithEnter, Began, upto, since, AnyWait, IsBelow, EventName}
-use Rattle.mdconstructs_tables.proofs.GrowingTexts.{open-more, last-more, next-left}
+use Rattle.mdconstructs_tables.proofs.GrowingTexts.{open-more, last-more, next-is-left}
 
 -- What the tests of equality say
 pub same_names-true : (xs ys : List EventName) → same_names xs ys ≡ true → xs ≡ ys
@@ -114,12 +114,12 @@ still-before false stage s q fit h = h
 module _ {R D : Type 0} (g : Given) (text : Text) (old : Configuration R D) where
   -- the place of an exit, by how far a call is
   pub left-at : (stage : Stage) (k : Configuration R D) → IsAsFar k (reached stage old) → Waited stage text old → (sight g text k).exit_place ≡ (sight_at stage (sight g text old)).exit_place
-  left-at byte_read k far waited = let byte = waited.0 in rw (far.0, byte) (sym (next-left g text old.position k.waiting waited.1))
+  left-at byte_read k far waited = let byte = waited.0 in rw (far.0, byte) (sym (next-is-left g text old.position k.waiting waited.1))
   left-at stage k far waited = rw far.0 refl
 
   -- the place of an enter before the end
   pub here-at : (stage : Stage) (k : Configuration R D) → IsAsFar k (reached stage old) → Waited stage text old → (sight g text k).enter_place ≡ (sight_at stage (sight g text old)).enter_place
-  here-at byte_read k far waited = let byte = waited.0 in rw (far.0, far.1, byte) (sym (next-left g text old.position Nothing waited.1))
+  here-at byte_read k far waited = let byte = waited.0 in rw (far.0, far.1, byte) (sym (next-is-left g text old.position Nothing waited.1))
   here-at stage k far waited = rw (far.0, far.1) refl
 
   chosen-below : (kind : AttemptKind) (ok nok : State) (stack : List EventName) (k : Configuration R D) → k.stack ≡ stack → IsBelow stack (choice_made_at kind ok nok k)

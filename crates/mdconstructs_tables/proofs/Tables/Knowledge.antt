@@ -1,6 +1,6 @@
 -- The laws of a machine that knows more than its table says, from the table's laws and from what each row keeps.
 use Rattle.mdconstructs_tables.proofs.Rows.Misfits.{named-in}
-use Rattle.mdconstructs_tables.proofs.Prelude.{◌≡◌, List, [], true, refl, sym, subst, nat_lt, length, All-contains, Event, State, Next, Retry, Byte, End, Given, Configuration, Local, Choice, start_configuration, Sight, sight, with_local, IsAsFar, IsLawful, Rows, row, when, Row, Table, class_of, picked, step_of, step_at, IsFit, EachRow, LeavesShape, KnownAfter, KeepsKnowing, AllKeepKnowing, IsKnown, knowing_rules, cond_both}
+use Rattle.mdconstructs_tables.proofs.Prelude.{◌≡◌, List, [], true, refl, sym, subst, nat_lt, length, All-contains, Event, State, Next, Retry, Byte, End, Given, Configuration, Local, Choice, start_configuration, Sight, sight, with_local, IsAsFar, IsLawful, Rows, row, when, Row, Table, class_of, picked, step_of, step_at, IsFit, EachRow, LeavesShape, KnownAfter, KeepsKnowing, AllKeepKnowing, IsKnownThroughout, knowing_rules, cond_both}
 use Rattle.mdconstructs_tables.proofs.Tables.Laws.{is-call, table-consumes_once, table-only_adds, table-ends_when_read, table-invariant_kept}
 use Rattle.mdconstructs_tables.proofs.Tables.Costs.{table-cost_pays}
 
@@ -12,7 +12,7 @@ module _ {R D : Type 0} (P : Row R D → Type 0) (g : Given) (s : Sight) (k : Co
       cond_both (test g s k) (picked one g s k) (picked other g s k) P (λ e. picked-row one (h.0 e)) (λ e. picked-row other (h.1 e))
 
 module _ {W R D : Type 0} (table : Table W R D) (knows : List Event → Local R D → List Choice → State → Type 0) where
-  pub knowing-lawful : (g : Given) → IsFit table → IsKnown table knows → IsLawful g (knowing_rules table knows g)
+  pub knowing-lawful : (g : Given) → IsFit table → IsKnownThroughout table knows → IsLawful g (knowing_rules table knows g)
   knowing-lawful g fit known =
       let adds = table-only_adds table g fit in
       let ends = table-ends_when_read table g fit in

@@ -1,5 +1,5 @@
 -- The costs of the states of the machine of texts, in numbers.
-use Rattle.std.proofs.Common.{◌≡◌, ℕ, zero, suc, ◌+◌, ◌-◌, ◌*◌, ◌<◌, ◌≤◌, ◌==◌, ◌||◌, List, [], ◌∷◌, Bool, true, false, cond, Option, Some, None, length, drop, refl, sym, ap, ◌∙◌, arith, add-one, inl, inr, length-drop}
+use Rattle.std.proofs.Common.{◌≡◌, ℕ, suc, ◌+◌, ◌-◌, ◌*◌, ◌<◌, ◌≤◌, ◌==◌, ◌||◌, List, [], ◌∷◌, Bool, true, false, cond, Option, Some, None, length, drop, refl, sym, ap, ◌∙◌, arith, add-one, inl, inr, length-drop}
 use Rattle.std.specs.Prelude.{slice_get, max, nat_lt}
 use Rattle.std.specs.Char.{is_ascii_alphabetic, is_ascii_alphanumeric, is_ascii_punctuation}
 use Rattle.std.proofs.lemmas.Bool.Decides.{nat_tests}
@@ -11,18 +11,14 @@ use Rattle.mdconstructs_tables.specs.Rows.{class_of}
 use Rattle.mdconstructs_text.specs.TextBytes.{TextByte, line_feed, backtick, less, greater, backslash, colon, letter, digit, mark, punctuation, blank, other, text_byte, is_tick, ends_code_data}
 use Rattle.mdconstructs_text.specs.TextCosts.{leading, outside, waits_at}
 use Rattle.markdown_base.proofs.Common.{drop-at}
+use Rattle.mdconstructs_tables.proofs.CostNumbers.{next-left, square-falls}
 
 -- Numbers of bytes
-next-left : (n p : ℕ) → p < n → n - p ≡ suc (n - (p + 1))
-next-left n p h = omega (arith, h)
-
 outside-next : (v : ℕ) → outside (suc v) ≡ outside v + (8 * v + 13)
 outside-next v = omega arith
 
-pub outside-falls : (u v : ℕ) → v ≤ u → outside v ≤ outside u
-outside-falls zero v h = let none : v ≡ 0 = omega (arith, h) in rw none (omega arith)
-outside-falls (suc u) zero h = omega arith
-outside-falls (suc u) (suc v) h = omega (arith, outside-falls u v (omega (arith, h)), outside-next u, outside-next v, h)
+pub outside-falls : (u v : ℕ) → v ≤ u → 4 * (v * v) + 9 * v + 1 ≤ 4 * (u * u) + 9 * u + 1
+outside-falls u v h = omega (arith, square-falls u v h, h)
 
 -- a byte later
 pub outside-later : (n p : ℕ) → p < n → outside (n - (p + 1)) + 12 ≤ outside (n - p)

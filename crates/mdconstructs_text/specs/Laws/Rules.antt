@@ -14,7 +14,7 @@ use Rattle.mdconstructs_tables.specs.Joined.{has_state}
 use Rattle.mdconstructs_tables.specs.RowInvariant.{table_holds}
 use Rattle.mdconstructs_tables.specs.Misfits.{misfits}
 use Rattle.mdconstructs_tables.specs.Fitting.{IsFit}
-use Rattle.mdconstructs_tables.specs.Knowledge.{IsKnown}
+use Rattle.mdconstructs_tables.specs.Knowledge.{IsKnownThroughout}
 use Rattle.mdconstructs_tables.proofs.Tables.Lawful.{knowing-lawful, late-lawful, joined-lawful}
 use Rattle.mdconstructs_tables.specs.Joined.{AreApart}
 use Rattle.mdconstructs_tables.proofs.Tables.Joined.{HaveOtherNames, fed-state, called-state, is-other, of-first, of-second}
@@ -39,7 +39,7 @@ at-start flag =
     let P = λ (name : Name). knows_chunk k.events k.local [] (Next name) in
     All-cons P FlowStart [] (All-head P FlowStart (TextStart ∷ []) (paragraphs-known.at_starts flag)) (All-nil P)
 
-pub flow-known : IsKnown flow knows_chunk
+pub flow-known : IsKnownThroughout flow knows_chunk
 flow-known = let rows = paragraphs-known.by_rows in record {
   at_starts = at-start;
   by_feeding = paragraphs-known.by_feeding;

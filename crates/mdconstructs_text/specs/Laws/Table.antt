@@ -1,5 +1,5 @@
 -- The table of the machine of texts passes the tests and its own cost is enough, so that the machine is lawful.
-use Rattle.std.proofs.Common.{◌≡◌, ℕ, ◌+◌, ◌-◌, [], true, false, Option, Some, None, length, drop, refl, ap, arith}
+use Rattle.std.proofs.Common.{◌≡◌, ℕ, ◌+◌, ◌-◌, [], true, Option, Some, None, length, drop, refl, ap, arith}
 use Rattle.mdconstructs_tables.specs.Late.{hasty}
 use Rattle.mdconstructs_tables.specs.PlainTables.{IsPlainWrite}
 use Rattle.mdconstructs_tables.specs.PlainWrites.{StatesWritePlain, WritesPlain}
@@ -7,6 +7,7 @@ use Rattle.mdconstructs_tables.specs.Misfits.{misfits}
 use Rattle.mdconstructs_tables.specs.RowInvariant.{PaysRows}
 use Rattle.mdconstructs_tables.specs.Fitting.{IsFitBy}
 use Rattle.mdconstructs_tables.specs.Late.{IsLate}
+use Rattle.mdconstructs_tables.proofs.CostNumbers.{no-matter}
 use Rattle.mdconstructs_text.specs.TextBytes.{TextByte, line_feed, backtick, less, greater, backslash, colon, letter, digit, mark, punctuation, blank, other, is_tick, ends_code_data}
 use Rattle.mdconstructs_text.specs.TextCosts.{leading, waits_at}
 use Rattle.mdconstructs_text.specs.TextTable.{size_b_is, size_c_is, size_b_grows, size_c_grows, text_start, text_before, text_before_data, data_at_break, data_inside, raw_text_start, raw_text_sequence_open, raw_text_between, raw_text_data, raw_text_sequence_close, raw_flow_after, raw_flow_before_content_chunk, raw_flow_content_chunk, autolink_start, autolink_open, autolink_scheme, autolink_url, escape_start, escape_inside, text_states, texts, begins_construct, follows_construct}
@@ -305,9 +306,6 @@ escape-inside-pays b (Some blank) text p read at seen called = omega arith
 escape-inside-pays b (Some other) text p read at seen called = omega arith
 
 -- a state that follows no construct
-no-matter : {A : Type 0} → false ≡ true → A
-no-matter e = absurd (cc)
-
 pub texts-fit : IsFitBy texts true follows_construct
 texts-fit = record {
   fits = fits;

@@ -1,11 +1,12 @@
 -- The table of labels passes the tests and its cost is enough, so that the machine is lawful.
-use Rattle.std.proofs.Common.{◌≡◌, ℕ, zero, suc, ◌+◌, ◌-◌, ◌*◌, ◌<◌, ◌≤◌, [], true, false, Option, Some, None, length, refl, arith}
+use Rattle.std.proofs.Common.{◌≡◌, ℕ, ◌+◌, ◌-◌, ◌*◌, ◌<◌, ◌≤◌, [], true, Option, Some, None, length, refl, arith}
 use Rattle.std.specs.Prelude.{max}
 use Rattle.mdconstructs.specs.Late.{hasty, IsLate}
 use Rattle.mdconstructs.specs.Misfits.{misfits}
 use Rattle.mdconstructs.specs.PlainWrites.{StatesWritePlain, WritesPlain}
 use Rattle.mdconstructs.specs.RowInvariant.{PaysRows}
 use Rattle.mdconstructs_tables.specs.Fitting.{IsFitBy}
+use Rattle.mdconstructs_tables.proofs.CostNumbers.{next-left, no-matter, square-falls}
 use Rattle.mdexamples.specs.Labels.{LabelByte, line_feed, opening, closing, other, text_before, text_before_data, data_inside, label_start, label_inside, outside, begins_label, follows_label, labels}
 
 fits : (previous current : Option LabelByte) → misfits labels previous current ≡ []
@@ -21,10 +22,6 @@ late previous (Some line_feed) = refl
 late previous (Some opening) = refl
 late previous (Some closing) = refl
 late previous (Some other) = refl
-
--- with a byte less
-next-left : (n p : ℕ) → p < n → n - p ≡ suc (n - (p + 1))
-next-left n p h = omega (arith, h)
 
 -- a label that is tried, and what the attempt goes on with
 tries : (n p : ℕ) → p < n → 1 + (n - p + 1 + (max (outside (n - (p + 1))) ((n - p) * (n - p) + 3 * (n - p) + 1) + 0)) ≤ outside (n - p)
@@ -79,13 +76,8 @@ inside-pays b (Some closing) text p read at seen called = omega arith
 inside-pays b (Some other) text p read at seen called = omega (arith, at)
 
 -- the more was read, the fewer calls may come between labels
-outside-falls : (u v : ℕ) → v ≤ u → outside v ≤ outside u
-outside-falls zero v h = let none : v ≡ 0 = omega (arith, h) in rw none (omega arith)
-outside-falls (suc u) zero h = omega arith
-outside-falls (suc u) (suc v) h = omega (arith, outside-falls u v (omega (arith, h)), h)
-
-no-matter : {A : Type 0} → false ≡ true → A
-no-matter e = absurd (cc)
+outside-falls : (u v : ℕ) → v ≤ u → v * v + 5 * v + 2 ≤ u * u + 5 * u + 2
+outside-falls u v h = omega (arith, square-falls u v h, h)
 
 labels-fit : IsFitBy labels true follows_label
 labels-fit = record {
