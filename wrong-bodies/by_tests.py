@@ -1,8 +1,7 @@
 #!/usr/bin/env python3
 """Tries the wrong bodies of LIST that meet their contracts, as they return that memory ran out although there is some. No proof can
 reject them, so a test must. LIST has for each the path of the test; "refusals" if only a failing allocation shows it
-(tools/refusals.py); "call" if only a call of the program with the arguments "--cut 0" shows it, which has status 2; "script" if only
-bindings/names.py --check shows it.
+(tools/refusals.py); "call" if only a call of the program with the arguments "--cut 0" shows it, which has status 2.
 
 Works on a copy of the repository, from which it takes the other tests, and runs "rt try --test", once for edits that have different
 tests. Prints a row for each edit, and goes on: the test rejects it ("refused"), or passes over it ("PASSED"), or it can't be applied or
@@ -24,8 +23,8 @@ import table  # noqa: E402
 
 TEST = re.compile(r"^( *)(?:///[^\n]*\n *)*#\[test\]\n *fn (\w+)\(.*?^\1\}\n", re.M | re.S)
 MEMORY = "memory_is_no_fault_of_the_reader"
-CALL, SCRIPT = "call", "script"
-ALONE = (MEMORY, CALL, SCRIPT)
+CALL = "call"
+ALONE = (MEMORY, CALL)
 
 
 def copy(room):
@@ -35,7 +34,6 @@ def copy(room):
         os.path.join(room, "crates"),
         ignore=shutil.ignore_patterns("out", "must-fail"),
     )
-    shutil.copytree(os.path.join(table.TOP, "bindings"), os.path.join(room, "bindings"), ignore=shutil.ignore_patterns("out", "target"))
     for name in ("crates.txt", "HANDLES"):
         shutil.copy(os.path.join(table.TOP, name), room)
 
@@ -54,8 +52,6 @@ def tests_of(row):
     """Returns the crate of the tests, and the name of the test."""
     if row.who == CALL:
         return "mdevents", CALL
-    if row.who == SCRIPT:
-        return row.crate, SCRIPT
     if row.who == "refusals":
         return "mdtests", MEMORY
     return row.who.split("::")[0], row.who.split("::")[-1]
@@ -93,15 +89,8 @@ def tried(group):
             left[wanted] = row
             for file, text in texts.items():
                 open(os.path.join(folder, file), "w", encoding="utf-8").write(text)
-        if SCRIPT not in left:
-            keep(crate, left)
+        keep(crate, left)
         said = ""
-        if SCRIPT in left:
-            words = [sys.executable, os.path.join(room, "bindings", "names.py"), "--check"]
-            ran = subprocess.run(words, cwd=room, capture_output=True, text=True)
-            said = ran.stdout + ran.stderr
-            if ran.returncode != 1 or "Traceback" not in said:
-                came[left.pop(SCRIPT)] = ("refused", said.strip()) if ran.returncode else ("PASSED", "bindings/names.py --check")
         if CALL in left:
             words = ["rt", "try", "--", "--cut", "0"]
             ran = subprocess.run(words, cwd=crate, input="", capture_output=True, text=True)

@@ -27,12 +27,14 @@ Row = collections.namedtuple("Row", "crate function what who commit promise")
 Place = collections.namedtuple("Place", "file module owner trait name public first body last")
 
 
+def kind(row):
+    """Returns which kind of folder a row's edit is in."""
+    return row.who if row.who in ("gate", "prover") else "tests"
+
+
 def edit_of(row):
     """Returns where the file of a row's edit is, from the top of the repository."""
-    folder = f"crates/{row.crate}/must-fail"
-    if row.who != "gate":
-        is_prover = row.who in ("prover", "script")
-        folder = f"wrong-bodies/{row.crate}" if is_prover else f"wrong-bodies/by-tests/{row.crate}"
+    folder = {"gate": f"crates/{row.crate}/must-fail", "prover": f"wrong-bodies/{row.crate}", "tests": f"wrong-bodies/by-tests/{row.crate}"}[kind(row)]
     return f"{folder}/{row.function}-{row.what}.edit"
 
 
@@ -177,11 +179,6 @@ def without(head):
     return {tuple(m) for line in head for m in re.findall(r"^# without: (\w+) ([\w.*]+): ", line)}
 
 
-def kind(row):
-    """Returns which kind of folder a row's edit is in."""
-    return row.who if row.who == "gate" else "prover" if row.who in ("prover", "script") else "tests"
-
-
 def listed(rows):
     """Holds the rows against the files."""
     named = [(row.crate, f"{row.function}-{row.what}", kind(row)) for row in rows]
@@ -193,7 +190,7 @@ def listed(rows):
 
 def is_tried(row):
     """Returns whether it is known who tries a row's edit: a test must be there."""
-    if row.who in ("gate", "prover", "script", "call", "refusals"):
+    if row.who in ("gate", "prover", "call", "refusals"):
         return True
     crate, *modules, test = row.who.split("::")
     source = f"{TOP}/crates/{crate}/src/{'/'.join(modules)}.rt"
