@@ -79,7 +79,7 @@ pub use Rattle.markdown_tokenizer.specs.Cuts.{cuts_every, is_cut, place_of}
 pub use Rattle.markdown_tokenizer.specs.AtPlaces.{AreAtPlaces}
 pub use Rattle.markdown_tokenizer.specs.Engine.{AreCuts, CanPush, FollowInOrder, ForPoints, HoldsOf, IsFlushed, IsPushed, IsRefused, IsRun, IsRunRefused, IsWellFormed, KeepsOutcome, LeadsOn, budget, given_by, given_of, whole_text}
 pub use Rattle.markdown_tokenizer.specs.Gaps.{AreSorted, IsOutside, IsPlainUntil, IsSkip, is_kept, is_kept_by, kept_between, resumed, skip_of}
-pub use Rattle.markdown_tokenizer.specs.Lawful.{ConsumesOnce, CostPays, DidStep, EndsWhenRead, IsAsFar, IsLawful, KeepsInvariant, OnlyAdds, ResolversKeep, stepped}
+pub use Rattle.markdown_tokenizer.specs.Lawful.{ConsumesOnce, CostPays, DidStep, EndsWhenRead, IsAsFar, IsLawful, KeepsInvariant, OnlyAdds, ResolversKeep, SavesEvents, stepped}
 pub use Rattle.markdown_tokenizer.specs.LawStatements.{IsOneRange, Later, added, here, went_back, LeavesOnly}
 pub use Rattle.markdown_tokenizer.specs.Made.{IsMade, VoidExitsFollow, last_kind}
 pub use Rattle.markdown_tokenizer.specs.Plain.{HaveNoLinks, IsPlain, KeepsPlain, NothingResolves, plain}

@@ -3,4 +3,5 @@ pub mod Bounds
 pub mod Ends
 pub mod Plain
 pub mod Reserves
+pub mod Stays
 pub mod Turns

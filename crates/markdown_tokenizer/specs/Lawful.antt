@@ -1,5 +1,5 @@
 -- What a lawful machine keeps. Each law is about one call, one feeding, one settled choice or one piece added.
-use Rattle.std.specs.Prelude.{◌≡◌, ◌≢◌, ◌+◌, ◌≤◌, ◌⊎◌, List, [], ◌∷◌, ◌++◌, Bool, true, false, Option, IfSome, All, Contains, length, take}
+use Rattle.std.specs.Prelude.{ℕ, ◌≡◌, ◌≢◌, ◌+◌, ◌≤◌, ◌⊎◌, List, [], ◌∷◌, ◌++◌, Bool, true, false, Option, IfSome, All, Contains, length, take}
 use Rattle.markdown_base.specs.declared.event.Point.{Point}
 use Rattle.markdown_base.specs.declared.state.Name.{Name}
 use Rattle.markdown_base.specs.declared.state.State.{State}
@@ -30,6 +30,10 @@ pub record DidStep {M R D : Type 0} (old new : TokenizerValue M R D) (s : Step R
 abbrev pub IsAsFar : {R D : Type 0} → Configuration R D → Configuration R D → Type 0
 IsAsFar a b = (a.position ≡ b.position) × (a.waiting ≡ b.waiting) × (a.ended ≡ b.ended)
 
+-- a choice saved at least this many events, if it saved any
+abbrev pub SavesEvents : ℕ → Choice → Type 0
+SavesEvents n c = IfSome c.saved (λ saved. n ≤ saved.events)
+
 module _ {M R D : Type 0} (rules : Given → Rules R D) (t : TokenizerValue M R D) where
   -- the step of a tokenizer's call of the state of this name
   abbrev pub step_of : Name → Step R D
@@ -56,11 +60,12 @@ module _ {R D : Type 0} (g : Given) (rules : Rules R D) where
       ⊎ ((k.waiting ≡ Byte) × IsAsFar s.configuration (consumed k) × ((n : Name) → s.answer ≢ Retry n)))
 
   -- a call keeps the events, but for the ends of their links, and adds its own after them; it keeps the part of the stack that a waiting
-  -- choice saved
+  -- choice saved; and the choices that it makes save no fewer events than there were before it
   pub record OnlyAdds : Type 0 where
     pub events : ForEachCall (λ text k choices name s. HasFrontUpToLinkEnds s.configuration.events k.events)
     pub stack : ForEachCall (λ text k choices name s.
         All (λ c. IfSome c.saved (λ saved. take (length saved.stack) s.configuration.stack ≡ take (length saved.stack) k.stack)) choices)
+    pub choices : ForEachCall (λ text k choices name s. All (SavesEvents (length k.events)) s.choices)
 
   -- with no choice waiting the invariant never holds for Nok, and for Ok only once the end was fed, with each span ended
   pub record EndsWhenRead : Type 0 where

@@ -20,6 +20,7 @@ pub mod Cursor
 pub mod Made
 pub mod LawStatements
 pub mod Alike
+pub mod Stays
 pub mod Lent
 pub mod Cuts
 pub mod Gaps

@@ -6,6 +6,7 @@ ghost use Rattle.markdown_tokenizer.specs.Alike.{CallsAreAlike};
 ghost use Rattle.markdown_tokenizer.specs.Engine.{HasOneEnd};
 ghost use Rattle.markdown_tokenizer.specs.LawStatements.{CutsLeaveNoTrace, PushesAreOne, ChoicesPutBack, PushesInOneWay};
 ghost use Rattle.markdown_tokenizer.specs.Reserves.{ReservesAreEnough};
+ghost use Rattle.markdown_tokenizer.specs.Stays.{StayBeforeChoices, WhatWasReadStays};
 ghost use Rattle.markdown_tokenizer.specs.Turns.{TurnsAreKept};
 
 use crate::state::Machine;
@@ -53,4 +54,11 @@ pub fn turns_are_kept<R, D>()
 /// alike.
 pub fn calls_are_alike<M: Machine>()
     ensures { (m : _) → CallsAreAlike (M.rules m) }
+{}
+
+/// The events before the outermost waiting choice are final before resolvers, up to the ends of their links: whatever is read on, the
+/// result of the reading begins with them. If no choice waits, these are all events.
+pub fn what_was_read_stays<M: Machine>()
+    ensures before_choices { (m : _) (g : _) → StayBeforeChoices g (M.rules m g) }
+    ensures no_choice { (m : _) (g : _) → WhatWasReadStays g (M.rules m g) }
 {}

@@ -75,9 +75,9 @@ pub trait Machine: MachineTypes + Sized {
         ensures err { IfErr result (λ fault. fault ≢ Fault.Failed) };
 
     /// It is lawful on every document: a call consumes at most one byte, and never the end (`consumes_once`); it keeps the events, but
-    /// for the ends of their links, and the spans that waiting choices saved (`only_adds`); if no choice waits, `Nok` is never
-    /// returned, and `Ok` only once the end was fed, with each span ended (`ends_when_read`); the invariant holds at each start and is
-    /// kept (`invariant_kept`); calls stay within their stated cost (`cost_pays`); and resolvers leave a balanced list
-    /// (`resolvers_keep`).
+    /// for the ends of their links, and the spans that waiting choices saved, and the choices that it makes save no fewer events than
+    /// there were before it (`only_adds`); if no choice waits, `Nok` is never returned, and `Ok` only once the end was fed, with each
+    /// span ended (`ends_when_read`); the invariant holds at each start and is kept (`invariant_kept`); calls stay within their stated
+    /// cost (`cost_pays`); and resolvers leave a balanced list (`resolvers_keep`).
     ghost lawful: { (m : Self) (g : Given) → IsLawful g (rules m g) };
 }

@@ -36,7 +36,7 @@ pub use Rattle.markdown_tokenizer.proofs.Runs.Working.{holds-on}
 pub use Rattle.markdown_tokenizer.specs.Calls.{CanExit, consumed, entered, saved_at, with_local, with_resolvers}
 pub use Rattle.markdown_tokenizer.specs.Configuration.{Choice, Configuration, Local, Saved, Step, TokenizerValue, at_configuration, start_configuration}
 pub use Rattle.markdown_tokenizer.specs.Engine.{IsRunRefused, whole_text}
-pub use Rattle.markdown_tokenizer.specs.Lawful.{ConsumesOnce, CostPays, EndsWhenRead, ForEachCall, IsAsFar, IsLawful, KeepsInvariant, OnlyAdds}
+pub use Rattle.markdown_tokenizer.specs.Lawful.{ConsumesOnce, CostPays, EndsWhenRead, ForEachCall, IsAsFar, IsLawful, KeepsInvariant, OnlyAdds, SavesEvents}
 pub use Rattle.markdown_tokenizer.specs.Plain.{IsPlain, KeepsPlain, plain}
 pub use Rattle.markdown_tokenizer.specs.Reading.{EndsIn, Reading, after_choices, fed, more_calls, read, restored, settle, settled_at, unfed}
 pub use Rattle.markdown_tokenizer.specs.Resolving.{IsResolvingRefused, found, refused, resolved_by, taken, with_more}

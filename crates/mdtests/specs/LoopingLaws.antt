@@ -3,6 +3,7 @@ use Rattle.std.proofs.Common.{◌≡◌, ◌≢◌, ◌==◌, ℕ, zero, suc, �
 use Rattle.std.specs.Prelude.{nat_lt, Contains, All, IfSome, take}
 use Rattle.std.proofs.Math.Seq.{take-length}
 use Rattle.std.proofs.lemmas.Bool.{ltb-true, ltb-false}
+use Rattle.std.proofs.lemmas.List.Elements.{All-from_recursion}
 use Rattle.markdown.specs.declared.event.Name.{Name as EventName}
 use Rattle.markdown.specs.Events.{unlinked}
 use Rattle.markdown.specs.declared.state.Name.{Name}
@@ -16,7 +17,7 @@ use Rattle.markdown.specs.Configuration.{Configuration, Choice, Saved, Step}
 use Rattle.markdown.specs.Sight.{sight, current_of}
 use Rattle.markdown.specs.Calls.{consumed}
 use Rattle.markdown.specs.Reading.{fed, settled_at}
-use Rattle.markdown.specs.Lawful.{ConsumesOnce, OnlyAdds, EndsWhenRead, KeepsInvariant, CostPays, IsAsFar, IsLawful}
+use Rattle.markdown.specs.Lawful.{ConsumesOnce, OnlyAdds, EndsWhenRead, KeepsInvariant, CostPays, IsAsFar, IsLawful, SavesEvents}
 use Rattle.markdown.specs.Plain.{IsPlain}
 use Rattle.mdconstructs.specs.RowInvariant.{IsFed}
 use Rattle.markdown_tokenizer.proofs.Readings.Plain as machines
@@ -69,6 +70,10 @@ module _ (g : Given) where
         each-call (λ text k b choices s. All (λ c. IfSome c.saved (λ saved. take (length saved.stack) s.configuration.stack ≡ take (length saved.stack) k.stack)) choices)
         (λ text k empty i c l. same-stack (get_or (again ∷ []) i c).saved k.stack) (λ text k empty ended i c l. absurd (omega arith))
         (λ text k byte empty waits less i c l. absurd (omega arith)) text k choices name h;
+    choices = λ text k choices name is h.
+        each-call (λ text k b choices s. All (SavesEvents (length k.events)) s.choices)
+        (λ text k empty i c l. absurd (omega arith)) (λ text k empty ended i c l. absurd (omega arith))
+        (λ text k byte empty waits less. All-from_recursion (SavesEvents (length k.events)) (again ∷ []) (tt, tt)) text k choices name h;
   }
 
   ends_when_read : EndsWhenRead g looping_parts

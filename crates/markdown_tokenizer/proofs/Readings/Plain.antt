@@ -63,6 +63,7 @@ plain-lawful {R = R} {D = D} g rules keeps consumes adds ends kept pays = record
   only_adds = record {
     events = λ text k choices name is h. adds.events text k choices name is h.1;
     stack = λ text k choices name is h. adds.stack text k choices name is h.1;
+    choices = λ text k choices name is h. adds.choices text k choices name is h.1;
   };
   ends_when_read = record { nok = λ text k is h. ends.nok text k is h.1; ok = λ text k is h. ends.ok text k is h.1 };
   invariant_kept = record {

@@ -89,7 +89,11 @@ consumes_once refuse g text k choices name is h = table-consumes_once wrap g wra
 only_adds : (refuse : Bool) (g : Given) → OnlyAdds g (wrap_rules refuse g)
 only_adds refuse g =
     let law = table-only_adds wrap g wrap-fit in
-    record { events = λ text k choices name is h. law.events text k choices name is h.1; stack = λ text k choices name is h. law.stack text k choices name is h.1 }
+    record {
+      events = λ text k choices name is h. law.events text k choices name is h.1;
+      stack = λ text k choices name is h. law.stack text k choices name is h.1;
+      choices = λ text k choices name is h. law.choices text k choices name is h.1;
+    }
 
 ends_when_read : (refuse : Bool) (g : Given) → EndsWhenRead g (wrap_rules refuse g)
 ends_when_read refuse g =

@@ -1,6 +1,7 @@
 -- What a row keeps: lemmas for the laws of tables.
+use Rattle.std.specs.List.{AllByRecursion}
 use Rattle.mdconstructs_tables.proofs.Markers.{stack-below}
-use Rattle.mdconstructs_tables.proofs.Prelude.{◌≡◌, suc, ◌+◌, ◌-◌, ◌<◌, ◌≤◌, not, List, [], ◌∷◌, ◌++◌, Bool, true, false, Option, Some, None, length, map, refl, sym, ap, ◌∙◌, subst, arith, take, append_assoc, length-append, All, last_or, and_from, and_parts, append-nil, map-append, All-push, All-take, All-weaker, All-cons, Event, Enter, Exit, Point, State, Nok, open_events, unlinked, stands_before, stands-self, Nothing, Byte, AttemptKind, Attempt, Given, Text, Configuration, Choice, Sight, sight, consumed, linked-unlinked, IsAsFar, same_name-true, before-upto, Act, enters, exit, consume, links, write, choose, past, done, seen_after, choice_made_at, with_choice_of, does, chooses, Stage, end_waits, byte_waits, byte_read, Shape, is_byte_waiting, is_end, is_last, allows, after, allows_all, after_all, same_names, outline, EndsWithEnter, Began, upto, since, AnyWait, IsBelow, EventName}
+use Rattle.mdconstructs_tables.proofs.Prelude.{◌≡◌, ℕ, suc, ◌+◌, ◌-◌, ◌<◌, ◌≤◌, not, List, [], ◌∷◌, ◌++◌, Bool, true, false, Option, Some, None, length, length-map, map, refl, sym, ap, ◌∙◌, subst, arith, take, append_assoc, length-append, All, last_or, and_from, and_parts, append-nil, map-append, All-push, All-take, All-weaker, All-cons, Event, Enter, Exit, Point, State, Nok, open_events, unlinked, stands_before, stands-self, Nothing, Byte, AttemptKind, Attempt, Check, Given, Text, Configuration, Choice, Sight, sight, consumed, linked-unlinked, IsAsFar, SavesEvents, same_name-true, before-upto, Act, enters, exit, consume, links, write, choose, past, done, seen_after, choice_made_at, with_choice_of, does, chooses, Stage, end_waits, byte_waits, byte_read, Shape, is_byte_waiting, is_end, is_last, allows, after, allows_all, after_all, same_names, outline, EndsWithEnter, Began, upto, since, AnyWait, IsBelow, EventName}
 use Rattle.mdconstructs_tables.proofs.GrowingTexts.{open-more, last-more, next-is-left}
 
 -- What the tests of equality say
@@ -250,3 +251,27 @@ module _ {R D : Type 0} where
       let (first, one) = adds-one act s k in
       let (more, rest) = adds-all acts (seen_after act s) (done act s k) in
       (first ++ more, rest ∙ ap (λ es. es ++ more) one ∙ append_assoc (outline k) first more)
+
+  -- an act leaves no fewer events than there were
+  keeps-many : (act : Act R D) (s : Sight) (k : Configuration R D) → length k.events ≤ length (done act s k).events
+  keeps-many act s k =
+      let (more, is) = adds-one act s k in
+      omega (arith, length-map (done act s k).events unlinked, ap length is, length-append (outline k) more, length-map k.events unlinked)
+
+  -- a choice saves no fewer events than there are
+  made-saves : (n : ℕ) (kind : AttemptKind) (ok nok : State) (k : Configuration R D) → n ≤ length k.events → SavesEvents n (choice_made_at kind ok nok k)
+  made-saves n Check ok nok k h = h
+  made-saves n Attempt ok Nok k h = tt
+  made-saves n Attempt ok _ k h = h
+
+  chosen-save : (n : ℕ) (act : Act R D) (k : Configuration R D) (choices : List Choice) → n ≤ length k.events → AllByRecursion (SavesEvents n) choices → AllByRecursion (SavesEvents n) (with_choice_of act k choices)
+  chosen-save n (choose kind ok nok) k choices h saved = (made-saves n kind ok nok k h, saved)
+  chosen-save n _ k choices h saved = saved
+
+  -- so do the choices that acts make, than there were before the acts
+  pub chooses-save : (n : ℕ) (acts : List (Act R D)) (s : Sight) (k : Configuration R D) (choices : List Choice) → n ≤ length k.events → AllByRecursion (SavesEvents n) choices
+      → AllByRecursion (SavesEvents n) (chooses acts s k choices)
+  chooses-save n [] s k choices h saved = saved
+  chooses-save n (act ∷ acts) s k choices h saved =
+      let many = keeps-many act s k in
+      chooses-save n acts (seen_after act s) (done act s k) (with_choice_of act k choices) (omega (arith, h, many)) (chosen-save n act k choices h saved)

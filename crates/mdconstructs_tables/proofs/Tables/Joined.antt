@@ -1,5 +1,5 @@
 -- The laws of two machines in one, from the laws of each.
-use Rattle.mdconstructs_tables.proofs.Prelude.{◌≡◌, ◌≢◌, ◌⊎◌, ◌+◌, ◌≤◌, inl, inr, List, [], ◌∷◌, ◌++◌, Bool, true, false, cond, Option, Some, None, refl, sym, ap, ◌∙◌, subst, arith, ◌==◌, nat_tests, Contains-append_cases, false_from_ne_true, Point, Name, State, Next, Retry, Ok, Nok, Given, Text, IsText, Configuration, Choice, Step, sight, Rules, ForEachCall, IsLawful, IsAsFar, consumed, Byte, StateRows, Table, named, is_some, IsStateAt, table_holds, AreApart, has_state, joined_rules, settled_at, cond_both, map, length, All, IfSome, take, unlinked}
+use Rattle.mdconstructs_tables.proofs.Prelude.{SavesEvents, ◌≡◌, ◌≢◌, ◌⊎◌, ◌+◌, ◌≤◌, inl, inr, List, [], ◌∷◌, ◌++◌, Bool, true, false, cond, Option, Some, None, refl, sym, ap, ◌∙◌, subst, arith, ◌==◌, nat_tests, Contains-append_cases, false_from_ne_true, Point, Name, State, Next, Retry, Ok, Nok, Given, Text, IsText, Configuration, Choice, Step, sight, Rules, ForEachCall, IsLawful, IsAsFar, consumed, Byte, StateRows, Table, named, is_some, IsStateAt, table_holds, AreApart, has_state, joined_rules, settled_at, cond_both, map, length, All, IfSome, take, unlinked}
 
 module _ {R D : Type 0} (is_first : Name → Bool) (g : Given) (first second : Rules R D) (apart : AreApart is_first first second) where
   abbrev both : Rules R D
@@ -46,6 +46,7 @@ module _ {R D : Type 0} (is_first : Name → Bool) (g : Given) (first second : R
       events = each-call (λ text k choices name s. map unlinked (take (length k.events) s.configuration.events) ≡ map unlinked k.events) one.only_adds.events other.only_adds.events;
       stack = each-call (λ text k choices name s. All (λ c. IfSome c.saved (λ v. take (length v.stack) s.configuration.stack ≡ take (length v.stack) k.stack)) choices)
           one.only_adds.stack other.only_adds.stack;
+      choices = each-call (λ text k choices name s. All (SavesEvents (length k.events)) s.choices) one.only_adds.choices other.only_adds.choices;
     };
     ends_when_read = record {
       nok = λ text k is h. elim h [ inl h ↦ one.ends_when_read.nok text k is h | inr h ↦ other.ends_when_read.nok text k is h ];

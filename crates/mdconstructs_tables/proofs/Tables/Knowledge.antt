@@ -23,6 +23,7 @@ module _ {W R D : Type 0} (table : Table W R D) (knows : List Event → Local R 
         only_adds = record {
           events = λ text k choices name is h. adds.events text k choices name is h.holds;
           stack = λ text k choices name is h. adds.stack text k choices name is h.holds;
+          choices = λ text k choices name is h. adds.choices text k choices name is h.holds;
         };
         ends_when_read = record { nok = λ text k is h. ends.nok text k is h.holds; ok = λ text k is h. ends.ok text k is h.holds };
         invariant_kept = record {

@@ -77,6 +77,7 @@ module _ {W R D : Type 0} (table : Table W R D) (early : Name → Option W → B
         (record {
           events = λ text k choices name is h. adds.events text k choices name is h.0;
           stack = λ text k choices name is h. adds.stack text k choices name is h.0;
+          choices = λ text k choices name is h. adds.choices text k choices name is h.0;
         })
         (record { nok = λ text k is h. ends.nok text k is h.0; ok = λ text k is h. ends.ok text k is h.0 })
         (record {

@@ -1,7 +1,8 @@
 -- The laws of a machine whose table passes the test.
-use Rattle.mdconstructs_tables.proofs.Prelude.{◌≡◌, ◌≢◌, ◌≤◌, List, [], ◌++◌, Bool, true, Option, Some, None, length, map, refl, sym, ap, ◌∙◌, subst, arith, ◌⊎◌, inl, inr, take, length-append, All, IfSome, nat_lt, flat_map, take-append_seam, and_parts, take-map, length-map, All-contains, Name, Next, Retry, Ok, Nok, unlinked, Byte, Given, Text, IsText, followed_by, Configuration, Choice, Step, Sight, sight, consumed, with_local, IsAsFar, ConsumesOnce, OnlyAdds, EndsWhenRead, KeepsInvariant, Rows, row, when, Row, StateRows, Table, with_choice_of, chooses, picked, step_of, row_at, named, step_at, table_step, IsFitBy, misfit, named_misfit, named_start, acts_fit, spans_fit, choices_fit, saves, allows_all, is_called_at, is_called, fits_choices, fits_row, fits_calls, start_shape, all_rows, may_start, outline, SightIsInOrder, IsFed, began_at, IsStateAt, HoldsAt, table_holds, table_rules, cond_both, EventName}
+use Rattle.mdconstructs_tables.proofs.Prelude.{◌≡◌, ◌≢◌, ◌≤◌, List, [], ◌++◌, Bool, true, Option, Some, None, length, map, refl, sym, ap, ◌∙◌, subst, arith, ◌⊎◌, inl, inr, take, length-append, All, IfSome, nat_lt, flat_map, take-append_seam, and_parts, take-map, length-map, All-contains, Name, Next, Retry, Ok, Nok, unlinked, Byte, Given, Text, IsText, followed_by, Configuration, Choice, Step, Sight, sight, consumed, with_local, IsAsFar, ConsumesOnce, OnlyAdds, SavesEvents, EndsWhenRead, KeepsInvariant, Rows, row, when, Row, StateRows, Table, with_choice_of, chooses, picked, step_of, row_at, named, step_at, table_step, IsFitBy, misfit, named_misfit, named_start, acts_fit, spans_fit, choices_fit, saves, allows_all, is_called_at, is_called, fits_choices, fits_row, fits_calls, start_shape, all_rows, may_start, outline, SightIsInOrder, IsFed, began_at, IsStateAt, HoldsAt, table_holds, table_rules, cond_both, EventName}
+use Rattle.std.proofs.lemmas.List.Elements.{All-from_recursion}
 use Rattle.mdconstructs_tables.proofs.Rows.Misfits.{none-left, none-made, named-in, all-passed, called-none, starts-none}
-use Rattle.mdconstructs_tables.proofs.Rows.Laws.{below_all, has-after-all, chooses-append, adds-all}
+use Rattle.mdconstructs_tables.proofs.Rows.Laws.{below_all, has-after-all, chooses-append, chooses-save, adds-all}
 use Rattle.mdconstructs_tables.proofs.GrowingTexts.{fed-position, extends}
 use Rattle.mdconstructs_tables.proofs.Tables.Waiting.{all-front, waits-after-all}
 use Rattle.mdconstructs_tables.proofs.Tables.Holding.{of_class, before_class, met-at, read-before, waits-at, begins, ahead-at, start-sight, row_of, left_by, chosen_by, shape_of, IsCall, once, inside-at, answered, longer, fed-at, starts-at, well, badly, inside-after, KeepsStack, keeps-all}
@@ -96,6 +97,13 @@ module _ {W R D : Type 0} (table : Table W R D) (g : Given) {late : Bool} {falli
         (all-front table.class table.states g text chosen c.above (shape_of table g text k c.state).spans new.position (outline new) c.wait_on) in
         let before_it = subst (λ stack. All (P stack) choices) (sym c.stack) (all-front table.class table.states g text choices c.base c.state.spans k.position (outline k) c.waiting) in
         keeps-all table g k.stack new.stack made choices (subst (All (P new.stack)) (sym wait) after_it) before_it);
+    choices = λ text k choices name is h.
+        let n = length k.events in
+        each-call (λ q. All (SavesEvents n) q.choices) text k choices name is h
+        (λ c.
+        let acts = (row_of table g text k c.state).acts in
+        let k1 = with_local k (table.first k.local) in
+        All-from_recursion (SavesEvents n) (chooses acts (sight g text k) k1 []) (chooses-save n acts (sight g text k) k1 [] (omega arith) tt));
   }
 
   pub table-ends_when_read : EndsWhenRead g (table_rules table g)
