@@ -1,2 +1,3 @@
 -- Laws about the machines of the tests.
 pub mod Starved
+pub mod Looping

@@ -3,4 +3,3 @@ pub mod Found
 pub mod Starved
 pub mod Laws
 pub mod Looping
-pub mod LoopingLaws

@@ -24,7 +24,7 @@ impl MachineTypes for Looping {
 
 impl Machine for Looping {
     ghost use Rattle.mdtests.specs.Looping.{looping_rules};
-    ghost use Rattle.mdtests.specs.LoopingLaws.{looping-lawful};
+    ghost use Rattle.mdtests.specs.Laws.Looping.{looping-lawful};
 
     ghost rules = { λ _. looping_rules };
 
