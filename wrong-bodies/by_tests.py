@@ -143,9 +143,8 @@ def main(words):
             bad += result != "refused"
         print(f"# {len(group)} edits together, {time.time() - begun:.0f} seconds", flush=True)
         done = [row for row in came if came[row][0] == "refused"]
-        if is_clean and "--keep" not in options and done:
-            head, now = table.read()
-            table.write(head, [row._replace(commit=table.stamp(row, at)) if row in done else row for row in now])
+        if is_clean and "--keep" not in options:
+            table.record(done, at)
     print(f"# {len(rows) - bad} of {len(rows)} refused")
     return 1 if bad else 0
 

@@ -7,6 +7,7 @@ usage: wrong-bodies/table.py           updates LIST: a line for each new edit, n
 """
 
 import collections
+import fcntl
 import glob
 import hashlib
 import os
@@ -70,6 +71,15 @@ def write(head, rows):
         said += ["  ".join([cell.ljust(to) for cell, to in zip(row, wide)] + [row[-1]]) for row in own]
     with open(LIST, "w", encoding="utf-8") as it:
         it.write("\n".join(said) + "\n")
+
+
+def record(done, commit):
+    """Writes into LIST that these rows were rejected at a commit. Several runs may do so at once."""
+    with open(LIST, encoding="utf-8") as it:
+        fcntl.flock(it, fcntl.LOCK_EX)
+        keys = {row[:4] for row in done}
+        head, rows = read()
+        write(head, [row._replace(commit=stamp(row, commit)) if row[:4] in keys else row for row in rows])
 
 
 def crates(text=None):

@@ -306,9 +306,7 @@ def main(words):
                 continue
             try_crate(room, crate, own)
             if is_clean and "--keep" not in given:
-                done = {it.row._replace(commit="") for it in own if it.result == "refused"}
-                head, rows = table.read()
-                table.write(head, [row._replace(commit=table.stamp(row, at)) if row._replace(commit="") in done else row for row in rows])
+                table.record([it.row for it in own if it.result == "refused"], at)
     bad = [it for it in edits if it.result != "refused"]
     print(f"# {len(edits) - len(bad)} of {len(edits)} refused, {time.time() - begun:.0f} seconds; not so:")
     for it in bad:
