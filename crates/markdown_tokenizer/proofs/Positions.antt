@@ -6,6 +6,7 @@ pub mod Gaps
 pub mod Lines
 pub mod Order
 pub mod Points
+pub mod Prefixes
 pub mod SeatLaws
 pub mod Seats
 pub mod Standing

@@ -2,7 +2,7 @@
 //!
 //! Each is a function that does nothing, whose contract is the law.
 
-ghost use Rattle.markdown_tokenizer.specs.Alike.{CallsAreAlike};
+ghost use Rattle.markdown_tokenizer.specs.Alike.{CallsAreAlike, ReadingGoesOn};
 ghost use Rattle.markdown_tokenizer.specs.Engine.{HasOneEnd};
 ghost use Rattle.markdown_tokenizer.specs.LawStatements.{CutsLeaveNoTrace, PushesAreOne, ChoicesPutBack, PushesInOneWay};
 ghost use Rattle.markdown_tokenizer.specs.Reserves.{ReservesAreEnough};
@@ -61,4 +61,9 @@ pub fn calls_are_alike<M: Machine>()
 pub fn what_was_read_stays<M: Machine>()
     ensures before_choices { (m : _) (g : _) → StayBeforeChoices g (M.rules m g) }
     ensures no_choice { (m : _) (g : _) → WhatWasReadStays g (M.rules m g) }
+{}
+
+/// What was read of a document up to a cut between two bytes need not be read again in another document that is alike up to there.
+pub fn reading_goes_on<M: Machine>()
+    ensures { ReadingGoesOn M.rules }
 {}

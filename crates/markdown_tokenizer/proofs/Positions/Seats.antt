@@ -134,7 +134,8 @@ seat-other t bytes p d h i ne =
     let e = not-number (slice_index bytes p.index) 13 ne in
     let s = seat-plain t bytes p (slice_index bytes p.index) d h i refl (λ k. absurd (ne k)) in rw e at s
 
-no-lf : (bytes : List ℕ) (i : ℕ) → (i < length bytes → slice_index bytes i ≢ 10) → begins_with_lf (drop i bytes) ≡ false
+-- where no LF is, the rest does not begin with one
+pub no-lf : (bytes : List ℕ) (i : ℕ) → (i < length bytes → slice_index bytes i ≢ 10) → begins_with_lf (drop i bytes) ≡ false
 no-lf [] zero alone = refl
 no-lf [] (suc i) alone = refl
 no-lf (b ∷ bs) zero alone = not-number b 10 (alone (omega arith))

@@ -1,15 +1,19 @@
 -- Documents that begin alike: what a state sees at the bytes of a text is the same in both, so calls are alike.
-use Rattle.markdown_tokenizer.proofs.Prelude.{AllByRecursion, ◌≡◌, ◌-◌, ◌<◌, ◌≤◌, ◌==◌, ◌&&◌, ◌∙◌, ℕ, zero, suc, List, [], ◌∷◌, ◌++◌, Bool, true, false, cond, Some, inl, inr, length, refl, sym, ap, arith, subst, take, take-take, filter, not, slice_get, slice_get_cases, slice_index, length-append, get-front, and_parts, nat_tests, nat_lt, ◌||◌, append_assoc, cases_lt, slice_get-get_or, byte_of, Waits, every-append, every-map, every-get, end-after-append, Point, Seat, point, virtual, end_after, stands_before, shown, follows_cr, IsShown, denotes_same, Byte, Given, Text, Piece, pushed, passed, in_range, empty_text, followed_by, followed_by_all, FitsAfter, CanFollow, IsText, IsPlace, rest_at, Sight, sight, sight_in, seat_before, end_place, Rules, false≢true}
+use Rattle.markdown_tokenizer.proofs.Prelude.{AllByRecursion, ◌≡◌, ◌-◌, ◌<◌, ◌≤◌, ◌==◌, ◌&&◌, ◌∙◌, ℕ, zero, suc, List, [], ◌∷◌, ◌++◌, Bool, true, false, cond, Some, inl, inr, length, refl, sym, ap, arith, subst, take, take-take, filter, not, slice_get, slice_get_cases, slice_index, length-append, get-front, and_parts, nat_tests, nat_lt, ◌||◌, append_assoc, cases_lt, slice_get-get_or, byte_of, Waits, every-append, every-map, every-get, end-after-append, Point, Seat, point, virtual, end_after, stands_before, shown, follows_cr, IsShown, denotes_same, Byte, Given, Text, Piece, pushed, passed, in_range, empty_text, followed_by, followed_by_all, FitsAfter, CanFollow, IsText, IsPlace, rest_at, Sight, sight, sight_in, seat_before, end_place, Rules, false≢true, Next, Stand, stand, stand_of, Turns, start_configuration, ParseOptions, whole_text}
 use Rattle.std.proofs.lemmas.Bool.{cond_both}
 use Rattle.std.proofs.lemmas.List.{get_or-take}
-use Rattle.markdown_tokenizer.specs.Alike.{AreAlikeUpTo, CallsAreAlike, bytes_up_to}
-use Rattle.markdown_tokenizer.proofs.Positions.Order.{after-before, before-upto, upto-before, later-later, every-back, every-kept}
+use Rattle.markdown_tokenizer.specs.Alike.{AreAlikeUpTo, CallsAreAlike, ReadingGoesOn, bytes_up_to}
+use Rattle.markdown_tokenizer.proofs.Positions.Order.{after-before, before-upto, upto-before, later-later, every-back, every-kept, filter-same, every-all, not-before}
 use Rattle.markdown_tokenizer.proofs.Positions.Seats.{rest-later}
 use Rattle.markdown_tokenizer.proofs.Positions.Chains.{IsChain, whole-chain}
 use Rattle.markdown_tokenizer.proofs.Positions.Standing.{IsAmong, chain-split, chain-upto, shown-upto, place-of-point, after-shown}
 use Rattle.markdown_tokenizer.proofs.Positions.Cursors.{Leads, upto-leads, upto-upto, same-upto}
 use Rattle.markdown_tokenizer.proofs.Positions.TextOrder.{text-order}
-use Rattle.markdown_tokenizer.proofs.Readings.Turns.{seen-waits}
+use Rattle.markdown_tokenizer.proofs.Positions.Points.{point_at-is}
+use Rattle.markdown_tokenizer.proofs.Positions.Prefixes.{cut-whole, have-same-front}
+use Rattle.markdown_tokenizer.proofs.Inside.Changes.{text-more}
+use Rattle.markdown_tokenizer.proofs.Readings.Turns.{seen-waits, turns-are-kept}
+use Rattle.markdown_tokenizer.proofs.Runs.Whole.{start-is-point}
 use Rattle.markdown_tokenizer.proofs.Runs.Working.{Continues}
 
 among-every : (P : Seat → Type 0) (xs : List Seat) (s : Seat) → AllByRecursion P xs → IsAmong s xs → P s
@@ -223,3 +227,30 @@ calls-are-alike {R} {D} rules looks g h text long more is alike starts seats = r
       looks g h text k name is (subst (λ (w : Waits). AreAlikeUpTo g h (sight_in g text k.position w).next) (sym waits.0) (next-alike g h text is alike k.position waits.1))
       ∙ ap (λ (q : Sight). (rules h).step q k name) (sym there);
 }
+
+-- before the first place nothing is
+from-start : (t : ℕ) (bytes : List ℕ) (f p : Point) → f.index ≡ 0 → f.vs ≡ 0 → filter (in_range f p) (virtual t bytes) ≡ filter (λ s. stands_before s.point p) (virtual t bytes)
+from-start t bytes f p first flat = filter-same (in_range f p) (λ s. stands_before s.point p) (virtual t bytes) (every-all (λ s. in_range f p s ≡ stands_before s.point p)
+    (λ s. let no : stands_before s.point f ≡ false = not-before s.point.index s.point.vs f.index f.vs (omega (arith, first)) flat in rw no refl) (virtual t bytes))
+
+pub reading-goes-on : {M R D : Type 0} (rules : M → Given → Rules R D) → ReadingGoesOn rules
+reading-goes-on {M} {R} {D} rules m looks g h cut start new answer document can flat pushes alike r =
+    let origin : Text = empty_text (point 1 1 0 0) in
+    let f = can.0 in let p = can.1 in
+    let first = point_at-is g.tab g.bytes (0, 0) f can.2 in let last = point_at-is g.tab g.bytes cut p can.3 in
+    let text : Text = followed_by g origin (pushed f p) in
+    let text_is : new.text ≡ text = pushes.text f p can.2 can.3 in
+    let upto : AreAlikeUpTo g h p = subst (λ (x : Text). AreAlikeUpTo g h x.end) text_is alike in
+    let ends : p.vs ≡ 0 = last.vs ∙ flat in
+    let bytes : take p.index g.bytes ≡ take p.index h.bytes = rw ends at upto.bytes in
+    let tab : h.tab ≡ g.tab = alike.possible.one_size ∙ ap (λ (o : ParseOptions). o.tab_size) (sym alike.options) ∙ sym document.one_size in
+    let fronts = have-same-front g.tab g.bytes h.bytes p ends bytes
+    (cut-whole g.bytes p (whole-test g.bytes p upto.whole.0)) (cut-whole h.bytes p (whole-test h.bytes p upto.whole.1)) in
+    let seats : text.seats ≡ fronts.front = from-start g.tab g.bytes f p first.index first.vs ∙ fronts.before in
+    let long : (whole_text h).seats ≡ text.seats ++ fronts.more = ap (λ (t : ℕ). virtual t h.bytes) tab ∙ fronts.splits ∙ ap (λ (xs : List Seat). xs ++ fronts.more) (sym seats) in
+    let is : IsText g text = text-more g origin (pushed f p) (record { document = document; starts = start-is-point g document.tab.0; pieces = []; follow = tt; is = refl }) can.4 in
+    let called = calls-are-alike (rules m) looks g h text (whole_text h) fronts.more is upto refl long in
+    let from : Stand R D = stand (start_configuration false) [] (Next start) 0 in
+    let stands = subst (λ (x : Text). Turns g (rules m g).step x from (stand_of new answer)) text_is pushes.stands in
+    let kept = (turns-are-kept g h (rules m g).step (rules m h).step text (whole_text h) called from (stand_of new answer) stands).1 r in
+    (kept.1, kept.0)
