@@ -1,3 +1,4 @@
 pub mod Headings
 pub mod Labels
 pub mod Laws
+pub mod Texts

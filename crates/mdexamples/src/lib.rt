@@ -4,3 +4,4 @@
 pub mod headings;
 pub mod labels;
 pub mod spans;
+pub mod texts;
