@@ -3,6 +3,7 @@
 ghost use Rattle.std.specs.Prelude.{◌<◌, Contains};
 ghost use Rattle.markdown.specs.Presets.{default_parse_options};
 ghost use Rattle.markdown.specs.Engine.{given_by};
+ghost use Rattle.markdown.specs.Virtual.{IsWithinLimit};
 
 use crate::shown::assert_shown;
 use markdown::configuration::ParseOptions;
@@ -13,6 +14,7 @@ use markdown::tokenizer::{Fault, run};
 use mdexamples::headings::Headings;
 use mdexamples::labels::Labels;
 use mdexamples::spans::code_spans;
+use mdexamples::texts::texts_of_spans;
 use std::alloc::{AllocError, Global};
 
 /// The code spans of a document that is pushed in ranges of this size.
@@ -40,6 +42,35 @@ fn code_spans_are_listed_however_the_document_is_cut(rt: HostRuntime) -> Result<
 #[test]
 fn empty_document_has_no_code_spans(rt: HostRuntime) -> Result<(), AllocError> {
     assert_shown(&rt, spans_of(rt.alloc(), b"", 1), "0 events\n")
+}
+
+/// The texts of the code spans and autolinks of a document, a line each.
+fn texts_of(alloc: Global, bytes: &[u8]) -> Result<String, AllocError>
+    requires limit { IsWithinLimit 4 bytes.now }
+{
+    let options = ParseOptions::default();
+    let Ok(texts) = texts_of_spans(alloc, bytes, &options) else {
+        return Err(AllocError);
+    };
+    let mut lines = String::new(alloc);
+    for text in texts.as_slice() {
+        match str::from_utf8(text) {
+            Ok(text) => writeln!(lines, "{text}")?,
+            Err(_) => return Err(AllocError),
+        }
+    }
+    Ok(lines)
+}
+
+#[test]
+fn texts_of_spans_have_their_markers(rt: HostRuntime) -> Result<(), AllocError> {
+    let document = b"See `x` and\t``y` z`` at <http://a.b>.";
+    assert!(rt; document.len() < 99);
+    assert_shown(
+        &rt,
+        texts_of(rt.alloc(), document),
+        "`x`\n``y` z``\n<http://a.b>\n",
+    )
 }
 
 /// The events of a document, a line each, as `enter Data 1:1`.

@@ -1,5 +1,5 @@
 -- What was read before the outermost waiting choice stays until the reading ends.
-use Rattle.markdown_tokenizer.proofs.Prelude.{◌≡◌, ◌+◌, ◌≤◌, ℕ, zero, suc, List, [], ◌∷◌, ◌++◌, Option, Some, None, refl, sym, ap, ◌∙◌, subst, arith, take, length, map, cond, true, false, nat_lt, IfSome, All, AllByRecursion, every-append, Message, Name, State, Next, Retry, Ok, Nok, Error, AttemptKind, Attempt, Check, Byte, End, Event, unlinked, HasFrontUpToLinkEnds, Later, added, here, Given, Text, IsText, Configuration, Choice, Saved, sight, fed, settled_at, restored, more_calls, after_choices, read, EndsIn, Rules, IsLawful, SavesEvents}
+use Rattle.markdown_tokenizer.proofs.Prelude.{◌≡◌, ◌+◌, ◌≤◌, ℕ, zero, suc, List, [], ◌∷◌, ◌++◌, Option, Some, None, refl, ap, ◌∙◌, subst, arith, take, length, map, cond, true, false, nat_lt, IfSome, AllByRecursion, every-append, Name, State, Next, Retry, Ok, Nok, Error, AttemptKind, Attempt, Check, Byte, End, Event, unlinked, HasFrontUpToLinkEnds, Later, added, here, Given, Text, IsText, Configuration, Choice, Saved, sight, fed, settled_at, restored, more_calls, read, EndsIn, Rules, IsLawful, SavesEvents}
 use Rattle.std.proofs.lemmas.List.Elements.{recursion_from_All}
 use Rattle.markdown_tokenizer.specs.Reading.{Reading}
 use Rattle.markdown_tokenizer.specs.Stays.{StayBeforeChoices, WhatWasReadStays}

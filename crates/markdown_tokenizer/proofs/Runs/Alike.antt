@@ -12,6 +12,7 @@ use Rattle.markdown_tokenizer.proofs.Positions.TextOrder.{text-order}
 use Rattle.markdown_tokenizer.proofs.Positions.Points.{point_at-is}
 use Rattle.markdown_tokenizer.proofs.Positions.Prefixes.{cut-whole, have-same-front}
 use Rattle.markdown_tokenizer.proofs.Inside.Changes.{text-more}
+use Rattle.markdown_tokenizer.proofs.Inside.Known.{not-before-index}
 use Rattle.markdown_tokenizer.proofs.Readings.Turns.{seen-waits, turns-are-kept}
 use Rattle.markdown_tokenizer.proofs.Runs.Whole.{start-is-point}
 use Rattle.markdown_tokenizer.proofs.Runs.Working.{Continues}
@@ -112,9 +113,6 @@ whole-test bytes p h = tested ((slice_index bytes p.index == 10) && follows_cr b
 shown-by : (a b : List ℕ) (p : Point) → ((slice_index a p.index == 10) && follows_cr a p.index) ≡ ((slice_index b p.index == 10) && follows_cr b p.index) → shown a p ≡ shown b p
 shown-by a b p e = rw e refl
 
-index-upto : (i j m n : ℕ) → (nat_lt i m || ((i == m) && nat_lt j n)) ≡ false → m ≤ i
-index-upto i j m n h = grind (arith, nat_tests)
-
 within-upto : (i j m n : ℕ) → (nat_lt i m || ((i == m) && nat_lt j n)) ≡ false → (n == 0) ≡ false → (j == 0) ≡ true → suc m ≤ i
 within-upto i j m n h e f = grind (arith, nat_tests)
 
@@ -123,12 +121,12 @@ needs-upto : (p q : Point) → stands_before p q ≡ false → bytes_up_to q ≤
 needs-upto p q h =
     elim (q.vs == 0) as (λ b. (q.vs == 0) ≡ b → cond b q.index (suc q.index) ≤ bytes_up_to p) [
       | true ↦ λ e. elim (p.vs == 0) as (λ c. q.index ≤ cond c p.index (suc p.index)) [
-        | true ↦ index-upto p.index p.vs q.index q.vs h
-        | false ↦ omega (arith, index-upto p.index p.vs q.index q.vs h)
+        | true ↦ not-before-index p.index p.vs q.index q.vs h
+        | false ↦ omega (arith, not-before-index p.index p.vs q.index q.vs h)
       ]
       | false ↦ λ e. elim (p.vs == 0) as (λ c. (p.vs == 0) ≡ c → suc q.index ≤ cond c p.index (suc p.index)) [
         | true ↦ λ f. within-upto p.index p.vs q.index q.vs h e f
-        | false ↦ λ f. omega (arith, index-upto p.index p.vs q.index q.vs h)
+        | false ↦ λ f. omega (arith, not-before-index p.index p.vs q.index q.vs h)
       ] refl
     ] refl
 
@@ -147,7 +145,7 @@ module _ (g h : Given) (p : Point) (alike : AreAlikeUpTo g h p) where
         let byte = same-byte (bytes_up_to p) x.index g.bytes h.bytes alike.bytes less in let follows = follows-alike x.index less in
         shown-by g.bytes h.bytes x (rw (byte, follows) refl)
     | inr far ↦
-        let same : p.index ≡ x.index = omega (arith, index-upto p.index p.vs x.index x.vs upto, index-needs p, far) in
+        let same : p.index ≡ x.index = omega (arith, not-before-index p.index p.vs x.index x.vs upto, index-needs p, far) in
         shown-by g.bytes h.bytes x (subst (λ (i : ℕ). ((slice_index g.bytes i == 10) && follows_cr g.bytes i) ≡ ((slice_index h.bytes i == 10) && follows_cr h.bytes i)) same
         (whole-test g.bytes p alike.whole.0 ∙ sym (whole-test h.bytes p alike.whole.1)))
   ]

@@ -1,4 +1,4 @@
-use Rattle.markdown_tokenizer.proofs.Prelude.{ℕ, ◌+◌, ◌<◌, List, [], ◌∷◌, length, refl, subst, drop, drop_more, drop_all, get_or, false≢true, Point, FollowOn}
+use Rattle.markdown_tokenizer.proofs.Prelude.{ℕ, ◌+◌, ◌<◌, List, ◌∷◌, length, refl, subst, drop, drop_more, drop_all, get_or, false≢true, Point, FollowOn}
 use Rattle.std.specs.Prelude.{◌↔◌}
 use Rattle.markdown_tokenizer.specs.Ranges.{AfterGap}
 use Rattle.markdown_tokenizer.proofs.ranges.follow_on.Goals as goal
