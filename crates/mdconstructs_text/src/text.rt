@@ -43,7 +43,6 @@ impl Machine for Text {
     ghost rules = { λ _. text_rules };
 
     /// Calls the state of this name.
-    #[inline(always)]
     fn call<'a>(
         &self,
         alloc: Global,
