@@ -3,9 +3,8 @@ use Rattle.std.proofs.Common.{◌≡◌, ℕ, zero, suc, ◌+◌, ◌<◌, Bool,
 use Rattle.std.proofs.lemmas.List.{reverse-append}
 use Rattle.std.proofs.lemmas.List.Elements.{recursion_from_All}
 use Rattle.std.proofs.lemmas.List.Folds.{find-append}
-use Rattle.std.specs.List.{AllByRecursion}
 use Rattle.std.specs.Option.{option_or}
-use Rattle.std.specs.Prelude.{◌&&◌, All, AllPairs, find, option_and_then, option_map, reverse, slice_get}
+use Rattle.std.specs.Prelude.{◌&&◌, All, find, option_and_then, option_map, reverse, slice_get}
 use Rattle.markdown.specs.declared.event.Event.{Event}
 use Rattle.markdown.specs.declared.event.Kind.{Kind}
 use Rattle.markdown.specs.declared.event.Kind.TheVariants.{Enter, Exit}
@@ -15,14 +14,10 @@ use Rattle.markdown.specs.AtPlaces.{AreAtPlaces}
 use Rattle.markdown.specs.Places.{IsPointOf, stands_before}
 use Rattle.markdown.specs.Slices.{bytes_between, is_enter_of, nearest_enter}
 use Rattle.markdown.proofs.Balanced.{same_name-refl}
+use Rattle.markdown.proofs.Common.{get-front, every-get}
 use Rattle.mdexamples.specs.Texts.{EndsAt, bytes_from, ends_span, text_at, text_if, texts_upto}
 
 -- ---- places in a list
-
-front : {A : Type 0} (xs zs : List A) (j : ℕ) → j < length xs → slice_get (xs ++ zs) j ≡ slice_get xs j
-front [] zs j h = absurd (omega (arith, h))
-front (x ∷ xs) zs zero h = refl
-front (x ∷ xs) zs (suc j) h = front xs zs j (omega (arith, h))
 
 behind : {A : Type 0} (xs : List A) (g : A) (zs : List A) (j : ℕ) → slice_get (xs ++ g ∷ zs) (length xs + suc j) ≡ slice_get zs j
 behind [] g zs j = let z : 0 + suc j ≡ suc j = omega arith in ap (slice_get (g ∷ zs)) z
@@ -53,13 +48,8 @@ taken-from (suc n) [] j q e = absurd cc
 taken-from (suc n) (x ∷ l) zero q e = (omega arith, e)
 taken-from (suc n) (x ∷ l) (suc j) q e = let r = taken-from n l j q e in let lt = r.0 in (omega (arith, lt), r.1)
 
-every-at : {A : Type 0} (P : A → Type 0) (l : List A) (j : ℕ) (q : A) → AllByRecursion P l → slice_get l j ≡ Some q → P q
-every-at P [] j q h e = absurd cc
-every-at P (x ∷ l) zero q h e = let same : x ≡ q = cc in subst P same h.0
-every-at P (x ∷ l) (suc j) q h e = every-at P l j q h.1 e
-
 pub all-at : {A : Type 0} (P : A → Type 0) (l : List A) (j : ℕ) (q : A) → All P l → slice_get l j ≡ Some q → P q
-all-at P l j q h e = every-at P l j q (recursion_from_All P l h) e
+all-at P l j q h e = every-get P l j q (recursion_from_All P l h) e
 
 got : {A : Type 0} (l : List A) (j : ℕ) (q d : A) → slice_get l j ≡ Some q → (get_or l j d ≡ q) × (j < length l)
 got [] j q d e = absurd cc
@@ -118,7 +108,7 @@ opened (span e g us vs {l} is en ex same b c) k f at exit = subst (λ (m : List 
     by first second (suc m) h = elim (stands-in us g vs m f h) [
       | inl within ↦ (
           let r = first m within.1 in let lt = within.0 in let below = r.before in
-          record { place = suc r.place; enter = r.enter; before = omega (arith, below); there = front us (g ∷ vs) r.place (omega (arith, lt, below)) ∙ r.there; enters = r.enters; named = r.named }
+          record { place = suc r.place; enter = r.enter; before = omega (arith, below); there = get-front us (g ∷ vs) r.place (omega (arith, lt, below)) ∙ r.there; enters = r.enters; named = r.named }
           )
       | inr other ↦ elim other [
         | inl one ↦ record { place = 0; enter = e; before = omega arith; there = refl; enters = en; named = sym same ∙ ap (λ (x : Event). x.name) one }

@@ -1,4 +1,4 @@
-use Rattle.std.proofs.Common.{◌≡◌, List, map, ℕ}
+use Rattle.std.proofs.Common.{◌≡◌, map}
 use Rattle.mdexamples.specs.Texts.{texts_upto}
 use Rattle.mdexamples.proofs.texts.texts_of_spans.Given as goal
 
