@@ -109,9 +109,9 @@ def tried(group):
         for wanted, row in left.items():
             passed = re.search(rf"^test (?:\S*::)?{wanted} \.\.\. ok", said, re.M)
             came[row] = ("PASSED", wanted) if passed else ("BAD EDIT", said[-1500:])
-    bad = [it for it in group if came[it[0]][0] == "BAD EDIT" and it[2] in left]
+    bad = [it for it in group if came[it[0]][0] == "BAD EDIT"]
     if bad and len(group) > 1:
-        # what can't be compiled hides the others of its group
+        # what can't be compiled hides the others of its group, and one edit may take away the text of another
         for it in bad:
             came.update(tried([it]))
     return came
