@@ -91,8 +91,5 @@ fn content_number(content: Content) -> u16
 fn index_number(index: Option<usize>) -> usize
     ensures { result ≡ unwrap_or index no_index }
 {
-    match index {
-        None => NO_INDEX,
-        Some(index) => index,
-    }
+    index.unwrap_or(NO_INDEX)
 }
