@@ -118,9 +118,11 @@ def tried(group):
 
 
 def is_old(row):
-    """Returns whether LIST has no commit for a row, or a source changed since."""
+    """Returns whether LIST has no commit for a row, or a source changed since: of the test's crate, of the edit's, or below them."""
     commit = table.tried_at(row)
-    words = ["git", "-C", table.TOP, "diff", "--quiet", commit or "", "--", "crates/*/src", "crates.txt"]
+    own = (row.crate, tests_of(row)[0])
+    parts = [f"crates/{crate}/src/*" for it in own for crate in (it, *table.below(it))]
+    words = ["git", "-C", table.TOP, "diff", "--quiet", commit or "", "--", *parts, "crates.txt"]
     return not commit or bool(subprocess.run(words, capture_output=True).returncode)
 
 
