@@ -100,7 +100,7 @@ module _ {R D : Type 0} (g : Given) (rules : Given → Rules R D) where
     pub within : r.calls ≤ (rules g).cost (text_from g events c) (start_configuration flag) [] (Next start)
 
   -- The child of the chain that begins at c: what resolvers make of its reading. The events are well formed before resolvers, and in shape
-  -- (`IsInShape`) after them; they still stand at places if resolving changes none
+  -- (`IsInShape`) and as the machine promises (`ends`) after them; they still stand at places if resolving changes none
   pub record IsChild (events : List Event) (c : ℕ) (child : Child) : Type 0 where
     pub result : Reading R D
     pub read : IsRead events c result
@@ -108,9 +108,10 @@ module _ {R D : Type 0} (g : Given) (rules : Given → Rules R D) where
     pub final : Configuration R D
     pub resolved : IsResolved (rules g).resolver g (text_from g events c) true result.configuration final child.found
     pub left : child.events ≡ final.events
-    pub well_formed : IsWellFormed g result.configuration
+    pub well_formed : IsWellFormed g result.configuration.events
     pub at_places : LeavesEvents true result.configuration → AreAtPlaces g.tab g.bytes child.events
     pub in_shape : IsInShape child.events
+    pub promised : (rules g).ends (text_from g events c) child.events
 
   -- The reading of the chain that begins at c, or a resolver after it, ends in this message
   pub record IsChildRefused (events : List Event) (c : ℕ) (m : Message) : Type 0 where

@@ -82,7 +82,7 @@ pub use Rattle.markdown_tokenizer.specs.Gaps.{AreSorted, IsOutside, IsPlainUntil
 pub use Rattle.markdown_tokenizer.specs.Lawful.{ConsumesOnce, CostPays, DidStep, EndsWhenRead, IsAsFar, IsLawful, KeepsInvariant, OnlyAdds, ResolversKeep, SavesEvents, stepped}
 pub use Rattle.markdown_tokenizer.specs.LawStatements.{IsOneRange, Later, added, here, went_back, LeavesOnly}
 pub use Rattle.markdown_tokenizer.specs.Made.{IsMade, VoidExitsFollow, last_kind}
-pub use Rattle.markdown_tokenizer.specs.Plain.{HaveNoLinks, IsPlain, KeepsPlain, NothingResolves, plain}
+pub use Rattle.markdown_tokenizer.specs.Plain.{HaveNoLinks, IsPlain, KeepsPlain, NothingResolves, ReadsAsPromised, plain}
 pub use Rattle.markdown_tokenizer.specs.Ranges.{AfterGap, FollowOn, IsGapFrom, IsRangeFrom, after_any, after_gap}
 pub use Rattle.markdown_tokenizer.specs.Reading.{EndsIn, after_choices, fed, more_calls, outcome, read, read_step, restored, settle, settled_at, unfed}
 pub use Rattle.markdown_tokenizer.specs.Resolving.{IsInShape, IsResolved, IsResolvingRefused, LeavesEvents, Resolved, found, refused, resolved_by, resolving, taken, with_more}

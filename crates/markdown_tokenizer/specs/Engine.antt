@@ -50,11 +50,15 @@ module _ {M R D : Type 0} (g : Given) (rules : Rules R D) where
       (rest : List Piece) → CanFollow g new.text rest → LeadsOn (followed_by_all g new.text rest) old state new answer
 
 -- The events are balanced, each void span is empty, and each event stands at a place of the document; these are in order
-pub record IsWellFormed (g : Given) {R D : Type 0} (k : Configuration R D) : Type 0 where
-  pub balanced : IsBalanced k.events
-  pub void_tight : IsVoidTight k.events
-  pub at_places : AreAtPlaces g.tab g.bytes k.events
-  pub in_order : IsInOrder g.bytes k.events
+pub record IsWellFormed (g : Given) (events : List Event) : Type 0 where
+  pub balanced : IsBalanced events
+  pub void_tight : IsVoidTight events
+  pub at_places : AreAtPlaces g.tab g.bytes events
+  pub in_order : IsInOrder g.bytes events
+
+-- what each machine without resolvers can promise of its final events: they are well formed
+abbrev pub EndsWellFormed : Given → Text → List Event → Type 0
+EndsWellFormed g text events = IsWellFormed g events
 
 -- a range of the document, given by the places of its ends, each an index and a number in a tab, can be put at the end of a text
 abbrev pub CanPush : Given → Text → (from to : ℕ × ℕ) → Type 0
@@ -88,7 +92,7 @@ module _ {M R D : Type 0} (rules : Rules R D) where
 
   -- What a flush leaves and returns if it succeeds: what resolving makes of the configuration in which the reading ends. Without resolving
   -- that is the configuration without the definitions, which are returned. The events are well formed before resolvers, and in shape
-  -- (`IsInShape`) after them; they still stand at places if resolving changes none.
+  -- (`IsInShape`) and as the machine promises (`ends`) after them; they still stand at places if resolving changes none.
   pub record IsFlushed (resolve : Bool) (old : TokenizerValue M R D) (state : State)
       (new : TokenizerValue M R D) (sub : Subresult) : Type 0 where
     pub given : new.given ≡ old.given
@@ -102,10 +106,11 @@ module _ {M R D : Type 0} (rules : Rules R D) where
     pub resolved : IsResolved rules.resolver old.given old.text resolve result.configuration new.configuration sub
     pub phase : new.phase ≡ cond resolve phase.Resolved phase.Reading
     pub settled : new.choices ≡ []
-    pub before : IsWellFormed old.given result.configuration
-    pub well_formed : resolve ≡ false → IsWellFormed old.given new.configuration
+    pub before : IsWellFormed old.given result.configuration.events
+    pub well_formed : resolve ≡ false → IsWellFormed old.given new.configuration.events
     pub at_places : LeavesEvents resolve result.configuration → AreAtPlaces old.given.tab old.given.bytes new.configuration.events
     pub in_shape : resolve ≡ true → IsInShape new.configuration.events
+    pub promised : resolve ≡ true → rules.ends old.text new.configuration.events
 
   -- A flush returns this message: the reading ends in it, or a resolver after the reading
   pub record IsRefused (resolve : Bool) (old : TokenizerValue M R D) (state : State) (new : TokenizerValue M R D)
@@ -157,7 +162,7 @@ module _ {R D : Type 0} (g : Given) (rules : Given → Rules R D) where
   StartEndsIn start r = EndsIn g (rules g).step (whole_text g) 0 (start_configuration false) [] (Next start) r
 
   -- What a run returns: the events and definitions of the one reading of the whole text, within its cost of calls, and then of its
-  -- resolvers. The events stand at places if resolving changes none
+  -- resolvers. After these the events are in shape, and as the machine promises. They stand at places if resolving changes none
   pub record IsRun (resolve : Bool) (start : Name) (list : List Event) (sub : Subresult) : Type 0 where
     pub result : Reading R D
     pub ends : StartEndsIn start result
@@ -165,9 +170,10 @@ module _ {R D : Type 0} (g : Given) (rules : Given → Rules R D) where
     pub final : Configuration R D
     pub resolved : IsResolved (rules g).resolver g (whole_text g) resolve result.configuration final sub
     pub events : list ≡ final.events
-    pub well_formed : IsWellFormed g result.configuration
+    pub well_formed : IsWellFormed g result.configuration.events
     pub at_places : LeavesEvents resolve result.configuration → AreAtPlaces g.tab g.bytes list
     pub in_shape : resolve ≡ true → IsInShape list
+    pub promised : resolve ≡ true → (rules g).ends (whole_text g) list
     pub within : result.calls ≤ (rules g).cost (whole_text g) (start_configuration false) [] (Next start)
 
   -- the events of a tokenizer are what a run returns

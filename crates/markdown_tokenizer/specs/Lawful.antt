@@ -109,15 +109,15 @@ module _ {R D : Type 0} (g : Given) (rules : Rules R D) where
 
   -- Once all was read, the invariant of resolvers holds for the registered ones, with the definitions and the list taken out. Each resolver
   -- keeps it for the ones that are left, and keeps the position and the stack. When none is left, the edits can be made, and leave the
-  -- events in shape.
+  -- events in shape, and as the machine promises.
   pub record ResolversKeep : Type 0 where
-    pub at_end : (text : Text) (k : Configuration R D) → IsText g text → IsWellFormed g k → rules.holds text k [] Ok
+    pub at_end : (text : Text) (k : Configuration R D) → IsText g text → IsWellFormed g k.events → rules.holds text k [] Ok
         → rules.resolves text k.local.resolvers (with_resolvers (taken k) [])
     pub by_resolvers : (text : Text) (r : R) (rs : List R) (k new : Configuration R D) (more : Option Subresult) → IsText g text
         → rules.resolves text (r ∷ rs) k → rules.resolver (sight g text k) k r ≡ done new more
         → rules.resolves text rs new × IsAsFar new k × (new.stack ≡ k.stack)
     pub at_last : (text : Text) (k : Configuration R D) → IsText g text → rules.resolves text [] k
-        → CanBeEdited k × IsInShape (edited k.local.map k.events)
+        → CanBeEdited k × IsInShape (edited k.local.map k.events) × rules.ends text (edited k.local.map k.events)
 
   -- A lawful machine: what its rules keep on a document, law by law
   pub record IsLawful : Type 0 where

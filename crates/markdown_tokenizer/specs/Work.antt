@@ -126,11 +126,12 @@ module _ {M R D : Type 0} (rules : Rules R D) where
   abbrev pub resolved_in : TokenizerValue M R D → List R → Configuration R D → Subresult → Resolved R D
   resolved_in t rs k sub = resolved_by rules.resolver t.given t.text rs k sub
 
-  -- resolvers have run over the events, and the edits were made
+  -- resolvers have run over the events, and the edits were made; what is left is in shape, and as the machine promises
   pub record GoneOver (old : TokenizerValue M R D) (rs : List R) (k : Configuration R D) (sub : Subresult)
       (new : TokenizerValue M R D) (all : Subresult) : Type 0 where
     pub is : resolved_in old rs k sub ≡ done new.configuration (Some all)
     pub in_shape : IsInShape new.configuration.events
+    pub promised : rules.ends old.text new.configuration.events
 
 -- the configuration over which the registered resolvers run: they are taken out
 abbrev pub registered_out : {M R D : Type 0} → TokenizerValue M R D → Configuration R D

@@ -18,7 +18,8 @@ pub trait MachineTypes {
 ///
 /// Its rules say what the call of each state does (`step`), and what holds at each call (`holds`). They say how many calls
 /// the state and all choices that wait may still take (`cost`), and with which states it may start (`starts`). They also say what a resolver does
-/// (`resolver`), and what holds before a list of resolvers runs (`resolves`). The machine proves six laws about them.
+/// (`resolver`), what holds before a list of resolvers runs (`resolves`), and what the machine promises of its final events
+/// (`ends`): those that resolvers and edits leave. The machine proves six laws about them.
 pub trait Machine: MachineTypes + Sized {
     ghost use Rattle.std.specs.Prelude.{◌≡◌, ◌≢◌, [], IfOk, IfErr};
     ghost use Rattle.markdown_base.specs.declared.state.State.TheVariants.{Retry};
@@ -78,6 +79,6 @@ pub trait Machine: MachineTypes + Sized {
     /// for the ends of their links, and the spans that waiting choices saved, and the choices that it makes save no fewer events than
     /// there were before it (`only_adds`); if no choice waits, `Nok` is never returned, and `Ok` only once the end was fed, with each
     /// span ended (`ends_when_read`); the invariant holds at each start and is kept (`invariant_kept`); calls stay within their stated
-    /// cost (`cost_pays`); and resolvers leave a balanced list (`resolvers_keep`).
+    /// cost (`cost_pays`); and resolvers leave a list in shape, and as promised (`resolvers_keep`).
     ghost lawful: { (m : Self) (g : Given) → IsLawful g (rules m g) };
 }

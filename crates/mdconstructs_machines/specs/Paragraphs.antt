@@ -14,6 +14,7 @@ use Rattle.markdown_tokenizer.specs.Sight.{Sight, sight_of}
 use Rattle.markdown_tokenizer.specs.Calls.{entered}
 use Rattle.markdown_edits.specs.Links.{CanLink, IsLinkedEnter, IsEndedBy, content_of}
 use Rattle.markdown_tokenizer.specs.Rules.{Rules}
+use Rattle.markdown_tokenizer.specs.Engine.{EndsWellFormed}
 use Rattle.mdconstructs_tables.specs.Rows.{enter, enter_link, exit, consume, links, write, Rows, row, when, at_byte, StateRows, calls, state, Table}
 use Rattle.mdconstructs_tables.specs.Chunks.{is_connected, alone, last_event, chunk_before, connected}
 use Rattle.mdconstructs_tables.specs.Knowledge.{knowing_rules}
@@ -143,4 +144,4 @@ knows_chunk events local [] state = Knows (is_inside state) events local
 knows_chunk events local (choice ∷ choices) state = ⊥
 
 abbrev pub paragraphs_rules : Given → Rules Unit Unit
-paragraphs_rules = knowing_rules paragraphs knows_chunk
+paragraphs_rules = knowing_rules paragraphs knows_chunk EndsWellFormed

@@ -14,6 +14,7 @@ use Rattle.markdown_edits.specs.Edits.{Edit, edit_at, added_after}
 use Rattle.markdown_tokenizer.specs.Plain.{HaveNoLinks}
 use Rattle.markdown_tokenizer.specs.Sight.{Sight}
 use Rattle.markdown_tokenizer.specs.Rules.{Rules}
+use Rattle.markdown_tokenizer.specs.Engine.{EndsWellFormed}
 use Rattle.mdconstructs_tables.specs.Rows.{enter, exit, consume, write, Rows, row, when, here, at_a_byte, StateRows, calls, state, Table}
 use Rattle.mdconstructs_tables.specs.Knowledge.{knowing_rules}
 use Rattle.mdconstructs_machines.specs.Tables.{counts}
@@ -135,4 +136,4 @@ knows_edits events local [] state = KnowsEdits events local state
 knows_edits events local (choice ∷ choices) state = ⊥
 
 abbrev pub words_rules : Given → Rules Unit Unit
-words_rules = knowing_rules words knows_edits
+words_rules = knowing_rules words knows_edits EndsWellFormed

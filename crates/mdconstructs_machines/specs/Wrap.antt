@@ -1,5 +1,5 @@
 -- The machine that wraps: it reads data, and its resolvers put all of it into one paragraph, or refuse the document.
-use Rattle.std.specs.Prelude.{◌≡◌, ◌==◌, ◌∷◌, [], List, Bool, false, cond, Option, Some, None, length, map, codes}
+use Rattle.std.specs.Prelude.{◌≡◌, ◌==◌, ◌∷◌, ◌++◌, [], List, Bool, false, cond, Option, Some, None, length, map, codes}
 use denote.Enum.Bare.{sameb}
 use Rattle.markdown_base.specs.declared.event.Event.{Event}
 use Rattle.markdown_base.specs.declared.event.Kind.TheVariants.{Enter, Exit}
@@ -110,6 +110,10 @@ wrap_resolves text (A ∷ []) k = (p : Point) × (k.local.map ≡ edit_at 0 0 (b
 wrap_resolves text [] k = (p q : Point) × (k.local.map ≡ added_after (edit_at 0 0 (begin_event p ∷ []) ∷ []) (edit_at (length k.events) 0 (end_event q ∷ []))) × IsFlat k.events
 wrap_resolves text _ k = ⊥
 
+-- one paragraph holds all that was read
+abbrev pub IsOneParagraph : Text → List Event → Type 0
+IsOneParagraph text events = (p q : Point) × (inner : List Event) × (events ≡ begin_event p ∷ (inner ++ end_event q ∷ []))
+
 -- its rules
 abbrev pub wrap_rules : Bool → Given → Rules Resolver Unit
 wrap_rules refuse g =
@@ -118,4 +122,5 @@ wrap_rules refuse g =
       holds = λ text k choices state. IsUnwrapped k choices state × rules.holds text k choices state;
       resolver = wrap_resolver refuse;
       resolves = wrap_resolves;
+      ends = IsOneParagraph;
     }

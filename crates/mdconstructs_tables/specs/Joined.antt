@@ -22,7 +22,7 @@ module _ {R D : Type 0} (is_first : Name → Bool) (first second : Rules R D) wh
   joined_cost text k [] state = 0
   joined_cost text k choices state = second.cost text k choices state
 
-  -- The rules of both. Both have the same resolvers.
+  -- The rules of both. Both have the same resolvers. The final events are what one of them promises.
   abbrev pub joined_rules : Rules R D
   joined_rules = record {
     step = λ s k name. cond (is_first name) (first.step s k name) (second.step s k name);
@@ -31,6 +31,7 @@ module _ {R D : Type 0} (is_first : Name → Bool) (first second : Rules R D) wh
     starts = first.starts ++ second.starts;
     resolver = first.resolver;
     resolves = λ text rs k. first.resolves text rs k ⊎ second.resolves text rs k;
+    ends = λ text events. first.ends text events ⊎ second.ends text events;
   }
 
 -- Two machines can be one: they have no names of states in common, the first makes no choice, and they share their resolvers

@@ -13,12 +13,13 @@ use Rattle.markdown_tokenizer.specs.Sight.{Sight}
 use Rattle.markdown_edits.specs.Edited.{edited}
 use Rattle.markdown_tokenizer.specs.Resolving.{CanBeEdited, IsInShape}
 use Rattle.markdown_tokenizer.specs.Rules.{Rules}
+use Rattle.markdown_tokenizer.specs.Engine.{IsWellFormed}
 use Rattle.mdconstructs_tables.specs.Rows.{Rows, row, when, Row, StateRows, Table, step_of}
 use Rattle.mdconstructs_tables.specs.RowInvariant.{table_holds, table_rules}
 
--- the edits that wait can be made, and then the events are in shape
-abbrev pub LeavesShape : {R D : Type 0} → Text → List R → Configuration R D → Type 0
-LeavesShape text rs k = CanBeEdited k × IsInShape (edited k.local.map k.events)
+-- the edits that wait can be made, and then the events are in shape, and as promised
+abbrev pub LeavesShape : {R D : Type 0} → (ends : Text → List Event → Type 0) → Text → List R → Configuration R D → Type 0
+LeavesShape ends text rs k = CanBeEdited k × IsInShape (edited k.local.map k.events) × ends text (edited k.local.map k.events)
 
 -- the property holds for each of the rows that the tests may pick
 module _ {R D : Type 0} (P : Row R D → Type 0) (g : Given) (s : Sight) (k : Configuration R D) where
@@ -32,9 +33,10 @@ module _ {W R D : Type 0} (table : Table W R D) (knows : List Event → Local R 
     pub holds : table_holds table g text k choices state
     pub known : knows k.events k.local choices state
 
-  -- the rules of a table; the invariant includes what the machine knows. The machine registers no resolver.
-  abbrev pub knowing_rules : Given → Rules R D
-  knowing_rules g = record (table_rules table g) { holds = HoldsKnowing g; resolves = LeavesShape }
+  -- the rules of a table; the invariant includes what the machine knows. The machine registers no resolver, and promises this of its final
+  -- events
+  abbrev pub knowing_rules : (ends : Given → Text → List Event → Type 0) → Given → Rules R D
+  knowing_rules ends g = record (table_rules table g) { holds = HoldsKnowing g; resolves = LeavesShape (ends g); ends = ends g }
 
   -- what is known after a step
   abbrev pub KnownAfter : Step R D → List Choice → Type 0
@@ -50,8 +52,8 @@ module _ {W R D : Type 0} (table : Table W R D) (knows : List Event → Local R 
   AllKeepKnowing (state ∷ states) = KeepsKnowing state × AllKeepKnowing states
 
   -- What a machine knows holds at each start. Feeding, the rows of each state, and the end of a choice keep it. Once all was read it says
-  -- that no resolver is registered, and that the edits can be made and leave the events in shape.
-  pub record IsKnownThroughout : Type 0 where
+  -- that no resolver is registered, and that the edits can be made and leave the events in shape, and as promised.
+  pub record IsKnownThroughout (ends : Given → Text → List Event → Type 0) : Type 0 where
     pub at_starts : (flag : Bool) → let k : Configuration R D = start_configuration flag in All (λ name. knows k.events k.local [] (Next name)) table.starts
     pub by_feeding : (events : List Event) (local : Local R D) (choices : List Choice) (name : Name) → knows events local choices (Next name) → knows events local choices (Retry name)
     pub by_rows : AllKeepKnowing table.states
@@ -61,3 +63,5 @@ module _ {W R D : Type 0} (table : Table W R D) (knows : List Event → Local R 
         → let k' = settled_at choice.kind choice.saved Nok k in knows k'.events k'.local choices choice.nok
     pub at_end : (k : Configuration R D) → IsBalanced k.events → knows k.events k.local [] Ok
         → (k.local.resolvers ≡ []) × CanBeEdited k × IsInShape (edited k.local.map k.events)
+    pub promised : (g : Given) (text : Text) (k : Configuration R D) → IsWellFormed g k.events → knows k.events k.local [] Ok
+        → ends g text (edited k.local.map k.events)

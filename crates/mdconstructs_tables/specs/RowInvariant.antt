@@ -17,6 +17,7 @@ use Rattle.markdown_tokenizer.specs.Configuration.{Configuration, Local, Choice,
 use Rattle.markdown_tokenizer.specs.Sight.{Sight, sight, sight_of, end_place, byte_of}
 use Rattle.markdown_tokenizer.specs.Calls.{with_local, consumed, exited, CanExit}
 use Rattle.markdown_tokenizer.specs.Rules.{Rules}
+use Rattle.markdown_tokenizer.specs.Engine.{EndsWellFormed}
 use Rattle.markdown_tokenizer.specs.Reserves.{together}
 use Rattle.markdown_tokenizer.specs.Plain.{finds_nothing, NothingResolves}
 use Rattle.mdconstructs_tables.specs.Rows.{Act, exit, consume, choose, Rows, row, when, Row, Calls, StateRows, Table, class_of, step_of, row_at, named, table_step}
@@ -306,6 +307,14 @@ module _ {W R D : Type 0} (table : Table W R D) where
   abbrev pub table_reserve : Given → Text → Choice → ℕ
   table_reserve g text c = reserve_of false text c c.saved
 
--- the rules of a table
+-- the rules of a table; it promises that its final events are well formed
 abbrev pub table_rules : {W R D : Type 0} → Table W R D → Given → Rules R D
-table_rules table g = record { step = table_step table g; holds = table_holds table g; cost = together (table_cost table g) (table_reserve table g); starts = table.starts; resolver = finds_nothing; resolves = NothingResolves }
+table_rules table g = record {
+  step = table_step table g;
+  holds = table_holds table g;
+  cost = together (table_cost table g) (table_reserve table g);
+  starts = table.starts;
+  resolver = finds_nothing;
+  resolves = NothingResolves (EndsWellFormed g);
+  ends = EndsWellFormed g;
+}

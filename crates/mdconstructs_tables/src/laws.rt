@@ -7,7 +7,7 @@ ghost use Rattle.markdown_base.specs.declared.state.State.{State};
 ghost use Rattle.markdown_tokenizer.specs.Configuration.{Choice, Local};
 ghost use Rattle.markdown_tokenizer.specs.Lawful.{IsLawful};
 ghost use Rattle.markdown_tokenizer.specs.Plain.{plain};
-ghost use Rattle.markdown_tokenizer.specs.Text.{Given};
+ghost use Rattle.markdown_tokenizer.specs.Text.{Given, Text};
 ghost use Rattle.mdconstructs_tables.specs.Fitting.{IsFit};
 ghost use Rattle.mdconstructs_tables.specs.Knowledge.{IsKnownThroughout, knowing_rules};
 ghost use Rattle.mdconstructs_tables.specs.Late.{IsLate, late_rules};
@@ -42,10 +42,13 @@ pub trait Knowledge {
     ghost table: { Table Self.Class Self.Resolver Self.Document };
 
     ghost knows: { List Event → Local Self.Resolver Self.Document → List Choice → State → Type 0 };
+
+    /// What the machine promises of its final events.
+    ghost ends: { Given → Text → List Event → Type 0 };
 }
 
-/// A table's rules are lawful on every document if the table has no misfits, its own costs are enough, and its rows keep what
-/// the machine knows.
+/// A table's rules are lawful on every document if the table has no misfits, its own costs are enough, its rows keep what the
+/// machine knows, and that leads to what it promises of its final events.
 pub fn knowing_tables_are_lawful<K: Knowledge>()
-    ensures { IsFit K.table → IsKnownThroughout K.table K.knows → (g : Given) → IsLawful g (knowing_rules K.table K.knows g) }
+    ensures { IsFit K.table → IsKnownThroughout K.table K.knows K.ends → (g : Given) → IsLawful g (knowing_rules K.table K.knows K.ends g) }
 {}

@@ -3,6 +3,7 @@ use Rattle.std.specs.Prelude.{[], ◌∷◌}
 use Rattle.markdown_base.specs.declared.state.TheConstants.Name.{FlowStart}
 use Rattle.markdown_tokenizer.specs.Text.{Given}
 use Rattle.markdown_tokenizer.specs.Rules.{Rules}
+use Rattle.markdown_tokenizer.specs.Engine.{EndsWellFormed}
 use Rattle.markdown_tokenizer.specs.Plain.{plain as without_links}
 use Rattle.mdconstructs_tables.specs.Rows.{Table}
 use Rattle.mdconstructs_tables.specs.Joined.{has_state, joined_rules}
@@ -18,7 +19,7 @@ flow = record paragraphs { states = flow_start ∷ paragraph_line_start ∷ para
 
 -- the rules of paragraphs: chunks of text are linked
 abbrev pub flow_rules : Given → Rules Unit Unit
-flow_rules = knowing_rules flow knows_chunk
+flow_rules = knowing_rules flow knows_chunk EndsWellFormed
 
 -- the rules of a text: no resolver is registered, no edit is made, nothing is linked, and no construct is empty
 abbrev pub inline_rules : Given → Rules Unit Unit

@@ -12,6 +12,7 @@ use Rattle.markdown.specs.Configuration.{Configuration, Choice, Step}
 use Rattle.markdown.specs.Sight.{Sight}
 use Rattle.markdown.specs.Calls.{consumed}
 use Rattle.markdown.specs.Rules.{Rules}
+use Rattle.markdown.specs.Engine.{EndsWellFormed}
 use Rattle.markdown.specs.Plain.{finds_nothing, NothingResolves}
 use Rattle.markdown.specs.Plain as shape
 use Rattle.mdconstructs.specs.RowInvariant.{IsFed}
@@ -53,16 +54,17 @@ looping_cost text k [] state = 0
 looping_cost text k choices state = round text k
 
 -- what it does and keeps
-abbrev pub looping_parts : Rules Unit Unit
-looping_parts = record {
+abbrev pub looping_parts : Given → Rules Unit Unit
+looping_parts g = record {
   step = looping_step;
   holds = looping_holds;
   cost = looping_cost;
   starts = TextStart ∷ [];
   resolver = finds_nothing;
-  resolves = NothingResolves;
+  resolves = NothingResolves (EndsWellFormed g);
+  ends = EndsWellFormed g;
 }
 
 -- its rules: it registers no resolver, makes no edit, and links nothing
 abbrev pub looping_rules : Given → Rules Unit Unit
-looping_rules g = shape.plain looping_parts
+looping_rules g = shape.plain (looping_parts g)

@@ -81,10 +81,11 @@ module _ {M R D : Type 0} {g : Given} {rules : M → Given → Rules R D} {m : M
 
       -- what a flush leaves is what resolving makes of the reading of the text
       pub reads-flushed : {v : TokenizerValue M R D} {sub : Subresult} (f : IsFlushed (rules t.machine t.given) true t state v sub)
-          → EndsWithin f.result × IsResolved (rules m g).resolver g text true f.result.configuration v.configuration sub
+          → EndsWithin f.result × IsResolved (rules m g).resolver g text true f.result.configuration v.configuration sub × (rules m g).ends text v.configuration.events
       reads-flushed {v} {sub} f = (
         reads-ends f.result f.ends (rw (← f.calls) f.within),
         reads-moved (λ x y w. IsResolved (rules x y).resolver y w true f.result.configuration v.configuration sub) f.resolved,
+        reads-moved (λ x y w. (rules x y).ends w v.configuration.events) (f.promised refl),
       )
 
       pub reads-refused : {v : TokenizerValue M R D} {message : Message} (f : IsRefused (rules t.machine t.given) true t state v message)

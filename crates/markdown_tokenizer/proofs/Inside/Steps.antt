@@ -80,7 +80,7 @@ module _ {M R D : Type 0} {same : R → R → Bool} (t : Inside M R D) (sound : 
     reads = sound.placed.reads;
   }
 
-  pub well-formed : t.phase ≡ Reading → t.stack.items ≡ [] → IsWellFormed (seen t).given (seen t).configuration
+  pub well-formed : t.phase ≡ Reading → t.stack.items ≡ [] → IsWellFormed (seen t).given (seen t).configuration.events
   well-formed reads e =
       let m = sound.made reads in
       let balanced = balanced_from_open t.events.items (m.nested ∙ ap (λ (stack : List Name). Some (reverse stack)) e) in

@@ -1,5 +1,5 @@
 -- The laws of machines without resolvers and links, from the laws of their states.
-use Rattle.markdown_tokenizer.proofs.Prelude.{◌≡◌, ℕ, zero, suc, ◌+◌, List, [], ◌∷◌, ◌++◌, true, false, cond, Option, Some, None, length, refl, sym, ap, ◌∙◌, subst, arith, take, nat_lt, All, Event, State, Ok, Nok, IsBalanced, EndsBelow, relinked, Byte, End, AttemptKind, Attempt, Check, Given, Configuration, Saved, sight, restored, settled_at, edited, Tagged, of_list, placed_end, placed_in, woven, next_of, previous_of, IsInShape, Rules, IsAsFar, ConsumesOnce, OnlyAdds, EndsWhenRead, KeepsInvariant, CostPays, IsLawful, HaveNoLinks, IsPlain, KeepsPlain, NothingResolves, plain}
+use Rattle.markdown_tokenizer.proofs.Prelude.{◌≡◌, ℕ, zero, suc, ◌+◌, List, [], ◌∷◌, ◌++◌, true, false, cond, Option, Some, None, length, refl, sym, ap, ◌∙◌, subst, arith, take, nat_lt, All, Event, State, Ok, Nok, IsBalanced, EndsBelow, relinked, Byte, End, AttemptKind, Attempt, Check, Given, Configuration, Saved, sight, restored, settled_at, edited, Tagged, of_list, placed_end, placed_in, woven, next_of, previous_of, IsInShape, Rules, IsAsFar, ConsumesOnce, OnlyAdds, EndsWhenRead, KeepsInvariant, CostPays, IsLawful, HaveNoLinks, IsPlain, KeepsPlain, NothingResolves, ReadsAsPromised, plain}
 
 -- more events without links
 pub no-links-append : (xs ys : List Event) → HaveNoLinks xs → HaveNoLinks ys → HaveNoLinks (xs ++ ys)
@@ -57,8 +57,8 @@ module _ {R D : Type 0} where
 
 -- such a machine is lawful if its states keep the laws of calls
 pub plain-lawful : {R D : Type 0} (g : Given) (rules : Rules R D) → KeepsPlain rules.step → ConsumesOnce g rules → OnlyAdds g rules → EndsWhenRead g rules → KeepsInvariant g rules
-    → CostPays g rules → IsLawful g (plain rules)
-plain-lawful {R = R} {D = D} g rules keeps consumes adds ends kept pays = record {
+    → CostPays g rules → ReadsAsPromised g rules → IsLawful g (plain rules)
+plain-lawful {R = R} {D = D} g rules keeps consumes adds ends kept pays promised = record {
   consumes_once = λ text k choices name is h. consumes text k choices name is h.1;
   only_adds = record {
     events = λ text k choices name is h. adds.events text k choices name is h.1;
@@ -86,11 +86,11 @@ plain-lawful {R = R} {D = D} g rules keeps consumes adds ends kept pays = record
     for_nok = λ text k choice choices is h. pays.for_nok text k choice choices is h.1;
   };
   resolvers_keep = record {
-    at_end = λ text k is formed h. ((refl, h.0.1, h.0.2), formed.balanced);
+    at_end = λ text k is formed h. ((refl, h.0.1, h.0.2), formed.balanced, promised text k is formed h.1);
     by_resolvers = λ text r rs k new more is h e.
         let same : k ≡ new = cc in
-        subst (λ (q : Configuration R D). NothingResolves text rs q × IsAsFar q k × (q.stack ≡ k.stack)) same (h, (refl, refl, refl), refl);
+        subst (λ (q : Configuration R D). NothingResolves rules.ends text rs q × IsAsFar q k × (q.stack ≡ k.stack)) same (h, (refl, refl, refl), refl);
     at_last = λ text k is h.
-        rw (h.0.1, edited-same k.events h.0.2) (((omega arith), no-links-below (length k.events) k.events h.0.2), no-links-shape k.events h.0.2 h.1);
+        rw (h.0.1, edited-same k.events h.0.2) (((omega arith), no-links-below (length k.events) k.events h.0.2), no-links-shape k.events h.0.2 h.1, h.2);
   };
 }

@@ -45,8 +45,9 @@ module _ {M R D : Type 0} (rules : Rules R D) (t u : TokenizerValue M R D) (a s 
     })
 
     pub flush-ok : (sub : Subresult) → s ≡ Ok → u.choices ≡ [] → IsResolved rules.resolver t.given t.text resolve u.configuration k sub → p ≡ cond resolve phases.Resolved phases.Reading
-        → IsWellFormed t.given u.configuration → (resolve ≡ false → IsWellFormed t.given k) → (resolve ≡ true → IsInShape k.events) → IsFlushed rules resolve t a v sub
-    flush-ok sub ok none resolved phase before formed shape = rw same (record {
+        → IsWellFormed t.given u.configuration.events → (resolve ≡ false → IsWellFormed t.given k.events) → (resolve ≡ true → IsInShape k.events) → (resolve ≡ true → rules.ends t.text k.events)
+        → IsFlushed rules resolve t a v sub
+    flush-ok sub ok none resolved phase before formed shape promised = rw same (record {
       given = only.given;
       machine = only.machine;
       text = only.text;
@@ -62,6 +63,7 @@ module _ {M R D : Type 0} (rules : Rules R D) (t u : TokenizerValue M R D) (a s 
       well_formed = formed;
       at_places = resolved-at-places t.given.tab t.given.bytes rules.resolver t.given t.text resolve u.configuration k sub resolved before.at_places;
       in_shape = shape;
+      promised = promised;
     })
 
 module _ {M R D : Type 0} (given : Given) (rules : Rules R D) (laws : IsLawful given rules) where

@@ -86,6 +86,11 @@ module _ {M R D : Type 0} (rules : M → Given → Rules R D) where
       pub resolves-refused : (m : Message) → (rules_of now).resolver (sight_of now) now.configuration x ≡ refused m → resolved_in (rules_of start) start names start.configuration sub ≡ refused m
       resolves-refused m e = let now_is = r.same in r.leads ∙ ap (after (rules_of start).resolver start.given start.text rest found) (rw now_is at e)
 
+  -- what the work left keeps machine, document and text, so it has the same promise
+  pub promised-is : (old u w : TokenizerValue M R D) (k : Configuration R D) (events : List Event) → u.given ≡ old.given → u.machine ≡ old.machine → u.text ≡ old.text
+      → w ≡ at_configuration u k → (rules_of w).ends w.text events → (rules_of old).ends old.text events
+  promised-is old u w k events given machine text rest h = rw (rest, machine, given, text) at h
+
   -- what resolvers make of what the work left, once the definitions were taken out
   pub resolving-is : (old u w : TokenizerValue M R D) (sub : Subresult) (a : Resolved R D) → u.given ≡ old.given → u.machine ≡ old.machine → u.text ≡ old.text
       → w ≡ at_configuration u (taken u.configuration) → sub ≡ found u.configuration

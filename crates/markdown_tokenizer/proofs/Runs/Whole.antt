@@ -219,9 +219,10 @@ module _ {M R D : Type 0} (rules : M → Given → Rules R D) where
         final = v.configuration;
         resolved = run-moved (λ x y w. IsResolved (rules x y).resolver y w resolve f.result.configuration v.configuration sub) f.resolved;
         events = events;
-        well_formed = subst (λ (x : Given). IsWellFormed x f.result.configuration) r.same_given f.before;
+        well_formed = subst (λ (x : Given). IsWellFormed x f.result.configuration.events) r.same_given f.before;
         at_places = λ e. subst (AreAtPlaces options.tab_size bytes) (sym events) (subst (λ (x : Given). AreAtPlaces x.tab x.bytes v.configuration.events) r.same_given (f.at_places e));
         in_shape = λ e. subst IsInShape (sym events) (f.in_shape e);
+        promised = λ e. run-moved (λ x y w. (rules x y).ends w list) (subst ((rules t.machine t.given).ends t.text) (sym events) (f.promised e));
         within = run-within f.result.calls (subst (λ (n : ℕ). n ≤ budget (rules t.machine t.given) t.text t state) f.calls f.within);
       }
 

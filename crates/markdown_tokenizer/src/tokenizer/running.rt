@@ -172,7 +172,7 @@ impl<'a, M: MachineTypes> Tokenizer<'a, M> {
     ///
     /// It does nothing, and is called as `shows_in_text` is.
     fn shows_events(&self)
-        ensures { let t = self.now in t.phase ≡ Phase.Reading → t.configuration.stack ≡ [] → IsWellFormed t.given t.configuration }
+        ensures { let t = self.now in t.phase ≡ Phase.Reading → t.configuration.stack ≡ [] → IsWellFormed t.given t.configuration.events }
     {
         let _ = &self.after_previous;
     }

@@ -11,11 +11,13 @@ use Rattle.markdown_base.specs.Events.{EndsBelow, IsBalanced}
 use Rattle.markdown_base.specs.declared.state.Name.{Name}
 use Rattle.markdown_base.specs.declared.state.State.TheVariants.{Next, Retry, Ok}
 use Rattle.markdown_base.specs.declared.state.TheConstants.Name.{FlowStart, TextStart, ParagraphStart, ParagraphInside}
+use Rattle.markdown_tokenizer.specs.Text.{Given, Text}
 use Rattle.markdown_tokenizer.specs.Configuration.{Configuration, Local, Choice, TokenizerValue, start_configuration}
 use Rattle.markdown_tokenizer.specs.Sight.{sight_of}
 use Rattle.markdown_edits.specs.Links.{CanLink, updated_at, with_next, with_previous, linked_to, next_of, previous_of}
 use Rattle.markdown_edits.specs.Edited.{edited}
 use Rattle.markdown_tokenizer.specs.Resolving.{CanBeEdited, IsInShape}
+use Rattle.markdown_tokenizer.specs.Engine.{IsWellFormed, EndsWellFormed}
 use Rattle.markdown_edits.proofs.Edits.Splices.{edited-none}
 use Rattle.markdown_edits.proofs.LinkEnds.{updated-length}
 use Rattle.mdconstructs_tables.specs.LinkShapes.{next_end, previous_end, AreInShape}
@@ -250,7 +252,14 @@ at-end k balanced h =
     let same = edited-none k.events h.shape.inside in
     (h.resolvers, rw none (omega arith, h.shape.inside), rw (none, same) shape)
 
-pub paragraphs-known : IsKnownThroughout paragraphs knows_chunk
+-- and so they are well formed
+ends-well-formed : (g : Given) (text : Text) (k : Configuration Unit Unit) → IsWellFormed g k.events → knows_chunk k.events k.local [] Ok → IsWellFormed g (edited k.local.map k.events)
+ends-well-formed g text k formed h =
+    let none = h.edits in
+    let same = edited-none k.events h.shape.inside in
+    rw (none, same) formed
+
+pub paragraphs-known : IsKnownThroughout paragraphs knows_chunk EndsWellFormed
 paragraphs-known = record {
   at_starts = at-starts;
   by_feeding = still-known;
@@ -258,4 +267,5 @@ paragraphs-known = record {
   by_ok = λ k choice choices h. absurd h;
   by_nok = λ k choice choices h. absurd h;
   at_end = at-end;
+  promised = ends-well-formed;
 }

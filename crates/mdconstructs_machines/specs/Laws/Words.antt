@@ -1,23 +1,26 @@
 -- The table of the machine passes the test, and its rows keep what it knows of edits, so that the machine is lawful.
-use Rattle.std.proofs.Common.{◌≡◌, ℕ, List, [], ◌∷◌, ◌++◌, Bool, true, false, Option, Some, None, inl, inr, length, refl, sym, ap, ◌∙◌, subst, arith}
-use Rattle.std.specs.Prelude.{All}
-use Rattle.std.proofs.lemmas.List.Elements.{All-nil, All-cons}
+use Rattle.std.proofs.Common.{◌≡◌, ℕ, suc, ◌+◌, List, [], ◌∷◌, ◌++◌, Bool, true, false, Option, Some, None, inl, inr, length, refl, sym, ap, ◌∙◌, subst, arith}
+use Rattle.std.specs.Prelude.{All, AllPairs}
+use Rattle.std.proofs.lemmas.List.Elements.{All-nil, All-cons, All-tail}
 use Rattle.markdown_base.specs.declared.event.Event.{Event}
 use Rattle.markdown_base.specs.declared.event.Kind.TheVariants.{Enter, Exit}
 use Rattle.markdown_base.specs.declared.event.Name.TheVariants.{SpaceOrTab}
 use Rattle.markdown_base.specs.declared.state.Name.{Name}
 use Rattle.markdown_base.specs.declared.state.State.{State}
-use Rattle.markdown_base.specs.declared.state.State.TheVariants.{Next, Retry}
+use Rattle.markdown_base.specs.declared.state.State.TheVariants.{Next, Retry, Ok}
 use Rattle.markdown_base.specs.declared.state.TheConstants.Name.{TextStart}
-use Rattle.markdown_base.specs.Events.{IsBalanced, EndsBelow}
+use Rattle.markdown_base.specs.Events.{IsBalanced, IsVoidTight, EndsBelow}
+use Rattle.markdown_base.specs.Places.{IsPointOf, IsShown, stands_before}
 use Rattle.markdown_edits.specs.Edits.{Edit, edit_at, added_after, AreDisjoint}
 use Rattle.markdown_edits.specs.Edited.{as_change, edited}
 use Rattle.markdown_edits.specs.Woven.{woven, placed}
 use Rattle.markdown_tokenizer.specs.Plain.{HaveNoLinks}
 use Rattle.markdown_tokenizer.specs.Resolving.{IsInShape}
+use Rattle.markdown_tokenizer.specs.Engine.{IsWellFormed, EndsWellFormed}
 use Rattle.markdown_edits.proofs.Balanced.{IsBalanced-pair, IsBalanced-remove}
 use Rattle.markdown_edits.proofs.Edits.Passes.{woven-past}
 use Rattle.markdown_tokenizer.proofs.Readings.Plain.{no-links-more, no-links-below, no-links-shape, woven-same, edited-same}
+use Rattle.markdown_tokenizer.specs.Text.{Given, Text}
 use Rattle.markdown_tokenizer.specs.Configuration.{Configuration, Local, Choice, start_configuration}
 use Rattle.mdconstructs_tables.specs.Misfits.{misfits}
 use Rattle.mdconstructs_tables.specs.Fitting.{IsFit}
@@ -140,12 +143,14 @@ Ends events map = (AreDisjoint 0 map (length events) × All (EndsBelow (length e
 behind-two : (x y : Event) (rest : List Event) → HaveNoLinks rest → edited (edit_at 0 2 [] ∷ []) (x ∷ y ∷ rest) ≡ rest
 behind-two x y rest h = ap placed (woven-past (as_change (edit_at 0 2 [])) [] 2 rest (omega arith) (omega arith)) ∙ woven-same (woven [] 2 rest) 2 rest h
 
+rest-balanced : (x y : Event) (rest : List Event) → IsBalanced (x ∷ y ∷ rest) → BeginWithBlanks false (x ∷ y ∷ rest) → IsBalanced rest
+rest-balanced x y rest balanced h = IsBalanced-remove [] (x ∷ y ∷ []) rest balanced (IsBalanced-pair x y h.0 h.2 (h.3 ∙ sym h.1))
+
 without-blanks : (events : List Event) → IsBalanced events → HaveNoLinks events → BeginWithBlanks false events → Ends events (edit_at 0 2 [] ∷ [])
 without-blanks [] balanced unlinked h = absurd h
 without-blanks (x ∷ []) balanced unlinked h = let e : false ≡ true = h.0 in absurd (cc)
 without-blanks (x ∷ y ∷ rest) balanced unlinked h =
-    let pair = IsBalanced-pair x y h.0 h.2 (h.3 ∙ sym h.1) in
-    let shape = no-links-shape rest unlinked.1.1 (IsBalanced-remove [] (x ∷ y ∷ []) rest balanced pair) in
+    let shape = no-links-shape rest unlinked.1.1 (rest-balanced x y rest balanced h) in
     (((omega arith, omega arith), no-links-below (length (x ∷ y ∷ rest)) (x ∷ y ∷ rest) unlinked), subst IsInShape (sym (behind-two x y rest unlinked.1.1)) shape)
 
 ends-well : (events : List Event) (map : List Edit) → IsBalanced events → HaveNoLinks events → DropNoMoreThanBlanks false events map → Ends events map
@@ -154,7 +159,40 @@ ends-well events map balanced unlinked (inl none) =
     ((omega arith, no-links-below (length events) events unlinked), subst IsInShape (sym (edited-same events unlinked)) (no-links-shape events unlinked balanced))
 ends-well events map balanced unlinked (inr h) = subst (λ m. Ends events m) (sym h.0) (without-blanks events balanced unlinked h.1)
 
-pub words-known : IsKnownThroughout words knows_edits
+-- what holds of a list holds without its first event
+tight-behind : (x : Event) (xs : List Event) → IsVoidTight (x ∷ xs) → IsVoidTight xs
+tight-behind x xs h k e is enters void =
+    let n : suc k + 1 ≡ suc (k + 1) = omega arith in
+    let next = h (suc k) e is enters void in
+    rw n at next
+
+pairs-behind : (R : Event → Event → Type 0) (x : Event) (xs : List Event) → AllPairs R (x ∷ xs) → AllPairs R xs
+pairs-behind R x xs h i j d less within = h (suc i) (suc j) d (omega (arith, less)) (omega (arith, within))
+
+behind-blanks : (g : Given) (events : List Event) → IsWellFormed g events → HaveNoLinks events → BeginWithBlanks false events → IsWellFormed g (edited (edit_at 0 2 [] ∷ []) events)
+behind-blanks g [] formed unlinked h = absurd h
+behind-blanks g (x ∷ []) formed unlinked h = let e : false ≡ true = h.0 in absurd (cc)
+behind-blanks g (x ∷ y ∷ rest) formed unlinked h =
+    let AtPlace = λ (e : Event). IsPointOf g.tab g.bytes e.point in
+    let NotAfter = λ (e f : Event). stands_before f.point e.point ≡ false in
+    let Shown = λ (e : Event). IsShown g.bytes e.point in
+    subst (IsWellFormed g) (sym (behind-two x y rest unlinked.1.1)) (record {
+      balanced = rest-balanced x y rest formed.balanced h;
+      void_tight = tight-behind y rest (tight-behind x (y ∷ rest) formed.void_tight);
+      at_places = All-tail AtPlace y rest (All-tail AtPlace x (y ∷ rest) formed.at_places);
+      in_order = (
+        pairs-behind NotAfter y rest (pairs-behind NotAfter x (y ∷ rest) formed.in_order.0),
+        All-tail Shown y rest (All-tail Shown x (y ∷ rest) formed.in_order.1),
+      );
+    })
+
+-- the events that are left are well formed
+ends-well-formed : (g : Given) (events : List Event) (map : List Edit) → IsWellFormed g events → HaveNoLinks events → DropNoMoreThanBlanks false events map → IsWellFormed g (edited map events)
+ends-well-formed g events map formed unlinked (inl none) =
+    subst (λ m. IsWellFormed g (edited m events)) (sym none) (subst (IsWellFormed g) (sym (edited-same events unlinked)) formed)
+ends-well-formed g events map formed unlinked (inr h) = subst (λ m. IsWellFormed g (edited m events)) (sym h.0) (behind-blanks g events formed unlinked h.1)
+
+pub words-known : IsKnownThroughout words knows_edits EndsWellFormed
 words-known = record {
   at_starts = at-starts;
   by_feeding = still-known;
@@ -162,4 +200,5 @@ words-known = record {
   by_ok = λ k choice choices h. absurd h;
   by_nok = λ k choice choices h. absurd h;
   at_end = λ k balanced h. let e = ends-well k.events k.local.map balanced h.no_links h.edits in (h.no_resolver, e.0, e.1);
+  promised = λ g text k formed h. ends-well-formed g k.events k.local.map formed h.no_links h.edits;
 }

@@ -257,7 +257,10 @@ resolvers_keep refuse g = record {
       let set = h.0.1 in
       subst (λ rs. wrap_resolves text rs (with_resolvers (taken k) [])) (sym set.0) (set.1, (set.2, formed.balanced));
   by_resolvers = λ text r rs k new more is h e. passed-by refuse (sight g text k) text r rs k new more h e;
-  at_last = λ text k is h. wrapped-well h.0 h.1 k.events k.local.map (h.2 ∙ both-are h.0 h.1 (length k.events)) h.3;
+  at_last = λ text k is h.
+      let edits = h.2 ∙ both-are h.0 h.1 (length k.events) in
+      let well = wrapped-well h.0 h.1 k.events k.local.map edits h.3 in
+      (well.0, well.1, (h.0, h.1, k.events, ap (λ m. edited m k.events) edits ∙ wrapped h.0 h.1 k.events h.3.0));
 }
 
 pub wrap-lawful : (refuse : Bool) (g : Given) → IsLawful g (wrap_rules refuse g)

@@ -102,7 +102,10 @@ module _ {R D : Type 0} (is_first : Name → Bool) (g : Given) (first second : R
         | inl h ↦ let kept = one.resolvers_keep.by_resolvers text r rs k new more is h e in (inl kept.0, kept.1, kept.2)
         | inr h ↦ let kept = other.resolvers_keep.by_resolvers text r rs k new more is h (ap (λ f. f (sight g text k) k r) apart.one_resolver ∙ e) in (inr kept.0, kept.1, kept.2)
       ];
-      at_last = λ text k is h. elim h [ inl h ↦ one.resolvers_keep.at_last text k is h | inr h ↦ other.resolvers_keep.at_last text k is h ];
+      at_last = λ text k is h. elim h [
+        | inl h ↦ let last = one.resolvers_keep.at_last text k is h in (last.0, last.1, inl last.2)
+        | inr h ↦ let last = other.resolvers_keep.at_last text k is h in (last.0, last.1, inr last.2)
+      ];
     };
   }
 

@@ -1,6 +1,6 @@
 -- The laws of a machine that knows more than its table says, from the table's laws and from what each row keeps.
 use Rattle.mdconstructs_tables.proofs.Rows.Misfits.{named-in}
-use Rattle.mdconstructs_tables.proofs.Prelude.{◌≡◌, List, [], true, refl, sym, subst, nat_lt, length, All-contains, Event, State, Next, Retry, Byte, End, Given, Configuration, Local, Choice, start_configuration, Sight, sight, with_local, IsAsFar, IsLawful, Rows, row, when, Row, Table, class_of, picked, step_of, step_at, IsFit, EachRow, LeavesShape, KnownAfter, KeepsKnowing, AllKeepKnowing, IsKnownThroughout, knowing_rules, cond_both}
+use Rattle.mdconstructs_tables.proofs.Prelude.{◌≡◌, List, [], true, refl, sym, subst, nat_lt, length, All-contains, Event, State, Next, Retry, Byte, End, Given, Text, Configuration, Local, Choice, start_configuration, Sight, sight, with_local, IsAsFar, IsLawful, Rows, row, when, Row, Table, class_of, picked, step_of, step_at, IsFit, EachRow, LeavesShape, KnownAfter, KeepsKnowing, AllKeepKnowing, IsKnownThroughout, knowing_rules, cond_both}
 use Rattle.mdconstructs_tables.proofs.Tables.Laws.{is-call, table-consumes_once, table-only_adds, table-ends_when_read, table-invariant_kept}
 use Rattle.mdconstructs_tables.proofs.Tables.Costs.{table-cost_pays}
 
@@ -12,8 +12,8 @@ module _ {R D : Type 0} (P : Row R D → Type 0) (g : Given) (s : Sight) (k : Co
       cond_both (test g s k) (picked one g s k) (picked other g s k) P (λ e. picked-row one (h.0 e)) (λ e. picked-row other (h.1 e))
 
 module _ {W R D : Type 0} (table : Table W R D) (knows : List Event → Local R D → List Choice → State → Type 0) where
-  pub knowing-lawful : (g : Given) → IsFit table → IsKnownThroughout table knows → IsLawful g (knowing_rules table knows g)
-  knowing-lawful g fit known =
+  pub knowing-lawful : {promise : Given → Text → List Event → Type 0} (g : Given) → IsFit table → IsKnownThroughout table knows promise → IsLawful g (knowing_rules table knows promise g)
+  knowing-lawful {promise} g fit known =
       let adds = table-only_adds table g fit in
       let ends = table-ends_when_read table g fit in
       let kept = table-invariant_kept table g fit in
@@ -61,9 +61,9 @@ module _ {W R D : Type 0} (table : Table W R D) (knows : List Event → Local R 
           for_nok = λ text k choice choices is h. pays.for_nok text k choice choices is h.holds;
         };
         resolvers_keep = record {
-          at_end = λ text k is formed h. let there = known.at_end k formed.balanced h.known in (there.1, there.2);
+          at_end = λ text k is formed h. let there = known.at_end k formed.balanced h.known in (there.1, there.2, known.promised g text k formed h.known);
           by_resolvers = λ text r rs k new more is h e.
-              let same : k ≡ new = cc in subst (λ (q : Configuration R D). LeavesShape text rs q × IsAsFar q k × (q.stack ≡ k.stack)) same (h, (refl, refl, refl), refl);
+              let same : k ≡ new = cc in subst (λ (q : Configuration R D). LeavesShape (promise g) text rs q × IsAsFar q k × (q.stack ≡ k.stack)) same (h, (refl, refl, refl), refl);
           at_last = λ text k is h. h;
         };
       }

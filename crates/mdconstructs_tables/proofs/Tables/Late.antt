@@ -134,4 +134,4 @@ module _ {W R D : Type 0} (table : Table W R D) (early : Name → Option W → B
               let before = h.1.5 refl in
               ok-pays table g true is_late.fit text k choice choices h.0 h.1.3 (rw f (omega (arith, before))) (rw e tt);
           for_nok = λ text k choice choices is h. nok-pays table g true is_late.fit text k choice choices h.0;
-        }))
+        })) (λ text k is formed h. formed)

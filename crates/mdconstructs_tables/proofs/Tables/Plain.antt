@@ -61,7 +61,7 @@ module _ {W R D : Type 0} where
   pub writing-lawful : (table : Table W R D) (g : Given) → IsFit table → WritesPlain table → IsLawful g (plain (table_rules table g))
   writing-lawful table g fit writes =
       machines.plain-lawful g (table_rules table g) (table-keeps_plain table g writes) (table-consumes_once table g fit) (table-only_adds table g fit) (table-ends_when_read table g fit)
-      (table-invariant_kept table g fit) (table-cost_pays table g fit)
+      (table-invariant_kept table g fit) (table-cost_pays table g fit) (λ text k is formed h. formed)
 
   pub plain-lawful : (table : Table W R D) (g : Given) → IsFit table → IsPlainTable table → IsLawful g (plain (table_rules table g))
   plain-lawful table g fit is = writing-lawful table g fit (record { first = is.first; rows = λ b w. states-plain table.states b w (is.rows b w) })

@@ -8,7 +8,7 @@ use Rattle.markdown_base.specs.declared.state.State.TheVariants.{Next, Retry}
 use Rattle.markdown_base.specs.declared.state.TheConstants.Name.{FlowStart, TextStart}
 use Rattle.markdown_tokenizer.specs.Text.{Given, Text}
 use Rattle.markdown_tokenizer.specs.Configuration.{Configuration, Choice, TokenizerValue, start_configuration}
-use Rattle.markdown_tokenizer.specs.Engine.{HoldsOf}
+use Rattle.markdown_tokenizer.specs.Engine.{EndsWellFormed, HoldsOf}
 use Rattle.markdown_tokenizer.specs.Lawful.{IsLawful}
 use Rattle.mdconstructs_tables.specs.Joined.{has_state}
 use Rattle.mdconstructs_tables.specs.RowInvariant.{table_holds}
@@ -39,7 +39,7 @@ at-start flag =
     let P = λ (name : Name). knows_chunk k.events k.local [] (Next name) in
     All-cons P FlowStart [] (All-head P FlowStart (TextStart ∷ []) (paragraphs-known.at_starts flag)) (All-nil P)
 
-pub flow-known : IsKnownThroughout flow knows_chunk
+pub flow-known : IsKnownThroughout flow knows_chunk EndsWellFormed
 flow-known = let rows = paragraphs-known.by_rows in record {
   at_starts = at-start;
   by_feeding = paragraphs-known.by_feeding;
@@ -47,6 +47,7 @@ flow-known = let rows = paragraphs-known.by_rows in record {
   by_ok = paragraphs-known.by_ok;
   by_nok = paragraphs-known.by_nok;
   at_end = paragraphs-known.at_end;
+  promised = paragraphs-known.promised;
 }
 
 -- no name belongs to states of both

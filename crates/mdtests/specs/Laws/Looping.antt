@@ -50,7 +50,7 @@ module _ (g : Given) where
       at-call (P text k) (sight g text k).current k (name.number == DataInside.number) choices h.1 (one text k h.0)
       (at-try (P text k false []) text k k.waiting refl h.2 (two text k h.0) (λ byte. three text k byte h.0))
 
-  consumes_once : ConsumesOnce g looping_parts
+  consumes_once : ConsumesOnce g (looping_parts g)
   consumes_once text k choices name is h =
       each-call (λ text k b choices s. (IsAsFar s.configuration k × ((n : Name) → s.answer ≢ Next n)) ⊎ ((k.waiting ≡ Byte) × IsAsFar s.configuration (consumed k) × ((n : Name) → s.answer ≢ Retry n)))
       (λ text k empty. inl ((refl, refl, refl), (λ n e. absurd cc))) (λ text k empty ended. inl ((refl, refl, refl), (λ n e. absurd cc)))
@@ -60,7 +60,7 @@ module _ (g : Given) where
   same-stack None stack = tt
   same-stack (Some saved) stack = refl
 
-  only_adds : OnlyAdds g looping_parts
+  only_adds : OnlyAdds g (looping_parts g)
   only_adds = record {
     events = λ text k choices name is h.
         each-call (λ text k b choices s. map unlinked (take (length k.events) s.configuration.events) ≡ map unlinked k.events)
@@ -76,7 +76,7 @@ module _ (g : Given) where
         (λ text k byte empty waits less. All-from_recursion (SavesEvents (length k.events)) (again ∷ []) (tt, tt)) text k choices name h;
   }
 
-  ends_when_read : EndsWhenRead g looping_parts
+  ends_when_read : EndsWhenRead g (looping_parts g)
   ends_when_read = record {
     nok = λ text k is h. h;
     ok = λ text k is h. elim h.1 [ inl e ↦ absurd (cc) | inr e ↦ (e.1, h.0) ];
@@ -105,7 +105,7 @@ module _ (g : Given) where
   longer-holds text piece k choices Ok fresh h = h
   longer-holds text piece k choices state fresh h = absurd h
 
-  invariant_kept : KeepsInvariant g looping_parts
+  invariant_kept : KeepsInvariant g (looping_parts g)
   invariant_kept = record {
     at_starts = λ p flag name is start. (refl, no-choice name start, refl);
     unfed = λ text k choices name is h. h.2;
@@ -121,7 +121,7 @@ module _ (g : Given) where
     by_pieces = λ text piece k choices state is fits fresh h. longer-holds text piece k choices state fresh h;
   }
 
-  cost_pays : CostPays g looping_parts
+  cost_pays : CostPays g (looping_parts g)
   cost_pays = record {
     for_calls = λ text k choices name is h.
         each-call (λ text k b choices s. 1 + looping_cost text s.configuration (s.choices ++ choices) s.answer ≤ cond b (round text k + 1) (round text k))
@@ -143,4 +143,4 @@ module _ (g : Given) where
 
 pub looping-lawful : (g : Given) → IsLawful g (looping_rules g)
 looping-lawful g =
-    machines.plain-lawful g looping_parts (λ s k name h. step-plain g (name.number == DataInside.number) s.current k h) (consumes_once g) (only_adds g) (ends_when_read g) (invariant_kept g) (cost_pays g)
+    machines.plain-lawful g (looping_parts g) (λ s k name h. step-plain g (name.number == DataInside.number) s.current k h) (consumes_once g) (only_adds g) (ends_when_read g) (invariant_kept g) (cost_pays g) (λ text k is formed h. formed)

@@ -1,6 +1,6 @@
 use Rattle.markdown_tokenizer.proofs.Prelude.{◌≡◌, ◌∙◌, [], ap, inl, inr, refl, sym, true, false, IfOk-weaker, Ok, Error, Reading, IsText, IsWellFormed, taken}
 use Rattle.markdown_tokenizer.specs.declared.waiting.Phase.TheVariants.{Resolved}
-use Rattle.markdown_tokenizer.proofs.Runs.Resolvers.{resolving-is}
+use Rattle.markdown_tokenizer.proofs.Runs.Resolvers.{resolving-is, promised-is}
 use Rattle.markdown_tokenizer.proofs.Runs.Outcomes.{flush-held, flush-refused, flush-ok}
 use Rattle.markdown_tokenizer.proofs.tokenizer.Tokenizer.flush.Given.{Over}
 use Rattle.markdown_tokenizer.proofs.tokenizer.Tokenizer.flush.Goals.{After-shows_events}
@@ -8,7 +8,7 @@ use Rattle.markdown_tokenizer.proofs.tokenizer.Tokenizer.flush.Goals as goal
 
 -- where the reading ended no choice waits, the events are well formed, and the invariant holds
 ended : (g : Over) (c : After-shows_events g) → let t = c.args.self.now in let u = c.run_states.new.self in
-    (u.choices ≡ []) × (u.phase ≡ Reading) × IsWellFormed t.given u.configuration × IsText t.given u.text × (g.M.Machine.rules t.machine t.given).holds u.text u.configuration [] Ok
+    (u.choices ≡ []) × (u.phase ≡ Reading) × IsWellFormed t.given u.configuration.events × IsText t.given u.text × (g.M.Machine.rules t.machine t.given).holds u.text u.configuration [] Ok
 ended g c =
     let t = c.args.self.now in let u = c.run_states.new.self in let close = c.close.ensures in
     let only = rw close at c.in-Ok.ensures.same in let none = rw c.in-Ok-answer.is at c.in-Ok.ensures.stops in
@@ -47,7 +47,8 @@ returns-then-resolve-clause-ok g c =
     (λ all over. flush-ok (g.M.Machine.rules t.machine t.given) t u c.args.state c.in-Ok.answer only (rw close at c.in-Ok.ensures.leads)
     c.args.resolve c.resolve_all.new.self c.resolve_all.new.self.configuration Resolved (rw rest at after.same) all c.in-Ok-answer.is e.0
     (rw resolve (resolving-is g.M.Machine.rules t u c.take_definitions-sub.new.self _ _ only.given only.machine only.text rest c.take_definitions-sub.ensures.answer over.is))
-    (rw resolve refl) e.2 (λ f. absurd (let h : true ≡ false = sym resolve ∙ f in cc)) (λ _. over.in_shape)) after.ok
+    (rw resolve refl) e.2 (λ f. absurd (let h : true ≡ false = sym resolve ∙ f in cc)) (λ _. over.in_shape)
+    (λ _. promised-is g.M.Machine.rules t u c.take_definitions-sub.new.self _ _ only.given only.machine only.text rest over.promised)) after.ok
 
 pub returns-then-resolve-clause-message : goal.returns-then-resolve-clause-message
 returns-then-resolve-clause-message g c message refuses =
@@ -68,4 +69,4 @@ returns-else-resolve-clause-ok g c =
     flush-ok (g.M.Machine.rules t.machine t.given) t u c.args.state c.in-Ok.answer (rw close at c.in-Ok.ensures.same) (rw close at c.in-Ok.ensures.leads)
     c.args.resolve c.take_definitions-sub.new.self (taken u.configuration) u.phase c.take_definitions-sub.ensures.rest c.take_definitions-sub.result c.in-Ok-answer.is e.0
     (rw plain (refl, c.take_definitions-sub.ensures.answer)) (rw plain e.1) e.2
-    (λ _. record { balanced = e.2.balanced; void_tight = e.2.void_tight; at_places = e.2.at_places; in_order = e.2.in_order }) (λ f. absurd (let h : true ≡ false = sym f ∙ plain in cc))
+    (λ _. e.2) (λ f. absurd (let h : true ≡ false = sym f ∙ plain in cc)) (λ f. absurd (let h : true ≡ false = sym f ∙ plain in cc))

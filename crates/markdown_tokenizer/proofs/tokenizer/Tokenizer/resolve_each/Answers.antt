@@ -29,4 +29,4 @@ pub returns-clause-ok : goal.returns-clause-ok
 returns-clause-ok g c =
     let start = c.args.self.now in let r = resolves-last g.M.Machine.rules c.loop-name.name-index c.loop-name-test.false c.loop-name.invariant in
     let last = (g.met.M.Machine.lawful start.machine start.given).resolvers_keep.at_last start.text c.loop-name.self.configuration c.requires.text r.holds in
-    let edits = c.in_ok-make_edits.ensures.ok in rw edits (record { is = r.leads; in_shape = last.1 })
+    let edits = c.in_ok-make_edits.ensures.ok in rw edits (record { is = r.leads; in_shape = last.1; promised = last.2 })
