@@ -1,4 +1,4 @@
--- What options choose.
+-- The machine, tab size, cut and constructs that options choose, given as numbers.
 use Rattle.std.specs.Prelude.{ℕ, ◌&&◌, not, Bool, List, Option, Some, None, cond, nat_eq, nat_lt}
 use Rattle.std.specs.Option.{option_and_then}
 use Rattle.markdown.specs.declared.configuration.Constructs.{Constructs}

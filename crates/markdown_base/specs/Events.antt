@@ -1,4 +1,4 @@
--- Lists of events.
+-- Lists of events: balanced, void spans empty, in order of place; what is said of the ends of their links.
 --
 -- An event enters or exits a span of the document (the crate's comment on events); spans nest.
 use Rattle.std.specs.Prelude.{◌≡◌, ℕ, ◌+◌, ◌-◌, ◌<◌, Bool, true, false, List, [], ◌∷◌, ◌++◌, length, take, map, Option, Some, None, IfSome, option_map, option_and_then, All, AllPairs, slice_get}

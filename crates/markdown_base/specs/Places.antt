@@ -1,4 +1,4 @@
--- Places of a document, and their points.
+-- Places of a document: their order, the points at which they are shown, and which two denote one byte.
 --
 -- A place is the seat of a virtual byte, the CR of a CR LF, or the document's end. Its point has its line, virtual column, index and number
 -- in a tab (the points of unist, and `vs`).

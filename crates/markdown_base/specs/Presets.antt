@@ -1,4 +1,4 @@
--- Options, value by value.
+-- The options of CommonMark, GFM and MDX, value by value.
 use Rattle.std.specs.Prelude.{true, false, None}
 use Rattle.markdown_base.specs.declared.configuration.Constructs.{Constructs}
 use Rattle.markdown_base.specs.declared.configuration.CompileOptions.{CompileOptions}

@@ -1,4 +1,4 @@
--- States.
+-- States that are final: the text was read, or the document is refused.
 use Rattle.markdown_base.specs.declared.state.State.{State}
 use Rattle.markdown_base.specs.declared.state.State.TheVariants.{Error, Next, Retry, Ok, Nok}
 

@@ -1,4 +1,4 @@
--- Links between the events of a list.
+-- Links between the events of a list: when two may be linked, and what linking sets.
 use Rattle.std.specs.Prelude.{◌≡◌, ℕ, zero, suc, ◌+◌, ◌<◌, ◌↔◌, true, List, [], ◌∷◌, Option, Some, IsSome, IsSomeAnd, option_map, option_and_then, slice_get}
 use Rattle.markdown_base.specs.declared.event.Event.{Event}
 use Rattle.markdown_base.specs.declared.event.Link.{Link}

@@ -1,5 +1,5 @@
--- A list of events after changes, defined by the identities of its events: a link end names an event, and its place is read off the new
--- list (the crate's comments on `EditMap`: indices move, links stay).
+-- A list of events after changes, by the identities of its events: a link end names an event, and its place is read off the new list. (The
+-- crate's comments on `EditMap`: indices move, links stay.)
 use Rattle.std.specs.Prelude.{ℕ, suc, ◌+◌, ◌≤◌, Bool, false, ◌&&◌, ◌==◌, nat_le, nat_lt, List, [], ◌∷◌, ◌++◌, map, Option, Some, None, option_map, if◌then◌else◌}
 use Rattle.std.specs.List.{list_any, flat_map}
 use Rattle.markdown_base.specs.declared.event.Event.{Event}

@@ -1,4 +1,4 @@
--- What a machine sees and changes.
+-- What a machine sees and changes: a configuration, the choices that wait, and the step of a call.
 use Rattle.std.specs.Prelude.{ℕ, List, [], Bool, false, Option, None}
 use Rattle.markdown_base.specs.declared.event.Event.{Event}
 use Rattle.markdown_base.specs.declared.event.Name.{Name}

@@ -1,4 +1,5 @@
--- What pushing and flushing mean.
+-- What `push`, `flush` and `run` promise. What comes: the outcome that a push keeps for each text that may follow (`KeepsOutcome`); events
+-- that are well formed (`IsWellFormed`); what a push, a flush and a run leave (`IsPushed`, `IsFlushed`, `IsRun`), and their messages.
 use Rattle.std.specs.Prelude.{◌≡◌, ◌+◌, ◌≤◌, ◌⊎◌, ℕ, List, [], ◌∷◌, Some, Bool, true, false, cond, length, ◌↔◌, None}
 use Rattle.markdown_base.specs.declared.configuration.ParseOptions.{ParseOptions}
 use Rattle.markdown_base.specs.declared.event.Event.{Event}

@@ -1,4 +1,8 @@
--- What a lawful machine keeps. Each law is about one call, one feeding, one settled choice or one piece added.
+-- What a lawful machine keeps. Each law is about one call, one feeding, one settled choice, one piece added or one resolver. The six laws:
+-- `ConsumesOnce`: a call consumes at most one byte. `OnlyAdds`: a call only adds events, and its choices save no fewer than were there.
+-- `EndsWhenRead`: a reading ends in Ok only once all was read, with no span open. `KeepsInvariant`: the machine's invariant holds at the starts
+-- and is kept. `CostPays`: the cost of a state and all choices that wait falls at each call. `ResolversKeep`: resolvers keep their own
+-- invariant, and leave events that are in shape. `IsLawful`, at the end, is the six together.
 use Rattle.std.specs.Prelude.{ℕ, ◌≡◌, ◌≢◌, ◌+◌, ◌≤◌, ◌⊎◌, List, [], ◌∷◌, ◌++◌, Bool, true, false, Option, IfSome, All, Contains, length, take}
 use Rattle.markdown_base.specs.declared.event.Point.{Point}
 use Rattle.markdown_base.specs.declared.state.Name.{Name}

@@ -1,4 +1,6 @@
--- The one reading of a text, with ordered choices, by recursion on whole texts and whole configurations.
+-- The one reading of a text, with ordered choices, by recursion on whole texts and whole configurations. What comes: how a byte is fed, and
+-- what a choice puts back when it ends (`settled_at`); a state that is read to its end, and then the choices that it made, the last first
+-- (`read`); the same with choices that wait (`outcome`); and that a reading ends in a result (`EndsIn`), whose calls are counted.
 use Rattle.std.specs.Prelude.{ℕ, zero, suc, ◌≡◌, ◌+◌, nat_lt, ◌∷◌, [], List, true, cond, Option, Some, None, take, length}
 use Rattle.markdown_base.specs.declared.state.Name.{Name}
 use Rattle.markdown_base.specs.declared.state.State.{State}

@@ -1,4 +1,4 @@
--- What was read stays.
+-- What was read stays: events before the outermost choice that waits, but for the ends of their links.
 use Rattle.std.specs.Prelude.{ℕ, List, [], All, take}
 use Rattle.markdown_base.specs.declared.state.State.{State}
 use Rattle.markdown_base.specs.Events.{HasFrontUpToLinkEnds}

@@ -1,4 +1,4 @@
--- How a document is read.
+-- How a document is read: by which machine, in which cuts, and whether its chunks are read too.
 use Rattle.std.specs.Prelude.{ℕ, ◌≤◌, IfSome, ◌&&◌, not, Bool, true, false, Option, Some, None, cond}
 use Rattle.mdconstructs_documents.specs.declared.choice.Choice.{Choice}
 use Rattle.mdconstructs_documents.specs.declared.choice.Which.{Which}

@@ -1,4 +1,4 @@
--- The events of a document.
+-- The events of a document, by the machine that reads it and without states.
 use Rattle.std.specs.Prelude.{[], ◌≡◌, ℕ, Bool, List, true, false}
 use Rattle.std.specs.Option.{option_map_or}
 use Rattle.markdown_base.specs.declared.configuration.Constructs.{Constructs}

@@ -1,4 +1,5 @@
--- The events of a text, by its items. Their places come only from the virtual bytes.
+-- The events of a text, by its items. Their places come only from the virtual bytes. What comes: a text is cut into items from the front
+-- (`items`); each item has its events (`item_events`); `text_events` are those of all items.
 use Rattle.std.specs.Prelude.{ℕ, zero, suc, ◌+◌, List, [], ◌∷◌, ◌++◌, map, take, drop, length}
 use Rattle.std.specs.List.{flat_map, between}
 use Rattle.markdown_base.specs.declared.configuration.Constructs.{Constructs}
