@@ -7,7 +7,8 @@ usage: tools/docs.py [--take] [--hand-in]
   --hand-in  also fails if crates changed since the last whole gate, or if a change can reach a wrong body since it was last rejected
 
 A fence names its file behind the language, and the items that it shows: ```rust crates/C/src/f.rt item item. `*` is the whole
-file. With no item each stretch between blank lines is text of the file. A block of code that names no file fails. Shown with items are the `use` lines that they need.
+file. With no item each stretch between blank lines is text of the file. A block of code that names no file fails. Shown with items
+are the `use` lines that they need, with the names that they use. tools/definitions.py and tools/prose.py are called, too.
 """
 
 import os
@@ -18,6 +19,8 @@ import sys
 TOP = os.path.dirname(os.path.dirname(os.path.realpath(__file__)))
 sys.path.insert(0, f"{TOP}/wrong-bodies")
 sys.dont_write_bytecode = True
+import definitions  # noqa: E402
+import prose  # noqa: E402
 import table  # noqa: E402
 
 FILES = subprocess.run(["git", "-C", TOP, "ls-files", "-co", "--exclude-standard"], capture_output=True, text=True).stdout.split("\n")
@@ -27,6 +30,7 @@ PAGES = ["README.md"] + [f for f in FILES if f.startswith("docs/") and f.endswit
 MAP = "docs/maintaining/MAP.md"
 # Words in backticks that are of Rust, of the system or of the prover
 FOREIGN = set("unsafe debug_assert unwrap respects_eq allocate cap ptr grep steal Lts rattle-kit-13f _rows NAME_in".split())
+TRAITS = {"Read", "Write"}  # their methods are used without their names
 FENCE = re.compile(r"^```(\w+) (\S+)((?: \S+)*)\n(.*?)^```$", flags=re.S | re.M)
 FILE = re.compile(r"[\w./+-]+\.(?:rt|antt|md|py|sh|edit|txt)|(?:crates|docs|tools|bench|bindings|wrong-bodies|specs|proofs|src)/[\w./+-]*")
 PATH = re.compile(r"(?:\w+::)+\{?\w+\}?")  # markdown::tokenizer
@@ -60,15 +64,24 @@ def item(lines, name, rust):
     return "\n".join(lines[start : end + 1])
 
 
-def imported(line):
-    """Returns the names that a `use` line imports."""
-    module, _, last = line.rstrip(";").replace("::", ".").rpartition(".")
-    names = set(re.findall(r"[^\s,{}]+", last))
-    return names | {module.rpartition(".")[2]} if "self" in names else names
+def narrowed(line, words, text):
+    """Returns a `use` line with only the names that a text uses, or None if it uses none."""
+    head, brace, names = line.rstrip("};").partition("{")
+    if not brace:
+        last = re.split(r"[.:]+| as ", line.rstrip(";"))[-1]
+        return line if last in words else None
+    module = re.split(r"[.:]+", head.rstrip(".:"))[-1]
+    used = words | TRAITS | {f"◌{sign}◌" for sign in re.findall(r"(?<= )[^\s\w]+(?= )", text)} | {name for name, of in (("self", module in words), ("[]", "[]" in text)) if of}
+    kept = [name for name in names.split(", ") if name in used]
+    if not kept or line.startswith("use ") and set(kept) <= TRAITS:
+        return None
+    if line.startswith("use ") and line.endswith(";") and len(kept) == 1:
+        return head.rstrip(":") + ("" if kept == ["self"] else f"::{kept[0]}") + ";"
+    return f"{head}{{{', '.join(kept)}}}" + ";" * line.endswith(";")
 
 
 def taken(path, names):
-    """Returns the text that a block with these items should have."""
+    """Returns the text that a block with these items should have: the items, and above them what they import."""
     text = read(path)
     if names == ["*"]:
         return text
@@ -76,15 +89,11 @@ def taken(path, names):
     items = [item(lines, name, path.endswith(".rt")) for name in names]
     if None in items:
         return None
-    words = set(re.findall(r"[^\s(),.;:{}\[\]&<>]+|◌\S+◌", re.sub(r"^ *(?://|--).*", "", "\n\n".join(items), flags=re.M)))
-    uses = {"ghost use ": [], "use ": []}
-    for line in lines:
-        for kind, found in uses.items():
-            if line.startswith(kind):
-                if words & imported(line):
-                    found.append(line)
-                break
-    return "\n\n".join(["\n".join(found) for found in uses.values() if found] + items) + "\n"
+    shown = re.sub(r"^ *(?:///?|--).*", "", "\n\n".join(items), flags=re.M)
+    words = set(re.findall(r"[^\s(),.;:{}\[\]&<>!?'-]+(?:-[^\s(),.;:{}\[\]&<>!?'-]+)*", shown))
+    uses = [(kind, use) for kind in ("ghost use ", "use ") for line in lines if line.startswith(kind) if (use := narrowed(line, words, shown))]
+    heads = ["\n".join(use for of, use in uses if of == kind) for kind in ("ghost use ", "use ")]
+    return "\n\n".join([head for head in heads if head] + items) + "\n"
 
 
 def blocks(page, text, take):
@@ -156,22 +165,6 @@ def rooms():
                 failed.append(f"{MAP}: no room for {file}")
 
 
-def definitions():
-    """Holds the list of definitions: each name is in the file of its row."""
-    crate = file = None
-    for line in read("docs/DEFINITIONS.md").split("\n"):
-        crate = m[1] if (m := re.fullmatch(r"## `(\w+)`", line)) else crate
-        if crate and re.match(r"\| (`|\|)", line):
-            cells = [cell.strip() for cell in line.split("|")]
-            file = cells[1].strip("`") or file
-            path = f"crates/{crate}/specs/{file}.antt"
-            if path not in FILES:
-                failed.append(f"docs/DEFINITIONS.md: no {path}")
-                continue
-            here = set(re.findall(r"[^\s(){},.:]+", read(path)))
-            failed.extend(f"docs/DEFINITIONS.md: no {name} in {path}" for name in re.findall(r"`([^`]+)`", cells[2]) if name not in here)
-
-
 def counted(page, text, take):
     """Holds the numbers of wrong bodies that a page has; with `take` they are written anew."""
     if page not in COUNTED:
@@ -217,10 +210,9 @@ def main():
             with open(f"{TOP}/{page}", "w", encoding="utf-8") as it:
                 it.write(new)
         names(page, new, source)
-    definitions()
     rooms()
     last_gate("--hand-in" in sys.argv[1:])
-    failed.extend(table.disagreements())
+    failed.extend(definitions.disagreements() + prose.disagreements() + table.disagreements())
     print("\n".join(failed), end="\n" if failed else "")
     sys.exit(1 if failed else 0)
 

@@ -1,0 +1,83 @@
+#!/usr/bin/env python3
+"""Writes the list of definitions into docs/DEFINITIONS.md: of each file of `specs` of the public crates and of their parts, the first
+sentence of its first comment. What stands above the list is written by hand.
+
+usage: tools/definitions.py [--check]     with --check it writes nothing, and prints what fails, and ends with 1 if something does
+"""
+
+import glob
+import os
+import re
+import sys
+
+TOP = os.path.dirname(os.path.dirname(os.path.realpath(__file__)))
+PAGE = f"{TOP}/docs/DEFINITIONS.md"
+MARK = "<!-- The rest of this page is made by tools/definitions.py. -->\n"
+INNER = re.compile(r"^Inner: |An inner file: ")
+
+
+def read(path):
+    with open(path, encoding="utf-8") as it:
+        return it.read()
+
+
+def crates():
+    """Yields the public crates and their parts, the lowest first."""
+    for note, name in re.findall(r"^# (.*)\n(?:# .*\n)*(\w+)(?: staticlib)?:", read(f"{TOP}/crates.txt"), flags=re.M):
+        if not note.startswith("no part"):
+            yield name
+
+
+def said(path):
+    """Returns the first comment of a file as one line."""
+    lines = []
+    for line in read(path).split("\n"):
+        if not line.startswith("-- "):
+            break
+        lines.append(line[2:].strip())
+    return " ".join(lines)
+
+
+def section(crate):
+    """Yields the lines of a crate: a line for each file, and one for all inner files. `Laws` has proofs and no definitions."""
+    inner = []
+    for path in sorted(glob.glob(f"{TOP}/crates/{crate}/specs/*.antt")):
+        name = os.path.basename(path)[:-5]
+        if name in ("Lib", "Laws"):
+            continue
+        text = said(path)
+        if INNER.search(text):
+            inner.append(f"`{name}`")
+        else:
+            first = re.split(r"(?<=[.]) (?=[A-Z`])", text)[0].removeprefix(f"{name}: ")
+            yield f"- `{name}`: {first[:1].upper() + first[1:]}"
+    if inner:
+        yield f"- Inner: {', '.join(inner)}."
+
+
+def listed():
+    """Returns the list."""
+    return "".join(f"\n## `{crate}`\n\n" + "\n".join(lines) + "\n" for crate in crates() if (lines := list(section(crate))))
+
+
+def disagreements():
+    """Returns what of the page is not as it would be written."""
+    front, mark, rest = read(PAGE).partition(MARK)
+    failed = [f"docs/DEFINITIONS.md: no first comment of {line[2:-2]}" for line in listed().split("\n") if line.endswith(": ")]
+    if len(front.split()) > 600:
+        failed.append(f"docs/DEFINITIONS.md: {len(front.split())} words above the list, and at most 600 are allowed")
+    return failed + ([] if mark and rest == listed() else ["docs/DEFINITIONS.md: run tools/definitions.py"])
+
+
+def main():
+    if "--check" not in sys.argv[1:]:
+        front = read(PAGE).partition(MARK)[0]
+        with open(PAGE, "w", encoding="utf-8") as it:
+            it.write(front + MARK + listed())
+    failed = disagreements()
+    print("\n".join(failed), end="\n" if failed else "")
+    sys.exit(1 if failed else 0)
+
+
+if __name__ == "__main__":
+    main()
