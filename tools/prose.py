@@ -40,7 +40,7 @@ def stretches(text):
 def sentences(text):
     """Yields the sentences of a page."""
     for stretch in stretches(text):
-        bare = re.sub(r"^\s*(?:[-*#]+|\d+\.)\s", "", re.sub(r"\s+", " ", stretch).strip()).replace("**", "")
+        bare = re.sub(r"^\s*(?:[-*#]+|\d+\.)\s", "", re.sub(r"\s+", " ", stretch).strip()).replace("*", "")
         yield from re.split(r"(?<=[.?!:])\)? (?=[A-Z(\d]|name)", bare)
 
 
