@@ -69,11 +69,16 @@ def disagreements():
     return failed + ([] if mark and rest == listed() else ["docs/DEFINITIONS.md: run tools/definitions.py"])
 
 
+def write():
+    """Writes the list below the front of the page."""
+    text = read(PAGE).partition(MARK)[0] + MARK + listed()
+    with open(PAGE, "w", encoding="utf-8") as it:
+        it.write(text)
+
+
 def main():
     if "--check" not in sys.argv[1:]:
-        front = read(PAGE).partition(MARK)[0]
-        with open(PAGE, "w", encoding="utf-8") as it:
-            it.write(front + MARK + listed())
+        write()
     failed = disagreements()
     print("\n".join(failed), end="\n" if failed else "")
     sys.exit(1 if failed else 0)

@@ -3,7 +3,8 @@
 with 1 if something does.
 
 usage: tools/docs.py [--take] [--hand-in]
-  --take     each code block is first rewritten from the items that it names, and the numbers of wrong bodies are put in
+  --take     each code block is first rewritten from the items that it names; the numbers of wrong bodies and the list of definitions
+             are put in
   --hand-in  also fails if crates changed since the last whole gate, or if a change can reach a wrong body since it was last rejected
 
 A fence names its file behind the language, and the items that it shows: ```rust crates/C/src/f.rt item item. `*` is the whole
@@ -212,6 +213,8 @@ def main():
         names(page, new, source)
     rooms()
     last_gate("--hand-in" in sys.argv[1:])
+    if "--take" in sys.argv[1:]:
+        definitions.write()
     failed.extend(definitions.disagreements() + prose.disagreements() + table.disagreements())
     print("\n".join(failed), end="\n" if failed else "")
     sys.exit(1 if failed else 0)
