@@ -9,7 +9,8 @@ usage: tools/docs.py [--take] [--hand-in]
 
 A fence names its file behind the language, and the items that it shows: ```rust crates/C/src/f.rt item item. `*` is the whole
 file. With no item each stretch between blank lines is text of the file. A block of code that names no file fails. Shown with items
-are the `use` lines that they need, with the names that they use. tools/definitions.py and tools/prose.py are called, too.
+are the `use` lines that they need, with the names that they use, but if `-` stands before the items. tools/definitions.py and
+tools/prose.py are called, too.
 """
 
 import os
@@ -87,13 +88,13 @@ def taken(path, names):
     if names == ["*"]:
         return text
     lines = text.split("\n")
-    items = [item(lines, name, path.endswith(".rt")) for name in names]
+    items = [item(lines, name, path.endswith(".rt")) for name in names if name != "-"]
     if None in items:
         return None
     shown = re.sub(r"^ *(?:///?|--).*", "", "\n\n".join(items), flags=re.M)
     words = set(re.findall(r"[^\s(),.;:{}\[\]&<>!?'-]+(?:-[^\s(),.;:{}\[\]&<>!?'-]+)*", shown))
     uses = [(kind, use) for kind in ("ghost use ", "use ") for line in lines if line.startswith(kind) if (use := narrowed(line, words, shown))]
-    heads = ["\n".join(use for of, use in uses if of == kind) for kind in ("ghost use ", "use ")]
+    heads = ["\n".join(use for of, use in uses if of == kind) for kind in ("ghost use ", "use ") if "-" not in names]
     return "\n\n".join([head for head in heads if head] + items) + "\n"
 
 
