@@ -32,7 +32,7 @@ def stretches(text):
     """Yields the stretches of prose of a page: a paragraph, an item of a list, a cell. What is in backticks is one word, and so are
     several names in a row."""
     prose = re.sub(r"^```.*?^```$|<!--.*?-->", "", text, flags=re.S | re.M)
-    prose = re.sub(r"name(?:,? (?:and |or )?name)+", "name", LONG_CODE.sub("name", re.sub(r"``+.+?``+", "name", prose)))
+    prose = re.sub(r"name(?: \d+)?(?:,? (?:and |or )?name(?: \d+)?)+", "name", LONG_CODE.sub("name", re.sub(r"``+.+?``+", "name", prose)))
     for part in re.split(r"\n\s*\n|\n(?= *(?:[-*#|]|\d+\.) ?)", prose):
         yield from part.strip().strip("|").split("|") if part.lstrip().startswith("|") else [part]
 
