@@ -1,0 +1,69 @@
+#!/usr/bin/env python3
+"""Makes a crate with a machine that is proved and tested: the headings of crates/mdexamples, under the crate's own name. Change it
+into a machine of yours, as docs/MACHINE-1.md says.
+
+usage: tools/new_machine.py NAME     NAME is small letters, digits and `_`: the crate is crates/NAME, with a line in crates.txt
+"""
+
+import os
+import re
+import sys
+
+sys.dont_write_bytecode = True
+import docs  # noqa: E402
+
+FROM = "crates/mdexamples"
+TESTS = "crates/mdtests/src/examples.rt"
+LIB = """//! A machine of headings.
+#![tactic(auto)]
+
+pub mod headings;
+#[cfg(test)]
+mod tests;
+"""
+
+
+def tests():
+    """Returns the tests of headings, which need no other crate's function."""
+    lines = docs.read(TESTS).split("\n")
+    start = next(i for i, line in enumerate(lines) if line.startswith("fn headings_have_up_to_six_signs"))
+    test = "\n".join(lines[start - 1 : lines.index("}", start) + 1])
+    test = re.sub(r"assert_shown\(\s*&rt,\s*made,\s*(.*?),\s*\)\n}", r"assert_eq!(rt; made?.as_str(), \1);\n    Ok(())\n}", test, flags=re.S)
+    used = docs.taken(TESTS, ["lines_of", "refused", "lines"]).rstrip("\n")
+    used = used.replace("use markdown::", "use crate::headings::Headings;\nuse markdown::", 1)
+    return f"//! Tests of headings, with expected lines worked by hand.\n\n{used}\n\n{test}\n"
+
+
+def files(crate):
+    """Returns the text of each file, by its path in the crate."""
+    called = docs.taken(f"{FROM}/proofs/Called.antt", ["headings_called"])
+    made = {
+        "src/lib.rt": LIB,
+        "src/headings.rt": docs.read(f"{FROM}/src/headings.rt"),
+        "src/tests.rt": tests(),
+        "specs/Lib.antt": "pub mod Headings\npub mod Laws\n",
+        "specs/Headings.antt": docs.read(f"{FROM}/specs/Headings.antt"),
+        "specs/Laws.antt": "-- The laws of the machine.\npub mod Headings\n",
+        "specs/Laws/Headings.antt": docs.read(f"{FROM}/specs/Laws/Headings.antt"),
+        "proofs/Lib.antt": "-- The proof of each function is in a folder of its own, by its module.\npub mod Called\n",
+        "proofs/Called.antt": f"-- What holds when the machine is called is what its states require.\n{called}",
+    }
+    return {path: text.replace("mdexamples", crate) for path, text in made.items()}
+
+
+def main():
+    crate = sys.argv[1] if len(sys.argv) == 2 else ""
+    if not re.fullmatch(r"[a-z][a-z0-9_]*", crate) or os.path.exists(f"{docs.TOP}/crates/{crate}"):
+        sys.exit(__doc__)
+    libraries = re.search(r"^mdexamples: (.*)$", docs.read("crates.txt"), flags=re.M)[1]
+    for path, text in files(crate).items():
+        os.makedirs(os.path.dirname(f"{docs.TOP}/crates/{crate}/{path}"), exist_ok=True)
+        with open(f"{docs.TOP}/crates/{crate}/{path}", "w", encoding="utf-8") as it:
+            it.write(text)
+    with open(f"{docs.TOP}/crates.txt", "a", encoding="utf-8") as it:
+        it.write(f"{crate}: {libraries}\n")
+    print(f"crates/{crate}: there `rt fmt` lays it out, `rt try --test` runs its test, and `rt check` and `rt test` prove it")
+
+
+if __name__ == "__main__":
+    main()
