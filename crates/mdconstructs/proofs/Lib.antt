@@ -2,6 +2,7 @@ pub use Rattle.mdconstructs_tables.proofs.CostNumbers
 pub use Rattle.mdconstructs_tables.proofs.GrowingTexts
 pub use Rattle.mdconstructs_tables.proofs.KeptByReading
 pub use Rattle.mdconstructs_tables.proofs.LinkShapes
+pub use Rattle.mdconstructs_tables.proofs.Looks
 pub use Rattle.mdconstructs_tables.proofs.Markers
 pub use Rattle.mdconstructs_tables.proofs.Rows
 pub use Rattle.mdconstructs_tables.proofs.Tables

@@ -4,6 +4,7 @@ pub use Rattle.mdconstructs_tables.specs.Joined
 pub use Rattle.mdconstructs_tables.specs.Knowledge
 pub use Rattle.mdconstructs_tables.specs.Late
 pub use Rattle.mdconstructs_tables.specs.LinkShapes
+pub use Rattle.mdconstructs_tables.specs.Looks
 pub use Rattle.mdconstructs_tables.specs.Markers
 pub use Rattle.mdconstructs_tables.specs.Misfits
 pub use Rattle.mdconstructs_tables.specs.RowInvariant
@@ -11,6 +12,7 @@ pub use Rattle.mdconstructs_tables.specs.RowTest
 pub use Rattle.mdconstructs_tables.specs.Rows
 pub use Rattle.mdconstructs_tables.specs.PlainTables
 pub use Rattle.mdconstructs_tables.specs.PlainWrites
+pub use Rattle.mdconstructs_tables.specs.Quiet
 pub use Rattle.mdconstructs_tables.specs.Refusals
 pub use Rattle.mdconstructs_machines.specs.Costs
 pub use Rattle.mdconstructs_machines.specs.Back

@@ -2,6 +2,7 @@ pub mod CostNumbers
 pub mod GrowingTexts
 pub mod KeptByReading
 pub mod LinkShapes
+pub mod Looks
 pub mod Markers
 mod Prelude
 pub mod Rows

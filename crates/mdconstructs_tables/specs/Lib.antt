@@ -4,6 +4,7 @@ pub mod Joined
 pub mod Knowledge
 pub mod Late
 pub mod LinkShapes
+pub mod Looks
 pub mod Markers
 pub mod Misfits
 pub mod RowInvariant
@@ -11,4 +12,5 @@ pub mod RowTest
 pub mod Rows
 pub mod PlainTables
 pub mod PlainWrites
+pub mod Quiet
 pub mod Refusals

@@ -4,15 +4,18 @@ ghost use Rattle.std.specs.Prelude.{Bool, List, Option};
 ghost use Rattle.markdown_base.specs.declared.event.Event.{Event};
 ghost use Rattle.markdown_base.specs.declared.state.Name.{Name};
 ghost use Rattle.markdown_base.specs.declared.state.State.{State};
-ghost use Rattle.markdown_tokenizer.specs.Configuration.{Choice, Local};
+ghost use Rattle.markdown_tokenizer.specs.Configuration.{Choice, Configuration, Local, Step};
 ghost use Rattle.markdown_tokenizer.specs.Lawful.{IsLawful};
 ghost use Rattle.markdown_tokenizer.specs.Plain.{plain};
+ghost use Rattle.markdown_tokenizer.specs.Sight.{Sight};
 ghost use Rattle.markdown_tokenizer.specs.Text.{Given, Text};
 ghost use Rattle.mdconstructs_tables.specs.Fitting.{IsFit};
 ghost use Rattle.mdconstructs_tables.specs.Knowledge.{IsKnownThroughout, knowing_rules};
 ghost use Rattle.mdconstructs_tables.specs.Late.{IsLate, late_rules};
+ghost use Rattle.mdconstructs_tables.specs.Looks.{LooksAreScans, Plays};
 ghost use Rattle.mdconstructs_tables.specs.PlainTables.{IsPlainTable};
 ghost use Rattle.mdconstructs_tables.specs.PlainWrites.{WritesPlain};
+ghost use Rattle.mdconstructs_tables.specs.Quiet.{QuietLooksEnd};
 ghost use Rattle.mdconstructs_tables.specs.RowInvariant.{table_rules};
 ghost use Rattle.mdconstructs_tables.specs.Rows.{Table};
 
@@ -51,4 +54,18 @@ pub trait Knowledge {
 /// machine knows, and that leads to what it promises of its final events.
 pub fn knowing_tables_are_lawful<K: Knowledge>()
     ensures { IsFit K.table → IsKnownThroughout K.table K.knows K.ends → (g : Given) → IsLawful g (knowing_rules K.table K.knows K.ends g) }
+{}
+
+/// What a table reads without events, from any of its states on, is a function of the bytes that are left and of what states
+/// share: its look. Reading on from the state is reading on from where the look ends, in any machine that does at the table's
+/// names what the table says. A call that makes an event, a link or a choice is no part of a look, so nothing is asked of rows.
+pub fn looks_are_scans<W, R, D>()
+    ensures { (table : Table W R D) (g : Given) (text : Text) (step : Sight → Configuration R D → Name → Step R D)
+        → Plays table g step → LooksAreScans table g text step }
+{}
+
+/// A look ends with `Ok` or `Nok` if the test names no state of it as loud: its states only write, read bytes, and go on among
+/// themselves. It takes at most as many calls at each place as the states have ranks.
+pub fn quiet_looks_end<W, R, D>()
+    ensures { (table : Table W R D) → QuietLooksEnd table }
 {}

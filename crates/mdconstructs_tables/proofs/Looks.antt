@@ -1,0 +1,4 @@
+-- Looks as functions of bytes, and a test that they end.
+pub mod Left
+pub mod Quiet
+pub mod Scans
