@@ -1,3 +1,4 @@
 -- Laws about the machines of the tests.
 pub mod Starved
 pub mod Looping
+pub mod Replacing

@@ -3,3 +3,4 @@ pub mod Found
 pub mod Starved
 pub mod Laws
 pub mod Looping
+pub mod Replacing

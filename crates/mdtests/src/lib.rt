@@ -34,6 +34,8 @@ mod ready;
 #[cfg(test)]
 mod refusals;
 #[cfg(test)]
+mod replacing;
+#[cfg(test)]
 mod resolving;
 #[cfg(test)]
 mod shown;

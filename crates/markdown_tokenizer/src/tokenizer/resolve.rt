@@ -58,8 +58,12 @@ impl<'a, M: MachineTypes> Tokenizer<'a, M> {
         replace(&mut self.resolvers, none)
     }
 
-    /// Makes the edits that wait. If it runs out of memory, nothing changes.
-    fn make_edits(&mut self) -> Result<(), AllocError>
+    /// Makes the edits that wait, all at once, so that a resolver sees the list after the edits of those before it. Then no edit waits,
+    /// and each link leads to the event that it led to. A flush makes the edits that are left after the last resolver.
+    ///
+    /// It is called only while a flush resolves and no choice waits. Each edit must end before the next begins, and each link end must be
+    /// an index into the events. If it runs out of memory, nothing changes.
+    pub fn make_edits(&mut self) -> Result<(), AllocError>
         requires resolving { self.old.phase ≡ Resolving }
         requires alone { self.old.choices ≡ [] }
         requires can { CanBeEdited self.old.configuration }
