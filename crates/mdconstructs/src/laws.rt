@@ -11,5 +11,6 @@ pub use mdconstructs_text::laws::{
     chains_are_read_as_data, chains_are_read_as_texts, chains_of_paragraphs_can_be_read,
     cost_at_the_start, documents_are_read_by_blocks, innermost_spans_account_for_blocks,
     innermost_spans_account_for_children, innermost_spans_account_for_texts,
-    no_document_is_refused as text_refuses_no_document,
+    no_document_is_refused as text_refuses_no_document, other_chains_stay_ready_after_texts,
+    void_spans_of_texts_are_empty, void_spans_stay_empty_with_children,
 };

@@ -1,2 +1,3 @@
 mod DeepEvents
 mod Prelude
+mod Tight

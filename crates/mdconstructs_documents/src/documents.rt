@@ -1,11 +1,13 @@
 //! The events of a document, by a choice of how it is read.
 
-ghost use Rattle.std.specs.Prelude.{◌≡◌, IfOk, IfErr};
+ghost use Rattle.std.specs.Prelude.{◌≡◌, IfOk, IfErr, IsOk};
+ghost use Rattle.markdown_base.specs.Events.{IsVoidTight};
 ghost use Rattle.markdown_base.specs.Virtual.{IsWithinLimit};
 ghost use Rattle.markdown_tokenizer.specs.Engine.{AreCuts, given_by, whole_text};
+ghost use Rattle.markdown_tokenizer.specs.Text.{IsDocument};
 ghost use Rattle.mdconstructs_text.specs.TextEvents.{text_events};
 ghost use Rattle.mdconstructs_documents.specs.Choices.{CanCut};
-ghost use Rattle.mdconstructs_documents.specs.Documents.{options_with, cut_places, AreEventsOf};
+ghost use Rattle.mdconstructs_documents.specs.Documents.{document, options_with, cut_places, AreEventsOf};
 
 use crate::choice::{Choice, Which};
 use crate::making::{Unmade, read_by, read_deep_by};
@@ -24,6 +26,8 @@ use std::alloc::{AllocError, Global};
 
 /// The events of a document, read by the machine that the choice names, with these constructs. The cuts leave no trace in them.
 ///
+/// Each void span is empty, also where chunks of text were read: no chunks tear a span of what their chain is read as.
+///
 /// A cut in the choice must be at least 1. It fails only if it runs out of memory: no machine that can be chosen refuses a
 /// document, and the chains of text that such a machine makes can be read.
 pub fn events_of(
@@ -34,7 +38,8 @@ pub fn events_of(
 ) -> Result<Vec<Event>, AllocError>
     requires limit { IsWithinLimit choice.now.tab bytes.now }
     requires cut { CanCut choice.now }
-    ensures { IfOk result (λ events. AreEventsOf choice.now.deep choice.now.machine (options_with constructs choice.now.tab) bytes.now events.items) }
+    ensures events { IfOk result (λ events. AreEventsOf choice.now.deep choice.now.machine (options_with constructs choice.now.tab) bytes.now events.items) }
+    ensures tight { IfOk result (λ events. IsVoidTight events.items) }
 {
     match read_as(alloc, bytes, constructs, choice) {
         Ok(events) => Ok(events),
@@ -93,6 +98,7 @@ fn read_as(
     requires cut { CanCut choice.now }
     ensures events { IfOk result (λ events. AreEventsOf choice.now.deep choice.now.machine (options_with constructs choice.now.tab) bytes.now events.items) }
     ensures err { IfErr result (λ unmade. unmade ≡ Unmade.Fault Fault.Memory) }
+    ensures document { IsOk result → IsDocument (document (options_with constructs choice.now.tab) bytes.now) }
 {
     let cuts = cuts_of(alloc, bytes, choice)?;
     let cuts = cuts.as_slice();

@@ -4,3 +4,4 @@ pub mod Chains
 pub mod Chunks
 pub mod Places
 pub mod TextCuts
+pub mod Untorn

@@ -6,4 +6,6 @@ pub mod ChunksReady
 pub mod DataEvents
 pub mod Formed
 pub mod Ready
+pub mod Staying
 pub mod Steps
+pub mod Tight

@@ -113,6 +113,6 @@ pub use Rattle.mdconstructs_text.specs.ChainTexts.{AreReadAtPlaces, AreReadBy, H
 pub use Rattle.mdconstructs_text.specs.Items.{Item, Part, autolink, autolink_at, autolink_to, backticks, before_backtick_string, code_span, code_span_at, ends_with, escape, escape_at, has_byte_at, if_on, is_allowed, is_backtick, is_backtick_or_line_feed, is_backtick_string, is_colon, is_greater_than, is_less_than, is_line_feed, is_scheme, is_scheme_byte, is_special, item_at, item_length, line_ending, or_else, part, part_at, part_length, passes, plain_length, plain_run, uri}
 pub use Rattle.mdconstructs_text.specs.Laws.Rules.{in-paragraphs, in-text, text-lawful}
 pub use Rattle.mdconstructs_text.specs.TextBytes.{TextByte, backslash, backtick, blank, colon, digit, greater, is_tick, less, letter, line_feed, mark, other, punctuation, text_byte}
-pub use Rattle.mdconstructs_text.specs.TextEvents.{bytes_of, cut, event, item_events, leaf, part_events, pieces, seat_events, text_events}
+pub use Rattle.mdconstructs_text.specs.TextEvents.{bytes_of, cut, event, item_events, items, leaf, part_events, pieces, seat_events, text_events}
 pub use Rattle.mdconstructs_text.specs.TextRules.{flow, text_rules}
 pub use Rattle.mdconstructs_text.specs.TextTable.{autolink_open, autolink_open_rows, autolink_scheme, autolink_scheme_rows, autolink_start, autolink_url, autolink_url_rows, data_at_break, data_at_break_rows, data_inside, data_inside_rows, escape_inside, escape_inside_rows, escape_start, escape_start_rows, escaped, escapes_are_on, has_room, has_scheme, autolinks_are_on, more_than, raw_flow_after, raw_flow_before_content_chunk, raw_flow_content_chunk, raw_flow_content_chunk_rows, raw_text_between, raw_text_between_rows, raw_text_data, raw_text_data_rows, raw_text_sequence_close, raw_text_sequence_close_rows, raw_text_sequence_open, raw_text_sequence_open_rows, raw_text_start, raw_text_start_rows, scheme_goes_on, sizes_are_equal, code_spans_are_on, text_before, text_before_data, text_before_data_rows, text_before_rows, text_start, texts, tries}

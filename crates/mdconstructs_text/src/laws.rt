@@ -1,18 +1,21 @@
 //! Laws about the machine of texts. Each is a function that does nothing; its contract is the law.
 
-ghost use Rattle.std.specs.Prelude.{◌+◌, ◌*◌, [], ◌∷◌, List, Some};
+ghost use Rattle.std.specs.Prelude.{◌+◌, ◌*◌, ℕ, [], ◌∷◌, List, Some};
 ghost use Rattle.markdown_base.specs.declared.event.Event.{Event};
 ghost use Rattle.markdown_base.specs.declared.state.TheConstants.Name.{FlowStart, TextStart};
-ghost use Rattle.markdown_base.specs.Virtual.{virtual};
+ghost use Rattle.markdown_base.specs.Events.{IsVoidTight};
+ghost use Rattle.markdown_base.specs.Virtual.{Seat, virtual};
 ghost use Rattle.markdown_tokenizer.specs.Text.{Given, Text, IsDocument};
 ghost use Rattle.markdown_children.specs.Ready.{IsReady};
 ghost use Rattle.mdconstructs_tables.specs.Refusals.{RulesRefuseNothing};
 ghost use Rattle.mdconstructs_machines.specs.Costs.{StartsAmong};
 ghost use Rattle.mdconstructs_machines.specs.Innermost.{AccountFor, AccountsForDocuments};
+ghost use Rattle.mdconstructs_machines.specs.LineEvents.{data_events};
 ghost use Rattle.mdconstructs_machines.specs.ParagraphEvents.{paragraph_events};
 ghost use Rattle.mdconstructs_machines.specs.Paragraphs.{paragraphs_rules};
 ghost use Rattle.mdconstructs_machines.specs.ReadAs.{IsReadAs};
-ghost use Rattle.mdconstructs_text.specs.ChainTexts.{AreReadAsData, AreReadAsTexts, AreReadAtPlaces, HasReadableChains, with_data, with_texts};
+ghost use Rattle.mdconstructs_text.specs.ChainTexts.{AreReadAsData, AreReadAsTexts, AreReadAtPlaces, HasReadableChains, StaysReadyBy, StaysTight};
+ghost use Rattle.mdconstructs_text.specs.ChainTexts.{chain_data, chain_events, paragraphs_of, with_data, with_texts};
 ghost use Rattle.mdconstructs_text.specs.TextEvents.{text_events};
 ghost use Rattle.mdconstructs_text.specs.TextRules.{text_rules};
 
@@ -79,4 +82,23 @@ pub fn innermost_spans_account_for_children()
 pub fn chains_of_paragraphs_can_be_read()
     ensures paragraphs { HasReadableChains paragraphs_rules FlowStart }
     ensures text { HasReadableChains text_rules FlowStart }
+{}
+
+/// In what texts and lines are read as, each void span is empty: its enter is followed by its exit.
+pub fn void_spans_of_texts_are_empty()
+    ensures texts { (g : Given) (text : Text) → IsVoidTight (text_events g text) }
+    ensures data { (bytes : List ℕ) (seats : List Seat) → IsVoidTight (data_events bytes seats) }
+{}
+
+/// The void spans of a document stay empty where the chains of its paragraphs were read, as texts or as data of each line: the chunks
+/// tear none. So `subtokenize` with `Text` or `Paragraphs` meets what its `tight` asks.
+pub fn void_spans_stay_empty_with_children()
+    ensures texts { (g : Given) → IsDocument g → let es = paragraphs_of g in StaysTight g es (chain_events g es) }
+    ensures data { (g : Given) → IsDocument g → let es = paragraphs_of g in StaysTight g es (chain_data g es) }
+{}
+
+/// If a list is ready for texts and for another content, it stays ready for that one where its texts were read, as the events of texts
+/// have no links. So strings can be read after texts without a test between.
+pub fn other_chains_stay_ready_after_texts()
+    ensures { (g : Given) (events : List Event) → IsReady g.tab g.bytes (Some Content.Text) events → IsDocument g → StaysReadyBy g events text_rules }
 {}

@@ -78,17 +78,17 @@ module _ (g : Given) (some : 0 < g.tab) (events : List Event) (ready : IsReady g
 
   -- What is known of a child before a chunk takes its part: the virtual bytes of the chunk and of the chunks directly before it, the events
   -- that these chunks took, and the atoms of the child from these virtual bytes on
-  record Comes (k : ℕ) (ks : List ℕ) (read left : List Event) (pre : List Seat) (s : Seat) (ss behind : List Seat) : Type 0 where
-    stands : Stands g some events (k + 2) (pre ++ (s ∷ ss)) behind
-    ends_at : place_at events (k + 1) ≡ place_behind g some events (pre ++ (s ∷ ss))
-    atoms : List Atom
-    are : read ++ left ≡ events_of g.bytes atoms
-    seats_are : seats_of atoms ≡ (s ∷ ss) ++ flat_map (chunk_seats g events) ks
-    lines : AllByRecursion InOneLine atoms
-    upto : AllByRecursion (Upto (place_at events (k + 1))) read
+  pub record Comes (k : ℕ) (ks : List ℕ) (read left : List Event) (pre : List Seat) (s : Seat) (ss behind : List Seat) : Type 0 where
+    pub stands : Stands g some events (k + 2) (pre ++ (s ∷ ss)) behind
+    pub ends_at : place_at events (k + 1) ≡ place_behind g some events (pre ++ (s ∷ ss))
+    pub atoms : List Atom
+    pub are : read ++ left ≡ events_of g.bytes atoms
+    pub seats_are : seats_of atoms ≡ (s ∷ ss) ++ flat_map (chunk_seats g events) ks
+    pub lines : AllByRecursion InOneLine atoms
+    pub upto : AllByRecursion (Upto (place_at events (k + 1))) read
 
   -- behind a mark the child is cut between two lines: at atoms over the virtual bytes so far
-  cut-at-mark : (k d : ℕ) (ks : List ℕ) (read left : List Event) (pre : List Seat) (s : Seat) (ss behind : List Seat) → d ≡ k + 4 → IsMark events (k + 2) → (place_at events (k + 1)).column ≡ 1
+  pub cut-at-mark : (k d : ℕ) (ks : List ℕ) (read left : List Event) (pre : List Seat) (s : Seat) (ss behind : List Seat) → d ≡ k + 4 → IsMark events (k + 2) → (place_at events (k + 1)).column ≡ 1
       → Comes k (d ∷ ks) read left pre s ss behind → (h : HasChunk g some events (k + 2) d (pre ++ (s ∷ ss)) behind) → let front = front_until (place_at events (k + 1)) left in
       (atoms : List Atom) × (seats_of atoms ≡ s ∷ ss) × (read ++ front ≡ events_of g.bytes atoms) × Comes d ks [] (drop (length front) left) ((pre ++ (s ∷ ss)) ++ h.before) h.first h.others h.behind
   cut-at-mark k d ks read left pre s ss behind at m column c h =
@@ -135,6 +135,36 @@ module _ (g : Given) (some : 0 < g.tab) (events : List Event) (ready : IsReady g
         },
       )
 
+  -- directly behind a chunk no virtual byte is passed
+  no-gap : (k d : ℕ) (front behind : List Seat) → d ≡ k + 2 → (chunk : HasChunk g some events (k + 2) d front behind) → chunk.before ≡ []
+  no-gap k d front behind at chunk = none-account g.bytes chunk.before (subst (λ l. AccountFor l g.bytes chunk.before) (between-none events (k + 2) d at) chunk.gap)
+
+  -- there the next chunk takes its part too
+  pub comes-directly : (k d : ℕ) (ks : List ℕ) (read left : List Event) (pre : List Seat) (s : Seat) (ss behind : List Seat) → fits (Some TextContent) events k ≡ true → next_of events k ≡ Some d
+      → d ≡ k + 2 → place_at events d ≡ place_at events (k + 1) → Comes k (d ∷ ks) read left pre s ss behind → (chunk : HasChunk g some events (k + 2) d (pre ++ (s ∷ ss)) behind)
+      → let front = front_until (place_at events (k + 1)) left in
+      Comes d ks (read ++ front) (drop (length front) left) pre s (ss ++ chunk.first ∷ chunk.others) chunk.behind
+  comes-directly k d ks read left pre s ss behind fit next at here h chunk =
+      let end = place_at events (k + 1) in
+      let front = front_until end left in
+      let rest = drop (length front) left in
+      let fit_next = fits_next g.tab g.bytes (Some TextContent) events ready k d fit next in
+      let t = chunk.first ∷ chunk.others in
+      let none = no-gap k d (pre ++ (s ∷ ss)) behind at chunk in
+      let same : ((pre ++ (s ∷ ss)) ++ chunk.before) ++ t ≡ pre ++ (s ∷ (ss ++ t)) =
+      (λ x. ((pre ++ (s ∷ ss)) ++ none x) ++ t) ∙ ap (λ b. b ++ t) (append-nil (pre ++ (s ∷ ss))) ∙ append_assoc pre (s ∷ ss) t in
+      let q = place_at events (d + 1) in
+      let forward : stands_before q end ≡ false = subst (λ p. stands_before q p ≡ false) here (ready.readable d fit_next).forward in
+      let later = λ (e : Event) (u : Upto end e). later-later q.index q.vs end.index end.vs e.point.index e.point.vs forward u in record {
+        stands = subst (λ l. Stands g some events (d + 2) l chunk.behind) same chunk.next;
+        ends_at = chunk.to ∙ ap (place_behind g some events) same;
+        atoms = h.atoms;
+        are = append_assoc read front rest ∙ ap (λ l. read ++ l) (front-and-rest end left) ∙ h.are;
+        seats_are = h.seats_are ∙ ap (λ l. (s ∷ ss) ++ (l ++ flat_map (chunk_seats g events) ks)) chunk.text ∙ sym (append_assoc (s ∷ ss) t (flat_map (chunk_seats g events) ks));
+        lines = h.lines;
+        upto = every-map (Upto end) (Upto q) later (read ++ front) (every-append (Upto end) read front h.upto (front-upto end left));
+      }
+
   -- from a chunk on, the parts of the child account for what the chunks and the events between them do, if so does what is behind the chain
   through : (k : ℕ) (ks more : List ℕ) (ws : List Change) (read left : List Event) (pre : List Seat) (s : Seat) (ss behind : List Seat) → fits (Some TextContent) events k ≡ true
       → LeadOnFrom events k ks → AreSpaced (k + 2) (ks ++ more) (length events)
@@ -154,21 +184,9 @@ module _ (g : Given) (some : 0 < g.tab) (events : List Event) (ready : IsReady g
       elim (pairs k d lead.0) [
         | inl directly ↦
             let empty : gap ≡ [] = between-none events (k + 2) d directly.0 in
-            let none : chunk.before ≡ [] = none-account g.bytes chunk.before (subst (λ l. AccountFor l g.bytes chunk.before) empty chunk.gap) in
-            let same : ((pre ++ (s ∷ ss)) ++ chunk.before) ++ t ≡ pre ++ (s ∷ (ss ++ t)) =
-            (λ x. ((pre ++ (s ∷ ss)) ++ none x) ++ t) ∙ ap (λ b. b ++ t) (append-nil (pre ++ (s ∷ ss))) ∙ append_assoc pre (s ∷ ss) t in
-            let q = place_at events (d + 1) in
-            let forward : stands_before q end ≡ false = subst (λ p. stands_before q p ≡ false) directly.1 (ready.readable d fit_next).forward in
-            let later = λ (e : Event) (u : Upto end e). later-later q.index q.vs end.index end.vs e.point.index e.point.vs forward u in
-            let more_good = through d ks more ws (read ++ front) rest pre s (ss ++ t) chunk.behind fit_next lead.2 spaced.1 good (record {
-              stands = subst (λ l. Stands g some events (d + 2) l chunk.behind) same chunk.next;
-              ends_at = chunk.to ∙ ap (place_behind g some events) same;
-              atoms = h.atoms;
-              are = append_assoc read front rest ∙ ap (λ l. read ++ l) (front-and-rest end left) ∙ h.are;
-              seats_are = h.seats_are ∙ ap (λ l. (s ∷ ss) ++ (l ++ flat_map (chunk_seats g events) ks)) chunk.text ∙ sym (append_assoc (s ∷ ss) t (flat_map (chunk_seats g events) ks));
-              lines = h.lines;
-              upto = every-map (Upto end) (Upto q) later (read ++ front) (every-append (Upto end) read front h.upto (front-upto end left));
-            }) in
+            let none = no-gap k d (pre ++ (s ∷ ss)) behind directly.0 chunk in
+            let more_good = through d ks more ws (read ++ front) rest pre s (ss ++ t) chunk.behind fit_next lead.2 spaced.1 good
+            (comes-directly k d ks read left pre s ss behind fit lead.0 directly.0 directly.1 h chunk) in
             let list : (read ++ front) ++ then ≡ read ++ (front ++ (gap ++ then)) = append_assoc read front then ∙ ap (λ l. read ++ (front ++ (l ++ then))) (sym empty) in
             let bytes_are = append_assoc (s ∷ ss) t chunk.behind ∙ ap (λ l. (s ∷ ss) ++ l) (sym (chunk.are ∙ ap (λ b. b ++ (t ++ chunk.behind)) none)) in
             subst (λ es. Good s es ((s ∷ ss) ++ behind)) list (subst (Good s ((read ++ front) ++ then)) bytes_are more_good)

@@ -10,7 +10,7 @@ is-text-content (Some TextContent) h = refl
 is-text-content o h = absurd (cc)
 
 module _ (g : Given) (events : List Event) (document : IsDocument g) (ready : IsReady g.tab g.bytes (Some TextContent) events) where
-  abbrev Begins : ℕ → Type 0
+  abbrev pub Begins : ℕ → Type 0
   Begins c = begins (Some TextContent) events c ≡ true
 
   -- the text of a chain is a text
@@ -24,7 +24,7 @@ module _ (g : Given) (events : List Event) (document : IsDocument g) (ready : Is
       subst (λ ks. IsText g (text_of_chain g events ks)) (sym whole.1) (text-on g start (pieces_of events (c ∷ whole.0)) place can)
 
   -- the chains of text begin at these indices
-  all-begin : AllByRecursion Begins (fitting_starts (Some TextContent) events)
+  pub all-begin : AllByRecursion Begins (fitting_starts (Some TextContent) events)
   all-begin =
       let indices = range_with_len 0 (length events) in
       every-kept (λ k. Unit {0}) Begins (begins (Some TextContent) events) (λ k u e. e) indices (every-all (λ k. Unit {0}) (λ k. tt) indices)
@@ -56,13 +56,13 @@ module _ (g : Given) (events : List Event) (document : IsDocument g) (ready : Is
 
   -- by the rules of a machine that reads texts so, from the start of texts
   module _ (rules : Given → Rules Unit Unit) (events_of : Text → List Event) (reads : ReadsTexts g rules events_of) where
-    children-events : (cs : List ℕ) (children : List Child) → AllByRecursion Begins cs → AreChildren g rules events cs children → lists children ≡ map (λ c. events_of (chain_text g events c)) cs
+    pub children-events : (cs : List ℕ) (children : List Child) → AllByRecursion Begins cs → AreChildren g rules events cs children → lists children ≡ map (λ c. events_of (chain_text g events c)) cs
     children-events [] [] begin h = refl
     children-events [] (child ∷ children) begin h = absurd h
     children-events (c ∷ cs) [] begin h = absurd h
     children-events (c ∷ cs) (child ∷ children) begin h =
         let one = h.0 in
-        let is = one.left ∙ reads (chain_text g events c) (is-text c begin.0) one.read.flag one.result (reads-text rules c child one begin.0) one.well one.final child.found one.resolved in
+        let is = one.child_events ∙ reads (chain_text g events c) (is-text c begin.0) one.read.flag one.result (reads-text rules c child one begin.0) one.well one.final child.found one.resolved in
         λ j. is j ∷ children-events cs children begin.1 h.1 j
 
     pub chains-read : AreReadBy g events rules (with_read g events (λ c. events_of (chain_text g events c)))

@@ -7,14 +7,14 @@ use Rattle.mdconstructs_machines.specs.Spans.{event}
 use Rattle.mdconstructs_text.proofs.DeepSpans.Places.{place-shown}
 
 -- ---- void-tight lists
-void-cons : (e : Event) (es : List Event) → (e.kind ≡ Enter → is_void e.name ≡ true → (f : Event) × (slice_get es 0 ≡ Some f) × (f.kind ≡ Exit) × (f.name ≡ e.name)) → IsVoidTight es → IsVoidTight (e ∷ es)
+pub void-cons : (e : Event) (es : List Event) → (e.kind ≡ Enter → is_void e.name ≡ true → (f : Event) × (slice_get es 0 ≡ Some f) × (f.kind ≡ Exit) × (f.name ≡ e.name)) → IsVoidTight es → IsVoidTight (e ∷ es)
 void-cons e es first h zero f at = let same : f ≡ e = cc in rw same first
 void-cons e es first h (suc k) f at = λ enter void.
     let r = h k f at enter void in
     let z : suc k + 1 ≡ suc (k + 1) = omega arith in
     (r.0, ap (slice_get (e ∷ es)) z ∙ r.1, r.2, r.3)
 
-void-append : (xs ys : List Event) → IsVoidTight xs → IsVoidTight ys → IsVoidTight (xs ++ ys)
+pub void-append : (xs ys : List Event) → IsVoidTight xs → IsVoidTight ys → IsVoidTight (xs ++ ys)
 void-append [] ys h k = k
 void-append (x ∷ xs) ys h k =
     void-cons x (xs ++ ys)
