@@ -4,5 +4,6 @@ pub mod Edits
 pub mod InShape
 pub mod Kept
 pub mod Placed
+pub mod Staying
 pub mod Tight
 pub mod Once

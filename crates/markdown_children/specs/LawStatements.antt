@@ -8,6 +8,7 @@ use Rattle.markdown_base.specs.Places.{stands_before}
 use Rattle.markdown_base.specs.declared.event.Kind.TheVariants.{Enter}
 use Rattle.markdown_base.specs.Events.{is_void, relinked, IsBalanced, IsVoidTight, EndsBelow}
 use Rattle.markdown_edits.specs.Links.{next_of, AreMutual}
+use Rattle.markdown_tokenizer.specs.Plain.{HaveNoLinks}
 use Rattle.markdown_edits.specs.Survivors.{AreNew, StaysUnlessRemoved, KeepsLinks}
 use Rattle.markdown_edits.specs.Woven.{AreApart}
 use Rattle.markdown_edits.specs.Edits.{Edit, AreDisjoint, removed_by, added_by}
@@ -85,6 +86,15 @@ pub record ChildrenFit (wanted : Option Content) (events : List Event) (children
       → IsVoidTight (with_children wanted events children)
   pub stays : StaysUnlessRemoved (child_changes wanted events children) events
   pub links : KeepsLinks (child_changes wanted events children) events
+
+-- if a list is ready for another content too, it stays so with children that are balanced and have no links
+abbrev pub StaysReady : ℕ → List ℕ → Option Content → List Event → Type 0
+StaysReady tab bytes wanted events = (next : Option Content) (children : List (List Event)) → IsReady tab bytes next events
+    → AllByRecursion IsBalanced children → AllByRecursion HaveNoLinks children → IsReady tab bytes next (with_children wanted events children)
+
+-- a list is ready for each content alone
+abbrev pub IsReadyForEach : ℕ → List ℕ → List Event → Type 0
+IsReadyForEach tab bytes events = (next : Content) → IsReady tab bytes (Some next) events
 
 -- The edits of the chains that fit, one after another, with link ends as indices into the final list
 abbrev pub child_edits : Option Content → List Event → List (List Event) → List Edit

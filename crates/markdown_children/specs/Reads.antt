@@ -107,7 +107,7 @@ module _ {R D : Type 0} (g : Given) (rules : Given → Rules R D) where
     pub well : result.answer ≡ Ok
     pub final : Configuration R D
     pub resolved : IsResolved (rules g).resolver g (text_from g events c) true result.configuration final child.found
-    pub left : child.events ≡ final.events
+    pub child_events : child.events ≡ final.events
     pub well_formed : IsWellFormed g result.configuration.events
     pub at_places : LeavesEvents true result.configuration → AreAtPlaces g.tab g.bytes child.events
     pub in_shape : IsInShape child.events

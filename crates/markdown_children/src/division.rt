@@ -43,7 +43,7 @@ pub fn divide_events(
     requires fits { length events.now + acc_before.1 + length child_events.old.items < 2 ^ 64 }
     ensures ok { OnOk result (map.new ≡ map.old ++ edits_of_chain acc_before events.now link_index child_events.old.items) }
     ensures sums { IfOk result (λ acc. CountsOn acc_before acc events.now link_index child_events.old.items) }
-    ensures left { OnOk result (length child_events.new.items ≡ 0) }
+    ensures emptied { OnOk result (length child_events.new.items ≡ 0) }
     ensures err { OnErr result ((map.new ≡ map.old) × (child_events.new.items ≡ child_events.old.items)) }
 {
     let chunks = chunks_of(alloc, events, link_index, child_events.as_slice())?;

@@ -2,11 +2,13 @@
 //!
 //! Each is a function that does nothing, whose contract is the law.
 
-ghost use Rattle.std.specs.Prelude.{◌∷◌, List, ℕ};
+ghost use Rattle.std.specs.Prelude.{◌∷◌, List, None, ℕ};
 ghost use Rattle.markdown_base.specs.declared.event.Event.{Event};
 ghost use Rattle.markdown_edits.specs.Edits.{Edit};
 ghost use Rattle.markdown_children.specs.Reads.{CanReadChains, HasOneAnswer};
 ghost use Rattle.markdown_children.specs.LawStatements.{ForReadyLists, HasOrderedChains, ChildrenFit, EditsGiveChildren, IsPlacedWell, AreByChunk};
+ghost use Rattle.markdown_children.specs.LawStatements.{IsReadyForEach, StaysReady};
+ghost use Rattle.markdown_children.specs.Ready.{IsReady};
 ghost use Rattle.markdown_base.specs.declared.event.Point.{Point};
 
 use markdown_tokenizer::state::Machine;
@@ -25,6 +27,17 @@ pub fn chunks_can_be_read()
 /// Balanced children keep a ready list balanced, and keep each link between events that stay.
 pub fn children_fit()
     ensures { ForReadyLists (λ tab bytes wanted events. (children : List (List Event)) → ChildrenFit wanted events children) }
+{}
+
+/// If a list is ready for two contents, it stays ready for the second one where children of the first one come that have no links. So
+/// chains of another content can be read next, without a test.
+pub fn other_chains_stay_ready()
+    ensures { ForReadyLists StaysReady }
+{}
+
+/// A list whose chains can all be read is ready for each content.
+pub fn all_chains_are_ready()
+    ensures { (tab : ℕ) (bytes : List ℕ) (events : List Event) → IsReady tab bytes None events → IsReadyForEach tab bytes events }
 {}
 
 /// The edits of `divide_events`, made chain by chain with the counts of the chains before, give the list with children.

@@ -36,7 +36,7 @@ pub fn subtokenize<M: Machine>(
     requires starts { MayStart M.rules parse_state.now (option_copied filter) events.old.items }
     ensures ok { IfOk result (GivesChildren M.rules parse_state.now (option_copied filter.entry) events.old.items events.new.items) }
     ensures err { IfErr result (GivesNoChildren M.rules parse_state.now (option_copied filter.entry) events.old.items) }
-    ensures left { OnErr result (events.new.items ≡ events.old.items) }
+    ensures unchanged { OnErr result (events.new.items ≡ events.old.items) }
 {
     let mut map = EditMap::new(alloc);
     let found = gather(alloc, &mut map, events, parse_state, filter.copied())?;

@@ -1,10 +1,11 @@
 //! Chains read by machines, and their children put in the list, with expected lists worked by hand.
 
 ghost use Rattle.markdown.specs.Virtual.{IsWithinLimit};
-ghost use Rattle.std.specs.Prelude.{◌≡◌, ◌+◌, ◌<◌, Some, Contains};
+ghost use Rattle.std.specs.Prelude.{◌≡◌, ◌+◌, ◌<◌, None, Some, Contains, IfOk};
 ghost use Rattle.markdown.specs.Presets.{default_parse_options};
 ghost use Rattle.markdown.specs.Engine.{given_by};
 ghost use Rattle.markdown.specs.Reads.{start_name};
+ghost use Rattle.markdown.specs.Ready.{IsReady};
 
 use crate::chunks::Row::{Chunk, Enter, Exit, Span};
 use crate::chunks::{
@@ -17,7 +18,7 @@ use markdown::parser::ParseState;
 use markdown::state::{self, Machine};
 use markdown::subtokenize::{Subresult, ready, subtokenize};
 use markdown::tokenizer::Fault;
-use mdconstructs::{Deep, Fail, Paragraphs, Wrap};
+use mdconstructs::{Deep, Fail, Paragraphs, Text, Wrap};
 use std::alloc::{AllocError, Global};
 
 /// Puts the children of the chains of one content in their place, read from this start. Returns the result, and then the list as it
@@ -247,4 +248,70 @@ fn children_are_put_in_place_of_their_chunks(rt: HostRuntime) -> Result<(), Allo
         assert_shown(&rt, with_children(rt.alloc(), list, bytes, reader), want)?;
     }
     Ok(())
+}
+
+/// A chunk of text and one of a string, one behind the other.
+const TEXT_AND_STRING: [Row; 2] = [
+    Chunk((1, 1, 0, 0), (1, 4, 3, 0), Content::Text, None, None),
+    Chunk((1, 4, 3, 0), (1, 5, 4, 0), Content::String, None, None),
+];
+
+/// Reads the texts of a list. If it was ready for strings, it still is.
+fn read_texts(
+    alloc: Global,
+    events: &mut Vec<Event>,
+    bytes: &[u8],
+    options: &ParseOptions,
+) -> Result<(), AllocError>
+    requires limit { IsWithinLimit options.now.tab_size bytes.now }
+    requires ready { IsReady options.now.tab_size bytes.now None events.old.items }
+    ensures { IfOk result (λ _. IsReady options.now.tab_size bytes.now (Some Content.String) events.new.items) }
+{
+    let Some(parse_state) = ParseState::new(bytes, options, &Text {}) else {
+        unreachable!();
+    };
+    match subtokenize(alloc, events, &parse_state, Some(&Content::Text)) {
+        Ok(_) => Ok(()),
+        Err(_) => Err(AllocError),
+    }
+}
+
+/// Reads the strings of a list that is ready for them, and tells the result.
+fn read_strings(
+    alloc: Global,
+    events: &mut Vec<Event>,
+    bytes: &[u8],
+    options: &ParseOptions,
+) -> Result<String, AllocError>
+    requires limit { IsWithinLimit options.now.tab_size bytes.now }
+    requires ready { IsReady options.now.tab_size bytes.now (Some Content.String) events.old.items }
+{
+    let Some(parse_state) = ParseState::new(bytes, options, &Deep {}) else {
+        unreachable!();
+    };
+    let answer = subtokenize(alloc, events, &parse_state, Some(&Content::String));
+    told(alloc, &answer, events.as_slice())
+}
+
+/// Reads the texts of a list over a small document, and then its strings. Whether its chains can be read is asked once, before.
+fn texts_and_strings(alloc: Global, list: &[Row], bytes: &[u8]) -> Result<String, AllocError>
+    requires limit { IsWithinLimit 4 bytes.now }
+{
+    let mut events = listed(alloc, list)?;
+    let options = &ParseOptions::default();
+    if !ready(alloc, events.as_slice(), bytes, options.tab_size, None)? {
+        return String::from_str(alloc, "not ready");
+    }
+    read_texts(alloc, &mut events, bytes, options)?;
+    read_strings(alloc, &mut events, bytes, options)
+}
+
+#[test]
+fn strings_are_read_after_texts(rt: HostRuntime) -> Result<(), AllocError> {
+    let read = texts_and_strings(rt.alloc(), &TEXT_AND_STRING, b"`a`b");
+    let want =
+        "done: false, notes: 0, definitions:\n\
+        enter CodeText 1:1 (0+0); CodeTextSequence 1:1 (0+0) to 1:2 (1+0); CodeTextData 1:2 (1+0) to 1:3 (2+0); \
+        CodeTextSequence 1:3 (2+0) to 1:4 (3+0); exit CodeText 1:4 (3+0); Data 1:4 (3+0) to 1:5 (4+0)";
+    assert_shown(&rt, read, want)
 }

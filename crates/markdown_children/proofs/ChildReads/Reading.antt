@@ -118,7 +118,7 @@ module _ {M R D : Type 0} {rules : M → Given → Rules R D} {m : M} {bytes : L
           well = f.well;
           final = v.configuration;
           resolved = q.1;
-          left = refl;
+          child_events = refl;
           well_formed = subst (λ (x : Given). IsWellFormed x f.result.configuration.events) r.reads.same_given f.before;
           at_places = λ e. subst (λ (x : Given). AreAtPlaces x.tab x.bytes v.configuration.events) r.reads.same_given (f.at_places e);
           in_shape = f.in_shape refl;

@@ -19,15 +19,15 @@ place_in-there b (t ∷ ts) q e = by_test (is_same b t.identity)
 
 module _ (child : ℕ → List Event) (xs : List Event) where
   -- the event with a name, if it is an event of the list or of a child
-  abbrev source : Identity → Option Event
+  abbrev pub source : Identity → Option Event
   source (of_list n) = slice_get xs n
   source (of_child c n) = slice_get (child c) n
   source of_addition = None
 
-  abbrev IsSourced : Tagged → Type 0
+  abbrev pub IsSourced : Tagged → Type 0
   IsSourced u = source u.identity ≡ Some u.event
 
-  abbrev AreSourced : List Tagged → Type 0
+  abbrev pub AreSourced : List Tagged → Type 0
   AreSourced ts = AllByRecursion IsSourced ts
 
   sourced-at : (ws : List Change) (i : ℕ) → AllByRecursion (λ (w : Change). AreSourced w.events) ws → AreSourced (events_at ws i)
@@ -138,7 +138,7 @@ names-child_at (c ∷ cs) (x ∷ xs) r =
     (rw (eq-eqb c c refl) refl, names-other (child_at cs xs) c x cs xs r.0 (names-child_at cs xs r.1))
 names-child_at cs xs r = tt
 
-child-all : (P : List Event → Type 0) → P [] → (cs : List ℕ) (xs : List (List Event)) → AllByRecursion P xs → (d : ℕ) → P (child_at cs xs d)
+pub child-all : (P : List Event → Type 0) → P [] → (cs : List ℕ) (xs : List (List Event)) → AllByRecursion P xs → (d : ℕ) → P (child_at cs xs d)
 child-all P none (c ∷ cs) (x ∷ xs) h d = by_test (eqb d c) (λ e. rw e h.0) (λ e. rw e (child-all P none cs xs h.1 d))
 child-all P none cs xs h d = none
 
@@ -175,20 +175,47 @@ module _ (tab : ℕ) (bytes : List ℕ) (wanted : Option Content) (events : List
       (sourced-chains child cs children n.1 w.1))
   sourced-chains child cs children n w = tt
 
+  module _ (children : List (List Event)) where
+    -- the changes of the children, and the events after them with their names
+    abbrev changes : List Change
+    changes = child_changes wanted events children
+
+    abbrev named : List Tagged
+    named = woven changes 0 events
+
+    -- the child of the chain that begins at an index
+    abbrev pub child_of : ℕ → List Event
+    child_of = child_at (fitting_starts wanted events) children
+
+    rises : IsRising (fitting_starts wanted events)
+    rises = rising (begins wanted events) (length events) 0
+
+    -- each event is one of the list or of a child
+    pub all-sourced : AreSourced child_of events named
+    all-sourced =
+        let cs : List ℕ = fitting_starts wanted events in
+        let whole = (follow_one_another tab bytes wanted events ready).whole in
+        sourced-woven child_of events changes 0 events (sourced-chains child_of cs children (names-child_at cs children rises) whole) (λ k. ap (slice_get events) (zero-add k))
+
+    -- and is there once
+    pub all-once : AreOnce named
+    all-once =
+        let cs : List ℕ = fitting_starts wanted events in
+        let a = changes_are_apart tab bytes wanted events children ready in
+        let whole = (follow_one_another tab bytes wanted events ready).whole in
+        let apart : AreApart 0 changes (0 + length events) = rw zero-add a.apart in
+        subst AreOnce (sym (woven-pass changes 0 events apart))
+        (once-pass changes 0 events (λ n. recursion_from_All (λ w. place_in (of_list n) w.events ≡ None) changes (a.fresh n))
+        (once-chains (divided_over events cs children) (others cs children rises whole)) apart)
+
   pub children_fit : (children : List (List Event)) → ChildrenFit wanted events children
   children_fit children =
       let a = changes_are_apart tab bytes wanted events children ready in
-      let whole = (follow_one_another tab bytes wanted events ready).whole in
       let cs : List ℕ = fitting_starts wanted events in
-      let rises : IsRising cs = rising (begins wanted events) (length events) 0 in
       let ws : List Change = child_changes wanted events children in
       let ts : List Tagged = woven ws 0 events in
-      let sourced : AreSourced (child_at cs children) events ts =
-      sourced-woven (child_at cs children) events ws 0 events (sourced-chains (child_at cs children) cs children (names-child_at cs children rises) whole) (λ k. ap (slice_get events) (zero-add k)) in
-      let apart : AreApart 0 ws (0 + length events) = rw zero-add a.apart in
-      let once : AreOnce ts = subst AreOnce (sym (woven-pass ws 0 events apart))
-      (once-pass ws 0 events (λ n. recursion_from_All (λ w. place_in (of_list n) w.events ≡ None) ws (a.fresh n))
-      (once-chains (divided_over events cs children) (others cs children rises whole)) apart) in
+      let sourced : AreSourced (child_at cs children) events ts = all-sourced children in
+      let once : AreOnce ts = all-once children in
       record {
         balanced = with_children_balanced tab bytes wanted events ready children;
         inside = subst (λ (n : ℕ). All (EndsBelow n) (placed ts)) (sym (length-map ts (λ (u : Tagged). relinked (placed_end ts u.identity) u.event)))

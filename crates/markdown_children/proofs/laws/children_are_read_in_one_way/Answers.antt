@@ -48,7 +48,7 @@ module _ {R D : Type 0} (g : Given) (rules : Given → Rules R D) (events : List
       let e : done a.final (Some x.found) ≡ done b.final (Some y.found) = sym a.resolved ∙ ap (made c) (one-reading c a.result b.result a.read b.read) ∙ b.resolved in
       let final : a.final ≡ b.final = cc in
       let found : x.found ≡ y.found = cc in
-      (λ j. record { events = (a.left ∙ ap (λ (k : Configuration R D). k.events) final ∙ sym b.left) j; found = found j } ∷ one-children cs xs ys h.1 k.1 j)
+      (λ j. record { events = (a.child_events ∙ ap (λ (k : Configuration R D). k.events) final ∙ sym b.child_events) j; found = found j } ∷ one-children cs xs ys h.1 k.1 j)
   one-children cs xs ys h k = absurd (search)
 
   abbrev HasChild : ℕ → Type 0
