@@ -41,7 +41,7 @@ abbrev pub deep_cost : Text → ℕ → ℕ
 deep_cost text position = tries_cost position (length text.seats - position)
 
 abbrev pub string_start : StateRows LineByte Unit Unit
-string_start = costs deep_cost (record (state StringStart string_start_rows [] None) { needs = a_choice_once_read })
+string_start = record (state StringStart string_start_rows [] (costs deep_cost)) { needs = a_choice_once_read }
 
 abbrev pub deep : Table LineByte Unit Unit
 deep = record { class = line_byte; first = counts; states = string_start ∷ string_before ∷ data_start ∷ data_inside ∷ []; starts = StringStart ∷ [] }

@@ -1,12 +1,13 @@
 -- Tables that do not fit, each for one reason, and two that pass the test of rows and yet are not lawful. All but the last are the table of
 -- lines with one thing changed.
-use Rattle.std.specs.Prelude.{◌∷◌, [], Option, Some, None}
+use Rattle.std.specs.Prelude.{ℕ, ◌∷◌, [], Option, Some, None}
 use Rattle.markdown_base.specs.declared.event.Name.TheVariants.{Paragraph, LineEnding}
 use Rattle.markdown_base.specs.declared.state.TheConstants.Name.{FlowStart, ParagraphInside}
 use Rattle.markdown_base.specs.declared.state.State.TheVariants.{Next, Retry, Ok, Nok}
 use Rattle.markdown_edits.specs.Edits.{edit_at, added_after}
 use Rattle.markdown_tokenizer.specs.Configuration.{Configuration, Local}
-use Rattle.mdconstructs_tables.specs.Rows.{enter, exit, consume, write, Rows, row, calls, state, Table}
+use Rattle.markdown_tokenizer.specs.Text.{Text}
+use Rattle.mdconstructs_tables.specs.Rows.{enter, exit, consume, write, Rows, row, calls, costs, state, Table}
 use Rattle.mdconstructs_machines.specs.Tables.{LineByte, line_ending, other, line_byte, counts}
 use Rattle.mdconstructs_machines.specs.Lines.{lines, flow_start_rows, flow_start, paragraph_inside}
 
@@ -36,15 +37,19 @@ consumes_nothing previous current = flow_start_rows previous current
 
 -- `unpaid`: the state before a line says one call for each byte and one more
 abbrev pub unpaid_lines : Table LineByte Unit Unit
-unpaid_lines = record lines { states = record flow_start { calls = calls 1 1 } ∷ paragraph_inside ∷ [] }
+unpaid_lines = record lines { states = record flow_start { cost = calls 1 1 } ∷ paragraph_inside ∷ [] }
 
 -- `start`: a reading starts in a line, whose spans are not open
 abbrev pub starts_inside : Table LineByte Unit Unit
 starts_inside = record lines { starts = ParagraphInside ∷ [] }
 
--- no state says how many calls are left, and the machine's own cost is none
+-- a cost that is none
+abbrev pub no_cost : Text → ℕ → ℕ
+no_cost text position = 0
+
+-- no state says how many calls are left, and their own costs are none
 abbrev pub uncounted_lines : Table LineByte Unit Unit
-uncounted_lines = record lines { states = record flow_start { calls = None } ∷ record paragraph_inside { calls = None } ∷ [] }
+uncounted_lines = record lines { states = record flow_start { cost = costs no_cost } ∷ record paragraph_inside { cost = costs no_cost } ∷ [] }
 
 -- an edit that removes the first event, which is not there
 abbrev pub removes_first : Configuration Unit Unit → Local Unit Unit

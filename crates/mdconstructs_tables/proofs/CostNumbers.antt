@@ -1,13 +1,9 @@
 -- Numbers that costs of tables need.
-use Rattle.std.proofs.Common.{◌≡◌, ℕ, zero, suc, ◌+◌, ◌-◌, ◌*◌, ◌<◌, ◌≤◌, false, true, arith}
+use Rattle.std.proofs.Common.{◌≡◌, ℕ, zero, suc, ◌+◌, ◌-◌, ◌*◌, ◌<◌, ◌≤◌, arith}
 
 -- with a byte less
 pub next-left : (n p : ℕ) → p < n → n - p ≡ suc (n - (p + 1))
 next-left n p h = omega (arith, h)
-
--- a state that follows no construct need not cost less later
-pub no-matter : {A : Type 0} → false ≡ true → A
-no-matter e = absurd (cc)
 
 -- the fewer are left, the less is a square, and so is what grows with it
 pub square-falls : (u v : ℕ) → v ≤ u → v * v ≤ u * u

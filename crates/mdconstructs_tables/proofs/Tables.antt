@@ -7,6 +7,7 @@ pub mod Late
 pub mod Laws
 pub mod Lawful
 pub mod Plain
+pub mod Prices
 pub mod Refusals
 pub mod Tests
 pub mod Waiting

@@ -1,30 +1,36 @@
 -- Tables that fit: no state is a misfit, and costs of the machine's own are enough for its calls.
-use Rattle.std.specs.Prelude.{◌≡◌, ℕ, ◌≤◌, List, [], ◌∷◌, Bool, true, false, Option, Some, None}
+use Rattle.std.specs.Prelude.{◌≡◌, ℕ, ◌≤◌, List, [], ◌∷◌, Bool, true, Option}
 use Rattle.markdown_base.specs.declared.state.Name.{Name}
 use Rattle.markdown_tokenizer.specs.Text.{Text}
-use Rattle.mdconstructs_tables.specs.Rows.{Calls, StateRows, Table}
+use Rattle.mdconstructs_tables.specs.Rows.{Cost, own, StateRows, Table}
 use Rattle.mdconstructs_tables.specs.Misfits.{misfits}
+use Rattle.mdconstructs_tables.specs.RowTest.{never}
 use Rattle.mdconstructs_tables.specs.RowInvariant.{ArePaid}
 
--- if a state with a cost of its own is one of these, it costs less the more was read
-abbrev pub Falls : {W R D : Type 0} → (falling : Name → Bool) → StateRows W R D → Option Calls → Type 0
-Falls falling state (Some c) = Unit {0}
-Falls falling state None = falling state.name ≡ true → (text : Text) (p q : ℕ) → p ≤ q → state.own text q ≤ state.own text p
+-- a cost falls the more was read
+abbrev pub Falls : (Text → ℕ → ℕ) → Type 0
+Falls f = (text : Text) (p q : ℕ) → p ≤ q → f text q ≤ f text p
 
+-- it is asked of a state only if it has a cost of its own, and is one of those that have to cost less later
+abbrev pub and_falls : (asked : Bool) → Cost → Type 0 → Type 0
+and_falls true (own f) other = Falls f × other
+and_falls _ _ other = other
+
+-- the states of `falling` cost less the more was read
 abbrev pub AllFall : {W R D : Type 0} → (falling : Name → Bool) → List (StateRows W R D) → Type 0
 AllFall falling [] = Unit {0}
-AllFall falling (state ∷ states) = Falls falling state state.calls × AllFall falling states
+AllFall falling (state ∷ states) = and_falls (falling state.name) state.cost (AllFall falling states)
 
 module _ {W R D : Type 0} where
   -- the test names no state as a misfit
   abbrev pub HasNoMisfits : Table W R D → Type 0
   HasNoMisfits table = (previous current : Option W) → misfits table previous current ≡ []
 
--- A table fits: the test names no state as a misfit, and the machine's own costs are enough for its calls, with `late` for choices that end
--- with Ok late. The states of `falling` cost less the more was read.
-pub record IsFitBy {W R D : Type 0} (table : Table W R D) (late : Bool) (falling : Name → Bool) : Type 0 where
+-- A table fits: the test names no state as a misfit, and the machine's own costs are enough for its calls. The states that are `early` end
+-- no choice with Ok where they are called. The states of `falling` cost less the more was read.
+pub record IsFitBy {W R D : Type 0} (table : Table W R D) (early : Name → Option W → Bool) (falling : Name → Bool) : Type 0 where
   pub fits : HasNoMisfits table
-  pub paid : ArePaid table late table.states
+  pub paid : ArePaid table early table.states
   pub falls : AllFall falling table.states
 
 -- any state
@@ -33,4 +39,4 @@ every name = true
 
 -- choices may end with Ok at the place where they were made, and all states cost less later
 abbrev pub IsFit : {W R D : Type 0} → Table W R D → Type 0
-IsFit table = IsFitBy table false every
+IsFit table = IsFitBy table never every

@@ -79,7 +79,7 @@ module _ {W R D : Type 0} (states : List (StateRows W R D)) where
       (unless (spans_fit b w state) spans
       (unless (choices_fit b w state) choice
       (unless (all_rows (fits_row states b w state) (state.rows b w)) answer
-      (unless (fits_calls states b w state state.calls) unpaid None))))
+      (unless (fits_calls states b w state state.cost) unpaid None))))
 
   -- the name of a state that is called and does not fit, with the reason
   abbrev pub named_misfit : (previous current : Option W) → StateRows W R D → List (Name × Reason)

@@ -5,11 +5,13 @@ use Rattle.markdown_base.specs.declared.event.Event.{Event}
 use Rattle.markdown_base.specs.declared.event.Kind.TheVariants.{Enter}
 use Rattle.markdown_base.specs.declared.event.Name.{Name as EventName}
 use Rattle.markdown_base.specs.declared.event.Point.{Point}
+use Rattle.markdown_base.specs.declared.state.Name.{Name}
 use Rattle.markdown_base.specs.declared.state.State.{State}
 use Rattle.markdown_base.specs.declared.state.State.TheVariants.{Next, Retry, Ok, Nok, Error}
 use Rattle.markdown_base.specs.Events.{open_events, unlinked}
 use Rattle.markdown_base.specs.Places.{stands_before, shown}
 use Rattle.markdown_tokenizer.specs.declared.waiting.AttemptKind.{AttemptKind}
+use Rattle.markdown_tokenizer.specs.declared.waiting.AttemptKind.TheVariants.{Attempt, Check}
 use Rattle.markdown_tokenizer.specs.declared.waiting.Waits.{Waits}
 use Rattle.markdown_tokenizer.specs.declared.waiting.Waits.TheVariants.{Nothing, Byte, End}
 use Rattle.markdown_tokenizer.specs.Text.{Given, Text}
@@ -18,10 +20,9 @@ use Rattle.markdown_tokenizer.specs.Sight.{Sight, sight, sight_of, end_place, by
 use Rattle.markdown_tokenizer.specs.Calls.{with_local, consumed, exited, CanExit}
 use Rattle.markdown_tokenizer.specs.Rules.{Rules}
 use Rattle.markdown_tokenizer.specs.Engine.{EndsWellFormed}
-use Rattle.markdown_tokenizer.specs.Reserves.{together}
 use Rattle.markdown_tokenizer.specs.Plain.{finds_nothing, NothingResolves}
-use Rattle.mdconstructs_tables.specs.Rows.{Act, exit, consume, choose, Rows, row, when, Row, Calls, StateRows, Table, class_of, step_of, row_at, named, table_step}
-use Rattle.mdconstructs_tables.specs.RowTest.{is_void_last, Stage, byte_waits, Frame, allows_all, first_stage, start_shape, saves, fresh_at, fresh_fed, needs_choice, is_called_at, is_some, fits_choice, calls_at}
+use Rattle.mdconstructs_tables.specs.Rows.{Act, exit, consume, choose, Rows, row, when, Row, Calls, Cost, by_bytes, own, StateRows, Table, class_of, step_of, row_at, named, table_step}
+use Rattle.mdconstructs_tables.specs.RowTest.{is_void_last, Stage, byte_waits, Frame, allows_all, first_stage, start_shape, saves, fresh_at, fresh_fed, needs_choice, is_called_at, is_some, is_early_end, is_early, is_behind, never, fits_choice, calls_at}
 use Rattle.mdconstructs_tables.specs.Markers.{IsMarkable}
 
 -- the events of a configuration, without the ends of their links
@@ -124,15 +125,32 @@ abbrev pub Stands : {W : Type 0} → Option W → Text → ℕ → Type 0
 Stands None text p = length text.seats ≤ p
 Stands (Some w) text p = p < length text.seats
 
--- the cost of a state: by the calls that it says are left, or else by the machine's own cost
-abbrev pub price_by : Option Calls → ℕ → (Calls → ℕ) → ℕ
-price_by None own counted = own
-price_by (Some c) own counted = counted c
+-- the cost of a state: by the calls that it says are left, or its own
+abbrev pub price_by : Cost → Text → ℕ → (Calls → ℕ) → ℕ
+price_by (by_bytes c) text p counted = counted c
+price_by (own f) text p counted = f text p
 
--- the position from which on a late choice can end: one later if `late`
-abbrev pub behind : (late : Bool) → ℕ → ℕ
-behind false p = p
-behind true p = p + 1
+-- a question that is asked of a state only if it has a cost of its own, and another one
+abbrev pub and_of_own : Cost → ((Text → ℕ → ℕ) → Type 0) → Type 0 → Type 0
+and_of_own (by_bytes c) asked other = other
+and_of_own (own f) asked other = asked f × other
+
+-- the cost of a state's own, if it has one
+abbrev pub own_cost : Cost → Text → ℕ → ℕ
+own_cost (by_bytes c) text p = 0
+own_cost (own f) text p = f text p
+
+-- from which position on what goes on at this one may end a choice with Ok
+abbrev pub first_end : ℕ → State → ℕ
+first_end p a = cond (is_early_end a) (p + 1) p
+
+-- the same of what a call returned at a position where this waits
+abbrev pub answer_end : {W : Type 0} → (early : Name → Option W → Bool) → Option W → ℕ → State → ℕ
+answer_end early w p answer = cond (is_early early w answer) (p + 1) p
+
+-- the same of acts that begin at a position, and what is returned after them
+abbrev pub ends_at : {W R D : Type 0} → (early : Name → Option W → Bool) → Option W → ℕ → List (Act R D) → (answer : State) → ℕ
+ends_at early w p acts answer = cond (is_behind early w acts answer) (p + 1) p
 
 -- how many calls that is, with this many bytes left
 abbrev pub at_most : Calls → ℕ → ℕ
@@ -239,29 +257,32 @@ module _ {W R D : Type 0} (table : Table W R D) where
   -- how many calls a state may take that is fed first, if this many bytes were read
   abbrev pub next_price : Text → ℕ → Option (StateRows W R D) → ℕ
   next_price text p None = 0
-  next_price text p (Some state) = price_by state.calls (state.own text p) (λ c. at_most c (length text.seats - p))
+  next_price text p (Some state) = price_by state.cost text p (λ c. at_most c (length text.seats - p))
 
   -- the same for a state that is called while this waits
   abbrev pub retry_price : (previous current : Option W) → Text → ℕ → Option (StateRows W R D) → ℕ
   retry_price b w text p None = 0
   retry_price b w text p (Some state) =
-      price_by state.calls (state.own text p) (λ c. at_most (calls_at table.states table.states b w (Some state)) (length text.seats - p - 1))
+      price_by state.cost text p (λ c. at_most (calls_at table.states table.states b w (Some state)) (length text.seats - p - 1))
 
-  -- how many calls a choice may take with what it goes on with
+  -- how many calls a state may take that comes next at this position
   abbrev pub state_price : Text → ℕ → State → ℕ
   state_price text p (Next name) = next_price text p (named table.states name)
   state_price text p _ = 0
 
-  -- A choice goes on from what it saved, or later; if choices end with Ok late, from a later position. A choice that saved nothing goes on
-  -- from anywhere.
-  abbrev pub choice_price : (late : Bool) → Text → ℕ → AttemptKind → State → State → ℕ
-  choice_price late text p kind ok nok = cond (saves kind nok) (max (state_price text (behind late p) ok) (state_price text p nok)) (state_price text 0 ok)
+  -- How many calls a choice may take with what it goes on with. An attempt goes on after Ok where that comes first, `later`; else a choice
+  -- goes on where it was made
+  abbrev pub choice_price : Text → (later made_at : ℕ) → AttemptKind → State → State → ℕ
+  choice_price text later made_at Attempt ok nok = max (state_price text later ok) (state_price text made_at nok)
+  choice_price text later made_at Check ok nok = max (state_price text made_at ok) (state_price text made_at nok)
 
-  abbrev pub chosen_price : (late : Bool) → Text → ℕ → List (Act R D) → ℕ
-  chosen_price late text p [] = 0
-  chosen_price late text p (choose kind ok nok ∷ acts) = choice_price late text p kind ok nok + chosen_price late text p acts
-  chosen_price late text p (consume ∷ acts) = chosen_price late text (p + 1) acts
-  chosen_price late text p (act ∷ acts) = chosen_price late text p acts
+  -- the choices that are made, by what is returned after them
+  abbrev pub chosen_price : (early : Name → Option W → Bool) → Option W → Text → ℕ → List (Act R D) → (answer : State) → ℕ
+  chosen_price early w text p [] answer = 0
+  chosen_price early w text p (choose kind ok nok ∷ acts) answer =
+      choice_price text (ends_at early w p acts answer) p kind ok nok + chosen_price early w text p acts answer
+  chosen_price early w text p (consume ∷ acts) answer = chosen_price early w text (p + 1) acts answer
+  chosen_price early w text p (act ∷ acts) answer = chosen_price early w text p acts answer
 
   -- how many calls the state that a call returns may take, if this many bytes were read at the beginning of the call
   abbrev pub answer_price : (previous current : Option W) → Text → ℕ → State → ℕ
@@ -270,28 +291,28 @@ module _ {W R D : Type 0} (table : Table W R D) where
   answer_price b w text p _ = 0
 
   -- how many calls a row may take: itself, the state that it returns, and its choices
-  abbrev pub row_price : (late : Bool) → (previous current : Option W) → Text → ℕ → Row R D → ℕ
-  row_price late b w text p r = 1 + (answer_price b w text p r.answer + chosen_price late text p r.acts)
+  abbrev pub row_price : (early : Name → Option W → Bool) → (previous current : Option W) → Text → ℕ → Row R D → ℕ
+  row_price early b w text p r = 1 + (answer_price b w text p r.answer + chosen_price early w text p r.acts r.answer)
 
   -- each of the rows is within a price
-  abbrev pub AreWithin : (late : Bool) → (previous current : Option W) → Text → ℕ → ℕ → Rows R D → Type 0
-  AreWithin late b w text p price (row acts answer) = row_price late b w text p (record { acts = acts; answer = answer }) ≤ price
-  AreWithin late b w text p price (when test one other) = AreWithin late b w text p price one × AreWithin late b w text p price other
+  abbrev pub AreWithin : (early : Name → Option W → Bool) → (previous current : Option W) → Text → ℕ → ℕ → Rows R D → Type 0
+  AreWithin early b w text p price (row acts answer) = row_price early b w text p (record { acts = acts; answer = answer }) ≤ price
+  AreWithin early b w text p price (when test one other) = AreWithin early b w text p price one × AreWithin early b w text p price other
 
   -- the class of the byte at a position
   abbrev pub class_at : Text → ℕ → Option W
   class_at text p = class_in table.class text p
 
-  -- if a state has the machine's own cost, that is enough for each of its rows, if this waits
-  abbrev pub PaysRows : (late : Bool) → StateRows W R D → Option Calls → Type 0
-  PaysRows late state (Some c) = Unit {0}
-  PaysRows late state None =
+  -- a state's own cost is enough for each of its rows, if this waits
+  abbrev pub PaysRows : (early : Name → Option W → Bool) → StateRows W R D → Type 0
+  PaysRows early state =
       (b w : Option W) (text : Text) (p : ℕ) → is_some b ≡ is_read p → Stands w text p → class_at text p ≡ w → is_called_at state.called w ≡ true
-      → AreWithin late b w text p (state.own text p) (state.rows b w)
+      → AreWithin early b w text p (own_cost state.cost text p) (state.rows b w)
 
-  abbrev pub ArePaid : (late : Bool) → List (StateRows W R D) → Type 0
-  ArePaid late [] = Unit {0}
-  ArePaid late (state ∷ states) = PaysRows late state state.calls × ArePaid late states
+  -- the costs of states' own are enough
+  abbrev pub ArePaid : (early : Name → Option W → Bool) → List (StateRows W R D) → Type 0
+  ArePaid early [] = Unit {0}
+  ArePaid early (state ∷ states) = and_of_own state.cost (λ f. PaysRows early state) (ArePaid early states)
 
   -- how many calls are left; a byte that waits is counted with the state that is called there
   abbrev pub table_cost : Given → Text → Configuration R D → State → ℕ
@@ -300,19 +321,34 @@ module _ {W R D : Type 0} (table : Table W R D) where
       let s = sight g text k in retry_price (class_of table.class s.previous) (class_of table.class s.current) text k.position (named table.states name)
   table_cost g text k _ = 0
 
-  abbrev pub reserve_of : (late : Bool) → Text → Choice → Option Saved → ℕ
-  reserve_of late text c None = state_price text 0 c.ok
-  reserve_of late text c (Some saved) = max (state_price text (behind late saved.position) c.ok) (state_price text saved.position c.nok)
+  -- A state goes on at a position, above choices that may take this much, by where they end with Ok first
+  abbrev pub goes_on : (below : ℕ → ℕ) → Text → ℕ → State → ℕ
+  goes_on below text p a = state_price text p a + below (first_end p a)
 
-  abbrev pub table_reserve : Given → Text → Choice → ℕ
-  table_reserve g text c = reserve_of false text c c.saved
+  -- How many calls a choice that waits and the ones below it may take, if it ends with Ok at this position or behind it. An attempt goes on
+  -- there; after Nok, and a check after both, the choice goes on where it was made. One that saved nothing fails where it is.
+  abbrev pub waiting_or_below : (below : ℕ → ℕ) → Text → (later : ℕ) → AttemptKind → Option Saved → (ok nok : State) → ℕ
+  waiting_or_below below text later Attempt None ok nok = max (goes_on below text later ok) (below later)
+  waiting_or_below below text later Attempt (Some saved) ok nok = max (goes_on below text later ok) (goes_on below text saved.position nok)
+  waiting_or_below below text later Check (Some saved) ok nok = max (goes_on below text saved.position ok) (goes_on below text saved.position nok)
+  waiting_or_below below text later Check None ok nok = 0
+
+  -- how many calls all choices that wait may take, if the last one ends with Ok at this position or behind it
+  abbrev pub waiting_price : Text → (later : ℕ) → List Choice → ℕ
+  waiting_price text later [] = 0
+  waiting_price text later (c ∷ cs) = waiting_or_below (λ p. waiting_price text p cs) text later c.kind c.saved c.ok c.nok
+
+  -- how many calls a state and all choices that wait may take
+  abbrev pub table_price : (early : Name → Option W → Bool) → Given → Text → Configuration R D → List Choice → State → ℕ
+  table_price early g text k choices state =
+      table_cost g text k state + waiting_price text (answer_end early (class_of table.class (sight g text k).current) k.position state) choices
 
 -- the rules of a table; it promises that its final events are well formed
 abbrev pub table_rules : {W R D : Type 0} → Table W R D → Given → Rules R D
 table_rules table g = record {
   step = table_step table g;
   holds = table_holds table g;
-  cost = together (table_cost table g) (table_reserve table g);
+  cost = table_price table never g;
   starts = table.starts;
   resolver = finds_nothing;
   resolves = NothingResolves (EndsWellFormed g);

@@ -9,7 +9,7 @@ use Rattle.markdown_base.specs.declared.state.State.TheVariants.{Next, Retry, Ok
 use Rattle.markdown_base.specs.Events.{is_void, same_name}
 use Rattle.markdown_tokenizer.specs.declared.waiting.AttemptKind.{AttemptKind}
 use Rattle.markdown_tokenizer.specs.declared.waiting.AttemptKind.TheVariants.{Attempt, Check}
-use Rattle.mdconstructs_tables.specs.Rows.{Act, enters, exit, consume, links, write, choose, Rows, row, when, Row, Calls, Begun, before, at_byte, here, Called, anywhere, at_a_byte, at_bytes, Needs, nothing, a_choice, a_choice_once_read, StateRows, named}
+use Rattle.mdconstructs_tables.specs.Rows.{Act, enters, exit, consume, links, write, choose, Rows, row, when, Row, Calls, Cost, by_bytes, own, Begun, before, at_byte, here, Called, anywhere, at_a_byte, at_bytes, Needs, nothing, a_choice, a_choice_once_read, StateRows, named}
 
 -- the innermost span is of a void name
 abbrev pub is_void_last : Option EventName → Bool
@@ -47,6 +47,30 @@ is_last name (Some last) = same_name last name
 abbrev pub saves : AttemptKind → State → Bool
 saves Attempt Nok = false
 saves _ _ = true
+
+-- Nok and Error end no choice with Ok
+abbrev pub is_early_end : State → Bool
+is_early_end Nok = true
+is_early_end (Error message) = true
+is_early_end _ = false
+
+-- Whether what a call returns ends no choice with Ok at the place of the call. A state that is called there says so itself: it is `early`
+abbrev pub is_early : {W : Type 0} → (early : Name → Option W → Bool) → Option W → State → Bool
+is_early early w (Retry name) = early name w
+is_early early w a = is_early_end a
+
+-- each state may end a choice with Ok at the place where it is called
+abbrev pub never : {W : Type 0} → Name → Option W → Bool
+never name w = false
+
+-- Whether acts, with what is returned after them, end choices with Ok only behind the place where they begin: a byte is consumed, or
+-- neither what is returned does it there, nor what a choice goes back to
+abbrev pub is_behind : {W R D : Type 0} → (early : Name → Option W → Bool) → Option W → List (Act R D) → (answer : State) → Bool
+is_behind early w [] answer = is_early early w answer
+is_behind early w (consume ∷ acts) answer = true
+is_behind early w (choose Attempt ok nok ∷ acts) answer = is_early_end nok && is_behind early w acts answer
+is_behind early w (choose Check ok nok ∷ acts) answer = is_early_end ok && is_early_end nok
+is_behind early w (_ ∷ acts) answer = is_behind early w acts answer
 
 -- whether a span may have begun at the place of the call, by what waits, if anything does
 abbrev pub fresh_at : {W : Type 0} → Begun W → Option W → Bool
@@ -155,6 +179,10 @@ abbrev pub at_stage : Stage → Calls → Calls
 at_stage byte_waits c = record { per_byte = c.per_byte; more = c.per_byte + c.more }
 at_stage _ c = c
 
+-- where Ok comes first: once the byte that waits was read, if it comes only behind the place of the call
+abbrev pub later_stage : (behind : Bool) → Stage → Stage
+later_stage behind stage = cond behind byte_read stage
+
 -- some calls are at most others
 abbrev pub calls_le : Calls → Calls → Bool
 calls_le a b = nat_le a.per_byte b.per_byte && nat_le a.more b.more
@@ -221,28 +249,31 @@ module _ {W R D : Type 0} (states : List (StateRows W R D)) where
       allows_all r.acts (start_shape b w state) && (fits_choices w r.acts (start_shape b w state) && fits_answer p.stage b w p r.answer)
 
   -- how many calls a state says are left, if it does
-  abbrev pub calls_or : Option Calls → Calls
-  calls_or None = no_calls
-  calls_or (Some c) = c
+  abbrev pub calls_or : Cost → Calls
+  calls_or (by_bytes c) = c
+  calls_or (own f) = no_calls
 
   abbrev pub fed_calls : Option (StateRows W R D) → Calls
   fed_calls None = no_calls
-  fed_calls (Some state) = calls_or state.calls
+  fed_calls (Some state) = calls_or state.cost
 
-  -- how many calls a choice may take with what it goes on with
+  -- how many calls a state that comes next may take
   abbrev pub next_calls : State → Calls
   next_calls (Next name) = fed_calls (named states name)
   next_calls _ = no_calls
 
-  abbrev pub choice_calls : AttemptKind → State → State → Calls
-  choice_calls kind ok nok = cond (saves kind nok) (larger (next_calls ok) (next_calls nok)) no_calls
+  -- A choice goes on with what fails where it was made, with a check after Ok too; with an attempt after Ok, where that comes first
+  abbrev pub choice_calls : (later made_at : Stage) → AttemptKind → State → State → Calls
+  choice_calls later made_at Attempt ok nok = larger (at_stage later (next_calls ok)) (at_stage made_at (next_calls nok))
+  choice_calls later made_at Check ok nok = larger (at_stage made_at (next_calls ok)) (at_stage made_at (next_calls nok))
 
-  -- how many calls the choices that are made may take
-  abbrev pub chosen_calls : Stage → List (Act R D) → Calls
-  chosen_calls stage [] = no_calls
-  chosen_calls stage (choose kind ok nok ∷ acts) = plus (at_stage stage (choice_calls kind ok nok)) (chosen_calls stage acts)
-  chosen_calls stage (consume ∷ acts) = chosen_calls byte_read acts
-  chosen_calls stage (_ ∷ acts) = chosen_calls stage acts
+  -- how many calls the choices that are made may take, by what is returned after them
+  abbrev pub chosen_calls : Option W → Stage → List (Act R D) → (answer : State) → Calls
+  chosen_calls w stage [] answer = no_calls
+  chosen_calls w stage (choose kind ok nok ∷ acts) answer =
+      plus (choice_calls (later_stage (is_behind never w acts answer) stage) stage kind ok nok) (chosen_calls w stage acts answer)
+  chosen_calls w stage (consume ∷ acts) answer = chosen_calls w byte_read acts answer
+  chosen_calls w stage (_ ∷ acts) answer = chosen_calls w stage acts answer
 
   -- how many calls the state that a row returns may take; `retried` counts the calls of a state that is called at once
   abbrev pub answer_calls : (retried : Name → Calls) → State → Calls
@@ -251,7 +282,7 @@ module _ {W R D : Type 0} (states : List (StateRows W R D)) where
 
   -- how many calls a row may take: itself, the state that it returns, and its choices
   abbrev pub row_calls : (retried : Name → Calls) → Option W → Row R D → Calls
-  row_calls retried w r = plus (record { per_byte = 0; more = 1 }) (plus (answer_calls retried r.answer) (chosen_calls (first_stage w) r.acts))
+  row_calls retried w r = plus (record { per_byte = 0; more = 1 }) (plus (answer_calls retried r.answer) (chosen_calls w (first_stage w) r.acts r.answer))
 
   -- how many calls a state takes at most if this waits; the first list bounds the retries
   abbrev pub calls_at : List (StateRows W R D) → (previous current : Option W) → Option (StateRows W R D) → Calls
@@ -260,9 +291,13 @@ module _ {W R D : Type 0} (states : List (StateRows W R D)) where
   calls_at (x ∷ bound) b w (Some state) = most_calls (row_calls (λ name. calls_at bound b w (named states name)) w) (state.rows b w)
 
   -- a state says how many calls are left
+  abbrev pub is_by_bytes : Cost → Bool
+  is_by_bytes (by_bytes c) = true
+  is_by_bytes (own f) = false
+
   abbrev pub is_counted : Option (StateRows W R D) → Bool
   is_counted None = true
-  is_counted (Some state) = is_some state.calls
+  is_counted (Some state) = is_by_bytes state.cost
 
   -- the state that a row returns says how many calls are left, and so do the ones of choices
   abbrev pub counts_answer : State → Bool
@@ -270,14 +305,9 @@ module _ {W R D : Type 0} (states : List (StateRows W R D)) where
   counts_answer (Retry name) = is_counted (named states name)
   counts_answer _ = true
 
-  -- a choice that goes on with a state after Ok must save; the states of a choice say how many calls are left
-  abbrev pub counts_choice : AttemptKind → State → State → Bool
-  counts_choice kind (Next name) nok = saves kind nok && (is_counted (named states name) && counts_answer nok)
-  counts_choice kind _ nok = counts_answer nok
-
   abbrev pub counts_choices : List (Act R D) → Bool
   counts_choices [] = true
-  counts_choices (choose kind ok nok ∷ acts) = counts_choice kind ok nok && counts_choices acts
+  counts_choices (choose kind ok nok ∷ acts) = counts_answer ok && (counts_answer nok && counts_choices acts)
   counts_choices (act ∷ acts) = counts_choices acts
 
   -- the calls that a state says are left are enough for a row
@@ -291,9 +321,9 @@ module _ {W R D : Type 0} (states : List (StateRows W R D)) where
   feeds b (Some w) state c = calls_le (calls_at states b (Some w) (Some state)) (at_stage byte_waits c)
 
   -- if a state says how many calls are left, they are enough
-  abbrev pub fits_calls : (previous current : Option W) → StateRows W R D → Option Calls → Bool
-  fits_calls b w state None = true
-  fits_calls b w state (Some c) = all_rows (pays_row b w state) (state.rows b w) && feeds b w state c
+  abbrev pub fits_calls : (previous current : Option W) → StateRows W R D → Cost → Bool
+  fits_calls b w state (own f) = true
+  fits_calls b w state (by_bytes c) = all_rows (pays_row b w state) (state.rows b w) && feeds b w state c
 
   -- a state may be called while this waits
   abbrev pub is_called : Option W → StateRows W R D → Bool

@@ -43,6 +43,12 @@ pub record Calls : Type 0 where
   pub per_byte : ℕ
   pub more : ℕ
 
+-- What a state costs: how many calls are left before the next byte is fed, by how many bytes are left; or a cost of its own, by the text and
+-- the number of bytes read
+pub data Cost : Type 0 where
+  by_bytes : Calls → Cost
+  own : (Text → ℕ → ℕ) → Cost
+
 -- Where the spans of a state may have begun: before the place of the call; at the byte that waits, if it is one of these; or where the
 -- previous byte ended, and so at whatever waits
 pub data Begun (W : Type 0) : Type 0 where
@@ -64,8 +70,7 @@ pub data Called (W : Type 0) : Type 0 where
 
 -- A state: its name, and its rows by the class of the previous byte and of what waits; None is the start and the end. The other fields are
 -- tested: the spans that are open when it is called, since the last choice was made, the outermost first; where they may have begun; which
--- choices it needs; what must wait; and how many calls are left before the next byte is fed, or else a cost of its own, by the text and the
--- number of bytes read.
+-- choices it needs; what must wait; and what it costs.
 pub record StateRows (W R D : Type 0) : Type 0 where
   pub name : Name
   pub rows : (previous current : Option W) → Rows R D
@@ -73,8 +78,7 @@ pub record StateRows (W R D : Type 0) : Type 0 where
   pub begun : Begun W
   pub needs : Needs
   pub called : Called W
-  pub calls : Option Calls
-  pub own : Text → ℕ → ℕ
+  pub cost : Cost
 
 -- A machine: the class of a byte, what each call writes first, its states, and the names with which it may start
 pub record Table (W R D : Type 0) : Type 0 where
@@ -83,23 +87,19 @@ pub record Table (W R D : Type 0) : Type 0 where
   pub states : List (StateRows W R D)
   pub starts : List Name
 
--- a state that says how many calls are left has no cost of its own
-abbrev pub no_cost : Text → ℕ → ℕ
-no_cost text position = 0
-
 -- A cost of a state's own, if it is not a number of calls for each byte: by the text, and how many of its bytes were read. To find it,
 -- begin at the end: a state that ends costs one call. Any other costs one more than the state that it goes on with and its choices
 -- together.
-abbrev pub costs : {W R D : Type 0} → (Text → ℕ → ℕ) → StateRows W R D → StateRows W R D
-costs own state = record state { calls = None; own = own }
+abbrev pub costs : (Text → ℕ → ℕ) → Cost
+costs f = own f
 
 -- at most this many calls for each byte, and this many more
-abbrev pub calls : (per_byte more : ℕ) → Option Calls
-calls per_byte more = Some (record { per_byte = per_byte; more = more })
+abbrev pub calls : (per_byte more : ℕ) → Cost
+calls per_byte more = by_bytes (record { per_byte = per_byte; more = more })
 
 -- a state that needs nothing, and whose spans began before
-abbrev pub state : {W R D : Type 0} → Name → ((previous current : Option W) → Rows R D) → List EventName → Option Calls → StateRows W R D
-state name rows spans calls = record { name = name; rows = rows; spans = spans; begun = before; needs = nothing; called = anywhere; calls = calls; own = no_cost }
+abbrev pub state : {W R D : Type 0} → Name → ((previous current : Option W) → Rows R D) → List EventName → Cost → StateRows W R D
+state name rows spans cost = record { name = name; rows = rows; spans = spans; begun = before; needs = nothing; called = anywhere; cost = cost }
 
 -- what is seen once the byte that waited is consumed: the place of enters and exits is after it
 abbrev pub past : Sight → Sight

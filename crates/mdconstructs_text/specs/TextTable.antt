@@ -73,8 +73,7 @@ text_start_rows _ _ = row [] (Retry TextBefore)
 -- its state: no span is open
 abbrev pub text_start : StateRows TextByte Unit Unit
 text_start =
-    costs (by_left (λ n. outside n + 1))
-    (state TextStart text_start_rows [] None)
+    state TextStart text_start_rows [] (costs (by_left (λ n. outside n + 1)))
 
 -- Between constructs: one is tried, or data is read
 abbrev pub text_before_rows : (previous current : Option TextByte) → Rows Unit Unit
@@ -88,8 +87,7 @@ text_before_rows _ (Some _) = row [] (Retry TextBeforeData)
 -- their state: no span is open
 abbrev pub text_before : StateRows TextByte Unit Unit
 text_before =
-    costs (by_left outside)
-    (state TextBefore text_before_rows [] None)
+    state TextBefore text_before_rows [] (costs (by_left outside))
 
 -- Data begins
 abbrev pub text_before_data_rows : (previous current : Option TextByte) → Rows Unit Unit
@@ -99,8 +97,7 @@ text_before_data_rows _ _ = row (enter Data ∷ consume ∷ []) (Next DataInside
 -- its state: no span is open, and a byte waits
 abbrev pub text_before_data : StateRows TextByte Unit Unit
 text_before_data =
-    costs (by_left before_data)
-    (record (state TextBeforeData text_before_data_rows [] None) { called = at_a_byte })
+    record (state TextBeforeData text_before_data_rows [] (costs (by_left before_data))) { called = at_a_byte }
 
 -- A backtick string that begins data is read whole
 abbrev pub data_at_break_rows : (previous current : Option TextByte) → Rows Unit Unit
@@ -114,8 +111,8 @@ is_backtick_class w = is_tick (Some w)
 -- its state: a data span is open
 abbrev pub data_at_break : StateRows TextByte Unit Unit
 data_at_break =
-    costs (at_tick (λ n. 4 * (n * n) + n - 1) (λ n. outside n + 2))
-    (record (state DataAtBreak data_at_break_rows (Data ∷ []) None) { begun = at_byte is_backtick_class })
+    record (state DataAtBreak data_at_break_rows (Data ∷ [])
+    (costs (at_tick (λ n. 4 * (n * n) + n - 1) (λ n. outside n + 2)))) { begun = at_byte is_backtick_class }
 
 -- In data, which ends at a byte that a line ending or a construct may begin with
 abbrev pub data_inside_rows : (previous current : Option TextByte) → Rows Unit Unit
@@ -129,8 +126,7 @@ data_inside_rows _ (Some _) = row (consume ∷ []) (Next DataInside)
 -- its state: a data span is open
 abbrev pub data_inside : StateRows TextByte Unit Unit
 data_inside =
-    costs (by_left (λ n. outside n + 1))
-    (state DataInside data_inside_rows (Data ∷ []) None)
+    state DataInside data_inside_rows (Data ∷ []) (costs (by_left (λ n. outside n + 1)))
 
 -- a state of a construct: it is called if the construct is tried, and so a choice waits
 abbrev pub tried : StateRows TextByte Unit Unit → StateRows TextByte Unit Unit
@@ -143,8 +139,7 @@ raw_text_start_rows _ _ = row (enter CodeText ∷ enter CodeTextSequence ∷ wri
 -- its state: it is called only at a backtick, and no span is open yet
 abbrev pub raw_text_start : StateRows TextByte Unit Unit
 raw_text_start =
-    costs (by_left (λ n. 7 * n - 3))
-    (tried (record (state RawTextStart raw_text_start_rows [] None) { called = at_bytes is_backtick_class }))
+    tried (record (state RawTextStart raw_text_start_rows [] (costs (by_left (λ n. 7 * n - 3)))) { called = at_bytes is_backtick_class })
 
 -- its opening backtick string is read
 abbrev pub raw_text_sequence_open_rows : (previous current : Option TextByte) → Rows Unit Unit
@@ -154,8 +149,8 @@ raw_text_sequence_open_rows _ _ = row (exit CodeTextSequence ∷ []) (Retry RawT
 -- its state: a code span and its sequence are open
 abbrev pub raw_text_sequence_open : StateRows TextByte Unit Unit
 raw_text_sequence_open =
-    costs (at_tick (λ n. 7 * n - 4) (λ n. 7 * n + 2))
-    (tried (record (state RawTextSequenceOpen raw_text_sequence_open_rows (CodeText ∷ CodeTextSequence ∷ []) None) { begun = at_byte is_backtick_class }))
+    tried (record (state RawTextSequenceOpen raw_text_sequence_open_rows (CodeText ∷ CodeTextSequence ∷ [])
+    (costs (at_tick (λ n. 7 * n - 4) (λ n. 7 * n + 2)))) { begun = at_byte is_backtick_class })
 
 -- in it a line ending, data, or a backtick string that may close it is read
 abbrev pub raw_text_between_rows : (previous current : Option TextByte) → Rows Unit Unit
@@ -168,8 +163,7 @@ raw_text_between_rows _ (Some _) = row (enter CodeTextData ∷ []) (Retry RawTex
 -- its state: a code span is open
 abbrev pub raw_text_between : StateRows TextByte Unit Unit
 raw_text_between =
-    costs (by_left (λ n. 7 * n + 1))
-    (tried (state RawTextBetween raw_text_between_rows (CodeText ∷ []) None))
+    tried (state RawTextBetween raw_text_between_rows (CodeText ∷ []) (costs (by_left (λ n. 7 * n + 1))))
 
 -- data in it ends at a line ending, at a backtick, or at the end
 abbrev pub raw_text_data_rows : (previous current : Option TextByte) → Rows Unit Unit
@@ -185,8 +179,8 @@ is_code_data w = not (ends_code_data (Some w))
 -- its state: a code span and its data are open
 abbrev pub raw_text_data : StateRows TextByte Unit Unit
 raw_text_data =
-    costs (λ text p. cond (ends_code_data (waits_at text p)) (7 * left text p + 2) (7 * left text p - 4))
-    (tried (record (state RawTextData raw_text_data_rows (CodeText ∷ CodeTextData ∷ []) None) { begun = at_byte is_code_data }))
+    tried (record (state RawTextData raw_text_data_rows (CodeText ∷ CodeTextData ∷ [])
+    (costs (λ text p. cond (ends_code_data (waits_at text p)) (7 * left text p + 2) (7 * left text p - 4)))) { begun = at_byte is_code_data })
 
 -- a backtick string closes it if it is as long as the opening one
 abbrev pub raw_text_sequence_close_rows : (previous current : Option TextByte) → Rows Unit Unit
@@ -196,8 +190,8 @@ raw_text_sequence_close_rows _ _ = when sizes_are_equal (row (exit CodeTextSeque
 -- its state: a sequence is open
 abbrev pub raw_text_sequence_close : StateRows TextByte Unit Unit
 raw_text_sequence_close =
-    costs (λ text p. ticks text p + 1)
-    (tried (record (state RawTextSequenceClose raw_text_sequence_close_rows (CodeTextSequence ∷ []) None) { begun = at_byte is_backtick_class }))
+    tried (record (state RawTextSequenceClose raw_text_sequence_close_rows (CodeTextSequence ∷ [])
+    (costs (λ text p. ticks text p + 1))) { begun = at_byte is_backtick_class })
 
 -- after that backtick string the code span ends
 abbrev pub raw_flow_after_rows : (previous current : Option TextByte) → Rows Unit Unit
@@ -206,8 +200,7 @@ raw_flow_after_rows _ _ = row (exit CodeText ∷ []) Ok
 -- its state: a code span is open
 abbrev pub raw_flow_after : StateRows TextByte Unit Unit
 raw_flow_after =
-    costs (by_left (λ n. 1))
-    (tried (state RawFlowAfter raw_flow_after_rows (CodeText ∷ []) None))
+    tried (state RawFlowAfter raw_flow_after_rows (CodeText ∷ []) (costs (by_left (λ n. 1))))
 
 -- a backtick string of another length is data
 abbrev pub raw_flow_before_content_chunk_rows : (previous current : Option TextByte) → Rows Unit Unit
@@ -216,8 +209,8 @@ raw_flow_before_content_chunk_rows _ _ = row (enter CodeTextData ∷ []) (Retry 
 -- its state: it is called only at a backtick, and a code span is open
 abbrev pub raw_flow_before_content_chunk : StateRows TextByte Unit Unit
 raw_flow_before_content_chunk =
-    costs (λ text p. 7 * left text p - 6 * ticks text p + 4)
-    (tried (record (state RawFlowBeforeContentChunk raw_flow_before_content_chunk_rows (CodeText ∷ []) None) { called = at_bytes is_backtick_class }))
+    tried (record (state RawFlowBeforeContentChunk raw_flow_before_content_chunk_rows (CodeText ∷ [])
+    (costs (λ text p. 7 * left text p - 6 * ticks text p + 4))) { called = at_bytes is_backtick_class })
 
 -- that backtick string is read whole
 abbrev pub raw_flow_content_chunk_rows : (previous current : Option TextByte) → Rows Unit Unit
@@ -227,8 +220,8 @@ raw_flow_content_chunk_rows _ _ = row [] (Retry RawTextData)
 -- its state: a code span and its data are open
 abbrev pub raw_flow_content_chunk : StateRows TextByte Unit Unit
 raw_flow_content_chunk =
-    costs (λ text p. 7 * left text p - 6 * ticks text p + 3)
-    (tried (record (state RawFlowContentChunk raw_flow_content_chunk_rows (CodeText ∷ CodeTextData ∷ []) None) { begun = at_byte is_backtick_class }))
+    tried (record (state RawFlowContentChunk raw_flow_content_chunk_rows (CodeText ∷ CodeTextData ∷ [])
+    (costs (λ text p. 7 * left text p - 6 * ticks text p + 3))) { begun = at_byte is_backtick_class })
 
 -- Autolink: it begins with `<`
 abbrev pub autolink_start_rows : (previous current : Option TextByte) → Rows Unit Unit
@@ -242,8 +235,7 @@ is_less_class _ = false
 -- its state: it is called only at `<`, and no span is open yet
 abbrev pub autolink_start : StateRows TextByte Unit Unit
 autolink_start =
-    costs (by_left (λ n. n + 1))
-    (tried (record (state AutolinkStart autolink_start_rows [] None) { called = at_bytes is_less_class }))
+    tried (record (state AutolinkStart autolink_start_rows [] (costs (by_left (λ n. n + 1)))) { called = at_bytes is_less_class })
 
 -- its scheme begins with an ASCII letter
 abbrev pub autolink_open_rows : (previous current : Option TextByte) → Rows Unit Unit
@@ -253,8 +245,7 @@ autolink_open_rows _ _ = row [] Nok
 -- its state: an autolink and its URI are open
 abbrev pub autolink_open : StateRows TextByte Unit Unit
 autolink_open =
-    costs (by_left (λ n. n + 1))
-    (tried (record (state AutolinkOpen autolink_open_rows (Autolink ∷ AutolinkProtocol ∷ []) None) { begun = here }))
+    tried (record (state AutolinkOpen autolink_open_rows (Autolink ∷ AutolinkProtocol ∷ []) (costs (by_left (λ n. n + 1)))) { begun = here })
 
 -- a scheme of fewer than 32 characters may have one more
 abbrev pub scheme_goes_on : Rows Unit Unit
@@ -271,8 +262,7 @@ autolink_scheme_rows _ _ = row [] Nok
 -- its state: an autolink and its URI are open
 abbrev pub autolink_scheme : StateRows TextByte Unit Unit
 autolink_scheme =
-    costs (by_left (λ n. n + 1))
-    (tried (state AutolinkSchemeInsideOrEmailAtext autolink_scheme_rows (Autolink ∷ AutolinkProtocol ∷ []) None))
+    tried (state AutolinkSchemeInsideOrEmailAtext autolink_scheme_rows (Autolink ∷ AutolinkProtocol ∷ []) (costs (by_left (λ n. n + 1))))
 
 -- the rest of its URI is read, up to `>`
 abbrev pub autolink_url_rows : (previous current : Option TextByte) → Rows Unit Unit
@@ -286,8 +276,7 @@ autolink_url_rows _ (Some _) = row (consume ∷ []) (Next AutolinkUrlInside)
 -- its state: an autolink and its URI are open
 abbrev pub autolink_url : StateRows TextByte Unit Unit
 autolink_url =
-    costs (by_left (λ n. n + 1))
-    (tried (state AutolinkUrlInside autolink_url_rows (Autolink ∷ AutolinkProtocol ∷ []) None))
+    tried (state AutolinkUrlInside autolink_url_rows (Autolink ∷ AutolinkProtocol ∷ []) (costs (by_left (λ n. n + 1))))
 
 -- Backslash escape: a backslash
 abbrev pub escape_start_rows : (previous current : Option TextByte) → Rows Unit Unit
@@ -301,8 +290,7 @@ is_backslash_class _ = false
 -- its state: it is called only at a backslash, and no span is open yet
 abbrev pub escape_start : StateRows TextByte Unit Unit
 escape_start =
-    costs (by_left (λ n. n + 1))
-    (tried (record (state CharacterEscapeStart escape_start_rows [] None) { called = at_bytes is_backslash_class }))
+    tried (record (state CharacterEscapeStart escape_start_rows [] (costs (by_left (λ n. n + 1)))) { called = at_bytes is_backslash_class })
 
 -- the character that is escaped
 abbrev pub escaped : Rows Unit Unit
@@ -322,8 +310,7 @@ escape_inside_rows _ _ = row [] Nok
 -- its state: a backslash escape is open
 abbrev pub escape_inside : StateRows TextByte Unit Unit
 escape_inside =
-    costs (by_left (λ n. n + 1))
-    (tried (state CharacterEscapeInside escape_inside_rows (CharacterEscape ∷ []) None))
+    tried (state CharacterEscapeInside escape_inside_rows (CharacterEscape ∷ []) (costs (by_left (λ n. n + 1))))
 
 -- all states of texts
 abbrev pub text_states : List (StateRows TextByte Unit Unit)

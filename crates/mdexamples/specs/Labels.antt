@@ -38,14 +38,14 @@ text_before_rows _ (Some opening) = row (choose Attempt (Next TextBefore) (Next 
 text_before_rows _ (Some _) = row [] (Retry TextBeforeData)
 
 abbrev pub text_before : StateRows LabelByte Unit Unit
-text_before = costs (by_left outside) (state TextBefore text_before_rows [] None)
+text_before = state TextBefore text_before_rows [] (costs (by_left outside))
 
 -- before data; never called at the end
 abbrev pub text_before_data_rows : (previous current : Option LabelByte) → Rows Unit Unit
 text_before_data_rows _ _ = row (enter Data ∷ consume ∷ []) (Next DataInside)
 
 abbrev pub text_before_data : StateRows LabelByte Unit Unit
-text_before_data = costs (by_left (λ n. n * n + 3 * n + 1)) (record (state TextBeforeData text_before_data_rows [] None) { called = at_a_byte })
+text_before_data = record (state TextBeforeData text_before_data_rows [] (costs (by_left (λ n. n * n + 3 * n + 1)))) { called = at_a_byte }
 
 -- in data
 abbrev pub data_inside_rows : (previous current : Option LabelByte) → Rows Unit Unit
@@ -55,7 +55,7 @@ data_inside_rows _ (Some opening) = row (exit Data ∷ []) (Retry TextBefore)
 data_inside_rows _ (Some _) = row (consume ∷ []) (Next DataInside)
 
 abbrev pub data_inside : StateRows LabelByte Unit Unit
-data_inside = costs (by_left (λ n. outside n + 1)) (state DataInside data_inside_rows (Data ∷ []) None)
+data_inside = state DataInside data_inside_rows (Data ∷ []) (costs (by_left (λ n. outside n + 1)))
 
 -- a label is tried: a choice waits, and `[`
 abbrev pub label_start_rows : (previous current : Option LabelByte) → Rows Unit Unit
@@ -66,7 +66,7 @@ is_opening opening = true
 is_opening _ = false
 
 abbrev pub label_start : StateRows LabelByte Unit Unit
-label_start = costs (by_left (λ n. n + 1)) (record (state LabelStart label_start_rows [] None) { called = at_bytes is_opening; needs = a_choice })
+label_start = record (state LabelStart label_start_rows [] (costs (by_left (λ n. n + 1)))) { called = at_bytes is_opening; needs = a_choice }
 
 -- in a label
 abbrev pub label_inside_rows : (previous current : Option LabelByte) → Rows Unit Unit
@@ -76,7 +76,7 @@ label_inside_rows _ (Some closing) = row (enter LabelMarker ∷ consume ∷ exit
 label_inside_rows _ (Some _) = row (consume ∷ []) (Next LabelInside)
 
 abbrev pub label_inside : StateRows LabelByte Unit Unit
-label_inside = costs (by_left (λ n. n + 1)) (record (state LabelInside label_inside_rows (Label ∷ []) None) { needs = a_choice })
+label_inside = record (state LabelInside label_inside_rows (Label ∷ []) (costs (by_left (λ n. n + 1)))) { needs = a_choice }
 
 -- the state that may be called where the attempt was made: the first of a label
 abbrev pub begins_label : Name → Option LabelByte → Bool

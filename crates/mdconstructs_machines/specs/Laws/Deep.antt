@@ -1,8 +1,9 @@
 -- The table of the machine passes the test and its own cost is enough, so that the machine is lawful.
-use Rattle.std.proofs.Common.{◌≡◌, ℕ, zero, suc, ◌+◌, ◌-◌, ◌*◌, ◌≤◌, [], Option, Some, None, length, refl, ap, arith, true, false}
+use Rattle.std.proofs.Common.{◌≡◌, ℕ, zero, suc, ◌+◌, ◌-◌, ◌*◌, ◌≤◌, [], Option, Some, None, length, refl, ap, arith, true}
 use Rattle.mdconstructs_tables.specs.PlainTables.{IsPlainTable}
 use Rattle.mdconstructs_tables.specs.Refusals.{refusing}
 use Rattle.mdconstructs_tables.specs.RowInvariant.{PaysRows}
+use Rattle.mdconstructs_tables.specs.RowTest.{never}
 use Rattle.mdconstructs_tables.specs.Fitting.{IsFit}
 use Rattle.mdconstructs_tables.proofs.Tables.Tests.{tests, all-fit, all-plain, none-refuses}
 use Rattle.mdconstructs_machines.specs.Tables.{LineByte, line_ending, other}
@@ -32,7 +33,7 @@ tries-least (suc p) n = omega arith
 triangle-next : (total p : ℕ) → p + 1 ≤ total → triangle (total - p) ≡ triangle (total - suc p) + (total - suc p)
 triangle-next total p h = let left : total - p ≡ suc (total - suc p) = omega (arith, h) in rw left refl
 
-pays : PaysRows deep false string_start None
+pays : PaysRows deep never string_start
 pays None None text p read at seen called = tries-least p (length text.seats - p)
 pays (Some x) None text p read at seen called = tries-least p (length text.seats - p)
 pays None (Some x) text zero read at seen called = let one = triangle-next (length text.seats) 0 (omega (arith, at)) in omega (arith, at, one)
@@ -55,7 +56,7 @@ tested (Some _) (Some line_ending) = refl
 tested (Some _) (Some other) = refl
 
 pub deep-fit : IsFit deep
-deep-fit = record { fits = all-fit deep tested; paid = (pays, (tt, (tt, (tt, tt)))); falls = ((λ every text p q. tries-fall (length text.seats) p q), (tt, (tt, (tt, tt)))) }
+deep-fit = record { fits = all-fit deep tested; paid = (pays, tt); falls = ((λ text p q. tries-fall (length text.seats) p q), tt) }
 
 pub deep-plain : IsPlainTable deep
 deep-plain = record { first = λ k h. h; rows = all-plain deep tested }

@@ -14,7 +14,7 @@ tested previous (Some line_ending) = refl
 tested previous (Some other) = refl
 
 pub lines-fit : IsFit lines
-lines-fit = record { fits = all-fit lines tested; paid = (tt, (tt, tt)); falls = (tt, (tt, tt)) }
+lines-fit = record { fits = all-fit lines tested; paid = tt; falls = tt }
 
 pub lines-plain : IsPlainTable lines
 lines-plain = record { first = λ k h. h; rows = all-plain lines tested }

@@ -33,7 +33,7 @@ fits previous (Some blank) = refl
 fits previous (Some other) = refl
 
 pub words-fit : IsFit words
-words-fit = record { fits = fits; paid = (tt, (tt, (tt, (tt, (tt, tt))))); falls = (tt, (tt, (tt, (tt, (tt, tt))))) }
+words-fit = record { fits = fits; paid = tt; falls = tt }
 
 -- ---- the blanks with which the events begin, and more events
 

@@ -28,7 +28,7 @@ use Rattle.mdconstructs_tables.specs.Rows.{class_of, step_of, picked, step_at}
 use Rattle.mdconstructs_tables.specs.Misfits.{misfits}
 use Rattle.mdconstructs_tables.specs.Fitting.{IsFit}
 use Rattle.mdconstructs_tables.proofs.Tables.Laws.{table-consumes_once, table-only_adds, table-ends_when_read, table-invariant_kept}
-use Rattle.mdconstructs_tables.proofs.Tables.Costs.{table-cost_pays}
+use Rattle.mdconstructs_tables.proofs.Tables.Prices.{table-cost_pays}
 use Rattle.mdconstructs_machines.specs.declared.wrap.Resolver.{Resolver}
 use Rattle.mdconstructs_machines.specs.declared.wrap.Resolver.TheVariants.{A, B, C}
 use Rattle.mdconstructs_machines.specs.Tables.{LineByte, line_ending, other, line_byte, counts}
@@ -42,7 +42,7 @@ fits previous (Some line_ending) = refl
 fits previous (Some other) = refl
 
 pub wrap-fit : IsFit wrap
-wrap-fit = record { fits = fits; paid = (tt, (tt, (tt, tt))); falls = (tt, (tt, (tt, tt))) }
+wrap-fit = record { fits = fits; paid = tt; falls = tt }
 
 -- what a step leaves
 abbrev IsLeft : Step Resolver Unit → Type 0

@@ -124,7 +124,7 @@ module _ {W R D : Type 0} (table : Table W R D) (g : Given) where
     pub stack : k.stack ≡ base ++ state.spans
     pub waiting : AreWaiting table.class table.states g text k.position (outline k) base choices
     pub fits_it : let p = shape_of text k state in fits_answer table.states p.stage (before_class text k) (of_class text k) p (row_of text k state).answer ≡ true
-    pub fits_calls_too : fits_calls table.states (before_class text k) (of_class text k) state state.calls ≡ true
+    pub fits_calls_too : fits_calls table.states (before_class text k) (of_class text k) state state.cost ≡ true
     pub called : is_called_at state.called (of_class text k) ≡ true
     pub met : Waited (first_stage (of_class text k)) text k
     pub shape : let p = shape_of text k state in HasShape p above (sight_at p.stage (sight g text k)) g text k (left_by text k state) (chosen_by text k choices state)

@@ -2,7 +2,7 @@
 use Rattle.mdconstructs_tables.proofs.Rows.Misfits.{named-in}
 use Rattle.mdconstructs_tables.proofs.Prelude.{◌≡◌, List, [], true, refl, sym, subst, nat_lt, length, All-contains, Event, State, Next, Retry, Byte, End, Given, Text, Configuration, Local, Choice, start_configuration, Sight, sight, with_local, IsAsFar, IsLawful, Rows, row, when, Row, Table, class_of, picked, step_of, step_at, IsFit, EachRow, LeavesShape, KnownAfter, KeepsKnowing, AllKeepKnowing, IsKnownThroughout, knowing_rules, cond_both}
 use Rattle.mdconstructs_tables.proofs.Tables.Laws.{is-call, table-consumes_once, table-only_adds, table-ends_when_read, table-invariant_kept}
-use Rattle.mdconstructs_tables.proofs.Tables.Costs.{table-cost_pays}
+use Rattle.mdconstructs_tables.proofs.Tables.Prices.{table-cost_pays}
 
 -- what holds of each of the rows, by the tests that pick it, holds of the one that is picked
 module _ {R D : Type 0} (P : Row R D → Type 0) (g : Given) (s : Sight) (k : Configuration R D) where

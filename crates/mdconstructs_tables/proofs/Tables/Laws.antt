@@ -14,16 +14,16 @@ module _ {R D : Type 0} where
   picked-passes test (when by one other) g s k h =
       let (first, second) = and_parts _ _ h in cond_both (by g s k) (picked one g s k) (picked other g s k) (λ r. test r ≡ true) (λ e. picked-passes test one g s k first) (λ e. picked-passes test other g s k second)
 
-module _ {W R D : Type 0} (table : Table W R D) (g : Given) {late : Bool} {falling : Name → Bool} (fit : IsFitBy table late falling) where
+module _ {W R D : Type 0} (table : Table W R D) (g : Given) {early : Name → Option W → Bool} {falling : Name → Bool} (fit : IsFitBy table early falling) where
   -- a state that is called fits
   pub state-fits : (b w : Option W) (name : Name) (state : StateRows W R D) → named table.states name ≡ Some state → is_called table.states w state ≡ true
-      → (all_rows (fits_row table.states b w state) (state.rows b w) ≡ true) × (fits_calls table.states b w state state.calls ≡ true)
+      → (all_rows (fits_row table.states b w state) (state.rows b w) ≡ true) × (fits_calls table.states b w state state.cost ≡ true)
   state-fits b w name state is called =
       let f = named_misfit table.states b w in
       let none = none-left (flat_map f table.states) (flat_map (named_start table.states) table.starts) (fit.fits b w) in
       let its_none = (named-in (λ l. flat_map f l ≡ []) (λ x. f x ≡ []) (λ x xs. none-left (f x) (flat_map f xs)) table.states name state none.0 is).0 in
       all-passed (acts_fit table.states b w state) (spans_fit table.states b w state) (choices_fit table.states b w state) (all_rows (fits_row table.states b w state) (state.rows b w))
-      (fits_calls table.states b w state state.calls) (called-none (is_called table.states w state) state.name (misfit table.states b w state) called its_none)
+      (fits_calls table.states b w state state.cost) (called-none (is_called table.states w state) state.name (misfit table.states b w state) called its_none)
 
   module _ (text : Text) (k : Configuration R D) (choices : List Choice) (name : Name) (inside : k.position ≤ length text.seats) (waits : IsFed k.waiting k.position k.ended text)
       (order : SightIsInOrder k.waiting (sight g text k)) where

@@ -2,7 +2,7 @@
 use Rattle.markdown_tokenizer.proofs.Readings.Plain as machines
 use Rattle.mdconstructs_tables.proofs.Prelude.{◌≡◌, List, [], ◌∷◌, true, Option, Some, None, refl, and_parts, Given, Configuration, Sight, with_local, consumed, IsLawful, IsPlain, KeepsPlain, plain, no-links-more, Act, enters, exit, consume, write, choose, Rows, row, when, StateRows, Table, class_of, past, done, does, picked, row_at, named, step_at, table_step, table_rules, IsFit, are_plain_acts, are_plain_rows, are_plain_states, IsPlainTable, WritePlain, RowsWritePlain, StatesWritePlain, WritesPlain, cond_both}
 use Rattle.mdconstructs_tables.proofs.Rows.Misfits.{named-in}
-use Rattle.mdconstructs_tables.proofs.Tables.Costs.{table-cost_pays}
+use Rattle.mdconstructs_tables.proofs.Tables.Prices.{table-cost_pays}
 use Rattle.mdconstructs_tables.proofs.Tables.Laws.{table-consumes_once, table-only_adds, table-ends_when_read, table-invariant_kept}
 
 module _ {R D : Type 0} where

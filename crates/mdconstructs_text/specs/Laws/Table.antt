@@ -1,5 +1,5 @@
 -- The table of the machine of texts passes the tests and its own cost is enough, so that the machine is lawful.
-use Rattle.std.proofs.Common.{◌≡◌, ℕ, ◌+◌, ◌-◌, [], true, Option, Some, None, length, drop, refl, ap, arith}
+use Rattle.std.proofs.Common.{◌≡◌, ℕ, ◌+◌, ◌-◌, [], Option, Some, None, length, drop, refl, ap, arith}
 use Rattle.mdconstructs_tables.specs.Late.{hasty}
 use Rattle.mdconstructs_tables.specs.PlainTables.{IsPlainWrite}
 use Rattle.mdconstructs_tables.specs.PlainWrites.{StatesWritePlain, WritesPlain}
@@ -7,7 +7,6 @@ use Rattle.mdconstructs_tables.specs.Misfits.{misfits}
 use Rattle.mdconstructs_tables.specs.RowInvariant.{PaysRows}
 use Rattle.mdconstructs_tables.specs.Fitting.{IsFitBy}
 use Rattle.mdconstructs_tables.specs.Late.{IsLate}
-use Rattle.mdconstructs_tables.proofs.CostNumbers.{no-matter}
 use Rattle.mdconstructs_text.specs.TextBytes.{TextByte, line_feed, backtick, less, greater, backslash, colon, letter, digit, mark, punctuation, blank, other, is_tick, ends_code_data}
 use Rattle.mdconstructs_text.specs.TextCosts.{leading, waits_at}
 use Rattle.mdconstructs_text.specs.TextTable.{size_b_is, size_c_is, size_b_grows, size_c_grows, text_start, text_before, text_before_data, data_at_break, data_inside, raw_text_start, raw_text_sequence_open, raw_text_between, raw_text_data, raw_text_sequence_close, raw_flow_after, raw_flow_before_content_chunk, raw_flow_content_chunk, autolink_start, autolink_open, autolink_scheme, autolink_url, escape_start, escape_inside, text_states, texts, begins_construct, follows_construct}
@@ -44,10 +43,10 @@ late previous (Some blank) = refl
 late previous (Some other) = refl
 
 -- A call, with what it goes on with
-text-start-pays : PaysRows texts true text_start None
+text-start-pays : PaysRows texts begins_construct text_start
 text-start-pays b w text p read at seen called = omega arith
 
-text-before-pays : PaysRows texts true text_before None
+text-before-pays : PaysRows texts begins_construct text_before
 text-before-pays b None text p read at seen called = omega arith
 text-before-pays b (Some line_feed) text p read at seen called = omega (arith, outside-later (length text.seats) p at)
 text-before-pays b (Some backtick) text p read at seen called = (construct (length text.seats) p at, data-instead (length text.seats) p at)
@@ -62,7 +61,7 @@ text-before-pays b (Some punctuation) text p read at seen called = data-instead 
 text-before-pays b (Some blank) text p read at seen called = data-instead (length text.seats) p at
 text-before-pays b (Some other) text p read at seen called = data-instead (length text.seats) p at
 
-text-before-data-pays : PaysRows texts true text_before_data None
+text-before-data-pays : PaysRows texts begins_construct text_before_data
 text-before-data-pays b None text p read at seen called = absurd (cc)
 text-before-data-pays b (Some line_feed) text p read at seen called = data-other (length text.seats) p at
 text-before-data-pays b (Some backtick) text p read at seen called = data-tick (length text.seats) p (waits_at text p) at seen
@@ -77,7 +76,7 @@ text-before-data-pays b (Some punctuation) text p read at seen called = data-oth
 text-before-data-pays b (Some blank) text p read at seen called = data-other (length text.seats) p at
 text-before-data-pays b (Some other) text p read at seen called = data-other (length text.seats) p at
 
-data-at-break-pays : PaysRows texts true data_at_break None
+data-at-break-pays : PaysRows texts begins_construct data_at_break
 data-at-break-pays b None text p read at seen called = break-other (length text.seats - p) (waits_at text p) (ap is_tick seen)
 data-at-break-pays b (Some line_feed) text p read at seen called = break-other (length text.seats - p) (waits_at text p) (ap is_tick seen)
 data-at-break-pays b (Some backtick) text p read at seen called = break-tick (length text.seats) p (waits_at text p) (waits_at text (p + 1)) at seen
@@ -92,7 +91,7 @@ data-at-break-pays b (Some punctuation) text p read at seen called = break-other
 data-at-break-pays b (Some blank) text p read at seen called = break-other (length text.seats - p) (waits_at text p) (ap is_tick seen)
 data-at-break-pays b (Some other) text p read at seen called = break-other (length text.seats - p) (waits_at text p) (ap is_tick seen)
 
-data-inside-pays : PaysRows texts true data_inside None
+data-inside-pays : PaysRows texts begins_construct data_inside
 data-inside-pays b None text p read at seen called = omega arith
 data-inside-pays b (Some line_feed) text p read at seen called = omega arith
 data-inside-pays b (Some backtick) text p read at seen called = omega arith
@@ -107,7 +106,7 @@ data-inside-pays b (Some punctuation) text p read at seen called = omega (arith,
 data-inside-pays b (Some blank) text p read at seen called = omega (arith, outside-later (length text.seats) p at)
 data-inside-pays b (Some other) text p read at seen called = omega (arith, outside-later (length text.seats) p at)
 
-raw-text-start-pays : PaysRows texts true raw_text_start None
+raw-text-start-pays : PaysRows texts begins_construct raw_text_start
 raw-text-start-pays b None text p read at seen called = absurd (cc)
 raw-text-start-pays b (Some line_feed) text p read at seen called = absurd (cc)
 raw-text-start-pays b (Some backtick) text p read at seen called = raw-start (length text.seats) p (waits_at text p) at seen
@@ -122,7 +121,7 @@ raw-text-start-pays b (Some punctuation) text p read at seen called = absurd (cc
 raw-text-start-pays b (Some blank) text p read at seen called = absurd (cc)
 raw-text-start-pays b (Some other) text p read at seen called = absurd (cc)
 
-raw-text-sequence-open-pays : PaysRows texts true raw_text_sequence_open None
+raw-text-sequence-open-pays : PaysRows texts begins_construct raw_text_sequence_open
 raw-text-sequence-open-pays b None text p read at seen called = open-other (length text.seats - p) (waits_at text p) (ap is_tick seen)
 raw-text-sequence-open-pays b (Some line_feed) text p read at seen called = open-other (length text.seats - p) (waits_at text p) (ap is_tick seen)
 raw-text-sequence-open-pays b (Some backtick) text p read at seen called = open-tick (length text.seats) p (waits_at text p) (waits_at text (p + 1)) at seen
@@ -137,7 +136,7 @@ raw-text-sequence-open-pays b (Some punctuation) text p read at seen called = op
 raw-text-sequence-open-pays b (Some blank) text p read at seen called = open-other (length text.seats - p) (waits_at text p) (ap is_tick seen)
 raw-text-sequence-open-pays b (Some other) text p read at seen called = open-other (length text.seats - p) (waits_at text p) (ap is_tick seen)
 
-raw-text-between-pays : PaysRows texts true raw_text_between None
+raw-text-between-pays : PaysRows texts begins_construct raw_text_between
 raw-text-between-pays b None text p read at seen called = omega arith
 raw-text-between-pays b (Some line_feed) text p read at seen called = omega (arith, at)
 raw-text-between-pays b (Some backtick) text p read at seen called = between-tick (length text.seats - p) (leading (drop p text.seats)) (omega (arith, at-tick text p seen)) (leading-left text.seats p)
@@ -152,7 +151,7 @@ raw-text-between-pays b (Some punctuation) text p read at seen called = between-
 raw-text-between-pays b (Some blank) text p read at seen called = between-other (length text.seats) p (waits_at text p) at (ap ends_code_data seen)
 raw-text-between-pays b (Some other) text p read at seen called = between-other (length text.seats) p (waits_at text p) at (ap ends_code_data seen)
 
-raw-text-data-pays : PaysRows texts true raw_text_data None
+raw-text-data-pays : PaysRows texts begins_construct raw_text_data
 raw-text-data-pays b None text p read at seen called = raw-data-ends (length text.seats - p) (waits_at text p) (ap ends_code_data seen)
 raw-text-data-pays b (Some line_feed) text p read at seen called = raw-data-ends (length text.seats - p) (waits_at text p) (ap ends_code_data seen)
 raw-text-data-pays b (Some backtick) text p read at seen called = raw-data-ends (length text.seats - p) (waits_at text p) (ap ends_code_data seen)
@@ -167,7 +166,7 @@ raw-text-data-pays b (Some punctuation) text p read at seen called = raw-data-ot
 raw-text-data-pays b (Some blank) text p read at seen called = raw-data-other (length text.seats) p (waits_at text p) (waits_at text (p + 1)) at (ap ends_code_data seen)
 raw-text-data-pays b (Some other) text p read at seen called = raw-data-other (length text.seats) p (waits_at text p) (waits_at text (p + 1)) at (ap ends_code_data seen)
 
-raw-text-sequence-close-pays : PaysRows texts true raw_text_sequence_close None
+raw-text-sequence-close-pays : PaysRows texts begins_construct raw_text_sequence_close
 raw-text-sequence-close-pays b None text p read at seen called = (omega arith, omega arith)
 raw-text-sequence-close-pays b (Some line_feed) text p read at seen called = (omega arith, omega arith)
 raw-text-sequence-close-pays b (Some backtick) text p read at seen called = close-tick (leading (drop p text.seats)) (leading (drop (p + 1) text.seats)) (at-tick text p seen)
@@ -182,10 +181,10 @@ raw-text-sequence-close-pays b (Some punctuation) text p read at seen called = (
 raw-text-sequence-close-pays b (Some blank) text p read at seen called = (omega arith, omega arith)
 raw-text-sequence-close-pays b (Some other) text p read at seen called = (omega arith, omega arith)
 
-raw-flow-after-pays : PaysRows texts true raw_flow_after None
+raw-flow-after-pays : PaysRows texts begins_construct raw_flow_after
 raw-flow-after-pays b w text p read at seen called = omega arith
 
-raw-flow-before-content-chunk-pays : PaysRows texts true raw_flow_before_content_chunk None
+raw-flow-before-content-chunk-pays : PaysRows texts begins_construct raw_flow_before_content_chunk
 raw-flow-before-content-chunk-pays b None text p read at seen called = absurd (cc)
 raw-flow-before-content-chunk-pays b (Some line_feed) text p read at seen called = absurd (cc)
 raw-flow-before-content-chunk-pays b (Some backtick) text p read at seen called = before-chunk (length text.seats - p) (leading (drop p text.seats))
@@ -200,7 +199,7 @@ raw-flow-before-content-chunk-pays b (Some punctuation) text p read at seen call
 raw-flow-before-content-chunk-pays b (Some blank) text p read at seen called = absurd (cc)
 raw-flow-before-content-chunk-pays b (Some other) text p read at seen called = absurd (cc)
 
-raw-flow-content-chunk-pays : PaysRows texts true raw_flow_content_chunk None
+raw-flow-content-chunk-pays : PaysRows texts begins_construct raw_flow_content_chunk
 raw-flow-content-chunk-pays b None text p read at seen called = chunk-end (length text.seats - p) (leading (drop p text.seats)) (waits_at text p) (omega (arith, at))
 raw-flow-content-chunk-pays b (Some line_feed) text p read at seen called = chunk-other (length text.seats - p) (leading (drop p text.seats)) (waits_at text p) (at-other text p line_feed seen refl)
 raw-flow-content-chunk-pays b (Some backtick) text p read at seen called = chunk-tick (length text.seats) p (leading (drop p text.seats)) (leading (drop (p + 1) text.seats)) at (at-tick text p seen) (leading-left text.seats (p + 1))
@@ -215,7 +214,7 @@ raw-flow-content-chunk-pays b (Some punctuation) text p read at seen called = ch
 raw-flow-content-chunk-pays b (Some blank) text p read at seen called = chunk-other (length text.seats - p) (leading (drop p text.seats)) (waits_at text p) (at-other text p blank seen refl)
 raw-flow-content-chunk-pays b (Some other) text p read at seen called = chunk-other (length text.seats - p) (leading (drop p text.seats)) (waits_at text p) (at-other text p other seen refl)
 
-autolink-start-pays : PaysRows texts true autolink_start None
+autolink-start-pays : PaysRows texts begins_construct autolink_start
 autolink-start-pays b None text p read at seen called = absurd (cc)
 autolink-start-pays b (Some line_feed) text p read at seen called = absurd (cc)
 autolink-start-pays b (Some backtick) text p read at seen called = absurd (cc)
@@ -230,7 +229,7 @@ autolink-start-pays b (Some punctuation) text p read at seen called = absurd (cc
 autolink-start-pays b (Some blank) text p read at seen called = absurd (cc)
 autolink-start-pays b (Some other) text p read at seen called = absurd (cc)
 
-autolink-open-pays : PaysRows texts true autolink_open None
+autolink-open-pays : PaysRows texts begins_construct autolink_open
 autolink-open-pays b None text p read at seen called = omega arith
 autolink-open-pays b (Some line_feed) text p read at seen called = omega arith
 autolink-open-pays b (Some backtick) text p read at seen called = omega arith
@@ -245,7 +244,7 @@ autolink-open-pays b (Some punctuation) text p read at seen called = omega arith
 autolink-open-pays b (Some blank) text p read at seen called = omega arith
 autolink-open-pays b (Some other) text p read at seen called = omega arith
 
-autolink-scheme-pays : PaysRows texts true autolink_scheme None
+autolink-scheme-pays : PaysRows texts begins_construct autolink_scheme
 autolink-scheme-pays b None text p read at seen called = omega arith
 autolink-scheme-pays b (Some line_feed) text p read at seen called = omega arith
 autolink-scheme-pays b (Some backtick) text p read at seen called = omega arith
@@ -260,7 +259,7 @@ autolink-scheme-pays b (Some punctuation) text p read at seen called = omega ari
 autolink-scheme-pays b (Some blank) text p read at seen called = omega arith
 autolink-scheme-pays b (Some other) text p read at seen called = omega arith
 
-autolink-url-pays : PaysRows texts true autolink_url None
+autolink-url-pays : PaysRows texts begins_construct autolink_url
 autolink-url-pays b None text p read at seen called = omega arith
 autolink-url-pays b (Some line_feed) text p read at seen called = omega arith
 autolink-url-pays b (Some backtick) text p read at seen called = omega (arith, at)
@@ -275,7 +274,7 @@ autolink-url-pays b (Some punctuation) text p read at seen called = omega (arith
 autolink-url-pays b (Some blank) text p read at seen called = omega arith
 autolink-url-pays b (Some other) text p read at seen called = omega (arith, at)
 
-escape-start-pays : PaysRows texts true escape_start None
+escape-start-pays : PaysRows texts begins_construct escape_start
 escape-start-pays b None text p read at seen called = absurd (cc)
 escape-start-pays b (Some line_feed) text p read at seen called = absurd (cc)
 escape-start-pays b (Some backtick) text p read at seen called = absurd (cc)
@@ -290,7 +289,7 @@ escape-start-pays b (Some punctuation) text p read at seen called = absurd (cc)
 escape-start-pays b (Some blank) text p read at seen called = absurd (cc)
 escape-start-pays b (Some other) text p read at seen called = absurd (cc)
 
-escape-inside-pays : PaysRows texts true escape_inside None
+escape-inside-pays : PaysRows texts begins_construct escape_inside
 escape-inside-pays b None text p read at seen called = omega arith
 escape-inside-pays b (Some line_feed) text p read at seen called = omega arith
 escape-inside-pays b (Some backtick) text p read at seen called = omega arith
@@ -306,12 +305,12 @@ escape-inside-pays b (Some blank) text p read at seen called = omega arith
 escape-inside-pays b (Some other) text p read at seen called = omega arith
 
 -- a state that follows no construct
-pub texts-fit : IsFitBy texts true follows_construct
+pub texts-fit : IsFitBy texts begins_construct follows_construct
 texts-fit = record {
   fits = fits;
   paid = (text-start-pays, (text-before-pays, (text-before-data-pays, (data-at-break-pays, (data-inside-pays, (raw-text-start-pays, (raw-text-sequence-open-pays, (raw-text-between-pays, (raw-text-data-pays, (raw-text-sequence-close-pays, (raw-flow-after-pays, (raw-flow-before-content-chunk-pays, (raw-flow-content-chunk-pays, (autolink-start-pays, (autolink-open-pays, (autolink-scheme-pays, (autolink-url-pays, (escape-start-pays, (escape-inside-pays, tt)))))))))))))))))));
   -- a state after a construct costs less the more was read
-  falls = (no-matter, ((λ is text p q h. outside-falls (length text.seats - p) (length text.seats - q) (omega (arith, h))), (no-matter, (no-matter, (no-matter, (no-matter, (no-matter, (no-matter, (no-matter, (no-matter, ((λ is text p q h. omega arith), (no-matter, (no-matter, (no-matter, (no-matter, (no-matter, (no-matter, (no-matter, (no-matter, tt)))))))))))))))))));
+  falls = ((λ text p q h. outside-falls (length text.seats - p) (length text.seats - q) (omega (arith, h))), ((λ text p q h. omega arith), tt));
 }
 
 pub texts-late : IsLate texts begins_construct follows_construct

@@ -13,7 +13,7 @@ fits previous (Some sign) = refl
 fits previous (Some other) = refl
 
 pub headings-fit : IsFit headings
-headings-fit = record { fits = fits; paid = (tt, (tt, (tt, (tt, tt)))); falls = (tt, (tt, (tt, (tt, tt)))) }
+headings-fit = record { fits = fits; paid = tt; falls = tt }
 
 -- its writes leave nothing to resolve
 one-plain : IsPlainWrite one_sign

@@ -12,7 +12,7 @@ fits previous (Some line_ending) = refl
 fits previous (Some other) = refl
 
 pub starved-fit : IsFit starved
-starved-fit = record { fits = fits; paid = (tt, (tt, (tt, tt))); falls = (tt, (tt, (tt, tt))) }
+starved-fit = record { fits = fits; paid = tt; falls = tt }
 
 -- no state links or writes
 unlinked-rows : (previous current : Option LineByte) → are_plain_states starved.states previous current ≡ true

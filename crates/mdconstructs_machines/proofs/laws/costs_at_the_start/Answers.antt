@@ -17,7 +17,7 @@ returns c = record {
   paragraphs = record { starts = λ g. refl; among = search rules; cost = λ g text flag. omega arith };
   paragraphs_as_text = record { starts = λ g. refl; among = search rules; cost = λ g text flag. omega arith };
   peek = record { starts = λ g. refl; cost = λ g text flag. omega arith };
-  deep = record { starts = λ g. refl; cost = λ g text flag. let all : length text.seats - 0 ≡ length text.seats = omega arith in rw all (triangle-half (length text.seats)) };
+  deep = record { starts = λ g. refl; cost = λ g text flag. let all : length text.seats - 0 ≡ length text.seats = omega arith in rw all (omega (arith, triangle-half (length text.seats))) };
   back = record { starts = λ g. refl; cost = λ g text flag. omega arith };
   save = record { starts = λ g. refl; cost = λ g text flag. omega arith };
   words = record { starts = λ g. refl; cost = λ g text flag. omega arith };

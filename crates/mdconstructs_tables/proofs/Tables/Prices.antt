@@ -1,0 +1,266 @@
+-- The calls of a machine whose table fits are paid for: what the current state and all waiting choices may cost falls at each call.
+use Rattle.mdconstructs_tables.proofs.Prelude.{◌≡◌, ◌≢◌, ◌⊎◌, ℕ, ◌+◌, ◌≤◌, ◌&&◌, ◌||◌, not, List, [], ◌∷◌, ◌++◌, Bool, true, false, cond, Option, Some, None, refl, sym, ap, subst, arith, inl, inr, max, and_from, and_parts, Name, State, Next, Retry, Ok, Nok, AttemptKind, Attempt, Check, Given, Text, IsText, Byte, IsAsFar, Configuration, Choice, Saved, Sight, sight, consumed, with_local, fed, unfed, restored, settled_at, CostPays, Act, consume, choose, StateRows, Table, named, class_of, past, choice_made_at, done, does, chooses, picked, table_step, last_or, is_void_last, saves, Frame, may_go_on, fits_choice, is_early_end, is_early, never, is_behind, outline, IsSaved, first_end, answer_end, ends_at, state_price, choice_price, chosen_price, goes_on, waiting_or_below, waiting_price, table_holds, table_cost, table_price, table_rules, falls_on, FallsLater, AllFallLater, are_falling, is_late_row, IsFitBy, IsFit, every, EventName}
+use Rattle.mdconstructs_tables.proofs.Rows.Misfits.{named-same}
+use Rattle.mdconstructs_tables.proofs.Rows.Laws.{chooses-append}
+use Rattle.mdconstructs_tables.proofs.GrowingTexts.{fed-position}
+use Rattle.mdconstructs_tables.proofs.Tables.Holding.{of_class, before_class, row_of, left_by, IsCall, stays}
+use Rattle.mdconstructs_tables.proofs.Tables.Laws.{each-call, table-consumes_once}
+use Rattle.mdconstructs_tables.proofs.Tables.Costs.{state-falls, go-costs, feeding-pays, call-pays}
+
+-- Positions where choices end with Ok first
+at-least : (b : Bool) (p : ℕ) → p ≤ cond b (p + 1) p
+at-least true p = omega arith
+at-least false p = omega arith
+
+later-first : (b : Bool) (p q : ℕ) → p ≤ q → cond b (p + 1) p ≤ cond b (q + 1) q
+later-first true p q h = omega (arith, h)
+later-first false p q h = h
+
+both-first : (x y : Bool) (p : ℕ) → cond (x && y) (p + 1) p ≤ cond x (p + 1) p
+both-first true true p = omega arith
+both-first true false p = omega arith
+both-first false y p = omega arith
+
+both-second : (x y : Bool) (p : ℕ) → cond (x && y) (p + 1) p ≤ cond y (p + 1) p
+both-second true y p = omega arith
+both-second false y p = at-least y p
+
+implied : (x y : Bool) (p : ℕ) → (not x || y) ≡ true → cond x (p + 1) p ≤ cond y (p + 1) p
+implied true true p h = omega arith
+implied true false p h = absurd (cc)
+implied false y p h = at-least y p
+
+module _ {W R D : Type 0} (table : Table W R D) (g : Given) (early : Name → Option W → Bool) {falling : Name → Bool} (fit : IsFitBy table early falling) where
+  -- all that waits at the current state
+  abbrev waits : Text → ℕ → List Choice → ℕ
+  waits = waiting_price table
+
+  abbrev now : Text → Configuration R D → State → ℕ
+  now text k a = answer_end early (of_class table g text k) k.position a
+
+  -- Choices that wait cost no more if they end later
+  module _ (below : ℕ → ℕ) (falls : (p q : ℕ) → p ≤ q → below q ≤ below p) (text : Text) where
+    goes-on-falls : (a : State) (p q : ℕ) → falls_on falling a ≡ true → p ≤ q → goes_on table below text q a ≤ goes_on table below text p a
+    goes-on-falls a p q may h =
+        let own = state-falls table g early fit a text p q may h in
+        let rest = falls (first_end p a) (first_end q a) (later-first (is_early_end a) p q h) in
+        omega (arith, own, rest)
+
+    one-falls : (kind : AttemptKind) (saved : Option Saved) (ok nok : State) (p q : ℕ) → (kind ≡ Attempt → falls_on falling ok ≡ true) → p ≤ q
+        → waiting_or_below table below text q kind saved ok nok ≤ waiting_or_below table below text p kind saved ok nok
+    one-falls Attempt None ok nok p q may h = omega (arith, goes-on-falls ok p q (may refl) h, falls p q h)
+    one-falls Attempt (Some saved) ok nok p q may h = omega (arith, goes-on-falls ok p q (may refl) h)
+    one-falls Check None ok nok p q may h = omega arith
+    one-falls Check (Some saved) ok nok p q may h = omega arith
+
+  waiting-falls : (cs : List Choice) (text : Text) (p q : ℕ) → AllFallLater falling cs → p ≤ q → waits text q cs ≤ waits text p cs
+  waiting-falls [] text p q all h = omega arith
+  waiting-falls (c ∷ cs) text p q all h = one-falls (λ p. waits text p cs) (λ p q h. waiting-falls cs text p q all.1 h) text c.kind c.saved c.ok c.nok p q all.0 h
+
+  -- A choice that is made, above choices that cost at most this if they end behind where the rest of the acts begin
+  module _ (w : Option W) (text : Text) (k : Configuration R D) (X : List Choice) (B : ℕ) (acts : List (Act R D)) (answer : State) where
+    abbrev EndsFrom : ℕ → Type 0
+    EndsFrom p = (e : ℕ) → p ≤ e → waits text e X ≤ B
+
+    made-costs : (kind : AttemptKind) (ok nok : State) (e : ℕ) → (kind ≡ Attempt → falls_on falling ok ≡ true) → EndsFrom (ends_at early w k.position (choose kind ok nok ∷ acts) answer) → ends_at early w k.position acts answer ≤ e
+        → waits text e (choice_made_at kind ok nok k ∷ X) ≤ choice_price table text (ends_at early w k.position acts answer) k.position kind ok nok + B
+    made-costs Check ok nok e may all late =
+        let p = k.position in
+        let one = all (first_end p ok) (both-first (is_early_end ok) (is_early_end nok) p) in
+        let other = all (first_end p nok) (both-second (is_early_end ok) (is_early_end nok) p) in
+        omega (arith, one, other)
+    made-costs Attempt ok Nok e may all late =
+        let later = ends_at early w k.position acts answer in
+        let own = state-falls table g early fit ok text later e (may refl) late in
+        let behind = at-least (is_early_end ok) e in
+        let one = all (first_end e ok) (omega (arith, late, behind)) in
+        let other = all e late in
+        omega (arith, own, one, other)
+    made-costs Attempt ok nok e may all late =
+        let p = k.position in
+        let later = ends_at early w p acts answer in
+        let own = state-falls table g early fit ok text later e (may refl) late in
+        let behind = at-least (is_early_end ok) e in
+        let sooner = both-second (is_early_end nok) (is_behind early w acts answer) p in
+        let one = all (first_end e ok) (omega (arith, late, behind, sooner)) in
+        let other = all (first_end p nok) (both-first (is_early_end nok) (is_behind early w acts answer) p) in
+        omega (arith, own, one, other)
+
+  -- an attempt that is made goes on with what costs less later
+  may-fall : (kind : AttemptKind) (ok nok : State) (acts : List (Act R D)) → are_falling falling (choose kind ok nok ∷ acts) ≡ true → (kind ≡ Attempt → falls_on falling ok ≡ true) × (are_falling falling acts ≡ true)
+  may-fall Attempt ok nok acts h = let (one, rest) = and_parts (falls_on falling ok) (are_falling falling acts) h in ((λ e. one), rest)
+  may-fall Check ok nok acts h = ((λ e. absurd (cc)), h)
+
+  -- the choices that acts make cost what was counted for them
+  chosen-costs : (acts : List (Act R D)) (answer : State) (w : Option W) (text : Text) (s : Sight) (k : Configuration R D) (X : List Choice) (B : ℕ) → are_falling falling acts ≡ true
+      → ((e : ℕ) → ends_at early w k.position acts answer ≤ e → waits text e X ≤ B)
+      → waits text (answer_end early w (does acts s k).position answer) (chooses acts s k X) ≤ chosen_price table early w text k.position acts answer + B
+  chosen-costs [] answer w text s k X B fall all = let paid = all (answer_end early w k.position answer) (omega arith) in omega (arith, paid)
+  chosen-costs (consume ∷ acts) answer w text s k X B fall all =
+      let more = at-least (is_behind early w acts answer) (k.position + 1) in
+      chosen-costs acts answer w text (past s) (consumed k) X B fall (λ e late. all e (omega (arith, late, more)))
+  chosen-costs (choose kind ok nok ∷ acts) answer w text s k X B fall all =
+      let (may, rest) = may-fall kind ok nok acts fall in
+      let price = choice_price table text (ends_at early w k.position acts answer) k.position kind ok nok in
+      let others = chosen-costs acts answer w text s k (choice_made_at kind ok nok k ∷ X) (price + B) rest (λ e late. made-costs w text k X B acts answer kind ok nok e may all late) in
+      omega (arith, others)
+  chosen-costs (act ∷ acts) answer w text s k X B fall all = chosen-costs acts answer w text s (done act s k) X B fall all
+
+  made-fall : (kind : AttemptKind) (ok nok : State) (k : Configuration R D) → (kind ≡ Attempt → falls_on falling ok ≡ true) → FallsLater falling (choice_made_at kind ok nok k)
+  made-fall Attempt ok nok k may = λ e. may refl
+  made-fall Check ok nok k may = λ e. absurd (cc)
+
+  -- and go on with what costs less later
+  pub chosen-fall : (acts : List (Act R D)) (s : Sight) (k : Configuration R D) (X : List Choice) → are_falling falling acts ≡ true → AllFallLater falling X → AllFallLater falling (chooses acts s k X)
+  chosen-fall [] s k X fall all = all
+  chosen-fall (consume ∷ acts) s k X fall all = chosen-fall acts (past s) (consumed k) X fall all
+  chosen-fall (choose kind ok nok ∷ acts) s k X fall all =
+      let (may, rest) = may-fall kind ok nok acts fall in chosen-fall acts s k (choice_made_at kind ok nok k ∷ X) rest (made-fall kind ok nok k may, all)
+  chosen-fall (act ∷ acts) s k X fall all = chosen-fall acts s (done act s k) X fall all
+
+  -- what is returned without a byte read ends no choice where it is called, or it does, as before
+  same-end : (a : State) (w w' : Option W) (p : ℕ) → ((n : Name) → a ≡ Retry n → w' ≡ w) → answer_end early w' p a ≡ answer_end early w p a
+  same-end (Retry name) w w' p same = ap (λ v. answer_end early v p (Retry name)) (same name refl)
+  same-end a w w' p same = refl
+
+  -- each row of a state that is called passes the test of late rows
+  abbrev pub AreLate : Type 0
+  AreLate = (b w : Option W) (name : Name) (state : StateRows W R D) → named table.states name ≡ Some state → (s : Sight) (k : Configuration R D)
+      → is_late_row early falling w state.name (picked (state.rows b w) g s k) ≡ true
+
+  module _ (are_late : AreLate) (text : Text) (k : Configuration R D) (choices : List Choice) where
+    -- what the row of a call passes
+    pub passes : (name : Name) → (c : IsCall table g text k choices name) → let r = row_of table g text k c.state in let w = of_class table g text k in
+        (are_falling falling r.acts ≡ true) × ((not (early name w) || is_behind early w r.acts r.answer) ≡ true)
+    passes name c =
+        let r = row_of table g text k c.state in
+        let w = of_class table g text k in
+        let passed = are_late (before_class table g text k) w name c.state c.is (sight g text k) (with_local k (table.first k.local)) in
+        let (acts, rest) = and_parts (are_falling falling r.acts) _ passed in
+        (acts, subst (λ n. (not (early (record { number = n }) w) || is_behind early w r.acts r.answer) ≡ true) (sym (named-same table.states name c.state c.is)) rest)
+
+    pub calls-pay : (name : Name) → IsText g text → table_holds table g text k choices (Retry name) → AllFallLater falling choices
+        → let q = table_step table g (sight g text k) k name in 1 + table_price table early g text q.configuration (q.choices ++ choices) q.answer ≤ table_price table early g text k choices (Retry name)
+    calls-pay name is h all =
+        let w = of_class table g text k in
+        let once = table-consumes_once table g fit text k choices name is h in
+        each-call table g fit
+        (λ q. (IsAsFar q.configuration k × ((n : Name) → q.answer ≢ Next n)) ⊎ ((k.waiting ≡ Byte) × IsAsFar q.configuration (consumed k) × ((n : Name) → q.answer ≢ Retry n))
+        → 1 + table_price table early g text q.configuration (q.choices ++ choices) q.answer ≤ table_price table early g text k choices (Retry name)) text k choices name is h
+        (λ c once.
+        let s = sight g text k in
+        let k1 = with_local k (table.first k.local) in
+        let r = row_of table g text k c.state in
+        let left = left_by table g text k c.state in
+        let (fall, late) = passes name c in
+        let q = answer_end early w k.position (Retry name) in
+        let sooner = implied (early name w) (is_behind early w r.acts r.answer) k.position late in
+        let made = chosen-costs r.acts r.answer w text s k1 choices (waits text q choices) fall (λ e from. waiting-falls choices text q e all (omega (arith, sooner, from))) in
+        let paid = call-pays table g early fit text k choices name h c in
+        let same : (n : Name) → r.answer ≡ Retry n → of_class table g text left ≡ w = λ n e. elim once [
+          | inl here ↦ ap (λ s. class_of table.class s.current) (stays table g text k left here.0)
+          | inr reads ↦ absurd (reads.2 n e)
+        ] in
+        let end = same-end r.answer w (of_class table g text left) left.position same in
+        let wait = chooses-append r.acts s k1 [] choices in
+        let price : waits text (answer_end early (of_class table g text left) left.position r.answer) (chooses r.acts s k1 [] ++ choices) ≡ waits text (answer_end early w left.position r.answer) (chooses r.acts s k1 choices) = rw (end, wait) refl in
+        omega (arith, paid, made, price)) once
+
+    -- a state that is fed
+    pub fed-pays : (name : Name) → table_holds table g text k choices (Next name) → AllFallLater falling choices
+        → table_price table early g text (fed text k) choices (Retry name) ≤ table_price table early g text k choices (Next name)
+    fed-pays name h all =
+        let w = of_class table g text (fed text k) in
+        let own = feeding-pays table g early fit text k choices name h in
+        let there = fed-position text k in
+        let more = at-least (early name w) (fed text k).position in
+        let waiting = waiting-falls choices text k.position (answer_end early w (fed text k).position (Retry name)) all (omega (arith, there, more)) in
+        omega (arith, own, waiting)
+
+  module _ (c : Choice) (cs : List Choice) (f : Frame W) (stack : List EventName) (text : Text) (k : Configuration R D) where
+    -- what goes on where a choice was made ends choices as its name says
+    go-ends : (known there : Option W) (p : ℕ) (a : State) → may_go_on table.states f known a ≡ true → waits text (answer_end early there p a) cs ≡ waits text (first_end p a) cs
+    go-ends known there p (Retry name) h = absurd (cc)
+    go-ends known there p a h = refl
+
+    -- what a choice goes on with costs at most what was counted for the choice
+    ok-costs : (kind : AttemptKind) (b : Bool) (saved : Option Saved) → saves kind c.nok ≡ b → fits_choice table.states f kind c.ok c.nok ≡ true → IsSaved table.class g text k.position (outline k) stack f b saved
+        → table_price table early g text (settled_at kind saved Ok k) cs c.ok ≤ waiting_or_below table (λ p. waits text p cs) text k.position kind saved c.ok c.nok
+    ok-costs Attempt true (Some saved) is fit_it h =
+        let may = (and_parts (may_go_on table.states f None c.ok) _ fit_it).0 in
+        let cost = go-costs table g early fit f None c.ok text (unfed k) may in
+        let ends = go-ends None (of_class table g text (unfed k)) k.position c.ok may in
+        omega (arith, cost, ends)
+    ok-costs Attempt false None is fit_it h =
+        let may = (and_parts (may_go_on table.states f None c.ok) _ fit_it).0 in
+        let cost = go-costs table g early fit f None c.ok text (unfed k) may in
+        let ends = go-ends None (of_class table g text (unfed k)) k.position c.ok may in
+        omega (arith, cost, ends)
+    ok-costs Check true (Some saved) is fit_it h =
+        let may = (and_parts (may_go_on table.states f f.waits c.ok) (may_go_on table.states f f.waits c.nok) fit_it).0 in
+        let cost = go-costs table g early fit f f.waits c.ok text (restored (Some saved) k) may in
+        let ends = go-ends f.waits (of_class table g text (restored (Some saved) k)) saved.position c.ok may in
+        omega (arith, cost, ends)
+    ok-costs Check false saved is fit_it h = absurd (cc)
+    ok-costs kind b saved is fit_it h = absurd h
+
+    unsaved-costs : (a : State) → saves Attempt a ≡ false → table_price table early g text (unfed k) cs a ≤ waits text (k.position + 1) cs
+    unsaved-costs Nok is = omega arith
+    unsaved-costs a is = absurd (cc)
+
+    nok-costs : (kind : AttemptKind) (b : Bool) (saved : Option Saved) → saves kind c.nok ≡ b → fits_choice table.states f kind c.ok c.nok ≡ true → IsSaved table.class g text k.position (outline k) stack f b saved
+        → table_price table early g text (settled_at kind saved Nok k) cs c.nok ≤ waiting_or_below table (λ p. waits text p cs) text (k.position + 1) kind saved c.ok c.nok
+    nok-costs Attempt true (Some saved) is fit_it h =
+        let rest = (and_parts (may_go_on table.states f None c.ok) (not (is_void_last (last_or None f.spans)) && may_go_on table.states f f.waits c.nok) fit_it).1 in
+        let may = (and_parts (not (is_void_last (last_or None f.spans))) (may_go_on table.states f f.waits c.nok) rest).1 in
+        let cost = go-costs table g early fit f f.waits c.nok text (restored (Some saved) k) may in
+        let ends = go-ends f.waits (of_class table g text (restored (Some saved) k)) saved.position c.nok may in
+        omega (arith, cost, ends)
+    nok-costs Attempt false None is fit_it h = let cost = unsaved-costs c.nok is in omega (arith, cost)
+    nok-costs Check true (Some saved) is fit_it h =
+        let may = (and_parts (may_go_on table.states f f.waits c.ok) (may_go_on table.states f f.waits c.nok) fit_it).1 in
+        let cost = go-costs table g early fit f f.waits c.nok text (restored (Some saved) k) may in
+        let ends = go-ends f.waits (of_class table g text (restored (Some saved) k)) saved.position c.nok may in
+        omega (arith, cost, ends)
+    nok-costs Check false saved is fit_it h = absurd (cc)
+    nok-costs kind b saved is fit_it h = absurd h
+
+  pub ok-pays : (text : Text) (k : Configuration R D) (c : Choice) (cs : List Choice) → table_holds table g text k (c ∷ cs) Ok
+      → table_price table early g text (settled_at c.kind c.saved Ok k) cs c.ok ≤ table_price table early g text k (c ∷ cs) Ok
+  ok-pays text k c cs h =
+      let w = h.1.waiting.0 in
+      let cost = ok-costs c cs w.frame h.1.base text k c.kind (saves c.kind c.nok) c.saved refl w.fits w.saved in
+      omega (arith, cost)
+
+  pub nok-pays : (text : Text) (k : Configuration R D) (c : Choice) (cs : List Choice) → table_holds table g text k (c ∷ cs) Nok
+      → table_price table early g text (settled_at c.kind c.saved Nok k) cs c.nok ≤ table_price table early g text k (c ∷ cs) Nok
+  nok-pays text k c cs h =
+      let w = h.1.waiting.0 in
+      let cost = nok-costs c cs w.frame h.1.base text k c.kind (saves c.kind c.nok) c.saved refl w.fits w.saved in
+      omega (arith, cost)
+
+-- If all states cost less later and none is early, each row passes
+every-falls : (a : State) → falls_on every a ≡ true
+every-falls (Next name) = refl
+every-falls a = refl
+
+module _ {R D : Type 0} where
+  every-falling : (acts : List (Act R D)) → are_falling every acts ≡ true
+  every-falling [] = refl
+  every-falling (choose Attempt ok nok ∷ acts) = and_from (falls_on every ok) (are_falling every acts) (every-falls ok) (every-falling acts)
+  every-falling (choose Check ok nok ∷ acts) = every-falling acts
+  every-falling (act ∷ acts) = every-falling acts
+
+all-fall : (choices : List Choice) → AllFallLater every choices
+all-fall [] = tt
+all-fall (c ∷ cs) = ((λ e. every-falls c.ok), all-fall cs)
+
+pub table-cost_pays : {W R D : Type 0} (table : Table W R D) (g : Given) → IsFit table → CostPays g (table_rules table g)
+table-cost_pays table g fit =
+    let late : AreLate table g never fit = λ b w name state is s k. let acts = (picked (state.rows b w) g s k).acts in and_from (are_falling every acts) true (every-falling acts) refl in
+    record {
+      for_calls = λ text k choices name is h. calls-pay table g never fit late text k choices name is h (all-fall choices);
+      for_feeding = λ text k choices name is h. fed-pays table g never fit late text k choices name h (all-fall choices);
+      for_ok = λ text k choice choices is h. ok-pays table g never fit text k choice choices h;
+      for_nok = λ text k choice choices is h. nok-pays table g never fit text k choice choices h;
+    }
