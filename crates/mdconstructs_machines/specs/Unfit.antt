@@ -4,10 +4,11 @@ use Rattle.std.specs.Prelude.{ℕ, ◌∷◌, [], Option, Some, None}
 use Rattle.markdown_base.specs.declared.event.Name.TheVariants.{Paragraph, LineEnding}
 use Rattle.markdown_base.specs.declared.state.TheConstants.Name.{FlowStart, ParagraphInside}
 use Rattle.markdown_base.specs.declared.state.State.TheVariants.{Next, Retry, Ok, Nok}
+use Rattle.markdown_tokenizer.specs.declared.waiting.AttemptKind.TheVariants.{Attempt}
 use Rattle.markdown_edits.specs.Edits.{edit_at, added_after}
 use Rattle.markdown_tokenizer.specs.Configuration.{Configuration, Local}
 use Rattle.markdown_tokenizer.specs.Text.{Text}
-use Rattle.mdconstructs_tables.specs.Rows.{enter, exit, consume, write, Rows, row, calls, costs, state, Table}
+use Rattle.mdconstructs_tables.specs.Rows.{enter, exit, consume, write, choose, Rows, row, a_choice_for_ok, calls, costs, state, Table}
 use Rattle.mdconstructs_machines.specs.Tables.{LineByte, line_ending, other, line_byte, counts}
 use Rattle.mdconstructs_machines.specs.Lines.{lines, flow_start_rows, flow_start, paragraph_inside}
 
@@ -42,6 +43,29 @@ unpaid_lines = record lines { states = record flow_start { cost = calls 1 1 } �
 -- `start`: a reading starts in a line, whose spans are not open
 abbrev pub starts_inside : Table LineByte Unit Unit
 starts_inside = record lines { starts = ParagraphInside ∷ [] }
+
+-- at a byte an attempt goes round that saves nothing: it goes on with the state that tried
+abbrev pub round_by : ((previous current : Option LineByte) → Rows Unit Unit) → ((previous current : Option LineByte) → Rows Unit Unit) → Table LineByte Unit Unit
+round_by rows tried = record lines {
+  states = state FlowStart rows [] (calls 2 1) ∷ record (state ParagraphInside tried [] (calls 0 1)) { needs = a_choice_for_ok } ∷ [];
+}
+
+-- `unpaid`: no byte is read on the way round
+abbrev pub goes_round_in_place : (previous current : Option LineByte) → Rows Unit Unit
+goes_round_in_place _ None = row [] Ok
+goes_round_in_place _ (Some _) = row (choose Attempt (Next FlowStart) Nok ∷ []) (Retry ParagraphInside)
+
+abbrev pub ends_well : (previous current : Option LineByte) → Rows Unit Unit
+ends_well _ _ = row [] Ok
+
+-- `choice`: the attempt fails at a line ending, and there is nothing to go back to
+abbrev pub goes_round : (previous current : Option LineByte) → Rows Unit Unit
+goes_round _ None = row [] Ok
+goes_round _ (Some _) = row (choose Attempt (Next FlowStart) Nok ∷ consume ∷ []) (Next ParagraphInside)
+
+abbrev pub fails_at_line_ending : (previous current : Option LineByte) → Rows Unit Unit
+fails_at_line_ending _ (Some line_ending) = row [] Nok
+fails_at_line_ending _ _ = row [] Ok
 
 -- a cost that is none
 abbrev pub no_cost : Text → ℕ → ℕ

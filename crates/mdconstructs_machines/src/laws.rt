@@ -12,7 +12,7 @@ ghost use Rattle.mdconstructs_machines.specs.Innermost.{AccountsForDocuments};
 ghost use Rattle.mdconstructs_machines.specs.LineEvents.{line_events, data_events, save_events, back_events};
 ghost use Rattle.mdconstructs_machines.specs.ReadAs.{IsReadAs};
 ghost use Rattle.mdconstructs_machines.specs.Tables.{line_ending, other};
-ghost use Rattle.mdconstructs_machines.specs.Unfit.{lines_with, consumes_twice, enters_no_data, gives_up, consumes_nothing, unpaid_lines, starts_inside, uncounted_lines, editing};
+ghost use Rattle.mdconstructs_machines.specs.Unfit.{lines_with, consumes_twice, enters_no_data, gives_up, consumes_nothing, unpaid_lines, round_by, goes_round_in_place, goes_round, ends_well, fails_at_line_ending, starts_inside, uncounted_lines, editing};
 ghost use Rattle.mdconstructs_machines.specs.Lines.{lines_rules};
 ghost use Rattle.mdconstructs_machines.specs.Paragraphs.{paragraphs_rules};
 ghost use Rattle.mdconstructs_machines.specs.Peek.{peek_rules};
@@ -65,13 +65,16 @@ pub fn innermost_spans_account_for_documents()
 {}
 
 /// The test of a table names each state that does not fit, with the reason. The tables here are the table of lines with
-/// one thing changed.
+/// one thing changed, and three that go round through an attempt that saves nothing: the third has no misfit.
 pub fn misfits_have_reasons()
     ensures act { misfits (lines_with consumes_twice) None (Some line_ending) ≡ (FlowStart, act) ∷ [] }
     ensures spans { misfits (lines_with enters_no_data) None (Some other) ≡ (FlowStart, spans) ∷ [] }
     ensures choice { misfits (lines_with gives_up) None (Some line_ending) ≡ (FlowStart, choice) ∷ [] }
     ensures answer { misfits (lines_with consumes_nothing) None (Some line_ending) ≡ (FlowStart, answer) ∷ [] }
     ensures unpaid { misfits unpaid_lines None (Some other) ≡ (FlowStart, unpaid) ∷ [] }
+    ensures round_in_place { misfits (round_by goes_round_in_place ends_well) None (Some other) ≡ (FlowStart, unpaid) ∷ [] }
+    ensures round_and_fails { misfits (round_by goes_round fails_at_line_ending) None (Some line_ending) ≡ (ParagraphInside, choice) ∷ [] }
+    ensures round { misfits (round_by goes_round ends_well) None (Some other) ≡ [] }
     ensures start { misfits starts_inside None (Some other) ≡ (ParagraphInside, start) ∷ [] }
 {}
 

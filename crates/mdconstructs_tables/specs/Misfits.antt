@@ -6,7 +6,7 @@ use Rattle.markdown_base.specs.declared.state.Name.{Name}
 use Rattle.markdown_base.specs.declared.state.State.{State}
 use Rattle.markdown_base.specs.declared.state.State.TheVariants.{Next, Retry, Ok, Nok, Error}
 use Rattle.mdconstructs_tables.specs.Rows.{Row, StateRows, Table, named}
-use Rattle.mdconstructs_tables.specs.RowTest.{Shape, same_names, needs_choice, is_some, is_end, all_rows, start_shape, after_all, allows_all, fits_choices, fits_row, fits_calls, is_called, may_start}
+use Rattle.mdconstructs_tables.specs.RowTest.{Shape, same_names, needs_choice, needs_failing, is_some, is_end, all_rows, start_shape, after_all, allows_all, fits_choices, fits_row, fits_calls, is_called, may_start}
 
 -- Why a state does not fit, or why no reading may start with a name
 pub data Reason : Type 0 where
@@ -45,17 +45,17 @@ module _ {W R D : Type 0} (states : List (StateRows W R D)) where
   fits_spans p Ok = same_names p.spans []
   fits_spans p _ = true
 
-  -- a choice waits, or a state needs none
-  abbrev pub has_its_choice : (within read : Bool) → Option (StateRows W R D) → Bool
-  has_its_choice within read None = true
-  has_its_choice within read (Some state) = not (needs_choice state.needs read) || within
+  -- the choice waits that a state needs, or it needs none
+  abbrev pub has_its_choice : Shape → (read : Bool) → Option (StateRows W R D) → Bool
+  has_its_choice p read None = true
+  has_its_choice p read (Some state) = (not (needs_choice state.needs read) || p.within) && (not (needs_failing state.needs read) || p.failing)
 
-  -- a choice waits if what a row returns needs one; Nok needs one, and Ok too unless all was read
+  -- a choice waits if what a row returns needs one; Nok needs one that may end with it, and Ok needs one unless all was read
   abbrev pub has_choice : (read : Bool) → Shape → State → Bool
-  has_choice read p (Next name) = has_its_choice p.within true (named states name)
-  has_choice read p (Retry name) = has_its_choice p.within read (named states name)
+  has_choice read p (Next name) = has_its_choice p true (named states name)
+  has_choice read p (Retry name) = has_its_choice p read (named states name)
   has_choice read p Ok = p.within || is_end p.stage
-  has_choice read p Nok = p.within
+  has_choice read p Nok = p.failing
   has_choice read p (Error message) = true
 
   -- each row of a state, with what is open after its acts, passes a test

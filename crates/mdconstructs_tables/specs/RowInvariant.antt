@@ -22,7 +22,7 @@ use Rattle.markdown_tokenizer.specs.Rules.{Rules}
 use Rattle.markdown_tokenizer.specs.Engine.{EndsWellFormed}
 use Rattle.markdown_tokenizer.specs.Plain.{finds_nothing, NothingResolves}
 use Rattle.mdconstructs_tables.specs.Rows.{Act, exit, consume, choose, Rows, row, when, Row, Calls, Cost, by_bytes, own, StateRows, Table, class_of, step_of, row_at, named, table_step}
-use Rattle.mdconstructs_tables.specs.RowTest.{is_void_last, Stage, byte_waits, Frame, allows_all, first_stage, start_shape, saves, fresh_at, fresh_fed, needs_choice, is_called_at, is_some, is_early_end, is_early, is_behind, never, fits_choice, calls_at}
+use Rattle.mdconstructs_tables.specs.RowTest.{is_void_last, Stage, byte_waits, Frame, allows_all, first_stage, start_shape, saves, fresh_at, fresh_fed, needs_choice, needs_failing, is_called_at, is_some, is_early_end, is_early, is_behind, never, fits_choice, calls_at}
 use Rattle.mdconstructs_tables.specs.Markers.{IsMarkable}
 
 -- the events of a configuration, without the ends of their links
@@ -77,6 +77,20 @@ abbrev pub AnyWait : List Choice → Type 0
 AnyWait [] = ⊥
 AnyWait (c ∷ cs) = Unit {0}
 
+-- a choice goes on after Nok with what does not fail, or with Nok, and then this holds
+abbrev pub GoesBack : (nok : State) → Type 0 → Type 0
+GoesBack Nok P = P
+GoesBack nok P = Unit {0}
+
+-- a choice waits that goes back after Nok
+abbrev pub AnyGoesBack : List Choice → Type 0
+AnyGoesBack [] = ⊥
+AnyGoesBack (c ∷ cs) = GoesBack c.nok (AnyGoesBack cs)
+
+-- a choice waits if the test says so, and one that goes back after Nok if it says that
+abbrev pub MayEnd : (within failing : Bool) → List Choice → Type 0
+MayEnd within failing choices = (within ≡ true → AnyWait choices) × (failing ≡ true → AnyGoesBack choices)
+
 -- What a choice saved: the stack at that time, a position up to this one, events that are a front of these, with the spans as they were
 -- then, and the byte that waited
 pub record IsSavedIn {W : Type 0} (class : ℕ → W) (g : Given) (text : Text) (position : ℕ) (events : List Event) (stack : List EventName) (f : Frame W) (saved : Saved) : Type 0 where
@@ -112,7 +126,7 @@ module _ {W R D : Type 0} (class : ℕ → W) (states : List (StateRows W R D)) 
     pub stack_is : stack ≡ below ++ frame.spans
     pub fits : fits_choice states frame c.kind c.ok c.nok ≡ true
     pub saved : IsSaved class g text position events stack frame (saves c.kind c.nok) c.saved
-    pub within : frame.within ≡ true → AnyWait cs
+    pub within : MayEnd frame.within frame.failing cs
 
   -- Choices wait above these spans, each within what the one made after it saved
   abbrev pub AreWaiting : Given → Text → ℕ → List Event → List EventName → List Choice → Type 0
@@ -167,7 +181,7 @@ pub record IsOpen {W R D : Type 0} (class : ℕ → W) (state : StateRows W R D)
   pub began : Began where_to (outline k)
   pub void : is_void_last (last_or None state.spans) ≡ true → EndsWithEnter (outline k)
   pub below : All (IsBelow base) choices
-  pub needs : needs_choice state.needs (is_read k.position) ≡ true → AnyWait choices
+  pub needs : let read = is_read k.position in MayEnd (needs_choice state.needs read) (needs_failing state.needs read) choices
   pub called : is_called_at state.called (class_in class text k.position) ≡ true
 
 -- A call began: it is counted, and the machine's own fields were written
@@ -234,11 +248,11 @@ module _ {W R D : Type 0} (table : Table W R D) where
     pub waiting : AreWaiting table.class table.states g text k.position (outline k) base choices
     pub ended : AnyWait choices ⊎ (k.ended ≡ true)
 
-  -- Nok: a choice waits
+  -- Nok: a choice waits that goes back
   pub record IsFailing (g : Given) (text : Text) (k : Configuration R D) (choices : List Choice) : Type 0 where
     pub base : List EventName
     pub waiting : AreWaiting table.class table.states g text k.position (outline k) base choices
-    pub any : AnyWait choices
+    pub any : AnyGoesBack choices
 
   -- the invariant at a state that a call returned
   abbrev pub HoldsAt : Given → Text → Configuration R D → List Choice → State → Type 0
@@ -322,15 +336,15 @@ module _ {W R D : Type 0} (table : Table W R D) where
   table_cost g text k _ = 0
 
   -- A state goes on at a position, above choices that may take this much, by where they end with Ok first
-  abbrev pub goes_on : (below : ℕ → ℕ) → Text → ℕ → State → ℕ
-  goes_on below text p a = state_price text p a + below (first_end p a)
+  abbrev pub goes_on_price : (below : ℕ → ℕ) → Text → ℕ → State → ℕ
+  goes_on_price below text p a = state_price text p a + below (first_end p a)
 
   -- How many calls a choice that waits and the ones below it may take, if it ends with Ok at this position or behind it. An attempt goes on
   -- there; after Nok, and a check after both, the choice goes on where it was made. One that saved nothing fails where it is.
   abbrev pub waiting_or_below : (below : ℕ → ℕ) → Text → (later : ℕ) → AttemptKind → Option Saved → (ok nok : State) → ℕ
-  waiting_or_below below text later Attempt None ok nok = max (goes_on below text later ok) (below later)
-  waiting_or_below below text later Attempt (Some saved) ok nok = max (goes_on below text later ok) (goes_on below text saved.position nok)
-  waiting_or_below below text later Check (Some saved) ok nok = max (goes_on below text saved.position ok) (goes_on below text saved.position nok)
+  waiting_or_below below text later Attempt None ok nok = max (goes_on_price below text later ok) (below later)
+  waiting_or_below below text later Attempt (Some saved) ok nok = max (goes_on_price below text later ok) (goes_on_price below text saved.position nok)
+  waiting_or_below below text later Check (Some saved) ok nok = max (goes_on_price below text saved.position ok) (goes_on_price below text saved.position nok)
   waiting_or_below below text later Check None ok nok = 0
 
   -- how many calls all choices that wait may take, if the last one ends with Ok at this position or behind it

@@ -9,7 +9,7 @@ use Rattle.markdown_base.specs.declared.state.State.TheVariants.{Next, Retry, Ok
 use Rattle.markdown_base.specs.Events.{is_void, same_name}
 use Rattle.markdown_tokenizer.specs.declared.waiting.AttemptKind.{AttemptKind}
 use Rattle.markdown_tokenizer.specs.declared.waiting.AttemptKind.TheVariants.{Attempt, Check}
-use Rattle.mdconstructs_tables.specs.Rows.{Act, enters, exit, consume, links, write, choose, Rows, row, when, Row, Calls, Cost, by_bytes, own, Begun, before, at_byte, here, Called, anywhere, at_a_byte, at_bytes, Needs, nothing, a_choice, a_choice_once_read, StateRows, named}
+use Rattle.mdconstructs_tables.specs.Rows.{Act, enters, exit, consume, links, write, choose, Rows, row, when, Row, Calls, Cost, by_bytes, own, Begun, before, at_byte, here, Called, anywhere, at_a_byte, at_bytes, Needs, nothing, a_choice, a_choice_once_read, a_choice_for_ok, StateRows, named}
 
 -- the innermost span is of a void name
 abbrev pub is_void_last : Option EventName → Bool
@@ -23,13 +23,14 @@ pub data Stage : Type 0 where
   byte_read : Stage
 
 -- What is open in a call: the spans since the last choice was made; whether one of them may have begun at the byte that waits or at the
--- current place; whether the last event is the innermost one's enter; and whether a choice waits
+-- current place; whether the last event is the innermost one's enter; whether a choice waits; and whether one waits that may end with Nok
 pub record Shape : Type 0 where
   pub stage : Stage
   pub spans : List EventName
   pub fresh : Bool
   pub bare : Bool
   pub within : Bool
+  pub failing : Bool
 
 abbrev pub is_byte_waiting : Stage → Bool
 is_byte_waiting byte_waits = true
@@ -96,6 +97,12 @@ abbrev pub needs_choice : Needs → (read : Bool) → Bool
 needs_choice nothing read = false
 needs_choice a_choice read = true
 needs_choice a_choice_once_read read = read
+needs_choice a_choice_for_ok read = true
+
+-- whether that choice may end with Nok
+abbrev pub needs_failing : Needs → (read : Bool) → Bool
+needs_failing a_choice_for_ok read = false
+needs_failing needs read = needs_choice needs read
 
 -- no event came since a void span began
 abbrev pub is_bare : Shape → Bool
@@ -111,13 +118,18 @@ allows (links previous next) p = true
 allows (write f) p = true
 allows (choose kind ok nok) p = not p.fresh && is_bare p
 
+-- whether a choice that goes on with this after Nok may end with Nok, by whether the ones below it may
+abbrev pub may_fail : (nok : State) → (below : Bool) → Bool
+may_fail Nok below = below
+may_fail nok below = true
+
 abbrev pub after : {R D : Type 0} → Act R D → Shape → Shape
-after (enters name link) p = record { stage = p.stage; spans = p.spans ++ name ∷ []; fresh = true; bare = true; within = p.within }
-after (exit name) p = record { stage = p.stage; spans = take (length p.spans - 1) p.spans; fresh = p.fresh; bare = false; within = p.within }
-after consume p = record { stage = byte_read; spans = p.spans; fresh = false; bare = p.bare; within = p.within }
+after (enters name link) p = record { stage = p.stage; spans = p.spans ++ name ∷ []; fresh = true; bare = true; within = p.within; failing = p.failing }
+after (exit name) p = record { stage = p.stage; spans = take (length p.spans - 1) p.spans; fresh = p.fresh; bare = false; within = p.within; failing = p.failing }
+after consume p = record { stage = byte_read; spans = p.spans; fresh = false; bare = p.bare; within = p.within; failing = p.failing }
 after (links previous next) p = p
 after (write f) p = p
-after (choose kind ok nok) p = record { stage = p.stage; spans = []; fresh = false; bare = false; within = true }
+after (choose kind ok nok) p = record { stage = p.stage; spans = []; fresh = false; bare = false; within = true; failing = may_fail nok p.failing }
 
 abbrev pub allows_all : {R D : Type 0} → List (Act R D) → Shape → Bool
 allows_all [] p = true
@@ -148,13 +160,16 @@ start_shape b w state = record {
   fresh = fresh_at state.begun w;
   bare = is_void_last (last_or None state.spans);
   within = needs_choice state.needs (is_some b);
+  failing = needs_failing state.needs (is_some b);
 }
 
--- Where a choice is made: the spans since the previous choice, the byte that waits there, if that is known, and whether a choice waits
+-- Where a choice is made: the spans since the previous choice, the byte that waits there, if that is known, whether a choice waits, and
+-- whether one waits that may end with Nok
 pub record Frame (W : Type 0) : Type 0 where
   pub spans : List EventName
   pub waits : Option W
   pub within : Bool
+  pub failing : Bool
 
 -- a byte that waited still waits, if it was not consumed
 abbrev pub waits_in : {W : Type 0} → Stage → Option W → Option W
@@ -162,7 +177,7 @@ waits_in byte_waits w = w
 waits_in _ w = None
 
 abbrev pub frame_of : {W : Type 0} → Option W → Shape → Frame W
-frame_of w p = record { spans = p.spans; waits = waits_in p.stage w; within = p.within }
+frame_of w p = record { spans = p.spans; waits = waits_in p.stage w; within = p.within; failing = p.failing }
 
 -- no calls, the sum, and the larger of two
 abbrev pub no_calls : Calls
@@ -199,22 +214,28 @@ most_calls count (when by one other) = larger (most_calls count one) (most_calls
 
 module _ {W R D : Type 0} (states : List (StateRows W R D)) where
   -- the spans, and what is known of choices and of what waits, are as a state says
-  abbrev pub is_at : List EventName → (within : Bool) → (waits : Option W) → (read : Bool) → Option (StateRows W R D) → Bool
-  is_at spans within waits read None = false
-  is_at spans within waits read (Some state) =
-      same_names spans state.spans && ((not (needs_choice state.needs read) || within) && is_called_at state.called waits)
+  abbrev pub is_at : List EventName → (within failing : Bool) → (waits : Option W) → (read : Bool) → Option (StateRows W R D) → Bool
+  is_at spans within failing waits read None = false
+  is_at spans within failing waits read (Some state) =
+      same_names spans state.spans
+      && ((not (needs_choice state.needs read) || within) && ((not (needs_failing state.needs read) || failing) && is_called_at state.called waits))
 
   -- what a choice goes on with fits at the place where it was made
   abbrev pub may_go_on : Frame W → (waits : Option W) → State → Bool
-  may_go_on f waits (Next name) = is_at f.spans f.within waits true (named states name)
+  may_go_on f waits (Next name) = is_at f.spans f.within f.failing waits true (named states name)
   may_go_on f waits Ok = same_names f.spans [] && f.within
-  may_go_on f waits Nok = f.within
+  may_go_on f waits Nok = f.failing
   may_go_on f waits _ = false
+
+  -- the same after Nok: then Nok fits, since a choice that fails so ends with Nok only if one below it may
+  abbrev pub may_go_back : Frame W → (waits : Option W) → State → Bool
+  may_go_back f waits Nok = true
+  may_go_back f waits a = may_go_on f waits a
 
   -- a choice fits: it goes on at its place, or, after Ok, with the same spans open later on
   abbrev pub fits_choice : Frame W → AttemptKind → (ok nok : State) → Bool
-  fits_choice f Check ok nok = may_go_on f f.waits ok && may_go_on f f.waits nok
-  fits_choice f Attempt ok nok = may_go_on f None ok && (not (is_void_last (last_or None f.spans)) && may_go_on f f.waits nok)
+  fits_choice f Check ok nok = may_go_on f f.waits ok && may_go_back f f.waits nok
+  fits_choice f Attempt ok nok = may_go_on f None ok && (not (is_void_last (last_or None f.spans)) && may_go_back f f.waits nok)
 
   abbrev pub fits_choices : (current : Option W) → List (Act R D) → Shape → Bool
   fits_choices w [] p = true
@@ -230,15 +251,15 @@ module _ {W R D : Type 0} (states : List (StateRows W R D)) where
   is_fresh_fed (Some state) = fresh_fed state.begun
 
   -- What a row returns fits how far the call is, and what is open. Spans may have begun at the place of the call only if the next state
-  -- says so. It is Ok only if no span is open, and a choice waits or the end; and Nok only if a choice waits.
+  -- says so. It is Ok only if no span is open, and a choice waits or the end; and Nok only if a choice waits that may end with it.
   abbrev pub fits_answer : Stage → (previous current : Option W) → Shape → State → Bool
   fits_answer stage b w p Ok = same_names p.spans [] && (not p.fresh && (p.within || is_end stage))
-  fits_answer stage b w p Nok = p.within
-  fits_answer byte_read b w p (Next name) = is_bare p && (is_at p.spans p.within None true (named states name) && (not p.fresh || is_fresh_fed (named states name)))
+  fits_answer stage b w p Nok = p.failing
+  fits_answer byte_read b w p (Next name) = is_bare p && (is_at p.spans p.within p.failing None true (named states name) && (not p.fresh || is_fresh_fed (named states name)))
   fits_answer byte_waits b (Some w) p (Retry name) =
-      is_bare p && (is_at p.spans p.within (Some w) (is_some b) (named states name) && (not p.fresh || is_fresh (Some w) (named states name)))
+      is_bare p && (is_at p.spans p.within p.failing (Some w) (is_some b) (named states name) && (not p.fresh || is_fresh (Some w) (named states name)))
   fits_answer end_waits b None p (Retry name) =
-      is_bare p && (is_at p.spans p.within None (is_some b) (named states name) && (not p.fresh || is_fresh None (named states name)))
+      is_bare p && (is_at p.spans p.within p.failing None (is_some b) (named states name) && (not p.fresh || is_fresh None (named states name)))
   fits_answer _ b w p (Error message) = true
   fits_answer _ _ _ _ _ = false
 

@@ -56,11 +56,13 @@ pub data Begun (W : Type 0) : Type 0 where
   at_byte : (W → Bool) → Begun W
   here : Begun W
 
--- Which choices a state needs: none, one that waits, or one that waits once a byte was read
+-- Which choices a state needs: none; one that waits; one that waits once a byte was read; or one that waits for Ok, which the state and
+-- those that it goes on with never end with Nok
 pub data Needs : Type 0 where
   nothing : Needs
   a_choice : Needs
   a_choice_once_read : Needs
+  a_choice_for_ok : Needs
 
 -- What must wait when a state is called: a byte or the end; a byte; or one of these bytes
 pub data Called (W : Type 0) : Type 0 where

@@ -1,15 +1,18 @@
 //! A machine that goes round through an attempt that saves nothing, as constructs of a line do: its calls are paid from place to place.
 
-ghost use Rattle.std.specs.Prelude.{◌+◌, ◌*◌};
+ghost use Rattle.std.specs.Prelude.{◌+◌, ◌*◌, IfOk};
 ghost use Rattle.markdown.specs.StateConstants.Name.{TextStart};
 ghost use Rattle.mdconstructs.specs.Costs.{StartsAt};
-ghost use Rattle.mdtests.specs.Looping.{looping_rules};
+ghost use Rattle.mdconstructs.specs.RowInvariant.{DoesAll, IsCallable, step_in};
+ghost use Rattle.mdconstructs.specs.Tables.{line_byte};
+ghost use Rattle.mdtests.specs.Looping.{data_inside, looping_rules, text_start};
 
 use crate::machines::lines_by;
 use crate::shown::assert_shown;
 use markdown::state::{Machine, MachineTypes, Name, State};
 use markdown::subtokenize::Subresult;
 use markdown::tokenizer::{Fault, Tokenizer};
+use mdconstructs::begin::begin;
 use std::alloc::{AllocError, Global};
 
 /// Tries, at each byte, what comes after it, and goes on with the state that tried. It makes no events.
@@ -23,8 +26,9 @@ impl MachineTypes for Looping {
 }
 
 impl Machine for Looping {
-    ghost use Rattle.mdtests.specs.Looping.{looping_rules};
-    ghost use Rattle.mdtests.specs.Laws.Looping.{looping-lawful};
+    ghost use Rattle.mdconstructs_tables.proofs.Tables.Lawful.{plain-lawful};
+    ghost use Rattle.mdtests.specs.Looping.{looping, looping_rules};
+    ghost use Rattle.mdtests.specs.Laws.Looping.{looping-fit, looping-plain};
 
     ghost rules = { λ _. looping_rules };
 
@@ -34,17 +38,11 @@ impl Machine for Looping {
         t: &mut Tokenizer<'a, Self>,
         name: Name,
     ) -> Result<State, AllocError> {
-        t.tick();
+        begin(t);
         match name {
-            Name::DataInside => Ok(State::Ok),
-            _ => match t.current() {
-                None => Ok(State::Ok),
-                Some(_) => {
-                    t.attempt(State::Next(Name::TextStart), State::Nok)?;
-                    t.consume();
-                    Ok(State::Next(Name::DataInside))
-                }
-            },
+            Name::TextStart => text_start(t),
+            Name::DataInside => data_inside(t),
+            _ => unreachable!(),
         }
     }
 
@@ -58,7 +56,30 @@ impl Machine for Looping {
         Ok(None)
     }
 
-    ghost lawful = { λ _ g. looping-lawful g };
+    ghost lawful = { λ _ g. plain-lawful looping g looping-fit looping-plain };
+}
+
+/// At a byte: tries what comes after it. After `Ok` this goes on.
+fn text_start<'a>(t: &mut Tokenizer<'a, Looping>) -> Result<State, AllocError>
+    requires { IsCallable line_byte text_start t.old }
+    ensures { IfOk result (DoesAll (step_in line_byte text_start t.old) t.old t.new) }
+{
+    match t.current() {
+        None => Ok(State::Ok),
+        Some(_) => {
+            t.attempt(State::Next(Name::TextStart), State::Nok)?;
+            t.consume();
+            Ok(State::Next(Name::DataInside))
+        }
+    }
+}
+
+/// What was tried is there at once.
+fn data_inside<'a>(t: &mut Tokenizer<'a, Looping>) -> Result<State, AllocError>
+    requires { IsCallable line_byte data_inside t.old }
+    ensures { IfOk result (DoesAll (step_in line_byte data_inside t.old) t.old t.new) }
+{
+    Ok(State::Ok)
 }
 
 /// It takes two calls for each byte, and one for the end.

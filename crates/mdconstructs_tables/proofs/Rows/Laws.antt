@@ -1,7 +1,7 @@
 -- What a row keeps: lemmas for the laws of tables.
 use Rattle.std.specs.List.{AllByRecursion}
 use Rattle.mdconstructs_tables.proofs.Markers.{stack-below}
-use Rattle.mdconstructs_tables.proofs.Prelude.{◌≡◌, ℕ, suc, ◌+◌, ◌-◌, ◌<◌, ◌≤◌, not, List, [], ◌∷◌, ◌++◌, Bool, true, false, Option, Some, None, length, length-map, map, refl, sym, ap, ◌∙◌, subst, arith, take, append_assoc, length-append, All, last_or, and_from, and_parts, append-nil, map-append, All-push, All-take, All-weaker, All-cons, Event, Enter, Exit, Point, State, Nok, open_events, unlinked, stands_before, stands-self, Nothing, Byte, AttemptKind, Attempt, Check, Given, Text, Configuration, Choice, Sight, sight, consumed, linked-unlinked, IsAsFar, SavesEvents, same_name-true, before-upto, Act, enters, exit, consume, links, write, choose, past, done, seen_after, choice_made_at, with_choice_of, does, chooses, Stage, end_waits, byte_waits, byte_read, Shape, is_byte_waiting, is_end, is_last, allows, after, allows_all, after_all, same_names, outline, EndsWithEnter, Began, upto, since, AnyWait, IsBelow, EventName}
+use Rattle.mdconstructs_tables.proofs.Prelude.{◌≡◌, ℕ, suc, ◌+◌, ◌-◌, ◌<◌, ◌≤◌, not, List, [], ◌∷◌, ◌++◌, Bool, true, false, Option, Some, None, length, length-map, map, refl, sym, ap, ◌∙◌, subst, arith, take, append_assoc, length-append, All, last_or, and_from, and_parts, append-nil, map-append, All-push, All-take, All-weaker, All-cons, Event, Enter, Exit, Point, State, Nok, open_events, unlinked, stands_before, stands-self, Nothing, Byte, AttemptKind, Attempt, Check, Given, Text, Configuration, Choice, Sight, sight, consumed, linked-unlinked, IsAsFar, SavesEvents, same_name-true, before-upto, Act, enters, exit, consume, links, write, choose, past, done, seen_after, choice_made_at, with_choice_of, does, chooses, Stage, end_waits, byte_waits, byte_read, Shape, is_byte_waiting, is_end, is_last, allows, after, allows_all, after_all, same_names, may_fail, outline, EndsWithEnter, Began, upto, since, AnyGoesBack, MayEnd, IsBelow, EventName}
 use Rattle.mdconstructs_tables.proofs.GrowingTexts.{open-more, last-more, next-is-left}
 
 -- What the tests of equality say
@@ -68,7 +68,7 @@ pub record HasShape {R D : Type 0} (p : Shape) (base : List EventName) (s : Sigh
   pub began : Began (since p.fresh p.stage s) (outline k)
   pub bare : p.bare ≡ true → EndsWithEnter (outline k)
   pub reads : IsAsFar k (reached p.stage old) × Waited p.stage text old
-  pub waits : All (IsBelow base) choices × (p.within ≡ true → AnyWait choices)
+  pub waits : All (IsBelow base) choices × MayEnd p.within p.failing choices
 
 pub waiting-stage : (stage : Stage) → is_byte_waiting stage ≡ true → stage ≡ byte_waits
 waiting-stage byte_waits h = refl
@@ -127,6 +127,13 @@ module _ {R D : Type 0} (g : Given) (text : Text) (old : Configuration R D) wher
   chosen-below Attempt ok Nok stack k h = tt
   chosen-below kind ok nok stack k h = omega (arith, ap length h)
 
+  -- a choice that is made goes back after Nok, or one below it does
+  goes-back : (kind : AttemptKind) (ok nok : State) (failing : Bool) (k : Configuration R D) (choices : List Choice) → (failing ≡ true → AnyGoesBack choices) → may_fail nok failing ≡ true → AnyGoesBack (choice_made_at kind ok nok k ∷ choices)
+  goes-back Attempt ok Nok failing k choices below may = below may
+  goes-back Check ok Nok failing k choices below may = below may
+  goes-back Attempt ok nok failing k choices below may = tt
+  goes-back Check ok nok failing k choices below may = tt
+
   -- an act that is allowed leaves the shape after it
   pub has-after : (act : Act R D) (p : Shape) (base : List EventName) (s : Sight) (k : Configuration R D) (choices : List Choice) → allows act p ≡ true → IsSeenAhead p.stage s
       → HasShape p base s g text old k choices → HasShape (after act p) (below_after act p base) (seen_after act s) g text old (done act s k) (with_choice_of act k choices)
@@ -183,7 +190,7 @@ module _ {R D : Type 0} (g : Given) (text : Text) (old : Configuration R D) wher
     waits = (
       All-cons (IsBelow (base ++ p.spans)) (choice_made_at kind ok nok k) choices (chosen-below kind ok nok (base ++ p.spans) k h.stack)
           (stack-below base p.spans (base ++ p.spans) choices refl h.waits.0),
-      λ _. tt,
+      ((λ _. tt), goes-back kind ok nok p.failing k choices h.waits.1.1),
     );
   }
 

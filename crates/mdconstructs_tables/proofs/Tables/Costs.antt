@@ -1,5 +1,5 @@
 -- What the states of a table cost, and each row of theirs.
-use Rattle.mdconstructs_tables.proofs.Prelude.{◌≡◌, ℕ, ◌+◌, ◌-◌, ◌≤◌, ◌&&◌, List, [], ◌∷◌, Bool, true, false, cond, Option, Some, None, length, refl, sym, subst, arith, nat_lt, max, mul-le-mul_left, mul-le-mul_right, leb-true, ltb-true, ltb-false, and_from, and_parts, slice_get_past, Name, State, Next, Retry, AttemptKind, Attempt, Check, Given, Text, Configuration, Choice, Sight, sight, byte_of, with_local, fed, IsAsFar, Act, consume, choose, Rows, row, when, Calls, Cost, by_bytes, own, StateRows, Table, class_of, picked, named, Stage, end_waits, byte_waits, byte_read, Shape, Frame, may_go_on, fits_answer, fits_calls, is_some, is_early_end, is_early, never, is_behind, later_stage, first_stage, plus, larger, at_stage, calls_le, calls_or, fed_calls, next_calls, choice_calls, chosen_calls, answer_calls, calls_at, is_by_bytes, is_counted, counts_answer, counts_choices, pays_row, feeds, all_rows, is_called_at, is_called, price_by, and_of_own, own_cost, at_most, IsStateAt, next_price, retry_price, state_price, choice_price, chosen_price, answer_price, row_price, AreWithin, Stands, is_read, ends_at, class_at, PaysRows, ArePaid, table_holds, table_cost, upto, exit_place_at, fresh_fed, falls_on, and_falls, AllFall, IsFitBy, cond_both}
+use Rattle.mdconstructs_tables.proofs.Prelude.{◌≡◌, ◌≢◌, ℕ, ◌+◌, ◌-◌, ◌≤◌, ◌&&◌, List, [], ◌∷◌, Bool, true, false, cond, Option, Some, None, length, refl, sym, subst, arith, nat_lt, max, mul-le-mul_left, mul-le-mul_right, leb-true, ltb-true, ltb-false, and_from, and_parts, slice_get_past, Name, State, Next, Retry, AttemptKind, Attempt, Check, Given, Text, Configuration, Choice, Sight, sight, byte_of, with_local, fed, IsAsFar, Act, consume, choose, Rows, row, when, Calls, Cost, by_bytes, own, StateRows, Table, class_of, picked, named, Stage, end_waits, byte_waits, byte_read, Shape, fits_answer, fits_calls, is_some, is_early_end, is_early, never, is_behind, later_stage, first_stage, plus, larger, at_stage, calls_le, calls_or, fed_calls, next_calls, choice_calls, chosen_calls, answer_calls, calls_at, is_by_bytes, is_counted, counts_answer, counts_choices, pays_row, feeds, all_rows, is_called_at, is_called, price_by, and_of_own, own_cost, at_most, IsStateAt, next_price, retry_price, state_price, choice_price, chosen_price, answer_price, row_price, AreWithin, Stands, is_read, ends_at, class_at, PaysRows, ArePaid, table_holds, table_cost, upto, exit_place_at, fresh_fed, falls_on, and_falls, AllFall, IsFitBy, cond_both}
 use Rattle.mdconstructs_tables.proofs.Rows.Misfits.{named-same, named-in}
 use Rattle.mdconstructs_tables.proofs.Rows.Laws.{Waited, reached}
 use Rattle.mdconstructs_tables.proofs.GrowingTexts.{seat-at}
@@ -201,9 +201,9 @@ module _ {W R D : Type 0} (table : Table W R D) (g : Given) (early : Name → Op
     state-falls a text p q may h = omega arith
 
     -- what goes on where a choice was made costs what its state does
-    pub go-costs : (f : Frame W) (waits : Option W) (a : State) (text : Text) (k : Configuration R D) → may_go_on table.states f waits a ≡ true → table_cost table g text k a ≤ state_price table text k.position a
-    go-costs f waits (Retry name) text k h = absurd (cc)
-    go-costs f waits a text k h = omega arith
+    pub go-costs : (a : State) (text : Text) (k : Configuration R D) → ((n : Name) → a ≢ Retry n) → table_cost table g text k a ≤ state_price table text k.position a
+    go-costs (Retry name) text k h = absurd (h name refl)
+    go-costs a text k h = omega arith
 
     -- feeding costs nothing
     feeds-most : (b w : Option W) (state : StateRows W R D) (c : Calls) (text : Text) (p : ℕ) → Stands w text p → feeds table.states b w state c ≡ true

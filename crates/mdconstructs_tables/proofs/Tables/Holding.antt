@@ -1,6 +1,6 @@
 -- The invariant of a table: if it holds before a call, it holds at the state returned, once that is fed, when a choice ends, and when the
 -- text goes on.
-use Rattle.mdconstructs_tables.proofs.Prelude.{◌≡◌, ◌≢◌, ℕ, zero, suc, ◌≤◌, ◌&&◌, ◌||◌, not, List, [], ◌∷◌, ◌++◌, Bool, true, false, Option, Some, None, length, get_or, map, refl, sym, ap, ◌∙◌, subst, arith, ◌⊎◌, inl, inr, take, drop, All, IfSome, nat_lt, last_or, ltb-true, ltb-false, and_parts, not-true, append-nil, take-append-drop, take-map, slice_get_past, All-nil, All-tail, Point, Name, State, Next, Retry, Ok, Nok, Error, unlinked, stands_before, or-leads, Waits, Nothing, Byte, End, AttemptKind, Attempt, Check, Given, Text, IsText, empty_text, Configuration, Local, Choice, Saved, start_configuration, Sight, sight, sight_in, current_of, seat_before, byte_of, consumed, with_local, fed, unfed, restored, settled_at, IsAsFar, begins-before_end, began-before_next, ends-before_next, upto-before, Row, Begun, before, at_byte, here, Called, anywhere, at_a_byte, at_bytes, Needs, nothing, StateRows, Table, class_of, does, chooses, row_at, named, is_void_last, saves, Stage, end_waits, byte_waits, byte_read, Shape, Frame, after_all, is_at, is_end, is_fresh, is_fresh_fed, fresh_at, fresh_fed, needs_choice, is_called_at, is_some, may_go_on, fits_choice, fits_answer, fits_calls, start_shape, first_stage, is_bare, may_start, outline, EndsWithEnter, Began, upto, since, IsOpen, SightIsInOrder, IsFed, exit_place_at, class_in, is_read, AnyWait, IsSavedIn, IsSaved, position_of, events_saved, IsBelow, AreWaiting, began_at, IsStateAt, HoldsAt, EventName}
+use Rattle.mdconstructs_tables.proofs.Prelude.{◌≡◌, ◌≢◌, ℕ, zero, suc, ◌≤◌, ◌&&◌, ◌||◌, not, List, [], ◌∷◌, ◌++◌, Bool, true, false, Option, Some, None, length, get_or, map, refl, sym, ap, ◌∙◌, subst, arith, ◌⊎◌, inl, inr, take, drop, All, IfSome, nat_lt, last_or, ltb-true, ltb-false, and_parts, not-true, append-nil, take-append-drop, take-map, slice_get_past, All-nil, All-tail, Point, Name, State, Next, Retry, Ok, Nok, Error, unlinked, stands_before, or-leads, Waits, Nothing, Byte, End, AttemptKind, Attempt, Check, Given, Text, IsText, empty_text, Configuration, Local, Choice, Saved, start_configuration, Sight, sight, sight_in, current_of, seat_before, byte_of, consumed, with_local, fed, unfed, restored, settled_at, IsAsFar, begins-before_end, began-before_next, ends-before_next, upto-before, Row, Begun, before, at_byte, here, Called, anywhere, at_a_byte, at_bytes, Needs, nothing, a_choice_for_ok, StateRows, Table, class_of, does, chooses, row_at, named, is_void_last, saves, Stage, end_waits, byte_waits, byte_read, Shape, Frame, after_all, is_at, is_end, is_fresh, is_fresh_fed, fresh_at, fresh_fed, needs_choice, needs_failing, is_called_at, is_some, may_go_on, may_go_back, fits_choice, fits_answer, fits_calls, start_shape, first_stage, is_bare, may_start, outline, EndsWithEnter, Began, upto, since, IsOpen, SightIsInOrder, IsFed, exit_place_at, class_in, is_read, AnyWait, GoesBack, AnyGoesBack, MayEnd, IsSavedIn, IsSaved, position_of, events_saved, IsBelow, AreWaiting, began_at, IsStateAt, HoldsAt, EventName}
 use Rattle.mdconstructs_tables.proofs.Rows.Laws.{same_names-true, Waited, reached, IsSeenAhead, sight_at, HasShape, to-before, before-is-upto, began-on, left-at}
 use Rattle.mdconstructs_tables.proofs.GrowingTexts.{seat-at, Extends, waits-longer}
 use Rattle.mdconstructs_tables.proofs.Tables.Waiting.{more-waiting, all-below, place-kept, class-kept, waiting-longer}
@@ -21,9 +21,15 @@ since-fits false true stage s q later fit h = later h
 since-fits fresh on stage s q later fit h = h
 
 -- more is needed once a byte was read
-needs-more : (n : Needs) (read : Bool) → needs_choice n read ≡ true → needs_choice n true ≡ true
-needs-more nothing read h = absurd (cc)
-needs-more n read h = refl
+needs-more : (n : Needs) (read : Bool) → (needs_choice n read ≡ true → needs_choice n true ≡ true) × (needs_failing n read ≡ true → needs_failing n true ≡ true)
+needs-more nothing read = ((λ h. absurd (cc)), (λ h. absurd (cc)))
+needs-more a_choice_for_ok read = ((λ h. refl), (λ h. absurd (cc)))
+needs-more n read = ((λ h. refl), (λ h. refl))
+
+-- a choice that may end with Nok is one
+needs-one : (n : Needs) (read : Bool) → needs_failing n read ≡ true → needs_choice n read ≡ true
+needs-one a_choice_for_ok read h = refl
+needs-one n read h = h
 
 module _ {W R D : Type 0} (table : Table W R D) (g : Given) where
   abbrev pub of_class : Text → Configuration R D → Option W
@@ -46,9 +52,9 @@ module _ {W R D : Type 0} (table : Table W R D) (g : Given) where
   pub begins : (b w : Option W) (text : Text) (k : Configuration R D) (local : Local R D) (base : List EventName) (choices : List Choice) (state : StateRows W R D) → is_some b ≡ is_read k.position
       → Waited (first_stage w) text k → IsOpen table.class state base (began_at w state (sight g text k)) text k choices → HasShape (start_shape b w state) base (sight g text k) g text k (with_local k local) choices
   begins b None text k local base choices state read met o =
-      record { stack = o.stack; began = o.began; bare = o.void; reads = ((refl, refl, refl), met); waits = (o.below, λ is. o.needs (ap (needs_choice state.needs) (sym read) ∙ is)) }
+      record { stack = o.stack; began = o.began; bare = o.void; reads = ((refl, refl, refl), met); waits = (o.below, ((λ is. o.needs.0 (ap (needs_choice state.needs) (sym read) ∙ is)), (λ is. o.needs.1 (ap (needs_failing state.needs) (sym read) ∙ is)))) }
   begins b (Some w) text k local base choices state read met o =
-      record { stack = o.stack; began = o.began; bare = o.void; reads = ((refl, refl, refl), met); waits = (o.below, λ is. o.needs (ap (needs_choice state.needs) (sym read) ∙ is)) }
+      record { stack = o.stack; began = o.began; bare = o.void; reads = ((refl, refl, refl), met); waits = (o.below, ((λ is. o.needs.0 (ap (needs_choice state.needs) (sym read) ∙ is)), (λ is. o.needs.1 (ap (needs_failing state.needs) (sym read) ∙ is)))) }
 
   pub ahead-at : (w : Option W) (text : Text) (k : Configuration R D) → Waited (first_stage w) text k → SightIsInOrder k.waiting (sight g text k) → IsSeenAhead (first_stage w) (sight g text k)
   ahead-at None text k met order = record { begins = λ e. absurd (cc); later = λ q h. before-is-upto (sight g text k).exit_place q h }
@@ -80,14 +86,15 @@ module _ {W R D : Type 0} (table : Table W R D) (g : Given) where
   waits-at End text p ended h = let none = slice_get_past text.seats p h.1 in rw none refl
 
   -- if the test says that spans, choices and what waits fit a state, they do
-  at-state : (spans : List EventName) (within : Bool) (waits : Option W) (read : Bool) (o : Option (StateRows W R D)) (where_to : StateRows W R D → Point → Bool) (text : Text) (k : Configuration R D) (base : List EventName)
-      (choices : List Choice) → is_at table.states spans within waits read o ≡ true → k.stack ≡ base ++ spans → ((state : StateRows W R D) → o ≡ Some state → Began (where_to state) (outline k))
-      → (is_void_last (last_or None spans) ≡ true → EndsWithEnter (outline k)) → AreWaiting table.class table.states g text k.position (outline k) base choices → (within ≡ true → AnyWait choices)
-      → ((n : Needs) → needs_choice n (is_read k.position) ≡ true → needs_choice n read ≡ true) → IsNext text k.position waits → IsStateAt table g text o where_to k choices
-  at-state spans within waits read None where_to text k base choices is stack began void waiting any reads byte = absurd (cc)
-  at-state spans within waits read (Some state) where_to text k base choices is stack began void waiting any reads byte =
+  at-state : (spans : List EventName) (within failing : Bool) (waits : Option W) (read : Bool) (o : Option (StateRows W R D)) (where_to : StateRows W R D → Point → Bool) (text : Text) (k : Configuration R D) (base : List EventName)
+      (choices : List Choice) → is_at table.states spans within failing waits read o ≡ true → k.stack ≡ base ++ spans → ((state : StateRows W R D) → o ≡ Some state → Began (where_to state) (outline k))
+      → (is_void_last (last_or None spans) ≡ true → EndsWithEnter (outline k)) → AreWaiting table.class table.states g text k.position (outline k) base choices → MayEnd within failing choices
+      → ((n : Needs) → (needs_choice n (is_read k.position) ≡ true → needs_choice n read ≡ true) × (needs_failing n (is_read k.position) ≡ true → needs_failing n read ≡ true)) → IsNext text k.position waits → IsStateAt table g text o where_to k choices
+  at-state spans within failing waits read None where_to text k base choices is stack began void waiting any reads byte = absurd (cc)
+  at-state spans within failing waits read (Some state) where_to text k base choices is stack began void waiting any reads byte =
       let (names, rest) = and_parts _ _ is in
-      let (needs, bytes) = and_parts _ _ rest in
+      let (needs, others) = and_parts _ _ rest in
+      let (fails, bytes) = and_parts _ _ others in
       let same = same_names-true spans state.spans names in
       record {
         base = base;
@@ -96,7 +103,7 @@ module _ {W R D : Type 0} (table : Table W R D) (g : Given) where
           began = began state refl;
           void = λ v. void (ap (λ xs. is_void_last (last_or None xs)) same ∙ v);
           below = all-below table.class table.states g text choices base k.position (outline k) waiting;
-          needs = λ n. any (or-leads _ within needs (reads state.needs n));
+          needs = ((λ n. any.0 (or-leads _ within needs ((reads state.needs).0 n))), (λ n. any.1 (or-leads _ failing fails ((reads state.needs).1 n))));
           called = called-more state.called waits (class_in table.class text k.position) byte bytes;
         };
         waiting = waiting;
@@ -154,7 +161,7 @@ module _ {W R D : Type 0} (table : Table W R D) (g : Given) where
   -- a state goes on with what waits
   retried : (b w : Option W) (p : Shape) (above : List EventName) (name : Name) (text : Text) (k k' : Configuration R D) (choices : List Choice) → is_some b ≡ is_read k.position
       → IsFed k.waiting k.position k.ended text → SightIsInOrder k.waiting (sight g text k) → of_class text k ≡ w → IsSeenAhead (first_stage w) (sight g text k) → IsAsFar k' k
-      → (is_bare p && (is_at table.states p.spans p.within w (is_some b) (named table.states name) && (not p.fresh || is_fresh table.states w (named table.states name)))) ≡ true
+      → (is_bare p && (is_at table.states p.spans p.within p.failing w (is_some b) (named table.states name) && (not p.fresh || is_fresh table.states w (named table.states name)))) ≡ true
       → Began (since p.fresh (first_stage w) (sight g text k)) (outline k') → HasShape p above (sight_at p.stage (sight g text k)) g text k k' choices
       → AreWaiting table.class table.states g text k'.position (outline k') above choices → IsNext text k'.position w → HoldsAt table g text k' choices (Retry name)
   retried b w p above name text k k' choices read waits order class ahead far fit began h waiting next =
@@ -169,8 +176,8 @@ module _ {W R D : Type 0} (table : Table W R D) (g : Given) where
         rw (far.0, far.1) order,
         subst (λ s. IsStateAt table g text o (λ state. began_at (class_of table.class s.current) state s) k' choices) (sym (stays text k k' far))
             (subst (λ v. IsStateAt table g text o (λ state. began_at v state s) k' choices) (sym class)
-            (at-state p.spans p.within w (is_some b) o (λ state. began_at w state s) text k' above choices shaped h.stack there
-            (λ v. h.bare (or-leads (is_void_last (last_or None p.spans)) p.bare bare v)) waiting h.waits.1 (λ n e. ap (needs_choice n) (read ∙ ap is_read (sym far.0)) ∙ e) next)),
+            (at-state p.spans p.within p.failing w (is_some b) o (λ state. began_at w state s) text k' above choices shaped h.stack there
+            (λ v. h.bare (or-leads (is_void_last (last_or None p.spans)) p.bare bare v)) waiting h.waits.1 (λ n. ((λ e. ap (needs_choice n) (read ∙ ap is_read (sym far.0)) ∙ e), (λ e. ap (needs_failing n) (read ∙ ap is_read (sym far.0)) ∙ e))) next)),
       )
 
   -- the invariant holds for the state returned
@@ -189,9 +196,9 @@ module _ {W R D : Type 0} (table : Table W R D) (g : Given) where
         stack = h.stack ∙ ap (λ xs. above ++ xs) none ∙ append-nil above;
         began = began-on (since p.fresh p.stage s) (upto false (sight g text k').exit_place) (outline k') (λ q b. subst (λ x. stands_before q x ≡ true) (sym left) (to-before p.fresh p.stage s q old b)) h.began;
         waiting = waiting;
-        ended = any-or-ended p.within (is_end st) choices k'.ended ends h.waits.1 (ended-at st text k k' (rw at at h.reads.0) (rw at at h.reads.1));
+        ended = any-or-ended p.within (is_end st) choices k'.ended ends h.waits.1.0 (ended-at st text k k' (rw at at h.reads.0) (rw at at h.reads.1));
       }
-  answered st b w p above Nok text k k' choices read waits order class met fit at h waiting = record { base = above; waiting = waiting; any = h.waits.1 fit }
+  answered st b w p above Nok text k k' choices read waits order class met fit at h waiting = record { base = above; waiting = waiting; any = h.waits.1.1 fit }
   answered st b w p above (Error message) text k k' choices read waits order class met fit at h waiting = tt
   answered byte_read b w p above (Next name) text k k' choices read waits order class met fit at h waiting =
       let far = rw at at h.reads.0 in
@@ -204,8 +211,7 @@ module _ {W R D : Type 0} (table : Table W R D) (g : Given) where
       let began : (state : StateRows W R D) → o ≡ Some state → Began (upto (fresh_fed state.begun) (exit_place_at g text k'.position)) (outline k') = λ state e.
       let f : (not p.fresh || fresh_fed state.begun) ≡ true = subst (λ o. (not p.fresh || is_fresh_fed table.states o) ≡ true) e fresh in
       began-on (upto p.fresh s.next) (upto (fresh_fed state.begun) (sight g text k').exit_place) (outline k') (λ q b. subst (λ x. upto (fresh_fed state.begun) x q ≡ true) (sym left) (upto-fits p.fresh (fresh_fed state.begun) s.next q f b)) (rw at at h.began) in
-      let read_on : (n : Needs) → needs_choice n (is_read k'.position) ≡ true → needs_choice n true ≡ true = λ n. needs-more n (is_read k'.position) in
-      (far.1, at-state p.spans p.within None true o (λ state. upto (fresh_fed state.begun) (exit_place_at g text k'.position)) text k' above choices shaped h.stack began (λ v. h.bare (or-leads (is_void_last (last_or None p.spans)) p.bare bare v)) waiting h.waits.1 read_on (λ v e. absurd (cc)))
+      (far.1, at-state p.spans p.within p.failing None true o (λ state. upto (fresh_fed state.begun) (exit_place_at g text k'.position)) text k' above choices shaped h.stack began (λ v. h.bare (or-leads (is_void_last (last_or None p.spans)) p.bare bare v)) waiting h.waits.1 (λ n. needs-more n (is_read k'.position)) (λ v e. absurd (cc)))
   answered byte_waits b (Some w) p above (Retry name) text k k' choices read waits order class met fit at h waiting =
       retried b (Some w) p above name text k k' choices read waits order class (ahead-at (Some w) text k met order) (rw at at h.reads.0) fit (rw at at h.began) h waiting
       (λ v e. ap (class_in table.class text) (rw at at h.reads.0).0 ∙ subst (λ x. class_of table.class (current_of text k.position x) ≡ Some w) met.0 class ∙ e)
@@ -304,6 +310,7 @@ module _ {W R D : Type 0} (table : Table W R D) (g : Given) where
       let (spans, rest) = and_parts _ _ h in
       let (needs, byte) = and_parts (not (needs_choice state.needs false)) (is_called_at state.called None) rest in
       let empty = same_names-true state.spans [] spans in
+      let none : needs_choice state.needs false ≡ true → AnyWait [] = λ n. absurd (let none = not-true (needs_choice state.needs false) needs in let e : true ≡ false = sym n ∙ none in cc) in
       record {
         base = [];
         spans = record {
@@ -311,7 +318,7 @@ module _ {W R D : Type 0} (table : Table W R D) (g : Given) where
           began = All-nil (λ e. where_to state e.point ≡ true);
           void = λ v. absurd (let e : false ≡ true = (rw empty at v) in cc);
           below = All-nil (IsBelow []);
-          needs = λ n. absurd (let none = not-true (needs_choice state.needs false) needs in let e : true ≡ false = sym n ∙ none in cc);
+          needs = (none, λ n. none (needs-one state.needs false n));
           called = byte;
         };
         waiting = refl;
@@ -320,21 +327,21 @@ module _ {W R D : Type 0} (table : Table W R D) (g : Given) where
   -- what goes on at the place a choice was made at holds there
   goes-on-at : (f : Frame W) (below : List EventName) (waits : Option W) (a : State) (text : Text) (k : Configuration R D) (choices : List Choice) → may_go_on table.states f waits a ≡ true → k.waiting ≡ Nothing
       → k.stack ≡ below ++ f.spans → Began (upto false (exit_place_at g text k.position)) (outline k) → (is_void_last (last_or None f.spans) ≡ true → EndsWithEnter (outline k))
-      → AreWaiting table.class table.states g text k.position (outline k) below choices → (f.within ≡ true → AnyWait choices) → IsNext text k.position waits → HoldsAt table g text k choices a
+      → AreWaiting table.class table.states g text k.position (outline k) below choices → MayEnd f.within f.failing choices → IsNext text k.position waits → HoldsAt table g text k choices a
   goes-on-at f below next (Next name) text k choices fit waits stack began void waiting any inside = (
     waits,
-    at-state f.spans f.within next true (named table.states name) (λ state. upto (fresh_fed state.begun) (exit_place_at g text k.position)) text k below choices fit stack
+    at-state f.spans f.within f.failing next true (named table.states name) (λ state. upto (fresh_fed state.begun) (exit_place_at g text k.position)) text k below choices fit stack
         (λ state e. began-on (upto false (exit_place_at g text k.position)) (upto (fresh_fed state.begun) (exit_place_at g text k.position)) (outline k) (upto-any (fresh_fed state.begun) (exit_place_at g text k.position)) began)
         void waiting any (λ n. needs-more n (is_read k.position)) inside,
   )
   goes-on-at f below next Ok text k choices fit waits stack began void waiting any inside =
       let (names, within) = and_parts _ _ fit in
-      record { base = below; stack = stack ∙ ap (λ xs. below ++ xs) (same_names-true f.spans [] names) ∙ append-nil below; began = began; waiting = waiting; ended = inl (any within) }
-  goes-on-at f below next Nok text k choices fit waits stack began void waiting any inside = record { base = below; waiting = waiting; any = any fit }
+      record { base = below; stack = stack ∙ ap (λ xs. below ++ xs) (same_names-true f.spans [] names) ∙ append-nil below; began = began; waiting = waiting; ended = inl (any.0 within) }
+  goes-on-at f below next Nok text k choices fit waits stack began void waiting any inside = record { base = below; waiting = waiting; any = any.1 fit }
   goes-on-at f below next (Retry name) text k choices fit waits stack began void waiting any inside = absurd (cc)
   goes-on-at f below next (Error message) text k choices fit waits stack began void waiting any inside = absurd (cc)
 
-  module _ (text : Text) (k : Configuration R D) (choices : List Choice) (f : Frame W) (base below : List EventName) (is_base : base ≡ below ++ f.spans) (any : f.within ≡ true → AnyWait choices) where
+  module _ (text : Text) (k : Configuration R D) (choices : List Choice) (f : Frame W) (base below : List EventName) (is_base : base ≡ below ++ f.spans) (any : MayEnd f.within f.failing choices) where
     -- what goes on from what was saved
     back : (saved : Saved) (a : State) → may_go_on table.states f f.waits a ≡ true → IsSavedIn table.class g text k.position (outline k) base f saved
         → AreWaiting table.class table.states g text saved.position (take saved.events (outline k)) below choices → HoldsAt table g text (restored (Some saved) k) choices a
@@ -356,28 +363,38 @@ module _ {W R D : Type 0} (table : Table W R D) (g : Given) where
         → AreWaiting table.class table.states g text (position_of saved k.position) (events_saved saved (outline k)) below choices → k.stack ≡ base → Began (upto false (exit_place_at g text k.position)) (outline k)
         → HoldsAt table g text (settled_at kind saved Ok k) choices a
     well Attempt a nok b saved is fit h waiting stack began =
-        let (goes, rest) = and_parts (may_go_on table.states f None a) (not (is_void_last (last_or None f.spans)) && may_go_on table.states f f.waits nok) fit in
-        let (no_void, other) = and_parts (not (is_void_last (last_or None f.spans))) (may_go_on table.states f f.waits nok) rest in
+        let (goes, rest) = and_parts (may_go_on table.states f None a) (not (is_void_last (last_or None f.spans)) && may_go_back table.states f f.waits nok) fit in
+        let (no_void, other) = and_parts (not (is_void_last (last_or None f.spans))) (may_go_back table.states f f.waits nok) rest in
         goes-on-at f below None a text (unfed k) choices goes refl (stack ∙ is_base) began (λ v. absurd (let none = not-true (is_void_last (last_or None f.spans)) no_void in let e : true ≡ false = sym v ∙ none in cc))
         (on b saved h waiting) any (λ w e. absurd (cc))
-    well Check a nok true (Some saved) is fit h waiting stack began = back saved a (and_parts (may_go_on table.states f f.waits a) (may_go_on table.states f f.waits nok) fit).0 h waiting
+    well Check a nok true (Some saved) is fit h waiting stack began = back saved a (and_parts (may_go_on table.states f f.waits a) (may_go_back table.states f f.waits nok) fit).0 h waiting
     well Check a nok false saved is fit h waiting stack began = absurd (cc)
     well Check a nok true None is fit h waiting stack began = absurd h
 
+    -- what goes on from what was saved after Nok
+    back-failed : (saved : Saved) (a : State) → may_go_back table.states f f.waits a ≡ true → IsSavedIn table.class g text k.position (outline k) base f saved
+        → AreWaiting table.class table.states g text saved.position (take saved.events (outline k)) below choices → GoesBack a (AnyGoesBack choices) → HoldsAt table g text (restored (Some saved) k) choices a
+    back-failed saved Nok fit h waiting failed = record {
+      base = below;
+      waiting = subst (λ es. AreWaiting table.class table.states g text saved.position es below choices) (take-map unlinked saved.events k.events) waiting;
+      any = failed;
+    }
+    back-failed saved a fit h waiting failed = back saved a fit h waiting
+
     -- an attempt that saves nothing goes on with Nok
-    badly-unsaved : (a : State) → saves Attempt a ≡ false → may_go_on table.states f f.waits a ≡ true → AreWaiting table.class table.states g text k.position (outline k) below choices → HoldsAt table g text (unfed k) choices a
-    badly-unsaved Nok is fit waiting = record { base = below; waiting = waiting; any = any fit }
-    badly-unsaved a is fit waiting = absurd (cc)
+    badly-unsaved : (a : State) → saves Attempt a ≡ false → AreWaiting table.class table.states g text k.position (outline k) below choices → GoesBack a (AnyGoesBack choices) → HoldsAt table g text (unfed k) choices a
+    badly-unsaved Nok is waiting failed = record { base = below; waiting = waiting; any = failed }
+    badly-unsaved a is waiting failed = absurd (cc)
 
     pub badly : (kind : AttemptKind) (ok a : State) (b : Bool) (saved : Option Saved) → saves kind a ≡ b → fits_choice table.states f kind ok a ≡ true → IsSaved table.class g text k.position (outline k) base f b saved
-        → AreWaiting table.class table.states g text (position_of saved k.position) (events_saved saved (outline k)) below choices → HoldsAt table g text (settled_at kind saved Nok k) choices a
-    badly Check ok a true (Some saved) is fit h waiting = back saved a (and_parts (may_go_on table.states f f.waits ok) (may_go_on table.states f f.waits a) fit).1 h waiting
-    badly Check ok a false saved is fit h waiting = absurd (cc)
-    badly Attempt ok a true (Some saved) is fit h waiting =
-        back saved a (and_parts (not (is_void_last (last_or None f.spans))) (may_go_on table.states f f.waits a) (and_parts (may_go_on table.states f None ok) (not (is_void_last (last_or None f.spans)) && may_go_on table.states f f.waits a) fit).1).1 h waiting
-    badly Attempt ok a false None is fit h waiting =
-        badly-unsaved a is (and_parts (not (is_void_last (last_or None f.spans))) (may_go_on table.states f f.waits a) (and_parts (may_go_on table.states f None ok) (not (is_void_last (last_or None f.spans)) && may_go_on table.states f f.waits a) fit).1).1 waiting
-    badly kind ok a b saved is fit h waiting = absurd h
+        → AreWaiting table.class table.states g text (position_of saved k.position) (events_saved saved (outline k)) below choices → GoesBack a (AnyGoesBack choices) → HoldsAt table g text (settled_at kind saved Nok k) choices a
+    badly Check ok a true (Some saved) is fit h waiting failed = back-failed saved a (and_parts (may_go_on table.states f f.waits ok) (may_go_back table.states f f.waits a) fit).1 h waiting failed
+    badly Check ok a false saved is fit h waiting failed = absurd (cc)
+    badly Attempt ok a true (Some saved) is fit h waiting failed =
+        let rest = (and_parts (may_go_on table.states f None ok) (not (is_void_last (last_or None f.spans)) && may_go_back table.states f f.waits a) fit).1 in
+        back-failed saved a (and_parts (not (is_void_last (last_or None f.spans))) (may_go_back table.states f f.waits a) rest).1 h waiting failed
+    badly Attempt ok a false None is fit h waiting failed = badly-unsaved a is waiting failed
+    badly kind ok a b saved is fit h waiting failed = absurd h
 
   -- no more was read than there is when a choice is settled
   restored-inside : (b : Bool) (saved : Option Saved) (text : Text) (k : Configuration R D) (base : List EventName) (f : Frame W) → k.position ≤ length text.seats → IsSaved table.class g text k.position (outline k) base f b saved

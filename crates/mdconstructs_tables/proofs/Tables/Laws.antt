@@ -138,7 +138,7 @@ module _ {W R D : Type 0} (table : Table W R D) (g : Given) {early : Name → Op
     by_nok = λ text k choice choices is h.
         let w = h.1.waiting.0 in (
           inside-after table g choice.kind choice.saved Nok (saves choice.kind choice.nok) text k h.1.base w.frame h.0 w.saved,
-          badly table g text k choices w.frame h.1.base w.below w.stack_is w.within choice.kind choice.ok choice.nok (saves choice.kind choice.nok) choice.saved refl w.fits w.saved h.1.waiting.1,
+          badly table g text k choices w.frame h.1.base w.below w.stack_is w.within choice.kind choice.ok choice.nok (saves choice.kind choice.nok) choice.saved refl w.fits w.saved h.1.waiting.1 h.1.any,
         );
     by_pieces = λ text piece k choices state is fits fresh h.
         let e = extends g text piece in

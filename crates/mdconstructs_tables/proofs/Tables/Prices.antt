@@ -1,5 +1,5 @@
 -- The calls of a machine whose table fits are paid for: what the current state and all waiting choices may cost falls at each call.
-use Rattle.mdconstructs_tables.proofs.Prelude.{◌≡◌, ◌≢◌, ◌⊎◌, ℕ, ◌+◌, ◌≤◌, ◌&&◌, ◌||◌, not, List, [], ◌∷◌, ◌++◌, Bool, true, false, cond, Option, Some, None, refl, sym, ap, subst, arith, inl, inr, max, and_from, and_parts, Name, State, Next, Retry, Ok, Nok, AttemptKind, Attempt, Check, Given, Text, IsText, Byte, IsAsFar, Configuration, Choice, Saved, Sight, sight, consumed, with_local, fed, unfed, restored, settled_at, CostPays, Act, consume, choose, StateRows, Table, named, class_of, past, choice_made_at, done, does, chooses, picked, table_step, last_or, is_void_last, saves, Frame, may_go_on, fits_choice, is_early_end, is_early, never, is_behind, outline, IsSaved, first_end, answer_end, ends_at, state_price, choice_price, chosen_price, goes_on, waiting_or_below, waiting_price, table_holds, table_cost, table_price, table_rules, falls_on, FallsLater, AllFallLater, are_falling, is_late_row, IsFitBy, IsFit, every, EventName}
+use Rattle.mdconstructs_tables.proofs.Prelude.{◌≡◌, ◌≢◌, ◌⊎◌, ℕ, ◌+◌, ◌≤◌, ◌&&◌, ◌||◌, not, List, [], ◌∷◌, ◌++◌, Bool, true, false, cond, Option, Some, None, refl, sym, ap, subst, arith, inl, inr, and_from, and_parts, Name, State, Next, Retry, Ok, Nok, AttemptKind, Attempt, Check, Given, Text, IsText, Byte, IsAsFar, Configuration, Choice, Saved, Sight, sight, consumed, with_local, fed, unfed, restored, settled_at, CostPays, Act, consume, choose, StateRows, Table, named, class_of, past, choice_made_at, done, does, chooses, picked, table_step, last_or, is_void_last, saves, Frame, may_go_on, may_go_back, fits_choice, is_early_end, never, is_behind, outline, IsSaved, first_end, answer_end, ends_at, choice_price, chosen_price, goes_on_price, waiting_or_below, waiting_price, table_holds, table_price, table_rules, falls_on, FallsLater, AllFallLater, are_falling, is_late_row, IsFitBy, IsFit, every, EventName}
 use Rattle.mdconstructs_tables.proofs.Rows.Misfits.{named-same}
 use Rattle.mdconstructs_tables.proofs.Rows.Laws.{chooses-append}
 use Rattle.mdconstructs_tables.proofs.GrowingTexts.{fed-position}
@@ -40,7 +40,7 @@ module _ {W R D : Type 0} (table : Table W R D) (g : Given) (early : Name → Op
 
   -- Choices that wait cost no more if they end later
   module _ (below : ℕ → ℕ) (falls : (p q : ℕ) → p ≤ q → below q ≤ below p) (text : Text) where
-    goes-on-falls : (a : State) (p q : ℕ) → falls_on falling a ≡ true → p ≤ q → goes_on table below text q a ≤ goes_on table below text p a
+    goes-on-falls : (a : State) (p q : ℕ) → falls_on falling a ≡ true → p ≤ q → goes_on_price table below text q a ≤ goes_on_price table below text p a
     goes-on-falls a p q may h =
         let own = state-falls table g early fit a text p q may h in
         let rest = falls (first_end p a) (first_end q a) (later-first (is_early_end a) p q h) in
@@ -177,29 +177,38 @@ module _ {W R D : Type 0} (table : Table W R D) (g : Given) (early : Name → Op
         let waiting = waiting-falls choices text k.position (answer_end early w (fed text k).position (Retry name)) all (omega (arith, there, more)) in
         omega (arith, own, waiting)
 
+  -- what a choice goes on with is not called at once
+  goes-on : (f : Frame W) (known : Option W) (a : State) → may_go_on table.states f known a ≡ true → (n : Name) → a ≢ Retry n
+  goes-on f known (Retry name) h n e = absurd (cc)
+  goes-on f known a h n e = cc
+
+  goes-back : (f : Frame W) (known : Option W) (a : State) → may_go_back table.states f known a ≡ true → (n : Name) → a ≢ Retry n
+  goes-back f known (Retry name) h n e = absurd (cc)
+  goes-back f known a h n e = cc
+
   module _ (c : Choice) (cs : List Choice) (f : Frame W) (stack : List EventName) (text : Text) (k : Configuration R D) where
     -- what goes on where a choice was made ends choices as its name says
-    go-ends : (known there : Option W) (p : ℕ) (a : State) → may_go_on table.states f known a ≡ true → waits text (answer_end early there p a) cs ≡ waits text (first_end p a) cs
-    go-ends known there p (Retry name) h = absurd (cc)
-    go-ends known there p a h = refl
+    go-ends : (there : Option W) (p : ℕ) (a : State) → ((n : Name) → a ≢ Retry n) → waits text (answer_end early there p a) cs ≡ waits text (first_end p a) cs
+    go-ends there p (Retry name) h = absurd (h name refl)
+    go-ends there p a h = refl
 
     -- what a choice goes on with costs at most what was counted for the choice
     ok-costs : (kind : AttemptKind) (b : Bool) (saved : Option Saved) → saves kind c.nok ≡ b → fits_choice table.states f kind c.ok c.nok ≡ true → IsSaved table.class g text k.position (outline k) stack f b saved
         → table_price table early g text (settled_at kind saved Ok k) cs c.ok ≤ waiting_or_below table (λ p. waits text p cs) text k.position kind saved c.ok c.nok
     ok-costs Attempt true (Some saved) is fit_it h =
-        let may = (and_parts (may_go_on table.states f None c.ok) _ fit_it).0 in
-        let cost = go-costs table g early fit f None c.ok text (unfed k) may in
-        let ends = go-ends None (of_class table g text (unfed k)) k.position c.ok may in
+        let may = goes-on f None c.ok (and_parts (may_go_on table.states f None c.ok) _ fit_it).0 in
+        let cost = go-costs table g early fit c.ok text (unfed k) may in
+        let ends = go-ends (of_class table g text (unfed k)) k.position c.ok may in
         omega (arith, cost, ends)
     ok-costs Attempt false None is fit_it h =
-        let may = (and_parts (may_go_on table.states f None c.ok) _ fit_it).0 in
-        let cost = go-costs table g early fit f None c.ok text (unfed k) may in
-        let ends = go-ends None (of_class table g text (unfed k)) k.position c.ok may in
+        let may = goes-on f None c.ok (and_parts (may_go_on table.states f None c.ok) _ fit_it).0 in
+        let cost = go-costs table g early fit c.ok text (unfed k) may in
+        let ends = go-ends (of_class table g text (unfed k)) k.position c.ok may in
         omega (arith, cost, ends)
     ok-costs Check true (Some saved) is fit_it h =
-        let may = (and_parts (may_go_on table.states f f.waits c.ok) (may_go_on table.states f f.waits c.nok) fit_it).0 in
-        let cost = go-costs table g early fit f f.waits c.ok text (restored (Some saved) k) may in
-        let ends = go-ends f.waits (of_class table g text (restored (Some saved) k)) saved.position c.ok may in
+        let may = goes-on f f.waits c.ok (and_parts (may_go_on table.states f f.waits c.ok) (may_go_back table.states f f.waits c.nok) fit_it).0 in
+        let cost = go-costs table g early fit c.ok text (restored (Some saved) k) may in
+        let ends = go-ends (of_class table g text (restored (Some saved) k)) saved.position c.ok may in
         omega (arith, cost, ends)
     ok-costs Check false saved is fit_it h = absurd (cc)
     ok-costs kind b saved is fit_it h = absurd h
@@ -211,16 +220,16 @@ module _ {W R D : Type 0} (table : Table W R D) (g : Given) (early : Name → Op
     nok-costs : (kind : AttemptKind) (b : Bool) (saved : Option Saved) → saves kind c.nok ≡ b → fits_choice table.states f kind c.ok c.nok ≡ true → IsSaved table.class g text k.position (outline k) stack f b saved
         → table_price table early g text (settled_at kind saved Nok k) cs c.nok ≤ waiting_or_below table (λ p. waits text p cs) text (k.position + 1) kind saved c.ok c.nok
     nok-costs Attempt true (Some saved) is fit_it h =
-        let rest = (and_parts (may_go_on table.states f None c.ok) (not (is_void_last (last_or None f.spans)) && may_go_on table.states f f.waits c.nok) fit_it).1 in
-        let may = (and_parts (not (is_void_last (last_or None f.spans))) (may_go_on table.states f f.waits c.nok) rest).1 in
-        let cost = go-costs table g early fit f f.waits c.nok text (restored (Some saved) k) may in
-        let ends = go-ends f.waits (of_class table g text (restored (Some saved) k)) saved.position c.nok may in
+        let rest = (and_parts (may_go_on table.states f None c.ok) (not (is_void_last (last_or None f.spans)) && may_go_back table.states f f.waits c.nok) fit_it).1 in
+        let may = goes-back f f.waits c.nok (and_parts (not (is_void_last (last_or None f.spans))) (may_go_back table.states f f.waits c.nok) rest).1 in
+        let cost = go-costs table g early fit c.nok text (restored (Some saved) k) may in
+        let ends = go-ends (of_class table g text (restored (Some saved) k)) saved.position c.nok may in
         omega (arith, cost, ends)
     nok-costs Attempt false None is fit_it h = let cost = unsaved-costs c.nok is in omega (arith, cost)
     nok-costs Check true (Some saved) is fit_it h =
-        let may = (and_parts (may_go_on table.states f f.waits c.ok) (may_go_on table.states f f.waits c.nok) fit_it).1 in
-        let cost = go-costs table g early fit f f.waits c.nok text (restored (Some saved) k) may in
-        let ends = go-ends f.waits (of_class table g text (restored (Some saved) k)) saved.position c.nok may in
+        let may = goes-back f f.waits c.nok (and_parts (may_go_on table.states f f.waits c.ok) (may_go_back table.states f f.waits c.nok) fit_it).1 in
+        let cost = go-costs table g early fit c.nok text (restored (Some saved) k) may in
+        let ends = go-ends (of_class table g text (restored (Some saved) k)) saved.position c.nok may in
         omega (arith, cost, ends)
     nok-costs Check false saved is fit_it h = absurd (cc)
     nok-costs kind b saved is fit_it h = absurd h
