@@ -72,7 +72,8 @@ ForPoints g from to P = (f t : Point) → point_at g.tab g.bytes from ≡ Some f
 
 module _ {M R D : Type 0} (rules : Rules R D) where
   -- What a push of a range leaves if it succeeds: the range, given by the places of its ends, is at the end of the text; the outcome is the
-  -- same for every rest; turn by turn the reading came to where it stands, and no turn is left; and all was read, or a message ended it
+  -- same for every rest; turn by turn the reading came to where it stands, and no turn is left; and all was read, or a message ended it.
+  -- The events that are there stand at places
   pub record IsPushed (old : TokenizerValue M R D) (from to : ℕ × ℕ) (state : State)
       (new : TokenizerValue M R D) (answer : State) : Type 0 where
     pub given : new.given ≡ old.given
@@ -88,6 +89,7 @@ module _ {M R D : Type 0} (rules : Rules R D) where
         × (new.configuration.waiting ≡ Nothing)
     pub answers : ((name : Name) × (answer ≡ Next name)) ⊎ ((m : Message) × (answer ≡ Error m))
     pub counted : old.calls ≤ new.calls
+    pub at_places : AreAtPlaces new.given.tab new.given.bytes new.configuration.events
     -- a message is returned again, and nothing is read
     pub message : (m : Message) → state ≡ Error m → (answer ≡ Error m) × (new ≡ record old { text = new.text })
 
@@ -113,7 +115,7 @@ module _ {M R D : Type 0} (rules : Rules R D) where
     pub in_shape : resolve ≡ true → IsInShape new.configuration.events
     pub promised : resolve ≡ true → rules.ends old.text new.configuration.events
 
-  -- A flush returns this message: the reading ends in it, or a resolver after the reading
+  -- A flush returns this message: the reading ends in it, or a resolver after the reading, and then it has resolved
   pub record IsRefused (resolve : Bool) (old : TokenizerValue M R D) (state : State) (new : TokenizerValue M R D)
       (m : Message) : Type 0 where
     pub given : new.given ≡ old.given
@@ -125,6 +127,7 @@ module _ {M R D : Type 0} (rules : Rules R D) where
         ⊎ ((result.answer ≡ Ok) × IsResolvingRefused rules.resolver old.given old.text resolve result.configuration m)
     pub calls : new.calls ≡ result.calls
     pub within : new.calls ≤ budget rules old.text old state
+    pub phase : new.phase ≡ elim result.answer [ Ok ↦ phase.Resolved | _ ↦ phase.Reading ]
 
 module _ {R D : Type 0} (g : Given) (rules : Rules R D) where
   -- On every text at which the invariant holds, a reading comes to one end, with no more calls than its cost

@@ -21,6 +21,7 @@ pub mod Made
 pub mod LawStatements
 pub mod Alike
 pub mod Stays
+pub mod Promises
 pub mod Lent
 pub mod Cuts
 pub mod Gaps

@@ -6,6 +6,7 @@ use Rattle.markdown_base.specs.declared.state.State.{State}
 use Rattle.markdown_base.specs.declared.state.State.TheVariants.{Next, Retry, Ok, Nok, Error}
 use Rattle.markdown_tokenizer.specs.declared.waiting.Waits.TheVariants.{Byte, End}
 use Rattle.markdown_tokenizer.specs.declared.waiting.Phase.TheVariants.{Reading}
+use Rattle.markdown_tokenizer.specs.AtPlaces.{AreAtPlaces}
 use Rattle.markdown_tokenizer.specs.Text.{Given, Text, IsText, Piece, CanFollow, followed_by_all}
 use Rattle.markdown_tokenizer.specs.Configuration.{Configuration, Choice, Step, TokenizerValue, at_configuration}
 use Rattle.markdown_tokenizer.specs.Reading.{fed, settled_at}
@@ -31,7 +32,8 @@ answer_in Ok = Some true
 answer_in Nok = Some false
 answer_in _ = None
 
--- no more is read than the text, the end is fed only to a closed tokenizer, and an open one reads
+-- no more is read than the text, the end is fed only to a closed tokenizer, and an open one reads; while one reads, its events stand at
+-- places
 pub record IsInText {M R D : Type 0} (t : TokenizerValue M R D) : Type 0 where
   pub text : IsText t.given t.text
   pub within : t.configuration.position ≤ length t.text.seats
@@ -39,6 +41,7 @@ pub record IsInText {M R D : Type 0} (t : TokenizerValue M R D) : Type 0 where
   pub end : t.configuration.waiting ≡ End → t.closed ≡ true
   pub ended : t.configuration.ended ≡ true → t.closed ≡ true
   pub reads : t.closed ≡ false → t.phase ≡ Reading
+  pub at_places : t.phase ≡ Reading → AreAtPlaces t.given.tab t.given.bytes t.configuration.events
 
 -- only the configuration, the choices and the count differ, and the count is no less
 pub record OnlyWorked {M R D : Type 0} (old new : TokenizerValue M R D) : Type 0 where

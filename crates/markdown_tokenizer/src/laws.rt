@@ -2,11 +2,15 @@
 //!
 //! Each is a function that does nothing, whose contract is the law.
 
+ghost use Rattle.std.specs.Prelude.{List};
+ghost use Rattle.markdown_base.specs.declared.event.Event.{Event};
 ghost use Rattle.markdown_tokenizer.specs.Alike.{CallsAreAlike, ReadingGoesOn};
 ghost use Rattle.markdown_tokenizer.specs.Engine.{HasOneEnd};
 ghost use Rattle.markdown_tokenizer.specs.LawStatements.{CutsLeaveNoTrace, PushesAreOne, ChoicesPutBack, PushesInOneWay};
+ghost use Rattle.markdown_tokenizer.specs.Promises.{MayPromiseLess, MayPromiseWellFormed};
 ghost use Rattle.markdown_tokenizer.specs.Reserves.{ReservesAreEnough};
 ghost use Rattle.markdown_tokenizer.specs.Stays.{StayBeforeChoices, WhatWasReadStays};
+ghost use Rattle.markdown_tokenizer.specs.Text.{Given, Text};
 ghost use Rattle.markdown_tokenizer.specs.Turns.{TurnsAreKept};
 
 use crate::state::Machine;
@@ -66,4 +70,22 @@ pub fn what_was_read_stays<M: Machine>()
 /// What was read of a document up to a cut between two bytes need not be read again in another document that is alike up to there.
 pub fn reading_goes_on<M: Machine>()
     ensures { ReadingGoesOn M.rules }
+{}
+
+/// A machine whose states register no resolver, make no edit and link nothing promises, for nothing, that its final events are well
+/// formed: balanced, with each void span empty, each event at a place of the document, and in order of place.
+pub fn well_formed_may_be_promised<M: Machine>()
+    ensures { MayPromiseWellFormed M.rules }
+{}
+
+/// A statement on the final events of a text.
+pub trait Promise {
+    /// The statement, on a document.
+    ghost ends: { Given → Text → List Event → Type 0 };
+}
+
+/// A machine may promise less: with any statement that follows from its promise it is lawful as well. So a machine that is lawful
+/// with a promise is lawful without one.
+pub fn less_may_be_promised<M: Machine, P: Promise>()
+    ensures { MayPromiseLess M.rules P.ends }
 {}

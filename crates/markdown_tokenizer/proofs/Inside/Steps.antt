@@ -78,6 +78,7 @@ module _ {M R D : Type 0} {same : R → R → Bool} (t : Inside M R D) (sound : 
     end = λ e. (end-waits e).closed_too;
     ended = sound.placed.ended;
     reads = sound.placed.reads;
+    at_places = sound.at_places;
   }
 
   pub well-formed : t.phase ≡ Reading → t.stack.items ≡ [] → IsWellFormed (seen t).given (seen t).configuration.events

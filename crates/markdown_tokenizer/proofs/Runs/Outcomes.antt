@@ -32,8 +32,8 @@ module _ {M R D : Type 0} (rules : Rules R D) (t u : TokenizerValue M R D) (a s 
 
   -- after the work only the configuration and the phase change
   module _ (resolve : Bool) (v : TokenizerValue M R D) (k : Configuration R D) (p : Phase) (same : v ≡ record u { configuration = k; phase = p }) where
-    pub flush-refused : (m : Message) → (s ≡ Error m) ⊎ ((s ≡ Ok) × (u.choices ≡ []) × IsResolvingRefused rules.resolver t.given t.text resolve u.configuration m) → IsRefused rules resolve t a v m
-    flush-refused m why = rw same (record {
+    pub flush-refused : p ≡ elim s [ Ok ↦ phases.Resolved | _ ↦ phases.Reading ] → (m : Message) → (s ≡ Error m) ⊎ ((s ≡ Ok) × (u.choices ≡ []) × IsResolvingRefused rules.resolver t.given t.text resolve u.configuration m) → IsRefused rules resolve t a v m
+    flush-refused phase m why = rw same (record {
       given = only.given;
       machine = only.machine;
       text = only.text;
@@ -42,6 +42,7 @@ module _ {M R D : Type 0} (rules : Rules R D) (t u : TokenizerValue M R D) (a s 
       message = elim why [ inl e ↦ inl e | inr e ↦ inr (e.0, e.2) ];
       calls = refl;
       within = flush-paid;
+      phase = phase;
     })
 
     pub flush-ok : (sub : Subresult) → s ≡ Ok → u.choices ≡ [] → IsResolved rules.resolver t.given t.text resolve u.configuration k sub → p ≡ cond resolve phases.Resolved phases.Reading

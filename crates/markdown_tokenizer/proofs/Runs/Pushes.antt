@@ -93,6 +93,7 @@ module _ {M R D : Type 0} (rules : Rules R D) (old mid new : TokenizerValue M R 
     read = two.read;
     answers = two.answers;
     counted = let x = one.counted in let y = two.counted in omega (arith, x, y);
+    at_places = two.at_places;
     message = λ m e.
         let h = one.message m e in
         let k = two.message m h.0 in

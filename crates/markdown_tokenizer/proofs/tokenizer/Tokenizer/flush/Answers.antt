@@ -27,9 +27,10 @@ unreachable-requires g c =
 pub returns-in-Error-clause-message : goal.returns-in-Error-clause-message
 returns-in-Error-clause-message g c message is =
     let t = c.args.self.now in let u = c.run_states.new.self in let close = c.close.ensures in
-    let same : c.in-Error.message ≡ message = cc in
-    flush-refused (g.M.Machine.rules t.machine t.given) t u c.args.state c.in-Ok.answer (rw close at c.in-Ok.ensures.same) (rw close at c.in-Ok.ensures.leads)
-    c.args.resolve u u.configuration u.phase refl message (inl (c.in-Error.is ∙ ap Error same))
+    let same : c.in-Error.message ≡ message = cc in let only = rw close at c.in-Ok.ensures.same in
+    let reads = only.phase ∙ c.shows_in_text.ensures.reads (sym c.is_closed.ensures ∙ c.if-is_closed.false) in
+    flush-refused (g.M.Machine.rules t.machine t.given) t u c.args.state c.in-Ok.answer only (rw close at c.in-Ok.ensures.leads)
+    c.args.resolve u u.configuration u.phase refl (rw c.in-Error.is reads) message (inl (c.in-Error.is ∙ ap Error same))
 
 pub resolve_all-requires-clause-invariant : goal.resolve_all-requires-clause-invariant
 resolve_all-requires-clause-invariant g c =
@@ -56,7 +57,7 @@ returns-then-resolve-clause-message g c message refuses =
     let e = ended g (goal.at.returns-then-resolve-clause-message g c).After-shows_events in
     let only = rw close at c.in-Ok.ensures.same in let resolve = c.if-resolve.true in let after = c.resolve_all.ensures in
     flush-refused (g.M.Machine.rules t.machine t.given) t u c.args.state c.in-Ok.answer only (rw close at c.in-Ok.ensures.leads)
-    c.args.resolve c.resolve_all.new.self c.resolve_all.new.self.configuration Resolved (rw rest at after.same) message (inr (
+    c.args.resolve c.resolve_all.new.self c.resolve_all.new.self.configuration Resolved (rw rest at after.same) (rw c.in-Ok-answer.is refl) message (inr (
       c.in-Ok-answer.is,
       e.0,
       rw resolve (resolving-is g.M.Machine.rules t u c.take_definitions-sub.new.self _ _ only.given only.machine only.text rest c.take_definitions-sub.ensures.answer (after.message message refuses)),

@@ -42,6 +42,7 @@ returns-in-Ok-clause-ok g c =
           let far = rw e at c.in-Ok.ensures.stops in let within = sound.within in
           (omega (arith, far.1, within), law.invariant_kept.unfed u.text u.configuration u.choices name is (rw e at now));
       counted = only.counted;
+      at_places = sound.at_places (sound.reads closed);
       message = λ m e. let same = stays m e in (same.0, same.1 ∙ ap (λ (x : Text). extended old x) (sym only.text));
       answers = stops-answers old.given (g.M.Machine.rules old.machine old.given) law u s is now c.in-Ok.ensures.stops (λ e. absurd (false≢true (sym closed ∙ sound.ended e)));
     }
