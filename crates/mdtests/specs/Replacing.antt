@@ -83,7 +83,7 @@ replacing_resolves text (Second ∷ []) k = (p : Point) × (k.events ≡ []) × 
 replacing_resolves text [] k = (p q : Point) × (k.events ≡ span_at Paragraph p) × (k.local.map ≡ edit_at 0 2 (span_at BlockQuote q) ∷ [])
 replacing_resolves text _ k = ⊥
 
--- its rules
+-- its rules; in the end there is one block quote, with nothing in it
 abbrev pub replacing_rules : Given → Rules Resolver Unit
 replacing_rules g = record {
   step = replacing_step;
@@ -92,4 +92,5 @@ replacing_rules g = record {
   starts = TextStart ∷ [];
   resolver = replacing_resolver;
   resolves = replacing_resolves;
+  ends = λ text events. (p : Point) × (events ≡ span_at BlockQuote p);
 }
