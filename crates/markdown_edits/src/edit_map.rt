@@ -4,7 +4,7 @@
 //! edits at indices into the events as they are, and each event and link end is moved once.
 
 ghost use Rattle.std.specs.List.{AllByRecursion};
-ghost use Rattle.std.specs.Prelude.{◌≡◌, ◌++◌, ◌+◌, ◌↔◌, ◌<◌, ◌≤◌, ◌^◌, [], length, OnOk, OnErr, IsOk, All, IsTrue, if◌then◌else◌};
+ghost use Rattle.std.specs.Prelude.{◌≡◌, ◌++◌, ◌+◌, ◌↔◌, ◌<◌, ◌≤◌, ◌^◌, [], length, IfOk, OnOk, OnErr, IsOk, All, IsTrue, if◌then◌else◌};
 ghost use Rattle.markdown_base.specs.Events.{EndsBelow};
 ghost use Rattle.markdown_edits.specs.Edits.{Edit, edit_at, is_no_edit, added_after, added_before, removal_at, AreDisjoint, AreBehind};
 ghost use Rattle.markdown_edits.specs.Edited.{edited};
@@ -47,6 +47,15 @@ impl EditMap {
             front: Pool::new(alloc),
             behind: Tree::new(alloc),
         }
+    }
+
+    /// The same edits, in memory of their own.
+    pub fn try_clone(&self, alloc: Global) -> Result<Self, AllocError>
+        ensures { IfOk result (λ copy. copy ≡ self.now) }
+    {
+        let front = self.front.try_clone(alloc)?;
+        let behind = self.behind.try_clone(alloc)?;
+        Ok(EditMap { front, behind })
     }
 
     /// Adds an edit: at `index` (into the events as they are) `remove` events go, and `additions` come in their place.

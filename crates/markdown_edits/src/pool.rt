@@ -45,6 +45,15 @@ impl Pool {
         }
     }
 
+    /// The same edits, in memory of their own.
+    pub(crate) fn try_clone(&self, alloc: Global) -> Result<Self, AllocError>
+        ensures { IfOk result (λ copy. copy ≡ self.now) }
+    {
+        let entries = Vec::from_slice(alloc, &self.entries)?;
+        let additions = Vec::from_slice(alloc, &self.additions)?;
+        Ok(Pool { entries, additions })
+    }
+
     /// The allocator of its memory.
     pub(crate) fn allocator(&self) -> Global {
         *self.additions.allocator()

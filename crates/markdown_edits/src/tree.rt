@@ -1,7 +1,7 @@
 //! Edits at indices that come in any order.
 
 ghost use Rattle.std.specs.List.{AllByRecursion};
-ghost use Rattle.std.specs.Prelude.{◌≡◌, ◌++◌, ◌+◌, ◌<◌, ◌≤◌, ◌^◌, ◌↔◌, [], ◌∷◌, length, take, OnOk, OnErr, IsTrue, if◌then◌else◌};
+ghost use Rattle.std.specs.Prelude.{◌≡◌, ◌++◌, ◌+◌, ◌<◌, ◌≤◌, ◌^◌, ◌↔◌, [], ◌∷◌, length, take, IfOk, OnOk, OnErr, IsTrue, if◌then◌else◌};
 ghost use Rattle.markdown_edits.specs.Edits.{Edit, edit_at, put_after, put_before, removal_at, AreBehind};
 ghost use Rattle.markdown_edits.specs.Stored.{as_edit, edits_of};
 
@@ -37,6 +37,15 @@ impl Tree {
         Tree {
             edits: BTreeMap::new(alloc),
         }
+    }
+
+    /// The same edits, in memory of their own.
+    pub(crate) fn try_clone(&self, alloc: Global) -> Result<Self, AllocError>
+        ensures { IfOk result (λ copy. copy ≡ self.now) }
+    {
+        let mut edits = BTreeMap::new(alloc);
+        push_copies(&mut edits, &self.edits)?;
+        Ok(Tree { edits })
     }
 
     /// Whether there are no edits.

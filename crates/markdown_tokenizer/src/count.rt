@@ -29,4 +29,11 @@ impl Calls {
     {
         Calls {}
     }
+
+    /// As many calls were made.
+    pub(crate) fn same(&self) -> Calls
+        ensures { result.made ≡ self.now.made }
+    {
+        Calls {}
+    }
 }

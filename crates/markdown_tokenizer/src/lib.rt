@@ -1,6 +1,7 @@
 //! The tokenizer engine: a machine of states reads a document, range by range, and makes a list of events.
 #![tactic(auto)]
 
+pub mod copies;
 mod count;
 mod cursor;
 pub mod laws;

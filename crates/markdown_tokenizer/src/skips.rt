@@ -2,7 +2,7 @@
 
 ghost use Rattle.markdown_tokenizer.specs.Gaps.{skip_of};
 ghost use Rattle.std.specs.List.{AllByRecursion};
-ghost use Rattle.std.specs.Prelude.{◌≡◌, ◌++◌, ◌<◌, ◌↔◌, [], ◌∷◌, IsTrue, OnErr, OnOk, unwrap_or};
+ghost use Rattle.std.specs.Prelude.{◌≡◌, ◌++◌, ◌<◌, ◌↔◌, [], ◌∷◌, IfOk, IsTrue, OnErr, OnOk, unwrap_or};
 
 use markdown_base::event::Point;
 use std::alloc::{AllocError, Global};
@@ -35,6 +35,15 @@ impl Skips {
         Skips {
             places: Vec::new(alloc),
         }
+    }
+
+    /// The same places, in memory of their own.
+    pub(crate) fn try_clone(&self, alloc: Global) -> Result<Self, AllocError>
+        ensures { IfOk result (λ copy. copy ≡ self.now) }
+    {
+        Ok(Skips {
+            places: Vec::from_slice(alloc, &self.places)?,
+        })
     }
 
     /// Whether no line is passed.

@@ -1,8 +1,10 @@
 //! The tokenizer: it feeds the virtual bytes of a document to the states of a machine.
 //!
 //! This module has the tokenizer and the calls that states make. `paths` has the fast and slow paths of those that each byte or span
-//! needs. `running` calls the states, `resolve` runs resolvers, `look` has the calls that only read, and `state` has what states share.
+//! needs. `running` calls the states, `resolve` runs resolvers, `look` has the calls that only read, `state` has what states share, and
+//! `copy` copies a tokenizer.
 
+mod copy;
 mod fault;
 mod look;
 mod paths;
