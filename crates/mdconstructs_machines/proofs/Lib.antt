@@ -3,6 +3,7 @@ pub mod BlockReads
 pub mod Innermost
 pub mod LineExamples
 pub mod LineReads
+pub mod NoFurther
 pub mod Mapped
 pub mod NoRefusals
 pub mod ParagraphExamples

@@ -2,6 +2,7 @@
 
 ghost use Rattle.std.specs.Prelude.{◌≡◌, ◌+◌, ◌-◌, ◌*◌, ◌/◌, [], ◌∷◌, Some, None};
 ghost use Rattle.markdown_base.specs.declared.state.TheConstants.Name.{FlowStart, ParagraphInside, TextStart, StringStart};
+ghost use Rattle.markdown_tokenizer.specs.Alike.{LooksNoFurther};
 ghost use Rattle.mdconstructs_tables.specs.Fitting.{IsFit};
 ghost use Rattle.mdconstructs_tables.specs.Misfits.{act, spans, choice, answer, unpaid, start, misfits};
 ghost use Rattle.mdconstructs_tables.specs.PlainTables.{IsPlainTable};
@@ -87,4 +88,10 @@ pub fn misfits_are_not_all()
     ensures editing { (previous current : _) → misfits editing previous current ≡ [] }
     ensures not_plain { ¬ IsPlainTable editing }
     ensures writes { ¬ WritesPlain editing }
+{}
+
+/// The machine of paragraphs looks no further than the byte that waits. So a tokenizer that it drives can go on in another document
+/// that begins alike.
+pub fn paragraphs_look_no_further()
+    ensures { LooksNoFurther paragraphs_rules }
 {}

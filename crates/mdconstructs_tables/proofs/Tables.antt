@@ -6,6 +6,7 @@ pub mod Knowledge
 pub mod Late
 pub mod Laws
 pub mod Lawful
+pub mod NoFurther
 pub mod Plain
 pub mod Prices
 pub mod Refusals

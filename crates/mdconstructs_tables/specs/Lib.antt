@@ -7,6 +7,7 @@ pub mod LinkShapes
 pub mod Looks
 pub mod Markers
 pub mod Misfits
+pub mod NoFurther
 pub mod RowInvariant
 pub mod RowTest
 pub mod Rows

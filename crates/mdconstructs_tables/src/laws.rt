@@ -4,6 +4,7 @@ ghost use Rattle.std.specs.Prelude.{Bool, List, Option};
 ghost use Rattle.markdown_base.specs.declared.event.Event.{Event};
 ghost use Rattle.markdown_base.specs.declared.state.Name.{Name};
 ghost use Rattle.markdown_base.specs.declared.state.State.{State};
+ghost use Rattle.markdown_tokenizer.specs.Alike.{LooksNoFurther};
 ghost use Rattle.markdown_tokenizer.specs.Configuration.{Choice, Configuration, Local, Step};
 ghost use Rattle.markdown_tokenizer.specs.Lawful.{IsLawful};
 ghost use Rattle.markdown_tokenizer.specs.Plain.{plain};
@@ -13,6 +14,7 @@ ghost use Rattle.mdconstructs_tables.specs.Fitting.{IsFit};
 ghost use Rattle.mdconstructs_tables.specs.Knowledge.{IsKnownThroughout, knowing_rules};
 ghost use Rattle.mdconstructs_tables.specs.Late.{IsLate, late_rules};
 ghost use Rattle.mdconstructs_tables.specs.Looks.{LooksAreScans, Plays};
+ghost use Rattle.mdconstructs_tables.specs.NoFurther.{TestsLookNoFurther};
 ghost use Rattle.mdconstructs_tables.specs.PlainTables.{IsPlainTable};
 ghost use Rattle.mdconstructs_tables.specs.PlainWrites.{WritesPlain};
 ghost use Rattle.mdconstructs_tables.specs.Quiet.{QuietLooksEnd};
@@ -68,4 +70,17 @@ pub fn looks_are_scans<W, R, D>()
 /// themselves. It takes at most as many calls at each place as the states have ranks.
 pub fn quiet_looks_end<W, R, D>()
     ensures { (table : Table W R D) → QuietLooksEnd table }
+{}
+
+/// The machine of a table looks no further than the byte that waits, if none of its tests does: what it read of a document need not be
+/// read again in another one that begins alike. Of a document a test may take the options, and the bytes up to the byte that waits.
+pub fn tables_look_no_further<W, R, D>()
+    ensures table { (table : Table W R D) → TestsLookNoFurther table → LooksNoFurther (λ g. plain (table_rules table g)) }
+    ensures late { (table : Table W R D) (early : Name → Option W → Bool) (falling : Name → Bool)
+        → TestsLookNoFurther table → LooksNoFurther (λ g. plain (late_rules table early falling g)) }
+{}
+
+/// So does the machine of a table that knows more than its table says.
+pub fn knowing_tables_look_no_further<K: Knowledge>()
+    ensures { TestsLookNoFurther K.table → LooksNoFurther (knowing_rules K.table K.knows K.ends) }
 {}

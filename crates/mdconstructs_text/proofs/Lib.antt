@@ -1,4 +1,5 @@
 pub mod Examples
+pub mod NoFurther
 pub mod NoRefusals
 pub mod Autolinks
 pub mod CodeSpans

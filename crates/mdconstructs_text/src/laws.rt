@@ -5,6 +5,7 @@ ghost use Rattle.markdown_base.specs.declared.event.Event.{Event};
 ghost use Rattle.markdown_base.specs.declared.state.TheConstants.Name.{FlowStart, TextStart};
 ghost use Rattle.markdown_base.specs.Events.{IsVoidTight};
 ghost use Rattle.markdown_base.specs.Virtual.{Seat, virtual};
+ghost use Rattle.markdown_tokenizer.specs.Alike.{LooksNoFurther};
 ghost use Rattle.markdown_tokenizer.specs.Text.{Given, Text, IsDocument};
 ghost use Rattle.markdown_children.specs.Ready.{IsReady};
 ghost use Rattle.mdconstructs_tables.specs.Refusals.{RulesRefuseNothing};
@@ -101,4 +102,10 @@ pub fn void_spans_stay_empty_with_children()
 /// have no links. So strings can be read after texts without a test between.
 pub fn other_chains_stay_ready_after_texts()
     ensures { (g : Given) (events : List Event) → IsReady g.tab g.bytes (Some Content.Text) events → IsDocument g → StaysReadyBy g events text_rules }
+{}
+
+/// The machine of texts looks no further than the byte that waits: of a document its tests take the options alone. So a tokenizer that
+/// it drives can go on in another document that begins alike.
+pub fn texts_look_no_further()
+    ensures { LooksNoFurther text_rules }
 {}

@@ -1,0 +1,5 @@
+use Rattle.mdconstructs_text.proofs.NoFurther.{texts-look}
+use Rattle.mdconstructs_text.proofs.laws.texts_look_no_further.Goals as goal
+
+pub returns : goal.returns
+returns c = texts-look
