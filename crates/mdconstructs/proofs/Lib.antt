@@ -19,6 +19,7 @@ pub use Rattle.mdconstructs_text.proofs.Examples
 pub use Rattle.mdconstructs_text.proofs.NoRefusals as TextNoRefusals
 pub use Rattle.mdconstructs_text.proofs.Autolinks
 pub use Rattle.mdconstructs_text.proofs.CodeSpans
+pub use Rattle.mdconstructs_text.proofs.Constructs
 pub use Rattle.mdconstructs_text.proofs.DeepSpans
 pub use Rattle.mdconstructs_text.proofs.Escapes
 pub use Rattle.mdconstructs_text.proofs.Plain

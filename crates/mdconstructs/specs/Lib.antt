@@ -34,12 +34,19 @@ pub use Rattle.mdconstructs_machines.specs.Unfit
 pub use Rattle.mdconstructs_machines.specs.Words
 pub use Rattle.mdconstructs_machines.specs.Wrap
 pub use Rattle.mdconstructs_machines.specs.Laws
+pub use Rattle.mdconstructs_text.specs.Autolink
+pub use Rattle.mdconstructs_text.specs.Bytes
 pub use Rattle.mdconstructs_text.specs.ChainTexts
+pub use Rattle.mdconstructs_text.specs.CodeSpan
+pub use Rattle.mdconstructs_text.specs.Construct
+pub use Rattle.mdconstructs_text.specs.Escape
 pub use Rattle.mdconstructs_text.specs.Items
+pub use Rattle.mdconstructs_text.specs.Parts
 pub use Rattle.mdconstructs_text.specs.TextBytes
 pub use Rattle.mdconstructs_text.specs.TextCosts
 pub use Rattle.mdconstructs_text.specs.TextEvents
 pub use Rattle.mdconstructs_text.specs.TextRules
+pub use Rattle.mdconstructs_text.specs.TextSizes
 pub use Rattle.mdconstructs_text.specs.TextTable
 pub use Rattle.mdconstructs_text.specs.Laws as TextLaws
 pub use Rattle.mdconstructs_documents.specs.Choices

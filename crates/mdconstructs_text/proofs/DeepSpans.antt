@@ -3,5 +3,6 @@ pub mod Atoms
 pub mod Chains
 pub mod Chunks
 pub mod Places
+pub mod Stretches
 pub mod TextCuts
 pub mod Untorn

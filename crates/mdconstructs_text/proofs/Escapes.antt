@@ -1,3 +1,5 @@
 -- Escapes, as the machine of texts reads them.
+pub mod Bytes
 pub mod Classes
+pub mod Cuts
 pub mod Readings

@@ -3,6 +3,7 @@ pub mod NoFurther
 pub mod NoRefusals
 pub mod Autolinks
 pub mod CodeSpans
+pub mod Constructs
 pub mod DeepSpans
 pub mod Escapes
 pub mod Plain

@@ -1,5 +1,5 @@
 -- The tables of texts and of paragraphs refuse no document, by the test of their rows.
-use Rattle.mdconstructs_text.proofs.Prelude.{◌≡◌, [], Option, Some, None, refl, has_state, refusing, RulesRefuseNothing, table_step, table-steps, refuse-nothing, either-step, nothing-found, LineByte, TextByte, line_feed, backtick, less, greater, backslash, colon, letter, digit, mark, punctuation, blank, other, texts, flow, text_rules}
+use Rattle.mdconstructs_text.proofs.Prelude.{◌≡◌, [], Option, Some, None, refl, has_state, refusing, RulesRefuseNothing, table_step, table-steps, refuse-nothing, either-step, nothing-found, LineByte, TextByte, line_feed, other, texts, flow, text_rules}
 use Rattle.mdconstructs_machines.specs.Tables as lines
 
 flow-none : (previous current : Option LineByte) → refusing flow previous current ≡ []
@@ -8,19 +8,8 @@ flow-none previous (Some lines.line_ending) = refl
 flow-none previous (Some lines.other) = refl
 
 texts-none : (previous current : Option TextByte) → refusing texts previous current ≡ []
-texts-none previous None = refl
 texts-none previous (Some line_feed) = refl
-texts-none previous (Some backtick) = refl
-texts-none previous (Some less) = refl
-texts-none previous (Some greater) = refl
-texts-none previous (Some backslash) = refl
-texts-none previous (Some colon) = refl
-texts-none previous (Some letter) = refl
-texts-none previous (Some digit) = refl
-texts-none previous (Some mark) = refl
-texts-none previous (Some punctuation) = refl
-texts-none previous (Some blank) = refl
-texts-none previous (Some other) = refl
+texts-none previous _ = refl
 
 pub text-refuses-nothing : RulesRefuseNothing text_rules
 text-refuses-nothing =

@@ -1,5 +1,4 @@
 -- Plain data, as the machine of texts reads it.
-pub mod Backslashes
 pub mod Classes
 pub mod Items
 pub mod Stretches

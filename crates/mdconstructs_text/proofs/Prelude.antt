@@ -108,11 +108,19 @@ pub use Rattle.mdconstructs_tables.specs.Markers.{marked}
 pub use Rattle.mdconstructs_tables.specs.Refusals.{RulesRefuseNothing, refusing}
 pub use Rattle.mdconstructs_tables.specs.RowInvariant.{begun}
 pub use Rattle.mdconstructs_tables.specs.RowTest.{allows_all, start_shape}
-pub use Rattle.mdconstructs_tables.specs.Rows.{Rows, class_of, consume, enter, exit, picked, row, step_of, table_step, when}
+pub use Rattle.mdconstructs_tables.specs.Rows.{Rows, choose, class_of, consume, enter, exit, picked, row, step_of, table_step, when}
+pub use Rattle.mdconstructs_text.specs.Autolink.{autolink, autolink_at, autolink_open, autolink_open_rows, autolink_scheme, autolink_scheme_rows, autolink_start, autolink_to, autolink_url, autolink_url_rows, autolinks, autolinks_are_on, has_room, has_scheme, is_allowed, is_scheme, is_scheme_byte, scheme_goes_on, uri}
+pub use Rattle.mdconstructs_text.specs.Bytes.{backticks, ends_with, has_byte_at, is_backslash, is_backtick, is_colon, is_greater_than, is_less_than, is_line_feed, passes}
 pub use Rattle.mdconstructs_text.specs.ChainTexts.{AreReadAtPlaces, AreReadBy, HasReadableChains, chain_data, chain_events, chain_text, with_data, with_read, with_texts}
-pub use Rattle.mdconstructs_text.specs.Items.{Item, Part, autolink, autolink_at, autolink_to, backticks, before_backtick_string, code_span, code_span_at, ends_with, escape, escape_at, has_byte_at, if_on, is_allowed, is_backtick, is_backtick_or_line_feed, is_backtick_string, is_colon, is_greater_than, is_less_than, is_line_feed, is_scheme, is_scheme_byte, is_special, item_at, item_length, line_ending, or_else, part, part_at, part_length, passes, plain_length, plain_run, uri}
+pub use Rattle.mdconstructs_text.specs.CodeSpan.{before_backtick_string, code_span, code_span_at, code_spans, code_spans_are_on, is_backtick_or_line_feed, is_backtick_string, pieces, raw_flow_after, raw_flow_before_content_chunk, raw_flow_content_chunk, raw_flow_content_chunk_rows, raw_text_between, raw_text_between_rows, raw_text_data, raw_text_data_rows, raw_text_sequence_close, raw_text_sequence_close_rows, raw_text_sequence_open, raw_text_sequence_open_rows, raw_text_start, raw_text_start_rows, sizes_are_equal}
+pub use Rattle.mdconstructs_text.specs.Construct.{Construct, Found, Grammar, before_rows, first_there, grammars_of, if_on, or_else, some_begins, some_first, tried_at}
+pub use Rattle.mdconstructs_text.specs.Escape.{escape, escape_at, escape_inside, escape_inside_rows, escape_start, escape_start_rows, escaped, escapes, escapes_are_on}
+pub use Rattle.mdconstructs_text.specs.Items.{is_special, item_at, item_length, text_grammars}
+pub use Rattle.mdconstructs_text.specs.Laws.Classes.{by-class, tick-classed}
 pub use Rattle.mdconstructs_text.specs.Laws.Rules.{in-paragraphs, in-text, text-lawful}
-pub use Rattle.mdconstructs_text.specs.TextBytes.{TextByte, backslash, backtick, blank, colon, digit, greater, is_tick, less, letter, line_feed, mark, other, punctuation, text_byte}
-pub use Rattle.mdconstructs_text.specs.TextEvents.{bytes_of, cut, event, item_events, items, leaf, part_events, pieces, seat_events, text_events}
+pub use Rattle.mdconstructs_text.specs.Parts.{Part, bytes_of, cut, event, leaf, line_ending, part, part_at, part_events, part_length, plain_length, plain_run}
+pub use Rattle.mdconstructs_text.specs.TextBytes.{TextByte, backslash, backtick, blank, colon, digit, greater, is_backslash_class, is_backtick_class, is_less_class, is_line_feed_class, is_tick, less, letter, line_feed, mark, other, punctuation, text_byte}
+pub use Rattle.mdconstructs_text.specs.TextEvents.{item_events, items, seat_events, text_events}
 pub use Rattle.mdconstructs_text.specs.TextRules.{flow, text_rules}
-pub use Rattle.mdconstructs_text.specs.TextTable.{autolink_open, autolink_open_rows, autolink_scheme, autolink_scheme_rows, autolink_start, autolink_url, autolink_url_rows, data_at_break, data_at_break_rows, data_inside, data_inside_rows, escape_inside, escape_inside_rows, escape_start, escape_start_rows, escaped, escapes_are_on, has_room, has_scheme, autolinks_are_on, more_than, raw_flow_after, raw_flow_before_content_chunk, raw_flow_content_chunk, raw_flow_content_chunk_rows, raw_text_between, raw_text_between_rows, raw_text_data, raw_text_data_rows, raw_text_sequence_close, raw_text_sequence_close_rows, raw_text_sequence_open, raw_text_sequence_open_rows, raw_text_start, raw_text_start_rows, scheme_goes_on, sizes_are_equal, code_spans_are_on, text_before, text_before_data, text_before_data_rows, text_before_rows, text_start, texts, tries}
+pub use Rattle.mdconstructs_text.specs.TextSizes.{more_than}
+pub use Rattle.mdconstructs_text.specs.TextTable.{data_at_break, data_at_break_rows, data_inside, data_inside_rows, text_before, text_before_data, text_before_data_rows, text_before_rows, text_constructs, text_start, texts}

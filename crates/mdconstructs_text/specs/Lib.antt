@@ -1,8 +1,15 @@
+pub mod Autolink
+pub mod Bytes
 pub mod ChainTexts
+pub mod CodeSpan
+pub mod Construct
+pub mod Escape
 pub mod Items
+pub mod Parts
 pub mod TextBytes
 pub mod TextCosts
 pub mod TextEvents
 pub mod TextRules
+pub mod TextSizes
 pub mod TextTable
 pub mod Laws

@@ -1,7 +1,7 @@
 -- The classes of bytes of the machine of texts.
 use Rattle.std.specs.Prelude.{ℕ, ◌==◌, ◌||◌, nat_lt, Bool, true, false, cond, Option, Some, None}
 use Rattle.std.specs.Char.{is_ascii_alphabetic, is_ascii_alphanumeric, is_ascii_punctuation}
-use Rattle.mdconstructs_text.specs.Items.{is_line_feed, is_backtick, is_less_than, is_greater_than, is_backslash, is_colon, is_scheme_mark}
+use Rattle.mdconstructs_text.specs.Bytes.{is_line_feed, is_backtick, is_less_than, is_greater_than, is_backslash, is_colon, is_scheme_mark}
 
 -- The classes. Letters, digits and marks are the characters of schemes; a blank is a space, or an ASCII control character that is
 -- no line feed.
@@ -37,3 +37,19 @@ ends_code_data None = true
 ends_code_data (Some line_feed) = true
 ends_code_data (Some backtick) = true
 ends_code_data _ = false
+
+-- the class of a line feed, of a backtick, of `<` and of a backslash
+abbrev pub is_line_feed_class : TextByte → Bool
+is_line_feed_class line_feed = true
+is_line_feed_class _ = false
+
+abbrev pub is_backtick_class : TextByte → Bool
+is_backtick_class w = is_tick (Some w)
+
+abbrev pub is_less_class : TextByte → Bool
+is_less_class less = true
+is_less_class _ = false
+
+abbrev pub is_backslash_class : TextByte → Bool
+is_backslash_class backslash = true
+is_backslash_class _ = false

@@ -4,7 +4,7 @@ use Rattle.markdown_base.specs.Virtual.{Seat}
 use Rattle.markdown_tokenizer.specs.Text.{Text}
 use Rattle.markdown_tokenizer.specs.Sight.{byte_of}
 use Rattle.mdconstructs_tables.specs.Rows.{class_of}
-use Rattle.mdconstructs_text.specs.Items.{is_backtick}
+use Rattle.mdconstructs_text.specs.Bytes.{is_backtick}
 use Rattle.mdconstructs_text.specs.TextBytes.{TextByte, text_byte, is_tick}
 
 -- how many backticks the seats begin with

@@ -2,6 +2,10 @@
 //! data.
 #![tactic(auto)]
 
+mod autolink;
+mod code_span;
+mod escape;
 pub mod laws;
 pub mod read;
+mod sizes;
 pub mod text;

@@ -1,13 +1,15 @@
 -- Autolinks, as the machine of texts reads them: if one is there, it is read whole, with its events; if not, what was tried leaves nothing.
-use Rattle.mdconstructs_text.proofs.Prelude.{at-front, ◌≡◌, ℕ, ◌+◌, ◌<◌, ◌≤◌, ◌∷◌, [], List, Bool, true, false, cond, refl, sym, ◌∙◌, ap, subst, Option, Some, None, inl, inr, arith, take, drop, nat_le, ◌&&◌, ◌==◌, and-false, and-true, cases_lt, eqb-true, lt-ltb, drop-drop, drop-map, is_ascii_alphabetic, prefix_len, drop-next, Event, Autolink, AutolinkProtocol, Name, Next, Retry, TextBefore, AutolinkStart, AutolinkOpen, AutolinkSchemeInsideOrEmailAtext, AutolinkUrlInside, Seat, Nothing, Byte, Given, Text, Configuration, Local, Choice, byte_of, counts, Item, autolink, passes, has_byte_at, is_scheme_byte, is_allowed, uri, autolink_to, autolink_at, is_colon, is_greater_than, bytes_of, Rows, TextByte, text_byte, class_of, row, Nok, row_step, sight, held, has_room, has_scheme, autolinks_are_on, autolink_open_rows, autolink_scheme_rows, autolink_url_rows, nat_tests, consume, letter, scheme_goes_on, zero, suc, length-prefix_len, list_all, is_scheme, more_than}
+use Rattle.mdconstructs_text.proofs.Prelude.{by-class, IsText, autolinks, at-front, ◌≡◌, ℕ, ◌+◌, ◌<◌, ◌≤◌, ◌∷◌, [], List, Bool, true, false, cond, refl, sym, ◌∙◌, ap, subst, Option, Some, None, inl, inr, arith, take, drop, nat_le, ◌&&◌, ◌==◌, and-false, and-true, cases_lt, eqb-true, lt-ltb, drop-drop, drop-map, is_ascii_alphabetic, prefix_len, drop-next, Event, Autolink, AutolinkProtocol, Name, Next, Retry, AutolinkStart, AutolinkOpen, AutolinkSchemeInsideOrEmailAtext, AutolinkUrlInside, Seat, Nothing, Byte, Given, Text, Configuration, Local, Choice, byte_of, counts, Found, autolink, passes, has_byte_at, is_scheme_byte, is_allowed, uri, autolink_to, autolink_at, is_colon, is_greater_than, bytes_of, Rows, TextByte, text_byte, class_of, row, Nok, row_step, sight, held, has_room, has_scheme, autolink_open_rows, autolink_scheme_rows, autolink_url_rows, nat_tests, consume, letter, scheme_goes_on, zero, suc, length-prefix_len, list_all, is_scheme, more_than}
 use Rattle.std.proofs.lemmas.Bool.{le-leb, lt-leb, le-ltb}
 use Rattle.markdown_base.specs.declared.event.Name.{Name as EventName}
 use Rattle.mdconstructs_text.proofs.Texts.Steps.{between_items, text_step, leads-called, leads-seen, leads-tested, leads-ok, before_class}
-use Rattle.mdconstructs_text.proofs.Plain.Classes.{by-class}
 use Rattle.mdconstructs_text.proofs.Plain.Stretches.{shows, first_byte, past, passed, past-stops, past-at, passed-counts, byte-behind, goes-next, loops}
-use Rattle.mdconstructs_text.proofs.Plain.Items.{outer, Decides, Tried, decides-before, byte-rows, leads-tried, puts-back, refused}
+use Rattle.mdconstructs_text.proofs.Constructs.Listed.{outer}
+use Rattle.mdconstructs_text.proofs.Plain.Items.{decided-so, Decides, Tried, decides-before, puts-back, refused}
 use Rattle.mdconstructs_text.proofs.CodeSpans.Parts.{size_b, with_b, grows_b, more-is}
 use Rattle.mdconstructs_text.proofs.Autolinks.Events.{IsJoined, begun_link, begun-front, ended_link, link-events}
+use Rattle.mdconstructs_text.proofs.Autolinks.Places.{text-joined}
+use Rattle.mdconstructs_text.proofs.Texts.Reads.{ReadsPart}
 
 -- a scheme begins at a letter
 open-class : (before : Option TextByte) (b : ℕ) → is_ascii_alphabetic b ≡ true → autolink_open_rows before (Some (text_byte b)) ≡ autolink_open_rows before (Some letter)
@@ -93,17 +95,17 @@ scheme-is r rs h = let is : is_scheme_byte r.byte ≡ true = grind (arith, nat_t
 abbrev link_spans : List EventName
 link_spans = Autolink ∷ AutolinkProtocol ∷ []
 
-module _ (g : Given) (text : Text) (p : ℕ) (ended : Bool) (events : List Event) where
+module _ (g : Given) (text : Text) (nok : Name) (p : ℕ) (ended : Bool) (events : List Event) where
   -- what waits in the autolink that is tried at a place
   abbrev choices : List Choice
-  choices = outer p ended events ∷ []
+  choices = outer nok p ended events ∷ []
 
   abbrev in_tried : ℕ → List Seat → Local Unit Unit → Configuration Unit Unit
   in_tried q l local = shows l link_spans q (begun_link g text events p) local
 
   -- the reading of an autolink is decided
-  abbrev IsDecided : List Seat → ℕ → List Seat → Local Unit Unit → Name → Option Item → Type 0
-  IsDecided seats q l local name o = Decides g text p ended events seats (in_tried q l local) choices (Retry name) o
+  abbrev IsDecided : List Seat → ℕ → List Seat → Local Unit Unit → Name → Option Found → Type 0
+  IsDecided seats q l local name o = Decides g text nok p ended events seats (in_tried q l local) choices (Retry name) o
 
   -- it is rejected by a state whose row fails
   rejects : (table : (previous current : Option TextByte) → Rows Unit Unit) (name : Name)
@@ -111,10 +113,10 @@ module _ (g : Given) (text : Text) (p : ℕ) (ended : Bool) (events : List Event
       → (seats : List Seat) (q : ℕ) (l : List Seat) (local : Local Unit Unit) → drop q text.seats ≡ l → table (before_class g text q) (class_of text_byte (first_byte l)) ≡ row [] Nok
       → IsDecided seats q l local name None
   rejects table name has seats q l local at fails =
-      (counts local, refused g text table name has p ended events l link_spans q (begun_link g text events p) local at fails (begun-front g text events p))
+      (counts local, refused g text table name has nok p ended events l link_spans q (begun_link g text events p) local at fails (begun-front g text events p))
 
   -- a scheme is read whole, or rejected if it is too long
-  reads-scheme : (seats l : List Seat) (q q' : ℕ) (local : Local Unit Unit) (o : Option Item) → drop q text.seats ≡ l → q' ≡ q + prefix_len is_scheme_byte (bytes_of l) → size_b local ≤ 32
+  reads-scheme : (seats l : List Seat) (q q' : ℕ) (local : Local Unit Unit) (o : Option Found) → drop q text.seats ≡ l → q' ≡ q + prefix_len is_scheme_byte (bytes_of l) → size_b local ≤ 32
       → (size_b local + prefix_len is_scheme_byte (bytes_of l) ≤ 32 → IsDecided seats q' (past is_scheme_byte l) (passed is_scheme_byte grows_b l local) AutolinkSchemeInsideOrEmailAtext o)
       → (32 < size_b local + prefix_len is_scheme_byte (bytes_of l) → o ≡ None) → IsDecided seats q l local AutolinkSchemeInsideOrEmailAtext o
   reads-scheme seats [] q q' local o at is upto ends none =
@@ -133,7 +135,7 @@ module _ (g : Given) (text : Text) (p : ℕ) (ended : Bool) (events : List Event
             elim (cases_lt size 32) [
               | inl room ↦
                   let grown : more_than size ≡ size + 1 = more-is size (omega (arith, room)) in
-                  decides-before g text p ended events seats (in_tried q l local) (in_tried (q + 1) ss (grows_b local)) choices choices (Retry AutolinkSchemeInsideOrEmailAtext)
+                  decides-before g text nok p ended events seats (in_tried q l local) (in_tried (q + 1) ss (grows_b local)) choices choices (Retry AutolinkSchemeInsideOrEmailAtext)
                   (Retry AutolinkSchemeInsideOrEmailAtext) o
                   (λ es h.
                   leads-tested g text has_room autolink_scheme_rows (in_tried q l local) choices AutolinkSchemeInsideOrEmailAtext es (ap byte_of front)
@@ -145,7 +147,7 @@ module _ (g : Given) (text : Text) (p : ℕ) (ended : Bool) (events : List Event
                 λ es h.
                     leads-tested g text has_room autolink_scheme_rows (in_tried q l local) choices AutolinkSchemeInsideOrEmailAtext es (ap byte_of front)
                     (scheme-class (before_class g text q) s.byte e) (le-ltb size 32 full) refl
-                    (puts-back g text p ended events (in_tried q l (counts local)) (begun-front g text events p) es h),
+                    (puts-back g text nok p ended events (in_tried q l (counts local)) (begun-front g text events p) es h),
               )
             ]
         | false ↦ λ e i more over.
@@ -153,7 +155,7 @@ module _ (g : Given) (text : Text) (p : ℕ) (ended : Bool) (events : List Event
             subst (λ n. IsDecided seats n l local AutolinkSchemeInsideOrEmailAtext o) same (more (omega (arith, upto)))
       ] refl is ends none
 
-module _ (g : Given) (text : Text) (joined : IsJoined g text) (p : ℕ) (ended : Bool) (events : List Event) (s r : Seat) (rs : List Seat) (here : drop p text.seats ≡ s ∷ r ∷ rs) (plain : (s.byte == 10) ≡ false) where
+module _ (g : Given) (text : Text) (joined : IsJoined g text) (nok : Name) (p : ℕ) (ended : Bool) (events : List Event) (s r : Seat) (rs : List Seat) (here : drop p text.seats ≡ s ∷ r ∷ rs) (plain : (s.byte == 10) ≡ false) where
   -- the bytes, how many may be the scheme, and how many that is between the markers
   abbrev bytes : List ℕ
   bytes = bytes_of (s ∷ r ∷ rs)
@@ -165,8 +167,8 @@ module _ (g : Given) (text : Text) (joined : IsJoined g text) (p : ℕ) (ended :
   inside = scheme_length + 1 + prefix_len is_allowed (drop (scheme_length + 1) (bytes_of (r ∷ rs)))
 
   -- the reading is decided from a place in it
-  abbrev Decided : ℕ → List Seat → Local Unit Unit → Name → Option Item → Type 0
-  Decided q l local name o = IsDecided g text p ended events (s ∷ r ∷ rs) q l local name o
+  abbrev Decided : ℕ → List Seat → Local Unit Unit → Name → Option Found → Type 0
+  Decided q l local name o = IsDecided g text nok p ended events (s ∷ r ∷ rs) q l local name o
 
   -- the seats behind the first marker
   behind : drop (p + 1) text.seats ≡ r ∷ rs
@@ -175,7 +177,7 @@ module _ (g : Given) (text : Text) (joined : IsJoined g text) (p : ℕ) (ended :
   -- behind all allowed bytes it ends at `>`
   closes : (l : List Seat) (local : Local Unit Unit) → drop (p + 1 + inside) text.seats ≡ l → passes is_allowed (first_byte l) ≡ false
       → Decided (p + 1 + inside) l local AutolinkUrlInside (cond (passes is_greater_than (first_byte l)) (Some (autolink inside)) None)
-  closes [] local at none = rejects g text p ended events autolink_url_rows AutolinkUrlInside (λ k. refl) (s ∷ r ∷ rs) (p + 1 + inside) [] local at refl
+  closes [] local at none = rejects g text nok p ended events autolink_url_rows AutolinkUrlInside (λ k. refl) (s ∷ r ∷ rs) (p + 1 + inside) [] local at refl
   closes (x ∷ xs) local at none =
       let q = p + 1 + inside in
       elim (x.byte == 62) as (λ b. (x.byte == 62) ≡ b → Decided q (x ∷ xs) local AutolinkUrlInside (cond b (Some (autolink inside)) None)) [
@@ -185,14 +187,14 @@ module _ (g : Given) (text : Text) (joined : IsJoined g text) (p : ℕ) (ended :
               false,
               counts local,
               λ es h.
-                  leads-seen g text autolink_url_rows (in_tried g text p ended events q (x ∷ xs) local) (choices g text p ended events) AutolinkUrlInside es
+                  leads-seen g text autolink_url_rows (in_tried g text nok p ended events q (x ∷ xs) local) (choices g text nok p ended events) AutolinkUrlInside es
                   (ap byte_of (at-front text.seats q x xs at))
                   (ap (λ c. autolink_url_rows (before_class g text q) (Some (text_byte c))) (eqb-true x.byte 62 is)) refl
-                  (leads-ok g text (between_items (q + 1) Nothing false (ended_link g text (begun_link g text events p) q) (counts local)) (outer p ended events) [] es
+                  (leads-ok g text (between_items (q + 1) Nothing false (ended_link g text (begun_link g text events p) q) (counts local)) (outer nok p ended events) [] es
                   (rw (made, further) h)),
             )
         | false ↦ λ other.
-            rejects g text p ended events autolink_url_rows AutolinkUrlInside (λ k. refl) (s ∷ r ∷ rs) q (x ∷ xs) local at (link-refused (before_class g text q) (Some x.byte) none other)
+            rejects g text nok p ended events autolink_url_rows AutolinkUrlInside (λ k. refl) (s ∷ r ∷ rs) q (x ∷ xs) local at (link-refused (before_class g text q) (Some x.byte) none other)
       ] refl
 
   -- behind a whole scheme a colon is passed, and then all allowed bytes
@@ -213,12 +215,12 @@ module _ (g : Given) (text : Text) (joined : IsJoined g text) (p : ℕ) (ended :
       let marker : p + (inside + 1) ≡ q' = omega arith in
       let last = byte-behind text.seats p (inside + 1) (s ∷ r ∷ rs) rest here (ap (λ i. drop i text.seats) marker ∙ at') in
       let after = passed is_allowed counts l (counts local) in
-      let waits = choices g text p ended events in
+      let waits = choices g text nok p ended events in
       let begun = begun_link g text events p in
-      decides-before g text p ended events (s ∷ r ∷ rs) (in_tried g text p ended events q (c ∷ l) local) (in_tried g text p ended events q' rest after) waits waits
+      decides-before g text nok p ended events (s ∷ r ∷ rs) (in_tried g text nok p ended events q (c ∷ l) local) (in_tried g text nok p ended events q' rest after) waits waits
       (Retry AutolinkSchemeInsideOrEmailAtext) (Retry AutolinkUrlInside) (autolink_to bytes (Some inside))
       (λ es h.
-      leads-tested g text has_scheme autolink_scheme_rows (in_tried g text p ended events q (c ∷ l) local) waits AutolinkSchemeInsideOrEmailAtext es (ap byte_of (at-front text.seats q c l at))
+      leads-tested g text has_scheme autolink_scheme_rows (in_tried g text nok p ended events q (c ∷ l) local) waits AutolinkSchemeInsideOrEmailAtext es (ap byte_of (at-front text.seats q c l at))
       (ap (λ b. autolink_scheme_rows (before_class g text q) (Some (text_byte b))) (eqb-true c.byte 58 colon)) long refl
       (goes-next g text l link_spans (q + 1) begun (counts local) waits AutolinkUrlInside next es
       (loops g text link_spans waits AutolinkUrlInside is_allowed counts
@@ -232,7 +234,7 @@ module _ (g : Given) (text : Text) (joined : IsJoined g text) (p : ℕ) (ended :
       → Decided (p + 1 + scheme_length) l local AutolinkSchemeInsideOrEmailAtext (autolink_to bytes (cond (nat_le 2 scheme_length && passes is_colon (first_byte l)) (Some inside) None))
   ends-scheme [] local at none size =
       subst (λ b. Decided (p + 1 + scheme_length) [] local AutolinkSchemeInsideOrEmailAtext (autolink_to bytes (cond b (Some inside) None))) (sym (and-false (nat_le 2 scheme_length)))
-      (rejects g text p ended events autolink_scheme_rows AutolinkSchemeInsideOrEmailAtext (λ k. refl) (s ∷ r ∷ rs) (p + 1 + scheme_length) [] local at refl)
+      (rejects g text nok p ended events autolink_scheme_rows AutolinkSchemeInsideOrEmailAtext (λ k. refl) (s ∷ r ∷ rs) (p + 1 + scheme_length) [] local at refl)
   ends-scheme (c ∷ l) local at none size =
       let n = scheme_length in
       let q = p + 1 + n in
@@ -244,15 +246,15 @@ module _ (g : Given) (text : Text) (joined : IsJoined g text) (p : ℕ) (ended :
               | false ↦ λ short. (
                 counts local,
                 λ es h.
-                    leads-tested g text has_scheme autolink_scheme_rows (in_tried g text p ended events q (c ∷ l) local) (choices g text p ended events) AutolinkSchemeInsideOrEmailAtext es
+                    leads-tested g text has_scheme autolink_scheme_rows (in_tried g text nok p ended events q (c ∷ l) local) (choices g text nok p ended events) AutolinkSchemeInsideOrEmailAtext es
                     (ap byte_of (at-front text.seats q c l at))
                     (ap (λ b. autolink_scheme_rows (before_class g text q) (Some (text_byte b))) (eqb-true c.byte 58 colon)) (ap (nat_le 2) size ∙ short) refl
-                    (puts-back g text p ended events (in_tried g text p ended events q (c ∷ l) (counts local)) (begun-front g text events p) es h),
+                    (puts-back g text nok p ended events (in_tried g text nok p ended events q (c ∷ l) (counts local)) (begun-front g text events p) es h),
               )
             ] refl
         | false ↦ λ other.
             subst Here (sym (and-false (nat_le 2 n)))
-            (rejects g text p ended events autolink_scheme_rows AutolinkSchemeInsideOrEmailAtext (λ k. refl) (s ∷ r ∷ rs) q (c ∷ l) local at
+            (rejects g text nok p ended events autolink_scheme_rows AutolinkSchemeInsideOrEmailAtext (λ k. refl) (s ∷ r ∷ rs) q (c ∷ l) local at
             (scheme-refused (before_class g text q) (Some c.byte) none other))
       ] refl
 
@@ -261,7 +263,7 @@ module _ (g : Given) (text : Text) (joined : IsJoined g text) (p : ℕ) (ended :
   decides-link local =
       let n = scheme_length in
       let colon = has_byte_at (bytes_of (r ∷ rs)) n is_colon in
-      let waits = choices g text p ended events in
+      let waits = choices g text nok p ended events in
       let Here = λ (b : Bool). Decided (p + 1) (r ∷ rs) local AutolinkOpen (autolink_to bytes (cond (b && colon) (Some inside) None)) in
       subst Here (sym (front-is-scheme (bytes_of (r ∷ rs))))
       (elim (is_ascii_alphabetic r.byte) as (λ a. is_ascii_alphabetic r.byte ≡ a → Here (nat_le 2 n && (nat_le n 32 && a))) [
@@ -274,13 +276,13 @@ module _ (g : Given) (text : Text) (joined : IsJoined g text) (p : ℕ) (ended :
             let rest = past is_scheme_byte rs in
             let at = past-at g text is_scheme_byte rs (p + 1 + 1) (p + 1 + n) next place in
             let item = λ (b : Bool). autolink_to bytes (cond ((nat_le 2 n && (b && true)) && colon) (Some inside) None) in
-            decides-before g text p ended events (s ∷ r ∷ rs) (in_tried g text p ended events (p + 1) (r ∷ rs) local) (in_tried g text p ended events (p + 1 + 1) rs first) waits waits
+            decides-before g text nok p ended events (s ∷ r ∷ rs) (in_tried g text nok p ended events (p + 1) (r ∷ rs) local) (in_tried g text nok p ended events (p + 1 + 1) rs first) waits waits
             (Retry AutolinkOpen) (Retry AutolinkSchemeInsideOrEmailAtext) (item (nat_le n 32))
             (λ es h.
-            leads-seen g text autolink_open_rows (in_tried g text p ended events (p + 1) (r ∷ rs) local) waits AutolinkOpen es (ap byte_of (at-front text.seats (p + 1) r rs behind))
+            leads-seen g text autolink_open_rows (in_tried g text nok p ended events (p + 1) (r ∷ rs) local) waits AutolinkOpen es (ap byte_of (at-front text.seats (p + 1) r rs behind))
             (open-class (before_class g text (p + 1)) r.byte letter) refl
             (goes-next g text rs link_spans (p + 1 + 1) (begun_link g text events p) first waits AutolinkSchemeInsideOrEmailAtext next es h))
-            (reads-scheme g text p ended events (s ∷ r ∷ rs) rs (p + 1 + 1) (p + 1 + n) first (item (nat_le n 32)) next place (omega arith)
+            (reads-scheme g text nok p ended events (s ∷ r ∷ rs) rs (p + 1 + 1) (p + 1 + n) first (item (nat_le n 32)) next place (omega arith)
             (λ fits.
             let size : size_b read ≡ n = omega (arith, passed-counts size_b grows_b (λ c h. more-is (size_b c) h) is_scheme_byte rs first (omega (arith, fits)), is) in
             let long = le-leb n 32 (omega (arith, fits, is)) in
@@ -293,32 +295,36 @@ module _ (g : Given) (text : Text) (joined : IsJoined g text) (p : ℕ) (ended :
         | false ↦ λ other.
             let none : (nat_le 2 n && (nat_le n 32 && false)) ≡ false = ap (λ t. nat_le 2 n && t) (and-false (nat_le n 32)) ∙ and-false (nat_le 2 n) in
             subst Here (sym none)
-            (rejects g text p ended events autolink_open_rows AutolinkOpen (λ k. refl) (s ∷ r ∷ rs) (p + 1) (r ∷ rs) local behind (open-refused (before_class g text (p + 1)) (Some r.byte) other))
+            (rejects g text nok p ended events autolink_open_rows AutolinkOpen (λ k. refl) (s ∷ r ∷ rs) (p + 1) (r ∷ rs) local behind (open-refused (before_class g text (p + 1)) (Some r.byte) other))
       ] refl)
 
 module _ (g : Given) (text : Text) where
   -- If the construct is on, an autolink is tried at its marker
-  tries-marker : (p : ℕ) (ended : Bool) (events : List Event) (local : Local Unit Unit) (s : Seat) (ss : List Seat) → drop p text.seats ≡ s ∷ ss → s.byte ≡ 60 → g.options.constructs.autolink ≡ true
-      → (o : Option Item) → IsDecided g text p ended events (s ∷ ss) (p + 1) ss (counts (counts local)) AutolinkOpen o → Tried g text p ended events local (s ∷ ss) o
-  tries-marker p ended events local s ss here is on o decided =
+  tries-marker : (nok : Name) (p : ℕ) (ended : Bool) (events : List Event) (local : Local Unit Unit) (s : Seat) (ss : List Seat) → drop p text.seats ≡ s ∷ ss → s.byte ≡ 60
+      → (o : Option Found) → IsDecided g text nok p ended events (s ∷ ss) (p + 1) ss (counts local) AutolinkOpen o → Tried g text AutolinkStart nok p ended events local (s ∷ ss) o
+  tries-marker nok p ended events local s ss here is o decided =
       let begun = begun_link g text events p in
-      let waits = outer p ended events ∷ [] in
-      decides-before g text p ended events (s ∷ ss) (between_items p Byte ended events local) (shows ss link_spans (p + 1) begun (counts (counts local))) [] waits (Retry TextBefore)
+      let waits = outer nok p ended events ∷ [] in
+      decides-before g text nok p ended events (s ∷ ss) (between_items p Byte ended events local) (shows ss link_spans (p + 1) begun (counts local)) waits waits (Retry AutolinkStart)
       (Retry AutolinkOpen) o
       (λ es h.
-      leads-tried g text autolinks_are_on AutolinkStart p ended events local (byte-rows g text p 60 s (at-front text.seats p s ss here) is) on es
-      (leads-called g text (between_items p Byte ended events (counts local)) waits AutolinkStart es
-      (goes-next g text ss link_spans (p + 1) begun (counts (counts local)) waits AutolinkOpen (drop-next text.seats p s ss here) es h)))
+      leads-called g text (between_items p Byte ended events local) waits AutolinkStart es
+      (goes-next g text ss link_spans (p + 1) begun (counts local) waits AutolinkOpen (drop-next text.seats p s ss here) es h))
       decided
 
   -- So autolinks are tried at `<`
-  pub tries-autolink : IsJoined g text → (p : ℕ) (ended : Bool) (events : List Event) (local : Local Unit Unit) (s : Seat) (ss : List Seat) → drop p text.seats ≡ s ∷ ss → s.byte ≡ 60
-      → g.options.constructs.autolink ≡ true → Tried g text p ended events local (s ∷ ss) (autolink_at (bytes_of (s ∷ ss)))
-  tries-autolink joined p ended events local s [] here is on =
-      subst (λ b. Tried g text p ended events local (s ∷ []) (cond b (autolink_to (bytes_of (s ∷ [])) (uri [])) None)) (sym (ap (λ b. b == 60) is))
-      (tries-marker p ended events local s [] here is on None
-      (rejects g text p ended events autolink_open_rows AutolinkOpen (λ k. refl) (s ∷ []) (p + 1) [] (counts (counts local)) (drop-next text.seats p s [] here) refl))
-  tries-autolink joined p ended events local s (r ∷ rs) here is on =
-      subst (λ b. Tried g text p ended events local (s ∷ r ∷ rs) (cond b (autolink_to (bytes_of (s ∷ r ∷ rs)) (uri (bytes_of (r ∷ rs)))) None)) (sym (ap (λ b. b == 60) is))
-      (tries-marker p ended events local s (r ∷ rs) here is on (autolink_to (bytes_of (s ∷ r ∷ rs)) (uri (bytes_of (r ∷ rs))))
-      (decides-link g text joined p ended events s r rs here (ap (λ b. b == 10) is) (counts (counts local))))
+  pub tries-autolink : IsJoined g text → (nok : Name) (p : ℕ) (ended : Bool) (events : List Event) (local : Local Unit Unit) (s : Seat) (ss : List Seat) → drop p text.seats ≡ s ∷ ss → s.byte ≡ 60
+      → Tried g text AutolinkStart nok p ended events local (s ∷ ss) (autolink_at (bytes_of (s ∷ ss)))
+  tries-autolink joined nok p ended events local s [] here is =
+      subst (λ b. Tried g text AutolinkStart nok p ended events local (s ∷ []) (cond b (autolink_to (bytes_of (s ∷ [])) (uri [])) None)) (sym (ap (λ b. b == 60) is))
+      (tries-marker nok p ended events local s [] here is None
+      (rejects g text nok p ended events autolink_open_rows AutolinkOpen (λ k. refl) (s ∷ []) (p + 1) [] (counts local) (drop-next text.seats p s [] here) refl))
+  tries-autolink joined nok p ended events local s (r ∷ rs) here is =
+      subst (λ b. Tried g text AutolinkStart nok p ended events local (s ∷ r ∷ rs) (cond b (autolink_to (bytes_of (s ∷ r ∷ rs)) (uri (bytes_of (r ∷ rs)))) None)) (sym (ap (λ b. b == 60) is))
+      (tries-marker nok p ended events local s (r ∷ rs) here is (autolink_to (bytes_of (s ∷ r ∷ rs)) (uri (bytes_of (r ∷ rs))))
+      (decides-link g text joined nok p ended events s r rs here (ap (λ b. b == 10) is) (counts local)))
+
+-- The theorem of autolinks
+pub autolinks-read : (g : Given) (text : Text) → IsText g text → ReadsPart g text autolinks
+autolinks-read g text is nok p ended events local s ss here first knows =
+    decided-so g text nok p ended events (s ∷ ss) _ _ _ (autolink_at (bytes_of (s ∷ ss))) (tries-autolink g text (text-joined g text is) nok p ended events local s ss here (eqb-true s.byte 60 first))

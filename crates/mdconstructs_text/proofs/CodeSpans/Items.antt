@@ -1,15 +1,18 @@
 -- Code spans as items: if one is there, it is read with its events; if not, data is read from its first backtick.
-use Rattle.mdconstructs_text.proofs.Prelude.{at-front, ◌≡◌, ℕ, suc, ◌+◌, ◌-◌, ◌^◌, ◌<◌, ◌≤◌, ◌∷◌, ◌++◌, [], List, Bool, true, false, cond, refl, sym, ◌∙◌, ap, subst, Option, Some, None, arith, length, take, drop, option_map, append_assoc, take_at, drop-drop, drop-take, take-take, length-take, length-drop, flat_map, between, Event, CodeText, CodeTextSequence, CodeTextData, Retry, Ok, Nok, TextBefore, RawTextStart, RawTextSequenceOpen, RawTextSequenceClose, RawTextBetween, RawFlowAfter, Seat, Nothing, Byte, Given, Text, Local, Choice, byte_of, counts, code_span, is_backtick, is_backtick_or_line_feed, backticks, part_length, part_at, code_span_at, bytes_of, leaf, part_events, pieces, item_events, drop-map, held, backtick, code_spans_are_on, sizes_are_equal, raw_text_start_rows, raw_text_sequence_open_rows, raw_text_sequence_close_rows}
+use Rattle.mdconstructs_text.proofs.Prelude.{eqb-true, IsText, Name, code_spans, at-front, ◌≡◌, ℕ, suc, ◌+◌, ◌-◌, ◌^◌, ◌<◌, ◌≤◌, ◌∷◌, ◌++◌, [], List, Bool, true, false, cond, refl, sym, ◌∙◌, ap, subst, Option, Some, None, arith, length, take, drop, option_map, append_assoc, take_at, drop-drop, drop-take, take-take, length-take, length-drop, flat_map, between, Event, CodeText, CodeTextSequence, CodeTextData, Retry, Ok, Nok, RawTextStart, RawTextSequenceOpen, RawTextSequenceClose, RawTextBetween, RawFlowAfter, Seat, Nothing, Byte, Given, Text, Local, Choice, byte_of, counts, code_span, is_backtick, is_backtick_or_line_feed, backticks, part_length, part_at, code_span_at, bytes_of, leaf, part_events, pieces, item_events, drop-map, held, backtick, sizes_are_equal, raw_text_start_rows, raw_text_sequence_open_rows, raw_text_sequence_close_rows}
 use Rattle.std.proofs.lemmas.Bool.{eq-eqb}
 use Rattle.mdconstructs_text.proofs.Texts.Cutting.{cut-enough}
 use Rattle.mdconstructs_text.proofs.Texts.Steps.{EndsWith, Leads, between_items, leads-called, leads-fed, leads-seen, leads-tested, leads-ok, before_class}
 use Rattle.mdconstructs_text.proofs.Plain.Classes.{tick-class, run-ended}
-use Rattle.mdconstructs_text.proofs.Plain.Items.{outer, leads-tried, Decides, Tried, decides-before, puts-back, byte-rows}
+use Rattle.mdconstructs_text.proofs.Plain.Items.{decided-so, Decides, Tried, decides-before, puts-back}
+use Rattle.mdconstructs_text.proofs.Constructs.Listed.{outer}
 use Rattle.mdconstructs_text.proofs.Plain.Stretches.{is_end, shows, first_byte, past, passed, past-is, past-at, past-stops, passed-counts, shown-fed, class-rows, sees, loops-from, span-read, leaf-read}
 use Rattle.mdconstructs_text.proofs.CodeSpans.Found.{first_run, first-run-is, code-span-found}
 use Rattle.mdconstructs_text.proofs.CodeSpans.FoundParts.{piece-positive, cut_pieces}
 use Rattle.mdconstructs_text.proofs.CodeSpans.Parts.{in_code, in_run, size_b, with_b, with_c, grows_b, grows_c, more-is, count-within, run-positive, enter_at, exit_at, inner, tries-run, sizes-read}
 use Rattle.mdconstructs_text.proofs.CodeSpans.Walks.{RunsAreShort, Walks, walks}
+use Rattle.mdconstructs_text.proofs.CodeSpans.Short.{runs-of-text}
+use Rattle.mdconstructs_text.proofs.Texts.Reads.{ReadsPart}
 
 -- lists of events, one after another
 joined : (es : List Event) (a : Event) (l1 p l2 : List Event) (z : Event) → ((es ++ a ∷ l1) ++ p) ++ (l2 ++ z ∷ []) ≡ es ++ a ∷ ((l1 ++ (p ++ l2)) ++ z ∷ [])
@@ -80,20 +83,20 @@ module _ (g : Given) (text : Text) where
       )
 
   -- The backtick string that opens a code span is read, and its size is kept
-  opens : (p : ℕ) (ended : Bool) (events : List Event) (local : Local Unit Unit) (s : Seat) (ss : List Seat) → drop p text.seats ≡ s ∷ ss → s.byte ≡ 96
-      → g.options.constructs.code_text ≡ true → backticks (bytes_of (s ∷ ss)) < 2 ^ 64
+  opens : (nok : Name) (p : ℕ) (ended : Bool) (events : List Event) (local : Local Unit Unit) (s : Seat) (ss : List Seat) → drop p text.seats ≡ s ∷ ss → s.byte ≡ 96
+      → backticks (bytes_of (s ∷ ss)) < 2 ^ 64
       → let k = backticks (bytes_of (s ∷ ss)) in
       (after : Local Unit Unit) × (size_b after ≡ k)
-      × Leads g text (between_items p Byte ended events local) [] (Retry TextBefore)
-      (shows (past is_backtick (s ∷ ss)) in_code (p + k) (events ++ enter_at g text CodeText p ∷ leaf g.bytes CodeTextSequence (take k (s ∷ ss))) after) (outer p ended events ∷ []) (Retry RawTextBetween)
-  opens p ended events local s ss at is on short =
+      × Leads g text (between_items p Byte ended events local) (outer nok p ended events ∷ []) (Retry RawTextStart)
+      (shows (past is_backtick (s ∷ ss)) in_code (p + k) (events ++ enter_at g text CodeText p ∷ leaf g.bytes CodeTextSequence (take k (s ∷ ss))) after) (outer nok p ended events ∷ []) (Retry RawTextBetween)
+  opens nok p ended events local s ss at is short =
       let l = s ∷ ss in
       let k = backticks (bytes_of l) in
-      let cs = outer p ended events ∷ [] in
+      let cs = outer nok p ended events ∷ [] in
       let front = at-front text.seats p s ss at in
       let tick = ap is_backtick is in
       let begun = (events ++ enter_at g text CodeText p ∷ []) ++ enter_at g text CodeTextSequence p ∷ [] in
-      let first = with_b 0 (counts (counts local)) in
+      let first = with_b 0 (counts local) in
       let read = passed is_backtick grows_b l first in
       let l1 = past is_backtick l in
       let at1 : drop (p + k) text.seats ≡ l1 = past-at g text is_backtick l p (p + k) at refl in
@@ -103,8 +106,7 @@ module _ (g : Given) (text : Text) where
         counts read,
         (omega (arith, passed-counts size_b grows_b (λ c h. more-is (size_b c) h) is_backtick l first (omega (arith, short)))),
         λ es h.
-            leads-tried g text code_spans_are_on RawTextStart p ended events local (byte-rows g text p 96 s front is) on es
-            (leads-seen g text raw_text_start_rows (between_items p Byte ended events (counts local)) cs RawTextStart es (ap byte_of front)
+            (leads-seen g text raw_text_start_rows (between_items p Byte ended events local) cs RawTextStart es (ap byte_of front)
             (class-rows g text raw_text_start_rows p s backtick (tick-class s.byte tick)) refl
             (loops-from g text in_run cs RawTextSequenceOpen is_backtick grows_b
             (λ q ended events local s at tick es.
@@ -117,21 +119,21 @@ module _ (g : Given) (text : Text) where
       )
 
   -- what the walk behind the opening backtick string has come to
-  from-walk : RunsAreShort text → (p : ℕ) (ended : Bool) (events : List Event) (mid : Local Unit Unit) (s : Seat) (ss : List Seat) → drop p text.seats ≡ s ∷ ss → is_backtick s.byte ≡ true
+  from-walk : RunsAreShort text → (nok : Name) (p : ℕ) (ended : Bool) (events : List Event) (mid : Local Unit Unit) (s : Seat) (ss : List Seat) → drop p text.seats ≡ s ∷ ss → is_backtick s.byte ≡ true
       → let l = s ∷ ss in let k = backticks (bytes_of l) in let rest = past is_backtick l in
-      let cs = outer p ended events ∷ [] in
+      let cs = outer nok p ended events ∷ [] in
       let begun = events ++ enter_at g text CodeText p ∷ leaf g.bytes CodeTextSequence (take k l) in
       (o : Option ℕ) → first_run k false (bytes_of rest) ≡ o → Walks g text k cs (length rest) (p + k) rest begun mid o
-      → Decides g text p ended events l (shows rest in_code (p + k) begun mid) cs (Retry RawTextBetween) (option_map (code_span k) o)
-  from-walk short p ended events mid s ss at tick None found walked =
+      → Decides g text nok p ended events l (shows rest in_code (p + k) begun mid) cs (Retry RawTextBetween) (option_map (code_span k) o)
+  from-walk short nok p ended events mid s ss at tick None found walked =
       let made = enter_at g text CodeText p ∷ leaf g.bytes CodeTextSequence (take (backticks (bytes_of (s ∷ ss))) (s ∷ ss)) in (
         walked.2,
         λ es h.
             walked.3 es
-            (subst (λ c. EndsWith g text (shows [] in_code walked.0 c walked.2) (outer p ended events ∷ []) Nok es) (sym (append_assoc events made walked.1))
-            (puts-back g text p ended events (shows [] in_code walked.0 (events ++ (made ++ walked.1)) walked.2) (take_at events (made ++ walked.1) (length events) refl) es h)),
+            (subst (λ c. EndsWith g text (shows [] in_code walked.0 c walked.2) (outer nok p ended events ∷ []) Nok es) (sym (append_assoc events made walked.1))
+            (puts-back g text nok p ended events (shows [] in_code walked.0 (events ++ (made ++ walked.1)) walked.2) (take_at events (made ++ walked.1) (length events) refl) es h)),
       )
-  from-walk short p ended events mid s ss at tick (Some m) found walked =
+  from-walk short nok p ended events mid s ss at tick (Some m) found walked =
       let l = s ∷ ss in
       let k = backticks (bytes_of l) in
       let rest = past is_backtick l in
@@ -142,7 +144,7 @@ module _ (g : Given) (text : Text) where
       let behind : rest ≡ drop k l = past-is is_backtick l in
       let at1 : drop (p + k + m) text.seats ≡ drop m rest = sym (drop-drop m (p + k) text.seats) ∙ ap (drop m) (past-at g text is_backtick l p (p + k) at refl) in
       let last : backticks (bytes_of (drop m rest)) ≡ k = ap backticks (sym (drop-map (λ (s : Seat). s.byte) m rest)) ∙ first-run-is k false (bytes_of rest) m found in
-      let closed = closes short k some (drop m rest) (p + k + m) (begun ++ pieces_at rest) walked.0 (outer p ended events ∷ []) at1 walked.1 last in
+      let closed = closes short k some (drop m rest) (p + k + m) (begun ++ pieces_at rest) walked.0 (outer nok p ended events ∷ []) at1 walked.1 last in
       let left : length rest ≡ suc (length ss) - k = ap length behind ∙ length-drop k l in
       let place : p + k + m + k ≡ p + (k + m + k) = omega arith in
       let whole = (begun ++ pieces_at rest) ++ (leaf g.bytes CodeTextSequence (take k (drop m rest)) ++ exit_at g text CodeText (p + k + m + k) ∷ []) in
@@ -157,26 +159,31 @@ module _ (g : Given) (text : Text) where
         λ es h.
             walked.2 es
             (closed.2 es
-            (leads-ok g text (shows closed.0 [] (p + k + m + k) whole closed.1) (outer p ended events) [] es
+            (leads-ok g text (shows closed.0 [] (p + k + m + k) whole closed.1) (outer nok p ended events) [] es
             (rw (made, place) h))),
       )
 
   -- Code spans are tried at backticks
-  pub tries-code-span : RunsAreShort text → (p : ℕ) (ended : Bool) (events : List Event) (local : Local Unit Unit) (s : Seat) (ss : List Seat) → drop p text.seats ≡ s ∷ ss → s.byte ≡ 96
-      → g.options.constructs.code_text ≡ true → Tried g text p ended events local (s ∷ ss) (code_span_at (bytes_of (s ∷ ss)))
-  tries-code-span short p ended events local s ss at is on =
+  pub tries-code-span : RunsAreShort text → (nok : Name) (p : ℕ) (ended : Bool) (events : List Event) (local : Local Unit Unit) (s : Seat) (ss : List Seat) → drop p text.seats ≡ s ∷ ss → s.byte ≡ 96
+      → Tried g text RawTextStart nok p ended events local (s ∷ ss) (code_span_at (bytes_of (s ∷ ss)))
+  tries-code-span short nok p ended events local s ss at is =
       let l = s ∷ ss in
       let k = backticks (bytes_of l) in
       let rest = past is_backtick l in
-      let cs = outer p ended events ∷ [] in
+      let cs = outer nok p ended events ∷ [] in
       let tick = ap is_backtick is in
-      let opened = opens p ended events local s ss at is on (subst (λ c. backticks (bytes_of c) < 2 ^ 64) at (short p)) in
+      let opened = opens nok p ended events local s ss at is (subst (λ c. backticks (bytes_of c) < 2 ^ 64) at (short p)) in
       let begun = events ++ enter_at g text CodeText p ∷ leaf g.bytes CodeTextSequence (take k l) in
       let at1 : drop (p + k) text.seats ≡ rest = past-at g text is_backtick l p (p + k) at refl in
       let walked = walks g text k cs short (run-positive s.byte (bytes_of ss) tick) (length rest) (p + k) rest begun opened.0 opened.1 (omega arith) at1 in
       let o = first_run k false (bytes_of rest) in
       let same : o ≡ first_run k false (drop k (bytes_of l)) = ap (first_run k false) (ap bytes_of (past-is is_backtick l) ∙ sym (drop-map (λ (s : Seat). s.byte) k l)) in
-      subst (Tried g text p ended events local l) (ap (option_map (code_span k)) same ∙ sym (code-span-found s.byte (bytes_of ss) is))
-      (decides-before g text p ended events l (between_items p Byte ended events local) (shows rest in_code (p + k) begun opened.0) [] cs (Retry TextBefore) (Retry RawTextBetween)
+      subst (Tried g text RawTextStart nok p ended events local l) (ap (option_map (code_span k)) same ∙ sym (code-span-found s.byte (bytes_of ss) is))
+      (decides-before g text nok p ended events l (between_items p Byte ended events local) (shows rest in_code (p + k) begun opened.0) cs cs (Retry RawTextStart) (Retry RawTextBetween)
       (option_map (code_span k) o) opened.2
-      (from-walk short p ended events opened.0 s ss at tick o refl walked))
+      (from-walk short nok p ended events opened.0 s ss at tick o refl walked))
+
+-- The theorem of code spans
+pub code-spans-read : (g : Given) (text : Text) → IsText g text → ReadsPart g text code_spans
+code-spans-read g text is nok p ended events local s ss here first knows =
+    decided-so g text nok p ended events (s ∷ ss) _ _ _ (code_span_at (bytes_of (s ∷ ss))) (tries-code-span g text (runs-of-text g text is) nok p ended events local s ss here (eqb-true s.byte 96 first))

@@ -1,8 +1,8 @@
 -- The pieces of a code span, as the machine of texts reads them: line endings, data, and runs that do not close it.
-use Rattle.mdconstructs_text.proofs.Prelude.{at-front, ◌≡◌, ℕ, suc, ◌+◌, ◌^◌, ◌<◌, ◌≤◌, ◌∷◌, ◌++◌, [], List, Bool, true, false, cond, not, ◌==◌, ◌||◌, refl, sym, ◌∙◌, ap, subst, Option, Some, None, arith, nat_tests, not-true, not-false, max, length, take, drop, slice_get, append_assoc, take_at, drop-drop, drop-map, drop-next, length-drop, length-map, prefix_len-le-length, prefix_len, position_or_len, Event, Enter, Exit, CodeText, CodeTextSequence, CodeTextData, LineEnding, Next, Retry, RawTextBetween, RawTextData, RawTextSequenceClose, RawFlowAfter, RawFlowBeforeContentChunk, RawFlowContentChunk, Seat, Nothing, Byte, Attempt, Given, Text, Local, Choice, byte_of, point_or, end_or, end_place, class_of, counts, passes, Part, line_ending, plain_run, is_line_feed, is_backtick, is_backtick_or_line_feed, backticks, part_length, plain_length, bytes_of, row, enter, exit, consume, event, leaf, part_events, held, TextByte, backtick, line_feed, text_byte, more_than, sizes_are_equal, raw_text_between_rows, raw_text_data_rows, raw_text_sequence_close_rows, raw_flow_content_chunk_rows, line-ending-read}
+use Rattle.mdconstructs_text.proofs.Prelude.{by-class, at-front, ◌≡◌, ℕ, suc, ◌+◌, ◌^◌, ◌<◌, ◌≤◌, ◌∷◌, ◌++◌, [], List, Bool, true, false, cond, not, ◌==◌, ◌||◌, refl, sym, ◌∙◌, ap, subst, Option, Some, None, arith, nat_tests, not-true, not-false, max, length, take, drop, slice_get, append_assoc, take_at, drop-drop, drop-map, drop-next, length-drop, length-map, prefix_len-le-length, prefix_len, position_or_len, Event, Enter, Exit, CodeText, CodeTextSequence, CodeTextData, LineEnding, Next, Retry, RawTextBetween, RawTextData, RawTextSequenceClose, RawFlowAfter, RawFlowBeforeContentChunk, RawFlowContentChunk, Seat, Nothing, Byte, Attempt, Given, Text, Local, Choice, byte_of, point_or, end_or, end_place, class_of, counts, passes, Part, line_ending, plain_run, is_line_feed, is_backtick, is_backtick_or_line_feed, backticks, part_length, plain_length, bytes_of, row, enter, exit, consume, event, leaf, part_events, held, TextByte, backtick, line_feed, text_byte, more_than, sizes_are_equal, raw_text_between_rows, raw_text_data_rows, raw_text_sequence_close_rows, raw_flow_content_chunk_rows, line-ending-read}
 use Rattle.markdown_base.specs.declared.event.Name.{Name as EventName}
 use Rattle.mdconstructs_text.proofs.Texts.Steps.{EndsWith, Leads, leads-called, leads-seen, leads-tested, leads-nok, before_class}
-use Rattle.mdconstructs_text.proofs.Plain.Classes.{by-class, tick-class, run-ended}
+use Rattle.mdconstructs_text.proofs.Plain.Classes.{tick-class, run-ended}
 use Rattle.mdconstructs_text.proofs.Plain.Stretches.{shows, first_byte, past, passed, past-is, past-at, past-stops, passed-keeps, passed-counts, goes-next, class-rows, sees, loops, leaf-read}
 use Rattle.mdconstructs_text.proofs.CodeSpans.FoundParts.{piece_of}
 

@@ -1,6 +1,5 @@
 -- The bytes that may be escaped, ASCII punctuation, and those that may not.
-use Rattle.mdconstructs_text.proofs.Prelude.{◌≡◌, ℕ, [], true, false, refl, Option, Some, arith, nat_tests, is_ascii_punctuation, Nok, row, TextByte, text_byte, escape_inside_rows, escaped, None, passes, class_of}
-use Rattle.mdconstructs_text.proofs.Plain.Classes.{by-class}
+use Rattle.mdconstructs_text.proofs.Prelude.{by-class, ◌≡◌, ℕ, [], true, false, refl, Option, Some, arith, nat_tests, is_ascii_punctuation, Nok, row, TextByte, text_byte, escape_inside_rows, escaped, None, passes, class_of}
 
 -- punctuation is escaped
 pub escaped-class : (before : Option TextByte) (b : ℕ) → is_ascii_punctuation b ≡ true → escape_inside_rows before (Some (text_byte b)) ≡ escaped

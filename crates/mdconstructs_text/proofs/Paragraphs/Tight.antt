@@ -4,7 +4,8 @@ use Rattle.markdown_base.specs.declared.event.Content.TheVariants.{Text as TextC
 use Rattle.markdown_children.proofs.Parts.InShape.{children_fit}
 use Rattle.mdconstructs_text.specs.ChainTexts.{StaysTight, paragraphs_of}
 use Rattle.mdconstructs_text.proofs.DeepSpans.Atoms.{IsCut}
-use Rattle.mdconstructs_text.proofs.DeepSpans.TextCuts.{data-cut, text-cut}
+use Rattle.mdconstructs_text.proofs.DeepSpans.Stretches.{data-cut}
+use Rattle.mdconstructs_text.proofs.DeepSpans.TextCuts.{text-cut}
 use Rattle.mdconstructs_text.proofs.DeepSpans.Untorn.{none-torn}
 use Rattle.mdconstructs_text.proofs.Paragraphs.Formed.{paragraphs-formed}
 use Rattle.mdconstructs_text.proofs.Paragraphs.Ready.{document-readable}

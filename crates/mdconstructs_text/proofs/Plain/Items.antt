@@ -1,39 +1,22 @@
 -- Plain data, and an item at a byte: if no construct is there, data is read, a backtick string or one byte, and all up to the next byte at which
 -- another item may begin.
-use Rattle.mdconstructs_text.proofs.Prelude.{at-front, ◌≡◌, ℕ, ◌+◌, ◌∷◌, ◌++◌, [], List, Bool, true, false, sym, ◌∙◌, ap, subst, arith, nat_tests, Option, Some, None, length, take, drop, slice_get, ◌==◌, Constructs, Event, Name, State, Next, Retry, Nok, TextBefore, TextBeforeData, Seat, Nothing, Byte, Attempt, Given, Text, Configuration, Local, Choice, Sight, sight, byte_of, class_of, counts, refl, Item, plain_run, part, item_length, item_at, is_special, plain_length, code_span_at, if_on, or_else, Rows, TextByte, row, row_step, text_byte, bytes_of, item_events, text_before_rows, tries, suc, ◌≤◌, cond, max, not, add_assoc, not-true, append_assoc, drop-drop, drop-map, drop-next, length-drop, length-map, prefix_len-le-length, prefix_len, Enter, Exit, Data, DataAtBreak, DataInside, point_or, end_place, is_backtick, backticks, backtick, event, leaf, text_before_data_rows, data_at_break_rows, data_inside_rows, held}
+use Rattle.mdconstructs_text.proofs.Prelude.{at-front, ◌≡◌, ℕ, ◌+◌, ◌∷◌, ◌++◌, [], List, Bool, true, false, sym, ◌∙◌, ap, subst, arith, Option, Some, None, length, take, drop, slice_get, Event, Name, State, Next, Retry, Nok, TextBefore, TextBeforeData, Seat, Nothing, Byte, Given, Text, Configuration, Local, Choice, sight, byte_of, class_of, counts, refl, Found, plain_run, part, item_length, is_special, plain_length, Rows, TextByte, row, row_step, text_byte, bytes_of, item_events, suc, ◌≤◌, cond, max, not, add_assoc, not-true, append_assoc, drop-drop, drop-map, drop-next, length-drop, length-map, prefix_len-le-length, prefix_len, Enter, Exit, Data, DataAtBreak, DataInside, point_or, end_place, is_backtick, backticks, backtick, event, leaf, text_before_data_rows, data_at_break_rows, data_inside_rows, held}
 use Rattle.markdown_base.specs.declared.event.Name.{Name as EventName}
-use Rattle.mdconstructs_text.proofs.Texts.Steps.{EndsWith, Leads, between_items, text_step, leads-byte, leads-nok, leads-seen, leads-tested, before_class, waiting_class}
-use Rattle.mdconstructs_text.proofs.Texts.LineEndings.{Adds, nowhere}
-use Rattle.mdconstructs_text.proofs.Plain.Classes.{plain-class, data-ends, tick-class, run-ended}
+use Rattle.mdconstructs_text.proofs.Texts.Steps.{EndsWith, Leads, between_items, text_step, leads-nok, leads-seen, before_class}
+use Rattle.mdconstructs_text.proofs.Plain.Classes.{tick-class, run-ended}
 use Rattle.mdconstructs_text.proofs.Plain.Stretches.{shows, first_byte, sees, past, passed, past-stops, past-is, leaf-read, past-at, goes-next, goes-back, class-rows, loops, loops-from}
-use Rattle.mdconstructs_text.specs.Items.{first_plain}
+use Rattle.mdconstructs_text.specs.Parts.{first_plain}
+use Rattle.mdconstructs_text.proofs.Constructs.Listed.{outer}
+use Rattle.mdconstructs_text.proofs.Texts.Apart.{data-goes-on, data-ends}
+use Rattle.mdconstructs_text.proofs.Texts.Reads.{AddsItem, DecidesPart}
 
 -- a byte at which no other item may begin
 abbrev is_plain : ℕ → Bool
 is_plain b = not (is_special b)
 
 -- plain data, as much as there is
-abbrev pub plain_of : List Seat → Item
+abbrev pub plain_of : List Seat → Found
 plain_of seats = part (plain_run (plain_length is_special (bytes_of seats)))
-
--- the choice that is made then: if the construct is not there, all is put back
-abbrev pub outer : ℕ → Bool → List Event → Choice
-outer p ended events = record { kind = Attempt; ok = Next TextBefore; nok = Next TextBeforeData; saved = Some (record { position = p; ended = ended; events = length events; stack = [] }) }
-
--- the item at a byte that may begin one construct
-pub tick-at : (on : Constructs) (b : ℕ) (bs : List ℕ) → b ≡ 96 → item_at on (b ∷ bs) ≡ or_else (if_on on.code_text (code_span_at (b ∷ bs))) (part (plain_run (plain_length is_special (b ∷ bs))))
-tick-at on b bs is =
-    subst (λ c. item_at on (c ∷ bs) ≡ or_else (if_on on.code_text (code_span_at (c ∷ bs))) (part (plain_run (plain_length is_special (c ∷ bs))))) (sym is)
-    (ap (or_else (if_on on.code_text (code_span_at (96 ∷ bs)))) (nowhere on.autolink _ ∙ nowhere on.character_escape _))
-
--- and at the others
-pub plain-at : (on : Constructs) (b : ℕ) (bs : List ℕ) → is_special b ≡ false → item_at on (b ∷ bs) ≡ part (plain_run (plain_length is_special (b ∷ bs)))
-plain-at on b bs h =
-    let no_tick : (b == 96) ≡ false = grind (arith, nat_tests) in
-    let no_less : (b == 60) ≡ false = grind (arith, nat_tests) in
-    let no_backslash : (b == 92) ≡ false = grind (arith, nat_tests) in
-    let no_line_feed : (b == 10) ≡ false = grind (arith, nat_tests) in
-    rw (no_tick, no_less, no_backslash, no_line_feed) (nowhere on.code_text _ ∙ nowhere on.autolink _ ∙ nowhere on.character_escape _)
 
 module _ (g : Given) (text : Text) where
   -- data begins at the byte that waits
@@ -83,45 +66,50 @@ module _ (g : Given) (text : Text) where
         )
       ] refl
 
-  -- From a state in which a construct is tried at a byte: if it is there, it is read, with its events; if not, data comes at the byte,
-  -- and what was tried leaves nothing
-  abbrev pub Decides : (p : ℕ) (ended : Bool) (events : List Event) → List Seat → Configuration Unit Unit → List Choice → State → Option Item → Type 0
-  Decides p ended events seats k cs s None = (after : Local Unit Unit) × Leads g text k cs s (between_items p Nothing ended events after) [] (Next TextBeforeData)
-  Decides p ended events seats k cs s (Some item) =
+  -- From a state in which a construct is tried at a byte: if it is there, it is read, with its events; if not, another state
+  -- follows at the byte, and what was tried leaves nothing
+  abbrev pub Decides : (nok : Name) (p : ℕ) (ended : Bool) (events : List Event) → List Seat → Configuration Unit Unit → List Choice → State → Option Found → Type 0
+  Decides nok p ended events seats k cs s None = (after : Local Unit Unit) × Leads g text k cs s (between_items p Nothing ended events after) [] (Next nok)
+  Decides nok p ended events seats k cs s (Some item) =
       (ended_after : Bool) × (after : Local Unit Unit)
       × Leads g text k cs s (between_items (p + item_length item) Nothing ended_after (events ++ item_events g.bytes (item, take (item_length item) seats)) after) [] (Next TextBefore)
 
-  -- from between items
-  abbrev pub Tried : (p : ℕ) (ended : Bool) (events : List Event) (local : Local Unit Unit) → List Seat → Option Item → Type 0
-  Tried p ended events local seats o = Decides p ended events seats (between_items p Byte ended events local) [] (Retry TextBefore) o
+  -- from the first state of a construct
+  abbrev pub Tried : Name → (nok : Name) (p : ℕ) (ended : Bool) (events : List Event) (local : Local Unit Unit) → List Seat → Option Found → Type 0
+  Tried name nok p ended events local seats o = Decides nok p ended events seats (between_items p Byte ended events local) (outer nok p ended events ∷ []) (Retry name) o
+
+  -- so it is decided, by a machine with no memory
+  pub decided-so : (nok : Name) (p : ℕ) (ended : Bool) (events : List Event) (seats : List Seat) (k : Configuration Unit Unit) (cs : List Choice) (s : State) (o : Option Found)
+      → Decides nok p ended events seats k cs s o → DecidesPart g text nok p ended events seats k cs s o
+  decided-so nok p ended events seats k cs s None d = (d.0, tt, d.1)
+  decided-so nok p ended events seats k cs s (Some item) d = (d.0, d.1, tt, d.2)
 
   -- what is decided further on is decided here
-  pub decides-before : (p : ℕ) (ended : Bool) (events : List Event) (seats : List Seat) (k k' : Configuration Unit Unit) (cs cs' : List Choice) (s s' : State) (o : Option Item)
-      → Leads g text k cs s k' cs' s' → Decides p ended events seats k' cs' s' o → Decides p ended events seats k cs s o
-  decides-before p ended events seats k k' cs cs' s s' None leads d = (d.0, λ es h. leads es (d.1 es h))
-  decides-before p ended events seats k k' cs cs' s s' (Some item) leads d = (d.0, d.1, λ es h. leads es (d.2 es h))
+  pub decides-before : (nok : Name) (p : ℕ) (ended : Bool) (events : List Event) (seats : List Seat) (k k' : Configuration Unit Unit) (cs cs' : List Choice) (s s' : State) (o : Option Found)
+      → Leads g text k cs s k' cs' s' → Decides nok p ended events seats k' cs' s' o → Decides nok p ended events seats k cs s o
+  decides-before nok p ended events seats k k' cs cs' s s' None leads d = (d.0, λ es h. leads es (d.1 es h))
+  decides-before nok p ended events seats k k' cs cs' s s' (Some item) leads d = (d.0, d.1, λ es h. leads es (d.2 es h))
 
   -- what was tried is put back
-  pub puts-back : (p : ℕ) (ended : Bool) (events : List Event) (k : Configuration Unit Unit) → take (length events) k.events ≡ events
-      → Leads g text k (outer p ended events ∷ []) Nok (between_items p Nothing ended events k.local) [] (Next TextBeforeData)
-  puts-back p ended events k kept es h =
-      leads-nok g text k (outer p ended events) [] es (subst (λ l. EndsWith g text (between_items p Nothing ended l k.local) [] (Next TextBeforeData) es) (sym kept) h)
+  pub puts-back : (nok : Name) (p : ℕ) (ended : Bool) (events : List Event) (k : Configuration Unit Unit) → take (length events) k.events ≡ events
+      → Leads g text k (outer nok p ended events ∷ []) Nok (between_items p Nothing ended events k.local) [] (Next nok)
+  puts-back nok p ended events k kept es h =
+      leads-nok g text k (outer nok p ended events) [] es (subst (λ l. EndsWith g text (between_items p Nothing ended l k.local) [] (Next nok) es) (sym kept) h)
 
   -- by a state whose row fails, whatever waits
   pub refused : (table : (previous current : Option TextByte) → Rows Unit Unit) (name : Name)
       → ((k : Configuration Unit Unit) → text_step g (sight g text k) k name ≡ row_step g text k (table (class_of text_byte (sight g text k).previous) (class_of text_byte (sight g text k).current)))
-      → (p : ℕ) (ended : Bool) (events : List Event) (l : List Seat) (stack : List EventName) (q : ℕ) (begun : List Event) (local : Local Unit Unit) → drop q text.seats ≡ l
+      → (nok : Name) (p : ℕ) (ended : Bool) (events : List Event) (l : List Seat) (stack : List EventName) (q : ℕ) (begun : List Event) (local : Local Unit Unit) → drop q text.seats ≡ l
       → table (before_class g text q) (class_of text_byte (first_byte l)) ≡ row [] Nok → take (length events) begun ≡ events
-      → Leads g text (shows l stack q begun local) (outer p ended events ∷ []) (Retry name) (between_items p Nothing ended events (counts local)) [] (Next TextBeforeData)
-  refused table name has p ended events l stack q begun local at fails kept es h =
-      leads-seen g text table (shows l stack q begun local) (outer p ended events ∷ []) name es (sees g text l q at) fails (has (shows l stack q begun local))
-      (puts-back p ended events (shows l stack q begun (counts local)) kept es h)
+      → Leads g text (shows l stack q begun local) (outer nok p ended events ∷ []) (Retry name) (between_items p Nothing ended events (counts local)) [] (Next nok)
+  refused table name has nok p ended events l stack q begun local at fails kept es h =
+      leads-seen g text table (shows l stack q begun local) (outer nok p ended events ∷ []) name es (sees g text l q at) fails (has (shows l stack q begun local))
+      (puts-back nok p ended events (shows l stack q begun (counts local)) kept es h)
 
-  -- data that one comes to is read, with its events, and one goes on behind it
-  from-data : (p : ℕ) (ended : Bool) (events : List Event) (local : Local Unit Unit) (s : Seat) (ss : List Seat) → drop p text.seats ≡ s ∷ ss → (between : Local Unit Unit)
-      → Leads g text (between_items p Byte ended events local) [] (Retry TextBefore) (between_items p Byte ended events between) [] (Retry TextBeforeData)
-      → Adds g text p ended events local (s ∷ ss) (plain_of (s ∷ ss))
-  from-data p ended events local s ss here between comes =
+  -- data is read, with its events
+  pub reads-data : (p : ℕ) (ended : Bool) (events : List Event) (between : Local Unit Unit) (s : Seat) (ss : List Seat) → drop p text.seats ≡ s ∷ ss
+      → AddsItem g text (between_items p Byte ended events between) (Retry TextBeforeData) p events (s ∷ ss) (plain_of (s ∷ ss))
+  reads-data p ended events between s ss here =
       let bytes = bytes_of (s ∷ ss) in
       let n = first_plain bytes in
       let whole = plain_length is_special bytes in
@@ -143,51 +131,16 @@ module _ (g : Given) (text : Text) where
       (omega (arith, first.0, first.1, prefix_len-le-length is_plain (drop n bytes), length-drop n bytes, size))) in (
         false,
         counts read,
+        tt,
         λ es h.
-            leads-byte g text [] p ended events local [] TextBefore (at-front text.seats p s ss here) es
-            (comes es
-            (begun.1 es
+            begun.1 es
             (loops g text (Data ∷ []) [] DataInside is_plain counts
             (λ q ended events local s at is es.
             leads-seen g text data_inside_rows (held (Data ∷ []) q Byte ended events local) [] DataInside es (ap byte_of at)
-            (plain-class (before_class g text q) s.byte (not-true (is_special s.byte) is)).1 refl)
+            (data-goes-on (before_class g text q) s.byte (not-true (is_special s.byte) is)) refl)
             l (p + n) q entered begun.0 behind (sym total) es
             (leads-seen g text data_inside_rows (shows rest (Data ∷ []) q entered read) [] DataInside es (sees g text rest q there)
             (data-ends (before_class g text q) (first_byte rest) (past-stops is_plain l)) refl
             (goes-back g text rest [] q made (counts read) [] TextBefore there es
-            (subst (λ l. EndsWith g text (between_items q Nothing false l (counts read)) [] (Next TextBefore) es) (sym same) h)))))),
+            (subst (λ l. EndsWith g text (between_items q Nothing false l (counts read)) [] (Next TextBefore) es) (sym same) h)))),
       )
-
-  -- a byte at which no other item may begin
-  pub from-plain : (p : ℕ) (ended : Bool) (events : List Event) (local : Local Unit Unit) (s : Seat) (ss : List Seat) → drop p text.seats ≡ s ∷ ss → is_special s.byte ≡ false
-      → Adds g text p ended events local (s ∷ ss) (plain_of (s ∷ ss))
-  from-plain p ended events local s ss here ordinary =
-      from-data p ended events local s ss here (counts local)
-      (λ es. leads-seen g text text_before_rows (between_items p Byte ended events local) [] TextBefore es (ap byte_of (at-front text.seats p s ss here))
-      (plain-class (before_class g text p) s.byte ordinary).0 refl)
-
-  -- the rows at a byte that may begin a construct
-  pub byte-rows : (p b : ℕ) (s : Seat) → slice_get text.seats p ≡ Some s → s.byte ≡ b → text_before_rows (before_class g text p) (waiting_class g text p) ≡ text_before_rows (before_class g text p) (Some (text_byte b))
-  byte-rows p b s at is =
-      ap (λ o. text_before_rows (before_class g text p) (class_of text_byte (byte_of o))) at ∙ ap (λ c. text_before_rows (before_class g text p) (Some (text_byte c))) is
-
-  -- if that construct is on, it is tried
-  pub leads-tried : (test : Given → Sight → Configuration Unit Unit → Bool) (name : Name) (p : ℕ) (ended : Bool) (events : List Event) (local : Local Unit Unit)
-      → text_before_rows (before_class g text p) (waiting_class g text p) ≡ tries test name
-      → (let k = between_items p Byte ended events (counts local) in test g (sight g text k) k ≡ true)
-      → Leads g text (between_items p Byte ended events local) [] (Retry TextBefore) (between_items p Byte ended events (counts local)) (outer p ended events ∷ []) (Retry name)
-  leads-tried test name p ended events local rows on es = leads-tested g text test text_before_rows (between_items p Byte ended events local) [] TextBefore es refl rows on refl
-
-  -- a construct at a byte that may begin it: it is read if it is on and there, and else data is
-  pub from-construct : (test : Given → Sight → Configuration Unit Unit → Bool) (name : Name) (p : ℕ) (ended : Bool) (events : List Event) (local : Local Unit Unit) (s : Seat) (ss : List Seat)
-      → drop p text.seats ≡ s ∷ ss → text_before_rows (before_class g text p) (waiting_class g text p) ≡ tries test name
-      → (on : Bool) → (let k = between_items p Byte ended events (counts local) in test g (sight g text k) k ≡ on) → (o : Option Item) → (on ≡ true → Tried p ended events local (s ∷ ss) o)
-      → Adds g text p ended events local (s ∷ ss) (or_else (if_on on o) (plain_of (s ∷ ss)))
-  from-construct test name p ended events local s ss here rows true picks (Some item) tried =
-      let taken = tried refl in
-      (taken.0, taken.1, λ es h. leads-byte g text [] p ended events local [] TextBefore (at-front text.seats p s ss here) es (taken.2 es h))
-  from-construct test name p ended events local s ss here rows true picks None tried =
-      let rejected = tried refl in
-      from-data p ended events local s ss here rejected.0 (λ es h. rejected.1 es (leads-byte g text [] p ended events rejected.0 [] TextBeforeData (at-front text.seats p s ss here) es h))
-  from-construct test name p ended events local s ss here rows false picks o tried =
-      from-data p ended events local s ss here (counts local) (λ es. leads-tested g text test text_before_rows (between_items p Byte ended events local) [] TextBefore es refl rows picks refl)

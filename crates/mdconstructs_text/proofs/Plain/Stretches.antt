@@ -2,7 +2,7 @@
 use Rattle.mdconstructs_text.proofs.Prelude.{at-front, ◌≡◌, ℕ, zero, suc, ◌+◌, ◌^◌, ◌<◌, ◌≤◌, ◌∷◌, ◌++◌, [], List, Bool, true, false, cond, refl, sym, ◌∙◌, ap, subst, Option, Some, None, arith, length, take, drop, slice_get, drop-drop, prefix_len, drop-next, Event, Enter, Exit, Name, Next, Retry, Seat, end_after, Waits, Nothing, Byte, End, Given, Text, Configuration, Local, Choice, byte_of, point_or, end_or, end_place, current_of, fed, fed-ends, passes, Rows, TextByte, text_byte, bytes_of, event, leaf, held}
 use Rattle.markdown_base.specs.declared.event.Name.{Name as EventName}
 use Rattle.mdconstructs_machines.proofs.LineReads.Steps.{stands as fed_as}
-use Rattle.mdconstructs_text.specs.TextEvents.{span}
+use Rattle.mdconstructs_text.specs.Parts.{span}
 use Rattle.mdconstructs_text.proofs.Texts.Steps.{EndsWith, Leads, text_step, leads-fed, before_class}
 
 -- what waits where these virtual bytes are left: the first of them, or the end

@@ -1,17 +1,19 @@
 -- What reading a text from its start ends in, for a machine that leaves nothing to resolve; and so for the machine of texts, whose items are read one by one.
-use Rattle.mdconstructs_text.proofs.Prelude.{◌≡◌, List, [], Bool, true, false, Some, refl, sym, ◌∙◌, ap, subst, length, nat_lt, Contains, Event, Name, State, Next, Retry, Ok, TextStart, Subresult, Given, Text, IsText, Configuration, Step, start_configuration, with_local, fed, fed-ends, Sight, sight, Reading, EndsIn, Rules, row, done, resolved_by, taken, found, edits_made, IsResolved, LeavesEvents, with_resolvers, edited, one-end, KeepsInvariant, kept-well, lawful-kept, holds-at-start, counts, row_step, EndsWith, ℕ, zero, suc, ◌+◌, ◌≤◌, ◌==◌, ◌∷◌, ◌++◌, arith, eqb-true, take, drop, append-nil, append_assoc, drop-drop, flat_map, RawTextStart, TextBefore, Seat, Nothing, End, Local, is_special, code_spans_are_on, item_length, item_at, code_span_at, bytes_of, cut, item_events, text_events, at-front, goes-next, inl, inr, edited-none, edited-same, text_rules, text-lawful}
-use Rattle.mdconstructs_machines.proofs.LineReads.Steps.{leads-fed, leads-step, ended as ended-so}
+use Rattle.mdconstructs_text.proofs.Prelude.{Some, Bool, Byte, Configuration, Construct, Contains, EndsIn, EndsWith, Event, Found, Given, IsResolved, IsText, KeepsInvariant, LeavesEvents, List, Name, Next, Nothing, Ok, Reading, Retry, Rules, Sight, State, Step, Subresult, Text, TextBefore, TextBeforeData, TextByte, TextStart, [], ap, arith, autolinks, bytes_of, code_spans, cond, counts, done, edited, edited-none, edited-same, edits_made, eqb-true, escapes, false, fed, fed-ends, first_there, flat_map, found, grammars_of, holds-at-start, inl, inr, is_line_feed, is_line_feed_class, is_special, item_at, item_events, item_length, kept-well, lawful-kept, length, line_ending, nat_lt, one-end, part, part_at, plain_length, plain_run, refl, resolved_by, row, row_step, sight, some_first, start_configuration, subst, sym, taken, text-lawful, text_byte, text_constructs, text_events, text_rules, true, with_local, with_resolvers, ℕ, ◌∙◌, ◌∷◌, ◌≡◌}
+use Rattle.mdconstructs_machines.proofs.LineReads.Steps.{leads-fed, leads-step}
+use Rattle.mdconstructs_text.proofs.Autolinks.Readings.{autolinks-read}
+use Rattle.mdconstructs_text.proofs.CodeSpans.FoundParts.{piece-positive}
+use Rattle.mdconstructs_text.proofs.CodeSpans.Items.{code-spans-read}
+use Rattle.mdconstructs_text.proofs.Constructs.Apart.{AreApart, none-there}
+use Rattle.mdconstructs_text.proofs.Constructs.Listed.{IsListed, items-read}
+use Rattle.mdconstructs_text.proofs.Escapes.Readings.{escapes-read}
+use Rattle.mdconstructs_text.proofs.Plain.Items.{reads-data}
 use Rattle.mdconstructs_text.proofs.Plain.Stretches.{seen}
-use Rattle.mdconstructs_text.proofs.Autolinks.Items.{adds-less}
-use Rattle.mdconstructs_text.proofs.Autolinks.Places.{text-joined}
-use Rattle.mdconstructs_text.proofs.CodeSpans.Items.{tries-code-span}
-use Rattle.mdconstructs_text.proofs.CodeSpans.Short.{runs-of-text}
-use Rattle.mdconstructs_text.proofs.Plain.Backslashes.{adds-backslash}
-use Rattle.mdconstructs_text.proofs.Plain.Items.{tick-at, plain-at, from-plain, byte-rows, from-construct}
-use Rattle.mdconstructs_text.proofs.Texts.Cutting.{drop-less}
-use Rattle.mdconstructs_text.proofs.Texts.LineEndings.{Adds, adds-line-ending}
-use Rattle.mdconstructs_text.proofs.Texts.Positive.{items-positive}
-use Rattle.mdconstructs_text.proofs.Texts.Steps.{between_items, leads-called, text_step}
+use Rattle.mdconstructs_text.proofs.Texts.Apart.{line-classed, text-apart}
+use Rattle.mdconstructs_text.proofs.Texts.Cutting.{cut-same}
+use Rattle.mdconstructs_text.proofs.Texts.LineEndings.{reads-line}
+use Rattle.mdconstructs_text.proofs.Texts.Reads.{AddsItem, ReadsItems, no_memory, knows_nothing}
+use Rattle.mdconstructs_text.proofs.Texts.Steps.{between_items, text_step}
 
 -- What is read of a text from its start, and what is left where all is resolved, has these events
 abbrev pub ReadsTexts : (g : Given) → (Given → Rules Unit Unit) → (Text → List Event) → Type 0
@@ -59,51 +61,58 @@ module _ (g : Given) (rules : Given → Rules Unit Unit) (law : KeepsInvariant g
       sym (ap (λ (q : Configuration Unit Unit). q.events) last) ∙ ap (λ es. edited es k.events) left.1 ∙ left.2
       ∙ (ends-so g text (rules g).step (start_configuration flag) (Next TextStart) (events_of text) (from text is flag) r ends).1
 
+-- The machine of texts is the list of its constructs. After each, data is read: no other begins at its byte.
 module _ (g : Given) (text : Text) (is-text : IsText g text) where
-  -- One item: from before it, with nothing waiting, to behind it, with its events. It is read by what its first byte may begin.
-  adds-item : (p : ℕ) (ended : Bool) (events : List Event) (local : Local Unit Unit) (s : Seat) (ss : List Seat) → drop p text.seats ≡ s ∷ ss
-      → Adds g text p ended events local (s ∷ ss) (item_at g.options.constructs (bytes_of (s ∷ ss)))
-  adds-item p ended events local s ss here = by (s.byte == 10) (s.byte == 96) (s.byte == 60) (s.byte == 92) refl refl refl refl
-    where
-      by : (feed tick less back : Bool) → (s.byte == 10) ≡ feed → (s.byte == 96) ≡ tick → (s.byte == 60) ≡ less → (s.byte == 92) ≡ back
-          → Adds g text p ended events local (s ∷ ss) (item_at g.options.constructs (bytes_of (s ∷ ss)))
-      by true tick less back e f h i = adds-line-ending g text p ended events local s ss here (eqb-true s.byte 10 e)
-      by false true less back e f h i =
-          let is = eqb-true s.byte 96 f in
-          subst (Adds g text p ended events local (s ∷ ss)) (sym (tick-at g.options.constructs s.byte (bytes_of ss) is))
-          (from-construct g text code_spans_are_on RawTextStart p ended events local s ss here (byte-rows g text p 96 s (at-front text.seats p s ss here) is) g.options.constructs.code_text refl
-          (code_span_at (bytes_of (s ∷ ss))) (tries-code-span g text (runs-of-text g text is-text) p ended events local s ss here is))
-      by false false true back e f h i = adds-less g text (text-joined g text is-text) p ended events local s ss here (eqb-true s.byte 60 h)
-      by false false false true e f h i = adds-backslash g text p ended events local s ss here (eqb-true s.byte 92 i)
-      by false false false false e f h i =
-          let ordinary : is_special s.byte ≡ false = rw (e, f, h, i) refl in
-          subst (Adds g text p ended events local (s ∷ ss)) (sym (plain-at g.options.constructs s.byte (bytes_of ss) ordinary)) (from-plain g text p ended events local s ss here ordinary)
+  abbrev other : List ℕ → Found
+  other bs = part (part_at is_special bs)
 
-  -- The main law: from any place between items with nothing waiting, the machine adds the events of what is left
-  from-items : (n p : ℕ) (ended : Bool) (events : List Event) (local : Local Unit Unit) (l : List Seat) → drop p text.seats ≡ l → length l ≤ n
-      → EndsWith g text (text_step g) (between_items p Nothing ended events local) [] (Next TextBefore) (events ++ flat_map (item_events g.bytes) (cut (item_at g.options.constructs) item_length n l))
-  from-items zero p ended events local (s ∷ ss) at h = absurd (omega (arith, h))
-  from-items (suc n) p ended events local (s ∷ ss) at h =
-      let item = item_at g.options.constructs (bytes_of (s ∷ ss)) in
-      let size = item_length item in
-      let one = item_events g.bytes (item, take size (s ∷ ss)) in
-      let others = flat_map (item_events g.bytes) (cut (item_at g.options.constructs) item_length n (drop size (s ∷ ss))) in
-      let less : length (drop size (s ∷ ss)) ≤ length ss = drop-less size s ss (items-positive g.options.constructs s.byte (bytes_of ss)) in
-      let added = adds-item p ended events local s ss at in
-      let behind : drop (p + size) text.seats ≡ drop size (s ∷ ss) = sym (drop-drop size p text.seats) ∙ ap (drop size) at in
-      added.2 (events ++ (one ++ others))
-      (subst (λ es. EndsWith g text (text_step g) (between_items (p + size) Nothing added.0 (events ++ one) added.1) [] (Next TextBefore) es) (append_assoc events one others)
-      (from-items n (p + size) added.0 (events ++ one) added.1 (drop size (s ∷ ss)) behind (omega (arith, less, h))))
-  from-items n p ended events local l at h =
-      subst (λ es. EndsWith g text (text_step g) (between_items p Nothing ended events local) [] (Next TextBefore) es) (sym (append-nil events))
-      (goes-next g text (text_step g) [] [] p ended events local [] TextBefore at events
-      (leads-called g text (between_items p End true events local) [] TextBefore events (ended-so g text (text_step g) (between_items p End true events (counts local)))))
+  data-read : ReadsItems g text TextBeforeData (λ b. is_line_feed b ≡ false) other
+  data-read p ended events local s ss here plain knows =
+      subst (AddsItem g text (between_items p Byte ended events local) (Retry TextBeforeData) p events (s ∷ ss))
+      (ap (λ t. part (cond t line_ending (plain_run (plain_length is_special (bytes_of (s ∷ ss)))))) (sym plain)) (reads-data g text p ended events local s ss here)
 
-  -- so it does from the start, in the first paragraph of a list item or not
+  line-read : ReadsItems g text TextBefore (λ b. is_line_feed b ≡ true) other
+  line-read p ended events local s ss here line knows =
+      subst (AddsItem g text (between_items p Byte ended events local) (Retry TextBefore) p events (s ∷ ss))
+      (ap (λ t. part (cond t line_ending (plain_run (plain_length is_special (bytes_of (s ∷ ss)))))) (sym line)) (reads-line g text p ended events local s ss here (eqb-true s.byte 10 line))
+
+  -- data follows a construct, if the others in the list begin at other bytes
+  data-follows : (c : Construct Found TextByte Unit Unit) (cs : List (Construct Found TextByte Unit Unit)) → AreApart text_byte item_length cs
+      → ((b : ℕ) → c.grammar.first b ≡ true → some_first (grammars_of cs) b ≡ false)
+      → ReadsItems g text TextBeforeData (λ b. (is_line_feed b ≡ false) × (c.grammar.first b ≡ true)) (λ bs. first_there (grammars_of cs) g.options.constructs bs (other bs))
+  data-follows c cs apart alone p ended events local s ss here at knows =
+      subst (AddsItem g text (between_items p Byte ended events local) (Retry TextBeforeData) p events (s ∷ ss))
+      (sym (none-there text_byte item_length cs apart g.options.constructs s.byte (bytes_of ss) (other (bytes_of (s ∷ ss))) (alone s.byte at.1)))
+      (data-read p ended events local s ss here at.0 knows)
+
+  text-listed : IsListed g text (text_step g) text_byte item_length (item_events g.bytes) no_memory knows_nothing is_line_feed (λ m. other) is_line_feed_class (λ m. text_constructs)
+  text-listed = record {
+    has_before = λ m k. refl;
+    lines = line-classed;
+    lines_alone = λ m b h. (let e : b ≡ 10 = eqb-true b 10 h in rw e refl);
+    apart = λ m. text-apart;
+    tried = λ m. (
+      record { reads = code-spans-read g text is-text; follows = data-follows code_spans (autolinks ∷ escapes ∷ []) text-apart.1 (λ b h. (let e : b ≡ 96 = eqb-true b 96 h in rw e refl)) },
+      (
+        record { reads = autolinks-read g text is-text; follows = data-follows autolinks (escapes ∷ []) text-apart.1.1 (λ b h. (let e : b ≡ 60 = eqb-true b 60 h in rw e refl)) },
+        (record { reads = escapes-read g text; follows = data-follows escapes [] tt (λ b h. refl) }, tt),
+      ),
+    );
+    reads_data = λ m. data-read;
+    reads_lines = λ m. line-read;
+    some = λ m b bs. piece-positive is_special b bs;
+  }
+
+  -- so it reads a text item by item from the start, in the first paragraph of a list item or not
   pub from-start : (flag : Bool) → EndsWith g text (text_step g) (start_configuration flag) [] (Next TextStart) (text_events g text)
   from-start flag =
       let k : Configuration Unit Unit = start_configuration flag in
-      leads-on g text (text_step g) TextStart TextBefore (λ k. refl) k (text_events g text) (from-items (length text.seats) 0 false [] (counts k.local) text.seats refl (omega arith))
+      let on = g.options.constructs in
+      leads-on g text (text_step g) TextStart TextBefore (λ k. refl) k (text_events g text)
+      (subst (λ items. EndsWith g text (text_step g) (between_items 0 Nothing false [] (counts k.local)) [] (Next TextBefore) (flat_map (item_events g.bytes) items))
+      (cut-same (item_at on) item_length (length text.seats) tt text.seats)
+      (items-read g text (text_step g) text_byte item_length (item_events g.bytes) no_memory knows_nothing is_line_feed (λ m. other) (λ m p local h. tt) is_line_feed_class (λ m. text_constructs) text-listed
+      (length text.seats) 0 tt false [] (counts k.local) text.seats refl (omega arith) tt))
 
 -- The machine of texts leaves nothing to resolve
 pub texts-unresolved : (g : Given) (text : Text) → IsText g text → (flag : Bool) (r : Reading Unit Unit) → EndsIn g (text_rules g).step text 0 (start_configuration flag) [] (Next TextStart) r → r.answer ≡ Ok

@@ -4,7 +4,8 @@ use Rattle.markdown_base.specs.declared.event.Name.{Name}
 use Rattle.markdown_tokenizer.specs.Plain.{HaveNoLinks}
 use Rattle.mdconstructs_machines.specs.Spans.{span}
 use Rattle.mdconstructs_text.proofs.Paragraphs.Formed.{void-cons, void-append}
-use Rattle.mdconstructs_text.proofs.Texts.Built.{IsKeptBySpans, data-built, text-built}
+use Rattle.mdconstructs_text.proofs.Texts.Built.{IsKeptBySpans, data-built}
+use Rattle.mdconstructs_text.proofs.Texts.ItemsBuilt.{text-built}
 
 none-tight : IsVoidTight []
 none-tight k e at = absurd (cc)

@@ -1,14 +1,13 @@
 -- The costs of the states of the machine of texts, in numbers.
-use Rattle.std.proofs.Common.{◌≡◌, ℕ, suc, ◌+◌, ◌-◌, ◌*◌, ◌<◌, ◌≤◌, ◌==◌, ◌||◌, List, [], ◌∷◌, Bool, true, false, cond, Option, Some, None, length, drop, refl, sym, ap, ◌∙◌, arith, add-one, inl, inr, length-drop}
-use Rattle.std.specs.Prelude.{slice_get, max, nat_lt}
-use Rattle.std.specs.Char.{is_ascii_alphabetic, is_ascii_alphanumeric, is_ascii_punctuation}
-use Rattle.std.proofs.lemmas.Bool.Decides.{nat_tests}
+use Rattle.std.proofs.Common.{◌≡◌, ℕ, suc, ◌+◌, ◌-◌, ◌*◌, ◌<◌, ◌≤◌, ◌==◌, List, [], ◌∷◌, Bool, true, false, cond, Option, Some, None, length, drop, refl, sym, ap, ◌∙◌, arith, add-one, inl, inr, length-drop}
+use Rattle.std.specs.Prelude.{slice_get, max}
 use Rattle.std.proofs.lemmas.Option.{slice_get_cases}
 use Rattle.markdown_base.specs.Virtual.{Seat}
 use Rattle.markdown_tokenizer.specs.Text.{Text}
 use Rattle.markdown_tokenizer.specs.Sight.{byte_of}
 use Rattle.mdconstructs_tables.specs.Rows.{class_of}
-use Rattle.mdconstructs_text.specs.TextBytes.{TextByte, line_feed, backtick, less, greater, backslash, colon, letter, digit, mark, punctuation, blank, other, text_byte, is_tick, ends_code_data}
+use Rattle.mdconstructs_text.specs.TextBytes.{TextByte, backtick, text_byte, is_tick, ends_code_data}
+use Rattle.mdconstructs_text.specs.Laws.Classes.{tick-classed}
 use Rattle.mdconstructs_text.specs.TextCosts.{leading, outside, waits_at}
 use Rattle.markdown_base.proofs.Common.{drop-at}
 use Rattle.mdconstructs_tables.proofs.CostNumbers.{next-left, square-falls}
@@ -29,47 +28,11 @@ cond-most true x y z h k = h
 cond-most false x y z h k = k
 
 -- Bytes and their classes
-cond-no : (b : Bool) (x y : TextByte) → is_tick (Some x) ≡ false → is_tick (Some y) ≡ false → is_tick (Some (cond b x y)) ≡ false
-cond-no true x y h k = h
-cond-no false x y h k = k
-
-abbrev from_blank : ℕ → TextByte
-from_blank b = cond (nat_lt b 33 || (b == 127)) blank other
-
-abbrev from_mark : ℕ → TextByte
-from_mark b = cond ((b == 43) || ((b == 46) || (b == 45))) mark (cond (is_ascii_punctuation b) punctuation (from_blank b))
-
-abbrev from_letter : ℕ → TextByte
-from_letter b = cond (is_ascii_alphabetic b) letter (cond (is_ascii_alphanumeric b) digit (from_mark b))
-
-abbrev from_less : ℕ → TextByte
-from_less b = cond (b == 60) less (cond (b == 62) greater (cond (b == 92) backslash (cond (b == 58) colon (from_letter b))))
-
-no-mark : (b : ℕ) → is_tick (Some (from_mark b)) ≡ false
-no-mark b =
-    cond-no ((b == 43) || ((b == 46) || (b == 45))) mark (cond (is_ascii_punctuation b) punctuation (from_blank b)) refl
-    (cond-no (is_ascii_punctuation b) punctuation (from_blank b) refl (cond-no (nat_lt b 33 || (b == 127)) blank other refl refl))
-
-no-letter : (b : ℕ) → is_tick (Some (from_letter b)) ≡ false
-no-letter b =
-    cond-no (is_ascii_alphabetic b) letter (cond (is_ascii_alphanumeric b) digit (from_mark b)) refl (cond-no (is_ascii_alphanumeric b) digit (from_mark b) refl (no-mark b))
-
-no-tick : (b : ℕ) → is_tick (Some (from_less b)) ≡ false
-no-tick b =
-    cond-no (b == 60) less (cond (b == 62) greater (cond (b == 92) backslash (cond (b == 58) colon (from_letter b)))) refl
-    (cond-no (b == 62) greater (cond (b == 92) backslash (cond (b == 58) colon (from_letter b))) refl
-    (cond-no (b == 92) backslash (cond (b == 58) colon (from_letter b)) refl (cond-no (b == 58) colon (from_letter b) refl (no-letter b))))
-
-tick-or : (line tick : Bool) (rest : TextByte) → is_tick (Some rest) ≡ false → is_tick (Some (cond line line_feed (cond tick backtick rest))) ≡ true → tick ≡ true
-tick-or true tick rest none h = absurd (cc)
-tick-or false true rest none h = refl
-tick-or false false rest none h = absurd (let e : true ≡ false = sym h ∙ none in cc)
-
 tick-is : (b : ℕ) → is_tick (Some (text_byte b)) ≡ true → (b == 96) ≡ true
-tick-is b h = tick-or (b == 10) (b == 96) (from_less b) (no-tick b) h
+tick-is b h = sym (tick-classed b) ∙ h
 
 is-tick : (b : ℕ) → (b == 96) ≡ true → is_tick (Some (text_byte b)) ≡ true
-is-tick b h = let e : b ≡ 96 = grind (arith, nat_tests) in rw e refl
+is-tick b h = tick-classed b ∙ h
 
 -- Runs of backticks
 leading-at : (ss : List Seat) (p : ℕ) (s : Seat) → slice_get ss p ≡ Some s → leading (drop p ss) ≡ cond (s.byte == 96) (suc (leading (drop (p + 1) ss))) 0
@@ -121,12 +84,6 @@ break-tick n p w x h e =
 
 pub break-other : (u : ℕ) (w : Option TextByte) → is_tick w ≡ false → 1 + (outside u + 1 + 0) ≤ cond (is_tick w) (4 * (u * u) + u - 1) (outside u + 2)
 break-other u w e = rw e (omega arith)
-
-pub construct : (n p : ℕ) → p < n → 1 + (7 * (n - p) - 3 + (max (outside (n - (p + 1))) (max 1 (4 * ((n - p) * (n - p)) + (n - p))) + 0)) ≤ outside (n - p)
-construct n p h = rw (next-left n p h) (omega arith)
-
-pub short-construct : (n p : ℕ) → p < n → 1 + (n - p + 1 + (max (outside (n - (p + 1))) (max 1 (4 * ((n - p) * (n - p)) + (n - p))) + 0)) ≤ outside (n - p)
-short-construct n p h = rw (next-left n p h) (omega arith)
 
 pub data-instead : (n p : ℕ) → p < n → 1 + (max 1 (4 * ((n - p) * (n - p)) + (n - p)) + 0) ≤ outside (n - p)
 data-instead n p h = rw (next-left n p h) (omega arith)

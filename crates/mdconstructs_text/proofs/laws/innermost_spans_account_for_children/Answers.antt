@@ -1,7 +1,8 @@
 use Rattle.mdconstructs_text.proofs.Prelude.{ℕ, List, ◌<◌, arith, Event, virtual, Given, IsDocument, AccountFor, paragraph_events, paragraphs-account, chain_text, chain_events, chain_data, with_read}
 use Rattle.mdconstructs_text.proofs.DeepSpans.Atoms.{IsCut}
 use Rattle.mdconstructs_text.proofs.DeepSpans.Chains.{with-read-accounts}
-use Rattle.mdconstructs_text.proofs.DeepSpans.TextCuts.{data-cut, text-cut}
+use Rattle.mdconstructs_text.proofs.DeepSpans.Stretches.{data-cut}
+use Rattle.mdconstructs_text.proofs.DeepSpans.TextCuts.{text-cut}
 use Rattle.mdconstructs_text.proofs.Paragraphs.Ready.{document-readable}
 use Rattle.mdconstructs_text.proofs.laws.innermost_spans_account_for_children.Goals as goal
 

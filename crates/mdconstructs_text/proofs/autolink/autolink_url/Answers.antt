@@ -1,5 +1,5 @@
 use Rattle.mdconstructs_text.proofs.Prelude.{◌≡◌, [], ◌∷◌, Some, refl, ap, ◌∙◌, Autolink, AutolinkMarker, AutolinkProtocol, sight_of, enter, exit, consume, class_of, marked, can-exit, text_byte, greater, autolink_url}
-use Rattle.mdconstructs_text.proofs.text.autolink_url.Goals as goal
+use Rattle.mdconstructs_text.proofs.autolink.autolink_url.Goals as goal
 
 pub exit-requires-in-Some-eq62 : goal.exit-requires-in-Some-eq62
 exit-requires-in-Some-eq62 c =

@@ -1,6 +1,6 @@
 use Rattle.mdconstructs_text.proofs.Prelude.{◌≡◌, [], ◌∷◌, Some, refl, sym, ap, ◌∙◌, true, false, is_ascii_punctuation, CharacterEscape, CharacterEscapeValue, sight_of, enter, exit, consume, class_of, can-exit, then, text_byte, escape_inside, escape_inside_rows}
 use Rattle.mdconstructs_text.proofs.Escapes.Classes.{escaped-class, refused-class}
-use Rattle.mdconstructs_text.proofs.text.escape_inside.Goals as goal
+use Rattle.mdconstructs_text.proofs.escape.escape_inside.Goals as goal
 
 pub exit-requires : goal.exit-requires
 exit-requires c =

@@ -1,5 +1,5 @@
 use Rattle.mdconstructs_text.proofs.Prelude.{ap, sight_of, has_scheme}
-use Rattle.mdconstructs_text.proofs.text.has_scheme.Goals as goal
+use Rattle.mdconstructs_text.proofs.autolink.has_scheme.Goals as goal
 
 pub returns : goal.returns
 returns c = ap (λ v. has_scheme v.given (sight_of v) v.configuration) c.t.view_is

@@ -1,6 +1,6 @@
 use Rattle.mdconstructs_text.proofs.Prelude.{◌≡◌, refl, sym, ◌∙◌, true, false, sight_of, class_of, text_byte, sizes_are_equal}
 use Rattle.mdconstructs_text.proofs.Plain.Classes.{has-ended}
-use Rattle.mdconstructs_text.proofs.text.after_closing.Goals as goal
+use Rattle.mdconstructs_text.proofs.code_span.after_closing.Goals as goal
 
 pub exit-requires : goal.exit-requires
 exit-requires c =

@@ -1,0 +1,3 @@
+-- Machines that are lists of constructs: what is read, once for all lists.
+pub mod Apart
+pub mod Listed

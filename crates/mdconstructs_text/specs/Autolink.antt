@@ -1,0 +1,137 @@
+-- Autolinks: what they are, with no states; and the part of a table that reads them.
+use Rattle.std.specs.Prelude.{ℕ, ◌+◌, ◌==◌, ◌&&◌, ◌||◌, not, nat_le, nat_lt, Bool, cond, false, List, [], ◌∷◌, ◌++◌, take, drop, length, Option, Some, None}
+use Rattle.std.specs.List.{between, list_all, prefix_len}
+use Rattle.std.specs.Char.{is_ascii_alphabetic, is_ascii_alphanumeric, is_ascii_control}
+use Rattle.markdown_base.specs.declared.event.Name.TheVariants.{Autolink, AutolinkMarker, AutolinkProtocol}
+use Rattle.markdown_base.specs.declared.state.State.TheVariants.{Next, Ok, Nok}
+use Rattle.markdown_base.specs.declared.state.TheConstants.Name.{TextBeforeData, AutolinkStart, AutolinkOpen, AutolinkSchemeInsideOrEmailAtext, AutolinkUrlInside}
+use Rattle.markdown_tokenizer.specs.Text.{Given}
+use Rattle.markdown_tokenizer.specs.Configuration.{Configuration}
+use Rattle.markdown_tokenizer.specs.Sight.{Sight}
+use Rattle.mdconstructs_tables.specs.Rows.{enter, exit, consume, write, Rows, row, when, here, at_bytes, StateRows, costs, state}
+use Rattle.mdconstructs_text.specs.Bytes.{is_less_than, is_greater_than, is_colon, is_scheme_mark, is_space, has_byte_at}
+use Rattle.mdconstructs_text.specs.Construct.{Found, Grammar, Construct, tried}
+use Rattle.mdconstructs_text.specs.Parts.{span, leaf}
+use Rattle.mdconstructs_text.specs.TextBytes.{TextByte, line_feed, less, greater, colon, letter, digit, mark, blank, is_less_class}
+use Rattle.mdconstructs_text.specs.TextCosts.{by_left}
+use Rattle.mdconstructs_text.specs.TextSizes.{size_b_is, size_b_grows}
+
+-- An autolink, with the number of bytes between `<` and `>`. Its events: its markers, and its URI
+abbrev pub autolink : (inside : ℕ) → Found
+autolink inside = record {
+  size = inside + 2;
+  events = λ bytes seats.
+      span bytes Autolink seats
+      (leaf bytes AutolinkMarker (take 1 seats)
+      ++ (leaf bytes AutolinkProtocol (between 1 (1 + inside) seats) ++ leaf bytes AutolinkMarker (drop (1 + inside) seats)));
+}
+
+-- the characters of a scheme: ASCII letters, digits, `+`, `.` and `-`
+abbrev pub is_scheme_byte : ℕ → Bool
+is_scheme_byte byte = is_ascii_alphanumeric byte || is_scheme_mark byte
+
+-- the most characters that a scheme has: the constant AUTOLINK_SCHEME_SIZE_MAX
+abbrev pub scheme_size_max : ℕ
+scheme_size_max = 32
+
+-- Scheme: 2 to 32 of these characters; the first is an ASCII letter
+abbrev pub is_scheme : List ℕ → Bool
+is_scheme name = nat_le 2 (length name) && (nat_le (length name) scheme_size_max && (has_byte_at name 0 is_ascii_alphabetic && list_all is_scheme_byte name))
+
+-- the characters of an absolute URI after its scheme and colon: all but ASCII control characters, space, `<` and `>`. Bytes from 128 on are
+-- no ASCII control characters, so each character beyond ASCII is allowed.
+abbrev pub is_allowed : ℕ → Bool
+is_allowed byte = not (is_ascii_control byte || (is_space byte || (is_less_than byte || is_greater_than byte)))
+
+-- Absolute URI: a scheme, a colon, and zero or more such characters; how many bytes it has
+abbrev pub uri : List ℕ → Option ℕ
+uri text =
+    let n = prefix_len is_scheme_byte text in
+    cond (is_scheme (take n text) && has_byte_at text n is_colon) (Some (n + 1 + prefix_len is_allowed (drop (n + 1) text))) None
+
+-- an autolink around an absolute URI of this many bytes: `>` follows it
+abbrev pub autolink_to : List ℕ → Option ℕ → Option Found
+autolink_to text None = None
+autolink_to text (Some n) = cond (has_byte_at text (n + 1) is_greater_than) (Some (autolink n)) None
+
+-- URI autolink: `<`, an absolute URI, and `>`
+abbrev pub autolink_at : List ℕ → Option Found
+autolink_at text = cond (has_byte_at text 0 is_less_than) (autolink_to text (uri (drop 1 text))) None
+
+-- what autolinks are
+abbrev pub autolink_grammar : Grammar Found
+autolink_grammar = record { first = is_less_than; on = λ on. on.autolink; front = autolink_at }
+
+-- the options have autolinks on
+abbrev pub autolinks_are_on : Given → Sight → Configuration Unit Unit → Bool
+autolinks_are_on g s k = g.options.constructs.autolink
+
+-- a scheme has 2 characters or more
+abbrev pub has_scheme : Given → Sight → Configuration Unit Unit → Bool
+has_scheme g s k = nat_le 2 k.local.tokenize_state.size_b
+
+-- a scheme has room for one more character
+abbrev pub has_room : Given → Sight → Configuration Unit Unit → Bool
+has_room g s k = nat_lt k.local.tokenize_state.size_b scheme_size_max
+
+-- Autolink: it begins with `<`
+abbrev pub autolink_start_rows : (previous current : Option TextByte) → Rows Unit Unit
+autolink_start_rows _ _ = row (enter Autolink ∷ enter AutolinkMarker ∷ consume ∷ exit AutolinkMarker ∷ enter AutolinkProtocol ∷ []) (Next AutolinkOpen)
+
+-- its state: it is called only at `<`, and no span is open yet
+abbrev pub autolink_start : StateRows TextByte Unit Unit
+autolink_start =
+    tried (record (state AutolinkStart autolink_start_rows [] (costs (by_left (λ n. n + 1)))) { called = at_bytes is_less_class })
+
+-- its scheme begins with an ASCII letter
+abbrev pub autolink_open_rows : (previous current : Option TextByte) → Rows Unit Unit
+autolink_open_rows _ (Some letter) = row (write (size_b_is 1) ∷ consume ∷ []) (Next AutolinkSchemeInsideOrEmailAtext)
+autolink_open_rows _ _ = row [] Nok
+
+-- its state: an autolink and its URI are open
+abbrev pub autolink_open : StateRows TextByte Unit Unit
+autolink_open =
+    tried (record (state AutolinkOpen autolink_open_rows (Autolink ∷ AutolinkProtocol ∷ []) (costs (by_left (λ n. n + 1)))) { begun = here })
+
+-- a scheme of fewer than 32 characters may have one more
+abbrev pub scheme_goes_on : Rows Unit Unit
+scheme_goes_on = when has_room (row (write size_b_grows ∷ consume ∷ []) (Next AutolinkSchemeInsideOrEmailAtext)) (row [] Nok)
+
+-- its scheme is read, up to the colon
+abbrev pub autolink_scheme_rows : (previous current : Option TextByte) → Rows Unit Unit
+autolink_scheme_rows _ (Some colon) = when has_scheme (row (consume ∷ []) (Next AutolinkUrlInside)) (row [] Nok)
+autolink_scheme_rows _ (Some letter) = scheme_goes_on
+autolink_scheme_rows _ (Some digit) = scheme_goes_on
+autolink_scheme_rows _ (Some mark) = scheme_goes_on
+autolink_scheme_rows _ _ = row [] Nok
+
+-- its state: an autolink and its URI are open
+abbrev pub autolink_scheme : StateRows TextByte Unit Unit
+autolink_scheme =
+    tried (state AutolinkSchemeInsideOrEmailAtext autolink_scheme_rows (Autolink ∷ AutolinkProtocol ∷ []) (costs (by_left (λ n. n + 1))))
+
+-- the rest of its URI is read, up to `>`
+abbrev pub autolink_url_rows : (previous current : Option TextByte) → Rows Unit Unit
+autolink_url_rows _ None = row [] Nok
+autolink_url_rows _ (Some greater) = row (exit AutolinkProtocol ∷ enter AutolinkMarker ∷ consume ∷ exit AutolinkMarker ∷ exit Autolink ∷ []) Ok
+autolink_url_rows _ (Some line_feed) = row [] Nok
+autolink_url_rows _ (Some blank) = row [] Nok
+autolink_url_rows _ (Some less) = row [] Nok
+autolink_url_rows _ (Some _) = row (consume ∷ []) (Next AutolinkUrlInside)
+
+-- its state: an autolink and its URI are open
+abbrev pub autolink_url : StateRows TextByte Unit Unit
+autolink_url =
+    tried (state AutolinkUrlInside autolink_url_rows (Autolink ∷ AutolinkProtocol ∷ []) (costs (by_left (λ n. n + 1))))
+
+-- How autolinks are read
+abbrev pub autolinks : Construct Found TextByte Unit Unit
+autolinks = record {
+  grammar = autolink_grammar;
+  begins = is_less_class;
+  start = AutolinkStart;
+  otherwise = TextBeforeData;
+  states = autolink_start ∷ autolink_open ∷ autolink_scheme ∷ autolink_url ∷ [];
+  begun = λ name w. name.number == AutolinkStart.number;
+  follows = λ name. false;
+}

@@ -1,0 +1,179 @@
+-- Code spans: what they are, with no states; and the part of a table that reads them.
+use Rattle.std.specs.Prelude.{ℕ, ◌+◌, ◌-◌, ◌*◌, ◌==◌, ◌&&◌, ◌||◌, not, Bool, cond, List, [], ◌∷◌, ◌++◌, take, drop, length, Option, Some, None, find, option_map}
+use Rattle.std.specs.List.{between, flat_map, range_with_len}
+use Rattle.markdown_base.specs.declared.event.Name.TheVariants.{LineEnding, CodeText, CodeTextSequence, CodeTextData}
+use Rattle.markdown_base.specs.declared.state.Name.{Name}
+use Rattle.markdown_base.specs.declared.state.State.TheVariants.{Next, Retry, Ok, Nok}
+use Rattle.markdown_base.specs.declared.state.TheConstants.Name.{TextBeforeData, RawTextStart, RawTextSequenceOpen, RawTextBetween, RawTextData, RawTextSequenceClose, RawFlowAfter, RawFlowBeforeContentChunk, RawFlowContentChunk}
+use Rattle.markdown_base.specs.Virtual.{Seat}
+use Rattle.markdown_tokenizer.specs.declared.waiting.AttemptKind.TheVariants.{Attempt}
+use Rattle.markdown_tokenizer.specs.Text.{Given}
+use Rattle.markdown_tokenizer.specs.Configuration.{Configuration}
+use Rattle.markdown_tokenizer.specs.Sight.{Sight}
+use Rattle.mdconstructs_tables.specs.Rows.{enter, exit, consume, write, choose, Rows, row, when, at_byte, at_bytes, StateRows, costs, state}
+use Rattle.mdconstructs_text.specs.Bytes.{is_line_feed, is_backtick, backticks, has_byte_at, ends_with}
+use Rattle.mdconstructs_text.specs.Construct.{Found, Grammar, Construct, tried}
+use Rattle.mdconstructs_text.specs.Parts.{Part, part_length, part_at, part_events, cut, span, leaf}
+use Rattle.mdconstructs_text.specs.TextBytes.{TextByte, line_feed, backtick, is_tick, ends_code_data, is_backtick_class}
+use Rattle.mdconstructs_text.specs.TextCosts.{left, ticks, waits_at, by_left, at_tick}
+use Rattle.mdconstructs_text.specs.TextSizes.{size_b_is, size_c_is, size_b_grows, size_c_grows}
+
+-- the bytes that end data in a code span
+abbrev pub is_backtick_or_line_feed : ℕ → Bool
+is_backtick_or_line_feed byte = is_line_feed byte || is_backtick byte
+
+-- the pieces inside a code span: line endings, and the rest as plain text
+abbrev pub pieces : List Seat → List (Part × List Seat)
+pieces seats = cut (part_at is_backtick_or_line_feed) part_length (length seats) seats
+
+-- A code span, with the length of its two backtick strings and of the bytes between them. Its events: its backtick strings, and its line
+-- endings and data between them
+abbrev pub code_span : (backticks inside : ℕ) → Found
+code_span backticks inside = record {
+  size = backticks + inside + backticks;
+  events = λ bytes seats.
+      span bytes CodeText seats
+      (leaf bytes CodeTextSequence (take backticks seats)
+      ++ (flat_map (part_events bytes CodeTextData) (pieces (between backticks (backticks + inside) seats))
+      ++ leaf bytes CodeTextSequence (drop (backticks + inside) seats)));
+}
+
+-- Backtick string: at p there are exactly k backticks, neither preceded nor followed by a backtick
+abbrev pub is_backtick_string : (text : List ℕ) → (k p : ℕ) → Bool
+is_backtick_string text k p = not (ends_with (take p text) is_backtick) && (backticks (drop p text) == k)
+
+-- how many bytes are before the first backtick string of k backticks
+abbrev pub before_backtick_string : (k : ℕ) → List ℕ → Option ℕ
+before_backtick_string k text = find (is_backtick_string text k) (range_with_len 0 (length text))
+
+-- Code span: it begins with a backtick string and ends with the next backtick string of equal length. Backslash escapes do not work in it.
+abbrev pub code_span_at : List ℕ → Option Found
+code_span_at text =
+    let opening = backticks text in
+    cond (has_byte_at text 0 is_backtick) (option_map (code_span opening) (before_backtick_string opening (drop opening text))) None
+
+-- what code spans are
+abbrev pub code_span_grammar : Grammar Found
+code_span_grammar = record { first = is_backtick; on = λ on. on.code_text; front = code_span_at }
+
+-- the options have code spans on
+abbrev pub code_spans_are_on : Given → Sight → Configuration Unit Unit → Bool
+code_spans_are_on g s k = g.options.constructs.code_text
+
+-- two backtick strings have equal length
+abbrev pub sizes_are_equal : Given → Sight → Configuration Unit Unit → Bool
+sizes_are_equal g s k = k.local.tokenize_state.size_c == k.local.tokenize_state.size_b
+
+-- a line ending is read, and then the state of this name is next
+abbrev pub line_ending_then : Name → Rows Unit Unit
+line_ending_then name = row (enter LineEnding ∷ consume ∷ exit LineEnding ∷ []) (Next name)
+
+-- Code span: it begins at a backtick
+abbrev pub raw_text_start_rows : (previous current : Option TextByte) → Rows Unit Unit
+raw_text_start_rows _ _ = row (enter CodeText ∷ enter CodeTextSequence ∷ write (size_b_is 0) ∷ []) (Retry RawTextSequenceOpen)
+
+-- its state: it is called only at a backtick, and no span is open yet
+abbrev pub raw_text_start : StateRows TextByte Unit Unit
+raw_text_start =
+    tried (record (state RawTextStart raw_text_start_rows [] (costs (by_left (λ n. 7 * n - 3)))) { called = at_bytes is_backtick_class })
+
+-- its opening backtick string is read
+abbrev pub raw_text_sequence_open_rows : (previous current : Option TextByte) → Rows Unit Unit
+raw_text_sequence_open_rows _ (Some backtick) = row (write size_b_grows ∷ consume ∷ []) (Next RawTextSequenceOpen)
+raw_text_sequence_open_rows _ _ = row (exit CodeTextSequence ∷ []) (Retry RawTextBetween)
+
+-- its state: a code span and its sequence are open
+abbrev pub raw_text_sequence_open : StateRows TextByte Unit Unit
+raw_text_sequence_open =
+    tried (record (state RawTextSequenceOpen raw_text_sequence_open_rows (CodeText ∷ CodeTextSequence ∷ [])
+    (costs (at_tick (λ n. 7 * n - 4) (λ n. 7 * n + 2)))) { begun = at_byte is_backtick_class })
+
+-- in it a line ending, data, or a backtick string that may close it is read
+abbrev pub raw_text_between_rows : (previous current : Option TextByte) → Rows Unit Unit
+raw_text_between_rows _ None = row [] Nok
+raw_text_between_rows _ (Some line_feed) = line_ending_then RawTextBetween
+raw_text_between_rows _ (Some backtick) =
+    row (choose Attempt (Next RawFlowAfter) (Next RawFlowBeforeContentChunk) ∷ enter CodeTextSequence ∷ write (size_c_is 0) ∷ []) (Retry RawTextSequenceClose)
+raw_text_between_rows _ (Some _) = row (enter CodeTextData ∷ []) (Retry RawTextData)
+
+-- its state: a code span is open
+abbrev pub raw_text_between : StateRows TextByte Unit Unit
+raw_text_between =
+    tried (state RawTextBetween raw_text_between_rows (CodeText ∷ []) (costs (by_left (λ n. 7 * n + 1))))
+
+-- data in it ends at a line ending, at a backtick, or at the end
+abbrev pub raw_text_data_rows : (previous current : Option TextByte) → Rows Unit Unit
+raw_text_data_rows _ None = row (exit CodeTextData ∷ []) (Retry RawTextBetween)
+raw_text_data_rows _ (Some line_feed) = row (exit CodeTextData ∷ []) (Retry RawTextBetween)
+raw_text_data_rows _ (Some backtick) = row (exit CodeTextData ∷ []) (Retry RawTextBetween)
+raw_text_data_rows _ (Some _) = row (consume ∷ []) (Next RawTextData)
+
+-- the classes of the bytes of data in a code span
+abbrev pub is_code_data : TextByte → Bool
+is_code_data w = not (ends_code_data (Some w))
+
+-- its state: a code span and its data are open
+abbrev pub raw_text_data : StateRows TextByte Unit Unit
+raw_text_data =
+    tried (record (state RawTextData raw_text_data_rows (CodeText ∷ CodeTextData ∷ [])
+    (costs (λ text p. cond (ends_code_data (waits_at text p)) (7 * left text p + 2) (7 * left text p - 4)))) { begun = at_byte is_code_data })
+
+-- a backtick string closes it if it is as long as the opening one
+abbrev pub raw_text_sequence_close_rows : (previous current : Option TextByte) → Rows Unit Unit
+raw_text_sequence_close_rows _ (Some backtick) = row (write size_c_grows ∷ consume ∷ []) (Next RawTextSequenceClose)
+raw_text_sequence_close_rows _ _ = when sizes_are_equal (row (exit CodeTextSequence ∷ []) Ok) (row [] Nok)
+
+-- its state: a sequence is open
+abbrev pub raw_text_sequence_close : StateRows TextByte Unit Unit
+raw_text_sequence_close =
+    tried (record (state RawTextSequenceClose raw_text_sequence_close_rows (CodeTextSequence ∷ [])
+    (costs (λ text p. ticks text p + 1))) { begun = at_byte is_backtick_class })
+
+-- after that backtick string the code span ends
+abbrev pub raw_flow_after_rows : (previous current : Option TextByte) → Rows Unit Unit
+raw_flow_after_rows _ _ = row (exit CodeText ∷ []) Ok
+
+-- its state: a code span is open
+abbrev pub raw_flow_after : StateRows TextByte Unit Unit
+raw_flow_after =
+    tried (state RawFlowAfter raw_flow_after_rows (CodeText ∷ []) (costs (by_left (λ n. 1))))
+
+-- a backtick string of another length is data
+abbrev pub raw_flow_before_content_chunk_rows : (previous current : Option TextByte) → Rows Unit Unit
+raw_flow_before_content_chunk_rows _ _ = row (enter CodeTextData ∷ []) (Retry RawFlowContentChunk)
+
+-- its state: it is called only at a backtick, and a code span is open
+abbrev pub raw_flow_before_content_chunk : StateRows TextByte Unit Unit
+raw_flow_before_content_chunk =
+    tried (record (state RawFlowBeforeContentChunk raw_flow_before_content_chunk_rows (CodeText ∷ [])
+    (costs (λ text p. 7 * left text p - 6 * ticks text p + 4))) { called = at_bytes is_backtick_class })
+
+-- that backtick string is read whole
+abbrev pub raw_flow_content_chunk_rows : (previous current : Option TextByte) → Rows Unit Unit
+raw_flow_content_chunk_rows _ (Some backtick) = row (consume ∷ []) (Next RawFlowContentChunk)
+raw_flow_content_chunk_rows _ _ = row [] (Retry RawTextData)
+
+-- its state: a code span and its data are open
+abbrev pub raw_flow_content_chunk : StateRows TextByte Unit Unit
+raw_flow_content_chunk =
+    tried (record (state RawFlowContentChunk raw_flow_content_chunk_rows (CodeText ∷ CodeTextData ∷ [])
+    (costs (λ text p. 7 * left text p - 6 * ticks text p + 3))) { begun = at_byte is_backtick_class })
+
+-- its states that are called only if it is tried: at a backtick
+abbrev pub code_span_begun : Name → Option TextByte → Bool
+code_span_begun name w =
+    is_tick w && ((name.number == RawTextStart.number) || ((name.number == RawTextSequenceOpen.number) || (name.number == RawTextSequenceClose.number)))
+
+-- How code spans are read
+abbrev pub code_spans : Construct Found TextByte Unit Unit
+code_spans = record {
+  grammar = code_span_grammar;
+  begins = is_backtick_class;
+  start = RawTextStart;
+  otherwise = TextBeforeData;
+  states =
+      raw_text_start ∷ raw_text_sequence_open ∷ raw_text_between ∷ raw_text_data ∷ raw_text_sequence_close ∷ raw_flow_after
+      ∷ raw_flow_before_content_chunk ∷ raw_flow_content_chunk ∷ [];
+  begun = code_span_begun;
+  follows = λ name. name.number == RawFlowAfter.number;
+}

@@ -1,0 +1,75 @@
+-- Backslash escapes: what they are, with no states; and the part of a table that reads them.
+use Rattle.std.specs.Prelude.{ℕ, ◌+◌, ◌==◌, ◌&&◌, Bool, cond, false, List, [], ◌∷◌, ◌++◌, take, drop, Option, Some, None}
+use Rattle.std.specs.Char.{is_ascii_punctuation}
+use Rattle.markdown_base.specs.declared.event.Name.TheVariants.{CharacterEscape, CharacterEscapeMarker, CharacterEscapeValue}
+use Rattle.markdown_base.specs.declared.state.State.TheVariants.{Next, Ok, Nok}
+use Rattle.markdown_base.specs.declared.state.TheConstants.Name.{TextBeforeData, CharacterEscapeStart, CharacterEscapeInside}
+use Rattle.markdown_tokenizer.specs.Text.{Given}
+use Rattle.markdown_tokenizer.specs.Configuration.{Configuration}
+use Rattle.markdown_tokenizer.specs.Sight.{Sight}
+use Rattle.mdconstructs_tables.specs.Rows.{enter, exit, consume, Rows, row, at_bytes, StateRows, costs, state}
+use Rattle.mdconstructs_text.specs.Bytes.{is_backslash, has_byte_at}
+use Rattle.mdconstructs_text.specs.Construct.{Found, Grammar, Construct, tried}
+use Rattle.mdconstructs_text.specs.Parts.{span, leaf}
+use Rattle.mdconstructs_text.specs.TextBytes.{TextByte, backtick, less, greater, backslash, colon, mark, punctuation, is_backslash_class}
+use Rattle.mdconstructs_text.specs.TextCosts.{by_left}
+
+-- A backslash escape. Its events: its marker, and the character that is escaped
+abbrev pub escape : Found
+escape = record {
+  size = 2;
+  events = λ bytes seats. span bytes CharacterEscape seats (leaf bytes CharacterEscapeMarker (take 1 seats) ++ leaf bytes CharacterEscapeValue (drop 1 seats));
+}
+
+-- Backslash escape: a backslash before an ASCII punctuation character
+abbrev pub escape_at : List ℕ → Option Found
+escape_at text = cond (has_byte_at text 0 is_backslash && has_byte_at text 1 is_ascii_punctuation) (Some escape) None
+
+-- what backslash escapes are
+abbrev pub escape_grammar : Grammar Found
+escape_grammar = record { first = is_backslash; on = λ on. on.character_escape; front = escape_at }
+
+-- the options have backslash escapes on
+abbrev pub escapes_are_on : Given → Sight → Configuration Unit Unit → Bool
+escapes_are_on g s k = g.options.constructs.character_escape
+
+-- Backslash escape: a backslash
+abbrev pub escape_start_rows : (previous current : Option TextByte) → Rows Unit Unit
+escape_start_rows _ _ = row (enter CharacterEscape ∷ enter CharacterEscapeMarker ∷ consume ∷ exit CharacterEscapeMarker ∷ []) (Next CharacterEscapeInside)
+
+-- its state: it is called only at a backslash, and no span is open yet
+abbrev pub escape_start : StateRows TextByte Unit Unit
+escape_start =
+    tried (record (state CharacterEscapeStart escape_start_rows [] (costs (by_left (λ n. n + 1)))) { called = at_bytes is_backslash_class })
+
+-- the character that is escaped
+abbrev pub escaped : Rows Unit Unit
+escaped = row (enter CharacterEscapeValue ∷ consume ∷ exit CharacterEscapeValue ∷ exit CharacterEscape ∷ []) Ok
+
+-- an ASCII punctuation character follows the backslash
+abbrev pub escape_inside_rows : (previous current : Option TextByte) → Rows Unit Unit
+escape_inside_rows _ (Some backtick) = escaped
+escape_inside_rows _ (Some less) = escaped
+escape_inside_rows _ (Some greater) = escaped
+escape_inside_rows _ (Some backslash) = escaped
+escape_inside_rows _ (Some colon) = escaped
+escape_inside_rows _ (Some mark) = escaped
+escape_inside_rows _ (Some punctuation) = escaped
+escape_inside_rows _ _ = row [] Nok
+
+-- its state: a backslash escape is open
+abbrev pub escape_inside : StateRows TextByte Unit Unit
+escape_inside =
+    tried (state CharacterEscapeInside escape_inside_rows (CharacterEscape ∷ []) (costs (by_left (λ n. n + 1))))
+
+-- How backslash escapes are read
+abbrev pub escapes : Construct Found TextByte Unit Unit
+escapes = record {
+  grammar = escape_grammar;
+  begins = is_backslash_class;
+  start = CharacterEscapeStart;
+  otherwise = TextBeforeData;
+  states = escape_start ∷ escape_inside ∷ [];
+  begun = λ name w. name.number == CharacterEscapeStart.number;
+  follows = λ name. false;
+}
