@@ -2,3 +2,4 @@
 pub mod Starved
 pub mod Looping
 pub mod Replacing
+pub mod Marks

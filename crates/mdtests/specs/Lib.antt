@@ -4,3 +4,4 @@ pub mod Starved
 pub mod Laws
 pub mod Looping
 pub mod Replacing
+pub mod Marks

@@ -1,11 +1,13 @@
 //! A machine that goes round through an attempt that saves nothing, as constructs of a line do: its calls are paid from place to place.
 
 ghost use Rattle.std.specs.Prelude.{◌+◌, ◌*◌, IfOk};
+ghost use Rattle.markdown.specs.Lawful.{IsLawful};
 ghost use Rattle.markdown.specs.StateConstants.Name.{TextStart};
 ghost use Rattle.mdconstructs.specs.Costs.{StartsAt};
 ghost use Rattle.mdconstructs.specs.RowInvariant.{DoesAll, IsCallable, step_in};
 ghost use Rattle.mdconstructs.specs.Tables.{line_byte};
 ghost use Rattle.mdtests.specs.Looping.{data_inside, looping_rules, text_start};
+ghost use Rattle.mdtests.specs.Marks.{marks_rules};
 
 use crate::machines::lines_by;
 use crate::shown::assert_shown;
@@ -85,6 +87,11 @@ fn data_inside<'a>(t: &mut Tokenizer<'a, Looping>) -> Result<State, AllocError>
 /// It takes two calls for each byte, and one for the end.
 pub fn looping_takes_two_calls_a_byte()
     ensures { StartsAt looping_rules TextStart (λ n. 2 * n + 1) }
+{}
+
+/// Choices may end late also where a look is among them, and an attempt that saves nothing: a table with both is lawful.
+pub fn looks_and_rounds_may_be_late()
+    ensures { (g : _) → IsLawful g (marks_rules g) }
 {}
 
 /// It comes to the end of each document, however that is cut.
