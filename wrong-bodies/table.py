@@ -1,9 +1,11 @@
 #!/usr/bin/env python3
 """Reads, checks and updates LIST, the table of all wrong bodies. Its head says what the columns are.
 
-usage: wrong-bodies/table.py           updates LIST: a line for each new edit, none for one that is gone. Who tries a new edit of
-                                       by-tests is written by hand, in place of the question mark
-       wrong-bodies/table.py --check   prints what does not agree, and ends with 1 if something does not. tools/docs.py does so too
+usage: wrong-bodies/table.py             updates LIST: a line for each new edit, none for one that is gone. Who tries a new edit of
+                                         by-tests, and the promise that a new edit of the gate breaks, are written by hand, in
+                                         place of the question mark
+       wrong-bodies/table.py --check     prints what does not agree, and ends with 1 if something does not. tools/docs.py does so too
+       wrong-bodies/table.py --promises  prints the promises that the gate's edits break, each with its edits
 """
 
 import collections
@@ -18,7 +20,6 @@ import sys
 HERE = os.path.dirname(os.path.realpath(__file__))
 TOP = os.path.dirname(HERE)
 LIST = f"{HERE}/LIST"
-GATE = f"{TOP}/docs/maintaining/GATE.md"
 COLUMNS = ("CRATE", "FUNCTION", "WHAT IS WRONG", "TRIED BY", "COMMIT", "PROMISE")
 HEAD = re.compile(r"( *)(pub )?(?:pub\([^)]*\) )?(?:const |unsafe |extern \"C\" )*fn (\w+)")
 BLOCK = re.compile(r"(?:unsafe )?(impl|trait)\b(.*)")
@@ -165,15 +166,12 @@ def names(place):
 
 
 def promises():
-    """Returns the promises of the gate's page: a list of promise, crate and edit."""
-    rows = re.findall(r"^\| ([^|]+) \| `(\w+)` \| (`[\w-]+-[^|]*) \|$", open(GATE, encoding="utf-8").read(), flags=re.M)
-    return [(promise, crate, edit) for promise, crate, edits in rows for edit in re.findall(r"`([^`]+)`", edits)]
-
-
-def promised(row, table):
-    """Returns the promises whose edit a row is."""
-    name = f"{row.function}-{row.what}"
-    return [promise for promise, crate, edit in table if crate == row.crate and (name == edit or name.endswith("." + edit))]
+    """Returns the edits of the gate by the promise that they break."""
+    found = {}
+    for row in read()[1]:
+        if row.who == "gate":
+            found.setdefault(row.promise, []).append(f"{row.crate} {row.function}-{row.what}")
+    return found
 
 
 def files():
@@ -207,15 +205,13 @@ def is_tried(row):
     return os.path.isfile(source) and bool(re.search(rf"#\[test\]\n *fn {test}\(", open(source, encoding="utf-8").read()))
 
 
-def stands(row, found, is_code, promise):
-    """Holds a row against what its edit turns, and against the promises of its edit on the gate's page."""
+def stands(row, found, is_code):
+    """Holds a row against what its edit turns: it names a promise if it is in the gate, and only then."""
     name, path = f"{row.function}-{row.what}", edit_of(row)
     if is_code and not any(row.function in names(it) for it in found):
         yield f"{path}: it turns {', '.join('.'.join(filter(None, (it.module, it.owner, it.name))) for it in found)}, and not what its name says"
-    if (row.who == "gate") != bool(promise):
-        yield f"{path}: an edit is in the gate if it breaks a promise of the gate's page, and only then"
-    elif row.promise not in (promise or ["-"]):
-        yield f"wrong-bodies/LIST: {name} has not the promise that the gate's page has: wrong-bodies/table.py"
+    if row.promise == "?" or (row.who == "gate") == (row.promise == "-"):
+        yield f"wrong-bodies/LIST: {name}: an edit is in the gate if it breaks a promise that has a name, and only then"
     if not is_tried(row):
         yield f"wrong-bodies/LIST: no test {row.who}, which should reject {name}"
 
@@ -240,7 +236,7 @@ def uncovered(seen, free):
 def disagreements():
     """Returns what of LIST, of the edits, of the sources and of the pages does not agree."""
     head, rows = read()
-    table, seen, kept = promises(), set(), set()
+    seen, kept = set(), set()
     failed = list(listed(rows))
     for row in rows:
         if not os.path.isfile(f"{TOP}/{edit_of(row)}"):
@@ -250,22 +246,19 @@ def disagreements():
             failed.append(f"{edit_of(row)}: {made}")
             continue
         found, is_code = turned(made)
-        promise = promised(row, table)
-        failed += stands(row, found, is_code, promise)
+        failed += stands(row, found, is_code)
         if is_code:
             seen |= {(row.crate, it) for it in found}
-            kept |= set(promise)
-    failed += [f"docs/maintaining/GATE.md: no edit of a body breaks the promise: {it}" for it in dict.fromkeys(it for it, _, _ in table) if it not in kept]
-    gate = [row for row in rows if row.who == "gate"]
-    failed += [f"docs/maintaining/GATE.md: no edit {it[1]}: {it[2]}" for it in table if not any(promised(row, [it]) for row in gate)]
+            kept.add(row.promise)
+    failed += [f"wrong-bodies/LIST: no edit of code breaks the promise: {it}" for it in promises() if it not in kept]
     return failed + list(uncovered(seen, without(head)))
 
 
 def update():
-    """Brings LIST up to the files and to the gate's page. An edit that changed has no commit."""
+    """Brings LIST up to the files. An edit that changed has no commit."""
     head, rows = read()
-    table = promises()
     old = {(row.crate, row.function, row.what): row for row in rows}
+    moved = {(row.crate, row.what): row.promise for row in rows}
     new = []
     for crate, name, kind in files():
         function, what = name.split("-", 1)
@@ -273,7 +266,8 @@ def update():
         who = kind if kind == "gate" else row.who if row.who not in ("gate", "?") else {"prover": "prover", "tests": "?"}[kind]
         row = row._replace(who=who)
         row = row._replace(commit=row.commit if tried_at(row) else "-")
-        new.append(row._replace(promise=" ".join(promised(row, table)[:1]) or "-" if kind == "gate" else "-"))
+        promise = row.promise if row.promise != "-" else moved.get((crate, what), "-")
+        new.append(row._replace(promise="-" if kind != "gate" else "?" if promise == "-" else promise))
     write(head, new)
 
 
@@ -289,6 +283,9 @@ if __name__ == "__main__":
         found = disagreements()
         print("\n".join(found), end="\n" if found else "")
         sys.exit(1 if found else 0)
-    if sys.argv[1:]:
+    if sys.argv[1:] == ["--promises"]:
+        print("\n".join(f"{promise}: {', '.join(edits)}" for promise, edits in promises().items()))
+    elif sys.argv[1:]:
         sys.exit(__doc__)
-    update()
+    else:
+        update()
