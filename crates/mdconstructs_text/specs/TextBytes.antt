@@ -38,18 +38,21 @@ ends_code_data (Some line_feed) = true
 ends_code_data (Some backtick) = true
 ends_code_data _ = false
 
--- the class of a line feed, of a backtick, of `<` and of a backslash
+-- the class of a line feed
 abbrev pub is_line_feed_class : TextByte → Bool
 is_line_feed_class line_feed = true
 is_line_feed_class _ = false
 
+-- the class of a backtick
 abbrev pub is_backtick_class : TextByte → Bool
 is_backtick_class w = is_tick (Some w)
 
+-- the class of `<`
 abbrev pub is_less_class : TextByte → Bool
 is_less_class less = true
 is_less_class _ = false
 
+-- the class of a backslash
 abbrev pub is_backslash_class : TextByte → Bool
 is_backslash_class backslash = true
 is_backslash_class _ = false

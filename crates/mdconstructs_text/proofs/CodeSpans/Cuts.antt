@@ -44,7 +44,7 @@ module _ (bytes : List ℕ) where
 module _ (bytes : List ℕ) (P : List Event → Type 0) (kept : IsKeptBySpans bytes P) where
   inside-built : (k : ℕ) (o : Option ℕ) → OfOption (IsBuilt bytes P kept) (option_map (code_span k) o)
   inside-built k None = tt
-  inside-built k (Some n) seats =
+  inside-built k (Some n) = λ seats.
       let inner = pieces (between k (k + n) seats) in
       kept.around CodeText seats _ refl
       (three bytes P kept CodeTextSequence CodeTextSequence (take k seats) (drop (k + n) seats) (flat_map (part_events bytes CodeTextData) inner)

@@ -38,7 +38,7 @@ module _ (bytes : List ℕ) where
 
   leaf-alone : (name : Name) (seats : List Seat) → HaveNoLinks (leaf bytes name seats)
   leaf-alone name [] = tt
-  leaf-alone name (s ∷ ss) = (refl, refl, tt)
+  leaf-alone name (s ∷ ss) = (refl, (refl, tt))
 
   span-alone : (name : Name) (seats : List Seat) (es : List Event) → is_void name ≡ false → HaveNoLinks es → HaveNoLinks (span bytes name seats es)
   span-alone name [] es other h = h
