@@ -1,3 +1,4 @@
+pub use Rattle.mdconstructs_tables.specs.Cases
 pub use Rattle.mdconstructs_tables.specs.Chunks
 pub use Rattle.mdconstructs_tables.specs.Fitting
 pub use Rattle.mdconstructs_tables.specs.Joined

@@ -1,3 +1,4 @@
+pub mod Cases
 pub mod CostNumbers
 pub mod GrowingTexts
 pub mod KeptByReading

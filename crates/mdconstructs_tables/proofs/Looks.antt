@@ -2,3 +2,4 @@
 pub mod Left
 pub mod Quiet
 pub mod Scans
+pub mod Tests

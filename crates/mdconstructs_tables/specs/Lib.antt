@@ -1,3 +1,4 @@
+pub mod Cases
 pub mod Chunks
 pub mod Fitting
 pub mod Joined

@@ -1,6 +1,6 @@
 //! Laws about tables. Each is a function that does nothing; its contract is the law.
 
-ghost use Rattle.std.specs.Prelude.{Bool, List, Option};
+ghost use Rattle.std.specs.Prelude.{ℕ, Bool, List, Option};
 ghost use Rattle.markdown_base.specs.declared.event.Event.{Event};
 ghost use Rattle.markdown_base.specs.declared.state.Name.{Name};
 ghost use Rattle.markdown_base.specs.declared.state.State.{State};
@@ -10,6 +10,7 @@ ghost use Rattle.markdown_tokenizer.specs.Lawful.{IsLawful};
 ghost use Rattle.markdown_tokenizer.specs.Plain.{plain};
 ghost use Rattle.markdown_tokenizer.specs.Sight.{Sight};
 ghost use Rattle.markdown_tokenizer.specs.Text.{Given, Text};
+ghost use Rattle.mdconstructs_tables.specs.Cases.{AreByBytes, AreOneByOne};
 ghost use Rattle.mdconstructs_tables.specs.Fitting.{IsFit};
 ghost use Rattle.mdconstructs_tables.specs.Knowledge.{IsKnownThroughout, knowing_rules};
 ghost use Rattle.mdconstructs_tables.specs.Late.{IsLate, late_rules};
@@ -19,7 +20,7 @@ ghost use Rattle.mdconstructs_tables.specs.PlainTables.{IsPlainTable};
 ghost use Rattle.mdconstructs_tables.specs.PlainWrites.{WritesPlain};
 ghost use Rattle.mdconstructs_tables.specs.Quiet.{QuietLooksEnd};
 ghost use Rattle.mdconstructs_tables.specs.RowInvariant.{table_rules};
-ghost use Rattle.mdconstructs_tables.specs.Rows.{Table};
+ghost use Rattle.mdconstructs_tables.specs.Rows.{Rows, Table};
 
 /// A table's rules are lawful on every document if the table has no misfits, its own costs are enough, and no state links
 /// or writes. They are lawful too if states write only what leaves nothing to resolve, or if choices end with `Ok` late:
@@ -83,4 +84,30 @@ pub fn tables_look_no_further<W, R, D>()
 /// So does the machine of a table that knows more than its table says.
 pub fn knowing_tables_look_no_further<K: Knowledge>()
     ensures { TestsLookNoFurther K.table → LooksNoFurther (knowing_rules K.table K.knows K.ends) }
+{}
+
+/// A property of classes of bytes and of their rows, as that a row costs no more than its state says.
+pub trait Property {
+    /// The type of classes of bytes.
+    type Class;
+
+    /// The type of resolvers.
+    type Resolver;
+
+    /// What the machine keeps about a document.
+    type Document;
+
+    ghost holds: { Self.Class → Rows Self.Resolver Self.Document → Type 0 };
+}
+
+/// If the rows of a state are given by tests of classes, a property is shown once for each case and once for the rest, however many
+/// classes there are.
+pub fn cases_are_one_by_one<P: Property>()
+    ensures { AreOneByOne P.holds }
+{}
+
+/// If each test of classes is a test of bytes, the rows of a byte are those of the first test that it passes. So what is proved of
+/// bytes names no class.
+pub fn cases_are_by_bytes<W, R, D>()
+    ensures { (class : ℕ → W) → AreByBytes R D class }
 {}
