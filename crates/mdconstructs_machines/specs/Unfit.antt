@@ -1,15 +1,15 @@
--- Tables that do not fit, each for one reason, and two that pass the test of rows and yet are not lawful. All but the last are the table of
--- lines with one thing changed.
+-- Tables that do not fit: one for each reason, and one for each other cause of a reason. And two that pass the test of rows and yet are not
+-- lawful. All but the last are the table of lines with one thing changed.
 use Rattle.std.specs.Prelude.{ℕ, ◌∷◌, [], Option, Some, None}
-use Rattle.markdown_base.specs.declared.event.Name.TheVariants.{Paragraph, LineEnding}
-use Rattle.markdown_base.specs.declared.state.TheConstants.Name.{FlowStart, ParagraphInside}
+use Rattle.markdown_base.specs.declared.event.Name.TheVariants.{Paragraph, Data, LineEnding}
+use Rattle.markdown_base.specs.declared.state.TheConstants.Name.{FlowStart, ParagraphInside, TextStart}
 use Rattle.markdown_base.specs.declared.state.State.TheVariants.{Next, Retry, Ok, Nok}
-use Rattle.markdown_tokenizer.specs.declared.waiting.AttemptKind.TheVariants.{Attempt}
+use Rattle.markdown_tokenizer.specs.declared.waiting.AttemptKind.TheVariants.{Attempt, Check}
 use Rattle.markdown_edits.specs.Edits.{edit_at, added_after}
 use Rattle.markdown_tokenizer.specs.Configuration.{Configuration, Local}
 use Rattle.markdown_tokenizer.specs.Text.{Text}
-use Rattle.mdconstructs_tables.specs.Rows.{enter, exit, consume, write, choose, Rows, row, a_choice_for_ok, calls, costs, state, Table}
-use Rattle.mdconstructs_machines.specs.Tables.{LineByte, line_ending, other, line_byte, counts}
+use Rattle.mdconstructs_tables.specs.Rows.{enter, exit, consume, write, choose, Rows, row, before, a_choice, a_choice_for_ok, at_bytes, StateRows, calls, costs, state, Table}
+use Rattle.mdconstructs_machines.specs.Tables.{LineByte, line_ending, other, line_byte, is_other, counts}
 use Rattle.mdconstructs_machines.specs.Lines.{lines, flow_start_rows, flow_start, paragraph_inside}
 
 -- lines with other rows before a line
@@ -66,6 +66,73 @@ goes_round _ (Some _) = row (choose Attempt (Next FlowStart) Nok ∷ consume ∷
 abbrev pub fails_at_line_ending : (previous current : Option LineByte) → Rows Unit Unit
 fails_at_line_ending _ (Some line_ending) = row [] Nok
 fails_at_line_ending _ _ = row [] Ok
+
+-- lines with one row before a line, whatever waits; and lines with another state in a line
+abbrev pub lines_that : Rows Unit Unit → Table LineByte Unit Unit
+lines_that r = lines_with (λ previous current. r)
+
+abbrev pub lines_inside : StateRows LineByte Unit Unit → Table LineByte Unit Unit
+lines_inside inside = record lines { states = flow_start ∷ inside ∷ [] }
+
+-- `act`: an outer span is exited before an inner one
+abbrev pub exits_outer_first : Rows Unit Unit
+exits_outer_first = row (enter Paragraph ∷ enter Data ∷ consume ∷ exit Paragraph ∷ exit Data ∷ []) (Next FlowStart)
+
+-- `act`: a span begins and ends at one place
+abbrev pub spans_nothing : Rows Unit Unit
+spans_nothing = row (enter LineEnding ∷ exit LineEnding ∷ consume ∷ []) (Next FlowStart)
+
+-- `act`: a span begins at the end of the text
+abbrev pub begins_at_the_end : Rows Unit Unit
+begins_at_the_end = row (enter Paragraph ∷ []) (Retry FlowStart)
+
+-- `act`: a span of a void name, which holds no other event, ends with one in it
+abbrev pub fills_a_void_span : Rows Unit Unit
+fills_a_void_span = row (enter LineEnding ∷ enter Data ∷ consume ∷ exit Data ∷ exit LineEnding ∷ []) (Next FlowStart)
+
+-- `act`: a choice is made where a span began
+abbrev pub tries_where_a_span_began : Rows Unit Unit
+tries_where_a_span_began = row (enter Paragraph ∷ choose Check (Next FlowStart) (Next FlowStart) ∷ []) (Retry FlowStart)
+
+-- `spans`: Ok is returned while a span is open
+abbrev pub ends_inside : Rows Unit Unit
+ends_inside = row (enter Paragraph ∷ consume ∷ []) Ok
+
+-- `choice`: a check goes on with a line inside, and its spans are not open where the check is made
+abbrev pub tries_to_go_inside : Rows Unit Unit
+tries_to_go_inside = row (choose Check (Next ParagraphInside) (Next FlowStart) ∷ []) (Retry FlowStart)
+
+-- `choice`: the state in a line needs a choice that waits, and before a line none does
+abbrev pub needy_inside : StateRows LineByte Unit Unit
+needy_inside = record paragraph_inside { needs = a_choice }
+
+-- `answer`: Retry is returned behind a byte
+abbrev pub retries_behind_a_byte : Rows Unit Unit
+retries_behind_a_byte = row (consume ∷ []) (Retry FlowStart)
+
+-- `answer`: no state has the name that is returned
+abbrev pub names_no_state : Rows Unit Unit
+names_no_state = row (consume ∷ []) (Next TextStart)
+
+-- `answer`: an open span of a void name has another event in it
+abbrev pub goes_on_in_a_full_span : Rows Unit Unit
+goes_on_in_a_full_span = row (enter Paragraph ∷ enter Data ∷ enter LineEnding ∷ consume ∷ exit LineEnding ∷ []) (Next ParagraphInside)
+
+-- `answer`: spans begin where the state in a line is called, and it says that they began before
+abbrev pub late_inside : StateRows LineByte Unit Unit
+late_inside = record paragraph_inside { begun = before }
+
+-- `answer`: the state in a line says that it is called at other bytes than line endings, and it goes on at whatever comes
+abbrev pub narrow_inside : StateRows LineByte Unit Unit
+narrow_inside = record paragraph_inside { called = at_bytes is_other }
+
+-- `unpaid`: the state before a line is called again and again at one place
+abbrev pub stays : Rows Unit Unit
+stays = row [] (Retry FlowStart)
+
+-- `start`: no state has the name that a reading starts with
+abbrev pub starts_nowhere : Table LineByte Unit Unit
+starts_nowhere = record lines { starts = TextStart ∷ [] }
 
 -- a cost that is none
 abbrev pub no_cost : Text → ℕ → ℕ

@@ -14,6 +14,9 @@ ghost use Rattle.mdconstructs_machines.specs.LineEvents.{line_events, data_event
 ghost use Rattle.mdconstructs_machines.specs.ReadAs.{IsReadAs};
 ghost use Rattle.mdconstructs_machines.specs.Tables.{line_ending, other};
 ghost use Rattle.mdconstructs_machines.specs.Unfit.{lines_with, consumes_twice, enters_no_data, gives_up, consumes_nothing, unpaid_lines, round_by, goes_round_in_place, goes_round, ends_well, fails_at_line_ending, starts_inside, uncounted_lines, editing};
+ghost use Rattle.mdconstructs_machines.specs.Unfit.{lines_that, lines_inside, exits_outer_first, spans_nothing, begins_at_the_end, fills_a_void_span, tries_where_a_span_began};
+ghost use Rattle.mdconstructs_machines.specs.Unfit.{ends_inside, tries_to_go_inside, needy_inside, retries_behind_a_byte, names_no_state, goes_on_in_a_full_span};
+ghost use Rattle.mdconstructs_machines.specs.Unfit.{late_inside, narrow_inside, stays, starts_nowhere};
 ghost use Rattle.mdconstructs_machines.specs.Lines.{lines_rules};
 ghost use Rattle.mdconstructs_machines.specs.Paragraphs.{paragraphs_rules};
 ghost use Rattle.mdconstructs_machines.specs.Peek.{peek_rules};
@@ -77,6 +80,25 @@ pub fn misfits_have_reasons()
     ensures round_and_fails { misfits (round_by goes_round fails_at_line_ending) None (Some line_ending) ≡ (ParagraphInside, choice) ∷ [] }
     ensures round { misfits (round_by goes_round ends_well) None (Some other) ≡ [] }
     ensures start { misfits starts_inside None (Some other) ≡ (ParagraphInside, start) ∷ [] }
+{}
+
+/// A reason has more causes than one. Here is a table for each of the others, with one thing changed in the table of lines.
+pub fn misfits_have_causes()
+    ensures outer_span_ends_first { misfits (lines_that exits_outer_first) None (Some other) ≡ (FlowStart, act) ∷ [] }
+    ensures span_of_no_byte { misfits (lines_that spans_nothing) None (Some other) ≡ (FlowStart, act) ∷ [] }
+    ensures span_at_the_end { misfits (lines_that begins_at_the_end) None None ≡ (FlowStart, act) ∷ [] }
+    ensures full_void_span_ends { misfits (lines_that fills_a_void_span) None (Some other) ≡ (FlowStart, act) ∷ [] }
+    ensures choice_where_a_span_began { misfits (lines_that tries_where_a_span_began) None (Some other) ≡ (FlowStart, act) ∷ [] }
+    ensures ok_in_a_span { misfits (lines_that ends_inside) None (Some other) ≡ (FlowStart, spans) ∷ [] }
+    ensures choice_of_other_spans { misfits (lines_that tries_to_go_inside) None (Some other) ≡ (FlowStart, choice) ∷ [] }
+    ensures no_choice_waits { misfits (lines_inside needy_inside) None (Some other) ≡ (FlowStart, choice) ∷ [] }
+    ensures retry_behind_a_byte { misfits (lines_that retries_behind_a_byte) None (Some other) ≡ (FlowStart, answer) ∷ [] }
+    ensures no_such_state { misfits (lines_that names_no_state) None (Some other) ≡ (FlowStart, answer) ∷ [] }
+    ensures full_void_span_stays { misfits (lines_that goes_on_in_a_full_span) None (Some other) ≡ (FlowStart, answer) ∷ [] }
+    ensures span_began_here { misfits (lines_inside late_inside) None (Some other) ≡ (FlowStart, answer) ∷ [] }
+    ensures called_at_other_bytes { misfits (lines_inside narrow_inside) None (Some other) ≡ (ParagraphInside, answer) ∷ [] }
+    ensures round_at_one_place { misfits (lines_that stays) None (Some other) ≡ (FlowStart, unpaid) ∷ [] }
+    ensures no_state_starts { misfits starts_nowhere None (Some other) ≡ (TextStart, start) ∷ [] }
 {}
 
 /// A table without misfits may be unlawful. In one table here no state says how many calls are left, and the machine's own
