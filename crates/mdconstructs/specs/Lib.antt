@@ -32,6 +32,7 @@ pub use Rattle.mdconstructs_machines.specs.Save
 pub use Rattle.mdconstructs_machines.specs.Spans
 pub use Rattle.mdconstructs_machines.specs.Tables
 pub use Rattle.mdconstructs_machines.specs.Unfit
+pub use Rattle.mdconstructs_machines.specs.WholeLooks
 pub use Rattle.mdconstructs_machines.specs.Words
 pub use Rattle.mdconstructs_machines.specs.Wrap
 pub use Rattle.mdconstructs_machines.specs.Laws

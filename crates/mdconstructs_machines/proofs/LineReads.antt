@@ -6,6 +6,7 @@ pub mod Deep
 pub mod Lines
 pub mod Peek
 pub mod Reads
+pub mod Rest
 pub mod Rows
 pub mod Save
 pub mod Steps

@@ -15,6 +15,7 @@ pub mod Save
 pub mod Spans
 pub mod Tables
 pub mod Unfit
+pub mod WholeLooks
 pub mod Words
 pub mod Wrap
 pub mod Laws

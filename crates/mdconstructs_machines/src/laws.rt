@@ -1,12 +1,13 @@
 //! Laws about the machines. Each is a function that does nothing; its contract is the law.
 
 ghost use Rattle.std.specs.Prelude.{◌≡◌, ◌+◌, ◌-◌, ◌*◌, ◌/◌, [], ◌∷◌, Some, None};
-ghost use Rattle.markdown_base.specs.declared.state.TheConstants.Name.{FlowStart, ParagraphInside, TextStart, StringStart};
+ghost use Rattle.markdown_base.specs.declared.state.TheConstants.Name.{DataInside, FlowStart, ParagraphInside, StringBefore, StringStart, TextBefore, TextStart};
 ghost use Rattle.markdown_tokenizer.specs.Alike.{LooksNoFurther};
 ghost use Rattle.mdconstructs_tables.specs.Fitting.{IsFit};
 ghost use Rattle.mdconstructs_tables.specs.Misfits.{act, spans, choice, answer, unpaid, start, misfits};
 ghost use Rattle.mdconstructs_tables.specs.PlainTables.{IsPlainTable};
 ghost use Rattle.mdconstructs_tables.specs.PlainWrites.{WritesPlain};
+ghost use Rattle.mdconstructs_tables.specs.Quiet.{loud};
 ghost use Rattle.mdconstructs_tables.specs.Refusals.{RulesRefuseNothing};
 ghost use Rattle.mdconstructs_machines.specs.Costs.{StartsAt, StartsAmong};
 ghost use Rattle.mdconstructs_machines.specs.Innermost.{AccountsForDocuments};
@@ -19,12 +20,13 @@ ghost use Rattle.mdconstructs_machines.specs.Unfit.{ends_inside, tries_to_go_ins
 ghost use Rattle.mdconstructs_machines.specs.Unfit.{late_inside, narrow_inside, stays, starts_nowhere};
 ghost use Rattle.mdconstructs_machines.specs.Lines.{lines_rules};
 ghost use Rattle.mdconstructs_machines.specs.Paragraphs.{paragraphs_rules};
-ghost use Rattle.mdconstructs_machines.specs.Peek.{peek_rules};
-ghost use Rattle.mdconstructs_machines.specs.Deep.{deep_rules};
+ghost use Rattle.mdconstructs_machines.specs.Peek.{peek, peek_rules};
+ghost use Rattle.mdconstructs_machines.specs.Deep.{deep, deep_rules};
 ghost use Rattle.mdconstructs_machines.specs.Back.{back_rules};
 ghost use Rattle.mdconstructs_machines.specs.Save.{save_rules};
 ghost use Rattle.mdconstructs_machines.specs.Words.{words_rules};
 ghost use Rattle.mdconstructs_machines.specs.Fail.{fail_rules};
+ghost use Rattle.mdconstructs_machines.specs.WholeLooks.{LooksOverTheRest};
 ghost use Rattle.mdconstructs_machines.specs.Wrap.{wrap_rules};
 
 /// With which states each machine may start, and how many calls it takes at most from each, on a text of n virtual bytes.
@@ -61,6 +63,15 @@ pub fn documents_are_read_by_lines()
     ensures deep { IsReadAs deep_rules StringStart data_events }
     ensures save { IsReadAs save_rules TextStart save_events }
     ensures back { IsReadAs back_rules TextStart back_events }
+{}
+
+/// The looks of `Peek` and of `Deep` read all that is left, and fail: one call for each byte, and one at the end. They are quiet,
+/// as the test says. A line of data is not, as its state ends a span.
+pub fn looks_read_the_rest()
+    ensures peek { LooksOverTheRest peek TextBefore }
+    ensures deep { LooksOverTheRest deep StringBefore }
+    ensures quiet { (previous current : _) → loud peek (TextBefore ∷ []) (λ name. 0) previous current ≡ [] }
+    ensures loud { loud peek (TextBefore ∷ DataInside ∷ []) (λ name. 0) None (Some line_ending) ≡ DataInside ∷ [] }
 {}
 
 /// Each virtual byte of a document is in exactly one innermost span of the events of `Lines`: its tokens account for the document.

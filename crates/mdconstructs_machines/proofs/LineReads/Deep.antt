@@ -1,20 +1,18 @@
 -- The machine that tries something at every byte fails each time, and then reads data.
 use Rattle.mdconstructs_machines.proofs.Prelude.{◌≡◌, ℕ, ◌+◌, ◌∷◌, [], List, Bool, true, false, refl, ◌∙◌, ap, Some, None, drop, drop-next, Event, Name, Next, Retry, StringStart, StringBefore, DataStart, Seat, Attempt, Byte, End, Given, Text, Configuration, Local, Choice, Step, Sight, byte_of, seat_before, whole_text, class_of, deep_rules, data_events, IsReadAs, line_byte, counts}
-use Rattle.mdconstructs_machines.specs.Deep.{string_start_rows, string_before_rows}
+use Rattle.mdconstructs_machines.specs.Deep.{deep, string_start_rows}
 use Rattle.mdconstructs_machines.proofs.LineReads.Data.{data-read}
-use Rattle.mdconstructs_machines.proofs.LineReads.Steps.{Passes, FailsAtEnd, FailsTo, goes-back, looks-on, seat-behind, EndsWith, held, shows, ended, goes-next, reads-from, leads-step, at-front}
-use Rattle.mdconstructs_machines.proofs.LineReads.Rows.{leads-row, row_step, waits_class, byte-class}
+use Rattle.mdconstructs_machines.proofs.LineReads.Rest.{deep-rest}
+use Rattle.mdconstructs_machines.proofs.LineReads.Steps.{FailsTo, goes-back, look-fails, seat-behind, EndsWith, held, shows, ended, goes-next, reads-from, leads-step, at-front}
+use Rattle.mdconstructs_machines.proofs.LineReads.Rows.{row_step, waits_class, byte-class}
 
 module _ (g : Given) (text : Text) where
   abbrev step : Sight → Configuration Unit Unit → Name → Step Unit Unit
   step = (deep_rules g).step
 
-  passes : Passes g text step StringBefore []
-  passes p b events local cs s at es h =
-      leads-row g text step StringBefore string_before_rows (λ k. refl) (held [] p Byte b events local) cs (Some (line_byte s.byte)) (byte-class g text p s at) es h
-
-  fails : FailsAtEnd g text step StringBefore []
-  fails p events local cs es h = leads-row g text step StringBefore string_before_rows (λ k. refl) (held [] p End true events local) cs None refl es h
+  -- what is tried fails
+  fails : (l : List Seat) (p : ℕ) (b : Bool) (local : Local Unit Unit) → drop p text.seats ≡ l → (cs : List Choice) (all : List Event) → FailsTo g text step cs [] all → EndsWith g text step (shows l [] p b [] local) cs (Retry StringBefore) all
+  fails l p b local here = look-fails g text step deep (λ name state is s k. refl) [] [] l p b local StringBefore here (deep-rest g text [] [] l (byte_of (seat_before text p)) p b local).1
 
   -- from a byte on that is not the first, whatever waits
   tries : (l : List Seat) (p : ℕ) (b : Bool) (local : Local Unit Unit) (r : Seat) → drop p text.seats ≡ l → seat_before text p ≡ Some r
@@ -34,7 +32,7 @@ module _ (g : Given) (text : Text) where
       (goes-next g text step ss [] (p + 1) false [] (counts local) _ StringStart next all
       (tries ss (p + 1) false (counts local) s next (seat-behind text p s at) _ all
       (goes-back g text step Attempt (Next StringBefore) StringBefore p b 0 [] cs [] all
-      (λ local. goes-next g text step (s ∷ ss) [] p b [] local cs StringBefore here all (looks-on g text step StringBefore [] passes fails cs [] all back (s ∷ ss) p b local here)))))
+      (λ local. goes-next g text step (s ∷ ss) [] p b [] local cs StringBefore here all (fails (s ∷ ss) p b local here cs all back)))))
 
   -- from the start
   from-start : (l : List Seat) (local : Local Unit Unit) → drop 0 text.seats ≡ l → EndsWith g text step (shows l [] 0 false [] local) [] (Retry StringStart) (data_events g.bytes l)

@@ -1,16 +1,9 @@
 -- How a machine reads on, in small steps: to come to these events it is enough to come to them from further on. And looks that fail.
-use Rattle.mdconstructs_machines.proofs.Prelude.{◌≡◌, ℕ, zero, suc, ◌+◌, ◌-◌, ◌≤◌, ◌∷◌, ◌++◌, [], List, Bool, true, false, cond, Some, refl, sym, ◌∙◌, ap, subst, arith, length, drop, slice_get, lt-ltb, le-ltb, length-drop, slice_get_within, Event, Name, State, Next, Retry, Ok, Nok, Seat, virtual, Waits, Nothing, Byte, End, Given, Text, Configuration, Local, Choice, Step, start_configuration, Sight, sight, Reading, EndsIn, fed, settled_at, Rules, whole_text, called-ends, fed-ends, settled-nok-ends, one-end, IsReadAs, EventName, take, drop-next, AttemptKind, Attempt, Check, Saved, end_place, end_or, seat_before, counts}
-
--- the element at a position
-pub at-front : {X : Type 0} (xs : List X) (p : ℕ) (x : X) (rest : List X) → drop p xs ≡ x ∷ rest → slice_get xs p ≡ Some x
-at-front (y ∷ ys) zero x rest h = let e : y ≡ x = cc in ap Some e
-at-front (y ∷ ys) (suc p) x rest h = at-front ys p x rest h
-at-front [] zero x rest h = absurd (cc)
-at-front [] (suc p) x rest h = absurd (cc)
-
--- a position with nothing at it is past the end
-past-end : {X : Type 0} (xs : List X) (p : ℕ) → drop p xs ≡ [] → length xs ≤ p
-past-end xs p h = let none : length xs - p ≡ 0 = sym (length-drop p xs) ∙ ap length h in omega (arith, none)
+pub use Rattle.mdconstructs_tables.proofs.Looks.Left.{at-front, past-end}
+use Rattle.mdconstructs_tables.proofs.Looks.Scans.{scan-goes}
+use Rattle.mdconstructs_tables.specs.Looks.{Plays, looked, scan, shows as looked_at}
+use Rattle.mdconstructs_tables.specs.Rows.{Table}
+use Rattle.mdconstructs_machines.proofs.Prelude.{◌≡◌, ℕ, suc, ◌+◌, ◌∷◌, ◌++◌, [], List, Bool, true, false, cond, Some, refl, sym, ◌∙◌, ap, subst, arith, length, drop, slice_get, lt-ltb, le-ltb, slice_get_within, Event, Name, State, Next, Retry, Ok, Nok, Seat, virtual, Waits, Nothing, Byte, End, Given, Text, Configuration, Local, Choice, Step, start_configuration, Sight, sight, Reading, EndsIn, fed, settled_at, Rules, whole_text, called-ends, fed-ends, settled-nok-ends, one-end, IsReadAs, EventName, take, AttemptKind, Attempt, Check, Saved, end_place, end_or, byte_of, seat_before}
 
 -- a configuration with these spans open
 abbrev pub held : List EventName → ℕ → Waits → Bool → List Event → Local Unit Unit → Configuration Unit Unit
@@ -124,22 +117,26 @@ module _ (g : Given) (text : Text) (step : Sight → Configuration Unit Unit →
       leads-nok g text step k (record { kind = Check; ok = ok; nok = Next name; saved = Some (saved_here p b n stack) }) cs all
       (subst (λ es. EndsWith g text step (held stack p Nothing b (take n es) k.local) cs (Next name) all) (sym same) (h k.local))
 
-  -- A state passes each byte
-  abbrev pub Passes : Name → List EventName → Type 0
-  Passes name stack = (p : ℕ) (b : Bool) (events : List Event) (local : Local Unit Unit) (cs : List Choice) (s : Seat) → slice_get text.seats p ≡ Some s
-      → Leads g text step (held stack p Byte b events local) cs (Retry name) (held stack (p + 1) Nothing false events (counts local)) cs (Next name)
+  -- a look that fails: choices that fail then lead on
+  look-leads : {W : Type 0} (table : Table W Unit Unit) → Plays table g step → (stack : List EventName) (events : List Event) (l : List Seat) (p : ℕ) (b : Bool) (local : Local Unit Unit) (name : Name)
+      → drop p text.seats ≡ l → (scan table g text stack events 1 l (byte_of (seat_before text p)) p b local name).answer ≡ Nok
+      → (cs : List Choice) (all : List Event) → FailsTo cs events all → EndsWith g text step (looked_at stack events l p b local) cs (Retry name) all
+  look-leads table plays stack events l p b local name here fails cs all back calls =
+      let before = byte_of (seat_before text p) in
+      let r = scan table g text stack events 1 l before p b local name in
+      let k = looked table g text stack events p r in
+      let it = back k refl (calls + r.calls) in (
+        it.0,
+        (
+          (scan-goes table g text step plays stack events 1 l p b before local name here refl).leads cs calls it.0
+              (subst (λ a. EndsIn g step text (calls + r.calls) k cs a it.0) (sym fails) it.1.0),
+          it.1.1,
+          it.1.2,
+        ),
+      )
 
-  -- and fails at the end
-  abbrev pub FailsAtEnd : Name → List EventName → Type 0
-  FailsAtEnd name stack = (p : ℕ) (events : List Event) (local : Local Unit Unit) (cs : List Choice)
-      → Leads g text step (held stack p End true events local) cs (Retry name) (held stack p End true events (counts local)) cs Nok
-
-  pub looks-on : (name : Name) (stack : List EventName) → Passes name stack → FailsAtEnd name stack
-      → (cs : List Choice) (events all : List Event) → FailsTo cs events all
-      → (l : List Seat) (p : ℕ) (b : Bool) (local : Local Unit Unit) → drop p text.seats ≡ l → EndsWith g text step (shows l stack p b events local) cs (Retry name) all
-  looks-on name stack passes fails cs events all back [] p b local here = fails p events local cs all (back (held stack p End true events (counts local)) refl)
-  looks-on name stack passes fails cs events all back (s ∷ ss) p b local here =
-      let next = drop-next text.seats p s ss here in
-      passes p b events local cs s (at-front text.seats p s ss here) all
-      (goes-next g text step ss stack (p + 1) false events (counts local) cs name next all
-      (looks-on name stack passes fails cs events all back ss (p + 1) false (counts local) next))
+  pub look-fails : {W : Type 0} (table : Table W Unit Unit) → Plays table g step → (stack : List EventName) (events : List Event) (l : List Seat) (p : ℕ) (b : Bool) (local : Local Unit Unit) (name : Name)
+      → drop p text.seats ≡ l → (scan table g text stack events 1 l (byte_of (seat_before text p)) p b local name).answer ≡ Nok
+      → (cs : List Choice) (all : List Event) → FailsTo cs events all → EndsWith g text step (shows l stack p b events local) cs (Retry name) all
+  look-fails table plays stack events [] p b local name here fails cs all back = look-leads table plays stack events [] p b local name here fails cs all back
+  look-fails table plays stack events (s ∷ ss) p b local name here fails cs all back = look-leads table plays stack events (s ∷ ss) p b local name here fails cs all back
