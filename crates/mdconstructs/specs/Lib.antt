@@ -17,6 +17,7 @@ pub use Rattle.mdconstructs_tables.specs.Quiet
 pub use Rattle.mdconstructs_tables.specs.Refusals
 pub use Rattle.mdconstructs_machines.specs.Costs
 pub use Rattle.mdconstructs_machines.specs.Back
+pub use Rattle.mdconstructs_machines.specs.Breaks
 pub use Rattle.mdconstructs_machines.specs.Deep
 pub use Rattle.mdconstructs_machines.specs.Fail
 pub use Rattle.mdconstructs_machines.specs.Innermost

@@ -1,5 +1,6 @@
 -- The proof of each function is in a folder of its own, by its module.
 pub mod BlockReads
+pub mod Breaks
 pub mod Innermost
 pub mod LineExamples
 pub mod LineReads

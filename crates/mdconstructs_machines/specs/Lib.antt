@@ -1,5 +1,6 @@
 pub mod Costs
 pub mod Back
+pub mod Breaks
 pub mod Deep
 pub mod Fail
 pub mod Innermost

@@ -1,7 +1,7 @@
 //! Laws about the machines. Each is a function that does nothing; its contract is the law.
 
 ghost use Rattle.std.specs.Prelude.{◌≡◌, ◌+◌, ◌-◌, ◌*◌, ◌/◌, [], ◌∷◌, Some, None};
-ghost use Rattle.markdown_base.specs.declared.state.TheConstants.Name.{DataInside, FlowStart, ParagraphInside, StringBefore, StringStart, TextBefore, TextStart};
+ghost use Rattle.markdown_base.specs.declared.state.TheConstants.Name.{DataInside, FlowStart, ParagraphInside, StringBefore, StringStart, TextBefore, TextStart, ThematicBreakAtBreak};
 ghost use Rattle.markdown_tokenizer.specs.Alike.{LooksNoFurther};
 ghost use Rattle.mdconstructs_tables.specs.Fitting.{IsFit};
 ghost use Rattle.mdconstructs_tables.specs.Misfits.{act, spans, choice, answer, unpaid, start, misfits};
@@ -9,6 +9,7 @@ ghost use Rattle.mdconstructs_tables.specs.PlainTables.{IsPlainTable};
 ghost use Rattle.mdconstructs_tables.specs.PlainWrites.{WritesPlain};
 ghost use Rattle.mdconstructs_tables.specs.Quiet.{loud};
 ghost use Rattle.mdconstructs_tables.specs.Refusals.{RulesRefuseNothing};
+ghost use Rattle.mdconstructs_machines.specs.Breaks.{breaks, BreaksAreScanned};
 ghost use Rattle.mdconstructs_machines.specs.Costs.{StartsAt, StartsAmong};
 ghost use Rattle.mdconstructs_machines.specs.Innermost.{AccountsForDocuments};
 ghost use Rattle.mdconstructs_machines.specs.LineEvents.{line_events, data_events, save_events, back_events};
@@ -72,6 +73,13 @@ pub fn looks_read_the_rest()
     ensures deep { LooksOverTheRest deep StringBefore }
     ensures quiet { (previous current : _) → loud peek (TextBefore ∷ []) (λ name. 0) previous current ≡ [] }
     ensures loud { loud peek (TextBefore ∷ DataInside ∷ []) (λ name. 0) None (Some line_ending) ≡ DataInside ∷ [] }
+{}
+
+/// The look at the line of a thematic break of stars ends with `Ok` exactly if its bytes make one: a recursion on bytes that has no
+/// state, position or class. The rows of its state are given by tests.
+pub fn breaks_are_scanned()
+    ensures scanned { BreaksAreScanned }
+    ensures quiet { (previous current : _) → loud breaks (ThematicBreakAtBreak ∷ []) (λ name. 0) previous current ≡ [] }
 {}
 
 /// Each virtual byte of a document is in exactly one innermost span of the events of `Lines`: its tokens account for the document.
