@@ -13,4 +13,4 @@ pub use markdown_base::configuration::{
     CompileOptions, Constructs, Options, ParseOptions, TabSize,
 };
 pub use markdown_base::{configuration, event, message, owned, unist};
-pub use markdown_tokenizer::{parser, state, tokenizer, waiting};
+pub use markdown_tokenizer::{copies, parser, state, tokenizer, waiting};

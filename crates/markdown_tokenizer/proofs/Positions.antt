@@ -4,6 +4,7 @@ pub mod Cursors
 pub mod Cuts
 pub mod Gaps
 pub mod Lines
+pub mod Moving
 pub mod Order
 pub mod Points
 pub mod Prefixes

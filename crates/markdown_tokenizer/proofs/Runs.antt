@@ -1,6 +1,9 @@
 -- Runs of a tokenizer, from its start to its end.
 pub mod Alike
 pub mod Cuts
+pub mod Movable
+pub mod Moved
+pub mod Onward
 pub mod Ranges
 pub mod Resolvers
 pub mod TakingUp

@@ -28,7 +28,7 @@ pub(crate) enum Moves {
 }
 
 /// Whether a CR LF begins at an index.
-fn is_pair(bytes: &[u8], index: usize) -> bool
+pub(crate) fn is_pair(bytes: &[u8], index: usize) -> bool
     requires index { index + 1 < 2 ^ 64 }
     ensures { result ≡ begins_pair bytes.now index }
 {

@@ -4,7 +4,7 @@
 
 ghost use Rattle.std.specs.Prelude.{List};
 ghost use Rattle.markdown_base.specs.declared.event.Event.{Event};
-ghost use Rattle.markdown_tokenizer.specs.Alike.{CallsAreAlike, ReadingGoesOn};
+ghost use Rattle.markdown_tokenizer.specs.Alike.{CallsAreAlike, GoesOnElsewhere, ReadingGoesOn};
 ghost use Rattle.markdown_tokenizer.specs.Engine.{HasOneEnd};
 ghost use Rattle.markdown_tokenizer.specs.LawStatements.{CutsLeaveNoTrace, PushesAreOne, ChoicesPutBack, PushesInOneWay};
 ghost use Rattle.markdown_tokenizer.specs.Promises.{MayPromiseLess, MayPromiseWellFormed};
@@ -88,4 +88,11 @@ pub trait Promise {
 /// with a promise is lawful without one.
 pub fn less_may_be_promised<M: Machine, P: Promise>()
     ensures { MayPromiseLess M.rules P.ends }
+{}
+
+/// A tokenizer that has read a document up to a cut goes on in another document, if that is alike up to there and the machine looks no
+/// further than the byte that waits: moved there (`moved_to`), it is what the same push of the other document leaves. Pushing the rest of
+/// the other document, and flushing, is a run of it.
+pub fn goes_on_elsewhere<M: Machine>()
+    ensures { GoesOnElsewhere M.rules }
 {}

@@ -7,6 +7,7 @@
 mod copy;
 mod fault;
 mod look;
+mod moved;
 mod paths;
 mod resolve;
 mod running;

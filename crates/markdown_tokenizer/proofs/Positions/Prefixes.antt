@@ -1,17 +1,18 @@
 -- Documents with the same first bytes have the same first virtual bytes.
-use Rattle.markdown_tokenizer.proofs.Prelude.{AllByRecursion, ◌≡◌, ◌+◌, ◌<◌, ◌≤◌, ◌==◌, ◌&&◌, ◌∙◌, ℕ, zero, suc, List, [], ◌∷◌, ◌++◌, Bool, true, false, refl, sym, ap, arith, subst, take, drop, filter, slice_index, append_assoc, append-nil, filter-append, filter-none, eqb-true, every-append, every-map, Point, Seat, tab_width, in_tab, line_feed, begins_with_lf, virtual, virtual_from, stands_before, follows_cr}
+use Rattle.markdown_tokenizer.proofs.Prelude.{AllByRecursion, ◌≡◌, ◌+◌, ◌-◌, ◌<◌, ◌≤◌, ◌==◌, ◌&&◌, ◌∙◌, ℕ, zero, suc, List, [], ◌∷◌, ◌++◌, Bool, true, false, cond, refl, sym, ap, arith, subst, take, drop, filter, slice_index, append_assoc, append-nil, filter-append, filter-none, eqb-true, and_parts, false≢true, every-append, every-map, Point, Seat, point, tab_width, in_tab, line_feed, begins_with_lf, virtual, virtual_from, stands_before, follows_cr, IsShown}
+use Rattle.std.proofs.lemmas.List.{get_or-take}
 use Rattle.markdown_base.specs.Virtual.{other_byte}
 use Rattle.markdown_tokenizer.proofs.Positions.Order.{below-before, not-before, filter-every}
 use Rattle.markdown_tokenizer.proofs.Positions.Seats.{tab-index, virtual-index, no-lf}
 
 -- the virtual bytes of some bytes, and of others, begin with the same ones, up to an index at which more follow
-record SameFront (t line column index far : ℕ) (xs ys more others : List ℕ) : Type 0 where
-  front : List Seat
-  row : ℕ
-  from : ℕ
-  one : virtual_from t line column index xs ≡ front ++ virtual_from t row from far more
-  other : virtual_from t line column index ys ≡ front ++ virtual_from t row from far others
-  below : AllByRecursion (λ s. s.point.index < far) front
+pub record SameFront (t line column index far : ℕ) (xs ys more others : List ℕ) : Type 0 where
+  pub front : List Seat
+  pub row : ℕ
+  pub from : ℕ
+  pub one : virtual_from t line column index xs ≡ front ++ virtual_from t row from far more
+  pub other : virtual_from t line column index ys ≡ front ++ virtual_from t row from far others
+  pub below : AllByRecursion (λ s. s.point.index < far) front
 
 module _ (t line column index far b : ℕ) (xs ys more others : List ℕ) (less : index < far) (next : (l c : ℕ) → SameFront t l c (suc index) far xs ys more others) where
   one-byte : (w x y z : Bool) → (b == 10) ≡ w → (b == 13) ≡ x → begins_with_lf xs ≡ y → (x ≡ true → begins_with_lf ys ≡ y) → (b == 9) ≡ z → SameFront t line column index far (b ∷ xs) (b ∷ ys) more others
@@ -73,7 +74,7 @@ first-alike (suc n) b xs ys e a c cr = begin-alike n xs ys e
 whole-on : (n b : ℕ) (xs : List ℕ) → IsCutWhole (suc n) (b ∷ xs) → IsCutWhole n xs
 whole-on n b xs h k e cr = h (suc k) (ap suc e) cr
 
-same-front : (t line column index n far : ℕ) (xs ys : List ℕ) → index + n ≡ far → take n xs ≡ take n ys → IsCutWhole n xs → IsCutWhole n ys
+pub same-front : (t line column index n far : ℕ) (xs ys : List ℕ) → index + n ≡ far → take n xs ≡ take n ys → IsCutWhole n xs → IsCutWhole n ys
     → SameFront t line column index far xs ys (drop n xs) (drop n ys)
 same-front t line column index zero far xs ys at e a c =
     let is : index ≡ far = omega (arith, at) in record {
@@ -95,6 +96,21 @@ same-front t line column index (suc n) far (x ∷ xs) (y ∷ ys) at e a c =
     (one-byte t line column index far x xs ys (drop n xs) (drop n ys) less
     (λ l m. same-front t l m (suc index) n far xs ys on rest (whole-on n x xs a) (whole-on n x ys also))
     (x == 10) (x == 13) (begins_with_lf xs) (x == 9) refl refl refl (λ cr. sym (first-alike n x xs ys rest a also (eqb-true x 13 cr))) refl)
+
+-- a byte at an index below the ones that are alike is the same
+pub same-byte : (n i : ℕ) (xs ys : List ℕ) → take n xs ≡ take n ys → i < n → slice_index xs i ≡ slice_index ys i
+same-byte n i xs ys e l = sym (get_or-take n xs i 0 l) ∙ ap (λ (zs : List ℕ). slice_index zs i) e ∙ get_or-take n ys i 0 l
+
+-- a place that is shown at itself is behind no CR of a CR LF
+pub whole-test : (bytes : List ℕ) (p : Point) → IsShown bytes p → ((slice_index bytes p.index == 10) && follows_cr bytes p.index) ≡ false
+whole-test bytes p h = tested ((slice_index bytes p.index == 10) && follows_cr bytes p.index) refl h
+  where
+    tested : (b : Bool) → ((slice_index bytes p.index == 10) && follows_cr bytes p.index) ≡ b → cond b (point p.line p.column (p.index - 1) p.vs) p ≡ p → b ≡ false
+    tested false e k = refl
+    tested true e k =
+        let back : p.index - 1 ≡ p.index = ap (λ (x : Point). x.index) k in let none : p.index ≡ 0 = omega arith in
+        let cr = (and_parts (slice_index bytes p.index == 10) (follows_cr bytes p.index) e).1 in
+        let no : follows_cr bytes 0 ≡ true = subst (λ (i : ℕ). follows_cr bytes i ≡ true) none cr in absurd (false≢true no)
 
 -- a place that is shown at itself cuts no CR LF
 pub cut-whole : (bytes : List ℕ) (p : Point) → ((slice_index bytes p.index == 10) && follows_cr bytes p.index) ≡ false → IsCutWhole p.index bytes

@@ -5,7 +5,7 @@ use Rattle.markdown_tokenizer.specs.Turns.{TurnsAreKept}
 use Rattle.markdown_tokenizer.proofs.Readings.Bounds.{fed-ends, called-ends, settled-ok-ends, settled-nok-ends}
 
 -- what a test lets through
-let-through : {A : Type 0} (b : Bool) (x y : A) → cond b (Some x) None ≡ Some y → (b ≡ true) × (x ≡ y)
+pub let-through : {A : Type 0} (b : Bool) (x y : A) → cond b (Some x) None ≡ Some y → (b ≡ true) × (x ≡ y)
 let-through true x y e = (refl, cc)
 let-through false x y e = absurd (cc)
 

@@ -1,7 +1,6 @@
 -- Documents that begin alike: what a state sees at the bytes of a text is the same in both, so calls are alike.
 use Rattle.markdown_tokenizer.proofs.Prelude.{AllByRecursion, ◌≡◌, ◌-◌, ◌<◌, ◌≤◌, ◌==◌, ◌&&◌, ◌∙◌, ℕ, zero, suc, List, [], ◌∷◌, ◌++◌, Bool, true, false, cond, Some, inl, inr, length, refl, sym, ap, arith, subst, take, take-take, filter, not, slice_get, slice_get_cases, slice_index, length-append, get-front, and_parts, nat_tests, nat_lt, ◌||◌, append_assoc, cases_lt, slice_get-get_or, byte_of, Waits, every-append, every-map, every-get, end-after-append, Point, Seat, point, virtual, end_after, stands_before, shown, follows_cr, IsShown, denotes_same, Byte, Given, Text, Piece, pushed, passed, in_range, empty_text, followed_by, followed_by_all, FitsAfter, CanFollow, IsText, IsPlace, rest_at, Sight, sight, sight_in, seat_before, end_place, Rules, false≢true, Next, Stand, stand, stand_of, Turns, start_configuration, ParseOptions, whole_text}
 use Rattle.std.proofs.lemmas.Bool.{cond_both}
-use Rattle.std.proofs.lemmas.List.{get_or-take}
 use Rattle.markdown_tokenizer.specs.Alike.{AreAlikeUpTo, CallsAreAlike, ReadingGoesOn, bytes_up_to}
 use Rattle.markdown_tokenizer.proofs.Positions.Order.{after-before, before-upto, upto-before, later-later, every-back, every-kept, filter-same, every-all, not-before}
 use Rattle.markdown_tokenizer.proofs.Positions.Seats.{rest-later}
@@ -10,7 +9,7 @@ use Rattle.markdown_tokenizer.proofs.Positions.Standing.{IsAmong, chain-split, c
 use Rattle.markdown_tokenizer.proofs.Positions.Cursors.{Leads, upto-leads, upto-upto, same-upto}
 use Rattle.markdown_tokenizer.proofs.Positions.TextOrder.{text-order}
 use Rattle.markdown_tokenizer.proofs.Positions.Points.{point_at-is}
-use Rattle.markdown_tokenizer.proofs.Positions.Prefixes.{cut-whole, have-same-front}
+use Rattle.markdown_tokenizer.proofs.Positions.Prefixes.{cut-whole, have-same-front, same-byte, whole-test}
 use Rattle.markdown_tokenizer.proofs.Inside.Changes.{text-more}
 use Rattle.markdown_tokenizer.proofs.Inside.Known.{not-before-index}
 use Rattle.markdown_tokenizer.proofs.Readings.Turns.{seen-waits, turns-are-kept}
@@ -94,21 +93,6 @@ module _ (t : ℕ) (bytes : List ℕ) (d : 0 < t) where
       let q = shown bytes p in
       later-later p.index p.vs q.index q.vs s.end.index s.end.vs (shown-upto t bytes p) (subst (λ (x : Point). stands_before x s.end ≡ false) (sym stands) far)
 
--- a byte at an index below the ones that are alike is the same
-same-byte : (n i : ℕ) (xs ys : List ℕ) → take n xs ≡ take n ys → i < n → slice_index xs i ≡ slice_index ys i
-same-byte n i xs ys e l = sym (get_or-take n xs i 0 l) ∙ ap (λ (zs : List ℕ). slice_index zs i) e ∙ get_or-take n ys i 0 l
-
--- a place that is shown at itself is behind no CR of a CR LF
-whole-test : (bytes : List ℕ) (p : Point) → IsShown bytes p → ((slice_index bytes p.index == 10) && follows_cr bytes p.index) ≡ false
-whole-test bytes p h = tested ((slice_index bytes p.index == 10) && follows_cr bytes p.index) refl h
-  where
-    tested : (b : Bool) → ((slice_index bytes p.index == 10) && follows_cr bytes p.index) ≡ b → cond b (point p.line p.column (p.index - 1) p.vs) p ≡ p → b ≡ false
-    tested false e k = refl
-    tested true e k =
-        let back : p.index - 1 ≡ p.index = ap (λ (x : Point). x.index) k in let none : p.index ≡ 0 = omega arith in
-        let cr = (and_parts (slice_index bytes p.index == 10) (follows_cr bytes p.index) e).1 in
-        let no : follows_cr bytes 0 ≡ true = subst (λ (i : ℕ). follows_cr bytes i ≡ true) none cr in absurd (false≢true no)
-
 -- what is shown depends on two bytes
 shown-by : (a b : List ℕ) (p : Point) → ((slice_index a p.index == 10) && follows_cr a p.index) ≡ ((slice_index b p.index == 10) && follows_cr b p.index) → shown a p ≡ shown b p
 shown-by a b p e = rw e refl
@@ -139,7 +123,7 @@ module _ (g h : Given) (p : Point) (alike : AreAlikeUpTo g h p) where
   follows-alike (suc j) l = ap (λ (b : ℕ). b == 13) (same-byte (bytes_up_to p) j g.bytes h.bytes alike.bytes (omega arith))
 
   -- a place that is not after it is shown alike
-  shown-alike : (x : Point) → stands_before p x ≡ false → shown g.bytes x ≡ shown h.bytes x
+  pub shown-alike : (x : Point) → stands_before p x ≡ false → shown g.bytes x ≡ shown h.bytes x
   shown-alike x upto = elim (cases_lt x.index (bytes_up_to p)) [
     | inl less ↦
         let byte = same-byte (bytes_up_to p) x.index g.bytes h.bytes alike.bytes less in let follows = follows-alike x.index less in
