@@ -13,6 +13,7 @@ pub use Rattle.mdconstructs_machines.proofs.Innermost
 pub use Rattle.mdconstructs_machines.proofs.LineExamples
 pub use Rattle.mdconstructs_machines.proofs.LineReads
 pub use Rattle.mdconstructs_machines.proofs.Mapped
+pub use Rattle.mdconstructs_machines.proofs.NoFurther
 pub use Rattle.mdconstructs_machines.proofs.NoRefusals
 pub use Rattle.mdconstructs_machines.proofs.ParagraphExamples
 pub use Rattle.mdconstructs_machines.proofs.RowSteps

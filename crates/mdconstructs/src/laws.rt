@@ -2,15 +2,16 @@
 
 pub use mdconstructs_machines::laws::{
     costs_at_the_start, documents_are_read_by_lines, innermost_spans_account_for_documents,
-    misfits_are_not_all, misfits_have_reasons, no_document_is_refused,
+    misfits_are_not_all, misfits_have_reasons, no_document_is_refused, paragraphs_look_no_further,
 };
 pub use mdconstructs_tables::laws::{
     Knowledge, fitting_tables_are_lawful, knowing_tables_are_lawful,
+    knowing_tables_look_no_further, tables_look_no_further,
 };
 pub use mdconstructs_text::laws::{
     chains_are_read_as_data, chains_are_read_as_texts, chains_of_paragraphs_can_be_read,
     cost_at_the_start, documents_are_read_by_blocks, innermost_spans_account_for_blocks,
     innermost_spans_account_for_children, innermost_spans_account_for_texts,
     no_document_is_refused as text_refuses_no_document, other_chains_stay_ready_after_texts,
-    void_spans_of_texts_are_empty, void_spans_stay_empty_with_children,
+    texts_look_no_further, void_spans_of_texts_are_empty, void_spans_stay_empty_with_children,
 };

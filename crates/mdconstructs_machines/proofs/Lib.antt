@@ -4,8 +4,8 @@ pub mod Breaks
 pub mod Innermost
 pub mod LineExamples
 pub mod LineReads
-pub mod NoFurther
 pub mod Mapped
+pub mod NoFurther
 pub mod NoRefusals
 pub mod ParagraphExamples
 mod Prelude

@@ -1,5 +1,4 @@
 pub mod Examples
-pub mod NoFurther
 pub mod NoRefusals
 pub mod Autolinks
 pub mod CodeSpans

@@ -5,6 +5,7 @@ pub mod Cutting
 pub mod Ends
 pub mod ItemsBuilt
 pub mod LineEndings
+pub mod NoFurther
 pub mod Reads
 pub mod Steps
 pub mod Tight
