@@ -91,7 +91,7 @@ second-edited text (r ∷ rs) k h = absurd h
 last-well : (p q : Point) (xs : List Event) (es : List Edit) → xs ≡ span_at Paragraph p → es ≡ edit_at 0 2 (span_at BlockQuote q) ∷ []
     → (AreDisjoint 0 es (length xs) × All (EndsBelow (length xs)) xs) × IsInShape (edited es xs) × ((p : Point) × (edited es xs ≡ span_at BlockQuote p))
 last-well p q xs es a b =
-    rw (a, b) (((omega arith, omega arith), no-links-below 2 (span_at Paragraph p) (refl, refl, tt)), no-links-shape (span_at BlockQuote q) (refl, refl, tt) (span _ _ [] [] refl refl refl refl empty empty), (q, refl))
+    rw (a, b) (((omega arith, omega arith), no-links-below 2 (span_at Paragraph p) (refl, (refl, tt))), no-links-shape (span_at BlockQuote q) (refl, (refl, tt)) (span _ _ [] [] refl refl refl refl empty empty), (q, refl))
 
 module _ (g : Given) where
   consumes_once : ConsumesOnce g (replacing_rules g)
