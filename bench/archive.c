@@ -21,8 +21,10 @@ static uint8_t *contents(const char *name, size_t *len) {
 }
 
 int main(int argc, char **argv) {
-    struct limecove_options options = {LIMECOVE_LINES, 0, 0, LIMECOVE_DEFAULT_TEXT_OPTIONS};
+    struct limecove_options options = limecove_default_options();
     size_t len = 0;
+    options.machine = LIMECOVE_LINES;
+    options.deep = 0;
     uint8_t *document = argc < 3 ? NULL : contents(argv[1], &len);
     for (int i = 3; i < argc; i++) {
         if (strcmp(argv[i], "--deep") == 0)

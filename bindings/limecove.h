@@ -1,4 +1,5 @@
-/* Limecove, the proved tokenizer engine, for C. Link out/liblimecove.a, which bindings/build.sh makes.
+/* Limecove, the proved tokenizer engine, for C. Link liblimecove.a or liblimecove.so of a release, or out/liblimecove.a, which
+ * bindings/build.sh makes.
  *
  * Ask for limecove_version() before the first call of another function: the others write to memory whose layout is that of their
  * version.
@@ -17,19 +18,52 @@
 extern "C" {
 #endif
 
+/* Before each function of the library. It is empty unless a program defines it, as by an attribute of visibility. */
+#ifndef LIMECOVE_API
+#define LIMECOVE_API
+#endif
+
+/* Before each function that this header defines. */
+#if defined(__cplusplus) || (defined(__STDC_VERSION__) && __STDC_VERSION__ >= 199901L)
+#define LIMECOVE_INLINE static inline
+#elif defined(__GNUC__)
+#define LIMECOVE_INLINE static __inline__
+#else
+#define LIMECOVE_INLINE static
+#endif
+
 /* The version of this header. limecove_version() and each answer have that of the library. It changes with each layout and meaning
- * that changes, and not with a function that is added. */
-#define LIMECOVE_VERSION 1
+ * that changes. It stays if a function, a code, a construct, a machine or a name is added, with the next number. */
+#define LIMECOVE_VERSION 2
 
 /* An index in a record's link that there is not. */
-#define LIMECOVE_NO_INDEX SIZE_MAX
+#define LIMECOVE_NO_INDEX ((size_t)-1)
 
-/* How a call ended. */
+/* How a call ended. If it is not LIMECOVE_READ, no record was written. Codes from LIMECOVE_OTHER_SIZE on say what the options have that
+ * there is not: the first of these, in this order. */
 enum limecove_code {
-    LIMECOVE_READ = 0,            /* the document was read */
-    LIMECOVE_OUT_OF_MEMORY = 1,   /* no record was written */
-    LIMECOVE_TOO_LONG = 2,        /* tab size times length, and one more, do not fit size_t; no record was written */
-    LIMECOVE_NO_SUCH_OPTIONS = 3, /* the options choose nothing; no record was written */
+    LIMECOVE_READ = 0,              /* the document was read */
+    LIMECOVE_OUT_OF_MEMORY = 1,     /* the call ran out of memory */
+    LIMECOVE_TOO_LONG = 2,          /* tab size times length, and one more, do not fit size_t */
+    LIMECOVE_OTHER_SIZE = 3,        /* the options have another size */
+    LIMECOVE_NO_SUCH_TAB_SIZE = 4,  /* the tab size is above 16 */
+    LIMECOVE_NO_SUCH_CONSTRUCT = 5, /* a bit is set that is no construct's */
+    LIMECOVE_NO_SUCH_MACHINE = 6,   /* there is no machine of this number */
+    LIMECOVE_LINKS_NO_TEXT = 7      /* deep is on for a machine that links no text */
+};
+
+/* The constructs, as bits. */
+enum limecove_construct {
+    LIMECOVE_CODE_TEXT = 1,        /* code spans */
+    LIMECOVE_AUTOLINK = 2,         /* autolinks */
+    LIMECOVE_CHARACTER_ESCAPE = 4, /* backslash escapes */
+    LIMECOVE_ALL_CONSTRUCTS = 7
+};
+
+/* Whether a span begins or ends. */
+enum limecove_kind {
+    LIMECOVE_ENTER = 0,
+    LIMECOVE_EXIT = 1
 };
 
 /* What a chain is read as. */
@@ -38,7 +72,7 @@ enum limecove_content {
     LIMECOVE_CONTENT_FLOW = 1,
     LIMECOVE_CONTENT_CONTENT = 2,
     LIMECOVE_CONTENT_STRING = 3,
-    LIMECOVE_CONTENT_TEXT = 4,
+    LIMECOVE_CONTENT_TEXT = 4
 };
 
 /* written by names.py: begin */
@@ -50,7 +84,7 @@ enum limecove_machine {
     LIMECOVE_DEEP = 3,
     LIMECOVE_BACK = 4,
     LIMECOVE_SAVE = 5,
-    LIMECOVE_TEXT = 6,
+    LIMECOVE_TEXT = 6
 };
 
 /* What a span is. */
@@ -196,39 +230,183 @@ enum limecove_name {
     LIMECOVE_NAME_STRONG_TEXT = 138,
     LIMECOVE_NAME_THEMATIC_BREAK = 139,
     LIMECOVE_NAME_THEMATIC_BREAK_SEQUENCE = 140,
-    LIMECOVE_NAME_LINE_PREFIX = 141,
+    LIMECOVE_NAME_LINE_PREFIX = 141
 };
+
+/* X(NAME, "Name", is_void) for each name, in the order of their numbers: define X, and use it. */
+#define LIMECOVE_EACH_NAME(X) \
+    X(ATTENTION_SEQUENCE, "AttentionSequence", 1) \
+    X(AUTOLINK, "Autolink", 0) \
+    X(AUTOLINK_EMAIL, "AutolinkEmail", 1) \
+    X(AUTOLINK_MARKER, "AutolinkMarker", 1) \
+    X(AUTOLINK_PROTOCOL, "AutolinkProtocol", 1) \
+    X(BLANK_LINE_ENDING, "BlankLineEnding", 1) \
+    X(BLOCK_QUOTE, "BlockQuote", 0) \
+    X(BLOCK_QUOTE_MARKER, "BlockQuoteMarker", 1) \
+    X(BLOCK_QUOTE_PREFIX, "BlockQuotePrefix", 0) \
+    X(BYTE_ORDER_MARK, "ByteOrderMark", 1) \
+    X(CHARACTER_ESCAPE, "CharacterEscape", 0) \
+    X(CHARACTER_ESCAPE_MARKER, "CharacterEscapeMarker", 1) \
+    X(CHARACTER_ESCAPE_VALUE, "CharacterEscapeValue", 1) \
+    X(CHARACTER_REFERENCE, "CharacterReference", 0) \
+    X(CHARACTER_REFERENCE_MARKER, "CharacterReferenceMarker", 1) \
+    X(CHARACTER_REFERENCE_MARKER_HEXADECIMAL, "CharacterReferenceMarkerHexadecimal", 1) \
+    X(CHARACTER_REFERENCE_MARKER_NUMERIC, "CharacterReferenceMarkerNumeric", 1) \
+    X(CHARACTER_REFERENCE_MARKER_SEMI, "CharacterReferenceMarkerSemi", 1) \
+    X(CHARACTER_REFERENCE_VALUE, "CharacterReferenceValue", 1) \
+    X(CODE_FENCED, "CodeFenced", 0) \
+    X(CODE_FENCED_FENCE, "CodeFencedFence", 0) \
+    X(CODE_FENCED_FENCE_INFO, "CodeFencedFenceInfo", 0) \
+    X(CODE_FENCED_FENCE_META, "CodeFencedFenceMeta", 0) \
+    X(CODE_FENCED_FENCE_SEQUENCE, "CodeFencedFenceSequence", 1) \
+    X(CODE_FLOW_CHUNK, "CodeFlowChunk", 1) \
+    X(CODE_INDENTED, "CodeIndented", 0) \
+    X(CODE_TEXT, "CodeText", 0) \
+    X(CODE_TEXT_DATA, "CodeTextData", 1) \
+    X(CODE_TEXT_SEQUENCE, "CodeTextSequence", 1) \
+    X(CONTENT, "Content", 0) \
+    X(DATA, "Data", 1) \
+    X(DEFINITION, "Definition", 0) \
+    X(DEFINITION_DESTINATION, "DefinitionDestination", 0) \
+    X(DEFINITION_DESTINATION_LITERAL, "DefinitionDestinationLiteral", 0) \
+    X(DEFINITION_DESTINATION_LITERAL_MARKER, "DefinitionDestinationLiteralMarker", 1) \
+    X(DEFINITION_DESTINATION_RAW, "DefinitionDestinationRaw", 0) \
+    X(DEFINITION_DESTINATION_STRING, "DefinitionDestinationString", 0) \
+    X(DEFINITION_LABEL, "DefinitionLabel", 0) \
+    X(DEFINITION_LABEL_MARKER, "DefinitionLabelMarker", 1) \
+    X(DEFINITION_LABEL_STRING, "DefinitionLabelString", 0) \
+    X(DEFINITION_MARKER, "DefinitionMarker", 1) \
+    X(DEFINITION_TITLE, "DefinitionTitle", 0) \
+    X(DEFINITION_TITLE_MARKER, "DefinitionTitleMarker", 1) \
+    X(DEFINITION_TITLE_STRING, "DefinitionTitleString", 0) \
+    X(EMPHASIS, "Emphasis", 0) \
+    X(EMPHASIS_SEQUENCE, "EmphasisSequence", 1) \
+    X(EMPHASIS_TEXT, "EmphasisText", 0) \
+    X(FRONTMATTER, "Frontmatter", 0) \
+    X(FRONTMATTER_CHUNK, "FrontmatterChunk", 1) \
+    X(FRONTMATTER_FENCE, "FrontmatterFence", 0) \
+    X(FRONTMATTER_SEQUENCE, "FrontmatterSequence", 1) \
+    X(GFM_AUTOLINK_LITERAL_EMAIL, "GfmAutolinkLiteralEmail", 1) \
+    X(GFM_AUTOLINK_LITERAL_MAILTO, "GfmAutolinkLiteralMailto", 0) \
+    X(GFM_AUTOLINK_LITERAL_PROTOCOL, "GfmAutolinkLiteralProtocol", 1) \
+    X(GFM_AUTOLINK_LITERAL_WWW, "GfmAutolinkLiteralWww", 1) \
+    X(GFM_AUTOLINK_LITERAL_XMPP, "GfmAutolinkLiteralXmpp", 0) \
+    X(GFM_FOOTNOTE_CALL, "GfmFootnoteCall", 0) \
+    X(GFM_FOOTNOTE_CALL_LABEL, "GfmFootnoteCallLabel", 0) \
+    X(GFM_FOOTNOTE_CALL_MARKER, "GfmFootnoteCallMarker", 1) \
+    X(GFM_FOOTNOTE_DEFINITION, "GfmFootnoteDefinition", 0) \
+    X(GFM_FOOTNOTE_DEFINITION_PREFIX, "GfmFootnoteDefinitionPrefix", 0) \
+    X(GFM_FOOTNOTE_DEFINITION_LABEL, "GfmFootnoteDefinitionLabel", 0) \
+    X(GFM_FOOTNOTE_DEFINITION_LABEL_MARKER, "GfmFootnoteDefinitionLabelMarker", 1) \
+    X(GFM_FOOTNOTE_DEFINITION_LABEL_STRING, "GfmFootnoteDefinitionLabelString", 0) \
+    X(GFM_FOOTNOTE_DEFINITION_MARKER, "GfmFootnoteDefinitionMarker", 1) \
+    X(GFM_STRIKETHROUGH, "GfmStrikethrough", 0) \
+    X(GFM_STRIKETHROUGH_SEQUENCE, "GfmStrikethroughSequence", 1) \
+    X(GFM_STRIKETHROUGH_TEXT, "GfmStrikethroughText", 0) \
+    X(GFM_TABLE, "GfmTable", 0) \
+    X(GFM_TABLE_BODY, "GfmTableBody", 0) \
+    X(GFM_TABLE_CELL, "GfmTableCell", 0) \
+    X(GFM_TABLE_CELL_TEXT, "GfmTableCellText", 0) \
+    X(GFM_TABLE_CELL_DIVIDER, "GfmTableCellDivider", 1) \
+    X(GFM_TABLE_DELIMITER_ROW, "GfmTableDelimiterRow", 0) \
+    X(GFM_TABLE_DELIMITER_MARKER, "GfmTableDelimiterMarker", 1) \
+    X(GFM_TABLE_DELIMITER_CELL, "GfmTableDelimiterCell", 0) \
+    X(GFM_TABLE_DELIMITER_CELL_VALUE, "GfmTableDelimiterCellValue", 0) \
+    X(GFM_TABLE_DELIMITER_FILLER, "GfmTableDelimiterFiller", 1) \
+    X(GFM_TABLE_HEAD, "GfmTableHead", 0) \
+    X(GFM_TABLE_ROW, "GfmTableRow", 0) \
+    X(GFM_TASK_LIST_ITEM_CHECK, "GfmTaskListItemCheck", 0) \
+    X(GFM_TASK_LIST_ITEM_MARKER, "GfmTaskListItemMarker", 1) \
+    X(GFM_TASK_LIST_ITEM_VALUE_CHECKED, "GfmTaskListItemValueChecked", 1) \
+    X(GFM_TASK_LIST_ITEM_VALUE_UNCHECKED, "GfmTaskListItemValueUnchecked", 1) \
+    X(HARD_BREAK_ESCAPE, "HardBreakEscape", 1) \
+    X(HARD_BREAK_TRAILING, "HardBreakTrailing", 1) \
+    X(HEADING_ATX, "HeadingAtx", 0) \
+    X(HEADING_ATX_SEQUENCE, "HeadingAtxSequence", 1) \
+    X(HEADING_ATX_TEXT, "HeadingAtxText", 0) \
+    X(HEADING_SETEXT, "HeadingSetext", 0) \
+    X(HEADING_SETEXT_TEXT, "HeadingSetextText", 0) \
+    X(HEADING_SETEXT_UNDERLINE, "HeadingSetextUnderline", 0) \
+    X(HEADING_SETEXT_UNDERLINE_SEQUENCE, "HeadingSetextUnderlineSequence", 1) \
+    X(HTML_FLOW, "HtmlFlow", 0) \
+    X(HTML_FLOW_DATA, "HtmlFlowData", 1) \
+    X(HTML_TEXT, "HtmlText", 0) \
+    X(HTML_TEXT_DATA, "HtmlTextData", 1) \
+    X(IMAGE, "Image", 0) \
+    X(LABEL, "Label", 0) \
+    X(LABEL_END, "LabelEnd", 0) \
+    X(LABEL_IMAGE, "LabelImage", 0) \
+    X(LABEL_IMAGE_MARKER, "LabelImageMarker", 1) \
+    X(LABEL_LINK, "LabelLink", 0) \
+    X(LABEL_MARKER, "LabelMarker", 1) \
+    X(LABEL_TEXT, "LabelText", 0) \
+    X(LINE_ENDING, "LineEnding", 1) \
+    X(LINK, "Link", 0) \
+    X(LIST_ITEM, "ListItem", 0) \
+    X(LIST_ITEM_MARKER, "ListItemMarker", 1) \
+    X(LIST_ITEM_PREFIX, "ListItemPrefix", 0) \
+    X(LIST_ITEM_VALUE, "ListItemValue", 1) \
+    X(LIST_ORDERED, "ListOrdered", 0) \
+    X(LIST_UNORDERED, "ListUnordered", 0) \
+    X(MATH_FLOW, "MathFlow", 0) \
+    X(MATH_FLOW_FENCE, "MathFlowFence", 0) \
+    X(MATH_FLOW_FENCE_META, "MathFlowFenceMeta", 0) \
+    X(MATH_FLOW_FENCE_SEQUENCE, "MathFlowFenceSequence", 1) \
+    X(MATH_FLOW_CHUNK, "MathFlowChunk", 1) \
+    X(MATH_TEXT, "MathText", 0) \
+    X(MATH_TEXT_DATA, "MathTextData", 1) \
+    X(MATH_TEXT_SEQUENCE, "MathTextSequence", 1) \
+    X(PARAGRAPH, "Paragraph", 0) \
+    X(REFERENCE, "Reference", 0) \
+    X(REFERENCE_MARKER, "ReferenceMarker", 1) \
+    X(REFERENCE_STRING, "ReferenceString", 0) \
+    X(RESOURCE, "Resource", 0) \
+    X(RESOURCE_DESTINATION, "ResourceDestination", 0) \
+    X(RESOURCE_DESTINATION_LITERAL, "ResourceDestinationLiteral", 0) \
+    X(RESOURCE_DESTINATION_LITERAL_MARKER, "ResourceDestinationLiteralMarker", 0) \
+    X(RESOURCE_DESTINATION_RAW, "ResourceDestinationRaw", 0) \
+    X(RESOURCE_DESTINATION_STRING, "ResourceDestinationString", 0) \
+    X(RESOURCE_MARKER, "ResourceMarker", 1) \
+    X(RESOURCE_TITLE, "ResourceTitle", 0) \
+    X(RESOURCE_TITLE_MARKER, "ResourceTitleMarker", 1) \
+    X(RESOURCE_TITLE_STRING, "ResourceTitleString", 0) \
+    X(SPACE_OR_TAB, "SpaceOrTab", 1) \
+    X(STRONG, "Strong", 0) \
+    X(STRONG_SEQUENCE, "StrongSequence", 1) \
+    X(STRONG_TEXT, "StrongText", 0) \
+    X(THEMATIC_BREAK, "ThematicBreak", 0) \
+    X(THEMATIC_BREAK_SEQUENCE, "ThematicBreakSequence", 1) \
+    X(LINE_PREFIX, "LinePrefix", 0)
 /* written by names.py: end */
 
-/* How text is read. A construct is on if its number is not 0. */
+/* How text is read. Later versions of the library take options of this size too. */
 struct limecove_text_options {
-    size_t tab_size;           /* how many columns tab stops are apart, from 1 to 16 */
-    uint32_t code_text;        /* code spans */
-    uint32_t autolink;         /* autolinks */
-    uint32_t character_escape; /* backslash escapes */
+    size_t size;         /* sizeof(struct limecove_text_options) */
+    size_t tab_size;     /* how many columns tab stops are apart, from 1 to 16; 0 is 4 */
+    uint64_t constructs; /* the sum of the bits of limecove_construct that are on */
 };
 
-/* How a document is read. */
+/* How a document is read. Later versions of the library take options of this size too. */
 struct limecove_options {
-    uint32_t machine; /* of limecove_machine */
-    uint32_t deep;    /* if it is not 0, the chunks that LIMECOVE_PARAGRAPHS or LIMECOVE_TEXT links are read too */
-    size_t cut;       /* after how many virtual bytes the document is cut each time, which changes no event; 0 for never */
-    struct limecove_text_options text;
+    size_t size;         /* sizeof(struct limecove_options) */
+    size_t tab_size;     /* how many columns tab stops are apart, from 1 to 16; 0 is 4 */
+    uint64_t constructs; /* the sum of the bits of limecove_construct that are on in texts */
+    size_t cut;          /* after how many virtual bytes the document is cut each time, which changes no event; 0 for never */
+    uint32_t machine;    /* of limecove_machine */
+    uint32_t deep;       /* if it is not 0, the chunks that LIMECOVE_PARAGRAPHS or LIMECOVE_TEXT links are read too */
 };
-
-/* CommonMark's text, and tab stops at every 4 columns. */
-#define LIMECOVE_DEFAULT_TEXT_OPTIONS {4, 1, 1, 1}
 
 /* Where a span begins or ends. */
 struct limecove_record {
-    uint16_t kind;         /* 0: a span begins; 1: it ends */
-    uint16_t content;      /* of limecove_content: what the event's chain is read as, if it is linked */
-    uint32_t name;         /* of limecove_name: what the span is */
-    size_t line;           /* from 1 */
-    size_t column;         /* virtual column in the line, from 1 */
-    size_t index;          /* byte index into the document, from 0 */
-    size_t vs;             /* number of the virtual byte of a tab, from 0; 0 elsewhere */
-    size_t previous, next; /* indices of the enters before and after in the chain, or LIMECOVE_NO_INDEX */
+    uint16_t kind;    /* of limecove_kind */
+    uint16_t content; /* of limecove_content: what the event's chain is read as, if it is linked */
+    uint32_t name;    /* of limecove_name: what the span is */
+    size_t line;      /* from 1 */
+    size_t column;    /* virtual column in the line, from 1 */
+    size_t index;     /* byte index into the document, from 0 */
+    size_t vs;        /* number of the virtual byte of a tab, from 0; 0 elsewhere */
+    size_t previous;  /* index of the enter before in the chain, or LIMECOVE_NO_INDEX */
+    size_t next;      /* index of the enter after in the chain, or LIMECOVE_NO_INDEX */
 };
 
 /* How a call ended, and how many events there are. */
@@ -238,16 +416,69 @@ struct limecove_answer {
     size_t count;     /* events of the document, also if there are more than records; 0 if it was not read */
 };
 
+/* CommonMark's text, and tab stops at every 4 columns. */
+LIMECOVE_INLINE struct limecove_text_options limecove_default_text_options(void) {
+    struct limecove_text_options options;
+    options.size = sizeof options;
+    options.tab_size = 4;
+    options.constructs = LIMECOVE_ALL_CONSTRUCTS;
+    return options;
+}
+
+/* Paragraphs and the text in them, and tab stops at every 4 columns. */
+LIMECOVE_INLINE struct limecove_options limecove_default_options(void) {
+    struct limecove_options options;
+    options.size = sizeof options;
+    options.tab_size = 4;
+    options.constructs = LIMECOVE_ALL_CONSTRUCTS;
+    options.cut = 0;
+    options.machine = LIMECOVE_TEXT;
+    options.deep = 1;
+    return options;
+}
+
+/* A name as text, as "CodeText". NULL if there is no name of this number. */
+LIMECOVE_INLINE const char *limecove_name_text(uint32_t name) {
+#define LIMECOVE_TEXT_OF(upper, text, is_void) text,
+    static const char *const texts[] = {LIMECOVE_EACH_NAME(LIMECOVE_TEXT_OF) NULL};
+#undef LIMECOVE_TEXT_OF
+    return name < sizeof texts / sizeof *texts ? texts[name] : NULL;
+}
+
+/* Whether a name is void: a span of it holds no other. 0 if there is no name of this number. */
+LIMECOVE_INLINE int limecove_name_is_void(uint32_t name) {
+#define LIMECOVE_VOID_OF(upper, text, is_void) is_void,
+    static const unsigned char voids[] = {LIMECOVE_EACH_NAME(LIMECOVE_VOID_OF) 0};
+#undef LIMECOVE_VOID_OF
+    return name < sizeof voids ? voids[name] : 0;
+}
+
+/* A code as text, as "out of memory". NULL if there is no code of this number. */
+LIMECOVE_INLINE const char *limecove_code_text(uint32_t code) {
+    static const char *const texts[] = {"read", "out of memory", "document too long", "options of another size",
+                                        "no such tab size", "no such construct", "no such machine", "the machine links no text"};
+    return code < sizeof texts / sizeof *texts ? texts[code] : NULL;
+}
+
 /* The version of the library. If it is not LIMECOVE_VERSION, no other function may be called. */
-uint32_t limecove_version(void);
+LIMECOVE_API uint32_t limecove_version(void);
 
 /* Reads a document. Writes the first events over the first records, as many as fit, and nothing else. */
-struct limecove_answer limecove_read(const uint8_t *document, size_t document_len, const struct limecove_options *options,
-                                     struct limecove_record *records, size_t records_len);
+LIMECOVE_API struct limecove_answer limecove_read(const uint8_t *document, size_t document_len, const struct limecove_options *options,
+                                                  struct limecove_record *records, size_t records_len);
 
 /* Reads a document as text, without paragraphs. Writes records as limecove_read does. */
-struct limecove_answer limecove_read_text(const uint8_t *document, size_t document_len, const struct limecove_text_options *options,
-                                          struct limecove_record *records, size_t records_len);
+LIMECOVE_API struct limecove_answer limecove_read_text(const uint8_t *document, size_t document_len,
+                                                       const struct limecove_text_options *options, struct limecove_record *records,
+                                                       size_t records_len);
+
+/* Writes back what it sees, so that a caller can compare its layout with the library's, field by field. `numbers` gets 1 to 9, a number
+ * for each field in order. The other two records get the numbers of the options: the machine as the name, the size as the line, the tab
+ * size as the column, the cut as the index, deep as vs, the constructs as previous, and 0 in all other fields. The answer has the code
+ * 1 and the count 3. Nothing is read. No two of the pointers are the same. */
+LIMECOVE_API struct limecove_answer limecove_echo(const struct limecove_options *options, const struct limecove_text_options *text,
+                                                  struct limecove_record *numbers, struct limecove_record *of_options,
+                                                  struct limecove_record *of_text);
 
 #ifdef __cplusplus
 }

@@ -1,7 +1,7 @@
 #!/usr/bin/env python3
-"""Writes the names of spans and machines into limecove.h and rust/src/names.rs, each with the number that it is proved to have. Then
-compares the fields of what crosses the border, in order and with their widths, and the numbers, as crates/limecove/src, limecove.h and
-rust/src declare them.
+"""Writes the names of spans and machines into limecove.h and rust/limecove/src/names.rs, each with the number that it is proved to have.
+Then compares the fields of what crosses the border, in order and with their widths, and the numbers, as crates/limecove/src, limecove.h
+and rust/limecove-sys declare them.
 
 usage: names.py [--check [CRATE]]
 
@@ -17,7 +17,8 @@ from pathlib import Path
 HERE = Path(__file__).resolve().parent
 CRATES = HERE.parent / "crates"
 LIMECOVE = Path(sys.argv[2]) if len(sys.argv) > 2 else CRATES / "limecove"
-HEADER, FOREIGN = HERE / "limecove.h", HERE / "rust/src/foreign.rs"
+HEADER, FOREIGN = HERE / "limecove.h", HERE / "rust/limecove-sys/src/lib.rs"
+SAFE = HERE / "rust/limecove/src"
 BEGIN, END = "/* written by names.py: begin */", "/* written by names.py: end */"
 
 
@@ -51,27 +52,41 @@ def proved_names():
 def proved_machines():
     """The machines."""
     text = (LIMECOVE / "specs/Choices.antt").read_text()
-    return numbered((name, number) for number, name in re.findall(r"\(nat_eq n (\d+)\) \(Some (\w+)\)", text))
+    return numbered((name, number) for number, name in re.findall(r"\(nat_eq n (\d+)\) \(Some ([A-Z]\w+)\)", text))
 
 
 def snake(name):
     return re.sub(r"(?<!^)(?=[A-Z])", "_", name).upper()
 
 
+def void_names():
+    """The names of spans that hold no other."""
+    text = (CRATES / "markdown_base/specs/VoidNames.antt").read_text()
+    return set(re.findall(r"\w+", text.split("void_names =")[1]))
+
+
+def enum_in_c(about, name, prefix, variants):
+    """An enum with numbers from 0 on. The last one has no comma, as C90 wants it."""
+    lines = [f"    {prefix}{snake(variant)} = {number}," for number, variant in enumerate(variants)]
+    return [f"/* {about} */", f"enum limecove_{name} {{", *lines[:-1], lines[-1][:-1], "};"]
+
+
 def header(old, names, machines):
     """The header with the enums between its two marks."""
-    lines = ["/* The machines that read. */", "enum limecove_machine {"]
-    lines += [f"    LIMECOVE_{snake(name)} = {number}," for number, name in enumerate(machines)]
-    lines += ["};", "", "/* What a span is. */", "enum limecove_name {"]
-    lines += [f"    LIMECOVE_NAME_{snake(name)} = {number}," for number, name in enumerate(names)]
-    lines += ["};"]
+    voids = void_names()
+    assert voids <= set(names), "a void name is no name"
+    lines = enum_in_c("The machines that read.", "machine", "LIMECOVE_", machines) + [""]
+    lines += enum_in_c("What a span is.", "name", "LIMECOVE_NAME_", names) + [""]
+    lines += ["/* X(NAME, \"Name\", is_void) for each name, in the order of their numbers: define X, and use it. */", "#define LIMECOVE_EACH_NAME(X) \\"]
+    each = [f'    X({snake(name)}, "{name}", {int(name in voids)}) \\' for name in names]
+    lines += [*each[:-1], each[-1][:-2]]
     before, rest = old.split(BEGIN)
     after = rest.split(END)[1]
     return before + BEGIN + "\n" + "\n".join(lines) + "\n" + END + after
 
 
 def rust_enum(name, about, variants, comments, derives):
-    lines = [f"/// {about}", f"#[derive({derives})]", "#[repr(u32)]", f"pub enum {name} {{"]
+    lines = [f"/// {about} More may be added.", f"#[derive({derives})]", "#[non_exhaustive]", "#[repr(u32)]", f"pub enum {name} {{"]
     for number, variant in enumerate(variants):
         lines += [f"    {line}" for line in comments[variant]]
         if variant == "Text" and name == "Machine":
@@ -80,30 +95,49 @@ def rust_enum(name, about, variants, comments, derives):
     return lines + ["}", ""]
 
 
+def rust_all(name, variants):
+    """The list of all variants, and the name of each as text."""
+    lines = [f"impl {name} {{", "    /// All of them, in the order of their numbers.", f"    pub const ALL: &'static [{name}] = &["]
+    lines += [f"        {name}::{variant}," for variant in variants] + ["    ];", ""]
+    lines += ["    /// As it is declared.", "    pub const fn as_str(self) -> &'static str {", "        match self {"]
+    return lines + [f'            {name}::{variant} => "{variant}",' for variant in variants] + ["        }", "    }", ""]
+
+
+def rust_void(name, voids):
+    """Whether a span of a name is void."""
+    lines = ["    /// Whether it is void: a span of it holds no other.", "    pub const fn is_void(self) -> bool {", "        matches!(", "            self,"]
+    lines += [f"            {'    | ' * (i > 0)}{name}::{variant}" for i, variant in enumerate(voids)]
+    return lines + ["        )", "    }", ""]
+
+
 def rust(names, machines):
     """The Rust file."""
     derives = "Clone, Copy, Debug, PartialEq, Eq, PartialOrd, Ord, Hash"
     name_comments = comments_of(CRATES / "markdown_base/src/event.rt", "Name")
     machine_comments = comments_of(CRATES / "mdconstructs_documents/src/choice.rt", "Which")
-    lines = ["//! Names of spans and machines, with their numbers. Written by `bindings/names.py`.", "", "use std::fmt;", ""]
-    lines += rust_enum("Machine", "A machine: what reads a document.", machines, machine_comments, "Clone, Copy, Debug, Default, PartialEq, Eq, Hash")
-    lines[-1:] = ["", f"impl Machine {{", "    /// All machines, in the order of their numbers.", f"    pub const ALL: [Machine; {len(machines)}] = ["]
-    lines += [f"        Machine::{name}," for name in machines] + ["    ];", "}", ""]
-    lines += rust_enum("Name", "What a span is. A *void* name is that of a span that holds no other.", names, name_comments, derives)
-    lines[-1:] = ["", "impl Name {", "    /// All names, in the order of their numbers.", f"    pub const ALL: [Name; {len(names)}] = ["]
-    lines += [f"        Name::{name}," for name in names] + ["    ];", ""]
+    lines = ["//! Names of spans and machines, with their numbers. Written by `bindings/names.py`.", "", "use std::fmt;", "use std::str::FromStr;", ""]
+    lines += rust_enum("Machine", "A machine: what reads a document.", machines, machine_comments, "Clone, Copy, Debug, Default, PartialEq, Eq, Hash")[:-1]
+    lines += ["", *rust_all("Machine", machines)[:-1], "}", ""]
+    lines += rust_enum("Name", "What a span is. A *void* name is that of a span that holds no other.", names, name_comments, derives)[:-1]
+    lines += ["", *rust_all("Name", names), *rust_void("Name", [name for name in names if name in void_names()])]
     lines += ["    /// The name of a number, if there is one.", "    pub(crate) fn of(number: u32) -> Option<Name> {"]
     lines += ["        Name::ALL.get(usize::try_from(number).ok()?).copied()", "    }", "}", ""]
     for name in ["Machine", "Name"]:
         lines += ["/// As it is declared.", f"impl fmt::Display for {name} {{", "    fn fmt(&self, f: &mut fmt::Formatter<'_>) -> fmt::Result {"]
-        lines += ["        fmt::Debug::fmt(self, f)", "    }", "}", ""]
-    return "\n".join(lines[:-1]) + "\n"
+        lines += ["        f.pad(self.as_str())", "    }", "}", ""]
+        lines += ["/// From its name as it is declared.", f"impl FromStr for {name} {{", "    type Err = UnknownName;", ""]
+        lines += [f"    fn from_str(text: &str) -> Result<{name}, UnknownName> {{", f"        let mut all = {name}::ALL.iter();"]
+        lines += ["        all.find(|it| it.as_str() == text)", "            .copied()", "            .ok_or(UnknownName)", "    }", "}", ""]
+    lines += ["/// A text is the name of nothing.", "#[derive(Clone, Copy, Debug, PartialEq, Eq)]", "pub struct UnknownName;", ""]
+    lines += ["impl fmt::Display for UnknownName {", "    fn fmt(&self, f: &mut fmt::Formatter<'_>) -> fmt::Result {"]
+    lines += ['        f.write_str("no such name")', "    }", "}", "", "impl std::error::Error for UnknownName {}"]
+    return "\n".join(lines) + "\n"
 
 
 # What crosses the border: the name of each struct in both Rattle and Rust, and where Rattle declares it.
 STRUCTS = {"Record": "record.rt", "TextOptions": "choose.rt", "Options": "choose.rt", "Answer": "lib.rt"}
 # The same type in Rattle and Rust, and in C.
-TYPES = {"u16": "uint16_t", "u32": "uint32_t", "usize": "size_t"}
+TYPES = {"u16": "uint16_t", "u32": "uint32_t", "u64": "uint64_t", "usize": "size_t"}
 
 
 def uncommented(path):
@@ -118,10 +152,10 @@ def in_c(name):
 
 def fields(path, struct):
     """The fields of a struct in Rattle or Rust, in order: each name, and its type in C. It must be laid out as C does."""
-    found = re.search(rf"#\[repr\(C\)\]\s*(?:#\[[^\]]*\]\s*)*pub(?:\(crate\))? struct {struct} \{{(.*?)\}}", uncommented(path), re.S)
+    found = re.search(rf"#\[repr\(C\)\]\s*(?:#\[[^\]]*\]\s*)*pub struct {struct} \{{(.*?)\}}", uncommented(path), re.S)
     if found is None:
         return []
-    declared = [re.fullmatch(r"pub(?:\(crate\))? (\w+): (\w+)", it.strip()) for it in found[1].split(",") if it.strip()]
+    declared = [re.fullmatch(r"pub (\w+): (\w+)", it.strip()) for it in found[1].split(",") if it.strip()]
     return [it and (it[1], in_c(it[2])) for it in declared]
 
 
@@ -138,6 +172,12 @@ def numbers(path, pattern):
     return {name.upper(): int(number) for name, number in re.findall(pattern, uncommented(path))}
 
 
+def enum_numbers(enum):
+    """Names and numbers of an enum of the header."""
+    body = re.search(rf"enum limecove_{enum} \{{(.*?)\}}", uncommented(HEADER), re.S)[1]
+    return {name: int(number) for name, number in re.findall(r"LIMECOVE_(\w+) = (\d+)", body)}
+
+
 def differences():
     """A line for each difference between the declarations."""
     lines = []
@@ -146,29 +186,30 @@ def differences():
         for other, theirs in [(FOREIGN, rust), (HEADER, c)]:
             if not ours or None in ours or ours != theirs:
                 lines.append(f"{other}: {struct} has the fields {theirs}, and {ours} in {file}")
-    root = numbers(LIMECOVE / "src/lib.rt", r"pub const (\w+): u32 = (\d+);")
-    rust = numbers(FOREIGN, r"const (\w+): u32 = (\d+);")
-    c = numbers(HEADER, r"\bLIMECOVE_(READ|OUT_OF_MEMORY|TOO_LONG|NO_SUCH_OPTIONS) = (\d+)")
-    c |= numbers(HEADER, r"#define LIMECOVE_(VERSION) (\d+)")
+    root = numbers(LIMECOVE / "src/code.rt", r"pub const (\w+): u32 = (\d+);")
+    bits = numbers(LIMECOVE / "src/choose.rt", r"pub const (\w+): u64 = (\d+);")
+    rust = numbers(FOREIGN, r"pub const (\w+): u(?:32|64) = (\d+);")
+    c = numbers(HEADER, r"#define LIMECOVE_(VERSION) (\d+)")
+    c |= enum_numbers("code") | enum_numbers("construct")
     for other, theirs in [(FOREIGN, rust), (HEADER, c)]:
-        if len(root) != 5 or theirs != root:
-            lines.append(f"{other}: the numbers are {theirs}, and {root} in lib.rt")
+        if len(root) != 9 or len(bits) != 4 or theirs != root | bits:
+            lines.append(f"{other}: the numbers are {theirs}, and {root | bits} in code.rt and choose.rt")
     contents = numbers(LIMECOVE / "specs/Records.antt", r"(?m)^content_number (\w+) = (\d+)$")
     contents["CONTENT"] = contents.pop("CONTENTOFCONTENT", None)
-    rust = {name.upper(): int(number) for number, name in re.findall(r"(\d+) => Content::(\w+)", uncommented(HERE / "rust/src/event.rs"))}
-    rust["TEXT"] = 4 if "_ => Content::Text" in uncommented(HERE / "rust/src/event.rs") else None
-    for other, theirs in [(HERE / "rust/src/event.rs", rust), (HEADER, numbers(HEADER, r"LIMECOVE_CONTENT_(\w+) = (\d+)"))]:
+    rust = {name.upper(): int(number) for number, name in re.findall(r"(\d+) => Content::(\w+)", uncommented(SAFE / "event.rs"))}
+    rust["TEXT"] = 4 if "_ => Content::Text" in uncommented(SAFE / "event.rs") else None
+    for other, theirs in [(SAFE / "event.rs", rust), (HEADER, numbers(HEADER, r"LIMECOVE_CONTENT_(\w+) = (\d+)"))]:
         if theirs != contents:
             lines.append(f"{other}: contents are {theirs}, and {contents} in Records.antt")
     kinds = numbers(LIMECOVE / "specs/Records.antt", r"(?m)^kind_number (\w+) = (\d+)$")
-    if kinds != {"ENTER": 0, "EXIT": 1}:
-        lines.append(f"{HEADER}: kinds are 0 and 1, and {kinds} in Records.antt")
+    if kinds != enum_numbers("kind"):
+        lines.append(f"{HEADER}: kinds are {enum_numbers('kind')}, and {kinds} in Records.antt")
     return lines
 
 
 def main():
     names, machines = proved_names(), proved_machines()
-    files = {HEADER: header(HEADER.read_text(), names, machines), HERE / "rust/src/names.rs": rust(names, machines)}
+    files = {HEADER: header(HEADER.read_text(), names, machines), SAFE / "names.rs": rust(names, machines)}
     stale = [path for path, text in files.items() if not path.exists() or path.read_text() != text]
     is_check = "--check" in sys.argv[1:]
     for path in stale:

@@ -1,4 +1,7 @@
 /* Random documents and the ways to read them, for the programs that test the library. */
+#ifndef CASES_H
+#define CASES_H
+
 #include "../limecove.h"
 #include <stdio.h>
 #include <stdlib.h>
@@ -13,14 +16,14 @@
     } while (0)
 
 /* Each program calls it first. */
-static void ask_version(void) {
+static inline void ask_version(void) {
     CHECK(limecove_version() == LIMECOVE_VERSION);
 }
 
 /* Random numbers, the same at each run (SplitMix64). */
 static uint64_t random_state = 1;
 
-static size_t below(size_t n) {
+static inline size_t below(size_t n) {
     uint64_t z = random_state += 0x9e3779b97f4a7c15u;
     z = (z ^ (z >> 30)) * 0xbf58476d1ce4e5b9u;
     z = (z ^ (z >> 27)) * 0x94d049bb133111ebu;
@@ -28,7 +31,7 @@ static size_t below(size_t n) {
 }
 
 /* A document of up to 30 pieces, in a block of its very length (of one byte if it is empty). */
-static uint8_t *random_document(size_t *len) {
+static inline uint8_t *random_document(size_t *len) {
     static const char *const pieces[] = {"a", "bc", " ", "\t", "\n", "\n", "\r", "\r\n", "`", "``", "<", ">", "<ab:c>", "\\", "\\*", "> ", "\xff", "*"};
     char text[30 * 6];
     *len = 0;
@@ -37,7 +40,7 @@ static uint8_t *random_document(size_t *len) {
         memcpy(text + *len, piece, strlen(piece));
         *len += strlen(piece);
     }
-    uint8_t *document = malloc(*len + (*len == 0));
+    uint8_t *document = (uint8_t *)malloc(*len + (*len == 0));
     CHECK(document != NULL);
     memcpy(document, text, *len);
     return document;
@@ -46,32 +49,39 @@ static uint8_t *random_document(size_t *len) {
 /* A way to read: one of the seven machines, paragraphs or text with their texts, or limecove_read_text. */
 #define WAYS 10
 
-static struct limecove_answer read_so(size_t way, const uint8_t *document, size_t len, struct limecove_text_options text, size_t cut,
+static inline struct limecove_answer read_so(size_t way, const uint8_t *document, size_t len, struct limecove_text_options text, size_t cut,
                                       struct limecove_record *records, size_t room) {
+    struct limecove_options options = limecove_default_options();
     if (way == 9)
         return limecove_read_text(document, len, &text, records, room);
-    struct limecove_options options = {(uint32_t)way, 0, cut, text};
-    if (way >= 7) {
+    options.tab_size = text.tab_size;
+    options.constructs = text.constructs;
+    options.cut = cut;
+    options.machine = (uint32_t)way;
+    options.deep = way >= 7;
+    if (way >= 7)
         options.machine = way == 7 ? LIMECOVE_PARAGRAPHS : LIMECOVE_TEXT;
-        options.deep = 1;
-    }
     return limecove_read(document, len, &options, records, room);
 }
 
-static struct limecove_text_options random_text_options(void) {
-    struct limecove_text_options text = {1 + below(16), (uint32_t)below(4), (uint32_t)below(4), (uint32_t)below(4)};
+static inline struct limecove_text_options random_text_options(void) {
+    struct limecove_text_options text = limecove_default_text_options();
+    text.tab_size = below(17);
+    text.constructs = below(8);
     return text;
 }
 
 /* Whether so many bytes are all 0xa5, as no call leaves them. */
-static int untouched(const void *bytes, size_t len) {
+static inline int untouched(const void *bytes, size_t len) {
     for (size_t i = 0; i < len; i++)
         if (((const uint8_t *)bytes)[i] != 0xa5)
             return 0;
     return 1;
 }
 
-static int same_record(const struct limecove_record *a, const struct limecove_record *b) {
+static inline int same_record(const struct limecove_record *a, const struct limecove_record *b) {
     return a->kind == b->kind && a->content == b->content && a->name == b->name && a->line == b->line && a->column == b->column &&
            a->index == b->index && a->vs == b->vs && a->previous == b->previous && a->next == b->next;
 }
+
+#endif

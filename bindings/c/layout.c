@@ -1,5 +1,6 @@
-/* Where each field of the header lies, as the library has it. It is only compiled, as C and as C++. */
-#include "../limecove.h"
+/* Where each field lies, as the header and the library have it. The header's side is stated when this is compiled, as C and as C++. When
+ * it is run, the library writes back each field. */
+#include "cases.h"
 
 #ifdef __cplusplus
 #define IS(what) static_assert(what, #what)
@@ -8,16 +9,17 @@
 #endif
 #define LIES(type, field, place, size) IS(offsetof(struct type, field) == (place) && sizeof(((struct type *)0)->field) == (size))
 
-LIES(limecove_text_options, tab_size, 0, 8);
-LIES(limecove_text_options, code_text, 8, 4);
-LIES(limecove_text_options, autolink, 12, 4);
-LIES(limecove_text_options, character_escape, 16, 4);
+LIES(limecove_text_options, size, 0, 8);
+LIES(limecove_text_options, tab_size, 8, 8);
+LIES(limecove_text_options, constructs, 16, 8);
 IS(sizeof(struct limecove_text_options) == 24);
 
-LIES(limecove_options, machine, 0, 4);
-LIES(limecove_options, deep, 4, 4);
-LIES(limecove_options, cut, 8, 8);
-LIES(limecove_options, text, 16, 24);
+LIES(limecove_options, size, 0, 8);
+LIES(limecove_options, tab_size, 8, 8);
+LIES(limecove_options, constructs, 16, 8);
+LIES(limecove_options, cut, 24, 8);
+LIES(limecove_options, machine, 32, 4);
+LIES(limecove_options, deep, 36, 4);
 IS(sizeof(struct limecove_options) == 40);
 
 LIES(limecove_record, kind, 0, 2);
@@ -36,4 +38,37 @@ LIES(limecove_answer, version, 4, 4);
 LIES(limecove_answer, count, 8, 8);
 IS(sizeof(struct limecove_answer) == 16);
 
-IS(LIMECOVE_VERSION == 1 && LIMECOVE_READ == 0 && LIMECOVE_OUT_OF_MEMORY == 1 && LIMECOVE_TOO_LONG == 2 && LIMECOVE_NO_SUCH_OPTIONS == 3);
+/* A number with bits in each byte of a field, so that a field that is cut or moved shows. */
+#define LONG(n) ((size_t)0x0101010101010101u * (n))
+
+/* Whether a record has these numbers, and 0 in its other fields. */
+static int is(const struct limecove_record *record, uint32_t name, size_t line, size_t column, size_t index, size_t vs, size_t previous) {
+    return record->kind == 0 && record->content == 0 && record->name == name && record->line == line && record->column == column &&
+           record->index == index && record->vs == vs && record->previous == previous && record->next == 0;
+}
+
+int main(void) {
+    struct limecove_options options;
+    struct limecove_text_options text;
+    struct limecove_record records[5]; /* the first and the last are guards */
+    struct limecove_answer answer;
+    ask_version();
+    options.size = LONG(1);
+    options.tab_size = LONG(2);
+    options.constructs = LONG(3);
+    options.cut = LONG(4);
+    options.machine = 0x05050505;
+    options.deep = 0x06060606;
+    text.size = LONG(7);
+    text.tab_size = LONG(8);
+    text.constructs = LONG(9);
+    memset(records, 0xa5, sizeof records);
+    answer = limecove_echo(&options, &text, &records[1], &records[2], &records[3]);
+    CHECK(answer.code == 1 && answer.version == LIMECOVE_VERSION && answer.count == 3);
+    CHECK(untouched(&records[0], sizeof *records) && untouched(&records[4], sizeof *records));
+    CHECK(records[1].kind == 1 && records[1].content == 2 && records[1].name == 3 && records[1].line == 4 && records[1].column == 5);
+    CHECK(records[1].index == 6 && records[1].vs == 7 && records[1].previous == 8 && records[1].next == 9);
+    CHECK(is(&records[2], 0x05050505, LONG(1), LONG(2), LONG(4), 0x06060606, LONG(3)));
+    CHECK(is(&records[3], 0, LONG(7), LONG(8), 0, 0, LONG(9)));
+    return 0;
+}

@@ -20,11 +20,11 @@ struct other_answer limecove_read(const uint8_t *document, size_t document_len, 
 struct other_answer limecove_read_text(const uint8_t *document, size_t document_len, const void *options, struct other_record *records, size_t records_len);
 
 uint32_t limecove_version(void) {
-    return 2;
+    return 1;
 }
 
 struct other_answer limecove_read(const uint8_t *document, size_t document_len, const void *options, struct other_record *records, size_t records_len) {
-    struct other_answer answer = {0, 2, records_len};
+    struct other_answer answer = {0, 1, records_len};
     (void)document, (void)document_len, (void)options;
     fprintf(stderr, "a library of another version has written\n");
     fflush(stderr);

@@ -22,7 +22,7 @@ static void with_room(size_t way, const uint8_t *document, size_t len, struct li
 
 /* NULL is a document of no bytes, and records of no room, in every way. */
 static void null_is_none(void) {
-    struct limecove_text_options text = LIMECOVE_DEFAULT_TEXT_OPTIONS;
+    struct limecove_text_options text = limecove_default_text_options();
     struct limecove_record all[64], record;
     const uint8_t *document = (const uint8_t *)"a `b`\n";
     memset(&record, 0xa5, sizeof record);
@@ -37,24 +37,52 @@ static void null_is_none(void) {
     }
 }
 
-/* Options that choose nothing: nothing is written. */
+/* Options that choose nothing: the code says why, and nothing is written. */
 static void refused(void) {
     struct limecove_record record;
-    struct limecove_text_options text = LIMECOVE_DEFAULT_TEXT_OPTIONS, none = {0, 1, 1, 1}, wide = {17, 1, 1, 1};
-    struct limecove_options options[] = {{7, 0, 0, text}, {LIMECOVE_LINES, 1, 0, text}, {LIMECOVE_TEXT, 0, 0, none}, {LIMECOVE_TEXT, 0, 0, wide}};
+    struct limecove_options options[6];
+    struct limecove_text_options texts[3];
+    const uint32_t codes[] = {LIMECOVE_OTHER_SIZE, LIMECOVE_NO_SUCH_TAB_SIZE, LIMECOVE_NO_SUCH_CONSTRUCT, LIMECOVE_NO_SUCH_MACHINE, LIMECOVE_NO_SUCH_MACHINE, LIMECOVE_LINKS_NO_TEXT};
+    for (size_t i = 0; i < 6; i++)
+        options[i] = limecove_default_options();
+    for (size_t i = 0; i < 3; i++)
+        texts[i] = limecove_default_text_options();
+    options[0].size = texts[0].size = 32;
+    options[1].tab_size = texts[1].tab_size = 17;
+    options[2].constructs = texts[2].constructs = 8;
+    options[3].machine = 7;
+    options[4].machine = UINT32_MAX;
+    options[5].machine = LIMECOVE_LINES;
     memset(&record, 0xa5, sizeof record);
-    for (size_t i = 0; i < sizeof options / sizeof *options; i++) {
+    for (size_t i = 0; i < 6; i++) {
         struct limecove_answer answer = limecove_read((const uint8_t *)"a", 1, &options[i], &record, 1);
-        CHECK(answer.code == LIMECOVE_NO_SUCH_OPTIONS && answer.count == 0 && untouched(&record, sizeof record));
+        CHECK(answer.code == codes[i] && answer.count == 0 && untouched(&record, sizeof record));
+        CHECK(limecove_code_text(answer.code) != NULL);
     }
-    struct limecove_answer answer = limecove_read_text((const uint8_t *)"a", 1, &none, &record, 1);
-    CHECK(answer.code == LIMECOVE_NO_SUCH_OPTIONS && answer.count == 0 && untouched(&record, sizeof record));
+    for (size_t i = 0; i < 3; i++) {
+        struct limecove_answer answer = limecove_read_text((const uint8_t *)"a", 1, &texts[i], &record, 1);
+        CHECK(answer.code == codes[i] && answer.count == 0 && untouched(&record, sizeof record));
+    }
+}
+
+/* Names and codes as text, at both ends of their numbers. */
+static void texts_of_numbers(void) {
+    CHECK(strcmp(limecove_name_text(LIMECOVE_NAME_ATTENTION_SEQUENCE), "AttentionSequence") == 0);
+    CHECK(strcmp(limecove_name_text(LIMECOVE_NAME_CODE_TEXT), "CodeText") == 0);
+    CHECK(strcmp(limecove_name_text(LIMECOVE_NAME_LINE_PREFIX), "LinePrefix") == 0);
+    CHECK(limecove_name_text(LIMECOVE_NAME_LINE_PREFIX + 1) == NULL && limecove_name_text(UINT32_MAX) == NULL);
+    CHECK(limecove_name_is_void(LIMECOVE_NAME_DATA) && !limecove_name_is_void(LIMECOVE_NAME_PARAGRAPH));
+    CHECK(limecove_name_is_void(LIMECOVE_NAME_THEMATIC_BREAK_SEQUENCE) && !limecove_name_is_void(UINT32_MAX));
+    CHECK(strcmp(limecove_code_text(LIMECOVE_OUT_OF_MEMORY), "out of memory") == 0);
+    CHECK(strcmp(limecove_code_text(LIMECOVE_LINKS_NO_TEXT), "the machine links no text") == 0);
+    CHECK(limecove_code_text(LIMECOVE_LINKS_NO_TEXT + 1) == NULL);
 }
 
 int main(int argc, char **argv) {
     ask_version();
     null_is_none();
     refused();
+    texts_of_numbers();
     for (long n = argc > 1 ? atol(argv[1]) : 200; n > 0; n--) {
         size_t len;
         uint8_t *document = random_document(&len);

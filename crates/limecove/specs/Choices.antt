@@ -1,6 +1,7 @@
 -- The machine, tab size, cut and constructs that options choose, given as numbers.
-use Rattle.std.specs.Prelude.{ℕ, ◌&&◌, not, Bool, List, Option, Some, None, cond, nat_eq, nat_lt}
-use Rattle.std.specs.Option.{option_and_then}
+use Rattle.std.specs.Prelude.{ℕ, ◌&&◌, not, Bool, List, Option, Some, None, Result, cond, nat_eq, nat_lt, bit_and}
+use Rattle.std.specs.declared.result.Result.TheVariants.{Ok, Err}
+use Rattle.std.specs.Option.{option_map_or}
 use Rattle.markdown.specs.declared.configuration.Constructs.{Constructs}
 use Rattle.markdown.specs.Engine.{given_by}
 use Rattle.markdown.specs.Presets.{default_constructs}
@@ -20,9 +21,9 @@ machine_of n =
     (cond (nat_eq n 1) (Some Paragraphs)
     (cond (nat_eq n 2) (Some Peek) (cond (nat_eq n 3) (Some Deep) (cond (nat_eq n 4) (Some Back) (cond (nat_eq n 5) (Some Save) (cond (nat_eq n 6) (Some Text) None))))))
 
--- the tab size of a number: itself, from 1 to 16
+-- the tab size of a number: itself, from 1 to 16; 0 is 4
 abbrev pub tab_of : ℕ → Option ℕ
-tab_of n = cond (nat_lt 0 n && nat_lt n 17) (Some n) None
+tab_of n = cond (nat_eq n 0) (Some 4) (cond (nat_lt n 17) (Some n) None)
 
 -- a number that is not 0
 abbrev pub cut_of : ℕ → Option ℕ
@@ -32,20 +33,58 @@ cut_of n = cond (nat_eq n 0) None (Some n)
 abbrev pub is_yes : ℕ → Bool
 is_yes n = not (nat_eq n 0)
 
--- what options choose, if there are such a machine and such a tab size, and they are accepted together
-abbrev pub choice_of : Options → Option Choice
-choice_of options =
-    option_and_then (λ which. option_and_then (λ t. choice_together (cut_of options.cut) (is_yes options.deep) which t) (tab_of options.text.tab_size))
-    (machine_of options.machine)
+-- a sum of bits without the bits of the first three constructs is none
+abbrev pub are_constructs : ℕ → Bool
+are_constructs bits = nat_lt bits 8
 
--- the default constructs, except for three, which the options have on or off
-abbrev pub constructs_of : TextOptions → Constructs
-constructs_of options = record default_constructs {
-  autolink = is_yes options.autolink;
-  character_escape = is_yes options.character_escape;
-  code_text = is_yes options.code_text;
+-- why options choose nothing, as codes
+abbrev pub other_size : ℕ
+other_size = 3
+
+abbrev pub no_such_tab_size : ℕ
+no_such_tab_size = 4
+
+abbrev pub no_such_construct : ℕ
+no_such_construct = 5
+
+abbrev pub no_such_machine : ℕ
+no_such_machine = 6
+
+abbrev pub links_no_text : ℕ
+links_no_text = 7
+
+-- what a machine, a cut and `deep` choose with a tab size, if they are accepted together
+abbrev pub together : Options → ℕ → Result Choice ℕ
+together options t =
+    option_map_or (λ which. option_map_or Ok (choice_together (cut_of options.cut) (is_yes options.deep) which t) (Err links_no_text))
+    (machine_of options.machine) (Err no_such_machine)
+
+-- what options choose, or the code of the first thing that there is not: their size, tab size, constructs, machine, and texts of it
+abbrev pub choice_of : Options → Result Choice ℕ
+choice_of options =
+    cond (nat_eq options.size 40)
+    (option_map_or (λ t. cond (are_constructs options.constructs) (together options t) (Err no_such_construct)) (tab_of options.tab_size) (Err no_such_tab_size))
+    (Err other_size)
+
+-- the tab size that options of text choose, or such a code
+abbrev pub text_choice_of : TextOptions → Result ℕ ℕ
+text_choice_of options =
+    cond (nat_eq options.size 24)
+    (option_map_or (λ t. cond (are_constructs options.constructs) (Ok t) (Err no_such_construct)) (tab_of options.tab_size) (Err no_such_tab_size))
+    (Err other_size)
+
+-- whether a sum of bits has a bit
+abbrev pub has_bit : ℕ → ℕ → Bool
+has_bit bits bit = is_yes (bit_and bits bit)
+
+-- the default constructs, except for three, each of which is on if its bit is there
+abbrev pub constructs_of : ℕ → Constructs
+constructs_of bits = record default_constructs {
+  autolink = has_bit bits 2;
+  character_escape = has_bit bits 4;
+  code_text = has_bit bits 1;
 }
 
--- a document that is read as text with these options
-abbrev pub text_document : TextOptions → List ℕ → Given
-text_document options bytes = given_by bytes (options_with (constructs_of options) options.tab_size)
+-- a document that is read as text with these constructs and this tab size
+abbrev pub text_document : (bits tab : ℕ) → List ℕ → Given
+text_document bits tab bytes = given_by bytes (options_with (constructs_of bits) tab)

@@ -1,16 +1,20 @@
 -- Events as records of numbers.
-use Rattle.std.specs.Prelude.{ℕ, ◌≡◌, List, ◌++◌, map, take, drop, length, Some, unwrap_or}
+use Rattle.std.specs.Prelude.{ℕ, ◌≡◌, List, ◌++◌, map, take, drop, length, unwrap_or}
+use Rattle.std.specs.declared.result.Result.TheVariants.{Ok}
 use Rattle.std.specs.Option.{option_and_then, option_map_or}
 use Rattle.markdown.specs.declared.event.Content.{Content}
 use Rattle.markdown.specs.declared.event.Content.TheVariants.{Flow, Content as ContentOfContent, String, Text}
 use Rattle.markdown.specs.declared.event.Event.{Event}
 use Rattle.markdown.specs.declared.event.Kind.{Kind}
 use Rattle.markdown.specs.declared.event.Kind.TheVariants.{Enter, Exit}
+use Rattle.markdown.specs.Engine.{whole_text}
 use Rattle.mdconstructs.specs.declared.choice.Choice.{Choice}
 use Rattle.mdconstructs.specs.Documents.{AreEventsOf, options_with}
+use Rattle.mdconstructs.specs.TextEvents.{text_events}
 use Rattle.limecove.specs.declared.choose.Options.{Options}
+use Rattle.limecove.specs.declared.choose.TextOptions.{TextOptions}
 use Rattle.limecove.specs.declared.record.Record.{Record}
-use Rattle.limecove.specs.Choices.{choice_of, constructs_of}
+use Rattle.limecove.specs.Choices.{choice_of, constructs_of, text_choice_of, text_document}
 use Rattle.limecove.specs.Names.{number_of}
 
 -- the number of a kind
@@ -50,8 +54,50 @@ filled old events = take (length old) (map record_of events) ++ drop (length eve
 -- Records after the records of a document's events, as the options choose them, were written over the first ones
 pub record HoldsEventsOf (options : Options) (bytes : List ℕ) (n : ℕ) (old new : List Record) : Type 0 where
   pub choice : Choice
-  pub chosen : choice_of options ≡ Some choice
+  pub chosen : choice_of options ≡ Ok choice
   pub events : List Event
-  pub are : AreEventsOf choice.deep choice.machine (options_with (constructs_of options.text) choice.tab) bytes events
+  pub are : AreEventsOf choice.deep choice.machine (options_with (constructs_of options.constructs) choice.tab) bytes events
   pub count : n ≡ length events
   pub written : new ≡ filled old events
+
+-- Records after the records of a document's events, read as text with the constructs and the tab size of the options, were written over
+-- the first ones
+pub record HoldsTextOf (options : TextOptions) (bytes : List ℕ) (n : ℕ) (old new : List Record) : Type 0 where
+  pub tab : ℕ
+  pub chosen : text_choice_of options ≡ Ok tab
+  pub events : List Event
+  pub are : let g = text_document options.constructs tab bytes in events ≡ text_events g (whole_text g)
+  pub count : n ≡ length events
+  pub written : new ≡ filled old events
+
+-- a record with the number of each field
+abbrev pub numbered : Record
+numbered = record { kind = 1; content = 2; name = 3; line = 4; column = 5; index = 6; vs = 7; previous = 8; next = 9 }
+
+-- the numbers of options, in fields of a record that are as wide
+abbrev pub echoed : Options → Record
+echoed options = record {
+  kind = 0;
+  content = 0;
+  name = options.machine;
+  line = options.size;
+  column = options.tab_size;
+  index = options.cut;
+  vs = options.deep;
+  previous = options.constructs;
+  next = 0;
+}
+
+-- the numbers of options of text, in the same fields
+abbrev pub echoed_text : TextOptions → Record
+echoed_text options = record {
+  kind = 0;
+  content = 0;
+  name = 0;
+  line = options.size;
+  column = options.tab_size;
+  index = 0;
+  vs = 0;
+  previous = options.constructs;
+  next = 0;
+}

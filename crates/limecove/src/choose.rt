@@ -1,57 +1,87 @@
 //! Options as numbers, and what they choose.
 
-ghost use Rattle.std.specs.Prelude.{◌≡◌, IfSome};
+ghost use Rattle.std.specs.Prelude.{◌≡◌, ◌<◌, ◌≤◌, IfErr, IfOk, IfSome};
 ghost use Rattle.mdconstructs.specs.Choices.{CanCut};
-ghost use Rattle.limecove.specs.Choices.{choice_of, constructs_of, machine_of, tab_of};
+ghost use Rattle.limecove.specs.Choices.{choice_of, constructs_of, machine_of, tab_of, text_choice_of};
 
+use crate::code::{
+    LINKS_NO_TEXT, NO_SUCH_CONSTRUCT, NO_SUCH_MACHINE, NO_SUCH_TAB_SIZE, OTHER_SIZE, TOO_LONG,
+};
 use markdown::configuration::{Constructs, TabSize};
 use mdconstructs::choice::{Choice, Which, links_text};
 
-/// How text is read. A construct is on if its number is not 0.
+/// The bit of code spans.
+pub const CODE_TEXT: u64 = 1;
+/// The bit of autolinks.
+pub const AUTOLINK: u64 = 2;
+/// The bit of backslash escapes.
+pub const CHARACTER_ESCAPE: u64 = 4;
+/// The bits of all constructs.
+pub const ALL_CONSTRUCTS: u64 = 7;
+
+/// How many bytes `TextOptions` has.
+pub const TEXT_OPTIONS_SIZE: usize = 24;
+/// How many bytes `Options` has.
+pub const OPTIONS_SIZE: usize = 40;
+
+/// How text is read.
 #[repr(C)]
 #[derive(Clone, Copy, Debug, PartialEq, Eq)]
 pub struct TextOptions {
-    /// The distance from one tab stop to the next, from 1 to 16 columns.
+    /// How many bytes these options have for the caller: [`TEXT_OPTIONS_SIZE`].
+    pub size: usize,
+    /// The distance from one tab stop to the next, from 1 to 16 columns. 0 is 4.
     pub tab_size: usize,
-    /// Code spans.
-    pub code_text: u32,
-    /// Autolinks.
-    pub autolink: u32,
-    /// Backslash escapes.
-    pub character_escape: u32,
+    /// The constructs that are on: the sum of their bits.
+    pub constructs: u64,
 }
 
 /// How a document is read.
 #[repr(C)]
 #[derive(Clone, Copy, Debug, PartialEq, Eq)]
 pub struct Options {
+    /// How many bytes these options have for the caller: [`OPTIONS_SIZE`].
+    pub size: usize,
+    /// The distance from one tab stop to the next, from 1 to 16 columns. 0 is 4.
+    pub tab_size: usize,
+    /// The constructs that are on in texts: the sum of their bits.
+    pub constructs: u64,
+    /// After how many virtual bytes the document is cut each time. If it is 0, the document is not cut.
+    pub cut: usize,
     /// The machine that reads: 0 for lines, 1 for paragraphs, 2 for peek, 3 for deep, 4 for back, 5 for save, 6 for text.
     pub machine: u32,
     /// If it is not 0, the chunks of text that the machine links are read too. Only paragraphs and text link any.
     pub deep: u32,
-    /// After how many virtual bytes the document is cut each time. If it is 0, the document is not cut.
-    pub cut: usize,
-    /// How the machine of texts reads, and the tab size for each machine.
-    pub text: TextOptions,
 }
 
-/// What options choose, if they choose anything.
-pub(crate) fn choose(options: &Options) -> Option<Choice>
+/// What options choose. If they choose nothing, it returns the code that says why.
+pub(crate) fn choose(options: &Options) -> Result<Choice, u32>
     ensures chosen { result ≡ choice_of options.now }
-    ensures cut { IfSome result CanCut }
+    ensures cut { IfOk result CanCut }
+    ensures codes { IfErr result (λ code. (TOO_LONG < code) × (code ≤ LINKS_NO_TEXT)) }
 {
-    let machine = machine_of(options.machine)?;
-    let tab = tab_of(options.text.tab_size)?;
+    if options.size != OPTIONS_SIZE {
+        return Err(OTHER_SIZE);
+    }
+    let Some(tab) = tab_of(options.tab_size) else {
+        return Err(NO_SUCH_TAB_SIZE);
+    };
+    if options.constructs > ALL_CONSTRUCTS {
+        return Err(NO_SUCH_CONSTRUCT);
+    }
+    let Some(machine) = machine_of(options.machine) else {
+        return Err(NO_SUCH_MACHINE);
+    };
     let deep = options.deep != 0;
     if deep && !links_text(machine) {
-        return None;
+        return Err(LINKS_NO_TEXT);
     }
     let cut = if options.cut == 0 {
         None
     } else {
         Some(options.cut)
     };
-    Some(Choice {
+    Ok(Choice {
         cut,
         deep,
         machine,
@@ -59,23 +89,44 @@ pub(crate) fn choose(options: &Options) -> Option<Choice>
     })
 }
 
-/// The constructs that options have on: the default ones, except for three.
-pub(crate) fn constructs_of(options: &TextOptions) -> Constructs
-    ensures { result ≡ constructs_of options.now }
+/// The tab size that options of text choose. If they choose nothing, it returns the code that says why.
+pub(crate) fn choose_text(options: &TextOptions) -> Result<TabSize, u32>
+    ensures chosen { result ≡ text_choice_of options.now }
+    ensures codes { IfErr result (λ code. (TOO_LONG < code) × (code ≤ LINKS_NO_TEXT)) }
+{
+    if options.size != TEXT_OPTIONS_SIZE {
+        return Err(OTHER_SIZE);
+    }
+    let Some(tab) = tab_of(options.tab_size) else {
+        return Err(NO_SUCH_TAB_SIZE);
+    };
+    if options.constructs > ALL_CONSTRUCTS {
+        return Err(NO_SUCH_CONSTRUCT);
+    }
+    Ok(tab)
+}
+
+/// The constructs that a sum of bits has on: the default ones, except for three.
+pub(crate) fn constructs_of(bits: u64) -> Constructs
+    ensures { result ≡ constructs_of bits }
 {
     Constructs {
-        autolink: options.autolink != 0,
-        character_escape: options.character_escape != 0,
-        code_text: options.code_text != 0,
+        autolink: bits & AUTOLINK != 0,
+        character_escape: bits & CHARACTER_ESCAPE != 0,
+        code_text: bits & CODE_TEXT != 0,
         ..Constructs::default()
     }
 }
 
 /// The tab size of a number.
-pub(crate) fn tab_of(number: usize) -> Option<TabSize>
+fn tab_of(number: usize) -> Option<TabSize>
     ensures { result ≡ tab_of number }
 {
-    TabSize::new(number)
+    if number == 0 {
+        TabSize::new(4)
+    } else {
+        TabSize::new(number)
+    }
 }
 
 /// The machine of a number.

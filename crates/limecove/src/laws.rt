@@ -2,13 +2,25 @@
 
 ghost use Rattle.std.specs.Prelude.{◌≡◌};
 
-use crate::{NO_SUCH_OPTIONS, OUT_OF_MEMORY, READ, TOO_LONG, VERSION};
+use crate::choose::{
+    ALL_CONSTRUCTS, AUTOLINK, CHARACTER_ESCAPE, CODE_TEXT, OPTIONS_SIZE, TEXT_OPTIONS_SIZE,
+};
+use crate::code::{
+    LINKS_NO_TEXT, NO_SUCH_CONSTRUCT, NO_SUCH_MACHINE, NO_SUCH_TAB_SIZE, OTHER_SIZE, OUT_OF_MEMORY,
+    READ, TOO_LONG, VERSION,
+};
 
 /// The value of each number.
 pub fn numbers_are_stated()
-    ensures version { VERSION ≡ 1 }
+    ensures version { VERSION ≡ 2 }
     ensures read { READ ≡ 0 }
     ensures out_of_memory { OUT_OF_MEMORY ≡ 1 }
     ensures too_long { TOO_LONG ≡ 2 }
-    ensures no_such_options { NO_SUCH_OPTIONS ≡ 3 }
+    ensures other_size { OTHER_SIZE ≡ 3 }
+    ensures no_such_tab_size { NO_SUCH_TAB_SIZE ≡ 4 }
+    ensures no_such_construct { NO_SUCH_CONSTRUCT ≡ 5 }
+    ensures no_such_machine { NO_SUCH_MACHINE ≡ 6 }
+    ensures links_no_text { LINKS_NO_TEXT ≡ 7 }
+    ensures constructs { (CODE_TEXT ≡ 1) × (AUTOLINK ≡ 2) × (CHARACTER_ESCAPE ≡ 4) × (ALL_CONSTRUCTS ≡ 7) }
+    ensures sizes { (TEXT_OPTIONS_SIZE ≡ 24) × (OPTIONS_SIZE ≡ 40) }
 {}

@@ -5,35 +5,24 @@
 #![tactic(auto)]
 
 mod choose;
+pub mod code;
+mod echo;
 pub mod laws;
 mod record;
 #[cfg(test)]
 mod tests;
 
-ghost use Rattle.std.specs.Prelude.{◌≡◌, ◌≢◌, ◌≤◌, ◌↔◌, length, None, IsSomeAnd};
-ghost use Rattle.markdown.specs.Engine.{whole_text};
+ghost use Rattle.std.specs.Prelude.{◌≡◌, ◌≢◌, ◌≤◌, ◌↔◌, IfErr, IfOk, IsOkAnd};
 ghost use Rattle.markdown.specs.Virtual.{IsWithinLimit};
-ghost use Rattle.mdconstructs.specs.TextEvents.{text_events};
-ghost use Rattle.limecove.specs.Choices.{choice_of, tab_of, text_document};
-ghost use Rattle.limecove.specs.Records.{filled, HoldsEventsOf};
+ghost use Rattle.limecove.specs.Choices.{choice_of, text_choice_of};
+ghost use Rattle.limecove.specs.Records.{HoldsEventsOf, HoldsTextOf, echoed, echoed_text, numbered};
 
-use crate::choose::{Options, TextOptions, choose, constructs_of, tab_of};
+use crate::choose::{Options, TextOptions, choose, choose_text, constructs_of};
+use crate::code::{LINKS_NO_TEXT, OUT_OF_MEMORY, READ, TOO_LONG, VERSION};
+use crate::echo::{echo_of, echo_of_text, numbered};
 use crate::record::{Record, write_records};
 use mdconstructs::{events_of, limit_of, options_with, text_events_of};
 use std::alloc::Global;
-
-/// The version of the functions, options and records. It changes with each of their layouts and meanings. A function that is added
-/// does not change it: a caller of that function cannot be linked to a library without it.
-pub const VERSION: u32 = 1;
-
-/// The document was read.
-pub const READ: u32 = 0;
-/// The call ran out of memory.
-pub const OUT_OF_MEMORY: u32 = 1;
-/// The tab size times the length of the document, and one more, does not fit `usize`.
-pub const TOO_LONG: u32 = 2;
-/// The options choose nothing: there is no such machine or tab size, or `deep` is on for a machine that links no text.
-pub const NO_SUCH_OPTIONS: u32 = 3;
 
 /// How a call ended, and how many events there are.
 #[repr(C)]
@@ -65,22 +54,23 @@ pub extern "C" fn limecove_read_text(
     options: &TextOptions,
     records: &mut [Record],
 ) -> Answer
-    ensures count { result.code ≡ READ → let g = text_document options.now bytes.now in result.count ≡ length (text_events g (whole_text g)) }
-    ensures written { result.code ≡ READ → let g = text_document options.now bytes.now in records.new ≡ filled records.old (text_events g (whole_text g)) }
+    ensures read { result.code ≡ READ → HoldsTextOf options.now bytes.now result.count records.old records.new }
     ensures kept { result.code ≢ READ → records.new ≡ records.old }
     ensures none { result.code ≢ READ → result.count ≡ 0 }
-    ensures options { (result.code ≡ NO_SUCH_OPTIONS) ↔ (tab_of options.now.tab_size ≡ None) }
-    ensures too_long { (result.code ≡ TOO_LONG) ↔ IsSomeAnd (tab_of options.now.tab_size) (λ tab. ¬ IsWithinLimit tab bytes.now) }
-    ensures codes { result.code ≤ NO_SUCH_OPTIONS }
+    ensures options { IfErr (text_choice_of options.now) (λ code. result.code ≡ code) }
+    ensures chosen { IfOk (text_choice_of options.now) (λ _. result.code ≤ TOO_LONG) }
+    ensures too_long { (result.code ≡ TOO_LONG) ↔ IsOkAnd (text_choice_of options.now) (λ tab. ¬ IsWithinLimit tab bytes.now) }
+    ensures codes { result.code ≤ LINKS_NO_TEXT }
     ensures version { result.version ≡ VERSION }
 {
-    let Some(tab) = tab_of(options.tab_size) else {
-        return ended(NO_SUCH_OPTIONS, 0);
+    let tab = match choose_text(options) {
+        Ok(tab) => tab,
+        Err(code) => return ended(code, 0),
     };
     if bytes.len() > limit_of(tab) {
         return ended(TOO_LONG, 0);
     }
-    let options = options_with(constructs_of(options), tab);
+    let options = options_with(constructs_of(options.constructs), tab);
     match text_events_of(alloc, bytes, &options) {
         Ok(events) => ended(READ, write_records(records, events.as_slice())),
         Err(_) => ended(OUT_OF_MEMORY, 0),
@@ -98,21 +88,46 @@ pub extern "C" fn limecove_read(
     ensures read { result.code ≡ READ → HoldsEventsOf options.now bytes.now result.count records.old records.new }
     ensures kept { result.code ≢ READ → records.new ≡ records.old }
     ensures none { result.code ≢ READ → result.count ≡ 0 }
-    ensures options { (result.code ≡ NO_SUCH_OPTIONS) ↔ (choice_of options.now ≡ None) }
-    ensures too_long { (result.code ≡ TOO_LONG) ↔ IsSomeAnd (choice_of options.now) (λ choice. ¬ IsWithinLimit choice.tab bytes.now) }
-    ensures codes { result.code ≤ NO_SUCH_OPTIONS }
+    ensures options { IfErr (choice_of options.now) (λ code. result.code ≡ code) }
+    ensures chosen { IfOk (choice_of options.now) (λ _. result.code ≤ TOO_LONG) }
+    ensures too_long { (result.code ≡ TOO_LONG) ↔ IsOkAnd (choice_of options.now) (λ choice. ¬ IsWithinLimit choice.tab bytes.now) }
+    ensures codes { result.code ≤ LINKS_NO_TEXT }
     ensures version { result.version ≡ VERSION }
 {
-    let Some(choice) = choose(options) else {
-        return ended(NO_SUCH_OPTIONS, 0);
+    let choice = match choose(options) {
+        Ok(choice) => choice,
+        Err(code) => return ended(code, 0),
     };
     if bytes.len() > limit_of(choice.tab) {
         return ended(TOO_LONG, 0);
     }
-    match events_of(alloc, bytes, constructs_of(&options.text), &choice) {
+    match events_of(alloc, bytes, constructs_of(options.constructs), &choice) {
         Ok(events) => ended(READ, write_records(records, events.as_slice())),
         Err(_) => ended(OUT_OF_MEMORY, 0),
     }
+}
+
+/// Writes back what it sees, so that a caller can compare its layout with the library's, field by field. `numbers` gets 1 to 9, a
+/// number for each field in order. The other two records get the numbers of the options: the machine as the name, the size as the line,
+/// the tab size as the column, the cut as the index, `deep` as `vs`, the constructs as `previous`, and 0 in all other fields. The answer
+/// has the code 1 and the count 3. Nothing is read.
+#[unsafe(no_mangle)]
+pub extern "C" fn limecove_echo(
+    options: &Options,
+    text: &TextOptions,
+    numbers: &mut Record,
+    of_options: &mut Record,
+    of_text: &mut Record,
+) -> Answer
+    ensures numbers { numbers.new ≡ numbered }
+    ensures of_options { of_options.new ≡ echoed options.now }
+    ensures of_text { of_text.new ≡ echoed_text text.now }
+    ensures answer { result ≡ record { code = 1; version = VERSION; count = 3 } }
+{
+    *numbers = numbered();
+    *of_options = echo_of(options);
+    *of_text = echo_of_text(text);
+    ended(1, 3)
 }
 
 /// The result of a call that ended with this code and this many events.

@@ -1,10 +1,13 @@
 //! Calls of the functions, as a program in C makes them.
 
-use crate::choose::{Options, TextOptions};
-use crate::record::{NO_INDEX, Record};
-use crate::{
-    Answer, NO_SUCH_OPTIONS, READ, VERSION, limecove_read, limecove_read_text, limecove_version,
+use crate::choose::{
+    AUTOLINK, CHARACTER_ESCAPE, OPTIONS_SIZE, Options, TEXT_OPTIONS_SIZE, TextOptions,
 };
+use crate::code::{
+    LINKS_NO_TEXT, NO_SUCH_CONSTRUCT, NO_SUCH_MACHINE, NO_SUCH_TAB_SIZE, OTHER_SIZE, READ, VERSION,
+};
+use crate::record::{NO_INDEX, Record};
+use crate::{Answer, limecove_echo, limecove_read, limecove_read_text, limecove_version};
 use markdown::event::Name;
 use std::alloc::{AllocError, Global};
 use std::mem::size_of;
@@ -39,19 +42,20 @@ fn at(kind: u16, name: Name, line: usize, column: usize, index: usize) -> Record
 
 /// Text with all three constructs, and tab stops at every 4 columns.
 const TEXT: TextOptions = TextOptions {
+    size: 24,
     tab_size: 4,
-    code_text: 1,
-    autolink: 1,
-    character_escape: 1,
+    constructs: 7,
 };
 
 /// The options of a machine's number.
 fn by(machine: u32, deep: u32) -> Options {
     Options {
+        size: 40,
+        tab_size: 4,
+        constructs: 7,
+        cut: 0,
         machine,
         deep,
-        cut: 0,
-        text: TEXT,
     }
 }
 
@@ -167,97 +171,145 @@ fn documents_are_read(rt: HostRuntime) {
 fn documents_are_read_as_text(rt: HostRuntime) {
     assert!(rt; reads_text(rt.alloc(), b"`a`", &TEXT, &code()));
     let no_code = TextOptions {
-        code_text: 0,
+        constructs: AUTOLINK | CHARACTER_ESCAPE,
         ..TEXT
     };
     assert!(rt; reads_text(rt.alloc(), b"`a`", &no_code, &plain_code()));
     assert!(rt; reads_text(rt.alloc(), b"", &TEXT, &[]));
+    let of_four = TextOptions {
+        tab_size: 0,
+        ..TEXT
+    };
+    assert!(rt; reads_text(rt.alloc(), b"`a`", &of_four, &code()));
 }
 
-/// The options of the machine of texts, with this tab size.
-fn tabs(tab_size: usize) -> Options {
-    Options {
-        text: TextOptions { tab_size, ..TEXT },
-        ..by(6, 0)
+/// An answer to options that choose nothing.
+fn refused(code: u32) -> Answer {
+    Answer {
+        code,
+        version: VERSION,
+        count: 0,
     }
 }
 
-const NOT_READ: Answer = Answer {
-    code: NO_SUCH_OPTIONS,
-    version: VERSION,
-    count: 0,
-};
+/// Options that choose nothing, each with the code that says why.
+fn refused_options() -> [(Options, u32); 6] {
+    let size = Options {
+        size: 24,
+        ..by(6, 1)
+    };
+    let tabs = Options {
+        tab_size: 17,
+        ..by(6, 1)
+    };
+    let constructs = Options {
+        constructs: 8,
+        ..by(6, 1)
+    };
+    [
+        (size, OTHER_SIZE),
+        (tabs, NO_SUCH_TAB_SIZE),
+        (constructs, NO_SUCH_CONSTRUCT),
+        (by(7, 0), NO_SUCH_MACHINE),
+        (by(7, 1), NO_SUCH_MACHINE),
+        (by(0, 1), LINKS_NO_TEXT),
+    ]
+}
 
 #[test]
 fn options_that_choose_nothing_are_refused(rt: HostRuntime) {
     let mut records = [OLD; 12];
-    // no machine, a machine that links no text, and no tab sizes
-    for options in &[by(7, 0), by(0, 1), tabs(0), tabs(17)] {
+    for (options, code) in &refused_options() {
         let answer = limecove_read(rt.alloc(), b"a", options, &mut records);
-        assert!(rt; answer == NOT_READ);
+        assert!(rt; answer == refused(*code));
     }
-    let no_tabs = TextOptions {
-        tab_size: 0,
+    let size = TextOptions { size: 40, ..TEXT };
+    let tabs = TextOptions {
+        tab_size: 17,
         ..TEXT
     };
-    let answer = limecove_read_text(rt.alloc(), b"a", &no_tabs, &mut records);
-    assert!(rt; answer == NOT_READ);
+    let constructs = TextOptions {
+        constructs: 8,
+        ..TEXT
+    };
+    for (options, code) in &[
+        (size, OTHER_SIZE),
+        (tabs, NO_SUCH_TAB_SIZE),
+        (constructs, NO_SUCH_CONSTRUCT),
+    ] {
+        let answer = limecove_read_text(rt.alloc(), b"a", options, &mut records);
+        assert!(rt; answer == refused(*code));
+    }
     assert!(rt; records.iter().all(|record| *record == OLD));
 }
 
 #[test]
 fn the_version_is_told(rt: HostRuntime) {
-    assert!(rt; limecove_version() == 1);
+    assert!(rt; limecove_version() == 2);
 }
 
-/// What crosses, with a value of its own in each field.
-fn crossing() -> (Record, Options, Answer) {
-    let record = Record {
-        kind: 1,
-        content: 2,
-        name: 3,
-        line: 4,
-        column: 5,
-        index: 6,
-        vs: 7,
-        previous: 8,
-        next: 9,
-    };
-    let text = TextOptions {
-        tab_size: 4,
-        code_text: 5,
-        autolink: 6,
-        character_escape: 7,
-    };
-    let options = Options {
-        machine: 1,
-        deep: 2,
-        cut: 3,
-        text,
-    };
-    let answer = Answer {
-        code: 1,
-        version: 2,
-        count: 3,
-    };
-    (record, options, answer)
-}
+/// Options with a value of its own in each field.
+const OPTIONS: Options = Options {
+    size: 1,
+    tab_size: 2,
+    constructs: 3,
+    cut: 4,
+    machine: 5,
+    deep: 6,
+};
+
+const TEXT_OPTIONS: TextOptions = TextOptions {
+    size: 1,
+    tab_size: 2,
+    constructs: 3,
+};
 
 /// `Debug` shows fields in the order of the source, and `#[repr(C)]` lays them out in it.
 #[test]
 fn fields_lie_in_their_order(rt: HostRuntime) -> Result<(), AllocError> {
     let want =
         "Record { kind: 1, content: 2, name: 3, line: 4, column: 5, index: 6, vs: 7, previous: 8, next: 9 }, \
-        Options { machine: 1, deep: 2, cut: 3, text: TextOptions { tab_size: 4, code_text: 5, autolink: 6, \
-        character_escape: 7 } }, Answer { code: 1, version: 2, count: 3 }";
-    let (record, options, answer) = crossing();
-    let made = format!(in rt.alloc(); "{record:?}, {options:?}, {answer:?}")?;
+        Options { size: 1, tab_size: 2, constructs: 3, cut: 4, machine: 5, deep: 6 }, \
+        TextOptions { size: 1, tab_size: 2, constructs: 3 }, Answer { code: 1, version: 2, count: 3 }";
+    let mut records = [OLD; 3];
+    let [numbers, of_options, of_text] = &mut records;
+    let answer = limecove_echo(&OPTIONS, &TEXT_OPTIONS, numbers, of_options, of_text);
+    let record = records[0];
+    let made = format!(in rt.alloc(); "{record:?}, {OPTIONS:?}, {TEXT_OPTIONS:?}, {answer:?}")?;
     assert!(rt; made.as_str() == want);
     Ok(())
+}
+
+/// The numbers of options come back, each in its field.
+#[test]
+fn options_are_echoed(rt: HostRuntime) {
+    let mut records = [OLD; 3];
+    let [numbers, of_options, of_text] = &mut records;
+    limecove_echo(&OPTIONS, &TEXT_OPTIONS, numbers, of_options, of_text);
+    let none = Record {
+        kind: 0,
+        content: 0,
+        name: 0,
+        line: 1,
+        column: 2,
+        index: 0,
+        vs: 0,
+        previous: 3,
+        next: 0,
+    };
+    let all = Record {
+        name: 5,
+        index: 4,
+        vs: 6,
+        ..none
+    };
+    assert!(rt; records[1] == all && records[2] == none);
 }
 
 #[test]
 fn sizes_are_those_of_the_header(rt: HostRuntime) {
     assert!(rt; size_of::<Record>() == 56 && size_of::<Answer>() == 16);
-    assert!(rt; size_of::<Options>() == 40 && size_of::<TextOptions>() == 24);
+    assert!(rt;
+        size_of::<Options>() == OPTIONS_SIZE && size_of::<TextOptions>() == TEXT_OPTIONS_SIZE
+    );
 }

@@ -2,5 +2,5 @@
 use Rattle.std.proofs.Common.{rules}
 use Rattle.limecove.proofs.limecove_read.Goals as goal
 
-pub returns-in-Ok-clause-read : goal.returns-in-Ok-clause-read
-returns-in-Ok-clause-read c = search rules
+pub returns-in-Ok-events_of-clause-read : goal.returns-in-Ok-events_of-clause-read
+returns-in-Ok-events_of-clause-read c = search rules

@@ -6,7 +6,7 @@ use std::fs;
 use std::path::Path;
 
 fn text(path: &str) -> String {
-    let top = Path::new(env!("CARGO_MANIFEST_DIR")).join("../..");
+    let top = Path::new(env!("CARGO_MANIFEST_DIR")).join("../../..");
     fs::read_to_string(top.join(path)).unwrap()
 }
 
@@ -24,7 +24,7 @@ fn upper(name: &str) -> String {
 
 /// Whether these are the proved names, each at its number, and are all that the header has with this prefix.
 fn compare<T: Display>(proved: &[(String, usize)], here: &[T], prefix: &str) {
-    let header = text("bindings/limecove.h");
+    let header = text("bindings/limecove.h").replace("\n}", ",\n}");
     assert_eq!(proved.len(), here.len());
     for (name, number) in proved {
         assert_eq!(here[*number].to_string(), *name);
@@ -41,7 +41,22 @@ fn names_of_spans_have_their_proved_numbers() {
         .map(|(name, number)| (name.to_string(), number.parse().unwrap()))
         .collect();
     assert_eq!(proved.len(), 142);
-    compare(&proved, &Name::ALL, "LIMECOVE_NAME_");
+    compare(&proved, Name::ALL, "LIMECOVE_NAME_");
+}
+
+/// The void names are those of the list that is proved.
+#[test]
+fn void_names_are_those_that_are_proved() {
+    let specs = text("crates/markdown_base/specs/VoidNames.antt");
+    let (_, list) = specs.split_once("void_names =").unwrap();
+    let proved: Vec<_> = list.split('∷').map(str::trim).collect();
+    for name in Name::ALL {
+        assert_eq!(name.is_void(), proved.contains(&name.as_str()), "{}", name);
+    }
+    assert_eq!(
+        Name::ALL.iter().filter(|name| name.is_void()).count(),
+        proved.len() - 1
+    );
 }
 
 #[test]
@@ -52,9 +67,10 @@ fn machines_have_their_proved_numbers() {
         .filter_map(|rest| {
             let (number, rest) = rest.split_once(") (Some ")?;
             let (name, _) = rest.split_once(')')?;
+            name.starts_with(char::is_uppercase).then_some(())?;
             Some((name.to_string(), number.parse().ok()?))
         })
         .collect();
     assert_eq!(proved.len(), 7);
-    compare(&proved, &Machine::ALL, "LIMECOVE_");
+    compare(&proved, Machine::ALL, "LIMECOVE_");
 }

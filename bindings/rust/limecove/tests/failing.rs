@@ -4,7 +4,10 @@
 //! `malloc`, `calloc` and `realloc` are those of this program: std's allocator calls them, and so does the library. The C library's
 //! own, glibc's, do their work.
 
-use limecove::{Error, Event, Machine, Options, TextOptions, spans, tokenize, tokenize_text};
+use limecove::{
+    spans, spans_by_start, tokenize, tokenize_text, Error, Event, Machine, Options, Span,
+    TextOptions,
+};
 use std::ffi::c_void;
 use std::sync::atomic::{AtomicBool, AtomicIsize, AtomicUsize, Ordering::Relaxed};
 
@@ -15,7 +18,7 @@ static STAYS: AtomicBool = AtomicBool::new(false);
 /// How many failed.
 static FAILED: AtomicUsize = AtomicUsize::new(0);
 
-unsafe extern "C" {
+extern "C" {
     fn __libc_malloc(size: usize) -> *mut c_void;
     fn __libc_calloc(count: usize, size: usize) -> *mut c_void;
     fn __libc_realloc(block: *mut c_void, size: usize) -> *mut c_void;
@@ -31,7 +34,7 @@ fn fails() -> bool {
     left == 0
 }
 
-#[unsafe(no_mangle)]
+#[no_mangle]
 extern "C" fn malloc(size: usize) -> *mut c_void {
     if fails() {
         return std::ptr::null_mut();
@@ -40,7 +43,7 @@ extern "C" fn malloc(size: usize) -> *mut c_void {
     unsafe { __libc_malloc(size) }
 }
 
-#[unsafe(no_mangle)]
+#[no_mangle]
 extern "C" fn calloc(count: usize, size: usize) -> *mut c_void {
     if fails() {
         return std::ptr::null_mut();
@@ -52,13 +55,13 @@ extern "C" fn calloc(count: usize, size: usize) -> *mut c_void {
 /// # Safety
 ///
 /// As of C's `realloc`.
-#[unsafe(no_mangle)]
+#[no_mangle]
 unsafe extern "C" fn realloc(block: *mut c_void, size: usize) -> *mut c_void {
     if fails() {
         return std::ptr::null_mut();
     }
-    // SAFETY: it is the C library's own `realloc`, and the caller keeps its terms.
-    unsafe { __libc_realloc(block, size) }
+    // it is the C library's own `realloc`, and the caller keeps its terms
+    __libc_realloc(block, size)
 }
 
 /// What a call returns if the allocation after `left` others fails, and if it `stays` so also those after it. Then how many failed.
@@ -102,6 +105,30 @@ impl Ends {
                 }
             }
         }
+        self.of_spans(&want);
+    }
+
+    /// Puts the spans of events in order of their starts, with each allocation failing.
+    fn of_spans(&mut self, events: &[Event]) {
+        let want: Vec<Span> = spans_by_start(events).expect("there is memory");
+        for stays in [false, true] {
+            for left in 0.. {
+                let (result, failed) = failing(left, stays, || spans_by_start(events));
+                match result {
+                    Ok(begun) => {
+                        assert_eq!(begun, want);
+                        if failed == 0 {
+                            break;
+                        }
+                        self.read += 1;
+                    }
+                    Err(error) => {
+                        assert!(error == Error::OutOfMemory && failed > 0);
+                        self.out += 1;
+                    }
+                }
+            }
+        }
     }
 }
 
@@ -115,17 +142,12 @@ fn main() {
     ];
     let mut ends = Ends::default();
     for document in documents {
-        for machine in Machine::ALL {
+        for &machine in Machine::ALL {
             for deep in [false, true] {
-                if deep && !matches!(machine, Machine::Paragraphs | Machine::Text) {
-                    continue;
+                if !deep || machine.links_text() {
+                    let options = Options::default().machine(machine).deep(deep);
+                    ends.of_each(|| tokenize(document, &options));
                 }
-                let options = Options {
-                    machine,
-                    deep,
-                    ..Options::default()
-                };
-                ends.of_each(|| tokenize(document, &options));
             }
         }
         ends.of_each(|| tokenize_text(document, &TextOptions::default()));

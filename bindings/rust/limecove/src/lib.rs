@@ -1,66 +1,139 @@
-//! Safe calls of Limecove, the proved tokenizer engine.
+//! Safe calls of Limecove, a proved tokenizer engine for Markdown.
 //!
 //! ```
-//! use limecove::{Name, Options, spans, tokenize};
+//! use limecove::{spans, tokenize, Name, Options};
 //!
-//! let document = b"a `code` b";
+//! let document = "a `code` b";
 //! let events = tokenize(document, &Options::default())?;
-//! let code: Vec<_> = spans(&events).filter(|span| span.name == Name::CodeText).collect();
-//! assert_eq!(&document[code[0].bytes()], b"`code`");
+//! let code = spans(&events).find(|span| span.name == Name::CodeText).unwrap();
+//! assert_eq!(code.text(document.as_bytes()), b"`code`");
 //! # Ok::<(), limecove::Error>(())
 //! ```
 //!
-//! What is proved of the events, and what is not, is in `docs/BINDINGS.md`.
+//! What is read are code spans, autolinks, backslash escapes and paragraphs. Headings, lists, emphasis and links are not read.
+//!
+//! The crate `limecove-sys` links `liblimecove.a`. If it is not found, set `LIMECOVE_LIB` to the folder that has it.
+#![deny(missing_docs)]
 
 mod event;
-mod foreign;
 mod names;
 
-pub use crate::event::{Content, Event, Kind, Link, Point, Span, Spans, spans};
-use crate::foreign::{Answer, Record};
-pub use crate::names::{Machine, Name};
-use std::alloc::{Layout, alloc_zeroed, realloc};
+/// The program of the page is tried too.
+#[cfg(doctest)]
+#[doc = include_str!("../README.md")]
+struct Readme;
+
+pub use crate::event::{spans, spans_by_start, Content, Event, Kind, Link, Point, Span, Spans};
+pub use crate::names::{Machine, Name, UnknownName};
+use limecove_sys::{Answer, Record};
+use std::alloc::{alloc_zeroed, realloc, Layout};
 use std::error;
 use std::fmt;
-use std::mem::ManuallyDrop;
+use std::mem::{size_of, ManuallyDrop};
 use std::num::NonZeroUsize;
 use std::sync::atomic::{AtomicBool, Ordering};
 
+/// How many columns tab stops are apart: from 1 to 16.
+#[derive(Clone, Copy, Debug, PartialEq, Eq, PartialOrd, Ord, Hash)]
+pub struct TabSize(usize);
+
+impl TabSize {
+    /// A tab size. `None` if it is 0 or above 16.
+    pub const fn new(columns: usize) -> Option<TabSize> {
+        match columns {
+            1..=16 => Some(TabSize(columns)),
+            _ => None,
+        }
+    }
+
+    /// The number of columns.
+    pub const fn get(self) -> usize {
+        self.0
+    }
+}
+
+impl Default for TabSize {
+    /// CommonMark's: 4.
+    fn default() -> TabSize {
+        TabSize(4)
+    }
+}
+
 /// How text is read. The default: code spans, autolinks and backslash escapes, and tab stops at every 4 columns.
+///
+/// ```
+/// let options = limecove::TextOptions::default().autolink(false);
+/// let events = limecove::tokenize_text("<ab:c>", &options)?;
+/// assert!(events.iter().all(|event| event.name() == limecove::Name::Data));
+/// # Ok::<(), limecove::Error>(())
+/// ```
 #[derive(Clone, Copy, Debug, PartialEq, Eq, Hash)]
 pub struct TextOptions {
-    /// How many columns tab stops are apart, from 1 to 16.
-    pub tab_size: usize,
-    /// Whether there are code spans.
-    pub code_text: bool,
-    /// Whether there are autolinks.
-    pub autolink: bool,
-    /// Whether there are backslash escapes.
-    pub character_escape: bool,
+    tab_size: TabSize,
+    constructs: u64,
 }
 
 impl Default for TextOptions {
     fn default() -> TextOptions {
         TextOptions {
-            tab_size: 4,
-            code_text: true,
-            autolink: true,
-            character_escape: true,
+            tab_size: TabSize::default(),
+            constructs: limecove_sys::ALL_CONSTRUCTS,
         }
     }
 }
 
+impl TextOptions {
+    /// The same, with tab stops so many columns apart.
+    #[must_use]
+    pub const fn tab_size(mut self, tab_size: TabSize) -> TextOptions {
+        self.tab_size = tab_size;
+        self
+    }
+
+    /// The same, with or without code spans.
+    #[must_use]
+    pub const fn code_text(self, is_on: bool) -> TextOptions {
+        self.with(limecove_sys::CODE_TEXT, is_on)
+    }
+
+    /// The same, with or without autolinks.
+    #[must_use]
+    pub const fn autolink(self, is_on: bool) -> TextOptions {
+        self.with(limecove_sys::AUTOLINK, is_on)
+    }
+
+    /// The same, with or without backslash escapes.
+    #[must_use]
+    pub const fn character_escape(self, is_on: bool) -> TextOptions {
+        self.with(limecove_sys::CHARACTER_ESCAPE, is_on)
+    }
+
+    /// The same, with a construct on or off.
+    const fn with(mut self, bit: u64, is_on: bool) -> TextOptions {
+        self.constructs = if is_on {
+            self.constructs | bit
+        } else {
+            self.constructs & !bit
+        };
+        self
+    }
+}
+
 /// How a document is read. The default: paragraphs, and text in them.
+///
+/// ```
+/// use limecove::{tokenize, Machine, Options};
+///
+/// let events = tokenize("ab", &Options::default().machine(Machine::Lines))?;
+/// assert_eq!(events[1].to_string(), "enter Data 1:1 (0+0)");
+/// # Ok::<(), limecove::Error>(())
+/// ```
 #[derive(Clone, Copy, Debug, PartialEq, Eq, Hash)]
 pub struct Options {
-    /// The machine that reads.
-    pub machine: Machine,
-    /// Whether the chunks that [`Machine::Paragraphs`] and [`Machine::Text`] link are read too. The other machines link none.
-    pub deep: bool,
-    /// After how many virtual bytes the document is cut each time, which changes no event.
-    pub cut: Option<NonZeroUsize>,
-    /// How text is read. The size of tabs is that of each machine.
-    pub text: TextOptions,
+    machine: Machine,
+    deep: bool,
+    cut: Option<NonZeroUsize>,
+    text: TextOptions,
 }
 
 impl Default for Options {
@@ -74,6 +147,43 @@ impl Default for Options {
     }
 }
 
+impl Options {
+    /// The same, read by a machine.
+    #[must_use]
+    pub const fn machine(mut self, machine: Machine) -> Options {
+        self.machine = machine;
+        self
+    }
+
+    /// The same, with or without reading the chunks of text that the machine links. If it links none, it makes no difference.
+    #[must_use]
+    pub const fn deep(mut self, is_deep: bool) -> Options {
+        self.deep = is_deep;
+        self
+    }
+
+    /// The same, with the document cut after so many virtual bytes each time, or not cut. It changes no event.
+    #[must_use]
+    pub const fn cut(mut self, cut: Option<NonZeroUsize>) -> Options {
+        self.cut = cut;
+        self
+    }
+
+    /// The same, with texts read so. The size of tabs is that of each machine.
+    #[must_use]
+    pub const fn text(mut self, text: TextOptions) -> Options {
+        self.text = text;
+        self
+    }
+}
+
+impl Machine {
+    /// Whether it links chunks of text, which can be read too.
+    pub const fn links_text(self) -> bool {
+        matches!(self, Machine::Paragraphs | Machine::Text)
+    }
+}
+
 /// Why a document was not read.
 #[derive(Clone, Copy, Debug, PartialEq, Eq, Hash)]
 #[non_exhaustive]
@@ -82,8 +192,6 @@ pub enum Error {
     OutOfMemory,
     /// The size of tabs times the length of the document, and one more, do not fit `usize`.
     TooLong,
-    /// A tab size of 0 or above 16, or `deep` with a machine that links nothing.
-    Options,
 }
 
 impl fmt::Display for Error {
@@ -91,7 +199,6 @@ impl fmt::Display for Error {
         f.write_str(match self {
             Error::OutOfMemory => "out of memory",
             Error::TooLong => "document too long",
-            Error::Options => "no such options",
         })
     }
 }
@@ -107,30 +214,24 @@ impl error::Error for Error {}
 /// # Panics
 ///
 /// If the library that is linked has another version. Nothing has been read or written then.
-///
-/// ```
-/// use limecove::{Machine, Options, tokenize};
-///
-/// let options = Options { machine: Machine::Lines, deep: false, ..Options::default() };
-/// let shown: Vec<String> = tokenize(b"ab", &options)?.iter().map(|event| event.to_string()).collect();
-/// assert_eq!(shown[1], "enter Data 1:1 (0+0)");
-/// # Ok::<(), limecove::Error>(())
-/// ```
-pub fn tokenize(document: &[u8], options: &Options) -> Result<Vec<Event>, Error> {
-    let options = foreign::Options {
-        machine: options.machine as u32,
-        deep: u32::from(options.deep),
+pub fn tokenize(document: impl AsRef<[u8]>, options: &Options) -> Result<Vec<Event>, Error> {
+    let document = document.as_ref();
+    let options = limecove_sys::Options {
+        size: size_of::<limecove_sys::Options>(),
+        tab_size: options.text.tab_size.get(),
+        constructs: options.text.constructs,
         cut: options.cut.map_or(0, NonZeroUsize::get),
-        text: foreign_text(&options.text),
+        machine: options.machine as u32,
+        deep: u32::from(options.deep && options.machine.links_text()),
     };
     read(document, |records| {
-        // SAFETY: the declaration is that of `crates/limecove/src/lib.rt`. Pointers and lengths are those of references that live
-        // for the call. Only the records are written, and they share no byte with what is read. The function requires nothing.
+        // SAFETY: the version was asked. Pointers and lengths are those of references that live for the call. Only the records are
+        // written, and they share no byte with what is read.
         unsafe {
-            foreign::limecove_read(
+            limecove_sys::limecove_read(
                 document.as_ptr(),
                 document.len(),
-                &raw const options,
+                &options,
                 records.as_mut_ptr().cast::<Record>(),
                 records.len(),
             )
@@ -149,21 +250,25 @@ pub fn tokenize(document: &[u8], options: &Options) -> Result<Vec<Event>, Error>
 /// As [`tokenize`].
 ///
 /// ```
-/// use limecove::{Name, TextOptions, spans, tokenize_text};
+/// use limecove::{spans, tokenize_text, Name, TextOptions};
 ///
-/// let events = tokenize_text(b"\\*", &TextOptions::default())?;
+/// let events = tokenize_text("\\*", &TextOptions::default())?;
 /// assert_eq!(spans(&events).last().unwrap().name, Name::CharacterEscape);
 /// # Ok::<(), limecove::Error>(())
 /// ```
-pub fn tokenize_text(document: &[u8], options: &TextOptions) -> Result<Vec<Event>, Error> {
+pub fn tokenize_text(
+    document: impl AsRef<[u8]>,
+    options: &TextOptions,
+) -> Result<Vec<Event>, Error> {
+    let document = document.as_ref();
     let options = foreign_text(options);
     read(document, |records| {
         // SAFETY: as in `tokenize`.
         unsafe {
-            foreign::limecove_read_text(
+            limecove_sys::limecove_read_text(
                 document.as_ptr(),
                 document.len(),
-                &raw const options,
+                &options,
                 records.as_mut_ptr().cast::<Record>(),
                 records.len(),
             )
@@ -172,12 +277,11 @@ pub fn tokenize_text(document: &[u8], options: &TextOptions) -> Result<Vec<Event
 }
 
 /// Options as numbers.
-fn foreign_text(options: &TextOptions) -> foreign::TextOptions {
-    foreign::TextOptions {
-        tab_size: options.tab_size,
-        code_text: u32::from(options.code_text),
-        autolink: u32::from(options.autolink),
-        character_escape: u32::from(options.character_escape),
+fn foreign_text(options: &TextOptions) -> limecove_sys::TextOptions {
+    limecove_sys::TextOptions {
+        size: size_of::<limecove_sys::TextOptions>(),
+        tab_size: options.tab_size.get(),
+        constructs: options.constructs,
     }
 }
 
@@ -187,10 +291,10 @@ fn assert_version() {
     static IS_SAME: AtomicBool = AtomicBool::new(false);
     if !IS_SAME.load(Ordering::Relaxed) {
         // SAFETY: the function takes nothing, and reads and writes nothing.
-        let version = unsafe { foreign::limecove_version() };
+        let version = unsafe { limecove_sys::limecove_version() };
         assert_eq!(
             version,
-            foreign::VERSION,
+            limecove_sys::VERSION,
             "liblimecove.a has another version"
         );
         IS_SAME.store(true, Ordering::Relaxed);
@@ -209,26 +313,25 @@ fn read(
     assert_version();
     let mut events = zeroed(guess(document)).or_else(|_| zeroed(FEW))?;
     let mut answer = call(&mut events);
-    if answer.code == foreign::OUT_OF_MEMORY && events.len() > FEW {
+    if answer.code == limecove_sys::OUT_OF_MEMORY && events.len() > FEW {
         drop(events);
         events = zeroed(FEW)?;
         answer = call(&mut events);
     }
-    if answer.code == foreign::READ && answer.count > events.len() {
+    if answer.code == limecove_sys::READ && answer.count > events.len() {
         drop(events);
         events = zeroed(answer.count)?;
         answer = call(&mut events);
     }
-    debug_assert_eq!(answer.version, foreign::VERSION);
+    debug_assert_eq!(answer.version, limecove_sys::VERSION);
     match answer.code {
-        foreign::READ => {
+        limecove_sys::READ => {
             events.truncate(answer.count);
             Ok(fitted(events))
         }
-        foreign::OUT_OF_MEMORY => Err(Error::OutOfMemory),
-        foreign::TOO_LONG => Err(Error::TooLong),
-        foreign::NO_SUCH_OPTIONS => Err(Error::Options),
-        code => unreachable!("no answer has the code {code}"),
+        limecove_sys::OUT_OF_MEMORY => Err(Error::OutOfMemory),
+        limecove_sys::TOO_LONG => Err(Error::TooLong),
+        code => unreachable!("the options choose something, and the code is {}", code),
     }
 }
 
@@ -275,8 +378,9 @@ fn fitted(events: Vec<Event>) -> Vec<Event> {
     if count == 0 {
         return Vec::new();
     }
-    let Ok(layout) = Layout::array::<Event>(room) else {
-        return events;
+    let layout = match Layout::array::<Event>(room) {
+        Ok(layout) => layout,
+        Err(_) => return events,
     };
     let mut events = ManuallyDrop::new(events);
     let block = events.as_mut_ptr();
@@ -299,7 +403,7 @@ mod tests {
     fn answer(code: u32, count: usize) -> Answer {
         Answer {
             code,
-            version: foreign::VERSION,
+            version: limecove_sys::VERSION,
             count,
         }
     }
@@ -309,7 +413,7 @@ mod tests {
         let mut calls = 0;
         let events = read(document, |_| {
             calls += 1;
-            answer(foreign::READ, count)
+            answer(limecove_sys::READ, count)
         });
         assert_eq!(events.unwrap().len(), count);
         calls
@@ -340,23 +444,18 @@ mod tests {
         ];
         for line in lines {
             let document = line.repeat(100_000 / line.len());
-            for machine in Machine::ALL {
+            for &machine in Machine::ALL {
                 if machine == Machine::Deep {
                     continue; // it takes a time that grows with the square of the document
                 }
                 for deep in [false, true] {
-                    let options = Options {
-                        machine,
-                        deep,
-                        ..Options::default()
-                    };
-                    if let Ok(events) = tokenize(&document, &options) {
-                        assert!(events.len() <= guess(&document), "{line:?} {machine}");
-                    }
+                    let options = Options::default().machine(machine).deep(deep);
+                    let events = tokenize(&document, &options).unwrap();
+                    assert!(events.len() <= guess(&document), "{:?} {}", line, machine);
                 }
             }
             let events = tokenize_text(&document, &TextOptions::default()).unwrap();
-            assert!(events.len() <= guess(&document), "{line:?}");
+            assert!(events.len() <= guess(&document), "{:?}", line);
         }
     }
 
@@ -367,9 +466,9 @@ mod tests {
         let events = read(document, |events| {
             rooms.push(events.len());
             if events.len() > most {
-                answer(foreign::OUT_OF_MEMORY, 0)
+                answer(limecove_sys::OUT_OF_MEMORY, 0)
             } else {
-                answer(foreign::READ, count)
+                answer(limecove_sys::READ, count)
             }
         });
         (rooms, events.map(|events| events.len()))
@@ -401,7 +500,6 @@ mod tests {
         let code = |code| read(b"", |_| answer(code, 0));
         assert_eq!(code(1), Err(Error::OutOfMemory));
         assert_eq!(code(2), Err(Error::TooLong));
-        assert_eq!(code(3), Err(Error::Options));
     }
 
     #[test]

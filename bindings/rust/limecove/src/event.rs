@@ -1,7 +1,8 @@
 //! Events, and the spans between them.
 
-use crate::foreign::{NO_INDEX, Record};
 use crate::names::Name;
+use crate::Error;
+use limecove_sys::{Record, NO_INDEX};
 use std::fmt;
 use std::ops::Range;
 
@@ -154,6 +155,15 @@ impl Span {
     pub fn bytes(&self) -> Range<usize> {
         self.start.index..self.end.index
     }
+
+    /// Those bytes of the document from which the events come.
+    ///
+    /// # Panics
+    ///
+    /// If the document is shorter than the span's end.
+    pub fn text<'a>(&self, document: &'a [u8]) -> &'a [u8] {
+        &document[self.bytes()]
+    }
 }
 
 /// As in `CodeText 1:3-1:9`: its name, and the lines and columns where it begins and ends.
@@ -170,7 +180,50 @@ impl fmt::Display for Span {
     }
 }
 
-/// The spans of a list of events, in the order in which they end.
+/// The spans of a list of events, in the order in which they begin: each comes before the spans in it.
+///
+/// ```
+/// let events = limecove::tokenize("a", &limecove::Options::default())?;
+/// let shown: Vec<String> = limecove::spans_by_start(&events)?.iter().map(|span| span.to_string()).collect();
+/// assert_eq!(shown, ["Paragraph 1:1-1:2", "Data 1:1-1:2"]);
+/// # Ok::<(), limecove::Error>(())
+/// ```
+///
+/// # Errors
+///
+/// If it runs out of memory.
+///
+/// # Panics
+///
+/// If the list is not whole: an exit has no enter, or an enter has no exit.
+pub fn spans_by_start(events: &[Event]) -> Result<Vec<Span>, Error> {
+    let (mut all, mut open) = (Vec::<Span>::new(), Vec::new());
+    all.try_reserve_exact(events.len() / 2)
+        .map_err(|_| Error::OutOfMemory)?;
+    open.try_reserve(1).map_err(|_| Error::OutOfMemory)?;
+    for event in events {
+        if event.kind() == Kind::Exit {
+            let last: usize = open.pop().expect("an exit has an enter");
+            all[last].end = event.point();
+            continue;
+        }
+        if open.len() == open.capacity() {
+            open.try_reserve(open.len())
+                .map_err(|_| Error::OutOfMemory)?;
+        }
+        open.push(all.len());
+        all.push(Span {
+            name: event.name(),
+            depth: open.len() - 1,
+            start: event.point(),
+            end: event.point(),
+        });
+    }
+    assert!(open.is_empty(), "an enter has an exit");
+    Ok(all)
+}
+
+/// The spans of a list of events, in the order in which they end. On part of a list it ends at the first exit whose enter is not there.
 ///
 /// ```
 /// let events = limecove::tokenize(b"a", &limecove::Options::default())?;

@@ -1,7 +1,8 @@
 //! Calls each function of the static library through its wrapper.
 
 use limecove::{
-    Content, Error, Link, Machine, Name, Options, TextOptions, spans, tokenize, tokenize_text,
+    spans, spans_by_start, tokenize, tokenize_text, Content, Error, Link, Machine, Name, Options,
+    TabSize, TextOptions, UnknownName,
 };
 use std::collections::HashSet;
 use std::num::NonZeroUsize;
@@ -12,18 +13,11 @@ fn lines(document: &[u8], options: &Options) -> String {
 }
 
 fn by(machine: Machine) -> Options {
-    Options {
-        machine,
-        deep: false,
-        ..Options::default()
-    }
+    Options::default().machine(machine).deep(false)
 }
 
 fn tabs(tab_size: usize) -> TextOptions {
-    TextOptions {
-        tab_size,
-        ..TextOptions::default()
-    }
+    TextOptions::default().tab_size(TabSize::new(tab_size).expect("1 to 16"))
 }
 
 #[test]
@@ -33,16 +27,10 @@ fn lines_are_those_of_the_program() {
         exit Data 2:2 (4+0)\nexit Paragraph 2:2 (4+0)\n";
     assert_eq!(lines(b"a\r\nb", &by(Machine::Lines)), expected);
     for n in 1..5 {
-        let cut = Options {
-            cut: NonZeroUsize::new(n),
-            ..by(Machine::Lines)
-        };
+        let cut = by(Machine::Lines).cut(NonZeroUsize::new(n));
         assert_eq!(lines(b"a\r\nb", &cut), expected);
     }
-    let two = Options {
-        text: tabs(2),
-        ..by(Machine::Lines)
-    };
+    let two = by(Machine::Lines).text(tabs(2));
     assert_eq!(
         lines(b"\ta", &two),
         "enter Paragraph 1:1 (0+0)\nenter Data 1:1 (0+0)\nexit Data 1:4 (2+0)\nexit Paragraph 1:4 (2+0)\n"
@@ -120,51 +108,90 @@ fn text_is_read_without_paragraphs() {
 }
 
 /// A document that is one construct, the name of the construct's span, and what turns it off.
-type Construct = (&'static [u8], &'static str, fn(&mut TextOptions));
+type Construct = (
+    &'static str,
+    &'static str,
+    fn(TextOptions, bool) -> TextOptions,
+);
 
 /// With a construct off, the bytes of it are data, in both functions.
 #[test]
 fn constructs_can_be_off() {
     let constructs: [Construct; 3] = [
-        (b"`a`", "CodeText", |text| text.code_text = false),
-        (b"<ab:c>", "Autolink", |text| text.autolink = false),
-        (b"\\*", "CharacterEscape", |text| {
-            text.character_escape = false
-        }),
+        ("`a`", "CodeText", TextOptions::code_text),
+        ("<ab:c>", "Autolink", TextOptions::autolink),
+        ("\\*", "CharacterEscape", TextOptions::character_escape),
     ];
-    for (document, name, turn_off) in constructs {
+    for (document, name, turned) in constructs {
         let on = TextOptions::default();
-        assert!(names(document, &on).iter().any(|found| found == name));
-        let mut off = on;
-        turn_off(&mut off);
-        assert!(names(document, &off).iter().all(|found| found == "Data"));
-        let whole = Options {
-            text: off,
-            ..Options::default()
-        };
-        assert!(!lines(document, &whole).contains(name));
-        assert!(lines(document, &Options::default()).contains(name));
+        let off = turned(on, false);
+        let found = |options: &TextOptions| names(document.as_bytes(), options);
+        assert!(found(&on).iter().any(|found| found == name));
+        assert!(found(&off).iter().all(|found| found == "Data"));
+        assert_eq!(found(&turned(off, true)), found(&on));
+        let whole = Options::default().text(off);
+        assert!(!lines(document.as_bytes(), &whole).contains(name));
+        assert!(lines(document.as_bytes(), &Options::default()).contains(name));
     }
 }
 
 #[test]
-fn options_that_choose_nothing_are_refused() {
-    for tab_size in [0, 17, usize::MAX] {
-        let refused = Options {
-            text: tabs(tab_size),
-            ..Options::default()
-        };
-        assert_eq!(tokenize(b"a", &refused), Err(Error::Options));
-        assert_eq!(tokenize_text(b"a", &tabs(tab_size)), Err(Error::Options));
+fn tab_sizes_are_from_1_to_16() {
+    for columns in [0, 17, usize::MAX] {
+        assert_eq!(TabSize::new(columns), None);
     }
-    for machine in Machine::ALL {
-        let deep = Options {
-            machine,
-            ..Options::default()
-        };
-        let links = matches!(machine, Machine::Paragraphs | Machine::Text);
-        assert_eq!(tokenize(b"a", &deep).is_ok(), links);
+    for columns in 1..=16 {
+        let size = TabSize::new(columns).unwrap();
+        assert_eq!(size.get(), columns);
+        let options = TextOptions::default().tab_size(size);
+        let events = tokenize_text("\ta", &options).unwrap();
+        assert_eq!(events[1].point().column, columns + 2);
     }
+}
+
+/// No options are refused: `deep` makes no difference to a machine that links nothing.
+#[test]
+fn each_machine_can_be_deep() {
+    for &machine in Machine::ALL {
+        let flat = tokenize("a `b`", &by(machine)).unwrap();
+        let deep = tokenize("a `b`", &Options::default().machine(machine)).unwrap();
+        assert_eq!(flat != deep, machine.links_text());
+    }
+}
+
+#[test]
+fn spans_begin_in_their_order() {
+    let events = tokenize("a `b`\nc", &Options::default()).unwrap();
+    let begun = spans_by_start(&events).unwrap();
+    let shown: Vec<_> = begun.iter().map(|span| span.to_string()).collect();
+    assert_eq!(
+        shown,
+        [
+            "Paragraph 1:1-2:2",
+            "Data 1:1-1:3",
+            "CodeText 1:3-1:6",
+            "CodeTextSequence 1:3-1:4",
+            "CodeTextData 1:4-1:5",
+            "CodeTextSequence 1:5-1:6",
+            "LineEnding 1:6-2:1",
+            "Data 2:1-2:2"
+        ]
+    );
+    let mut ended: Vec<_> = spans(&events).collect();
+    ended.sort_by_key(|span| (span.start, span.depth));
+    assert_eq!(ended, begun);
+    assert_eq!(begun[2].text(b"a `b`\nc"), b"`b`");
+}
+
+#[test]
+fn names_are_texts() {
+    for &name in Name::ALL {
+        assert_eq!(name.as_str().parse(), Ok(name));
+        assert_eq!(name.to_string(), format!("{:?}", name));
+    }
+    assert_eq!("codeText".parse::<Name>(), Err(UnknownName));
+    assert_eq!("Text".parse(), Ok(Machine::Text));
+    assert!(Name::Data.is_void() && !Name::Paragraph.is_void());
 }
 
 #[test]

@@ -1,9 +1,11 @@
 //! Names of spans and machines, with their numbers. Written by `bindings/names.py`.
 
 use std::fmt;
+use std::str::FromStr;
 
-/// A machine: what reads a document.
+/// A machine: what reads a document. More may be added.
 #[derive(Clone, Copy, Debug, Default, PartialEq, Eq, Hash)]
+#[non_exhaustive]
 #[repr(u32)]
 pub enum Machine {
     /// `lines`: each line is a paragraph of data.
@@ -24,8 +26,8 @@ pub enum Machine {
 }
 
 impl Machine {
-    /// All machines, in the order of their numbers.
-    pub const ALL: [Machine; 7] = [
+    /// All of them, in the order of their numbers.
+    pub const ALL: &'static [Machine] = &[
         Machine::Lines,
         Machine::Paragraphs,
         Machine::Peek,
@@ -34,10 +36,24 @@ impl Machine {
         Machine::Save,
         Machine::Text,
     ];
+
+    /// As it is declared.
+    pub const fn as_str(self) -> &'static str {
+        match self {
+            Machine::Lines => "Lines",
+            Machine::Paragraphs => "Paragraphs",
+            Machine::Peek => "Peek",
+            Machine::Deep => "Deep",
+            Machine::Back => "Back",
+            Machine::Save => "Save",
+            Machine::Text => "Text",
+        }
+    }
 }
 
-/// What a span is. A *void* name is that of a span that holds no other.
+/// What a span is. A *void* name is that of a span that holds no other. More may be added.
 #[derive(Clone, Copy, Debug, PartialEq, Eq, PartialOrd, Ord, Hash)]
+#[non_exhaustive]
 #[repr(u32)]
 pub enum Name {
     /// Run of `*`, `_` or `~` that may open or close emphasis, strong emphasis or strikethrough (void).
@@ -327,8 +343,8 @@ pub enum Name {
 }
 
 impl Name {
-    /// All names, in the order of their numbers.
-    pub const ALL: [Name; 142] = [
+    /// All of them, in the order of their numbers.
+    pub const ALL: &'static [Name] = &[
         Name::AttentionSequence,
         Name::Autolink,
         Name::AutolinkEmail,
@@ -473,6 +489,221 @@ impl Name {
         Name::LinePrefix,
     ];
 
+    /// As it is declared.
+    pub const fn as_str(self) -> &'static str {
+        match self {
+            Name::AttentionSequence => "AttentionSequence",
+            Name::Autolink => "Autolink",
+            Name::AutolinkEmail => "AutolinkEmail",
+            Name::AutolinkMarker => "AutolinkMarker",
+            Name::AutolinkProtocol => "AutolinkProtocol",
+            Name::BlankLineEnding => "BlankLineEnding",
+            Name::BlockQuote => "BlockQuote",
+            Name::BlockQuoteMarker => "BlockQuoteMarker",
+            Name::BlockQuotePrefix => "BlockQuotePrefix",
+            Name::ByteOrderMark => "ByteOrderMark",
+            Name::CharacterEscape => "CharacterEscape",
+            Name::CharacterEscapeMarker => "CharacterEscapeMarker",
+            Name::CharacterEscapeValue => "CharacterEscapeValue",
+            Name::CharacterReference => "CharacterReference",
+            Name::CharacterReferenceMarker => "CharacterReferenceMarker",
+            Name::CharacterReferenceMarkerHexadecimal => "CharacterReferenceMarkerHexadecimal",
+            Name::CharacterReferenceMarkerNumeric => "CharacterReferenceMarkerNumeric",
+            Name::CharacterReferenceMarkerSemi => "CharacterReferenceMarkerSemi",
+            Name::CharacterReferenceValue => "CharacterReferenceValue",
+            Name::CodeFenced => "CodeFenced",
+            Name::CodeFencedFence => "CodeFencedFence",
+            Name::CodeFencedFenceInfo => "CodeFencedFenceInfo",
+            Name::CodeFencedFenceMeta => "CodeFencedFenceMeta",
+            Name::CodeFencedFenceSequence => "CodeFencedFenceSequence",
+            Name::CodeFlowChunk => "CodeFlowChunk",
+            Name::CodeIndented => "CodeIndented",
+            Name::CodeText => "CodeText",
+            Name::CodeTextData => "CodeTextData",
+            Name::CodeTextSequence => "CodeTextSequence",
+            Name::Content => "Content",
+            Name::Data => "Data",
+            Name::Definition => "Definition",
+            Name::DefinitionDestination => "DefinitionDestination",
+            Name::DefinitionDestinationLiteral => "DefinitionDestinationLiteral",
+            Name::DefinitionDestinationLiteralMarker => "DefinitionDestinationLiteralMarker",
+            Name::DefinitionDestinationRaw => "DefinitionDestinationRaw",
+            Name::DefinitionDestinationString => "DefinitionDestinationString",
+            Name::DefinitionLabel => "DefinitionLabel",
+            Name::DefinitionLabelMarker => "DefinitionLabelMarker",
+            Name::DefinitionLabelString => "DefinitionLabelString",
+            Name::DefinitionMarker => "DefinitionMarker",
+            Name::DefinitionTitle => "DefinitionTitle",
+            Name::DefinitionTitleMarker => "DefinitionTitleMarker",
+            Name::DefinitionTitleString => "DefinitionTitleString",
+            Name::Emphasis => "Emphasis",
+            Name::EmphasisSequence => "EmphasisSequence",
+            Name::EmphasisText => "EmphasisText",
+            Name::Frontmatter => "Frontmatter",
+            Name::FrontmatterChunk => "FrontmatterChunk",
+            Name::FrontmatterFence => "FrontmatterFence",
+            Name::FrontmatterSequence => "FrontmatterSequence",
+            Name::GfmAutolinkLiteralEmail => "GfmAutolinkLiteralEmail",
+            Name::GfmAutolinkLiteralMailto => "GfmAutolinkLiteralMailto",
+            Name::GfmAutolinkLiteralProtocol => "GfmAutolinkLiteralProtocol",
+            Name::GfmAutolinkLiteralWww => "GfmAutolinkLiteralWww",
+            Name::GfmAutolinkLiteralXmpp => "GfmAutolinkLiteralXmpp",
+            Name::GfmFootnoteCall => "GfmFootnoteCall",
+            Name::GfmFootnoteCallLabel => "GfmFootnoteCallLabel",
+            Name::GfmFootnoteCallMarker => "GfmFootnoteCallMarker",
+            Name::GfmFootnoteDefinition => "GfmFootnoteDefinition",
+            Name::GfmFootnoteDefinitionPrefix => "GfmFootnoteDefinitionPrefix",
+            Name::GfmFootnoteDefinitionLabel => "GfmFootnoteDefinitionLabel",
+            Name::GfmFootnoteDefinitionLabelMarker => "GfmFootnoteDefinitionLabelMarker",
+            Name::GfmFootnoteDefinitionLabelString => "GfmFootnoteDefinitionLabelString",
+            Name::GfmFootnoteDefinitionMarker => "GfmFootnoteDefinitionMarker",
+            Name::GfmStrikethrough => "GfmStrikethrough",
+            Name::GfmStrikethroughSequence => "GfmStrikethroughSequence",
+            Name::GfmStrikethroughText => "GfmStrikethroughText",
+            Name::GfmTable => "GfmTable",
+            Name::GfmTableBody => "GfmTableBody",
+            Name::GfmTableCell => "GfmTableCell",
+            Name::GfmTableCellText => "GfmTableCellText",
+            Name::GfmTableCellDivider => "GfmTableCellDivider",
+            Name::GfmTableDelimiterRow => "GfmTableDelimiterRow",
+            Name::GfmTableDelimiterMarker => "GfmTableDelimiterMarker",
+            Name::GfmTableDelimiterCell => "GfmTableDelimiterCell",
+            Name::GfmTableDelimiterCellValue => "GfmTableDelimiterCellValue",
+            Name::GfmTableDelimiterFiller => "GfmTableDelimiterFiller",
+            Name::GfmTableHead => "GfmTableHead",
+            Name::GfmTableRow => "GfmTableRow",
+            Name::GfmTaskListItemCheck => "GfmTaskListItemCheck",
+            Name::GfmTaskListItemMarker => "GfmTaskListItemMarker",
+            Name::GfmTaskListItemValueChecked => "GfmTaskListItemValueChecked",
+            Name::GfmTaskListItemValueUnchecked => "GfmTaskListItemValueUnchecked",
+            Name::HardBreakEscape => "HardBreakEscape",
+            Name::HardBreakTrailing => "HardBreakTrailing",
+            Name::HeadingAtx => "HeadingAtx",
+            Name::HeadingAtxSequence => "HeadingAtxSequence",
+            Name::HeadingAtxText => "HeadingAtxText",
+            Name::HeadingSetext => "HeadingSetext",
+            Name::HeadingSetextText => "HeadingSetextText",
+            Name::HeadingSetextUnderline => "HeadingSetextUnderline",
+            Name::HeadingSetextUnderlineSequence => "HeadingSetextUnderlineSequence",
+            Name::HtmlFlow => "HtmlFlow",
+            Name::HtmlFlowData => "HtmlFlowData",
+            Name::HtmlText => "HtmlText",
+            Name::HtmlTextData => "HtmlTextData",
+            Name::Image => "Image",
+            Name::Label => "Label",
+            Name::LabelEnd => "LabelEnd",
+            Name::LabelImage => "LabelImage",
+            Name::LabelImageMarker => "LabelImageMarker",
+            Name::LabelLink => "LabelLink",
+            Name::LabelMarker => "LabelMarker",
+            Name::LabelText => "LabelText",
+            Name::LineEnding => "LineEnding",
+            Name::Link => "Link",
+            Name::ListItem => "ListItem",
+            Name::ListItemMarker => "ListItemMarker",
+            Name::ListItemPrefix => "ListItemPrefix",
+            Name::ListItemValue => "ListItemValue",
+            Name::ListOrdered => "ListOrdered",
+            Name::ListUnordered => "ListUnordered",
+            Name::MathFlow => "MathFlow",
+            Name::MathFlowFence => "MathFlowFence",
+            Name::MathFlowFenceMeta => "MathFlowFenceMeta",
+            Name::MathFlowFenceSequence => "MathFlowFenceSequence",
+            Name::MathFlowChunk => "MathFlowChunk",
+            Name::MathText => "MathText",
+            Name::MathTextData => "MathTextData",
+            Name::MathTextSequence => "MathTextSequence",
+            Name::Paragraph => "Paragraph",
+            Name::Reference => "Reference",
+            Name::ReferenceMarker => "ReferenceMarker",
+            Name::ReferenceString => "ReferenceString",
+            Name::Resource => "Resource",
+            Name::ResourceDestination => "ResourceDestination",
+            Name::ResourceDestinationLiteral => "ResourceDestinationLiteral",
+            Name::ResourceDestinationLiteralMarker => "ResourceDestinationLiteralMarker",
+            Name::ResourceDestinationRaw => "ResourceDestinationRaw",
+            Name::ResourceDestinationString => "ResourceDestinationString",
+            Name::ResourceMarker => "ResourceMarker",
+            Name::ResourceTitle => "ResourceTitle",
+            Name::ResourceTitleMarker => "ResourceTitleMarker",
+            Name::ResourceTitleString => "ResourceTitleString",
+            Name::SpaceOrTab => "SpaceOrTab",
+            Name::Strong => "Strong",
+            Name::StrongSequence => "StrongSequence",
+            Name::StrongText => "StrongText",
+            Name::ThematicBreak => "ThematicBreak",
+            Name::ThematicBreakSequence => "ThematicBreakSequence",
+            Name::LinePrefix => "LinePrefix",
+        }
+    }
+
+    /// Whether it is void: a span of it holds no other.
+    pub const fn is_void(self) -> bool {
+        matches!(
+            self,
+            Name::AttentionSequence
+                | Name::AutolinkEmail
+                | Name::AutolinkMarker
+                | Name::AutolinkProtocol
+                | Name::BlankLineEnding
+                | Name::BlockQuoteMarker
+                | Name::ByteOrderMark
+                | Name::CharacterEscapeMarker
+                | Name::CharacterEscapeValue
+                | Name::CharacterReferenceMarker
+                | Name::CharacterReferenceMarkerHexadecimal
+                | Name::CharacterReferenceMarkerNumeric
+                | Name::CharacterReferenceMarkerSemi
+                | Name::CharacterReferenceValue
+                | Name::CodeFencedFenceSequence
+                | Name::CodeFlowChunk
+                | Name::CodeTextData
+                | Name::CodeTextSequence
+                | Name::Data
+                | Name::DefinitionDestinationLiteralMarker
+                | Name::DefinitionLabelMarker
+                | Name::DefinitionMarker
+                | Name::DefinitionTitleMarker
+                | Name::EmphasisSequence
+                | Name::FrontmatterChunk
+                | Name::FrontmatterSequence
+                | Name::GfmAutolinkLiteralEmail
+                | Name::GfmAutolinkLiteralProtocol
+                | Name::GfmAutolinkLiteralWww
+                | Name::GfmFootnoteCallMarker
+                | Name::GfmFootnoteDefinitionLabelMarker
+                | Name::GfmFootnoteDefinitionMarker
+                | Name::GfmStrikethroughSequence
+                | Name::GfmTableCellDivider
+                | Name::GfmTableDelimiterMarker
+                | Name::GfmTableDelimiterFiller
+                | Name::GfmTaskListItemMarker
+                | Name::GfmTaskListItemValueChecked
+                | Name::GfmTaskListItemValueUnchecked
+                | Name::HardBreakEscape
+                | Name::HardBreakTrailing
+                | Name::HeadingAtxSequence
+                | Name::HeadingSetextUnderlineSequence
+                | Name::HtmlFlowData
+                | Name::HtmlTextData
+                | Name::LabelImageMarker
+                | Name::LabelMarker
+                | Name::LineEnding
+                | Name::ListItemMarker
+                | Name::ListItemValue
+                | Name::MathFlowFenceSequence
+                | Name::MathFlowChunk
+                | Name::MathTextData
+                | Name::MathTextSequence
+                | Name::ReferenceMarker
+                | Name::ResourceMarker
+                | Name::ResourceTitleMarker
+                | Name::SpaceOrTab
+                | Name::StrongSequence
+                | Name::ThematicBreakSequence
+        )
+    }
+
     /// The name of a number, if there is one.
     pub(crate) fn of(number: u32) -> Option<Name> {
         Name::ALL.get(usize::try_from(number).ok()?).copied()
@@ -482,13 +713,49 @@ impl Name {
 /// As it is declared.
 impl fmt::Display for Machine {
     fn fmt(&self, f: &mut fmt::Formatter<'_>) -> fmt::Result {
-        fmt::Debug::fmt(self, f)
+        f.pad(self.as_str())
+    }
+}
+
+/// From its name as it is declared.
+impl FromStr for Machine {
+    type Err = UnknownName;
+
+    fn from_str(text: &str) -> Result<Machine, UnknownName> {
+        let mut all = Machine::ALL.iter();
+        all.find(|it| it.as_str() == text)
+            .copied()
+            .ok_or(UnknownName)
     }
 }
 
 /// As it is declared.
 impl fmt::Display for Name {
     fn fmt(&self, f: &mut fmt::Formatter<'_>) -> fmt::Result {
-        fmt::Debug::fmt(self, f)
+        f.pad(self.as_str())
     }
 }
+
+/// From its name as it is declared.
+impl FromStr for Name {
+    type Err = UnknownName;
+
+    fn from_str(text: &str) -> Result<Name, UnknownName> {
+        let mut all = Name::ALL.iter();
+        all.find(|it| it.as_str() == text)
+            .copied()
+            .ok_or(UnknownName)
+    }
+}
+
+/// A text is the name of nothing.
+#[derive(Clone, Copy, Debug, PartialEq, Eq)]
+pub struct UnknownName;
+
+impl fmt::Display for UnknownName {
+    fn fmt(&self, f: &mut fmt::Formatter<'_>) -> fmt::Result {
+        f.write_str("no such name")
+    }
+}
+
+impl std::error::Error for UnknownName {}

@@ -1,6 +1,6 @@
 //! Prints the code spans of a document.
 
-use limecove::{Error, Name, TextOptions, spans, tokenize_text};
+use limecove::{spans, tokenize_text, Error, Name, TextOptions};
 
 fn main() -> Result<(), Error> {
     let document = b"a `code` <https://b.c> \\* d\n";

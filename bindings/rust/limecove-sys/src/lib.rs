@@ -1,0 +1,159 @@
+//! The functions of `liblimecove.a`, the static library of Limecove, as they are: raw pointers, numbers and codes. The crate `limecove`
+//! calls them safely.
+//!
+//! A slice crosses as a pointer and a length. Both may be null and 0. A call keeps no state and takes no memory that it does not give
+//! back, so calls may run at the same time. What each function returns is proved; what its caller owes is in its section on safety.
+//!
+//! If a program is linked and `liblimecove.a` is not found, set `LIMECOVE_LIB` to the folder that has it.
+#![deny(missing_docs)]
+#![no_std]
+
+/// The version of these declarations. [`limecove_version`] has that of the library, and is asked first.
+pub const VERSION: u32 = 2;
+
+/// The document was read.
+pub const READ: u32 = 0;
+/// The call ran out of memory.
+pub const OUT_OF_MEMORY: u32 = 1;
+/// The tab size times the length of the document, and one more, does not fit `usize`.
+pub const TOO_LONG: u32 = 2;
+/// The options have another size.
+pub const OTHER_SIZE: u32 = 3;
+/// The tab size is above 16.
+pub const NO_SUCH_TAB_SIZE: u32 = 4;
+/// A bit is set that is no construct's.
+pub const NO_SUCH_CONSTRUCT: u32 = 5;
+/// There is no machine of this number.
+pub const NO_SUCH_MACHINE: u32 = 6;
+/// `deep` is on for a machine that links no text.
+pub const LINKS_NO_TEXT: u32 = 7;
+
+/// The bit of code spans.
+pub const CODE_TEXT: u64 = 1;
+/// The bit of autolinks.
+pub const AUTOLINK: u64 = 2;
+/// The bit of backslash escapes.
+pub const CHARACTER_ESCAPE: u64 = 4;
+/// The bits of all constructs.
+pub const ALL_CONSTRUCTS: u64 = 7;
+
+/// An index in a record's link that there is not.
+pub const NO_INDEX: usize = usize::MAX;
+
+/// How a call ended, and how many events there are.
+#[repr(C)]
+#[derive(Clone, Copy, Debug, PartialEq, Eq)]
+pub struct Answer {
+    /// [`READ`], or why the document was not read.
+    pub code: u32,
+    /// [`VERSION`] of the library.
+    pub version: u32,
+    /// How many events the document has, also if there are more than records. 0 if it was not read.
+    pub count: usize,
+}
+
+/// How text is read.
+#[repr(C)]
+#[derive(Clone, Copy, Debug, PartialEq, Eq)]
+pub struct TextOptions {
+    /// `size_of::<TextOptions>()`.
+    pub size: usize,
+    /// The distance from one tab stop to the next, from 1 to 16 columns. 0 is 4.
+    pub tab_size: usize,
+    /// The constructs that are on: the sum of their bits.
+    pub constructs: u64,
+}
+
+/// How a document is read.
+#[repr(C)]
+#[derive(Clone, Copy, Debug, PartialEq, Eq)]
+pub struct Options {
+    /// `size_of::<Options>()`.
+    pub size: usize,
+    /// The distance from one tab stop to the next, from 1 to 16 columns. 0 is 4.
+    pub tab_size: usize,
+    /// The constructs that are on in texts: the sum of their bits.
+    pub constructs: u64,
+    /// After how many virtual bytes the document is cut each time. If it is 0, the document is not cut.
+    pub cut: usize,
+    /// The number of the machine that reads.
+    pub machine: u32,
+    /// If it is not 0, the chunks of text that the machine links are read too.
+    pub deep: u32,
+}
+
+/// An event. All of its bytes are in fields, and each may be any number.
+#[repr(C)]
+#[derive(Clone, Copy, Debug, PartialEq, Eq, Hash)]
+pub struct Record {
+    /// 0 if a span begins, 1 if it ends.
+    pub kind: u16,
+    /// What the event's chain is read as, if it is linked: 1 for flow, 2 for content, 3 for string, 4 for text; else 0.
+    pub content: u16,
+    /// The number of the span's name.
+    pub name: u32,
+    /// Line, from 1.
+    pub line: usize,
+    /// Virtual column in the line, from 1.
+    pub column: usize,
+    /// Byte index into the document, from 0.
+    pub index: usize,
+    /// Number of the virtual byte of a tab, from 0; 0 elsewhere.
+    pub vs: usize,
+    /// Index of the enter before in the chain, or [`NO_INDEX`].
+    pub previous: usize,
+    /// Index of the enter after in the chain, or [`NO_INDEX`].
+    pub next: usize,
+}
+
+extern "C" {
+    /// The version of the library. If it is not [`VERSION`], no other function may be called.
+    ///
+    /// # Safety
+    ///
+    /// It requires nothing.
+    pub fn limecove_version() -> u32;
+
+    /// Reads a document. Writes the first events over the first records, as many as fit, and nothing else.
+    ///
+    /// # Safety
+    ///
+    /// The library has this [`VERSION`]. Each pointer is to as many bytes or records as the length after it says, or the length is 0.
+    /// `options` is to options. The records share no byte with the document or the options.
+    pub fn limecove_read(
+        document: *const u8,
+        document_len: usize,
+        options: *const Options,
+        records: *mut Record,
+        records_len: usize,
+    ) -> Answer;
+
+    /// Reads a document as text, without paragraphs. Writes records as [`limecove_read`] does.
+    ///
+    /// # Safety
+    ///
+    /// As of [`limecove_read`].
+    pub fn limecove_read_text(
+        document: *const u8,
+        document_len: usize,
+        options: *const TextOptions,
+        records: *mut Record,
+        records_len: usize,
+    ) -> Answer;
+
+    /// Writes back what it sees, so that a caller can compare its layout with the library's, field by field. `numbers` gets 1 to 9, a
+    /// number for each field in order. The other two records get the numbers of the options: the machine as the name, the size as the
+    /// line, the tab size as the column, the cut as the index, `deep` as `vs`, the constructs as `previous`, and 0 in all other
+    /// fields. The answer has the code 1 and the count 3.
+    ///
+    /// # Safety
+    ///
+    /// The library has this [`VERSION`]. The pointers are to what their types say, and no two of them are the same.
+    pub fn limecove_echo(
+        options: *const Options,
+        text: *const TextOptions,
+        numbers: *mut Record,
+        of_options: *mut Record,
+        of_text: *mut Record,
+    ) -> Answer;
+}

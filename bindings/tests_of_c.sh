@@ -1,0 +1,52 @@
+#!/bin/sh
+# The tests of the library from C, which need no rt: its header, its layout, its example, every room, and each allocation failing.
+# usage: tests_of_c.sh HEADER ARCHIVE FOLDER [rooms failing]   (FOLDER has the programs; then how many random documents: 500 and 200)
+set -eu
+header=$1 archive=$2 folder=$3 rooms=${4:-500} failing=${5:-200}
+work=$(mktemp -d)
+trap 'rm -rf "$work"' EXIT
+say() { echo "bindings: $*"; }
+say "the header is C90, C99, C11 and C17, and C++98 to C++20, for cc and clang"
+printf '#include "%s"\n' "$header" >"$work/header.c"
+for compiler in cc clang; do
+    command -v "$compiler" >/dev/null || continue
+    for standard in c90 c99 c11 c17 c++98 c++11 c++14 c++17 c++20; do
+        language=c
+        case $standard in c++*) language=c++ ;; esac
+        "$compiler" -x "$language" -std="$standard" -Wall -Wextra -pedantic -Werror -fsyntax-only "$work/header.c"
+    done
+done
+cd "$folder"
+say "each field lies where the library has it, in C and in C++"
+cc -std=c11 -Wall -Wextra -pedantic -Werror -o "$work/layout" layout.c "$archive"
+"$work/layout"
+cc -x c++ -std=c++11 -Wall -Wextra -pedantic -Werror -c -o "$work/layout.o" layout.c
+cc -o "$work/layout" "$work/layout.o" "$archive"
+"$work/layout"
+say "the example in C"
+cc -std=c99 -Wall -Wextra -pedantic -Werror -o "$work/example" example.c "$archive"
+"$work/example" | diff example.out -
+
+compiler=cc
+command -v clang >/dev/null && compiler=clang
+sanitize=
+for sanitizer in address undefined; do
+    if echo 'int main(void) { return 0; }' | $compiler -x c -fsanitize=$sanitizer -o "$work/empty" - 2>/dev/null && "$work/empty"; then
+        sanitize="$sanitize -fsanitize=$sanitizer -fno-sanitize-recover=$sanitizer"
+    else
+        say "$compiler has no $sanitizer sanitizer here"
+    fi
+done
+say "every room, under:$sanitize"
+# shellcheck disable=SC2086
+$compiler -std=c99 -g -Wall -Wextra -Werror $sanitize -o "$work/rooms" rooms.c "$archive"
+"$work/rooms" "$rooms"
+say "each allocation failing, under:$sanitize"
+# shellcheck disable=SC2086
+$compiler -std=c99 -g -Wall -Wextra -Werror $sanitize -Wl,--wrap=malloc,--wrap=realloc,--wrap=free -o "$work/failing" failing.c "$archive"
+"$work/failing" "$failing"
+if command -v valgrind >/dev/null; then
+    say "every room, under valgrind, which sees the library's own reads and writes"
+    $compiler -std=c99 -gdwarf-4 -o "$work/rooms" rooms.c "$archive"
+    valgrind --quiet --error-exitcode=1 --leak-check=full "$work/rooms" 10
+fi
