@@ -57,4 +57,7 @@ say "what a user of the crates does without the library: documentation and check
 mkdir "$work/none"
 LIMECOVE_LIB=$work/none cargo doc --offline --quiet --no-deps --target-dir "$work/doc"
 LIMECOVE_LIB=$work/none cargo check --offline --quiet --all-targets --target-dir "$work/doc"
+say "a release, in an empty folder, without rt"
+"$here/release.sh" "$work/release" >/dev/null
+"$here/try_release.sh" "$work/release"
 say "all is well"

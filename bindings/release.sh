@@ -1,0 +1,88 @@
+#!/bin/sh
+# Makes a folder that builds, and passes its tests, where there is no rt: the library as .a and .so, header, limecove.pc, the crates
+# limecove-sys and limecove, the tests in C, and a test.sh. It needs bindings/out/liblimecove.a, which bindings/build.sh makes and
+# proves, and cc.
+# usage: bindings/release.sh FOLDER   (it must not be there yet)
+set -eu
+here=$(cd "$(dirname "$0")" && pwd)
+archive=$here/out/liblimecove.a
+if [ $# != 1 ] || [ -e "$1" ]; then
+    echo "usage: bindings/release.sh FOLDER   (it must not be there yet)" >&2
+    exit 1
+fi
+if [ ! -f "$archive" ]; then
+    echo "bindings: $archive is not there: run bindings/build.sh" >&2
+    exit 1
+fi
+version=$(sed -n 's/^version = "\(.*\)"$/\1/p' "$here/rust/limecove/Cargo.toml")
+layout=$(sed -n 's/^#define LIMECOVE_VERSION \([0-9]*\)$/\1/p' "$here/limecove.h")
+mkdir -p "$1/include" "$1/lib/pkgconfig" "$1/rust"
+out=$(cd "$1" && pwd)
+cp "$here/../LICENSE" "$out"
+cp "$here/limecove.h" "$out/include"
+cp "$archive" "$out/lib"
+cp -r "$here/c" "$out/c"
+# the programs include the header of the release by its name
+sed -i 's|"../limecove.h"|<limecove.h>|' "$out"/c/*.c "$out"/c/cases.h
+cp "$here/tests_of_c.sh" "$out/c"
+for crate in limecove-sys limecove; do
+    mkdir "$out/rust/$crate"
+    (cd "$here/rust/$crate" && cp -r Cargo.toml README.md LICENSE src tests "$out/rust/$crate")
+done
+cp "$here/rust/limecove-sys/build.rs" "$out/rust/limecove-sys"
+cp -r "$here/rust/limecove/examples" "$out/rust/limecove"
+rm "$out/rust/limecove/tests/names.rs"
+cp "$here/rust/Cargo.toml" "$out/rust"
+# a shared library with the functions of the header, and no other names
+printf '{ global: limecove_*; local: *; };\n' >"$out/lib/limecove.map"
+cc -shared -o "$out/lib/liblimecove.so.$layout" -Wl,-soname,"liblimecove.so.$layout" -Wl,--version-script="$out/lib/limecove.map" \
+    -Wl,--whole-archive "$archive" -Wl,--no-whole-archive -Wl,-z,defs
+rm "$out/lib/limecove.map"
+ln -s "liblimecove.so.$layout" "$out/lib/liblimecove.so"
+cat >"$out/lib/pkgconfig/limecove.pc" <<EOF
+prefix=\${pcfiledir}/../..
+includedir=\${prefix}/include
+libdir=\${prefix}/lib
+
+Name: limecove
+Description: A proved tokenizer engine for Markdown
+Version: $version
+Cflags: -I\${includedir}
+Libs: -L\${libdir} -llimecove
+EOF
+cat >"$out/README.md" <<EOF
+# Limecove $version for x86-64 Linux
+
+The library was proved and built from its sources by \`bindings/build.sh\`; this folder needs no prover.
+
+- C: \`cc -Iinclude prog.c lib/liblimecove.a\`, or \`cc prog.c \$(PKG_CONFIG_PATH=lib/pkgconfig pkg-config --cflags --libs limecove)\`, which
+  links \`lib/liblimecove.so.$layout\`. \`include/limecove.h\` says what each function does. To install, copy \`include\` and \`lib\` to \`/usr/local\`.
+- Rust: \`limecove = { path = ".../rust/limecove" }\` in \`Cargo.toml\`. It finds \`lib\` by itself. It needs Rust 1.63.
+- \`./test.sh\` builds and runs the tests: it needs cc, and for the crates cargo. It takes a minute or two, and no network.
+EOF
+cat >"$out/test.sh" <<'EOF'
+#!/bin/sh
+# Builds and runs the tests of this release. Needs cc; for the crates cargo. No network.
+set -eu
+here=$(cd "$(dirname "$0")" && pwd)
+export CPATH=$here/include
+"$here/c/tests_of_c.sh" "$here/include/limecove.h" "$here/lib/liblimecove.a" "$here/c" 100 40
+work=$(mktemp -d)
+trap 'rm -rf "$work"' EXIT
+echo "release: the example, with the shared library"
+flags="-I$here/include -L$here/lib -llimecove"
+if command -v pkg-config >/dev/null; then
+    flags=$(PKG_CONFIG_PATH=$here/lib/pkgconfig pkg-config --cflags --libs limecove)
+fi
+# shellcheck disable=SC2086
+cc -std=c99 -o "$work/example" "$here/c/example.c" $flags
+LD_LIBRARY_PATH=$here/lib "$work/example" | diff "$here/c/example.out" -
+if command -v cargo >/dev/null; then
+    echo "release: the crates"
+    (cd "$here/rust" && cargo test --offline --quiet --workspace --target-dir "$work/target")
+fi
+echo "release: all is well"
+EOF
+chmod +x "$out/test.sh"
+(cd "$out" && find . -type f | LC_ALL=C sort | xargs sha256sum >SHA256SUMS)
+echo "$out: version $version, layout $layout"

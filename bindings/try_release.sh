@@ -1,0 +1,33 @@
+#!/bin/sh
+# Tries a release as somebody has it who has no rt and no network: a copy of it in an empty folder passes its tests, a project of its own
+# depends on its crate, and `cargo package` is clean.
+# usage: bindings/try_release.sh FOLDER   (that release.sh made)
+set -eu
+work=$(mktemp -d)
+trap 'rm -rf "$work"' EXIT
+cp -r "$1" "$work/limecove"
+# a path with the system's programs and cargo's, and without rt
+path=/usr/bin:/bin
+if cargo=$(command -v cargo); then
+    path=$(dirname "$cargo"):$path
+fi
+if PATH=$path command -v rt >/dev/null; then
+    echo "bindings: rt is on the path $path" >&2
+    exit 1
+fi
+alone() { env -i PATH="$path" HOME="$work/home" CARGO_HOME="$work/cargo" RUSTUP_HOME="${RUSTUP_HOME:-$HOME/.rustup}" "$@"; }
+mkdir "$work/home" "$work/cargo"
+alone "$work/limecove/test.sh"
+if [ -n "${cargo:-}" ]; then
+    echo "release: a project of its own, by a path"
+    mkdir -p "$work/own/src"
+    printf '[package]\nname = "own"\nversion = "0.1.0"\nedition = "2021"\n[dependencies]\nlimecove = { path = "../limecove/rust/limecove" }\n' >"$work/own/Cargo.toml"
+    printf 'fn main() {\n    let events = limecove::tokenize("a `b`", &limecove::Options::default()).unwrap();\n    println!("{}", events.len());\n}\n' >"$work/own/src/main.rs"
+    test "$(cd "$work/own" && alone cargo run --offline --quiet)" = 12
+    echo "release: cargo package"
+    (cd "$work/limecove/rust" && LIMECOVE_LIB=$work/limecove/lib && alone LIMECOVE_LIB="$LIMECOVE_LIB" cargo package --offline --workspace --allow-dirty) >"$work/log" 2>&1 || { cat "$work/log" >&2; exit 1; }
+    if grep -i warning "$work/log"; then
+        exit 1
+    fi
+fi
+echo "release: it stands alone"
