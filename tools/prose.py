@@ -41,7 +41,7 @@ def sentences(text):
     """Yields the sentences of a page."""
     for stretch in stretches(text):
         bare = re.sub(r"^\s*(?:[-*#]+|\d+\.)\s", "", re.sub(r"\s+", " ", stretch).strip()).replace("*", "")
-        yield from re.split(r"(?<=[.?!:])\)? (?=[A-Z(\d]|name)", bare)
+        yield from re.split(r"(?<=[.?!:])\)? (?=[A-Z(\[\d]|name)", bare)
 
 
 def long_ones(page):
