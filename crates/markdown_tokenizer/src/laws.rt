@@ -91,8 +91,8 @@ pub fn less_may_be_promised<M: Machine, P: Promise>()
 {}
 
 /// A tokenizer that has read a document up to a cut goes on in another document, if that is alike up to there and the machine looks no
-/// further than the byte that waits: moved there (`moved_to`), it is what the same push of the other document leaves. Pushing the rest of
-/// the other document, and flushing, is a run of it.
+/// further than the byte that waits: moved there (`moved_to`, which ensures that its events stand at places of the other document), it is
+/// what the same push of the other document leaves. Pushing the rest of the other document, and flushing, is a run of it.
 pub fn goes_on_elsewhere<M: Machine>()
     ensures { GoesOnElsewhere M.rules }
 {}
