@@ -19,6 +19,7 @@ PARTS = {
 NAMED = {
     ("markdown_children", "specs", "LawStatements"): "ChildrenLawStatements",
     ("mdconstructs_text", "specs", "Laws"): "TextLaws",
+    ("mdconstructs_text", "proofs", "NoFurther"): "TextNoFurther",
     ("mdconstructs_text", "proofs", "NoRefusals"): "TextNoRefusals",
     ("mdconstructs_text", "proofs", "Paragraphs"): "TextParagraphs",
 }
