@@ -37,9 +37,11 @@ pub data BreakByte : Type 0 where
   line_feed : BreakByte
   other : BreakByte
 
+-- the class of a byte
 abbrev pub break_byte : ℕ → BreakByte
 break_byte byte = cond (byte == 42) star (cond (is_white byte) white (cond (byte == 10) line_feed other))
 
+-- the classes of a star, of white space and of a line ending
 abbrev pub is_star_class : BreakByte → Bool
 is_star_class star = true
 is_star_class _ = false
@@ -56,6 +58,7 @@ is_line_feed_class _ = false
 abbrev pub one_star_more : Configuration Unit Unit → Local Unit Unit
 one_star_more k = record k.local { tokenize_state = record k.local.tokenize_state { size_b = one_more k.local.tokenize_state.size_b } }
 
+-- there were at least three
 abbrev pub has_three : Given → Sight → Configuration Unit Unit → Bool
 has_three g s k = nat_le 3 k.local.tokenize_state.size_b
 
@@ -63,16 +66,18 @@ has_three g s k = nat_le 3 k.local.tokenize_state.size_b
 abbrev pub line_ends : Rows Unit Unit
 line_ends = when has_three (row [] Ok) (row [] Nok)
 
+-- a star is counted, white space is passed, and the line ends
 abbrev pub break_cases : List (Case BreakByte Unit Unit)
 break_cases =
     at is_star_class (row (write one_star_more ∷ consume ∷ []) (Next ThematicBreakAtBreak))
     ∷ at is_white_class (row (consume ∷ []) (Next ThematicBreakAtBreak))
     ∷ at is_line_feed_class line_ends ∷ []
 
--- the state of the look
+-- the rows of its one state: any other byte makes the look fail
 abbrev pub break_rows : (previous current : Option BreakByte) → Rows Unit Unit
 break_rows = cases line_ends break_cases (row [] Nok)
 
+-- the look as a table
 abbrev pub breaks : Table BreakByte Unit Unit
 breaks = record {
   class = break_byte;

@@ -67,10 +67,11 @@ abbrev pub fails_at_line_ending : (previous current : Option LineByte) → Rows 
 fails_at_line_ending _ (Some line_ending) = row [] Nok
 fails_at_line_ending _ _ = row [] Ok
 
--- lines with one row before a line, whatever waits; and lines with another state in a line
+-- lines with one row before a line, whatever waits
 abbrev pub lines_that : Rows Unit Unit → Table LineByte Unit Unit
 lines_that r = lines_with (λ previous current. r)
 
+-- lines with another state in a line
 abbrev pub lines_inside : StateRows LineByte Unit Unit → Table LineByte Unit Unit
 lines_inside inside = record lines { states = flow_start ∷ inside ∷ [] }
 

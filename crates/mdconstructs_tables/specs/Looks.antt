@@ -69,6 +69,7 @@ module _ {R D : Type 0} where
 
 -- The stack and the events, which a look leaves as they are
 module _ {R D : Type 0} (stack : List EventName) (events : List Event) where
+  -- a configuration with these
   abbrev pub held : (position : ℕ) → Waits → (ended : Bool) → Local R D → Configuration R D
   held q waits ended local = record { position = q; waiting = waits; ended = ended; events = events; stack = stack; local = local }
 
