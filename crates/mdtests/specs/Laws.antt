@@ -2,4 +2,5 @@
 pub mod Starved
 pub mod Looping
 pub mod Replacing
+pub mod Stars
 pub mod Marks

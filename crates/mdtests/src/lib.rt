@@ -39,6 +39,7 @@ mod replacing;
 mod resolving;
 #[cfg(test)]
 mod shown;
+pub mod stars;
 #[cfg(test)]
 mod starved;
 #[cfg(test)]
