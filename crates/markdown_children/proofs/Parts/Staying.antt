@@ -2,7 +2,7 @@
 --
 -- A linked event of the new list is one of the old list that stays. So are the exit behind it, and all events up to the next one of its
 -- chain: no chunk that is replaced is among them, as it is linked. So they stand side by side as before.
-use Rattle.markdown_children.proofs.Prelude.{◌≡◌, ℕ, zero, suc, ◌+◌, ◌-◌, ◌<◌, ◌≤◌, ◌⊎◌, inl, inr, ◌&&◌, ◌||◌, Bool, true, false, List, [], ◌∷◌, ◌++◌, length, map, take, drop, Option, Some, None, refl, sym, ◌∙◌, ap, subst, arith, zero-add, eq-eqb, le-leb, lt-ltb, le-ltb, leb-true, leb-false, ltb-true, ltb-false, nat_le, nat_lt, leb, slice_get, slice_get_within, slice_get-map, none-some, same_Some, option_map, option_and_then, option_and_then_some, map-append, flat_map, range_with_len, AllByRecursion, every-get, every-map, recursion_from_All, both_true, between, Content, Event, Enter, Exit, Link, Point, drop-at, IsBalanced, AreMutual, relinked, with_ends, next_of, stands_before, next_moved, stays_unless_removed, of_list, of_child, of_addition, Identity, Tagged, Change, is_same, is_removed, place_in, placed_end, pass, woven, woven-pass, AreApart, HasNo, same_shift, chain_of, content_at, some_fits, fits, fitting_starts, IsChunk, IsGap, IsReady, IsShownPlace, place_at, LeadOnFrom, IsWholeFrom, parts, divided_over, first_chunk, part_changes, chain_changes, child_changes, with_children}
+use Rattle.markdown_children.proofs.Prelude.{◌≡◌, ℕ, zero, suc, ◌+◌, ◌-◌, ◌<◌, ◌≤◌, inl, inr, ◌&&◌, ◌||◌, Bool, true, false, List, [], ◌∷◌, ◌++◌, length, map, take, drop, Option, Some, None, refl, sym, ◌∙◌, ap, subst, arith, zero-add, eq-eqb, le-leb, lt-ltb, le-ltb, leb-true, leb-false, ltb-true, ltb-false, nat_le, nat_lt, leb, slice_get, slice_get_within, slice_get-map, none-some, same_Some, option_map, option_and_then, option_and_then_some, map-append, flat_map, range_with_len, AllByRecursion, every-get, every-map, recursion_from_All, both_true, between, Content, Event, Enter, Exit, Link, Point, drop-at, IsBalanced, AreMutual, relinked, with_ends, next_of, stands_before, next_moved, stays_unless_removed, of_list, of_child, of_addition, Identity, Tagged, Change, is_same, is_removed, place_in, placed_end, pass, woven, woven-pass, AreApart, HasNo, same_shift, content_at, some_fits, fits, fitting_starts, IsChunk, IsGap, IsReady, IsShownPlace, place_at, LeadOnFrom, IsWholeFrom, parts, divided_over, first_chunk, part_changes, chain_changes, child_changes, with_children}
 use Rattle.std.proofs.Common.{ltb, not}
 use Rattle.std.specs.Prelude.{is_some, unwrap_or}
 use Rattle.markdown_base.specs.Events.{empty, span}
@@ -15,7 +15,6 @@ use Rattle.markdown_edits.specs.Survivors.{place_after}
 use Rattle.markdown_tokenizer.proofs.Readings.Plain.{no-links-shape}
 use Rattle.markdown_tokenizer.specs.Plain.{HaveNoLinks}
 use Rattle.markdown_children.specs.LawStatements.{StaysReady}
-use Rattle.markdown_children.specs.Ready.{IsReadable}
 use Rattle.markdown_children.proofs.ChainOrder.Following.{Fits, by_test, by_option, chunk, fits_next, some_content, starts_fit, follow_one_another}
 use Rattle.markdown_children.proofs.ChainOrder.Spaced.{changes_are_apart}
 use Rattle.markdown_children.proofs.Parts.InShape.{source, IsSourced, child-all, child_of, all-sourced, all-once, children_fit}

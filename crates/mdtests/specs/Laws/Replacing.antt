@@ -19,7 +19,7 @@ use Rattle.markdown.specs.Sight.{Sight, sight, current_of}
 use Rattle.markdown.specs.Calls.{consumed, registered, with_resolvers}
 use Rattle.markdown.specs.Edits.{Edit, AreDisjoint, edit_at, added_after}
 use Rattle.markdown.specs.Edited.{edited}
-use Rattle.markdown.specs.Reading.{fed, settled_at}
+use Rattle.markdown.specs.Reading.{fed}
 use Rattle.markdown.specs.Resolving.{done, edits_made, taken, CanBeEdited, IsInShape}
 use Rattle.markdown.specs.Lawful.{ConsumesOnce, OnlyAdds, EndsWhenRead, KeepsInvariant, CostPays, ResolversKeep, IsAsFar, IsLawful, SavesEvents}
 use Rattle.mdconstructs.specs.RowInvariant.{IsFed}
