@@ -51,7 +51,7 @@ pub use Rattle.markdown_tokenizer.specs.declared.waiting.Waits.TheVariants.{Byte
 pub use Rattle.mdconstructs_tables.specs.Chunks.{chunk_before}
 pub use Rattle.mdconstructs_tables.specs.Fitting.{AllFall, HasNoMisfits, IsFit, IsFitBy, and_falls, every}
 pub use Rattle.mdconstructs_tables.specs.Joined.{AreApart, has_state, joined_cost, joined_rules}
-pub use Rattle.mdconstructs_tables.specs.Knowledge.{AllKeepKnowing, EachRow, IsKnownThroughout, KeepsKnowing, KnownAfter, LeavesShape, knowing_rules}
+pub use Rattle.mdconstructs_tables.specs.Knowledge.{AllKeepKnowing, EachRow, IsKnownThroughout, KeepsKnowing, KnownAfter, KnowsFalling, LeavesShape, knowing_rules}
 pub use Rattle.mdconstructs_tables.specs.Late.{AllFallLater, FallsLater, IsLate, are_falling, falls_on, is_late_row, is_late_state, late_rules}
 pub use Rattle.mdconstructs_tables.specs.LinkShapes.{AreInShape, next_end, previous_end}
 pub use Rattle.mdconstructs_tables.specs.Markers.{IsMarkable, marked}

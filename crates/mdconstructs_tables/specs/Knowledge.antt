@@ -15,6 +15,7 @@ use Rattle.markdown_tokenizer.specs.Resolving.{CanBeEdited, IsInShape}
 use Rattle.markdown_tokenizer.specs.Rules.{Rules}
 use Rattle.markdown_tokenizer.specs.Engine.{IsWellFormed}
 use Rattle.mdconstructs_tables.specs.Rows.{Rows, row, when, Row, StateRows, Table, step_of}
+use Rattle.mdconstructs_tables.specs.Late.{AllFallLater}
 use Rattle.mdconstructs_tables.specs.RowInvariant.{table_holds, table_rules}
 
 -- the edits that wait can be made, and then the events are in shape, and as promised
@@ -50,6 +51,11 @@ module _ {W R D : Type 0} (table : Table W R D) (knows : List Event → Local R 
   abbrev pub AllKeepKnowing : List (StateRows W R D) → Type 0
   AllKeepKnowing [] = Unit {0}
   AllKeepKnowing (state ∷ states) = KeepsKnowing state × AllKeepKnowing states
+
+  -- what a machine knows says that the attempts that wait go on with what costs less later; a machine of checks has no attempts
+  abbrev pub KnowsFalling : (falling : Name → Bool) → Type 0
+  KnowsFalling falling =
+      (events : List Event) (local : Local R D) (choices : List Choice) (state : State) → knows events local choices state → AllFallLater falling choices
 
   -- What a machine knows holds at each start. Feeding, the rows of each state, and the end of a choice keep it. Once all was read it says
   -- that no resolver is registered, and that the edits can be made and leave the events in shape, and as promised.

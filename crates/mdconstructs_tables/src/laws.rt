@@ -12,7 +12,7 @@ ghost use Rattle.markdown_tokenizer.specs.Sight.{Sight};
 ghost use Rattle.markdown_tokenizer.specs.Text.{Given, Text};
 ghost use Rattle.mdconstructs_tables.specs.Cases.{AreByBytes, AreOneByOne};
 ghost use Rattle.mdconstructs_tables.specs.Fitting.{IsFit};
-ghost use Rattle.mdconstructs_tables.specs.Knowledge.{IsKnownThroughout, knowing_rules};
+ghost use Rattle.mdconstructs_tables.specs.Knowledge.{IsKnownThroughout, KnowsFalling, knowing_rules};
 ghost use Rattle.mdconstructs_tables.specs.Late.{IsLate, late_rules};
 ghost use Rattle.mdconstructs_tables.specs.Looks.{LooksAreScans, Plays};
 ghost use Rattle.mdconstructs_tables.specs.NoFurther.{TestsLookNoFurther};
@@ -20,6 +20,7 @@ ghost use Rattle.mdconstructs_tables.specs.PlainTables.{IsPlainTable};
 ghost use Rattle.mdconstructs_tables.specs.PlainWrites.{WritesPlain};
 ghost use Rattle.mdconstructs_tables.specs.Quiet.{QuietLooksEnd};
 ghost use Rattle.mdconstructs_tables.specs.RowInvariant.{table_rules};
+ghost use Rattle.mdconstructs_tables.specs.RowTest.{never};
 ghost use Rattle.mdconstructs_tables.specs.Rows.{Rows, Table};
 
 /// A table's rules are lawful on every document if the table has no misfits, its own costs are enough, and no state links
@@ -54,9 +55,12 @@ pub trait Knowledge {
 }
 
 /// A table's rules are lawful on every document if the table has no misfits, its own costs are enough, its rows keep what the
-/// machine knows, and that leads to what it promises of its final events.
+/// machine knows, and that leads to what it promises of its final events. The own costs of all states fall the more was read, or
+/// at least those of the states that attempts go on with after `Ok`: a look's cost need not.
 pub fn knowing_tables_are_lawful<K: Knowledge>()
-    ensures { IsFit K.table → IsKnownThroughout K.table K.knows K.ends → (g : Given) → IsLawful g (knowing_rules K.table K.knows K.ends g) }
+    ensures falling { (falling : Name → Bool) → IsLate K.table never falling → KnowsFalling K.table K.knows falling
+        → IsKnownThroughout K.table K.knows K.ends → (g : Given) → IsLawful g (knowing_rules K.table K.knows K.ends g) }
+    ensures fitting { IsFit K.table → IsKnownThroughout K.table K.knows K.ends → (g : Given) → IsLawful g (knowing_rules K.table K.knows K.ends g) }
 {}
 
 /// What a table reads without events, from any of its states on, is a function of the bytes that are left and of what states

@@ -1,8 +1,8 @@
 -- The laws of a machine that knows more than its table says, from the table's laws and from what each row keeps.
 use Rattle.mdconstructs_tables.proofs.Rows.Misfits.{named-in}
-use Rattle.mdconstructs_tables.proofs.Prelude.{◌≡◌, List, [], true, refl, sym, subst, nat_lt, length, All-contains, Event, State, Next, Retry, Byte, End, Given, Text, Configuration, Local, Choice, start_configuration, Sight, sight, with_local, IsAsFar, IsLawful, Rows, row, when, Row, Table, class_of, picked, step_of, step_at, IsFit, EachRow, LeavesShape, KnownAfter, KeepsKnowing, AllKeepKnowing, IsKnownThroughout, knowing_rules, cond_both}
+use Rattle.mdconstructs_tables.proofs.Prelude.{◌≡◌, List, [], true, refl, sym, subst, nat_lt, length, All-contains, Event, State, Next, Retry, Byte, End, Given, Text, Configuration, Local, Choice, start_configuration, Sight, sight, with_local, IsAsFar, IsLawful, Rows, row, when, Row, Table, class_of, picked, step_of, step_at, IsFit, IsFitBy, Name, Bool, never, every, EachRow, LeavesShape, KnownAfter, KeepsKnowing, AllKeepKnowing, IsKnownThroughout, KnowsFalling, knowing_rules, cond_both}
 use Rattle.mdconstructs_tables.proofs.Tables.Laws.{is-call, table-consumes_once, table-only_adds, table-ends_when_read, table-invariant_kept}
-use Rattle.mdconstructs_tables.proofs.Tables.Prices.{table-cost_pays}
+use Rattle.mdconstructs_tables.proofs.Tables.Prices.{AreLate, all-fall, calls-pay, every-late, fed-pays, nok-pays, ok-pays}
 
 -- what holds of each of the rows, by the tests that pick it, holds of the one that is picked
 module _ {R D : Type 0} (P : Row R D → Type 0) (g : Given) (s : Sight) (k : Configuration R D) where
@@ -12,12 +12,13 @@ module _ {R D : Type 0} (P : Row R D → Type 0) (g : Given) (s : Sight) (k : Co
       cond_both (test g s k) (picked one g s k) (picked other g s k) P (λ e. picked-row one (h.0 e)) (λ e. picked-row other (h.1 e))
 
 module _ {W R D : Type 0} (table : Table W R D) (knows : List Event → Local R D → List Choice → State → Type 0) where
-  pub knowing-lawful : {promise : Given → Text → List Event → Type 0} (g : Given) → IsFit table → IsKnownThroughout table knows promise → IsLawful g (knowing_rules table knows promise g)
-  knowing-lawful {promise} g fit known =
+  -- if only some states' own costs fall, those are the ones that attempts go on with
+  pub falling-lawful : {promise : Given → Text → List Event → Type 0} (falling : Name → Bool) (g : Given) (fit : IsFitBy table never falling) → AreLate table g never fit → KnowsFalling table knows falling
+      → IsKnownThroughout table knows promise → IsLawful g (knowing_rules table knows promise g)
+  falling-lawful {promise} falling g fit late falls known =
       let adds = table-only_adds table g fit in
       let ends = table-ends_when_read table g fit in
       let kept = table-invariant_kept table g fit in
-      let pays = table-cost_pays table g fit in
       record {
         consumes_once = λ text k choices name is h. table-consumes_once table g fit text k choices name is h.holds;
         only_adds = record {
@@ -55,10 +56,10 @@ module _ {W R D : Type 0} (table : Table W R D) (knows : List Event → Local R 
           by_pieces = λ text piece k choices state is fits fresh h. record { holds = kept.by_pieces text piece k choices state is fits fresh h.holds; known = h.known };
         };
         cost_pays = record {
-          for_calls = λ text k choices name is h. pays.for_calls text k choices name is h.holds;
-          for_feeding = λ text k choices name is h. pays.for_feeding text k choices name is h.holds;
-          for_ok = λ text k choice choices is h. pays.for_ok text k choice choices is h.holds;
-          for_nok = λ text k choice choices is h. pays.for_nok text k choice choices is h.holds;
+          for_calls = λ text k choices name is h. calls-pay table g never fit late text k choices name is h.holds (falls k.events k.local choices (Retry name) h.known);
+          for_feeding = λ text k choices name is h. fed-pays table g never fit late text k choices name h.holds (falls k.events k.local choices (Next name) h.known);
+          for_ok = λ text k choice choices is h. ok-pays table g never fit text k choice choices h.holds;
+          for_nok = λ text k choice choices is h. nok-pays table g never fit text k choice choices h.holds;
         };
         resolvers_keep = record {
           at_end = λ text k is formed h. let there = known.at_end k formed.balanced h.known in (there.1, there.2, known.promised g text k formed h.known);
@@ -67,3 +68,6 @@ module _ {W R D : Type 0} (table : Table W R D) (knows : List Event → Local R 
           at_last = λ text k is h. h;
         };
       }
+
+  pub knowing-lawful : {promise : Given → Text → List Event → Type 0} (g : Given) → IsFit table → IsKnownThroughout table knows promise → IsLawful g (knowing_rules table knows promise g)
+  knowing-lawful g fit known = falling-lawful every g fit (every-late table g fit) (λ events local choices state h. all-fall choices) known

@@ -10,7 +10,7 @@ use Rattle.mdconstructs_tables.proofs.Tables.Prices.{AreLate, passes, chosen-fal
 
 module _ {W R D : Type 0} (table : Table W R D) (early : Name → Option W → Bool) (falling : Name → Bool) (g : Given) (is_late : IsLate table early falling) where
   -- the test names no state as hasty
-  all-late : AreLate table g early is_late.fit
+  pub all-late : AreLate table g early is_late.fit
   all-late b w name state is s k =
       let none = none-mapped (λ (state : StateRows W R D). state.name) (filter (λ state. not (is_late_state table early falling b w state)) table.states) (is_late.late b w) in
       let passes = not-false (is_late_state table early falling b w state) (named-out (λ state. not (is_late_state table early falling b w state)) table.states name state none is) in

@@ -260,13 +260,16 @@ module _ {R D : Type 0} where
   every-falling (choose Check ok nok ∷ acts) = every-falling acts
   every-falling (act ∷ acts) = every-falling acts
 
-all-fall : (choices : List Choice) → AllFallLater every choices
+pub all-fall : (choices : List Choice) → AllFallLater every choices
 all-fall [] = tt
 all-fall (c ∷ cs) = ((λ e. every-falls c.ok), all-fall cs)
 
+pub every-late : {W R D : Type 0} (table : Table W R D) (g : Given) (fit : IsFit table) → AreLate table g never fit
+every-late table g fit b w name state is s k = let acts = (picked (state.rows b w) g s k).acts in and_from (are_falling every acts) true (every-falling acts) refl
+
 pub table-cost_pays : {W R D : Type 0} (table : Table W R D) (g : Given) → IsFit table → CostPays g (table_rules table g)
 table-cost_pays table g fit =
-    let late : AreLate table g never fit = λ b w name state is s k. let acts = (picked (state.rows b w) g s k).acts in and_from (are_falling every acts) true (every-falling acts) refl in
+    let late = every-late table g fit in
     record {
       for_calls = λ text k choices name is h. calls-pay table g never fit late text k choices name is h (all-fall choices);
       for_feeding = λ text k choices name is h. fed-pays table g never fit late text k choices name h (all-fall choices);
