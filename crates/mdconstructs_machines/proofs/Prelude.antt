@@ -43,7 +43,7 @@ pub use Rattle.mdconstructs_tables.specs.PlainTables.{IsPlainTable}
 pub use Rattle.mdconstructs_tables.specs.PlainWrites.{WritesPlain}
 pub use Rattle.mdconstructs_tables.specs.Refusals.{RulesRefuseNothing, refusing}
 pub use Rattle.mdconstructs_tables.specs.RowInvariant.{DoesAll, begun, step_in}
-pub use Rattle.mdconstructs_tables.specs.Rows.{Rows, StateRows, class_of, consume, enter, enter_link, exit, links, named, picked, row, step_at, step_of, write}
+pub use Rattle.mdconstructs_tables.specs.Rows.{Rows, StateRows, at_bytes_or_end, class_of, consume, enter, enter_link, exit, links, named, picked, row, step_at, step_of, write}
 pub use Rattle.mdconstructs_machines.specs.Back.{back, back_rules, data_at_break_rows, data_inside_rows, data_start_rows, string_before_rows, string_start, string_start_rows, text_before_rows, text_start_rows}
 pub use Rattle.mdconstructs_machines.specs.Deep.{deep, deep_rules, triangle}
 pub use Rattle.mdconstructs_machines.specs.Fail.{as_it_was, fail}
@@ -63,6 +63,6 @@ pub use Rattle.mdconstructs_machines.specs.ReadAs.{IsReadAs}
 pub use Rattle.mdconstructs_machines.specs.Save.{save, save_rules}
 pub use Rattle.mdconstructs_machines.specs.Spans.{event, leaf, span}
 pub use Rattle.mdconstructs_machines.specs.Tables.{LineByte, counts, line_byte, line_ending, other}
-pub use Rattle.mdconstructs_machines.specs.Unfit.{editing, uncounted_lines}
+pub use Rattle.mdconstructs_machines.specs.Unfit.{breaking, editing, is_ending, uncounted_lines}
 pub use Rattle.mdconstructs_machines.specs.Words.{words}
 pub use Rattle.mdconstructs_machines.specs.Wrap.{renamed, wrap}

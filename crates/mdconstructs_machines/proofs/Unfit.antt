@@ -1,10 +1,16 @@
 -- Two tables without misfits that are not lawful do not meet the conditions of the law about tables.
-use Rattle.mdconstructs_machines.proofs.Prelude.{◌≡◌, [], true, false, Option, Some, None, refl, arith, IsFit, misfits, IsPlainTable, WritesPlain, LineByte, line_ending, other, uncounted_lines, editing, Text, Configuration, start_configuration}
+use Rattle.mdconstructs_machines.proofs.Prelude.{◌≡◌, [], true, false, Option, Some, None, refl, arith, IsFit, misfits, IsPlainTable, WritesPlain, LineByte, line_ending, other, uncounted_lines, editing, breaking, is_ending, at_bytes_or_end, Text, Configuration, start_configuration}
 
 pub uncounted : (previous current : Option LineByte) → misfits uncounted_lines previous current ≡ []
 uncounted previous None = refl
 uncounted previous (Some line_ending) = refl
 uncounted previous (Some other) = refl
+
+-- a state that is called at line endings and at the end
+pub at-endings : (previous current : Option LineByte) → misfits (breaking (at_bytes_or_end is_ending)) previous current ≡ []
+at-endings previous None = refl
+at-endings previous (Some line_ending) = refl
+at-endings previous (Some other) = refl
 
 -- no byte was pushed
 abbrev no_text : Text

@@ -1,14 +1,14 @@
 -- Tables that do not fit: one for each reason, and one for each other cause of a reason. And two that pass the test of rows and yet are not
 -- lawful. All but the last are the table of lines with one thing changed.
-use Rattle.std.specs.Prelude.{ℕ, ◌∷◌, [], Option, Some, None}
+use Rattle.std.specs.Prelude.{ℕ, ◌∷◌, [], Bool, true, false, Option, Some, None}
 use Rattle.markdown_base.specs.declared.event.Name.TheVariants.{Paragraph, Data, LineEnding}
-use Rattle.markdown_base.specs.declared.state.TheConstants.Name.{FlowStart, ParagraphInside, TextStart}
+use Rattle.markdown_base.specs.declared.state.TheConstants.Name.{DataAtBreak, FlowStart, ParagraphInside, TextStart}
 use Rattle.markdown_base.specs.declared.state.State.TheVariants.{Next, Retry, Ok, Nok}
 use Rattle.markdown_tokenizer.specs.declared.waiting.AttemptKind.TheVariants.{Attempt, Check}
 use Rattle.markdown_edits.specs.Edits.{edit_at, added_after}
 use Rattle.markdown_tokenizer.specs.Configuration.{Configuration, Local}
 use Rattle.markdown_tokenizer.specs.Text.{Text}
-use Rattle.mdconstructs_tables.specs.Rows.{enter, exit, consume, write, choose, Rows, row, before, a_choice, a_choice_for_ok, at_bytes, StateRows, calls, costs, state, Table}
+use Rattle.mdconstructs_tables.specs.Rows.{enter, exit, consume, write, choose, Rows, row, Called, before, a_choice, a_choice_for_ok, at_bytes, StateRows, calls, costs, state, Table}
 use Rattle.mdconstructs_machines.specs.Tables.{LineByte, line_ending, other, line_byte, is_other, counts}
 use Rattle.mdconstructs_machines.specs.Lines.{lines, flow_start_rows, flow_start, paragraph_inside}
 
@@ -134,6 +134,30 @@ stays = row [] (Retry FlowStart)
 -- `start`: no state has the name that a reading starts with
 abbrev pub starts_nowhere : Table LineByte Unit Unit
 starts_nowhere = record lines { starts = TextStart ∷ [] }
+
+-- a line and its data end in a state of their own
+abbrev pub to_break_rows : (previous current : Option LineByte) → Rows Unit Unit
+to_break_rows _ None = row [] (Retry DataAtBreak)
+to_break_rows _ (Some line_ending) = row [] (Retry DataAtBreak)
+to_break_rows _ (Some other) = row (consume ∷ []) (Next ParagraphInside)
+
+-- it has a row that does not fit: Nok at a byte of a line
+abbrev pub break_rows : (previous current : Option LineByte) → Rows Unit Unit
+break_rows _ None = row (exit Data ∷ exit Paragraph ∷ []) Ok
+break_rows _ (Some line_ending) = row (exit Data ∷ exit Paragraph ∷ []) (Retry FlowStart)
+break_rows _ (Some other) = row [] Nok
+
+abbrev pub is_ending : LineByte → Bool
+is_ending line_ending = true
+is_ending other = false
+
+-- lines with that state, which is called while this waits
+abbrev pub breaking : Called LineByte → Table LineByte Unit Unit
+breaking called = record lines {
+  states =
+      record flow_start { cost = calls 3 2 } ∷ record paragraph_inside { rows = to_break_rows; cost = calls 3 2 }
+      ∷ record (state DataAtBreak break_rows (Paragraph ∷ Data ∷ []) (calls 3 2)) { called = called } ∷ [];
+}
 
 -- a cost that is none
 abbrev pub no_cost : Text → ℕ → ℕ

@@ -182,7 +182,7 @@ pub record IsOpen {W R D : Type 0} (class : ℕ → W) (state : StateRows W R D)
   pub void : is_void_last (last_or None state.spans) ≡ true → EndsWithEnter (outline k)
   pub below : All (IsBelow base) choices
   pub needs : let read = is_read k.position in MayEnd (needs_choice state.needs read) (needs_failing state.needs read) choices
-  pub called : is_called_at state.called (class_in class text k.position) ≡ true
+  pub called : is_called_at state.called k.ended (class_in class text k.position) ≡ true
 
 -- A call began: it is counted, and the machine's own fields were written
 abbrev pub begun : {M R D : Type 0} → (Local R D → Local R D) → TokenizerValue M R D → TokenizerValue M R D
@@ -219,7 +219,7 @@ are_allowed class state t acts = allows_all acts (start_shape (class_of class (s
 -- after it, if the test allows that.
 pub record IsCallable {M W R D : Type 0} (class : ℕ → W) (state : StateRows W R D) (t : TokenizerValue M R D) : Type 0 where
   pub called : IsAtState class state t
-  pub byte : is_called_at state.called None ≡ false → t.configuration.waiting ≡ Byte
+  pub byte : is_called_at state.called true None ≡ false → t.configuration.waiting ≡ Byte
   pub stands : t.configuration.waiting ≡ Byte → (sight_of (once_read t)).exit_place ≡ (sight_of t).next
   pub marks : t.configuration.waiting ≡ Byte → IsMarkable t
   pub ends : are_allowed class state t (map exit (reverse state.spans)) ≡ true → CanEnd (reverse state.spans) t
@@ -320,7 +320,7 @@ module _ {W R D : Type 0} (table : Table W R D) where
   -- a state's own cost is enough for each of its rows, if this waits
   abbrev pub PaysRows : (early : Name → Option W → Bool) → StateRows W R D → Type 0
   PaysRows early state =
-      (b w : Option W) (text : Text) (p : ℕ) → is_some b ≡ is_read p → Stands w text p → class_at text p ≡ w → is_called_at state.called w ≡ true
+      (b w : Option W) (text : Text) (p : ℕ) → is_some b ≡ is_read p → Stands w text p → class_at text p ≡ w → is_called_at state.called true w ≡ true
       → AreWithin early b w text p (own_cost state.cost text p) (state.rows b w)
 
   -- the costs of states' own are enough

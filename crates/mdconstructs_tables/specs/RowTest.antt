@@ -9,7 +9,7 @@ use Rattle.markdown_base.specs.declared.state.State.TheVariants.{Next, Retry, Ok
 use Rattle.markdown_base.specs.Events.{is_void, same_name}
 use Rattle.markdown_tokenizer.specs.declared.waiting.AttemptKind.{AttemptKind}
 use Rattle.markdown_tokenizer.specs.declared.waiting.AttemptKind.TheVariants.{Attempt, Check}
-use Rattle.mdconstructs_tables.specs.Rows.{Act, enters, exit, consume, links, write, choose, Rows, row, when, Row, Calls, Cost, by_bytes, own, Begun, before, at_byte, here, Called, anywhere, at_a_byte, at_bytes, Needs, nothing, a_choice, a_choice_once_read, a_choice_for_ok, StateRows, named}
+use Rattle.mdconstructs_tables.specs.Rows.{Act, enters, exit, consume, links, write, choose, Rows, row, when, Row, Calls, Cost, by_bytes, own, Begun, before, at_byte, here, Called, anywhere, at_a_byte, at_bytes, at_bytes_or_end, Needs, nothing, a_choice, a_choice_once_read, a_choice_for_ok, StateRows, named}
 
 -- the innermost span is of a void name
 abbrev pub is_void_last : Option EventName → Bool
@@ -84,13 +84,15 @@ abbrev pub fresh_fed : {W : Type 0} → Begun W → Bool
 fresh_fed here = true
 fresh_fed _ = false
 
--- whether a state may be called while this waits; None is the end, and also what is not known
-abbrev pub is_called_at : {W : Type 0} → Called W → Option W → Bool
-is_called_at anywhere w = true
-is_called_at at_a_byte None = false
-is_called_at at_a_byte (Some w) = true
-is_called_at (at_bytes test) None = false
-is_called_at (at_bytes test) (Some w) = test w
+-- whether a state may be called while this waits; None is the end, or what is not known if the end was not fed
+abbrev pub is_called_at : {W : Type 0} → Called W → (ended : Bool) → Option W → Bool
+is_called_at anywhere ended w = true
+is_called_at at_a_byte ended None = false
+is_called_at at_a_byte ended (Some w) = true
+is_called_at (at_bytes test) ended None = false
+is_called_at (at_bytes test) ended (Some w) = test w
+is_called_at (at_bytes_or_end test) ended None = ended
+is_called_at (at_bytes_or_end test) ended (Some w) = test w
 
 -- whether a choice must wait, by whether a byte was read
 abbrev pub needs_choice : Needs → (read : Bool) → Bool
@@ -214,15 +216,15 @@ most_calls count (when by one other) = larger (most_calls count one) (most_calls
 
 module _ {W R D : Type 0} (states : List (StateRows W R D)) where
   -- the spans, and what is known of choices and of what waits, are as a state says
-  abbrev pub is_at : List EventName → (within failing : Bool) → (waits : Option W) → (read : Bool) → Option (StateRows W R D) → Bool
-  is_at spans within failing waits read None = false
-  is_at spans within failing waits read (Some state) =
+  abbrev pub is_at : List EventName → (within failing ended : Bool) → (waits : Option W) → (read : Bool) → Option (StateRows W R D) → Bool
+  is_at spans within failing ended waits read None = false
+  is_at spans within failing ended waits read (Some state) =
       same_names spans state.spans
-      && ((not (needs_choice state.needs read) || within) && ((not (needs_failing state.needs read) || failing) && is_called_at state.called waits))
+      && ((not (needs_choice state.needs read) || within) && ((not (needs_failing state.needs read) || failing) && is_called_at state.called ended waits))
 
   -- what a choice goes on with fits at the place where it was made
   abbrev pub may_go_on : Frame W → (waits : Option W) → State → Bool
-  may_go_on f waits (Next name) = is_at f.spans f.within f.failing waits true (named states name)
+  may_go_on f waits (Next name) = is_at f.spans f.within f.failing false waits true (named states name)
   may_go_on f waits Ok = same_names f.spans [] && f.within
   may_go_on f waits Nok = f.failing
   may_go_on f waits _ = false
@@ -255,11 +257,11 @@ module _ {W R D : Type 0} (states : List (StateRows W R D)) where
   abbrev pub fits_answer : Stage → (previous current : Option W) → Shape → State → Bool
   fits_answer stage b w p Ok = same_names p.spans [] && (not p.fresh && (p.within || is_end stage))
   fits_answer stage b w p Nok = p.failing
-  fits_answer byte_read b w p (Next name) = is_bare p && (is_at p.spans p.within p.failing None true (named states name) && (not p.fresh || is_fresh_fed (named states name)))
+  fits_answer byte_read b w p (Next name) = is_bare p && (is_at p.spans p.within p.failing false None true (named states name) && (not p.fresh || is_fresh_fed (named states name)))
   fits_answer byte_waits b (Some w) p (Retry name) =
-      is_bare p && (is_at p.spans p.within p.failing (Some w) (is_some b) (named states name) && (not p.fresh || is_fresh (Some w) (named states name)))
+      is_bare p && (is_at p.spans p.within p.failing false (Some w) (is_some b) (named states name) && (not p.fresh || is_fresh (Some w) (named states name)))
   fits_answer end_waits b None p (Retry name) =
-      is_bare p && (is_at p.spans p.within p.failing None (is_some b) (named states name) && (not p.fresh || is_fresh None (named states name)))
+      is_bare p && (is_at p.spans p.within p.failing true None (is_some b) (named states name) && (not p.fresh || is_fresh None (named states name)))
   fits_answer _ b w p (Error message) = true
   fits_answer _ _ _ _ _ = false
 
@@ -348,9 +350,9 @@ module _ {W R D : Type 0} (states : List (StateRows W R D)) where
 
   -- a state may be called while this waits
   abbrev pub is_called : Option W → StateRows W R D → Bool
-  is_called w state = is_called_at state.called w
+  is_called w state = is_called_at state.called true w
 
   -- a machine starts with no open span, no choice and no byte
   abbrev pub may_start : Option (StateRows W R D) → Bool
   may_start None = false
-  may_start (Some state) = same_names state.spans [] && (not (needs_choice state.needs false) && is_called_at state.called None)
+  may_start (Some state) = same_names state.spans [] && (not (needs_choice state.needs false) && is_called_at state.called false None)

@@ -64,11 +64,12 @@ pub data Needs : Type 0 where
   a_choice_once_read : Needs
   a_choice_for_ok : Needs
 
--- What must wait when a state is called: a byte or the end; a byte; or one of these bytes
+-- What must wait when a state is called: a byte or the end; a byte; one of these bytes; or one of these bytes or the end
 pub data Called (W : Type 0) : Type 0 where
   anywhere : Called W
   at_a_byte : Called W
   at_bytes : (W → Bool) → Called W
+  at_bytes_or_end : (W → Bool) → Called W
 
 -- A state: its name, and its rows by the class of the previous byte and of what waits; None is the start and the end. The other fields are
 -- tested: the spans that are open when it is called, since the last choice was made, the outermost first; where they may have begun; which

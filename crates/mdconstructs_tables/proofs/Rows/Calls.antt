@@ -3,7 +3,7 @@ use Rattle.mdconstructs_tables.proofs.Prelude.{◌≡◌, ◌≢◌, ◌==◌, �
 use Rattle.mdconstructs_tables.proofs.Rows.Laws.{Waited, reached, sight_at, HasShape, below_all, is-last, last-above, last-long, to-before, left-at, here-at, has-after-all, does-then, chooses-then, allows-parts}
 use Rattle.mdconstructs_tables.proofs.GrowingTexts.{next-is-left}
 use Rattle.mdconstructs_tables.proofs.Markers.{stack-below}
-use Rattle.mdconstructs_tables.proofs.Tables.Holding.{met-at, read-before, ahead-at, start-sight, begins}
+use Rattle.mdconstructs_tables.proofs.Tables.Holding.{called-fed, met-at, read-before, ahead-at, start-sight, begins}
 
 -- what holds of the last of the events without their links holds of the last
 last-unlinked : (P : Event → Type 0) (o : Option Event) (es : List Event) (e : Event) → ((x : Event) → o ≡ Some x → P (unlinked x)) → All P (map unlinked es) → last_or o es ≡ Some e → P (unlinked e)
@@ -119,13 +119,14 @@ module _ {M W R D : Type 0} (class : ℕ → W) (state : StateRows W R D) (b w :
         })
 
 -- if a state is called that is never called at the end, a byte waits
-never-at-end : {W : Type 0} (class : ℕ → W) (called : Called W) (w : Waits) (p : ℕ) (ended : Bool) (text : Text) → IsFed w p ended text → is_called_at called None ≡ false
-    → is_called_at called (class_in class text p) ≡ true → w ≡ Byte
+never-at-end : {W : Type 0} (class : ℕ → W) (called : Called W) (w : Waits) (p : ℕ) (ended : Bool) (text : Text) → IsFed w p ended text → is_called_at called true None ≡ false
+    → is_called_at called ended (class_in class text p) ≡ true → w ≡ Byte
 never-at-end class called Nothing p ended text h never at = absurd h
 never-at-end class called Byte p ended text h never at = refl
 never-at-end class called End p ended text h never at =
-    let past = subst (λ o. is_called_at called (class_of class (byte_of o)) ≡ true) (slice_get_past text.seats p h.1) at in
-    absurd (let e : true ≡ false = sym past ∙ never in cc)
+    let past = subst (λ o. is_called_at called ended (class_of class (byte_of o)) ≡ true) (slice_get_past text.seats p h.1) at in
+    let fed = called-fed called ended None past in
+    absurd (let e : true ≡ false = sym fed ∙ never in cc)
 
 -- what the code of a state may do follows where it is called
 allowed : {M W R D : Type 0} (class : ℕ → W) (state : StateRows W R D) (t : TokenizerValue M R D) → IsAtState class state t → IsCallable class state t

@@ -3,7 +3,7 @@ use Rattle.mdconstructs_tables.proofs.Prelude.{◌≡◌, ◌≢◌, ℕ, ◌+�
 use Rattle.mdconstructs_tables.proofs.Rows.Misfits.{named-same, named-in}
 use Rattle.mdconstructs_tables.proofs.Rows.Laws.{Waited, reached}
 use Rattle.mdconstructs_tables.proofs.GrowingTexts.{seat-at}
-use Rattle.mdconstructs_tables.proofs.Tables.Holding.{read-before, waits-at, of_class, before_class, row_of, left_by, IsCall}
+use Rattle.mdconstructs_tables.proofs.Tables.Holding.{called-fed, read-before, waits-at, of_class, before_class, row_of, left_by, IsCall}
 use Rattle.mdconstructs_tables.proofs.Tables.Laws.{picked-passes, state-fits}
 
 -- Calls
@@ -139,12 +139,12 @@ module _ {W R D : Type 0} (table : Table W R D) (g : Given) (early : Name → Op
   abbrev PaysBy : StateRows W R D → Cost → Type 0
   PaysBy state c =
       and_of_own c
-      (λ f. (b w : Option W) (text : Text) (p : ℕ) → is_some b ≡ is_read p → Stands w text p → class_at table text p ≡ w → is_called_at state.called w ≡ true
+      (λ f. (b w : Option W) (text : Text) (p : ℕ) → is_some b ≡ is_read p → Stands w text p → class_at table text p ≡ w → is_called_at state.called true w ≡ true
       → AreWithin table early b w text p (own_cost c text p) (state.rows b w))
       (Unit {0})
 
   -- a row of a state is within what the state costs
-  pub row-within : (b w : Option W) (state : StateRows W R D) (s : Sight) (k : Configuration R D) (text : Text) (p : ℕ) → is_some b ≡ is_read p → Stands w text p → class_at table text p ≡ w → is_called_at state.called w ≡ true → PaysBy state state.cost
+  pub row-within : (b w : Option W) (state : StateRows W R D) (s : Sight) (k : Configuration R D) (text : Text) (p : ℕ) → is_some b ≡ is_read p → Stands w text p → class_at table text p ≡ w → is_called_at state.called true w ≡ true → PaysBy state state.cost
       → fits_calls table.states b w state state.cost ≡ true → row_price table early b w text p (picked (state.rows b w) g s k) ≤ retry_price table b w text p (Some state)
   row-within b w state s k text p read at seen called asked fit =
       elim state.cost as (λ c. PaysBy state c → fits_calls table.states b w state c ≡ true
@@ -236,13 +236,14 @@ module _ {W R D : Type 0} (table : Table W R D) (g : Given) (early : Name → Op
         let (s, seat) = seat-at text k.position inside in
         let b = before_class table g text k in
         let w = table.class s.byte in
-        let called = subst (λ o. is_called_at state.called (class_of table.class (byte_of o)) ≡ true) seat h.spans.called in
+        let called = called-fed state.called k.ended (Some w) (subst (λ o. is_called_at state.called k.ended (class_of table.class (byte_of o)) ≡ true) seat h.spans.called) in
         rw (e, seat, is) (fed-costs b (Some w) state text k.position inside (state-fits table g fit b (Some w) name state is called).1)
     feeding (Some state) false text k choices name is e h =
         let past = ltb-false k.position (length text.seats) e in
         let b = before_class table g text k in
         let none : Option W = None in
-        let called : is_called table.states none state ≡ true = subst (λ o. is_called_at state.called (class_of table.class (byte_of o)) ≡ true) (slice_get_past text.seats k.position past) h.spans.called in
+        let called : is_called table.states none state ≡ true =
+        called-fed state.called k.ended none (subst (λ o. is_called_at state.called k.ended (class_of table.class (byte_of o)) ≡ true) (slice_get_past text.seats k.position past) h.spans.called) in
         rw (e, is) (fed-costs b None state text k.position past (state-fits table g fit b None name state is called).1)
 
     pub feeding-pays : (text : Text) (k : Configuration R D) (choices : List Choice) (name : Name) → table_holds table g text k choices (Next name)

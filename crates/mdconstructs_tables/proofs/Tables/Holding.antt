@@ -1,6 +1,6 @@
 -- The invariant of a table: if it holds before a call, it holds at the state returned, once that is fed, when a choice ends, and when the
 -- text goes on.
-use Rattle.mdconstructs_tables.proofs.Prelude.{◌≡◌, ◌≢◌, ℕ, zero, suc, ◌≤◌, ◌&&◌, ◌||◌, not, List, [], ◌∷◌, ◌++◌, Bool, true, false, Option, Some, None, length, get_or, map, refl, sym, ap, ◌∙◌, subst, arith, ◌⊎◌, inl, inr, take, drop, All, IfSome, nat_lt, last_or, ltb-true, ltb-false, and_parts, not-true, append-nil, take-append-drop, take-map, slice_get_past, All-nil, All-tail, Point, Name, State, Next, Retry, Ok, Nok, Error, unlinked, stands_before, or-leads, Waits, Nothing, Byte, End, AttemptKind, Attempt, Check, Given, Text, IsText, empty_text, Configuration, Local, Choice, Saved, start_configuration, Sight, sight, sight_in, current_of, seat_before, byte_of, consumed, with_local, fed, unfed, restored, settled_at, IsAsFar, begins-before_end, began-before_next, ends-before_next, upto-before, Row, Begun, before, at_byte, here, Called, anywhere, at_a_byte, at_bytes, Needs, nothing, a_choice_for_ok, StateRows, Table, class_of, does, chooses, row_at, named, is_void_last, saves, Stage, end_waits, byte_waits, byte_read, Shape, Frame, after_all, is_at, is_end, is_fresh, is_fresh_fed, fresh_at, fresh_fed, needs_choice, needs_failing, is_called_at, is_some, may_go_on, may_go_back, fits_choice, fits_answer, fits_calls, start_shape, first_stage, is_bare, may_start, outline, EndsWithEnter, Began, upto, since, IsOpen, SightIsInOrder, IsFed, exit_place_at, class_in, is_read, AnyWait, GoesBack, AnyGoesBack, MayEnd, IsSavedIn, IsSaved, position_of, events_saved, IsBelow, AreWaiting, began_at, IsStateAt, HoldsAt, EventName}
+use Rattle.mdconstructs_tables.proofs.Prelude.{◌≡◌, ◌≢◌, ℕ, zero, suc, ◌≤◌, ◌&&◌, ◌||◌, not, List, [], ◌∷◌, ◌++◌, Bool, true, false, Option, Some, None, length, get_or, map, refl, sym, ap, ◌∙◌, subst, arith, ◌⊎◌, inl, inr, take, drop, All, IfSome, nat_lt, last_or, ltb-true, ltb-false, and_parts, not-true, append-nil, take-append-drop, take-map, slice_get_past, All-nil, All-tail, Point, Name, State, Next, Retry, Ok, Nok, Error, unlinked, stands_before, or-leads, Waits, Nothing, Byte, End, AttemptKind, Attempt, Check, Given, Text, IsText, empty_text, Configuration, Local, Choice, Saved, start_configuration, Sight, sight, sight_in, current_of, seat_before, byte_of, consumed, with_local, fed, unfed, restored, settled_at, IsAsFar, begins-before_end, began-before_next, ends-before_next, upto-before, Row, Begun, before, at_byte, here, Called, anywhere, at_a_byte, at_bytes, at_bytes_or_end, Needs, nothing, a_choice_for_ok, StateRows, Table, class_of, does, chooses, row_at, named, is_void_last, saves, Stage, end_waits, byte_waits, byte_read, Shape, Frame, after_all, is_at, is_end, is_fresh, is_fresh_fed, fresh_at, fresh_fed, needs_choice, needs_failing, is_called_at, is_some, may_go_on, may_go_back, fits_choice, fits_answer, fits_calls, start_shape, first_stage, is_bare, may_start, outline, EndsWithEnter, Began, upto, since, IsOpen, SightIsInOrder, IsFed, exit_place_at, class_in, is_read, AnyWait, GoesBack, AnyGoesBack, MayEnd, IsSavedIn, IsSaved, position_of, events_saved, IsBelow, AreWaiting, began_at, IsStateAt, HoldsAt, EventName}
 use Rattle.mdconstructs_tables.proofs.Rows.Laws.{same_names-true, Waited, reached, IsSeenAhead, sight_at, HasShape, to-before, before-is-upto, began-on, left-at}
 use Rattle.mdconstructs_tables.proofs.GrowingTexts.{seat-at, Extends, waits-longer}
 use Rattle.mdconstructs_tables.proofs.Tables.Waiting.{more-waiting, all-below, place-kept, class-kept, waiting-longer}
@@ -30,6 +30,11 @@ needs-more n read = ((λ h. refl), (λ h. refl))
 needs-one : (n : Needs) (read : Bool) → needs_failing n read ≡ true → needs_choice n read ≡ true
 needs-one a_choice_for_ok read h = refl
 needs-one n read h = h
+
+-- what may wait may wait if the end was fed
+pub called-fed : {W : Type 0} (called : Called W) (ended : Bool) (w : Option W) → is_called_at called ended w ≡ true → is_called_at called true w ≡ true
+called-fed (at_bytes_or_end test) ended None h = refl
+called-fed called ended w h = h
 
 module _ {W R D : Type 0} (table : Table W R D) (g : Given) where
   abbrev pub of_class : Text → Configuration R D → Option W
@@ -72,12 +77,19 @@ module _ {W R D : Type 0} (table : Table W R D) (g : Given) where
   abbrev IsNext : Text → ℕ → Option W → Type 0
   IsNext text p waits = (w : W) → waits ≡ Some w → class_in table.class text p ≡ Some w
 
+  -- if the end is known to wait, it was fed, and no byte is next in the text
+  abbrev IsEnd : Text → Configuration R D → (ended : Bool) → Option W → Type 0
+  IsEnd text k ended waits = waits ≡ None → ended ≡ true → (k.ended ≡ true) × (class_in table.class text k.position ≡ None)
+
   -- a state that may be called where that waits may be called there
-  called-more : (called : Called W) (waits there : Option W) → ((w : W) → waits ≡ Some w → there ≡ Some w) → is_called_at called waits ≡ true → is_called_at called there ≡ true
-  called-more anywhere waits there same h = refl
-  called-more at_a_byte (Some w) there same h = rw (same w refl) refl
-  called-more (at_bytes test) (Some w) there same h = rw (same w refl) h
-  called-more called None there same h = absurd (cc)
+  called-more : (called : Called W) (ended later : Bool) (waits there : Option W) → ((w : W) → waits ≡ Some w → there ≡ Some w) → (waits ≡ None → ended ≡ true → (later ≡ true) × (there ≡ None))
+      → is_called_at called ended waits ≡ true → is_called_at called later there ≡ true
+  called-more anywhere ended later waits there same end h = refl
+  called-more at_a_byte ended later (Some w) there same end h = rw (same w refl) refl
+  called-more (at_bytes test) ended later (Some w) there same end h = rw (same w refl) h
+  called-more (at_bytes_or_end test) ended later (Some w) there same end h = rw (same w refl) h
+  called-more (at_bytes_or_end test) ended later None there same end h = let (fed, none) = end refl h in rw (none, fed) refl
+  called-more called ended later None there same end h = absurd (cc)
 
   -- if something waits, it is what is next in the text
   pub waits-at : (w : Waits) (text : Text) (p : ℕ) (ended : Bool) → IsFed w p ended text → class_in table.class text p ≡ class_of table.class (current_of text p w)
@@ -86,12 +98,12 @@ module _ {W R D : Type 0} (table : Table W R D) (g : Given) where
   waits-at End text p ended h = let none = slice_get_past text.seats p h.1 in rw none refl
 
   -- if the test says that spans, choices and what waits fit a state, they do
-  at-state : (spans : List EventName) (within failing : Bool) (waits : Option W) (read : Bool) (o : Option (StateRows W R D)) (where_to : StateRows W R D → Point → Bool) (text : Text) (k : Configuration R D) (base : List EventName)
-      (choices : List Choice) → is_at table.states spans within failing waits read o ≡ true → k.stack ≡ base ++ spans → ((state : StateRows W R D) → o ≡ Some state → Began (where_to state) (outline k))
+  at-state : (spans : List EventName) (within failing ended : Bool) (waits : Option W) (read : Bool) (o : Option (StateRows W R D)) (where_to : StateRows W R D → Point → Bool) (text : Text) (k : Configuration R D) (base : List EventName)
+      (choices : List Choice) → is_at table.states spans within failing ended waits read o ≡ true → k.stack ≡ base ++ spans → ((state : StateRows W R D) → o ≡ Some state → Began (where_to state) (outline k))
       → (is_void_last (last_or None spans) ≡ true → EndsWithEnter (outline k)) → AreWaiting table.class table.states g text k.position (outline k) base choices → MayEnd within failing choices
-      → ((n : Needs) → (needs_choice n (is_read k.position) ≡ true → needs_choice n read ≡ true) × (needs_failing n (is_read k.position) ≡ true → needs_failing n read ≡ true)) → IsNext text k.position waits → IsStateAt table g text o where_to k choices
-  at-state spans within failing waits read None where_to text k base choices is stack began void waiting any reads byte = absurd (cc)
-  at-state spans within failing waits read (Some state) where_to text k base choices is stack began void waiting any reads byte =
+      → ((n : Needs) → (needs_choice n (is_read k.position) ≡ true → needs_choice n read ≡ true) × (needs_failing n (is_read k.position) ≡ true → needs_failing n read ≡ true)) → IsNext text k.position waits → IsEnd text k ended waits → IsStateAt table g text o where_to k choices
+  at-state spans within failing ended waits read None where_to text k base choices is stack began void waiting any reads byte end = absurd (cc)
+  at-state spans within failing ended waits read (Some state) where_to text k base choices is stack began void waiting any reads byte end =
       let (names, rest) = and_parts _ _ is in
       let (needs, others) = and_parts _ _ rest in
       let (fails, bytes) = and_parts _ _ others in
@@ -104,7 +116,7 @@ module _ {W R D : Type 0} (table : Table W R D) (g : Given) where
           void = λ v. void (ap (λ xs. is_void_last (last_or None xs)) same ∙ v);
           below = all-below table.class table.states g text choices base k.position (outline k) waiting;
           needs = ((λ n. any.0 (or-leads _ within needs ((reads state.needs).0 n))), (λ n. any.1 (or-leads _ failing fails ((reads state.needs).1 n))));
-          called = called-more state.called waits (class_in table.class text k.position) byte bytes;
+          called = called-more state.called ended k.ended waits (class_in table.class text k.position) byte end bytes;
         };
         waiting = waiting;
       }
@@ -132,7 +144,7 @@ module _ {W R D : Type 0} (table : Table W R D) (g : Given) where
     pub waiting : AreWaiting table.class table.states g text k.position (outline k) base choices
     pub fits_it : let p = shape_of text k state in fits_answer table.states p.stage (before_class text k) (of_class text k) p (row_of text k state).answer ≡ true
     pub fits_calls_too : fits_calls table.states (before_class text k) (of_class text k) state state.cost ≡ true
-    pub called : is_called_at state.called (of_class text k) ≡ true
+    pub called : is_called_at state.called true (of_class text k) ≡ true
     pub met : Waited (first_stage (of_class text k)) text k
     pub shape : let p = shape_of text k state in HasShape p above (sight_at p.stage (sight g text k)) g text k (left_by text k state) (chosen_by text k choices state)
     pub wait_on : AreWaiting table.class table.states g text (left_by text k state).position (outline (left_by text k state)) above (chosen_by text k choices state)
@@ -159,12 +171,12 @@ module _ {W R D : Type 0} (table : Table W R D) (g : Given) where
   any-or-ended false end choices ended h any at = inr (at h)
 
   -- a state goes on with what waits
-  retried : (b w : Option W) (p : Shape) (above : List EventName) (name : Name) (text : Text) (k k' : Configuration R D) (choices : List Choice) → is_some b ≡ is_read k.position
+  retried : (b w : Option W) (ended : Bool) (p : Shape) (above : List EventName) (name : Name) (text : Text) (k k' : Configuration R D) (choices : List Choice) → is_some b ≡ is_read k.position
       → IsFed k.waiting k.position k.ended text → SightIsInOrder k.waiting (sight g text k) → of_class text k ≡ w → IsSeenAhead (first_stage w) (sight g text k) → IsAsFar k' k
-      → (is_bare p && (is_at table.states p.spans p.within p.failing w (is_some b) (named table.states name) && (not p.fresh || is_fresh table.states w (named table.states name)))) ≡ true
+      → (is_bare p && (is_at table.states p.spans p.within p.failing ended w (is_some b) (named table.states name) && (not p.fresh || is_fresh table.states w (named table.states name)))) ≡ true
       → Began (since p.fresh (first_stage w) (sight g text k)) (outline k') → HasShape p above (sight_at p.stage (sight g text k)) g text k k' choices
-      → AreWaiting table.class table.states g text k'.position (outline k') above choices → IsNext text k'.position w → HoldsAt table g text k' choices (Retry name)
-  retried b w p above name text k k' choices read waits order class ahead far fit began h waiting next =
+      → AreWaiting table.class table.states g text k'.position (outline k') above choices → IsNext text k'.position w → IsEnd text k' ended w → HoldsAt table g text k' choices (Retry name)
+  retried b w ended p above name text k k' choices read waits order class ahead far fit began h waiting next end =
       let s = sight g text k in
       let o = named table.states name in
       let (bare, rest) = and_parts (is_bare p) _ fit in
@@ -176,8 +188,8 @@ module _ {W R D : Type 0} (table : Table W R D) (g : Given) where
         rw (far.0, far.1) order,
         subst (λ s. IsStateAt table g text o (λ state. began_at (class_of table.class s.current) state s) k' choices) (sym (stays text k k' far))
             (subst (λ v. IsStateAt table g text o (λ state. began_at v state s) k' choices) (sym class)
-            (at-state p.spans p.within p.failing w (is_some b) o (λ state. began_at w state s) text k' above choices shaped h.stack there
-            (λ v. h.bare (or-leads (is_void_last (last_or None p.spans)) p.bare bare v)) waiting h.waits.1 (λ n. ((λ e. ap (needs_choice n) (read ∙ ap is_read (sym far.0)) ∙ e), (λ e. ap (needs_failing n) (read ∙ ap is_read (sym far.0)) ∙ e))) next)),
+            (at-state p.spans p.within p.failing ended w (is_some b) o (λ state. began_at w state s) text k' above choices shaped h.stack there
+            (λ v. h.bare (or-leads (is_void_last (last_or None p.spans)) p.bare bare v)) waiting h.waits.1 (λ n. ((λ e. ap (needs_choice n) (read ∙ ap is_read (sym far.0)) ∙ e), (λ e. ap (needs_failing n) (read ∙ ap is_read (sym far.0)) ∙ e))) next end)),
       )
 
   -- the invariant holds for the state returned
@@ -211,24 +223,26 @@ module _ {W R D : Type 0} (table : Table W R D) (g : Given) where
       let began : (state : StateRows W R D) → o ≡ Some state → Began (upto (fresh_fed state.begun) (exit_place_at g text k'.position)) (outline k') = λ state e.
       let f : (not p.fresh || fresh_fed state.begun) ≡ true = subst (λ o. (not p.fresh || is_fresh_fed table.states o) ≡ true) e fresh in
       began-on (upto p.fresh s.next) (upto (fresh_fed state.begun) (sight g text k').exit_place) (outline k') (λ q b. subst (λ x. upto (fresh_fed state.begun) x q ≡ true) (sym left) (upto-fits p.fresh (fresh_fed state.begun) s.next q f b)) (rw at at h.began) in
-      (far.1, at-state p.spans p.within p.failing None true o (λ state. upto (fresh_fed state.begun) (exit_place_at g text k'.position)) text k' above choices shaped h.stack began (λ v. h.bare (or-leads (is_void_last (last_or None p.spans)) p.bare bare v)) waiting h.waits.1 (λ n. needs-more n (is_read k'.position)) (λ v e. absurd (cc)))
+      (far.1, at-state p.spans p.within p.failing false None true o (λ state. upto (fresh_fed state.begun) (exit_place_at g text k'.position)) text k' above choices shaped h.stack began (λ v. h.bare (or-leads (is_void_last (last_or None p.spans)) p.bare bare v)) waiting h.waits.1 (λ n. needs-more n (is_read k'.position)) (λ v e. absurd (cc)) (λ n e. absurd (cc)))
   answered byte_waits b (Some w) p above (Retry name) text k k' choices read waits order class met fit at h waiting =
-      retried b (Some w) p above name text k k' choices read waits order class (ahead-at (Some w) text k met order) (rw at at h.reads.0) fit (rw at at h.began) h waiting
-      (λ v e. ap (class_in table.class text) (rw at at h.reads.0).0 ∙ subst (λ x. class_of table.class (current_of text k.position x) ≡ Some w) met.0 class ∙ e)
+      retried b (Some w) false p above name text k k' choices read waits order class (ahead-at (Some w) text k met order) (rw at at h.reads.0) fit (rw at at h.began) h waiting
+      (λ v e. ap (class_in table.class text) (rw at at h.reads.0).0 ∙ subst (λ x. class_of table.class (current_of text k.position x) ≡ Some w) met.0 class ∙ e) (λ n e. absurd (cc))
   answered end_waits b None p above (Retry name) text k k' choices read waits order class met fit at h waiting =
-      retried b None p above name text k k' choices read waits order class (ahead-at None text k met order) (rw at at h.reads.0) fit (rw at at h.began) h waiting (λ v e. absurd (cc))
+      retried b None true p above name text k k' choices read waits order class (ahead-at None text k met order) (rw at at h.reads.0) fit (rw at at h.began) h waiting (λ v e. absurd (cc))
+      (λ n e. let far = rw at at h.reads.0 in let past = slice_get_past text.seats k.position met.1 in (far.2 ∙ met.0, ap (class_in table.class text) far.0 ∙ ap (λ o. class_of table.class (byte_of o)) past))
   answered st b w p above a text k k' choices read waits order class met fit at h waiting = absurd (cc)
 
   -- the same spans are open once the next byte, or the end, was fed, and if the text goes on
   moved : (o : Option (StateRows W R D)) (from to : StateRows W R D → Point → Bool) (text more : Text) (k : Configuration R D) (choices : List Choice) (waits : Waits) (ended : Bool)
       → ((state : StateRows W R D) (q : Point) → from state q ≡ true → to state q ≡ true) → ((w : W) → class_in table.class text k.position ≡ Some w → class_in table.class more k.position ≡ Some w)
+      → (class_in table.class text k.position ≡ None → k.ended ≡ true → (ended ≡ true) × (class_in table.class more k.position ≡ None))
       → ((base : List EventName) → AreWaiting table.class table.states g text k.position (outline k) base choices → AreWaiting table.class table.states g more k.position (outline k) base choices)
       → IsStateAt table g text o from k choices
       → IsStateAt table g more o to (record { position = k.position; waiting = waits; ended = ended; events = k.events; stack = k.stack; local = k.local }) choices
-  moved None from to text more k choices waits ended f class wait h = h
-  moved (Some state) from to text more k choices waits ended f class wait h =
+  moved None from to text more k choices waits ended f class end wait h = h
+  moved (Some state) from to text more k choices waits ended f class end wait h =
       let o = h.spans in
-      let called = called-more state.called (class_in table.class text k.position) (class_in table.class more k.position) class o.called in
+      let called = called-more state.called k.ended ended (class_in table.class text k.position) (class_in table.class more k.position) class end o.called in
       record {
         base = h.base;
         spans = record { stack = o.stack; began = began-on (from state) (to state) (outline k) (f state) o.began; void = o.void; below = o.below; needs = o.needs; called = called };
@@ -241,7 +255,7 @@ module _ {W R D : Type 0} (table : Table W R D) (g : Given) where
       let began = λ (state : StateRows W R D). upto (fresh_fed state.begun) (exit_place_at g text k.position) in (
         h.0,
         subst (λ q. IsStateAt table g more (named table.states name) (λ state. upto (fresh_fed state.begun) q) k choices) (sym (place-kept table.class table.states g text more e k.position inside))
-            (moved (named table.states name) began began text more k choices k.waiting k.ended (λ state q h. h) (class-kept table.class table.states g text more e k.position)
+            (moved (named table.states name) began began text more k choices k.waiting k.ended (λ state q h. h) (class-kept table.class table.states g text more e k.position) (λ n fed. absurd (let e : true ≡ false = sym fed ∙ fresh in cc))
             (λ base. waiting-longer table.class table.states g text more e choices base k.position (outline k) inside) h.1),
       )
   longer (Retry name) text more k choices e fresh inside h =
@@ -251,7 +265,7 @@ module _ {W R D : Type 0} (table : Table W R D) (g : Given) where
         fed,
         subst (SightIsInOrder k.waiting) (sym seen) h.1,
         subst (λ s. IsStateAt table g more o (λ state. began_at (class_of table.class s.current) state s) k choices) (sym seen)
-            (moved o began began text more k choices k.waiting k.ended (λ state q h. h) (class-kept table.class table.states g text more e k.position)
+            (moved o began began text more k choices k.waiting k.ended (λ state q h. h) (class-kept table.class table.states g text more e k.position) (λ n fed. absurd (let e : true ≡ false = sym fed ∙ fresh in cc))
             (λ base. waiting-longer table.class table.states g text more e choices base k.position (outline k) inside) h.2),
       )
   longer Ok text more k choices e fresh inside h = record {
@@ -287,7 +301,7 @@ module _ {W R D : Type 0} (table : Table W R D) (g : Given) where
       let later : (q : Point) → stands_before q s.exit_place ≡ true → stands_before q s.next ≡ true = λ q. began-before_next g text k.position q is inside in
       let soon : (q : Point) → stands_before s.exit_place q ≡ false → stands_before q s.next ≡ true = λ q h. upto-before q.index q.vs s.exit_place.index s.exit_place.vs s.next.index s.next.vs h (ends-before_next g text k.position is inside) in
       let open_at = moved (named table.states name) (λ state. upto (fresh_fed state.begun) s.exit_place) (λ state. began_at (Some (table.class seat.byte)) state s) text text k choices Byte k.ended
-      (λ state q. fed-byte state.begun (table.class seat.byte) s q (later q) (soon q)) (λ w is. is) (λ base h. h) h.1 in
+      (λ state q. fed-byte state.begun (table.class seat.byte) s q (later q) (soon q)) (λ w is. is) (λ n fed. (fed, n)) (λ base h. h) h.1 in
       rw e (
         inside,
         record { begins = λ waits. begins-before_end g text k.position is inside; later = λ waits. later },
@@ -300,7 +314,7 @@ module _ {W R D : Type 0} (table : Table W R D) (g : Given) where
         (refl, past),
         record { begins = λ waits. absurd (cc); later = λ waits. absurd (cc) },
         moved (named table.states name) (λ state. upto (fresh_fed state.begun) s.exit_place) (λ state. began_at None state s) text text k choices End true
-            (λ state q. fed-end state.begun s q) (λ w is. is) (λ base h. h) h.1,
+            (λ state q. fed-end state.begun s q) (λ w is. is) (λ n fed. (refl, n)) (λ base h. h) h.1,
       )
 
   pub starts-at : (o : Option (StateRows W R D)) (p : Point) (where_to : StateRows W R D → Point → Bool) (flag : Bool) → may_start table.states o ≡ true
@@ -308,7 +322,7 @@ module _ {W R D : Type 0} (table : Table W R D) (g : Given) where
   starts-at None p where_to flag h = absurd (cc)
   starts-at (Some state) p where_to flag h =
       let (spans, rest) = and_parts _ _ h in
-      let (needs, byte) = and_parts (not (needs_choice state.needs false)) (is_called_at state.called None) rest in
+      let (needs, byte) = and_parts (not (needs_choice state.needs false)) (is_called_at state.called false None) rest in
       let empty = same_names-true state.spans [] spans in
       let none : needs_choice state.needs false ≡ true → AnyWait [] = λ n. absurd (let none = not-true (needs_choice state.needs false) needs in let e : true ≡ false = sym n ∙ none in cc) in
       record {
@@ -330,9 +344,9 @@ module _ {W R D : Type 0} (table : Table W R D) (g : Given) where
       → AreWaiting table.class table.states g text k.position (outline k) below choices → MayEnd f.within f.failing choices → IsNext text k.position waits → HoldsAt table g text k choices a
   goes-on-at f below next (Next name) text k choices fit waits stack began void waiting any inside = (
     waits,
-    at-state f.spans f.within f.failing next true (named table.states name) (λ state. upto (fresh_fed state.begun) (exit_place_at g text k.position)) text k below choices fit stack
+    at-state f.spans f.within f.failing false next true (named table.states name) (λ state. upto (fresh_fed state.begun) (exit_place_at g text k.position)) text k below choices fit stack
         (λ state e. began-on (upto false (exit_place_at g text k.position)) (upto (fresh_fed state.begun) (exit_place_at g text k.position)) (outline k) (upto-any (fresh_fed state.begun) (exit_place_at g text k.position)) began)
-        void waiting any (λ n. needs-more n (is_read k.position)) inside,
+        void waiting any (λ n. needs-more n (is_read k.position)) inside (λ n e. absurd (cc)),
   )
   goes-on-at f below next Ok text k choices fit waits stack began void waiting any inside =
       let (names, within) = and_parts _ _ fit in

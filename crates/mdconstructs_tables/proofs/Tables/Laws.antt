@@ -5,7 +5,7 @@ use Rattle.mdconstructs_tables.proofs.Rows.Misfits.{none-left, none-made, named-
 use Rattle.mdconstructs_tables.proofs.Rows.Laws.{below_all, has-after-all, chooses-append, chooses-save, adds-all}
 use Rattle.mdconstructs_tables.proofs.GrowingTexts.{fed-position, extends}
 use Rattle.mdconstructs_tables.proofs.Tables.Waiting.{all-front, waits-after-all}
-use Rattle.mdconstructs_tables.proofs.Tables.Holding.{of_class, before_class, met-at, read-before, waits-at, begins, ahead-at, start-sight, row_of, left_by, chosen_by, shape_of, IsCall, once, inside-at, answered, longer, fed-at, starts-at, well, badly, inside-after, KeepsStack, keeps-all}
+use Rattle.mdconstructs_tables.proofs.Tables.Holding.{called-fed, of_class, before_class, met-at, read-before, waits-at, begins, ahead-at, start-sight, row_of, left_by, chosen_by, shape_of, IsCall, once, inside-at, answered, longer, fed-at, starts-at, well, badly, inside-after, KeepsStack, keeps-all}
 
 -- a test that all rows pass is passed by the one that is picked
 module _ {R D : Type 0} where
@@ -37,7 +37,7 @@ module _ {W R D : Type 0} (table : Table W R D) (g : Given) {early : Name → Op
         let r = row_at table.class state g s k1 in
         let met = met-at table g text k k.waiting refl waits in
         let read = read-before table g text k.position inside in
-        let at_it = subst (λ w. is_called_at state.called w ≡ true) (waits-at table g k.waiting text k.position k.ended waits) h.spans.called in
+        let at_it = called-fed state.called k.ended w (subst (λ w. is_called_at state.called k.ended w ≡ true) (waits-at table g k.waiting text k.position k.ended waits) h.spans.called) in
         let (rows_fit, paid) = state-fits b w name state is at_it in
         let (allowed, more) = and_parts (allows_all r.acts (start_shape b w state)) _ (picked-passes (fits_row table.states b w state) (state.rows b w) g s k1 rows_fit) in
         let (with_choice_of, answers) = and_parts (fits_choices table.states w r.acts (start_shape b w state)) _ more in
