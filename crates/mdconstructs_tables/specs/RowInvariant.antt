@@ -22,7 +22,7 @@ use Rattle.markdown_tokenizer.specs.Rules.{Rules}
 use Rattle.markdown_tokenizer.specs.Engine.{EndsWellFormed}
 use Rattle.markdown_tokenizer.specs.Plain.{finds_nothing, NothingResolves}
 use Rattle.mdconstructs_tables.specs.Rows.{Act, exit, consume, choose, Rows, row, when, Row, Calls, Cost, by_bytes, own, StateRows, Table, class_of, step_of, row_at, named, table_step}
-use Rattle.mdconstructs_tables.specs.RowTest.{is_void_last, Stage, byte_waits, Frame, allows_all, first_stage, start_shape, saves, fresh_at, fresh_fed, needs_choice, needs_failing, is_called_at, is_some, is_early_end, is_early, is_behind, never, fits_choice, calls_at}
+use Rattle.mdconstructs_tables.specs.RowTest.{is_void_last, Stage, byte_waits, Frame, allows_all, first_stage, start_shape, saves, fresh_at, fresh_fed, needs_choice, needs_failing, is_called_at, is_some, is_early, is_behind, never, fits_choice, calls_at}
 use Rattle.mdconstructs_tables.specs.Markers.{IsMarkable}
 
 -- the events of a configuration, without the ends of their links
@@ -154,11 +154,7 @@ abbrev pub own_cost : Cost → Text → ℕ → ℕ
 own_cost (by_bytes c) text p = 0
 own_cost (own f) text p = f text p
 
--- from which position on what goes on at this one may end a choice with Ok
-abbrev pub first_end : ℕ → State → ℕ
-first_end p a = cond (is_early_end a) (p + 1) p
-
--- the same of what a call returned at a position where this waits
+-- from which position on what goes on at this one, where this waits, may end a choice with Ok
 abbrev pub answer_end : {W : Type 0} → (early : Name → Option W → Bool) → Option W → ℕ → State → ℕ
 answer_end early w p answer = cond (is_early early w answer) (p + 1) p
 
@@ -290,12 +286,12 @@ module _ {W R D : Type 0} (table : Table W R D) where
   choice_price text later made_at Attempt ok nok = max (state_price text later ok) (state_price text made_at nok)
   choice_price text later made_at Check ok nok = max (state_price text made_at ok) (state_price text made_at nok)
 
-  -- the choices that are made, by what is returned after them
+  -- The choices that are made, by what is returned after them. Once a byte was read, what waits is not known, and no state is early
   abbrev pub chosen_price : (early : Name → Option W → Bool) → Option W → Text → ℕ → List (Act R D) → (answer : State) → ℕ
   chosen_price early w text p [] answer = 0
   chosen_price early w text p (choose kind ok nok ∷ acts) answer =
       choice_price text (ends_at early w p acts answer) p kind ok nok + chosen_price early w text p acts answer
-  chosen_price early w text p (consume ∷ acts) answer = chosen_price early w text (p + 1) acts answer
+  chosen_price early w text p (consume ∷ acts) answer = chosen_price never w text (p + 1) acts answer
   chosen_price early w text p (act ∷ acts) answer = chosen_price early w text p acts answer
 
   -- how many calls the state that a call returns may take, if this many bytes were read at the beginning of the call
@@ -335,27 +331,32 @@ module _ {W R D : Type 0} (table : Table W R D) where
       let s = sight g text k in retry_price (class_of table.class s.previous) (class_of table.class s.current) text k.position (named table.states name)
   table_cost g text k _ = 0
 
-  -- A state goes on at a position, above choices that may take this much, by where they end with Ok first
-  abbrev pub goes_on_price : (below : ℕ → ℕ) → Text → ℕ → State → ℕ
-  goes_on_price below text p a = state_price text p a + below (first_end p a)
+  module _ (early : Name → Option W → Bool) where
+    -- from which position on what goes on at this one may end a choice with Ok
+    abbrev pub first_end : Text → ℕ → State → ℕ
+    first_end text p a = answer_end early (class_at text p) p a
 
-  -- How many calls a choice that waits and the ones below it may take, if it ends with Ok at this position or behind it. An attempt goes on
-  -- there; after Nok, and a check after both, the choice goes on where it was made. One that saved nothing fails where it is.
-  abbrev pub waiting_or_below : (below : ℕ → ℕ) → Text → (later : ℕ) → AttemptKind → Option Saved → (ok nok : State) → ℕ
-  waiting_or_below below text later Attempt None ok nok = max (goes_on_price below text later ok) (below later)
-  waiting_or_below below text later Attempt (Some saved) ok nok = max (goes_on_price below text later ok) (goes_on_price below text saved.position nok)
-  waiting_or_below below text later Check (Some saved) ok nok = max (goes_on_price below text saved.position ok) (goes_on_price below text saved.position nok)
-  waiting_or_below below text later Check None ok nok = 0
+    -- a state goes on at a position, above choices that may take this much, by where they end with Ok first
+    abbrev pub goes_on_price : (below : ℕ → ℕ) → Text → ℕ → State → ℕ
+    goes_on_price below text p a = state_price text p a + below (first_end text p a)
 
-  -- how many calls all choices that wait may take, if the last one ends with Ok at this position or behind it
-  abbrev pub waiting_price : Text → (later : ℕ) → List Choice → ℕ
-  waiting_price text later [] = 0
-  waiting_price text later (c ∷ cs) = waiting_or_below (λ p. waiting_price text p cs) text later c.kind c.saved c.ok c.nok
+    -- How many calls a choice that waits and the ones below it may take, if it ends with Ok at this position or behind it. An attempt goes
+    -- on there; after Nok, and a check after both, the choice goes on where it was made. One that saved nothing fails where it is.
+    abbrev pub waiting_or_below : (below : ℕ → ℕ) → Text → (later : ℕ) → AttemptKind → Option Saved → (ok nok : State) → ℕ
+    waiting_or_below below text later Attempt None ok nok = max (goes_on_price below text later ok) (below later)
+    waiting_or_below below text later Attempt (Some saved) ok nok = max (goes_on_price below text later ok) (goes_on_price below text saved.position nok)
+    waiting_or_below below text later Check (Some saved) ok nok =
+        max (goes_on_price below text saved.position ok) (goes_on_price below text saved.position nok)
+    waiting_or_below below text later Check None ok nok = 0
 
-  -- how many calls a state and all choices that wait may take
-  abbrev pub table_price : (early : Name → Option W → Bool) → Given → Text → Configuration R D → List Choice → State → ℕ
-  table_price early g text k choices state =
-      table_cost g text k state + waiting_price text (answer_end early (class_of table.class (sight g text k).current) k.position state) choices
+    -- how many calls all choices that wait may take, if the last one ends with Ok at this position or behind it
+    abbrev pub waiting_price : Text → (later : ℕ) → List Choice → ℕ
+    waiting_price text later [] = 0
+    waiting_price text later (c ∷ cs) = waiting_or_below (λ p. waiting_price text p cs) text later c.kind c.saved c.ok c.nok
+
+    -- how many calls a state and all choices that wait may take
+    abbrev pub table_price : Given → Text → Configuration R D → List Choice → State → ℕ
+    table_price g text k choices state = table_cost g text k state + waiting_price text (first_end text k.position state) choices
 
 -- the rules of a table; it promises that its final events are well formed
 abbrev pub table_rules : {W R D : Type 0} → Table W R D → Given → Rules R D

@@ -49,16 +49,13 @@ abbrev pub saves : AttemptKind → State → Bool
 saves Attempt Nok = false
 saves _ _ = true
 
--- Nok and Error end no choice with Ok
-abbrev pub is_early_end : State → Bool
-is_early_end Nok = true
-is_early_end (Error message) = true
-is_early_end _ = false
-
--- Whether what a call returns ends no choice with Ok at the place of the call. A state that is called there says so itself: it is `early`
+-- Whether what goes on at a place where this waits ends no choice with Ok there: Nok and Error do not, and a state says so itself, if it is
+-- `early`
 abbrev pub is_early : {W : Type 0} → (early : Name → Option W → Bool) → Option W → State → Bool
+is_early early w (Next name) = early name w
 is_early early w (Retry name) = early name w
-is_early early w a = is_early_end a
+is_early early w Ok = false
+is_early early w _ = true
 
 -- each state may end a choice with Ok at the place where it is called
 abbrev pub never : {W : Type 0} → Name → Option W → Bool
@@ -69,8 +66,8 @@ never name w = false
 abbrev pub is_behind : {W R D : Type 0} → (early : Name → Option W → Bool) → Option W → List (Act R D) → (answer : State) → Bool
 is_behind early w [] answer = is_early early w answer
 is_behind early w (consume ∷ acts) answer = true
-is_behind early w (choose Attempt ok nok ∷ acts) answer = is_early_end nok && is_behind early w acts answer
-is_behind early w (choose Check ok nok ∷ acts) answer = is_early_end ok && is_early_end nok
+is_behind early w (choose Attempt ok nok ∷ acts) answer = is_early early w nok && is_behind early w acts answer
+is_behind early w (choose Check ok nok ∷ acts) answer = is_early early w ok && is_early early w nok
 is_behind early w (_ ∷ acts) answer = is_behind early w acts answer
 
 -- whether a span may have begun at the place of the call, by what waits, if anything does

@@ -1,7 +1,7 @@
 -- A table whose choices end late, with a look and with an attempt that saves nothing: at a byte of a line it tries to read the rest of the
 -- line. It looks over it first, for a line ending, and then goes round, byte by byte.
 use Rattle.std.specs.Prelude.{ℕ, ◌+◌, ◌-◌, ◌*◌, ◌==◌, ◌||◌, Bool, ◌∷◌, [], Option, Some, None, length}
-use Rattle.markdown.specs.StateConstants.Name.{DataInside, DataStart, StringStart, TextBefore, TextBeforeData, TextStart}
+use Rattle.markdown.specs.StateConstants.Name.{DataInside, DataStart, StringBefore, StringStart, TextBefore, TextBeforeData, TextStart}
 use Rattle.markdown.specs.declared.state.Name.{Name}
 use Rattle.markdown.specs.declared.state.State.TheVariants.{Next, Retry, Ok, Nok}
 use Rattle.markdown_tokenizer.specs.declared.waiting.AttemptKind.TheVariants.{Attempt, Check}
@@ -14,10 +14,10 @@ use Rattle.mdconstructs.specs.Tables.{LineByte, line_ending, other, line_byte, i
 
 -- how many calls may come at a place where a line may be tried, and at one where that failed, if this many bytes are left
 abbrev pub before_line : ℕ → ℕ
-before_line n = 2 * (n * n) + 4 * n + 1
+before_line n = 3 * (n * n) + 9 * n + 1
 
 abbrev pub after_line : ℕ → ℕ
-after_line n = 2 * (n * n) + 1
+after_line n = 3 * (n * n) + 3 * n + 1
 
 -- a cost by how many bytes are left
 abbrev pub by_left : (ℕ → ℕ) → Text → ℕ → ℕ
@@ -39,12 +39,19 @@ text_before_data_rows _ _ = row (consume ∷ []) (Next TextBefore)
 abbrev pub text_before_data : StateRows LineByte Unit Unit
 text_before_data = record (state TextBeforeData text_before_data_rows [] (costs (by_left after_line))) { called = at_a_byte }
 
--- a line is tried: the look begins behind its first byte
+-- a line is tried: the look begins at its first byte
 abbrev pub text_start_rows : (previous current : Option LineByte) → Rows Unit Unit
-text_start_rows _ _ = row (consume ∷ choose Check (Next DataStart) Nok ∷ []) (Next StringStart)
+text_start_rows _ _ = row (choose Check (Next StringBefore) Nok ∷ []) (Retry StringStart)
 
 abbrev pub text_start : StateRows LineByte Unit Unit
-text_start = record (state TextStart text_start_rows [] (calls 3 0)) { needs = a_choice; called = at_bytes is_other }
+text_start = record (state TextStart text_start_rows [] (calls 3 2)) { needs = a_choice; called = at_bytes is_other }
+
+-- after the look, which went back to that byte
+abbrev pub string_before_rows : (previous current : Option LineByte) → Rows Unit Unit
+string_before_rows _ _ = row (consume ∷ []) (Next DataStart)
+
+abbrev pub string_before : StateRows LineByte Unit Unit
+string_before = record (state StringBefore string_before_rows [] (calls 2 0)) { needs = a_choice; called = at_bytes is_other }
 
 -- in the look, which ends at the line ending
 abbrev pub string_start_rows : (previous current : Option LineByte) → Rows Unit Unit
@@ -71,9 +78,9 @@ data_inside_rows _ _ = row [] Ok
 abbrev pub data_inside : StateRows LineByte Unit Unit
 data_inside = record (state DataInside data_inside_rows [] (calls 0 1)) { needs = a_choice }
 
--- the state that is called where a line is tried
+-- the states that are called where a line is tried
 abbrev pub begins_line : Name → Option LineByte → Bool
-begins_line name w = name.number == TextStart.number
+begins_line name w = (name.number == TextStart.number) || (name.number == StringBefore.number)
 
 -- the states that come next after an attempt
 abbrev pub follows_line : Name → Bool
@@ -83,7 +90,7 @@ abbrev pub marks : Table LineByte Unit Unit
 marks = record {
   class = line_byte;
   first = counts;
-  states = text_before ∷ text_before_data ∷ text_start ∷ string_start ∷ data_start ∷ data_inside ∷ [];
+  states = text_before ∷ text_before_data ∷ text_start ∷ string_before ∷ string_start ∷ data_start ∷ data_inside ∷ [];
   starts = TextBefore ∷ [];
 }
 

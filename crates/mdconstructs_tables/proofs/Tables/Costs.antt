@@ -1,5 +1,5 @@
 -- What the states of a table cost, and each row of theirs.
-use Rattle.mdconstructs_tables.proofs.Prelude.{◌≡◌, ◌≢◌, ℕ, ◌+◌, ◌-◌, ◌≤◌, ◌&&◌, List, [], ◌∷◌, Bool, true, false, cond, Option, Some, None, length, refl, sym, subst, arith, nat_lt, max, mul-le-mul_left, mul-le-mul_right, leb-true, ltb-true, ltb-false, and_from, and_parts, slice_get_past, Name, State, Next, Retry, AttemptKind, Attempt, Check, Given, Text, Configuration, Choice, Sight, sight, byte_of, with_local, fed, IsAsFar, Act, consume, choose, Rows, row, when, Calls, Cost, by_bytes, own, StateRows, Table, class_of, picked, named, Stage, end_waits, byte_waits, byte_read, Shape, fits_answer, fits_calls, is_some, is_early_end, is_early, never, is_behind, later_stage, first_stage, plus, larger, at_stage, calls_le, calls_or, fed_calls, next_calls, choice_calls, chosen_calls, answer_calls, calls_at, is_by_bytes, is_counted, counts_answer, counts_choices, pays_row, feeds, all_rows, is_called_at, is_called, price_by, and_of_own, own_cost, at_most, IsStateAt, next_price, retry_price, state_price, choice_price, chosen_price, answer_price, row_price, AreWithin, Stands, is_read, ends_at, class_at, PaysRows, ArePaid, table_holds, table_cost, upto, exit_place_at, fresh_fed, falls_on, and_falls, AllFall, IsFitBy, cond_both}
+use Rattle.mdconstructs_tables.proofs.Prelude.{◌≡◌, ◌≢◌, ℕ, ◌+◌, ◌-◌, ◌≤◌, ◌&&◌, List, [], ◌∷◌, Bool, true, false, cond, Option, Some, None, length, refl, sym, subst, arith, nat_lt, max, mul-le-mul_left, mul-le-mul_right, leb-true, ltb-true, ltb-false, and_from, and_parts, slice_get_past, Name, State, Next, Retry, AttemptKind, Attempt, Check, Given, Text, Configuration, Choice, Sight, sight, byte_of, with_local, fed, IsAsFar, Act, consume, choose, Rows, row, when, Calls, Cost, by_bytes, own, StateRows, Table, class_of, picked, named, Stage, end_waits, byte_waits, byte_read, Shape, fits_answer, fits_calls, is_some, is_early, never, is_behind, later_stage, first_stage, plus, larger, at_stage, calls_le, calls_or, fed_calls, next_calls, choice_calls, chosen_calls, answer_calls, calls_at, is_by_bytes, is_counted, counts_answer, counts_choices, pays_row, feeds, all_rows, is_called_at, is_called, price_by, and_of_own, own_cost, at_most, IsStateAt, next_price, retry_price, state_price, choice_price, chosen_price, answer_price, row_price, AreWithin, Stands, is_read, ends_at, class_at, PaysRows, ArePaid, table_holds, table_cost, upto, exit_place_at, fresh_fed, falls_on, and_falls, AllFall, IsFitBy, cond_both}
 use Rattle.mdconstructs_tables.proofs.Rows.Misfits.{named-same, named-in}
 use Rattle.mdconstructs_tables.proofs.Rows.Laws.{Waited, reached}
 use Rattle.mdconstructs_tables.proofs.GrowingTexts.{seat-at}
@@ -40,6 +40,12 @@ fed-most c d n h = omega (arith, le-most c (at_stage byte_waits d) n h)
 read-left : (st : Stage) (n total p : ℕ) → total - p ≤ bound st n → total - (p + 1) ≤ n
 read-left end_waits n total p left = omega arith
 read-left st n total p left = omega arith
+
+-- what is early whatever the states say is early, whatever waits
+pub early-more : {W : Type 0} (early : Name → Option W → Bool) (w there : Option W) (a : State) → is_early never w a ≡ true → is_early early there a ≡ true
+early-more early w there (Next name) h = absurd (cc)
+early-more early w there (Retry name) h = absurd (cc)
+early-more early w there a h = h
 
 -- what is asked of a state, and the rest
 own-parts : (c : Cost) (asked : (Text → ℕ → ℕ) → Type 0) (other : Type 0) → and_of_own c asked other → and_of_own c asked (Unit {0}) × other
@@ -91,17 +97,16 @@ module _ {W R D : Type 0} (table : Table W R D) (g : Given) (early : Name → Op
       max-most (state_price table text p ok) (state_price table text p nok) (at_stage st (next_calls table.states ok)) (at_stage st (next_calls table.states nok)) n (counted-at ok st n text p left h) (counted-at nok st n text p left k)
 
   -- what is behind its place whatever the states say is behind it
-  early-more : (w : Option W) (a : State) → is_early never w a ≡ true → is_early early w a ≡ true
-  early-more w (Retry name) h = absurd (cc)
-  early-more w a h = h
-
-  behind-more : (w : Option W) (acts : List (Act R D)) (a : State) → is_behind never w acts a ≡ true → is_behind early w acts a ≡ true
-  behind-more w [] a h = early-more w a h
-  behind-more w (consume ∷ acts) a h = h
-  behind-more w (choose Attempt ok nok ∷ acts) a h =
-      let (first, rest) = and_parts (is_early_end nok) (is_behind never w acts a) h in and_from (is_early_end nok) (is_behind early w acts a) first (behind-more w acts a rest)
-  behind-more w (choose Check ok nok ∷ acts) a h = h
-  behind-more w (act ∷ acts) a h = behind-more w acts a h
+  behind-more : (early : Name → Option W → Bool) (w : Option W) (acts : List (Act R D)) (a : State) → is_behind never w acts a ≡ true → is_behind early w acts a ≡ true
+  behind-more early w [] a h = early-more early w w a h
+  behind-more early w (consume ∷ acts) a h = h
+  behind-more early w (choose Attempt ok nok ∷ acts) a h =
+      let (first, rest) = and_parts (is_early never w nok) (is_behind never w acts a) h in
+      and_from (is_early early w nok) (is_behind early w acts a) (early-more early w w nok first) (behind-more early w acts a rest)
+  behind-more early w (choose Check ok nok ∷ acts) a h =
+      let (first, second) = and_parts (is_early never w ok) (is_early never w nok) h in
+      and_from (is_early early w ok) (is_early early w nok) (early-more early w w ok first) (early-more early w w nok second)
+  behind-more early w (act ∷ acts) a h = behind-more early w acts a h
 
   -- how many bytes are left where Ok comes first
   later-left : (known is : Bool) (st : Stage) (n total p : ℕ) → (known ≡ true → is ≡ true) → total - p ≤ bound st n → total - cond is (p + 1) p ≤ bound (later_stage known st) n
@@ -110,20 +115,20 @@ module _ {W R D : Type 0} (table : Table W R D) (g : Given) (early : Name → Op
   later-left false true st n total p more left = omega (arith, left)
   later-left false false st n total p more left = left
 
-  counted-chosen : (acts : List (Act R D)) (a : State) (w : Option W) (st : Stage) (n : ℕ) (text : Text) (p : ℕ) → length text.seats - p ≤ bound st n → counts_choices table.states acts ≡ true
+  counted-chosen : (early : Name → Option W → Bool) (acts : List (Act R D)) (a : State) (w : Option W) (st : Stage) (n : ℕ) (text : Text) (p : ℕ) → length text.seats - p ≤ bound st n → counts_choices table.states acts ≡ true
       → chosen_price table early w text p acts a ≤ at_most (chosen_calls table.states w st acts a) n
-  counted-chosen [] a w st n text p left h = omega arith
-  counted-chosen (consume ∷ acts) a w st n text p left h = counted-chosen acts a w byte_read n text (p + 1) (read-left st n (length text.seats) p left) h
-  counted-chosen (choose kind ok nok ∷ acts) a w st n text p left h =
+  counted-chosen early [] a w st n text p left h = omega arith
+  counted-chosen early (consume ∷ acts) a w st n text p left h = counted-chosen never acts a w byte_read n text (p + 1) (read-left st n (length text.seats) p left) h
+  counted-chosen early (choose kind ok nok ∷ acts) a w st n text p left h =
       let (first, more) = and_parts (counts_answer table.states ok) (counts_answer table.states nok && counts_choices table.states acts) h in
       let (second, others) = and_parts (counts_answer table.states nok) (counts_choices table.states acts) more in
       let known = is_behind never w acts a in
       let later = later_stage known st in
-      let ahead = later-left known (is_behind early w acts a) st n (length text.seats) p (behind-more w acts a) left in
+      let ahead = later-left known (is_behind early w acts a) st n (length text.seats) p (behind-more early w acts a) left in
       let one = counted-choice kind ok nok later st n text (ends_at early w p acts a) p ahead left first second in
-      let rest = counted-chosen acts a w st n text p left others in
+      let rest = counted-chosen early acts a w st n text p left others in
       omega (arith, one, rest, plus-most (choice_calls table.states later st kind ok nok) (chosen_calls table.states w st acts a) n)
-  counted-chosen (act ∷ acts) a w st n text p left h = counted-chosen acts a w st n text p left h
+  counted-chosen early (act ∷ acts) a w st n text p left h = counted-chosen early acts a w st n text p left h
 
   first-left : (w : Option W) (text : Text) (p : ℕ) → Stands w text p → length text.seats - p ≤ bound (first_stage w) (length text.seats - p - 1)
   first-left None text p h = omega (arith, h)
@@ -162,7 +167,7 @@ module _ {W R D : Type 0} (table : Table W R D) (g : Given) (early : Name → Op
             omega (
               arith,
               counted-answer b w r.answer text p answers,
-              counted-chosen r.acts r.answer w (first_stage w) n text p (first-left w text p at) chosen,
+              counted-chosen early r.acts r.answer w (first_stage w) n text p (first-left w text p at) chosen,
               le-most (plus one (plus a made)) (calls_at table.states table.states b w (Some state)) n paid,
               plus-most one (plus a made) n,
               plus-most a made n,

@@ -1,20 +1,30 @@
 -- The calls of a machine whose table fits are paid for: what the current state and all waiting choices may cost falls at each call.
-use Rattle.mdconstructs_tables.proofs.Prelude.{◌≡◌, ◌≢◌, ◌⊎◌, ℕ, ◌+◌, ◌≤◌, ◌&&◌, ◌||◌, not, List, [], ◌∷◌, ◌++◌, Bool, true, false, cond, Option, Some, None, refl, sym, ap, subst, arith, inl, inr, and_from, and_parts, Name, State, Next, Retry, Ok, Nok, AttemptKind, Attempt, Check, Given, Text, IsText, Byte, IsAsFar, Configuration, Choice, Saved, Sight, sight, consumed, with_local, fed, unfed, restored, settled_at, CostPays, Act, consume, choose, StateRows, Table, named, class_of, past, choice_made_at, done, does, chooses, picked, table_step, last_or, is_void_last, saves, Frame, may_go_on, may_go_back, fits_choice, is_early_end, never, is_behind, outline, IsSaved, first_end, answer_end, ends_at, choice_price, chosen_price, goes_on_price, waiting_or_below, waiting_price, table_holds, table_price, table_rules, falls_on, FallsLater, AllFallLater, are_falling, is_late_row, IsFitBy, IsFit, every, EventName}
+use Rattle.mdconstructs_tables.proofs.Prelude.{◌≡◌, ◌≢◌, ℕ, ◌+◌, ◌≤◌, ◌&&◌, ◌||◌, not, List, [], ◌∷◌, ◌++◌, Bool, true, false, cond, Option, Some, None, refl, sym, ap, subst, arith, nat_lt, ltb-true, ltb-false, and_from, and_parts, Name, State, Next, Retry, Ok, Nok, AttemptKind, Attempt, Check, Given, Text, IsText, Configuration, Choice, Saved, Sight, sight, consumed, with_local, fed, unfed, restored, settled_at, CostPays, Act, consume, choose, StateRows, Table, named, past, choice_made_at, done, does, chooses, picked, table_step, last_or, is_void_last, saves, Frame, may_go_on, may_go_back, fits_choice, is_early, never, is_behind, outline, IsSaved, first_end, class_at, ends_at, choice_price, chosen_price, goes_on_price, waiting_or_below, waiting_price, table_holds, table_price, table_rules, falls_on, FallsLater, AllFallLater, are_falling, is_late_row, IsFitBy, IsFit, every, EventName}
 use Rattle.mdconstructs_tables.proofs.Rows.Misfits.{named-same}
 use Rattle.mdconstructs_tables.proofs.Rows.Laws.{chooses-append}
 use Rattle.mdconstructs_tables.proofs.GrowingTexts.{fed-position}
-use Rattle.mdconstructs_tables.proofs.Tables.Holding.{of_class, before_class, row_of, left_by, IsCall, stays}
-use Rattle.mdconstructs_tables.proofs.Tables.Laws.{each-call, table-consumes_once}
-use Rattle.mdconstructs_tables.proofs.Tables.Costs.{state-falls, go-costs, feeding-pays, call-pays}
+use Rattle.mdconstructs_tables.proofs.Tables.Holding.{of_class, before_class, row_of, left_by, IsCall, waits-at}
+use Rattle.mdconstructs_tables.proofs.Tables.Laws.{each-call}
+use Rattle.mdconstructs_tables.proofs.Tables.Costs.{early-more, state-falls, go-costs, feeding-pays, call-pays}
 
 -- Positions where choices end with Ok first
 at-least : (b : Bool) (p : ℕ) → p ≤ cond b (p + 1) p
 at-least true p = omega arith
 at-least false p = omega arith
 
-later-first : (b : Bool) (p q : ℕ) → p ≤ q → cond b (p + 1) p ≤ cond b (q + 1) q
-later-first true p q h = omega (arith, h)
-later-first false p q h = h
+at-most-next : (b : Bool) (p : ℕ) → cond b (p + 1) p ≤ p + 1
+at-most-next true p = omega arith
+at-most-next false p = omega arith
+
+more-first : (x y : Bool) (p : ℕ) → (x ≡ true → y ≡ true) → cond x (p + 1) p ≤ cond y (p + 1) p
+more-first true true p h = omega arith
+more-first true false p h = absurd (let c = h refl in cc)
+more-first false y p h = at-least y p
+
+-- by whether it is later
+later-first : (f : ℕ → Bool) (b : Bool) (p q : ℕ) → nat_lt p q ≡ b → p ≤ q → cond (f p) (p + 1) p ≤ cond (f q) (q + 1) q
+later-first f true p q e h = omega (arith, ltb-true p q e, at-most-next (f p) p, at-least (f q) q)
+later-first f false p q e h = let same : p ≡ q = omega (arith, ltb-false p q e, h) in rw same (omega arith)
 
 both-first : (x y : Bool) (p : ℕ) → cond (x && y) (p + 1) p ≤ cond x (p + 1) p
 both-first true true p = omega arith
@@ -31,23 +41,23 @@ implied true false p h = absurd (cc)
 implied false y p h = at-least y p
 
 module _ {W R D : Type 0} (table : Table W R D) (g : Given) (early : Name → Option W → Bool) {falling : Name → Bool} (fit : IsFitBy table early falling) where
-  -- all that waits at the current state
+  -- all that waits, and where what goes on ends it with Ok first
   abbrev waits : Text → ℕ → List Choice → ℕ
-  waits = waiting_price table
+  waits = waiting_price table early
 
-  abbrev now : Text → Configuration R D → State → ℕ
-  now text k a = answer_end early (of_class table g text k) k.position a
+  abbrev first : Text → ℕ → State → ℕ
+  first = first_end table early
 
   -- Choices that wait cost no more if they end later
   module _ (below : ℕ → ℕ) (falls : (p q : ℕ) → p ≤ q → below q ≤ below p) (text : Text) where
-    goes-on-falls : (a : State) (p q : ℕ) → falls_on falling a ≡ true → p ≤ q → goes_on_price table below text q a ≤ goes_on_price table below text p a
+    goes-on-falls : (a : State) (p q : ℕ) → falls_on falling a ≡ true → p ≤ q → goes_on_price table early below text q a ≤ goes_on_price table early below text p a
     goes-on-falls a p q may h =
         let own = state-falls table g early fit a text p q may h in
-        let rest = falls (first_end p a) (first_end q a) (later-first (is_early_end a) p q h) in
+        let rest = falls (first text p a) (first text q a) (later-first (λ p. is_early early (class_at table text p) a) (nat_lt p q) p q refl h) in
         omega (arith, own, rest)
 
     one-falls : (kind : AttemptKind) (saved : Option Saved) (ok nok : State) (p q : ℕ) → (kind ≡ Attempt → falls_on falling ok ≡ true) → p ≤ q
-        → waiting_or_below table below text q kind saved ok nok ≤ waiting_or_below table below text p kind saved ok nok
+        → waiting_or_below table early below text q kind saved ok nok ≤ waiting_or_below table early below text p kind saved ok nok
     one-falls Attempt None ok nok p q may h = omega (arith, goes-on-falls ok p q (may refl) h, falls p q h)
     one-falls Attempt (Some saved) ok nok p q may h = omega (arith, goes-on-falls ok p q (may refl) h)
     one-falls Check None ok nok p q may h = omega arith
@@ -57,33 +67,38 @@ module _ {W R D : Type 0} (table : Table W R D) (g : Given) (early : Name → Op
   waiting-falls [] text p q all h = omega arith
   waiting-falls (c ∷ cs) text p q all h = one-falls (λ p. waits text p cs) (λ p q h. waiting-falls cs text p q all.1 h) text c.kind c.saved c.ok c.nok p q all.0 h
 
-  -- A choice that is made, above choices that cost at most this if they end behind where the rest of the acts begin
-  module _ (w : Option W) (text : Text) (k : Configuration R D) (X : List Choice) (B : ℕ) (acts : List (Act R D)) (answer : State) where
+  -- A choice that is made, above choices that cost at most this if they end behind where the rest of the acts begin. The acts may know less of
+  -- what is early than there is
+  module _ (mode : Name → Option W → Bool) (w : Option W) (text : Text) (k : Configuration R D) (known : (a : State) → is_early mode w a ≡ true → is_early early (class_at table text k.position) a ≡ true)
+      (X : List Choice) (B : ℕ) (acts : List (Act R D)) (answer : State) where
     abbrev EndsFrom : ℕ → Type 0
     EndsFrom p = (e : ℕ) → p ≤ e → waits text e X ≤ B
 
-    made-costs : (kind : AttemptKind) (ok nok : State) (e : ℕ) → (kind ≡ Attempt → falls_on falling ok ≡ true) → EndsFrom (ends_at early w k.position (choose kind ok nok ∷ acts) answer) → ends_at early w k.position acts answer ≤ e
-        → waits text e (choice_made_at kind ok nok k ∷ X) ≤ choice_price table text (ends_at early w k.position acts answer) k.position kind ok nok + B
+    first-of : (a : State) → cond (is_early mode w a) (k.position + 1) k.position ≤ first text k.position a
+    first-of a = more-first (is_early mode w a) (is_early early (class_at table text k.position) a) k.position (known a)
+
+    made-costs : (kind : AttemptKind) (ok nok : State) (e : ℕ) → (kind ≡ Attempt → falls_on falling ok ≡ true) → EndsFrom (ends_at mode w k.position (choose kind ok nok ∷ acts) answer) → ends_at mode w k.position acts answer ≤ e
+        → waits text e (choice_made_at kind ok nok k ∷ X) ≤ choice_price table text (ends_at mode w k.position acts answer) k.position kind ok nok + B
     made-costs Check ok nok e may all late =
         let p = k.position in
-        let one = all (first_end p ok) (both-first (is_early_end ok) (is_early_end nok) p) in
-        let other = all (first_end p nok) (both-second (is_early_end ok) (is_early_end nok) p) in
+        let one = all (first text p ok) (omega (arith, first-of ok, both-first (is_early mode w ok) (is_early mode w nok) p)) in
+        let other = all (first text p nok) (omega (arith, first-of nok, both-second (is_early mode w ok) (is_early mode w nok) p)) in
         omega (arith, one, other)
     made-costs Attempt ok Nok e may all late =
-        let later = ends_at early w k.position acts answer in
+        let later = ends_at mode w k.position acts answer in
         let own = state-falls table g early fit ok text later e (may refl) late in
-        let behind = at-least (is_early_end ok) e in
-        let one = all (first_end e ok) (omega (arith, late, behind)) in
+        let behind = at-least (is_early early (class_at table text e) ok) e in
+        let one = all (first text e ok) (omega (arith, late, behind)) in
         let other = all e late in
         omega (arith, own, one, other)
     made-costs Attempt ok nok e may all late =
         let p = k.position in
-        let later = ends_at early w p acts answer in
+        let later = ends_at mode w p acts answer in
         let own = state-falls table g early fit ok text later e (may refl) late in
-        let behind = at-least (is_early_end ok) e in
-        let sooner = both-second (is_early_end nok) (is_behind early w acts answer) p in
-        let one = all (first_end e ok) (omega (arith, late, behind, sooner)) in
-        let other = all (first_end p nok) (both-first (is_early_end nok) (is_behind early w acts answer) p) in
+        let behind = at-least (is_early early (class_at table text e) ok) e in
+        let sooner = both-second (is_early mode w nok) (is_behind mode w acts answer) p in
+        let one = all (first text e ok) (omega (arith, late, behind, sooner)) in
+        let other = all (first text p nok) (omega (arith, first-of nok, both-first (is_early mode w nok) (is_behind mode w acts answer) p)) in
         omega (arith, own, one, other)
 
   -- an attempt that is made goes on with what costs less later
@@ -92,19 +107,21 @@ module _ {W R D : Type 0} (table : Table W R D) (g : Given) (early : Name → Op
   may-fall Check ok nok acts h = ((λ e. absurd (cc)), h)
 
   -- the choices that acts make cost what was counted for them
-  chosen-costs : (acts : List (Act R D)) (answer : State) (w : Option W) (text : Text) (s : Sight) (k : Configuration R D) (X : List Choice) (B : ℕ) → are_falling falling acts ≡ true
-      → ((e : ℕ) → ends_at early w k.position acts answer ≤ e → waits text e X ≤ B)
-      → waits text (answer_end early w (does acts s k).position answer) (chooses acts s k X) ≤ chosen_price table early w text k.position acts answer + B
-  chosen-costs [] answer w text s k X B fall all = let paid = all (answer_end early w k.position answer) (omega arith) in omega (arith, paid)
-  chosen-costs (consume ∷ acts) answer w text s k X B fall all =
-      let more = at-least (is_behind early w acts answer) (k.position + 1) in
-      chosen-costs acts answer w text (past s) (consumed k) X B fall (λ e late. all e (omega (arith, late, more)))
-  chosen-costs (choose kind ok nok ∷ acts) answer w text s k X B fall all =
+  chosen-costs : (mode : Name → Option W → Bool) (acts : List (Act R D)) (answer : State) (w : Option W) (text : Text) (s : Sight) (k : Configuration R D)
+      → ((a : State) → is_early mode w a ≡ true → is_early early (class_at table text k.position) a ≡ true) → (X : List Choice) (B : ℕ) → are_falling falling acts ≡ true
+      → ((e : ℕ) → ends_at mode w k.position acts answer ≤ e → waits text e X ≤ B)
+      → waits text (first text (does acts s k).position answer) (chooses acts s k X) ≤ chosen_price table mode w text k.position acts answer + B
+  chosen-costs mode [] answer w text s k known X B fall all =
+      let paid = all (first text k.position answer) (more-first (is_early mode w answer) (is_early early (class_at table text k.position) answer) k.position (known answer)) in omega (arith, paid)
+  chosen-costs mode (consume ∷ acts) answer w text s k known X B fall all =
+      let more = at-least (is_behind never w acts answer) (k.position + 1) in
+      chosen-costs never acts answer w text (past s) (consumed k) (early-more early w (class_at table text (k.position + 1))) X B fall (λ e late. all e (omega (arith, late, more)))
+  chosen-costs mode (choose kind ok nok ∷ acts) answer w text s k known X B fall all =
       let (may, rest) = may-fall kind ok nok acts fall in
-      let price = choice_price table text (ends_at early w k.position acts answer) k.position kind ok nok in
-      let others = chosen-costs acts answer w text s k (choice_made_at kind ok nok k ∷ X) (price + B) rest (λ e late. made-costs w text k X B acts answer kind ok nok e may all late) in
+      let price = choice_price table text (ends_at mode w k.position acts answer) k.position kind ok nok in
+      let others = chosen-costs mode acts answer w text s k known (choice_made_at kind ok nok k ∷ X) (price + B) rest (λ e late. made-costs mode w text k known X B acts answer kind ok nok e may all late) in
       omega (arith, others)
-  chosen-costs (act ∷ acts) answer w text s k X B fall all = chosen-costs acts answer w text s (done act s k) X B fall all
+  chosen-costs mode (act ∷ acts) answer w text s k known X B fall all = chosen-costs mode acts answer w text s (done act s k) known X B fall all
 
   made-fall : (kind : AttemptKind) (ok nok : State) (k : Configuration R D) → (kind ≡ Attempt → falls_on falling ok ≡ true) → FallsLater falling (choice_made_at kind ok nok k)
   made-fall Attempt ok nok k may = λ e. may refl
@@ -117,11 +134,6 @@ module _ {W R D : Type 0} (table : Table W R D) (g : Given) (early : Name → Op
   chosen-fall (choose kind ok nok ∷ acts) s k X fall all =
       let (may, rest) = may-fall kind ok nok acts fall in chosen-fall acts s k (choice_made_at kind ok nok k ∷ X) rest (made-fall kind ok nok k may, all)
   chosen-fall (act ∷ acts) s k X fall all = chosen-fall acts s (done act s k) X fall all
-
-  -- what is returned without a byte read ends no choice where it is called, or it does, as before
-  same-end : (a : State) (w w' : Option W) (p : ℕ) → ((n : Name) → a ≡ Retry n → w' ≡ w) → answer_end early w' p a ≡ answer_end early w p a
-  same-end (Retry name) w w' p same = ap (λ v. answer_end early v p (Retry name)) (same name refl)
-  same-end a w w' p same = refl
 
   -- each row of a state that is called passes the test of late rows
   abbrev pub AreLate : Type 0
@@ -143,38 +155,31 @@ module _ {W R D : Type 0} (table : Table W R D) (g : Given) (early : Name → Op
         → let q = table_step table g (sight g text k) k name in 1 + table_price table early g text q.configuration (q.choices ++ choices) q.answer ≤ table_price table early g text k choices (Retry name)
     calls-pay name is h all =
         let w = of_class table g text k in
-        let once = table-consumes_once table g fit text k choices name is h in
-        each-call table g fit
-        (λ q. (IsAsFar q.configuration k × ((n : Name) → q.answer ≢ Next n)) ⊎ ((k.waiting ≡ Byte) × IsAsFar q.configuration (consumed k) × ((n : Name) → q.answer ≢ Retry n))
-        → 1 + table_price table early g text q.configuration (q.choices ++ choices) q.answer ≤ table_price table early g text k choices (Retry name)) text k choices name is h
-        (λ c once.
+        let p = k.position in
+        let seen : class_at table text p ≡ w = waits-at table g k.waiting text p k.ended h.1.0 in
+        each-call table g fit (λ q. 1 + table_price table early g text q.configuration (q.choices ++ choices) q.answer ≤ table_price table early g text k choices (Retry name)) text k choices name is h
+        (λ c.
         let s = sight g text k in
         let k1 = with_local k (table.first k.local) in
         let r = row_of table g text k c.state in
         let left = left_by table g text k c.state in
         let (fall, late) = passes name c in
-        let q = answer_end early w k.position (Retry name) in
-        let sooner = implied (early name w) (is_behind early w r.acts r.answer) k.position late in
-        let made = chosen-costs r.acts r.answer w text s k1 choices (waits text q choices) fall (λ e from. waiting-falls choices text q e all (omega (arith, sooner, from))) in
+        let q = first text p (Retry name) in
+        let sooner : q ≤ ends_at early w p r.acts r.answer = subst (λ v. cond (early name v) (p + 1) p ≤ ends_at early w p r.acts r.answer) (sym seen) (implied (early name w) (is_behind early w r.acts r.answer) p late) in
+        let known : (a : State) → is_early early w a ≡ true → is_early early (class_at table text p) a ≡ true = λ a h. subst (λ v. is_early early v a ≡ true) (sym seen) h in
+        let made = chosen-costs early r.acts r.answer w text s k1 known choices (waits text q choices) fall (λ e from. waiting-falls choices text q e all (omega (arith, sooner, from))) in
         let paid = call-pays table g early fit text k choices name h c in
-        let same : (n : Name) → r.answer ≡ Retry n → of_class table g text left ≡ w = λ n e. elim once [
-          | inl here ↦ ap (λ s. class_of table.class s.current) (stays table g text k left here.0)
-          | inr reads ↦ absurd (reads.2 n e)
-        ] in
-        let end = same-end r.answer w (of_class table g text left) left.position same in
         let wait = chooses-append r.acts s k1 [] choices in
-        let price : waits text (answer_end early (of_class table g text left) left.position r.answer) (chooses r.acts s k1 [] ++ choices) ≡ waits text (answer_end early w left.position r.answer) (chooses r.acts s k1 choices) = rw (end, wait) refl in
-        omega (arith, paid, made, price)) once
+        let price : waits text (first text left.position r.answer) (chooses r.acts s k1 [] ++ choices) ≡ waits text (first text left.position r.answer) (chooses r.acts s k1 choices) = ap (waits text (first text left.position r.answer)) wait in
+        omega (arith, paid, made, price))
 
     -- a state that is fed
     pub fed-pays : (name : Name) → table_holds table g text k choices (Next name) → AllFallLater falling choices
         → table_price table early g text (fed text k) choices (Retry name) ≤ table_price table early g text k choices (Next name)
     fed-pays name h all =
-        let w = of_class table g text (fed text k) in
         let own = feeding-pays table g early fit text k choices name h in
         let there = fed-position text k in
-        let more = at-least (early name w) (fed text k).position in
-        let waiting = waiting-falls choices text k.position (answer_end early w (fed text k).position (Retry name)) all (omega (arith, there, more)) in
+        let waiting : waits text (first text (fed text k).position (Retry name)) choices ≡ waits text (first text k.position (Next name)) choices = ap (λ p. waits text (first text p (Retry name)) choices) there in
         omega (arith, own, waiting)
 
   -- what a choice goes on with is not called at once
@@ -187,29 +192,21 @@ module _ {W R D : Type 0} (table : Table W R D) (g : Given) (early : Name → Op
   goes-back f known a h n e = cc
 
   module _ (c : Choice) (cs : List Choice) (f : Frame W) (stack : List EventName) (text : Text) (k : Configuration R D) where
-    -- what goes on where a choice was made ends choices as its name says
-    go-ends : (there : Option W) (p : ℕ) (a : State) → ((n : Name) → a ≢ Retry n) → waits text (answer_end early there p a) cs ≡ waits text (first_end p a) cs
-    go-ends there p (Retry name) h = absurd (h name refl)
-    go-ends there p a h = refl
-
     -- what a choice goes on with costs at most what was counted for the choice
     ok-costs : (kind : AttemptKind) (b : Bool) (saved : Option Saved) → saves kind c.nok ≡ b → fits_choice table.states f kind c.ok c.nok ≡ true → IsSaved table.class g text k.position (outline k) stack f b saved
-        → table_price table early g text (settled_at kind saved Ok k) cs c.ok ≤ waiting_or_below table (λ p. waits text p cs) text k.position kind saved c.ok c.nok
+        → table_price table early g text (settled_at kind saved Ok k) cs c.ok ≤ waiting_or_below table early (λ p. waits text p cs) text k.position kind saved c.ok c.nok
     ok-costs Attempt true (Some saved) is fit_it h =
         let may = goes-on f None c.ok (and_parts (may_go_on table.states f None c.ok) _ fit_it).0 in
         let cost = go-costs table g early fit c.ok text (unfed k) may in
-        let ends = go-ends (of_class table g text (unfed k)) k.position c.ok may in
-        omega (arith, cost, ends)
+        omega (arith, cost)
     ok-costs Attempt false None is fit_it h =
         let may = goes-on f None c.ok (and_parts (may_go_on table.states f None c.ok) _ fit_it).0 in
         let cost = go-costs table g early fit c.ok text (unfed k) may in
-        let ends = go-ends (of_class table g text (unfed k)) k.position c.ok may in
-        omega (arith, cost, ends)
+        omega (arith, cost)
     ok-costs Check true (Some saved) is fit_it h =
         let may = goes-on f f.waits c.ok (and_parts (may_go_on table.states f f.waits c.ok) (may_go_back table.states f f.waits c.nok) fit_it).0 in
         let cost = go-costs table g early fit c.ok text (restored (Some saved) k) may in
-        let ends = go-ends (of_class table g text (restored (Some saved) k)) saved.position c.ok may in
-        omega (arith, cost, ends)
+        omega (arith, cost)
     ok-costs Check false saved is fit_it h = absurd (cc)
     ok-costs kind b saved is fit_it h = absurd h
 
@@ -218,19 +215,17 @@ module _ {W R D : Type 0} (table : Table W R D) (g : Given) (early : Name → Op
     unsaved-costs a is = absurd (cc)
 
     nok-costs : (kind : AttemptKind) (b : Bool) (saved : Option Saved) → saves kind c.nok ≡ b → fits_choice table.states f kind c.ok c.nok ≡ true → IsSaved table.class g text k.position (outline k) stack f b saved
-        → table_price table early g text (settled_at kind saved Nok k) cs c.nok ≤ waiting_or_below table (λ p. waits text p cs) text (k.position + 1) kind saved c.ok c.nok
+        → table_price table early g text (settled_at kind saved Nok k) cs c.nok ≤ waiting_or_below table early (λ p. waits text p cs) text (k.position + 1) kind saved c.ok c.nok
     nok-costs Attempt true (Some saved) is fit_it h =
         let rest = (and_parts (may_go_on table.states f None c.ok) (not (is_void_last (last_or None f.spans)) && may_go_back table.states f f.waits c.nok) fit_it).1 in
         let may = goes-back f f.waits c.nok (and_parts (not (is_void_last (last_or None f.spans))) (may_go_back table.states f f.waits c.nok) rest).1 in
         let cost = go-costs table g early fit c.nok text (restored (Some saved) k) may in
-        let ends = go-ends (of_class table g text (restored (Some saved) k)) saved.position c.nok may in
-        omega (arith, cost, ends)
+        omega (arith, cost)
     nok-costs Attempt false None is fit_it h = let cost = unsaved-costs c.nok is in omega (arith, cost)
     nok-costs Check true (Some saved) is fit_it h =
         let may = goes-back f f.waits c.nok (and_parts (may_go_on table.states f f.waits c.ok) (may_go_back table.states f f.waits c.nok) fit_it).1 in
         let cost = go-costs table g early fit c.nok text (restored (Some saved) k) may in
-        let ends = go-ends (of_class table g text (restored (Some saved) k)) saved.position c.nok may in
-        omega (arith, cost, ends)
+        omega (arith, cost)
     nok-costs Check false saved is fit_it h = absurd (cc)
     nok-costs kind b saved is fit_it h = absurd h
 

@@ -21,7 +21,7 @@ late previous (Some line_ending) = refl
 late previous (Some other) = refl
 
 -- a line that is tried, and what the attempt goes on with
-tries : (n p : ℕ) → p < n → 1 + (3 * (n - p - 1) + 3 + (max (before_line (n - (p + 1))) (after_line (n - p)) + 0)) ≤ before_line (n - p)
+tries : (n p : ℕ) → p < n → 1 + (3 * (n - p - 1) + 5 + (max (before_line (n - (p + 1))) (after_line (n - p)) + 0)) ≤ before_line (n - p)
 tries n p h = rw (next-left n p h) (omega arith)
 
 goes-on : (n p : ℕ) → p < n → 1 + (before_line (n - (p + 1)) + 0) ≤ before_line (n - p)
