@@ -31,13 +31,13 @@ module _ {A W M : Type 0} (g : Given) (text : Text) (step : Sight → Configurat
       (ended_after : Bool) × (after : Local Unit Unit) × Knows (after_item m a) (p + size a) after
       × Leads g text step k cs s (between (p + size a) Nothing ended_after (events ++ events_of (a, take (size a) seats)) after) [] (Next TextBefore)
 
-  -- THE THEOREM OF A CONSTRUCT: called at a byte at which it may begin, it is decided, whatever state follows if it is not there
+  -- The theorem of a construct: called at a byte at which it may begin, it is decided, whatever state follows if it is not there
   abbrev pub Reads : M → Construct A W Unit Unit → Type 0
   Reads m c =
       (nok : Name) (p : ℕ) (ended : Bool) (events : List Event) (local : Local Unit Unit) (s : Seat) (ss : List Seat) → drop p text.seats ≡ s ∷ ss → c.grammar.first s.byte ≡ true → Knows m p local
       → DecidesTo m nok p ended events (s ∷ ss) (between p Byte ended events local) (outer nok p ended events ∷ []) (Retry c.start) (c.grammar.front (bytes_of (s ∷ ss)))
 
-  -- THE THEOREM OF A STATE between constructs, as of data: called at such a byte, it reads the item that is there
+  -- The theorem of a state between constructs, as of data: called at such a byte, it reads the item that is there
   abbrev pub ReadsFrom : M → Name → (ℕ → Type 0) → (List ℕ → A) → Type 0
   ReadsFrom m name At front =
       (p : ℕ) (ended : Bool) (events : List Event) (local : Local Unit Unit) (s : Seat) (ss : List Seat) → drop p text.seats ≡ s ∷ ss → At s.byte → Knows m p local
@@ -167,7 +167,7 @@ module _ {A W M : Type 0} (g : Given) (text : Text) (step : Sight → Configurat
         item-read m p ended events local s ss here knows false e =
             listed m (is.reads_data m) p ended events s ss here e (cs m) (is.tried m) (is.apart m) local knows TextBefore (row-here m p ended events local s ss here e)
 
-        -- THE MAIN LAW: from any place between items the machine adds the events of the items that are left
+        -- The main law: from any place between items the machine adds the events of the items that are left
         pub items-read : (n p : ℕ) (m : M) (ended : Bool) (events : List Event) (local : Local Unit Unit) (l : List Seat) → drop p text.seats ≡ l → length l ≤ n → Knows m p local
             → EndsWith g text step (between p Nothing ended events local) [] (Next TextBefore) (events ++ flat_map events_of (cut_by (λ m. rest_of m (cs m)) size after_item n m l))
         items-read zero p m ended events local (s ∷ ss) at h knows = absurd (omega (arith, h))
