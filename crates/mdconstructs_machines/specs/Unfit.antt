@@ -55,6 +55,7 @@ abbrev pub goes_round_in_place : (previous current : Option LineByte) → Rows U
 goes_round_in_place _ None = row [] Ok
 goes_round_in_place _ (Some _) = row (choose Attempt (Next FlowStart) Nok ∷ []) (Retry ParagraphInside)
 
+-- what is tried is there at once
 abbrev pub ends_well : (previous current : Option LineByte) → Rows Unit Unit
 ends_well _ _ = row [] Ok
 
@@ -63,6 +64,7 @@ abbrev pub goes_round : (previous current : Option LineByte) → Rows Unit Unit
 goes_round _ None = row [] Ok
 goes_round _ (Some _) = row (choose Attempt (Next FlowStart) Nok ∷ consume ∷ []) (Next ParagraphInside)
 
+-- what is tried is there at once, but not at a line ending
 abbrev pub fails_at_line_ending : (previous current : Option LineByte) → Rows Unit Unit
 fails_at_line_ending _ (Some line_ending) = row [] Nok
 fails_at_line_ending _ _ = row [] Ok
@@ -147,6 +149,7 @@ break_rows _ None = row (exit Data ∷ exit Paragraph ∷ []) Ok
 break_rows _ (Some line_ending) = row (exit Data ∷ exit Paragraph ∷ []) (Retry FlowStart)
 break_rows _ (Some other) = row [] Nok
 
+-- a line ending, and no other byte
 abbrev pub is_ending : LineByte → Bool
 is_ending line_ending = true
 is_ending other = false

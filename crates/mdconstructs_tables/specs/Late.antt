@@ -22,6 +22,7 @@ falls_on falling _ = true
 abbrev pub FallsLater : (falling : Name → Bool) → Choice → Type 0
 FallsLater falling c = c.kind ≡ Attempt → falls_on falling c.ok ≡ true
 
+-- each choice that waits does, if it is an attempt
 abbrev pub AllFallLater : (falling : Name → Bool) → List Choice → Type 0
 AllFallLater falling [] = Unit {0}
 AllFallLater falling (c ∷ cs) = FallsLater falling c × AllFallLater falling cs
@@ -38,6 +39,7 @@ module _ {R D : Type 0} where
   is_late_row early falling w name r = are_falling falling r.acts && (not (early name w) || is_behind early w r.acts r.answer)
 
 module _ {W R D : Type 0} (table : Table W R D) (early : Name → Option W → Bool) (falling : Name → Bool) where
+  -- the same of each row of a state
   abbrev pub is_late_state : (previous current : Option W) → StateRows W R D → Bool
   is_late_state b w state = all_rows (is_late_row early falling w state.name) (state.rows b w)
 
@@ -49,6 +51,7 @@ module _ {W R D : Type 0} (table : Table W R D) (early : Name → Option W → B
   abbrev pub late_holds : Given → Text → Configuration R D → List Choice → State → Type 0
   late_holds g text k choices state = table_holds table g text k choices state × AllFallLater falling choices
 
+  -- the rules of a table whose early states end choices late
   abbrev pub late_rules : Given → Rules R D
   late_rules g = record (table_rules table g) { holds = late_holds g; cost = table_price table early g }
 

@@ -101,15 +101,18 @@ pub record IsSavedIn {W : Type 0} (class : ℕ → W) (g : Given) (text : Text) 
   pub void : is_void_last (last_or None f.spans) ≡ true → EndsWithEnter (take saved.events events)
   pub waits : (w : W) → f.waits ≡ Some w → class_in class text saved.position ≡ Some w
 
+-- a choice saved exactly if it has to, and what it saved is as its frame says
 abbrev pub IsSaved : {W : Type 0} → (ℕ → W) → Given → Text → ℕ → List Event → List EventName → Frame W → Bool → Option Saved → Type 0
 IsSaved class g text position events stack f true (Some saved) = IsSavedIn class g text position events stack f saved
 IsSaved class g text position events stack f false None = Unit {0}
 IsSaved class g text position events stack f _ _ = ⊥
 
+-- the position where a choice was made, or this one if it saved none
 abbrev pub position_of : Option Saved → ℕ → ℕ
 position_of None position = position
 position_of (Some saved) position = saved.position
 
+-- the events that a choice saved, or these if it saved none
 abbrev pub events_saved : Option Saved → List Event → List Event
 events_saved None events = events
 events_saved (Some saved) events = take saved.events events
@@ -232,6 +235,7 @@ module _ {W R D : Type 0} (table : Table W R D) where
     pub spans : IsOpen table.class state base where_to text k choices
     pub waiting : AreWaiting table.class table.states g text k.position (outline k) base choices
 
+  -- the same for the state of a name, if there is one
   abbrev pub IsStateAt : Given → Text → Option (StateRows W R D) → (StateRows W R D → Point → Bool) → Configuration R D → List Choice → Type 0
   IsStateAt g text None where_to k choices = ⊥
   IsStateAt g text (Some state) where_to k choices = IsAt g text state (where_to state) k choices

@@ -32,14 +32,17 @@ pub record Shape : Type 0 where
   pub within : Bool
   pub failing : Bool
 
+-- a byte waits, and was not read
 abbrev pub is_byte_waiting : Stage → Bool
 is_byte_waiting byte_waits = true
 is_byte_waiting _ = false
 
+-- the end waits
 abbrev pub is_end : Stage → Bool
 is_end end_waits = true
 is_end _ = false
 
+-- this is the innermost span
 abbrev pub is_last : EventName → Option EventName → Bool
 is_last name None = false
 is_last name (Some last) = same_name last name
@@ -77,6 +80,7 @@ fresh_at (at_byte test) None = false
 fresh_at (at_byte test) (Some w) = test w
 fresh_at here w = true
 
+-- the same once the previous byte ended, where nothing waits yet
 abbrev pub fresh_fed : {W : Type 0} → Begun W → Bool
 fresh_fed here = true
 fresh_fed _ = false
@@ -122,6 +126,7 @@ abbrev pub may_fail : (nok : State) → (below : Bool) → Bool
 may_fail Nok below = below
 may_fail nok below = true
 
+-- what is open after an act
 abbrev pub after : {R D : Type 0} → Act R D → Shape → Shape
 after (enters name link) p = record { stage = p.stage; spans = p.spans ++ name ∷ []; fresh = true; bare = true; within = p.within; failing = p.failing }
 after (exit name) p = record { stage = p.stage; spans = take (length p.spans - 1) p.spans; fresh = p.fresh; bare = false; within = p.within; failing = p.failing }
@@ -130,23 +135,28 @@ after (links previous next) p = p
 after (write f) p = p
 after (choose kind ok nok) p = record { stage = p.stage; spans = []; fresh = false; bare = false; within = true; failing = may_fail nok p.failing }
 
+-- acts are allowed, one after another
 abbrev pub allows_all : {R D : Type 0} → List (Act R D) → Shape → Bool
 allows_all [] p = true
 allows_all (act ∷ acts) p = allows act p && allows_all acts (after act p)
 
+-- what is open after them
 abbrev pub after_all : {R D : Type 0} → List (Act R D) → Shape → Shape
 after_all [] p = p
 after_all (act ∷ acts) p = after_all acts (after act p)
 
+-- the same spans, in the same order
 abbrev pub same_names : List EventName → List EventName → Bool
 same_names [] [] = true
 same_names (x ∷ xs) (y ∷ ys) = same_name x y && same_names xs ys
 same_names _ _ = false
 
+-- how far a call is at its beginning
 abbrev pub first_stage : {W : Type 0} → Option W → Stage
 first_stage None = end_waits
 first_stage (Some w) = byte_waits
 
+-- there is a byte
 abbrev pub is_some : {W : Type 0} → Option W → Bool
 is_some None = false
 is_some (Some w) = true
@@ -175,6 +185,7 @@ abbrev pub waits_in : {W : Type 0} → Stage → Option W → Option W
 waits_in byte_waits w = w
 waits_in _ w = None
 
+-- the place where a choice is made, by what is open and what waited
 abbrev pub frame_of : {W : Type 0} → Option W → Shape → Frame W
 frame_of w p = record { spans = p.spans; waits = waits_in p.stage w; within = p.within; failing = p.failing }
 
@@ -182,9 +193,11 @@ frame_of w p = record { spans = p.spans; waits = waits_in p.stage w; within = p.
 abbrev pub no_calls : Calls
 no_calls = record { per_byte = 0; more = 0 }
 
+-- the sum of two numbers of calls
 abbrev pub plus : Calls → Calls → Calls
 plus a b = record { per_byte = a.per_byte + b.per_byte; more = a.more + b.more }
 
+-- the larger of two numbers of calls
 abbrev pub larger : Calls → Calls → Calls
 larger a b = record { per_byte = max a.per_byte b.per_byte; more = max a.more b.more }
 
@@ -236,15 +249,18 @@ module _ {W R D : Type 0} (states : List (StateRows W R D)) where
   fits_choice f Check ok nok = may_go_on f f.waits ok && may_go_back f f.waits nok
   fits_choice f Attempt ok nok = may_go_on f None ok && (not (is_void_last (last_or None f.spans)) && may_go_back f f.waits nok)
 
+  -- the choices that acts make fit
   abbrev pub fits_choices : (current : Option W) → List (Act R D) → Shape → Bool
   fits_choices w [] p = true
   fits_choices w (choose kind ok nok ∷ acts) p = let act : Act R D = choose kind ok nok in fits_choice (frame_of w p) kind ok nok && fits_choices w acts (after act p)
   fits_choices w (act ∷ acts) p = fits_choices w acts (after act p)
 
+  -- spans of a state may have begun at the place of its call
   abbrev pub is_fresh : Option W → Option (StateRows W R D) → Bool
   is_fresh w None = false
   is_fresh w (Some state) = fresh_at state.begun w
 
+  -- the same where nothing waits yet
   abbrev pub is_fresh_fed : Option (StateRows W R D) → Bool
   is_fresh_fed None = false
   is_fresh_fed (Some state) = fresh_fed state.begun
@@ -273,6 +289,7 @@ module _ {W R D : Type 0} (states : List (StateRows W R D)) where
   calls_or (by_bytes c) = c
   calls_or (own f) = no_calls
 
+  -- how many calls are left before a state is fed, if there is one
   abbrev pub fed_calls : Option (StateRows W R D) → Calls
   fed_calls None = no_calls
   fed_calls (Some state) = calls_or state.cost
@@ -315,6 +332,7 @@ module _ {W R D : Type 0} (states : List (StateRows W R D)) where
   is_by_bytes (by_bytes c) = true
   is_by_bytes (own f) = false
 
+  -- the same of a state, if there is one
   abbrev pub is_counted : Option (StateRows W R D) → Bool
   is_counted None = true
   is_counted (Some state) = is_by_bytes state.cost
@@ -325,6 +343,7 @@ module _ {W R D : Type 0} (states : List (StateRows W R D)) where
   counts_answer (Retry name) = is_counted (named states name)
   counts_answer _ = true
 
+  -- the states that choices go on with say how many calls are left
   abbrev pub counts_choices : List (Act R D) → Bool
   counts_choices [] = true
   counts_choices (choose kind ok nok ∷ acts) = counts_answer ok && (counts_answer nok && counts_choices acts)

@@ -25,6 +25,7 @@ pub data Act (R D : Type 0) : Type 0 where
 abbrev pub enter : {R D : Type 0} → EventName → Act R D
 enter name = enters name None
 
+-- a span begins with a link
 abbrev pub enter_link : {R D : Type 0} → EventName → Link → Act R D
 enter_link name link = enters name (Some link)
 
@@ -128,6 +129,7 @@ module _ {R D : Type 0} where
   seen_after consume s = past s
   seen_after _ s = s
 
+  -- the choice that is made, by its kind
   abbrev pub choice_made_at : AttemptKind → State → State → Configuration R D → Choice
   choice_made_at Attempt ok nok k = attempt_at ok nok k
   choice_made_at Check ok nok k = check_at ok nok k
@@ -142,6 +144,7 @@ module _ {R D : Type 0} where
   does [] s k = k
   does (act ∷ acts) s k = does acts (seen_after act s) (done act s k)
 
+  -- the choices that wait after acts, the last one first
   abbrev pub chooses : List (Act R D) → Sight → Configuration R D → List Choice → List Choice
   chooses [] s k choices = choices
   chooses (act ∷ acts) s k choices = chooses acts (seen_after act s) (done act s k) (with_choice_of act k choices)

@@ -16,6 +16,7 @@ abbrev pub text_start_rows : (previous current : Option LineByte) → Rows Unit 
 text_start_rows _ None = row [] Ok
 text_start_rows _ (Some _) = row (choose Attempt (Next TextStart) Nok ∷ consume ∷ []) (Next DataInside)
 
+-- its state
 abbrev pub text_start : StateRows LineByte Unit Unit
 text_start = state TextStart text_start_rows [] (calls 2 1)
 
@@ -23,9 +24,11 @@ text_start = state TextStart text_start_rows [] (calls 2 1)
 abbrev pub data_inside_rows : (previous current : Option LineByte) → Rows Unit Unit
 data_inside_rows _ _ = row [] Ok
 
+-- its state
 abbrev pub data_inside : StateRows LineByte Unit Unit
 data_inside = record (state DataInside data_inside_rows [] (calls 0 1)) { needs = a_choice_for_ok }
 
+-- the table of both
 abbrev pub looping : Table LineByte Unit Unit
 looping = record { class = line_byte; first = counts; states = text_start ∷ data_inside ∷ []; starts = TextStart ∷ [] }
 

@@ -16,6 +16,7 @@ use Rattle.mdconstructs.specs.Tables.{LineByte, line_ending, other, line_byte, i
 abbrev pub before_line : ℕ → ℕ
 before_line n = 3 * (n * n) + 9 * n + 1
 
+-- and where that failed
 abbrev pub after_line : ℕ → ℕ
 after_line n = 3 * (n * n) + 3 * n + 1
 
@@ -29,6 +30,7 @@ text_before_rows _ None = row [] Ok
 text_before_rows _ (Some line_ending) = row (consume ∷ []) (Next TextBefore)
 text_before_rows _ (Some other) = row (choose Attempt (Next TextBefore) (Next TextBeforeData) ∷ []) (Retry TextStart)
 
+-- its state
 abbrev pub text_before : StateRows LineByte Unit Unit
 text_before = state TextBefore text_before_rows [] (costs (by_left before_line))
 
@@ -36,6 +38,7 @@ text_before = state TextBefore text_before_rows [] (costs (by_left before_line))
 abbrev pub text_before_data_rows : (previous current : Option LineByte) → Rows Unit Unit
 text_before_data_rows _ _ = row (consume ∷ []) (Next TextBefore)
 
+-- its state
 abbrev pub text_before_data : StateRows LineByte Unit Unit
 text_before_data = record (state TextBeforeData text_before_data_rows [] (costs (by_left after_line))) { called = at_a_byte }
 
@@ -43,6 +46,7 @@ text_before_data = record (state TextBeforeData text_before_data_rows [] (costs 
 abbrev pub text_start_rows : (previous current : Option LineByte) → Rows Unit Unit
 text_start_rows _ _ = row (choose Check (Next StringBefore) Nok ∷ []) (Retry StringStart)
 
+-- its state
 abbrev pub text_start : StateRows LineByte Unit Unit
 text_start = record (state TextStart text_start_rows [] (calls 3 2)) { needs = a_choice; called = at_bytes is_other }
 
@@ -50,6 +54,7 @@ text_start = record (state TextStart text_start_rows [] (calls 3 2)) { needs = a
 abbrev pub string_before_rows : (previous current : Option LineByte) → Rows Unit Unit
 string_before_rows _ _ = row (consume ∷ []) (Next DataStart)
 
+-- its state
 abbrev pub string_before : StateRows LineByte Unit Unit
 string_before = record (state StringBefore string_before_rows [] (calls 2 0)) { needs = a_choice; called = at_bytes is_other }
 
@@ -59,6 +64,7 @@ string_start_rows _ None = row [] Nok
 string_start_rows _ (Some line_ending) = row [] Ok
 string_start_rows _ (Some other) = row (consume ∷ []) (Next StringStart)
 
+-- its state
 abbrev pub string_start : StateRows LineByte Unit Unit
 string_start = record (state StringStart string_start_rows [] (calls 1 1)) { needs = a_choice }
 
@@ -68,6 +74,7 @@ data_start_rows _ None = row [] Ok
 data_start_rows _ (Some line_ending) = row [] Ok
 data_start_rows _ (Some other) = row (choose Attempt (Next DataStart) Nok ∷ consume ∷ []) (Next DataInside)
 
+-- its state
 abbrev pub data_start : StateRows LineByte Unit Unit
 data_start = record (state DataStart data_start_rows [] (calls 2 1)) { needs = a_choice }
 
@@ -75,6 +82,7 @@ data_start = record (state DataStart data_start_rows [] (calls 2 1)) { needs = a
 abbrev pub data_inside_rows : (previous current : Option LineByte) → Rows Unit Unit
 data_inside_rows _ _ = row [] Ok
 
+-- its state
 abbrev pub data_inside : StateRows LineByte Unit Unit
 data_inside = record (state DataInside data_inside_rows [] (calls 0 1)) { needs = a_choice }
 
@@ -86,6 +94,7 @@ begins_line name w = (name.number == TextStart.number) || (name.number == String
 abbrev pub follows_line : Name → Bool
 follows_line name = (name.number == TextBefore.number) || (name.number == DataStart.number)
 
+-- the table of all these states
 abbrev pub marks : Table LineByte Unit Unit
 marks = record {
   class = line_byte;
