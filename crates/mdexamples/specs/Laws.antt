@@ -1,3 +1,4 @@
 -- Laws about the machines of the examples.
+pub mod Fields
 pub mod Headings
 pub mod Labels

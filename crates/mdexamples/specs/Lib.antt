@@ -1,3 +1,4 @@
+pub mod Fields
 pub mod Headings
 pub mod Labels
 pub mod Laws

@@ -1,6 +1,7 @@
 //! Examples: calls of the engine as a program makes them, and two machines. The pages of `docs` show them.
 #![tactic(auto)]
 
+pub mod fields;
 pub mod headings;
 pub mod labels;
 pub mod spans;
