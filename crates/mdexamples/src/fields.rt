@@ -1,4 +1,4 @@
-//! A machine with bytes of its own, which divide a text into fields. It borrows them.
+//! Two machines with bytes of their own, which divide a text into fields. One owns them, and one borrows them.
 
 ghost use Rattle.std.specs.Prelude.{◌≡◌, IfOk};
 ghost use Rattle.markdown.specs.Sight.{sight_of};
@@ -13,7 +13,58 @@ use mdconstructs::begin::begin;
 use mdconstructs::marker;
 use std::alloc::{AllocError, Global};
 
-/// Reads each of the bytes that it borrows as a divider, and each run of other bytes as data.
+/// Reads each of its bytes as a divider, and each run of other bytes as data.
+///
+/// It takes at most 2 n + 1 calls for n virtual bytes.
+#[derive(Drop)]
+pub struct Fields {
+    /// The bytes that divide a text.
+    pub dividers: Vec<u8>,
+}
+
+impl MachineTypes for Fields {
+    type Resolver = ();
+
+    type Document = ();
+}
+
+impl Machine for Fields {
+    ghost use Rattle.mdconstructs_tables.proofs.Tables.Lawful.{plain-lawful};
+    ghost use Rattle.mdexamples.specs.Fields.{fields, fields_rules};
+    ghost use Rattle.mdexamples.specs.Laws.Fields.{fields-fit, fields-plain};
+
+    ghost rules = { λ m. fields_rules m.dividers.items };
+
+    /// Counts the call, and runs the state of this name.
+    fn call<'a>(
+        &self,
+        alloc: Global,
+        t: &mut Tokenizer<'a, Self>,
+        name: Name,
+    ) -> Result<State, AllocError> {
+        let dividers = self.dividers.as_slice();
+        begin(t);
+        match name {
+            Name::TextStart => text_start(t, dividers),
+            Name::DataInside => data_inside(t, dividers),
+            _ => unreachable!(),
+        }
+    }
+
+    /// Never called, as it registers no resolver.
+    fn resolve<'a>(
+        &self,
+        alloc: Global,
+        t: &mut Tokenizer<'a, Self>,
+        name: (),
+    ) -> Result<Option<Subresult>, Fault> {
+        Ok(None)
+    }
+
+    ghost lawful = { λ m g. plain-lawful (fields m.dividers.items) g (fields-fit m.dividers.items) (fields-plain m.dividers.items) };
+}
+
+/// Reads as [`Fields`] does, by bytes that it borrows.
 ///
 /// It takes at most 2 n + 1 calls for n virtual bytes.
 #[derive(Drop)]
