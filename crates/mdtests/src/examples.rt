@@ -11,6 +11,7 @@ use markdown::event::{Event, Kind, Point};
 use markdown::parser::ParseState;
 use markdown::state::{Machine, Name};
 use markdown::tokenizer::{Fault, run};
+use mdexamples::fields::{Fields, LentFields};
 use mdexamples::headings::Headings;
 use mdexamples::labels::Labels;
 use mdexamples::spans::code_spans;
@@ -157,5 +158,30 @@ fn labels_end_in_their_line(rt: HostRuntime) -> Result<(), AllocError> {
         exit LineEnding 2:1\n\
         enter Data 2:1\n\
         exit Data 2:3\n",
+    )
+}
+
+/// The events of `a;|b,` where `;` and `|` divide it. A comma is data.
+const DIVIDED: &str = "enter Data 1:1\n\
+    exit Data 1:2\n\
+    enter GfmTableCellDivider 1:2\n\
+    exit GfmTableCellDivider 1:3\n\
+    enter GfmTableCellDivider 1:3\n\
+    exit GfmTableCellDivider 1:4\n\
+    enter Data 1:4\n\
+    exit Data 1:6\n";
+
+#[test]
+fn machines_have_bytes_of_their_own(rt: HostRuntime) -> Result<(), AllocError> {
+    let mut dividers = Vec::new(rt.alloc());
+    dividers.push(b';')?;
+    dividers.push(b'|')?;
+    let owned = lines_of(rt.alloc(), &Fields { dividers }, Name::TextStart, b"a;|b,");
+    assert_shown(&rt, owned, DIVIDED)?;
+    let lent = LentFields { dividers: b"|;" };
+    assert_shown(
+        &rt,
+        lines_of(rt.alloc(), &lent, Name::TextStart, b"a;|b,"),
+        DIVIDED,
     )
 }
