@@ -12,7 +12,6 @@ pub use Rattle.mdconstructs_machines.proofs.Breaks
 pub use Rattle.mdconstructs_machines.proofs.Innermost
 pub use Rattle.mdconstructs_machines.proofs.LineExamples
 pub use Rattle.mdconstructs_machines.proofs.LineReads
-pub use Rattle.mdconstructs_machines.proofs.NoFurther
 pub use Rattle.mdconstructs_machines.proofs.Mapped
 pub use Rattle.mdconstructs_machines.proofs.NoFurther
 pub use Rattle.mdconstructs_machines.proofs.NoRefusals
@@ -20,7 +19,6 @@ pub use Rattle.mdconstructs_machines.proofs.ParagraphExamples
 pub use Rattle.mdconstructs_machines.proofs.RowSteps
 pub use Rattle.mdconstructs_machines.proofs.Unfit
 pub use Rattle.mdconstructs_text.proofs.Examples
-pub use Rattle.mdconstructs_text.proofs.NoFurther as TextNoFurther
 pub use Rattle.mdconstructs_text.proofs.NoRefusals as TextNoRefusals
 pub use Rattle.mdconstructs_text.proofs.Autolinks
 pub use Rattle.mdconstructs_text.proofs.CodeSpans
