@@ -1,6 +1,6 @@
 //! Options as numbers, and what they choose.
 
-ghost use Rattle.std.specs.Prelude.{◌≡◌, ◌<◌, ◌≤◌, IfErr, IfOk, IfSome};
+ghost use Rattle.std.specs.Prelude.{◌≡◌, ◌<◌, ◌≤◌, IfErr, IfOk};
 ghost use Rattle.mdconstructs.specs.Choices.{CanCut};
 ghost use Rattle.limecove.specs.Choices.{choice_of, constructs_of, machine_of, tab_of, text_choice_of};
 

@@ -7,7 +7,7 @@ use Rattle.markdown_base.specs.declared.event.Kind.TheVariants.{Enter, Exit}
 use Rattle.markdown_base.specs.declared.event.Name.TheVariants.{SpaceOrTab}
 use Rattle.markdown_base.specs.declared.state.Name.{Name}
 use Rattle.markdown_base.specs.declared.state.State.{State}
-use Rattle.markdown_base.specs.declared.state.State.TheVariants.{Next, Retry, Ok}
+use Rattle.markdown_base.specs.declared.state.State.TheVariants.{Next, Retry}
 use Rattle.markdown_base.specs.declared.state.TheConstants.Name.{TextStart}
 use Rattle.markdown_base.specs.Events.{IsBalanced, IsVoidTight, EndsBelow}
 use Rattle.markdown_base.specs.Places.{IsPointOf, IsShown, stands_before}
@@ -20,7 +20,7 @@ use Rattle.markdown_tokenizer.specs.Engine.{IsWellFormed, EndsWellFormed}
 use Rattle.markdown_edits.proofs.Balanced.{IsBalanced-pair, IsBalanced-remove}
 use Rattle.markdown_edits.proofs.Edits.Passes.{woven-past}
 use Rattle.markdown_tokenizer.proofs.Readings.Plain.{no-links-more, no-links-below, no-links-shape, woven-same, edited-same}
-use Rattle.markdown_tokenizer.specs.Text.{Given, Text}
+use Rattle.markdown_tokenizer.specs.Text.{Given}
 use Rattle.markdown_tokenizer.specs.Configuration.{Configuration, Local, Choice, start_configuration}
 use Rattle.mdconstructs_tables.specs.Misfits.{misfits}
 use Rattle.mdconstructs_tables.specs.Fitting.{IsFit}

@@ -1,6 +1,6 @@
 -- A machine whose table's tests look no further than the byte that waits looks no further either.
 use Rattle.std.specs.List.{AllByRecursion}
-use Rattle.mdconstructs_tables.proofs.Prelude.{◌≡◌, ◌∙◌, ◌==◌, List, [], ◌∷◌, Bool, true, false, cond, Option, Some, refl, ap, Name, Given, Configuration, with_local, Rules, Sight, sight, Rows, row, when, Row, StateRows, Table, class_of, picked, named, step_of, step_at, table_step}
+use Rattle.mdconstructs_tables.proofs.Prelude.{◌≡◌, ◌∙◌, ◌==◌, List, [], ◌∷◌, Bool, true, false, cond, Some, refl, ap, Name, Given, Configuration, with_local, Rules, Sight, sight, Rows, row, when, Row, StateRows, Table, class_of, picked, named, step_of, step_at, table_step}
 use Rattle.markdown_tokenizer.specs.Alike.{AreAlikeUpTo, LooksNoFurther}
 use Rattle.markdown_tokenizer.proofs.Positions.Order.{every-back, every-front}
 use Rattle.mdconstructs_tables.specs.Joined.{joined_rules}
