@@ -1,10 +1,12 @@
 //! Chains read by machines, and their children put in the list, with expected lists worked by hand.
 
 ghost use Rattle.markdown.specs.Virtual.{IsWithinLimit};
-ghost use Rattle.std.specs.Prelude.{◌≡◌, ◌+◌, ◌<◌, Some, Contains};
+ghost use Rattle.std.specs.Prelude.{◌≡◌, ◌+◌, ◌<◌, None, Some, Contains, IfOk};
 ghost use Rattle.markdown.specs.Presets.{default_parse_options};
-ghost use Rattle.markdown.specs.Engine.{given_by};
-ghost use Rattle.markdown.specs.Reads.{start_name};
+ghost use Rattle.markdown.specs.Engine.{given_by, given_of};
+ghost use Rattle.markdown.specs.Reads.{GivesChildren, start_name};
+ghost use Rattle.markdown.specs.Ready.{IsReady};
+ghost use Rattle.markdown.specs.Text.{IsDocument};
 
 use crate::chunks::Row::{Chunk, Enter, Exit, Span};
 use crate::chunks::{
@@ -17,7 +19,7 @@ use markdown::parser::ParseState;
 use markdown::state::{self, Machine};
 use markdown::subtokenize::{Subresult, ready, subtokenize};
 use markdown::tokenizer::Fault;
-use mdconstructs::{Deep, Fail, Paragraphs, Wrap};
+use mdconstructs::{Deep, Fail, Paragraphs, Text, Wrap};
 use std::alloc::{AllocError, Global};
 
 /// Puts the children of the chains of one content in their place, read from this start. Returns the result, and then the list as it
@@ -247,4 +249,82 @@ fn children_are_put_in_place_of_their_chunks(rt: HostRuntime) -> Result<(), Allo
         assert_shown(&rt, with_children(rt.alloc(), list, bytes, reader), want)?;
     }
     Ok(())
+}
+
+/// A chunk of text and one of a string, one behind the other.
+const TEXT_AND_STRING: [Row; 2] = [
+    Chunk((1, 1, 0, 0), (1, 4, 3, 0), Content::Text, None, None),
+    Chunk((1, 4, 3, 0), (1, 5, 4, 0), Content::String, None, None),
+];
+
+/// Puts the children of the chains of one content in their place, read from this start.
+fn put<M: Machine>(
+    alloc: Global,
+    events: &mut Vec<Event>,
+    parse_state: &ParseState<M>,
+    content: Content,
+    start: state::Name,
+) -> Result<Subresult, Fault>
+    requires ready { IsReady parse_state.now.options.now.tab_size parse_state.now.bytes.now (Some content) events.old.items }
+    requires name { start_name content ≡ Some start }
+    requires start { Contains (M.rules parse_state.now.machine.now (given_of parse_state.now)).starts start }
+    ensures { IfOk result (GivesChildren M.rules parse_state.now (Some content) events.old.items events.new.items) }
+{
+    subtokenize(alloc, events, parse_state, Some(&content))
+}
+
+/// Reads the texts of a list whose chains can all be read. Then its strings still can be.
+fn read_texts(
+    alloc: Global,
+    events: &mut Vec<Event>,
+    parse_state: &ParseState<Text>,
+) -> Result<(), AllocError>
+    requires document { IsDocument (given_of parse_state.now) }
+    requires ready { IsReady parse_state.now.options.now.tab_size parse_state.now.bytes.now None events.old.items }
+    ensures { IfOk result (λ _. IsReady parse_state.now.options.now.tab_size parse_state.now.bytes.now (Some Content.String) events.new.items) }
+{
+    match put(
+        alloc,
+        events,
+        parse_state,
+        Content::Text,
+        state::Name::TextStart,
+    ) {
+        Ok(_) => Ok(()),
+        Err(_) => Err(AllocError),
+    }
+}
+
+/// Reads the texts of a list over a small document, and then its strings. Whether its chains can be read is asked once, before.
+fn texts_and_strings(alloc: Global, list: &[Row], bytes: &[u8]) -> Result<String, AllocError>
+    requires limit { IsWithinLimit 4 bytes.now }
+{
+    let mut events = listed(alloc, list)?;
+    let options = ParseOptions::default();
+    if !ready(alloc, events.as_slice(), bytes, options.tab_size, None)? {
+        return String::from_str(alloc, "not ready");
+    }
+    let texts = ParseState {
+        bytes,
+        options: &options,
+        machine: &Text {},
+    };
+    read_texts(alloc, &mut events, &texts)?;
+    let strings = ParseState {
+        bytes,
+        options: &options,
+        machine: &Deep {},
+    };
+    let start = state::Name::StringStart;
+    let answer = put(alloc, &mut events, &strings, Content::String, start);
+    told(alloc, &answer, events.as_slice())
+}
+
+#[test]
+fn strings_are_read_after_texts(rt: HostRuntime) -> Result<(), AllocError> {
+    let read = texts_and_strings(rt.alloc(), &TEXT_AND_STRING, b"`a`b");
+    let want = "done: false, notes: 0, definitions:\n\
+        enter CodeText 1:1 (0+0); CodeTextSequence 1:1 (0+0) to 1:2 (1+0); CodeTextData 1:2 (1+0) to 1:3 (2+0); \
+        CodeTextSequence 1:3 (2+0) to 1:4 (3+0); exit CodeText 1:4 (3+0); Data 1:4 (3+0) to 1:5 (4+0)";
+    assert_shown(&rt, read, want)
 }
