@@ -1,5 +1,6 @@
 pub mod Fields
 pub mod Headings
+pub mod Kept
 pub mod Labels
 pub mod Laws
 pub mod Texts

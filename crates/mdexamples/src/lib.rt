@@ -3,6 +3,7 @@
 
 pub mod fields;
 pub mod headings;
+pub mod kept;
 pub mod labels;
 pub mod spans;
 pub mod texts;
