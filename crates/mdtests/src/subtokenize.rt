@@ -15,10 +15,12 @@ use crate::chunks::{
 use crate::shown::{assert_shown, push_answer, push_events};
 use markdown::configuration::ParseOptions;
 use markdown::event::{Content, Event, Name};
+use markdown::laws::all_chains_are_ready;
 use markdown::parser::ParseState;
 use markdown::state::{self, Machine};
 use markdown::subtokenize::{Subresult, ready, subtokenize};
 use markdown::tokenizer::Fault;
+use mdconstructs::laws::other_chains_stay_ready_after_texts;
 use mdconstructs::{Deep, Fail, Paragraphs, Text, Wrap};
 use std::alloc::{AllocError, Global};
 
@@ -283,6 +285,9 @@ fn read_texts(
     requires ready { IsReady parse_state.now.options.now.tab_size parse_state.now.bytes.now None events.old.items }
     ensures { IfOk result (λ _. IsReady parse_state.now.options.now.tab_size parse_state.now.bytes.now (Some Content.String) events.new.items) }
 {
+    // A law does nothing when it is called. Its contract is what the proof cites.
+    all_chains_are_ready();
+    other_chains_stay_ready_after_texts();
     match put(
         alloc,
         events,
