@@ -1,7 +1,7 @@
 //! A document is read on from a kept place, after its end was changed.
 
-ghost use Rattle.std.specs.Prelude.{◌≡◌, ◌∷◌, [], true, Contains, IfOk, IfSome};
-ghost use Rattle.markdown.specs.Alike.{LooksNoFurther};
+ghost use Rattle.std.specs.Prelude.{◌≡◌, ◌∷◌, [], true, Contains, IfOk, IfSome, IsNone};
+ghost use Rattle.markdown.specs.Alike.{CanMove, LooksNoFurther};
 ghost use Rattle.markdown.specs.Engine.{AreCuts, CanPush, HoldsOf, IsRun, given_of};
 ghost use Rattle.mdexamples.specs.Kept.{HasReadUpTo, WasReadOn};
 
@@ -37,7 +37,7 @@ pub fn read_up_to<'a, M: Machine>(
 }
 
 /// The events of a document that was changed behind a cut, and the definitions found: they are what `run` returns, but only the rest is
-/// read, by a copy of what was kept. Returns `None` if the documents are not alike up to the cut.
+/// read, by a copy of what was kept. Returns `None` if what was kept cannot be moved: the documents are not alike up to the cut.
 pub fn read_changed<M: Machine>(
     alloc: Global,
     kept: &(Tokenizer<M>, State),
@@ -52,8 +52,9 @@ where
     requires machine { changed.now.machine.now ≡ kept.now.0.machine }
     requires start { Contains (M.rules kept.now.0.machine (given_of changed.now)).starts start }
     requires looks { LooksNoFurther (M.rules kept.now.0.machine) }
-    ensures { let g = given_of changed.now in let m = kept.now.0.machine in
-        IfOk result (λ r. IfSome r (λ all. IsRun g (M.rules m) true start all.0.items all.1)) }
+    ensures run { let m = kept.now.0.machine in
+        IfOk result (λ r. IfSome r (λ all. IsRun (given_of changed.now) (M.rules m) true start all.0.items all.1)) }
+    ensures none { IfOk result (λ r. IsNone r → ¬ CanMove kept.now.0.given (given_of changed.now) kept.now.0.text.end) }
 {
     let (tokenizer, state) = kept;
     if !tokenizer.can_move_to(changed) {

@@ -16,8 +16,8 @@ read_on-found-requires g c =
     c.in_ok-try_clone.ensures c.in_ok-state.ensures.equal c.moved_to-tokenizer.ensures.moved c.moved_to-tokenizer.ensures.at_places in
     record { range = on.range; holds = on.holds }
 
-pub returns : goal.returns
-returns g c =
+pub returns-clause-run : goal.returns-clause-run
+returns-clause-run g c =
     let on : GoesOn g.M.Machine.rules c.args.cut c.args.start c.args.kept.now.0.machine (given_of c.args.changed.now) c.moved_to-tokenizer.result c.in_ok-state.state =
     goes-on g.M.Machine.rules c.args.cut c.args.start g.met.M.Machine.lawful (given_of c.args.changed.now) c.args.kept.now.0 c.in_ok-try_clone.field-0 c.moved_to-tokenizer.result
     c.args.kept.now.1 c.in_ok-state.state c.requires.kept c.requires.looks c.requires.start (c.can_move_to.ensures.0 c.if-not-can_move_to.false)
