@@ -18,6 +18,8 @@ mod examples;
 #[cfg(test)]
 mod fakes;
 #[cfg(test)]
+mod kept;
+#[cfg(test)]
 mod looping;
 #[cfg(test)]
 mod machines;
