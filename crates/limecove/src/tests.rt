@@ -271,11 +271,15 @@ fn fields_lie_in_their_order(rt: HostRuntime) -> Result<(), AllocError> {
         "Record { kind: 1, content: 2, name: 3, line: 4, column: 5, index: 6, vs: 7, previous: 8, next: 9 }, \
         Options { size: 1, tab_size: 2, constructs: 3, cut: 4, machine: 5, deep: 6 }, \
         TextOptions { size: 1, tab_size: 2, constructs: 3 }, Answer { code: 1, version: 2, count: 3 }";
-    let mut records = [OLD; 3];
-    let [numbers, of_options, of_text] = &mut records;
-    let answer = limecove_echo(&OPTIONS, &TEXT_OPTIONS, numbers, of_options, of_text);
-    let record = records[0];
-    let made = format!(in rt.alloc(); "{record:?}, {OPTIONS:?}, {TEXT_OPTIONS:?}, {answer:?}")?;
+    let (mut numbers, mut of_options, mut of_text) = (OLD, OLD, OLD);
+    let answer = limecove_echo(
+        &OPTIONS,
+        &TEXT_OPTIONS,
+        &mut numbers,
+        &mut of_options,
+        &mut of_text,
+    );
+    let made = format!(in rt.alloc(); "{numbers:?}, {OPTIONS:?}, {TEXT_OPTIONS:?}, {answer:?}")?;
     assert!(rt; made.as_str() == want);
     Ok(())
 }
@@ -283,9 +287,14 @@ fn fields_lie_in_their_order(rt: HostRuntime) -> Result<(), AllocError> {
 /// The numbers of options come back, each in its field.
 #[test]
 fn options_are_echoed(rt: HostRuntime) {
-    let mut records = [OLD; 3];
-    let [numbers, of_options, of_text] = &mut records;
-    limecove_echo(&OPTIONS, &TEXT_OPTIONS, numbers, of_options, of_text);
+    let (mut numbers, mut of_options, mut of_text) = (OLD, OLD, OLD);
+    limecove_echo(
+        &OPTIONS,
+        &TEXT_OPTIONS,
+        &mut numbers,
+        &mut of_options,
+        &mut of_text,
+    );
     let none = Record {
         kind: 0,
         content: 0,
@@ -303,7 +312,7 @@ fn options_are_echoed(rt: HostRuntime) {
         vs: 6,
         ..none
     };
-    assert!(rt; records[1] == all && records[2] == none);
+    assert!(rt; of_options == all && of_text == none);
 }
 
 #[test]
