@@ -35,8 +35,7 @@ mod ranges;
 mod ready;
 #[cfg(test)]
 mod refusals;
-#[cfg(test)]
-mod replacing;
+pub mod replacing;
 #[cfg(test)]
 mod resolving;
 #[cfg(test)]

@@ -5,7 +5,9 @@ ghost use Rattle.markdown.specs.Configuration.{at_configuration};
 ghost use Rattle.markdown.specs.Sight.{sight_of};
 ghost use Rattle.mdtests.specs.Replacing.{replaced};
 
+#[cfg(test)]
 use crate::machines::lines_by;
+#[cfg(test)]
 use crate::shown::assert_shown;
 use markdown::event::{self, Event, Kind};
 use markdown::state::{Machine, MachineTypes, Name, State};
