@@ -49,6 +49,7 @@ pub use Rattle.markdown_tokenizer.specs.LawStatements
 pub use Rattle.markdown_tokenizer.specs.Alike
 pub use Rattle.markdown_tokenizer.specs.Stays
 pub use Rattle.markdown_tokenizer.specs.Promises
+pub use Rattle.markdown_tokenizer.specs.Renames
 pub use Rattle.markdown_tokenizer.specs.Lent
 pub use Rattle.markdown_tokenizer.specs.Cuts
 pub use Rattle.markdown_tokenizer.specs.Gaps

@@ -14,6 +14,6 @@ pub use markdown_children::laws::{
 pub use markdown_edits::laws::{additions_are_new, survivors_keep_links, survivors_keep_order};
 pub use markdown_tokenizer::laws::{
     calls_are_alike, choices_put_back, cuts_leave_no_trace, goes_on_elsewhere, pushes_are_one,
-    pushes_in_one_way, reading_goes_on, reads_in_one_way, reserves_are_enough, turns_are_kept,
-    what_was_read_stays,
+    pushes_in_one_way, reading_goes_on, reads_in_one_way, renaming_keeps, reserves_are_enough,
+    turns_are_kept, what_was_read_stays,
 };

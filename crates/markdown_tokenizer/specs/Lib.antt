@@ -22,6 +22,7 @@ pub mod LawStatements
 pub mod Alike
 pub mod Stays
 pub mod Promises
+pub mod Renames
 pub mod Lent
 pub mod Cuts
 pub mod Gaps

@@ -8,6 +8,7 @@ ghost use Rattle.markdown_tokenizer.specs.Alike.{CallsAreAlike, GoesOnElsewhere,
 ghost use Rattle.markdown_tokenizer.specs.Engine.{HasOneEnd};
 ghost use Rattle.markdown_tokenizer.specs.LawStatements.{CutsLeaveNoTrace, PushesAreOne, ChoicesPutBack, PushesInOneWay};
 ghost use Rattle.markdown_tokenizer.specs.Promises.{MayPromiseLess, MayPromiseWellFormed};
+ghost use Rattle.markdown_tokenizer.specs.Renames.{NamesMayChange, RenamingKeeps};
 ghost use Rattle.markdown_tokenizer.specs.Reserves.{ReservesAreEnough};
 ghost use Rattle.markdown_tokenizer.specs.Stays.{StayBeforeChoices, WhatWasReadStays};
 ghost use Rattle.markdown_tokenizer.specs.Text.{Given, Text};
@@ -88,6 +89,14 @@ pub trait Promise {
 /// with a promise is lawful without one.
 pub fn less_may_be_promised<M: Machine, P: Promise>()
     ensures { MayPromiseLess M.rules P.ends }
+{}
+
+/// A resolver may give events other names (`Tokenizer::events_mut`). If both ends of each span get one name, and a void name goes only to
+/// spans that hold no event, then the events stay well formed, and in shape. So it is if one function of names gives the new ones, and
+/// makes none void.
+pub fn renaming_keeps()
+    ensures kept { RenamingKeeps }
+    ensures by_names { NamesMayChange }
 {}
 
 /// A tokenizer that has read a document up to a cut goes on in another document, if that is alike up to there and the machine looks no

@@ -267,9 +267,6 @@ module _ {M R D : Type 0} {same : R → R → Bool} (t : Inside M R D) (sound : 
             (length t.events.items) (length t.stack.items) (reverse t.kept_choices.items) (λ p le saved. rw (position-same saved.read) refl) sound.kept_choices in
             rw (put, text, position-same sound.placed.read, choices) refl
 
-pub same-some : {A : Type 0} {x y : A} → Some x ≡ Some y → x ≡ y
-same-some e = cc
-
 abbrev pub ExtendedAt : {M R D : Type 0} → Inside M R D → (ℕ × ℕ) → Point → Point → Type 0
 ExtendedAt t to f u = seen (record t { end = to }) ≡ extended (seen t) (followed_by (seen t).given (seen t).text (pushed f u))
 

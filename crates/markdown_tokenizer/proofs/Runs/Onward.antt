@@ -1,8 +1,9 @@
 -- What was read of a document is what reading another one leaves, if that begins alike.
 use Rattle.markdown_tokenizer.proofs.Prelude.{AreAtPlaces, ◌≡◌, ◌+◌, ◌≤◌, ◌<◌, ◌∙◌, ℕ, nat_lt, List, [], ◌∷◌, ◌++◌, ◌↔◌, ◌⊎◌, false, Some, None, inl, inr, length, refl, sym, ap, arith, subst, Contains, is_some, Message, Name, State, Next, Retry, Ok, Nok, Error, Byte, Point, Seat, point, point_at, stands_before, ParseOptions, Given, Text, Piece, pushed, empty_text, followed_by, followed_by_all, FitsAfter, CanFollow, IsDocument, IsText, Configuration, Choice, Step, TokenizerValue, start_configuration, sight, fed, settled_at, Rules, IsLawful, CanPush, HoldsOf, IsFlushed, IsPushed, IsRefused, LeadsOn, IsPlace, given_by, EndsFrom, Stand, stand, stand_of, Turns, no_turn, one_turn, turn}
+use Rattle.std.proofs.lemmas.Option.{same_Some}
 use Rattle.markdown_tokenizer.specs.Reading.{Reading}
 use Rattle.markdown_tokenizer.specs.Alike.{AreAlikeUpTo, GoesOnElsewhere, IsLeftIn, LooksNoFurther, RestIsRun, at_document_start, in_document}
-use Rattle.markdown_tokenizer.proofs.Inside.Changes.{same-some, text-more}
+use Rattle.markdown_tokenizer.proofs.Inside.Changes.{text-more}
 use Rattle.markdown_tokenizer.proofs.Positions.Cursors.{same-self}
 use Rattle.markdown_tokenizer.proofs.Positions.Moving.{BeginAlike, point-alike, point-at-alike, range-alike}
 use Rattle.markdown_tokenizer.proofs.Positions.Order.{before-self}
@@ -80,7 +81,7 @@ module _ {M R D : Type 0} (rules : M → Given → Rules R D) (lawful : (m : M) 
   p = can.1
 
   from-is : can.0 ≡ origin
-  from-is = same-some (sym can.2 ∙ start-at g.tab d g.bytes)
+  from-is = same_Some _ _ (sym can.2 ∙ start-at g.tab d g.bytes)
 
   place : IsPlace g.tab g.bytes p
   place = place-of-point g.tab g.bytes d p (point_at-is g.tab g.bytes cut p can.3).is_point
@@ -148,7 +149,7 @@ module _ {M R D : Type 0} (rules : M → Given → Rules R D) (lawful : (m : M) 
     open_still = pushes.open_still;
     phase = pushes.phase;
     text = λ x y x_is y_is.
-        let from : x ≡ origin = same-some (sym x_is ∙ start-at g.tab d other) in let to : y ≡ p = same-some (sym y_is ∙ cut-found) in
+        let from : x ≡ origin = same_Some _ _ (sym x_is ∙ start-at g.tab d other) in let to : y ≡ p = same_Some _ _ (sym y_is ∙ cut-found) in
         rw (from, to) text-there;
     outcome = leads-there;
     stands = (kept-turns [] tt).0;

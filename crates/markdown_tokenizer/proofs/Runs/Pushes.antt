@@ -1,9 +1,9 @@
 -- A range that is pushed in two parts is pushed at once.
 use Rattle.markdown_tokenizer.proofs.Prelude.{◌≡◌, ℕ, ◌∷◌, ◌++◌, List, true, sym, ap, ◌∙◌, subst, arith, filter, Point, State, Seat, virtual, is_upto, Given, Text, Piece, IsText, FitsAfter, CanFollow, in_range, pushed, followed_by, followed_by_all, TokenizerValue, Rules, CanPush, ForPoints, IsPushed, LeadsOn, IsOneRange, LeavesOnly, None, refl, Bool, Phase, Configuration, Choice, Turns, turn, stand_of}
 use Rattle.std.proofs.lemmas.List.{append_assoc}
+use Rattle.std.proofs.lemmas.Option.{same_Some}
 use Rattle.markdown_tokenizer.proofs.Positions.Standing.{place-of-point}
 use Rattle.markdown_tokenizer.proofs.Positions.Cursors.{same-back, same-upto, upto-upto, range-continued}
-use Rattle.markdown_tokenizer.proofs.Inside.Changes.{same-some}
 use Rattle.markdown_tokenizer.proofs.Readings.Turns.{turns-on, one-stand}
 use Rattle.markdown_tokenizer.proofs.Runs.Working.{leads-trans, turns-followed}
 
@@ -73,7 +73,7 @@ module _ {M R D : Type 0} (rules : Rules R D) (old mid new : TokenizerValue M R 
     open_still = two.open_still;
     phase = two.phase;
     text = λ f t f_is t_is.
-        let from : f ≡ can.0 = same-some (sym f_is ∙ can.2) in let to : t ≡ next-there.1 = same-some (sym t_is ∙ next-there.3) in
+        let from : f ≡ can.0 = same_Some _ _ (sym f_is ∙ can.2) in let to : t ≡ next-there.1 = same_Some _ _ (sym t_is ∙ next-there.3) in
         rw (from, to) (text-there ∙ range.same);
     outcome = λ rest follow.
         let piece : Piece = pushed next-there.0 next-there.1 in
