@@ -3,6 +3,7 @@ use Rattle.std.specs.Prelude.{◌≡◌, ◌==◌, ◌∷◌, ◌++◌, [], List
 use denote.Enum.Bare.{sameb}
 use Rattle.markdown_base.specs.declared.event.Event.{Event}
 use Rattle.markdown_base.specs.declared.event.Kind.TheVariants.{Enter, Exit}
+use Rattle.markdown_base.specs.declared.event.Name.{Name as EventName}
 use Rattle.markdown_base.specs.declared.event.Name.TheVariants.{Paragraph, Data, CodeTextData}
 use Rattle.markdown_base.specs.declared.event.Point.{Point}
 use Rattle.markdown_base.specs.declared.state.TheConstants.Name.{TextStart, DataStart}
@@ -15,6 +16,7 @@ use Rattle.markdown_tokenizer.specs.Configuration.{Configuration, Local, Choice}
 use Rattle.markdown_tokenizer.specs.Sight.{Sight}
 use Rattle.markdown_tokenizer.specs.Calls.{with_events, with_resolvers, registered, registered_before}
 use Rattle.markdown_edits.specs.Edits.{Edit, edit_at, added_after}
+use Rattle.markdown_tokenizer.specs.Renames.{renamed_by}
 use Rattle.markdown_tokenizer.specs.Resolving.{Resolved, done, refused}
 use Rattle.markdown_tokenizer.specs.Rules.{Rules}
 use Rattle.markdown_tokenizer.specs.Plain.{HaveNoLinks}
@@ -48,8 +50,11 @@ abbrev pub wrap : Table LineByte Resolver Unit
 wrap = record { class = line_byte; first = counts; states = text_start ∷ data_start ∷ data_inside ∷ []; starts = TextStart ∷ [] }
 
 -- data is renamed to data of a code span
+abbrev pub code_name : EventName → EventName
+code_name n = cond (same_name n Data) CodeTextData n
+
 abbrev pub renamed : Event → Event
-renamed e = cond (same_name e.name Data) (record e { name = CodeTextData }) e
+renamed e = renamed_by code_name e
 
 -- the place of the first event, or this one if there is none
 abbrev pub first_place : Point → List Event → Point

@@ -1,6 +1,6 @@
 -- The table of the machine passes the test, and its rows keep what it knows of edits, so that the machine is lawful.
-use Rattle.std.proofs.Common.{◌≡◌, ℕ, suc, ◌+◌, List, [], ◌∷◌, ◌++◌, Bool, true, false, Option, Some, None, inl, inr, length, refl, sym, ap, ◌∙◌, subst, arith}
-use Rattle.std.specs.Prelude.{All, AllPairs}
+use Rattle.std.proofs.Common.{◌≡◌, ℕ, List, [], ◌∷◌, ◌++◌, Bool, true, false, Option, Some, None, inl, inr, length, refl, sym, ap, ◌∙◌, subst, arith}
+use Rattle.std.specs.Prelude.{All}
 use Rattle.std.proofs.lemmas.List.Elements.{All-nil, All-cons, All-tail}
 use Rattle.markdown_base.specs.declared.event.Event.{Event}
 use Rattle.markdown_base.specs.declared.event.Kind.TheVariants.{Enter, Exit}
@@ -9,7 +9,7 @@ use Rattle.markdown_base.specs.declared.state.Name.{Name}
 use Rattle.markdown_base.specs.declared.state.State.{State}
 use Rattle.markdown_base.specs.declared.state.State.TheVariants.{Next, Retry}
 use Rattle.markdown_base.specs.declared.state.TheConstants.Name.{TextStart}
-use Rattle.markdown_base.specs.Events.{IsBalanced, IsVoidTight, EndsBelow}
+use Rattle.markdown_base.specs.Events.{IsBalanced, EndsBelow}
 use Rattle.markdown_base.specs.Places.{IsPointOf, IsShown, stands_before}
 use Rattle.markdown_edits.specs.Edits.{Edit, edit_at, added_after, AreDisjoint}
 use Rattle.markdown_edits.specs.Edited.{as_change, edited}
@@ -19,6 +19,7 @@ use Rattle.markdown_tokenizer.specs.Resolving.{IsInShape}
 use Rattle.markdown_tokenizer.specs.Engine.{IsWellFormed, EndsWellFormed}
 use Rattle.markdown_edits.proofs.Balanced.{IsBalanced-pair, IsBalanced-remove}
 use Rattle.markdown_edits.proofs.Edits.Passes.{woven-past}
+use Rattle.markdown_tokenizer.proofs.Readings.Formed.{tight-behind, pairs-behind}
 use Rattle.markdown_tokenizer.proofs.Readings.Plain.{no-links-more, no-links-below, no-links-shape, woven-same, edited-same}
 use Rattle.markdown_tokenizer.specs.Text.{Given}
 use Rattle.markdown_tokenizer.specs.Configuration.{Configuration, Local, Choice, start_configuration}
@@ -158,16 +159,6 @@ ends-well events map balanced unlinked (inl none) =
     subst (λ m. Ends events m) (sym none)
     ((omega arith, no-links-below (length events) events unlinked), subst IsInShape (sym (edited-same events unlinked)) (no-links-shape events unlinked balanced))
 ends-well events map balanced unlinked (inr h) = subst (λ m. Ends events m) (sym h.0) (without-blanks events balanced unlinked h.1)
-
--- what holds of a list holds without its first event
-tight-behind : (x : Event) (xs : List Event) → IsVoidTight (x ∷ xs) → IsVoidTight xs
-tight-behind x xs h k e is enters void =
-    let n : suc k + 1 ≡ suc (k + 1) = omega arith in
-    let next = h (suc k) e is enters void in
-    rw n at next
-
-pairs-behind : (R : Event → Event → Type 0) (x : Event) (xs : List Event) → AllPairs R (x ∷ xs) → AllPairs R xs
-pairs-behind R x xs h i j d less within = h (suc i) (suc j) d (omega (arith, less)) (omega (arith, within))
 
 behind-blanks : (g : Given) (events : List Event) → IsWellFormed g events → HaveNoLinks events → BeginWithBlanks false events → IsWellFormed g (edited (edit_at 0 2 [] ∷ []) events)
 behind-blanks g [] formed unlinked h = absurd h

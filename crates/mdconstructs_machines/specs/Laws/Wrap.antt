@@ -1,15 +1,14 @@
 -- The table of the machine passes the test, and its resolvers keep what the ones that are left need, so that the machine is lawful.
-use Rattle.std.proofs.Common.{◌≡◌, ◌==◌, ℕ, zero, suc, ◌+◌, ◌<◌, List, [], ◌∷◌, ◌++◌, Bool, true, false, cond, Option, Some, None, length, map, refl, sym, ap, ◌∙◌, subst, arith}
-use Rattle.std.specs.Prelude.{◌&&◌, ◌||◌, nat_lt, nat_le, Contains, All}
+use Rattle.std.proofs.Common.{◌≡◌, ◌==◌, ℕ, zero, suc, ◌+◌, ◌<◌, List, [], ◌∷◌, ◌++◌, Bool, true, false, cond, Option, Some, None, length, refl, sym, ap, ◌∙◌, subst, arith}
+use Rattle.std.specs.Prelude.{◌&&◌, ◌||◌, nat_lt, nat_le, All}
 use Rattle.std.proofs.lemmas.Bool.Decides.{nat_tests}
-use Rattle.std.proofs.lemmas.List.{map-append}
+use Rattle.std.proofs.lemmas.List.Elements.{All-nil, All-cons, All-contains}
 use Rattle.markdown_base.specs.declared.event.Event.{Event}
-use Rattle.markdown_base.specs.declared.event.Name.TheVariants.{Data, CodeTextData}
 use Rattle.markdown_base.specs.declared.event.Point.{Point}
 use Rattle.markdown_base.specs.declared.state.Name.{Name}
 use Rattle.markdown_base.specs.declared.state.TheConstants.Name.{TextStart, DataStart, DataInside}
 use Rattle.markdown_base.specs.declared.state.State.TheVariants.{Next, Retry}
-use Rattle.markdown_base.specs.Events.{same_name, IsBalanced, empty, span, EndsBelow}
+use Rattle.markdown_base.specs.Events.{empty, span, EndsBelow}
 use Rattle.markdown_tokenizer.specs.declared.subtokenize.Subresult.{Subresult}
 use Rattle.markdown_tokenizer.specs.declared.waiting.Waits.TheVariants.{Byte, End}
 use Rattle.markdown_tokenizer.specs.Text.{Given, Text}
@@ -23,6 +22,7 @@ use Rattle.markdown_tokenizer.specs.Resolving.{done, refused, taken, IsInShape}
 use Rattle.markdown_tokenizer.specs.Lawful.{ConsumesOnce, OnlyAdds, EndsWhenRead, KeepsInvariant, CostPays, ResolversKeep, IsAsFar, IsLawful}
 use Rattle.markdown_tokenizer.specs.Plain.{HaveNoLinks}
 use Rattle.markdown_tokenizer.proofs.Readings.Plain.{no-links-more, no-links-below, no-links-shape, unlinked-same}
+use Rattle.markdown_tokenizer.proofs.Readings.Renames.{renamed-balanced, renamed-unlinked}
 use Rattle.markdown_edits.proofs.Edits.Puts.{put-same, put-more}
 use Rattle.mdconstructs_tables.specs.Rows.{class_of, step_of, picked, step_at}
 use Rattle.mdconstructs_tables.specs.Misfits.{misfits}
@@ -34,7 +34,7 @@ use Rattle.mdconstructs_machines.specs.declared.wrap.Resolver.TheVariants.{A, B,
 use Rattle.mdconstructs_machines.specs.Tables.{LineByte, line_ending, other, line_byte, counts}
 use Rattle.mdconstructs_machines.specs.DataRows.{data_start_rows, data_inside_rows, data_start, data_inside}
 use Rattle.mdconstructs_machines.specs.Messages.{refusal}
-use Rattle.mdconstructs_machines.specs.Wrap.{same_resolver, text_start, wrap, renamed, first_place, begin_event, end_event, one_definition, IsFlat, begins_paragraph, ends_paragraph, wrap_resolver, wrap_resolves, registered_at, IsUnedited, IsUnwrapped, wrap_rules}
+use Rattle.mdconstructs_machines.specs.Wrap.{same_resolver, text_start, wrap, code_name, first_place, begin_event, end_event, one_definition, IsFlat, begins_paragraph, ends_paragraph, wrap_resolver, wrap_resolves, registered_at, IsUnedited, IsUnwrapped, wrap_rules}
 
 fits : (previous current : Option LineByte) → misfits wrap previous current ≡ []
 fits previous None = refl
@@ -75,14 +75,6 @@ fed-left : (b : Bool) (k : Configuration Resolver Unit) (choices : List Choice) 
 fed-left true k choices name h = h
 fed-left false k choices name h = h
 
-none-first : (name : Name) → Contains (TextStart ∷ []) name → [] ≡ registered_at (Next name)
-none-first name (zero, below, is) = rw (← is) refl
-none-first name (suc i, below, is) = absurd (omega arith)
-
--- choices in front of none
-none-more : (made choices : List Choice) → made ≡ [] → choices ≡ [] → made ++ choices ≡ []
-none-more made choices e f = rw (e, f) refl
-
 consumes_once : (refuse : Bool) (g : Given) → ConsumesOnce g (wrap_rules refuse g)
 consumes_once refuse g text k choices name is h = table-consumes_once wrap g wrap-fit text k choices name is h.1
 
@@ -103,14 +95,15 @@ ends_when_read refuse g =
 invariant_kept : (refuse : Bool) (g : Given) → KeepsInvariant g (wrap_rules refuse g)
 invariant_kept refuse g =
     let law = table-invariant_kept wrap g wrap-fit in
+    let AtStart = λ (name : Name). [] ≡ registered_at (Next name) in
     record {
-      at_starts = λ p flag name is among. ((refl, (none-first name among, refl, tt)), law.at_starts p flag name is among);
+      at_starts = λ p flag name is among. ((refl, (All-contains AtStart (TextStart ∷ []) name (All-cons AtStart TextStart [] refl (All-nil AtStart)) among, refl, tt)), law.at_starts p flag name is among);
       unfed = λ text k choices name is h. law.unfed text k choices name is h.1;
       waits = λ text k choices name is h. law.waits text k choices name is h.1;
       by_feeding = λ text k choices name is h. (fed-left (nat_lt k.position (length text.seats)) k choices name h.0, law.by_feeding text k choices name is h.1);
       by_calls = λ text k choices name is h.
           let left = step-left (name.number == TextStart.number) (name.number == DataStart.number) (name.number == DataInside.number) g (sight g text k) k h.0.1 in
-          ((none-more _ choices left.0 h.0.0, left.1), law.by_calls text k choices name is h.1);
+          ((ap (λ made. made ++ choices) left.0 ∙ h.0.0, left.1), law.by_calls text k choices name is h.1);
       by_ok = λ text k choice choices is h. absurd (let e : choice ∷ choices ≡ [] = h.0.0 in cc);
       by_nok = λ text k choice choices is h. absurd (let e : choice ∷ choices ≡ [] = h.0.0 in cc);
       by_pieces = λ text piece k choices state is fits fresh h. (h.0, law.by_pieces text piece k choices state is fits fresh h.1);
@@ -125,32 +118,6 @@ cost_pays refuse g =
       for_ok = λ text k choice choices is h. law.for_ok text k choice choices is h.1;
       for_nok = λ text k choice choices is h. law.for_nok text k choice choices is h.1;
     }
-
--- renamed events have the same links and kinds, and a balanced list stays balanced
-renamed-link : (b : Bool) (e : Event) → (cond b (record e { name = CodeTextData }) e).link ≡ e.link
-renamed-link true e = refl
-renamed-link false e = refl
-
-renamed-kind : (b : Bool) (e : Event) → (cond b (record e { name = CodeTextData }) e).kind ≡ e.kind
-renamed-kind true e = refl
-renamed-kind false e = refl
-
-renamed-name : (b : Bool) (e : Event) → (cond b (record e { name = CodeTextData }) e).name ≡ cond b CodeTextData e.name
-renamed-name true e = refl
-renamed-name false e = refl
-
-renamed-alike : (e f : Event) → f.name ≡ e.name → (renamed f).name ≡ (renamed e).name
-renamed-alike e f h = renamed-name (same_name f.name Data) f ∙ ap (λ n. cond (same_name n Data) CodeTextData n) h ∙ sym (renamed-name (same_name e.name Data) e)
-
-renamed-no-links : (xs : List Event) → HaveNoLinks xs → HaveNoLinks (map renamed xs)
-renamed-no-links [] h = tt
-renamed-no-links (x ∷ xs) h = (renamed-link (same_name x.name Data) x ∙ h.0, renamed-no-links xs h.1)
-
-renamed-balanced : {xs : List Event} → IsBalanced xs → IsBalanced (map renamed xs)
-renamed-balanced empty = empty
-renamed-balanced (span e f xs ys is enters exits same inner rest) =
-    span (renamed e) (renamed f) (map renamed xs) (map renamed ys) (ap (map renamed) is ∙ ap (λ es. renamed e ∷ es) (map-append renamed xs (f ∷ ys)))
-    (renamed-kind (same_name e.name Data) e ∙ enters) (renamed-kind (same_name f.name Data) f ∙ exits) (renamed-alike e f same) (renamed-balanced inner) (renamed-balanced rest)
 
 -- the two edits, in order of their indices
 abbrev both-edits : Point → Point → ℕ → List Edit
@@ -230,7 +197,7 @@ begun s text k new more h e =
     let same : begins_paragraph s k ≡ new = cc in
     let p = first_place s.point k.events in
     let edits = ap (λ m. added_after m (edit_at 0 0 (begin_event p ∷ []))) h.0 in
-    subst (IsPassed text (A ∷ []) k) same ((p, edits, (renamed-no-links k.events h.1.0, renamed-balanced h.1.1)), (refl, refl, refl), refl)
+    subst (IsPassed text (A ∷ []) k) same ((p, edits, (renamed-unlinked code_name k.events h.1.0, renamed-balanced code_name k.events h.1.1)), (refl, refl, refl), refl)
 
 ended : (refuse : Bool) (s : Sight) (text : Text) (k new : Configuration Resolver Unit) (more : Option Subresult) → wrap_resolves text (A ∷ []) k
     → cond refuse (refused refusal) (done (ends_paragraph s k) (Some one_definition)) ≡ done new more → IsPassed text [] k new

@@ -1,6 +1,6 @@
 -- The reading of a look is what `scan` says.
 use Rattle.std.proofs.Common.{◌≡◌, ℕ, zero, suc, ◌+◌, ◌∷◌, ◌++◌, List, [], Bool, true, false, cond, Option, Some, None, ◌⊎◌, inl, inr, drop, length, refl, sym, ap, ◌∙◌, subst, arith, lt-ltb, le-ltb}
-use Rattle.std.proofs.lemmas.Option.{slice_get_within}
+use Rattle.std.proofs.lemmas.Option.{same_Some, slice_get_within}
 use Rattle.markdown_base.proofs.Common.{drop-next}
 use Rattle.markdown_base.specs.declared.event.Event.{Event}
 use Rattle.markdown_base.specs.declared.event.Name.{Name as EventName}
@@ -17,9 +17,6 @@ use Rattle.markdown_tokenizer.proofs.Readings.Bounds.{fed-ends, called-ends, mor
 use Rattle.mdconstructs_tables.specs.Rows.{Act, enters, exit, consume, links, write, choose, StateRows, Table, class_of, picked, named, step_at, does, chooses, step_of}
 use Rattle.mdconstructs_tables.proofs.Looks.Left.{at-front, past-end}
 use Rattle.mdconstructs_tables.specs.Looks.{waits_at, ended_at, first_byte, Look, Glance, goes_on, is_over, one_more, answered, held, shows, shows_in, acted, row_here, called, glance, looked_on, scan, looked, uncalled, unfed_look, IsShown, look_from, Plays, LooksAreScans}
-
-some-is : {X : Type 0} {x y : X} → Some x ≡ Some y → x ≡ y
-some-is h = cc
 
 -- what waits is the first of the bytes that are left
 sees : (text : Text) (l : List Seat) (q : ℕ) → drop q text.seats ≡ l → current_of text q (waits_at l) ≡ first_byte l
@@ -38,7 +35,7 @@ module _ {R D : Type 0} (stack : List EventName) (events : List Event) where
       → acted stack events l q b r local acts ≡ Some (r', local')
       → (does acts s (shows_in stack events l q b r local) ≡ shows_in stack events l q b r' local') × (chooses acts s (shows_in stack events l q b r local) cs ≡ cs)
   acts-do l q b r local [] r' local' s cs h =
-      subst (λ (x : Bool × Local R D). (shows_in stack events l q b r local ≡ shows_in stack events l q b x.0 x.1) × (cs ≡ cs)) (some-is h) (refl, refl)
+      subst (λ (x : Bool × Local R D). (shows_in stack events l q b r local ≡ shows_in stack events l q b x.0 x.1) × (cs ≡ cs)) (same_Some _ _ h) (refl, refl)
   acts-do l q b false local (consume ∷ acts) r' local' s cs h = acts-do l q b true local acts r' local' _ cs h
   acts-do l q b true local (consume ∷ acts) r' local' s cs h = absurd (cc)
   acts-do l q b false local (write f ∷ acts) r' local' s cs h = acts-do l q b false (f (shows_in stack events l q b false local)) acts r' local' s cs h

@@ -2,6 +2,7 @@
 use Rattle.mdconstructs_text.proofs.Prelude.{◌≡◌, ◌∷◌, ◌++◌, [], List, ℕ, true, false, refl, sym, ◌∙◌, Event, Enter, Exit, is_void, IsVoidTight, Seat, end_after, Given, Text, data_events, text_events, event, leaf}
 use Rattle.markdown_base.specs.declared.event.Name.{Name}
 use Rattle.markdown_tokenizer.specs.Plain.{HaveNoLinks}
+use Rattle.markdown_tokenizer.proofs.Readings.Plain.{no-links-append}
 use Rattle.mdconstructs_machines.specs.Spans.{span}
 use Rattle.mdconstructs_text.proofs.Paragraphs.Formed.{void-cons, void-append}
 use Rattle.mdconstructs_text.proofs.Texts.Built.{IsKeptBySpans, data-built}
@@ -12,10 +13,6 @@ none-tight k e at = absurd (cc)
 
 exit-tight : (e : Event) → e.kind ≡ Exit → IsVoidTight (e ∷ [])
 exit-tight e exits = void-cons e [] (λ enters void. let no : Exit ≡ Enter = sym exits ∙ enters in absurd (cc)) none-tight
-
-links-append : (xs ys : List Event) → HaveNoLinks xs → HaveNoLinks ys → HaveNoLinks (xs ++ ys)
-links-append [] ys h k = k
-links-append (x ∷ xs) ys h k = (h.0, links-append xs ys h.1 k)
 
 module _ (bytes : List ℕ) where
   leaf-tight : (name : Name) (seats : List Seat) → IsVoidTight (leaf bytes name seats)
@@ -42,10 +39,10 @@ module _ (bytes : List ℕ) where
 
   span-alone : (name : Name) (seats : List Seat) (es : List Event) → is_void name ≡ false → HaveNoLinks es → HaveNoLinks (span bytes name seats es)
   span-alone name [] es other h = h
-  span-alone name (s ∷ ss) es other h = (refl, links-append es (event bytes Exit name (end_after s.end ss) ∷ []) h (refl, tt))
+  span-alone name (s ∷ ss) es other h = (refl, no-links-append es (event bytes Exit name (end_after s.end ss) ∷ []) h (refl, tt))
 
   links-kept : IsKeptBySpans bytes HaveNoLinks
-  links-kept = record { none = tt; both = links-append; alone = leaf-alone; around = span-alone }
+  links-kept = record { none = tt; both = no-links-append; alone = leaf-alone; around = span-alone }
 
 -- the events of a text
 pub text-tight : (g : Given) (text : Text) → IsVoidTight (text_events g text)
