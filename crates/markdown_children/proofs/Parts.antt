@@ -7,3 +7,5 @@ pub mod Placed
 pub mod Staying
 pub mod Tight
 pub mod Once
+pub mod Weaves
+pub mod Untorn

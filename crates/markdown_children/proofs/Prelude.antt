@@ -77,7 +77,7 @@ pub use Rattle.markdown_children.specs.Children.{chain_changes, child_changes, f
 pub use Rattle.markdown_children.specs.LawStatements.{AreSpaced, ChangesAreApart, ChildrenFit, EditsGiveChildren, EndsInVoidEnter, FollowOneAnother, HasEndsWithin, IsInChain, IsInOneChain, IsTornNowhere, IsWholeFrom, LeadOnFrom, NoneTorn, StandSideBySide, chunk_numbers, part_numbers, passed_over}
 pub use Rattle.markdown_children.specs.Parts.{Divided, IsForward, StandBefore, all_edits, chain_edits, child_place, divided, divided_over, front_until, part_edits, parts, total}
 pub use Rattle.markdown_children.specs.Reads.{AreChildren, CanReadChain, Child, IsAtFirstParagraph, IsChild, IsChildFault, IsChildRefused, IsRead, IsSubtokenizeFault, StartAmong, lists, pieces_behind, pieces_of, start_at, text_from, text_of_chain}
-pub use Rattle.markdown_children.specs.Ready.{IsChunk, IsGap, IsReady, IsShownPlace, place_at}
+pub use Rattle.markdown_children.specs.Ready.{IsChunk, IsGap, IsReadable, IsReady, IsShownPlace, place_at}
 pub use Rattle.markdown_children.specs.ReadyTests.{AllBelow, FailsSomewhere, can_be_read, can_be_read_at, closes, has_no_link, is_chunk, is_closed, is_gap, is_gap_on, is_in_line, is_joined_back, is_joined_on, is_number, is_readable, is_same_point, is_sound, is_sound_at, is_void_span, leads_back_to, leads_on_to, link_at}
 pub use Rattle.markdown_children.specs.SoFar.{SoFar, starts_below, with_flag}
 pub use Rattle.markdown_children.specs.StartTests.{can_be_read_from}

@@ -4,6 +4,7 @@ pub mod LawStatements
 pub mod Parts
 pub mod Children
 pub mod Reads
+pub mod NextContent
 pub mod Tables
 pub mod SoFar
 pub mod StartTests

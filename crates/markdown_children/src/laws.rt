@@ -8,6 +8,7 @@ ghost use Rattle.markdown_edits.specs.Edits.{Edit};
 ghost use Rattle.markdown_children.specs.Reads.{CanReadChains, HasOneAnswer};
 ghost use Rattle.markdown_children.specs.LawStatements.{ForReadyLists, HasOrderedChains, ChildrenFit, EditsGiveChildren, IsPlacedWell, AreByChunk};
 ghost use Rattle.markdown_children.specs.LawStatements.{IsReadyForEach, StaysReady};
+ghost use Rattle.markdown_children.specs.NextContent.{StaysReadyWithChains};
 ghost use Rattle.markdown_children.specs.Ready.{IsReady};
 ghost use Rattle.markdown_base.specs.declared.event.Point.{Point};
 
@@ -33,6 +34,12 @@ pub fn children_fit()
 /// chains of another content can be read next, without a test.
 pub fn other_chains_stay_ready()
     ensures { ForReadyLists StaysReady }
+{}
+
+/// If a list is ready for two contents, and each child of the first one is ready for the second by itself, the new list is ready for it
+/// too. Chunks of children stay chunks: no chunks of the list may tear a void span of a child.
+pub fn chains_of_children_stay_ready()
+    ensures { ForReadyLists StaysReadyWithChains }
 {}
 
 /// A list whose chains can all be read is ready for each content.

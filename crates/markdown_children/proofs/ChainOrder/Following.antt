@@ -30,6 +30,14 @@ some_content wanted (Some c) e = (c, refl)
 abbrev pub Fits : Option Content → List Event → ℕ → Type 0
 Fits wanted events k = fits wanted events k ≡ true
 
+-- the exit of a chunk is in no chain, so the next one begins behind it
+pub chunks-apart : (events : List Event) (k d : ℕ) → IsChunk events k → IsChunk events d → k < d → k + 2 ≤ d
+chunks-apart events k d c e l =
+    let behind : d ≡ k + 1 → ⊥ = λ s.
+    let same : c.exit ≡ e.enter = ap (λ o. unwrap_or o c.exit) (sym c.exit_at ∙ ap (slice_get events) (sym s) ∙ e.enter_at) in
+    let kinds : Exit ≡ Enter = sym c.ended.exits ∙ ap (λ (x : Event). x.kind) same ∙ e.linked.enter in cc in
+    omega arith
+
 module _ (tab : ℕ) (bytes : List ℕ) (wanted : Option Content) (events : List Event) (ready : IsReady tab bytes wanted events) where
   abbrev n : ℕ
   n = length events
@@ -42,15 +50,8 @@ module _ (tab : ℕ) (bytes : List ℕ) (wanted : Option Content) (events : List
   pub inside : (k : ℕ) → Fits wanted events k → k + 1 < n
   inside k h = let c = chunk k h in slice_get_within events (k + 1) c.exit c.exit_at
 
-  -- the exit of a chunk is in no chain, so the next one begins behind it
   pub apart : (k d : ℕ) → Fits wanted events k → Fits wanted events d → k < d → k + 2 ≤ d
-  apart k d h m l =
-      let c = chunk k h in
-      let e = chunk d m in
-      let behind : d ≡ k + 1 → ⊥ = λ s.
-      let same : c.exit ≡ e.enter = ap (λ o. unwrap_or o c.exit) (sym c.exit_at ∙ ap (slice_get events) (sym s) ∙ e.enter_at) in
-      let kinds : Exit ≡ Enter = sym c.ended.exits ∙ ap (λ (x : Event). x.kind) same ∙ e.linked.enter in cc in
-      omega arith
+  apart k d h m l = chunks-apart events k d (chunk k h) (chunk d m) l
 
   pub fits_next : (k d : ℕ) → Fits wanted events k → next_of events k ≡ Some d → Fits wanted events d
   fits_next k d h e = ap (some_fits wanted) (sym (ready.one_content k d e)) ∙ h

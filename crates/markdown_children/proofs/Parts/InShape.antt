@@ -9,7 +9,7 @@ use Rattle.markdown_children.proofs.Parts.Tight.{with_children_tight}
 use Rattle.markdown_children.proofs.Parts.Once.{AreOnce, AreOthers, is_same-true, once-pass, once-place, once-chains}
 
 -- the event of a name is at its place
-place_in-there : (b : Identity) (ts : List Tagged) (q : ℕ) → place_in b ts ≡ Some q → (v : Tagged) × (slice_get ts q ≡ Some v) × (v.identity ≡ b)
+pub place_in-there : (b : Identity) (ts : List Tagged) (q : ℕ) → place_in b ts ≡ Some q → (v : Tagged) × (slice_get ts q ≡ Some v) × (v.identity ≡ b)
 place_in-there b [] q e = absurd (none-some q e)
 place_in-there b (t ∷ ts) q e = by_test (is_same b t.identity)
     (λ s. (t, ap (slice_get (t ∷ ts)) (sym (same_Some 0 q (rw s at e))), sym (is_same-true b t.identity s)))

@@ -35,12 +35,12 @@ untagged-child c j [] = refl
 untagged-child c j (e ∷ es) = ap (λ ys. e ∷ ys) (untagged-child c (j + 1) es)
 
 -- link ends do not matter
-names-placed : (o : Option (List Name)) (ts us : List Tagged) → names_after_all o (placed_in ts us) ≡ names_after_all o (untagged us)
+pub names-placed : (o : Option (List Name)) (ts us : List Tagged) → names_after_all o (placed_in ts us) ≡ names_after_all o (untagged us)
 names-placed None ts us = refl
 names-placed (Some st) ts [] = refl
 names-placed (Some st) ts (u ∷ us) = names-placed (names_after u.event.kind u.event.name st) ts us
 
-names-leave : {xs : List Event} → IsBalanced xs → (o : Option (List Name)) → names_after_all o xs ≡ o
+pub names-leave : {xs : List Event} → IsBalanced xs → (o : Option (List Name)) → names_after_all o xs ≡ o
 names-leave b None = refl
 names-leave b (Some st) = names_after_balanced b st
 
@@ -54,6 +54,10 @@ split-at events i k l =
     sym (take-append-drop (k - i) (drop i events)) ∙ ap (λ ys. between i k events ++ ys) (drop-drop (k - i) i events ∙ ap (λ m. drop m events) z)
 
 module _ (events : List Event) where
+  -- no event is between an index and itself
+  pub between-none : (i d : ℕ) → d ≡ i → between i d events ≡ []
+  between-none i d e = let z : d - i ≡ 0 = omega arith in ap (λ m. take m (drop i events)) z
+
   -- the events from i on, after changes
   abbrev pub after_changes : List Change → ℕ → List Event
   after_changes ws i = untagged (pass ws i (drop i events))

@@ -6,7 +6,7 @@
 use Rattle.markdown_children.proofs.Prelude.{◌≡◌, ℕ, zero, suc, ◌+◌, ◌-◌, ◌≤◌, true, List, [], ◌∷◌, ◌++◌, length, drop, take, Option, Some, refl, sym, ◌∙◌, ap, subst, arith, zero-add, slice_get, AllByRecursion, every-map, between, none-some, same_Some, Content, Event, Enter, Exit, is_void, relinked, IsVoidTight, drop-at, Tagged, Change, placed_end, placed_in, woven, pass, woven-pass, fits, IsReady, LeadOnFrom, AreSpaced, EndsInVoidEnter, StandSideBySide, IsTornNowhere, NoneTorn, part_changes, child_changes, with_children}
 use Rattle.markdown_children.proofs.ChainOrder.Following.{Fits, chunk, fits_next}
 use Rattle.markdown_children.proofs.ChainOrder.Spaced.{changes_are_apart}
-use Rattle.markdown_children.proofs.Parts.Kept.{joined, untagged, untagged-olds, after_changes, part_after, split-at, with_children_holds}
+use Rattle.markdown_children.proofs.Parts.Kept.{joined, untagged, untagged-olds, after_changes, between-none, part_after, split-at, with_children_holds}
 
 -- ---- tight lists
 
@@ -95,9 +95,6 @@ module _ (tab : ℕ) (bytes : List ℕ) (wanted : Option Content) (events : List
       let no : Exit ≡ Enter = sym l.1.2 ∙ ap (λ (x : Event). x.kind) is ∙ c.linked.enter in
       absurd (cc))
 
-  between-none : (i d : ℕ) → d ≡ i → between i d events ≡ []
-  between-none i d e = let z : d - i ≡ 0 = omega arith in ap (λ m. take m (drop i events)) z
-
   -- if chunks are adjacent, the child goes on behind the one at k
   goes-on : (c j k : ℕ) (ks : List ℕ) (ps : List (List Event)) (ws : List Change) (f : Event) → slice_get (joined ps) 0 ≡ Some f → length ks ≡ length ps → StandSideBySide k ks ps
       → slice_get (joined ps) 0 ≡ slice_get (after_changes events (part_changes c j ks ps ++ ws) (k + 2)) 0
@@ -105,12 +102,12 @@ module _ (tab : ℕ) (bytes : List ℕ) (wanted : Option Content) (events : List
   goes-on c j k (d ∷ ks) ([] ∷ ps) ws f at e s =
       let more = goes-on c (j + 0) d ks ps ws f at (omega arith) s.1 in
       let is : after_changes events (part_changes c j (d ∷ ks) ([] ∷ ps) ++ ws) (k + 2) ≡ after_changes events (part_changes c (j + 0) ks ps ++ ws) (d + 2) =
-      part_after events c j (k + 2) d ks [] ps ws (omega (arith, s.0)) ∙ ap (λ ys. ys ++ after_changes events (part_changes c (j + 0) ks ps ++ ws) (d + 2)) (between-none (k + 2) d s.0) in
+      part_after events c j (k + 2) d ks [] ps ws (omega (arith, s.0)) ∙ ap (λ ys. ys ++ after_changes events (part_changes c (j + 0) ks ps ++ ws) (d + 2)) (between-none events (k + 2) d s.0) in
       more ∙ ap (λ ys. slice_get ys 0) (sym is)
   goes-on c j k (d ∷ ks) ((x ∷ p) ∷ ps) ws f at e s =
       let rest : List Event = after_changes events (part_changes c (j + length (x ∷ p)) ks ps ++ ws) (d + 2) in
       let is : after_changes events (part_changes c j (d ∷ ks) ((x ∷ p) ∷ ps) ++ ws) (k + 2) ≡ (x ∷ p) ++ rest =
-      part_after events c j (k + 2) d ks (x ∷ p) ps ws (omega (arith, s)) ∙ ap (λ ys. ys ++ ((x ∷ p) ++ rest)) (between-none (k + 2) d s) in
+      part_after events c j (k + 2) d ks (x ∷ p) ps ws (omega (arith, s)) ∙ ap (λ ys. ys ++ ((x ∷ p) ++ rest)) (between-none events (k + 2) d s) in
       ap (λ ys. slice_get ys 0) (sym is)
   goes-on c j k ks ps ws f at e s = absurd (omega arith)
 
