@@ -1,5 +1,6 @@
 //! The laws about machines and tables. Each is a function that does nothing; its contract is the law.
 
+pub use mdconstructs_documents::laws::innermost_spans_tile_documents;
 pub use mdconstructs_machines::laws::{
     costs_at_the_start, documents_are_read_by_lines, innermost_spans_account_for_documents,
     misfits_are_not_all, misfits_have_reasons, no_document_is_refused, paragraphs_look_no_further,

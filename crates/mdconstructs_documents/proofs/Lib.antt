@@ -1,3 +1,4 @@
 mod DeepEvents
 mod Prelude
 mod Tight
+mod Tiled

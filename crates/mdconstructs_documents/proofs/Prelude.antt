@@ -47,3 +47,15 @@ pub use Rattle.markdown_tokenizer.specs.declared.tokenizer.fault.Fault.TheVarian
 pub use Rattle.mdconstructs_documents.specs.declared.making.Unmade.{Unmade}
 pub use Rattle.mdconstructs_documents.specs.declared.making.Unmade.TheVariants.{Fault as OfFault, NotReady}
 pub use Rattle.std.proofs.lemmas.List.Elements.{All-from_get_or}
+pub use Rattle.std.proofs.Common.{Bool, [], map, ◌++◌, ◌∷◌}
+pub use Rattle.std.specs.List.{flat_map}
+pub use Rattle.markdown_base.proofs.Seats.{end-after-append}
+pub use Rattle.markdown_base.specs.Places.{shown}
+pub use Rattle.markdown_base.specs.Virtual.{document_end, end_after, point, virtual}
+pub use Rattle.markdown_base.specs.declared.event.Point.{Point}
+pub use Rattle.markdown_tokenizer.proofs.Positions.Chains.{IsChain, whole-chain}
+pub use Rattle.markdown_tokenizer.proofs.Positions.Standing.{chain-at, chain-split}
+pub use Rattle.mdconstructs_machines.proofs.BlockReads.Accounts.{paragraphs-account}
+pub use Rattle.mdconstructs_machines.proofs.LineReads.Accounts.{lines-account-for}
+pub use Rattle.mdconstructs_machines.specs.Innermost.{AccountFor, span_over, stretch_bytes}
+pub use Rattle.mdconstructs_documents.specs.Tiles.{StandEndToEnd, Tile}

@@ -3,5 +3,6 @@
 
 pub mod choice;
 pub mod documents;
+pub mod laws;
 pub mod limit;
 mod making;

@@ -37,8 +37,11 @@ module _ (bytes : List ℕ) where
       subst (λ es. AccountFor es bytes ((t ++ e) ++ seats)) (sym (append_assoc (span bytes Paragraph t (leaf bytes Data t)) (leaf bytes LineEnding e) events))
       (subst (AccountFor (span bytes Paragraph t (leaf bytes Data t) ++ (leaf bytes LineEnding e ++ events)) bytes) (sym (append_assoc t e seats)) more)
 
+-- the events of lines account for each virtual byte
+pub lines-account-for : (bytes : List ℕ) (seats : List Seat) → AccountFor (line_events bytes seats) bytes seats
+lines-account-for bytes seats = subst (AccountFor (line_events bytes seats) bytes) (lines-are-all seats) (lines-account bytes (lines_in seats))
+
 pub documents-account : (g : Given) (events : List Event) (sub : Subresult) → IsDocument g → IsRun g lines_rules false FlowStart events sub → AccountFor events g.bytes (virtual g.tab g.bytes)
 documents-account g events sub document run =
     let seats = virtual g.tab g.bytes in
-    subst (λ es. AccountFor es g.bytes seats) (sym (lines-read g events sub document run))
-    (subst (AccountFor (line_events g.bytes seats) g.bytes) (lines-are-all seats) (lines-account g.bytes (lines_in seats)))
+    subst (λ es. AccountFor es g.bytes seats) (sym (lines-read g events sub document run)) (lines-account-for g.bytes seats)
