@@ -1,10 +1,11 @@
 //! What a call of the program does: what it reads and writes, what it shows on standard error, and its status.
 
-ghost use Rattle.std.specs.Prelude.{◌≡◌, ◌≤◌, IfOk, IfSome, IsErr, IsOkUnless, Ok, None};
+ghost use Rattle.std.specs.Prelude.{◌≡◌, ◌≤◌, ◌↔◌, IfOk, IfSome, IsErr, IsOkUnless, Ok, None, map, string_bytes};
 ghost use Rattle.std.specs.Io.KnownBytes.{Keeps};
 ghost use Rattle.std.specs.Process.{exit_status};
 ghost use Rattle.mdconstructs.specs.Choices.{CanCut};
-ghost use Rattle.mdevents_program.specs.Program.{Prints, PrintsChosen};
+ghost use Rattle.mdevents_program.specs.Arguments.{choice_of_words};
+ghost use Rattle.mdevents_program.specs.Program.{Prints, PrintsChosen, PrintsChosenFront, PrintsWords, PrintsWordsFront, PrintsFrontAtMost};
 
 use crate::arguments::{Choice, USAGE, read_words};
 use crate::failure::Failure;
@@ -15,7 +16,7 @@ use std::process::ExitCode;
 use std::rt::Env;
 
 /// Does what the arguments choose. The status is 0 only if all was written, 2 only if nothing was read or written, and
-/// else 1.
+/// else 1: then nothing was written, or a beginning of the lines.
 pub fn answer_call<R: Read, W: Write>(
     rt: &(impl Env + AllocGlobal + Eprint),
     reader: &mut R,
@@ -23,16 +24,38 @@ pub fn answer_call<R: Read, W: Write>(
 ) -> ExitCode
     ensures status { exit_status result ≤ 2 }
     ensures done { exit_status result ≡ 0 → (choice : _) × Prints choice R.remaining reader.old reader.new W.contents writer.old writer.new }
+    ensures failed { exit_status result ≡ 1 → PrintsFrontAtMost R.remaining reader.old reader.new W.contents writer.old writer.new }
     ensures reads { exit_status result ≡ 2 → Keeps (R.remaining reader.old) (R.remaining reader.new) }
     ensures writes { exit_status result ≡ 2 → Keeps (W.contents writer.old) (W.contents writer.new) }
 {
-    let choice = choice_of(rt);
-    answer_choice(rt, choice, reader, writer)
+    match words_of(rt) {
+        Ok(Some(words)) => answer_words(rt, words.as_slice(), reader, writer),
+        Ok(None) => answer_choice(rt, Ok(None), reader, writer),
+        Err(failure) => answer_choice(rt, Err(failure), reader, writer),
+    }
+}
+
+/// Does what these arguments choose. The status is 2 exactly if they choose nothing: then nothing is read or written. It is 0
+/// only if all that they choose was written, and else 1: then nothing was written, or a beginning of that.
+pub fn answer_words<R: Read, W: Write>(
+    rt: &(impl AllocGlobal + Eprint),
+    words: &[String],
+    reader: &mut R,
+    writer: &mut W,
+) -> ExitCode
+    ensures status { exit_status result ≤ 2 }
+    ensures done { exit_status result ≡ 0 → PrintsWords words.now R.remaining reader.old reader.new W.contents writer.old writer.new }
+    ensures failed { exit_status result ≡ 1 → PrintsWordsFront words.now R.remaining reader.old reader.new W.contents writer.old writer.new }
+    ensures usage { (exit_status result ≡ 2) ↔ (choice_of_words (map string_bytes words.now) ≡ None) }
+    ensures reads { exit_status result ≡ 2 → Keeps (R.remaining reader.old) (R.remaining reader.new) }
+    ensures writes { exit_status result ≡ 2 → Keeps (W.contents writer.old) (W.contents writer.new) }
+{
+    answer_choice(rt, Ok(read_words(words)), reader, writer)
 }
 
 /// Does what was chosen. The status is 0 only if all was written, and 1 if something failed; a line on standard error
-/// then says what. If nothing was chosen, the usage line is shown there, the status is 2, and nothing is read or
-/// written.
+/// then says what, and nothing was written, or a beginning of the lines. If nothing was chosen, the usage line is shown there,
+/// the status is 2, and nothing is read or written.
 pub fn answer_choice<R: Read, W: Write>(
     rt: &(impl AllocGlobal + Eprint),
     choice: Result<Option<Choice>, Failure>,
@@ -45,6 +68,7 @@ pub fn answer_choice<R: Read, W: Write>(
     ensures usage { choice ≡ Ok None → exit_status result ≡ 2 }
     ensures usage_only { exit_status result ≡ 2 → choice ≡ Ok None }
     ensures failed { IsErr choice → exit_status result ≡ 1 }
+    ensures front { exit_status result ≡ 1 → PrintsChosenFront choice R.remaining reader.old reader.new W.contents writer.old writer.new }
     ensures reads { choice ≡ Ok None → Keeps (R.remaining reader.old) (R.remaining reader.new) }
     ensures writes { choice ≡ Ok None → Keeps (W.contents writer.old) (W.contents writer.new) }
 {
@@ -69,19 +93,17 @@ fn failed(rt: &impl Eprint, failure: Failure) -> ExitCode
     ExitCode::FAILURE
 }
 
-/// What the arguments after the program's name choose; `None` if they are not accepted. An argument that is not UTF-8 is not
-/// accepted.
+/// The arguments after the program's name; `None` if one of them is not UTF-8.
 ///
 /// It fails only with `Memory`.
-pub fn choice_of(rt: &(impl Env + AllocGlobal)) -> Result<Option<Choice>, Failure>
-    ensures cut { IfOk result (λ choice. IfSome choice CanCut) }
+pub fn words_of(rt: &(impl Env + AllocGlobal)) -> Result<Option<Vec<String>>, Failure>
     ensures cause { IsOkUnless result Failure.Memory }
 {
     match env::args(rt) {
         Ok(mut arguments) => {
             let _ = arguments.next();
             let words: Vec<String> = arguments.collect(rt.alloc())?;
-            Ok(read_words(words.as_slice()))
+            Ok(Some(words))
         }
         Err(error) if error.kind() == ErrorKind::InvalidData => Ok(None),
         Err(_) => Err(Failure::Memory),

@@ -4,8 +4,8 @@
 use crate::fakes::{CalledWith, FailingReader, FailingWriter, Line};
 use crate::written::{TWO_LINES, choice};
 use markdown::configuration::TabSize;
-use mdevents_program::arguments::Which;
-use mdevents_program::call::{answer_call, answer_choice, choice_of};
+use mdevents_program::arguments::{Which, read_words};
+use mdevents_program::call::{answer_call, answer_choice, answer_words, words_of};
 use mdevents_program::failure::Failure;
 use std::alloc::Global;
 use std::process::ExitCode;
@@ -23,8 +23,10 @@ fn chooses(
         return false;
     };
     let system = (CalledWith::new(words), alloc);
-    let chosen = choice_of(&system);
-    chosen == Ok(Some(choice(cut, deep, machine, tab)))
+    let Ok(Some(words)) = words_of(&system) else {
+        return false;
+    };
+    read_words(words.as_slice()) == Some(choice(cut, deep, machine, tab))
 }
 
 /// Arguments, and what they choose: the cut, whether chunks are read too, the machine and the tab size.
