@@ -60,6 +60,7 @@ pub use Rattle.markdown_children.specs.LawStatements as ChildrenLawStatements
 pub use Rattle.markdown_children.specs.Parts
 pub use Rattle.markdown_children.specs.Children
 pub use Rattle.markdown_children.specs.Reads
+pub use Rattle.markdown_children.specs.NextContent
 pub use Rattle.markdown_children.specs.Tables
 pub use Rattle.markdown_children.specs.SoFar
 pub use Rattle.markdown_children.specs.StartTests

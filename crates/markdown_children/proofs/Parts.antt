@@ -9,3 +9,5 @@ pub mod Tight
 pub mod Once
 pub mod Weaves
 pub mod Untorn
+pub mod GoingOn
+pub mod Example

@@ -1,24 +1,23 @@
 -- When a list whose chains of one content were read is ready for the next content, though its children link chunks of their own.
 --
 -- A child's chunk stays a chunk if its two events stay side by side: no chunks may tear it.
-use Rattle.std.specs.Prelude.{◌≡◌, ◌≢◌, ◌⊎◌, ℕ, ◌+◌, true, false, List, [], ◌∷◌, Option, Some, slice_get, All, Contains}
+use Rattle.std.specs.Prelude.{◌≡◌, ◌⊎◌, ℕ, ◌+◌, true, List, Option, Some, slice_get, All, Contains}
 use Rattle.std.specs.List.{AllByRecursion, AllZip}
 use Rattle.markdown_base.specs.declared.event.Content.{Content}
 use Rattle.markdown_base.specs.declared.event.Event.{Event}
 use Rattle.markdown_base.specs.declared.event.Kind.TheVariants.{Enter}
-use Rattle.markdown_base.specs.declared.event.Point.{Point}
 use Rattle.markdown_base.specs.Events.{is_void, IsVoidTight}
 use Rattle.markdown_base.specs.Places.{stands_before, in_range}
 use Rattle.markdown_base.specs.Virtual.{Seat, virtual}
 use Rattle.markdown_edits.specs.Links.{next_of}
 use Rattle.markdown_tokenizer.specs.Rules.{Rules}
-use Rattle.markdown_tokenizer.specs.Text.{Given, Text}
+use Rattle.markdown_tokenizer.specs.Text.{Given, Text, IsDocument}
 use Rattle.markdown_tokenizer.specs.declared.subtokenize.Subresult.{Subresult}
-use Rattle.markdown_children.specs.Chains.{fits, fitting_starts}
+use Rattle.markdown_children.specs.Chains.{begins, fits, fitting_starts}
 use Rattle.markdown_children.specs.Children.{with_children}
 use Rattle.markdown_children.specs.LawStatements.{NoneTorn}
 use Rattle.markdown_children.specs.Ready.{IsReady, IsShownPlace, place_at}
-use Rattle.markdown_children.specs.Reads.{text_from, IsSubtokenized}
+use Rattle.markdown_children.specs.Reads.{text_from, Child, IsChild, IsSubtokenized}
 
 -- if a list is ready for the next content too, and each child by itself is, the new list is, unless chunks tear a void span of their child
 abbrev pub StaysReadyWithChains : ℕ → List ℕ → Option Content → List Event → Type 0
@@ -55,16 +54,17 @@ module _ (g : Given) (wanted next : Option Content) (events : List Event) where
 
   -- so it is if the list is ready for both contents, has text where it has events between chunks, and each child can be read next
   abbrev pub GoesOn : Type 0
-  GoesOn = IsReady g.tab g.bytes wanted events → IsReady g.tab g.bytes next events → HasTextInGaps wanted events → (children : List (List Event))
-      → ChildrenCanBeRead children → IsReadyNext children
+  GoesOn = IsDocument g → IsReady g.tab g.bytes wanted events → IsReady g.tab g.bytes next events → HasTextInGaps wanted events
+      → (children : List (List Event)) → ChildrenCanBeRead children → IsReadyNext children
 
 module _ {R D : Type 0} (g : Given) (rules : Given → Rules R D) (wanted next : Option Content) (events : List Event) where
-  -- what the machine promises of its final events makes chains of the next content that can be read
-  abbrev pub PromisesNext : Type 0
-  PromisesNext = (text : Text) (child : List Event) → (rules g).ends text child → CanBeReadNext g next text child
+  -- each child that the machine reads can be read next; what it promises of its final events (`ends`) may say so
+  abbrev pub ReadsNext : Type 0
+  ReadsNext = (c : ℕ) (child : Child) → begins wanted events c ≡ true → IsChild g rules events c child
+      → CanBeReadNext g next (text_from g events c) child.events
 
   -- by such a machine's rules the new list is ready for the next content, and its void spans are empty if those of the list are
   abbrev pub GoesOnBy : Type 0
-  GoesOnBy = PromisesNext → IsReady g.tab g.bytes wanted events → IsReady g.tab g.bytes next events → HasTextInGaps wanted events
+  GoesOnBy = IsDocument g → IsReady g.tab g.bytes wanted events → IsReady g.tab g.bytes next events → HasTextInGaps wanted events → ReadsNext
       → (new : List Event) (sub : Subresult) → IsSubtokenized g rules wanted events new sub
       → IsReady g.tab g.bytes next new × (IsVoidTight events → IsVoidTight new)

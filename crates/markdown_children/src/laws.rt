@@ -2,15 +2,17 @@
 //!
 //! Each is a function that does nothing, whose contract is the law.
 
-ghost use Rattle.std.specs.Prelude.{◌∷◌, List, None, ℕ};
+ghost use Rattle.std.specs.Prelude.{◌∷◌, List, None, Option, ℕ};
+ghost use Rattle.markdown_base.specs.declared.event.Content.{Content};
 ghost use Rattle.markdown_base.specs.declared.event.Event.{Event};
 ghost use Rattle.markdown_edits.specs.Edits.{Edit};
 ghost use Rattle.markdown_children.specs.Reads.{CanReadChains, HasOneAnswer};
 ghost use Rattle.markdown_children.specs.LawStatements.{ForReadyLists, HasOrderedChains, ChildrenFit, EditsGiveChildren, IsPlacedWell, AreByChunk};
 ghost use Rattle.markdown_children.specs.LawStatements.{IsReadyForEach, StaysReady};
-ghost use Rattle.markdown_children.specs.NextContent.{StaysReadyWithChains};
+ghost use Rattle.markdown_children.specs.NextContent.{StaysReadyWithChains, GoesOn, GoesOnBy};
 ghost use Rattle.markdown_children.specs.Ready.{IsReady};
 ghost use Rattle.markdown_base.specs.declared.event.Point.{Point};
+ghost use Rattle.markdown_tokenizer.specs.Text.{Given};
 
 use markdown_tokenizer::state::Machine;
 
@@ -40,6 +42,18 @@ pub fn other_chains_stay_ready()
 /// too. Chunks of children stay chunks: no chunks of the list may tear a void span of a child.
 pub fn chains_of_children_stay_ready()
     ensures { ForReadyLists StaysReadyWithChains }
+{}
+
+/// The same if the list has events between chunks only where it has text there too, and each child's chains can be read on its own text,
+/// over whose gaps no void span of the child goes. Then no chunks tear a void span.
+pub fn children_can_be_read_next()
+    ensures { (g : Given) (wanted next : Option Content) (events : List Event) → GoesOn g wanted next events }
+{}
+
+/// So after [`subtokenize`](crate::subtokenize::subtokenize) a list is ready for the next content, without a test, if the machine reads
+/// such children. What it promises of its final events may say so. Void spans stay empty too.
+pub fn subtokenized_lists_are_ready<M: Machine>()
+    ensures { (m : _) (g : _) (wanted : _) (next : _) (events : _) → GoesOnBy g (M.rules m) wanted next events }
 {}
 
 /// A list whose chains can all be read is ready for each content.

@@ -1,8 +1,9 @@
--- With children that have no links a list stays ready for the chains of another content.
+-- A list stays ready for the chains of another content, if each child is ready for it by itself and no chunks cut a chunk of their child.
 --
--- A linked event of the new list is one of the old list that stays. So are the exit behind it, and all events up to the next one of its
--- chain: no chunk that is replaced is among them, as it is linked. So they stand side by side as before.
-use Rattle.markdown_children.proofs.Prelude.{chain_of, front_until, zero-add, AreSpaced, ◌≡◌, ℕ, zero, suc, ◌+◌, ◌-◌, ◌<◌, ◌≤◌, inl, inr, ◌&&◌, ◌||◌, Bool, true, false, eqb, List, [], ◌∷◌, ◌++◌, length, map, take, drop, Option, Some, None, refl, sym, ◌∙◌, ap, subst, arith, zero-add, eq-eqb, le-leb, lt-ltb, le-ltb, leb-true, leb-false, ltb-true, ltb-false, nat_le, nat_lt, leb, slice_get, slice_get_within, slice_get-map, none-some, same_Some, option_map, option_and_then, option_and_then_some, map-append, flat_map, range_with_len, AllByRecursion, every-get, every-map, recursion_from_All, both_true, between, Content, Event, Enter, Exit, Link, Point, drop-at, IsBalanced, AreMutual, relinked, with_ends, next_of, stands_before, next_moved, stays_unless_removed, of_list, of_child, of_addition, Identity, Tagged, Change, is_same, is_removed, place_in, placed_end, pass, woven, woven-pass, AreApart, HasNo, same_shift, content_at, some_fits, fits, fitting_starts, IsChunk, IsGap, IsReady, IsReadable, IsShownPlace, place_at, LeadOnFrom, IsWholeFrom, parts, divided_over, first_chunk, part_changes, chain_changes, child_changes, with_children}
+-- A linked event of the new list is one of the list that stays, or one of a child. If it is one of the list, so are the exit behind it and
+-- all events up to the next one of its chain: no chunk that is replaced is among them, as it is linked. So they stand side by side as
+-- before. If it is one of a child, gaps of the list may come between (`Weaves`).
+use Rattle.markdown_children.proofs.Prelude.{chain_of, front_until, zero-add, AreSpaced, ◌≡◌, ℕ, zero, suc, ◌+◌, ◌-◌, ◌<◌, ◌≤◌, inl, inr, ◌&&◌, ◌||◌, Bool, true, false, eqb, List, [], ◌∷◌, ◌++◌, length, map, take, drop, Option, Some, None, refl, sym, ◌∙◌, ap, subst, arith, zero-add, eq-eqb, le-leb, lt-ltb, le-ltb, leb-true, leb-false, ltb-true, ltb-false, nat_le, nat_lt, leb, slice_get, slice_get_within, slice_get-map, none-some, same_Some, option_map, option_and_then, option_and_then_some, map-append, flat_map, range_with_len, AllByRecursion, every-get, every-map, recursion_from_All, both_true, between, Content, Event, Enter, Exit, Link, Point, drop-at, IsBalanced, AreMutual, relinked, next_of, stands_before, next_moved, stays_unless_removed, of_list, of_child, of_addition, Identity, Tagged, Change, is_same, is_removed, place_in, placed_end, pass, woven, woven-pass, AreApart, HasNo, same_shift, content_at, some_fits, fits, fitting_starts, IsChunk, IsGap, IsReady, IsReadable, IsShownPlace, place_at, LeadOnFrom, IsWholeFrom, parts, divided_over, first_chunk, part_changes, chain_changes, child_changes, with_children}
 use Rattle.std.proofs.Common.{ltb, not}
 use Rattle.std.specs.Prelude.{is_some, unwrap_or}
 use Rattle.markdown_base.specs.Events.{empty, span}
@@ -12,7 +13,7 @@ use Rattle.markdown_edits.proofs.Edits.FinalPlaces.{old_place, old_place-pass}
 use Rattle.markdown_edits.proofs.Edits.Survivors.{keeps_order, stays_as_it_was}
 use Rattle.markdown_edits.specs.Links.{IsLinkedEnter, content_of}
 use Rattle.markdown_edits.specs.Survivors.{place_after}
-use Rattle.markdown_tokenizer.proofs.Readings.Plain.{no-links-shape}
+use Rattle.markdown_tokenizer.proofs.Readings.Plain.{no-links-shape, no-links-take}
 use Rattle.markdown_tokenizer.specs.Plain.{HaveNoLinks}
 use Rattle.markdown_children.specs.LawStatements.{StaysReady}
 use Rattle.markdown_children.proofs.ChainOrder.Following.{chunks-apart, Fits, by_test, by_option, chunk, fits_next, some_content, starts_fit, follow_one_another}
@@ -94,11 +95,6 @@ alone-uncut (k ∷ ks) (p ∷ ps) h = ((λ v. absurd (no-chunk p h.0 v)), alone-
     no-chunk (e ∷ []) h v = let no : is_some {T = Link} None ≡ true = ap is_some (sym h.0) ∙ v.linked in absurd (cc)
     no-chunk (e ∷ f ∷ es) h v = no-chunk (f ∷ es) h.1 v
 
-alone-take : (k : ℕ) (es : List Event) → HaveNoLinks es → HaveNoLinks (take k es)
-alone-take zero es h = tt
-alone-take (suc k) [] h = tt
-alone-take (suc k) (e ∷ es) h = (h.0, alone-take k es h.1)
-
 alone-drop : (k : ℕ) (es : List Event) → HaveNoLinks es → HaveNoLinks (drop k es)
 alone-drop zero es h = h
 alone-drop (suc k) [] h = tt
@@ -107,7 +103,7 @@ alone-drop (suc k) (e ∷ es) h = alone-drop k es h.1
 alone-parts : (ends : List Point) (es : List Event) → HaveNoLinks es → AllByRecursion HaveNoLinks (parts ends es)
 alone-parts [] es h = tt
 alone-parts (end ∷ []) es h = (h, tt)
-alone-parts (end ∷ next ∷ ends) es h = (alone-take _ es h, alone-parts (next ∷ ends) (drop (length (front_until end es)) es) (alone-drop (length (front_until end es)) es h))
+alone-parts (end ∷ next ∷ ends) es h = (no-links-take _ es h, alone-parts (next ∷ ends) (drop (length (front_until end es)) es) (alone-drop (length (front_until end es)) es h))
 
 none-ready : (tab : ℕ) (bytes : List ℕ) (next : Option Content) → IsReady tab bytes next []
 none-ready tab bytes next = alone-ready tab bytes next [] empty tt

@@ -1,7 +1,7 @@
 -- What comes in place of a chain: the events of its child in order, and between its parts the gaps of the list.
 --
 -- A gap is balanced, and none of its events has a link. So the events between two of a child are balanced if they are so in the child.
-use Rattle.markdown_children.proofs.Prelude.{slice_get_within, slice_get-behind, slice_get-map, get-front, every-get, length-drop, eq-eqb, is_same, place_in, placed, placed_in, placed_end, relinked, option_map, balanced_from_open, names_after_balanced, Link, with_ends, IsChunk, IsGap, ◌≡◌, ℕ, zero, suc, ◌+◌, ◌-◌, ◌<◌, ◌≤◌, Bool, true, false, cond, eqb, List, [], ◌∷◌, ◌++◌, length, map, take, drop, Option, Some, None, refl, sym, ◌∙◌, ap, subst, arith, append-nil, append_assoc, length-append, map-append, drop-drop, flat_map, slice_get, none-some, same_Some, option_and_then, AllByRecursion, every-append, every-map, between, Content, Event, Point, IsBalanced, names_after, names_after_all, names_after_all-append, olds, pass, Identity, of_list, of_child, of_addition, as_listed, Tagged, Change, tagged_child, part_changes, first_chunk, chain_changes, child_changes, chain_of, fits, fitting_starts, content_at, IsReady, place_at, LeadOnFrom, IsWholeFrom, AreSpaced, StandSideBySide, parts, Divided, divided_over, eqb-true, length-map}
+use Rattle.markdown_children.proofs.Prelude.{slice_get_within, slice_get-behind, slice_get-map, get-front, every-get, length-drop, eq-eqb, is_same, place_in, placed, placed_in, placed_end, relinked, option_map, balanced_from_open, names_after_balanced, Link, with_ends, IsChunk, IsGap, ◌≡◌, ℕ, zero, suc, ◌+◌, ◌-◌, ◌<◌, ◌≤◌, Bool, true, false, cond, eqb, List, [], ◌∷◌, ◌++◌, length, map, take, drop, Option, Some, None, refl, sym, ◌∙◌, ap, subst, arith, append_assoc, length-append, map-append, drop-drop, flat_map, slice_get, none-some, same_Some, option_and_then, AllByRecursion, every-append, between, Content, Event, Point, IsBalanced, names_after, names_after_all, names_after_all-append, olds, pass, Identity, of_list, of_child, of_addition, Tagged, Change, tagged_child, part_changes, first_chunk, chain_changes, chain_of, content_at, IsReady, place_at, LeadOnFrom, IsWholeFrom, AreSpaced, StandSideBySide, parts, Divided, divided_over, eqb-true}
 use Rattle.markdown_base.specs.declared.event.Name.{Name}
 use Rattle.markdown_edits.specs.Links.{IsLinkedEnter, content_of}
 use Rattle.markdown_children.proofs.ChainOrder.Following.{Fits, by_test, fits_next}
@@ -16,12 +16,12 @@ pub all-there : {A : Type 0} (P : A → Type 0) (xs : List A) → ((i : ℕ) (x 
 all-there P [] h = tt
 all-there P (x ∷ xs) h = (h 0 x refl, all-there P xs (λ i y e. h (suc i) y e))
 
-get-dropped : {A : Type 0} (k : ℕ) (xs : List A) (i : ℕ) → slice_get (drop k xs) i ≡ slice_get xs (k + i)
+pub get-dropped : {A : Type 0} (k : ℕ) (xs : List A) (i : ℕ) → slice_get (drop k xs) i ≡ slice_get xs (k + i)
 get-dropped zero xs i = let z : i ≡ 0 + i = omega arith in ap (slice_get xs) z
 get-dropped (suc k) [] i = refl
 get-dropped (suc k) (x ∷ xs) i = let z : suc (k + i) ≡ suc k + i = omega arith in get-dropped k xs i ∙ ap (slice_get (x ∷ xs)) z
 
-get-taken : {A : Type 0} (k : ℕ) (xs : List A) (i : ℕ) (x : A) → slice_get (take k xs) i ≡ Some x → (i < k) × (slice_get xs i ≡ Some x)
+pub get-taken : {A : Type 0} (k : ℕ) (xs : List A) (i : ℕ) (x : A) → slice_get (take k xs) i ≡ Some x → (i < k) × (slice_get xs i ≡ Some x)
 get-taken zero xs i x e = absurd (none-some x e)
 get-taken (suc k) [] i x e = absurd (none-some x e)
 get-taken (suc k) (y ∷ xs) zero x e = (omega arith, e)
