@@ -1,11 +1,12 @@
 -- Events with other names: they stay balanced, and all else that is said of kinds, places and links stays.
 use Rattle.markdown_tokenizer.proofs.Prelude.{◌≡◌, ℕ, zero, suc, ◌+◌, ◌-◌, ◌<◌, List, [], ◌∷◌, ◌++◌, true, false, Option, Some, None, length, refl, sym, ap, ◌∙◌, subst, arith, take, drop, get_or, map, slice_get, option_map, All, AllPairs, length-map, map-append, append_assoc, append-nil, none-mapped, Event, Kind, Enter, Exit, Link, Point, IsBalanced, empty, span, EndsBelow, IsPointOf, IsShown, stands_before, next_of, previous_of, IsWellFormed, IsInShape, Given, HaveNoLinks}
 use Rattle.std.proofs.Math.Seq.{take-append_seam, drop-append_seam}
-use Rattle.std.proofs.lemmas.List.{drop-drop, get_or-map}
+use Rattle.std.proofs.lemmas.List.{drop-drop, get_or-map, length-drop, length-take-le, take-append-drop}
 use Rattle.std.proofs.lemmas.Option.{slice_get-map, same_Some}
 use Rattle.std.specs.List.{between}
 use Rattle.std.specs.Prelude.{option_and_then}
 use Rattle.markdown_base.proofs.Common.{drop-next}
+use Rattle.markdown_edits.proofs.Edits.Survivors.{slice_get-behind}
 use Rattle.markdown_base.specs.declared.event.Name.{Name as EventName}
 use Rattle.markdown_base.specs.Events.{IsVoidTight, is_void}
 use Rattle.markdown_tokenizer.specs.Renames.{besides_name, name_at, IsSpanAt, AreRenamed, renamed_by, MakesNoneVoid}
@@ -26,19 +27,29 @@ module _ {A B : Type 0} (h : A → B) where
       let rest = mapped-parts first.1 xs ys first.4 in
       (first.0 ∷ rest.0, rest.1, first.2 ∙ ap (λ l. first.0 ∷ l) rest.2, ap (λ y. y ∷ map h rest.0) first.3 ∙ ap (λ l. x ∷ l) rest.3, rest.4)
 
--- the element at which the rest of a list begins
-get-of-drop : {A : Type 0} (xs : List A) (i : ℕ) (x : A) (rest : List A) → drop i xs ≡ x ∷ rest → slice_get xs i ≡ Some x
-get-of-drop [] zero x rest e = absurd (cc)
-get-of-drop [] (suc i) x rest e = absurd (cc)
-get-of-drop (y ∷ ys) zero x rest e = let same : y ≡ x = cc in ap Some same
-get-of-drop (y ∷ ys) (suc i) x rest e = get-of-drop ys i x rest e
-
 -- what is behind the first part of what is left
 drop-behind : {A : Type 0} (xs : List A) (i : ℕ) (us vs : List A) → drop i xs ≡ us ++ vs → drop (i + length us) xs ≡ vs
 drop-behind xs i us vs e = sym (drop-drop (length us) i xs) ∙ ap (drop (length us)) e ∙ drop-append_seam us vs
 
 -- a list that has a span at an index, taken apart
 module _ (xs : List Event) (i : ℕ) (e f : Event) (ys zs : List Event) (from_there : drop i xs ≡ e ∷ (ys ++ f ∷ zs)) where
+  list-is : xs ≡ take i xs ++ e ∷ (ys ++ f ∷ zs)
+  list-is = sym (take-append-drop i xs) ∙ ap (λ l. take i xs ++ l) from_there
+
+  long : length (take i xs) ≡ i
+  long = length-take-le i xs (omega (arith, length-drop i xs, ap length from_there))
+
+  enter-there : slice_get xs i ≡ Some e
+  enter-there =
+      let here : i ≡ length (take i xs) + 0 = omega (arith, long) in
+      ap (λ l. slice_get l i) list-is ∙ ap (slice_get (take i xs ++ e ∷ (ys ++ f ∷ zs))) here ∙ slice_get-behind (take i xs) (e ∷ (ys ++ f ∷ zs)) 0
+
+  exit-there : slice_get xs (i + 1 + length ys) ≡ Some f
+  exit-there =
+      let here : i + 1 + length ys ≡ length (take i xs) + suc (length ys + 0) = omega (arith, long) in
+      ap (λ l. slice_get l (i + 1 + length ys)) list-is ∙ ap (slice_get (take i xs ++ e ∷ (ys ++ f ∷ zs))) here
+      ∙ slice_get-behind (take i xs) (e ∷ (ys ++ f ∷ zs)) (suc (length ys + 0)) ∙ slice_get-behind ys (f ∷ zs) 0
+
   inside-from : drop (i + 1) xs ≡ ys ++ f ∷ zs
   inside-from = drop-next xs i e (ys ++ f ∷ zs) from_there
 
@@ -56,8 +67,8 @@ module _ (xs : List Event) (i : ℕ) (e f : Event) (ys zs : List Event) (from_th
       record {
         enter = e;
         exit = f;
-        enter_at = get-of-drop xs i e (ys ++ f ∷ zs) from_there;
-        exit_at = get-of-drop xs (i + 1 + length ys) f zs exit-from;
+        enter_at = enter-there;
+        exit_at = exit-there;
         order = omega arith;
         enters = enters;
         ended = record { exits = exits; same = named };
@@ -134,8 +145,8 @@ module _ (old new : List Event) (same : map besides_name new ≡ map besides_nam
     same-ends : (i : ℕ) (e f a b : Event) (ys zs cs ds : List Event) → drop i old ≡ e ∷ (ys ++ f ∷ zs) → drop i new ≡ a ∷ (cs ++ b ∷ ds) → length cs ≡ length ys
         → e.kind ≡ Enter → f.kind ≡ Exit → f.name ≡ e.name → IsBalanced ys → b.name ≡ a.name
     same-ends i e f a b ys zs cs ds before after long enters exits named inner =
-        let first = get-of-drop new i a (cs ++ b ∷ ds) after in
-        let last = get-of-drop new (i + 1 + length cs) b ds (exit-from new i a b cs ds after) in
+        let first = enter-there new i a b cs ds after in
+        let last = exit-there new i a b cs ds after in
         let here : slice_get new (i + 1 + length ys) ≡ Some b = ap (λ n. slice_get new (i + 1 + n)) (sym long) ∙ last in
         let names = alike i (i + 1 + length ys) (span-there old i e f ys zs before enters exits named inner) in
         same_Some b.name a.name (sym (ap (option_map (λ (e : Event). e.name)) here) ∙ sym names ∙ ap (option_map (λ (e : Event). e.name)) first)
