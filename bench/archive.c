@@ -1,5 +1,6 @@
-/* Reads a file so many times by the static library, with room for all events, and prints how many it has, to be measured.
- * usage: archive FILE TIMES [--machine NAME] [--deep]   (of the options of mdevents; without them by the machine of lines) */
+/* Reads a file so many times by the static library, and prints how many events it has, to be measured: a reading is opened, and closed.
+ * usage: archive FILE TIMES [--machine NAME] [--deep] [--copy]   (of the options of mdevents; without them by the machine of lines; with
+ * --copy all events are copied in between) */
 #include "../bindings/limecove.h"
 #include <stdio.h>
 #include <stdlib.h>
@@ -23,24 +24,31 @@ static uint8_t *contents(const char *name, size_t *len) {
 int main(int argc, char **argv) {
     struct limecove_options options = limecove_default_options();
     size_t len = 0;
+    int copies = 0;
     options.machine = LIMECOVE_LINES;
     options.deep = 0;
     uint8_t *document = argc < 3 ? NULL : contents(argv[1], &len);
     for (int i = 3; i < argc; i++) {
         if (strcmp(argv[i], "--deep") == 0)
             options.deep = 1;
+        if (strcmp(argv[i], "--copy") == 0)
+            copies = 1;
         for (uint32_t machine = 0; machine < 7; machine++)
             if (strcmp(argv[i], machines[machine]) == 0)
                 options.machine = machine;
     }
-    /* pages that are not written take no memory */
-    size_t room = 10 * len + 16;
-    struct limecove_record *records = calloc(room, sizeof *records);
-    if (document == NULL || records == NULL || limecove_version() != LIMECOVE_VERSION)
+    if (document == NULL || limecove_version() != LIMECOVE_VERSION)
         return 1;
     struct limecove_answer answer = {LIMECOVE_READ, 0, 0};
-    for (long times = atol(argv[2]); times > 0 && answer.code == LIMECOVE_READ; times--)
-        answer = limecove_read(document, len, &options, records, room);
+    for (long times = atol(argv[2]); times > 0 && answer.code == LIMECOVE_READ; times--) {
+        struct limecove_reading reading = LIMECOVE_NO_READING;
+        answer = limecove_open(document, len, &options, &reading);
+        struct limecove_record *records = copies ? malloc((answer.count + 1) * sizeof *records) : NULL;
+        if (copies && (records == NULL || limecove_copy(&reading, 0, records, answer.count) != answer.count))
+            return 1;
+        free(records);
+        limecove_close(&reading);
+    }
     printf("%zu\n", answer.count);
-    return answer.code != LIMECOVE_READ || answer.count > room;
+    return answer.code != LIMECOVE_READ;
 }

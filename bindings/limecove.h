@@ -4,10 +4,11 @@
  * Ask for limecove_version() before the first call of another function: the others write to memory whose layout is that of their
  * version.
  *
- * The caller owns all memory that is passed. What a call takes for itself, it gives back before it returns. A call keeps no state,
- * so calls may run at the same time in several threads. A caller owes what the types say: a pointer is to as many bytes or records
- * as the length next to it says, and the records share no byte with the document or the options. The document and the records may be
- * NULL if their length is 0; the options may not. malloc, realloc and free are those of the program. */
+ * The caller owns all memory that is passed. What a call takes for itself, it gives back before it returns; only an open reading keeps
+ * memory. A call keeps no other state, so calls may run at the same time in several threads, each with readings of its own. A caller owes
+ * what the types say: a pointer is to as many bytes or records as the length next to it says, and the records share no byte with the
+ * document, the options or the reading. The document and the records may be NULL if their length is 0; the others may not. malloc,
+ * realloc and free are those of the program. */
 #ifndef LIMECOVE_H
 #define LIMECOVE_H
 
@@ -416,6 +417,16 @@ struct limecove_answer {
     size_t count;     /* events of the document, also if there are more than records; 0 if it was not read */
 };
 
+/* A document that was read, with its events in the library's memory. It begins as LIMECOVE_NO_READING, and only the library changes it. It
+ * stays in its thread, and no copy of it is used beside it. */
+struct limecove_reading {
+    size_t is_open; /* 1 if it is open, 0 if it is not */
+    void *list;     /* the events, if it is open */
+};
+
+/* A reading that is not open: struct limecove_reading reading = LIMECOVE_NO_READING; */
+#define LIMECOVE_NO_READING {0, NULL}
+
 /* CommonMark's text, and tab stops at every 4 columns. */
 LIMECOVE_INLINE struct limecove_text_options limecove_default_text_options(void) {
     struct limecove_text_options options;
@@ -471,6 +482,22 @@ LIMECOVE_API struct limecove_answer limecove_read(const uint8_t *document, size_
 LIMECOVE_API struct limecove_answer limecove_read_text(const uint8_t *document, size_t document_len,
                                                        const struct limecove_text_options *options, struct limecove_record *records,
                                                        size_t records_len);
+
+/* Reads a document. If the code is LIMECOVE_READ, the reading is open, and has the events; else it is not open. The reading is not open
+ * before, as its memory would be lost. */
+LIMECOVE_API struct limecove_answer limecove_open(const uint8_t *document, size_t document_len, const struct limecove_options *options,
+                                                  struct limecove_reading *reading);
+
+/* Reads a document as text, without paragraphs, as limecove_open does. */
+LIMECOVE_API struct limecove_answer limecove_open_text(const uint8_t *document, size_t document_len,
+                                                       const struct limecove_text_options *options, struct limecove_reading *reading);
+
+/* Writes the events of a reading from this one on over the first records, as many as fit. Returns how many were written. A reading that
+ * is not open has no events. */
+LIMECOVE_API size_t limecove_copy(struct limecove_reading *reading, size_t from, struct limecove_record *records, size_t records_len);
+
+/* Gives back the memory of a reading, which is then not open. If it is not open, nothing changes. */
+LIMECOVE_API void limecove_close(struct limecove_reading *reading);
 
 /* Writes back what it sees, so that a caller can compare its layout with the library's, field by field. `numbers` gets 1 to 9, a number
  * for each field in order. The other two records get the numbers of the options: the machine as the name, the size as the line, the tab

@@ -138,6 +138,10 @@ def rust(names, machines):
 STRUCTS = {"Record": "record.rt", "TextOptions": "choose.rt", "Options": "choose.rt", "Answer": "lib.rt"}
 # The same type in Rattle and Rust, and in C.
 TYPES = {"u16": "uint16_t", "u32": "uint32_t", "u64": "uint64_t", "usize": "size_t"}
+# The fields of a reading, as the three declare them. `kept` is a struct of one pointer.
+READING = r"""pub struct Kept \{\s*at: \*mut u8,\s*pub\(crate\) ghost [^\n]*\s*\}.*?pub struct Reading \{\s*pub is_open: usize,\s*pub kept: Kept,\s*ghost"""
+READING_IN_RUST = r"pub struct Reading \{\s*pub is_open: usize,\s*pub list: \*mut c_void,\s*\}"
+READING_IN_C = r"struct limecove_reading \{\s*size_t is_open;\s*void \*list;\s*\}"
 
 
 def uncommented(path):
@@ -186,6 +190,9 @@ def differences():
         for other, theirs in [(FOREIGN, rust), (HEADER, c)]:
             if not ours or None in ours or ours != theirs:
                 lines.append(f"{other}: {struct} has the fields {theirs}, and {ours} in {file}")
+    for path, wanted in [(LIMECOVE / "src/kept.rt", READING), (FOREIGN, READING_IN_RUST), (HEADER, READING_IN_C)]:
+        if not re.search(wanted, uncommented(path), re.S):
+            lines.append(f"{path}: a reading has other fields")
     root = numbers(LIMECOVE / "src/code.rt", r"pub const (\w+): u32 = (\d+);")
     bits = numbers(LIMECOVE / "src/choose.rt", r"pub const (\w+): u64 = (\d+);")
     rust = numbers(FOREIGN, r"pub const (\w+): u(?:32|64) = (\d+);")

@@ -24,6 +24,9 @@ if ! (cd "$here/../crates/mdevents" && rt run "$@" </dev/null >"$work/log" 2>&1)
 fi
 "$here/tests_of_c.sh" "$here/limecove.h" "$here/out/liblimecove.a" "$here/c"
 
+say "random documents, read by the library and by the program"
+"$here/random.sh" 5000
+
 # A library of another version must be found out by its version alone: it says so if it writes.
 refused() {
     if "$@" >"$work/said" 2>&1; then

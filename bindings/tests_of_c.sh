@@ -1,5 +1,5 @@
 #!/bin/sh
-# The tests of the library from C, which need no rt: its header, its layout, its example, every room, and each allocation failing.
+# The tests of the library from C, which need no rt: its header, its layout, its example, every room, readings, and each allocation failing.
 # usage: tests_of_c.sh HEADER ARCHIVE FOLDER [rooms failing]   (FOLDER has the programs; then how many random documents: 500 and 200)
 set -eu
 header=$1 archive=$2 folder=$3 rooms=${4:-500} failing=${5:-200}
@@ -41,12 +41,18 @@ say "every room, under:$sanitize"
 # shellcheck disable=SC2086
 $compiler -std=c99 -g -Wall -Wextra -Werror $sanitize -o "$work/rooms" rooms.c "$archive"
 "$work/rooms" "$rooms"
+say "readings that are copied in rooms of each kind, under:$sanitize"
+# shellcheck disable=SC2086
+$compiler -std=c99 -g -Wall -Wextra -Werror $sanitize -o "$work/readings" readings.c "$archive"
+"$work/readings" "$rooms"
 say "each allocation failing, under:$sanitize"
 # shellcheck disable=SC2086
 $compiler -std=c99 -g -Wall -Wextra -Werror $sanitize -Wl,--wrap=malloc,--wrap=realloc,--wrap=free -o "$work/failing" failing.c "$archive"
 "$work/failing" "$failing"
 if command -v valgrind >/dev/null; then
-    say "every room, under valgrind, which sees the library's own reads and writes"
-    $compiler -std=c99 -gdwarf-4 -o "$work/rooms" rooms.c "$archive"
-    valgrind --quiet --error-exitcode=1 --leak-check=full "$work/rooms" 10
+    say "every room, and readings, under valgrind, which sees the library's own reads and writes"
+    for program in rooms readings; do
+        $compiler -std=c99 -gdwarf-4 -o "$work/$program" $program.c "$archive"
+        valgrind --quiet --error-exitcode=1 --leak-check=full "$work/$program" 10
+    done
 fi

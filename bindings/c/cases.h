@@ -46,14 +46,12 @@ static inline uint8_t *random_document(size_t *len) {
     return document;
 }
 
-/* A way to read: one of the seven machines, paragraphs or text with their texts, or limecove_read_text. */
+/* A way to read: one of the seven machines, paragraphs or text with their texts, or limecove_read_text and limecove_open_text. */
 #define WAYS 10
 
-static inline struct limecove_answer read_so(size_t way, const uint8_t *document, size_t len, struct limecove_text_options text, size_t cut,
-                                      struct limecove_record *records, size_t room) {
+/* The options of each way but the last one. */
+static inline struct limecove_options options_of(size_t way, struct limecove_text_options text, size_t cut) {
     struct limecove_options options = limecove_default_options();
-    if (way == 9)
-        return limecove_read_text(document, len, &text, records, room);
     options.tab_size = text.tab_size;
     options.constructs = text.constructs;
     options.cut = cut;
@@ -61,7 +59,23 @@ static inline struct limecove_answer read_so(size_t way, const uint8_t *document
     options.deep = way >= 7;
     if (way >= 7)
         options.machine = way == 7 ? LIMECOVE_PARAGRAPHS : LIMECOVE_TEXT;
+    return options;
+}
+
+static inline struct limecove_answer read_so(size_t way, const uint8_t *document, size_t len, struct limecove_text_options text, size_t cut,
+                                      struct limecove_record *records, size_t room) {
+    struct limecove_options options = options_of(way, text, cut);
+    if (way == 9)
+        return limecove_read_text(document, len, &text, records, room);
     return limecove_read(document, len, &options, records, room);
+}
+
+static inline struct limecove_answer open_so(size_t way, const uint8_t *document, size_t len, struct limecove_text_options text, size_t cut,
+                                      struct limecove_reading *reading) {
+    struct limecove_options options = options_of(way, text, cut);
+    if (way == 9)
+        return limecove_open_text(document, len, &text, reading);
+    return limecove_open(document, len, &options, reading);
 }
 
 static inline struct limecove_text_options random_text_options(void) {

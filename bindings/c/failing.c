@@ -43,6 +43,36 @@ void __wrap_free(void *block) {
 /* How many calls ran out of memory. */
 static long ended;
 
+/* The same for a reading: it is open and has all events, or it is not open and has no memory. To copy and to close take none. */
+static void readings_in_turn(size_t way, const uint8_t *document, size_t len, struct limecove_text_options text, size_t cut,
+                             const struct limecove_record *all, size_t count) {
+    static struct limecove_record records[4096];
+    for (long n = 0;; n++) {
+        struct limecove_reading reading = LIMECOVE_NO_READING;
+        long before = blocks, refused;
+        failed = 0;
+        left = n;
+        struct limecove_answer answer = open_so(way, document, len, text, cut, &reading);
+        left = 0;
+        refused = failed;
+        size_t written = limecove_copy(&reading, 0, records, 4096);
+        if (answer.code == LIMECOVE_READ) {
+            CHECK(answer.count == count && written == count && reading.is_open == 1 && blocks > before);
+            for (size_t i = 0; i < count; i++)
+                CHECK(same_record(&records[i], &all[i]));
+        } else {
+            CHECK(refused > 0 && answer.code == LIMECOVE_OUT_OF_MEMORY && answer.count == 0);
+            CHECK(written == 0 && reading.is_open == 0 && blocks == before);
+            ended++;
+        }
+        limecove_close(&reading);
+        left = -1;
+        CHECK(reading.is_open == 0 && blocks == before && failed == refused);
+        if (refused == 0)
+            return;
+    }
+}
+
 static void each_in_turn(size_t way, const uint8_t *document, size_t len, struct limecove_text_options text, size_t cut) {
     static struct limecove_record all[4096], records[4096];
     size_t count = read_so(way, document, len, text, cut, all, 4096).count;
@@ -60,8 +90,10 @@ static void each_in_turn(size_t way, const uint8_t *document, size_t len, struct
             CHECK(answer.count == count);
             for (size_t i = 0; i < count; i++)
                 CHECK(same_record(&records[i], &all[i]));
-            if (failed == 0)
+            if (failed == 0) {
+                readings_in_turn(way, document, len, text, cut, all, count);
                 return;
+            }
             continue;
         }
         CHECK(failed > 0 && answer.code == LIMECOVE_OUT_OF_MEMORY && answer.count == 0);

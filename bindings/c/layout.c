@@ -38,6 +38,10 @@ LIES(limecove_answer, version, 4, 4);
 LIES(limecove_answer, count, 8, 8);
 IS(sizeof(struct limecove_answer) == 16);
 
+LIES(limecove_reading, is_open, 0, 8);
+LIES(limecove_reading, list, 8, 8);
+IS(sizeof(struct limecove_reading) == 16);
+
 /* A number with bits in each byte of a field, so that a field that is cut or moved shows. */
 #define LONG(n) ((size_t)0x0101010101010101u * (n))
 

@@ -35,3 +35,25 @@ struct other_answer limecove_read(const uint8_t *document, size_t document_len, 
 struct other_answer limecove_read_text(const uint8_t *document, size_t document_len, const void *options, struct other_record *records, size_t records_len) {
     return limecove_read(document, document_len, options, records, records_len);
 }
+
+struct other_answer limecove_open(const uint8_t *document, size_t document_len, const void *options, struct other_record *reading);
+struct other_answer limecove_open_text(const uint8_t *document, size_t document_len, const void *options, struct other_record *reading);
+size_t limecove_copy(struct other_record *reading, size_t from, struct other_record *records, size_t records_len);
+void limecove_close(struct other_record *reading);
+
+struct other_answer limecove_open(const uint8_t *document, size_t document_len, const void *options, struct other_record *reading) {
+    return limecove_read(document, document_len, options, reading, 1);
+}
+
+struct other_answer limecove_open_text(const uint8_t *document, size_t document_len, const void *options, struct other_record *reading) {
+    return limecove_read(document, document_len, options, reading, 1);
+}
+
+size_t limecove_copy(struct other_record *reading, size_t from, struct other_record *records, size_t records_len) {
+    (void)reading, (void)from;
+    return limecove_read(NULL, 0, NULL, records, records_len).count;
+}
+
+void limecove_close(struct other_record *reading) {
+    limecove_read(NULL, 0, NULL, reading, 1);
+}

@@ -1,5 +1,5 @@
 -- The machine, tab size, cut and constructs that options choose, given as numbers.
-use Rattle.std.specs.Prelude.{ℕ, ◌&&◌, not, Bool, List, Option, Some, None, Result, cond, nat_eq, nat_lt, bit_and}
+use Rattle.std.specs.Prelude.{ℕ, not, Bool, List, Option, Some, None, Result, cond, nat_eq, nat_lt, bit_and}
 use Rattle.std.specs.declared.result.Result.TheVariants.{Ok, Err}
 use Rattle.std.specs.Option.{option_map_or}
 use Rattle.markdown.specs.declared.configuration.Constructs.{Constructs}

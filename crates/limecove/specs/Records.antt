@@ -51,23 +51,30 @@ record_of event = record {
 abbrev pub filled : List Record → List Event → List Record
 filled old events = take (length old) (map record_of events) ++ drop (length events) old
 
--- Records after the records of a document's events, as the options choose them, were written over the first ones
-pub record HoldsEventsOf (options : Options) (bytes : List ℕ) (n : ℕ) (old new : List Record) : Type 0 where
+-- Events that are this many, and that are those of a document, as the options choose them
+pub record AreRead (options : Options) (bytes : List ℕ) (n : ℕ) (events : List Event) : Type 0 where
   pub choice : Choice
   pub chosen : choice_of options ≡ Ok choice
-  pub events : List Event
   pub are : AreEventsOf choice.deep choice.machine (options_with (constructs_of options.constructs) choice.tab) bytes events
   pub count : n ≡ length events
-  pub written : new ≡ filled old events
 
--- Records after the records of a document's events, read as text with the constructs and the tab size of the options, were written over
--- the first ones
-pub record HoldsTextOf (options : TextOptions) (bytes : List ℕ) (n : ℕ) (old new : List Record) : Type 0 where
+-- Events that are this many, and that are those of a document, read as text with the constructs and the tab size of the options
+pub record AreReadAsText (options : TextOptions) (bytes : List ℕ) (n : ℕ) (events : List Event) : Type 0 where
   pub tab : ℕ
   pub chosen : text_choice_of options ≡ Ok tab
-  pub events : List Event
   pub are : let g = text_document options.constructs tab bytes in events ≡ text_events g (whole_text g)
   pub count : n ≡ length events
+
+-- Records after the records of such events were written over the first ones
+pub record HoldsEventsOf (options : Options) (bytes : List ℕ) (n : ℕ) (old new : List Record) : Type 0 where
+  pub events : List Event
+  pub read : AreRead options bytes n events
+  pub written : new ≡ filled old events
+
+-- Records after the records of such events of text were written over the first ones
+pub record HoldsTextOf (options : TextOptions) (bytes : List ℕ) (n : ℕ) (old new : List Record) : Type 0 where
+  pub events : List Event
+  pub read : AreReadAsText options bytes n events
   pub written : new ≡ filled old events
 
 -- a record with the number of each field

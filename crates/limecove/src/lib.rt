@@ -7,20 +7,27 @@
 mod choose;
 pub mod code;
 mod echo;
+pub mod kept;
 pub mod laws;
+mod loose;
+mod reading;
 mod record;
 #[cfg(test)]
 mod tests;
 
-ghost use Rattle.std.specs.Prelude.{◌≡◌, ◌≢◌, ◌≤◌, ◌↔◌, IfErr, IfOk, IsOkAnd};
+ghost use Rattle.std.specs.Prelude.{◌≡◌, ◌≢◌, ◌<◌, ◌≤◌, ◌-◌, ◌↔◌, Err, IfErr, IfOk, IsOkAnd, drop, length, min};
 ghost use Rattle.markdown.specs.Virtual.{IsWithinLimit};
 ghost use Rattle.limecove.specs.Choices.{choice_of, text_choice_of};
-ghost use Rattle.limecove.specs.Records.{HoldsEventsOf, HoldsTextOf, echoed, echoed_text, numbered};
+ghost use Rattle.limecove.specs.Readings.{IsClosed, events_in};
+ghost use Rattle.limecove.specs.Records.{AreRead, AreReadAsText, HoldsEventsOf, HoldsTextOf, echoed, echoed_text, filled, numbered};
 
 use crate::choose::{Options, TextOptions, choose, choose_text, constructs_of};
 use crate::code::{LINKS_NO_TEXT, OUT_OF_MEMORY, READ, TOO_LONG, VERSION};
 use crate::echo::{echo_of, echo_of_text, numbered};
+use crate::kept::Reading;
+use crate::reading::copy_from;
 use crate::record::{Record, write_records};
+use markdown::event::Event;
 use mdconstructs::{events_of, limit_of, options_with, text_events_of};
 use std::alloc::Global;
 
@@ -63,17 +70,9 @@ pub extern "C" fn limecove_read_text(
     ensures codes { result.code ≤ LINKS_NO_TEXT }
     ensures version { result.version ≡ VERSION }
 {
-    let tab = match choose_text(options) {
-        Ok(tab) => tab,
-        Err(code) => return ended(code, 0),
-    };
-    if bytes.len() > limit_of(tab) {
-        return ended(TOO_LONG, 0);
-    }
-    let options = options_with(constructs_of(options.constructs), tab);
-    match text_events_of(alloc, bytes, &options) {
-        Ok(events) => ended(READ, write_records(records, events.as_slice())),
-        Err(_) => ended(OUT_OF_MEMORY, 0),
+    match text_events(alloc, bytes, options) {
+        Ok(texts) => ended(READ, write_records(records, texts.as_slice())),
+        Err(code) => ended(code, 0),
     }
 }
 
@@ -94,17 +93,91 @@ pub extern "C" fn limecove_read(
     ensures codes { result.code ≤ LINKS_NO_TEXT }
     ensures version { result.version ≡ VERSION }
 {
-    let choice = match choose(options) {
-        Ok(choice) => choice,
-        Err(code) => return ended(code, 0),
+    match events(alloc, bytes, options) {
+        Ok(list) => ended(READ, write_records(records, list.as_slice())),
+        Err(code) => ended(code, 0),
+    }
+}
+
+/// Reads a whole document as text. The reading keeps its events, for [`limecove_copy`], until [`limecove_close`].
+#[unsafe(no_mangle)]
+pub extern "C" fn limecove_open_text(
+    alloc: Global,
+    bytes: &[u8],
+    options: &TextOptions,
+    reading: &mut Reading,
+) -> Answer
+    ensures read { result.code ≡ READ → AreReadAsText options.now bytes.now result.count (events_in reading.new) }
+    ensures closed { result.code ≢ READ → IsClosed reading.new }
+    ensures none { result.code ≢ READ → result.count ≡ 0 }
+    ensures options { IfErr (text_choice_of options.now) (λ code. result.code ≡ code) }
+    ensures chosen { IfOk (text_choice_of options.now) (λ _. result.code ≤ TOO_LONG) }
+    ensures too_long { (result.code ≡ TOO_LONG) ↔ IsOkAnd (text_choice_of options.now) (λ tab. ¬ IsWithinLimit tab bytes.now) }
+    ensures codes { result.code ≤ LINKS_NO_TEXT }
+    ensures version { result.version ≡ VERSION }
+{
+    match text_events(alloc, bytes, options) {
+        Ok(texts) => keep(alloc, texts, reading),
+        Err(code) => {
+            *reading = Reading::closed();
+            ended(code, 0)
+        }
+    }
+}
+
+/// Reads a whole document as the options say. The reading keeps its events, for [`limecove_copy`], until [`limecove_close`].
+#[unsafe(no_mangle)]
+pub extern "C" fn limecove_open(
+    alloc: Global,
+    bytes: &[u8],
+    options: &Options,
+    reading: &mut Reading,
+) -> Answer
+    ensures read { result.code ≡ READ → AreRead options.now bytes.now result.count (events_in reading.new) }
+    ensures closed { result.code ≢ READ → IsClosed reading.new }
+    ensures none { result.code ≢ READ → result.count ≡ 0 }
+    ensures options { IfErr (choice_of options.now) (λ code. result.code ≡ code) }
+    ensures chosen { IfOk (choice_of options.now) (λ _. result.code ≤ TOO_LONG) }
+    ensures too_long { (result.code ≡ TOO_LONG) ↔ IsOkAnd (choice_of options.now) (λ choice. ¬ IsWithinLimit choice.tab bytes.now) }
+    ensures codes { result.code ≤ LINKS_NO_TEXT }
+    ensures version { result.version ≡ VERSION }
+{
+    match events(alloc, bytes, options) {
+        Ok(list) => keep(alloc, list, reading),
+        Err(code) => {
+            *reading = Reading::closed();
+            ended(code, 0)
+        }
+    }
+}
+
+/// Writes the events of a reading from this one on over the first records, as many as fit. Returns how many were written. A reading
+/// that is not open has no events.
+#[unsafe(no_mangle)]
+pub extern "C" fn limecove_copy(
+    alloc: Global,
+    reading: &mut Reading,
+    from: usize,
+    records: &mut [Record],
+) -> usize
+    ensures copied { records.new ≡ filled records.old (drop from (events_in reading.old)) }
+    ensures count { result ≡ min (length records.old) (length (events_in reading.old) - from) }
+    ensures kept { events_in reading.new ≡ events_in reading.old }
+{
+    let Some(list) = reading.take(alloc) else {
+        return 0;
     };
-    if bytes.len() > limit_of(choice.tab) {
-        return ended(TOO_LONG, 0);
-    }
-    match events_of(alloc, bytes, constructs_of(options.constructs), &choice) {
-        Ok(events) => ended(READ, write_records(records, events.as_slice())),
-        Err(_) => ended(OUT_OF_MEMORY, 0),
-    }
+    let written = copy_from(list.as_slice(), from, records);
+    *reading = Reading::of(list);
+    written
+}
+
+/// Gives back the memory of a reading. If it is not open, nothing changes.
+#[unsafe(no_mangle)]
+pub extern "C" fn limecove_close(alloc: Global, reading: &mut Reading)
+    ensures { IsClosed reading.new }
+{
+    drop(reading.take(alloc));
 }
 
 /// Writes back what it sees, so that a caller can compare its layout with the library's, field by field. `numbers` gets 1 to 9, a
@@ -128,6 +201,63 @@ pub extern "C" fn limecove_echo(
     *of_options = echo_of(options);
     *of_text = echo_of_text(text);
     ended(1, 3)
+}
+
+/// The events of a document that is read as text. If there are none, the code that says why.
+fn text_events(alloc: Global, bytes: &[u8], options: &TextOptions) -> Result<Vec<Event>, u32>
+    ensures read { IfOk result (λ list. AreReadAsText options.now bytes.now (length list.items) list.items) }
+    ensures options { IfErr (text_choice_of options.now) (λ code. result ≡ Err code) }
+    ensures chosen { IfOk (text_choice_of options.now) (λ _. IfErr result (λ code. code ≤ TOO_LONG)) }
+    ensures too_long { (result ≡ Err TOO_LONG) ↔ IsOkAnd (text_choice_of options.now) (λ tab. ¬ IsWithinLimit tab bytes.now) }
+    ensures codes { IfErr result (λ code. (READ < code) × (code ≤ LINKS_NO_TEXT)) }
+{
+    let tab = choose_text(options)?;
+    if bytes.len() > limit_of(tab) {
+        return Err(TOO_LONG);
+    }
+    let options = options_with(constructs_of(options.constructs), tab);
+    match text_events_of(alloc, bytes, &options) {
+        Ok(events) => Ok(events),
+        Err(_) => Err(OUT_OF_MEMORY),
+    }
+}
+
+/// The events of a document that is read as the options say. If there are none, the code that says why.
+fn events(alloc: Global, bytes: &[u8], options: &Options) -> Result<Vec<Event>, u32>
+    ensures read { IfOk result (λ list. AreRead options.now bytes.now (length list.items) list.items) }
+    ensures options { IfErr (choice_of options.now) (λ code. result ≡ Err code) }
+    ensures chosen { IfOk (choice_of options.now) (λ _. IfErr result (λ code. code ≤ TOO_LONG)) }
+    ensures too_long { (result ≡ Err TOO_LONG) ↔ IsOkAnd (choice_of options.now) (λ choice. ¬ IsWithinLimit choice.tab bytes.now) }
+    ensures codes { IfErr result (λ code. (READ < code) × (code ≤ LINKS_NO_TEXT)) }
+{
+    let choice = choose(options)?;
+    if bytes.len() > limit_of(choice.tab) {
+        return Err(TOO_LONG);
+    }
+    match events_of(alloc, bytes, constructs_of(options.constructs), &choice) {
+        Ok(events) => Ok(events),
+        Err(_) => Err(OUT_OF_MEMORY),
+    }
+}
+
+/// Keeps the events in the reading, if there is memory for that. Else the reading is closed.
+fn keep(alloc: Global, events: Vec<Event>, reading: &mut Reading) -> Answer
+    ensures kept { result.code ≡ READ → (events_in reading.new ≡ events.items) × (result.count ≡ length events.items) }
+    ensures closed { result.code ≢ READ → IsClosed reading.new × (result.count ≡ 0) }
+    ensures codes { result.code ≤ OUT_OF_MEMORY }
+    ensures version { result.version ≡ VERSION }
+{
+    let count = events.len();
+    match Box::new(alloc, events) {
+        Ok(list) => {
+            *reading = Reading::of(list);
+            ended(READ, count)
+        }
+        Err(_) => {
+            *reading = Reading::closed();
+            ended(OUT_OF_MEMORY, 0)
+        }
+    }
 }
 
 /// The result of a call that ended with this code and this many events.

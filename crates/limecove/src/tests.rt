@@ -6,8 +6,12 @@ use crate::choose::{
 use crate::code::{
     LINKS_NO_TEXT, NO_SUCH_CONSTRUCT, NO_SUCH_MACHINE, NO_SUCH_TAB_SIZE, OTHER_SIZE, READ, VERSION,
 };
+use crate::kept::Reading;
 use crate::record::{NO_INDEX, Record};
-use crate::{Answer, limecove_echo, limecove_read, limecove_read_text, limecove_version};
+use crate::{
+    Answer, limecove_close, limecove_copy, limecove_echo, limecove_open, limecove_open_text,
+    limecove_read, limecove_read_text, limecove_version,
+};
 use markdown::event::Name;
 use std::alloc::{AllocError, Global};
 use std::mem::size_of;
@@ -156,6 +160,55 @@ fn reads_text(alloc: Global, document: &[u8], options: &TextOptions, events: &[R
         }
     }
     true
+}
+
+/// Whether a reading has these events: copied from each of them on, with this much room.
+fn copies(alloc: Global, reading: &mut Reading, events: &[Record], room: usize) -> bool {
+    for from in 0..=events.len() {
+        let mut records = [OLD; 12];
+        let written = limecove_copy(alloc, reading, from, &mut records[..room.min(12)]);
+        let rest = &events[from..];
+        let wanted = rest.len().min(room.min(12));
+        if written != wanted
+            || records[..wanted] != rest[..wanted]
+            || !records[wanted..].iter().all(|record| *record == OLD)
+        {
+            return false;
+        }
+    }
+    true
+}
+
+/// Whether a call opened a reading of these events. It is closed then, and has no events any more.
+fn keeps(alloc: Global, answer: Answer, reading: &mut Reading, events: &[Record]) -> bool {
+    let opened = holds(answer, events, 0, &[])
+        && reading.is_open == 1
+        && copies(alloc, reading, events, 12)
+        && copies(alloc, reading, events, 3)
+        && copies(alloc, reading, events, 1)
+        && copies(alloc, reading, events, 0);
+    limecove_close(alloc, reading);
+    limecove_close(alloc, reading);
+    opened && reading.is_open == 0 && copies(alloc, reading, &[], 12)
+}
+
+#[test]
+fn readings_keep_their_events(rt: HostRuntime) {
+    let mut reading = Reading::closed();
+    let lines = limecove_open(rt.alloc(), b"a\r\nb", &by(0, 0), &mut reading);
+    assert!(rt; keeps(rt.alloc(), lines, &mut reading, &two_lines()));
+    let none = limecove_open(rt.alloc(), b"", &by(6, 1), &mut reading);
+    assert!(rt; keeps(rt.alloc(), none, &mut reading, &[]));
+    let text = limecove_open_text(rt.alloc(), b"`a`", &TEXT, &mut reading);
+    assert!(rt; keeps(rt.alloc(), text, &mut reading, &code()));
+    let many = limecove_open(rt.alloc(), b"a", &by(7, 0), &mut reading);
+    assert!(rt; many == refused(NO_SUCH_MACHINE) && reading.is_open == 0);
+    let more = TextOptions {
+        constructs: 8,
+        ..TEXT
+    };
+    let more = limecove_open_text(rt.alloc(), b"a", &more, &mut reading);
+    assert!(rt; more == refused(NO_SUCH_CONSTRUCT) && reading.is_open == 0);
 }
 
 #[test]
@@ -318,6 +371,7 @@ fn options_are_echoed(rt: HostRuntime) {
 #[test]
 fn sizes_are_those_of_the_header(rt: HostRuntime) {
     assert!(rt; size_of::<Record>() == 56 && size_of::<Answer>() == 16);
+    assert!(rt; size_of::<Reading>() == 16);
     assert!(rt;
         size_of::<Options>() == OPTIONS_SIZE && size_of::<TextOptions>() == TEXT_OPTIONS_SIZE
     );

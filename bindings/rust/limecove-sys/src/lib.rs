@@ -1,12 +1,15 @@
 //! The functions of `liblimecove.a`, the static library of Limecove, as they are: raw pointers, numbers and codes. The crate `limecove`
 //! calls them safely.
 //!
-//! A slice crosses as a pointer and a length. Both may be null and 0. A call keeps no state and takes no memory that it does not give
-//! back, so calls may run at the same time. What each function returns is proved; what its caller owes is in its section on safety.
+//! A slice crosses as a pointer and a length. Both may be null and 0. A call keeps no state, and no memory but that of an open
+//! [`Reading`], so calls may run at the same time. What each function returns is proved; what its caller owes is in its section on safety.
 //!
 //! If a program is linked and `liblimecove.a` is not found, set `LIMECOVE_LIB` to the folder that has it.
 #![deny(missing_docs)]
 #![no_std]
+
+use core::ffi::c_void;
+use core::ptr::null_mut;
 
 /// The version of these declarations. [`limecove_version`] has that of the library, and is asked first.
 pub const VERSION: u32 = 2;
@@ -106,6 +109,23 @@ pub struct Record {
     pub next: usize,
 }
 
+/// A document that was read, with its events in the library's memory. Nobody but the library changes its fields. It stays in its
+/// thread, and there are no two copies of it.
+#[repr(C)]
+#[derive(Debug)]
+pub struct Reading {
+    /// 1 if it is open, 0 if it is not.
+    pub is_open: usize,
+    /// Its events, if it is open.
+    pub list: *mut c_void,
+}
+
+/// A reading begins so. It is not open.
+pub const NO_READING: Reading = Reading {
+    is_open: 0,
+    list: null_mut(),
+};
+
 extern "C" {
     /// The version of the library. If it is not [`VERSION`], no other function may be called.
     ///
@@ -140,6 +160,51 @@ extern "C" {
         records: *mut Record,
         records_len: usize,
     ) -> Answer;
+
+    /// Reads a document. If the code is [`READ`], the reading is open, and has the events. Else it is not open.
+    ///
+    /// # Safety
+    ///
+    /// As of [`limecove_read`], and the reading is not open: its memory would be lost.
+    pub fn limecove_open(
+        document: *const u8,
+        document_len: usize,
+        options: *const Options,
+        reading: *mut Reading,
+    ) -> Answer;
+
+    /// Reads a document as text, without paragraphs, as [`limecove_open`] does.
+    ///
+    /// # Safety
+    ///
+    /// As of [`limecove_open`].
+    pub fn limecove_open_text(
+        document: *const u8,
+        document_len: usize,
+        options: *const TextOptions,
+        reading: *mut Reading,
+    ) -> Answer;
+
+    /// Writes the events of a reading from this one on over the first records, as many as fit. Returns how many were written. A
+    /// reading that is not open has no events.
+    ///
+    /// # Safety
+    ///
+    /// The reading is [`NO_READING`], or as a call of the library left it. The records share no byte with it, and are as many as the
+    /// length says.
+    pub fn limecove_copy(
+        reading: *mut Reading,
+        from: usize,
+        records: *mut Record,
+        records_len: usize,
+    ) -> usize;
+
+    /// Gives back the memory of a reading, which is then not open. If it is not open, nothing changes.
+    ///
+    /// # Safety
+    ///
+    /// The reading is [`NO_READING`], or as a call of the library left it.
+    pub fn limecove_close(reading: *mut Reading);
 
     /// Writes back what it sees, so that a caller can compare its layout with the library's, field by field. `numbers` gets 1 to 9, a
     /// number for each field in order. The other two records get the numbers of the options: the machine as the name, the size as the

@@ -1,7 +1,8 @@
 //! The layout of each struct, field by field, as the library has it.
 
 use limecove_sys::{
-    limecove_echo, limecove_version, Answer, Options, Record, TextOptions, VERSION,
+    limecove_close, limecove_copy, limecove_echo, limecove_open_text, limecove_version, Answer,
+    Options, Reading, Record, TextOptions, ALL_CONSTRUCTS, NO_READING, READ, VERSION,
 };
 use std::mem::size_of;
 
@@ -87,4 +88,33 @@ fn each_field_crosses() {
 fn sizes_are_those_of_the_library() {
     assert_eq!((size_of::<Options>(), size_of::<TextOptions>()), (40, 24));
     assert_eq!((size_of::<Record>(), size_of::<Answer>()), (56, 16));
+    assert_eq!(size_of::<Reading>(), 16);
+}
+
+#[test]
+fn a_reading_is_open_until_it_is_closed() {
+    let options = TextOptions {
+        size: size_of::<TextOptions>(),
+        tab_size: 0,
+        constructs: ALL_CONSTRUCTS,
+    };
+    let mut readings = [NO_READING, NO_READING, NO_READING];
+    let mut records = [all(9); 3];
+    // SAFETY: the version is compared first, and each pointer is to its type. The reading is closed when it is opened.
+    unsafe {
+        assert_eq!(limecove_version(), VERSION);
+        let answer = limecove_open_text(b"a".as_ptr(), 1, &options, &mut readings[1]);
+        assert_eq!((answer.code, answer.count), (READ, 2));
+        assert_eq!(readings[1].is_open, 1);
+        assert!(!readings[1].list.is_null());
+        assert_eq!(limecove_copy(&mut readings[1], 1, &mut records[1], 2), 1);
+        limecove_close(&mut readings[1]);
+        assert_eq!(readings[1].is_open, 0);
+        assert_eq!(limecove_copy(&mut readings[1], 0, &mut records[1], 2), 0);
+    }
+    assert_eq!((records[1].kind, records[1].index), (1, 1));
+    assert_eq!((records[0], records[2]), (all(9), all(9)));
+    for guard in [&readings[0], &readings[2]] {
+        assert!(guard.is_open == 0 && guard.list.is_null());
+    }
 }
