@@ -1,24 +1,28 @@
 /* Reads a file so many times by the static library, and prints how many events it has, to be measured: a reading is opened, and closed.
  * usage: archive FILE TIMES [--machine NAME] [--deep] [--copy]   (of the options of mdevents; without them by the machine of lines; with
  * --copy all events are copied in between) */
+#define _POSIX_C_SOURCE 200809L
 #include "../bindings/limecove.h"
+#include <fcntl.h>
 #include <stdio.h>
 #include <stdlib.h>
 #include <string.h>
+#include <sys/mman.h>
+#include <sys/stat.h>
+#include <unistd.h>
 
 static const char *const machines[] = {"lines", "paragraphs", "peek", "deep", "back", "save", "text"};
 
-static uint8_t *contents(const char *name, size_t *len) {
-    FILE *file = fopen(name, "rb");
-    if (file == NULL || fseek(file, 0, SEEK_END) != 0)
+/* The bytes of a file, which take none of the heap. */
+static const uint8_t *contents(const char *name, size_t *len) {
+    struct stat about;
+    int file = open(name, O_RDONLY);
+    if (file < 0 || fstat(file, &about) != 0)
         return NULL;
-    *len = (size_t)ftell(file);
-    rewind(file);
-    uint8_t *bytes = malloc(*len + 1);
-    if (bytes == NULL || fread(bytes, 1, *len, file) != *len)
-        return NULL;
-    fclose(file);
-    return bytes;
+    *len = (size_t)about.st_size;
+    const void *bytes = mmap(NULL, *len, PROT_READ, MAP_PRIVATE, file, 0);
+    close(file);
+    return bytes == MAP_FAILED ? NULL : bytes;
 }
 
 int main(int argc, char **argv) {
@@ -27,7 +31,7 @@ int main(int argc, char **argv) {
     int copies = 0;
     options.machine = LIMECOVE_LINES;
     options.deep = 0;
-    uint8_t *document = argc < 3 ? NULL : contents(argv[1], &len);
+    const uint8_t *document = argc < 3 ? NULL : contents(argv[1], &len);
     for (int i = 3; i < argc; i++) {
         if (strcmp(argv[i], "--deep") == 0)
             options.deep = 1;
