@@ -66,4 +66,5 @@ pub use Rattle.markdown_children.specs.SoFar
 pub use Rattle.markdown_children.specs.StartTests
 pub use Rattle.markdown_children.specs.ByteStarts
 pub use Rattle.markdown_children.specs.ReadyTests
+pub use Rattle.markdown_children.specs.ChildrenOf
 pub use Rattle.markdown_base.specs.declared.state.TheConstants as StateConstants

@@ -8,9 +8,9 @@ pub use markdown_base::laws::{
 };
 pub use markdown_children::laws::{
     a_ready_list_has_ordered_chains, all_chains_are_ready, chains_of_children_stay_ready,
-    child_events_are_placed_well, children_are_read_in_one_way, children_can_be_read_next,
-    children_fit, chunks_can_be_read, edits_give_children, other_chains_stay_ready,
-    parts_are_by_chunk, subtokenized_lists_are_ready,
+    child_events_are_placed_well, children_are_a_function, children_are_read_in_one_way,
+    children_can_be_read_next, children_fit, chunks_can_be_read, edits_give_children,
+    other_chains_stay_ready, parts_are_by_chunk, subtokenized_lists_are_ready,
 };
 pub use markdown_edits::laws::{additions_are_new, survivors_keep_links, survivors_keep_order};
 pub use markdown_tokenizer::laws::{

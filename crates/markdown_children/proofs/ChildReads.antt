@@ -1,4 +1,5 @@
 -- Children are read, chain by chain.
+pub mod AsFunction
 pub mod ChainReads
 pub mod Pieces
 pub mod Reading

@@ -10,3 +10,4 @@ pub mod SoFar
 pub mod StartTests
 pub mod ByteStarts
 pub mod ReadyTests
+pub mod ChildrenOf

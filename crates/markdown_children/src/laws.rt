@@ -5,7 +5,9 @@
 ghost use Rattle.std.specs.Prelude.{◌∷◌, List, None, Option, ℕ};
 ghost use Rattle.markdown_base.specs.declared.event.Content.{Content};
 ghost use Rattle.markdown_base.specs.declared.event.Event.{Event};
+ghost use Rattle.markdown_base.specs.Events.{IsBalanced};
 ghost use Rattle.markdown_edits.specs.Edits.{Edit};
+ghost use Rattle.markdown_children.specs.ChildrenOf.{AreChildrenOf, EachIsRead, IsJustChildrenOf};
 ghost use Rattle.markdown_children.specs.Reads.{CanReadChains, HasOneAnswer};
 ghost use Rattle.markdown_children.specs.LawStatements.{ForReadyLists, HasOrderedChains, ChildrenFit, EditsGiveChildren, IsPlacedWell, AreByChunk};
 ghost use Rattle.markdown_children.specs.LawStatements.{IsReadyForEach, StaysReady};
@@ -81,4 +83,13 @@ pub fn parts_are_by_chunk()
 /// The rules of a machine allow one list with children and one result, or one message, and not both.
 pub fn children_are_read_in_one_way<M: Machine>()
     ensures { (m : _) (g : _) (wanted : _) (events : _) → HasOneAnswer g (M.rules m) wanted events }
+{}
+
+/// The list with children is a function of the list, the document and the rules: `children_of` gives what `subtokenize` gives, and refuses
+/// what it refuses. So a resolver that reads content in content by another machine has a function as its rule. The other way round
+/// each chain must have a child, or a message: the laws of a machine do not say that what its states add stands at places.
+pub fn children_are_a_function<M: Machine>()
+    ensures given { (m : _) (g : _) (wanted : _) (events : _) → IsBalanced events → AreChildrenOf g (M.rules m) wanted events }
+    ensures just { (m : _) (g : _) (wanted : _) (events : _) → IsReady g.tab g.bytes wanted events
+        → EachIsRead g (M.rules m) wanted events → IsJustChildrenOf g (M.rules m) wanted events }
 {}

@@ -1,8 +1,7 @@
-use Rattle.markdown_children.proofs.Prelude.{◌≡◌, ℕ, List, Option, length, sym, ◌∙◌, ap, subst, option_copied, AreAtPlaces, Content, Event, IsBalanced, IsVoidTight, AreMutual, Edit, AreDisjoint, edited, given_by, err-if, IsInShape, HasEndsWithin, Child, lists, IsChild, StartAmong, SoFar, starts_below}
+use Rattle.markdown_children.proofs.Prelude.{◌≡◌, List, Option, length, sym, ◌∙◌, ap, subst, option_copied, Content, Event, Edit, AreDisjoint, edited, given_by, err-if, HasEndsWithin, lists, StartAmong, SoFar, starts_below}
+use Rattle.markdown_children.proofs.ChildReads.AsFunction.{subtokenized}
 use Rattle.markdown_children.proofs.ChildReads.SoFar.{lists-all}
-use Rattle.markdown_children.proofs.Parts.AtPlaces.{with_children_at_places}
 use Rattle.markdown_children.proofs.Parts.Edits.{edits_give_children}
-use Rattle.markdown_children.proofs.Parts.InShape.{children_fit}
 use Rattle.markdown_children.proofs.ChainOrder.Forward.{ends-inside}
 use Rattle.markdown_children.proofs.subtokenize.subtokenize.Goals as goal
 
@@ -38,24 +37,10 @@ returns-clause-ok g c =
     let events = c.args.events.now.items in
     let r = c.in_ok-found.ensures.ok in
     let s = moved (λ (w : Option Content) (xs : List Event). SoFar given rules w xs (length xs) c.gather.new.map r.0 c.in_ok-found.found) _ _ _ _ c.copied.ensures c.deref.ensures.value r.1 in
-    let fit = children_fit p.options.now.tab_size p.bytes.now wanted events c.requires.ready (lists s.children) in
-    let each = λ (P : List Event → Type 0) (f : (c : ℕ) (child : Child) → IsChild given rules events c child → P child.events).
-    lists-all given rules events P f (starts_below wanted events (length events)) s.children s.read in
+    let each = lists-all given rules events HasEndsWithin (λ c child is. is.in_shape.inside) (starts_below wanted events (length events)) s.children s.read in
     let is = c.in_ok-consume.ensures.ok ∙ ap (λ (es : List Edit). edited es events) s.edits
-    ∙ (edits_give_children p.options.now.tab_size p.bytes.now wanted events (lists s.children) c.requires.ready).give (each HasEndsWithin (λ c child is. is.in_shape.inside)) in
-    record {
-      children = s.children;
-      read = s.read;
-      events = is;
-      in_shape = subst IsInShape (sym is) (record { balanced = fit.balanced (each IsBalanced (λ c child is. is.in_shape.balanced)); inside = fit.inside; chained = fit.chained (each AreMutual (λ c child is. is.in_shape.chained)) });
-      tight = λ old bs torn. subst IsVoidTight (sym is) (fit.tight old bs torn);
-      at_places = λ old new. subst (AreAtPlaces given.tab given.bytes) (sym is) (with_children_at_places given.tab given.bytes wanted events (lists s.children) old new);
-      stays = fit.stays;
-      links = fit.links;
-      done = s.done;
-      definitions = s.definitions;
-      footnotes = s.footnotes;
-    }
+    ∙ (edits_give_children p.options.now.tab_size p.bytes.now wanted events (lists s.children) c.requires.ready).give each in
+    subtokenized given rules wanted events c.requires.ready s.children s.read _ _ is s.done s.definitions s.footnotes
 
 pub returns-in_err-consume-clause-err : goal.returns-in_err-consume-clause-err
 returns-in_err-consume-clause-err g c = err-if c.from_residual-in_err-consume.result _ _ (λ f is. rw is tt) c.from_residual-in_err-consume.ensures.1
