@@ -7,7 +7,7 @@ use Rattle.std.proofs.lemmas.List.{drop_more, length-drop}
 use Rattle.std.proofs.lemmas.Option.{get_or_from_slice_get, slice_get_within}
 use Rattle.std.specs.Prelude.{slice_get}
 use Rattle.markdown.specs.Edits.{removal_at}
-use Rattle.mdtests.specs.Stars.{is_star, strong, edits_from, edits_behind, AreBefore}
+use Rattle.mdtests.specs.Stars.{is_sequence, strong, edits_from, edits_behind, AreBefore}
 use Rattle.mdtests.specs.Laws.Stars.{star-exits-with, no-star-from-exit}
 
 -- a list from the event at an index on
@@ -16,7 +16,7 @@ drop-at xs i a e = drop_more xs i a (slice_get_within xs i a e) ∙ ap (λ y. y 
 
 module _ (late : Bool) where
   -- no edit at an event that begins no star
-  step-off : (j : ℕ) (a : Event) (ys : List Event) → ((b : Event) (rest : List Event) → ys ≡ b ∷ rest → is_star a b ≡ false) → edits_from late j (a ∷ ys) ≡ edits_from late (j + 1) ys
+  step-off : (j : ℕ) (a : Event) (ys : List Event) → ((b : Event) (rest : List Event) → ys ≡ b ∷ rest → is_sequence a b ≡ false) → edits_from late j (a ∷ ys) ≡ edits_from late (j + 1) ys
   step-off j a [] none = refl
   step-off j a (b ∷ rest) none = ap (λ m. cond m (edit_at j 2 (strong late a b) ∷ edits_from late (j + 2) rest) (edits_from late (j + 1) (b ∷ rest))) (none b rest refl)
 
@@ -31,7 +31,7 @@ module _ (late : Bool) where
       none-left i (drop i xs) (omega (arith, length-drop i xs, e)) ∙ sym (none-left (i + 1) (drop (i + 1) xs) (omega (arith, length-drop (i + 1) xs, e)))
 
   -- an edit at a star; its exit begins none
-  step-on : (j : ℕ) (a b : Event) (rest : List Event) → is_star a b ≡ true → edits_from late j (a ∷ b ∷ rest) ≡ edit_at j 2 (strong late a b) ∷ edits_from late (j + 1) (b ∷ rest)
+  step-on : (j : ℕ) (a b : Event) (rest : List Event) → is_sequence a b ≡ true → edits_from late j (a ∷ b ∷ rest) ≡ edit_at j 2 (strong late a b) ∷ edits_from late (j + 1) (b ∷ rest)
   step-on j a b rest e =
       let next : j + 2 ≡ j + 1 + 1 = omega arith in
       let behind : edits_from late (j + 2) rest ≡ edits_from late (j + 1) (b ∷ rest) =
@@ -43,13 +43,13 @@ module _ (late : Bool) where
     both-there : drop i xs ≡ a ∷ b ∷ drop (i + 1 + 1) xs
     both-there = drop-at xs i a first ∙ ap (λ ys. a ∷ ys) (drop-at xs (i + 1) b next)
 
-    pub at-none : is_star a b ≡ false → edits_behind late xs i ≡ edits_behind late xs (i + 1)
+    pub at-none : is_sequence a b ≡ false → edits_behind late xs i ≡ edits_behind late xs (i + 1)
     at-none none =
         ap (edits_from late i) both-there
-        ∙ step-off i a (b ∷ drop (i + 1 + 1) xs) (λ c rest is. let same : b ≡ c = cc in subst (λ e. is_star a e ≡ false) same none)
+        ∙ step-off i a (b ∷ drop (i + 1 + 1) xs) (λ c rest is. let same : b ≡ c = cc in subst (λ e. is_sequence a e ≡ false) same none)
         ∙ ap (edits_from late (i + 1)) (sym (drop-at xs (i + 1) b next))
 
-    pub at-star : is_star a b ≡ true → edits_behind late xs i ≡ edit_at i 2 (strong late a b) ∷ edits_behind late xs (i + 1)
+    pub at-star : is_sequence a b ≡ true → edits_behind late xs i ≡ edit_at i 2 (strong late a b) ∷ edits_behind late xs (i + 1)
     at-star e =
         ap (edits_from late i) both-there ∙ step-on i a b (drop (i + 1 + 1) xs) e
         ∙ ap (λ ys. edit_at i 2 (strong late a b) ∷ edits_from late (i + 1) ys) (sym (drop-at xs (i + 1) b next))

@@ -1,6 +1,7 @@
--- The machine of stars: each asterisk is a star, and each other byte data. Its resolver puts a sequence in a span of strong text in the place
--- of each star: it removes two events and adds four, at many indices at once.
-use Rattle.std.specs.Prelude.{◌≡◌, ℕ, ◌+◌, ◌<◌, ◌==◌, ◌&&◌, ◌∷◌, ◌++◌, [], List, Bool, true, cond, not, drop, Option, Some, None}
+-- The machine of stars: each asterisk is a star, and each other byte data. Its resolver first gives the events of each star the name of a
+-- sequence of strong text. Then it puts each such sequence in a span of strong text: it removes two events and adds four, at many indices at
+-- once.
+use Rattle.std.specs.Prelude.{◌≡◌, ℕ, ◌+◌, ◌<◌, ◌==◌, ◌&&◌, ◌∷◌, ◌++◌, [], List, Bool, true, cond, not, drop, map, Option, Some, None}
 use Rattle.std.specs.List.{AllByRecursion}
 use Rattle.markdown.specs.declared.event.Event.{Event}
 use Rattle.markdown.specs.declared.event.Kind.{Kind}
@@ -17,6 +18,7 @@ use Rattle.markdown.specs.Configuration.{Configuration, Local, Choice}
 use Rattle.markdown.specs.Sight.{Sight}
 use Rattle.markdown.specs.Calls.{with_resolvers, registered}
 use Rattle.markdown.specs.Edits.{Edit, edit_at}
+use Rattle.markdown.specs.Renames.{renamed_by}
 use Rattle.markdown.specs.Resolving.{Resolved, done}
 use Rattle.markdown.specs.Rules.{Rules}
 use Rattle.markdown.specs.Engine.{IsWellFormed, EndsWellFormed}
@@ -62,30 +64,39 @@ data_start = state DataStart data_start_rows [] (calls 1 1)
 abbrev pub stars : Table StarByte Resolver Unit
 stars = record { class = star_byte; first = counts; states = text_start ∷ data_start ∷ []; starts = TextStart ∷ [] }
 
--- two events are a star: its enter, and right behind it its exit
-abbrev pub is_star : Event → Event → Bool
-is_star a b = is_enter a.kind && (not (is_enter b.kind) && (same_name a.name AttentionSequence && same_name b.name AttentionSequence))
+-- a star gets the name of a sequence of strong text; all other names stay
+abbrev pub strong_name : EventName → EventName
+strong_name n = cond (same_name n AttentionSequence) StrongSequence n
+
+-- Below, `alone` is whether only enters get their new names, so that the span of a star would end with another name than it began with, and
+-- `late` whether the span of strong text begins where the sequence ends, and so behind it: out of order of place. Only a machine without
+-- both keeps its promise
+
+-- an event with its new name
+abbrev pub with_strong_name : (alone : Bool) → Event → Event
+with_strong_name alone e = cond (alone && not (is_enter e.kind)) e (renamed_by strong_name e)
+
+-- two events are a sequence of strong text: its enter, and right behind it its exit
+abbrev pub is_sequence : Event → Event → Bool
+is_sequence a b = is_enter a.kind && (not (is_enter b.kind) && (same_name a.name StrongSequence && same_name b.name StrongSequence))
 
 -- an event without a link
 abbrev pub event_at : Kind → EventName → Point → Event
 event_at kind name place = record { kind = kind; name = name; point = place; link = None }
 
--- Below, `late` is whether the span of strong text begins where the star ends, and so behind the sequence in it: out of order of place. Only a
--- machine in which it does not keeps its promise
-
--- what comes in the place of a star: a span of strong text, and in it the sequence
+-- what comes in the place of a sequence: a span of strong text, and in it the sequence
 abbrev pub strong : (late : Bool) → Event → Event → List Event
 strong late a b = event_at Enter Strong (cond late b.point a.point) ∷ event_at Enter StrongSequence a.point
     ∷ event_at Exit StrongSequence b.point ∷ event_at Exit Strong b.point ∷ []
 
--- the edits of the events from an index on: one for each star
+-- the edits of the events from an index on: one for each sequence
 abbrev pub edits_from : (late : Bool) → ℕ → List Event → List Edit
 edits_from late i [] = []
 edits_from late i (a ∷ []) = []
 edits_from late i (a ∷ b ∷ rest) =
-    cond (is_star a b) (edit_at i 2 (strong late a b) ∷ edits_from late (i + 2) rest) (edits_from late (i + 1) (b ∷ rest))
+    cond (is_sequence a b) (edit_at i 2 (strong late a b) ∷ edits_from late (i + 2) rest) (edits_from late (i + 1) (b ∷ rest))
 
--- the edits of a list's stars that begin at an index or behind it
+-- the edits of a list's sequences that begin at an index or behind it
 abbrev pub edits_behind : (late : Bool) → List Event → ℕ → List Edit
 edits_behind late events i = edits_from late i (drop i events)
 
@@ -93,15 +104,20 @@ edits_behind late events i = edits_from late i (drop i events)
 abbrev pub AreBefore : ℕ → List Edit → Type 0
 AreBefore i edits = AllByRecursion (λ (e : Edit). e.index < i) edits
 
--- the events with these edits: each star is a sequence in a span of strong text, and all else is as before
+-- the events with these edits: each sequence is in a span of strong text, and all else is as before
 abbrev pub strengthened : (late : Bool) → List Event → List Event
 strengthened late [] = []
 strengthened late (a ∷ []) = a ∷ []
-strengthened late (a ∷ b ∷ rest) = cond (is_star a b) (strong late a b ++ strengthened late rest) (a ∷ strengthened late (b ∷ rest))
+strengthened late (a ∷ b ∷ rest) = cond (is_sequence a b) (strong late a b ++ strengthened late rest) (a ∷ strengthened late (b ∷ rest))
 
--- the resolver leaves these edits, in place of the ones that waited
-abbrev pub stars_resolver : (late : Bool) → Sight → Configuration Resolver Unit → Resolver → Resolved Resolver Unit
-stars_resolver late s k Strengthen = done (record k { local = record k.local { map = edits_from late 0 k.events } }) None
+-- the events are renamed, and the edits of the renamed ones wait, in place of those that waited
+abbrev pub strengthens : (alone late : Bool) → Configuration Resolver Unit → Configuration Resolver Unit
+strengthens alone late k =
+    let events = map (with_strong_name alone) k.events in record k { events = events; local = record k.local { map = edits_from late 0 events } }
+
+-- the resolver does that, and finds nothing
+abbrev pub stars_resolver : (alone late : Bool) → Sight → Configuration Resolver Unit → Resolver → Resolved Resolver Unit
+stars_resolver alone late s k Strengthen = done (strengthens alone late k) None
 
 -- which resolvers are registered: none before the first call, and then the one
 abbrev pub registered_at : State → List Resolver
@@ -117,19 +133,19 @@ IsUnresolved rs k = (k.local.resolvers ≡ rs) × HaveNoLinks k.events
 abbrev pub IsUnstarred : Configuration Resolver Unit → List Choice → State → Type 0
 IsUnstarred k choices state = (choices ≡ []) × IsUnresolved (registered_at state) k
 
--- what holds before the resolver, and behind it: what was read is well formed and not linked, and then the edits wait
+-- what holds before the resolver, and behind it: the events are well formed and not linked, and then the edits wait
 abbrev pub stars_resolves : (late : Bool) → Given → Text → List Resolver → Configuration Resolver Unit → Type 0
 stars_resolves late g text (Strengthen ∷ []) k = HaveNoLinks k.events × IsWellFormed g k.events
 stars_resolves late g text [] k = (k.local.map ≡ edits_from late 0 k.events) × HaveNoLinks k.events × IsWellFormed g k.events
 stars_resolves late g text _ k = ⊥
 
 -- its rules: the final events are well formed, so in order of place and each at a place of the document
-abbrev pub stars_rules : (late : Bool) → Given → Rules Resolver Unit
-stars_rules late g =
+abbrev pub stars_rules : (alone late : Bool) → Given → Rules Resolver Unit
+stars_rules alone late g =
     let rules = table_rules stars g in
     record rules {
       holds = λ text k choices state. IsUnstarred k choices state × rules.holds text k choices state;
-      resolver = stars_resolver late;
+      resolver = stars_resolver alone late;
       resolves = stars_resolves late g;
       ends = EndsWellFormed g;
     }

@@ -1,11 +1,12 @@
-//! A machine whose resolver edits many events, and which promises that its final events are well formed: in order of place, each at a place
-//! of the document, with each void span empty.
+//! A machine whose resolver renames and edits many events, and which promises that its final events are well formed: in order of place, each
+//! at a place of the document, with each void span empty.
 
-ghost use Rattle.std.specs.Prelude.{◌≡◌, ◌∷◌, ◌++◌, ◌+◌, ◌<◌, ◌^◌, [], IfOk, OnOk, length};
+ghost use Rattle.std.specs.Prelude.{◌≡◌, ◌∷◌, ◌++◌, ◌+◌, ◌<◌, ◌^◌, [], IfOk, OnOk, length, map, not, ◌&&◌};
 ghost use Rattle.markdown.specs.Edits.{edit_at};
+ghost use Rattle.markdown.specs.Events.{is_enter};
 ghost use Rattle.mdconstructs.specs.RowInvariant.{DoesAll, IsCallable, step_in};
-ghost use Rattle.mdtests.specs.declared.stars.TheConstants.{BEGINS_LATE};
-ghost use Rattle.mdtests.specs.Stars.{star_byte, text_start, data_start, is_star, strong, edits_from, edits_behind, AreBefore};
+ghost use Rattle.mdtests.specs.declared.stars.TheConstants.{BEGINS_LATE, ENTERS_ALONE};
+ghost use Rattle.mdtests.specs.Stars.{star_byte, text_start, data_start, strong_name, with_strong_name, is_sequence, strong, edits_from, edits_behind, AreBefore};
 
 #[cfg(test)]
 use crate::machines::lines_by;
@@ -23,16 +24,20 @@ use std::alloc::{AllocError, Global};
 /// The resolver of the machine of stars.
 #[derive(Clone, Copy, Debug, PartialEq, Eq)]
 pub enum Resolver {
-    /// Puts a sequence in a span of strong text in the place of each star.
+    /// Makes each star a sequence in a span of strong text.
     Strengthen,
 }
 
-/// Whether the span of strong text begins where its star ends. It does not: the sequence in it begins where the star does, so the span
-/// would be entered behind that, out of order of place, and the machine could not keep its promise.
+/// Whether only the enters of stars are renamed. They are not: the span of a star would end with another name than it began with, and the
+/// machine could not keep its promise.
+const ENTERS_ALONE: bool = false;
+
+/// Whether the span of strong text begins where its sequence ends. It does not: it would be entered behind the sequence in it, out of
+/// order of place, and the machine could not keep its promise.
 const BEGINS_LATE: bool = false;
 
-/// Reads each asterisk as a star, and each other byte as data. Then its resolver puts a sequence in a span of strong text in the
-/// place of each star.
+/// Reads each asterisk as a star, and each other byte as data. Then its resolver renames each star to a sequence of strong text, and
+/// puts each sequence in a span of strong text.
 #[derive(Drop)]
 pub struct Stars {}
 
@@ -44,11 +49,11 @@ impl MachineTypes for Stars {
 
 impl Machine for Stars {
     ghost use Rattle.std.proofs.Common.{refl};
-    ghost use Rattle.mdtests.specs.declared.stars.TheConstants.{BEGINS_LATE};
+    ghost use Rattle.mdtests.specs.declared.stars.TheConstants.{BEGINS_LATE, ENTERS_ALONE};
     ghost use Rattle.mdtests.specs.Stars.{stars_rules};
     ghost use Rattle.mdtests.specs.Laws.Stars.{stars-lawful};
 
-    ghost rules = { λ _. stars_rules BEGINS_LATE };
+    ghost rules = { λ _. stars_rules ENTERS_ALONE BEGINS_LATE };
 
     fn call<'a>(
         &self,
@@ -72,13 +77,14 @@ impl Machine for Stars {
     ) -> Result<Option<Subresult>, Fault> {
         match name {
             Resolver::Strengthen => {
-                t.map = edits_of_stars(alloc, t.events())?;
+                rename_all(t.events_mut());
+                t.map = edits_of_sequences(alloc, t.events())?;
                 Ok(None)
             }
         }
     }
 
-    ghost lawful = { λ _ g. stars-lawful BEGINS_LATE refl g };
+    ghost lawful = { λ _ g. stars-lawful ENTERS_ALONE BEGINS_LATE refl refl g };
 }
 
 /// Registers the resolver.
@@ -108,17 +114,60 @@ fn data_start<'a>(t: &mut Tokenizer<'a, Stars>) -> Result<State, AllocError>
     }
 }
 
-/// Whether two events are a star.
-fn is_star(enter: &Event, exit: &Event) -> bool
-    ensures { result ≡ is_star enter.now exit.now }
+/// The new name of an event: a star becomes a sequence of strong text.
+fn strong_name(name: event::Name) -> event::Name
+    ensures { result ≡ strong_name name }
+{
+    if name == event::Name::AttentionSequence {
+        event::Name::StrongSequence
+    } else {
+        name
+    }
+}
+
+/// Whether events of this kind keep their names.
+fn keeps_name(kind: Kind) -> bool
+    ensures { result ≡ (ENTERS_ALONE && not (is_enter kind)) }
+{
+    ENTERS_ALONE && kind == Kind::Exit
+}
+
+/// Renames an event.
+fn rename(event: &mut Event)
+    ensures { event.new ≡ with_strong_name ENTERS_ALONE event.old }
+{
+    if !keeps_name(event.kind) {
+        event.name = strong_name(event.name);
+    }
+}
+
+/// Renames each event.
+fn rename_each(events: &mut [Event])
+    ensures { events.new ≡ map (with_strong_name ENTERS_ALONE) events.old }
+{
+    for event in events.iter_mut() {
+        rename(event);
+    }
+}
+
+/// Renames all events of a list.
+fn rename_all(events: &mut Vec<Event>)
+    ensures { events.new.items ≡ map (with_strong_name ENTERS_ALONE) events.old.items }
+{
+    rename_each(events.as_mut_slice());
+}
+
+/// Whether two events are a sequence of strong text.
+fn is_sequence(enter: &Event, exit: &Event) -> bool
+    ensures { result ≡ is_sequence enter.now exit.now }
 {
     enter.kind == Kind::Enter
         && exit.kind == Kind::Exit
-        && enter.name == event::Name::AttentionSequence
-        && exit.name == event::Name::AttentionSequence
+        && enter.name == event::Name::StrongSequence
+        && exit.name == event::Name::StrongSequence
 }
 
-/// A span of strong text, and in it a sequence, in the place of a star.
+/// A span of strong text, and in it a sequence, in the place of a sequence.
 fn strong(alloc: Global, enter: &Event, exit: &Event) -> Result<Vec<Event>, AllocError>
     ensures { IfOk result (λ events. events.items ≡ strong BEGINS_LATE enter.now exit.now) }
 {
@@ -152,7 +201,7 @@ fn strong(alloc: Global, enter: &Event, exit: &Event) -> Result<Vec<Event>, Allo
     Ok(more)
 }
 
-/// Adds the edit of a star that begins at an index. The edits that are there are before it.
+/// Adds the edit of a sequence that begins at an index. The edits that are there are before it.
 fn add_strong(
     alloc: Global,
     map: &mut EditMap,
@@ -169,7 +218,7 @@ fn add_strong(
     Ok(())
 }
 
-/// Adds the edit of the star that begins at an index, if one does. The edits that are there are before it.
+/// Adds the edit of the sequence that begins at an index, if one does. The edits that are there are before it.
 fn add_edit(
     alloc: Global,
     map: &mut EditMap,
@@ -185,15 +234,15 @@ fn add_edit(
     if next == events.len() {
         return Ok(());
     }
-    if !is_star(&events[index], &events[next]) {
+    if !is_sequence(&events[index], &events[next]) {
         return Ok(());
     }
     add_strong(alloc, map, index, &events[index], &events[next])?;
     Ok(())
 }
 
-/// The edits of all stars.
-fn edits_of_stars(alloc: Global, events: &[Event]) -> Result<EditMap, AllocError>
+/// The edits of all sequences.
+fn edits_of_sequences(alloc: Global, events: &[Event]) -> Result<EditMap, AllocError>
     ensures { IfOk result (λ map. map ≡ edits_from BEGINS_LATE 0 events.now) }
 {
     let mut map = EditMap::new(alloc);

@@ -20,7 +20,7 @@ use Rattle.markdown.specs.Calls.{consumed, registered, with_resolvers}
 use Rattle.markdown.specs.Edits.{Edit, AreDisjoint, edit_at, added_after}
 use Rattle.markdown.specs.Edited.{edited}
 use Rattle.markdown.specs.Reading.{fed}
-use Rattle.markdown.specs.Resolving.{done, edits_made, taken, CanBeEdited, IsInShape}
+use Rattle.markdown.specs.Resolving.{done, edits_made, taken, IsInShape}
 use Rattle.markdown.specs.Lawful.{ConsumesOnce, OnlyAdds, EndsWhenRead, KeepsInvariant, CostPays, ResolversKeep, IsAsFar, IsLawful, SavesEvents}
 use Rattle.mdconstructs.specs.RowInvariant.{IsFed}
 use Rattle.markdown_tokenizer.proofs.Readings.Plain.{no-links-below, no-links-shape}
@@ -72,20 +72,6 @@ passed-by s text First (First ∷ rs) k new more h e = absurd h
 passed-by s text First (Second ∷ r ∷ rs) k new more h e = absurd h
 passed-by s text Second [] k new more h e = second-passed s text k new more h e
 passed-by s text Second (r ∷ rs) k new more h e = absurd h
-
--- before the first no edit waits, and before the second its edit can be made
-pub first-unedited : (text : Text) (rest : List Resolver) (k : Configuration Resolver Unit) → replacing_resolves text (First ∷ rest) k → k.local.map ≡ []
-first-unedited text (Second ∷ []) k h = h.1
-first-unedited text [] k h = absurd h
-first-unedited text (First ∷ rs) k h = absurd h
-first-unedited text (Second ∷ r ∷ rs) k h = absurd h
-
-one-edit : (p : Point) (xs : List Event) (es : List Edit) → xs ≡ [] → es ≡ edit_at 0 0 (span_at Paragraph p) ∷ [] → AreDisjoint 0 es (length xs) × All (EndsBelow (length xs)) xs
-one-edit p xs es a b = rw (a, b) ((omega arith, omega arith), no-links-below 0 [] tt)
-
-pub second-edited : (text : Text) (rest : List Resolver) (k : Configuration Resolver Unit) → replacing_resolves text (Second ∷ rest) k → CanBeEdited k
-second-edited text [] k h = one-edit h.0 k.events k.local.map h.1 h.2
-second-edited text (r ∷ rs) k h = absurd h
 
 -- with the edit of the second the list is a block quote
 last-well : (p q : Point) (xs : List Event) (es : List Edit) → xs ≡ span_at Paragraph p → es ≡ edit_at 0 2 (span_at BlockQuote q) ∷ []

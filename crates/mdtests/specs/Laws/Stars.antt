@@ -1,10 +1,10 @@
--- The table of the machine passes the test, and the edits of its resolver leave the events well formed: so in order of place, and each at a
--- place of the document. So the machine is lawful, and keeps what it promises of its final events.
+-- The table of the machine passes the test, and the new names and the edits of its resolver leave the events well formed: so in order of
+-- place, and each at a place of the document. So the machine is lawful, and keeps what it promises of its final events.
 use Rattle.std.proofs.Common.{◌≡◌, ◌==◌, ℕ, zero, suc, ◌+◌, ◌≤◌, List, [], ◌∷◌, ◌++◌, Bool, true, false, cond, Option, Some, None, length, map, refl, sym, ap, ◌∙◌, subst, arith}
-use Rattle.std.specs.Prelude.{◌&&◌, not, nat_lt, slice_get, Contains, All, AllPairs}
+use Rattle.std.specs.Prelude.{◌&&◌, not, nat_lt, slice_get, All, AllPairs}
 use Rattle.std.specs.List.{AllByRecursion}
 use Rattle.std.proofs.lemmas.Bool.{and_parts}
-use Rattle.std.proofs.lemmas.List.Elements.{All-from_recursion, recursion_from_All}
+use Rattle.std.proofs.lemmas.List.Elements.{All-nil, All-cons, All-contains, All-from_recursion, recursion_from_All}
 use Rattle.std.proofs.lemmas.List.Kept.{AllPairs-cons}
 use Rattle.markdown_base.specs.declared.event.Event.{Event}
 use Rattle.markdown_base.specs.declared.event.Kind.{Kind}
@@ -28,7 +28,10 @@ use Rattle.markdown_tokenizer.specs.Engine.{IsWellFormed}
 use Rattle.markdown_tokenizer.specs.Resolving.{done, taken, IsInShape}
 use Rattle.markdown_tokenizer.specs.Lawful.{ConsumesOnce, OnlyAdds, EndsWhenRead, KeepsInvariant, CostPays, ResolversKeep, IsAsFar, IsLawful}
 use Rattle.markdown_tokenizer.specs.Plain.{HaveNoLinks}
+use Rattle.markdown_tokenizer.specs.Renames.{MakesNoneVoid}
+use Rattle.markdown_tokenizer.proofs.Readings.Formed.{tight-behind, pairs-behind}
 use Rattle.markdown_tokenizer.proofs.Readings.Plain.{no-links-more, no-links-below, no-links-shape, unlinked-same, woven-same}
+use Rattle.markdown_tokenizer.proofs.Readings.Renames.{still-well-formed as renamed-well-formed, renamed-by, renamed-unlinked}
 use Rattle.markdown_edits.specs.OpenNames.{names_after, names_after_all}
 use Rattle.markdown_edits.specs.Edits.{Edit, edit_at, AreDisjoint}
 use Rattle.markdown_edits.specs.Edited.{as_change, edited}
@@ -44,7 +47,7 @@ use Rattle.mdconstructs_tables.proofs.Tables.Prices.{table-cost_pays}
 use Rattle.mdconstructs.specs.Tables.{counts}
 use Rattle.mdtests.specs.declared.stars.Resolver.{Resolver}
 use Rattle.mdtests.specs.declared.stars.Resolver.TheVariants.{Strengthen}
-use Rattle.mdtests.specs.Stars.{StarByte, star, other, star_byte, same_resolver, text_start, data_start_rows, data_start, stars, is_star, event_at, strong, edits_from, strengthened, stars_resolver, registered_at, IsUnresolved, IsUnstarred, stars_resolves, stars_rules}
+use Rattle.mdtests.specs.Stars.{StarByte, star, other, star_byte, same_resolver, text_start, data_start_rows, data_start, stars, strong_name, with_strong_name, is_sequence, event_at, strong, edits_from, strengthened, strengthens, stars_resolver, registered_at, IsUnresolved, IsUnstarred, stars_resolves, stars_rules}
 
 fits : (previous current : Option StarByte) → misfits stars previous current ≡ []
 fits previous None = refl
@@ -53,6 +56,16 @@ fits previous (Some other) = refl
 
 pub stars-fit : IsFit stars
 stars-fit = record { fits = fits; paid = tt; falls = tt }
+
+-- ---- the new names
+
+-- a star is void, and what it becomes too
+none-void : MakesNoneVoid strong_name
+none-void n = by-test (same_name n AttentionSequence) refl
+  where
+    by-test : (b : Bool) → same_name n AttentionSequence ≡ b → is_void (cond b StrongSequence n) ≡ true → is_void n ≡ true
+    by-test true e void = ap is_void (same_name-true n AttentionSequence e)
+    by-test false e void = void
 
 -- ---- the edits
 
@@ -65,7 +78,7 @@ apart : (i n : ℕ) (xs : List Event) → i + length xs ≡ n → AreDisjoint i 
 apart i n [] h = omega (arith, h)
 apart i n (a ∷ []) h = omega (arith, h)
 apart i n (a ∷ b ∷ rest) h =
-    elim (is_star a b) as (λ m. AreDisjoint i (cond m (edit_at i 2 (strong false a b) ∷ edits_from false (i + 2) rest) (edits_from false (i + 1) (b ∷ rest))) n) [
+    elim (is_sequence a b) as (λ m. AreDisjoint i (cond m (edit_at i 2 (strong false a b) ∷ edits_from false (i + 2) rest) (edits_from false (i + 1) (b ∷ rest))) n) [
       | true ↦ (omega arith, apart (i + 2) n rest (omega (arith, h)))
       | false ↦ looser i (i + 1) n (edits_from false (i + 1) (b ∷ rest)) (omega arith) (apart (i + 1) n (b ∷ rest) (omega (arith, h)))
     ]
@@ -83,7 +96,7 @@ woven-so : (ts : List Tagged) (i : ℕ) (xs : List Event) → HaveNoLinks xs →
 woven-so ts i [] h = refl
 woven-so ts i (a ∷ []) h = woven-same ts i (a ∷ []) h
 woven-so ts i (a ∷ b ∷ rest) h =
-    elim (is_star a b) as (λ m. placed_in ts (woven (map as_change (cond m (edit_at i 2 (strong false a b) ∷ edits_from false (i + 2) rest) (edits_from false (i + 1) (b ∷ rest)))) i (a ∷ b ∷ rest))
+    elim (is_sequence a b) as (λ m. placed_in ts (woven (map as_change (cond m (edit_at i 2 (strong false a b) ∷ edits_from false (i + 2) rest) (edits_from false (i + 1) (b ∷ rest)))) i (a ∷ b ∷ rest))
     ≡ cond m (strong false a b ++ strengthened false rest) (a ∷ strengthened false (b ∷ rest))) [
       | true ↦
           let n = i + 2 + length rest in
@@ -103,14 +116,14 @@ still-unlinked : (xs : List Event) → HaveNoLinks xs → HaveNoLinks (strengthe
 still-unlinked [] h = tt
 still-unlinked (a ∷ []) h = h
 still-unlinked (a ∷ b ∷ rest) h =
-    elim (is_star a b) as (λ m. HaveNoLinks (cond m (strong false a b ++ strengthened false rest) (a ∷ strengthened false (b ∷ rest)))) [
+    elim (is_sequence a b) as (λ m. HaveNoLinks (cond m (strong false a b ++ strengthened false rest) (a ∷ strengthened false (b ∷ rest)))) [
       | true ↦ (refl, (refl, (refl, (refl, still-unlinked rest h.1.1))))
       | false ↦ (h.0, still-unlinked (b ∷ rest) h.1)
     ]
 
 -- ---- what is left is balanced
 
--- a star is an enter and an exit of its name
+-- a sequence is an enter and an exit of its name
 star-enters : (k : Kind) (rest : Bool) → (is_enter k && rest) ≡ true → (k ≡ Enter) × (rest ≡ true)
 star-enters Enter rest e = (refl, e)
 star-enters Exit rest e = absurd (cc)
@@ -119,26 +132,26 @@ star-exits : (k : Kind) (rest : Bool) → (not (is_enter k) && rest) ≡ true �
 star-exits Enter rest e = absurd (cc)
 star-exits Exit rest e = (refl, e)
 
-record IsStar (a b : Event) : Type 0 where
+record IsSequence (a b : Event) : Type 0 where
   enters : a.kind ≡ Enter
   exits : b.kind ≡ Exit
-  first : a.name ≡ AttentionSequence
-  last : b.name ≡ AttentionSequence
+  first : a.name ≡ StrongSequence
+  last : b.name ≡ StrongSequence
 
-star-is : (a b : Event) → is_star a b ≡ true → IsStar a b
+star-is : (a b : Event) → is_sequence a b ≡ true → IsSequence a b
 star-is a b e =
-    let enters = star-enters a.kind (not (is_enter b.kind) && (same_name a.name AttentionSequence && same_name b.name AttentionSequence)) e in
-    let exits = star-exits b.kind (same_name a.name AttentionSequence && same_name b.name AttentionSequence) enters.1 in
-    let names = and_parts (same_name a.name AttentionSequence) (same_name b.name AttentionSequence) exits.1 in
-    record { enters = enters.0; exits = exits.0; first = same_name-true a.name AttentionSequence names.0; last = same_name-true b.name AttentionSequence names.1 }
+    let enters = star-enters a.kind (not (is_enter b.kind) && (same_name a.name StrongSequence && same_name b.name StrongSequence)) e in
+    let exits = star-exits b.kind (same_name a.name StrongSequence && same_name b.name StrongSequence) enters.1 in
+    let names = and_parts (same_name a.name StrongSequence) (same_name b.name StrongSequence) exits.1 in
+    record { enters = enters.0; exits = exits.0; first = same_name-true a.name StrongSequence names.0; last = same_name-true b.name StrongSequence names.1 }
 
-pub star-exits-with : (a b : Event) → is_star a b ≡ true → b.kind ≡ Exit
+pub star-exits-with : (a b : Event) → is_sequence a b ≡ true → b.kind ≡ Exit
 star-exits-with a b e = (star-is a b e).exits
 
 -- a star opens and ends its name
-star-names : (a b : Event) (rest : List Event) (st : List EventName) → IsStar a b → names_after_all (Some st) (a ∷ b ∷ rest) ≡ names_after_all (Some st) rest
+star-names : (a b : Event) (rest : List Event) (st : List EventName) → IsSequence a b → names_after_all (Some st) (a ∷ b ∷ rest) ≡ names_after_all (Some st) rest
 star-names a b rest st is =
-    let same : same_name a.name b.name ≡ true = ap (λ n. same_name n b.name) is.first ∙ ap (same_name AttentionSequence) is.last ∙ same_name-refl AttentionSequence in
+    let same : same_name a.name b.name ≡ true = ap (λ n. same_name n b.name) is.first ∙ ap (same_name StrongSequence) is.last ∙ same_name-refl StrongSequence in
     ap (λ k. names_after_all (names_after k a.name st) (b ∷ rest)) is.enters ∙ ap (λ k. names_after_all (names_after k b.name (a.name ∷ st)) rest) is.exits
     ∙ ap (λ c. names_after_all (cond c (Some st) None) rest) same
 
@@ -147,26 +160,20 @@ same-names xs None = refl
 same-names [] (Some st) = refl
 same-names (a ∷ []) (Some st) = refl
 same-names (a ∷ b ∷ rest) (Some st) =
-    elim (is_star a b) as (λ m. is_star a b ≡ m → names_after_all (Some st) (cond m (strong false a b ++ strengthened false rest) (a ∷ strengthened false (b ∷ rest))) ≡ names_after_all (Some st) (a ∷ b ∷ rest)) [
+    elim (is_sequence a b) as (λ m. is_sequence a b ≡ m → names_after_all (Some st) (cond m (strong false a b ++ strengthened false rest) (a ∷ strengthened false (b ∷ rest))) ≡ names_after_all (Some st) (a ∷ b ∷ rest)) [
       | true ↦ λ e. same-names rest (Some st) ∙ sym (star-names a b rest st (star-is a b e))
       | false ↦ λ e. same-names (b ∷ rest) (names_after a.kind a.name st)
     ] refl
 
 -- ---- each void span is empty
 
-pub no-star-from-exit : (b c : Event) → b.kind ≡ Exit → is_star b c ≡ false
-no-star-from-exit b c exits = ap (λ k. is_enter k && (not (is_enter c.kind) && (same_name b.name AttentionSequence && same_name c.name AttentionSequence))) exits
+pub no-star-from-exit : (b c : Event) → b.kind ≡ Exit → is_sequence b c ≡ false
+no-star-from-exit b c exits = ap (λ k. is_enter k && (not (is_enter c.kind) && (same_name b.name StrongSequence && same_name c.name StrongSequence))) exits
 
 -- an exit stays where it is
 exit-stays : (b : Event) (rest : List Event) → b.kind ≡ Exit → (zs : List Event) × (strengthened false (b ∷ rest) ≡ b ∷ zs)
 exit-stays b [] exits = ([], refl)
 exit-stays b (c ∷ cs) exits = (strengthened false (c ∷ cs), ap (λ m. cond m (strong false b c ++ strengthened false cs) (b ∷ strengthened false (c ∷ cs))) (no-star-from-exit b c exits))
-
-tight-behind : (x : Event) (xs : List Event) → IsVoidTight (x ∷ xs) → IsVoidTight xs
-tight-behind x xs h k e is enters void =
-    let n : suc k + 1 ≡ suc (k + 1) = omega arith in
-    let next = h (suc k) e is enters void in
-    rw n at next
 
 -- of what comes in the place of a star only the sequence is void
 tight-strong : (a b : Event) (ys : List Event) → IsVoidTight ys → IsVoidTight (strong false a b ++ ys)
@@ -198,7 +205,7 @@ still-tight [] h = h
 still-tight (a ∷ []) h = h
 still-tight (a ∷ b ∷ rest) h =
     let behind = tight-behind a (b ∷ rest) h in
-    elim (is_star a b) as (λ m. IsVoidTight (cond m (strong false a b ++ strengthened false rest) (a ∷ strengthened false (b ∷ rest)))) [
+    elim (is_sequence a b) as (λ m. IsVoidTight (cond m (strong false a b ++ strengthened false rest) (a ∷ strengthened false (b ∷ rest)))) [
       | true ↦ tight-strong a b (strengthened false rest) (still-tight rest (tight-behind b rest behind))
       | false ↦ tight-stays a b rest (strengthened false (b ∷ rest)) (exit-stays b rest) h (still-tight (b ∷ rest) behind)
     ]
@@ -209,7 +216,7 @@ still-all : (Q : Point → Type 0) (xs : List Event) → AllByRecursion (λ e. Q
 still-all Q [] h = tt
 still-all Q (a ∷ []) h = h
 still-all Q (a ∷ b ∷ rest) h =
-    elim (is_star a b) as (λ m. AllByRecursion (λ e. Q e.point) (cond m (strong false a b ++ strengthened false rest) (a ∷ strengthened false (b ∷ rest)))) [
+    elim (is_sequence a b) as (λ m. AllByRecursion (λ e. Q e.point) (cond m (strong false a b ++ strengthened false rest) (a ∷ strengthened false (b ∷ rest)))) [
       | true ↦ (h.0, (h.0, (h.1.0, (h.1.0, still-all Q rest h.1.1))))
       | false ↦ (h.0, still-all Q (b ∷ rest) h.1)
     ]
@@ -229,9 +236,6 @@ Rises (x ∷ xs) = AllByRecursion (λ e. IsNotBefore x.point e.point) xs × Rise
 pairs-first : (R : Event → Event → Type 0) (x : Event) (xs : List Event) → AllPairs R (x ∷ xs) → All (R x) xs
 pairs-first R x xs h i d within = h 0 (suc i) d (omega arith) (omega (arith, within))
 
-pairs-behind : (R : Event → Event → Type 0) (x : Event) (xs : List Event) → AllPairs R (x ∷ xs) → AllPairs R xs
-pairs-behind R x xs h i j d less within = h (suc i) (suc j) d (omega (arith, less)) (omega (arith, within))
-
 rises-from : (xs : List Event) → AllPairs (λ e f. IsNotBefore e.point f.point) xs → Rises xs
 rises-from [] h = tt
 rises-from (x ∷ xs) h =
@@ -250,7 +254,7 @@ still-rises (a ∷ b ∷ rest) h =
     let later = h.0.0 in
     let behind-a = still-all (IsNotBefore a.point) rest h.0.1 in
     let behind-b = still-all (IsNotBefore b.point) rest h.1.0 in
-    elim (is_star a b) as (λ m. Rises (cond m (strong false a b ++ strengthened false rest) (a ∷ strengthened false (b ∷ rest)))) [
+    elim (is_sequence a b) as (λ m. Rises (cond m (strong false a b ++ strengthened false rest) (a ∷ strengthened false (b ∷ rest)))) [
       | true ↦ (
         (stands-self a.point, (later, (later, behind-a))),
         ((later, (later, behind-a)), ((stands-self b.point, behind-b), (behind-b, still-rises rest h.1.1))),
@@ -293,19 +297,11 @@ fed-left : (b : Bool) (k : Configuration Resolver Unit) (choices : List Choice) 
 fed-left true k choices name h = h
 fed-left false k choices name h = h
 
-none-first : (name : Name) → Contains (TextStart ∷ []) name → [] ≡ registered_at (Next name)
-none-first name (zero, below, is) = rw (← is) refl
-none-first name (suc i, below, is) = absurd (omega arith)
-
--- choices in front of none
-none-more : (made choices : List Choice) → made ≡ [] → choices ≡ [] → made ++ choices ≡ []
-none-more made choices e f = rw (e, f) refl
-
 module _ (g : Given) where
-  consumes_once : ConsumesOnce g (stars_rules false g)
+  consumes_once : ConsumesOnce g (stars_rules false false g)
   consumes_once text k choices name is h = table-consumes_once stars g stars-fit text k choices name is h.1
 
-  only_adds : OnlyAdds g (stars_rules false g)
+  only_adds : OnlyAdds g (stars_rules false false g)
   only_adds =
       let law = table-only_adds stars g stars-fit in record {
         events = λ text k choices name is h. law.events text k choices name is h.1;
@@ -313,25 +309,27 @@ module _ (g : Given) where
         choices = λ text k choices name is h. law.choices text k choices name is h.1;
       }
 
-  ends_when_read : EndsWhenRead g (stars_rules false g)
+  ends_when_read : EndsWhenRead g (stars_rules false false g)
   ends_when_read = let law = table-ends_when_read stars g stars-fit in record { nok = λ text k is h. law.nok text k is h.1; ok = λ text k is h. law.ok text k is h.1 }
 
-  invariant_kept : KeepsInvariant g (stars_rules false g)
+  invariant_kept : KeepsInvariant g (stars_rules false false g)
   invariant_kept =
-      let law = table-invariant_kept stars g stars-fit in record {
-        at_starts = λ p flag name is among. ((refl, (none-first name among, tt)), law.at_starts p flag name is among);
+      let law = table-invariant_kept stars g stars-fit in
+      let AtStart = λ (name : Name). [] ≡ registered_at (Next name) in
+      record {
+        at_starts = λ p flag name is among. ((refl, (All-contains AtStart (TextStart ∷ []) name (All-cons AtStart TextStart [] refl (All-nil AtStart)) among, tt)), law.at_starts p flag name is among);
         unfed = λ text k choices name is h. law.unfed text k choices name is h.1;
         waits = λ text k choices name is h. law.waits text k choices name is h.1;
         by_feeding = λ text k choices name is h. (fed-left (nat_lt k.position (length text.seats)) k choices name h.0, law.by_feeding text k choices name is h.1);
         by_calls = λ text k choices name is h.
             let left = step-left (name.number == TextStart.number) (name.number == DataStart.number) g (sight g text k) k h.0.1 in
-            ((none-more _ choices left.0 h.0.0, left.1), law.by_calls text k choices name is h.1);
+            ((ap (λ made. made ++ choices) left.0 ∙ h.0.0, left.1), law.by_calls text k choices name is h.1);
         by_ok = λ text k choice choices is h. absurd (let e : choice ∷ choices ≡ [] = h.0.0 in cc);
         by_nok = λ text k choice choices is h. absurd (let e : choice ∷ choices ≡ [] = h.0.0 in cc);
         by_pieces = λ text piece k choices state is fits fresh h. (h.0, law.by_pieces text piece k choices state is fits fresh h.1);
       }
 
-  cost_pays : CostPays g (stars_rules false g)
+  cost_pays : CostPays g (stars_rules false false g)
   cost_pays =
       let law = table-cost_pays stars g stars-fit in record {
         for_calls = λ text k choices name is h. law.for_calls text k choices name is h.1;
@@ -345,10 +343,11 @@ module _ (g : Given) where
   IsPassed text rs k new = stars_resolves false g text rs new × IsAsFar new k × (new.stack ≡ k.stack)
 
   passed-by : (s : Sight) (text : Text) (r : Resolver) (rs : List Resolver) (k new : Configuration Resolver Unit) (more : Option Subresult) → stars_resolves false g text (r ∷ rs) k
-      → stars_resolver false s k r ≡ done new more → IsPassed text rs k new
+      → stars_resolver false false s k r ≡ done new more → IsPassed text rs k new
   passed-by s text Strengthen [] k new more h e =
-      let same : record k { local = record k.local { map = edits_from false 0 k.events } } ≡ new = cc in
-      subst (IsPassed text [] k) same ((refl, h.0, h.1), (refl, refl, refl), refl)
+      let same : strengthens false false k ≡ new = cc in
+      let names = renamed-by strong_name k.events none-void h.1.void_tight in
+      subst (IsPassed text [] k) same ((refl, renamed-unlinked strong_name k.events h.0, renamed-well-formed k.events (map (with_strong_name false) k.events) names g h.1), (refl, refl, refl), refl)
   passed-by s text Strengthen (r ∷ rs) k new more h e = absurd h
 
   -- the edits that wait, and the list behind them
@@ -362,7 +361,7 @@ module _ (g : Given) where
       let same = sym (edited-so xs unlinked) in
       subst (λ es. Ends es xs) (sym is) ((apart 0 (length xs) xs (omega arith), no-links-below (length xs) xs unlinked), subst IsInShape same shape, subst (IsWellFormed g) same well)
 
-  resolvers_keep : ResolversKeep g (stars_rules false g)
+  resolvers_keep : ResolversKeep g (stars_rules false false g)
   resolvers_keep = record {
     at_end = λ text k is formed h.
         let set = h.0.1 in
@@ -371,7 +370,7 @@ module _ (g : Given) where
     at_last = λ text k is h. ends-so k.local.map k.events h.0 h.1 h.2;
   }
 
-  in-order-lawful : IsLawful g (stars_rules false g)
+  in-order-lawful : IsLawful g (stars_rules false false g)
   in-order-lawful = record {
     consumes_once = consumes_once;
     only_adds = only_adds;
@@ -381,7 +380,8 @@ module _ (g : Given) where
     resolvers_keep = resolvers_keep;
   }
 
--- if spans begin where their stars do, the machine is lawful
-pub stars-lawful : (late : Bool) → late ≡ false → (g : Given) → IsLawful g (stars_rules late g)
-stars-lawful true e g = absurd (cc)
-stars-lawful false e g = in-order-lawful g
+-- if both ends of each star are renamed, and spans begin where their sequences do, the machine is lawful
+pub stars-lawful : (alone late : Bool) → alone ≡ false → late ≡ false → (g : Given) → IsLawful g (stars_rules alone late g)
+stars-lawful true late e f g = absurd (cc)
+stars-lawful false true e f g = absurd (cc)
+stars-lawful false false e f g = in-order-lawful g

@@ -18,16 +18,16 @@ returns-then-next-events-clause-follows c =
 pub returns-then-next-events-clause-behind : goal.returns-then-next-events-clause-behind
 returns-then-next-events-clause-behind c = still-before c.args.map.now c.args.index c.requires.before
 
-pub returns-then-not-is_star-clause-follows : goal.returns-then-not-is_star-clause-follows
-returns-then-not-is_star-clause-follows c =
+pub returns-then-not-is_sequence-clause-follows : goal.returns-then-not-is_sequence-clause-follows
+returns-then-not-is_sequence-clause-follows c =
     let xs = c.args.events.now in let i = c.args.index in
     let first = slice_get-get_or xs i no_event c.requires.inside in
     let next = slice_get-get_or xs (i + 1) no_event (next-inside i (length xs) c.requires.inside c.if-next-events.false) in
     none-added BEGINS_LATE c.args.map.now xs i
-    (at-none BEGINS_LATE xs i (get_or xs i no_event) (get_or xs (i + 1) no_event) first next (sym c.is_star.ensures ∙ c.if-not-is_star.true))
+    (at-none BEGINS_LATE xs i (get_or xs i no_event) (get_or xs (i + 1) no_event) first next (sym c.is_sequence.ensures ∙ c.if-not-is_sequence.true))
 
-pub returns-then-not-is_star-clause-behind : goal.returns-then-not-is_star-clause-behind
-returns-then-not-is_star-clause-behind c = still-before c.args.map.now c.args.index c.requires.before
+pub returns-then-not-is_sequence-clause-behind : goal.returns-then-not-is_sequence-clause-behind
+returns-then-not-is_sequence-clause-behind c = still-before c.args.map.now c.args.index c.requires.before
 
 pub returns-clause-follows : goal.returns-clause-follows
 returns-clause-follows c =
@@ -35,7 +35,7 @@ returns-clause-follows c =
     let first = slice_get-get_or xs i no_event c.requires.inside in
     let next = slice_get-get_or xs (i + 1) no_event (next-inside i (length xs) c.requires.inside c.if-next-events.false) in
     one-added BEGINS_LATE c.args.map.now xs i _ _ c.in_ok-add_strong.ensures
-    (at-star BEGINS_LATE xs i (get_or xs i no_event) (get_or xs (i + 1) no_event) first next (sym c.is_star.ensures ∙ c.if-not-is_star.false))
+    (at-star BEGINS_LATE xs i (get_or xs i no_event) (get_or xs (i + 1) no_event) first next (sym c.is_sequence.ensures ∙ c.if-not-is_sequence.false))
 
 pub returns-clause-behind : goal.returns-clause-behind
 returns-clause-behind c = subst (AreBefore (c.args.index + 1)) (sym c.in_ok-add_strong.ensures) (before-more c.args.map.now c.args.index _ c.requires.before)
