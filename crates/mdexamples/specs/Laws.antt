@@ -2,3 +2,4 @@
 pub mod Fields
 pub mod Headings
 pub mod Labels
+pub mod TextLines

@@ -3,4 +3,5 @@ pub mod Headings
 pub mod Kept
 pub mod Labels
 pub mod Laws
+pub mod TextLines
 pub mod Texts

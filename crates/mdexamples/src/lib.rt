@@ -6,4 +6,5 @@ pub mod headings;
 pub mod kept;
 pub mod labels;
 pub mod spans;
+pub mod text_lines;
 pub mod texts;
