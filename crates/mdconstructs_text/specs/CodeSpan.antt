@@ -57,39 +57,39 @@ abbrev pub code_span_grammar : Grammar Found
 code_span_grammar = record { first = is_backtick; on = λ on. on.code_text; front = code_span_at }
 
 -- the options have code spans on
-abbrev pub code_spans_are_on : Given → Sight → Configuration Unit Unit → Bool
+abbrev pub code_spans_are_on : {R D : Type 0} → Given → Sight → Configuration R D → Bool
 code_spans_are_on g s k = g.options.constructs.code_text
 
 -- two backtick strings have equal length
-abbrev pub sizes_are_equal : Given → Sight → Configuration Unit Unit → Bool
+abbrev pub sizes_are_equal : {R D : Type 0} → Given → Sight → Configuration R D → Bool
 sizes_are_equal g s k = k.local.tokenize_state.size_c == k.local.tokenize_state.size_b
 
 -- a line ending is read, and then the state of this name is next
-abbrev pub line_ending_then : Name → Rows Unit Unit
+abbrev pub line_ending_then : {R D : Type 0} → Name → Rows R D
 line_ending_then name = row (enter LineEnding ∷ consume ∷ exit LineEnding ∷ []) (Next name)
 
 -- Code span: it begins at a backtick
-abbrev pub raw_text_start_rows : (previous current : Option TextByte) → Rows Unit Unit
+abbrev pub raw_text_start_rows : {R D : Type 0} → (previous current : Option TextByte) → Rows R D
 raw_text_start_rows _ _ = row (enter CodeText ∷ enter CodeTextSequence ∷ write (size_b_is 0) ∷ []) (Retry RawTextSequenceOpen)
 
 -- its state: it is called only at a backtick, and no span is open yet
-abbrev pub raw_text_start : StateRows TextByte Unit Unit
+abbrev pub raw_text_start : {R D : Type 0} → StateRows TextByte R D
 raw_text_start =
     tried (record (state RawTextStart raw_text_start_rows [] (costs (by_left (λ n. 7 * n - 3)))) { called = at_bytes is_backtick_class })
 
 -- its opening backtick string is read
-abbrev pub raw_text_sequence_open_rows : (previous current : Option TextByte) → Rows Unit Unit
+abbrev pub raw_text_sequence_open_rows : {R D : Type 0} → (previous current : Option TextByte) → Rows R D
 raw_text_sequence_open_rows _ (Some backtick) = row (write size_b_grows ∷ consume ∷ []) (Next RawTextSequenceOpen)
 raw_text_sequence_open_rows _ _ = row (exit CodeTextSequence ∷ []) (Retry RawTextBetween)
 
 -- its state: a code span and its sequence are open
-abbrev pub raw_text_sequence_open : StateRows TextByte Unit Unit
+abbrev pub raw_text_sequence_open : {R D : Type 0} → StateRows TextByte R D
 raw_text_sequence_open =
     tried (record (state RawTextSequenceOpen raw_text_sequence_open_rows (CodeText ∷ CodeTextSequence ∷ [])
     (costs (at_tick (λ n. 7 * n - 4) (λ n. 7 * n + 2)))) { begun = at_byte is_backtick_class })
 
 -- in it a line ending, data, or a backtick string that may close it is read
-abbrev pub raw_text_between_rows : (previous current : Option TextByte) → Rows Unit Unit
+abbrev pub raw_text_between_rows : {R D : Type 0} → (previous current : Option TextByte) → Rows R D
 raw_text_between_rows _ None = row [] Nok
 raw_text_between_rows _ (Some line_feed) = line_ending_then RawTextBetween
 raw_text_between_rows _ (Some backtick) =
@@ -97,12 +97,12 @@ raw_text_between_rows _ (Some backtick) =
 raw_text_between_rows _ (Some _) = row (enter CodeTextData ∷ []) (Retry RawTextData)
 
 -- its state: a code span is open
-abbrev pub raw_text_between : StateRows TextByte Unit Unit
+abbrev pub raw_text_between : {R D : Type 0} → StateRows TextByte R D
 raw_text_between =
     tried (state RawTextBetween raw_text_between_rows (CodeText ∷ []) (costs (by_left (λ n. 7 * n + 1))))
 
 -- data in it ends at a line ending, at a backtick, or at the end
-abbrev pub raw_text_data_rows : (previous current : Option TextByte) → Rows Unit Unit
+abbrev pub raw_text_data_rows : {R D : Type 0} → (previous current : Option TextByte) → Rows R D
 raw_text_data_rows _ None = row (exit CodeTextData ∷ []) (Retry RawTextBetween)
 raw_text_data_rows _ (Some line_feed) = row (exit CodeTextData ∷ []) (Retry RawTextBetween)
 raw_text_data_rows _ (Some backtick) = row (exit CodeTextData ∷ []) (Retry RawTextBetween)
@@ -113,48 +113,48 @@ abbrev pub is_code_data : TextByte → Bool
 is_code_data w = not (ends_code_data (Some w))
 
 -- its state: a code span and its data are open
-abbrev pub raw_text_data : StateRows TextByte Unit Unit
+abbrev pub raw_text_data : {R D : Type 0} → StateRows TextByte R D
 raw_text_data =
     tried (record (state RawTextData raw_text_data_rows (CodeText ∷ CodeTextData ∷ [])
     (costs (λ text p. cond (ends_code_data (waits_at text p)) (7 * left text p + 2) (7 * left text p - 4)))) { begun = at_byte is_code_data })
 
 -- a backtick string closes it if it is as long as the opening one
-abbrev pub raw_text_sequence_close_rows : (previous current : Option TextByte) → Rows Unit Unit
+abbrev pub raw_text_sequence_close_rows : {R D : Type 0} → (previous current : Option TextByte) → Rows R D
 raw_text_sequence_close_rows _ (Some backtick) = row (write size_c_grows ∷ consume ∷ []) (Next RawTextSequenceClose)
 raw_text_sequence_close_rows _ _ = when sizes_are_equal (row (exit CodeTextSequence ∷ []) Ok) (row [] Nok)
 
 -- its state: a sequence is open
-abbrev pub raw_text_sequence_close : StateRows TextByte Unit Unit
+abbrev pub raw_text_sequence_close : {R D : Type 0} → StateRows TextByte R D
 raw_text_sequence_close =
     tried (record (state RawTextSequenceClose raw_text_sequence_close_rows (CodeTextSequence ∷ [])
     (costs (λ text p. ticks text p + 1))) { begun = at_byte is_backtick_class })
 
 -- after that backtick string the code span ends
-abbrev pub raw_flow_after_rows : (previous current : Option TextByte) → Rows Unit Unit
+abbrev pub raw_flow_after_rows : {R D : Type 0} → (previous current : Option TextByte) → Rows R D
 raw_flow_after_rows _ _ = row (exit CodeText ∷ []) Ok
 
 -- its state: a code span is open
-abbrev pub raw_flow_after : StateRows TextByte Unit Unit
+abbrev pub raw_flow_after : {R D : Type 0} → StateRows TextByte R D
 raw_flow_after =
     tried (state RawFlowAfter raw_flow_after_rows (CodeText ∷ []) (costs (by_left (λ n. 1))))
 
 -- a backtick string of another length is data
-abbrev pub raw_flow_before_content_chunk_rows : (previous current : Option TextByte) → Rows Unit Unit
+abbrev pub raw_flow_before_content_chunk_rows : {R D : Type 0} → (previous current : Option TextByte) → Rows R D
 raw_flow_before_content_chunk_rows _ _ = row (enter CodeTextData ∷ []) (Retry RawFlowContentChunk)
 
 -- its state: it is called only at a backtick, and a code span is open
-abbrev pub raw_flow_before_content_chunk : StateRows TextByte Unit Unit
+abbrev pub raw_flow_before_content_chunk : {R D : Type 0} → StateRows TextByte R D
 raw_flow_before_content_chunk =
     tried (record (state RawFlowBeforeContentChunk raw_flow_before_content_chunk_rows (CodeText ∷ [])
     (costs (λ text p. 7 * left text p - 6 * ticks text p + 4))) { called = at_bytes is_backtick_class })
 
 -- that backtick string is read whole
-abbrev pub raw_flow_content_chunk_rows : (previous current : Option TextByte) → Rows Unit Unit
+abbrev pub raw_flow_content_chunk_rows : {R D : Type 0} → (previous current : Option TextByte) → Rows R D
 raw_flow_content_chunk_rows _ (Some backtick) = row (consume ∷ []) (Next RawFlowContentChunk)
 raw_flow_content_chunk_rows _ _ = row [] (Retry RawTextData)
 
 -- its state: a code span and its data are open
-abbrev pub raw_flow_content_chunk : StateRows TextByte Unit Unit
+abbrev pub raw_flow_content_chunk : {R D : Type 0} → StateRows TextByte R D
 raw_flow_content_chunk =
     tried (record (state RawFlowContentChunk raw_flow_content_chunk_rows (CodeText ∷ CodeTextData ∷ [])
     (costs (λ text p. 7 * left text p - 6 * ticks text p + 3))) { begun = at_byte is_backtick_class })
@@ -165,7 +165,7 @@ code_span_begun name w =
     is_tick w && ((name.number == RawTextStart.number) || ((name.number == RawTextSequenceOpen.number) || (name.number == RawTextSequenceClose.number)))
 
 -- How code spans are read
-abbrev pub code_spans : Construct Found TextByte Unit Unit
+abbrev pub code_spans : {R D : Type 0} → Construct Found TextByte R D
 code_spans = record {
   grammar = code_span_grammar;
   begins = is_backtick_class;

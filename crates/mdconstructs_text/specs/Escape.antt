@@ -30,24 +30,24 @@ abbrev pub escape_grammar : Grammar Found
 escape_grammar = record { first = is_backslash; on = λ on. on.character_escape; front = escape_at }
 
 -- the options have backslash escapes on
-abbrev pub escapes_are_on : Given → Sight → Configuration Unit Unit → Bool
+abbrev pub escapes_are_on : {R D : Type 0} → Given → Sight → Configuration R D → Bool
 escapes_are_on g s k = g.options.constructs.character_escape
 
 -- Backslash escape: a backslash
-abbrev pub escape_start_rows : (previous current : Option TextByte) → Rows Unit Unit
+abbrev pub escape_start_rows : {R D : Type 0} → (previous current : Option TextByte) → Rows R D
 escape_start_rows _ _ = row (enter CharacterEscape ∷ enter CharacterEscapeMarker ∷ consume ∷ exit CharacterEscapeMarker ∷ []) (Next CharacterEscapeInside)
 
 -- its state: it is called only at a backslash, and no span is open yet
-abbrev pub escape_start : StateRows TextByte Unit Unit
+abbrev pub escape_start : {R D : Type 0} → StateRows TextByte R D
 escape_start =
     tried (record (state CharacterEscapeStart escape_start_rows [] (costs (by_left (λ n. n + 1)))) { called = at_bytes is_backslash_class })
 
 -- the character that is escaped
-abbrev pub escaped : Rows Unit Unit
+abbrev pub escaped : {R D : Type 0} → Rows R D
 escaped = row (enter CharacterEscapeValue ∷ consume ∷ exit CharacterEscapeValue ∷ exit CharacterEscape ∷ []) Ok
 
 -- an ASCII punctuation character follows the backslash
-abbrev pub escape_inside_rows : (previous current : Option TextByte) → Rows Unit Unit
+abbrev pub escape_inside_rows : {R D : Type 0} → (previous current : Option TextByte) → Rows R D
 escape_inside_rows _ (Some backtick) = escaped
 escape_inside_rows _ (Some less) = escaped
 escape_inside_rows _ (Some greater) = escaped
@@ -58,12 +58,12 @@ escape_inside_rows _ (Some punctuation) = escaped
 escape_inside_rows _ _ = row [] Nok
 
 -- its state: a backslash escape is open
-abbrev pub escape_inside : StateRows TextByte Unit Unit
+abbrev pub escape_inside : {R D : Type 0} → StateRows TextByte R D
 escape_inside =
     tried (state CharacterEscapeInside escape_inside_rows (CharacterEscape ∷ []) (costs (by_left (λ n. n + 1))))
 
 -- How backslash escapes are read
-abbrev pub escapes : Construct Found TextByte Unit Unit
+abbrev pub escapes : {R D : Type 0} → Construct Found TextByte R D
 escapes = record {
   grammar = escape_grammar;
   begins = is_backslash_class;

@@ -7,17 +7,17 @@ abbrev pub more_than : ℕ → ℕ
 more_than n = min (n + 1) (2 ^ 64 - 1)
 
 -- the size of the opening backtick string, or of a scheme, is set
-abbrev pub size_b_is : ℕ → Configuration Unit Unit → Local Unit Unit
+abbrev pub size_b_is : {R D : Type 0} → ℕ → Configuration R D → Local R D
 size_b_is n k = record k.local { tokenize_state = record k.local.tokenize_state { size_b = n } }
 
 -- the size of a backtick string that may close a code span is set
-abbrev pub size_c_is : ℕ → Configuration Unit Unit → Local Unit Unit
+abbrev pub size_c_is : {R D : Type 0} → ℕ → Configuration R D → Local R D
 size_c_is n k = record k.local { tokenize_state = record k.local.tokenize_state { size_c = n } }
 
 -- the first size grows by one
-abbrev pub size_b_grows : Configuration Unit Unit → Local Unit Unit
+abbrev pub size_b_grows : {R D : Type 0} → Configuration R D → Local R D
 size_b_grows k = size_b_is (more_than k.local.tokenize_state.size_b) k
 
 -- the second size grows by one
-abbrev pub size_c_grows : Configuration Unit Unit → Local Unit Unit
+abbrev pub size_c_grows : {R D : Type 0} → Configuration R D → Local R D
 size_c_grows k = size_c_is (more_than k.local.tokenize_state.size_c) k

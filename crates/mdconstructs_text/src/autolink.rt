@@ -17,16 +17,17 @@ ghost use Rattle.mdconstructs_text.specs.Autolink.{has_scheme, has_room, scheme_
 ghost use Rattle.mdconstructs_text.specs.TextBytes.{text_byte};
 
 use crate::sizes::{add_to_size_b, set_size_b};
-use crate::text::Text;
 use markdown_tokenizer::event;
-use markdown_tokenizer::state::{Name, State};
+use markdown_tokenizer::state::{MachineTypes, Name, State};
 use markdown_tokenizer::tokenizer::Tokenizer;
 use markdown_tokenizer::util::constant::AUTOLINK_SCHEME_SIZE_MAX;
 use mdconstructs_tables::marker;
 use std::alloc::AllocError;
 
 /// At `<`: an autolink is tried.
-pub(crate) fn autolink_start<'a>(t: &mut Tokenizer<'a, Text>) -> Result<State, AllocError>
+pub(crate) fn autolink_start<'a, M: MachineTypes>(
+    t: &mut Tokenizer<'a, M>,
+) -> Result<State, AllocError>
     requires { IsCallable text_byte autolink_start t.old }
     ensures { IfOk result (DoesAll (step_in text_byte autolink_start t.old) t.old t.new) }
 {
@@ -37,7 +38,9 @@ pub(crate) fn autolink_start<'a>(t: &mut Tokenizer<'a, Text>) -> Result<State, A
 }
 
 /// At the start of the scheme of an autolink.
-pub(crate) fn autolink_open<'a>(t: &mut Tokenizer<'a, Text>) -> Result<State, AllocError>
+pub(crate) fn autolink_open<'a, M: MachineTypes>(
+    t: &mut Tokenizer<'a, M>,
+) -> Result<State, AllocError>
     requires { IsCallable text_byte autolink_open t.old }
     ensures { IfOk result (DoesAll (step_in text_byte autolink_open t.old) t.old t.new) }
 {
@@ -52,7 +55,9 @@ pub(crate) fn autolink_open<'a>(t: &mut Tokenizer<'a, Text>) -> Result<State, Al
 }
 
 /// In the scheme of an autolink, which has 2 to `AUTOLINK_SCHEME_SIZE_MAX` bytes.
-pub(crate) fn autolink_scheme<'a>(t: &mut Tokenizer<'a, Text>) -> Result<State, AllocError>
+pub(crate) fn autolink_scheme<'a, M: MachineTypes>(
+    t: &mut Tokenizer<'a, M>,
+) -> Result<State, AllocError>
     requires { IsCallable text_byte autolink_scheme t.old }
     ensures { IfOk result (DoesAll (step_in text_byte autolink_scheme t.old) t.old t.new) }
 {
@@ -72,7 +77,9 @@ pub(crate) fn autolink_scheme<'a>(t: &mut Tokenizer<'a, Text>) -> Result<State, 
 }
 
 /// In an autolink, after its scheme.
-pub(crate) fn autolink_url<'a>(t: &mut Tokenizer<'a, Text>) -> Result<State, AllocError>
+pub(crate) fn autolink_url<'a, M: MachineTypes>(
+    t: &mut Tokenizer<'a, M>,
+) -> Result<State, AllocError>
     requires { IsCallable text_byte autolink_url t.old }
     ensures { IfOk result (DoesAll (step_in text_byte autolink_url t.old) t.old t.new) }
 {
@@ -92,7 +99,7 @@ pub(crate) fn autolink_url<'a>(t: &mut Tokenizer<'a, Text>) -> Result<State, All
 }
 
 /// At a byte of a scheme: reads it if the scheme is not too long.
-fn go_on_in_scheme<'a>(t: &mut Tokenizer<'a, Text>) -> State
+fn go_on_in_scheme<'a, M: MachineTypes>(t: &mut Tokenizer<'a, M>) -> State
     requires { t.old.configuration.waiting ≡ Byte }
     ensures { DoesAll (step_of (picked scheme_goes_on t.old.given (sight_of t.old) t.old.configuration) (sight_of t.old) t.old.configuration) t.old t.new result }
 {
@@ -106,21 +113,21 @@ fn go_on_in_scheme<'a>(t: &mut Tokenizer<'a, Text>) -> State
 }
 
 /// Whether a scheme is long enough.
-fn has_scheme<'a>(t: &Tokenizer<'a, Text>) -> bool
+fn has_scheme<'a, M: MachineTypes>(t: &Tokenizer<'a, M>) -> bool
     ensures { result ≡ has_scheme t.now.given (sight_of t.now) t.now.configuration }
 {
     t.tokenize_state.size_b >= 2
 }
 
 /// Whether a scheme may have a byte more.
-fn has_room<'a>(t: &Tokenizer<'a, Text>) -> bool
+fn has_room<'a, M: MachineTypes>(t: &Tokenizer<'a, M>) -> bool
     ensures { result ≡ has_room t.now.given (sight_of t.now) t.now.configuration }
 {
     t.tokenize_state.size_b < AUTOLINK_SCHEME_SIZE_MAX
 }
 
 /// Whether autolinks are on.
-pub(crate) fn autolinks_are_on<'a>(t: &Tokenizer<'a, Text>) -> bool
+pub(crate) fn autolinks_are_on<'a, M: MachineTypes>(t: &Tokenizer<'a, M>) -> bool
     ensures { result ≡ autolinks_are_on t.now.given (sight_of t.now) t.now.configuration }
 {
     t.parse_state().options.constructs.autolink

@@ -16,15 +16,16 @@ ghost use Rattle.mdconstructs_text.specs.CodeSpan.{sizes_are_equal, code_spans_a
 ghost use Rattle.mdconstructs_text.specs.TextBytes.{text_byte, is_tick};
 
 use crate::sizes::{add_to_size_b, add_to_size_c, set_size_b, set_size_c};
-use crate::text::Text;
 use markdown_tokenizer::event;
-use markdown_tokenizer::state::{Name, State};
+use markdown_tokenizer::state::{MachineTypes, Name, State};
 use markdown_tokenizer::tokenizer::Tokenizer;
 use mdconstructs_tables::marker;
 use std::alloc::AllocError;
 
 /// At a backtick: a code span is tried.
-pub(crate) fn raw_text_start<'a>(t: &mut Tokenizer<'a, Text>) -> Result<State, AllocError>
+pub(crate) fn raw_text_start<'a, M: MachineTypes>(
+    t: &mut Tokenizer<'a, M>,
+) -> Result<State, AllocError>
     requires { IsCallable text_byte raw_text_start t.old }
     ensures { IfOk result (DoesAll (step_in text_byte raw_text_start t.old) t.old t.new) }
 {
@@ -35,7 +36,9 @@ pub(crate) fn raw_text_start<'a>(t: &mut Tokenizer<'a, Text>) -> Result<State, A
 }
 
 /// In the backtick string that opens a code span.
-pub(crate) fn raw_text_sequence_open<'a>(t: &mut Tokenizer<'a, Text>) -> Result<State, AllocError>
+pub(crate) fn raw_text_sequence_open<'a, M: MachineTypes>(
+    t: &mut Tokenizer<'a, M>,
+) -> Result<State, AllocError>
     requires { IsCallable text_byte raw_text_sequence_open t.old }
     ensures { IfOk result (DoesAll (step_in text_byte raw_text_sequence_open t.old) t.old t.new) }
 {
@@ -50,7 +53,9 @@ pub(crate) fn raw_text_sequence_open<'a>(t: &mut Tokenizer<'a, Text>) -> Result<
 }
 
 /// In a code span, between line endings and data.
-pub(crate) fn raw_text_between<'a>(t: &mut Tokenizer<'a, Text>) -> Result<State, AllocError>
+pub(crate) fn raw_text_between<'a, M: MachineTypes>(
+    t: &mut Tokenizer<'a, M>,
+) -> Result<State, AllocError>
     requires { IsCallable text_byte raw_text_between t.old }
     ensures { IfOk result (DoesAll (step_in text_byte raw_text_between t.old) t.old t.new) }
 {
@@ -77,7 +82,9 @@ pub(crate) fn raw_text_between<'a>(t: &mut Tokenizer<'a, Text>) -> Result<State,
 }
 
 /// In data of a code span.
-pub(crate) fn raw_text_data<'a>(t: &mut Tokenizer<'a, Text>) -> Result<State, AllocError>
+pub(crate) fn raw_text_data<'a, M: MachineTypes>(
+    t: &mut Tokenizer<'a, M>,
+) -> Result<State, AllocError>
     requires { IsCallable text_byte raw_text_data t.old }
     ensures { IfOk result (DoesAll (step_in text_byte raw_text_data t.old) t.old t.new) }
 {
@@ -94,7 +101,9 @@ pub(crate) fn raw_text_data<'a>(t: &mut Tokenizer<'a, Text>) -> Result<State, Al
 }
 
 /// In a backtick string that may close a code span: it does if it is as long as the one that opened it.
-pub(crate) fn raw_text_sequence_close<'a>(t: &mut Tokenizer<'a, Text>) -> Result<State, AllocError>
+pub(crate) fn raw_text_sequence_close<'a, M: MachineTypes>(
+    t: &mut Tokenizer<'a, M>,
+) -> Result<State, AllocError>
     requires { IsCallable text_byte raw_text_sequence_close t.old }
     ensures { IfOk result (DoesAll (step_in text_byte raw_text_sequence_close t.old) t.old t.new) }
 {
@@ -109,7 +118,9 @@ pub(crate) fn raw_text_sequence_close<'a>(t: &mut Tokenizer<'a, Text>) -> Result
 }
 
 /// After the backtick string that closed a code span.
-pub(crate) fn raw_flow_after<'a>(t: &mut Tokenizer<'a, Text>) -> Result<State, AllocError>
+pub(crate) fn raw_flow_after<'a, M: MachineTypes>(
+    t: &mut Tokenizer<'a, M>,
+) -> Result<State, AllocError>
     requires { IsCallable text_byte raw_flow_after t.old }
     ensures { IfOk result (DoesAll (step_in text_byte raw_flow_after t.old) t.old t.new) }
 {
@@ -118,8 +129,8 @@ pub(crate) fn raw_flow_after<'a>(t: &mut Tokenizer<'a, Text>) -> Result<State, A
 }
 
 /// At a backtick string that closes nothing: it begins data of the code span.
-pub(crate) fn raw_flow_before_content_chunk<'a>(
-    t: &mut Tokenizer<'a, Text>,
+pub(crate) fn raw_flow_before_content_chunk<'a, M: MachineTypes>(
+    t: &mut Tokenizer<'a, M>,
 ) -> Result<State, AllocError>
     requires { IsCallable text_byte raw_flow_before_content_chunk t.old }
     ensures { IfOk result (DoesAll (step_in text_byte raw_flow_before_content_chunk t.old) t.old t.new) }
@@ -129,7 +140,9 @@ pub(crate) fn raw_flow_before_content_chunk<'a>(
 }
 
 /// In a backtick string that begins data of a code span.
-pub(crate) fn raw_flow_content_chunk<'a>(t: &mut Tokenizer<'a, Text>) -> Result<State, AllocError>
+pub(crate) fn raw_flow_content_chunk<'a, M: MachineTypes>(
+    t: &mut Tokenizer<'a, M>,
+) -> Result<State, AllocError>
     requires { IsCallable text_byte raw_flow_content_chunk t.old }
     ensures { IfOk result (DoesAll (step_in text_byte raw_flow_content_chunk t.old) t.old t.new) }
 {
@@ -143,7 +156,7 @@ pub(crate) fn raw_flow_content_chunk<'a>(t: &mut Tokenizer<'a, Text>) -> Result<
 }
 
 /// After the backtick string that opens a code span.
-fn after_opening<'a>(t: &mut Tokenizer<'a, Text>) -> Result<State, AllocError>
+fn after_opening<'a, M: MachineTypes>(t: &mut Tokenizer<'a, M>) -> Result<State, AllocError>
     requires called { IsCallable text_byte raw_text_sequence_open t.old }
     requires other { is_tick (class_of text_byte (sight_of t.old).current) ≡ false }
     ensures { IfOk result (DoesAll (step_in text_byte raw_text_sequence_open t.old) t.old t.new) }
@@ -153,7 +166,7 @@ fn after_opening<'a>(t: &mut Tokenizer<'a, Text>) -> Result<State, AllocError>
 }
 
 /// After a backtick string that may close a code span.
-fn after_closing<'a>(t: &mut Tokenizer<'a, Text>) -> Result<State, AllocError>
+fn after_closing<'a, M: MachineTypes>(t: &mut Tokenizer<'a, M>) -> Result<State, AllocError>
     requires called { IsCallable text_byte raw_text_sequence_close t.old }
     requires other { is_tick (class_of text_byte (sight_of t.old).current) ≡ false }
     ensures { IfOk result (DoesAll (step_in text_byte raw_text_sequence_close t.old) t.old t.new) }
@@ -167,14 +180,14 @@ fn after_closing<'a>(t: &mut Tokenizer<'a, Text>) -> Result<State, AllocError>
 }
 
 /// Whether the two backtick strings have equal length.
-fn sizes_are_equal<'a>(t: &Tokenizer<'a, Text>) -> bool
+fn sizes_are_equal<'a, M: MachineTypes>(t: &Tokenizer<'a, M>) -> bool
     ensures { result ≡ sizes_are_equal t.now.given (sight_of t.now) t.now.configuration }
 {
     t.tokenize_state.size_c == t.tokenize_state.size_b
 }
 
 /// Whether code spans are on.
-pub(crate) fn code_spans_are_on<'a>(t: &Tokenizer<'a, Text>) -> bool
+pub(crate) fn code_spans_are_on<'a, M: MachineTypes>(t: &Tokenizer<'a, M>) -> bool
     ensures { result ≡ code_spans_are_on t.now.given (sight_of t.now) t.now.configuration }
 {
     t.parse_state().options.constructs.code_text

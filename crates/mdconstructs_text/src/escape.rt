@@ -12,15 +12,16 @@ ghost use Rattle.mdconstructs_tables.specs.RowInvariant.{DoesAll, IsCallable, st
 ghost use Rattle.mdconstructs_text.specs.Escape.{escapes_are_on, escape_start, escape_inside};
 ghost use Rattle.mdconstructs_text.specs.TextBytes.{text_byte};
 
-use crate::text::Text;
 use markdown_tokenizer::event;
-use markdown_tokenizer::state::{Name, State};
+use markdown_tokenizer::state::{MachineTypes, Name, State};
 use markdown_tokenizer::tokenizer::Tokenizer;
 use mdconstructs_tables::marker;
 use std::alloc::AllocError;
 
 /// At a backslash: a backslash escape is tried.
-pub(crate) fn escape_start<'a>(t: &mut Tokenizer<'a, Text>) -> Result<State, AllocError>
+pub(crate) fn escape_start<'a, M: MachineTypes>(
+    t: &mut Tokenizer<'a, M>,
+) -> Result<State, AllocError>
     requires { IsCallable text_byte escape_start t.old }
     ensures { IfOk result (DoesAll (step_in text_byte escape_start t.old) t.old t.new) }
 {
@@ -30,7 +31,9 @@ pub(crate) fn escape_start<'a>(t: &mut Tokenizer<'a, Text>) -> Result<State, All
 }
 
 /// After the backslash of a backslash escape.
-pub(crate) fn escape_inside<'a>(t: &mut Tokenizer<'a, Text>) -> Result<State, AllocError>
+pub(crate) fn escape_inside<'a, M: MachineTypes>(
+    t: &mut Tokenizer<'a, M>,
+) -> Result<State, AllocError>
     requires { IsCallable text_byte escape_inside t.old }
     ensures { IfOk result (DoesAll (step_in text_byte escape_inside t.old) t.old t.new) }
 {
@@ -49,7 +52,7 @@ pub(crate) fn escape_inside<'a>(t: &mut Tokenizer<'a, Text>) -> Result<State, Al
 }
 
 /// Whether backslash escapes are on.
-pub(crate) fn escapes_are_on<'a>(t: &Tokenizer<'a, Text>) -> bool
+pub(crate) fn escapes_are_on<'a, M: MachineTypes>(t: &Tokenizer<'a, M>) -> bool
     ensures { result ≡ escapes_are_on t.now.given (sight_of t.now) t.now.configuration }
 {
     t.parse_state().options.constructs.character_escape

@@ -12,48 +12,48 @@ use Rattle.mdconstructs_text.proofs.Autolinks.Places.{text-joined}
 use Rattle.mdconstructs_text.proofs.Texts.Reads.{ReadsPart}
 
 -- a scheme begins at a letter
-open-class : (before : Option TextByte) (b : ℕ) → is_ascii_alphabetic b ≡ true → autolink_open_rows before (Some (text_byte b)) ≡ autolink_open_rows before (Some letter)
+open-class : (before : Option TextByte) (b : ℕ) → is_ascii_alphabetic b ≡ true → autolink_open_rows {R = Unit} {D = Unit} before (Some (text_byte b)) ≡ autolink_open_rows {R = Unit} {D = Unit} before (Some letter)
 open-class before b h =
-    by-class (λ w. autolink_open_rows before (Some w) ≡ autolink_open_rows before (Some letter)) b
+    by-class (λ w. autolink_open_rows {R = Unit} {D = Unit} before (Some w) ≡ autolink_open_rows {R = Unit} {D = Unit} before (Some letter)) b
     (λ e. absurd (grind (arith, nat_tests))) (λ e. absurd (grind (arith, nat_tests))) (λ e. absurd (grind (arith, nat_tests))) (λ e. absurd (grind (arith, nat_tests)))
     (λ e. absurd (grind (arith, nat_tests))) (λ e. absurd (grind (arith, nat_tests))) (λ e. refl) (λ e f. absurd (cc)) (λ e. absurd (grind (arith, nat_tests)))
     (λ o e. absurd (cc (o.6))) (λ o e. absurd (cc (o.6))) (λ o n e. absurd (cc (o.6)))
 
 -- and at no other byte, nor at the end
-open-refused : (before : Option TextByte) (o : Option ℕ) → passes is_ascii_alphabetic o ≡ false → autolink_open_rows before (class_of text_byte o) ≡ row [] Nok
+open-refused : (before : Option TextByte) (o : Option ℕ) → passes is_ascii_alphabetic o ≡ false → autolink_open_rows {R = Unit} {D = Unit} before (class_of text_byte o) ≡ row [] Nok
 open-refused before None h = refl
 open-refused before (Some b) h =
-    by-class (λ w. autolink_open_rows before (Some w) ≡ row [] Nok) b
+    by-class (λ w. autolink_open_rows {R = Unit} {D = Unit} before (Some w) ≡ row [] Nok) b
     (λ e. refl) (λ e. refl) (λ e. refl) (λ e. refl) (λ e. refl) (λ e. refl) (λ e. absurd (cc)) (λ e f. refl) (λ e. refl) (λ o e. refl) (λ o e. refl) (λ o n e. refl)
 
 -- it goes on at the bytes of schemes, and may end at a colon
-scheme-class : (before : Option TextByte) (b : ℕ) → is_scheme_byte b ≡ true → autolink_scheme_rows before (Some (text_byte b)) ≡ scheme_goes_on
+scheme-class : (before : Option TextByte) (b : ℕ) → is_scheme_byte b ≡ true → autolink_scheme_rows {R = Unit} {D = Unit} before (Some (text_byte b)) ≡ scheme_goes_on
 scheme-class before b h =
-    by-class (λ w. autolink_scheme_rows before (Some w) ≡ scheme_goes_on) b
+    by-class (λ w. autolink_scheme_rows {R = Unit} {D = Unit} before (Some w) ≡ scheme_goes_on) b
     (λ e. absurd (grind (arith, nat_tests))) (λ e. absurd (grind (arith, nat_tests))) (λ e. absurd (grind (arith, nat_tests))) (λ e. absurd (grind (arith, nat_tests)))
     (λ e. absurd (grind (arith, nat_tests))) (λ e. absurd (grind (arith, nat_tests))) (λ e. refl) (λ e f. refl) (λ e. refl)
     (λ o e. absurd (grind (arith, nat_tests, o))) (λ o e. absurd (grind (arith, nat_tests, o))) (λ o n e. absurd (grind (arith, nat_tests, o)))
 
 -- any other byte refuses it, and so does the end
-scheme-refused : (before : Option TextByte) (o : Option ℕ) → passes is_scheme_byte o ≡ false → passes (λ b. b == 58) o ≡ false → autolink_scheme_rows before (class_of text_byte o) ≡ row [] Nok
+scheme-refused : (before : Option TextByte) (o : Option ℕ) → passes is_scheme_byte o ≡ false → passes (λ b. b == 58) o ≡ false → autolink_scheme_rows {R = Unit} {D = Unit} before (class_of text_byte o) ≡ row [] Nok
 scheme-refused before None h i = refl
 scheme-refused before (Some b) h i =
-    by-class (λ w. autolink_scheme_rows before (Some w) ≡ row [] Nok) b
+    by-class (λ w. autolink_scheme_rows {R = Unit} {D = Unit} before (Some w) ≡ row [] Nok) b
     (λ e. refl) (λ e. refl) (λ e. refl) (λ e. refl) (λ e. refl) (λ e. absurd (cc))
     (λ e. absurd (grind (arith, nat_tests))) (λ e f. absurd (grind (arith, nat_tests))) (λ e. absurd (grind (arith, nat_tests))) (λ o e. refl) (λ o e. refl) (λ o n e. refl)
 
 -- behind the scheme all allowed bytes are read, and it may end at `>`
-link-class : (before : Option TextByte) (b : ℕ) → is_allowed b ≡ true → autolink_url_rows before (Some (text_byte b)) ≡ row (consume ∷ []) (Next AutolinkUrlInside)
+link-class : (before : Option TextByte) (b : ℕ) → is_allowed b ≡ true → autolink_url_rows {R = Unit} {D = Unit} before (Some (text_byte b)) ≡ row (consume ∷ []) (Next AutolinkUrlInside)
 link-class before b h =
-    by-class (λ w. autolink_url_rows before (Some w) ≡ row (consume ∷ []) (Next AutolinkUrlInside)) b
+    by-class (λ w. autolink_url_rows {R = Unit} {D = Unit} before (Some w) ≡ row (consume ∷ []) (Next AutolinkUrlInside)) b
     (λ e. absurd (grind (arith, nat_tests))) (λ e. refl) (λ e. absurd (grind (arith, nat_tests))) (λ e. absurd (grind (arith, nat_tests)))
     (λ e. refl) (λ e. refl) (λ e. refl) (λ e f. refl) (λ e. refl) (λ o e. refl) (λ o e. absurd (grind (arith, nat_tests))) (λ o n e. refl)
 
 -- any other byte refuses it, and so does the end
-link-refused : (before : Option TextByte) (o : Option ℕ) → passes is_allowed o ≡ false → passes (λ b. b == 62) o ≡ false → autolink_url_rows before (class_of text_byte o) ≡ row [] Nok
+link-refused : (before : Option TextByte) (o : Option ℕ) → passes is_allowed o ≡ false → passes (λ b. b == 62) o ≡ false → autolink_url_rows {R = Unit} {D = Unit} before (class_of text_byte o) ≡ row [] Nok
 link-refused before None h i = refl
 link-refused before (Some b) h i =
-    by-class (λ w. autolink_url_rows before (Some w) ≡ row [] Nok) b
+    by-class (λ w. autolink_url_rows {R = Unit} {D = Unit} before (Some w) ≡ row [] Nok) b
     (λ e. refl) (λ e. absurd (grind (arith, nat_tests))) (λ e. refl) (λ e. absurd (cc))
     (λ e. absurd (grind (arith, nat_tests))) (λ e. absurd (grind (arith, nat_tests))) (λ e. absurd (grind (arith, nat_tests))) (λ e f. absurd (grind (arith, nat_tests))) (λ e. absurd (grind (arith, nat_tests)))
     (λ o e. absurd (grind (arith, nat_tests, o))) (λ o e. refl) (λ o n e. absurd (grind (arith, nat_tests, o)))

@@ -52,7 +52,7 @@ data_length bytes = position_or_len is_backtick_or_line_feed bytes
 
 -- data begins, and is read
 abbrev AtData : Option TextByte → TextByte → Type 0
-AtData b w = (raw_text_between_rows b (Some w) ≡ row (enter CodeTextData ∷ []) (Retry RawTextData)) × (raw_text_data_rows b (Some w) ≡ row (consume ∷ []) (Next RawTextData))
+AtData b w = (raw_text_between_rows {R = Unit} {D = Unit} b (Some w) ≡ row (enter CodeTextData ∷ []) (Retry RawTextData)) × (raw_text_data_rows {R = Unit} {D = Unit} b (Some w) ≡ row (consume ∷ []) (Next RawTextData))
 
 -- at each byte of data
 at-data : (before : Option TextByte) (b : ℕ) → is_backtick_or_line_feed b ≡ false → AtData before (text_byte b)
@@ -67,12 +67,12 @@ line-feed-class b h = let e : b ≡ 10 = grind (arith, nat_tests) in ap text_byt
 
 -- data ends at a byte that is none, and at the end
 data-ended : (before : Option TextByte) (o : Option ℕ) → passes (λ b. not (is_backtick_or_line_feed b)) o ≡ false
-    → raw_text_data_rows before (class_of text_byte o) ≡ row (exit CodeTextData ∷ []) (Retry RawTextBetween)
+    → raw_text_data_rows {R = Unit} {D = Unit} before (class_of text_byte o) ≡ row (exit CodeTextData ∷ []) (Retry RawTextBetween)
 data-ended before None h = refl
 data-ended before (Some b) h =
-    elim (b == 10) as (λ t. (t || (b == 96)) ≡ true → (b == 10) ≡ t → raw_text_data_rows before (Some (text_byte b)) ≡ row (exit CodeTextData ∷ []) (Retry RawTextBetween)) [
-      | true ↦ λ i e. ap (λ w. raw_text_data_rows before (Some w)) (line-feed-class b e)
-      | false ↦ λ i e. ap (λ w. raw_text_data_rows before (Some w)) (tick-class b i)
+    elim (b == 10) as (λ t. (t || (b == 96)) ≡ true → (b == 10) ≡ t → raw_text_data_rows {R = Unit} {D = Unit} before (Some (text_byte b)) ≡ row (exit CodeTextData ∷ []) (Retry RawTextBetween)) [
+      | true ↦ λ i e. ap (λ w. raw_text_data_rows {R = Unit} {D = Unit} before (Some w)) (line-feed-class b e)
+      | false ↦ λ i e. ap (λ w. raw_text_data_rows {R = Unit} {D = Unit} before (Some w)) (tick-class b i)
     ] (not-false _ h) refl
 
 -- runs that are there have at least a byte

@@ -37,7 +37,7 @@ pub autolink-paid : ArePaid texts begins_construct autolinks.states
 autolink-paid = (autolink-start-pays, (autolink-open-pays, (autolink-scheme-pays, (autolink-url-pays, tt))))
 
 -- none of its states goes on once a part of it was there
-pub autolink-falls : AllFall follows_construct autolinks.states
+pub autolink-falls : AllFall follows_construct (autolinks {R = Unit} {D = Unit}).states
 autolink-falls = tt
 
 -- the state between constructs pays for one that is tried
@@ -45,7 +45,7 @@ pub autolink-entry : PaysEntry autolinks
 autolink-entry b less text p at begins = entry (length text.seats) p (length text.seats - p + 1) at (omega (arith, at))
 autolink-entry b _ text p at begins = absurd (cc)
 
-pub autolink-writes : (previous current : Option TextByte) → StatesWritePlain autolinks.states previous current
+pub autolink-writes : (previous current : Option TextByte) → StatesWritePlain (autolinks {R = Unit} {D = Unit}).states previous current
 autolink-writes previous (Some letter) = (b-is 1, (b-grows, tt))
 autolink-writes previous (Some digit) = (b-grows, tt)
 autolink-writes previous (Some mark) = (b-grows, tt)

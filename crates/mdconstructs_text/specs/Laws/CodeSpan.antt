@@ -52,7 +52,7 @@ pub code-span-paid : ArePaid texts begins_construct code_spans.states
 code-span-paid = (raw-text-start-pays, (raw-text-sequence-open-pays, (raw-text-between-pays, (raw-text-data-pays, (raw-text-sequence-close-pays, (raw-flow-after-pays, (raw-flow-before-content-chunk-pays, (raw-flow-content-chunk-pays, tt))))))))
 
 -- what goes on once a part of it was there costs less the more was read
-pub code-span-falls : AllFall follows_construct code_spans.states
+pub code-span-falls : AllFall follows_construct (code_spans {R = Unit} {D = Unit}).states
 code-span-falls = ((λ text p q h. omega arith), tt)
 
 -- the state between constructs pays for one that is tried
@@ -60,6 +60,6 @@ pub code-span-entry : PaysEntry code_spans
 code-span-entry b backtick text p at begins = entry (length text.seats) p (7 * (length text.seats - p) - 3) at (omega arith)
 code-span-entry b _ text p at begins = absurd (cc)
 
-pub code-span-writes : (previous current : Option TextByte) → StatesWritePlain code_spans.states previous current
+pub code-span-writes : (previous current : Option TextByte) → StatesWritePlain (code_spans {R = Unit} {D = Unit}).states previous current
 code-span-writes previous (Some backtick) = (b-is 0, (b-grows, (c-is 0, (c-grows, tt))))
 code-span-writes previous _ = (b-is 0, tt)

@@ -21,7 +21,7 @@ pub escape-paid : ArePaid texts begins_construct escapes.states
 escape-paid = (escape-start-pays, (escape-inside-pays, tt))
 
 -- none of its states goes on once a part of it was there
-pub escape-falls : AllFall follows_construct escapes.states
+pub escape-falls : AllFall follows_construct (escapes {R = Unit} {D = Unit}).states
 escape-falls = tt
 
 -- the state between constructs pays for one that is tried
@@ -29,6 +29,6 @@ pub escape-entry : PaysEntry escapes
 escape-entry b backslash text p at begins = entry (length text.seats) p (length text.seats - p + 1) at (omega (arith, at))
 escape-entry b _ text p at begins = absurd (cc)
 
-pub escape-writes : (previous current : Option TextByte) → StatesWritePlain escapes.states previous current
+pub escape-writes : (previous current : Option TextByte) → StatesWritePlain (escapes {R = Unit} {D = Unit}).states previous current
 escape-writes previous (Some line_feed) = tt
 escape-writes previous _ = tt

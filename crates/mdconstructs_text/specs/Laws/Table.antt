@@ -38,7 +38,7 @@ constructs-paid =
     paid-append texts begins_construct code_spans.states (states_of (autolinks ∷ escapes ∷ [])) code-span-paid (paid-append texts begins_construct autolinks.states (states_of (escapes ∷ [])) autolink-paid (paid-append texts begins_construct escapes.states [] escape-paid tt))
 
 constructs-fall : AllFall follows_construct (states_of text_constructs)
-constructs-fall = falls-append follows_construct code_spans.states (states_of (autolinks ∷ escapes ∷ [])) code-span-falls (falls-append follows_construct autolinks.states (states_of (escapes ∷ [])) autolink-falls (falls-append follows_construct escapes.states [] escape-falls tt))
+constructs-fall = falls-append {R = Unit {0}} {D = Unit {0}} follows_construct code_spans.states (states_of (autolinks ∷ escapes ∷ [])) code-span-falls (falls-append {R = Unit {0}} {D = Unit {0}} follows_construct autolinks.states (states_of (escapes ∷ [])) autolink-falls (falls-append {R = Unit {0}} {D = Unit {0}} follows_construct escapes.states [] escape-falls tt))
 
 each-entry : EachEntry text_constructs
 each-entry = (code-span-entry, (autolink-entry, (escape-entry, tt)))

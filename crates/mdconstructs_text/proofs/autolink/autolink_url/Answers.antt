@@ -2,7 +2,7 @@ use Rattle.mdconstructs_text.proofs.Prelude.{◌≡◌, [], ◌∷◌, Some, ref
 use Rattle.mdconstructs_text.proofs.autolink.autolink_url.Goals as goal
 
 pub exit-requires-in-Some-eq62 : goal.exit-requires-in-Some-eq62
-exit-requires-in-Some-eq62 c =
+exit-requires-in-Some-eq62 g c =
     let e : (sight_of c.args.t.now).current ≡ Some 62 = cc (c.current.ensures, c.in-Some-eq62.is) in
     can-exit text_byte autolink_url _ (Some greater) c.args.t.now c.requires.called refl (ap (class_of text_byte) e)
     (exit AutolinkProtocol ∷ enter AutolinkMarker ∷ consume ∷ exit AutolinkMarker ∷ []) Autolink c.marker.new.t refl

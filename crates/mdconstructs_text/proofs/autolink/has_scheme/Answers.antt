@@ -2,4 +2,4 @@ use Rattle.mdconstructs_text.proofs.Prelude.{ap, sight_of, has_scheme}
 use Rattle.mdconstructs_text.proofs.autolink.has_scheme.Goals as goal
 
 pub returns : goal.returns
-returns c = ap (λ v. has_scheme v.given (sight_of v) v.configuration) c.t.view_is
+returns g c = ap (λ v. has_scheme v.given (sight_of v) v.configuration) c.t.view_is
