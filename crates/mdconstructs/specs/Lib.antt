@@ -56,3 +56,4 @@ pub use Rattle.mdconstructs_text.specs.Laws as TextLaws
 pub use Rattle.mdconstructs_documents.specs.Choices
 pub use Rattle.mdconstructs_documents.specs.Documents
 pub use Rattle.mdconstructs_documents.specs.Runs
+pub use Rattle.mdconstructs_documents.specs.Tiles
