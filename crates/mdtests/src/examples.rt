@@ -5,6 +5,7 @@ ghost use Rattle.markdown.specs.Presets.{default_parse_options};
 ghost use Rattle.markdown.specs.Engine.{given_by};
 ghost use Rattle.markdown.specs.Virtual.{IsWithinLimit};
 
+use crate::machines::lines_by;
 use crate::shown::assert_shown;
 use markdown::configuration::ParseOptions;
 use markdown::event::{Event, Kind, Point};
@@ -15,6 +16,7 @@ use mdexamples::fields::{Fields, LentFields};
 use mdexamples::headings::Headings;
 use mdexamples::labels::Labels;
 use mdexamples::spans::code_spans;
+use mdexamples::text_lines::TextLines;
 use mdexamples::texts::texts_of_spans;
 use std::alloc::{AllocError, Global};
 
@@ -184,4 +186,29 @@ fn machines_have_bytes_of_their_own(rt: HostRuntime) -> Result<(), AllocError> {
         lines_of(rt.alloc(), &lent, Name::TextStart, b"a;|b,"),
         DIVIDED,
     )
+}
+
+/// The events of three lines, each read as text: a code span; and two lines in which a run of backticks has no other one in its line.
+const TEXT_LINES: &str =
+    "enter CodeText 1:1 (0+0); CodeTextSequence 1:1 (0+0) to 1:2 (1+0); CodeTextData 1:2 (1+0) to 1:3 (2+0); \
+    CodeTextSequence 1:3 (2+0) to 1:4 (3+0); exit CodeText 1:4 (3+0); LineEnding 1:4 (3+0) to 2:1 (4+0); \
+    Data 2:1 (4+0) to 2:3 (6+0); LineEnding 2:3 (6+0) to 3:1 (7+0); \
+    Data 3:1 (7+0) to 3:2 (8+0); Data 3:2 (8+0) to 3:3 (9+0)";
+
+/// The chunks of the same lines, before another machine reads them.
+const CHUNKS: &str =
+    "Data 1:1 (0+0) Text None None to 1:4 (3+0); LineEnding 1:4 (3+0) to 2:1 (4+0); \
+    Data 2:1 (4+0) Text None None to 2:3 (6+0); LineEnding 2:3 (6+0) to 3:1 (7+0); \
+    Data 3:1 (7+0) Text None None to 3:3 (9+0)";
+
+/// A resolver reads the chunks of its machine by another machine, however the document is cut.
+#[test]
+fn lines_are_read_by_another_machine(rt: HostRuntime) -> Result<(), AllocError> {
+    let start = Name::FlowStart;
+    for cut in [1, 5, 99] {
+        let read = lines_by(rt.alloc(), &TextLines {}, start, b"`a`\n`b\nc`", cut, true);
+        assert_shown(&rt, read, TEXT_LINES)?;
+    }
+    let chunks = lines_by(rt.alloc(), &TextLines {}, start, b"`a`\n`b\nc`", 99, false);
+    assert_shown(&rt, chunks, CHUNKS)
 }
