@@ -1,0 +1,4 @@
+-- The proof of each function is in a folder of its own, by its module.
+pub mod Headings
+pub mod NoRefusals
+pub mod ThematicBreaks

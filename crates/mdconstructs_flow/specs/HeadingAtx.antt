@@ -1,0 +1,158 @@
+-- ATX headings (CommonMark, 4.2): the look at a line, and its reading. The look counts how many bytes the text has, so that reading needs no
+-- look for the closing number signs. Some states have no name of their own among the Rust crate's: those of `String` and `Text` are borrowed.
+use Rattle.std.specs.Prelude.{[], ◌∷◌}
+use Rattle.markdown_base.specs.declared.event.Name.TheVariants.{Data, HeadingAtx, HeadingAtxSequence, HeadingAtxText, SpaceOrTab}
+use Rattle.markdown_base.specs.declared.state.State.TheVariants.{Next, Retry, Ok, Nok}
+use Rattle.markdown_base.specs.declared.state.TheConstants.Name.{FlowAfter, FlowBeforeHeadingAtx, StringStart, StringBeforeData, StringBefore, TextBefore, TextBeforeData, HeadingAtxStart, HeadingAtxSequenceOpen, HeadingAtxAtBreak, HeadingAtxBefore, HeadingAtxData}
+use Rattle.mdconstructs_tables.specs.Cases.{at}
+use Rattle.mdconstructs_tables.specs.Rows.{enter, enter_link, exit, consume, write, Rows, row, when, a_choice, StateRows, costs, state}
+use Rattle.mdconstructs_machines.specs.Paragraphs.{text_link}
+use Rattle.mdconstructs_flow.specs.FlowBytes.{FlowByte, is_line_feed, is_blank, is_sign, Cased, cased}
+use Rattle.mdconstructs_flow.specs.FlowCosts.{looking, reading}
+use Rattle.mdconstructs_flow.specs.FlowWrites.{kind_becomes, size_becomes, size_grows, count_becomes, count_grows, text_grows, signs_end, signs_were_text, has_room, has_text, is_in_text}
+
+-- text begins, or the closing number signs
+abbrev pub text_or_signs : {R D : Type 0} → Rows R D
+text_or_signs = when has_text (row (enter HeadingAtxText ∷ enter_link Data text_link ∷ write (count_becomes 1) ∷ consume ∷ []) (Next HeadingAtxData)) (row (enter HeadingAtxSequence ∷ consume ∷ []) (Next HeadingAtxSequenceOpen))
+
+-- the text goes on, or ends
+abbrev pub text_goes_on : {R D : Type 0} → Rows R D
+text_goes_on = when is_in_text (row (write count_grows ∷ consume ∷ []) (Next HeadingAtxData)) (row (exit Data ∷ exit HeadingAtxText ∷ write (size_becomes 0) ∷ []) (Retry HeadingAtxAtBreak))
+
+-- a look at the number signs of a heading
+abbrev pub flow_before_heading_atx_rows : {R D : Type 0} → Cased R D
+flow_before_heading_atx_rows = record {
+  at_end = row (write (kind_becomes HeadingAtx) ∷ write (size_becomes 0) ∷ []) Ok;
+  cases =
+      at is_line_feed (row (write (kind_becomes HeadingAtx) ∷ write (size_becomes 0) ∷ []) Ok)
+      ∷ at is_blank (row (write (kind_becomes HeadingAtx) ∷ write (size_becomes 0) ∷ write (count_becomes 0) ∷ consume ∷ []) (Next StringStart))
+      ∷ at is_sign (when has_room (row (write size_grows ∷ consume ∷ []) (Next FlowBeforeHeadingAtx)) (row [] Nok)) ∷ [];
+  rest = row [] Nok;
+}
+
+abbrev pub flow_before_heading_atx : {R D : Type 0} → StateRows FlowByte R D
+flow_before_heading_atx = record (state FlowBeforeHeadingAtx (cased flow_before_heading_atx_rows) [] (costs (looking 1))) { needs = a_choice }
+
+-- a look over the white space before the text
+abbrev pub string_start_rows : {R D : Type 0} → Cased R D
+string_start_rows = record {
+  at_end = row [] Ok;
+  cases =
+      at is_line_feed (row [] Ok)
+      ∷ at is_blank (row (consume ∷ []) (Next StringStart))
+      ∷ at is_sign (row (write count_grows ∷ consume ∷ []) (Next TextBefore)) ∷ [];
+  rest = row (write text_grows ∷ consume ∷ []) (Next StringBeforeData);
+}
+
+abbrev pub string_start : {R D : Type 0} → StateRows FlowByte R D
+string_start = record (state StringStart (cased string_start_rows) [] (costs (looking 1))) { needs = a_choice }
+
+-- a look in the text
+abbrev pub string_before_data_rows : {R D : Type 0} → Cased R D
+string_before_data_rows = record {
+  at_end = row [] Ok;
+  cases = at is_line_feed (row [] Ok) ∷ at is_blank (row (write count_grows ∷ consume ∷ []) (Next StringBefore)) ∷ [];
+  rest = row (write text_grows ∷ consume ∷ []) (Next StringBeforeData);
+}
+
+abbrev pub string_before_data : {R D : Type 0} → StateRows FlowByte R D
+string_before_data = record (state StringBeforeData (cased string_before_data_rows) [] (costs (looking 1))) { needs = a_choice }
+
+-- a look at white space in or behind the text
+abbrev pub string_before_rows : {R D : Type 0} → Cased R D
+string_before_rows = record {
+  at_end = row [] Ok;
+  cases =
+      at is_line_feed (row [] Ok)
+      ∷ at is_blank (row (write count_grows ∷ consume ∷ []) (Next StringBefore))
+      ∷ at is_sign (row (write count_grows ∷ consume ∷ []) (Next TextBefore)) ∷ [];
+  rest = row (write text_grows ∷ consume ∷ []) (Next StringBeforeData);
+}
+
+abbrev pub string_before : {R D : Type 0} → StateRows FlowByte R D
+string_before = record (state StringBefore (cased string_before_rows) [] (costs (looking 1))) { needs = a_choice }
+
+-- a look at number signs behind white space: they end the heading, if nothing follows
+abbrev pub text_before_rows : {R D : Type 0} → Cased R D
+text_before_rows = record {
+  at_end = row [] Ok;
+  cases =
+      at is_line_feed (row [] Ok)
+      ∷ at is_blank (row (write signs_end ∷ consume ∷ []) (Next TextBeforeData))
+      ∷ at is_sign (row (write count_grows ∷ consume ∷ []) (Next TextBefore)) ∷ [];
+  rest = row (write text_grows ∷ consume ∷ []) (Next StringBeforeData);
+}
+
+abbrev pub text_before : {R D : Type 0} → StateRows FlowByte R D
+text_before = record (state TextBefore (cased text_before_rows) [] (costs (looking 1))) { needs = a_choice }
+
+-- a look at white space behind such number signs
+abbrev pub text_before_data_rows : {R D : Type 0} → Cased R D
+text_before_data_rows = record {
+  at_end = row [] Ok;
+  cases =
+      at is_line_feed (row [] Ok)
+      ∷ at is_blank (row (write count_grows ∷ consume ∷ []) (Next TextBeforeData))
+      ∷ at is_sign (row (write signs_were_text ∷ consume ∷ []) (Next TextBefore)) ∷ [];
+  rest = row (write text_grows ∷ consume ∷ []) (Next StringBeforeData);
+}
+
+abbrev pub text_before_data : {R D : Type 0} → StateRows FlowByte R D
+text_before_data = record (state TextBeforeData (cased text_before_data_rows) [] (costs (looking 1))) { needs = a_choice }
+
+-- in white space before a heading
+abbrev pub heading_atx_start_rows : {R D : Type 0} → Cased R D
+heading_atx_start_rows = record {
+  at_end = row (exit SpaceOrTab ∷ []) (Retry HeadingAtxAtBreak);
+  cases =
+      at is_blank (row (consume ∷ []) (Next HeadingAtxStart))
+      ∷ at is_sign (row (exit SpaceOrTab ∷ enter HeadingAtxSequence ∷ consume ∷ []) (Next HeadingAtxSequenceOpen)) ∷ [];
+  rest = row (exit SpaceOrTab ∷ []) (Retry HeadingAtxAtBreak);
+}
+
+abbrev pub heading_atx_start : {R D : Type 0} → StateRows FlowByte R D
+heading_atx_start = state HeadingAtxStart (cased heading_atx_start_rows) (HeadingAtx ∷ SpaceOrTab ∷ []) (costs (reading 3))
+
+-- in number signs
+abbrev pub heading_atx_sequence_open_rows : {R D : Type 0} → Cased R D
+heading_atx_sequence_open_rows = record {
+  at_end = row (exit HeadingAtxSequence ∷ []) (Retry HeadingAtxAtBreak);
+  cases = at is_sign (row (consume ∷ []) (Next HeadingAtxSequenceOpen)) ∷ [];
+  rest = row (exit HeadingAtxSequence ∷ []) (Retry HeadingAtxAtBreak);
+}
+
+abbrev pub heading_atx_sequence_open : {R D : Type 0} → StateRows FlowByte R D
+heading_atx_sequence_open = state HeadingAtxSequenceOpen (cased heading_atx_sequence_open_rows) (HeadingAtx ∷ HeadingAtxSequence ∷ []) (costs (reading 3))
+
+-- before white space, text or number signs of a heading, or at its end
+abbrev pub heading_atx_at_break_rows : {R D : Type 0} → Cased R D
+heading_atx_at_break_rows = record {
+  at_end = row (exit HeadingAtx ∷ []) (Retry FlowAfter);
+  cases = at is_line_feed (row (exit HeadingAtx ∷ []) (Retry FlowAfter)) ∷ at is_blank (row (enter SpaceOrTab ∷ consume ∷ []) (Next HeadingAtxBefore)) ∷ [];
+  rest = text_or_signs;
+}
+
+abbrev pub heading_atx_at_break : {R D : Type 0} → StateRows FlowByte R D
+heading_atx_at_break = state HeadingAtxAtBreak (cased heading_atx_at_break_rows) (HeadingAtx ∷ []) (costs (reading 2))
+
+-- in white space of a heading
+abbrev pub heading_atx_before_rows : {R D : Type 0} → Cased R D
+heading_atx_before_rows = record {
+  at_end = row (exit SpaceOrTab ∷ []) (Retry HeadingAtxAtBreak);
+  cases = at is_blank (row (consume ∷ []) (Next HeadingAtxBefore)) ∷ [];
+  rest = row (exit SpaceOrTab ∷ []) (Retry HeadingAtxAtBreak);
+}
+
+abbrev pub heading_atx_before : {R D : Type 0} → StateRows FlowByte R D
+heading_atx_before = state HeadingAtxBefore (cased heading_atx_before_rows) (HeadingAtx ∷ SpaceOrTab ∷ []) (costs (reading 3))
+
+-- in the text of a heading, which has as many bytes as the look counted
+abbrev pub heading_atx_data_rows : {R D : Type 0} → Cased R D
+heading_atx_data_rows = record {
+  at_end = row (exit Data ∷ exit HeadingAtxText ∷ exit HeadingAtx ∷ []) (Retry FlowAfter);
+  cases = at is_line_feed (row (exit Data ∷ exit HeadingAtxText ∷ exit HeadingAtx ∷ []) (Retry FlowAfter)) ∷ [];
+  rest = text_goes_on;
+}
+
+abbrev pub heading_atx_data : {R D : Type 0} → StateRows FlowByte R D
+heading_atx_data = state HeadingAtxData (cased heading_atx_data_rows) (HeadingAtx ∷ HeadingAtxText ∷ Data ∷ []) (costs (reading 3))

@@ -1,0 +1,136 @@
+-- The costs of the states of HeadingAtx are enough.
+use Rattle.std.proofs.Common.{arith}
+use Rattle.mdconstructs_tables.specs.RowTest.{never}
+use Rattle.mdconstructs_tables.specs.RowInvariant.{PaysRows}
+use Rattle.mdconstructs_flow.specs.FlowCosts.{looking, reading}
+use Rattle.mdconstructs_flow.specs.HeadingAtx.{flow_before_heading_atx_rows, flow_before_heading_atx, string_start_rows, string_start, string_before_data_rows, string_before_data, string_before_rows, string_before, text_before_rows, text_before, text_before_data_rows, text_before_data, heading_atx_start_rows, heading_atx_start, heading_atx_sequence_open_rows, heading_atx_sequence_open, heading_atx_at_break_rows, heading_atx_at_break, heading_atx_before_rows, heading_atx_before, heading_atx_data_rows, heading_atx_data}
+use Rattle.mdconstructs_flow.specs.FlowTable.{flow}
+use Rattle.mdconstructs_flow.specs.Laws.Measures.{sign-word, at-feed, at-blank, at-word, at-other, at-in-line}
+use Rattle.mdconstructs_flow.specs.Laws.Paying.{pays}
+
+pub flow_before_heading_atx-pays : PaysRows flow never flow_before_heading_atx
+flow_before_heading_atx-pays b w text p read at seen called =
+    pays (looking 1) flow_before_heading_atx_rows (omega arith) (
+      λ w is b text p m. let q = at-feed text p w m is in omega arith,
+      (
+        λ w is b text p m. let q = at-blank text p w m is in omega arith,
+        (
+          λ w is b text p m. let q = at-word text p w m (sign-word w is) in omega arith,
+          λ w others b text p m. let q = at-other text p w m others.1.1.0 others.1.0 in omega arith,
+        ),
+      ),
+    )
+    w b b text p at seen
+
+pub string_start-pays : PaysRows flow never string_start
+string_start-pays b w text p read at seen called =
+    pays (looking 1) string_start_rows (omega arith) (
+      λ w is b text p m. let q = at-feed text p w m is in omega arith,
+      (
+        λ w is b text p m. let q = at-blank text p w m is in omega arith,
+        (
+          λ w is b text p m. let q = at-word text p w m (sign-word w is) in omega arith,
+          λ w others b text p m. let q = at-other text p w m others.1.1.0 others.1.0 in omega arith,
+        ),
+      ),
+    )
+    w b b text p at seen
+
+pub string_before_data-pays : PaysRows flow never string_before_data
+string_before_data-pays b w text p read at seen called =
+    pays (looking 1) string_before_data_rows (omega arith) (
+      λ w is b text p m. let q = at-feed text p w m is in omega arith,
+      (
+        λ w is b text p m. let q = at-blank text p w m is in omega arith,
+        λ w others b text p m. let q = at-other text p w m others.1.0 others.0 in omega arith,
+      ),
+    )
+    w b b text p at seen
+
+pub string_before-pays : PaysRows flow never string_before
+string_before-pays b w text p read at seen called =
+    pays (looking 1) string_before_rows (omega arith) (
+      λ w is b text p m. let q = at-feed text p w m is in omega arith,
+      (
+        λ w is b text p m. let q = at-blank text p w m is in omega arith,
+        (
+          λ w is b text p m. let q = at-word text p w m (sign-word w is) in omega arith,
+          λ w others b text p m. let q = at-other text p w m others.1.1.0 others.1.0 in omega arith,
+        ),
+      ),
+    )
+    w b b text p at seen
+
+pub text_before-pays : PaysRows flow never text_before
+text_before-pays b w text p read at seen called =
+    pays (looking 1) text_before_rows (omega arith) (
+      λ w is b text p m. let q = at-feed text p w m is in omega arith,
+      (
+        λ w is b text p m. let q = at-blank text p w m is in omega arith,
+        (
+          λ w is b text p m. let q = at-word text p w m (sign-word w is) in omega arith,
+          λ w others b text p m. let q = at-other text p w m others.1.1.0 others.1.0 in omega arith,
+        ),
+      ),
+    )
+    w b b text p at seen
+
+pub text_before_data-pays : PaysRows flow never text_before_data
+text_before_data-pays b w text p read at seen called =
+    pays (looking 1) text_before_data_rows (omega arith) (
+      λ w is b text p m. let q = at-feed text p w m is in omega arith,
+      (
+        λ w is b text p m. let q = at-blank text p w m is in omega arith,
+        (
+          λ w is b text p m. let q = at-word text p w m (sign-word w is) in omega arith,
+          λ w others b text p m. let q = at-other text p w m others.1.1.0 others.1.0 in omega arith,
+        ),
+      ),
+    )
+    w b b text p at seen
+
+pub heading_atx_start-pays : PaysRows flow never heading_atx_start
+heading_atx_start-pays b w text p read at seen called =
+    pays (reading 3) heading_atx_start_rows (omega arith) (
+      λ w is b text p m. let q = at-blank text p w m is in omega arith,
+      (
+        λ w is b text p m. let q = at-word text p w m (sign-word w is) in omega arith,
+        omega arith,
+      ),
+    )
+    w b b text p at seen
+
+pub heading_atx_sequence_open-pays : PaysRows flow never heading_atx_sequence_open
+heading_atx_sequence_open-pays b w text p read at seen called =
+    pays (reading 3) heading_atx_sequence_open_rows (omega arith) (
+      λ w is b text p m. let q = at-word text p w m (sign-word w is) in omega arith,
+      omega arith,
+    )
+    w b b text p at seen
+
+pub heading_atx_at_break-pays : PaysRows flow never heading_atx_at_break
+heading_atx_at_break-pays b w text p read at seen called =
+    pays (reading 2) heading_atx_at_break_rows (omega arith) (
+      λ w is b text p m. let q = at-feed text p w m is in omega arith,
+      (
+        λ w is b text p m. let q = at-blank text p w m is in omega arith,
+        λ w others b text p m. let q = at-other text p w m others.1.0 others.0 in omega arith,
+      ),
+    )
+    w b b text p at seen
+
+pub heading_atx_before-pays : PaysRows flow never heading_atx_before
+heading_atx_before-pays b w text p read at seen called =
+    pays (reading 3) heading_atx_before_rows (omega arith) (
+      λ w is b text p m. let q = at-blank text p w m is in omega arith,
+      omega arith,
+    )
+    w b b text p at seen
+
+pub heading_atx_data-pays : PaysRows flow never heading_atx_data
+heading_atx_data-pays b w text p read at seen called =
+    pays (reading 3) heading_atx_data_rows (omega arith) (
+      λ w is b text p m. let q = at-feed text p w m is in omega arith,
+      λ w others b text p m. let q = at-in-line text p w m others.0 in omega arith,
+    )
+    w b b text p at seen

@@ -1,0 +1,17 @@
+pub mod BlankLine
+pub mod CodeFenced
+pub mod CodeIndented
+pub mod Flow
+pub mod FlowBytes
+pub mod FlowCosts
+pub mod FlowKnows
+pub mod FlowLines
+pub mod FlowTable
+pub mod FlowWrites
+pub mod HeadingAtx
+pub mod LawStatements
+pub mod Laws
+pub mod Look
+pub mod Paragraph
+pub mod Steps
+pub mod ThematicBreak

@@ -1,0 +1,50 @@
+//! Laws about the machine of leaf blocks. Each is a function that does nothing; its contract is the law.
+
+ghost use Rattle.std.specs.Prelude.{◌≡◌, ◌+◌, ◌*◌, [], ◌∷◌};
+ghost use Rattle.markdown_base.specs.declared.state.TheConstants.Name.{FlowStart};
+ghost use Rattle.markdown_tokenizer.specs.Lawful.{IsLawful};
+ghost use Rattle.markdown_tokenizer.specs.Text.{Given};
+ghost use Rattle.mdconstructs_tables.specs.Fitting.{HasNoMisfits};
+ghost use Rattle.mdconstructs_tables.specs.Refusals.{RulesRefuseNothing};
+ghost use Rattle.mdconstructs_flow.specs.FlowKnows.{flow_rules};
+ghost use Rattle.mdconstructs_flow.specs.FlowLines.{HeadingsAreSeen, InfoStringsAreSeen, LooksAreQuiet, ThematicBreaksAreSeen};
+ghost use Rattle.mdconstructs_flow.specs.FlowTable.{flow};
+ghost use Rattle.mdconstructs_flow.specs.LawStatements.{StartsWithin};
+
+/// The machine has one start, and from it takes at most this many calls on a text of n virtual bytes.
+pub fn cost_at_the_start()
+    ensures starts { (g : Given) → (flow_rules g).starts ≡ FlowStart ∷ [] }
+    ensures cost { StartsWithin flow_rules FlowStart (λ n. 9 * n + 9) }
+{}
+
+/// The machine is lawful on every document.
+pub fn leaf_blocks_are_lawful()
+    ensures { (g : Given) → IsLawful g (flow_rules g) }
+{}
+
+/// No row of its table is a misfit.
+pub fn table_fits()
+    ensures { HasNoMisfits flow }
+{}
+
+/// Looks make no event: each of their states only writes, reads bytes, goes on among the others, and ends.
+pub fn looks_are_quiet()
+    ensures { LooksAreQuiet }
+{}
+
+/// The look at a thematic break ends well exactly if the bytes of the line make one. The definition has no states.
+pub fn thematic_breaks_are_seen()
+    ensures { ThematicBreaksAreSeen }
+{}
+
+/// The look at a heading's number signs ends well exactly if the bytes that are left make a heading, and the one at an info string
+/// exactly if no grave accent comes before the line ends.
+pub fn headings_are_seen()
+    ensures headings { HeadingsAreSeen }
+    ensures info_strings { InfoStringsAreSeen }
+{}
+
+/// No reading by the machine ends in a message, whatever the text and the state: it makes events of every document.
+pub fn no_document_is_refused()
+    ensures { RulesRefuseNothing flow_rules }
+{}

@@ -1,0 +1,4 @@
+//! The machine of leaf blocks: its table and laws.
+#![tactic(auto)]
+
+pub mod laws;
