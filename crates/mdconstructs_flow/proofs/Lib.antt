@@ -1,4 +1,5 @@
 -- The proof of each function is in a folder of its own, by its module.
+pub mod Called
 pub mod Headings
 pub mod NoRefusals
 pub mod ThematicBreaks

@@ -1,4 +1,5 @@
 pub mod BlankLine
+pub mod ChunkRows
 pub mod CodeFenced
 pub mod CodeIndented
 pub mod Flow

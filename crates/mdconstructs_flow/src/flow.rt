@@ -1,0 +1,149 @@
+//! The machine of leaf blocks: blank lines, thematic breaks, ATX headings, indented and fenced code, and paragraphs. Each has a
+//! file of its own.
+//!
+//! It looks first, and then reads: before a line a check, which makes no event, says what kind of line it is. So no choice ever
+//! holds an event.
+
+use crate::blank_line::blank_line_start;
+use crate::code_fenced::{
+    raw_flow_after, raw_flow_after_sequence_close, raw_flow_at_non_lazy_break,
+    raw_flow_before_content_chunk, raw_flow_before_sequence_close, raw_flow_close_start,
+    raw_flow_content_before, raw_flow_content_chunk, raw_flow_content_start,
+    raw_flow_sequence_close, raw_text_between, raw_text_data, raw_text_sequence_close,
+    raw_text_sequence_open,
+};
+use crate::code_indented::{
+    code_indented_after, code_indented_at_break, code_indented_further_after,
+    code_indented_further_begin, code_indented_further_start, code_indented_inside,
+    code_indented_start, space_or_tab_eol_after_first,
+};
+use crate::fence::{
+    flow_before_code_indented, flow_before_raw, raw_flow_before_sequence_open, raw_flow_info,
+    raw_flow_info_before, raw_flow_meta, raw_flow_meta_before, raw_flow_sequence_open,
+    raw_flow_start, raw_text_start,
+};
+use crate::heading_atx::{
+    flow_before_heading_atx, heading_atx_at_break, heading_atx_before, heading_atx_data,
+    heading_atx_sequence_open, heading_atx_start, string_before, string_before_data, string_start,
+    text_before, text_before_data,
+};
+use crate::lines::{flow_after, flow_blank_line_after, flow_start};
+use crate::look::{flow_blank_line_before, non_lazy_continuation_start};
+use crate::paragraph::{
+    content_chunk_inside, flow_before_content, paragraph_inside, paragraph_line_start,
+    paragraph_start,
+};
+use crate::thematic_break::{
+    flow_before_thematic_break, thematic_break_at_break, thematic_break_before,
+    thematic_break_sequence,
+};
+use markdown_tokenizer::state::{Machine, MachineTypes, Name, State};
+use markdown_tokenizer::subtokenize::Subresult;
+use markdown_tokenizer::tokenizer::{Fault, Tokenizer};
+use mdconstructs_machines::begin::begin;
+use std::alloc::{AllocError, Global};
+
+/// Reads the leaf blocks of CommonMark, without HTML and setext headings. The options say which constructs are on. Paragraphs
+/// and headings hold chunks of text, and fences chunks of strings.
+///
+/// It takes at most 9 n + 9 calls for n virtual bytes.
+#[derive(Drop)]
+pub struct Flow {}
+
+impl MachineTypes for Flow {
+    type Resolver = ();
+
+    type Document = ();
+}
+
+impl Machine for Flow {
+    ghost use Rattle.mdconstructs_flow.specs.FlowKnows.{flow_rules};
+    ghost use Rattle.mdconstructs_flow.specs.Laws.Lawful.{flow-lawful};
+
+    ghost rules = { λ _. flow_rules };
+
+    /// Counts the call, and runs the state of this name.
+    fn call<'a>(
+        &self,
+        alloc: Global,
+        t: &mut Tokenizer<'a, Self>,
+        name: Name,
+    ) -> Result<State, AllocError> {
+        begin(t);
+        // The names are the Rust crate's. It has none for looks: `FlowBeforeHeadingAtx` and the like, and six names of strings and
+        // texts. `RawText..` are states of fences.
+        match name {
+            Name::FlowStart => flow_start(t),
+            Name::FlowBlankLineAfter => flow_blank_line_after(t),
+            Name::FlowAfter => flow_after(t),
+            Name::NonLazyContinuationStart => non_lazy_continuation_start(t),
+            Name::FlowBlankLineBefore => flow_blank_line_before(t),
+            Name::BlankLineStart => blank_line_start(t),
+            Name::FlowBeforeThematicBreak => flow_before_thematic_break(t),
+            Name::ThematicBreakBefore => thematic_break_before(t),
+            Name::ThematicBreakAtBreak => thematic_break_at_break(t),
+            Name::ThematicBreakSequence => thematic_break_sequence(t),
+            Name::FlowBeforeHeadingAtx => flow_before_heading_atx(t),
+            Name::StringStart => string_start(t),
+            Name::StringBeforeData => string_before_data(t),
+            Name::StringBefore => string_before(t),
+            Name::TextBefore => text_before(t),
+            Name::TextBeforeData => text_before_data(t),
+            Name::HeadingAtxStart => heading_atx_start(t),
+            Name::HeadingAtxSequenceOpen => heading_atx_sequence_open(t),
+            Name::HeadingAtxAtBreak => heading_atx_at_break(t),
+            Name::HeadingAtxBefore => heading_atx_before(t),
+            Name::HeadingAtxData => heading_atx_data(t),
+            Name::CodeIndentedStart => code_indented_start(t),
+            Name::CodeIndentedAtBreak => code_indented_at_break(t),
+            Name::CodeIndentedFurtherAfter => code_indented_further_after(t),
+            Name::CodeIndentedInside => code_indented_inside(t),
+            Name::SpaceOrTabEolAfterFirst => space_or_tab_eol_after_first(t),
+            Name::CodeIndentedAfter => code_indented_after(t),
+            Name::CodeIndentedFurtherBegin => code_indented_further_begin(t),
+            Name::CodeIndentedFurtherStart => code_indented_further_start(t),
+            Name::FlowBeforeRaw => flow_before_raw(t),
+            Name::FlowBeforeCodeIndented => flow_before_code_indented(t),
+            Name::RawFlowStart => raw_flow_start(t),
+            Name::RawFlowSequenceOpen => raw_flow_sequence_open(t),
+            Name::RawFlowInfoBefore => raw_flow_info_before(t),
+            Name::RawFlowBeforeSequenceOpen => raw_flow_before_sequence_open(t),
+            Name::RawFlowInfo => raw_flow_info(t),
+            Name::RawTextStart => raw_text_start(t),
+            Name::RawFlowMetaBefore => raw_flow_meta_before(t),
+            Name::RawFlowMeta => raw_flow_meta(t),
+            Name::RawFlowAtNonLazyBreak => raw_flow_at_non_lazy_break(t),
+            Name::RawFlowCloseStart => raw_flow_close_start(t),
+            Name::RawFlowBeforeSequenceClose => raw_flow_before_sequence_close(t),
+            Name::RawFlowSequenceClose => raw_flow_sequence_close(t),
+            Name::RawFlowAfterSequenceClose => raw_flow_after_sequence_close(t),
+            Name::RawFlowContentBefore => raw_flow_content_before(t),
+            Name::RawFlowContentStart => raw_flow_content_start(t),
+            Name::RawFlowBeforeContentChunk => raw_flow_before_content_chunk(t),
+            Name::RawFlowContentChunk => raw_flow_content_chunk(t),
+            Name::RawFlowAfter => raw_flow_after(t),
+            Name::RawTextSequenceOpen => raw_text_sequence_open(t),
+            Name::RawTextBetween => raw_text_between(t),
+            Name::RawTextSequenceClose => raw_text_sequence_close(t),
+            Name::RawTextData => raw_text_data(t),
+            Name::FlowBeforeContent => flow_before_content(t),
+            Name::ParagraphStart => paragraph_start(t),
+            Name::ParagraphInside => paragraph_inside(t),
+            Name::ParagraphLineStart => paragraph_line_start(t),
+            Name::ContentChunkInside => content_chunk_inside(t),
+            _ => unreachable!(),
+        }
+    }
+
+    /// Never called, as it registers no resolver.
+    fn resolve<'a>(
+        &self,
+        alloc: Global,
+        t: &mut Tokenizer<'a, Self>,
+        name: (),
+    ) -> Result<Option<Subresult>, Fault> {
+        Ok(None)
+    }
+
+    ghost lawful = { λ _ g. flow-lawful g };
+}
