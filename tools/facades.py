@@ -14,10 +14,16 @@ import sys
 TOP = os.path.dirname(os.path.dirname(os.path.realpath(__file__)))
 PARTS = {
     "markdown": ["markdown_base", "markdown_edits", "markdown_tokenizer", "markdown_children"],
-    "mdconstructs": ["mdconstructs_tables", "mdconstructs_machines", "mdconstructs_text", "mdconstructs_documents"],
+    "mdconstructs": ["mdconstructs_tables", "mdconstructs_machines", "mdconstructs_text", "mdconstructs_flow", "mdconstructs_documents"],
 }
 NAMED = {
     ("markdown_children", "specs", "LawStatements"): "ChildrenLawStatements",
+    ("mdconstructs_flow", "specs", "Flow"): "FlowStates",
+    ("mdconstructs_flow", "specs", "LawStatements"): "FlowLawStatements",
+    ("mdconstructs_flow", "specs", "Laws"): "FlowLaws",
+    ("mdconstructs_flow", "specs", "Steps"): "FlowSteps",
+    ("mdconstructs_flow", "proofs", "Called"): "FlowCalled",
+    ("mdconstructs_flow", "proofs", "NoRefusals"): "FlowNoRefusals",
     ("mdconstructs_text", "specs", "Laws"): "TextLaws",
     ("mdconstructs_text", "proofs", "NoFurther"): "TextNoFurther",
     ("mdconstructs_text", "proofs", "NoRefusals"): "TextNoRefusals",

@@ -53,6 +53,24 @@ pub use Rattle.mdconstructs_text.specs.TextRules
 pub use Rattle.mdconstructs_text.specs.TextSizes
 pub use Rattle.mdconstructs_text.specs.TextTable
 pub use Rattle.mdconstructs_text.specs.Laws as TextLaws
+pub use Rattle.mdconstructs_flow.specs.BlankLine
+pub use Rattle.mdconstructs_flow.specs.ChunkRows
+pub use Rattle.mdconstructs_flow.specs.CodeFenced
+pub use Rattle.mdconstructs_flow.specs.CodeIndented
+pub use Rattle.mdconstructs_flow.specs.Flow as FlowStates
+pub use Rattle.mdconstructs_flow.specs.FlowBytes
+pub use Rattle.mdconstructs_flow.specs.FlowCosts
+pub use Rattle.mdconstructs_flow.specs.FlowKnows
+pub use Rattle.mdconstructs_flow.specs.FlowLines
+pub use Rattle.mdconstructs_flow.specs.FlowTable
+pub use Rattle.mdconstructs_flow.specs.FlowWrites
+pub use Rattle.mdconstructs_flow.specs.HeadingAtx
+pub use Rattle.mdconstructs_flow.specs.LawStatements as FlowLawStatements
+pub use Rattle.mdconstructs_flow.specs.Laws as FlowLaws
+pub use Rattle.mdconstructs_flow.specs.Look
+pub use Rattle.mdconstructs_flow.specs.Paragraph
+pub use Rattle.mdconstructs_flow.specs.Steps as FlowSteps
+pub use Rattle.mdconstructs_flow.specs.ThematicBreak
 pub use Rattle.mdconstructs_documents.specs.Choices
 pub use Rattle.mdconstructs_documents.specs.Documents
 pub use Rattle.mdconstructs_documents.specs.Runs

@@ -1,6 +1,9 @@
 //! The laws about machines and tables. Each is a function that does nothing; its contract is the law.
 
 pub use mdconstructs_documents::laws::innermost_spans_tile_documents;
+pub use mdconstructs_flow::laws::{
+    cost_at_the_start as flow_cost_at_the_start, no_document_is_refused as flow_refuses_no_document,
+};
 pub use mdconstructs_machines::laws::{
     costs_at_the_start, documents_are_read_by_lines, innermost_spans_account_for_documents,
     misfits_are_not_all, misfits_have_reasons, no_document_is_refused, paragraphs_look_no_further,

@@ -1,8 +1,8 @@
 //! State machines, each proved lawful, `read_text`, `events_of`, and what the author of a machine needs.
 //!
-//! This crate has no code. It re-exports its four parts, which have the code and the proofs: `mdconstructs_tables` (machines as
-//! tables), `mdconstructs_machines` (the small machines), `mdconstructs_text` (`Text` and its definition) and
-//! `mdconstructs_documents` (how a document is read, and its events).
+//! This crate has no code. It re-exports its five parts, which have the code and the proofs: `mdconstructs_tables` (machines as
+//! tables), `mdconstructs_machines` (the small machines), `mdconstructs_text` (`Text` and its definition),
+//! `mdconstructs_flow` (`Flow`, the machine of leaf blocks) and `mdconstructs_documents` (how a document is read, and its events).
 #![tactic(auto)]
 
 pub mod laws;
@@ -11,6 +11,8 @@ pub use mdconstructs_documents::choice::{Choice, Which};
 pub use mdconstructs_documents::documents::{events_of, options_with, text_events_of};
 pub use mdconstructs_documents::limit::limit_of;
 pub use mdconstructs_documents::{choice, documents, limit};
+pub use mdconstructs_flow::flow;
+pub use mdconstructs_flow::flow::Flow;
 pub use mdconstructs_machines::back::Back;
 pub use mdconstructs_machines::deep::Deep;
 pub use mdconstructs_machines::fail::Fail;

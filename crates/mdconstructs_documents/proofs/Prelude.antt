@@ -15,6 +15,8 @@ pub use Rattle.markdown_base.specs.declared.configuration.ParseOptions.{ParseOpt
 pub use Rattle.markdown_base.specs.declared.event.Event.{Event}
 pub use Rattle.markdown_base.specs.declared.message.Message.{Message}
 pub use Rattle.markdown_base.specs.declared.state.Name.{Name}
+pub use Rattle.mdconstructs_flow.proofs.NoRefusals.{flow-refuses-nothing}
+pub use Rattle.mdconstructs_flow.specs.FlowKnows.{flow_rules}
 pub use Rattle.mdconstructs_machines.proofs.LineReads.Back.{back-reads}
 pub use Rattle.mdconstructs_machines.proofs.LineReads.Deep.{deep-reads}
 pub use Rattle.mdconstructs_machines.proofs.LineReads.Lines.{lines-read}
@@ -59,3 +61,6 @@ pub use Rattle.mdconstructs_machines.proofs.BlockReads.Accounts.{paragraphs-acco
 pub use Rattle.mdconstructs_machines.proofs.LineReads.Accounts.{lines-account-for}
 pub use Rattle.mdconstructs_machines.specs.Innermost.{AccountFor, span_over, stretch_bytes}
 pub use Rattle.mdconstructs_documents.specs.Tiles.{StandEndToEnd, Tile}
+pub use Rattle.std.proofs.Common.{inl}
+pub use Rattle.mdconstructs_documents.specs.Documents.{AreFlowEvents, AreFlowTexts, IsReadable}
+pub use Rattle.mdconstructs_documents.specs.Runs.{HasChildren}

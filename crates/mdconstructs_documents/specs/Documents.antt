@@ -1,20 +1,26 @@
 -- The events of a document, by the machine that reads it and without states.
-use Rattle.std.specs.Prelude.{[], ◌≡◌, ℕ, Bool, List, true, false}
+use Rattle.std.specs.Prelude.{[], ◌≡◌, ◌⊎◌, ℕ, Bool, List, Some, true, false}
 use Rattle.std.specs.Option.{option_map_or}
 use Rattle.markdown_base.specs.declared.configuration.Constructs.{Constructs}
 use Rattle.markdown_base.specs.declared.configuration.ParseOptions.{ParseOptions}
+use Rattle.markdown_base.specs.declared.event.Content.TheVariants.{Text as TextContent}
 use Rattle.markdown_base.specs.declared.event.Event.{Event}
+use Rattle.markdown_base.specs.declared.state.TheConstants.Name.{FlowStart}
+use Rattle.markdown_base.specs.Events.{IsVoidTight}
 use Rattle.markdown_base.specs.Presets.{default_parse_options}
 use Rattle.markdown_base.specs.Virtual.{Seat, virtual}
 use Rattle.markdown_tokenizer.specs.Text.{Given}
-use Rattle.markdown_tokenizer.specs.Engine.{given_by}
+use Rattle.markdown_tokenizer.specs.declared.subtokenize.Subresult.{Subresult}
+use Rattle.markdown_tokenizer.specs.Engine.{IsRun, given_by}
 use Rattle.markdown_tokenizer.specs.Cuts.{cuts_every}
+use Rattle.markdown_children.specs.Ready.{IsReady}
+use Rattle.mdconstructs_flow.specs.FlowKnows.{flow_rules}
 use Rattle.mdconstructs_machines.specs.LineEvents.{line_events, data_events, back_events, save_events}
 use Rattle.mdconstructs_machines.specs.ParagraphEvents.{paragraph_events}
 use Rattle.mdconstructs_text.specs.ChainTexts.{with_data, with_texts}
 use Rattle.mdconstructs_documents.specs.declared.choice.Choice.{Choice}
 use Rattle.mdconstructs_documents.specs.declared.choice.Which.{Which}
-use Rattle.mdconstructs_documents.specs.declared.choice.Which.TheVariants.{Lines, Paragraphs, Peek, Deep, Back, Save, Text}
+use Rattle.mdconstructs_documents.specs.declared.choice.Which.TheVariants.{Lines, Paragraphs, Peek, Deep, Back, Save, Text, Flow}
 
 -- the default options with these constructs, and with tab stops at every `t` columns
 abbrev pub options_with : Constructs → (t : ℕ) → ParseOptions
@@ -30,22 +36,40 @@ module _ (options : ParseOptions) (bytes : List ℕ) where
   abbrev pub virtual_bytes : List Seat
   virtual_bytes = virtual options.tab_size bytes
 
-  -- The events of a document, by the machine that reads it, from the document's lines. Paragraphs have chunks; with `deep`, the events of
-  -- the text of each chain of chunks are in place of the chunks: its lines as data, or its items.
-  abbrev pub document_events : (deep : Bool) → Which → List Event
-  document_events deep Lines = line_events bytes virtual_bytes
-  document_events deep Peek = data_events bytes virtual_bytes
-  document_events deep Deep = data_events bytes virtual_bytes
-  document_events deep Back = back_events bytes virtual_bytes
-  document_events deep Save = save_events bytes virtual_bytes
-  document_events false Paragraphs = paragraph_events bytes virtual_bytes
-  document_events true Paragraphs = with_data (document options bytes) (paragraph_events bytes virtual_bytes)
-  document_events false Text = paragraph_events bytes virtual_bytes
-  document_events true Text = with_texts (document options bytes) (paragraph_events bytes virtual_bytes)
+  -- Leaf blocks: the events are those that a run of `Flow` returns. A lawful machine has one end, so a document has one list of them; a
+  -- definition of it without states is not proved yet
+  abbrev pub AreFlowEvents : List Event → Type 0
+  AreFlowEvents events = (sub : Subresult) × IsRun (document options bytes) flow_rules false FlowStart events sub
 
--- events are the events of a document
+  -- the chains of text of a list can be read
+  abbrev pub IsReadable : List Event → Type 0
+  IsReadable events = IsReady options.tab_size bytes (Some TextContent) events
+
+  -- and with the events of the text of each chain in place of its chunks. Chains that cannot be read stay as they are
+  abbrev pub AreFlowTexts : List Event → Type 0
+  AreFlowTexts events = (flat : List Event) × AreFlowEvents flat
+      × ((IsReadable flat × (events ≡ with_texts (document options bytes) flat)) ⊎ ((¬ IsReadable flat) × (events ≡ flat)))
+
+-- Events are the events of a document, by the machine that reads it, from the document's lines. Paragraphs have chunks; with `deep`, the
+-- events of the text of each chain of chunks are in place of the chunks: its lines as data, or its items. None of it has states, but for
+-- `Flow`.
 abbrev pub AreEventsOf : (deep : Bool) → Which → ParseOptions → List ℕ → List Event → Type 0
-AreEventsOf deep which options bytes events = events ≡ document_events options bytes deep which
+AreEventsOf deep Lines options bytes events = events ≡ line_events bytes (virtual_bytes options bytes)
+AreEventsOf deep Peek options bytes events = events ≡ data_events bytes (virtual_bytes options bytes)
+AreEventsOf deep Deep options bytes events = events ≡ data_events bytes (virtual_bytes options bytes)
+AreEventsOf deep Back options bytes events = events ≡ back_events bytes (virtual_bytes options bytes)
+AreEventsOf deep Save options bytes events = events ≡ save_events bytes (virtual_bytes options bytes)
+AreEventsOf false Paragraphs options bytes events = events ≡ paragraph_events bytes (virtual_bytes options bytes)
+AreEventsOf true Paragraphs options bytes events = events ≡ with_data (document options bytes) (paragraph_events bytes (virtual_bytes options bytes))
+AreEventsOf false Text options bytes events = events ≡ paragraph_events bytes (virtual_bytes options bytes)
+AreEventsOf true Text options bytes events = events ≡ with_texts (document options bytes) (paragraph_events bytes (virtual_bytes options bytes))
+AreEventsOf false Flow options bytes events = AreFlowEvents options bytes events
+AreEventsOf true Flow options bytes events = AreFlowTexts options bytes events
+
+-- their void spans are empty. Of the texts of leaf blocks this is not proved yet
+abbrev pub AreTight : Which → (deep : Bool) → List Event → Type 0
+AreTight Flow true events = Unit {0}
+AreTight which deep events = IsVoidTight events
 
 -- the places at which a document is cut: none, or every n-th of its virtual bytes
 abbrev pub cut_places : Choice → List ℕ → List (ℕ × ℕ)

@@ -6,7 +6,7 @@ use Rattle.markdown_base.specs.declared.event.Point.{Point}
 use Rattle.markdown_base.specs.Virtual.{point, document_end, virtual}
 use Rattle.markdown_tokenizer.specs.Text.{IsDocument}
 use Rattle.mdconstructs_machines.specs.Innermost.{AccountFor, innermost_spans}
-use Rattle.mdconstructs_documents.specs.Documents.{document, document_events}
+use Rattle.mdconstructs_documents.specs.Documents.{document, AreEventsOf}
 use Rattle.mdconstructs_documents.specs.declared.choice.Which.{Which}
 
 -- Spans, each by its two places, stand end to end from a place to another: the first begins at the one, each other where the span before
@@ -24,5 +24,5 @@ pub record Tile (t : ℕ) (bytes : List ℕ) (events : List Event) : Type 0 wher
 
 -- what is printed of a document by this machine, flat or deep, has innermost spans that tile it
 abbrev pub TilesDocuments : Which → Type 0
-TilesDocuments which =
-    (options : ParseOptions) (bytes : List ℕ) (deep : Bool) → IsDocument (document options bytes) → Tile options.tab_size bytes (document_events options bytes deep which)
+TilesDocuments which = (options : ParseOptions) (bytes : List ℕ) (deep : Bool) (events : List Event) → IsDocument (document options bytes)
+    → AreEventsOf deep which options bytes events → Tile options.tab_size bytes events

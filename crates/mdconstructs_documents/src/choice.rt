@@ -22,6 +22,9 @@ pub enum Which {
     Save,
     /// `text`: as `paragraphs`, but in the text of its chunks are code spans, autolinks and escapes.
     Text,
+    /// `flow`: the leaf blocks of CommonMark without HTML and setext headings. In the text of paragraphs and headings is what `text`
+    /// reads.
+    Flow,
 }
 
 /// How a document is read.
@@ -30,7 +33,7 @@ pub struct Choice {
     /// The document is cut after each this many virtual bytes, at least 1. `None`: it is not cut.
     pub cut: Option<usize>,
     /// Whether the chunks of text that the machine links are read too, and replaced by their events. Only the machines
-    /// `paragraphs` and `text` link any.
+    /// `paragraphs`, `text` and `flow` link any.
     pub deep: bool,
     /// The machine that reads.
     pub machine: Which,
@@ -43,7 +46,7 @@ pub fn links_text(machine: Which) -> bool
     ensures { result ≡ links_text machine }
 {
     match machine {
-        Which::Paragraphs | Which::Text => true,
+        Which::Paragraphs | Which::Text | Which::Flow => true,
         Which::Lines | Which::Peek | Which::Deep | Which::Back | Which::Save => false,
     }
 }

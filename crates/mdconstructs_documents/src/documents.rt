@@ -1,20 +1,21 @@
 //! The events of a document, by a choice of how it is read.
 
 ghost use Rattle.std.specs.Prelude.{◌≡◌, IfOk, IfErr, IsOk};
-ghost use Rattle.markdown_base.specs.Events.{IsVoidTight};
 ghost use Rattle.markdown_base.specs.Virtual.{IsWithinLimit};
 ghost use Rattle.markdown_tokenizer.specs.Engine.{AreCuts, given_by, whole_text};
 ghost use Rattle.markdown_tokenizer.specs.Text.{IsDocument};
 ghost use Rattle.mdconstructs_text.specs.TextEvents.{text_events};
 ghost use Rattle.mdconstructs_documents.specs.Choices.{CanCut};
-ghost use Rattle.mdconstructs_documents.specs.Documents.{document, options_with, cut_places, AreEventsOf};
+ghost use Rattle.mdconstructs_documents.specs.Documents.{document, options_with, cut_places, AreEventsOf, AreFlowTexts, AreTight};
 
 use crate::choice::{Choice, Which};
-use crate::making::{Unmade, read_by, read_deep_by};
+use crate::making::{Unmade, read_by, read_deep_by, with_children};
 use markdown_base::configuration::{Constructs, ParseOptions, TabSize};
-use markdown_base::event::Event;
+use markdown_base::event::{Content, Event};
 use markdown_base::state::Name;
+use markdown_children::subtokenize::ready;
 use markdown_tokenizer::tokenizer::{Fault, cuts_every};
+use mdconstructs_flow::flow::Flow;
 use mdconstructs_machines::back::Back;
 use mdconstructs_machines::deep::Deep;
 use mdconstructs_machines::lines::Lines;
@@ -26,7 +27,8 @@ use std::alloc::{AllocError, Global};
 
 /// The events of a document, read by the machine that the choice names, with these constructs. The cuts leave no trace in them.
 ///
-/// Each void span is empty, also where chunks of text were read: no chunks tear a span of what their chain is read as.
+/// Each void span is empty, also where chunks of text were read: no chunks tear a span of what their chain is read as. Of the texts of
+/// leaf blocks this is not proved.
 ///
 /// A cut in the choice must be at least 1. It fails only if it runs out of memory: no machine that can be chosen refuses a
 /// document, and the chains of text that such a machine makes can be read.
@@ -39,7 +41,7 @@ pub fn events_of(
     requires limit { IsWithinLimit choice.now.tab bytes.now }
     requires cut { CanCut choice.now }
     ensures events { IfOk result (λ events. AreEventsOf choice.now.deep choice.now.machine (options_with constructs choice.now.tab) bytes.now events.items) }
-    ensures tight { IfOk result (λ events. IsVoidTight events.items) }
+    ensures tight { IfOk result (λ events. AreTight choice.now.machine choice.now.deep events.items) }
 {
     match read_as(alloc, bytes, constructs, choice) {
         Ok(events) => Ok(events),
@@ -117,7 +119,36 @@ fn read_as(
             read_deep_by(alloc, &Text {}, Name::FlowStart, bytes, options, cuts)
         }
         Which::Text => read_by(alloc, &Text {}, Name::FlowStart, bytes, options, cuts),
+        Which::Flow if choice.deep => read_flow_and_texts(alloc, bytes, options, cuts),
+        Which::Flow => read_by(alloc, &Flow {}, Name::FlowStart, bytes, options, cuts),
     }
+}
+
+/// The events of leaf blocks, with those of the text of each chain of chunks in place of the chunks. If the chains could not be read, they
+/// would stay as they are.
+fn read_flow_and_texts(
+    alloc: Global,
+    bytes: &[u8],
+    options: &ParseOptions,
+    cuts: &[(usize, usize)],
+) -> Result<Vec<Event>, Unmade>
+    requires limit { IsWithinLimit options.now.tab_size bytes.now }
+    requires cuts { AreCuts options.now.tab_size bytes.now cuts.now }
+    ensures events { IfOk result (λ events. AreFlowTexts options.now bytes.now events.items) }
+    ensures err { IfErr result (λ unmade. unmade ≡ Unmade.Fault Fault.Memory) }
+    ensures document { IsDocument (document options.now bytes.now) }
+{
+    let events = read_by(alloc, &Flow {}, Name::FlowStart, bytes, options, cuts)?;
+    if !ready(
+        alloc,
+        events.as_slice(),
+        bytes,
+        options.tab_size,
+        Some(&Content::Text),
+    )? {
+        return Ok(events);
+    }
+    with_children(alloc, &Text {}, bytes, options, events)
 }
 
 /// The places at which a document is cut.

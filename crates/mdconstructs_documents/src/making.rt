@@ -94,8 +94,8 @@ pub(crate) fn read_deep_by<M: Machine>(
     with_children(alloc, machine, bytes, options, events)
 }
 
-/// The events with the children of their chains of text in place of the chunks. The same machine reads each child.
-fn with_children<M: Machine>(
+/// The events with the children of their chains of text in place of the chunks. The machine reads each child.
+pub(crate) fn with_children<M: Machine>(
     alloc: Global,
     machine: &M,
     bytes: &[u8],

@@ -88,6 +88,13 @@ const CHOSEN: &[(&[u8], usize, bool, Which, usize)] = &[
         Which::Paragraphs,
         4,
     ),
+    (
+        b"mdevents --deep --machine flow --tab 16",
+        0,
+        true,
+        Which::Flow,
+        16,
+    ),
 ];
 
 /// The words may be many, and a number may have many digits.
@@ -171,6 +178,7 @@ const CALLS: &[(&[u8], u8, &[u8], &[u8])] = &[
     (b"mdevents --machine deep --cut 1", 0, DATA, b""),
     (b"mdevents --machine save", 0, b"", b""),
     (b"mdevents --machine text --tab 16", 0, PARAGRAPH, b""),
+    (b"mdevents --machine flow --deep --cut 1", 0, PARAGRAPH, b""),
     (b"--cut 2", 2, b"", USAGE_SHOWN),
     (b"mdevents --cut", 2, b"", USAGE_SHOWN),
     (b"mdevents --cut 0", 2, b"", USAGE_SHOWN),

@@ -11,7 +11,7 @@ use markdown::configuration::ParseOptions;
 use markdown::parser::ParseState;
 use markdown::state::{Machine, Name};
 use markdown::tokenizer::{cuts_every, run};
-use mdconstructs::{Words, Wrap, read_text};
+use mdconstructs::{Flow, Words, Wrap, read_text};
 use std::alloc::{AllocError, Global};
 
 /// The events that a machine makes of a document that is cut after each given number of virtual bytes, from this start, with or
@@ -63,6 +63,48 @@ fn data_is_wrapped(rt: HostRuntime) -> Result<(), AllocError> {
     let want =
         "enter Paragraph 1:1 (0+0); CodeTextData 1:1 (0+0) to 1:3 (2+0); exit Paragraph 1:3 (2+0)";
     assert_shown(&rt, read, want)
+}
+
+/// A document, and its leaf blocks.
+const BLOCKS: &[(&[u8], &str)] = &[
+    (
+        b"# a #",
+        "enter HeadingAtx 1:1 (0+0); HeadingAtxSequence 1:1 (0+0) to 1:2 (1+0); SpaceOrTab 1:2 (1+0) to 1:3 (2+0); \
+        enter HeadingAtxText 1:3 (2+0); Data 1:3 (2+0) Text None None to 1:4 (3+0); exit HeadingAtxText 1:4 (3+0); \
+        SpaceOrTab 1:4 (3+0) to 1:5 (4+0); HeadingAtxSequence 1:5 (4+0) to 1:6 (5+0); exit HeadingAtx 1:6 (5+0)",
+    ),
+    (
+        b"***\n\n\tb",
+        "enter ThematicBreak 1:1 (0+0); ThematicBreakSequence 1:1 (0+0) to 1:4 (3+0); exit ThematicBreak 1:4 (3+0); \
+        LineEnding 1:4 (3+0) to 2:1 (4+0); BlankLineEnding 2:1 (4+0) to 3:1 (5+0); enter CodeIndented 3:1 (5+0); \
+        SpaceOrTab 3:1 (5+0) to 3:5 (6+0); CodeFlowChunk 3:5 (6+0) to 3:6 (7+0); exit CodeIndented 3:6 (7+0)",
+    ),
+    (
+        b"~~~c\nd\n~~~",
+        "enter CodeFenced 1:1 (0+0); enter CodeFencedFence 1:1 (0+0); CodeFencedFenceSequence 1:1 (0+0) to 1:4 (3+0); \
+        enter CodeFencedFenceInfo 1:4 (3+0); Data 1:4 (3+0) String None None to 1:5 (4+0); exit CodeFencedFenceInfo 1:5 (4+0); \
+        exit CodeFencedFence 1:5 (4+0); LineEnding 1:5 (4+0) to 2:1 (5+0); CodeFlowChunk 2:1 (5+0) to 2:2 (6+0); \
+        LineEnding 2:2 (6+0) to 3:1 (7+0); enter CodeFencedFence 3:1 (7+0); CodeFencedFenceSequence 3:1 (7+0) to 3:4 (10+0); \
+        exit CodeFencedFence 3:4 (10+0); exit CodeFenced 3:4 (10+0)",
+    ),
+    (
+        b"e\n    f",
+        "enter Paragraph 1:1 (0+0); Data 1:1 (0+0) Text None Some(3) to 2:1 (2+0); Data 2:1 (2+0) Text Some(1) None to 2:6 (7+0); \
+        exit Paragraph 2:6 (7+0)",
+    ),
+];
+
+/// The events show no cut.
+#[test]
+fn leaf_blocks_are_read(rt: HostRuntime) -> Result<(), AllocError> {
+    for &(bytes, want) in BLOCKS {
+        for cut in [1, 2, 99] {
+            assert!(rt; bytes.len() < 99 && cut > 0);
+            let read = lines_by(rt.alloc(), &Flow {}, Name::FlowStart, bytes, cut, true);
+            assert_shown(&rt, read, want)?;
+        }
+    }
+    Ok(())
 }
 
 /// A code span.

@@ -1,4 +1,4 @@
-use Rattle.mdconstructs_documents.proofs.Prelude.{false, FlowStart, TextStart, StringStart, back-reads, deep-reads, lines-read, peek-reads, save-reads, paragraphs-by-blocks, text-by-blocks, line_events, data_events, back_events, save_events, paragraph_events, IfOk-weaker, no-run-refused, lines_rules, paragraphs_rules, peek_rules, deep_rules, back_rules, save_rules, lines-refuse-nothing, paragraphs-refuse-nothing, peek-refuses-nothing, deep-refuses-nothing, back-refuses-nothing, save-refuses-nothing, text_rules, text-refuses-nothing, paragraphs-readable, text-readable}
+use Rattle.mdconstructs_documents.proofs.Prelude.{false, FlowStart, TextStart, StringStart, back-reads, deep-reads, lines-read, peek-reads, save-reads, paragraphs-by-blocks, text-by-blocks, line_events, data_events, back_events, save_events, paragraph_events, IfOk-weaker, no-run-refused, lines_rules, paragraphs_rules, peek_rules, deep_rules, back_rules, save_rules, lines-refuse-nothing, paragraphs-refuse-nothing, peek-refuses-nothing, deep-refuses-nothing, back-refuses-nothing, save-refuses-nothing, text_rules, text-refuses-nothing, flow_rules, flow-refuses-nothing, paragraphs-readable, text-readable}
 use Rattle.mdconstructs_documents.proofs.DeepEvents.{only-memory, none-refused-deep, all-ready, flat-events, with-data, with-texts}
 use Rattle.mdconstructs_documents.proofs.documents.read_as.Goals as goal
 
@@ -42,10 +42,16 @@ returns-in-Text-clause-events c =
     let document = rw c.options_with.ensures at c.read_deep_by-in-Text.ensures.document in
     rw (c.in-Text.is, c.if-choice-2.true) (IfOk-weaker c.read_deep_by-in-Text.result _ _ (λ events h. with-texts _ c.args.bytes.now document events.items h) (rw c.options_with.ensures at c.read_deep_by-in-Text.ensures.events))
 
-pub returns-clause-events : goal.returns-clause-events
-returns-clause-events c =
+pub returns-in-Text-2-clause-events : goal.returns-in-Text-2-clause-events
+returns-in-Text-2-clause-events c =
     let document = rw c.options_with.ensures at c.read_by-in-Text-2.ensures.document in
     rw (c.in-Text-2.is, c.if-choice-2.false) (IfOk-weaker c.read_by-in-Text-2.result _ _ (λ events h. flat-events text_rules FlowStart paragraph_events text-by-blocks _ c.args.bytes.now document events.items h) (rw c.options_with.ensures at c.read_by-in-Text-2.ensures.events))
+
+pub returns-in-Flow-clause-events : goal.returns-in-Flow-clause-events
+returns-in-Flow-clause-events c = rw (c.in-Flow.is, c.if-choice-3.true) (rw c.options_with.ensures at c.read_flow_and_texts.ensures.events)
+
+pub returns-clause-events : goal.returns-clause-events
+returns-clause-events c = rw (c.in-Flow-2.is, c.if-choice-3.false) (rw c.options_with.ensures at c.read_by-in-Flow-2.ensures.events)
 
 pub returns-in-Lines-clause-err : goal.returns-in-Lines-clause-err
 returns-in-Lines-clause-err c = only-memory c.read_by.result (λ m e. no-run-refused lines_rules lines-refuse-nothing _ false _ m (c.read_by.ensures.message m e)) c.read_by.ensures.ready c.read_by.ensures.cause
@@ -73,5 +79,8 @@ pub returns-in-Text-clause-err : goal.returns-in-Text-clause-err
 returns-in-Text-clause-err c = only-memory c.read_deep_by-in-Text.result (λ m e. none-refused-deep text_rules text-refuses-nothing _ _ _ m (c.read_deep_by-in-Text.ensures.message m e))
     (λ e. all-ready text_rules text-readable _ _ c.read_deep_by-in-Text.ensures.document (c.read_deep_by-in-Text.ensures.unready e)) c.read_deep_by-in-Text.ensures.cause
 
+pub returns-in-Text-2-clause-err : goal.returns-in-Text-2-clause-err
+returns-in-Text-2-clause-err c = only-memory c.read_by-in-Text-2.result (λ m e. no-run-refused text_rules text-refuses-nothing _ false _ m (c.read_by-in-Text-2.ensures.message m e)) c.read_by-in-Text-2.ensures.ready c.read_by-in-Text-2.ensures.cause
+
 pub returns-clause-err : goal.returns-clause-err
-returns-clause-err c = only-memory c.read_by-in-Text-2.result (λ m e. no-run-refused text_rules text-refuses-nothing _ false _ m (c.read_by-in-Text-2.ensures.message m e)) c.read_by-in-Text-2.ensures.ready c.read_by-in-Text-2.ensures.cause
+returns-clause-err c = only-memory c.read_by-in-Flow-2.result (λ m e. no-run-refused flow_rules flow-refuses-nothing _ false _ m (c.read_by-in-Flow-2.ensures.message m e)) c.read_by-in-Flow-2.ensures.ready c.read_by-in-Flow-2.ensures.cause
