@@ -14,6 +14,7 @@ pub use Rattle.mdconstructs_tables.specs.RowTest
 pub use Rattle.mdconstructs_tables.specs.Rows
 pub use Rattle.mdconstructs_tables.specs.PlainTables
 pub use Rattle.mdconstructs_tables.specs.PlainWrites
+pub use Rattle.mdconstructs_tables.specs.Plans
 pub use Rattle.mdconstructs_tables.specs.Quiet
 pub use Rattle.mdconstructs_tables.specs.Refusals
 pub use Rattle.mdconstructs_machines.specs.Costs

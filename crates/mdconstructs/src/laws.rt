@@ -9,8 +9,9 @@ pub use mdconstructs_machines::laws::{
     misfits_are_not_all, misfits_have_reasons, no_document_is_refused, paragraphs_look_no_further,
 };
 pub use mdconstructs_tables::laws::{
-    Knowledge, fitting_tables_are_lawful, knowing_tables_are_lawful,
-    knowing_tables_look_no_further, tables_look_no_further,
+    Knowledge, Planned, fitting_tables_are_lawful, knowing_tables_are_lawful,
+    knowing_tables_look_no_further, planned_machines_are_lawful, planned_machines_look_no_further,
+    tables_look_no_further,
 };
 pub use mdconstructs_text::laws::{
     chains_are_read_as_data, chains_are_read_as_texts, chains_of_paragraphs_can_be_read,

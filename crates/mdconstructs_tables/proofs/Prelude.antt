@@ -35,9 +35,9 @@ pub use Rattle.markdown_tokenizer.proofs.Readings.Plain.{no-links-more}
 pub use Rattle.markdown_tokenizer.proofs.Runs.Working.{holds-on}
 pub use Rattle.markdown_tokenizer.specs.Calls.{CanExit, consumed, entered, saved_at, with_local, with_resolvers}
 pub use Rattle.markdown_tokenizer.specs.Configuration.{Choice, Configuration, Local, Saved, Step, TokenizerValue, at_configuration, start_configuration}
-pub use Rattle.markdown_tokenizer.specs.Engine.{IsRunRefused, whole_text}
-pub use Rattle.markdown_tokenizer.specs.Lawful.{ConsumesOnce, CostPays, EndsWhenRead, ForEachCall, IsAsFar, IsLawful, KeepsInvariant, OnlyAdds, SavesEvents}
-pub use Rattle.markdown_tokenizer.specs.Plain.{IsPlain, KeepsPlain, plain}
+pub use Rattle.markdown_tokenizer.specs.Engine.{EndsWellFormed, IsRunRefused, whole_text}
+pub use Rattle.markdown_tokenizer.specs.Lawful.{ConsumesOnce, CostPays, EndsWhenRead, ForEachCall, IsAsFar, IsLawful, KeepsInvariant, OnlyAdds, ResolversKeep, SavesEvents}
+pub use Rattle.markdown_tokenizer.specs.Plain.{IsPlain, KeepsPlain, NothingResolves, finds_nothing, plain}
 pub use Rattle.markdown_tokenizer.specs.Reading.{EndsIn, Reading, after_choices, fed, more_calls, read, restored, settle, settled_at, unfed}
 pub use Rattle.markdown_tokenizer.specs.Resolving.{IsResolvingRefused, found, refused, resolved_by, taken, with_more}
 pub use Rattle.markdown_tokenizer.specs.Rules.{Rules}
@@ -58,6 +58,7 @@ pub use Rattle.mdconstructs_tables.specs.Markers.{IsMarkable, marked}
 pub use Rattle.mdconstructs_tables.specs.Misfits.{Reason, act, acts_fit, answer, choice, choices_fit, misfit, misfits, named_misfit, named_start, spans, spans_fit, start, unless, unpaid, with_reason}
 pub use Rattle.mdconstructs_tables.specs.PlainTables.{ArePlain, IsPlainTable, are_plain_acts, are_plain_rows, are_plain_states}
 pub use Rattle.mdconstructs_tables.specs.PlainWrites.{RowsWritePlain, StatesWritePlain, WritePlain, WritesPlain}
+pub use Rattle.mdconstructs_tables.specs.Plans.{AllKeepKnown, HoldsPlanned, IsSound, KeepsKnowledge, KeepsKnown, KnownBehind, Plan, planned_rules}
 pub use Rattle.mdconstructs_tables.specs.Refusals.{RulesRefuseNothing, act_refuses, is_message, refusing, rows_refuse}
 pub use Rattle.mdconstructs_tables.specs.RowInvariant.{AnyGoesBack, AnyWait, ArePaid, AreWaiting, AreWithin, Began, CanEnd, EndsWithEnter, GoesBack, HoldsAt, IsAtState, IsBelow, IsCallable, IsFed, IsOpen, IsSaved, IsSavedIn, IsStateAt, MayEnd, PaysRows, SightIsInOrder, Stands, and_of_own, answer_end, answer_price, at_most, began_at, begun, choice_price, chosen_price, class_at, class_in, ends_at, events_saved, exit_place_at, first_end, goes_on_price, is_read, next_price, once_read, outline, own_cost, position_of, price_by, retry_price, row_price, since, state_price, table_cost, table_holds, table_price, table_rules, upto, waiting_or_below, waiting_price}
 pub use Rattle.mdconstructs_tables.specs.RowTest.{Frame, Shape, Stage, after, after_all, all_rows, allows, allows_all, answer_calls, at_stage, byte_read, byte_waits, calls_at, calls_le, calls_or, choice_calls, chosen_calls, counts_answer, counts_choices, end_waits, fed_calls, feeds, first_stage, fits_answer, fits_calls, fits_choice, fits_choices, fits_row, frame_of, fresh_at, fresh_fed, is_at, is_bare, is_behind, is_by_bytes, is_byte_waiting, is_called, is_called_at, is_counted, is_early, is_end, is_fresh, is_fresh_fed, is_last, is_some, is_void_last, larger, later_stage, may_fail, may_go_back, may_go_on, may_start, needs_choice, needs_failing, never, next_calls, pays_row, plus, same_names, saves, start_shape, waits_in}

@@ -8,6 +8,7 @@ pub mod Laws
 pub mod Lawful
 pub mod NoFurther
 pub mod Plain
+pub mod Plans
 pub mod Prices
 pub mod Refusals
 pub mod Tests

@@ -14,5 +14,6 @@ pub mod RowTest
 pub mod Rows
 pub mod PlainTables
 pub mod PlainWrites
+pub mod Plans
 pub mod Quiet
 pub mod Refusals

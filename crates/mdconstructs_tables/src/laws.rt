@@ -18,6 +18,7 @@ ghost use Rattle.mdconstructs_tables.specs.Looks.{LooksAreScans, Plays};
 ghost use Rattle.mdconstructs_tables.specs.NoFurther.{TestsLookNoFurther};
 ghost use Rattle.mdconstructs_tables.specs.PlainTables.{IsPlainTable};
 ghost use Rattle.mdconstructs_tables.specs.PlainWrites.{WritesPlain};
+ghost use Rattle.mdconstructs_tables.specs.Plans.{IsSound, Plan, planned_rules};
 ghost use Rattle.mdconstructs_tables.specs.Quiet.{QuietLooksEnd};
 ghost use Rattle.mdconstructs_tables.specs.RowInvariant.{table_rules};
 ghost use Rattle.mdconstructs_tables.specs.RowTest.{never};
@@ -63,6 +64,29 @@ pub fn knowing_tables_are_lawful<K: Knowledge>()
     ensures fitting { IsFit K.table → IsKnownThroughout K.table K.knows K.ends → (g : Given) → IsLawful g (knowing_rules K.table K.knows K.ends g) }
 {}
 
+/// The plan of a machine: its table, which states end choices late, what the machine knows that the table does not say, its
+/// resolvers, and what it promises of its final events.
+pub trait Planned {
+    /// The type of classes of bytes.
+    type Class;
+
+    /// The type of resolvers.
+    type Resolver;
+
+    /// What the machine keeps about a document.
+    type Document;
+
+    ghost plan: { Plan Self.Class Self.Resolver Self.Document };
+}
+
+/// A plan's rules are lawful on every document if it is sound: its table passes the tests; starts, feeding, rows, ends of choices and
+/// pieces keep what the machine knows; and each run of a resolver keeps what leads to edits that can be made, and to what the machine
+/// promises. Choices that end with `Ok` late, links, edits, resolvers and what is known of the document, its options and the text may all
+/// stand in one plan. The laws above are of plans that have less.
+pub fn planned_machines_are_lawful<P: Planned>()
+    ensures { IsSound P.plan → (g : Given) → IsLawful g (planned_rules P.plan g) }
+{}
+
 /// What a table reads without events, from any of its states on, is a function of the bytes that are left and of what states
 /// share: its look. Reading on from the state is reading on from where the look ends, in any machine that does at the table's
 /// names what the table says. A call that makes an event, a link or a choice is no part of a look, so nothing is asked of rows.
@@ -88,6 +112,11 @@ pub fn tables_look_no_further<W, R, D>()
 /// So does the machine of a table that knows more than its table says.
 pub fn knowing_tables_look_no_further<K: Knowledge>()
     ensures { TestsLookNoFurther K.table → LooksNoFurther (knowing_rules K.table K.knows K.ends) }
+{}
+
+/// So does the machine of a plan.
+pub fn planned_machines_look_no_further<P: Planned>()
+    ensures { TestsLookNoFurther P.plan.table → LooksNoFurther (planned_rules P.plan) }
 {}
 
 /// A property of classes of bytes and of their rows, as that a row costs no more than its state says.

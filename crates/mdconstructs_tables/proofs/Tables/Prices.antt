@@ -1,10 +1,10 @@
 -- The calls of a machine whose table fits are paid for: what the current state and all waiting choices may cost falls at each call.
-use Rattle.mdconstructs_tables.proofs.Prelude.{◌≡◌, ◌≢◌, ℕ, ◌+◌, ◌≤◌, ◌&&◌, ◌||◌, not, List, [], ◌∷◌, ◌++◌, Bool, true, false, cond, Option, Some, None, refl, sym, ap, subst, arith, nat_lt, ltb-true, ltb-false, and_from, and_parts, Name, State, Next, Retry, Ok, Nok, AttemptKind, Attempt, Check, Given, Text, IsText, Configuration, Choice, Saved, Sight, sight, consumed, with_local, fed, unfed, restored, settled_at, CostPays, Act, consume, choose, StateRows, Table, named, past, choice_made_at, done, does, chooses, picked, table_step, last_or, is_void_last, saves, Frame, may_go_on, may_go_back, fits_choice, is_early, never, is_behind, outline, IsSaved, first_end, class_at, ends_at, choice_price, chosen_price, goes_on_price, waiting_or_below, waiting_price, table_holds, table_price, table_rules, falls_on, FallsLater, AllFallLater, are_falling, is_late_row, IsFitBy, IsFit, every, EventName}
-use Rattle.mdconstructs_tables.proofs.Rows.Misfits.{named-same}
+use Rattle.mdconstructs_tables.proofs.Prelude.{◌≡◌, ◌≢◌, ℕ, ◌+◌, ◌≤◌, ◌&&◌, ◌||◌, not, List, [], ◌∷◌, ◌++◌, Bool, true, false, cond, Option, Some, None, refl, sym, ap, subst, arith, nat_lt, ltb-true, ltb-false, and_from, and_parts, Name, State, Next, Retry, Ok, Nok, AttemptKind, Attempt, Check, Given, Text, IsText, Configuration, Choice, Saved, Sight, sight, consumed, with_local, fed, unfed, restored, settled_at, CostPays, Act, consume, choose, StateRows, Table, named, past, choice_made_at, done, does, chooses, picked, table_step, last_or, is_void_last, saves, Frame, may_go_on, may_go_back, fits_choice, is_early, never, is_behind, outline, IsSaved, first_end, class_at, ends_at, choice_price, chosen_price, goes_on_price, waiting_or_below, waiting_price, table_holds, table_price, table_rules, falls_on, FallsLater, AllFallLater, are_falling, is_late_row, is_late_state, IsLate, filter, none-mapped, not-false, IsFitBy, IsFit, every, EventName}
+use Rattle.mdconstructs_tables.proofs.Rows.Misfits.{named-out, named-same}
 use Rattle.mdconstructs_tables.proofs.Rows.Laws.{chooses-append}
 use Rattle.mdconstructs_tables.proofs.GrowingTexts.{fed-position}
 use Rattle.mdconstructs_tables.proofs.Tables.Holding.{of_class, before_class, row_of, left_by, IsCall, waits-at}
-use Rattle.mdconstructs_tables.proofs.Tables.Laws.{each-call}
+use Rattle.mdconstructs_tables.proofs.Tables.Laws.{each-call, picked-passes}
 use Rattle.mdconstructs_tables.proofs.Tables.Costs.{early-more, state-falls, go-costs, feeding-pays, call-pays}
 
 -- Positions where choices end with Ok first
@@ -261,6 +261,13 @@ all-fall (c ∷ cs) = ((λ e. every-falls c.ok), all-fall cs)
 
 pub every-late : {W R D : Type 0} (table : Table W R D) (g : Given) (fit : IsFit table) → AreLate table g never fit
 every-late table g fit b w name state is s k = let acts = (picked (state.rows b w) g s k).acts in and_from (are_falling every acts) true (every-falling acts) refl
+
+-- the test names no state as hasty
+pub all-late : {W R D : Type 0} (table : Table W R D) (early : Name → Option W → Bool) (falling : Name → Bool) (g : Given) (is_late : IsLate table early falling) → AreLate table g early is_late.fit
+all-late {W = W} {R = R} {D = D} table early falling g is_late b w name state is s k =
+    let none = none-mapped (λ (state : StateRows W R D). state.name) (filter (λ state. not (is_late_state table early falling b w state)) table.states) (is_late.late b w) in
+    let passes = not-false (is_late_state table early falling b w state) (named-out (λ state. not (is_late_state table early falling b w state)) table.states name state none is) in
+    picked-passes (is_late_row early falling w state.name) (state.rows b w) g s k passes
 
 pub table-cost_pays : {W R D : Type 0} (table : Table W R D) (g : Given) → IsFit table → CostPays g (table_rules table g)
 table-cost_pays table g fit =
