@@ -2,4 +2,5 @@
 pub mod Left
 pub mod Quiet
 pub mod Scans
+pub mod Stretches
 pub mod Tests

@@ -17,3 +17,4 @@ pub mod PlainWrites
 pub mod Plans
 pub mod Quiet
 pub mod Refusals
+pub mod Stretches

@@ -23,6 +23,7 @@ ghost use Rattle.mdconstructs_tables.specs.Quiet.{QuietLooksEnd};
 ghost use Rattle.mdconstructs_tables.specs.RowInvariant.{table_rules};
 ghost use Rattle.mdconstructs_tables.specs.RowTest.{never};
 ghost use Rattle.mdconstructs_tables.specs.Rows.{Rows, Table};
+ghost use Rattle.mdconstructs_tables.specs.Stretches.{StretchesAreRead};
 
 /// A table's rules are lawful on every document if the table has no misfits, its own costs are enough, and no state links
 /// or writes. They are lawful too if states write only what leaves nothing to resolve, or if choices end with `Ok` late:
@@ -93,6 +94,14 @@ pub fn planned_machines_are_lawful<P: Planned>()
 pub fn looks_are_scans<W, R, D>()
     ensures { (table : Table W R D) (g : Given) (text : Text) (step : Sight → Configuration R D → Name → Step R D)
         → Plays table g step → LooksAreScans table g text step }
+{}
+
+/// What a table reads from any of its states on, while its states make no choice, is a function of the bytes that are left, the place
+/// behind the byte before them, and the configuration: its stretch, with its events. It is over before the call of a state that makes a
+/// choice, or of one that is named. Reading on from the state is reading on from where the stretch ends.
+pub fn stretches_are_read<W, R, D>()
+    ensures { (table : Table W R D) (g : Given) (text : Text) (step : Sight → Configuration R D → Name → Step R D)
+        → Plays table g step → StretchesAreRead table g text step }
 {}
 
 /// A look ends with `Ok` or `Nok` if the test names no state of it as loud: its states only write, read bytes, and go on among

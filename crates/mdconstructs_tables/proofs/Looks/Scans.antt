@@ -69,13 +69,13 @@ module _ {R D : Type 0} (g : Given) (step : Sight → Configuration R D → Name
     pub leads : (cs : List Choice) (calls : ℕ) (z : Reading R D) → EndsIn g step text (calls + n) k' cs s' z → EndsIn g step text calls k cs s z
     pub reads : (m : ℕ) → read g step text (n + m) k s ≡ more_calls n (read g step text m k' s')
 
-  goes-nowhere : (k : Configuration R D) (s : State) → Goes 0 k s k s
+  pub goes-nowhere : (k : Configuration R D) (s : State) → Goes 0 k s k s
   goes-nowhere k s = record {
     leads = λ cs calls z h. let e : calls + 0 ≡ calls = omega arith in subst (λ n. EndsIn g step text n k cs s z) e h;
     reads = λ m. let e : 0 + m ≡ m = omega arith in ap (λ n. read g step text n k s) e ∙ sym (more-zero (read g step text m k s));
   }
 
-  goes-on : (n m : ℕ) (k k1 k' : Configuration R D) (s s1 s' : State) → Goes n k s k1 s1 → Goes m k1 s1 k' s' → Goes (n + m) k s k' s'
+  pub goes-on : (n m : ℕ) (k k1 k' : Configuration R D) (s s1 s' : State) → Goes n k s k1 s1 → Goes m k1 s1 k' s' → Goes (n + m) k s k' s'
   goes-on n m k k1 k' s s1 s' one two = record {
     leads = λ cs calls z h. one.leads cs calls z (two.leads cs (calls + n) z (let e : calls + (n + m) ≡ (calls + n) + m = omega arith in subst (λ i. EndsIn g step text i k' cs s' z) e h));
     reads = λ j.
@@ -83,7 +83,7 @@ module _ {R D : Type 0} (g : Given) (step : Sight → Configuration R D → Name
         ap (λ i. read g step text i k s) e ∙ one.reads (m + j) ∙ ap (more_calls n) (two.reads j) ∙ more-more n m (read g step text j k' s');
   }
 
-  goes-fed : (n : ℕ) (k : Configuration R D) (name : Name) (k' : Configuration R D) (s' : State) → Goes n (fed text k) (Retry name) k' s' → Goes n k (Next name) k' s'
+  pub goes-fed : (n : ℕ) (k : Configuration R D) (name : Name) (k' : Configuration R D) (s' : State) → Goes n (fed text k) (Retry name) k' s' → Goes n k (Next name) k' s'
   goes-fed n k name k' s' h = record {
     leads = λ cs calls z e. (fed-ends g step text calls k cs name z).0 (h.leads cs calls z e);
     reads = λ m.
@@ -92,7 +92,7 @@ module _ {R D : Type 0} (g : Given) (step : Sight → Configuration R D → Name
         same ∙ h.reads m;
   }
 
-  goes-called : (k : Configuration R D) (name : Name) (k1 : Configuration R D) (a : State) → step (sight g text k) k name ≡ record { configuration = k1; choices = []; answer = a } → Goes 1 k (Retry name) k1 a
+  pub goes-called : (k : Configuration R D) (name : Name) (k1 : Configuration R D) (a : State) → step (sight g text k) k name ≡ record { configuration = k1; choices = []; answer = a } → Goes 1 k (Retry name) k1 a
   goes-called k name k1 a is = record {
     leads = λ cs calls z h.
         (called-ends g step text calls k cs name z).0
