@@ -9,6 +9,7 @@ pub use Rattle.mdconstructs_tables.specs.Looks
 pub use Rattle.mdconstructs_tables.specs.Markers
 pub use Rattle.mdconstructs_tables.specs.Misfits
 pub use Rattle.mdconstructs_tables.specs.NoFurther
+pub use Rattle.mdconstructs_tables.specs.Numbers
 pub use Rattle.mdconstructs_tables.specs.RowInvariant
 pub use Rattle.mdconstructs_tables.specs.RowTest
 pub use Rattle.mdconstructs_tables.specs.Rows

@@ -5,6 +5,7 @@ pub mod KeptByReading
 pub mod LinkShapes
 pub mod Looks
 pub mod Markers
+pub mod Numbers
 mod Prelude
 pub mod Rows
 pub mod Tables

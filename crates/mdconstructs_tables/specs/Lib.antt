@@ -9,6 +9,7 @@ pub mod Looks
 pub mod Markers
 pub mod Misfits
 pub mod NoFurther
+pub mod Numbers
 pub mod RowInvariant
 pub mod RowTest
 pub mod Rows

@@ -16,6 +16,7 @@ ghost use Rattle.mdconstructs_tables.specs.Knowledge.{IsKnownThroughout, KnowsFa
 ghost use Rattle.mdconstructs_tables.specs.Late.{IsLate, late_rules};
 ghost use Rattle.mdconstructs_tables.specs.Looks.{LooksAreScans, Plays};
 ghost use Rattle.mdconstructs_tables.specs.NoFurther.{TestsLookNoFurther};
+ghost use Rattle.mdconstructs_tables.specs.Numbers.{AreEnough, Price};
 ghost use Rattle.mdconstructs_tables.specs.PlainTables.{IsPlainTable};
 ghost use Rattle.mdconstructs_tables.specs.PlainWrites.{WritesPlain};
 ghost use Rattle.mdconstructs_tables.specs.Plans.{IsSound, Plan, planned_rules};
@@ -35,6 +36,14 @@ pub fn fitting_tables_are_lawful<W, R, D>()
     ensures writing { (table : Table W R D) → IsFit table → WritesPlain table → (g : Given) → IsLawful g (plain (table_rules table g)) }
     ensures late { (table : Table W R D) (early : Name → Option W → Bool) (falling : Name → Bool)
         → IsLate table early falling → WritesPlain table → (g : Given) → IsLawful g (plain (late_rules table early falling g)) }
+{}
+
+/// An author of a table may give numbers and prove no inequality: a table fits, and its choices end with `Ok` late, if each state
+/// costs what its price says and the test names no state. Where a number is too low, the test names the state, with what a row of
+/// it takes and what it has.
+pub fn numbers_are_enough<W, R, D>()
+    ensures { (table : Table W R D) (in_run : W → Bool) (prices : List (Price W)) (early : Name → Option W → Bool) (falling : Name → Bool)
+        → AreEnough table in_run prices early falling → IsLate table early falling }
 {}
 
 /// A table, and what its machine knows that the table does not say.
