@@ -6,7 +6,8 @@ pub use mdconstructs_flow::laws::{
 };
 pub use mdconstructs_machines::laws::{
     costs_at_the_start, documents_are_read_by_lines, innermost_spans_account_for_documents,
-    misfits_are_not_all, misfits_have_reasons, no_document_is_refused, paragraphs_look_no_further,
+    low_numbers_are_named, misfits_are_not_all, misfits_have_reasons, no_document_is_refused,
+    paragraphs_look_no_further,
 };
 pub use mdconstructs_tables::laws::{
     Knowledge, Planned, fitting_tables_are_lawful, knowing_tables_are_lawful,

@@ -1,6 +1,6 @@
 -- Tables that do not fit: one for each reason, and one for each other cause of a reason. And two that pass the test of rows and yet are not
 -- lawful. All but the last are the table of lines with one thing changed.
-use Rattle.std.specs.Prelude.{ℕ, ◌∷◌, [], Bool, true, false, Option, Some, None}
+use Rattle.std.specs.Prelude.{ℕ, List, ◌∷◌, [], Bool, true, false, Option, Some, None}
 use Rattle.markdown_base.specs.declared.event.Name.TheVariants.{Paragraph, Data, LineEnding}
 use Rattle.markdown_base.specs.declared.state.TheConstants.Name.{DataAtBreak, FlowStart, ParagraphInside, TextStart}
 use Rattle.markdown_base.specs.declared.state.State.TheVariants.{Next, Retry, Ok, Nok}
@@ -8,6 +8,7 @@ use Rattle.markdown_tokenizer.specs.declared.waiting.AttemptKind.TheVariants.{At
 use Rattle.markdown_edits.specs.Edits.{edit_at, added_after}
 use Rattle.markdown_tokenizer.specs.Configuration.{Configuration, Local}
 use Rattle.markdown_tokenizer.specs.Text.{Text}
+use Rattle.mdconstructs_tables.specs.Numbers.{Price, by_left, numbers, TooLow}
 use Rattle.mdconstructs_tables.specs.Rows.{enter, exit, consume, write, choose, Rows, row, Called, before, a_choice, a_choice_for_ok, at_bytes, StateRows, calls, costs, state, Table}
 use Rattle.mdconstructs_machines.specs.Tables.{LineByte, line_ending, other, line_byte, is_other, counts}
 use Rattle.mdconstructs_machines.specs.Lines.{lines, flow_start_rows, flow_start, paragraph_inside}
@@ -181,3 +182,11 @@ editing_rows _ (Some _) = row (consume ∷ []) (Next FlowStart)
 
 abbrev pub editing : Table LineByte Unit Unit
 editing = record { class = line_byte; first = counts; states = state FlowStart editing_rows [] (calls 1 1) ∷ []; starts = FlowStart ∷ [] }
+
+-- numbers of lines that are too low: one call for each byte before a line, and two in it
+abbrev pub too_few : List (Price LineByte)
+too_few = by_left 0 1 1 ∷ by_left 0 2 1 ∷ []
+
+-- what they lack: where a line begins, two calls for each byte behind its first one and four more are taken; half of that is there
+abbrev pub lacking : List TooLow
+lacking = record { name = FlowStart; takes = numbers 0 2 2 4; has = numbers 0 1 1 2 } ∷ []

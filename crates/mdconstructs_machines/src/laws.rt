@@ -1,14 +1,16 @@
 //! Laws about the machines. Each is a function that does nothing; its contract is the law.
 
-ghost use Rattle.std.specs.Prelude.{◌≡◌, ◌+◌, ◌-◌, ◌*◌, ◌/◌, [], ◌∷◌, Some, None};
+ghost use Rattle.std.specs.Prelude.{◌≡◌, ◌+◌, ◌-◌, ◌*◌, ◌/◌, [], ◌∷◌, false, Some, None};
 ghost use Rattle.markdown_base.specs.declared.state.TheConstants.Name.{DataAtBreak, DataInside, FlowStart, ParagraphInside, StringBefore, StringStart, TextBefore, TextStart, ThematicBreakAtBreak};
 ghost use Rattle.markdown_tokenizer.specs.Alike.{LooksNoFurther};
 ghost use Rattle.mdconstructs_tables.specs.Fitting.{IsFit};
 ghost use Rattle.mdconstructs_tables.specs.Misfits.{act, spans, choice, answer, unpaid, start, misfits};
+ghost use Rattle.mdconstructs_tables.specs.Numbers.{shortages};
 ghost use Rattle.mdconstructs_tables.specs.PlainTables.{IsPlainTable};
 ghost use Rattle.mdconstructs_tables.specs.PlainWrites.{WritesPlain};
 ghost use Rattle.mdconstructs_tables.specs.Quiet.{loud};
 ghost use Rattle.mdconstructs_tables.specs.Refusals.{RulesRefuseNothing};
+ghost use Rattle.mdconstructs_tables.specs.RowTest.{never};
 ghost use Rattle.mdconstructs_tables.specs.Rows.{anywhere, at_bytes_or_end};
 ghost use Rattle.mdconstructs_machines.specs.Breaks.{breaks, BreaksAreScanned};
 ghost use Rattle.mdconstructs_machines.specs.Costs.{StartsAt, StartsAmong};
@@ -16,11 +18,11 @@ ghost use Rattle.mdconstructs_machines.specs.Innermost.{AccountsForDocuments};
 ghost use Rattle.mdconstructs_machines.specs.LineEvents.{line_events, data_events, save_events, back_events};
 ghost use Rattle.mdconstructs_machines.specs.ReadAs.{IsReadAs};
 ghost use Rattle.mdconstructs_machines.specs.Tables.{line_ending, other};
-ghost use Rattle.mdconstructs_machines.specs.Unfit.{lines_with, consumes_twice, enters_no_data, gives_up, consumes_nothing, unpaid_lines, round_by, goes_round_in_place, goes_round, ends_well, fails_at_line_ending, breaking, is_ending, starts_inside, uncounted_lines, editing};
+ghost use Rattle.mdconstructs_machines.specs.Unfit.{lines_with, consumes_twice, enters_no_data, gives_up, consumes_nothing, unpaid_lines, round_by, goes_round_in_place, goes_round, ends_well, fails_at_line_ending, breaking, is_ending, starts_inside, too_few, lacking, uncounted_lines, editing};
 ghost use Rattle.mdconstructs_machines.specs.Unfit.{lines_that, lines_inside, exits_outer_first, spans_nothing, begins_at_the_end, fills_a_void_span, tries_where_a_span_began};
 ghost use Rattle.mdconstructs_machines.specs.Unfit.{ends_inside, tries_to_go_inside, needy_inside, retries_behind_a_byte, names_no_state, goes_on_in_a_full_span};
 ghost use Rattle.mdconstructs_machines.specs.Unfit.{late_inside, narrow_inside, stays, starts_nowhere};
-ghost use Rattle.mdconstructs_machines.specs.Lines.{lines_rules};
+ghost use Rattle.mdconstructs_machines.specs.Lines.{lines, lines_rules};
 ghost use Rattle.mdconstructs_machines.specs.Paragraphs.{paragraphs_rules};
 ghost use Rattle.mdconstructs_machines.specs.Peek.{peek, peek_rules};
 ghost use Rattle.mdconstructs_machines.specs.Deep.{deep, deep_rules};
@@ -122,6 +124,12 @@ pub fn misfits_have_causes()
     ensures called_at_other_bytes { misfits (lines_inside narrow_inside) None (Some other) ≡ (ParagraphInside, answer) ∷ [] }
     ensures round_at_one_place { misfits (lines_that stays) None (Some other) ≡ (FlowStart, unpaid) ∷ [] }
     ensures no_state_starts { misfits starts_nowhere None (Some other) ≡ (TextStart, start) ∷ [] }
+{}
+
+/// Where the numbers of a state are too low, the test names it, with what a row of it takes and what it has: the inequality that
+/// does not hold, by the bytes behind the one that waits.
+pub fn low_numbers_are_named()
+    ensures { shortages lines (λ _. false) too_few never None (Some other) lines.states too_few ≡ lacking }
 {}
 
 /// A table without misfits may be unlawful. In one table here no state says how many calls are left, and the machine's own
