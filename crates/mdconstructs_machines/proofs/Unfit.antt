@@ -1,5 +1,5 @@
 -- Two tables without misfits that are not lawful do not meet the conditions of the law about tables.
-use Rattle.mdconstructs_machines.proofs.Prelude.{◌≡◌, [], true, false, Option, Some, None, refl, arith, IsFit, misfits, IsPlainTable, WritesPlain, LineByte, line_ending, other, uncounted_lines, editing, breaking, is_ending, at_bytes_or_end, Text, Configuration, start_configuration}
+use Rattle.mdconstructs_machines.proofs.Prelude.{◌≡◌, [], true, false, Option, Some, None, refl, arith, IsFit, misfits, IsPlainTable, WritesPlain, LineByte, line_ending, other, uncounted_lines, editing, breaking, is_ending, at_bytes_or_end, Sight, Text, Configuration, start_configuration}
 
 pub uncounted : (previous current : Option LineByte) → misfits uncounted_lines previous current ≡ []
 uncounted previous None = refl
@@ -32,5 +32,7 @@ not-plain is = let e : false ≡ true = is.rows None None in absurd (cc)
 pub writes : ¬ WritesPlain editing
 writes is =
     let k : Configuration Unit Unit = start_configuration false in
-    let edits = ((is.rows None None).0 k (refl, refl, tt)).1 in
+    let p = no_text.start in
+    let s : Sight = record { previous = None; current = None; point = p; enter_place = p; exit_place = p; next = p } in
+    let edits = ((is.rows None None).0 s k (refl, refl, tt)).1 in
     absurd (cc)

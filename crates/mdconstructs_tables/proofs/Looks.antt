@@ -1,4 +1,5 @@
 -- Looks as functions of bytes, and a test that they end.
+pub mod Folds
 pub mod Left
 pub mod Quiet
 pub mod Scans

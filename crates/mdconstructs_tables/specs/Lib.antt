@@ -1,6 +1,7 @@
 pub mod Cases
 pub mod Chunks
 pub mod Fitting
+pub mod Folds
 pub mod Joined
 pub mod Knowledge
 pub mod Late

@@ -12,7 +12,7 @@ use Rattle.markdown_tokenizer.specs.Text.{Given, Text}
 use Rattle.markdown_tokenizer.specs.Configuration.{Configuration, Local, Choice, Step}
 use Rattle.markdown_tokenizer.specs.Sight.{Sight, sight, byte_of, seat_before}
 use Rattle.markdown_tokenizer.specs.Reading.{Reading, EndsIn, read, more_calls}
-use Rattle.mdconstructs_tables.specs.Rows.{Act, consume, write, Row, StateRows, Table, class_of, picked, named, table_step}
+use Rattle.mdconstructs_tables.specs.Rows.{Act, consume, writes, Row, StateRows, Table, class_of, past, shown_sight, picked, named, table_step}
 
 -- what waits before these bytes: the first of them, or the end
 abbrev pub waits_at : List Seat → Waits
@@ -82,17 +82,17 @@ module _ {R D : Type 0} (stack : List EventName) (events : List Event) where
   shows_in l q mark true local = held (q + 1) Nothing false local
   shows_in l q mark false local = shows l q mark local
 
-  -- what the acts of a quiet row come to: whether the byte was read, and what they wrote
-  abbrev pub acted : List Seat → (position : ℕ) → (mark : Bool) → (read : Bool) → Local R D → List (Act R D) → Option (Bool × Local R D)
-  acted l q mark read local [] = Some (read, local)
-  acted l q mark false local (consume ∷ acts) = acted l q mark true local acts
-  acted l q mark read local (write f ∷ acts) = acted l q mark read (f (shows_in l q mark read local)) acts
-  acted l q mark _ _ _ = None
+  -- what the acts of a quiet row come to, where this is seen: whether the byte was read, and what they wrote
+  abbrev pub acted : Sight → List Seat → (position : ℕ) → (mark : Bool) → (read : Bool) → Local R D → List (Act R D) → Option (Bool × Local R D)
+  acted s l q mark read local [] = Some (read, local)
+  acted s l q mark false local (consume ∷ acts) = acted (past s) l q mark true local acts
+  acted s l q mark read local (writes f ∷ acts) = acted s l q mark read (f (shown_sight s) (shows_in l q mark read local)) acts
+  acted s l q mark _ _ _ = None
 
   -- what a row comes to
   abbrev pub by_row : (again : Local R D → Name → Glance R D) → (loud : Glance R D)
-      → List Seat → (position : ℕ) → (mark : Bool) → Local R D → Row R D → Glance R D
-  by_row again loud l q mark local r = answered again loud (acted l q mark false local r.acts) r.answer
+      → Sight → List Seat → (position : ℕ) → (mark : Bool) → Local R D → Row R D → Glance R D
+  by_row again loud s l q mark local r = answered again loud (acted s l q mark false local r.acts) r.answer
 
 module _ {W R D : Type 0} (table : Table W R D) (g : Given) (text : Text) (stack : List EventName) (events : List Event) where
   -- the row of a state, by the byte before and the bytes that are left
@@ -107,7 +107,8 @@ module _ {W R D : Type 0} (table : Table W R D) (g : Given) (text : Text) (stack
       → Local R D → Name → Option (StateRows W R D) → Glance R D
   called again previous l q mark local name None = uncalled local name
   called again previous l q mark local name (Some state) =
-      by_row stack events again (uncalled local name) l q mark (table.first local) (row_here previous l q mark local state)
+      let s = sight g text (shows stack events l q mark local) in
+      by_row stack events again (uncalled local name) s l q mark (table.first local) (row_here previous l q mark local state)
 
   -- the calls at one place, so many at most
   abbrev pub glance : (bound : ℕ) → (previous : Option ℕ) → List Seat → (position : ℕ) → (mark : Bool) → Local R D → Name → Glance R D

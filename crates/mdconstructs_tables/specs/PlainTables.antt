@@ -3,12 +3,17 @@ use Rattle.std.specs.Prelude.{◌≡◌, ◌&&◌, List, [], ◌∷◌, Bool, tr
 use Rattle.markdown_tokenizer.specs.Configuration.{Configuration, Local}
 use Rattle.markdown_tokenizer.specs.Calls.{with_local}
 use Rattle.markdown_tokenizer.specs.Plain.{IsPlain}
-use Rattle.mdconstructs_tables.specs.Rows.{Act, enters, exit, consume, links, write, choose, Rows, row, when, StateRows, Table}
+use Rattle.markdown_tokenizer.specs.Sight.{Sight}
+use Rattle.mdconstructs_tables.specs.Rows.{Act, enters, exit, consume, links, writes, choose, Rows, row, when, StateRows, Table}
 
 module _ {R D : Type 0} where
   -- a write registers no resolver, and makes no edit
   abbrev pub IsPlainWrite : (Configuration R D → Local R D) → Type 0
   IsPlainWrite f = (k : Configuration R D) → IsPlain k → IsPlain (with_local k (f k))
+
+  -- whatever is seen
+  abbrev pub IsPlainEverywhere : (Sight → Configuration R D → Local R D) → Type 0
+  IsPlainEverywhere f = (s : Sight) → IsPlainWrite (f s)
 
   abbrev pub is_plain_act : Act R D → Bool
   is_plain_act (enters name None) = true
@@ -16,7 +21,7 @@ module _ {R D : Type 0} where
   is_plain_act (exit name) = true
   is_plain_act consume = true
   is_plain_act (links previous next) = false
-  is_plain_act (write f) = false
+  is_plain_act (writes f) = false
   is_plain_act (choose kind ok nok) = true
 
   abbrev pub are_plain_acts : List (Act R D) → Bool

@@ -1,8 +1,8 @@
 -- Tables without links whose writes leave nothing to resolve.
 use Rattle.std.specs.Prelude.{List, [], ◌∷◌, Option, Some, None}
 use Rattle.markdown_tokenizer.specs.Configuration.{Configuration}
-use Rattle.mdconstructs_tables.specs.Rows.{Act, enters, exit, consume, links, write, choose, Rows, row, when, StateRows, Table}
-use Rattle.mdconstructs_tables.specs.PlainTables.{IsPlainWrite}
+use Rattle.mdconstructs_tables.specs.Rows.{Act, enters, exit, consume, links, writes, choose, Rows, row, when, StateRows, Table}
+use Rattle.mdconstructs_tables.specs.PlainTables.{IsPlainWrite, IsPlainEverywhere}
 
 module _ {R D : Type 0} where
   -- no act links, each write is plain, and the given property holds
@@ -11,7 +11,7 @@ module _ {R D : Type 0} where
   WritePlain (enters name None ∷ acts) P = WritePlain acts P
   WritePlain (enters name (Some link) ∷ acts) P = ⊥
   WritePlain (links previous next ∷ acts) P = ⊥
-  WritePlain (write f ∷ acts) P = IsPlainWrite f × WritePlain acts P
+  WritePlain (writes f ∷ acts) P = IsPlainEverywhere f × WritePlain acts P
   WritePlain (exit name ∷ acts) P = WritePlain acts P
   WritePlain (consume ∷ acts) P = WritePlain acts P
   WritePlain (choose kind ok nok ∷ acts) P = WritePlain acts P

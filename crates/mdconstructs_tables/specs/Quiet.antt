@@ -9,7 +9,7 @@ use Rattle.markdown_base.specs.declared.state.State.TheVariants.{Next, Retry, Ok
 use Rattle.markdown_base.specs.Virtual.{Seat}
 use Rattle.markdown_tokenizer.specs.Text.{Given, Text}
 use Rattle.markdown_tokenizer.specs.Configuration.{Local}
-use Rattle.mdconstructs_tables.specs.Rows.{Act, consume, write, Row, StateRows, Table, named}
+use Rattle.mdconstructs_tables.specs.Rows.{Act, consume, writes, Row, StateRows, Table, named}
 use Rattle.mdconstructs_tables.specs.RowTest.{all_rows, is_some}
 use Rattle.mdconstructs_tables.specs.Looks.{Look, scan}
 
@@ -17,7 +17,7 @@ use Rattle.mdconstructs_tables.specs.Looks.{Look, scan}
 abbrev pub quiet_acts : {R D : Type 0} → (read : Bool) → List (Act R D) → Option Bool
 quiet_acts read [] = Some read
 quiet_acts false (consume ∷ acts) = quiet_acts true acts
-quiet_acts read (write f ∷ acts) = quiet_acts read acts
+quiet_acts read (writes f ∷ acts) = quiet_acts read acts
 quiet_acts _ _ = None
 
 -- What they may answer: behind a byte a state of the look, and without one a state of the look of a lower rank; Ok or Nok

@@ -9,7 +9,7 @@ use Rattle.markdown_base.specs.declared.state.State.TheVariants.{Next, Retry, Ok
 use Rattle.markdown_base.specs.Events.{is_void, same_name}
 use Rattle.markdown_tokenizer.specs.declared.waiting.AttemptKind.{AttemptKind}
 use Rattle.markdown_tokenizer.specs.declared.waiting.AttemptKind.TheVariants.{Attempt, Check}
-use Rattle.mdconstructs_tables.specs.Rows.{Act, enters, exit, consume, links, write, choose, Rows, row, when, Row, Calls, Cost, by_bytes, own, Begun, before, at_byte, here, Called, anywhere, at_a_byte, at_bytes, at_bytes_or_end, Needs, nothing, a_choice, a_choice_once_read, a_choice_for_ok, StateRows, named}
+use Rattle.mdconstructs_tables.specs.Rows.{Act, enters, exit, consume, links, writes, choose, Rows, row, when, Row, Calls, Cost, by_bytes, own, Begun, before, at_byte, here, Called, anywhere, at_a_byte, at_bytes, at_bytes_or_end, Needs, nothing, a_choice, a_choice_once_read, a_choice_for_ok, StateRows, named}
 
 -- the innermost span is of a void name
 abbrev pub is_void_last : Option EventName â†’ Bool
@@ -118,7 +118,7 @@ allows (enters name link) p = not (is_end p.stage)
 allows (exit name) p = is_last name (last_or None p.spans) && (not p.fresh && (not (is_void name) || p.bare))
 allows consume p = is_byte_waiting p.stage
 allows (links previous next) p = true
-allows (write f) p = true
+allows (writes f) p = true
 allows (choose kind ok nok) p = not p.fresh && is_bare p
 
 -- whether a choice that goes on with this after Nok may end with Nok, by whether the ones below it may
@@ -132,7 +132,7 @@ after (enters name link) p = record { stage = p.stage; spans = p.spans ++ name â
 after (exit name) p = record { stage = p.stage; spans = take (length p.spans - 1) p.spans; fresh = p.fresh; bare = false; within = p.within; failing = p.failing }
 after consume p = record { stage = byte_read; spans = p.spans; fresh = false; bare = p.bare; within = p.within; failing = p.failing }
 after (links previous next) p = p
-after (write f) p = p
+after (writes f) p = p
 after (choose kind ok nok) p = record { stage = p.stage; spans = []; fresh = false; bare = false; within = true; failing = may_fail nok p.failing }
 
 -- acts are allowed, one after another

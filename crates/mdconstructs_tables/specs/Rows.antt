@@ -12,13 +12,14 @@ use Rattle.markdown_tokenizer.specs.Configuration.{Configuration, Local, Choice,
 use Rattle.markdown_tokenizer.specs.Sight.{Sight}
 use Rattle.markdown_tokenizer.specs.Calls.{consumed, entered, exited, linked, with_local, attempt_at, check_at}
 
--- What a state does in a call, one after another. A choice has its kind, and what it goes on with after Ok and after Nok.
+-- What a state does in a call, one after another. A write is by what is seen, as the byte that waits, and by the configuration. A choice has
+-- its kind, and what it goes on with after Ok and after Nok.
 pub data Act (R D : Type 0) : Type 0 where
   enters : EventName → Option Link → Act R D
   exit : EventName → Act R D
   consume : Act R D
   links : (previous next : Configuration R D → ℕ) → Act R D
-  write : (Configuration R D → Local R D) → Act R D
+  writes : (Sight → Configuration R D → Local R D) → Act R D
   choose : AttemptKind → (ok nok : State) → Act R D
 
 -- a span begins, without a link or with one
@@ -28,6 +29,10 @@ enter name = enters name None
 -- a span begins with a link
 abbrev pub enter_link : {R D : Type 0} → EventName → Link → Act R D
 enter_link name link = enters name (Some link)
+
+-- a write of what states share, by the configuration alone: it looks at no byte
+abbrev pub write : {R D : Type 0} → (Configuration R D → Local R D) → Act R D
+write f = writes (λ s. f)
 
 -- What a state does if this waits, and what it returns: a row, or one of two by a test of options, sight and configuration
 pub data Rows (R D : Type 0) : Type 0 where
@@ -109,6 +114,10 @@ state name rows spans cost = record { name = name; rows = rows; spans = spans; b
 abbrev pub past : Sight → Sight
 past s = record { previous = s.current; current = None; point = s.next; enter_place = s.next; exit_place = s.next; next = s.next }
 
+-- what a write sees: the point is where an enter would be
+abbrev pub shown_sight : Sight → Sight
+shown_sight s = record s { point = s.enter_place }
+
 -- the class of what waits, or of the previous byte; None is the end, or the start
 abbrev pub class_of : {W : Type 0} → (ℕ → W) → Option ℕ → Option W
 class_of class None = None
@@ -121,7 +130,7 @@ module _ {R D : Type 0} where
   done (exit name) s k = exited name s.exit_place k
   done consume s k = consumed k
   done (links previous next) s k = linked (previous k) (next k) k
-  done (write f) s k = with_local k (f k)
+  done (writes f) s k = with_local k (f (shown_sight s) k)
   done (choose kind ok nok) s k = k
 
   -- what is seen after it

@@ -12,6 +12,7 @@ ghost use Rattle.markdown_tokenizer.specs.Sight.{Sight};
 ghost use Rattle.markdown_tokenizer.specs.Text.{Given, Text};
 ghost use Rattle.mdconstructs_tables.specs.Cases.{AreByBytes, AreOneByOne};
 ghost use Rattle.mdconstructs_tables.specs.Fitting.{IsFit};
+ghost use Rattle.mdconstructs_tables.specs.Folds.{BytesAreFolded};
 ghost use Rattle.mdconstructs_tables.specs.Knowledge.{IsKnownThroughout, KnowsFalling, knowing_rules};
 ghost use Rattle.mdconstructs_tables.specs.Late.{IsLate, late_rules};
 ghost use Rattle.mdconstructs_tables.specs.Looks.{LooksAreScans, Plays};
@@ -117,6 +118,12 @@ pub fn stretches_are_read<W, R, D>()
 /// themselves. It takes at most as many calls at each place as the states have ranks.
 pub fn quiet_looks_end<W, R, D>()
     ensures { (table : Table W R D) → QuietLooksEnd table }
+{}
+
+/// Rows see the bytes that were read: if a state writes, at each byte, the same fold of the byte that waits, what states share
+/// behind the bytes is the fold over them. So a row knows a name, or the end of one, without a state for each of its letters.
+pub fn states_fold_bytes<W, R, D>()
+    ensures { (table : Table W R D) → BytesAreFolded table }
 {}
 
 /// The machine of a table looks no further than the byte that waits, if none of its tests does: what it read of a document need not be

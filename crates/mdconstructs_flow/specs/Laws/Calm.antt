@@ -15,7 +15,7 @@ use Rattle.markdown_tokenizer.specs.Sight.{Sight}
 use Rattle.mdconstructs_tables.specs.Cases.{Case, rows_in}
 use Rattle.mdconstructs_tables.specs.Knowledge.{EachRow, KnownAfter}
 use Rattle.mdconstructs_tables.specs.LinkShapes.{AreInShape}
-use Rattle.mdconstructs_tables.specs.Rows.{Act, enters, exit, consume, links, write, choose, Rows, row, when, Row, done, does, chooses, step_of, past}
+use Rattle.mdconstructs_tables.specs.Rows.{Act, enters, exit, consume, links, writes, choose, Rows, row, when, Row, done, does, chooses, step_of, past, shown_sight}
 use Rattle.mdconstructs_tables.specs.RowTest.{all_rows}
 use Rattle.mdconstructs_tables.proofs.LinkShapes.{more-shape}
 use Rattle.mdconstructs_machines.specs.Tables.{counts}
@@ -23,16 +23,17 @@ use Rattle.mdconstructs_flow.specs.FlowBytes.{FlowByte, Cased, cased}
 use Rattle.mdconstructs_flow.specs.FlowTable.{flow}
 use Rattle.mdconstructs_flow.specs.FlowKnows.{Place, in_chunk, before_chunk, elsewhere, place_of, is_looking, KnowsChunk, Knows, IsLook, knows_flow}
 
--- A write is harmless: what states share may change, but for the chunk that is noted
-abbrev pub IsHarmless : (Configuration Unit Unit → Local Unit Unit) → Type 0
-IsHarmless f =
-    (k : Configuration Unit Unit) → f k
-    ≡ record k.local { tokenize_state = record (f k).tokenize_state { start = k.local.tokenize_state.start; connect = k.local.tokenize_state.connect } }
+-- A write is harmless, whatever is seen: what states share may change, but for the chunk that is noted
+abbrev pub IsHarmless : (Sight → Configuration Unit Unit → Local Unit Unit) → Type 0
+IsHarmless f = (at : Sight × Configuration Unit Unit) →
+    let k = at.1 in
+    let new = f at.0 k in
+    new ≡ record k.local { tokenize_state = record new.tokenize_state { start = k.local.tokenize_state.start; connect = k.local.tokenize_state.connect } }
 
 -- all writes of acts, of rows and of cases are, one after another
 abbrev pub HarmlessActs : List (Act Unit Unit) → Type 0 → Type 0
 HarmlessActs [] P = P
-HarmlessActs (write f ∷ acts) P = IsHarmless f × HarmlessActs acts P
+HarmlessActs (writes f ∷ acts) P = IsHarmless f × HarmlessActs acts P
 HarmlessActs (_ ∷ acts) P = HarmlessActs acts P
 
 abbrev pub HarmlessRows : Rows Unit Unit → Type 0 → Type 0
@@ -66,7 +67,7 @@ are_calm (_ ∷ acts) = are_calm acts
 abbrev pub are_silent : List (Act Unit Unit) → Bool
 are_silent [] = true
 are_silent (consume ∷ acts) = are_silent acts
-are_silent (write f ∷ acts) = are_silent acts
+are_silent (writes f ∷ acts) = are_silent acts
 are_silent (_ ∷ acts) = false
 
 -- the same place
@@ -136,12 +137,12 @@ stays local = record { resolvers = refl; map = refl; start = refl; connect = ref
 stays-on : (a b c : Local Unit Unit) → Stays a b → Stays b c → Stays a c
 stays-on a b c h k = record { resolvers = k.resolvers ∙ h.resolvers; map = k.map ∙ h.map; start = k.start ∙ h.start; connect = k.connect ∙ h.connect }
 
-by-write : (f : Configuration Unit Unit → Local Unit Unit) → IsHarmless f → (k : Configuration Unit Unit) → Stays k.local (f k)
-by-write f h k = record {
-  resolvers = ap (λ (l : Local Unit Unit). l.resolvers) (h k);
-  map = ap (λ (l : Local Unit Unit). l.map) (h k);
-  start = ap (λ (l : Local Unit Unit). l.tokenize_state.start) (h k);
-  connect = ap (λ (l : Local Unit Unit). l.tokenize_state.connect) (h k);
+by-write : (f : Sight → Configuration Unit Unit → Local Unit Unit) → IsHarmless f → (s : Sight) (k : Configuration Unit Unit) → Stays k.local (f s k)
+by-write f h s k = record {
+  resolvers = ap (λ (l : Local Unit Unit). l.resolvers) (h (s, k));
+  map = ap (λ (l : Local Unit Unit). l.map) (h (s, k));
+  start = ap (λ (l : Local Unit Unit). l.tokenize_state.start) (h (s, k));
+  connect = ap (λ (l : Local Unit Unit). l.tokenize_state.connect) (h (s, k));
 }
 
 -- What calm acts come to
@@ -155,9 +156,9 @@ calm (enters name link ∷ acts) P is h s k shape =
 calm (exit name ∷ acts) P is h s k shape = calm acts P is h s (done (exit name) s k) (more-shape k.events _ refl refl shape)
 calm (consume ∷ acts) P is h s k shape = calm acts P is h (past s) (done consume s k) shape
 calm (links previous next ∷ acts) P is h s k shape = absurd (cc)
-calm (write f ∷ acts) P is h s k shape =
-    let (on, kept, same) = calm acts P is h.1 s (with_local k (f k)) shape in
-    (on, stays-on k.local (f k) _ (by-write f h.0 k) kept, same)
+calm (writes f ∷ acts) P is h s k shape =
+    let (on, kept, same) = calm acts P is h.1 s (with_local k (f (shown_sight s) k)) shape in
+    (on, stays-on k.local (f (shown_sight s) k) _ (by-write f h.0 (shown_sight s) k) kept, same)
 calm (choose kind ok nok ∷ acts) P is h s k shape = absurd (cc)
 
 -- What silent acts come to
@@ -168,9 +169,9 @@ silent (enters name link ∷ acts) P is h s k = absurd (cc)
 silent (exit name ∷ acts) P is h s k = absurd (cc)
 silent (consume ∷ acts) P is h s k = silent acts P is h (past s) (done consume s k)
 silent (links previous next ∷ acts) P is h s k = absurd (cc)
-silent (write f ∷ acts) P is h s k =
-    let (same, kept, none) = silent acts P is h.1 s (with_local k (f k)) in
-    (same, stays-on k.local (f k) _ (by-write f h.0 k) kept, none)
+silent (writes f ∷ acts) P is h s k =
+    let (same, kept, none) = silent acts P is h.1 s (with_local k (f (shown_sight s) k)) in
+    (same, stays-on k.local (f (shown_sight s) k) _ (by-write f h.0 (shown_sight s) k) kept, none)
 silent (choose kind ok nok ∷ acts) P is h s k = absurd (cc)
 
 -- What is known stays, if events and the chunk that is noted do
@@ -195,7 +196,7 @@ look-begins place (enters name link ∷ acts) answer P is harmless s k known = a
 look-begins place (exit name ∷ acts) answer P is harmless s k known = absurd (cc)
 look-begins place (consume ∷ acts) answer P is harmless s k known = absurd (cc)
 look-begins place (links previous next ∷ acts) answer P is harmless s k known = absurd (cc)
-look-begins place (write f ∷ acts) answer P is harmless s k known = absurd (cc)
+look-begins place (writes f ∷ acts) answer P is harmless s k known = absurd (cc)
 look-begins place (choose Attempt ok nok ∷ acts) answer P is harmless s k known = absurd (cc)
 look-begins place (choose Check ok nok ∷ acts) answer P is harmless s k known =
     let (by_ok, further) = both (same_place place (place_of ok)) (same_place place (place_of nok) && (are_silent acts && is_looking answer)) is in
@@ -268,7 +269,7 @@ module _ (test : Row Unit Unit → Bool) (g : Given) (s : Sight) (k : Configurat
   behind-acts (exit name ∷ acts) P h = behind-acts acts P h
   behind-acts (consume ∷ acts) P h = behind-acts acts P h
   behind-acts (links previous next ∷ acts) P h = behind-acts acts P h
-  behind-acts (write f ∷ acts) P h = behind-acts acts P h.1
+  behind-acts (writes f ∷ acts) P h = behind-acts acts P h.1
   behind-acts (choose kind ok nok ∷ acts) P h = behind-acts acts P h
 
   behind-rows : (rows : Rows Unit Unit) (P : Type 0) → HarmlessRows rows P → P

@@ -1,6 +1,6 @@
 -- The table of the machine passes the test, so that the machine is lawful.
 use Rattle.std.proofs.Common.{◌≡◌, ℕ, [], Option, Some, None, refl}
-use Rattle.mdconstructs_tables.specs.PlainTables.{IsPlainWrite}
+use Rattle.mdconstructs_tables.specs.PlainTables.{IsPlainEverywhere}
 use Rattle.mdconstructs_tables.specs.PlainWrites.{StatesWritePlain, WritesPlain}
 use Rattle.mdconstructs_tables.specs.Misfits.{misfits}
 use Rattle.mdconstructs_tables.specs.Fitting.{IsFit}
@@ -16,8 +16,8 @@ pub fail-fit : (at : ℕ) → IsFit (fail at)
 fail-fit at = record { fits = fits at; paid = tt; falls = tt }
 
 -- what it writes leaves nothing to resolve: the call is counted
-counted-plain : IsPlainWrite counted
-counted-plain k h = h
+counted-plain : IsPlainEverywhere (λ s. counted)
+counted-plain s k h = h
 
 written : (at : ℕ) (previous current : Option LineByte) → StatesWritePlain (fail at).states previous current
 written at previous None = (counted-plain, (counted-plain, tt))

@@ -12,7 +12,7 @@ use Rattle.markdown_base.specs.Virtual.{Seat}
 use Rattle.markdown_tokenizer.specs.Text.{Given, Text}
 use Rattle.markdown_tokenizer.specs.Configuration.{Configuration, Local}
 use Rattle.markdown_tokenizer.specs.Sight.{Sight, sight}
-use Rattle.mdconstructs_tables.specs.Rows.{Act, enters, exit, consume, links, write, choose, Rows, row, when, Row, Table, class_of, picked, named}
+use Rattle.mdconstructs_tables.specs.Rows.{Act, enters, exit, consume, links, writes, choose, Rows, row, when, Row, Table, class_of, past, shown_sight, picked, named}
 use Rattle.mdconstructs_tables.specs.RowTest.{all_rows, is_some}
 use Rattle.mdconstructs_tables.specs.Looks.{first_byte, Look, Glance, goes_on, is_over, one_more, answered, uncalled, shows, shows_in, acted, row_here, called, glance, looked_on, unfed_look, scan}
 use Rattle.mdconstructs_tables.specs.Quiet.{quiet_acts, quiet_answer, is_one_of, is_quiet_row, is_quiet_state, loud, LookEnds, QuietLooksEnd}
@@ -40,20 +40,20 @@ quiet-one test (n ∷ names) name h e =
 
 module _ {R D : Type 0} (stack : List EventName) (events : List Event) (l : List Seat) (q : ℕ) (b : Bool) where
   -- quiet acts are acted
-  acts-quiet : (r : Bool) (local : Local R D) (acts : List (Act R D)) (r' : Bool) → quiet_acts r acts ≡ Some r' → (local' : Local R D) × (acted stack events l q b r local acts ≡ Some (r', local'))
-  acts-quiet r local [] r' h = let e : r ≡ r' = cc in (local, ap (λ r. Some (r, local)) e)
-  acts-quiet false local (consume ∷ acts) r' h = acts-quiet true local acts r' h
-  acts-quiet true local (consume ∷ acts) r' h = absurd (cc)
-  acts-quiet false local (write f ∷ acts) r' h = acts-quiet false (f (shows_in stack events l q b false local)) acts r' h
-  acts-quiet true local (write f ∷ acts) r' h = acts-quiet true (f (shows_in stack events l q b true local)) acts r' h
-  acts-quiet false local (enters n k ∷ acts) r' h = absurd (cc)
-  acts-quiet true local (enters n k ∷ acts) r' h = absurd (cc)
-  acts-quiet false local (exit n ∷ acts) r' h = absurd (cc)
-  acts-quiet true local (exit n ∷ acts) r' h = absurd (cc)
-  acts-quiet false local (links n k ∷ acts) r' h = absurd (cc)
-  acts-quiet true local (links n k ∷ acts) r' h = absurd (cc)
-  acts-quiet false local (choose n k m ∷ acts) r' h = absurd (cc)
-  acts-quiet true local (choose n k m ∷ acts) r' h = absurd (cc)
+  acts-quiet : (s : Sight) (r : Bool) (local : Local R D) (acts : List (Act R D)) (r' : Bool) → quiet_acts r acts ≡ Some r' → (local' : Local R D) × (acted stack events s l q b r local acts ≡ Some (r', local'))
+  acts-quiet s r local [] r' h = let e : r ≡ r' = cc in (local, ap (λ r. Some (r, local)) e)
+  acts-quiet s false local (consume ∷ acts) r' h = acts-quiet (past s) true local acts r' h
+  acts-quiet s true local (consume ∷ acts) r' h = absurd (cc)
+  acts-quiet s false local (writes f ∷ acts) r' h = acts-quiet s false (f (shown_sight s) (shows_in stack events l q b false local)) acts r' h
+  acts-quiet s true local (writes f ∷ acts) r' h = acts-quiet s true (f (shown_sight s) (shows_in stack events l q b true local)) acts r' h
+  acts-quiet s false local (enters n k ∷ acts) r' h = absurd (cc)
+  acts-quiet s true local (enters n k ∷ acts) r' h = absurd (cc)
+  acts-quiet s false local (exit n ∷ acts) r' h = absurd (cc)
+  acts-quiet s true local (exit n ∷ acts) r' h = absurd (cc)
+  acts-quiet s false local (links n k ∷ acts) r' h = absurd (cc)
+  acts-quiet s true local (links n k ∷ acts) r' h = absurd (cc)
+  acts-quiet s false local (choose n k m ∷ acts) r' h = absurd (cc)
+  acts-quiet s true local (choose n k m ∷ acts) r' h = absurd (cc)
 
 -- what a quiet place comes to
 abbrev IsCalm : {R D : Type 0} → (look : Name → Bool) → (waits : Bool) → (bound : ℕ) → Glance R D → Type 0
@@ -106,11 +106,12 @@ module _ {W R D : Type 0} (table : Table W R D) (names : List Name) (rank : Name
         | None ↦ λ h. absurd (cc)
         | Some state ↦ λ h.
             let r = row_here table g text stack events previous l q b local state in
-            let passes = passes-picked (is_quiet_row table names rank w name) (state.rows c w) g (sight g text (shows stack events l q b local)) (shows stack events l q b (table.first local)) h in
+            let seen = sight g text (shows stack events l q b local) in
+            let passes = passes-picked (is_quiet_row table names rank w name) (state.rows c w) g seen (shows stack events l q b (table.first local)) h in
             calm-answer (is_one_of names) rank (waits_for l) (rank name) bound again (uncalled local name)
             (λ local' name' one' less. calm bound previous l q b local' name' one' (omega (arith, less, low)))
             (quiet_acts false r.acts) r.answer passes
-            (acted stack events l q b false (table.first local) r.acts) (λ r' is. acts-quiet stack events l q b false (table.first local) r.acts r' is)
+            (acted stack events seen l q b false (table.first local) r.acts) (λ r' is. acts-quiet stack events l q b seen false (table.first local) r.acts r' is)
       ] (quiet-one (λ n. is_quiet_state table names rank c w n (named table.states n)) names name (quiet c w) one)
 
   ends-behind : (bound : ℕ) (l : List Seat) (b : Bool) (rest : Local R D → Name → Look R D) → ((local : Local R D) (name : Name) → waits_for l ≡ true → is_one_of names name ≡ true → LookEnds bound (rest local name))

@@ -14,7 +14,7 @@ use Rattle.markdown_tokenizer.specs.Configuration.{Configuration, Local, Choice,
 use Rattle.markdown_tokenizer.specs.Sight.{Sight, sight, byte_of, seat_before, current_of}
 use Rattle.markdown_tokenizer.specs.Reading.{Reading, EndsIn, read, read_step, fed, more_calls}
 use Rattle.markdown_tokenizer.proofs.Readings.Bounds.{fed-ends, called-ends, more-more, more-zero}
-use Rattle.mdconstructs_tables.specs.Rows.{Act, enters, exit, consume, links, write, choose, StateRows, Table, class_of, picked, named, step_at, does, chooses, step_of}
+use Rattle.mdconstructs_tables.specs.Rows.{Act, enters, exit, consume, links, writes, choose, StateRows, Table, class_of, past, shown_sight, picked, named, step_at, does, chooses, step_of}
 use Rattle.mdconstructs_tables.proofs.Looks.Left.{at-front, past-end}
 use Rattle.mdconstructs_tables.specs.Looks.{waits_at, ended_at, first_byte, Look, Glance, goes_on, is_over, one_more, answered, held, shows, shows_in, acted, row_here, called, glance, looked_on, scan, looked, uncalled, unfed_look, IsShown, look_from, Plays, LooksAreScans}
 
@@ -32,14 +32,14 @@ module _ {R D : Type 0} (stack : List EventName) (events : List Event) where
 
   -- what quiet acts make of a configuration
   pub acts-do : (l : List Seat) (q : ℕ) (b r : Bool) (local : Local R D) (acts : List (Act R D)) (r' : Bool) (local' : Local R D) (s : Sight) (cs : List Choice)
-      → acted stack events l q b r local acts ≡ Some (r', local')
+      → acted stack events s l q b r local acts ≡ Some (r', local')
       → (does acts s (shows_in stack events l q b r local) ≡ shows_in stack events l q b r' local') × (chooses acts s (shows_in stack events l q b r local) cs ≡ cs)
   acts-do l q b r local [] r' local' s cs h =
       subst (λ (x : Bool × Local R D). (shows_in stack events l q b r local ≡ shows_in stack events l q b x.0 x.1) × (cs ≡ cs)) (same_Some _ _ h) (refl, refl)
-  acts-do l q b false local (consume ∷ acts) r' local' s cs h = acts-do l q b true local acts r' local' _ cs h
+  acts-do l q b false local (consume ∷ acts) r' local' s cs h = acts-do l q b true local acts r' local' (past s) cs h
   acts-do l q b true local (consume ∷ acts) r' local' s cs h = absurd (cc)
-  acts-do l q b false local (write f ∷ acts) r' local' s cs h = acts-do l q b false (f (shows_in stack events l q b false local)) acts r' local' s cs h
-  acts-do l q b true local (write f ∷ acts) r' local' s cs h = acts-do l q b true (f (shows_in stack events l q b true local)) acts r' local' s cs h
+  acts-do l q b false local (writes f ∷ acts) r' local' s cs h = acts-do l q b false (f (shown_sight s) (shows_in stack events l q b false local)) acts r' local' s cs h
+  acts-do l q b true local (writes f ∷ acts) r' local' s cs h = acts-do l q b true (f (shown_sight s) (shows_in stack events l q b true local)) acts r' local' s cs h
   acts-do l q b false local (enters n k ∷ acts) r' local' s cs h = absurd (cc)
   acts-do l q b true local (enters n k ∷ acts) r' local' s cs h = absurd (cc)
   acts-do l q b false local (exit n ∷ acts) r' local' s cs h = absurd (cc)
@@ -114,7 +114,8 @@ module _ {W R D : Type 0} (table : Table W R D) (g : Given) (text : Text) (step 
     step-is : (state : StateRows W R D) (local : Local R D) (name : Name) (r : Bool) (local' : Local R D)
         → named table.states name ≡ Some state
         → let row = row_here table g text stack events previous l q b local state in
-        acted stack events l q b false (table.first local) row.acts ≡ Some (r, local')
+        let s = sight g text (shows stack events l q b local) in
+        acted stack events s l q b false (table.first local) row.acts ≡ Some (r, local')
         → step (sight g text (shows stack events l q b local)) (shows stack events l q b local) name
         ≡ record { configuration = shows_in stack events l q b r local'; choices = []; answer = row.answer }
     step-is state local name r local' is h =
@@ -174,7 +175,8 @@ module _ {W R D : Type 0} (table : Table W R D) (g : Given) (text : Text) (step 
           | None ↦ λ is. stays local name
           | Some state ↦ λ is.
               let row = row_here table g text stack events previous l q b local state in
-              answers again (comes bound) local name (acted stack events l q b false (table.first local) row.acts) row.answer
+              let s = sight g text (shows stack events l q b local) in
+              answers again (comes bound) local name (acted stack events s l q b false (table.first local) row.acts) row.answer
               (λ r local' did. goes-called g step text (shows stack events l q b local) name (shows_in stack events l q b r local') row.answer (step-is state local name r local' is did))
         ] refl
 

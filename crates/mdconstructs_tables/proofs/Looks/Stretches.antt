@@ -17,7 +17,7 @@ use Rattle.markdown_tokenizer.specs.Text.{Given, Text}
 use Rattle.mdconstructs_tables.proofs.Looks.Left.{at-front, past-end}
 use Rattle.mdconstructs_tables.proofs.Looks.Scans.{Goes, goes-nowhere, goes-on, goes-fed, goes-called}
 use Rattle.mdconstructs_tables.specs.Looks.{waits_at, Plays}
-use Rattle.mdconstructs_tables.specs.Rows.{Act, enters, exit, consume, links, write, choose, StateRows, Table, done, does, chooses, named, past, row_at, step_at}
+use Rattle.mdconstructs_tables.specs.Rows.{Act, enters, exit, consume, links, writes, choose, StateRows, Table, done, does, chooses, named, past, row_at, step_at}
 use Rattle.mdconstructs_tables.specs.Stretches.{sight_before, reads_byte, Halt, to_come, over, one_call_more, row_comes_to, fed_before, ahead, call_comes_to, halt, stretch, StretchesAreRead}
 
 module _ {R D : Type 0} where
@@ -35,7 +35,7 @@ module _ {R D : Type 0} where
   past-byte (exit name ∷ acts) r s k cs h = past-byte acts r s (done (exit name) s k) cs h
   past-byte (consume ∷ acts) r s k cs h = absurd (cc)
   past-byte (links p n ∷ acts) r s k cs h = past-byte acts r s (done (links p n) s k) cs h
-  past-byte (write f ∷ acts) r s k cs h = past-byte acts r s (done (write f) s k) cs h
+  past-byte (writes f ∷ acts) r s k cs h = past-byte acts r s (done (writes f) s k) cs h
   past-byte (choose kind ok nok ∷ acts) r s k cs h = absurd (cc)
 
   acts-leave : (acts : List (Act R D)) (r : Bool) (s : Sight) (k : Configuration R D) (cs : List Choice) → reads_byte false acts ≡ Some r → (chooses acts s k cs ≡ cs) × Left r k (does acts s k)
@@ -49,8 +49,8 @@ module _ {R D : Type 0} where
       let (read, position, none) = past-byte acts r (past s) (done consume s k) cs h in (none, subst (λ r. Left r k (does acts (past s) (done consume s k))) (sym read) position)
   acts-leave (links p n ∷ acts) true s k cs h = acts-leave acts true s (done (links p n) s k) cs h
   acts-leave (links p n ∷ acts) false s k cs h = acts-leave acts false s (done (links p n) s k) cs h
-  acts-leave (write f ∷ acts) true s k cs h = acts-leave acts true s (done (write f) s k) cs h
-  acts-leave (write f ∷ acts) false s k cs h = acts-leave acts false s (done (write f) s k) cs h
+  acts-leave (writes f ∷ acts) true s k cs h = acts-leave acts true s (done (writes f) s k) cs h
+  acts-leave (writes f ∷ acts) false s k cs h = acts-leave acts false s (done (writes f) s k) cs h
   acts-leave (choose kind ok nok ∷ acts) r s k cs h = absurd (cc)
 
   -- what is fed

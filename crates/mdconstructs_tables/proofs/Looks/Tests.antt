@@ -17,7 +17,7 @@ module _ {W R D X : Type 0} (table : Table W R D) (tells : Look R D → X) (g : 
   abbrev pub told_by : Row R D → X
   told_by r =
       tells (looked_on table g text stack events rest l mark
-      (by_row stack events (glance table g text stack events bound previous l q mark) (uncalled local name) l q mark (table.first local) r))
+      (by_row stack events (glance table g text stack events bound previous l q mark) (uncalled local name) (sight g text (shows stack events l q mark local)) l q mark (table.first local) r))
 
   -- by the row that is picked
   abbrev pub told : Rows R D → X

@@ -1,5 +1,8 @@
 -- What the code of a state may do where it is called, from the test of its acts.
-use Rattle.mdconstructs_tables.proofs.Prelude.{◌≡◌, ◌≢◌, ◌==◌, ℕ, ◌<◌, ◌&&◌, ◌||◌, not, List, [], ◌∷◌, ◌++◌, Bool, true, false, Option, Some, None, length, map, refl, sym, ap, ◌∙◌, subst, arith, append_assoc, length-append, All, IfSome, reverse, last_or, nat_tests, All-head, All-tail, All-weaker, and_parts, slice_get_past, Event, Enter, Name, Retry, open_events, open_events_from-unlinked, option_map, is_void, unlinked, stands_before, or-leads, Waits, Nothing, Byte, End, Text, Configuration, Local, TokenizerValue, sight, sight_of, byte_of, CanExit, IsAsFar, Act, enters, exit, consume, done, with_choice_of, StateRows, Called, Table, class_of, does, chooses, named, Stage, byte_read, Shape, is_last, allows_all, after_all, start_shape, is_called_at, is_some, since, IsFed, class_in, begun, IsBelow, table_holds, IsAtState, once_read, CanEnd, IsCallable, IsMarkable, cond-false, IfSome_then, EventName}
+use Rattle.mdconstructs_tables.proofs.Prelude.{◌≡◌, ◌≢◌, ◌==◌, ℕ, suc, ◌+◌, ◌<◌, ◌&&◌, ◌||◌, not, List, [], ◌∷◌, ◌++◌, Bool, true, false, Option, Some, None, length, map, refl, sym, ap, ◌∙◌, subst, arith, append_assoc, length-append, All, IfSome, reverse, last_or, nat_tests, All-head, All-tail, All-weaker, and_parts, slice_get_past, Event, Enter, Name, Retry, open_events, open_events_from-unlinked, option_map, is_void, unlinked, stands_before, or-leads, Waits, Nothing, Byte, End, Text, Configuration, Local, TokenizerValue, Sight, sight, sight_of, byte_of, current_of, seat_before, CanExit, IsAsFar, Act, enters, exit, consume, writes, done, shown_sight, with_choice_of, StateRows, Called, Table, class_of, does, chooses, named, Stage, byte_read, Shape, is_last, allows_all, after_all, start_shape, is_called_at, is_some, since, IsFed, class_in, begun, IsBelow, table_holds, IsAtState, once_read, CanEnd, IsCallable, IsMarkable, cond-false, IfSome_then, EventName}
+use Rattle.markdown_base.specs.Places.{shown}
+use Rattle.markdown_tokenizer.specs.Calls.{with_local}
+use Rattle.markdown_tokenizer.specs.Sight.{next_place}
 use Rattle.mdconstructs_tables.proofs.Rows.Laws.{Waited, reached, sight_at, HasShape, below_all, is-last, last-above, last-long, to-before, left-at, here-at, has-after-all, does-then, chooses-then, allows-parts}
 use Rattle.mdconstructs_tables.proofs.GrowingTexts.{next-is-left}
 use Rattle.mdconstructs_tables.proofs.Markers.{stack-below}
@@ -75,10 +78,32 @@ module _ {M W R D : Type 0} (class : ℕ → W) (state : StateRows W R D) (b w :
               (λ c b. IfSome_then c.saved b (λ s r. omega (arith, r, ap length h.stack, length-append base p.spans, last-long p.spans name last))) (acted acts).choices h.waits.0;
         })
 
+    -- what a write sees, by how far a call is
+    shown-at : (stage : Stage) (k' : Configuration R D) → IsAsFar k' (reached stage t.configuration) → Waited stage t.text t.configuration
+        → shown_sight (sight t.given t.text k') ≡ shown_sight (sight_at stage (sight_of t))
+    shown-at byte_read k' far waited =
+        let k = t.configuration in
+        let byte = waited.0 in
+        let here = here-at t.given t.text k byte_read k' far waited in
+        let left = left-at t.given t.text k byte_read k' far waited in
+        let last = far.1 in
+        let one : suc k.position ≡ k.position + 1 = omega arith in
+        let before : byte_of (seat_before t.text k'.position) ≡ (sight_of t).current =
+        ap (λ i. byte_of (seat_before t.text i)) (far.0 ∙ sym one) ∙ rw byte refl in
+        let waits : current_of t.text k'.position k'.waiting ≡ None = rw last refl in
+        let next : (sight t.given t.text k').next ≡ (sight_at byte_read (sight_of t)).exit_place = ap (λ w. shown t.given.bytes (next_place t.text k'.position w)) last ∙ left in
+        ap (λ p. record { previous = p; current = current_of t.text k'.position k'.waiting; point = (sight t.given t.text k').enter_place; enter_place = (sight t.given t.text k').enter_place; exit_place = (sight t.given t.text k').exit_place; next = (sight t.given t.text k').next }) before
+        ∙ ap (λ c. record { previous = (sight_of t).current; current = c; point = (sight t.given t.text k').enter_place; enter_place = (sight t.given t.text k').enter_place; exit_place = (sight t.given t.text k').exit_place; next = (sight t.given t.text k').next }) waits
+        ∙ ap (λ e. record { previous = (sight_of t).current; current = None; point = e; enter_place = e; exit_place = (sight t.given t.text k').exit_place; next = (sight t.given t.text k').next }) here
+        ∙ ap (λ e. record { previous = (sight_of t).current; current = None; point = (sight_of t).next; enter_place = (sight_of t).next; exit_place = e; next = (sight t.given t.text k').next }) left
+        ∙ ap (λ e. record { previous = (sight_of t).current; current = None; point = (sight_of t).next; enter_place = (sight_of t).next; exit_place = (sight_of t).next; next = e }) next
+    shown-at stage k' far waited = rw (far.0, far.1) refl
+
     done-at : (act : Act R D) (p : Shape) (k' : Configuration R D) → IsAsFar k' (reached p.stage t.configuration) → Waited p.stage t.text t.configuration
         → done act (sight t.given t.text k') k' ≡ done act (sight_at p.stage (sight_of t)) k'
     done-at (enters name link) p k' far waited = ap (λ q. done (enters name link) (record (sight_of t) { enter_place = q }) k') (here-at t.given t.text t.configuration p.stage k' far waited)
     done-at (exit name) p k' far waited = ap (λ q. done (exit name) (record (sight_of t) { exit_place = q }) k') (left-at t.given t.text t.configuration p.stage k' far waited)
+    done-at (writes f) p k' far waited = ap (λ (s : Sight). with_local k' (f s k')) (shown-at p.stage k' far waited)
     done-at act p k' far waited = refl
 
     -- one more act

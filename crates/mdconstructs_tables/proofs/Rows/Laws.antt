@@ -1,7 +1,7 @@
 -- What a row keeps: lemmas for the laws of tables.
 use Rattle.std.specs.List.{AllByRecursion}
 use Rattle.mdconstructs_tables.proofs.Markers.{stack-below}
-use Rattle.mdconstructs_tables.proofs.Prelude.{◌≡◌, ℕ, suc, ◌+◌, ◌-◌, ◌<◌, ◌≤◌, not, List, [], ◌∷◌, ◌++◌, Bool, true, false, Option, Some, None, length, length-map, map, refl, sym, ap, ◌∙◌, subst, arith, take, append_assoc, length-append, All, last_or, and_from, and_parts, append-nil, map-append, All-push, All-take, All-weaker, All-cons, Event, Enter, Exit, Point, State, Nok, open_events, unlinked, stands_before, stands-self, Nothing, Byte, AttemptKind, Attempt, Check, Given, Text, Configuration, Choice, Sight, sight, consumed, linked-unlinked, IsAsFar, SavesEvents, same_name-true, before-upto, Act, enters, exit, consume, links, write, choose, past, done, seen_after, choice_made_at, with_choice_of, does, chooses, Stage, end_waits, byte_waits, byte_read, Shape, is_byte_waiting, is_end, is_last, allows, after, allows_all, after_all, same_names, may_fail, outline, EndsWithEnter, Began, upto, since, AnyGoesBack, MayEnd, IsBelow, EventName}
+use Rattle.mdconstructs_tables.proofs.Prelude.{◌≡◌, ℕ, suc, ◌+◌, ◌-◌, ◌<◌, ◌≤◌, not, List, [], ◌∷◌, ◌++◌, Bool, true, false, Option, Some, None, length, length-map, map, refl, sym, ap, ◌∙◌, subst, arith, take, append_assoc, length-append, All, last_or, and_from, and_parts, append-nil, map-append, All-push, All-take, All-weaker, All-cons, Event, Enter, Exit, Point, State, Nok, open_events, unlinked, stands_before, stands-self, Nothing, Byte, AttemptKind, Attempt, Check, Given, Text, Configuration, Choice, Sight, sight, consumed, linked-unlinked, IsAsFar, SavesEvents, same_name-true, before-upto, Act, enters, exit, consume, links, writes, choose, past, done, seen_after, choice_made_at, with_choice_of, does, chooses, Stage, end_waits, byte_waits, byte_read, Shape, is_byte_waiting, is_end, is_last, allows, after, allows_all, after_all, same_names, may_fail, outline, EndsWithEnter, Began, upto, since, AnyGoesBack, MayEnd, IsBelow, EventName}
 use Rattle.mdconstructs_tables.proofs.GrowingTexts.{open-more, last-more, next-is-left}
 
 -- What the tests of equality say
@@ -180,7 +180,7 @@ module _ {R D : Type 0} (g : Given) (text : Text) (old : Configuration R D) wher
         reads = h.reads;
         waits = h.waits;
       }
-  has-after (write f) p base s k choices can sees h =
+  has-after (writes f) p base s k choices can sees h =
       record { stack = h.stack; began = h.began; bare = h.bare; reads = h.reads; waits = h.waits }
   has-after (choose kind ok nok) p base s k choices can sees h = record {
     stack = h.stack ∙ sym (append-nil (base ++ p.spans));

@@ -1,6 +1,6 @@
 -- A table without links whose writes are plain keeps that nothing is there to resolve, and is lawful if it fits. A plain table is one.
 use Rattle.markdown_tokenizer.proofs.Readings.Plain as machines
-use Rattle.mdconstructs_tables.proofs.Prelude.{◌≡◌, List, [], ◌∷◌, true, Option, Some, None, refl, and_parts, Given, Configuration, Sight, with_local, consumed, IsLawful, IsPlain, KeepsPlain, plain, no-links-more, Act, enters, exit, consume, write, choose, Rows, row, when, StateRows, Table, class_of, past, done, does, picked, row_at, named, step_at, table_step, table_rules, IsFit, are_plain_acts, are_plain_rows, are_plain_states, IsPlainTable, WritePlain, RowsWritePlain, StatesWritePlain, WritesPlain, cond_both}
+use Rattle.mdconstructs_tables.proofs.Prelude.{◌≡◌, List, [], ◌∷◌, true, Option, Some, None, refl, and_parts, Given, Configuration, Sight, with_local, consumed, IsLawful, IsPlain, KeepsPlain, plain, no-links-more, Act, enters, exit, consume, writes, choose, Rows, row, when, StateRows, Table, class_of, past, shown_sight, done, does, picked, row_at, named, step_at, table_step, table_rules, IsFit, are_plain_acts, are_plain_rows, are_plain_states, IsPlainTable, WritePlain, RowsWritePlain, StatesWritePlain, WritesPlain, cond_both}
 use Rattle.mdconstructs_tables.proofs.Rows.Misfits.{named-in}
 use Rattle.mdconstructs_tables.proofs.Tables.Prices.{table-cost_pays}
 use Rattle.mdconstructs_tables.proofs.Tables.Laws.{table-consumes_once, table-only_adds, table-ends_when_read, table-invariant_kept}
@@ -10,7 +10,7 @@ module _ {R D : Type 0} where
   does-plain : (acts : List (Act R D)) (s : Sight) (k : Configuration R D) (P : Type 0) → WritePlain acts P → IsPlain k → IsPlain (does acts s k) × P
   does-plain [] s k P h plain = (plain, h)
   does-plain (enters name None ∷ acts) s k P h plain = does-plain acts s (done (enters name None) s k) P h (plain.0, plain.1, no-links-more k.events _ refl plain.2)
-  does-plain (write f ∷ acts) s k P h plain = does-plain acts s (with_local k (f k)) P h.1 (h.0 k plain)
+  does-plain (writes f ∷ acts) s k P h plain = does-plain acts s (with_local k (f (shown_sight s) k)) P h.1 (h.0 (shown_sight s) k plain)
   does-plain (exit name ∷ acts) s k P h plain = does-plain acts s (done (exit name) s k) P h (plain.0, plain.1, no-links-more k.events _ refl plain.2)
   does-plain (consume ∷ acts) s k P h plain = does-plain acts (past s) (consumed k) P h plain
   does-plain (choose kind ok nok ∷ acts) s k P h plain = does-plain acts s k P h plain
@@ -59,8 +59,8 @@ module _ {W R D : Type 0} where
       step-plain table g (named table.states name) s k1 rows first
 
   pub writing-lawful : (table : Table W R D) (g : Given) → IsFit table → WritesPlain table → IsLawful g (plain (table_rules table g))
-  writing-lawful table g fit writes =
-      machines.plain-lawful g (table_rules table g) (table-keeps_plain table g writes) (table-consumes_once table g fit) (table-only_adds table g fit) (table-ends_when_read table g fit)
+  writing-lawful table g fit plainly =
+      machines.plain-lawful g (table_rules table g) (table-keeps_plain table g plainly) (table-consumes_once table g fit) (table-only_adds table g fit) (table-ends_when_read table g fit)
       (table-invariant_kept table g fit) (table-cost_pays table g fit) (λ text k is formed h. formed)
 
   pub plain-lawful : (table : Table W R D) (g : Given) → IsFit table → IsPlainTable table → IsLawful g (plain (table_rules table g))

@@ -5,7 +5,7 @@ use Rattle.markdown_tokenizer.specs.Text.{Text}
 use Rattle.mdconstructs_tables.specs.Fitting.{AllFall, and_falls}
 use Rattle.mdconstructs_tables.specs.PlainWrites.{WritePlain, RowsWritePlain, StatesWritePlain}
 use Rattle.mdconstructs_tables.specs.RowInvariant.{ArePaid, PaysRows, and_of_own}
-use Rattle.mdconstructs_tables.specs.Rows.{Cost, by_bytes, own, Act, enters, exit, consume, links, write, choose, Rows, row, when, StateRows, Table}
+use Rattle.mdconstructs_tables.specs.Rows.{Cost, by_bytes, own, Act, enters, exit, consume, links, writes, choose, Rows, row, when, StateRows, Table}
 
 -- what is asked of a state, and then of others
 own-then : (cost : Cost) (asked : (Text → ℕ → ℕ) → Type 0) (P Q : Type 0) → (P → Q) → and_of_own cost asked P → and_of_own cost asked Q
@@ -36,7 +36,7 @@ module _ {R D : Type 0} (P Q : Type 0) (f : P → Q) where
   acts-then (enters name None ∷ acts) h = acts-then acts h
   acts-then (enters name (Some link) ∷ acts) h = absurd h
   acts-then (links previous next ∷ acts) h = absurd h
-  acts-then (write w ∷ acts) h = (h.0, acts-then acts h.1)
+  acts-then (writes w ∷ acts) h = (h.0, acts-then acts h.1)
   acts-then (exit name ∷ acts) h = acts-then acts h
   acts-then (consume ∷ acts) h = acts-then acts h
   acts-then (choose kind ok nok ∷ acts) h = acts-then acts h

@@ -1,7 +1,7 @@
 -- The table of headings passes the test, so that the machine is lawful.
 use Rattle.std.proofs.Common.{◌≡◌, [], Option, Some, None, refl}
 use Rattle.mdconstructs.specs.Misfits.{misfits}
-use Rattle.mdconstructs.specs.PlainTables.{IsPlainWrite}
+use Rattle.mdconstructs.specs.PlainTables.{IsPlainEverywhere}
 use Rattle.mdconstructs.specs.PlainWrites.{StatesWritePlain, WritesPlain}
 use Rattle.mdconstructs_tables.specs.Fitting.{IsFit}
 use Rattle.mdexamples.specs.Headings.{HeadingByte, line_feed, sign, other, one_sign, one_sign_more, headings}
@@ -16,11 +16,11 @@ pub headings-fit : IsFit headings
 headings-fit = record { fits = fits; paid = tt; falls = tt }
 
 -- its writes leave nothing to resolve
-one-plain : IsPlainWrite one_sign
-one-plain k h = h
+one-plain : IsPlainEverywhere (λ s. one_sign)
+one-plain s k h = h
 
-more-plain : IsPlainWrite one_sign_more
-more-plain k h = h
+more-plain : IsPlainEverywhere (λ s. one_sign_more)
+more-plain s k h = h
 
 written : (previous current : Option HeadingByte) → StatesWritePlain headings.states previous current
 written previous None = tt
