@@ -1,5 +1,5 @@
 -- The invariant at the states of a table, and the cost of their calls.
-use Rattle.std.specs.Prelude.{◌≡◌, ℕ, zero, suc, ◌+◌, ◌-◌, ◌*◌, ◌<◌, ◌≤◌, ◌⊎◌, List, [], ◌∷◌, ◌++◌, Bool, not, true, false, cond, Option, Some, None, IfSome, All, map, max, take, length, reverse, slice_get}
+use Rattle.std.specs.Prelude.{◌≡◌, ℕ, zero, suc, ◌+◌, ◌-◌, ◌*◌, ◌<◌, ◌≤◌, ◌⊎◌, ◌&&◌, ◌||◌, List, [], ◌∷◌, ◌++◌, Bool, not, true, false, cond, Option, Some, None, IfSome, All, map, max, take, length, reverse, slice_get}
 use Rattle.std.specs.List.{last_or}
 use Rattle.markdown_base.specs.declared.event.Event.{Event}
 use Rattle.markdown_base.specs.declared.event.Kind.TheVariants.{Enter}
@@ -16,13 +16,13 @@ use Rattle.markdown_tokenizer.specs.declared.waiting.Waits.{Waits}
 use Rattle.markdown_tokenizer.specs.declared.waiting.Waits.TheVariants.{Nothing, Byte, End}
 use Rattle.markdown_tokenizer.specs.Text.{Given, Text}
 use Rattle.markdown_tokenizer.specs.Configuration.{Configuration, Local, Choice, Saved, Step, TokenizerValue, at_configuration}
-use Rattle.markdown_tokenizer.specs.Sight.{Sight, sight, sight_of, end_place, byte_of}
+use Rattle.markdown_tokenizer.specs.Sight.{Sight, sight, sight_of, end_place, next_place, byte_of}
 use Rattle.markdown_tokenizer.specs.Calls.{with_local, consumed, exited, CanExit}
 use Rattle.markdown_tokenizer.specs.Rules.{Rules}
 use Rattle.markdown_tokenizer.specs.Engine.{EndsWellFormed}
 use Rattle.markdown_tokenizer.specs.Plain.{finds_nothing, NothingResolves}
 use Rattle.mdconstructs_tables.specs.Rows.{Act, exit, consume, choose, Rows, row, when, Row, Calls, Cost, by_bytes, own, StateRows, Table, class_of, step_of, row_at, named, table_step}
-use Rattle.mdconstructs_tables.specs.RowTest.{is_void_last, Stage, byte_waits, Frame, allows_all, first_stage, start_shape, saves, fresh_at, fresh_fed, needs_choice, needs_failing, is_called_at, is_some, is_early, is_behind, never, fits_choice, calls_at}
+use Rattle.mdconstructs_tables.specs.RowTest.{is_void_last, Stage, byte_waits, Frame, allows_all, first_stage, start_shape, saves, fresh_at, fresh_fed, is_fresh_byte, needs_choice, needs_failing, is_called_at, is_some, is_early, is_behind, never, fits_choice, calls_at}
 use Rattle.mdconstructs_tables.specs.Markers.{IsMarkable}
 
 -- the events of a configuration, without the ends of their links
@@ -91,13 +91,33 @@ AnyGoesBack (c ∷ cs) = GoesBack c.nok (AnyGoesBack cs)
 abbrev pub MayEnd : (within failing : Bool) → List Choice → Type 0
 MayEnd within failing choices = (within ≡ true → AnyWait choices) × (failing ≡ true → AnyGoesBack choices)
 
+-- before the end of the byte that is next at a position
+abbrev pub before_next : Given → Text → ℕ → Point → Bool
+before_next g text p q = stands_before q (shown g.bytes (next_place text p Byte))
+
+-- where spans may have begun at a position: if they are fresh, before the end of the byte that is next there, or, if that is not known, where
+-- the previous byte ended
+abbrev pub began_there : (fresh byte : Bool) → Given → Text → ℕ → Point → Bool
+began_there true true g text p q = before_next g text p q
+began_there fresh _ g text p q = upto fresh (exit_place_at g text p) q
+
+-- where the spans of a frame may have begun, if the choice was made at this position
+abbrev pub began_in : {W : Type 0} → Frame W → Given → Text → ℕ → Point → Bool
+began_in f g text p = began_there f.fresh (is_some f.waits) g text p
+
+-- Where the spans of a state may have begun before it is fed at this position: where the previous byte ended; or before the end of the byte
+-- that is next in the text, if it says so of that byte
+abbrev pub began_unfed : {W R D : Type 0} → (ℕ → W) → Given → Text → ℕ → StateRows W R D → Point → Bool
+began_unfed class g text p state q =
+    upto (fresh_fed state.begun) (exit_place_at g text p) q || (is_fresh_byte state.begun (class_in class text p) && before_next g text p q)
+
 -- What a choice saved: the stack at that time, a position up to this one, events that are a front of these, with the spans as they were
 -- then, and the byte that waited
 pub record IsSavedIn {W : Type 0} (class : ℕ → W) (g : Given) (text : Text) (position : ℕ) (events : List Event) (stack : List EventName) (f : Frame W) (saved : Saved) : Type 0 where
   pub stack_is : saved.stack ≡ stack
   pub behind : saved.position ≤ position
   pub within : saved.events ≤ length events
-  pub began : Began (upto false (exit_place_at g text saved.position)) (take saved.events events)
+  pub began : Began (began_in f g text saved.position) (take saved.events events)
   pub void : is_void_last (last_or None f.spans) ≡ true → EndsWithEnter (take saved.events events)
   pub waits : (w : W) → f.waits ≡ Some w → class_in class text saved.position ≡ Some w
 
@@ -256,7 +276,7 @@ module _ {W R D : Type 0} (table : Table W R D) where
 
   -- the invariant at a state that a call returned
   abbrev pub HoldsAt : Given → Text → Configuration R D → List Choice → State → Type 0
-  HoldsAt g text k choices (Next name) = (k.waiting ≡ Nothing) × IsStateAt g text (named table.states name) (λ state. upto (fresh_fed state.begun) (exit_place_at g text k.position)) k choices
+  HoldsAt g text k choices (Next name) = (k.waiting ≡ Nothing) × IsStateAt g text (named table.states name) (began_unfed table.class g text k.position) k choices
   HoldsAt g text k choices (Retry name) =
       IsFed k.waiting k.position k.ended text × SightIsInOrder k.waiting (sight g text k)
       × IsStateAt g text (named table.states name) (λ state. began_at (class_of table.class (sight g text k).current) state (sight g text k)) k choices

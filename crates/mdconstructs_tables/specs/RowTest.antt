@@ -22,8 +22,8 @@ pub data Stage : Type 0 where
   byte_waits : Stage
   byte_read : Stage
 
--- What is open in a call: the spans since the last choice was made; whether one of them may have begun at the byte that waits or at the
--- current place; whether the last event is the innermost one's enter; whether a choice waits; and whether one waits that may end with Nok
+-- What is open in a call: the spans since the last choice was made; whether one that is open may have begun at the byte that waits or at
+-- the current place, before that choice too; whether the last event is the innermost one's enter; whether a choice waits; and whether one waits that may end with Nok
 pub record Shape : Type 0 where
   pub stage : Stage
   pub spans : List EventName
@@ -80,6 +80,11 @@ fresh_at (at_byte test) None = false
 fresh_at (at_byte test) (Some w) = test w
 fresh_at here w = true
 
+-- the same where a byte waits
+abbrev pub is_fresh_byte : {W : Type 0} → Begun W → Option W → Bool
+is_fresh_byte begun None = false
+is_fresh_byte begun (Some w) = fresh_at begun (Some w)
+
 -- the same once the previous byte ended, where nothing waits yet
 abbrev pub fresh_fed : {W : Type 0} → Begun W → Bool
 fresh_fed here = true
@@ -112,14 +117,14 @@ abbrev pub is_bare : Shape → Bool
 is_bare p = not (is_void_last (last_or None p.spans)) || p.bare
 
 -- whether an act is allowed: an enter before the end; a consume if a byte waits; an exit of the innermost span, if it began before the
--- place of the exit and, if it is void, no event came since; a choice if no span began at the current place
+-- place of the exit and, if it is void, no event came since; a choice if, in a void span, no event came since it began
 abbrev pub allows : {R D : Type 0} → Act R D → Shape → Bool
 allows (enters name link) p = not (is_end p.stage)
 allows (exit name) p = is_last name (last_or None p.spans) && (not p.fresh && (not (is_void name) || p.bare))
 allows consume p = is_byte_waiting p.stage
 allows (links previous next) p = true
 allows (writes f) p = true
-allows (choose kind ok nok) p = not p.fresh && is_bare p
+allows (choose kind ok nok) p = is_bare p
 
 -- whether a choice that goes on with this after Nok may end with Nok, by whether the ones below it may
 abbrev pub may_fail : (nok : State) → (below : Bool) → Bool
@@ -133,7 +138,7 @@ after (exit name) p = record { stage = p.stage; spans = take (length p.spans - 1
 after consume p = record { stage = byte_read; spans = p.spans; fresh = false; bare = p.bare; within = p.within; failing = p.failing }
 after (links previous next) p = p
 after (writes f) p = p
-after (choose kind ok nok) p = record { stage = p.stage; spans = []; fresh = false; bare = false; within = true; failing = may_fail nok p.failing }
+after (choose kind ok nok) p = record { stage = p.stage; spans = []; fresh = p.fresh; bare = false; within = true; failing = may_fail nok p.failing }
 
 -- acts are allowed, one after another
 abbrev pub allows_all : {R D : Type 0} → List (Act R D) → Shape → Bool
@@ -172,10 +177,11 @@ start_shape b w state = record {
   failing = needs_failing state.needs (is_some b);
 }
 
--- Where a choice is made: the spans since the previous choice, the byte that waits there, if that is known, whether a choice waits, and
--- whether one waits that may end with Nok
+-- Where a choice is made: the spans since the previous choice, whether one that is open may have begun there, the byte that waits, if that
+-- is known, whether a choice waits, and whether one waits that may end with Nok
 pub record Frame (W : Type 0) : Type 0 where
   pub spans : List EventName
+  pub fresh : Bool
   pub waits : Option W
   pub within : Bool
   pub failing : Bool
@@ -187,7 +193,7 @@ waits_in _ w = None
 
 -- the place where a choice is made, by what is open and what waited
 abbrev pub frame_of : {W : Type 0} → Option W → Shape → Frame W
-frame_of w p = record { spans = p.spans; waits = waits_in p.stage w; within = p.within; failing = p.failing }
+frame_of w p = record { spans = p.spans; fresh = p.fresh; waits = waits_in p.stage w; within = p.within; failing = p.failing }
 
 -- no calls, the sum, and the larger of two
 abbrev pub no_calls : Calls
@@ -232,22 +238,33 @@ module _ {W R D : Type 0} (states : List (StateRows W R D)) where
       same_names spans state.spans
       && ((not (needs_choice state.needs read) || within) && ((not (needs_failing state.needs read) || failing) && is_called_at state.called ended waits))
 
-  -- what a choice goes on with fits at the place where it was made
-  abbrev pub may_go_on : Frame W → (waits : Option W) → State → Bool
-  may_go_on f waits (Next name) = is_at f.spans f.within f.failing false waits true (named states name)
-  may_go_on f waits Ok = same_names f.spans [] && f.within
-  may_go_on f waits Nok = f.failing
-  may_go_on f waits _ = false
+  -- a state says that spans may have begun where it goes on, before this waits
+  abbrev pub goes_on_fresh : (waits : Option W) → Option (StateRows W R D) → Bool
+  goes_on_fresh waits None = false
+  goes_on_fresh None (Some state) = fresh_fed state.begun
+  goes_on_fresh (Some w) (Some state) = fresh_at state.begun (Some w)
+
+  -- what a choice goes on with fits, by whether a span may have begun where it goes on
+  abbrev pub may_go_on : Frame W → (fresh : Bool) → (waits : Option W) → State → Bool
+  may_go_on f fresh waits (Next name) =
+      is_at f.spans f.within f.failing false waits true (named states name) && (not fresh || goes_on_fresh waits (named states name))
+  may_go_on f fresh waits Ok = same_names f.spans [] && (not fresh && f.within)
+  may_go_on f fresh waits Nok = f.failing
+  may_go_on f fresh waits _ = false
+
+  -- at the place where the choice was made
+  abbrev pub may_go_on_there : Frame W → State → Bool
+  may_go_on_there f a = may_go_on f f.fresh f.waits a
 
   -- the same after Nok: then Nok fits, since a choice that fails so ends with Nok only if one below it may
-  abbrev pub may_go_back : Frame W → (waits : Option W) → State → Bool
-  may_go_back f waits Nok = true
-  may_go_back f waits a = may_go_on f waits a
+  abbrev pub may_go_back : Frame W → State → Bool
+  may_go_back f Nok = true
+  may_go_back f a = may_go_on_there f a
 
-  -- a choice fits: it goes on at its place, or, after Ok, with the same spans open later on
+  -- a choice fits: it goes on at its place, or, after Ok, with the same spans open later on, where none of them began
   abbrev pub fits_choice : Frame W → AttemptKind → (ok nok : State) → Bool
-  fits_choice f Check ok nok = may_go_on f f.waits ok && may_go_back f f.waits nok
-  fits_choice f Attempt ok nok = may_go_on f None ok && (not (is_void_last (last_or None f.spans)) && may_go_back f f.waits nok)
+  fits_choice f Check ok nok = may_go_on_there f ok && may_go_back f nok
+  fits_choice f Attempt ok nok = may_go_on f false None ok && (not (is_void_last (last_or None f.spans)) && may_go_back f nok)
 
   -- the choices that acts make fit
   abbrev pub fits_choices : (current : Option W) → List (Act R D) → Shape → Bool

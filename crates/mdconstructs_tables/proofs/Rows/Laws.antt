@@ -108,10 +108,6 @@ module _ {R D : Type 0} where
   below_all [] p base = base
   below_all (act ∷ acts) p base = below_all acts (after act p) (below_after act p base)
 
-still-before : (fresh : Bool) (stage : Stage) (s : Sight) (q : Point) → not fresh ≡ true → since fresh stage s q ≡ true → since false stage s q ≡ true
-still-before true stage s q fit h = absurd (cc)
-still-before false stage s q fit h = h
-
 module _ {R D : Type 0} (g : Given) (text : Text) (old : Configuration R D) where
   -- the place of an exit, by how far a call is
   pub left-at : (stage : Stage) (k : Configuration R D) → IsAsFar k (reached stage old) → Waited stage text old → (sight g text k).exit_place ≡ (sight_at stage (sight g text old)).exit_place
@@ -184,7 +180,7 @@ module _ {R D : Type 0} (g : Given) (text : Text) (old : Configuration R D) wher
       record { stack = h.stack; began = h.began; bare = h.bare; reads = h.reads; waits = h.waits }
   has-after (choose kind ok nok) p base s k choices can sees h = record {
     stack = h.stack ∙ sym (append-nil (base ++ p.spans));
-    began = began-on (since p.fresh p.stage s) (since false p.stage s) (outline k) (λ q. still-before p.fresh p.stage s q (and_parts _ _ can).0) h.began;
+    began = h.began;
     bare = λ is. absurd (cc);
     reads = h.reads;
     waits = (

@@ -1,5 +1,5 @@
 -- What the states of a table cost, and each row of theirs.
-use Rattle.mdconstructs_tables.proofs.Prelude.{◌≡◌, ◌≢◌, ℕ, ◌+◌, ◌-◌, ◌≤◌, ◌&&◌, List, [], ◌∷◌, Bool, true, false, cond, Option, Some, None, length, refl, sym, subst, arith, nat_lt, max, mul-le-mul_left, mul-le-mul_right, leb-true, ltb-true, ltb-false, and_from, and_parts, slice_get_past, Name, State, Next, Retry, AttemptKind, Attempt, Check, Given, Text, Configuration, Choice, Sight, sight, byte_of, with_local, fed, IsAsFar, Act, consume, choose, Rows, row, when, Calls, Cost, by_bytes, own, StateRows, Table, class_of, picked, named, Stage, end_waits, byte_waits, byte_read, Shape, fits_answer, fits_calls, is_some, is_early, never, is_behind, later_stage, first_stage, plus, larger, at_stage, calls_le, calls_or, fed_calls, next_calls, choice_calls, chosen_calls, answer_calls, calls_at, is_by_bytes, is_counted, counts_answer, counts_choices, pays_row, feeds, all_rows, is_called_at, is_called, price_by, and_of_own, own_cost, at_most, IsStateAt, next_price, retry_price, state_price, choice_price, chosen_price, answer_price, row_price, AreWithin, Stands, is_read, ends_at, class_at, PaysRows, ArePaid, table_holds, table_cost, upto, exit_place_at, fresh_fed, falls_on, and_falls, AllFall, IsFitBy, cond_both}
+use Rattle.mdconstructs_tables.proofs.Prelude.{◌≡◌, ◌≢◌, ℕ, ◌+◌, ◌-◌, ◌≤◌, ◌&&◌, List, [], ◌∷◌, Bool, true, false, cond, Option, Some, None, length, refl, sym, subst, arith, nat_lt, max, mul-le-mul_left, mul-le-mul_right, leb-true, ltb-true, ltb-false, and_from, and_parts, slice_get_past, Name, State, Next, Retry, AttemptKind, Attempt, Check, Given, Text, Configuration, Choice, Sight, sight, byte_of, with_local, fed, IsAsFar, Act, consume, choose, Rows, row, when, Calls, Cost, by_bytes, own, StateRows, Table, class_of, picked, named, Stage, end_waits, byte_waits, byte_read, Shape, fits_answer, fits_calls, is_some, is_early, never, is_behind, later_stage, first_stage, plus, larger, at_stage, calls_le, calls_or, fed_calls, next_calls, choice_calls, chosen_calls, answer_calls, calls_at, is_by_bytes, is_counted, counts_answer, counts_choices, pays_row, feeds, all_rows, is_called_at, is_called, price_by, and_of_own, own_cost, at_most, began_unfed, IsStateAt, next_price, retry_price, state_price, choice_price, chosen_price, answer_price, row_price, AreWithin, Stands, is_read, ends_at, class_at, PaysRows, ArePaid, table_holds, table_cost, falls_on, and_falls, AllFall, IsFitBy, cond_both}
 use Rattle.mdconstructs_tables.proofs.Rows.Misfits.{named-same, named-in}
 use Rattle.mdconstructs_tables.proofs.Rows.Laws.{Waited, reached}
 use Rattle.mdconstructs_tables.proofs.GrowingTexts.{seat-at}
@@ -233,7 +233,7 @@ module _ {W R D : Type 0} (table : Table W R D) (g : Given) (early : Name → Op
         ] h
 
     feeding : (o : Option (StateRows W R D)) (test : Bool) (text : Text) (k : Configuration R D) (choices : List Choice) (name : Name) → named table.states name ≡ o → nat_lt k.position (length text.seats) ≡ test
-        → IsStateAt table g text o (λ state. upto (fresh_fed state.begun) (exit_place_at g text k.position)) k choices
+        → IsStateAt table g text o (began_unfed table.class g text k.position) k choices
         → table_cost table g text (fed text k) (Retry name) ≤ table_cost table g text k (Next name)
     feeding None test text k choices name is e h = absurd h
     feeding (Some state) true text k choices name is e h =

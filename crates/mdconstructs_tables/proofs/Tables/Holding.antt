@@ -1,9 +1,18 @@
 -- The invariant of a table: if it holds before a call, it holds at the state returned, once that is fed, when a choice ends, and when the
 -- text goes on.
-use Rattle.mdconstructs_tables.proofs.Prelude.{◌≡◌, ◌≢◌, ℕ, zero, suc, ◌≤◌, ◌&&◌, ◌||◌, not, List, [], ◌∷◌, ◌++◌, Bool, true, false, Option, Some, None, length, get_or, map, refl, sym, ap, ◌∙◌, subst, arith, ◌⊎◌, inl, inr, take, drop, All, IfSome, nat_lt, last_or, ltb-true, ltb-false, and_parts, not-true, append-nil, take-append-drop, take-map, slice_get_past, All-nil, All-tail, Point, Name, State, Next, Retry, Ok, Nok, Error, unlinked, stands_before, or-leads, Waits, Nothing, Byte, End, AttemptKind, Attempt, Check, Given, Text, IsText, empty_text, Configuration, Local, Choice, Saved, start_configuration, Sight, sight, sight_in, current_of, seat_before, byte_of, consumed, with_local, fed, unfed, restored, settled_at, IsAsFar, begins-before_end, began-before_next, ends-before_next, upto-before, Row, Begun, before, at_byte, here, Called, anywhere, at_a_byte, at_bytes, at_bytes_or_end, Needs, nothing, a_choice_for_ok, StateRows, Table, class_of, does, chooses, row_at, named, is_void_last, saves, Stage, end_waits, byte_waits, byte_read, Shape, Frame, after_all, is_at, is_end, is_fresh, is_fresh_fed, fresh_at, fresh_fed, needs_choice, needs_failing, is_called_at, is_some, may_go_on, may_go_back, fits_choice, fits_answer, fits_calls, start_shape, first_stage, is_bare, may_start, outline, EndsWithEnter, Began, upto, since, IsOpen, SightIsInOrder, IsFed, exit_place_at, class_in, is_read, AnyWait, GoesBack, AnyGoesBack, MayEnd, IsSavedIn, IsSaved, position_of, events_saved, IsBelow, AreWaiting, began_at, IsStateAt, HoldsAt, EventName}
+use Rattle.mdconstructs_tables.proofs.Prelude.{◌≡◌, ◌≢◌, ℕ, zero, suc, ◌≤◌, ◌&&◌, ◌||◌, not, List, [], ◌∷◌, ◌++◌, Bool, true, false, Option, Some, None, length, get_or, map, refl, sym, ap, ◌∙◌, subst, arith, ◌⊎◌, inl, inr, take, drop, All, IfSome, nat_lt, last_or, ltb-true, ltb-false, and_from, and_parts, not-true, append-nil, take-append-drop, take-map, slice_get_past, All-nil, All-tail, Point, Name, State, Next, Retry, Ok, Nok, Error, unlinked, stands_before, or-leads, Waits, Nothing, Byte, End, AttemptKind, Attempt, Check, Given, Text, IsText, empty_text, Configuration, Local, Choice, Saved, start_configuration, Sight, sight, sight_in, current_of, seat_before, byte_of, consumed, with_local, fed, unfed, restored, settled_at, IsAsFar, begins-before_end, began-before_next, ends-before_next, upto-before, Row, Begun, before, at_byte, here, Called, anywhere, at_a_byte, at_bytes, at_bytes_or_end, Needs, nothing, a_choice_for_ok, StateRows, Table, class_of, does, chooses, row_at, named, is_void_last, same_names, saves, Stage, end_waits, byte_waits, byte_read, Shape, Frame, after_all, is_at, is_end, is_fresh, is_fresh_fed, fresh_at, fresh_fed, needs_choice, needs_failing, is_called_at, is_some, may_go_on, may_go_on_there, may_go_back, goes_on_fresh, is_fresh_byte, fits_choice, fits_answer, fits_calls, start_shape, first_stage, is_bare, may_start, outline, EndsWithEnter, Began, upto, since, before_next, began_there, began_in, began_unfed, IsOpen, SightIsInOrder, IsFed, exit_place_at, class_in, is_read, AnyWait, GoesBack, AnyGoesBack, MayEnd, IsSavedIn, IsSaved, position_of, events_saved, IsBelow, AreWaiting, began_at, IsStateAt, HoldsAt, EventName}
 use Rattle.mdconstructs_tables.proofs.Rows.Laws.{same_names-true, Waited, reached, IsSeenAhead, sight_at, HasShape, to-before, before-is-upto, began-on, left-at}
 use Rattle.mdconstructs_tables.proofs.GrowingTexts.{seat-at, Extends, waits-longer}
-use Rattle.mdconstructs_tables.proofs.Tables.Waiting.{more-waiting, all-below, place-kept, class-kept, waiting-longer}
+use Rattle.mdconstructs_tables.proofs.Tables.Waiting.{more-waiting, all-below, place-kept, class-kept, next-kept, waiting-longer}
+
+-- One of two holds
+or-false : (a : Bool) → (a || false) ≡ true → a ≡ true
+or-false true h = refl
+or-false false h = absurd (cc)
+
+or-true : (a b : Bool) → b ≡ true → (a || b) ≡ true
+or-true true b h = refl
+or-true false b h = h
 
 -- Where spans may have begun
 upto-any : (fresh : Bool) (place q : Point) → upto false place q ≡ true → upto fresh place q ≡ true
@@ -192,6 +201,10 @@ module _ {W R D : Type 0} (table : Table W R D) (g : Given) where
             (λ v. h.bare (or-leads (is_void_last (last_or None p.spans)) p.bare bare v)) waiting h.waits.1 (λ n. ((λ e. ap (needs_choice n) (read ∙ ap is_read (sym far.0)) ∙ e), (λ e. ap (needs_failing n) (read ∙ ap is_read (sym far.0)) ∙ e))) next end)),
       )
 
+  -- where a state was to begin, or a byte that it names begins
+  unfed-left : (state : StateRows W R D) (text : Text) (p : ℕ) (q : Point) → upto (fresh_fed state.begun) (exit_place_at g text p) q ≡ true → began_unfed table.class g text p state q ≡ true
+  unfed-left state text p q h = ap (λ t. t || (is_fresh_byte state.begun (class_in table.class text p) && before_next g text p q)) h
+
   -- the invariant holds for the state returned
   pub answered : (st : Stage) (b w : Option W) (p : Shape) (above : List EventName) (a : State) (text : Text) (k k' : Configuration R D) (choices : List Choice) → is_some b ≡ is_read k.position
       → IsFed k.waiting k.position k.ended text → SightIsInOrder k.waiting (sight g text k) → of_class text k ≡ w → Waited (first_stage w) text k
@@ -220,10 +233,11 @@ module _ {W R D : Type 0} (table : Table W R D) (g : Given) where
       let (bare, rest) = and_parts (is_bare p) _ fit in
       let (shaped, fresh) = and_parts _ _ rest in
       let left = left-at g text k byte_read k' far can in
-      let began : (state : StateRows W R D) → o ≡ Some state → Began (upto (fresh_fed state.begun) (exit_place_at g text k'.position)) (outline k') = λ state e.
+      let began : (state : StateRows W R D) → o ≡ Some state → Began (began_unfed table.class g text k'.position state) (outline k') = λ state e.
       let f : (not p.fresh || fresh_fed state.begun) ≡ true = subst (λ o. (not p.fresh || is_fresh_fed table.states o) ≡ true) e fresh in
-      began-on (upto p.fresh s.next) (upto (fresh_fed state.begun) (sight g text k').exit_place) (outline k') (λ q b. subst (λ x. upto (fresh_fed state.begun) x q ≡ true) (sym left) (upto-fits p.fresh (fresh_fed state.begun) s.next q f b)) (rw at at h.began) in
-      (far.1, at-state p.spans p.within p.failing false None true o (λ state. upto (fresh_fed state.begun) (exit_place_at g text k'.position)) text k' above choices shaped h.stack began (λ v. h.bare (or-leads (is_void_last (last_or None p.spans)) p.bare bare v)) waiting h.waits.1 (λ n. needs-more n (is_read k'.position)) (λ v e. absurd (cc)) (λ n e. absurd (cc)))
+      began-on (upto p.fresh s.next) (began_unfed table.class g text k'.position state) (outline k')
+      (λ q b. unfed-left state text k'.position q (subst (λ x. upto (fresh_fed state.begun) x q ≡ true) (sym left) (upto-fits p.fresh (fresh_fed state.begun) s.next q f b))) (rw at at h.began) in
+      (far.1, at-state p.spans p.within p.failing false None true o (began_unfed table.class g text k'.position) text k' above choices shaped h.stack began (λ v. h.bare (or-leads (is_void_last (last_or None p.spans)) p.bare bare v)) waiting h.waits.1 (λ n. needs-more n (is_read k'.position)) (λ v e. absurd (cc)) (λ n e. absurd (cc)))
   answered byte_waits b (Some w) p above (Retry name) text k k' choices read waits order class met fit at h waiting =
       retried b (Some w) false p above name text k k' choices read waits order class (ahead-at (Some w) text k met order) (rw at at h.reads.0) fit (rw at at h.began) h waiting
       (λ v e. ap (class_in table.class text) (rw at at h.reads.0).0 ∙ subst (λ x. class_of table.class (current_of text k.position x) ≡ Some w) met.0 class ∙ e) (λ n e. absurd (cc))
@@ -249,15 +263,32 @@ module _ {W R D : Type 0} (table : Table W R D) (g : Given) where
         waiting = wait h.base h.waiting;
       }
 
+  -- where spans may have begun stays, if the text goes on
+  unfed-longer : (state : StateRows W R D) (text more : Text) → Extends text more → (p : ℕ) → p ≤ length text.seats → (o : Option W) → class_in table.class text p ≡ o
+      → (q : Point) → began_unfed table.class g text p state q ≡ true → began_unfed table.class g more p state q ≡ true
+  unfed-longer state text more e p inside None is q h =
+      let none : (upto (fresh_fed state.begun) (exit_place_at g text p) q || false) ≡ true =
+      subst (λ o. (upto (fresh_fed state.begun) (exit_place_at g text p) q || (is_fresh_byte state.begun o && before_next g text p q)) ≡ true) is h in
+      unfed-left state more p q
+      (subst (λ x. upto (fresh_fed state.begun) x q ≡ true) (sym (place-kept table.class table.states g text more e p inside)) (or-false (upto (fresh_fed state.begun) (exit_place_at g text p) q) none))
+  unfed-longer state text more e p inside (Some w) is q h =
+      let place = place-kept table.class table.states g text more e p inside in
+      let next = next-kept table.class table.states g text more e p w is in
+      let kept = class-kept table.class table.states g text more e p w is in
+      subst (λ o. (upto (fresh_fed state.begun) (exit_place_at g more p) q || (is_fresh_byte state.begun o && before_next g more p q)) ≡ true) (sym kept)
+      (subst (λ x. (upto (fresh_fed state.begun) x q || (is_fresh_byte state.begun (Some w) && before_next g more p q)) ≡ true) (sym place)
+      (subst (λ x. (upto (fresh_fed state.begun) (exit_place_at g text p) q || (is_fresh_byte state.begun (Some w) && stands_before q x)) ≡ true) next
+      (subst (λ o. (upto (fresh_fed state.begun) (exit_place_at g text p) q || (is_fresh_byte state.begun o && before_next g text p q)) ≡ true) is h)))
+
   -- if the text goes on, the invariant at a state returned still holds
   pub longer : (a : State) (text more : Text) (k : Configuration R D) (choices : List Choice) → Extends text more → k.ended ≡ false → k.position ≤ length text.seats → HoldsAt table g text k choices a → HoldsAt table g more k choices a
-  longer (Next name) text more k choices e fresh inside h =
-      let began = λ (state : StateRows W R D). upto (fresh_fed state.begun) (exit_place_at g text k.position) in (
-        h.0,
-        subst (λ q. IsStateAt table g more (named table.states name) (λ state. upto (fresh_fed state.begun) q) k choices) (sym (place-kept table.class table.states g text more e k.position inside))
-            (moved (named table.states name) began began text more k choices k.waiting k.ended (λ state q h. h) (class-kept table.class table.states g text more e k.position) (λ n fed. absurd (let e : true ≡ false = sym fed ∙ fresh in cc))
-            (λ base. waiting-longer table.class table.states g text more e choices base k.position (outline k) inside) h.1),
-      )
+  longer (Next name) text more k choices e fresh inside h = (
+    h.0,
+    moved (named table.states name) (began_unfed table.class g text k.position) (began_unfed table.class g more k.position) text more k choices k.waiting k.ended
+        (λ state q. unfed-longer state text more e k.position inside (class_in table.class text k.position) refl q)
+        (class-kept table.class table.states g text more e k.position) (λ n fed. absurd (let e : true ≡ false = sym fed ∙ fresh in cc))
+        (λ base. waiting-longer table.class table.states g text more e choices base k.position (outline k) inside) h.1,
+  )
   longer (Retry name) text more k choices e fresh inside h =
       let (fed, seen) = waits-longer g text more k.position k.ended k.waiting e fresh h.0 in
       let o = named table.states name in
@@ -286,6 +317,15 @@ module _ {W R D : Type 0} (table : Table W R D) (g : Given) where
   fed-byte (at_byte test) w s q later soon h = since-fits false (test w) byte_waits s q later refl h
   fed-byte here w s q later soon h = soon (not-true (stands_before s.exit_place q) h)
 
+  -- or where the byte that is next begins
+  unfed-byte : (state : StateRows W R D) (w : W) (s : Sight) (q : Point) → (stands_before q s.exit_place ≡ true → stands_before q s.next ≡ true) → (stands_before s.exit_place q ≡ false → stands_before q s.next ≡ true)
+      → (upto (fresh_fed state.begun) s.exit_place q || (is_fresh_byte state.begun (Some w) && stands_before q s.next)) ≡ true → since (fresh_at state.begun (Some w)) byte_waits s q ≡ true
+  unfed-byte state w s q later soon h =
+      elim (upto (fresh_fed state.begun) s.exit_place q) as (λ t. upto (fresh_fed state.begun) s.exit_place q ≡ t → (t || (fresh_at state.begun (Some w) && stands_before q s.next)) ≡ true → since (fresh_at state.begun (Some w)) byte_waits s q ≡ true) [
+        | true ↦ λ e i. fed-byte state.begun w s q later soon e
+        | false ↦ λ e i. let (fresh, there) = and_parts (fresh_at state.begun (Some w)) (stands_before q s.next) i in rw fresh there
+      ] refl h
+
   fed-end : (begun : Begun W) (s : Sight) (q : Point) → upto (fresh_fed begun) s.exit_place q ≡ true → since (fresh_at begun None) end_waits s q ≡ true
   fed-end before s q h = h
   fed-end begun s q h = h
@@ -300,8 +340,9 @@ module _ {W R D : Type 0} (table : Table W R D) (g : Given) where
       let is_byte : w ≡ Some (table.class seat.byte) = rw at refl in
       let later : (q : Point) → stands_before q s.exit_place ≡ true → stands_before q s.next ≡ true = λ q. began-before_next g text k.position q is inside in
       let soon : (q : Point) → stands_before s.exit_place q ≡ false → stands_before q s.next ≡ true = λ q h. upto-before q.index q.vs s.exit_place.index s.exit_place.vs s.next.index s.next.vs h (ends-before_next g text k.position is inside) in
-      let open_at = moved (named table.states name) (λ state. upto (fresh_fed state.begun) s.exit_place) (λ state. began_at (Some (table.class seat.byte)) state s) text text k choices Byte k.ended
-      (λ state q. fed-byte state.begun (table.class seat.byte) s q (later q) (soon q)) (λ w is. is) (λ n fed. (fed, n)) (λ base h. h) h.1 in
+      let open_at = moved (named table.states name) (began_unfed table.class g text k.position) (λ state. began_at (Some (table.class seat.byte)) state s) text text k choices Byte k.ended
+      (λ state q b. unfed-byte state (table.class seat.byte) s q (later q) (soon q)
+      (subst (λ o. (upto (fresh_fed state.begun) s.exit_place q || (is_fresh_byte state.begun o && stands_before q s.next)) ≡ true) is_byte b)) (λ w is. is) (λ n fed. (fed, n)) (λ base h. h) h.1 in
       rw e (
         inside,
         record { begins = λ waits. begins-before_end g text k.position is inside; later = λ waits. later },
@@ -310,11 +351,13 @@ module _ {W R D : Type 0} (table : Table W R D) (g : Given) where
   fed-at false text k choices name is e h =
       let s = sight_in g text k.position End in
       let past = ltb-false k.position (length text.seats) e in
+      let none : class_in table.class text k.position ≡ None = ap (λ o. class_of table.class (byte_of o)) (slice_get_past text.seats k.position past) in
       rw e (
         (refl, past),
         record { begins = λ waits. absurd (cc); later = λ waits. absurd (cc) },
-        moved (named table.states name) (λ state. upto (fresh_fed state.begun) s.exit_place) (λ state. began_at None state s) text text k choices End true
-            (λ state q. fed-end state.begun s q) (λ w is. is) (λ n fed. (refl, n)) (λ base h. h) h.1,
+        moved (named table.states name) (began_unfed table.class g text k.position) (λ state. began_at None state s) text text k choices End true
+            (λ state q b. fed-end state.begun s q (or-false (upto (fresh_fed state.begun) s.exit_place q)
+            (subst (λ o. (upto (fresh_fed state.begun) s.exit_place q || (is_fresh_byte state.begun o && before_next g text k.position q)) ≡ true) none b))) (λ w is. is) (λ n fed. (refl, n)) (λ base h. h) h.1,
       )
 
   pub starts-at : (o : Option (StateRows W R D)) (p : Point) (where_to : StateRows W R D → Point → Bool) (flag : Bool) → may_start table.states o ≡ true
@@ -338,31 +381,44 @@ module _ {W R D : Type 0} (table : Table W R D) (g : Given) where
         waiting = refl;
       }
 
+  -- a state that goes on where spans may have begun says so
+  goes-unfed : (fresh : Bool) (waits : Option W) (state : StateRows W R D) (text : Text) (p : ℕ) → IsNext text p waits → (not fresh || goes_on_fresh table.states waits (Some state)) ≡ true
+      → (q : Point) → began_there fresh (is_some waits) g text p q ≡ true → began_unfed table.class g text p state q ≡ true
+  goes-unfed false waits state text p next fit q h = unfed-left state text p q (upto-any (fresh_fed state.begun) (exit_place_at g text p) q h)
+  goes-unfed true None state text p next fit q h = unfed-left state text p q (rw fit h)
+  goes-unfed true (Some w) state text p next fit q h =
+      let is = next w refl in
+      subst (λ o. (upto (fresh_fed state.begun) (exit_place_at g text p) q || (is_fresh_byte state.begun o && before_next g text p q)) ≡ true) (sym is)
+      (or-true (upto (fresh_fed state.begun) (exit_place_at g text p) q) (fresh_at state.begun (Some w) && before_next g text p q) (and_from (fresh_at state.begun (Some w)) (before_next g text p q) fit h))
+
   -- what goes on at the place a choice was made at holds there
-  goes-on-at : (f : Frame W) (below : List EventName) (waits : Option W) (a : State) (text : Text) (k : Configuration R D) (choices : List Choice) → may_go_on table.states f waits a ≡ true → k.waiting ≡ Nothing
-      → k.stack ≡ below ++ f.spans → Began (upto false (exit_place_at g text k.position)) (outline k) → (is_void_last (last_or None f.spans) ≡ true → EndsWithEnter (outline k))
+  goes-on-at : (f : Frame W) (below : List EventName) (fresh : Bool) (waits : Option W) (a : State) (text : Text) (k : Configuration R D) (choices : List Choice) → may_go_on table.states f fresh waits a ≡ true → k.waiting ≡ Nothing
+      → k.stack ≡ below ++ f.spans → Began (began_there fresh (is_some waits) g text k.position) (outline k) → (is_void_last (last_or None f.spans) ≡ true → EndsWithEnter (outline k))
       → AreWaiting table.class table.states g text k.position (outline k) below choices → MayEnd f.within f.failing choices → IsNext text k.position waits → HoldsAt table g text k choices a
-  goes-on-at f below next (Next name) text k choices fit waits stack began void waiting any inside = (
-    waits,
-    at-state f.spans f.within f.failing false next true (named table.states name) (λ state. upto (fresh_fed state.begun) (exit_place_at g text k.position)) text k below choices fit stack
-        (λ state e. began-on (upto false (exit_place_at g text k.position)) (upto (fresh_fed state.begun) (exit_place_at g text k.position)) (outline k) (upto-any (fresh_fed state.begun) (exit_place_at g text k.position)) began)
-        void waiting any (λ n. needs-more n (is_read k.position)) inside (λ n e. absurd (cc)),
-  )
-  goes-on-at f below next Ok text k choices fit waits stack began void waiting any inside =
+  goes-on-at f below fresh next (Next name) text k choices fit waits stack began void waiting any inside =
+      let (fit_it, begun) = and_parts _ _ fit in (
+        waits,
+        at-state f.spans f.within f.failing false next true (named table.states name) (began_unfed table.class g text k.position) text k below choices fit_it stack
+            (λ state e. began-on (began_there fresh (is_some next) g text k.position) (began_unfed table.class g text k.position state) (outline k)
+            (goes-unfed fresh next state text k.position inside (subst (λ o. (not fresh || goes_on_fresh table.states next o) ≡ true) e begun)) began)
+            void waiting any (λ n. needs-more n (is_read k.position)) inside (λ n e. absurd (cc)),
+      )
+  goes-on-at f below true next Ok text k choices fit waits stack began void waiting any inside = absurd (let e : false ≡ true = (and_parts (same_names f.spans []) false fit).1 in cc)
+  goes-on-at f below false next Ok text k choices fit waits stack began void waiting any inside =
       let (names, within) = and_parts _ _ fit in
       record { base = below; stack = stack ∙ ap (λ xs. below ++ xs) (same_names-true f.spans [] names) ∙ append-nil below; began = began; waiting = waiting; ended = inl (any.0 within) }
-  goes-on-at f below next Nok text k choices fit waits stack began void waiting any inside = record { base = below; waiting = waiting; any = any.1 fit }
-  goes-on-at f below next (Retry name) text k choices fit waits stack began void waiting any inside = absurd (cc)
-  goes-on-at f below next (Error message) text k choices fit waits stack began void waiting any inside = absurd (cc)
+  goes-on-at f below fresh next Nok text k choices fit waits stack began void waiting any inside = record { base = below; waiting = waiting; any = any.1 fit }
+  goes-on-at f below fresh next (Retry name) text k choices fit waits stack began void waiting any inside = absurd (cc)
+  goes-on-at f below fresh next (Error message) text k choices fit waits stack began void waiting any inside = absurd (cc)
 
   module _ (text : Text) (k : Configuration R D) (choices : List Choice) (f : Frame W) (base below : List EventName) (is_base : base ≡ below ++ f.spans) (any : MayEnd f.within f.failing choices) where
     -- what goes on from what was saved
-    back : (saved : Saved) (a : State) → may_go_on table.states f f.waits a ≡ true → IsSavedIn table.class g text k.position (outline k) base f saved
+    back : (saved : Saved) (a : State) → may_go_on_there table.states f a ≡ true → IsSavedIn table.class g text k.position (outline k) base f saved
         → AreWaiting table.class table.states g text saved.position (take saved.events (outline k)) below choices → HoldsAt table g text (restored (Some saved) k) choices a
     back saved a fit h waiting =
         let front : take saved.events (outline k) ≡ map unlinked (take saved.events k.events) = take-map unlinked saved.events k.events in
-        goes-on-at f below f.waits a text (restored (Some saved) k) choices fit refl (h.stack_is ∙ is_base)
-        (subst (Began (upto false (exit_place_at g text saved.position))) front h.began) (λ v. subst EndsWithEnter front (h.void v))
+        goes-on-at f below f.fresh f.waits a text (restored (Some saved) k) choices fit refl (h.stack_is ∙ is_base)
+        (subst (Began (began_in f g text saved.position)) front h.began) (λ v. subst EndsWithEnter front (h.void v))
         (subst (λ es. AreWaiting table.class table.states g text saved.position es below choices) front waiting) any h.waits
 
     -- what goes on from where it is
@@ -377,16 +433,16 @@ module _ {W R D : Type 0} (table : Table W R D) (g : Given) where
         → AreWaiting table.class table.states g text (position_of saved k.position) (events_saved saved (outline k)) below choices → k.stack ≡ base → Began (upto false (exit_place_at g text k.position)) (outline k)
         → HoldsAt table g text (settled_at kind saved Ok k) choices a
     well Attempt a nok b saved is fit h waiting stack began =
-        let (goes, rest) = and_parts (may_go_on table.states f None a) (not (is_void_last (last_or None f.spans)) && may_go_back table.states f f.waits nok) fit in
-        let (no_void, other) = and_parts (not (is_void_last (last_or None f.spans))) (may_go_back table.states f f.waits nok) rest in
-        goes-on-at f below None a text (unfed k) choices goes refl (stack ∙ is_base) began (λ v. absurd (let none = not-true (is_void_last (last_or None f.spans)) no_void in let e : true ≡ false = sym v ∙ none in cc))
+        let (goes, rest) = and_parts (may_go_on table.states f false None a) (not (is_void_last (last_or None f.spans)) && may_go_back table.states f nok) fit in
+        let (no_void, other) = and_parts (not (is_void_last (last_or None f.spans))) (may_go_back table.states f nok) rest in
+        goes-on-at f below false None a text (unfed k) choices goes refl (stack ∙ is_base) began (λ v. absurd (let none = not-true (is_void_last (last_or None f.spans)) no_void in let e : true ≡ false = sym v ∙ none in cc))
         (on b saved h waiting) any (λ w e. absurd (cc))
-    well Check a nok true (Some saved) is fit h waiting stack began = back saved a (and_parts (may_go_on table.states f f.waits a) (may_go_back table.states f f.waits nok) fit).0 h waiting
+    well Check a nok true (Some saved) is fit h waiting stack began = back saved a (and_parts (may_go_on_there table.states f a) (may_go_back table.states f nok) fit).0 h waiting
     well Check a nok false saved is fit h waiting stack began = absurd (cc)
     well Check a nok true None is fit h waiting stack began = absurd h
 
     -- what goes on from what was saved after Nok
-    back-failed : (saved : Saved) (a : State) → may_go_back table.states f f.waits a ≡ true → IsSavedIn table.class g text k.position (outline k) base f saved
+    back-failed : (saved : Saved) (a : State) → may_go_back table.states f a ≡ true → IsSavedIn table.class g text k.position (outline k) base f saved
         → AreWaiting table.class table.states g text saved.position (take saved.events (outline k)) below choices → GoesBack a (AnyGoesBack choices) → HoldsAt table g text (restored (Some saved) k) choices a
     back-failed saved Nok fit h waiting failed = record {
       base = below;
@@ -402,11 +458,11 @@ module _ {W R D : Type 0} (table : Table W R D) (g : Given) where
 
     pub badly : (kind : AttemptKind) (ok a : State) (b : Bool) (saved : Option Saved) → saves kind a ≡ b → fits_choice table.states f kind ok a ≡ true → IsSaved table.class g text k.position (outline k) base f b saved
         → AreWaiting table.class table.states g text (position_of saved k.position) (events_saved saved (outline k)) below choices → GoesBack a (AnyGoesBack choices) → HoldsAt table g text (settled_at kind saved Nok k) choices a
-    badly Check ok a true (Some saved) is fit h waiting failed = back-failed saved a (and_parts (may_go_on table.states f f.waits ok) (may_go_back table.states f f.waits a) fit).1 h waiting failed
+    badly Check ok a true (Some saved) is fit h waiting failed = back-failed saved a (and_parts (may_go_on_there table.states f ok) (may_go_back table.states f a) fit).1 h waiting failed
     badly Check ok a false saved is fit h waiting failed = absurd (cc)
     badly Attempt ok a true (Some saved) is fit h waiting failed =
-        let rest = (and_parts (may_go_on table.states f None ok) (not (is_void_last (last_or None f.spans)) && may_go_back table.states f f.waits a) fit).1 in
-        back-failed saved a (and_parts (not (is_void_last (last_or None f.spans))) (may_go_back table.states f f.waits a) rest).1 h waiting failed
+        let rest = (and_parts (may_go_on table.states f false None ok) (not (is_void_last (last_or None f.spans)) && may_go_back table.states f a) fit).1 in
+        back-failed saved a (and_parts (not (is_void_last (last_or None f.spans))) (may_go_back table.states f a) rest).1 h waiting failed
     badly Attempt ok a false None is fit h waiting failed = badly-unsaved a is waiting failed
     badly kind ok a b saved is fit h waiting failed = absurd h
 

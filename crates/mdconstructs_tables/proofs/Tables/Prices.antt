@@ -1,5 +1,5 @@
 -- The calls of a machine whose table fits are paid for: what the current state and all waiting choices may cost falls at each call.
-use Rattle.mdconstructs_tables.proofs.Prelude.{◌≡◌, ◌≢◌, ℕ, ◌+◌, ◌≤◌, ◌&&◌, ◌||◌, not, List, [], ◌∷◌, ◌++◌, Bool, true, false, cond, Option, Some, None, refl, sym, ap, subst, arith, nat_lt, ltb-true, ltb-false, and_from, and_parts, Name, State, Next, Retry, Ok, Nok, AttemptKind, Attempt, Check, Given, Text, IsText, Configuration, Choice, Saved, Sight, sight, consumed, with_local, fed, unfed, restored, settled_at, CostPays, Act, consume, choose, StateRows, Table, named, past, choice_made_at, done, does, chooses, picked, table_step, last_or, is_void_last, saves, Frame, may_go_on, may_go_back, fits_choice, is_early, never, is_behind, outline, IsSaved, first_end, class_at, ends_at, choice_price, chosen_price, goes_on_price, waiting_or_below, waiting_price, table_holds, table_price, table_rules, falls_on, FallsLater, AllFallLater, are_falling, is_late_row, is_late_state, IsLate, filter, none-mapped, not-false, IsFitBy, IsFit, every, EventName}
+use Rattle.mdconstructs_tables.proofs.Prelude.{◌≡◌, ◌≢◌, ℕ, ◌+◌, ◌≤◌, ◌&&◌, ◌||◌, not, List, [], ◌∷◌, ◌++◌, Bool, true, false, cond, Option, Some, None, refl, sym, ap, subst, arith, nat_lt, ltb-true, ltb-false, and_from, and_parts, Name, State, Next, Retry, Ok, Nok, AttemptKind, Attempt, Check, Given, Text, IsText, Configuration, Choice, Saved, Sight, sight, consumed, with_local, fed, unfed, restored, settled_at, CostPays, Act, consume, choose, StateRows, Table, named, past, choice_made_at, done, does, chooses, picked, table_step, last_or, is_void_last, saves, Frame, may_go_on, may_go_on_there, may_go_back, fits_choice, is_early, never, is_behind, outline, IsSaved, first_end, class_at, ends_at, choice_price, chosen_price, goes_on_price, waiting_or_below, waiting_price, table_holds, table_price, table_rules, falls_on, FallsLater, AllFallLater, are_falling, is_late_row, IsFitBy, IsFit, every, EventName, is_late_state, none-mapped, not-false, filter, IsLate}
 use Rattle.mdconstructs_tables.proofs.Rows.Misfits.{named-out, named-same}
 use Rattle.mdconstructs_tables.proofs.Rows.Laws.{chooses-append}
 use Rattle.mdconstructs_tables.proofs.GrowingTexts.{fed-position}
@@ -183,28 +183,28 @@ module _ {W R D : Type 0} (table : Table W R D) (g : Given) (early : Name → Op
         omega (arith, own, waiting)
 
   -- what a choice goes on with is not called at once
-  goes-on : (f : Frame W) (known : Option W) (a : State) → may_go_on table.states f known a ≡ true → (n : Name) → a ≢ Retry n
-  goes-on f known (Retry name) h n e = absurd (cc)
-  goes-on f known a h n e = cc
+  goes-on : (f : Frame W) (fresh : Bool) (known : Option W) (a : State) → may_go_on table.states f fresh known a ≡ true → (n : Name) → a ≢ Retry n
+  goes-on f fresh known (Retry name) h n e = absurd (cc)
+  goes-on f fresh known a h n e = cc
 
-  goes-back : (f : Frame W) (known : Option W) (a : State) → may_go_back table.states f known a ≡ true → (n : Name) → a ≢ Retry n
-  goes-back f known (Retry name) h n e = absurd (cc)
-  goes-back f known a h n e = cc
+  goes-back : (f : Frame W) (a : State) → may_go_back table.states f a ≡ true → (n : Name) → a ≢ Retry n
+  goes-back f (Retry name) h n e = absurd (cc)
+  goes-back f a h n e = cc
 
   module _ (c : Choice) (cs : List Choice) (f : Frame W) (stack : List EventName) (text : Text) (k : Configuration R D) where
     -- what a choice goes on with costs at most what was counted for the choice
     ok-costs : (kind : AttemptKind) (b : Bool) (saved : Option Saved) → saves kind c.nok ≡ b → fits_choice table.states f kind c.ok c.nok ≡ true → IsSaved table.class g text k.position (outline k) stack f b saved
         → table_price table early g text (settled_at kind saved Ok k) cs c.ok ≤ waiting_or_below table early (λ p. waits text p cs) text k.position kind saved c.ok c.nok
     ok-costs Attempt true (Some saved) is fit_it h =
-        let may = goes-on f None c.ok (and_parts (may_go_on table.states f None c.ok) _ fit_it).0 in
+        let may = goes-on f false None c.ok (and_parts (may_go_on table.states f false None c.ok) _ fit_it).0 in
         let cost = go-costs table g early fit c.ok text (unfed k) may in
         omega (arith, cost)
     ok-costs Attempt false None is fit_it h =
-        let may = goes-on f None c.ok (and_parts (may_go_on table.states f None c.ok) _ fit_it).0 in
+        let may = goes-on f false None c.ok (and_parts (may_go_on table.states f false None c.ok) _ fit_it).0 in
         let cost = go-costs table g early fit c.ok text (unfed k) may in
         omega (arith, cost)
     ok-costs Check true (Some saved) is fit_it h =
-        let may = goes-on f f.waits c.ok (and_parts (may_go_on table.states f f.waits c.ok) (may_go_back table.states f f.waits c.nok) fit_it).0 in
+        let may = goes-on f f.fresh f.waits c.ok (and_parts (may_go_on_there table.states f c.ok) (may_go_back table.states f c.nok) fit_it).0 in
         let cost = go-costs table g early fit c.ok text (restored (Some saved) k) may in
         omega (arith, cost)
     ok-costs Check false saved is fit_it h = absurd (cc)
@@ -217,13 +217,13 @@ module _ {W R D : Type 0} (table : Table W R D) (g : Given) (early : Name → Op
     nok-costs : (kind : AttemptKind) (b : Bool) (saved : Option Saved) → saves kind c.nok ≡ b → fits_choice table.states f kind c.ok c.nok ≡ true → IsSaved table.class g text k.position (outline k) stack f b saved
         → table_price table early g text (settled_at kind saved Nok k) cs c.nok ≤ waiting_or_below table early (λ p. waits text p cs) text (k.position + 1) kind saved c.ok c.nok
     nok-costs Attempt true (Some saved) is fit_it h =
-        let rest = (and_parts (may_go_on table.states f None c.ok) (not (is_void_last (last_or None f.spans)) && may_go_back table.states f f.waits c.nok) fit_it).1 in
-        let may = goes-back f f.waits c.nok (and_parts (not (is_void_last (last_or None f.spans))) (may_go_back table.states f f.waits c.nok) rest).1 in
+        let rest = (and_parts (may_go_on table.states f false None c.ok) (not (is_void_last (last_or None f.spans)) && may_go_back table.states f c.nok) fit_it).1 in
+        let may = goes-back f c.nok (and_parts (not (is_void_last (last_or None f.spans))) (may_go_back table.states f c.nok) rest).1 in
         let cost = go-costs table g early fit c.nok text (restored (Some saved) k) may in
         omega (arith, cost)
     nok-costs Attempt false None is fit_it h = let cost = unsaved-costs c.nok is in omega (arith, cost)
     nok-costs Check true (Some saved) is fit_it h =
-        let may = goes-back f f.waits c.nok (and_parts (may_go_on table.states f f.waits c.ok) (may_go_back table.states f f.waits c.nok) fit_it).1 in
+        let may = goes-back f c.nok (and_parts (may_go_on_there table.states f c.ok) (may_go_back table.states f c.nok) fit_it).1 in
         let cost = go-costs table g early fit c.nok text (restored (Some saved) k) may in
         omega (arith, cost)
     nok-costs Check false saved is fit_it h = absurd (cc)

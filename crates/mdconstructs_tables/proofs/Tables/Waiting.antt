@@ -1,8 +1,8 @@
 -- Choices that wait, in the invariant of a table: what acts make of them, and that they stay if the text goes on.
 use Rattle.mdconstructs_tables.proofs.Markers.{stack-below}
-use Rattle.mdconstructs_tables.proofs.Prelude.{◌≡◌, ℕ, ◌+◌, ◌≤◌, ◌||◌, not, List, [], ◌∷◌, ◌++◌, Bool, true, false, Option, Some, None, length, refl, sym, ap, ◌∙◌, subst, arith, take, length-append, append_assoc, inl, inr, All, IfSome, slice_get, last_or, take-append_seam, and_parts, append-nil, take-append-le, length-map, take_all, All-nil, All-cons, none-some, slice_get_cases, slice_get_past, slice_get_within, Event, State, Nok, unlinked, stands_before, shown, or-leads, AttemptKind, Attempt, Given, Text, Configuration, Choice, Saved, Sight, sight, current_of, byte_of, saved_at, IsAsFar, Act, consume, choose, StateRows, class_of, choice_made_at, with_choice_of, done, seen_after, does, chooses, is_void_last, saves, Stage, byte_waits, Shape, Frame, frame_of, allows, after, allows_all, fits_choice, fits_choices, waits_in, outline, EndsWithEnter, Began, upto, since, exit_place_at, class_in, IsSavedIn, IsSaved, position_of, events_saved, IsBelow, AreWaiting, get-front, EventName}
-use Rattle.mdconstructs_tables.proofs.Rows.Laws.{Waited, reached, IsSeenAhead, sight_at, HasShape, below_after, below_all, to-before, adds-one, began-on, left-at, has-after, sees-after, sight-after}
-use Rattle.mdconstructs_tables.proofs.GrowingTexts.{Extends, left-kept}
+use Rattle.mdconstructs_tables.proofs.Prelude.{◌≡◌, ℕ, ◌+◌, ◌≤◌, ◌||◌, not, List, [], ◌∷◌, ◌++◌, Bool, true, false, Option, Some, None, length, refl, sym, ap, ◌∙◌, subst, arith, take, length-append, append_assoc, inl, inr, All, IfSome, slice_get, last_or, take-append_seam, and_parts, append-nil, take-append-le, length-map, take_all, All-nil, All-cons, none-some, slice_get_cases, slice_get_past, slice_get_within, Event, Point, State, Nok, unlinked, stands_before, shown, or-leads, Byte, AttemptKind, Attempt, Given, Text, Configuration, Choice, Saved, Sight, sight, current_of, next_place, end_or, byte_of, saved_at, IsAsFar, Act, consume, choose, StateRows, class_of, choice_made_at, with_choice_of, done, seen_after, does, chooses, is_void_last, saves, Stage, end_waits, byte_waits, byte_read, is_some, Shape, Frame, frame_of, allows, after, allows_all, fits_choice, fits_choices, waits_in, outline, EndsWithEnter, Began, upto, since, began_there, began_in, exit_place_at, class_in, IsSavedIn, IsSaved, position_of, events_saved, IsBelow, AreWaiting, get-front, EventName}
+use Rattle.mdconstructs_tables.proofs.Rows.Laws.{Waited, reached, IsSeenAhead, sight_at, HasShape, below_after, below_all, adds-one, began-on, left-at, has-after, sees-after, sight-after}
+use Rattle.mdconstructs_tables.proofs.GrowingTexts.{Extends, left-kept, seat-at}
 
 -- What was saved
 module _ {W R D : Type 0} (class : ℕ → W) (states : List (StateRows W R D)) (g : Given) (text : Text) where
@@ -17,7 +17,7 @@ module _ {W R D : Type 0} (class : ℕ → W) (states : List (StateRows W R D)) 
           stack_is = h.stack_is;
           behind = omega (arith, h.behind);
           within = omega (arith, h.within, ap length longer, length-append events more);
-          began = subst (Began (upto false (exit_place_at g text saved.position))) (sym same) h.began;
+          began = subst (Began (began_in f g text saved.position)) (sym same) h.began;
           void = λ v. subst EndsWithEnter (sym same) (h.void v);
           waits = h.waits;
         },
@@ -72,15 +72,36 @@ module _ {W R D : Type 0} (class : ℕ → W) (states : List (StateRows W R D)) 
     byte-left byte_waits far waited v e = ap (class_in class text) far.0 ∙ subst (λ x. class_of class (current_of text old.position x) ≡ w) waited.0 here ∙ e
     byte-left stage far waited v e = absurd (cc)
 
-    is-saved : not p.fresh ≡ true → (not (is_void_last (last_or None p.spans)) || p.bare) ≡ true → IsSavedIn class g text k.position (outline k) (base ++ p.spans) (frame_of w p) (saved_at k)
-    is-saved old_spans void =
-        let left : s.exit_place ≡ (sight g text k).exit_place = ap (λ s. s.exit_place) seen ∙ sym (left-at g text old p.stage k h.reads.0 h.reads.1) in
-        let began = began-on (since p.fresh p.stage s) (upto false (sight g text k).exit_place) (outline k) (λ q b. subst (λ x. stands_before q x ≡ true) left (to-before p.fresh p.stage s q old_spans b)) h.began in
+    -- where spans may have begun there
+    in-frame : (stage : Stage) (fresh : Bool) (v : Option W) (s : Sight) → class_of class (sight g text old).current ≡ v → s ≡ sight_at stage (sight g text old) → IsAsFar k (reached stage old) → Waited stage text old
+        → (q : Point) → since fresh stage s q ≡ true → began_there fresh (is_some (waits_in stage v)) g text k.position q ≡ true
+    in-frame byte_waits true (Some v) s is seen far waited q b =
+        let next : s.next ≡ shown g.bytes (next_place text k.position Byte) =
+        ap (λ s. s.next) seen ∙ ap (λ x. shown g.bytes (next_place text old.position x)) waited.0 ∙ ap (λ i. shown g.bytes (next_place text i Byte)) (sym far.0) in
+        subst (λ x. stands_before q x ≡ true) next b
+    in-frame byte_waits true None s is seen far waited q b =
+        let (seat, at) = seat-at text old.position waited.1 in
+        let none : class_of class (byte_of (slice_get text.seats old.position)) ≡ None = subst (λ x. class_of class (current_of text old.position x) ≡ None) waited.0 is in
+        absurd (none-some (class seat.byte) (sym none ∙ ap (λ o. class_of class (byte_of o)) at))
+    in-frame byte_waits false v s is seen far waited q b =
+        let left = ap (λ s. s.exit_place) seen ∙ sym (left-at g text old byte_waits k far waited) in subst (λ x. stands_before q x ≡ true) left b
+    in-frame byte_read true v s is seen far waited q b =
+        let left = ap (λ s. s.exit_place) seen ∙ sym (left-at g text old byte_read k far waited) in subst (λ x. upto true x q ≡ true) left b
+    in-frame byte_read false v s is seen far waited q b =
+        let left = ap (λ s. s.exit_place) seen ∙ sym (left-at g text old byte_read k far waited) in subst (λ x. upto false x q ≡ true) left b
+    in-frame end_waits true v s is seen far waited q b =
+        let left = ap (λ s. s.exit_place) seen ∙ sym (left-at g text old end_waits k far waited) in subst (λ x. upto true x q ≡ true) left b
+    in-frame end_waits false v s is seen far waited q b =
+        let left = ap (λ s. s.exit_place) seen ∙ sym (left-at g text old end_waits k far waited) in subst (λ x. upto false x q ≡ true) left b
+
+    is-saved : (not (is_void_last (last_or None p.spans)) || p.bare) ≡ true → IsSavedIn class g text k.position (outline k) (base ++ p.spans) (frame_of w p) (saved_at k)
+    is-saved void =
+        let began = began-on (since p.fresh p.stage s) (began_in (frame_of w p) g text k.position) (outline k) (in-frame p.stage p.fresh w s here seen h.reads.0 h.reads.1) h.began in
         record {
           stack_is = h.stack;
           behind = omega arith;
           within = omega (arith, length-map k.events unlinked);
-          began = subst (Began (upto false (exit_place_at g text k.position))) (sym whole) began;
+          began = subst (Began (began_in (frame_of w p) g text k.position)) (sym whole) began;
           void = λ v. subst EndsWithEnter (sym whole) (h.bare (or-leads (is_void_last (last_or None p.spans)) p.bare void v));
           waits = byte-left p.stage h.reads.0 h.reads.1;
         }
@@ -97,8 +118,7 @@ module _ {W R D : Type 0} (class : ℕ → W) (states : List (StateRows W R D)) 
   waits-after consume acts old w here p base s k choices can fit h seen waiting = (more-waiting choices base k.position (k.position + 1) (outline k) (outline k) [] (omega arith) (sym (append-nil (outline k))) waiting, fit)
   waits-after (choose kind ok nok) acts old w here p base s k choices can fit h seen waiting =
       let (one, rest) = and_parts _ _ fit in
-      let (old_spans, void) = and_parts _ _ can in
-      (made old w here p base s k choices h seen waiting kind ok nok one (is-saved old w here p base s k choices h seen waiting old_spans void), rest)
+      (made old w here p base s k choices h seen waiting kind ok nok one (is-saved old w here p base s k choices h seen waiting can), rest)
   waits-after act acts old w here p base s k choices can fit h seen waiting =
       let (more, grown) = adds-one act s k in (more-waiting choices base k.position k.position (outline k) _ more (omega arith) grown waiting, fit)
 
@@ -124,6 +144,22 @@ module _ {W R D : Type 0} (class : ℕ → W) (states : List (StateRows W R D)) 
     | inr past ↦ let none : class_in class text p ≡ None = ap (λ o. class_of class (byte_of o)) (slice_get_past text.seats p past.0) in absurd (none-some w (sym none ∙ is))
   ]
 
+  -- so does its end
+  pub next-kept : (p : ℕ) (w : W) → class_in class text p ≡ Some w → shown g.bytes (next_place text p Byte) ≡ shown g.bytes (next_place more p Byte)
+  next-kept p w is = elim (slice_get_cases text.seats p).1 [
+    | inl there ↦
+        let same : slice_get more.seats p ≡ slice_get text.seats p = ap (λ l. slice_get l p) e.seats ∙ get-front text.seats e.more p (slice_get_within text.seats p there.0 there.2) in
+        ap (λ o. shown g.bytes (end_or text.end o)) there.2 ∙ ap (λ o. shown g.bytes (end_or more.end o)) (sym there.2 ∙ sym same)
+    | inr past ↦ let none : class_in class text p ≡ None = ap (λ o. class_of class (byte_of o)) (slice_get_past text.seats p past.0) in absurd (none-some w (sym none ∙ is))
+  ]
+
+  -- and where the spans of a frame may have begun
+  frame-kept : (fresh : Bool) (waits : Option W) (p : ℕ) → p ≤ length text.seats → ((w : W) → waits ≡ Some w → class_in class text p ≡ Some w)
+      → (q : Point) → began_there fresh (is_some waits) g text p q ≡ true → began_there fresh (is_some waits) g more p q ≡ true
+  frame-kept true (Some w) p inside at q b = subst (λ x. stands_before q x ≡ true) (next-kept p w (at w refl)) b
+  frame-kept true None p inside at q b = subst (λ x. upto true x q ≡ true) (sym (place-kept p inside)) b
+  frame-kept false waits p inside at q b = subst (λ x. upto false x q ≡ true) (sym (place-kept p inside)) b
+
   saved-longer : (stack : List EventName) (f : Frame W) (b : Bool) (saved : Option Saved) (p : ℕ) (events : List Event) → p ≤ length text.seats → IsSaved class g text p events stack f b saved
       → IsSaved class g more p events stack f b saved × (position_of saved p ≤ length text.seats)
   saved-longer stack f true (Some saved) p events inside h = (
@@ -131,7 +167,7 @@ module _ {W R D : Type 0} (class : ℕ → W) (states : List (StateRows W R D)) 
       stack_is = h.stack_is;
       behind = h.behind;
       within = h.within;
-      began = subst (λ q. Began (upto false q) (take saved.events events)) (sym (place-kept saved.position (omega (arith, h.behind)))) h.began;
+      began = began-on (began_in f g text saved.position) (began_in f g more saved.position) (take saved.events events) (frame-kept f.fresh f.waits saved.position (omega (arith, h.behind)) h.waits) h.began;
       void = h.void;
       waits = λ w is. class-kept saved.position w (h.waits w is);
     },
