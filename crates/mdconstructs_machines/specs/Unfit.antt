@@ -9,7 +9,7 @@ use Rattle.markdown_edits.specs.Edits.{edit_at, added_after}
 use Rattle.markdown_tokenizer.specs.Configuration.{Configuration, Local}
 use Rattle.markdown_tokenizer.specs.Text.{Text}
 use Rattle.mdconstructs_tables.specs.Numbers.{Price, by_left, numbers, TooLow}
-use Rattle.mdconstructs_tables.specs.Rows.{enter, exit, consume, write, choose, Rows, row, Called, before, a_choice, a_choice_for_ok, at_bytes, StateRows, calls, costs, state, Table}
+use Rattle.mdconstructs_tables.specs.Rows.{enter, exit, consume, write, choose, Rows, row, Called, before, here, a_choice, a_choice_for_ok, at_bytes, StateRows, calls, costs, state, Table}
 use Rattle.mdconstructs_machines.specs.Tables.{LineByte, line_ending, other, line_byte, is_other, counts}
 use Rattle.mdconstructs_machines.specs.Lines.{lines, flow_start_rows, flow_start, paragraph_inside}
 
@@ -94,9 +94,9 @@ begins_at_the_end = row (enter Paragraph ∷ []) (Retry FlowStart)
 abbrev pub fills_a_void_span : Rows Unit Unit
 fills_a_void_span = row (enter LineEnding ∷ enter Data ∷ consume ∷ exit Data ∷ exit LineEnding ∷ []) (Next FlowStart)
 
--- `act`: a choice is made where a span began
-abbrev pub tries_where_a_span_began : Rows Unit Unit
-tries_where_a_span_began = row (enter Paragraph ∷ choose Check (Next FlowStart) (Next FlowStart) ∷ []) (Retry FlowStart)
+-- `act`: a choice is made in a span of a void name with an event in it
+abbrev pub tries_in_a_full_span : Rows Unit Unit
+tries_in_a_full_span = row (enter LineEnding ∷ enter Data ∷ consume ∷ exit Data ∷ choose Check (Next FlowStart) (Next FlowStart) ∷ []) (Next FlowStart)
 
 -- `spans`: Ok is returned while a span is open
 abbrev pub ends_inside : Rows Unit Unit
@@ -125,6 +125,18 @@ goes_on_in_a_full_span = row (enter Paragraph ∷ enter Data ∷ enter LineEndin
 -- `answer`: spans begin where the state in a line is called, and it says that they began before
 abbrev pub late_inside : StateRows LineByte Unit Unit
 late_inside = record paragraph_inside { begun = before }
+
+-- `choice`: spans begin, and a check there goes on with the state in a line, which says that they began before
+abbrev pub begins_and_tries : Rows Unit Unit
+begins_and_tries = row (enter Paragraph ∷ enter Data ∷ choose Check (Next ParagraphInside) (Next ParagraphInside) ∷ []) (Retry FlowStart)
+
+-- its table
+abbrev pub tries_where_a_span_began : Table LineByte Unit Unit
+tries_where_a_span_began = record lines { states = record flow_start { rows = λ previous current. begins_and_tries } ∷ late_inside ∷ [] }
+
+-- `answer`: what is tried behind an enter ends with Ok before a byte was read
+abbrev pub hasty_inside : StateRows LineByte Unit Unit
+hasty_inside = record (state ParagraphInside ends_well [] (calls 0 1)) { begun = here; needs = a_choice_for_ok }
 
 -- `answer`: the state in a line says that it is called at other bytes than line endings, and it goes on at whatever comes
 abbrev pub narrow_inside : StateRows LineByte Unit Unit

@@ -19,7 +19,7 @@ ghost use Rattle.mdconstructs_machines.specs.LineEvents.{line_events, data_event
 ghost use Rattle.mdconstructs_machines.specs.ReadAs.{IsReadAs};
 ghost use Rattle.mdconstructs_machines.specs.Tables.{line_ending, other};
 ghost use Rattle.mdconstructs_machines.specs.Unfit.{lines_with, consumes_twice, enters_no_data, gives_up, consumes_nothing, unpaid_lines, round_by, goes_round_in_place, goes_round, ends_well, fails_at_line_ending, breaking, is_ending, starts_inside, too_few, lacking, uncounted_lines, editing};
-ghost use Rattle.mdconstructs_machines.specs.Unfit.{lines_that, lines_inside, exits_outer_first, spans_nothing, begins_at_the_end, fills_a_void_span, tries_where_a_span_began};
+ghost use Rattle.mdconstructs_machines.specs.Unfit.{lines_that, lines_inside, exits_outer_first, spans_nothing, begins_at_the_end, fills_a_void_span, tries_in_a_full_span, tries_where_a_span_began, hasty_inside};
 ghost use Rattle.mdconstructs_machines.specs.Unfit.{ends_inside, tries_to_go_inside, needy_inside, retries_behind_a_byte, names_no_state, goes_on_in_a_full_span};
 ghost use Rattle.mdconstructs_machines.specs.Unfit.{late_inside, narrow_inside, stays, starts_nowhere};
 ghost use Rattle.mdconstructs_machines.specs.Lines.{lines, lines_rules};
@@ -113,7 +113,9 @@ pub fn misfits_have_causes()
     ensures span_of_no_byte { misfits (lines_that spans_nothing) None (Some other) ≡ (FlowStart, act) ∷ [] }
     ensures span_at_the_end { misfits (lines_that begins_at_the_end) None None ≡ (FlowStart, act) ∷ [] }
     ensures full_void_span_ends { misfits (lines_that fills_a_void_span) None (Some other) ≡ (FlowStart, act) ∷ [] }
-    ensures choice_where_a_span_began { misfits (lines_that tries_where_a_span_began) None (Some other) ≡ (FlowStart, act) ∷ [] }
+    ensures choice_in_a_full_void_span { misfits (lines_that tries_in_a_full_span) None (Some other) ≡ (FlowStart, act) ∷ [] }
+    ensures choice_where_a_span_began { misfits tries_where_a_span_began None (Some other) ≡ (FlowStart, choice) ∷ [] }
+    ensures ok_where_a_span_began { misfits (lines_inside hasty_inside) None (Some line_ending) ≡ (ParagraphInside, answer) ∷ [] }
     ensures ok_in_a_span { misfits (lines_that ends_inside) None (Some other) ≡ (FlowStart, spans) ∷ [] }
     ensures choice_of_other_spans { misfits (lines_that tries_to_go_inside) None (Some other) ≡ (FlowStart, choice) ∷ [] }
     ensures no_choice_waits { misfits (lines_inside needy_inside) None (Some other) ≡ (FlowStart, choice) ∷ [] }
