@@ -2,39 +2,39 @@
 use Rattle.std.proofs.Common.{◌≡◌, ◌==◌, ℕ, zero, suc, ◌+◌, ◌<◌, List, [], ◌∷◌, ◌++◌, Bool, true, false, cond, Option, Some, None, length, refl, sym, ap, ◌∙◌, subst, arith}
 use Rattle.std.specs.Prelude.{◌&&◌, ◌||◌, nat_lt, nat_le, All}
 use Rattle.std.proofs.lemmas.Bool.Decides.{nat_tests}
-use Rattle.std.proofs.lemmas.List.Elements.{All-nil, All-cons, All-contains}
+use Rattle.std.proofs.lemmas.List.Elements.{All-nil, All-cons}
 use Rattle.markdown_base.specs.declared.event.Event.{Event}
 use Rattle.markdown_base.specs.declared.event.Point.{Point}
 use Rattle.markdown_base.specs.declared.state.Name.{Name}
-use Rattle.markdown_base.specs.declared.state.TheConstants.Name.{TextStart, DataStart, DataInside}
-use Rattle.markdown_base.specs.declared.state.State.TheVariants.{Next, Retry}
+use Rattle.markdown_base.specs.declared.state.TheConstants.Name.{TextStart}
+use Rattle.markdown_base.specs.declared.state.State.TheVariants.{Next}
 use Rattle.markdown_base.specs.Events.{empty, span, EndsBelow}
 use Rattle.markdown_tokenizer.specs.declared.subtokenize.Subresult.{Subresult}
-use Rattle.markdown_tokenizer.specs.declared.waiting.Waits.TheVariants.{Byte, End}
 use Rattle.markdown_tokenizer.specs.Text.{Given, Text}
-use Rattle.markdown_tokenizer.specs.Configuration.{Configuration, Choice, Step}
+use Rattle.markdown_tokenizer.specs.Configuration.{Configuration, start_configuration}
 use Rattle.markdown_tokenizer.specs.Sight.{Sight, sight}
-use Rattle.markdown_tokenizer.specs.Calls.{with_local, with_resolvers, registered, registered_before}
+use Rattle.markdown_tokenizer.specs.Calls.{with_resolvers, registered, registered_before}
 use Rattle.markdown_edits.specs.Edits.{Edit, edit_at, added_after, AreDisjoint}
 use Rattle.markdown_edits.specs.Edited.{as_addition, as_change, edited}
 use Rattle.markdown_edits.specs.Woven.{Tagged, Change, of_list, as_listed, events_at, is_removed, placed_end, placed_in, woven}
 use Rattle.markdown_tokenizer.specs.Resolving.{done, refused, taken, IsInShape}
-use Rattle.markdown_tokenizer.specs.Lawful.{ConsumesOnce, OnlyAdds, EndsWhenRead, KeepsInvariant, CostPays, ResolversKeep, IsAsFar, IsLawful}
+use Rattle.markdown_tokenizer.specs.Lawful.{ResolversKeep, IsAsFar, IsLawful}
 use Rattle.markdown_tokenizer.specs.Plain.{HaveNoLinks}
 use Rattle.markdown_tokenizer.proofs.Readings.Plain.{no-links-more, no-links-below, no-links-shape, unlinked-same}
 use Rattle.markdown_tokenizer.proofs.Readings.Renames.{renamed-balanced, renamed-unlinked}
 use Rattle.markdown_edits.proofs.Edits.Puts.{put-same, put-more}
-use Rattle.mdconstructs_tables.specs.Rows.{class_of, step_of, picked, step_at}
 use Rattle.mdconstructs_tables.specs.Misfits.{misfits}
-use Rattle.mdconstructs_tables.specs.Fitting.{IsFit}
-use Rattle.mdconstructs_tables.proofs.Tables.Laws.{table-consumes_once, table-only_adds, table-ends_when_read, table-invariant_kept}
-use Rattle.mdconstructs_tables.proofs.Tables.Prices.{table-cost_pays}
+use Rattle.mdconstructs_tables.specs.Fitting.{IsFit, every}
+use Rattle.mdconstructs_tables.specs.Plans.{KeepsKnowledge, KeepsKnown, Plan}
+use Rattle.mdconstructs_tables.specs.RowTest.{never}
+use Rattle.mdconstructs_tables.proofs.Tables.Plans.{formed-lawful}
+use Rattle.mdconstructs_tables.proofs.Tables.Prices.{all-fall, every-late}
 use Rattle.mdconstructs_machines.specs.declared.wrap.Resolver.{Resolver}
 use Rattle.mdconstructs_machines.specs.declared.wrap.Resolver.TheVariants.{A, B, C}
-use Rattle.mdconstructs_machines.specs.Tables.{LineByte, line_ending, other, line_byte, counts}
-use Rattle.mdconstructs_machines.specs.DataRows.{data_start_rows, data_inside_rows, data_start, data_inside}
+use Rattle.mdconstructs_machines.specs.Tables.{LineByte, line_ending, other}
+use Rattle.mdconstructs_machines.specs.DataRows.{data_start, data_inside}
 use Rattle.mdconstructs_machines.specs.Messages.{refusal}
-use Rattle.mdconstructs_machines.specs.Wrap.{same_resolver, text_start, wrap, code_name, first_place, begin_event, end_event, one_definition, IsFlat, begins_paragraph, ends_paragraph, wrap_resolver, wrap_resolves, registered_at, IsUnedited, IsUnwrapped, wrap_rules}
+use Rattle.mdconstructs_machines.specs.Wrap.{same_resolver, text_start, wrap, code_name, first_place, begin_event, end_event, one_definition, IsFlat, begins_paragraph, ends_paragraph, wrap_resolver, wrap_resolves, IsUnwrapped, IsOneParagraph, wrap_rules}
 
 fits : (previous current : Option LineByte) → misfits wrap previous current ≡ []
 fits previous None = refl
@@ -44,80 +44,44 @@ fits previous (Some other) = refl
 pub wrap-fit : IsFit wrap
 wrap-fit = record { fits = fits; paid = tt; falls = tt }
 
--- what a step leaves
-abbrev IsLeft : Step Resolver Unit → Type 0
-IsLeft q = IsUnwrapped q.configuration q.choices q.answer
+-- what the machine is, as a plan: its invariant is that of its rules, said in another form
+abbrev plan : Bool → Plan LineByte Resolver Unit
+plan refuse = record {
+  table = wrap;
+  early = never;
+  falling = every;
+  knows = λ g text k choices state. IsUnwrapped k choices state;
+  resolver = λ g. wrap_resolver refuse;
+  resolves = λ g. wrap_resolves;
+  ends = λ g. IsOneParagraph;
+}
 
-start-left : (w : Option LineByte) (g : Given) (s : Sight) (k : Configuration Resolver Unit) → IsUnedited (B ∷ A ∷ []) k → IsLeft (step_of (picked (data_start_rows None w) g s k) s k)
-start-left None g s k h = (refl, h)
-start-left (Some line_ending) g s k h = (refl, (h.0, h.1, no-links-more _ _ refl (no-links-more k.events _ refl h.2)))
-start-left (Some other) g s k h = (refl, (h.0, h.1, no-links-more k.events _ refl h.2))
+module _ (refuse : Bool) where
+  keeps-first : KeepsKnown (plan refuse) text_start
+  keeps-first g text k choices b w is before here h =
+      (h.known.0, (ap (λ rs. registered_before same_resolver A (registered_before same_resolver B (registered same_resolver A rs))) h.known.1.0, h.known.1.1, h.known.1.2))
 
-inside-left : (w : Option LineByte) (g : Given) (s : Sight) (k : Configuration Resolver Unit) → IsUnedited (B ∷ A ∷ []) k → IsLeft (step_of (picked (data_inside_rows None w) g s k) s k)
-inside-left None g s k h = (refl, (h.0, h.1, no-links-more k.events _ refl h.2))
-inside-left (Some line_ending) g s k h = (refl, (h.0, h.1, no-links-more k.events _ refl h.2))
-inside-left (Some other) g s k h = (refl, h)
+  keeps-data-start : KeepsKnown (plan refuse) data_start
+  keeps-data-start g text k choices b None is before here h = h.known
+  keeps-data-start g text k choices b (Some line_ending) is before here h = (h.known.0, (h.known.1.0, h.known.1.1, no-links-more _ _ refl (no-links-more k.events _ refl h.known.1.2)))
+  keeps-data-start g text k choices b (Some other) is before here h = (h.known.0, (h.known.1.0, h.known.1.1, no-links-more k.events _ refl h.known.1.2))
 
-first-left : (g : Given) (s : Sight) (k : Configuration Resolver Unit) → IsUnedited [] k → IsLeft (step_of (picked (text_start.rows None None) g s k) s k)
-first-left g s k h = (refl, (ap (λ rs. registered_before same_resolver A (registered_before same_resolver B (registered same_resolver A rs))) h.0, h.1, h.2))
+  keeps-data : KeepsKnown (plan refuse) data_inside
+  keeps-data g text k choices b None is before here h = (h.known.0, (h.known.1.0, h.known.1.1, no-links-more k.events _ refl h.known.1.2))
+  keeps-data g text k choices b (Some line_ending) is before here h = (h.known.0, (h.known.1.0, h.known.1.1, no-links-more k.events _ refl h.known.1.2))
+  keeps-data g text k choices b (Some other) is before here h = h.known
 
--- the state of any name leaves that
-step-left : (one two three : Bool) (g : Given) (s : Sight) (k : Configuration Resolver Unit) → IsUnedited (cond one [] (B ∷ A ∷ [])) k
-    → IsLeft (step_at wrap g (cond one (Some text_start) (cond two (Some data_start) (cond three (Some data_inside) None))) s (with_local k (counts k.local)))
-step-left true two three g s k h = first-left g s (with_local k (counts k.local)) h
-step-left false true three g s k h = start-left (class_of line_byte s.current) g s (with_local k (counts k.local)) h
-step-left false false true g s k h = inside-left (class_of line_byte s.current) g s (with_local k (counts k.local)) h
-step-left false false false g s k h = (refl, h)
-
-fed-left : (b : Bool) (k : Configuration Resolver Unit) (choices : List Choice) (name : Name) → IsUnwrapped k choices (Next name)
-    → IsUnwrapped (cond b (record { position = k.position; waiting = Byte; ended = k.ended; events = k.events; stack = k.stack; local = k.local })
-    (record { position = k.position; waiting = End; ended = true; events = k.events; stack = k.stack; local = k.local })) choices (Retry name)
-fed-left true k choices name h = h
-fed-left false k choices name h = h
-
-consumes_once : (refuse : Bool) (g : Given) → ConsumesOnce g (wrap_rules refuse g)
-consumes_once refuse g text k choices name is h = table-consumes_once wrap g wrap-fit text k choices name is h.1
-
-only_adds : (refuse : Bool) (g : Given) → OnlyAdds g (wrap_rules refuse g)
-only_adds refuse g =
-    let law = table-only_adds wrap g wrap-fit in
-    record {
-      events = λ text k choices name is h. law.events text k choices name is h.1;
-      stack = λ text k choices name is h. law.stack text k choices name is h.1;
-      choices = λ text k choices name is h. law.choices text k choices name is h.1;
-    }
-
-ends_when_read : (refuse : Bool) (g : Given) → EndsWhenRead g (wrap_rules refuse g)
-ends_when_read refuse g =
-    let law = table-ends_when_read wrap g wrap-fit in
-    record { nok = λ text k is h. law.nok text k is h.1; ok = λ text k is h. law.ok text k is h.1 }
-
-invariant_kept : (refuse : Bool) (g : Given) → KeepsInvariant g (wrap_rules refuse g)
-invariant_kept refuse g =
-    let law = table-invariant_kept wrap g wrap-fit in
-    let AtStart = λ (name : Name). [] ≡ registered_at (Next name) in
-    record {
-      at_starts = λ p flag name is among. ((refl, (All-contains AtStart (TextStart ∷ []) name (All-cons AtStart TextStart [] refl (All-nil AtStart)) among, refl, tt)), law.at_starts p flag name is among);
-      unfed = λ text k choices name is h. law.unfed text k choices name is h.1;
-      waits = λ text k choices name is h. law.waits text k choices name is h.1;
-      by_feeding = λ text k choices name is h. (fed-left (nat_lt k.position (length text.seats)) k choices name h.0, law.by_feeding text k choices name is h.1);
-      by_calls = λ text k choices name is h.
-          let left = step-left (name.number == TextStart.number) (name.number == DataStart.number) (name.number == DataInside.number) g (sight g text k) k h.0.1 in
-          ((ap (λ made. made ++ choices) left.0 ∙ h.0.0, left.1), law.by_calls text k choices name is h.1);
-      by_ok = λ text k choice choices is h. absurd (let e : choice ∷ choices ≡ [] = h.0.0 in cc);
-      by_nok = λ text k choice choices is h. absurd (let e : choice ∷ choices ≡ [] = h.0.0 in cc);
-      by_pieces = λ text piece k choices state is fits fresh h. (h.0, law.by_pieces text piece k choices state is fits fresh h.1);
-    }
-
-cost_pays : (refuse : Bool) (g : Given) → CostPays g (wrap_rules refuse g)
-cost_pays refuse g =
-    let law = table-cost_pays wrap g wrap-fit in
-    record {
-      for_calls = λ text k choices name is h. law.for_calls text k choices name is h.1;
-      for_feeding = λ text k choices name is h. law.for_feeding text k choices name is h.1;
-      for_ok = λ text k choice choices is h. law.for_ok text k choice choices is h.1;
-      for_nok = λ text k choice choices is h. law.for_nok text k choice choices is h.1;
-    }
+  kept : KeepsKnowledge (plan refuse)
+  kept = record {
+    at_starts = λ g p flag is.
+        let Known = λ (name : Name). IsUnwrapped (start_configuration flag) [] (Next name) in All-cons Known TextStart [] (refl, (refl, refl, tt)) (All-nil Known);
+    by_byte = λ g text k choices name is within h. h.known;
+    by_end = λ g text k choices name is behind h. h.known;
+    by_rows = (keeps-first, (keeps-data-start, (keeps-data, tt)));
+    by_ok = λ g text k choice choices is h. absurd (let e : choice ∷ choices ≡ [] = h.known.0 in cc);
+    by_nok = λ g text k choice choices is h. absurd (let e : choice ∷ choices ≡ [] = h.known.0 in cc);
+    by_pieces = λ g text piece k choices state is fits fresh h. h.known;
+  }
 
 -- the two edits, in order of their indices
 abbrev both-edits : Point → Point → ℕ → List Edit
@@ -231,11 +195,6 @@ resolvers_keep refuse g = record {
 }
 
 pub wrap-lawful : (refuse : Bool) (g : Given) → IsLawful g (wrap_rules refuse g)
-wrap-lawful refuse g = record {
-  consumes_once = consumes_once refuse g;
-  only_adds = only_adds refuse g;
-  ends_when_read = ends_when_read refuse g;
-  invariant_kept = invariant_kept refuse g;
-  cost_pays = cost_pays refuse g;
-  resolvers_keep = resolvers_keep refuse g;
-}
+wrap-lawful refuse g =
+    formed-lawful (plan refuse) g wrap-fit (every-late wrap g wrap-fit) (wrap_rules refuse g).holds (λ text k choices state h. record { holds = h.1; falls = all-fall choices; known = h.0 })
+    (λ text k choices state h. (h.known, h.holds)) (kept refuse) (resolvers_keep refuse g)
