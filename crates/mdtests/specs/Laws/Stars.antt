@@ -1,10 +1,10 @@
 -- The table of the machine passes the test, and the new names and the edits of its resolver leave the events well formed: so in order of
 -- place, and each at a place of the document. So the machine is lawful, and keeps what it promises of its final events.
-use Rattle.std.proofs.Common.{◌≡◌, ◌==◌, ℕ, zero, suc, ◌+◌, ◌≤◌, List, [], ◌∷◌, ◌++◌, Bool, true, false, cond, Option, Some, None, length, map, refl, sym, ap, ◌∙◌, subst, arith}
-use Rattle.std.specs.Prelude.{◌&&◌, not, nat_lt, slice_get, All, AllPairs}
+use Rattle.std.proofs.Common.{◌≡◌, ℕ, zero, suc, ◌+◌, ◌≤◌, List, [], ◌∷◌, ◌++◌, Bool, true, false, cond, Option, Some, None, length, map, refl, sym, ap, ◌∙◌, subst, arith}
+use Rattle.std.specs.Prelude.{◌&&◌, not, slice_get, All, AllPairs}
 use Rattle.std.specs.List.{AllByRecursion}
 use Rattle.std.proofs.lemmas.Bool.{and_parts}
-use Rattle.std.proofs.lemmas.List.Elements.{All-nil, All-cons, All-contains, All-from_recursion, recursion_from_All}
+use Rattle.std.proofs.lemmas.List.Elements.{All-nil, All-cons, All-from_recursion, recursion_from_All}
 use Rattle.std.proofs.lemmas.List.Kept.{AllPairs-cons}
 use Rattle.markdown_base.specs.declared.event.Event.{Event}
 use Rattle.markdown_base.specs.declared.event.Kind.{Kind}
@@ -13,20 +13,19 @@ use Rattle.markdown_base.specs.declared.event.Name.{Name as EventName}
 use Rattle.markdown_base.specs.declared.event.Name.TheVariants.{AttentionSequence, Strong, StrongSequence}
 use Rattle.markdown_base.specs.declared.event.Point.{Point}
 use Rattle.markdown_base.specs.declared.state.Name.{Name}
-use Rattle.markdown_base.specs.declared.state.TheConstants.Name.{TextStart, DataStart}
-use Rattle.markdown_base.specs.declared.state.State.TheVariants.{Next, Retry}
+use Rattle.markdown_base.specs.declared.state.TheConstants.Name.{TextStart}
+use Rattle.markdown_base.specs.declared.state.State.TheVariants.{Next}
 use Rattle.markdown_base.specs.Events.{same_name, is_enter, is_void, IsVoidTight, EndsBelow}
 use Rattle.markdown_base.specs.Places.{IsPointOf, IsShown, stands_before}
 use Rattle.markdown_base.proofs.Seats.{stands-self}
 use Rattle.markdown_tokenizer.specs.declared.subtokenize.Subresult.{Subresult}
-use Rattle.markdown_tokenizer.specs.declared.waiting.Waits.TheVariants.{Byte, End}
 use Rattle.markdown_tokenizer.specs.Text.{Given, Text}
-use Rattle.markdown_tokenizer.specs.Configuration.{Configuration, Choice, Step}
+use Rattle.markdown_tokenizer.specs.Configuration.{Configuration, start_configuration}
 use Rattle.markdown_tokenizer.specs.Sight.{Sight, sight}
-use Rattle.markdown_tokenizer.specs.Calls.{with_local, with_resolvers, registered}
-use Rattle.markdown_tokenizer.specs.Engine.{IsWellFormed}
+use Rattle.markdown_tokenizer.specs.Calls.{with_resolvers, registered}
+use Rattle.markdown_tokenizer.specs.Engine.{EndsWellFormed, IsWellFormed}
 use Rattle.markdown_tokenizer.specs.Resolving.{done, taken, IsInShape}
-use Rattle.markdown_tokenizer.specs.Lawful.{ConsumesOnce, OnlyAdds, EndsWhenRead, KeepsInvariant, CostPays, ResolversKeep, IsAsFar, IsLawful}
+use Rattle.markdown_tokenizer.specs.Lawful.{ResolversKeep, IsAsFar, IsLawful}
 use Rattle.markdown_tokenizer.specs.Plain.{HaveNoLinks}
 use Rattle.markdown_tokenizer.specs.Renames.{MakesNoneVoid}
 use Rattle.markdown_tokenizer.proofs.Readings.Formed.{tight-behind, pairs-behind}
@@ -39,15 +38,15 @@ use Rattle.markdown_edits.specs.Woven.{Tagged, Change, of_list, as_listed, is_re
 use Rattle.markdown_edits.proofs.Balanced.{balanced_from_open, names_after_balanced, same_name-refl, same_name-true}
 use Rattle.markdown_edits.proofs.Edits.Passes.{AreApart, events_at-none, is_removed-none, woven-at}
 use Rattle.markdown_edits.proofs.Edits.Splices.{AreApart-edits}
-use Rattle.mdconstructs_tables.specs.Rows.{class_of, step_of, picked, step_at}
 use Rattle.mdconstructs_tables.specs.Misfits.{misfits}
-use Rattle.mdconstructs_tables.specs.Fitting.{IsFit}
-use Rattle.mdconstructs_tables.proofs.Tables.Laws.{table-consumes_once, table-only_adds, table-ends_when_read, table-invariant_kept}
-use Rattle.mdconstructs_tables.proofs.Tables.Prices.{table-cost_pays}
-use Rattle.mdconstructs.specs.Tables.{counts}
+use Rattle.mdconstructs_tables.specs.Fitting.{IsFit, every}
+use Rattle.mdconstructs_tables.specs.Plans.{KeepsKnowledge, KeepsKnown, Plan}
+use Rattle.mdconstructs_tables.specs.RowTest.{never}
+use Rattle.mdconstructs_tables.proofs.Tables.Plans.{formed-lawful}
+use Rattle.mdconstructs_tables.proofs.Tables.Prices.{all-fall, every-late}
 use Rattle.mdtests.specs.declared.stars.Resolver.{Resolver}
 use Rattle.mdtests.specs.declared.stars.Resolver.TheVariants.{Strengthen}
-use Rattle.mdtests.specs.Stars.{StarByte, star, other, star_byte, same_resolver, text_start, data_start_rows, data_start, stars, strong_name, with_strong_name, is_sequence, event_at, strong, edits_from, strengthened, strengthens, stars_resolver, registered_at, IsUnresolved, IsUnstarred, stars_resolves, stars_rules}
+use Rattle.mdtests.specs.Stars.{StarByte, star, other, same_resolver, text_start, data_start, stars, strong_name, with_strong_name, is_sequence, event_at, strong, edits_from, strengthened, strengthens, stars_resolver, IsUnstarred, stars_resolves, stars_rules}
 
 fits : (previous current : Option StarByte) → misfits stars previous current ≡ []
 fits previous None = refl
@@ -60,7 +59,7 @@ stars-fit = record { fits = fits; paid = tt; falls = tt }
 -- ---- the new names
 
 -- a star is void, and what it becomes too
-none-void : MakesNoneVoid strong_name
+pub none-void : MakesNoneVoid strong_name
 none-void n = by-test (same_name n AttentionSequence) refl
   where
     by-test : (b : Bool) → same_name n AttentionSequence ≡ b → is_void (cond b StrongSequence n) ≡ true → is_void n ≡ true
@@ -272,72 +271,38 @@ still-well-formed g xs formed = record {
 
 -- ---- the laws
 
--- what a step leaves
-abbrev IsLeft : Step Resolver Unit → Type 0
-IsLeft q = IsUnstarred q.configuration q.choices q.answer
+-- what the machine is, as a plan: its invariant is that of its rules, said in another form
+abbrev plan : Plan StarByte Resolver Unit
+plan = record {
+  table = stars;
+  early = never;
+  falling = every;
+  knows = λ g text k choices state. IsUnstarred k choices state;
+  resolver = λ g. stars_resolver false false;
+  resolves = stars_resolves false;
+  ends = EndsWellFormed;
+}
 
-first-left : (g : Given) (s : Sight) (k : Configuration Resolver Unit) → IsUnresolved [] k → IsLeft (step_of (picked (text_start.rows None None) g s k) s k)
-first-left g s k h = (refl, (ap (registered same_resolver Strengthen) h.0, h.1))
+keeps-start : KeepsKnown plan text_start
+keeps-start g text k choices b w is before here h = (h.known.0, (ap (registered same_resolver Strengthen) h.known.1.0, h.known.1.1))
 
-data-left : (w : Option StarByte) (g : Given) (s : Sight) (k : Configuration Resolver Unit) → IsUnresolved (Strengthen ∷ []) k → IsLeft (step_of (picked (data_start_rows None w) g s k) s k)
-data-left None g s k h = (refl, h)
-data-left (Some star) g s k h = (refl, (h.0, no-links-more _ _ refl (no-links-more k.events _ refl h.1)))
-data-left (Some other) g s k h = (refl, (h.0, no-links-more _ _ refl (no-links-more k.events _ refl h.1)))
+keeps-data : KeepsKnown plan data_start
+keeps-data g text k choices b None is before here h = h.known
+keeps-data g text k choices b (Some star) is before here h = (h.known.0, (h.known.1.0, no-links-more _ _ refl (no-links-more k.events _ refl h.known.1.1)))
+keeps-data g text k choices b (Some other) is before here h = (h.known.0, (h.known.1.0, no-links-more _ _ refl (no-links-more k.events _ refl h.known.1.1)))
 
--- the state of any name leaves that
-step-left : (one two : Bool) (g : Given) (s : Sight) (k : Configuration Resolver Unit) → IsUnresolved (cond one [] (Strengthen ∷ [])) k
-    → IsLeft (step_at stars g (cond one (Some text_start) (cond two (Some data_start) None)) s (with_local k (counts k.local)))
-step-left true two g s k h = first-left g s (with_local k (counts k.local)) h
-step-left false true g s k h = data-left (class_of star_byte s.current) g s (with_local k (counts k.local)) h
-step-left false false g s k h = (refl, h)
-
-fed-left : (b : Bool) (k : Configuration Resolver Unit) (choices : List Choice) (name : Name) → IsUnstarred k choices (Next name)
-    → IsUnstarred (cond b (record { position = k.position; waiting = Byte; ended = k.ended; events = k.events; stack = k.stack; local = k.local })
-    (record { position = k.position; waiting = End; ended = true; events = k.events; stack = k.stack; local = k.local })) choices (Retry name)
-fed-left true k choices name h = h
-fed-left false k choices name h = h
+kept : KeepsKnowledge plan
+kept = record {
+  at_starts = λ g p flag is. let Known = λ (name : Name). IsUnstarred (start_configuration flag) [] (Next name) in All-cons Known TextStart [] (refl, (refl, tt)) (All-nil Known);
+  by_byte = λ g text k choices name is within h. h.known;
+  by_end = λ g text k choices name is behind h. h.known;
+  by_rows = (keeps-start, (keeps-data, tt));
+  by_ok = λ g text k choice choices is h. absurd (let e : choice ∷ choices ≡ [] = h.known.0 in cc);
+  by_nok = λ g text k choice choices is h. absurd (let e : choice ∷ choices ≡ [] = h.known.0 in cc);
+  by_pieces = λ g text piece k choices state is fits fresh h. h.known;
+}
 
 module _ (g : Given) where
-  consumes_once : ConsumesOnce g (stars_rules false false g)
-  consumes_once text k choices name is h = table-consumes_once stars g stars-fit text k choices name is h.1
-
-  only_adds : OnlyAdds g (stars_rules false false g)
-  only_adds =
-      let law = table-only_adds stars g stars-fit in record {
-        events = λ text k choices name is h. law.events text k choices name is h.1;
-        stack = λ text k choices name is h. law.stack text k choices name is h.1;
-        choices = λ text k choices name is h. law.choices text k choices name is h.1;
-      }
-
-  ends_when_read : EndsWhenRead g (stars_rules false false g)
-  ends_when_read = let law = table-ends_when_read stars g stars-fit in record { nok = λ text k is h. law.nok text k is h.1; ok = λ text k is h. law.ok text k is h.1 }
-
-  invariant_kept : KeepsInvariant g (stars_rules false false g)
-  invariant_kept =
-      let law = table-invariant_kept stars g stars-fit in
-      let AtStart = λ (name : Name). [] ≡ registered_at (Next name) in
-      record {
-        at_starts = λ p flag name is among. ((refl, (All-contains AtStart (TextStart ∷ []) name (All-cons AtStart TextStart [] refl (All-nil AtStart)) among, tt)), law.at_starts p flag name is among);
-        unfed = λ text k choices name is h. law.unfed text k choices name is h.1;
-        waits = λ text k choices name is h. law.waits text k choices name is h.1;
-        by_feeding = λ text k choices name is h. (fed-left (nat_lt k.position (length text.seats)) k choices name h.0, law.by_feeding text k choices name is h.1);
-        by_calls = λ text k choices name is h.
-            let left = step-left (name.number == TextStart.number) (name.number == DataStart.number) g (sight g text k) k h.0.1 in
-            ((ap (λ made. made ++ choices) left.0 ∙ h.0.0, left.1), law.by_calls text k choices name is h.1);
-        by_ok = λ text k choice choices is h. absurd (let e : choice ∷ choices ≡ [] = h.0.0 in cc);
-        by_nok = λ text k choice choices is h. absurd (let e : choice ∷ choices ≡ [] = h.0.0 in cc);
-        by_pieces = λ text piece k choices state is fits fresh h. (h.0, law.by_pieces text piece k choices state is fits fresh h.1);
-      }
-
-  cost_pays : CostPays g (stars_rules false false g)
-  cost_pays =
-      let law = table-cost_pays stars g stars-fit in record {
-        for_calls = λ text k choices name is h. law.for_calls text k choices name is h.1;
-        for_feeding = λ text k choices name is h. law.for_feeding text k choices name is h.1;
-        for_ok = λ text k choice choices is h. law.for_ok text k choice choices is h.1;
-        for_nok = λ text k choice choices is h. law.for_nok text k choice choices is h.1;
-      }
-
   -- what the resolver leaves
   abbrev IsPassed : Text → List Resolver → (k new : Configuration Resolver Unit) → Type 0
   IsPassed text rs k new = stars_resolves false g text rs new × IsAsFar new k × (new.stack ≡ k.stack)
@@ -371,14 +336,9 @@ module _ (g : Given) where
   }
 
   in-order-lawful : IsLawful g (stars_rules false false g)
-  in-order-lawful = record {
-    consumes_once = consumes_once;
-    only_adds = only_adds;
-    ends_when_read = ends_when_read;
-    invariant_kept = invariant_kept;
-    cost_pays = cost_pays;
-    resolvers_keep = resolvers_keep;
-  }
+  in-order-lawful =
+      formed-lawful plan g stars-fit (every-late stars g stars-fit) (stars_rules false false g).holds (λ text k choices state h. record { holds = h.1; falls = all-fall choices; known = h.0 })
+      (λ text k choices state h. (h.known, h.holds)) kept resolvers_keep
 
 -- if both ends of each star are renamed, and spans begin where their sequences do, the machine is lawful
 pub stars-lawful : (alone late : Bool) → alone ≡ false → late ≡ false → (g : Given) → IsLawful g (stars_rules alone late g)
