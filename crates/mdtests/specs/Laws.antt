@@ -4,3 +4,4 @@ pub mod Looping
 pub mod Replacing
 pub mod Stars
 pub mod Marks
+pub mod Pairs

@@ -6,3 +6,4 @@ pub mod Looping
 pub mod Replacing
 pub mod Stars
 pub mod Marks
+pub mod Pairs

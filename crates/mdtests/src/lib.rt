@@ -25,6 +25,7 @@ mod looping;
 mod machines;
 #[cfg(test)]
 mod no_memory;
+pub mod pairs;
 #[cfg(test)]
 mod places;
 #[cfg(test)]

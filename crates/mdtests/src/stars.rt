@@ -151,7 +151,7 @@ fn rename_each(events: &mut [Event])
 }
 
 /// Renames all events of a list.
-fn rename_all(events: &mut Vec<Event>)
+pub(crate) fn rename_all(events: &mut Vec<Event>)
     ensures { events.new.items ≡ map (with_strong_name ENTERS_ALONE) events.old.items }
 {
     rename_each(events.as_mut_slice());
