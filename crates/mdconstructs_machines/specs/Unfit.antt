@@ -8,7 +8,7 @@ use Rattle.markdown_tokenizer.specs.declared.waiting.AttemptKind.TheVariants.{At
 use Rattle.markdown_edits.specs.Edits.{edit_at, added_after}
 use Rattle.markdown_tokenizer.specs.Configuration.{Configuration, Local}
 use Rattle.markdown_tokenizer.specs.Text.{Text}
-use Rattle.mdconstructs_tables.specs.Numbers.{Price, by_left, numbers, TooLow}
+use Rattle.mdconstructs_tables.specs.Numbers.{Price, by_left, TooLow}
 use Rattle.mdconstructs_tables.specs.Rows.{enter, exit, consume, write, choose, Rows, row, Called, before, here, a_choice, a_choice_for_ok, at_bytes, StateRows, calls, costs, state, Table}
 use Rattle.mdconstructs_machines.specs.Tables.{LineByte, line_ending, other, line_byte, is_other, counts}
 use Rattle.mdconstructs_machines.specs.Lines.{lines, flow_start_rows, flow_start, paragraph_inside}
@@ -201,4 +201,4 @@ too_few = by_left 0 1 1 ∷ by_left 0 2 1 ∷ []
 
 -- what they lack: where a line begins, two calls for each byte behind its first one and four more are taken; half of that is there
 abbrev pub lacking : List TooLow
-lacking = record { name = FlowStart; takes = numbers 0 2 2 4; has = numbers 0 1 1 2 } ∷ []
+lacking = record { name = FlowStart; takes = (0, 2, 2, 4); has = (0, 1, 1, 2) } ∷ []

@@ -93,16 +93,20 @@ abbrev pub are_at_most : {W : Type 0} → (current : Option W) → Numbers → N
 are_at_most None a b = nat_le a.more b.more
 are_at_most (Some w) a b = nat_le a.square b.square && (nat_le a.in_run b.in_run && (nat_le a.behind b.behind && nat_le a.more b.more))
 
--- Too low: what this state has is less than what a row of it takes, or than what it takes if it is called. The numbers are by the bytes behind
--- the one that waits.
+-- numbers in a row, as they are printed: of the square, of each byte of the run, of each byte behind it, and more
+abbrev pub in_a_row : Numbers → ℕ × ℕ × ℕ × ℕ
+in_a_row c = (c.square, c.in_run, c.behind, c.more)
+
+-- Too low: what a state has is less than what a row of it takes, or, if it is fed, than what it takes once it is called. The numbers are by
+-- the bytes behind the one that waits.
 pub record TooLow : Type 0 where
   pub name : Name
-  pub takes : Numbers
-  pub has : Numbers
+  pub takes : ℕ × ℕ × ℕ × ℕ
+  pub has : ℕ × ℕ × ℕ × ℕ
 
 -- a state, if what it takes is more than it has
 abbrev pub too_low : {W : Type 0} → Name → (current : Option W) → (takes has : Numbers) → List TooLow
-too_low name w takes has = cond (are_at_most w takes has) [] (record { name = name; takes = takes; has = has } ∷ [])
+too_low name w takes has = cond (are_at_most w takes has) [] (record { name = name; takes = in_a_row takes; has = in_a_row has } ∷ [])
 
 -- the price of the state of a name, if it is one of these
 abbrev pub price_named : {W R D : Type 0} → List (StateRows W R D) → List (Price W) → Name → Option (Price W)

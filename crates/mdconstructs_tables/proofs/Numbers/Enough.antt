@@ -12,7 +12,7 @@ use Rattle.mdconstructs_tables.specs.RowInvariant.{AreWithin, ArePaid, PaysRows,
 use Rattle.mdconstructs_tables.specs.Fitting.{AllFall, Falls, and_falls}
 use Rattle.mdconstructs_tables.specs.Late.{IsLate}
 use Rattle.mdconstructs_tables.specs.Misfits.{Reason}
-use Rattle.mdconstructs_tables.specs.Numbers.{Numbers, Price, by_left, by_run, by_class, run_at, behind_at, counted_at, priced, none_more, together, are_at_most, TooLow, too_low, price_named, with_waiting, fed_numbers, called_numbers, fed_of, called_of, next_numbers, choice_numbers, chosen_numbers, answer_numbers, row_numbers, dear_rows, shortages, ArePriced, is_by_left, rising, AreEnough}
+use Rattle.mdconstructs_tables.specs.Numbers.{Numbers, Price, by_left, by_run, by_class, run_at, behind_at, counted_at, priced, none_more, together, are_at_most, in_a_row, TooLow, too_low, price_named, with_waiting, fed_numbers, called_numbers, fed_of, called_of, next_numbers, choice_numbers, chosen_numbers, answer_numbers, row_numbers, dear_rows, shortages, ArePriced, is_by_left, rising, AreEnough}
 use Rattle.mdconstructs_tables.proofs.Numbers.Arithmetic.{together-is, dearer-most, wherever-most, left-falls}
 use Rattle.mdconstructs_tables.proofs.Numbers.Places.{sum-is, counted, most-at, called-is, fed-most}
 
@@ -27,7 +27,7 @@ unlisted true x h = refl
 unlisted false x h = absurd (cc)
 
 not-low : {W : Type 0} (name : Name) (w : Option W) (takes has : Numbers) → too_low name w takes has ≡ [] → are_at_most w takes has ≡ true
-not-low name w takes has h = unlisted (are_at_most w takes has) (record { name = name; takes = takes; has = has }) h
+not-low name w takes has h = unlisted (are_at_most w takes has) (record { name = name; takes = in_a_row takes; has = in_a_row has }) h
 
 when-true : {A : Type 0} (t : Bool) (xs : List A) → cond t xs [] ≡ [] → t ≡ true → xs ≡ []
 when-true true xs h is = h
