@@ -1,3 +1,4 @@
+pub mod Calm
 pub mod Cases
 pub mod Chunks
 pub mod Fitting

@@ -10,6 +10,7 @@ ghost use Rattle.markdown_tokenizer.specs.Lawful.{IsLawful};
 ghost use Rattle.markdown_tokenizer.specs.Plain.{plain};
 ghost use Rattle.markdown_tokenizer.specs.Sight.{Sight};
 ghost use Rattle.markdown_tokenizer.specs.Text.{Given, Text};
+ghost use Rattle.mdconstructs_tables.specs.Calm.{Calmness, CalmCasesKeep, CalmRowsKeep};
 ghost use Rattle.mdconstructs_tables.specs.Cases.{AreByBytes, AreOneByOne};
 ghost use Rattle.mdconstructs_tables.specs.Fitting.{IsFit};
 ghost use Rattle.mdconstructs_tables.specs.Folds.{BytesAreFolded};
@@ -96,6 +97,34 @@ pub trait Planned {
 /// stand in one plan. The laws above are of plans that have less.
 pub fn planned_machines_are_lawful<P: Planned>()
     ensures { IsSound P.plan → (g : Given) → IsLawful g (planned_rules P.plan g) }
+{}
+
+/// A table, what its machine knows, and what leaves that as it is.
+pub trait Calm {
+    /// The type of classes of bytes.
+    type Class;
+
+    /// The type of resolvers.
+    type Resolver;
+
+    /// What the machine keeps about a document.
+    type Document;
+
+    ghost table: { Table Self.Class Self.Resolver Self.Document };
+
+    ghost knows: { List Event → Local Self.Resolver Self.Document → List Choice → State → Type 0 };
+
+    /// Which writes are harmless.
+    ghost harmless: { (Sight → Configuration Self.Resolver Self.Document → Local Self.Resolver Self.Document) → Type 0 };
+
+    ghost calmness: { Calmness Self.Resolver Self.Document };
+}
+
+/// A state keeps what the machine knows if its rows are calm: they make no choice, link no events to one another, and write only
+/// what is harmless. It is one test for each class of what waits, or for each case by which the rows are given.
+pub fn calm_rows_keep_what_is_known<C: Calm>()
+    ensures rows { CalmRowsKeep C.table C.knows C.harmless C.calmness }
+    ensures cases { CalmCasesKeep C.table C.knows C.harmless C.calmness }
 {}
 
 /// What a table reads without events, from any of its states on, is a function of the bytes that are left and of what states
