@@ -8,12 +8,13 @@ use Rattle.markdown_base.specs.declared.state.TheConstants.Name.{TextBeforeData,
 use Rattle.markdown_tokenizer.specs.Text.{Given}
 use Rattle.markdown_tokenizer.specs.Configuration.{Configuration}
 use Rattle.markdown_tokenizer.specs.Sight.{Sight}
-use Rattle.mdconstructs_tables.specs.Rows.{enter, exit, consume, write, Rows, row, when, here, at_bytes, StateRows, costs, state}
+use Rattle.mdconstructs_tables.specs.Rows.{enter, exit, consume, write, Rows, row, when, here, at_bytes, StateRows, state}
+use Rattle.mdconstructs_tables.specs.Numbers.{Price, by_left}
 use Rattle.mdconstructs_text.specs.Bytes.{is_less_than, is_greater_than, is_colon, is_scheme_mark, is_space, has_byte_at}
 use Rattle.mdconstructs_text.specs.Construct.{Found, Grammar, Construct, tried}
 use Rattle.mdconstructs_text.specs.Parts.{span, leaf}
 use Rattle.mdconstructs_text.specs.TextBytes.{TextByte, line_feed, less, greater, colon, letter, digit, mark, blank, is_less_class}
-use Rattle.mdconstructs_text.specs.TextCosts.{by_left}
+use Rattle.mdconstructs_text.specs.TextCosts.{text_cost}
 use Rattle.mdconstructs_text.specs.TextSizes.{size_b_is, size_b_grows}
 
 -- An autolink, with the number of bytes between `<` and `>`. Its events: its markers, and its URI
@@ -81,7 +82,7 @@ autolink_start_rows _ _ = row (enter Autolink ∷ enter AutolinkMarker ∷ consu
 -- its state: it is called only at `<`, and no span is open yet
 abbrev pub autolink_start : {R D : Type 0} → StateRows TextByte R D
 autolink_start =
-    tried (record (state AutolinkStart autolink_start_rows [] (costs (by_left (λ n. n + 1)))) { called = at_bytes is_less_class })
+    tried (record (state AutolinkStart autolink_start_rows [] (text_cost (by_left 0 1 1))) { called = at_bytes is_less_class })
 
 -- its scheme begins with an ASCII letter
 abbrev pub autolink_open_rows : {R D : Type 0} → (previous current : Option TextByte) → Rows R D
@@ -91,7 +92,7 @@ autolink_open_rows _ _ = row [] Nok
 -- its state: an autolink and its URI are open
 abbrev pub autolink_open : {R D : Type 0} → StateRows TextByte R D
 autolink_open =
-    tried (record (state AutolinkOpen autolink_open_rows (Autolink ∷ AutolinkProtocol ∷ []) (costs (by_left (λ n. n + 1)))) { begun = here })
+    tried (record (state AutolinkOpen autolink_open_rows (Autolink ∷ AutolinkProtocol ∷ []) (text_cost (by_left 0 1 1))) { begun = here })
 
 -- a scheme of fewer than 32 characters may have one more
 abbrev pub scheme_goes_on : {R D : Type 0} → Rows R D
@@ -108,7 +109,7 @@ autolink_scheme_rows _ _ = row [] Nok
 -- its state: an autolink and its URI are open
 abbrev pub autolink_scheme : {R D : Type 0} → StateRows TextByte R D
 autolink_scheme =
-    tried (state AutolinkSchemeInsideOrEmailAtext autolink_scheme_rows (Autolink ∷ AutolinkProtocol ∷ []) (costs (by_left (λ n. n + 1))))
+    tried (state AutolinkSchemeInsideOrEmailAtext autolink_scheme_rows (Autolink ∷ AutolinkProtocol ∷ []) (text_cost (by_left 0 1 1)))
 
 -- the rest of its URI is read, up to `>`
 abbrev pub autolink_url_rows : {R D : Type 0} → (previous current : Option TextByte) → Rows R D
@@ -122,7 +123,11 @@ autolink_url_rows _ (Some _) = row (consume ∷ []) (Next AutolinkUrlInside)
 -- its state: an autolink and its URI are open
 abbrev pub autolink_url : {R D : Type 0} → StateRows TextByte R D
 autolink_url =
-    tried (state AutolinkUrlInside autolink_url_rows (Autolink ∷ AutolinkProtocol ∷ []) (costs (by_left (λ n. n + 1))))
+    tried (state AutolinkUrlInside autolink_url_rows (Autolink ∷ AutolinkProtocol ∷ []) (text_cost (by_left 0 1 1)))
+
+-- What its states cost: each reads a byte or ends
+abbrev pub autolink_prices : List (Price TextByte)
+autolink_prices = by_left 0 1 1 ∷ by_left 0 1 1 ∷ by_left 0 1 1 ∷ by_left 0 1 1 ∷ []
 
 -- How autolinks are read
 abbrev pub autolinks : {R D : Type 0} → Construct Found TextByte R D

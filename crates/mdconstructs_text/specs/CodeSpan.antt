@@ -1,5 +1,5 @@
 -- Code spans: what they are, with no states; and the part of a table that reads them.
-use Rattle.std.specs.Prelude.{ℕ, ◌+◌, ◌-◌, ◌*◌, ◌==◌, ◌&&◌, ◌||◌, not, Bool, cond, List, [], ◌∷◌, ◌++◌, take, drop, length, Option, Some, None, find, option_map}
+use Rattle.std.specs.Prelude.{ℕ, ◌+◌, ◌==◌, ◌&&◌, ◌||◌, not, Bool, cond, List, [], ◌∷◌, ◌++◌, take, drop, length, Option, Some, None, find, option_map}
 use Rattle.std.specs.List.{between, flat_map, range_with_len}
 use Rattle.markdown_base.specs.declared.event.Name.TheVariants.{LineEnding, CodeText, CodeTextSequence, CodeTextData}
 use Rattle.markdown_base.specs.declared.state.Name.{Name}
@@ -10,12 +10,13 @@ use Rattle.markdown_tokenizer.specs.declared.waiting.AttemptKind.TheVariants.{At
 use Rattle.markdown_tokenizer.specs.Text.{Given}
 use Rattle.markdown_tokenizer.specs.Configuration.{Configuration}
 use Rattle.markdown_tokenizer.specs.Sight.{Sight}
-use Rattle.mdconstructs_tables.specs.Rows.{enter, exit, consume, write, choose, Rows, row, when, at_byte, at_bytes, StateRows, costs, state}
+use Rattle.mdconstructs_tables.specs.Rows.{enter, exit, consume, write, choose, Rows, row, when, at_byte, at_bytes, StateRows, state}
+use Rattle.mdconstructs_tables.specs.Numbers.{Price, by_left, by_run, by_class, numbers}
 use Rattle.mdconstructs_text.specs.Bytes.{is_line_feed, is_backtick, backticks, has_byte_at, ends_with}
 use Rattle.mdconstructs_text.specs.Construct.{Found, Grammar, Construct, tried}
 use Rattle.mdconstructs_text.specs.Parts.{Part, part_length, part_at, part_events, cut, span, leaf}
 use Rattle.mdconstructs_text.specs.TextBytes.{TextByte, line_feed, backtick, is_tick, ends_code_data, is_backtick_class}
-use Rattle.mdconstructs_text.specs.TextCosts.{left, ticks, waits_at, by_left, at_tick}
+use Rattle.mdconstructs_text.specs.TextCosts.{text_cost}
 use Rattle.mdconstructs_text.specs.TextSizes.{size_b_is, size_c_is, size_b_grows, size_c_grows}
 
 -- the bytes that end data in a code span
@@ -75,7 +76,7 @@ raw_text_start_rows _ _ = row (enter CodeText ∷ enter CodeTextSequence ∷ wri
 -- its state: it is called only at a backtick, and no span is open yet
 abbrev pub raw_text_start : {R D : Type 0} → StateRows TextByte R D
 raw_text_start =
-    tried (record (state RawTextStart raw_text_start_rows [] (costs (by_left (λ n. 7 * n - 3)))) { called = at_bytes is_backtick_class })
+    tried (record (state RawTextStart raw_text_start_rows [] (text_cost (by_left 0 7 0))) { called = at_bytes is_backtick_class })
 
 -- its opening backtick string is read
 abbrev pub raw_text_sequence_open_rows : {R D : Type 0} → (previous current : Option TextByte) → Rows R D
@@ -86,7 +87,7 @@ raw_text_sequence_open_rows _ _ = row (exit CodeTextSequence ∷ []) (Retry RawT
 abbrev pub raw_text_sequence_open : {R D : Type 0} → StateRows TextByte R D
 raw_text_sequence_open =
     tried (record (state RawTextSequenceOpen raw_text_sequence_open_rows (CodeText ∷ CodeTextSequence ∷ [])
-    (costs (at_tick (λ n. 7 * n - 4) (λ n. 7 * n + 2)))) { begun = at_byte is_backtick_class })
+    (text_cost (by_run (numbers 0 1 7 2)))) { begun = at_byte is_backtick_class })
 
 -- in it a line ending, data, or a backtick string that may close it is read
 abbrev pub raw_text_between_rows : {R D : Type 0} → (previous current : Option TextByte) → Rows R D
@@ -99,7 +100,7 @@ raw_text_between_rows _ (Some _) = row (enter CodeTextData ∷ []) (Retry RawTex
 -- its state: a code span is open
 abbrev pub raw_text_between : {R D : Type 0} → StateRows TextByte R D
 raw_text_between =
-    tried (state RawTextBetween raw_text_between_rows (CodeText ∷ []) (costs (by_left (λ n. 7 * n + 1))))
+    tried (state RawTextBetween raw_text_between_rows (CodeText ∷ []) (text_cost (by_left 0 7 1)))
 
 -- data in it ends at a line ending, at a backtick, or at the end
 abbrev pub raw_text_data_rows : {R D : Type 0} → (previous current : Option TextByte) → Rows R D
@@ -112,11 +113,15 @@ raw_text_data_rows _ (Some _) = row (consume ∷ []) (Next RawTextData)
 abbrev pub is_code_data : TextByte → Bool
 is_code_data w = not (ends_code_data (Some w))
 
+-- what it costs: less at data, which it reads, than where data ends
+abbrev pub in_code_data : Price TextByte
+in_code_data = by_class (numbers 0 7 7 2) (λ w. cond (is_code_data w) (numbers 0 7 7 3) (numbers 0 7 7 9))
+
 -- its state: a code span and its data are open
 abbrev pub raw_text_data : {R D : Type 0} → StateRows TextByte R D
 raw_text_data =
     tried (record (state RawTextData raw_text_data_rows (CodeText ∷ CodeTextData ∷ [])
-    (costs (λ text p. cond (ends_code_data (waits_at text p)) (7 * left text p + 2) (7 * left text p - 4)))) { begun = at_byte is_code_data })
+    (text_cost in_code_data)) { begun = at_byte is_code_data })
 
 -- a backtick string closes it if it is as long as the opening one
 abbrev pub raw_text_sequence_close_rows : {R D : Type 0} → (previous current : Option TextByte) → Rows R D
@@ -127,7 +132,7 @@ raw_text_sequence_close_rows _ _ = when sizes_are_equal (row (exit CodeTextSeque
 abbrev pub raw_text_sequence_close : {R D : Type 0} → StateRows TextByte R D
 raw_text_sequence_close =
     tried (record (state RawTextSequenceClose raw_text_sequence_close_rows (CodeTextSequence ∷ [])
-    (costs (λ text p. ticks text p + 1))) { begun = at_byte is_backtick_class })
+    (text_cost (by_run (numbers 0 1 0 1)))) { begun = at_byte is_backtick_class })
 
 -- after that backtick string the code span ends
 abbrev pub raw_flow_after_rows : {R D : Type 0} → (previous current : Option TextByte) → Rows R D
@@ -136,7 +141,7 @@ raw_flow_after_rows _ _ = row (exit CodeText ∷ []) Ok
 -- its state: a code span is open
 abbrev pub raw_flow_after : {R D : Type 0} → StateRows TextByte R D
 raw_flow_after =
-    tried (state RawFlowAfter raw_flow_after_rows (CodeText ∷ []) (costs (by_left (λ n. 1))))
+    tried (state RawFlowAfter raw_flow_after_rows (CodeText ∷ []) (text_cost (by_left 0 0 1)))
 
 -- a backtick string of another length is data
 abbrev pub raw_flow_before_content_chunk_rows : {R D : Type 0} → (previous current : Option TextByte) → Rows R D
@@ -146,7 +151,7 @@ raw_flow_before_content_chunk_rows _ _ = row (enter CodeTextData ∷ []) (Retry 
 abbrev pub raw_flow_before_content_chunk : {R D : Type 0} → StateRows TextByte R D
 raw_flow_before_content_chunk =
     tried (record (state RawFlowBeforeContentChunk raw_flow_before_content_chunk_rows (CodeText ∷ [])
-    (costs (λ text p. 7 * left text p - 6 * ticks text p + 4))) { called = at_bytes is_backtick_class })
+    (text_cost (by_run (numbers 0 1 7 4)))) { called = at_bytes is_backtick_class })
 
 -- that backtick string is read whole
 abbrev pub raw_flow_content_chunk_rows : {R D : Type 0} → (previous current : Option TextByte) → Rows R D
@@ -157,12 +162,18 @@ raw_flow_content_chunk_rows _ _ = row [] (Retry RawTextData)
 abbrev pub raw_flow_content_chunk : {R D : Type 0} → StateRows TextByte R D
 raw_flow_content_chunk =
     tried (record (state RawFlowContentChunk raw_flow_content_chunk_rows (CodeText ∷ CodeTextData ∷ [])
-    (costs (λ text p. 7 * left text p - 6 * ticks text p + 3))) { begun = at_byte is_backtick_class })
+    (text_cost (by_run (numbers 0 1 7 3)))) { begun = at_byte is_backtick_class })
 
 -- its states that are called only if it is tried: at a backtick
 abbrev pub code_span_begun : Name → Option TextByte → Bool
 code_span_begun name w =
     is_tick w && ((name.number == RawTextStart.number) || ((name.number == RawTextSequenceOpen.number) || (name.number == RawTextSequenceClose.number)))
+
+-- What its states cost. A backtick string that may close it is read once as that, and if it is of another length once as data
+abbrev pub code_span_prices : List (Price TextByte)
+code_span_prices =
+    by_left 0 7 0 ∷ by_run (numbers 0 1 7 2) ∷ by_left 0 7 1 ∷ in_code_data ∷ by_run (numbers 0 1 0 1) ∷ by_left 0 0 1 ∷ by_run (numbers 0 1 7 4)
+    ∷ by_run (numbers 0 1 7 3) ∷ []
 
 -- How code spans are read
 abbrev pub code_spans : {R D : Type 0} → Construct Found TextByte R D

@@ -1,5 +1,5 @@
 -- Backslash escapes: what they are, with no states; and the part of a table that reads them.
-use Rattle.std.specs.Prelude.{ℕ, ◌+◌, ◌==◌, ◌&&◌, Bool, cond, false, List, [], ◌∷◌, ◌++◌, take, drop, Option, Some, None}
+use Rattle.std.specs.Prelude.{ℕ, ◌==◌, ◌&&◌, Bool, cond, false, List, [], ◌∷◌, ◌++◌, take, drop, Option, Some, None}
 use Rattle.std.specs.Char.{is_ascii_punctuation}
 use Rattle.markdown_base.specs.declared.event.Name.TheVariants.{CharacterEscape, CharacterEscapeMarker, CharacterEscapeValue}
 use Rattle.markdown_base.specs.declared.state.State.TheVariants.{Next, Ok, Nok}
@@ -7,12 +7,13 @@ use Rattle.markdown_base.specs.declared.state.TheConstants.Name.{TextBeforeData,
 use Rattle.markdown_tokenizer.specs.Text.{Given}
 use Rattle.markdown_tokenizer.specs.Configuration.{Configuration}
 use Rattle.markdown_tokenizer.specs.Sight.{Sight}
-use Rattle.mdconstructs_tables.specs.Rows.{enter, exit, consume, Rows, row, at_bytes, StateRows, costs, state}
+use Rattle.mdconstructs_tables.specs.Rows.{enter, exit, consume, Rows, row, at_bytes, StateRows, state}
+use Rattle.mdconstructs_tables.specs.Numbers.{Price, by_left}
 use Rattle.mdconstructs_text.specs.Bytes.{is_backslash, has_byte_at}
 use Rattle.mdconstructs_text.specs.Construct.{Found, Grammar, Construct, tried}
 use Rattle.mdconstructs_text.specs.Parts.{span, leaf}
 use Rattle.mdconstructs_text.specs.TextBytes.{TextByte, backtick, less, greater, backslash, colon, mark, punctuation, is_backslash_class}
-use Rattle.mdconstructs_text.specs.TextCosts.{by_left}
+use Rattle.mdconstructs_text.specs.TextCosts.{text_cost}
 
 -- A backslash escape. Its events: its marker, and the character that is escaped
 abbrev pub escape : Found
@@ -40,7 +41,7 @@ escape_start_rows _ _ = row (enter CharacterEscape ∷ enter CharacterEscapeMark
 -- its state: it is called only at a backslash, and no span is open yet
 abbrev pub escape_start : {R D : Type 0} → StateRows TextByte R D
 escape_start =
-    tried (record (state CharacterEscapeStart escape_start_rows [] (costs (by_left (λ n. n + 1)))) { called = at_bytes is_backslash_class })
+    tried (record (state CharacterEscapeStart escape_start_rows [] (text_cost (by_left 0 1 1))) { called = at_bytes is_backslash_class })
 
 -- the character that is escaped
 abbrev pub escaped : {R D : Type 0} → Rows R D
@@ -60,7 +61,11 @@ escape_inside_rows _ _ = row [] Nok
 -- its state: a backslash escape is open
 abbrev pub escape_inside : {R D : Type 0} → StateRows TextByte R D
 escape_inside =
-    tried (state CharacterEscapeInside escape_inside_rows (CharacterEscape ∷ []) (costs (by_left (λ n. n + 1))))
+    tried (state CharacterEscapeInside escape_inside_rows (CharacterEscape ∷ []) (text_cost (by_left 0 1 1)))
+
+-- What its states cost: each reads a byte or ends
+abbrev pub escape_prices : List (Price TextByte)
+escape_prices = by_left 0 1 1 ∷ by_left 0 1 1 ∷ []
 
 -- How backslash escapes are read
 abbrev pub escapes : {R D : Type 0} → Construct Found TextByte R D

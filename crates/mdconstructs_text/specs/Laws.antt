@@ -2,8 +2,6 @@
 pub mod Autolink
 pub mod Classes
 pub mod CodeSpan
-pub mod Costs
-pub mod Entries
 pub mod Escape
 pub mod Parts
 pub mod Rules
