@@ -1,15 +1,16 @@
 -- The machine of labels: `[`, bytes of one line and `]` are a label; a `[` without its `]`, and all else except line endings, is data.
-use Rattle.std.specs.Prelude.{ℕ, ◌+◌, ◌-◌, ◌*◌, ◌==◌, cond, Bool, true, false, ◌∷◌, [], Option, Some, None, length}
+use Rattle.std.specs.Prelude.{ℕ, ◌==◌, cond, Bool, true, false, List, ◌∷◌, [], Option, Some, None}
 use Rattle.markdown.specs.declared.event.Name.TheVariants.{Data, Label, LabelMarker, LineEnding}
 use Rattle.markdown.specs.declared.state.Name.{Name}
 use Rattle.markdown.specs.StateConstants.Name.{TextBefore, TextBeforeData, DataInside, LabelStart, LabelInside}
 use Rattle.markdown.specs.declared.state.State.TheVariants.{Next, Retry, Ok, Nok}
 use Rattle.markdown.specs.declared.waiting.AttemptKind.TheVariants.{Attempt}
-use Rattle.markdown.specs.Text.{Given, Text}
+use Rattle.markdown.specs.Text.{Given}
 use Rattle.markdown.specs.Rules.{Rules}
 use Rattle.markdown.specs.Plain as shape
 use Rattle.mdconstructs.specs.Late.{late_rules}
-use Rattle.mdconstructs.specs.Rows.{enter, exit, consume, choose, Rows, row, a_choice, at_a_byte, at_bytes, costs, StateRows, state, Table}
+use Rattle.mdconstructs.specs.Numbers.{Price, by_left, priced}
+use Rattle.mdconstructs.specs.Rows.{enter, exit, consume, choose, Rows, row, a_choice, at_a_byte, at_bytes, Cost, costs, StateRows, state, Table}
 use Rattle.mdconstructs.specs.Tables.{counts}
 
 -- The classes of bytes: a line ending, the two brackets, or another
@@ -22,13 +23,16 @@ pub data LabelByte : Type 0 where
 abbrev pub label_byte : ℕ → LabelByte
 label_byte byte = cond (byte == 10) line_feed (cond (byte == 91) opening (cond (byte == 93) closing other))
 
--- how many calls a state may take, by how many bytes are left
-abbrev pub by_left : (ℕ → ℕ) → Text → ℕ → ℕ
-by_left f text position = f (length text.seats - position)
+-- What the states cost, by the bytes that are left. Between labels each byte may begin one that is read to the end of its line and fails
+abbrev pub label_prices : List (Price LabelByte)
+label_prices = by_left 1 5 2 ∷ by_left 1 3 1 ∷ by_left 1 5 3 ∷ by_left 0 1 1 ∷ by_left 0 1 1 ∷ []
 
--- between labels: each byte may begin a label that is read to the end of its line and fails
-abbrev pub outside : ℕ → ℕ
-outside n = n * n + 5 * n + 2
+-- no price asks for a run of bytes
+abbrev pub no_run : LabelByte → Bool
+no_run w = false
+
+abbrev pub label_cost : Price LabelByte → Cost
+label_cost price = costs (priced label_byte no_run price)
 
 -- between labels: at `[` one is tried
 abbrev pub text_before_rows : (previous current : Option LabelByte) → Rows Unit Unit
@@ -38,14 +42,14 @@ text_before_rows _ (Some opening) = row (choose Attempt (Next TextBefore) (Next 
 text_before_rows _ (Some _) = row [] (Retry TextBeforeData)
 
 abbrev pub text_before : StateRows LabelByte Unit Unit
-text_before = state TextBefore text_before_rows [] (costs (by_left outside))
+text_before = state TextBefore text_before_rows [] (label_cost (by_left 1 5 2))
 
 -- before data; never called at the end
 abbrev pub text_before_data_rows : (previous current : Option LabelByte) → Rows Unit Unit
 text_before_data_rows _ _ = row (enter Data ∷ consume ∷ []) (Next DataInside)
 
 abbrev pub text_before_data : StateRows LabelByte Unit Unit
-text_before_data = record (state TextBeforeData text_before_data_rows [] (costs (by_left (λ n. n * n + 3 * n + 1)))) { called = at_a_byte }
+text_before_data = record (state TextBeforeData text_before_data_rows [] (label_cost (by_left 1 3 1))) { called = at_a_byte }
 
 -- in data
 abbrev pub data_inside_rows : (previous current : Option LabelByte) → Rows Unit Unit
@@ -55,7 +59,7 @@ data_inside_rows _ (Some opening) = row (exit Data ∷ []) (Retry TextBefore)
 data_inside_rows _ (Some _) = row (consume ∷ []) (Next DataInside)
 
 abbrev pub data_inside : StateRows LabelByte Unit Unit
-data_inside = state DataInside data_inside_rows (Data ∷ []) (costs (by_left (λ n. outside n + 1)))
+data_inside = state DataInside data_inside_rows (Data ∷ []) (label_cost (by_left 1 5 3))
 
 -- a label is tried: a choice waits, and `[`
 abbrev pub label_start_rows : (previous current : Option LabelByte) → Rows Unit Unit
@@ -66,7 +70,7 @@ is_opening opening = true
 is_opening _ = false
 
 abbrev pub label_start : StateRows LabelByte Unit Unit
-label_start = record (state LabelStart label_start_rows [] (costs (by_left (λ n. n + 1)))) { called = at_bytes is_opening; needs = a_choice }
+label_start = record (state LabelStart label_start_rows [] (label_cost (by_left 0 1 1))) { called = at_bytes is_opening; needs = a_choice }
 
 -- in a label
 abbrev pub label_inside_rows : (previous current : Option LabelByte) → Rows Unit Unit
@@ -76,7 +80,7 @@ label_inside_rows _ (Some closing) = row (enter LabelMarker ∷ consume ∷ exit
 label_inside_rows _ (Some _) = row (consume ∷ []) (Next LabelInside)
 
 abbrev pub label_inside : StateRows LabelByte Unit Unit
-label_inside = record (state LabelInside label_inside_rows (Label ∷ []) (costs (by_left (λ n. n + 1)))) { needs = a_choice }
+label_inside = record (state LabelInside label_inside_rows (Label ∷ []) (label_cost (by_left 0 1 1))) { needs = a_choice }
 
 -- the state that may be called where the attempt was made: the first of a label
 abbrev pub begins_label : Name → Option LabelByte → Bool
