@@ -1,3 +1,4 @@
+pub use Rattle.mdconstructs_tables.proofs.Calm
 pub use Rattle.mdconstructs_tables.proofs.Cases
 pub use Rattle.mdconstructs_tables.proofs.CostNumbers
 pub use Rattle.mdconstructs_tables.proofs.GrowingTexts

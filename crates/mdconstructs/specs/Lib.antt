@@ -1,6 +1,8 @@
+pub use Rattle.mdconstructs_tables.specs.Calm
 pub use Rattle.mdconstructs_tables.specs.Cases
 pub use Rattle.mdconstructs_tables.specs.Chunks
 pub use Rattle.mdconstructs_tables.specs.Fitting
+pub use Rattle.mdconstructs_tables.specs.Folds
 pub use Rattle.mdconstructs_tables.specs.Joined
 pub use Rattle.mdconstructs_tables.specs.Knowledge
 pub use Rattle.mdconstructs_tables.specs.Late
@@ -18,6 +20,7 @@ pub use Rattle.mdconstructs_tables.specs.PlainWrites
 pub use Rattle.mdconstructs_tables.specs.Plans
 pub use Rattle.mdconstructs_tables.specs.Quiet
 pub use Rattle.mdconstructs_tables.specs.Refusals
+pub use Rattle.mdconstructs_tables.specs.Stretches
 pub use Rattle.mdconstructs_machines.specs.Costs
 pub use Rattle.mdconstructs_machines.specs.Back
 pub use Rattle.mdconstructs_machines.specs.Breaks
