@@ -70,10 +70,13 @@ pub use Rattle.mdconstructs_flow.specs.FlowLines
 pub use Rattle.mdconstructs_flow.specs.FlowTable
 pub use Rattle.mdconstructs_flow.specs.FlowWrites
 pub use Rattle.mdconstructs_flow.specs.HeadingAtx
+pub use Rattle.mdconstructs_flow.specs.HeadingEdits
+pub use Rattle.mdconstructs_flow.specs.HeadingSetext
 pub use Rattle.mdconstructs_flow.specs.LawStatements as FlowLawStatements
 pub use Rattle.mdconstructs_flow.specs.Laws as FlowLaws
 pub use Rattle.mdconstructs_flow.specs.Look
 pub use Rattle.mdconstructs_flow.specs.Paragraph
+pub use Rattle.mdconstructs_flow.specs.Renamings
 pub use Rattle.mdconstructs_flow.specs.Steps as FlowSteps
 pub use Rattle.mdconstructs_flow.specs.ThematicBreak
 pub use Rattle.mdconstructs_documents.specs.Choices

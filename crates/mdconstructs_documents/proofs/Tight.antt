@@ -3,7 +3,6 @@ use Rattle.mdconstructs_documents.proofs.Prelude.{◌≡◌, ℕ, List, true, fa
 use Rattle.std.specs.Prelude.{Bool, drop, take}
 use Rattle.markdown_base.specs.Events.{IsVoidTight}
 use Rattle.markdown_base.specs.declared.event.Name.TheVariants.{Data, LineEnding, Paragraph}
-use Rattle.markdown_tokenizer.specs.Configuration.{Configuration}
 use Rattle.mdconstructs_machines.specs.LineEvents.{all_of, data_line, ending_of, line_text, lines_in, paragraph_line}
 use Rattle.mdconstructs_machines.specs.Spans.{leaf, span}
 use Rattle.mdconstructs_text.proofs.Paragraphs.Formed.{paragraphs-formed}
@@ -29,12 +28,9 @@ module _ (options : ParseOptions) (bytes : List ℕ) (is : IsDocument (document 
   flat-tight : IsVoidTight (paragraph_events bytes seats)
   flat-tight = (paragraphs-formed options.tab_size bytes (let tab = is.tab.0 in omega (arith, tab))).1
 
-  -- what a run returns without resolving is well formed
+  -- what a run of leaf blocks returns is well formed, as the machine promises
   run-tight : (events : List Event) → AreFlowEvents options bytes events → IsVoidTight events
-  run-tight events h =
-      let run = h.1 in
-      let same : run.result.configuration.events ≡ events = sym (run.events ∙ ap (λ (k : Configuration Unit Unit). k.events) run.resolved.0) in
-      subst IsVoidTight same run.well_formed.void_tight
+  run-tight events h = (h.1.promised refl).void_tight
 
   -- the events of a document are tight
   pub events-tight : (deep : Bool) (which : Which) (events : List Event) → AreEventsOf deep which options bytes events → AreTight which deep events

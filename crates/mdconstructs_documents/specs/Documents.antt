@@ -36,10 +36,10 @@ module _ (options : ParseOptions) (bytes : List ℕ) where
   abbrev pub virtual_bytes : List Seat
   virtual_bytes = virtual options.tab_size bytes
 
-  -- Leaf blocks: the events are those that a run of `Flow` returns. A lawful machine has one end, so a document has one list of them; a
+  -- Leaf blocks: the events are those that a run of `Flow` returns, with the edits of setext headings made. A lawful machine has one end, so a document has one list of them; a
   -- definition of it without states is not proved yet
   abbrev pub AreFlowEvents : List Event → Type 0
-  AreFlowEvents events = (sub : Subresult) × IsRun (document options bytes) flow_rules false FlowStart events sub
+  AreFlowEvents events = (sub : Subresult) × IsRun (document options bytes) flow_rules true FlowStart events sub
 
   -- the chains of text of a list can be read
   abbrev pub IsReadable : List Event → Type 0

@@ -1,5 +1,5 @@
 -- Inner: what a run of a machine returns, for private functions. No public clause cites this file.
-use Rattle.std.specs.Prelude.{◌⊎◌, ℕ, List, Some, false}
+use Rattle.std.specs.Prelude.{◌⊎◌, ℕ, Bool, List, Some, false}
 use Rattle.markdown_base.specs.declared.configuration.ParseOptions.{ParseOptions}
 use Rattle.markdown_base.specs.declared.event.Content.TheVariants.{Text as TextContent}
 use Rattle.markdown_base.specs.declared.event.Event.{Event}
@@ -25,9 +25,13 @@ module _ {R D : Type 0} (rules : Given → Rules R D) (options : ParseOptions) (
 
 -- a machine with a start
 module _ {R D : Type 0} (rules : Given → Rules R D) (start : Name) (options : ParseOptions) (bytes : List ℕ) where
-  -- a run of the machine over a document returns these events
+  -- a run of the machine over a document returns these events, with or without the edits that the machine adds
+  abbrev pub Returns : (resolve : Bool) → List Event → Type 0
+  Returns resolve events = (sub : Subresult) × IsRun (document options bytes) rules resolve start events sub
+
+  -- a run without edits does
   abbrev pub Gives : List Event → Type 0
-  Gives events = (sub : Subresult) × IsRun (document options bytes) rules false start events sub
+  Gives events = Returns false events
 
   -- a run returns events, and with the children of their chains of text they are these
   abbrev pub GivesDeep : List Event → Type 0

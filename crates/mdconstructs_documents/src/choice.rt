@@ -22,7 +22,7 @@ pub enum Which {
     Save,
     /// `text`: as `paragraphs`, but in the text of its chunks are code spans, autolinks and escapes.
     Text,
-    /// `flow`: the leaf blocks of CommonMark without HTML and setext headings. In the text of paragraphs and headings is what `text`
+    /// `flow`: the leaf blocks of CommonMark without HTML. In the text of paragraphs and headings is what `text`
     /// reads.
     Flow,
 }

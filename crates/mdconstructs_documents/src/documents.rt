@@ -6,10 +6,10 @@ ghost use Rattle.markdown_tokenizer.specs.Engine.{AreCuts, given_by, whole_text}
 ghost use Rattle.markdown_tokenizer.specs.Text.{IsDocument};
 ghost use Rattle.mdconstructs_text.specs.TextEvents.{text_events};
 ghost use Rattle.mdconstructs_documents.specs.Choices.{CanCut};
-ghost use Rattle.mdconstructs_documents.specs.Documents.{document, options_with, cut_places, AreEventsOf, AreFlowTexts, AreTight};
+ghost use Rattle.mdconstructs_documents.specs.Documents.{document, options_with, cut_places, AreEventsOf, AreFlowEvents, AreFlowTexts, AreTight};
 
 use crate::choice::{Choice, Which};
-use crate::making::{Unmade, read_by, read_deep_by, with_children};
+use crate::making::{Unmade, read_by, read_deep_by, read_resolved_by, with_children};
 use markdown_base::configuration::{Constructs, ParseOptions, TabSize};
 use markdown_base::event::{Content, Event};
 use markdown_base::state::Name;
@@ -120,8 +120,24 @@ fn read_as(
         }
         Which::Text => read_by(alloc, &Text {}, Name::FlowStart, bytes, options, cuts),
         Which::Flow if choice.deep => read_flow_and_texts(alloc, bytes, options, cuts),
-        Which::Flow => read_by(alloc, &Flow {}, Name::FlowStart, bytes, options, cuts),
+        Which::Flow => read_flow(alloc, bytes, options, cuts),
     }
+}
+
+/// The events of leaf blocks, with the edits of setext headings made.
+fn read_flow(
+    alloc: Global,
+    bytes: &[u8],
+    options: &ParseOptions,
+    cuts: &[(usize, usize)],
+) -> Result<Vec<Event>, Unmade>
+    requires limit { IsWithinLimit options.now.tab_size bytes.now }
+    requires cuts { AreCuts options.now.tab_size bytes.now cuts.now }
+    ensures events { IfOk result (λ events. AreFlowEvents options.now bytes.now events.items) }
+    ensures err { IfErr result (λ unmade. unmade ≡ Unmade.Fault Fault.Memory) }
+    ensures document { IsDocument (document options.now bytes.now) }
+{
+    read_resolved_by(alloc, &Flow {}, Name::FlowStart, bytes, options, cuts, true)
 }
 
 /// The events of leaf blocks, with those of the text of each chain of chunks in place of the chunks. If the chains could not be read, they
@@ -138,7 +154,7 @@ fn read_flow_and_texts(
     ensures err { IfErr result (λ unmade. unmade ≡ Unmade.Fault Fault.Memory) }
     ensures document { IsDocument (document options.now bytes.now) }
 {
-    let events = read_by(alloc, &Flow {}, Name::FlowStart, bytes, options, cuts)?;
+    let events = read_flow(alloc, bytes, options, cuts)?;
     if !ready(
         alloc,
         events.as_slice(),

@@ -7,7 +7,7 @@ ghost use Rattle.markdown_tokenizer.specs.Text.{IsDocument};
 ghost use Rattle.markdown_tokenizer.specs.declared.tokenizer.fault.Fault.TheVariants.{Memory};
 ghost use Rattle.markdown_children.specs.Ready.{IsReady};
 ghost use Rattle.mdconstructs_documents.specs.Documents.{document};
-ghost use Rattle.mdconstructs_documents.specs.Runs.{Gives, GivesDeep, IsRefusedDeep, GivesUnready, HasChildren, HasRefusedChild};
+ghost use Rattle.mdconstructs_documents.specs.Runs.{Gives, Returns, GivesDeep, IsRefusedDeep, GivesUnready, HasChildren, HasRefusedChild};
 ghost use Rattle.mdconstructs_documents.specs.declared.making.Unmade.TheVariants.{Fault as OfFault};
 
 use markdown_base::configuration::ParseOptions;
@@ -64,10 +64,32 @@ pub(crate) fn read_by<M: Machine>(
     ensures cause { ¬ IsErrOf result (Unmade.Fault Fault.Failed) }
     ensures document { IsDocument (document options.now bytes.now) }
 {
+    read_resolved_by(alloc, machine, start, bytes, options, cuts, false)
+}
+
+/// As [`read_by`], with the edits that the machine adds made if `resolve` is set.
+pub(crate) fn read_resolved_by<M: Machine>(
+    alloc: Global,
+    machine: &M,
+    start: Name,
+    bytes: &[u8],
+    options: &ParseOptions,
+    cuts: &[(usize, usize)],
+    resolve: bool,
+) -> Result<Vec<Event>, Unmade>
+    requires limit { IsWithinLimit options.now.tab_size bytes.now }
+    requires start { Contains (M.rules machine.now (document options.now bytes.now)).starts start }
+    requires cuts { AreCuts options.now.tab_size bytes.now cuts.now }
+    ensures events { IfOk result (λ events. Returns (M.rules machine.now) start options.now bytes.now resolve events.items) }
+    ensures message { (m : _) → IsErrOf result (Unmade.Fault (Fault.Message m)) → IsRunRefused (document options.now bytes.now) (M.rules machine.now) resolve start m }
+    ensures ready { ¬ IsErrOf result Unmade.NotReady }
+    ensures cause { ¬ IsErrOf result (Unmade.Fault Fault.Failed) }
+    ensures document { IsDocument (document options.now bytes.now) }
+{
     let Some(parse_state) = ParseState::new(bytes, options, machine) else {
         unreachable!();
     };
-    let (events, _) = run(alloc, &parse_state, start, cuts, false)?;
+    let (events, _) = run(alloc, &parse_state, start, cuts, resolve)?;
     Ok(events)
 }
 

@@ -16,7 +16,7 @@ use Rattle.mdconstructs_tables.specs.Looks.{Look, scan, shows}
 use Rattle.mdconstructs_tables.specs.Rows.{consume, write, Rows, row, when}
 use Rattle.mdconstructs_machines.specs.Breaks.{is_white, is_ok, one_more}
 use Rattle.mdconstructs_machines.specs.Tables.{counts}
-use Rattle.mdconstructs_flow.specs.FlowBytes.{FlowByte, Cased, line_feed, blank, sign, star, underscore, dash, tick, tilde, other, flow_byte, word_byte, is_line_feed, is_blank, is_sign, is_tick}
+use Rattle.mdconstructs_flow.specs.FlowBytes.{FlowByte, Cased, line_feed, blank, sign, star, underscore, dash, equals, tick, tilde, other, flow_byte, word_byte, is_line_feed, is_blank, is_sign, is_tick}
 use Rattle.mdconstructs_flow.specs.FlowWrites.{kind_becomes, size_becomes, size_grows, count_becomes, count_grows, text_grows, signs_end, signs_were_text, has_room}
 use Rattle.mdconstructs_flow.specs.FlowTable.{flow}
 use Rattle.mdconstructs_flow.specs.CodeFenced.{flow_before_code_indented_rows}
@@ -30,15 +30,15 @@ neither test true x y h k = h
 neither test false x y h k = k
 
 sign-test : (b : ℕ) → is_sign (word_byte b) ≡ (b == 35)
-sign-test b = elim (b == 35) as (λ t. is_sign (cond t sign (cond (b == 42) star (cond (b == 95) underscore (cond (b == 45) dash (cond (b == 96) tick (cond (b == 126) tilde other)))))) ≡ t) [
+sign-test b = elim (b == 35) as (λ t. is_sign (cond t sign (cond (b == 42) star (cond (b == 95) underscore (cond (b == 45) dash (cond (b == 61) equals (cond (b == 96) tick (cond (b == 126) tilde other))))))) ≡ t) [
   | true ↦ refl
-  | false ↦ neither is_sign (b == 42) _ _ refl (neither is_sign (b == 95) _ _ refl (neither is_sign (b == 45) _ _ refl (neither is_sign (b == 96) _ _ refl (neither is_sign (b == 126) _ _ refl refl))))
+  | false ↦ neither is_sign (b == 42) _ _ refl (neither is_sign (b == 95) _ _ refl (neither is_sign (b == 45) _ _ refl (neither is_sign (b == 61) _ _ refl (neither is_sign (b == 96) _ _ refl (neither is_sign (b == 126) _ _ refl refl)))))
 ]
 
 tick-test : (b : ℕ) → is_tick (word_byte b) ≡ (b == 96)
-tick-test b = elim (b == 96) as (λ t. (b == 96) ≡ t → is_tick (cond (b == 35) sign (cond (b == 42) star (cond (b == 95) underscore (cond (b == 45) dash (cond t tick (cond (b == 126) tilde other)))))) ≡ t) [
-  | true ↦ λ e. subst (λ i. is_tick (cond (i == 35) sign (cond (i == 42) star (cond (i == 95) underscore (cond (i == 45) dash tick)))) ≡ true) (sym (eqb-true b 96 e)) refl
-  | false ↦ λ e. neither is_tick (b == 35) _ _ refl (neither is_tick (b == 42) _ _ refl (neither is_tick (b == 95) _ _ refl (neither is_tick (b == 45) _ _ refl (neither is_tick (b == 126) _ _ refl refl))))
+tick-test b = elim (b == 96) as (λ t. (b == 96) ≡ t → is_tick (cond (b == 35) sign (cond (b == 42) star (cond (b == 95) underscore (cond (b == 45) dash (cond (b == 61) equals (cond t tick (cond (b == 126) tilde other))))))) ≡ t) [
+  | true ↦ λ e. subst (λ i. is_tick (cond (i == 35) sign (cond (i == 42) star (cond (i == 95) underscore (cond (i == 45) dash (cond (i == 61) equals tick))))) ≡ true) (sym (eqb-true b 96 e)) refl
+  | false ↦ λ e. neither is_tick (b == 35) _ _ refl (neither is_tick (b == 42) _ _ refl (neither is_tick (b == 95) _ _ refl (neither is_tick (b == 45) _ _ refl (neither is_tick (b == 61) _ _ refl (neither is_tick (b == 126) _ _ refl refl)))))
 ] refl
 
 -- a byte that is one of these is no line ending and no white space

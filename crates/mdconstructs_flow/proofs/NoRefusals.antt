@@ -2,7 +2,7 @@
 use Rattle.std.proofs.Common.{◌≡◌, [], Option, Some, None, refl}
 use Rattle.mdconstructs_tables.specs.Refusals.{refusing, RulesRefuseNothing}
 use Rattle.mdconstructs_tables.proofs.Tables.Refusals.{nothing-found, refuse-nothing, table-steps}
-use Rattle.mdconstructs_flow.specs.FlowBytes.{FlowByte, line_feed, blank, sign, star, underscore, dash, tick, tilde, other}
+use Rattle.mdconstructs_flow.specs.FlowBytes.{FlowByte, line_feed, blank, sign, star, underscore, dash, equals, tick, tilde, other}
 use Rattle.mdconstructs_flow.specs.FlowKnows.{flow_rules}
 use Rattle.mdconstructs_flow.specs.FlowTable.{flow}
 
@@ -14,6 +14,7 @@ flow-none previous (Some sign) = refl
 flow-none previous (Some star) = refl
 flow-none previous (Some underscore) = refl
 flow-none previous (Some dash) = refl
+flow-none previous (Some equals) = refl
 flow-none previous (Some tick) = refl
 flow-none previous (Some tilde) = refl
 flow-none previous (Some other) = refl

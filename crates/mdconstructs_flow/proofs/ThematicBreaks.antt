@@ -20,7 +20,7 @@ use Rattle.mdconstructs_tables.specs.Looks.{Look, scan, shows, unfed_look}
 use Rattle.mdconstructs_tables.specs.Rows.{consume, write, row, when}
 use Rattle.mdconstructs_machines.specs.Breaks.{is_white, is_ok, one_more}
 use Rattle.mdconstructs_machines.specs.Tables.{counts}
-use Rattle.mdconstructs_flow.specs.FlowBytes.{line_feed, blank, sign, star, underscore, dash, tick, tilde, other, flow_byte, word_byte, is_line_feed, is_blank, is_rule}
+use Rattle.mdconstructs_flow.specs.FlowBytes.{line_feed, blank, sign, star, underscore, dash, equals, tick, tilde, other, flow_byte, word_byte, is_line_feed, is_blank, is_rule}
 use Rattle.mdconstructs_flow.specs.FlowWrites.{kind_becomes, size_grows, has_three, is_byte, at_mark}
 use Rattle.mdconstructs_flow.specs.FlowTable.{flow}
 use Rattle.mdconstructs_flow.specs.ThematicBreak.{flow_before_thematic_break_rows}
@@ -36,6 +36,7 @@ looks-quiet previous (Some sign) = refl
 looks-quiet previous (Some star) = refl
 looks-quiet previous (Some underscore) = refl
 looks-quiet previous (Some dash) = refl
+looks-quiet previous (Some equals) = refl
 looks-quiet previous (Some tick) = refl
 looks-quiet previous (Some tilde) = refl
 looks-quiet previous (Some other) = refl

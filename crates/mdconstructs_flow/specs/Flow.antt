@@ -8,11 +8,15 @@ use Rattle.mdconstructs_tables.specs.Cases.{at}
 use Rattle.mdconstructs_tables.specs.Rows.{enter, exit, consume, write, choose, Rows, row, when, at_bytes, at_bytes_or_end, StateRows, costs, state}
 use Rattle.mdconstructs_flow.specs.FlowBytes.{FlowByte, is_line_feed, is_in_line, is_blank, is_sign, is_rule, is_fence, Cased, cased}
 use Rattle.mdconstructs_flow.specs.FlowCosts.{starting, reading, looked}
-use Rattle.mdconstructs_flow.specs.FlowWrites.{kind_is, indent_becomes, count_becomes}
+use Rattle.mdconstructs_flow.specs.FlowWrites.{kind_is, is_break, indent_becomes, count_becomes}
 
--- white space begins a line of this kind
+-- white space begins a line of this kind; what could only be an underline begins a paragraph
 abbrev pub blank_begins_line : {R D : Type 0} → Rows R D
-blank_begins_line = when (kind_is BlankLineEnding) (row (enter SpaceOrTab ∷ consume ∷ []) (Next BlankLineStart)) (when (kind_is CodeIndented) (row (enter CodeIndented ∷ enter SpaceOrTab ∷ write (count_becomes 1) ∷ consume ∷ []) (Next CodeIndentedStart)) (when (kind_is HeadingAtx) (row (enter HeadingAtx ∷ enter SpaceOrTab ∷ consume ∷ []) (Next HeadingAtxStart)) (when (kind_is CodeFenced) (row (enter CodeFenced ∷ enter CodeFencedFence ∷ enter SpaceOrTab ∷ consume ∷ []) (Next RawFlowStart)) (row (enter ThematicBreak ∷ enter SpaceOrTab ∷ consume ∷ []) (Next ThematicBreakBefore)))))
+blank_begins_line = when (kind_is BlankLineEnding) (row (enter SpaceOrTab ∷ consume ∷ []) (Next BlankLineStart)) (when (kind_is CodeIndented) (row (enter CodeIndented ∷ enter SpaceOrTab ∷ write (count_becomes 1) ∷ consume ∷ []) (Next CodeIndentedStart)) (when (kind_is HeadingAtx) (row (enter HeadingAtx ∷ enter SpaceOrTab ∷ consume ∷ []) (Next HeadingAtxStart)) (when (kind_is CodeFenced) (row (enter CodeFenced ∷ enter CodeFencedFence ∷ enter SpaceOrTab ∷ consume ∷ []) (Next RawFlowStart)) (when is_break (row (enter ThematicBreak ∷ enter SpaceOrTab ∷ consume ∷ []) (Next ThematicBreakBefore)) (row [] (Retry FlowBeforeContent))))))
+
+-- a mark of thematic breaks does
+abbrev pub mark_begins_line : {R D : Type 0} → Rows R D
+mark_begins_line = when is_break (row (enter ThematicBreak ∷ enter Marks ∷ consume ∷ []) (Next ThematicBreakSequence)) (row [] (Retry FlowBeforeContent))
 
 -- before a line that begins a block
 abbrev pub flow_start_rows : {R D : Type 0} → Cased R D
@@ -32,7 +36,7 @@ flow_blank_line_after_rows = record {
   cases =
       at is_blank blank_begins_line
       ∷ at is_sign (row (enter HeadingAtx ∷ enter HeadingAtxSequence ∷ consume ∷ []) (Next HeadingAtxSequenceOpen))
-      ∷ at is_rule (row (enter ThematicBreak ∷ enter Marks ∷ consume ∷ []) (Next ThematicBreakSequence))
+      ∷ at is_rule mark_begins_line
       ∷ at is_fence (row (enter CodeFenced ∷ enter CodeFencedFence ∷ enter CodeFencedFenceSequence ∷ consume ∷ []) (Next RawFlowSequenceOpen)) ∷ [];
   rest = row [] (Retry FlowBeforeContent);
 }

@@ -4,8 +4,8 @@ use Rattle.mdconstructs_tables.specs.Cases.{Case, cases}
 use Rattle.mdconstructs_tables.specs.Rows.{Rows}
 use Rattle.mdconstructs_machines.specs.Breaks.{is_white}
 
--- The classes of bytes: a line ending; a space or a tab; a number sign; a star, an underscore or a dash, the marks of thematic breaks; a
--- grave accent or a tilde, the marks of fences; or another
+-- The classes of bytes: a line ending; a space or a tab; a number sign; a star, an underscore or a dash, the marks of thematic breaks; an
+-- equals sign, which underlines headings as a dash does; a grave accent or a tilde, the marks of fences; or another
 pub data FlowByte : Type 0 where
   line_feed : FlowByte
   blank : FlowByte
@@ -13,6 +13,7 @@ pub data FlowByte : Type 0 where
   star : FlowByte
   underscore : FlowByte
   dash : FlowByte
+  equals : FlowByte
   tick : FlowByte
   tilde : FlowByte
   other : FlowByte
@@ -21,7 +22,7 @@ pub data FlowByte : Type 0 where
 abbrev pub word_byte : ℕ → FlowByte
 word_byte byte =
     cond (byte == 35) sign (cond (byte == 42) star (cond (byte == 95) underscore (cond (byte == 45) dash
-    (cond (byte == 96) tick (cond (byte == 126) tilde other)))))
+    (cond (byte == 61) equals (cond (byte == 96) tick (cond (byte == 126) tilde other))))))
 
 -- the class of a byte
 abbrev pub flow_byte : ℕ → FlowByte
@@ -66,6 +67,10 @@ abbrev pub is_dash : FlowByte → Bool
 is_dash dash = true
 is_dash _ = false
 
+abbrev pub is_equals : FlowByte → Bool
+is_equals equals = true
+is_equals _ = false
+
 abbrev pub is_tick : FlowByte → Bool
 is_tick tick = true
 is_tick _ = false
@@ -80,6 +85,12 @@ is_rule star = true
 is_rule underscore = true
 is_rule dash = true
 is_rule _ = false
+
+-- a mark of underlines of headings
+abbrev pub is_underline : FlowByte → Bool
+is_underline dash = true
+is_underline equals = true
+is_underline _ = false
 
 -- a mark of fences
 abbrev pub is_fence : FlowByte → Bool

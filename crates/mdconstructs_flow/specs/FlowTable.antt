@@ -9,11 +9,12 @@ use Rattle.mdconstructs_flow.specs.Look.{flow_blank_line_before, non_lazy_contin
 use Rattle.mdconstructs_flow.specs.BlankLine.{blank_line_start}
 use Rattle.mdconstructs_flow.specs.ThematicBreak.{flow_before_thematic_break, thematic_break_before, thematic_break_at_break, thematic_break_sequence}
 use Rattle.mdconstructs_flow.specs.HeadingAtx.{flow_before_heading_atx, string_start, string_before_data, string_before, text_before, text_before_data, heading_atx_start, heading_atx_sequence_open, heading_atx_at_break, heading_atx_before, heading_atx_data}
+use Rattle.mdconstructs_flow.specs.HeadingSetext.{flow_before_heading_setext, flow_before_gfm_table, content_definition_after, heading_setext_start, heading_setext_before, heading_setext_inside, heading_setext_after}
 use Rattle.mdconstructs_flow.specs.CodeIndented.{code_indented_start, code_indented_at_break, code_indented_further_after, code_indented_inside, code_indented_further_start, space_or_tab_eol_after_first, code_indented_after, code_indented_further_begin}
 use Rattle.mdconstructs_flow.specs.CodeFenced.{flow_before_raw, flow_before_code_indented, raw_flow_start, raw_flow_sequence_open, raw_flow_info_before, raw_flow_before_sequence_open, raw_flow_info, raw_text_start, raw_flow_meta_before, raw_flow_meta, raw_flow_at_non_lazy_break, raw_flow_close_start, raw_flow_before_sequence_close, raw_flow_sequence_close, raw_flow_after_sequence_close, raw_flow_content_before, raw_flow_content_start, raw_flow_before_content_chunk, raw_flow_content_chunk, raw_flow_after, raw_text_sequence_open, raw_text_between, raw_text_sequence_close, raw_text_data}
 use Rattle.mdconstructs_flow.specs.Paragraph.{flow_before_content, paragraph_start, paragraph_inside, paragraph_line_start, content_chunk_inside}
 
--- Leaf blocks without HTML and setext headings: its states, construct by construct
+-- Leaf blocks without HTML: its states, construct by construct
 abbrev pub flow : Table FlowByte Unit Unit
 flow = record {
   class = flow_byte;
@@ -26,6 +27,7 @@ flow = record {
       ∷ flow_before_heading_atx ∷ string_start ∷ string_before_data ∷ string_before ∷ text_before ∷ text_before_data ∷ heading_atx_start ∷ heading_atx_sequence_open ∷ heading_atx_at_break ∷ heading_atx_before ∷ heading_atx_data
       ∷ code_indented_start ∷ code_indented_at_break ∷ code_indented_further_after ∷ code_indented_inside ∷ code_indented_further_start ∷ space_or_tab_eol_after_first ∷ code_indented_after ∷ code_indented_further_begin
       ∷ flow_before_raw ∷ flow_before_code_indented ∷ raw_flow_start ∷ raw_flow_sequence_open ∷ raw_flow_info_before ∷ raw_flow_before_sequence_open ∷ raw_flow_info ∷ raw_text_start ∷ raw_flow_meta_before ∷ raw_flow_meta ∷ raw_flow_at_non_lazy_break ∷ raw_flow_close_start ∷ raw_flow_before_sequence_close ∷ raw_flow_sequence_close ∷ raw_flow_after_sequence_close ∷ raw_flow_content_before ∷ raw_flow_content_start ∷ raw_flow_before_content_chunk ∷ raw_flow_content_chunk ∷ raw_flow_after ∷ raw_text_sequence_open ∷ raw_text_between ∷ raw_text_sequence_close ∷ raw_text_data
+      ∷ flow_before_heading_setext ∷ flow_before_gfm_table ∷ content_definition_after ∷ heading_setext_start ∷ heading_setext_before ∷ heading_setext_inside ∷ heading_setext_after
       ∷ flow_before_content ∷ paragraph_start ∷ paragraph_inside ∷ paragraph_line_start ∷ content_chunk_inside ∷ [];
   starts = FlowStart ∷ [];
 }

@@ -3,6 +3,7 @@ use Rattle.std.specs.Prelude.{ℕ, ◌==◌, ◌||◌, ◌&&◌, not, nat_lt, na
 use Rattle.markdown_base.specs.declared.event.Content.TheVariants.{String as StringContent}
 use Rattle.markdown_base.specs.declared.event.Link.{Link}
 use Rattle.markdown_base.specs.declared.event.Name.{Name as EventName}
+use Rattle.markdown_base.specs.declared.event.Name.TheVariants.{HeadingSetextUnderline, ThematicBreak}
 use Rattle.markdown_base.specs.Events.{same_name}
 use Rattle.markdown_tokenizer.specs.Text.{Given}
 use Rattle.markdown_tokenizer.specs.Configuration.{Configuration, Local}
@@ -73,6 +74,9 @@ module _ {R D : Type 0} where
   abbrev pub headings_are_on : Given → Sight → Configuration R D → Bool
   headings_are_on g s k = g.options.constructs.heading_atx
 
+  abbrev pub underlines_are_on : Given → Sight → Configuration R D → Bool
+  underlines_are_on g s k = g.options.constructs.heading_setext
+
   abbrev pub breaks_are_on : Given → Sight → Configuration R D → Bool
   breaks_are_on g s k = g.options.constructs.thematic_break
 
@@ -102,6 +106,12 @@ module _ {R D : Type 0} where
   -- there are fewer than six number signs
   abbrev pub has_room : Given → Sight → Configuration R D → Bool
   has_room g s k = nat_lt k.local.tokenize_state.size_b 6
+
+  -- The line is a thematic break, also if it could be an underline: it is one of at least three dashes
+  abbrev pub is_break : Given → Sight → Configuration R D → Bool
+  is_break g s k =
+      let state = k.local.tokenize_state in
+      kind_is ThematicBreak g s k || (g.options.constructs.thematic_break && (kind_is HeadingSetextUnderline g s k && ((state.marker == 45) && nat_le 3 state.size_b)))
 
   -- there are at least three marks
   abbrev pub has_three : Given → Sight → Configuration R D → Bool

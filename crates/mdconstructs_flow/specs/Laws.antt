@@ -3,13 +3,17 @@ pub mod BlankLine
 pub mod Calm
 pub mod CodeFenced
 pub mod CodeIndented
+pub mod EditedLinks
 pub mod Fit
 pub mod Flow
 pub mod HeadingAtx
+pub mod HeadingSetext
+pub mod Headings
 pub mod Known
 pub mod Lawful
 pub mod Look
 pub mod Measures
 pub mod Paragraph
 pub mod Paying
+pub mod Renamings
 pub mod ThematicBreak

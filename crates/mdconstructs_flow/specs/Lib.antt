@@ -10,9 +10,12 @@ pub mod FlowLines
 pub mod FlowTable
 pub mod FlowWrites
 pub mod HeadingAtx
+pub mod HeadingEdits
+pub mod HeadingSetext
 pub mod LawStatements
 pub mod Laws
 pub mod Look
 pub mod Paragraph
+pub mod Renamings
 pub mod Steps
 pub mod ThematicBreak

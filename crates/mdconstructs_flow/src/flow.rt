@@ -1,5 +1,5 @@
-//! The machine of leaf blocks: blank lines, thematic breaks, ATX headings, indented and fenced code, and paragraphs. Each has a
-//! file of its own.
+//! The machine of leaf blocks: blank lines, thematic breaks, ATX and setext headings, indented and fenced code, and paragraphs. Each
+//! has a file of its own.
 //!
 //! It looks first, and then reads: before a line a check, which makes no event, says what kind of line it is. So no choice ever
 //! holds an event.
@@ -27,6 +27,10 @@ use crate::heading_atx::{
     heading_atx_sequence_open, heading_atx_start, string_before, string_before_data, string_start,
     text_before, text_before_data,
 };
+use crate::heading_setext::{
+    content_definition_after, flow_before_gfm_table, flow_before_heading_setext,
+    heading_setext_after, heading_setext_before, heading_setext_inside, heading_setext_start,
+};
 use crate::lines::{flow_after, flow_blank_line_after, flow_start};
 use crate::look::{flow_blank_line_before, non_lazy_continuation_start};
 use crate::paragraph::{
@@ -43,7 +47,7 @@ use markdown_tokenizer::tokenizer::{Fault, Tokenizer};
 use mdconstructs_machines::begin::begin;
 use std::alloc::{AllocError, Global};
 
-/// Reads the leaf blocks of CommonMark, without HTML and setext headings. The options say which constructs are on. Paragraphs
+/// Reads the leaf blocks of CommonMark, without HTML. The options say which constructs are on. Paragraphs
 /// and headings hold chunks of text, and fences chunks of strings.
 ///
 /// It takes at most 9 n + 9 calls for n virtual bytes.
@@ -94,6 +98,13 @@ impl Machine for Flow {
             Name::HeadingAtxAtBreak => heading_atx_at_break(t),
             Name::HeadingAtxBefore => heading_atx_before(t),
             Name::HeadingAtxData => heading_atx_data(t),
+            Name::FlowBeforeHeadingSetext => flow_before_heading_setext(t),
+            Name::FlowBeforeGfmTable => flow_before_gfm_table(t),
+            Name::ContentDefinitionAfter => content_definition_after(t),
+            Name::HeadingSetextStart => heading_setext_start(t),
+            Name::HeadingSetextBefore => heading_setext_before(t),
+            Name::HeadingSetextInside => heading_setext_inside(t),
+            Name::HeadingSetextAfter => heading_setext_after(alloc, t),
             Name::CodeIndentedStart => code_indented_start(t),
             Name::CodeIndentedAtBreak => code_indented_at_break(t),
             Name::CodeIndentedFurtherAfter => code_indented_further_after(t),

@@ -7,6 +7,8 @@ mod code_indented;
 mod fence;
 pub mod flow;
 mod heading_atx;
+mod heading_edits;
+mod heading_setext;
 pub mod laws;
 mod lines;
 mod look;

@@ -5,9 +5,9 @@ ghost use Rattle.markdown_tokenizer.specs.declared.waiting.Waits.TheVariants.{By
 ghost use Rattle.mdconstructs_flow.specs.Steps.{rows_step};
 ghost use Rattle.mdconstructs_tables.specs.RowInvariant.{DoesAll, IsCallable, step_in};
 ghost use Rattle.mdconstructs_flow.specs.FlowBytes.{flow_byte};
-ghost use Rattle.mdconstructs_flow.specs.Flow.{flow_start, flow_blank_line_after, flow_after, blank_begins_line};
+ghost use Rattle.mdconstructs_flow.specs.Flow.{flow_start, flow_blank_line_after, flow_after, blank_begins_line, mark_begins_line};
 
-use crate::sizes::{kind_is, set_count, set_indent};
+use crate::sizes::{is_break, kind_is, set_count, set_indent};
 use markdown_tokenizer::event;
 use markdown_tokenizer::state::{MachineTypes, Name, State};
 use markdown_tokenizer::tokenizer::Tokenizer;
@@ -51,12 +51,7 @@ pub(crate) fn flow_blank_line_after<'a, M: MachineTypes>(
             t.consume();
             Ok(State::Next(Name::HeadingAtxSequenceOpen))
         }
-        Some(b'*' | b'_' | b'-') => {
-            t.enter(event::Name::ThematicBreak)?;
-            t.enter(event::Name::ThematicBreakSequence)?;
-            t.consume();
-            Ok(State::Next(Name::ThematicBreakSequence))
-        }
+        Some(b'*' | b'_' | b'-') => mark_begins_line(t),
         Some(b'`' | b'~') => {
             t.enter(event::Name::CodeFenced)?;
             t.enter(event::Name::CodeFencedFence)?;
@@ -113,8 +108,26 @@ fn blank_begins_line<'a, M: MachineTypes>(t: &mut Tokenizer<'a, M>) -> Result<St
         t.consume();
         return Ok(State::Next(Name::RawFlowStart));
     }
-    t.enter(event::Name::ThematicBreak)?;
-    t.enter(event::Name::SpaceOrTab)?;
-    t.consume();
-    Ok(State::Next(Name::ThematicBreakBefore))
+    if is_break(t) {
+        t.enter(event::Name::ThematicBreak)?;
+        t.enter(event::Name::SpaceOrTab)?;
+        t.consume();
+        return Ok(State::Next(Name::ThematicBreakBefore));
+    }
+    Ok(State::Retry(Name::FlowBeforeContent))
+}
+
+/// At a marker before a block: a thematic break, or a paragraph where the line could only be an underline.
+fn mark_begins_line<'a, M: MachineTypes>(t: &mut Tokenizer<'a, M>) -> Result<State, AllocError>
+    requires called { IsCallable flow_byte flow_blank_line_after t.old }
+    requires waits { t.old.configuration.waiting ≡ Byte }
+    ensures { IfOk result (DoesAll (rows_step mark_begins_line t.old) t.old t.new) }
+{
+    if is_break(t) {
+        t.enter(event::Name::ThematicBreak)?;
+        t.enter(event::Name::ThematicBreakSequence)?;
+        t.consume();
+        return Ok(State::Next(Name::ThematicBreakSequence));
+    }
+    Ok(State::Retry(Name::FlowBeforeContent))
 }

@@ -5,11 +5,11 @@ ghost use Rattle.markdown_tokenizer.specs.declared.waiting.Waits.TheVariants.{By
 ghost use Rattle.mdconstructs_flow.specs.Steps.{rows_step};
 ghost use Rattle.mdconstructs_tables.specs.RowInvariant.{DoesAll, IsCallable, step_in};
 ghost use Rattle.mdconstructs_flow.specs.FlowBytes.{flow_byte};
-ghost use Rattle.mdconstructs_flow.specs.Look.{non_lazy_continuation_start, flow_blank_line_before, heading_may_begin, break_may_begin, fence_may_begin, text_may_begin};
+ghost use Rattle.mdconstructs_flow.specs.Look.{non_lazy_continuation_start, flow_blank_line_before, heading_may_begin, break_may_begin, underline_may_begin, dash_may_begin, equals_may_begin, fence_may_begin, text_may_begin};
 
 use crate::sizes::{
     add_to_indent, breaks_are_on, fences_are_on, headings_are_on, is_indented, set_indent,
-    set_kind, set_marker, set_size,
+    set_kind, set_marker, set_size, underlines_are_on,
 };
 use markdown_tokenizer::event;
 use markdown_tokenizer::state::{MachineTypes, Name, State};
@@ -48,7 +48,8 @@ pub(crate) fn flow_blank_line_before<'a, M: MachineTypes>(
         Some(b'#') => Ok(heading_may_begin(t)),
         Some(b'*') => Ok(break_may_begin(t, b'*')),
         Some(b'_') => Ok(break_may_begin(t, b'_')),
-        Some(b'-') => Ok(break_may_begin(t, b'-')),
+        Some(b'-') => Ok(dash_may_begin(t)),
+        Some(b'=') => Ok(equals_may_begin(t)),
         Some(b'`') => Ok(fence_may_begin(t, b'`')),
         Some(b'~') => Ok(fence_may_begin(t, b'~')),
         Some(_) => Ok(text_may_begin(t)),
@@ -88,6 +89,43 @@ fn break_may_begin<'a, M: MachineTypes>(t: &mut Tokenizer<'a, M>, marker: u8) ->
         return State::Next(Name::FlowBeforeThematicBreak);
     }
     State::Nok
+}
+
+/// At a marker of underlines: one may begin, if the line is not indented.
+fn underline_may_begin<'a, M: MachineTypes>(t: &mut Tokenizer<'a, M>, marker: u8) -> State
+    requires { t.old.configuration.waiting ≡ Byte }
+    ensures { DoesAll (rows_step (underline_may_begin marker) t.old) t.old t.new result }
+{
+    if is_indented(t) {
+        set_kind(t, event::Name::CodeIndented);
+        return State::Ok;
+    }
+    set_marker(t, marker);
+    set_size(t, 1);
+    t.consume();
+    State::Next(Name::FlowBeforeHeadingSetext)
+}
+
+/// At a dash: an underline may begin, or a thematic break.
+fn dash_may_begin<'a, M: MachineTypes>(t: &mut Tokenizer<'a, M>) -> State
+    requires { t.old.configuration.waiting ≡ Byte }
+    ensures { DoesAll (rows_step dash_may_begin t.old) t.old t.new result }
+{
+    if underlines_are_on(t) {
+        return underline_may_begin(t, b'-');
+    }
+    break_may_begin(t, b'-')
+}
+
+/// At an equals sign: an underline may begin.
+fn equals_may_begin<'a, M: MachineTypes>(t: &mut Tokenizer<'a, M>) -> State
+    requires { t.old.configuration.waiting ≡ Byte }
+    ensures { DoesAll (rows_step equals_may_begin t.old) t.old t.new result }
+{
+    if underlines_are_on(t) {
+        return underline_may_begin(t, b'=');
+    }
+    text_may_begin(t)
 }
 
 /// At a marker of fences: one may begin, if the line is not indented and fenced code is on.

@@ -8,6 +8,7 @@ ghost use Rattle.mdconstructs_flow.specs.Steps.{rows_step};
 ghost use Rattle.mdconstructs_flow.specs.Paragraph.{flow_before_content, paragraph_start, paragraph_inside, paragraph_line_start, content_chunk_inside};
 ghost use Rattle.mdconstructs_machines.specs.Paragraphs.{CanLinkChunk};
 
+use crate::heading_edits::{begin_paragraph, end_paragraph};
 use crate::sizes::{TEXT, kind_is};
 use markdown_tokenizer::event;
 use markdown_tokenizer::state::{MachineTypes, Name, State};
@@ -24,6 +25,7 @@ pub(crate) fn flow_before_content<'a, M: MachineTypes>(
 {
     t.enter(event::Name::Paragraph)?;
     disconnect(t);
+    begin_paragraph(t);
     Ok(State::Retry(Name::ParagraphStart))
 }
 
@@ -71,7 +73,8 @@ pub(crate) fn paragraph_inside<'a, M: MachineTypes>(
     }
 }
 
-/// At the end of a line of a paragraph, if the next line is no plain text. An indented line goes on with the paragraph.
+/// At the end of a line of a paragraph, if the next line is no plain text. An indented line goes on with the paragraph, and an
+/// underline makes it a heading.
 pub(crate) fn paragraph_line_start<'a, M: MachineTypes>(
     t: &mut Tokenizer<'a, M>,
 ) -> Result<State, AllocError>
@@ -80,6 +83,12 @@ pub(crate) fn paragraph_line_start<'a, M: MachineTypes>(
 {
     if kind_is(t, event::Name::CodeIndented) {
         return Ok(State::Retry(Name::ContentChunkInside));
+    }
+    if kind_is(t, event::Name::HeadingSetextUnderline) {
+        t.exit(event::Name::Data)?;
+        t.exit(event::Name::Paragraph)?;
+        end_paragraph(t);
+        return Ok(State::Retry(Name::ContentDefinitionAfter));
     }
     t.exit(event::Name::Data)?;
     t.exit(event::Name::Paragraph)?;

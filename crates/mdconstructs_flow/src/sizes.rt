@@ -7,7 +7,7 @@ ghost use Rattle.std.specs.Prelude.{◌≡◌};
 ghost use Rattle.markdown_tokenizer.specs.Calls.{with_local};
 ghost use Rattle.markdown_tokenizer.specs.Configuration.{at_configuration};
 ghost use Rattle.markdown_tokenizer.specs.Sight.{sight_of};
-ghost use Rattle.mdconstructs_flow.specs.FlowWrites.{kind_becomes, mark_becomes, size_becomes, size_grows, indent_becomes, indent_grows, count_becomes, count_grows, text_grows, signs_end, signs_were_text, kind_is, is_indented, headings_are_on, breaks_are_on, fences_are_on, has_room, has_three, at_mark, is_tilde_fence, has_text, is_in_text, counts_to_four, may_be_indented, is_as_long, is_stripped, counts_to_indent};
+ghost use Rattle.mdconstructs_flow.specs.FlowWrites.{kind_becomes, mark_becomes, size_becomes, size_grows, indent_becomes, indent_grows, count_becomes, count_grows, text_grows, signs_end, signs_were_text, kind_is, is_indented, headings_are_on, underlines_are_on, breaks_are_on, is_break, fences_are_on, has_room, has_three, at_mark, is_tilde_fence, has_text, is_in_text, counts_to_four, may_be_indented, is_as_long, is_stripped, counts_to_indent};
 
 use markdown_tokenizer::event::{self, Content, Link};
 use markdown_tokenizer::state::MachineTypes;
@@ -128,6 +128,13 @@ pub(crate) fn headings_are_on<'a, M: MachineTypes>(t: &Tokenizer<'a, M>) -> bool
     t.parse_state().options.constructs.heading_atx
 }
 
+/// Whether setext headings are on.
+pub(crate) fn underlines_are_on<'a, M: MachineTypes>(t: &Tokenizer<'a, M>) -> bool
+    ensures { result ≡ underlines_are_on t.now.given (sight_of t.now) t.now.configuration }
+{
+    t.parse_state().options.constructs.heading_setext
+}
+
 /// Whether thematic breaks are on.
 pub(crate) fn breaks_are_on<'a, M: MachineTypes>(t: &Tokenizer<'a, M>) -> bool
     ensures { result ≡ breaks_are_on t.now.given (sight_of t.now) t.now.configuration }
@@ -147,6 +154,16 @@ pub(crate) fn has_room<'a, M: MachineTypes>(t: &Tokenizer<'a, M>) -> bool
     ensures { result ≡ has_room t.now.given (sight_of t.now) t.now.configuration }
 {
     t.tokenize_state.size_b < 6
+}
+
+/// Whether the line is a thematic break, also if it could be an underline.
+pub(crate) fn is_break<'a, M: MachineTypes>(t: &Tokenizer<'a, M>) -> bool
+    ensures { result ≡ is_break t.now.given (sight_of t.now) t.now.configuration }
+{
+    kind_is(t, event::Name::ThematicBreak)
+        || (breaks_are_on(t)
+            && (kind_is(t, event::Name::HeadingSetextUnderline)
+                && (t.tokenize_state.marker == b'-' && has_three(t))))
 }
 
 /// Whether there are three markers.

@@ -92,6 +92,14 @@ const BLOCKS: &[(&[u8], &str)] = &[
         "enter Paragraph 1:1 (0+0); Data 1:1 (0+0) Text None Some(3) to 2:1 (2+0); Data 2:1 (2+0) Text Some(1) None to 2:6 (7+0); \
         exit Paragraph 2:6 (7+0)",
     ),
+    (
+        b"g\nh\n -- ",
+        "enter HeadingSetext 1:1 (0+0); enter HeadingSetextText 1:1 (0+0); Data 1:1 (0+0) Text None Some(4) to 2:1 (2+0); \
+        Data 2:1 (2+0) Text Some(2) None to 2:2 (3+0); exit HeadingSetextText 2:2 (3+0); LineEnding 2:2 (3+0) to 3:1 (4+0); \
+        enter HeadingSetextUnderline 3:1 (4+0); SpaceOrTab 3:1 (4+0) to 3:2 (5+0); \
+        HeadingSetextUnderlineSequence 3:2 (5+0) to 3:4 (7+0); SpaceOrTab 3:4 (7+0) to 3:5 (8+0); \
+        exit HeadingSetextUnderline 3:5 (8+0); exit HeadingSetext 3:5 (8+0)",
+    ),
 ];
 
 /// The events show no cut.

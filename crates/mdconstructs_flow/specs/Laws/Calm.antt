@@ -4,6 +4,7 @@ use Rattle.std.proofs.Common.{◌≡◌, ℕ, ◌&&◌, List, [], ◌∷◌, ◌
 use Rattle.std.specs.Prelude.{IfSome, option_and_then}
 use Rattle.markdown_base.specs.declared.event.Event.{Event}
 use Rattle.markdown_base.specs.declared.event.Link.{Link}
+use Rattle.markdown_base.specs.declared.event.Name.TheVariants.{Data}
 use Rattle.markdown_base.specs.declared.state.Name.{Name}
 use Rattle.markdown_base.specs.declared.state.State.{State}
 use Rattle.markdown_base.specs.declared.state.State.TheVariants.{Retry}
@@ -21,14 +22,15 @@ use Rattle.mdconstructs_tables.proofs.LinkShapes.{more-shape}
 use Rattle.mdconstructs_machines.specs.Tables.{counts}
 use Rattle.mdconstructs_flow.specs.FlowBytes.{FlowByte, Cased, cased}
 use Rattle.mdconstructs_flow.specs.FlowTable.{flow}
-use Rattle.mdconstructs_flow.specs.FlowKnows.{Place, in_chunk, before_chunk, elsewhere, place_of, is_looking, KnowsChunk, Knows, IsLook, knows_flow}
+use Rattle.mdconstructs_flow.specs.FlowKnows.{Place, in_chunk, before_chunk, in_underline, elsewhere, place_of, is_looking, KnowsChunk, KnowsEdits, RenameSpans, Knows, IsLook, knows_flow}
+use Rattle.mdconstructs_flow.specs.Laws.Headings.{spans-more, paragraph-left, underline-left}
 
--- A write is harmless, whatever is seen: what states share may change, but for the chunk that is noted
+-- A write is harmless, whatever is seen: what states share may change, but for the indices that are noted
 abbrev pub IsHarmless : (Sight → Configuration Unit Unit → Local Unit Unit) → Type 0
 IsHarmless f = (at : Sight × Configuration Unit Unit) →
     let k = at.1 in
     let new = f at.0 k in
-    new ≡ record k.local { tokenize_state = record new.tokenize_state { start = k.local.tokenize_state.start; connect = k.local.tokenize_state.connect } }
+    new ≡ record k.local { tokenize_state = record new.tokenize_state { start = k.local.tokenize_state.start; end = k.local.tokenize_state.end; connect = k.local.tokenize_state.connect } }
 
 -- all writes of acts, of rows and of cases are, one after another
 abbrev pub HarmlessActs : List (Act Unit Unit) → Type 0 → Type 0
@@ -108,12 +110,16 @@ both false b h = absurd (cc)
 same-place : (p q : Place) → same_place p q ≡ true → q ≡ p
 same-place in_chunk in_chunk h = refl
 same-place in_chunk before_chunk h = absurd (cc)
+same-place in_chunk (in_underline names) h = absurd (cc)
 same-place in_chunk elsewhere h = absurd (cc)
 same-place before_chunk in_chunk h = absurd (cc)
 same-place before_chunk before_chunk h = refl
+same-place before_chunk (in_underline names) h = absurd (cc)
 same-place before_chunk elsewhere h = absurd (cc)
+same-place (in_underline names) q h = absurd (cc)
 same-place elsewhere in_chunk h = absurd (cc)
 same-place elsewhere before_chunk h = absurd (cc)
+same-place elsewhere (in_underline names) h = absurd (cc)
 same-place elsewhere elsewhere h = refl
 
 no-end : (o : Option ℕ) → is_alone o ≡ true → o ≡ None
@@ -129,37 +135,41 @@ pub record Stays (old new : Local Unit Unit) : Type 0 where
   pub resolvers : new.resolvers ≡ old.resolvers
   pub map : new.map ≡ old.map
   pub start : new.tokenize_state.start ≡ old.tokenize_state.start
+  pub end : new.tokenize_state.end ≡ old.tokenize_state.end
   pub connect : new.tokenize_state.connect ≡ old.tokenize_state.connect
 
 stays : (local : Local Unit Unit) → Stays local local
-stays local = record { resolvers = refl; map = refl; start = refl; connect = refl }
+stays local = record { resolvers = refl; map = refl; start = refl; end = refl; connect = refl }
 
 stays-on : (a b c : Local Unit Unit) → Stays a b → Stays b c → Stays a c
-stays-on a b c h k = record { resolvers = k.resolvers ∙ h.resolvers; map = k.map ∙ h.map; start = k.start ∙ h.start; connect = k.connect ∙ h.connect }
+stays-on a b c h k = record { resolvers = k.resolvers ∙ h.resolvers; map = k.map ∙ h.map; start = k.start ∙ h.start; end = k.end ∙ h.end; connect = k.connect ∙ h.connect }
 
 by-write : (f : Sight → Configuration Unit Unit → Local Unit Unit) → IsHarmless f → (s : Sight) (k : Configuration Unit Unit) → Stays k.local (f s k)
 by-write f h s k = record {
   resolvers = ap (λ (l : Local Unit Unit). l.resolvers) (h (s, k));
   map = ap (λ (l : Local Unit Unit). l.map) (h (s, k));
   start = ap (λ (l : Local Unit Unit). l.tokenize_state.start) (h (s, k));
+  end = ap (λ (l : Local Unit Unit). l.tokenize_state.end) (h (s, k));
   connect = ap (λ (l : Local Unit Unit). l.tokenize_state.connect) (h (s, k));
 }
 
 -- What calm acts come to
-calm : (acts : List (Act Unit Unit)) (P : Type 0) → are_calm acts ≡ true → HarmlessActs acts P → (s : Sight) (k : Configuration Unit Unit) → AreInShape k.events
-    → let k' = does acts s k in AreInShape k'.events × Stays k.local k'.local × ((cs : List Choice) → chooses acts s k cs ≡ cs)
-calm [] P is h s k shape = (shape, stays k.local, λ cs. refl)
-calm (enters name link ∷ acts) P is h s k shape =
+calm : (acts : List (Act Unit Unit)) (P : Type 0) → are_calm acts ≡ true → HarmlessActs acts P → (s : Sight) (k : Configuration Unit Unit) → AreInShape k.events → RenameSpans k.events k.local.map
+    → let k' = does acts s k in AreInShape k'.events × RenameSpans k'.events k'.local.map × Stays k.local k'.local × ((cs : List Choice) → chooses acts s k cs ≡ cs)
+calm [] P is h s k shape edits = (shape, edits, stays k.local, λ cs. refl)
+calm (enters name link ∷ acts) P is h s k shape edits =
     let (fresh, rest) = both (is_fresh_link link) (are_calm acts) is in
     let (next, previous) = fresh-ends link fresh in
-    calm acts P rest h s (done (enters name link) s k) (more-shape k.events _ next previous shape)
-calm (exit name ∷ acts) P is h s k shape = calm acts P is h s (done (exit name) s k) (more-shape k.events _ refl refl shape)
-calm (consume ∷ acts) P is h s k shape = calm acts P is h (past s) (done consume s k) shape
-calm (links previous next ∷ acts) P is h s k shape = absurd (cc)
-calm (writes f ∷ acts) P is h s k shape =
-    let (on, kept, same) = calm acts P is h.1 s (with_local k (f (shown_sight s) k)) shape in
-    (on, stays-on k.local (f (shown_sight s) k) _ (by-write f h.0 (shown_sight s) k) kept, same)
-calm (choose kind ok nok ∷ acts) P is h s k shape = absurd (cc)
+    calm acts P rest h s (done (enters name link) s k) (more-shape k.events _ next previous shape) (spans-more k.events k.local.map _ edits)
+calm (exit name ∷ acts) P is h s k shape edits = calm acts P is h s (done (exit name) s k) (more-shape k.events _ refl refl shape) (spans-more k.events k.local.map _ edits)
+calm (consume ∷ acts) P is h s k shape edits = calm acts P is h (past s) (done consume s k) shape edits
+calm (links previous next ∷ acts) P is h s k shape edits = absurd (cc)
+calm (writes f ∷ acts) P is h s k shape edits =
+    let local = f (shown_sight s) k in
+    let written = by-write f h.0 (shown_sight s) k in
+    let (on, spans, kept, same) = calm acts P is h.1 s (with_local k local) shape (subst (RenameSpans k.events) (sym written.map) edits) in
+    (on, spans, stays-on k.local local _ written kept, same)
+calm (choose kind ok nok ∷ acts) P is h s k shape edits = absurd (cc)
 
 -- What silent acts come to
 silent : (acts : List (Act Unit Unit)) (P : Type 0) → are_silent acts ≡ true → HarmlessActs acts P → (s : Sight) (k : Configuration Unit Unit)
@@ -178,14 +188,28 @@ silent (choose kind ok nok ∷ acts) P is h s k = absurd (cc)
 chunk-stays : (place : Place) (events : List Event) (old new : Local Unit Unit) → Stays old new → KnowsChunk place events old → KnowsChunk place events new
 chunk-stays in_chunk events old new h known = rw h.start known
 chunk-stays before_chunk events old new h known = λ connected. rw h.start (known (sym h.connect ∙ connected))
+chunk-stays (in_underline names) events old new h known = tt
 chunk-stays elsewhere events old new h known = tt
+
+edits-stay : (place : Place) (events : List Event) (old new : Local Unit Unit) → Stays old new → KnowsEdits place events old → KnowsEdits place events new
+edits-stay in_chunk events old new h known = rw (h.map, h.end) known
+edits-stay before_chunk events old new h known = rw (h.map, h.end) known
+edits-stay (in_underline names) events old new h known = rw (h.map, h.end, h.start) known
+edits-stay elsewhere events old new h known = rw h.map known
+
+-- wherever the reading is, the edits rename spans
+pub edits-left : (place : Place) (events : List Event) (local : Local Unit Unit) → KnowsEdits place events local → RenameSpans events local.map
+edits-left in_chunk events local h = paragraph-left events local.map (Data ∷ []) local.tokenize_state.end h
+edits-left before_chunk events local h = paragraph-left events local.map [] local.tokenize_state.end h
+edits-left (in_underline names) events local h = underline-left events local.map names local.tokenize_state.end local.tokenize_state.start h
+edits-left elsewhere events local h = h
 
 knows-stays : (place : Place) (events events' : List Event) (old new : Local Unit Unit) → events' ≡ events → Stays old new → Knows place events old → Knows place events' new
 knows-stays place events events' old new same h known = rw same (record {
   chunk = chunk-stays place events old new h known.chunk;
   shape = known.shape;
   resolvers = h.resolvers ∙ known.resolvers;
-  edits = h.map ∙ known.edits;
+  edits = edits-stay place events old new h known.edits;
 })
 
 -- A row that begins a look leaves it to wait
@@ -218,9 +242,9 @@ row-keeps place acts answer P is harmless s k known =
     elim (are_calm acts && same_place elsewhere (place_of answer)) as (λ t. (are_calm acts && same_place elsewhere (place_of answer)) ≡ t → cond t true (cond (are_silent acts && same_place place (place_of answer)) true (begin_look place acts answer)) ≡ true → KnownAfter flow knows_flow (step_of (record { acts = acts; answer = answer }) s k) []) [
       | true ↦ λ quiet on.
           let (added, there) = both (are_calm acts) (same_place elsewhere (place_of answer)) quiet in
-          let (shape, kept, none) = calm acts P added harmless s k known.shape in
+          let (shape, spans, kept, none) = calm acts P added harmless s k known.shape (edits-left place k.events k.local known.edits) in
           let k' = does acts s k in
-          let after : Knows elsewhere k'.events k'.local = record { chunk = tt; shape = shape; resolvers = kept.resolvers ∙ known.resolvers; edits = kept.map ∙ known.edits } in
+          let after : Knows elsewhere k'.events k'.local = record { chunk = tt; shape = shape; resolvers = kept.resolvers ∙ known.resolvers; edits = spans } in
           subst (λ cs. knows_flow k'.events k'.local (cs ++ []) answer) (sym (none [])) (subst (λ p. Knows p k'.events k'.local) (sym (same-place elsewhere (place_of answer) there)) after)
       | false ↦ λ loud on.
           elim (are_silent acts && same_place place (place_of answer)) as (λ t. (are_silent acts && same_place place (place_of answer)) ≡ t → cond t true (begin_look place acts answer) ≡ true → KnownAfter flow knows_flow (step_of (record { acts = acts; answer = answer }) s k) []) [
@@ -313,7 +337,7 @@ Keeps name rows =
 
 -- a call is counted, and nothing else
 counted : (local : Local Unit Unit) → Stays local (counts local)
-counted local = record { resolvers = refl; map = refl; start = refl; connect = refl }
+counted local = record { resolvers = refl; map = refl; start = refl; end = refl; connect = refl }
 
 counted-known : (k : Configuration Unit Unit) (choices : List Choice) (name : Name) → knows_flow k.events k.local choices (Retry name) → knows_flow k.events (counts k.local) choices (Retry name)
 counted-known k [] name h = knows-stays (place_of (Retry name)) k.events k.events k.local (counts k.local) refl (counted k.local) h

@@ -1,16 +1,19 @@
--- What the machine of leaf blocks knows is kept: by each state, by looks, and at the end, where no edit waits and chunks are in shape.
-use Rattle.std.proofs.Common.{◌≡◌, ◌-◌, List, [], ◌∷◌, ◌++◌, Bool, true, false, cond, Option, Some, None, length, take, refl, sym, ap, ◌∙◌, subst, arith}
+-- What the machine of leaf blocks knows is kept: by each state, by looks, and at the end, where the edits that wait give events other names, and chunks are in shape.
+use Rattle.std.proofs.Common.{◌≡◌, ◌-◌, List, [], ◌∷◌, ◌++◌, Bool, true, false, cond, Option, Some, None, length, take, refl, sym, ap, ◌∙◌, subst}
 use Rattle.std.specs.Prelude.{All, IfSome}
 use Rattle.std.proofs.lemmas.List.Elements.{All-nil, All-cons}
 use Rattle.markdown_base.specs.declared.event.Event.{Event}
-use Rattle.markdown_base.specs.declared.event.Name.TheVariants.{Data, Paragraph}
+use Rattle.markdown_base.specs.declared.event.Kind.TheVariants.{Enter, Exit}
+use Rattle.markdown_base.specs.declared.event.Name.{Name as EventName}
+use Rattle.markdown_base.specs.declared.event.Name.TheVariants.{Data, HeadingSetextUnderline, HeadingSetextUnderlineSequence as Sequence, LineEnding, Paragraph, SpaceOrTab}
 use Rattle.markdown_base.specs.declared.state.Name.{Name}
 use Rattle.markdown_base.specs.declared.state.State.{State}
 use Rattle.markdown_base.specs.declared.state.State.TheVariants.{Next, Retry, Ok, Nok}
-use Rattle.markdown_base.specs.declared.state.TheConstants.Name.{FlowStart, FlowBlankLineAfter, FlowAfter, FlowBlankLineBefore, NonLazyContinuationStart, BlankLineStart, FlowBeforeThematicBreak, ThematicBreakBefore, ThematicBreakAtBreak, ThematicBreakSequence, FlowBeforeHeadingAtx, StringStart, StringBeforeData, StringBefore, TextBefore, TextBeforeData, HeadingAtxStart, HeadingAtxSequenceOpen, HeadingAtxAtBreak, HeadingAtxBefore, HeadingAtxData, CodeIndentedStart, CodeIndentedAtBreak, CodeIndentedFurtherAfter, CodeIndentedInside, CodeIndentedFurtherStart, SpaceOrTabEolAfterFirst, CodeIndentedAfter, CodeIndentedFurtherBegin, FlowBeforeRaw, FlowBeforeCodeIndented, RawFlowStart, RawFlowSequenceOpen, RawFlowInfoBefore, RawFlowBeforeSequenceOpen, RawFlowInfo, RawTextStart, RawFlowMetaBefore, RawFlowMeta, RawFlowAtNonLazyBreak, RawFlowCloseStart, RawFlowBeforeSequenceClose, RawFlowSequenceClose, RawFlowAfterSequenceClose, RawFlowContentBefore, RawFlowContentStart, RawFlowBeforeContentChunk, RawFlowContentChunk, RawFlowAfter, RawTextSequenceOpen, RawTextBetween, RawTextSequenceClose, RawTextData, ParagraphStart, ParagraphInside, ParagraphLineStart}
+use Rattle.markdown_base.specs.declared.state.TheConstants.Name.{FlowStart, FlowBlankLineAfter, FlowAfter, FlowBlankLineBefore, NonLazyContinuationStart, BlankLineStart, FlowBeforeThematicBreak, ThematicBreakBefore, ThematicBreakAtBreak, ThematicBreakSequence, FlowBeforeHeadingAtx, StringStart, StringBeforeData, StringBefore, TextBefore, TextBeforeData, HeadingAtxStart, HeadingAtxSequenceOpen, HeadingAtxAtBreak, HeadingAtxBefore, HeadingAtxData, CodeIndentedStart, CodeIndentedAtBreak, CodeIndentedFurtherAfter, CodeIndentedInside, CodeIndentedFurtherStart, SpaceOrTabEolAfterFirst, CodeIndentedAfter, CodeIndentedFurtherBegin, FlowBeforeRaw, FlowBeforeCodeIndented, RawFlowStart, RawFlowSequenceOpen, RawFlowInfoBefore, RawFlowBeforeSequenceOpen, RawFlowInfo, RawTextStart, RawFlowMetaBefore, RawFlowMeta, RawFlowAtNonLazyBreak, RawFlowCloseStart, RawFlowBeforeSequenceClose, RawFlowSequenceClose, RawFlowAfterSequenceClose, RawFlowContentBefore, RawFlowContentStart, RawFlowBeforeContentChunk, RawFlowContentChunk, RawFlowAfter, RawTextSequenceOpen, RawTextBetween, RawTextSequenceClose, RawTextData, FlowBeforeContent, ParagraphStart, ParagraphInside, ParagraphLineStart, ContentChunkInside, FlowBeforeHeadingSetext, FlowBeforeGfmTable, ContentDefinitionAfter, HeadingSetextStart, HeadingSetextBefore, HeadingSetextInside, HeadingSetextAfter}
 use Rattle.markdown_base.specs.Events.{EndsBelow, IsBalanced}
 use Rattle.markdown_edits.specs.Edited.{edited}
-use Rattle.markdown_edits.proofs.Edits.Splices.{edited-none}
+use Rattle.markdown_edits.specs.Links.{linked_to}
+use Rattle.markdown_edits.specs.OpenNames.{names_after}
 use Rattle.markdown_tokenizer.specs.declared.waiting.AttemptKind.{AttemptKind}
 use Rattle.markdown_tokenizer.specs.declared.waiting.AttemptKind.TheVariants.{Attempt, Check}
 use Rattle.markdown_tokenizer.specs.Text.{Given, Text}
@@ -20,6 +23,8 @@ use Rattle.markdown_tokenizer.specs.Sight.{Sight}
 use Rattle.markdown_tokenizer.specs.Reading.{settled_at}
 use Rattle.markdown_tokenizer.specs.Resolving.{CanBeEdited, IsInShape}
 use Rattle.markdown_tokenizer.specs.Engine.{IsWellFormed, EndsWellFormed}
+use Rattle.mdconstructs_tables.specs.Cases.{Case, rows_in}
+use Rattle.markdown_tokenizer.proofs.Inside.Changes.{linked-unlinked}
 use Rattle.mdconstructs_tables.specs.Chunks.{alone, chunk_before, connected, is_connected, last_event}
 use Rattle.mdconstructs_tables.specs.Knowledge.{EachRow, KnownAfter, KeepsKnowing, IsKnownThroughout, KnowsFalling}
 use Rattle.mdconstructs_tables.specs.LinkShapes.{AreInShape}
@@ -28,19 +33,23 @@ use Rattle.mdconstructs_tables.proofs.LinkShapes.{more-shape}
 use Rattle.mdconstructs_machines.specs.Paragraphs.{text_link}
 use Rattle.mdconstructs_machines.specs.Laws.Paragraphs.{chunk_enter, begins-chunk, ended-chunk, ends-with, ends-linked, last-index, linked-in-shape}
 use Rattle.mdconstructs_machines.specs.Tables.{counts}
-use Rattle.mdconstructs_flow.specs.FlowBytes.{is_line_feed}
+use Rattle.mdconstructs_flow.specs.FlowBytes.{FlowByte, Cased, cased}
 use Rattle.mdconstructs_flow.specs.BlankLine.{blank_line_start_rows, blank_line_start}
 use Rattle.mdconstructs_flow.specs.CodeFenced.{flow_before_raw_rows, flow_before_raw, flow_before_code_indented_rows, flow_before_code_indented, raw_flow_start_rows, raw_flow_start, raw_flow_sequence_open_rows, raw_flow_sequence_open, raw_flow_info_before_rows, raw_flow_info_before, raw_flow_before_sequence_open_rows, raw_flow_before_sequence_open, raw_flow_info_rows, raw_flow_info, raw_text_start_rows, raw_text_start, raw_flow_meta_before_rows, raw_flow_meta_before, raw_flow_meta_rows, raw_flow_meta, raw_flow_at_non_lazy_break_rows, raw_flow_at_non_lazy_break, raw_flow_close_start_rows, raw_flow_close_start, raw_flow_before_sequence_close_rows, raw_flow_before_sequence_close, raw_flow_sequence_close_rows, raw_flow_sequence_close, raw_flow_after_sequence_close_rows, raw_flow_after_sequence_close, raw_flow_content_before_rows, raw_flow_content_before, raw_flow_content_start_rows, raw_flow_content_start, raw_flow_before_content_chunk_rows, raw_flow_before_content_chunk, raw_flow_content_chunk_rows, raw_flow_content_chunk, raw_flow_after_rows, raw_flow_after, raw_text_sequence_open_rows, raw_text_sequence_open, raw_text_between_rows, raw_text_between, raw_text_sequence_close_rows, raw_text_sequence_close, raw_text_data_rows, raw_text_data}
 use Rattle.mdconstructs_flow.specs.CodeIndented.{code_indented_start_rows, code_indented_start, code_indented_at_break_rows, code_indented_at_break, code_indented_further_after_rows, code_indented_further_after, code_indented_inside_rows, code_indented_inside, code_indented_further_start_rows, code_indented_further_start, space_or_tab_eol_after_first_rows, space_or_tab_eol_after_first, code_indented_after_rows, code_indented_after, code_indented_further_begin_rows, code_indented_further_begin}
 use Rattle.mdconstructs_flow.specs.Flow.{flow_start_rows, flow_start, flow_blank_line_after_rows, flow_blank_line_after, flow_after_rows, flow_after}
 use Rattle.mdconstructs_flow.specs.HeadingAtx.{flow_before_heading_atx_rows, flow_before_heading_atx, string_start_rows, string_start, string_before_data_rows, string_before_data, string_before_rows, string_before, text_before_rows, text_before, text_before_data_rows, text_before_data, heading_atx_start_rows, heading_atx_start, heading_atx_sequence_open_rows, heading_atx_sequence_open, heading_atx_at_break_rows, heading_atx_at_break, heading_atx_before_rows, heading_atx_before, heading_atx_data_rows, heading_atx_data}
+use Rattle.mdconstructs_flow.specs.HeadingEdits.{paragraph_begins, paragraph_ends, heading_ends}
+use Rattle.mdconstructs_flow.specs.HeadingSetext.{flow_before_heading_setext_rows, flow_before_heading_setext, flow_before_gfm_table_rows, flow_before_gfm_table, content_definition_after_rows, content_definition_after, heading_setext_start_rows, heading_setext_start, heading_setext_before_rows, heading_setext_before, heading_setext_inside_rows, heading_setext_inside, heading_setext_after_rows, heading_setext_after}
 use Rattle.mdconstructs_flow.specs.Look.{flow_blank_line_before_rows, flow_blank_line_before, non_lazy_continuation_start_rows, non_lazy_continuation_start}
-use Rattle.mdconstructs_flow.specs.Paragraph.{flow_before_content, paragraph_start, paragraph_inside_rows, paragraph_inside, paragraph_line_start_rows, paragraph_line_start, content_chunk_inside}
+use Rattle.mdconstructs_flow.specs.Paragraph.{flow_before_content_rows, flow_before_content, paragraph_start_rows, paragraph_start, paragraph_inside_rows, paragraph_inside, paragraph_line_start_rows, paragraph_line_start, content_chunk_inside_rows, content_chunk_inside}
 use Rattle.mdconstructs_flow.specs.ThematicBreak.{flow_before_thematic_break_rows, flow_before_thematic_break, thematic_break_before_rows, thematic_break_before, thematic_break_at_break_rows, thematic_break_at_break, thematic_break_sequence_rows, thematic_break_sequence}
 use Rattle.mdconstructs_flow.specs.FlowTable.{flow}
-use Rattle.mdconstructs_flow.specs.FlowKnows.{Place, in_chunk, before_chunk, elsewhere, place_of, Knows, knows_flow}
-use Rattle.mdconstructs_flow.specs.Laws.Calm.{reading-keeps, look-state-keeps}
+use Rattle.mdconstructs_flow.specs.FlowKnows.{Place, in_chunk, before_chunk, in_underline, elsewhere, place_of, is_looking, RenameSpans, Knows, knows_flow}
+use Rattle.mdconstructs_flow.specs.Laws.Calm.{Keeps, edits-left, reading-keeps, look-state-keeps}
 use Rattle.mdconstructs_flow.specs.Laws.Fit.{none}
+use Rattle.mdconstructs_flow.specs.Laws.Headings.{spans-more, paragraph-first, paragraph-more, paragraph-linked, paragraph-last, underline-more, heading-made}
+use Rattle.mdconstructs_flow.specs.Laws.Renamings.{told-edits-apart, told-in-shape, told-well-formed}
 
 flow_start-keeps : KeepsKnowing flow knows_flow flow_start
 flow_start-keeps = reading-keeps FlowStart flow_start_rows refl refl (λ k. refl, tt)
@@ -52,7 +61,7 @@ flow_after-keeps : KeepsKnowing flow knows_flow flow_after
 flow_after-keeps = reading-keeps FlowAfter flow_after_rows refl refl tt
 
 flow_blank_line_before-keeps : KeepsKnowing flow knows_flow flow_blank_line_before
-flow_blank_line_before-keeps = look-state-keeps FlowBlankLineBefore flow_blank_line_before_rows refl refl (λ k. refl, (λ k. refl, (λ k. refl, (λ k. refl, (λ k. refl, (λ k. refl, (λ k. refl, (λ k. refl, (λ k. refl, (λ k. refl, (λ k. refl, (λ k. refl, (λ k. refl, (λ k. refl, (λ k. refl, (λ k. refl, (λ k. refl, (λ k. refl, (λ k. refl, (λ k. refl, (λ k. refl, tt)))))))))))))))))))))
+flow_blank_line_before-keeps = look-state-keeps FlowBlankLineBefore flow_blank_line_before_rows refl refl (λ k. refl, (λ k. refl, (λ k. refl, (λ k. refl, (λ k. refl, (λ k. refl, (λ k. refl, (λ k. refl, (λ k. refl, (λ k. refl, (λ k. refl, (λ k. refl, (λ k. refl, (λ k. refl, (λ k. refl, (λ k. refl, (λ k. refl, (λ k. refl, (λ k. refl, (λ k. refl, (λ k. refl, (λ k. refl, (λ k. refl, (λ k. refl, (λ k. refl, (λ k. refl, (λ k. refl, (λ k. refl, tt))))))))))))))))))))))))))))
 
 non_lazy_continuation_start-keeps : KeepsKnowing flow knows_flow non_lazy_continuation_start
 non_lazy_continuation_start-keeps = look-state-keeps NonLazyContinuationStart non_lazy_continuation_start_rows refl refl (λ k. refl, tt)
@@ -204,8 +213,11 @@ raw_text_data-keeps = reading-keeps RawTextData raw_text_data_rows refl refl tt
 paragraph_inside-keeps : KeepsKnowing flow knows_flow paragraph_inside
 paragraph_inside-keeps = reading-keeps ParagraphInside paragraph_inside_rows refl refl tt
 
-paragraph_line_start-keeps : KeepsKnowing flow knows_flow paragraph_line_start
-paragraph_line_start-keeps = reading-keeps ParagraphLineStart paragraph_line_start_rows refl refl tt
+flow_before_heading_setext-keeps : KeepsKnowing flow knows_flow flow_before_heading_setext
+flow_before_heading_setext-keeps = look-state-keeps FlowBeforeHeadingSetext flow_before_heading_setext_rows refl refl (λ k. refl, (λ k. refl, (λ k. refl, tt)))
+
+flow_before_gfm_table-keeps : KeepsKnowing flow knows_flow flow_before_gfm_table
+flow_before_gfm_table-keeps = look-state-keeps FlowBeforeGfmTable flow_before_gfm_table_rows refl refl (λ k. refl, (λ k. refl, (λ k. refl, tt)))
 
 -- the rows of a chunk that begins
 abbrev chunk_begins : Rows Unit Unit
@@ -219,33 +231,50 @@ module _ (s : Sight) (k : Configuration Unit Unit) where
   abbrev After : List (Act Unit Unit) → State → Type 0
   After acts answer = KnownAfter flow knows_flow (step_of (record { acts = acts; answer = answer }) s (with_local k (counts k.local))) []
 
-  before-first : Knows elsewhere k.events k.local → After (enter Paragraph ∷ write alone ∷ []) (Retry ParagraphStart)
-  before-first h = record { chunk = λ c. absurd (cc); shape = more-shape k.events _ refl refl h.shape; resolvers = h.resolvers; edits = h.edits }
+  before-first : Knows elsewhere k.events k.local → After (enter Paragraph ∷ write alone ∷ write paragraph_begins ∷ []) (Retry ParagraphStart)
+  before-first h =
+      let e : Event = record { kind = Enter; name = Paragraph; point = s.enter_place; link = None } in record {
+        chunk = λ c. absurd (cc);
+        shape = more-shape k.events _ refl refl h.shape;
+        resolvers = h.resolvers;
+        edits = paragraph-first k.events k.local.map e (length (k.events ++ e ∷ []) - 1) refl refl (last-index k.events e) h.edits;
+      }
 
   paragraph-ends : Knows before_chunk k.events k.local → After (exit Paragraph ∷ []) (Retry FlowAfter)
-  paragraph-ends h = record { chunk = tt; shape = more-shape k.events _ refl refl h.shape; resolvers = h.resolvers; edits = h.edits }
+  paragraph-ends h = record {
+    chunk = tt;
+    shape = more-shape k.events _ refl refl h.shape;
+    resolvers = h.resolvers;
+    edits = spans-more k.events k.local.map _ (edits-left before_chunk k.events k.local h.edits);
+  }
 
-  unused : Knows in_chunk k.events k.local → After [] Ok
-  unused h = record { chunk = tt; shape = h.shape; resolvers = h.resolvers; edits = h.edits }
+  -- nothing is done
+  stops : (place : Place) → Knows place k.events k.local → After [] Ok
+  stops place h = record { chunk = tt; shape = h.shape; resolvers = h.resolvers; edits = edits-left place k.events k.local h.edits }
+
+  goes-on : Knows in_chunk k.events k.local → After [] (Retry ContentChunkInside)
+  goes-on h = record { chunk = h.chunk; shape = h.shape; resolvers = h.resolvers; edits = h.edits }
 
   chunk-ends : Knows in_chunk k.events k.local → After (consume ∷ exit Data ∷ []) (Next ParagraphStart)
   chunk-ends h = record {
     chunk = λ c. ended-chunk k.events _ k.local.tokenize_state.start refl refl h.chunk;
     shape = more-shape k.events _ refl refl h.shape;
     resolvers = h.resolvers;
-    edits = h.edits;
+    edits = paragraph-more k.events k.local.map (Data ∷ []) [] k.local.tokenize_state.end _ (λ before. refl) h.edits;
   }
 
   linked-on : k.local.tokenize_state.connect ≡ true → Knows before_chunk k.events k.local → After (enter_link Data text_link ∷ links chunk_before last_event ∷ write connected ∷ []) (Retry ParagraphInside)
   linked-on c h =
       let place = s.enter_place in
       let start = k.local.tokenize_state.start in
-      let next = length (k.events ++ chunk_enter place ∷ []) - 1 in
-      let last = last-index k.events (chunk_enter place) in record {
+      let e = chunk_enter place in
+      let next = length (k.events ++ e ∷ []) - 1 in
+      let last = last-index k.events e in record {
         chunk = ends-linked k.events place start next (h.chunk c) last;
         shape = linked-in-shape k.events place start next (h.chunk c) last h.shape;
         resolvers = h.resolvers;
-        edits = h.edits;
+        edits = paragraph-linked (k.events ++ e ∷ []) k.local.map (Data ∷ []) k.local.tokenize_state.end (linked_to start next (k.events ++ e ∷ [])) (linked-unlinked start next (k.events ++ e ∷ []))
+            (paragraph-more k.events k.local.map [] (Data ∷ []) k.local.tokenize_state.end e (λ before. refl) h.edits);
       }
 
   first-chunk : Knows before_chunk k.events k.local → After (enter_link Data text_link ∷ write connected ∷ []) (Retry ParagraphInside)
@@ -254,39 +283,153 @@ module _ (s : Sight) (k : Configuration Unit Unit) where
         chunk = ends-with (k.events ++ e ∷ []) k.events e refl (begins-chunk s.enter_place);
         shape = more-shape k.events e refl refl h.shape;
         resolvers = h.resolvers;
-        edits = h.edits;
+        edits = paragraph-more k.events k.local.map [] (Data ∷ []) k.local.tokenize_state.end e (λ before. refl) h.edits;
       }
 
-chunk-begins : (g : Given) (s : Sight) (k : Configuration Unit Unit) → Knows before_chunk k.events k.local
-    → let k1 = with_local k (counts k.local) in EachRow (λ r. KnownAfter flow knows_flow (step_of r s k1) []) g s k1 chunk_begins
+  -- a paragraph ends, before an underline or not
+  both-exits : Knows in_chunk k.events k.local → After (exit Data ∷ exit Paragraph ∷ []) (Retry FlowAfter)
+  both-exits h = record {
+    chunk = tt;
+    shape = more-shape _ _ refl refl (more-shape k.events _ refl refl h.shape);
+    resolvers = h.resolvers;
+    edits = spans-more _ k.local.map _ (spans-more k.events k.local.map _ (edits-left in_chunk k.events k.local h.edits));
+  }
+
+  before-underline : Knows in_chunk k.events k.local → After (exit Data ∷ exit Paragraph ∷ write paragraph_ends ∷ []) (Retry ContentDefinitionAfter)
+  before-underline h =
+      let end_of_chunk : Event = record { kind = Exit; name = Data; point = s.exit_place; link = None } in
+      let e : Event = record { kind = Exit; name = Paragraph; point = s.exit_place; link = None } in
+      let events = k.events ++ end_of_chunk ∷ [] in record {
+        chunk = tt;
+        shape = more-shape events e refl refl (more-shape k.events end_of_chunk refl refl h.shape);
+        resolvers = h.resolvers;
+        edits = paragraph-last events k.local.map e k.local.tokenize_state.end (length (events ++ e ∷ []) - 1) refl refl (last-index events e)
+            (paragraph-more k.events k.local.map (Data ∷ []) [] k.local.tokenize_state.end end_of_chunk (λ before. refl) h.edits);
+      }
+
+  -- the underline is read on, and at its end the paragraph is a heading
+  underlined : (names : List EventName) → Knows (in_underline names) k.events k.local → Knows (in_underline names) k.events (counts k.local)
+  underlined names h = record { chunk = tt; shape = h.shape; resolvers = h.resolvers; edits = h.edits }
+
+  leaves : (place : Place) → Knows place k.events k.local → After [] (Retry FlowAfter)
+  leaves place h = record { chunk = tt; shape = h.shape; resolvers = h.resolvers; edits = edits-left place k.events k.local h.edits }
+
+  heading-is-made : Knows (in_underline (HeadingSetextUnderline ∷ [])) k.events k.local → After (exit HeadingSetextUnderline ∷ write heading_ends ∷ []) (Retry FlowAfter)
+  heading-is-made h =
+      let e : Event = record { kind = Exit; name = HeadingSetextUnderline; point = s.exit_place; link = None } in record {
+        chunk = tt;
+        shape = more-shape k.events e refl refl h.shape;
+        resolvers = h.resolvers;
+        edits = heading-made k.events k.local.map k.local.tokenize_state.end k.local.tokenize_state.start e refl refl h.edits;
+      }
+
+-- an event comes in an underline
+grows : (names names' : List EventName) (events : List Event) (local : Local Unit Unit) (e : Event) → e.link ≡ None → ((before : List EventName) → names_after e.kind e.name (names ++ before) ≡ Some (names' ++ before))
+    → Knows (in_underline names) events local → Knows (in_underline names') (events ++ e ∷ []) local
+grows names names' events local e alone step h = record {
+  chunk = tt;
+  shape = more-shape events e (rw alone refl) (rw alone refl) h.shape;
+  resolvers = h.resolvers;
+  edits = underline-more events local.map names names' local.tokenize_state.end local.tokenize_state.start e step h.edits;
+}
+
+-- two events do
+grows-twice : (names names' names'' : List EventName) (events : List Event) (local : Local Unit Unit) (e f : Event) → e.link ≡ None → f.link ≡ None
+    → ((before : List EventName) → names_after e.kind e.name (names ++ before) ≡ Some (names' ++ before)) → ((before : List EventName) → names_after f.kind f.name (names' ++ before) ≡ Some (names'' ++ before))
+    → Knows (in_underline names) events local → Knows (in_underline names'') ((events ++ e ∷ []) ++ f ∷ []) local
+grows-twice names names' names'' events local e f alone lone step next h = grows names' names'' (events ++ e ∷ []) local f lone next (grows names names' events local e alone step h)
+
+-- Each row of a state keeps what is known, where no look waits
+abbrev Each : Given → Sight → Configuration Unit Unit → Rows Unit Unit → Type 0
+Each g s k rows = let k1 = with_local k (counts k.local) in EachRow (λ r. KnownAfter flow knows_flow (step_of r s k1) []) g s k1 rows
+
+abbrev EachCase : Given → Sight → Configuration Unit Unit → List (Case FlowByte Unit Unit) → Rows Unit Unit → Type 0
+EachCase g s k [] rest = Each g s k rest
+EachCase g s k (c ∷ cs) rest = Each g s k c.rows × EachCase g s k cs rest
+
+in-each : (g : Given) (s : Sight) (k : Configuration Unit Unit) (cs : List (Case FlowByte Unit Unit)) (rest : Rows Unit Unit) → EachCase g s k cs rest → (w : FlowByte) → Each g s k (rows_in cs rest w)
+in-each g s k [] rest h w = h
+in-each g s k (c ∷ cs) rest h w = elim (c.test w) as (λ t. Each g s k (cond t c.rows (rows_in cs rest w))) [
+  | true ↦ h.0
+  | false ↦ in-each g s k cs rest h.1 w
+]
+
+state-keeps : (name : Name) (c : Cased Unit Unit) → is_looking (Retry name) ≡ false
+    → ((g : Given) (s : Sight) (k : Configuration Unit Unit) → Knows (place_of (Retry name)) k.events k.local → Each g s k c.at_end × EachCase g s k c.cases c.rest) → Keeps name (cased c)
+state-keeps name c reads rows g s k [] b None h = (rows g s k h).0
+state-keeps name c reads rows g s k [] b (Some w) h = in-each g s k c.cases c.rest (rows g s k h).1 w
+state-keeps name c reads rows g s k (d ∷ []) b w h = absurd (let e : false ≡ true = sym reads ∙ h.0 in cc)
+state-keeps name c reads rows g s k (d ∷ e ∷ ds) b w h = absurd h
+
+chunk-begins : (g : Given) (s : Sight) (k : Configuration Unit Unit) → Knows before_chunk k.events k.local → Each g s k chunk_begins
 chunk-begins g s k h = ((λ c. linked-on s k c h), (λ c. first-chunk s k h))
 
 -- a paragraph begins: no chunk came before
 flow_before_content-keeps : KeepsKnowing flow knows_flow flow_before_content
-flow_before_content-keeps g s k [] b None h = before-first s k h
-flow_before_content-keeps g s k [] b (Some w) h = before-first s k h
-flow_before_content-keeps g s k (c ∷ []) b w h = absurd (let e : false ≡ true = h.0 in cc)
-flow_before_content-keeps g s k (c ∷ d ∷ cs) b w h = absurd h
+flow_before_content-keeps = state-keeps FlowBeforeContent flow_before_content_rows refl (λ g s k h. (before-first s k h, before-first s k h))
 
 -- before a chunk: it is linked to the one before, if there is one
 paragraph_start-keeps : KeepsKnowing flow knows_flow paragraph_start
-paragraph_start-keeps g s k [] b None h = paragraph-ends s k h
-paragraph_start-keeps g s k [] b (Some w) h = elim (is_line_feed w) as (λ t. let k1 = with_local k (counts k.local) in EachRow (λ r. KnownAfter flow knows_flow (step_of r s k1) []) g s k1 (cond t (row (exit Paragraph ∷ []) (Retry FlowAfter)) chunk_begins)) [
-  | true ↦ paragraph-ends s k h
-  | false ↦ chunk-begins g s k h
-]
-paragraph_start-keeps g s k (c ∷ []) b w h = absurd (let e : false ≡ true = h.0 in cc)
-paragraph_start-keeps g s k (c ∷ d ∷ cs) b w h = absurd h
+paragraph_start-keeps = state-keeps ParagraphStart paragraph_start_rows refl (λ g s k h. (paragraph-ends s k h, (paragraph-ends s k h, chunk-begins g s k h)))
 
 -- a chunk ends with its line ending
 content_chunk_inside-keeps : KeepsKnowing flow knows_flow content_chunk_inside
-content_chunk_inside-keeps g s k [] b None h = unused s k h
-content_chunk_inside-keeps g s k [] b (Some w) h = elim (is_line_feed w) as (λ t. let k1 = with_local k (counts k.local) in EachRow (λ r. KnownAfter flow knows_flow (step_of r s k1) []) g s k1 (cond t (row (consume ∷ exit Data ∷ []) (Next ParagraphStart)) (row [] Ok))) [
-  | true ↦ chunk-ends s k h
-  | false ↦ unused s k h
-]
-content_chunk_inside-keeps g s k (c ∷ []) b w h = absurd (let e : false ≡ true = h.0 in cc)
-content_chunk_inside-keeps g s k (c ∷ d ∷ cs) b w h = absurd h
+content_chunk_inside-keeps = state-keeps ContentChunkInside content_chunk_inside_rows refl (λ g s k h. (stops s k in_chunk h, (chunk-ends s k h, stops s k in_chunk h)))
+
+-- at the end of a line before one of some kind
+paragraph_line_start-keeps : KeepsKnowing flow knows_flow paragraph_line_start
+paragraph_line_start-keeps = state-keeps ParagraphLineStart paragraph_line_start_rows refl
+    (λ g s k h. (stops s k in_chunk h, (((λ c. goes-on s k h), (λ c. ((λ u. before-underline s k h), (λ u. both-exits s k h)))), stops s k in_chunk h)))
+
+-- the states of an underline
+content_definition_after-keeps : KeepsKnowing flow knows_flow content_definition_after
+content_definition_after-keeps = state-keeps ContentDefinitionAfter content_definition_after_rows refl (λ g s k h. (
+  stops s k (in_underline []) h,
+  (grows-twice [] (LineEnding ∷ []) [] k.events (counts k.local) _ _ refl refl (λ before. refl) (λ before. refl) (underlined s k [] h), stops s k (in_underline []) h),
+))
+
+abbrev in_blank : List EventName
+in_blank = SpaceOrTab ∷ HeadingSetextUnderline ∷ []
+
+abbrev in_marks : List EventName
+in_marks = Sequence ∷ HeadingSetextUnderline ∷ []
+
+abbrev between : List EventName
+between = HeadingSetextUnderline ∷ []
+
+heading_setext_start-keeps : KeepsKnowing flow knows_flow heading_setext_start
+heading_setext_start-keeps = state-keeps HeadingSetextStart heading_setext_start_rows refl (λ g s k h. (
+  stops s k (in_underline []) h,
+  (
+    leaves s k (in_underline []) h,
+    (
+      grows-twice [] between in_blank k.events (counts k.local) _ _ refl refl (λ before. refl) (λ before. refl) (underlined s k [] h),
+      grows-twice [] between in_marks k.events (counts k.local) _ _ refl refl (λ before. refl) (λ before. refl) (underlined s k [] h),
+    ),
+  ),
+))
+
+heading_setext_before-keeps : KeepsKnowing flow knows_flow heading_setext_before
+heading_setext_before-keeps = state-keeps HeadingSetextBefore heading_setext_before_rows refl (λ g s k h.
+    let left = grows in_blank between k.events (counts k.local) _ refl (λ before. refl) (underlined s k in_blank h) in
+    (left, (underlined s k in_blank h, left)))
+
+heading_setext_inside-keeps : KeepsKnowing flow knows_flow heading_setext_inside
+heading_setext_inside-keeps = state-keeps HeadingSetextInside heading_setext_inside_rows refl (λ g s k h.
+    let left = grows in_marks between k.events (counts k.local) _ refl (λ before. refl) (underlined s k in_marks h) in
+    (left, (underlined s k in_marks h, left)))
+
+heading_setext_after-keeps : KeepsKnowing flow knows_flow heading_setext_after
+heading_setext_after-keeps = state-keeps HeadingSetextAfter heading_setext_after_rows refl (λ g s k h. (
+  heading-is-made s k h,
+  (
+    heading-is-made s k h,
+    (
+      grows between in_blank k.events (counts k.local) _ refl (λ before. refl) (underlined s k between h),
+      grows between in_marks k.events (counts k.local) _ refl (λ before. refl) (underlined s k between h),
+    ),
+  ),
+))
 
 -- there is no chunk at the start
 at-starts : (flag : Bool) → let k : Configuration Unit Unit = start_configuration flag in All (λ name. knows_flow k.events k.local [] (Next name)) flow.starts
@@ -294,7 +437,8 @@ at-starts flag =
     let k : Configuration Unit Unit = start_configuration flag in
     let P = λ (name : Name). knows_flow k.events k.local [] (Next name) in
     let shape : AreInShape [] = record { inside = All-nil (EndsBelow 0); on = λ i j is. absurd (let same : None ≡ Some j = is in cc); back = λ i j is. absurd (let same : None ≡ Some i = is in cc) } in
-    let nothing : Knows elsewhere [] k.local = record { chunk = tt; shape = shape; resolvers = refl; edits = refl } in All-cons P FlowStart [] nothing (All-nil P)
+    let edits : RenameSpans [] [] = ([], record { events_are = refl; edits_are = refl; no_void = tt }, refl) in
+    let nothing : Knows elsewhere [] k.local = record { chunk = tt; shape = shape; resolvers = refl; edits = edits } in All-cons P FlowStart [] nothing (All-nil P)
 
 -- what is known when a state is fed is known when it is called
 by-feeding : (events : List Event) (local : Local Unit Unit) (choices : List Choice) (name : Name) → knows_flow events local choices (Next name) → knows_flow events local choices (Retry name)
@@ -323,25 +467,21 @@ by-nok : (k : Configuration Unit Unit) (choice : Choice) (choices : List Choice)
 by-nok k choice [] h = settles choice.kind choice.saved Nok (place_of choice.nok) k h.1.checks h.1.saved (subst (λ p. Knows p k.events k.local) h.1.same h.2)
 by-nok k choice (c ∷ cs) h = absurd h
 
--- once all was read no edit waits, and the events stay in shape
+-- once all was read the edits can be made, and the events stay in shape
 at-end : (k : Configuration Unit Unit) → IsBalanced k.events → knows_flow k.events k.local [] Ok → (k.local.resolvers ≡ []) × CanBeEdited k × IsInShape (edited k.local.map k.events)
 at-end k balanced h =
-    let shape : IsInShape k.events = record { balanced = balanced; inside = h.shape.inside; chained = λ i j. (h.shape.on i j, h.shape.back i j) } in
-    let unedited = h.edits in
-    let same = edited-none k.events h.shape.inside in
-    (h.resolvers, rw unedited (omega arith, h.shape.inside), rw (unedited, same) shape)
+    let (ts, told, same) = h.edits in
+    (h.resolvers, (told-edits-apart ts k.events k.local.map told, h.shape.inside), told-in-shape ts k.events k.local.map told same balanced h.shape.on h.shape.back)
 
 -- and so they are well formed
 ends-well-formed : (g : Given) (text : Text) (k : Configuration Unit Unit) → IsWellFormed g k.events → knows_flow k.events k.local [] Ok → IsWellFormed g (edited k.local.map k.events)
-ends-well-formed g text k formed h =
-    let unedited = h.edits in
-    let same = edited-none k.events h.shape.inside in rw (unedited, same) formed
+ends-well-formed g text k formed h = let (ts, told, same) = h.edits in told-well-formed ts k.events k.local.map told g same formed
 
 pub flow-known : IsKnownThroughout flow knows_flow EndsWellFormed
 flow-known = record {
   at_starts = at-starts;
   by_feeding = by-feeding;
-  by_rows = (flow_start-keeps, (flow_blank_line_after-keeps, (flow_after-keeps, (flow_blank_line_before-keeps, (non_lazy_continuation_start-keeps, (blank_line_start-keeps, (flow_before_thematic_break-keeps, (thematic_break_before-keeps, (thematic_break_at_break-keeps, (thematic_break_sequence-keeps, (flow_before_heading_atx-keeps, (string_start-keeps, (string_before_data-keeps, (string_before-keeps, (text_before-keeps, (text_before_data-keeps, (heading_atx_start-keeps, (heading_atx_sequence_open-keeps, (heading_atx_at_break-keeps, (heading_atx_before-keeps, (heading_atx_data-keeps, (code_indented_start-keeps, (code_indented_at_break-keeps, (code_indented_further_after-keeps, (code_indented_inside-keeps, (code_indented_further_start-keeps, (space_or_tab_eol_after_first-keeps, (code_indented_after-keeps, (code_indented_further_begin-keeps, (flow_before_raw-keeps, (flow_before_code_indented-keeps, (raw_flow_start-keeps, (raw_flow_sequence_open-keeps, (raw_flow_info_before-keeps, (raw_flow_before_sequence_open-keeps, (raw_flow_info-keeps, (raw_text_start-keeps, (raw_flow_meta_before-keeps, (raw_flow_meta-keeps, (raw_flow_at_non_lazy_break-keeps, (raw_flow_close_start-keeps, (raw_flow_before_sequence_close-keeps, (raw_flow_sequence_close-keeps, (raw_flow_after_sequence_close-keeps, (raw_flow_content_before-keeps, (raw_flow_content_start-keeps, (raw_flow_before_content_chunk-keeps, (raw_flow_content_chunk-keeps, (raw_flow_after-keeps, (raw_text_sequence_open-keeps, (raw_text_between-keeps, (raw_text_sequence_close-keeps, (raw_text_data-keeps, (flow_before_content-keeps, (paragraph_start-keeps, (paragraph_inside-keeps, (paragraph_line_start-keeps, (content_chunk_inside-keeps, tt))))))))))))))))))))))))))))))))))))))))))))))))))))))))));
+  by_rows = (flow_start-keeps, (flow_blank_line_after-keeps, (flow_after-keeps, (flow_blank_line_before-keeps, (non_lazy_continuation_start-keeps, (blank_line_start-keeps, (flow_before_thematic_break-keeps, (thematic_break_before-keeps, (thematic_break_at_break-keeps, (thematic_break_sequence-keeps, (flow_before_heading_atx-keeps, (string_start-keeps, (string_before_data-keeps, (string_before-keeps, (text_before-keeps, (text_before_data-keeps, (heading_atx_start-keeps, (heading_atx_sequence_open-keeps, (heading_atx_at_break-keeps, (heading_atx_before-keeps, (heading_atx_data-keeps, (code_indented_start-keeps, (code_indented_at_break-keeps, (code_indented_further_after-keeps, (code_indented_inside-keeps, (code_indented_further_start-keeps, (space_or_tab_eol_after_first-keeps, (code_indented_after-keeps, (code_indented_further_begin-keeps, (flow_before_raw-keeps, (flow_before_code_indented-keeps, (raw_flow_start-keeps, (raw_flow_sequence_open-keeps, (raw_flow_info_before-keeps, (raw_flow_before_sequence_open-keeps, (raw_flow_info-keeps, (raw_text_start-keeps, (raw_flow_meta_before-keeps, (raw_flow_meta-keeps, (raw_flow_at_non_lazy_break-keeps, (raw_flow_close_start-keeps, (raw_flow_before_sequence_close-keeps, (raw_flow_sequence_close-keeps, (raw_flow_after_sequence_close-keeps, (raw_flow_content_before-keeps, (raw_flow_content_start-keeps, (raw_flow_before_content_chunk-keeps, (raw_flow_content_chunk-keeps, (raw_flow_after-keeps, (raw_text_sequence_open-keeps, (raw_text_between-keeps, (raw_text_sequence_close-keeps, (raw_text_data-keeps, (flow_before_heading_setext-keeps, (flow_before_gfm_table-keeps, (content_definition_after-keeps, (heading_setext_start-keeps, (heading_setext_before-keeps, (heading_setext_inside-keeps, (heading_setext_after-keeps, (flow_before_content-keeps, (paragraph_start-keeps, (paragraph_inside-keeps, (paragraph_line_start-keeps, (content_chunk_inside-keeps, tt)))))))))))))))))))))))))))))))))))))))))))))))))))))))))))))))));
   by_ok = by-ok;
   by_nok = by-nok;
   at_end = at-end;

@@ -6,7 +6,7 @@ use Rattle.mdconstructs_tables.specs.Late.{hasty, IsLate}
 use Rattle.mdconstructs_tables.specs.RowTest.{never}
 use Rattle.mdconstructs_tables.proofs.Tables.Knowledge.{falling-lawful}
 use Rattle.mdconstructs_tables.proofs.Tables.Late.{all-late}
-use Rattle.mdconstructs_flow.specs.FlowBytes.{FlowByte, line_feed, blank, sign, star, underscore, dash, tick, tilde, other}
+use Rattle.mdconstructs_flow.specs.FlowBytes.{FlowByte, line_feed, blank, sign, star, underscore, dash, equals, tick, tilde, other}
 use Rattle.mdconstructs_flow.specs.FlowTable.{flow}
 use Rattle.mdconstructs_flow.specs.FlowKnows.{knows_flow, flow_rules}
 use Rattle.mdconstructs_flow.specs.Laws.Fit.{flow-fit, none}
@@ -20,6 +20,7 @@ late previous (Some sign) = refl
 late previous (Some star) = refl
 late previous (Some underscore) = refl
 late previous (Some dash) = refl
+late previous (Some equals) = refl
 late previous (Some tick) = refl
 late previous (Some tilde) = refl
 late previous (Some other) = refl

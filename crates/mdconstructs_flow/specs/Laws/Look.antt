@@ -5,7 +5,7 @@ use Rattle.mdconstructs_tables.specs.RowInvariant.{PaysRows}
 use Rattle.mdconstructs_flow.specs.FlowCosts.{looking, at_next_line}
 use Rattle.mdconstructs_flow.specs.Look.{flow_blank_line_before_rows, flow_blank_line_before, non_lazy_continuation_start_rows, non_lazy_continuation_start}
 use Rattle.mdconstructs_flow.specs.FlowTable.{flow}
-use Rattle.mdconstructs_flow.specs.Laws.Measures.{sign-word, star-word, underscore-word, dash-word, tick-word, tilde-word, at-feed, at-blank, at-word, at-other, at-in-line}
+use Rattle.mdconstructs_flow.specs.Laws.Measures.{sign-word, star-word, underscore-word, dash-word, equals-word, tick-word, tilde-word, at-feed, at-blank, at-word, at-other, at-in-line}
 use Rattle.mdconstructs_flow.specs.Laws.Paying.{pays}
 
 pub flow_blank_line_before-pays : PaysRows flow never flow_blank_line_before
@@ -23,10 +23,13 @@ flow_blank_line_before-pays b w text p read at seen called =
               (
                 λ w is b text p m. let q = at-word text p w m (dash-word w is) in omega arith,
                 (
-                  λ w is b text p m. let q = at-word text p w m (tick-word w is) in omega arith,
+                  λ w is b text p m. let q = at-word text p w m (equals-word w is) in omega arith,
                   (
-                    λ w is b text p m. let q = at-word text p w m (tilde-word w is) in omega arith,
-                    λ w others b text p m. let q = at-other text p w m others.1.1.1.1.1.1.1.0 others.1.1.1.1.1.1.0 in omega arith,
+                    λ w is b text p m. let q = at-word text p w m (tick-word w is) in omega arith,
+                    (
+                      λ w is b text p m. let q = at-word text p w m (tilde-word w is) in omega arith,
+                      λ w others b text p m. let q = at-other text p w m others.1.1.1.1.1.1.1.1.0 others.1.1.1.1.1.1.1.0 in omega arith,
+                    ),
                   ),
                 ),
               ),

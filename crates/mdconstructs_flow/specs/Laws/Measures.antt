@@ -9,7 +9,7 @@ use Rattle.markdown_tokenizer.specs.Sight.{byte_of}
 use Rattle.mdconstructs_tables.specs.Rows.{class_of}
 use Rattle.mdconstructs_tables.specs.RowInvariant.{class_in}
 use Rattle.mdconstructs_machines.specs.Breaks.{is_white}
-use Rattle.mdconstructs_flow.specs.FlowBytes.{FlowByte, line_feed, blank, sign, star, underscore, dash, tick, tilde, other, flow_byte, word_byte, is_line_feed, is_blank, is_word, is_sign, is_star, is_underscore, is_dash, is_tick, is_tilde, is_rule, is_fence}
+use Rattle.mdconstructs_flow.specs.FlowBytes.{FlowByte, line_feed, blank, sign, star, underscore, dash, equals, tick, tilde, other, flow_byte, word_byte, is_line_feed, is_blank, is_word, is_sign, is_star, is_underscore, is_dash, is_equals, is_tick, is_tilde, is_rule, is_underline, is_fence}
 use Rattle.mdconstructs_flow.specs.FlowCosts.{line, run, run_after}
 
 -- What holds of any bytes: a line and the run behind it are no longer than what is left
@@ -50,7 +50,7 @@ either-word false x y h k = k
 pub word-is-word : (b : ℕ) → is_word (word_byte b) ≡ true
 word-is-word b =
     either-word (b == 35) _ _ refl (either-word (b == 42) _ _ refl (either-word (b == 95) _ _ refl (either-word (b == 45) _ _ refl
-    (either-word (b == 96) _ _ refl (either-word (b == 126) _ _ refl refl)))))
+    (either-word (b == 61) _ _ refl (either-word (b == 96) _ _ refl (either-word (b == 126) _ _ refl refl))))))
 
 -- no such byte is a line ending, or white space
 pub word-no-feed : (x : FlowByte) → is_word x ≡ true → (is_line_feed x ≡ false) × (is_blank x ≡ false)
@@ -60,6 +60,7 @@ word-no-feed sign h = (refl, refl)
 word-no-feed star h = (refl, refl)
 word-no-feed underscore h = (refl, refl)
 word-no-feed dash h = (refl, refl)
+word-no-feed equals h = (refl, refl)
 word-no-feed tick h = (refl, refl)
 word-no-feed tilde h = (refl, refl)
 word-no-feed other h = (refl, refl)
@@ -163,6 +164,7 @@ rule-word sign h = refl
 rule-word star h = refl
 rule-word underscore h = refl
 rule-word dash h = refl
+rule-word equals h = refl
 rule-word tick h = refl
 rule-word tilde h = refl
 rule-word other h = refl
@@ -174,6 +176,7 @@ sign-word sign h = refl
 sign-word star h = refl
 sign-word underscore h = refl
 sign-word dash h = refl
+sign-word equals h = refl
 sign-word tick h = refl
 sign-word tilde h = refl
 sign-word other h = refl
@@ -185,6 +188,7 @@ star-word sign h = refl
 star-word star h = refl
 star-word underscore h = refl
 star-word dash h = refl
+star-word equals h = refl
 star-word tick h = refl
 star-word tilde h = refl
 star-word other h = refl
@@ -196,6 +200,7 @@ underscore-word sign h = refl
 underscore-word star h = refl
 underscore-word underscore h = refl
 underscore-word dash h = refl
+underscore-word equals h = refl
 underscore-word tick h = refl
 underscore-word tilde h = refl
 underscore-word other h = refl
@@ -207,9 +212,22 @@ dash-word sign h = refl
 dash-word star h = refl
 dash-word underscore h = refl
 dash-word dash h = refl
+dash-word equals h = refl
 dash-word tick h = refl
 dash-word tilde h = refl
 dash-word other h = refl
+
+pub equals-word : (w : FlowByte) → is_equals w ≡ true → is_word w ≡ true
+equals-word line_feed h = h
+equals-word blank h = h
+equals-word sign h = refl
+equals-word star h = refl
+equals-word underscore h = refl
+equals-word dash h = refl
+equals-word equals h = refl
+equals-word tick h = refl
+equals-word tilde h = refl
+equals-word other h = refl
 
 pub tick-word : (w : FlowByte) → is_tick w ≡ true → is_word w ≡ true
 tick-word line_feed h = h
@@ -218,6 +236,7 @@ tick-word sign h = refl
 tick-word star h = refl
 tick-word underscore h = refl
 tick-word dash h = refl
+tick-word equals h = refl
 tick-word tick h = refl
 tick-word tilde h = refl
 tick-word other h = refl
@@ -229,9 +248,22 @@ tilde-word sign h = refl
 tilde-word star h = refl
 tilde-word underscore h = refl
 tilde-word dash h = refl
+tilde-word equals h = refl
 tilde-word tick h = refl
 tilde-word tilde h = refl
 tilde-word other h = refl
+
+pub underline-word : (w : FlowByte) → is_underline w ≡ true → is_word w ≡ true
+underline-word line_feed h = h
+underline-word blank h = h
+underline-word sign h = refl
+underline-word star h = refl
+underline-word underscore h = refl
+underline-word dash h = refl
+underline-word equals h = refl
+underline-word tick h = refl
+underline-word tilde h = refl
+underline-word other h = refl
 
 pub fence-word : (w : FlowByte) → is_fence w ≡ true → is_word w ≡ true
 fence-word line_feed h = h
@@ -240,6 +272,7 @@ fence-word sign h = refl
 fence-word star h = refl
 fence-word underscore h = refl
 fence-word dash h = refl
+fence-word equals h = refl
 fence-word tick h = refl
 fence-word tilde h = refl
 fence-word other h = refl

@@ -51,7 +51,7 @@ pub returns-in-Flow-clause-events : goal.returns-in-Flow-clause-events
 returns-in-Flow-clause-events c = rw (c.in-Flow.is, c.if-choice-3.true) (rw c.options_with.ensures at c.read_flow_and_texts.ensures.events)
 
 pub returns-clause-events : goal.returns-clause-events
-returns-clause-events c = rw (c.in-Flow-2.is, c.if-choice-3.false) (rw c.options_with.ensures at c.read_by-in-Flow-2.ensures.events)
+returns-clause-events c = rw (c.in-Flow-2.is, c.if-choice-3.false) (rw c.options_with.ensures at c.read_flow.ensures.events)
 
 pub returns-in-Lines-clause-err : goal.returns-in-Lines-clause-err
 returns-in-Lines-clause-err c = only-memory c.read_by.result (λ m e. no-run-refused lines_rules lines-refuse-nothing _ false _ m (c.read_by.ensures.message m e)) c.read_by.ensures.ready c.read_by.ensures.cause
@@ -83,4 +83,4 @@ pub returns-in-Text-2-clause-err : goal.returns-in-Text-2-clause-err
 returns-in-Text-2-clause-err c = only-memory c.read_by-in-Text-2.result (λ m e. no-run-refused text_rules text-refuses-nothing _ false _ m (c.read_by-in-Text-2.ensures.message m e)) c.read_by-in-Text-2.ensures.ready c.read_by-in-Text-2.ensures.cause
 
 pub returns-clause-err : goal.returns-clause-err
-returns-clause-err c = only-memory c.read_by-in-Flow-2.result (λ m e. no-run-refused flow_rules flow-refuses-nothing _ false _ m (c.read_by-in-Flow-2.ensures.message m e)) c.read_by-in-Flow-2.ensures.ready c.read_by-in-Flow-2.ensures.cause
+returns-clause-err c = c.read_flow.ensures.err

@@ -5,9 +5,7 @@ use Rattle.mdconstructs_documents.proofs.documents.read_flow_and_texts.Goals as 
 
 pub returns-in_err-events-clause-err : goal.returns-in_err-events-clause-err
 returns-in_err-events-clause-err c =
-    let kept = c.in_err-events.ensures in
-    let memory : c.in_err-events.field-0.0 ≡ OfFault Memory =
-    only-memory (Err c.in_err-events.field-0.0) (λ m e. no-run-refused flow_rules flow-refuses-nothing _ false _ m (kept.message m e)) kept.ready kept.cause in
+    let memory : c.in_err-events.field-0.0 ≡ OfFault Memory = c.in_err-events.ensures.err in
     err-if c.from_residual.result _ _ (λ f is. is ∙ memory) c.from_residual.ensures.1
 
 pub with_children-requires-clause-start : goal.with_children-requires-clause-start
@@ -15,7 +13,7 @@ with_children-requires-clause-start c = (1, omega arith, refl)
 
 pub returns-clause-events : goal.returns-clause-events
 returns-clause-events c =
-    IfOk-weaker c.with_children.result _ _ (λ events h. flow-texts c.args.options.now c.args.bytes.now c.read_by.ensures.document c.in_ok-events.events.items events.items c.in_ok-events.ensures.events h) c.with_children.ensures.events
+    IfOk-weaker c.with_children.result _ _ (λ events h. flow-texts c.args.options.now c.args.bytes.now c.read_flow.ensures.document c.in_ok-events.events.items events.items c.in_ok-events.ensures.events h) c.with_children.ensures.events
 
 pub returns-clause-err : goal.returns-clause-err
 returns-clause-err c =

@@ -9,11 +9,13 @@ use Rattle.mdconstructs_flow.specs.CodeFenced.{flow_before_raw, flow_before_code
 use Rattle.mdconstructs_flow.specs.CodeIndented.{code_indented_start, code_indented_at_break, code_indented_further_after, code_indented_inside, space_or_tab_eol_after_first, code_indented_after, code_indented_further_begin, code_indented_further_start}
 use Rattle.mdconstructs_flow.specs.Flow.{flow_start, flow_blank_line_after, flow_after}
 use Rattle.mdconstructs_flow.specs.HeadingAtx.{flow_before_heading_atx, string_start, string_before_data, string_before, text_before, text_before_data, heading_atx_start, heading_atx_sequence_open, heading_atx_at_break, heading_atx_before, heading_atx_data}
+use Rattle.mdconstructs_flow.specs.HeadingEdits.{CanEndHeading}
+use Rattle.mdconstructs_flow.specs.HeadingSetext.{flow_before_heading_setext, flow_before_gfm_table, content_definition_after, heading_setext_start, heading_setext_before, heading_setext_inside, heading_setext_after}
 use Rattle.mdconstructs_flow.specs.Look.{non_lazy_continuation_start, flow_blank_line_before}
 use Rattle.mdconstructs_flow.specs.Paragraph.{flow_before_content, paragraph_start, paragraph_inside, paragraph_line_start, content_chunk_inside}
 use Rattle.mdconstructs_flow.specs.ThematicBreak.{flow_before_thematic_break, thematic_break_before, thematic_break_at_break, thematic_break_sequence}
 use Rattle.mdconstructs_flow.specs.FlowTable.{flow}
-use Rattle.mdconstructs_flow.proofs.Called.{known-before}
+use Rattle.mdconstructs_flow.proofs.Called.{known-before, known-underline, can-end}
 use Rattle.mdconstructs_flow.proofs.flow.FlowMachine.call.Goals as goal
 
 pub flow_start-requires : goal.flow_start-requires
@@ -174,6 +176,33 @@ raw_text_sequence_close-requires c = callable flow counts c.args.name raw_text_s
 
 pub raw_text_data-requires : goal.raw_text_data-requires
 raw_text_data-requires c = callable flow counts c.args.name raw_text_data _ _ (search rules) refl c.requires.invariant.holds c.begin.ensures
+
+pub flow_before_heading_setext-requires : goal.flow_before_heading_setext-requires
+flow_before_heading_setext-requires c = callable flow counts c.args.name flow_before_heading_setext _ _ (search rules) refl c.requires.invariant.holds c.begin.ensures
+
+pub flow_before_gfm_table-requires : goal.flow_before_gfm_table-requires
+flow_before_gfm_table-requires c = callable flow counts c.args.name flow_before_gfm_table _ _ (search rules) refl c.requires.invariant.holds c.begin.ensures
+
+pub content_definition_after-requires : goal.content_definition_after-requires
+content_definition_after-requires c = callable flow counts c.args.name content_definition_after _ _ (search rules) refl c.requires.invariant.holds c.begin.ensures
+
+pub heading_setext_start-requires : goal.heading_setext_start-requires
+heading_setext_start-requires c = callable flow counts c.args.name heading_setext_start _ _ (search rules) refl c.requires.invariant.holds c.begin.ensures
+
+pub heading_setext_before-requires : goal.heading_setext_before-requires
+heading_setext_before-requires c = callable flow counts c.args.name heading_setext_before _ _ (search rules) refl c.requires.invariant.holds c.begin.ensures
+
+pub heading_setext_inside-requires : goal.heading_setext_inside-requires
+heading_setext_inside-requires c = callable flow counts c.args.name heading_setext_inside _ _ (search rules) refl c.requires.invariant.holds c.begin.ensures
+
+pub heading_setext_after-requires : goal.heading_setext_after-requires
+heading_setext_after-requires c =
+    let t = c.args.t.now in
+    record {
+      called = callable flow counts c.args.name heading_setext_after _ _ (search rules) refl c.requires.invariant.holds c.begin.ensures;
+      heading = subst (λ u. CanEndHeading u.configuration) (sym c.begin.ensures)
+          (can-end (begun counts t).configuration (known-underline t.configuration.events t.configuration.local t.choices c.args.name.number (search rules) c.requires.invariant.known));
+    }
 
 pub flow_before_content-requires : goal.flow_before_content-requires
 flow_before_content-requires c = callable flow counts c.args.name flow_before_content _ _ (search rules) refl c.requires.invariant.holds c.begin.ensures

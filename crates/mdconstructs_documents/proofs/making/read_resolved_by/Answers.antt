@@ -1,5 +1,5 @@
 use Rattle.mdconstructs_documents.proofs.Prelude.{◌<◌, arith, refl, All-from_get_or, IsTabSize}
-use Rattle.mdconstructs_documents.proofs.making.read_by.Goals as goal
+use Rattle.mdconstructs_documents.proofs.making.read_resolved_by.Goals as goal
 
 pub returns-clause-events : goal.returns-clause-events
 returns-clause-events g c = let ran = rw (c.in-Some.ensures.bytes, c.in-Some.ensures.options, c.in-Some.ensures.machine) at c.in_ok-events.ensures.ok in (_, ran)
