@@ -1,5 +1,6 @@
 -- The look at a heading, and the one at an info string, say what the bytes of the line are.
 use Rattle.std.proofs.Common.{◌≡◌, ℕ, ◌+◌, ◌==◌, ◌∷◌, List, [], Bool, true, false, cond, Option, Some, refl, sym, ap, ◌∙◌, subst, map, nat_lt}
+use Rattle.std.specs.Char.{is_ascii_alphabetic, is_ascii_digit}
 use Rattle.std.proofs.lemmas.Bool.{eqb-true}
 use Rattle.markdown_base.specs.declared.event.Event.{Event}
 use Rattle.markdown_base.specs.declared.event.Name.{Name as EventName}
@@ -16,7 +17,7 @@ use Rattle.mdconstructs_tables.specs.Looks.{Look, scan, shows}
 use Rattle.mdconstructs_tables.specs.Rows.{consume, write, Rows, row, when}
 use Rattle.mdconstructs_machines.specs.Breaks.{is_white, is_ok, one_more}
 use Rattle.mdconstructs_machines.specs.Tables.{counts}
-use Rattle.mdconstructs_flow.specs.FlowBytes.{FlowByte, Cased, line_feed, blank, sign, star, underscore, dash, equals, tick, tilde, other, flow_byte, word_byte, is_line_feed, is_blank, is_sign, is_tick}
+use Rattle.mdconstructs_flow.specs.FlowBytes.{FlowByte, Cased, line_feed, blank, sign, star, underscore, dash, equals, tick, tilde, flow_byte, html_byte, word_byte, is_line_feed, is_blank, is_sign, is_tick}
 use Rattle.mdconstructs_flow.specs.FlowWrites.{kind_becomes, size_becomes, size_grows, count_becomes, count_grows, text_grows, signs_end, signs_were_text, has_room}
 use Rattle.mdconstructs_flow.specs.FlowTable.{flow}
 use Rattle.mdconstructs_flow.specs.CodeFenced.{flow_before_code_indented_rows}
@@ -29,16 +30,29 @@ neither : (test : FlowByte → Bool) (t : Bool) (x y : FlowByte) → test x ≡ 
 neither test true x y h k = h
 neither test false x y h k = k
 
+-- no byte of HTML alone is a number sign or a grave accent
+html-no-sign : (b : ℕ) → is_sign (html_byte b) ≡ false
+html-no-sign b =
+    neither is_sign (b == 60) _ _ refl (neither is_sign (b == 62) _ _ refl (neither is_sign (b == 47) _ _ refl (neither is_sign (b == 33) _ _ refl (neither is_sign (b == 63) _ _ refl
+    (neither is_sign (b == 91) _ _ refl (neither is_sign (b == 93) _ _ refl (neither is_sign (b == 34) _ _ refl (neither is_sign (b == 39) _ _ refl (neither is_sign (b == 58) _ _ refl
+    (neither is_sign (b == 46) _ _ refl (neither is_sign (is_ascii_alphabetic b) _ _ refl (neither is_sign (is_ascii_digit b) _ _ refl refl))))))))))))
+
+html-no-tick : (b : ℕ) → is_tick (html_byte b) ≡ false
+html-no-tick b =
+    neither is_tick (b == 60) _ _ refl (neither is_tick (b == 62) _ _ refl (neither is_tick (b == 47) _ _ refl (neither is_tick (b == 33) _ _ refl (neither is_tick (b == 63) _ _ refl
+    (neither is_tick (b == 91) _ _ refl (neither is_tick (b == 93) _ _ refl (neither is_tick (b == 34) _ _ refl (neither is_tick (b == 39) _ _ refl (neither is_tick (b == 58) _ _ refl
+    (neither is_tick (b == 46) _ _ refl (neither is_tick (is_ascii_alphabetic b) _ _ refl (neither is_tick (is_ascii_digit b) _ _ refl refl))))))))))))
+
 sign-test : (b : ℕ) → is_sign (word_byte b) ≡ (b == 35)
-sign-test b = elim (b == 35) as (λ t. is_sign (cond t sign (cond (b == 42) star (cond (b == 95) underscore (cond (b == 45) dash (cond (b == 61) equals (cond (b == 96) tick (cond (b == 126) tilde other))))))) ≡ t) [
+sign-test b = elim (b == 35) as (λ t. is_sign (cond t sign (cond (b == 42) star (cond (b == 95) underscore (cond (b == 45) dash (cond (b == 61) equals (cond (b == 96) tick (cond (b == 126) tilde (html_byte b)))))))) ≡ t) [
   | true ↦ refl
-  | false ↦ neither is_sign (b == 42) _ _ refl (neither is_sign (b == 95) _ _ refl (neither is_sign (b == 45) _ _ refl (neither is_sign (b == 61) _ _ refl (neither is_sign (b == 96) _ _ refl (neither is_sign (b == 126) _ _ refl refl)))))
+  | false ↦ neither is_sign (b == 42) _ _ refl (neither is_sign (b == 95) _ _ refl (neither is_sign (b == 45) _ _ refl (neither is_sign (b == 61) _ _ refl (neither is_sign (b == 96) _ _ refl (neither is_sign (b == 126) _ _ refl (html-no-sign b))))))
 ]
 
 tick-test : (b : ℕ) → is_tick (word_byte b) ≡ (b == 96)
-tick-test b = elim (b == 96) as (λ t. (b == 96) ≡ t → is_tick (cond (b == 35) sign (cond (b == 42) star (cond (b == 95) underscore (cond (b == 45) dash (cond (b == 61) equals (cond t tick (cond (b == 126) tilde other))))))) ≡ t) [
+tick-test b = elim (b == 96) as (λ t. (b == 96) ≡ t → is_tick (cond (b == 35) sign (cond (b == 42) star (cond (b == 95) underscore (cond (b == 45) dash (cond (b == 61) equals (cond t tick (cond (b == 126) tilde (html_byte b)))))))) ≡ t) [
   | true ↦ λ e. subst (λ i. is_tick (cond (i == 35) sign (cond (i == 42) star (cond (i == 95) underscore (cond (i == 45) dash (cond (i == 61) equals tick))))) ≡ true) (sym (eqb-true b 96 e)) refl
-  | false ↦ λ e. neither is_tick (b == 35) _ _ refl (neither is_tick (b == 42) _ _ refl (neither is_tick (b == 95) _ _ refl (neither is_tick (b == 45) _ _ refl (neither is_tick (b == 61) _ _ refl (neither is_tick (b == 126) _ _ refl refl)))))
+  | false ↦ λ e. neither is_tick (b == 35) _ _ refl (neither is_tick (b == 42) _ _ refl (neither is_tick (b == 95) _ _ refl (neither is_tick (b == 45) _ _ refl (neither is_tick (b == 61) _ _ refl (neither is_tick (b == 126) _ _ refl (html-no-tick b))))))
 ] refl
 
 -- a byte that is one of these is no line ending and no white space

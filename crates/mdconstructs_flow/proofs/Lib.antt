@@ -3,4 +3,5 @@ pub mod Called
 pub mod HeadingEdits
 pub mod Headings
 pub mod NoRefusals
+pub mod TagNames
 pub mod ThematicBreaks

@@ -2,7 +2,7 @@
 use Rattle.std.proofs.Common.{◌≡◌, [], Option, Some, None, refl}
 use Rattle.mdconstructs_tables.specs.Refusals.{refusing, RulesRefuseNothing}
 use Rattle.mdconstructs_tables.proofs.Tables.Refusals.{nothing-found, refuse-nothing, table-steps}
-use Rattle.mdconstructs_flow.specs.FlowBytes.{FlowByte, line_feed, blank, sign, star, underscore, dash, equals, tick, tilde, other}
+use Rattle.mdconstructs_flow.specs.FlowBytes.{FlowByte, line_feed, blank, sign, star, underscore, dash, equals, tick, tilde, less, greater, slash, bang, question, opening, closing, double, single, colon, dot, letter, digit, other}
 use Rattle.mdconstructs_flow.specs.FlowKnows.{flow_rules}
 use Rattle.mdconstructs_flow.specs.FlowTable.{flow}
 
@@ -17,6 +17,19 @@ flow-none previous (Some dash) = refl
 flow-none previous (Some equals) = refl
 flow-none previous (Some tick) = refl
 flow-none previous (Some tilde) = refl
+flow-none previous (Some less) = refl
+flow-none previous (Some greater) = refl
+flow-none previous (Some slash) = refl
+flow-none previous (Some bang) = refl
+flow-none previous (Some question) = refl
+flow-none previous (Some opening) = refl
+flow-none previous (Some closing) = refl
+flow-none previous (Some double) = refl
+flow-none previous (Some single) = refl
+flow-none previous (Some colon) = refl
+flow-none previous (Some dot) = refl
+flow-none previous (Some (letter byte)) = refl
+flow-none previous (Some (digit byte)) = refl
 flow-none previous (Some other) = refl
 
 pub flow-refuses-nothing : RulesRefuseNothing flow_rules

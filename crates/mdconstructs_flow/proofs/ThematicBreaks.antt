@@ -20,7 +20,7 @@ use Rattle.mdconstructs_tables.specs.Looks.{Look, scan, shows, unfed_look}
 use Rattle.mdconstructs_tables.specs.Rows.{consume, write, row, when}
 use Rattle.mdconstructs_machines.specs.Breaks.{is_white, is_ok, one_more}
 use Rattle.mdconstructs_machines.specs.Tables.{counts}
-use Rattle.mdconstructs_flow.specs.FlowBytes.{line_feed, blank, sign, star, underscore, dash, equals, tick, tilde, other, flow_byte, word_byte, is_line_feed, is_blank, is_rule}
+use Rattle.mdconstructs_flow.specs.FlowBytes.{line_feed, blank, sign, star, underscore, dash, equals, tick, tilde, less, greater, slash, bang, question, opening, closing, double, single, colon, dot, letter, digit, other, flow_byte, word_byte, is_line_feed, is_blank, is_rule}
 use Rattle.mdconstructs_flow.specs.FlowWrites.{kind_becomes, size_grows, has_three, is_byte, at_mark}
 use Rattle.mdconstructs_flow.specs.FlowTable.{flow}
 use Rattle.mdconstructs_flow.specs.ThematicBreak.{flow_before_thematic_break_rows}
@@ -39,6 +39,19 @@ looks-quiet previous (Some dash) = refl
 looks-quiet previous (Some equals) = refl
 looks-quiet previous (Some tick) = refl
 looks-quiet previous (Some tilde) = refl
+looks-quiet previous (Some less) = refl
+looks-quiet previous (Some greater) = refl
+looks-quiet previous (Some slash) = refl
+looks-quiet previous (Some bang) = refl
+looks-quiet previous (Some question) = refl
+looks-quiet previous (Some opening) = refl
+looks-quiet previous (Some closing) = refl
+looks-quiet previous (Some double) = refl
+looks-quiet previous (Some single) = refl
+looks-quiet previous (Some colon) = refl
+looks-quiet previous (Some dot) = refl
+looks-quiet previous (Some (letter byte)) = refl
+looks-quiet previous (Some (digit byte)) = refl
 looks-quiet previous (Some other) = refl
 
 -- A mark is in the class of marks, and is neither white space nor a line ending

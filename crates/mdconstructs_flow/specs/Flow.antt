@@ -1,18 +1,18 @@
 -- Before and behind blocks. At each line a look says first what kind of line it is; then its block is read without a choice.
 use Rattle.std.specs.Prelude.{[], ◌∷◌}
-use Rattle.markdown_base.specs.declared.event.Name.TheVariants.{BlankLineEnding, CodeFenced, CodeFencedFence, CodeFencedFenceSequence, CodeIndented, HeadingAtx, HeadingAtxSequence, LineEnding, SpaceOrTab, ThematicBreak, ThematicBreakSequence as Marks}
+use Rattle.markdown_base.specs.declared.event.Name.TheVariants.{BlankLineEnding, CodeFenced, CodeFencedFence, CodeFencedFenceSequence, CodeIndented, HeadingAtx, HeadingAtxSequence, HtmlFlow, HtmlFlowData, LineEnding, SpaceOrTab, ThematicBreak, ThematicBreakSequence as Marks}
 use Rattle.markdown_base.specs.declared.state.State.TheVariants.{Next, Retry, Ok}
-use Rattle.markdown_base.specs.declared.state.TheConstants.Name.{FlowStart, FlowBlankLineAfter, FlowAfter, FlowBlankLineBefore, BlankLineStart, ThematicBreakBefore, ThematicBreakSequence, HeadingAtxStart, HeadingAtxSequenceOpen, CodeIndentedStart, RawFlowStart, RawFlowSequenceOpen, FlowBeforeContent}
+use Rattle.markdown_base.specs.declared.state.TheConstants.Name.{FlowStart, FlowBlankLineAfter, FlowAfter, FlowBlankLineBefore, BlankLineStart, ThematicBreakBefore, ThematicBreakSequence, HeadingAtxStart, HeadingAtxSequenceOpen, CodeIndentedStart, RawFlowStart, RawFlowSequenceOpen, HtmlFlowStart, HtmlFlowContinuation, FlowBeforeContent}
 use Rattle.markdown_tokenizer.specs.declared.waiting.AttemptKind.TheVariants.{Check}
 use Rattle.mdconstructs_tables.specs.Cases.{at}
 use Rattle.mdconstructs_tables.specs.Rows.{enter, exit, consume, write, choose, Rows, row, when, at_bytes, at_bytes_or_end, StateRows, costs, state}
-use Rattle.mdconstructs_flow.specs.FlowBytes.{FlowByte, is_line_feed, is_in_line, is_blank, is_sign, is_rule, is_fence, Cased, cased}
+use Rattle.mdconstructs_flow.specs.FlowBytes.{FlowByte, is_line_feed, is_in_line, is_blank, is_sign, is_rule, is_fence, is_less, Cased, cased}
 use Rattle.mdconstructs_flow.specs.FlowCosts.{starting, reading, looked}
 use Rattle.mdconstructs_flow.specs.FlowWrites.{kind_is, is_break, indent_becomes, count_becomes}
 
 -- white space begins a line of this kind; what could only be an underline begins a paragraph
 abbrev pub blank_begins_line : {R D : Type 0} → Rows R D
-blank_begins_line = when (kind_is BlankLineEnding) (row (enter SpaceOrTab ∷ consume ∷ []) (Next BlankLineStart)) (when (kind_is CodeIndented) (row (enter CodeIndented ∷ enter SpaceOrTab ∷ write (count_becomes 1) ∷ consume ∷ []) (Next CodeIndentedStart)) (when (kind_is HeadingAtx) (row (enter HeadingAtx ∷ enter SpaceOrTab ∷ consume ∷ []) (Next HeadingAtxStart)) (when (kind_is CodeFenced) (row (enter CodeFenced ∷ enter CodeFencedFence ∷ enter SpaceOrTab ∷ consume ∷ []) (Next RawFlowStart)) (when is_break (row (enter ThematicBreak ∷ enter SpaceOrTab ∷ consume ∷ []) (Next ThematicBreakBefore)) (row [] (Retry FlowBeforeContent))))))
+blank_begins_line = when (kind_is BlankLineEnding) (row (enter SpaceOrTab ∷ consume ∷ []) (Next BlankLineStart)) (when (kind_is CodeIndented) (row (enter CodeIndented ∷ enter SpaceOrTab ∷ write (count_becomes 1) ∷ consume ∷ []) (Next CodeIndentedStart)) (when (kind_is HeadingAtx) (row (enter HeadingAtx ∷ enter SpaceOrTab ∷ consume ∷ []) (Next HeadingAtxStart)) (when (kind_is CodeFenced) (row (enter CodeFenced ∷ enter CodeFencedFence ∷ enter SpaceOrTab ∷ consume ∷ []) (Next RawFlowStart)) (when (kind_is HtmlFlow) (row (enter HtmlFlow ∷ enter HtmlFlowData ∷ consume ∷ []) (Next HtmlFlowStart)) (when is_break (row (enter ThematicBreak ∷ enter SpaceOrTab ∷ consume ∷ []) (Next ThematicBreakBefore)) (row [] (Retry FlowBeforeContent)))))))
 
 -- a mark of thematic breaks does
 abbrev pub mark_begins_line : {R D : Type 0} → Rows R D
@@ -37,7 +37,8 @@ flow_blank_line_after_rows = record {
       at is_blank blank_begins_line
       ∷ at is_sign (row (enter HeadingAtx ∷ enter HeadingAtxSequence ∷ consume ∷ []) (Next HeadingAtxSequenceOpen))
       ∷ at is_rule mark_begins_line
-      ∷ at is_fence (row (enter CodeFenced ∷ enter CodeFencedFence ∷ enter CodeFencedFenceSequence ∷ consume ∷ []) (Next RawFlowSequenceOpen)) ∷ [];
+      ∷ at is_fence (row (enter CodeFenced ∷ enter CodeFencedFence ∷ enter CodeFencedFenceSequence ∷ consume ∷ []) (Next RawFlowSequenceOpen))
+      ∷ at is_less (row (enter HtmlFlow ∷ enter HtmlFlowData ∷ []) (Retry HtmlFlowContinuation)) ∷ [];
   rest = row [] (Retry FlowBeforeContent);
 }
 

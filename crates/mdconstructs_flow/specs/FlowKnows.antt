@@ -9,7 +9,7 @@ use Rattle.markdown_base.specs.declared.event.Name.TheVariants.{Data, HeadingSet
 use Rattle.markdown_base.specs.declared.state.Name.{Name}
 use Rattle.markdown_base.specs.declared.state.State.{State}
 use Rattle.markdown_base.specs.declared.state.State.TheVariants.{Next, Retry}
-use Rattle.markdown_base.specs.declared.state.TheConstants.Name.{FlowBlankLineBefore, NonLazyContinuationStart, FlowBeforeThematicBreak, FlowBeforeHeadingSetext, FlowBeforeGfmTable, FlowBeforeHeadingAtx, StringStart, StringBeforeData, StringBefore, TextBefore, TextBeforeData, CodeIndentedFurtherStart, FlowBeforeRaw, FlowBeforeCodeIndented, RawFlowCloseStart, RawFlowBeforeSequenceClose, RawFlowSequenceClose, RawFlowAfterSequenceClose, ParagraphStart, ParagraphInside, ParagraphLineStart, ContentChunkInside, ContentDefinitionAfter, HeadingSetextStart, HeadingSetextBefore, HeadingSetextInside, HeadingSetextAfter}
+use Rattle.markdown_base.specs.declared.state.TheConstants.Name.{FlowBlankLineBefore, NonLazyContinuationStart, FlowBeforeThematicBreak, FlowBeforeHeadingSetext, FlowBeforeGfmTable, FlowBeforeHeadingAtx, StringStart, StringBeforeData, StringBefore, TextBefore, TextBeforeData, CodeIndentedFurtherStart, FlowBeforeRaw, FlowBeforeCodeIndented, RawFlowCloseStart, RawFlowBeforeSequenceClose, RawFlowSequenceClose, RawFlowAfterSequenceClose, HtmlFlowOpen, HtmlFlowDeclarationOpen, HtmlFlowCommentOpenInside, HtmlFlowCdataOpenInside, HtmlFlowTagCloseStart, HtmlFlowTagName, HtmlFlowBasicSelfClosing, HtmlFlowCompleteClosingTagAfter, HtmlFlowCompleteEnd, HtmlFlowCompleteAttributeNameBefore, HtmlFlowCompleteAttributeName, HtmlFlowCompleteAttributeNameAfter, HtmlFlowCompleteAttributeValueBefore, HtmlFlowCompleteAttributeValueQuoted, HtmlFlowCompleteAttributeValueQuotedAfter, HtmlFlowCompleteAttributeValueUnquoted, HtmlFlowCompleteAfter, HtmlFlowBlankLineBefore, BlankLineAfter, ParagraphStart, ParagraphInside, ParagraphLineStart, ContentChunkInside, ContentDefinitionAfter, HeadingSetextStart, HeadingSetextBefore, HeadingSetextInside, HeadingSetextAfter}
 use Rattle.markdown_edits.specs.Edits.{Edit}
 use Rattle.markdown_edits.specs.OpenNames.{names_after_all}
 use Rattle.markdown_tokenizer.specs.declared.waiting.AttemptKind.TheVariants.{Check}
@@ -30,7 +30,10 @@ looks =
     FlowBlankLineBefore ∷ NonLazyContinuationStart ∷ FlowBeforeThematicBreak ∷ FlowBeforeHeadingSetext ∷ FlowBeforeGfmTable
     ∷ FlowBeforeHeadingAtx ∷ StringStart ∷ StringBeforeData ∷ StringBefore ∷ TextBefore ∷ TextBeforeData
     ∷ CodeIndentedFurtherStart
-    ∷ FlowBeforeRaw ∷ FlowBeforeCodeIndented ∷ RawFlowCloseStart ∷ RawFlowBeforeSequenceClose ∷ RawFlowSequenceClose ∷ RawFlowAfterSequenceClose ∷ []
+    ∷ FlowBeforeRaw ∷ FlowBeforeCodeIndented ∷ RawFlowCloseStart ∷ RawFlowBeforeSequenceClose ∷ RawFlowSequenceClose ∷ RawFlowAfterSequenceClose
+    ∷ HtmlFlowOpen ∷ HtmlFlowDeclarationOpen ∷ HtmlFlowCommentOpenInside ∷ HtmlFlowCdataOpenInside ∷ HtmlFlowTagCloseStart ∷ HtmlFlowTagName ∷ HtmlFlowBasicSelfClosing ∷ HtmlFlowCompleteClosingTagAfter
+    ∷ HtmlFlowCompleteEnd ∷ HtmlFlowCompleteAttributeNameBefore ∷ HtmlFlowCompleteAttributeName ∷ HtmlFlowCompleteAttributeNameAfter ∷ HtmlFlowCompleteAttributeValueBefore ∷ HtmlFlowCompleteAttributeValueQuoted ∷ HtmlFlowCompleteAttributeValueQuotedAfter ∷ HtmlFlowCompleteAttributeValueUnquoted
+    ∷ HtmlFlowCompleteAfter ∷ HtmlFlowBlankLineBefore ∷ BlankLineAfter ∷ []
 
 -- the states in a chunk of a paragraph
 abbrev pub chunks : List Name

@@ -1,22 +1,23 @@
--- What looks say of a line: the bytes that are left, without states, positions or classes.
+-- What looks say of a line. It is said of the bytes that are left, without states, positions or classes.
 use Rattle.std.specs.Prelude.{◌≡◌, ℕ, ◌==◌, ◌||◌, List, [], ◌∷◌, Bool, true, false, cond, nat_lt, nat_le, map, drop, Option}
 use Rattle.markdown_base.specs.declared.event.Event.{Event}
 use Rattle.markdown_base.specs.declared.event.Name.{Name as EventName}
 use Rattle.markdown_base.specs.declared.state.Name.{Name}
 use Rattle.markdown_base.specs.Virtual.{Seat}
-use Rattle.markdown_base.specs.declared.state.TheConstants.Name.{FlowBeforeRaw, FlowBeforeThematicBreak, FlowBeforeHeadingAtx, FlowBeforeCodeIndented}
+use Rattle.markdown_base.specs.declared.state.TheConstants.Name.{FlowBeforeRaw, FlowBeforeThematicBreak, FlowBeforeHeadingAtx, FlowBeforeCodeIndented, HtmlFlowOpen, HtmlFlowTagCloseStart}
 use Rattle.markdown_tokenizer.specs.Text.{Given, Text}
 use Rattle.markdown_tokenizer.specs.Configuration.{Local}
 use Rattle.mdconstructs_tables.specs.Looks.{scan}
-use Rattle.mdconstructs_tables.specs.Quiet.{loud}
+use Rattle.mdconstructs_tables.specs.Quiet.{is_one_of, loud}
 use Rattle.mdconstructs_machines.specs.Breaks.{is_white, is_ok, one_more}
 use Rattle.mdconstructs_flow.specs.FlowBytes.{FlowByte}
 use Rattle.mdconstructs_flow.specs.FlowKnows.{looks}
 use Rattle.mdconstructs_flow.specs.FlowTable.{flow}
 
--- the marks of a fence of grave accents end where its info string is looked at: that is a second call at one place
+-- the marks of a fence of grave accents end where its info string is looked at, and a tag begins where its name is: that is a second call at
+-- one place
 abbrev pub look_rank : Name → ℕ
-look_rank name = cond (name.number == FlowBeforeRaw.number) 1 0
+look_rank name = cond (is_one_of (FlowBeforeRaw ∷ HtmlFlowOpen ∷ HtmlFlowTagCloseStart ∷ []) name) 1 0
 
 -- no state of a look is loud: each only writes, reads bytes, goes on among the others, and ends with Ok or Nok
 abbrev pub LooksAreQuiet : Type 0

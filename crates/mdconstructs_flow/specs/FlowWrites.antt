@@ -1,4 +1,4 @@
--- What the states of leaf blocks share: the kind of a line, a mark, and three sizes. A look writes them, and what reads the block sees them.
+-- What the states of leaf blocks share. That is the kind of a line, a mark, and three sizes. A look writes them, and what reads the block sees them.
 use Rattle.std.specs.Prelude.{ℕ, ◌==◌, ◌||◌, ◌&&◌, not, nat_lt, nat_le, Bool, false, Option, Some, None}
 use Rattle.markdown_base.specs.declared.event.Content.TheVariants.{String as StringContent}
 use Rattle.markdown_base.specs.declared.event.Link.{Link}

@@ -1,4 +1,4 @@
--- ATX headings (CommonMark, 4.2): the look at a line, and its reading. The look counts how many bytes the text has, so that reading needs no
+-- ATX headings (CommonMark, 4.2). The look at a line, and its reading. The look counts how many bytes the text has, so that reading needs no
 -- look for the closing number signs. Some states have no name of their own among the Rust crate's: those of `String` and `Text` are borrowed.
 use Rattle.std.specs.Prelude.{[], ◌∷◌}
 use Rattle.markdown_base.specs.declared.event.Name.TheVariants.{Data, HeadingAtx, HeadingAtxSequence, HeadingAtxText, SpaceOrTab}

@@ -9,6 +9,8 @@ pub mod Flow
 pub mod HeadingAtx
 pub mod HeadingSetext
 pub mod Headings
+pub mod HtmlFlow
+pub mod HtmlTags
 pub mod Known
 pub mod Lawful
 pub mod Look

@@ -12,6 +12,10 @@ pub mod FlowWrites
 pub mod HeadingAtx
 pub mod HeadingEdits
 pub mod HeadingSetext
+pub mod HtmlFlow
+pub mod HtmlNames
+pub mod HtmlTags
+pub mod HtmlWrites
 pub mod LawStatements
 pub mod Laws
 pub mod Look

@@ -3,12 +3,13 @@
 use Rattle.std.specs.Prelude.{ℕ, [], ◌∷◌}
 use Rattle.markdown_base.specs.declared.event.Name.TheVariants.{BlankLineEnding, CodeIndented}
 use Rattle.markdown_base.specs.declared.state.State.TheVariants.{Next, Ok, Nok}
-use Rattle.markdown_base.specs.declared.state.TheConstants.Name.{FlowBlankLineBefore, NonLazyContinuationStart, FlowBeforeThematicBreak, FlowBeforeHeadingSetext, FlowBeforeHeadingAtx, FlowBeforeRaw}
+use Rattle.markdown_base.specs.declared.state.TheConstants.Name.{FlowBlankLineBefore, NonLazyContinuationStart, FlowBeforeThematicBreak, FlowBeforeHeadingSetext, FlowBeforeHeadingAtx, FlowBeforeRaw, HtmlFlowOpen}
 use Rattle.mdconstructs_tables.specs.Cases.{at}
 use Rattle.mdconstructs_tables.specs.Rows.{consume, write, Rows, row, when, at_bytes, a_choice, StateRows, costs, state}
-use Rattle.mdconstructs_flow.specs.FlowBytes.{FlowByte, is_line_feed, is_blank, is_sign, is_star, is_underscore, is_dash, is_equals, is_tick, is_tilde, Cased, cased}
+use Rattle.mdconstructs_flow.specs.FlowBytes.{FlowByte, is_line_feed, is_blank, is_sign, is_star, is_underscore, is_dash, is_equals, is_tick, is_tilde, is_less, Cased, cased}
 use Rattle.mdconstructs_flow.specs.FlowCosts.{looking, at_next_line}
 use Rattle.mdconstructs_flow.specs.FlowWrites.{kind_becomes, mark_becomes, indent_becomes, indent_grows, size_becomes, headings_are_on, underlines_are_on, breaks_are_on, fences_are_on, is_indented}
+use Rattle.mdconstructs_flow.specs.HtmlWrites.{html_is_on}
 
 -- a number sign may begin a heading
 abbrev pub heading_may_begin : {R D : Type 0} → Rows R D
@@ -17,6 +18,10 @@ heading_may_begin = when is_indented (row (write (kind_becomes CodeIndented) ∷
 -- this mark may begin a thematic break
 abbrev pub break_may_begin : {R D : Type 0} → (byte : ℕ) → Rows R D
 break_may_begin byte = when is_indented (row (write (kind_becomes CodeIndented) ∷ []) Ok) (when breaks_are_on (row (write (mark_becomes byte) ∷ write (size_becomes 1) ∷ consume ∷ []) (Next FlowBeforeThematicBreak)) (row [] Nok))
+
+-- a less-than sign may begin HTML
+abbrev pub html_may_begin : {R D : Type 0} → Rows R D
+html_may_begin = when is_indented (row (write (kind_becomes CodeIndented) ∷ []) Ok) (when html_is_on (row (consume ∷ []) (Next HtmlFlowOpen)) (row [] Nok))
 
 -- any other byte begins a line of a paragraph, or of indented code
 abbrev pub text_may_begin : {R D : Type 0} → Rows R D
@@ -50,7 +55,8 @@ flow_blank_line_before_rows = record {
       ∷ at is_dash dash_may_begin
       ∷ at is_equals equals_may_begin
       ∷ at is_tick (fence_may_begin 96)
-      ∷ at is_tilde (fence_may_begin 126) ∷ [];
+      ∷ at is_tilde (fence_may_begin 126)
+      ∷ at is_less html_may_begin ∷ [];
   rest = text_may_begin;
 }
 

@@ -1,6 +1,6 @@
 -- Paragraphs (CommonMark, 4.8). Each line is a chunk of text, linked to the chunk before, with its line ending but for the last.
 use Rattle.std.specs.Prelude.{[], ◌∷◌}
-use Rattle.markdown_base.specs.declared.event.Name.TheVariants.{CodeIndented, Data, HeadingSetextUnderline, Paragraph}
+use Rattle.markdown_base.specs.declared.event.Name.TheVariants.{Data, HeadingSetextUnderline, Paragraph}
 use Rattle.markdown_base.specs.declared.state.State.TheVariants.{Next, Retry, Ok}
 use Rattle.markdown_base.specs.declared.state.TheConstants.Name.{FlowAfter, NonLazyContinuationStart, ContentDefinitionAfter, FlowBeforeContent, ParagraphStart, ParagraphInside, ParagraphLineStart, ContentChunkInside}
 use Rattle.markdown_tokenizer.specs.declared.waiting.AttemptKind.TheVariants.{Check}
@@ -12,6 +12,7 @@ use Rattle.mdconstructs_flow.specs.FlowBytes.{FlowByte, is_line_feed, is_in_line
 use Rattle.mdconstructs_flow.specs.FlowCosts.{reading, looked}
 use Rattle.mdconstructs_flow.specs.FlowWrites.{kind_is}
 use Rattle.mdconstructs_flow.specs.HeadingEdits.{paragraph_begins, paragraph_ends}
+use Rattle.mdconstructs_flow.specs.HtmlWrites.{is_passed_over}
 
 -- a paragraph begins
 abbrev pub flow_before_content_rows : {R D : Type 0} → Cased R D
@@ -46,11 +47,12 @@ paragraph_inside_rows = record {
 abbrev pub paragraph_inside : {R D : Type 0} → StateRows FlowByte R D
 paragraph_inside = record (state ParagraphInside (cased paragraph_inside_rows) (Paragraph ∷ Data ∷ []) (costs (reading 6))) { begun = at_byte is_in_line }
 
--- at the end of a line whose next line has a kind: only an indented one goes on, and an underline makes a heading
+-- at the end of a line whose next line has a kind: the paragraph goes on over an indented one, and over HTML of kind 7; an underline makes a
+-- heading
 abbrev pub paragraph_line_start_rows : {R D : Type 0} → Cased R D
 paragraph_line_start_rows = record {
   at_end = row [] Ok;
-  cases = at is_line_feed (when (kind_is CodeIndented) (row [] (Retry ContentChunkInside)) (when (kind_is HeadingSetextUnderline) (row (exit Data ∷ exit Paragraph ∷ write paragraph_ends ∷ []) (Retry ContentDefinitionAfter)) (row (exit Data ∷ exit Paragraph ∷ []) (Retry FlowAfter)))) ∷ [];
+  cases = at is_line_feed (when is_passed_over (row [] (Retry ContentChunkInside)) (when (kind_is HeadingSetextUnderline) (row (exit Data ∷ exit Paragraph ∷ write paragraph_ends ∷ []) (Retry ContentDefinitionAfter)) (row (exit Data ∷ exit Paragraph ∷ []) (Retry FlowAfter)))) ∷ [];
   rest = row [] Ok;
 }
 

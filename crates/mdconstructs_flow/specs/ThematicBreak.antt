@@ -1,4 +1,4 @@
--- Thematic breaks (CommonMark, 4.1): the look at a line, and its reading.
+-- Thematic breaks (CommonMark, 4.1). The look at a line, and its reading.
 use Rattle.std.specs.Prelude.{[], ◌∷◌}
 use Rattle.markdown_base.specs.declared.event.Name.TheVariants.{SpaceOrTab, ThematicBreak, ThematicBreakSequence as Marks}
 use Rattle.markdown_base.specs.declared.state.State.TheVariants.{Next, Retry, Ok, Nok}

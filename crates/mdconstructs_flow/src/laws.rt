@@ -2,6 +2,7 @@
 
 ghost use Rattle.std.specs.Prelude.{◌≡◌, ◌+◌, ◌*◌, [], ◌∷◌};
 ghost use Rattle.markdown_base.specs.declared.state.TheConstants.Name.{FlowStart};
+ghost use Rattle.markdown_base.specs.Texts.{html_block_names, html_raw_names};
 ghost use Rattle.markdown_tokenizer.specs.Lawful.{IsLawful};
 ghost use Rattle.markdown_tokenizer.specs.Text.{Given};
 ghost use Rattle.mdconstructs_tables.specs.Fitting.{HasNoMisfits};
@@ -9,6 +10,7 @@ ghost use Rattle.mdconstructs_tables.specs.Refusals.{RulesRefuseNothing};
 ghost use Rattle.mdconstructs_flow.specs.FlowKnows.{flow_rules};
 ghost use Rattle.mdconstructs_flow.specs.FlowLines.{HeadingsAreSeen, InfoStringsAreSeen, LooksAreQuiet, ThematicBreaksAreSeen};
 ghost use Rattle.mdconstructs_flow.specs.FlowTable.{flow};
+ghost use Rattle.mdconstructs_flow.specs.HtmlNames.{AreToldApart};
 ghost use Rattle.mdconstructs_flow.specs.LawStatements.{StartsWithin};
 
 /// The machine has one start, and from it takes at most this many calls on a text of n virtual bytes.
@@ -42,6 +44,13 @@ pub fn thematic_breaks_are_seen()
 pub fn headings_are_seen()
     ensures headings { HeadingsAreSeen }
     ensures info_strings { InfoStringsAreSeen }
+{}
+
+/// Numbers of names tell tags apart: a letter with letters and digits behind it has the number of a listed name exactly if it is that
+/// name in lowercase.
+pub fn tag_names_are_told_apart()
+    ensures blocks { AreToldApart html_block_names }
+    ensures raw { AreToldApart html_raw_names }
 {}
 
 /// No reading by the machine ends in a message, whatever the text and the state: it makes events of every document.

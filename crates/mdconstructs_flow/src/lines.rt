@@ -59,6 +59,11 @@ pub(crate) fn flow_blank_line_after<'a, M: MachineTypes>(
             t.consume();
             Ok(State::Next(Name::RawFlowSequenceOpen))
         }
+        Some(b'<') => {
+            t.enter(event::Name::HtmlFlow)?;
+            t.enter(event::Name::HtmlFlowData)?;
+            Ok(State::Retry(Name::HtmlFlowContinuation))
+        }
         _ => Ok(State::Retry(Name::FlowBeforeContent)),
     }
 }
@@ -107,6 +112,12 @@ fn blank_begins_line<'a, M: MachineTypes>(t: &mut Tokenizer<'a, M>) -> Result<St
         t.enter(event::Name::SpaceOrTab)?;
         t.consume();
         return Ok(State::Next(Name::RawFlowStart));
+    }
+    if kind_is(t, event::Name::HtmlFlow) {
+        t.enter(event::Name::HtmlFlow)?;
+        t.enter(event::Name::HtmlFlowData)?;
+        t.consume();
+        return Ok(State::Next(Name::HtmlFlowStart));
     }
     if is_break(t) {
         t.enter(event::Name::ThematicBreak)?;

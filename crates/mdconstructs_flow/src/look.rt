@@ -5,8 +5,9 @@ ghost use Rattle.markdown_tokenizer.specs.declared.waiting.Waits.TheVariants.{By
 ghost use Rattle.mdconstructs_flow.specs.Steps.{rows_step};
 ghost use Rattle.mdconstructs_tables.specs.RowInvariant.{DoesAll, IsCallable, step_in};
 ghost use Rattle.mdconstructs_flow.specs.FlowBytes.{flow_byte};
-ghost use Rattle.mdconstructs_flow.specs.Look.{non_lazy_continuation_start, flow_blank_line_before, heading_may_begin, break_may_begin, underline_may_begin, dash_may_begin, equals_may_begin, fence_may_begin, text_may_begin};
+ghost use Rattle.mdconstructs_flow.specs.Look.{non_lazy_continuation_start, flow_blank_line_before, heading_may_begin, break_may_begin, underline_may_begin, dash_may_begin, equals_may_begin, fence_may_begin, html_may_begin, text_may_begin};
 
+use crate::html_names::html_is_on;
 use crate::sizes::{
     add_to_indent, breaks_are_on, fences_are_on, headings_are_on, is_indented, set_indent,
     set_kind, set_marker, set_size, underlines_are_on,
@@ -52,6 +53,7 @@ pub(crate) fn flow_blank_line_before<'a, M: MachineTypes>(
         Some(b'=') => Ok(equals_may_begin(t)),
         Some(b'`') => Ok(fence_may_begin(t, b'`')),
         Some(b'~') => Ok(fence_may_begin(t, b'~')),
+        Some(b'<') => Ok(html_may_begin(t)),
         Some(_) => Ok(text_may_begin(t)),
     }
 }
@@ -142,6 +144,22 @@ fn fence_may_begin<'a, M: MachineTypes>(t: &mut Tokenizer<'a, M>, marker: u8) ->
         set_size(t, 1);
         t.consume();
         return State::Next(Name::FlowBeforeRaw);
+    }
+    State::Nok
+}
+
+/// At a less-than sign: HTML may begin, if the line is not indented and HTML blocks are on.
+fn html_may_begin<'a, M: MachineTypes>(t: &mut Tokenizer<'a, M>) -> State
+    requires { t.old.configuration.waiting ≡ Byte }
+    ensures { DoesAll (rows_step html_may_begin t.old) t.old t.new result }
+{
+    if is_indented(t) {
+        set_kind(t, event::Name::CodeIndented);
+        return State::Ok;
+    }
+    if html_is_on(t) {
+        t.consume();
+        return State::Next(Name::HtmlFlowOpen);
     }
     State::Nok
 }

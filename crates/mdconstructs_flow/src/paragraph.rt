@@ -9,6 +9,7 @@ ghost use Rattle.mdconstructs_flow.specs.Paragraph.{flow_before_content, paragra
 ghost use Rattle.mdconstructs_machines.specs.Paragraphs.{CanLinkChunk};
 
 use crate::heading_edits::{begin_paragraph, end_paragraph};
+use crate::html_names::is_passed_over;
 use crate::sizes::{TEXT, kind_is};
 use markdown_tokenizer::event;
 use markdown_tokenizer::state::{MachineTypes, Name, State};
@@ -73,15 +74,15 @@ pub(crate) fn paragraph_inside<'a, M: MachineTypes>(
     }
 }
 
-/// At the end of a line of a paragraph, if the next line is no plain text. An indented line goes on with the paragraph, and an
-/// underline makes it a heading.
+/// At the end of a line of a paragraph, if the next line is no plain text. The paragraph goes on over an indented
+/// line, and over HTML of kind 7. An underline makes it a heading.
 pub(crate) fn paragraph_line_start<'a, M: MachineTypes>(
     t: &mut Tokenizer<'a, M>,
 ) -> Result<State, AllocError>
     requires { IsCallable flow_byte paragraph_line_start t.old }
     ensures { IfOk result (DoesAll (step_in flow_byte paragraph_line_start t.old) t.old t.new) }
 {
-    if kind_is(t, event::Name::CodeIndented) {
+    if is_passed_over(t) {
         return Ok(State::Retry(Name::ContentChunkInside));
     }
     if kind_is(t, event::Name::HeadingSetextUnderline) {

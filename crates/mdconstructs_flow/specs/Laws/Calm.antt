@@ -20,7 +20,7 @@ use Rattle.mdconstructs_tables.specs.Rows.{Act, enters, exit, consume, links, wr
 use Rattle.mdconstructs_tables.specs.RowTest.{all_rows}
 use Rattle.mdconstructs_tables.proofs.LinkShapes.{more-shape}
 use Rattle.mdconstructs_machines.specs.Tables.{counts}
-use Rattle.mdconstructs_flow.specs.FlowBytes.{FlowByte, Cased, cased}
+use Rattle.mdconstructs_flow.specs.FlowBytes.{FlowByte, name_byte, Cased, cased, by_byte, spelled}
 use Rattle.mdconstructs_flow.specs.FlowTable.{flow}
 use Rattle.mdconstructs_flow.specs.FlowKnows.{Place, in_chunk, before_chunk, in_underline, elsewhere, place_of, is_looking, KnowsChunk, KnowsEdits, RenameSpans, Knows, IsLook, knows_flow}
 use Rattle.mdconstructs_flow.specs.Laws.Headings.{spans-more, paragraph-left, underline-left}
@@ -329,6 +329,15 @@ module _ (test : Row Unit Unit → Bool) (g : Given) (s : Sight) (k : Configurat
       let (cs, rest) = both (all_cases test c.cases) (all_rows test c.rest) others in
       in-rows c.cases c.rest (Unit {0}) cs rest (behind-rows c.at_end (HarmlessCases c.cases (HarmlessRows c.rest (Unit {0}))) h) w
 
+  -- and so do those of a state in a name
+  each-spelled : (by : ℕ → Rows Unit Unit) (c : Cased Unit Unit) → ((byte : ℕ) → all_rows test (by byte) ≡ true) → ((byte : ℕ) → HarmlessRows (by byte) (Unit {0})) → all_cased test c ≡ true → AreHarmless c
+      → (previous current : Option FlowByte) → Each (spelled by c previous current)
+  each-spelled by c named calm is h previous None = each-case c is h previous None
+  each-spelled by c named calm is h previous (Some w) = elim (name_byte w) as (λ o. Each (by_byte o by (rows_in c.cases c.rest w))) [
+    | None ↦ each-case c is h previous (Some w)
+    | Some byte ↦ each (by byte) (Unit {0}) (named byte) (calm byte)
+  ]
+
 -- a state with these rows keeps what is known
 abbrev pub Keeps : Name → ((previous current : Option FlowByte) → Rows Unit Unit) → Type 0
 Keeps name rows =
@@ -359,3 +368,20 @@ pub look-state-keeps : (name : Name) (c : Cased Unit Unit) → place_of (Retry n
 look-state-keeps name c out is h g s k choices previous current known =
     let k1 = with_local k (counts k.local) in
     each-case looks_on g s k1 choices (λ acts answer P passes harmless. look-keeps elsewhere acts answer P passes harmless s k1 choices name out (counted-known k choices name known)) c is h previous current
+
+-- The same of states in a name
+pub reading-keeps-spelled : (name : Name) (by : ℕ → Rows Unit Unit) (c : Cased Unit Unit) → is_looking (Retry name) ≡ false → ((byte : ℕ) → all_rows (keeps (place_of (Retry name))) (by byte) ≡ true)
+    → ((byte : ℕ) → HarmlessRows (by byte) (Unit {0})) → all_cased (keeps (place_of (Retry name))) c ≡ true → AreHarmless c → Keeps name (spelled by c)
+reading-keeps-spelled name by c reads named calm is h g s k [] previous current known =
+    let place = place_of (Retry name) in
+    let k1 = with_local k (counts k.local) in
+    let there = knows-stays place k.events k.events k.local (counts k.local) refl (counted k.local) known in
+    each-spelled (keeps place) g s k1 [] (λ acts answer P passes harmless. row-keeps place acts answer P passes harmless s k1 there) by c named calm is h previous current
+reading-keeps-spelled name by c reads named calm is h g s k (d ∷ []) previous current known = absurd (let e : false ≡ true = sym reads ∙ known.0 in cc)
+reading-keeps-spelled name by c reads named calm is h g s k (d ∷ e ∷ ds) previous current known = absurd known
+
+pub look-state-keeps-spelled : (name : Name) (by : ℕ → Rows Unit Unit) (c : Cased Unit Unit) → place_of (Retry name) ≡ elsewhere → ((byte : ℕ) → all_rows looks_on (by byte) ≡ true)
+    → ((byte : ℕ) → HarmlessRows (by byte) (Unit {0})) → all_cased looks_on c ≡ true → AreHarmless c → Keeps name (spelled by c)
+look-state-keeps-spelled name by c out named calm is h g s k choices previous current known =
+    let k1 = with_local k (counts k.local) in
+    each-spelled looks_on g s k1 choices (λ acts answer P passes harmless. look-keeps elsewhere acts answer P passes harmless s k1 choices name out (counted-known k choices name known)) by c named calm is h previous current

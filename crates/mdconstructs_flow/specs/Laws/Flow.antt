@@ -26,7 +26,10 @@ flow_blank_line_after-pays b w text p read at seen called =
           λ w is b text p m. let q = at-word text p w m (rule-word w is) in omega arith,
           (
             λ w is b text p m. let q = at-word text p w m (fence-word w is) in omega arith,
-            omega arith,
+            (
+              omega arith,
+              omega arith,
+            ),
           ),
         ),
       ),

@@ -9,7 +9,7 @@ use Rattle.markdown_base.specs.declared.event.Name.TheVariants.{Data, HeadingSet
 use Rattle.markdown_base.specs.declared.state.Name.{Name}
 use Rattle.markdown_base.specs.declared.state.State.{State}
 use Rattle.markdown_base.specs.declared.state.State.TheVariants.{Next, Retry, Ok, Nok}
-use Rattle.markdown_base.specs.declared.state.TheConstants.Name.{FlowStart, FlowBlankLineAfter, FlowAfter, FlowBlankLineBefore, NonLazyContinuationStart, BlankLineStart, FlowBeforeThematicBreak, ThematicBreakBefore, ThematicBreakAtBreak, ThematicBreakSequence, FlowBeforeHeadingAtx, StringStart, StringBeforeData, StringBefore, TextBefore, TextBeforeData, HeadingAtxStart, HeadingAtxSequenceOpen, HeadingAtxAtBreak, HeadingAtxBefore, HeadingAtxData, CodeIndentedStart, CodeIndentedAtBreak, CodeIndentedFurtherAfter, CodeIndentedInside, CodeIndentedFurtherStart, SpaceOrTabEolAfterFirst, CodeIndentedAfter, CodeIndentedFurtherBegin, FlowBeforeRaw, FlowBeforeCodeIndented, RawFlowStart, RawFlowSequenceOpen, RawFlowInfoBefore, RawFlowBeforeSequenceOpen, RawFlowInfo, RawTextStart, RawFlowMetaBefore, RawFlowMeta, RawFlowAtNonLazyBreak, RawFlowCloseStart, RawFlowBeforeSequenceClose, RawFlowSequenceClose, RawFlowAfterSequenceClose, RawFlowContentBefore, RawFlowContentStart, RawFlowBeforeContentChunk, RawFlowContentChunk, RawFlowAfter, RawTextSequenceOpen, RawTextBetween, RawTextSequenceClose, RawTextData, FlowBeforeContent, ParagraphStart, ParagraphInside, ParagraphLineStart, ContentChunkInside, FlowBeforeHeadingSetext, FlowBeforeGfmTable, ContentDefinitionAfter, HeadingSetextStart, HeadingSetextBefore, HeadingSetextInside, HeadingSetextAfter}
+use Rattle.markdown_base.specs.declared.state.TheConstants.Name.{FlowStart, FlowBlankLineAfter, FlowAfter, FlowBlankLineBefore, NonLazyContinuationStart, BlankLineStart, FlowBeforeThematicBreak, ThematicBreakBefore, ThematicBreakAtBreak, ThematicBreakSequence, FlowBeforeHeadingAtx, StringStart, StringBeforeData, StringBefore, TextBefore, TextBeforeData, HeadingAtxStart, HeadingAtxSequenceOpen, HeadingAtxAtBreak, HeadingAtxBefore, HeadingAtxData, CodeIndentedStart, CodeIndentedAtBreak, CodeIndentedFurtherAfter, CodeIndentedInside, CodeIndentedFurtherStart, SpaceOrTabEolAfterFirst, CodeIndentedAfter, CodeIndentedFurtherBegin, FlowBeforeRaw, FlowBeforeCodeIndented, RawFlowStart, RawFlowSequenceOpen, RawFlowInfoBefore, RawFlowBeforeSequenceOpen, RawFlowInfo, RawTextStart, RawFlowMetaBefore, RawFlowMeta, RawFlowAtNonLazyBreak, RawFlowCloseStart, RawFlowBeforeSequenceClose, RawFlowSequenceClose, RawFlowAfterSequenceClose, RawFlowContentBefore, RawFlowContentStart, RawFlowBeforeContentChunk, RawFlowContentChunk, RawFlowAfter, RawTextSequenceOpen, RawTextBetween, RawTextSequenceClose, RawTextData, HtmlFlowOpen, HtmlFlowDeclarationOpen, HtmlFlowCommentOpenInside, HtmlFlowCdataOpenInside, HtmlFlowTagCloseStart, HtmlFlowTagName, HtmlFlowBasicSelfClosing, HtmlFlowCompleteClosingTagAfter, HtmlFlowCompleteEnd, HtmlFlowCompleteAttributeNameBefore, HtmlFlowCompleteAttributeName, HtmlFlowCompleteAttributeNameAfter, HtmlFlowCompleteAttributeValueBefore, HtmlFlowCompleteAttributeValueQuoted, HtmlFlowCompleteAttributeValueQuotedAfter, HtmlFlowCompleteAttributeValueUnquoted, HtmlFlowCompleteAfter, HtmlFlowStart, HtmlFlowContinuation, HtmlFlowContinuationCommentInside, HtmlFlowContinuationCdataInside, HtmlFlowContinuationDeclarationInside, HtmlFlowContinuationRawTagOpen, HtmlFlowContinuationRawEndTag, HtmlFlowContinuationClose, HtmlFlowContinuationBefore, HtmlFlowBlankLineBefore, BlankLineAfter, HtmlFlowContinuationAfter, HtmlFlowContinuationStart, FlowBeforeContent, ParagraphStart, ParagraphInside, ParagraphLineStart, ContentChunkInside, FlowBeforeHeadingSetext, FlowBeforeGfmTable, ContentDefinitionAfter, HeadingSetextStart, HeadingSetextBefore, HeadingSetextInside, HeadingSetextAfter}
 use Rattle.markdown_base.specs.Events.{EndsBelow, IsBalanced}
 use Rattle.markdown_edits.specs.Edited.{edited}
 use Rattle.markdown_edits.specs.Links.{linked_to}
@@ -41,12 +41,14 @@ use Rattle.mdconstructs_flow.specs.Flow.{flow_start_rows, flow_start, flow_blank
 use Rattle.mdconstructs_flow.specs.HeadingAtx.{flow_before_heading_atx_rows, flow_before_heading_atx, string_start_rows, string_start, string_before_data_rows, string_before_data, string_before_rows, string_before, text_before_rows, text_before, text_before_data_rows, text_before_data, heading_atx_start_rows, heading_atx_start, heading_atx_sequence_open_rows, heading_atx_sequence_open, heading_atx_at_break_rows, heading_atx_at_break, heading_atx_before_rows, heading_atx_before, heading_atx_data_rows, heading_atx_data}
 use Rattle.mdconstructs_flow.specs.HeadingEdits.{paragraph_begins, paragraph_ends, heading_ends}
 use Rattle.mdconstructs_flow.specs.HeadingSetext.{flow_before_heading_setext_rows, flow_before_heading_setext, flow_before_gfm_table_rows, flow_before_gfm_table, content_definition_after_rows, content_definition_after, heading_setext_start_rows, heading_setext_start, heading_setext_before_rows, heading_setext_before, heading_setext_inside_rows, heading_setext_inside, heading_setext_after_rows, heading_setext_after}
+use Rattle.mdconstructs_flow.specs.HtmlFlow.{html_flow_start_rows, html_flow_start, html_flow_continuation_rows, html_flow_continuation, html_flow_continuation_comment_inside_rows, html_flow_continuation_comment_inside, html_flow_continuation_cdata_inside_rows, html_flow_continuation_cdata_inside, html_flow_continuation_declaration_inside_rows, html_flow_continuation_declaration_inside, html_flow_continuation_raw_tag_open_rows, html_flow_continuation_raw_tag_open, html_flow_continuation_raw_end_tag_goes_on, html_flow_continuation_raw_end_tag_rows, html_flow_continuation_raw_end_tag, html_flow_continuation_close_rows, html_flow_continuation_close, html_flow_continuation_before_rows, html_flow_continuation_before, html_flow_blank_line_before_rows, html_flow_blank_line_before, blank_line_after_rows, blank_line_after, html_flow_continuation_after_rows, html_flow_continuation_after, html_flow_continuation_start_rows, html_flow_continuation_start}
+use Rattle.mdconstructs_flow.specs.HtmlTags.{html_flow_open_rows, html_flow_open, html_flow_declaration_open_rows, html_flow_declaration_open, html_flow_comment_open_inside_rows, html_flow_comment_open_inside, html_flow_cdata_open_inside_rows, html_flow_cdata_open_inside, html_flow_tag_close_start_rows, html_flow_tag_close_start, html_flow_tag_name_goes_on, html_flow_tag_name_rows, html_flow_tag_name, html_flow_basic_self_closing_rows, html_flow_basic_self_closing, html_flow_complete_closing_tag_after_rows, html_flow_complete_closing_tag_after, html_flow_complete_end_rows, html_flow_complete_end, html_flow_complete_attribute_name_before_rows, html_flow_complete_attribute_name_before, html_flow_complete_attribute_name_rows, html_flow_complete_attribute_name, html_flow_complete_attribute_name_after_rows, html_flow_complete_attribute_name_after, html_flow_complete_attribute_value_before_rows, html_flow_complete_attribute_value_before, html_flow_complete_attribute_value_quoted_rows, html_flow_complete_attribute_value_quoted, html_flow_complete_attribute_value_quoted_after_rows, html_flow_complete_attribute_value_quoted_after, html_flow_complete_attribute_value_unquoted_rows, html_flow_complete_attribute_value_unquoted, html_flow_complete_after_rows, html_flow_complete_after}
 use Rattle.mdconstructs_flow.specs.Look.{flow_blank_line_before_rows, flow_blank_line_before, non_lazy_continuation_start_rows, non_lazy_continuation_start}
 use Rattle.mdconstructs_flow.specs.Paragraph.{flow_before_content_rows, flow_before_content, paragraph_start_rows, paragraph_start, paragraph_inside_rows, paragraph_inside, paragraph_line_start_rows, paragraph_line_start, content_chunk_inside_rows, content_chunk_inside}
 use Rattle.mdconstructs_flow.specs.ThematicBreak.{flow_before_thematic_break_rows, flow_before_thematic_break, thematic_break_before_rows, thematic_break_before, thematic_break_at_break_rows, thematic_break_at_break, thematic_break_sequence_rows, thematic_break_sequence}
 use Rattle.mdconstructs_flow.specs.FlowTable.{flow}
 use Rattle.mdconstructs_flow.specs.FlowKnows.{Place, in_chunk, before_chunk, in_underline, elsewhere, place_of, is_looking, RenameSpans, Knows, knows_flow}
-use Rattle.mdconstructs_flow.specs.Laws.Calm.{Keeps, edits-left, reading-keeps, look-state-keeps}
+use Rattle.mdconstructs_flow.specs.Laws.Calm.{Keeps, edits-left, reading-keeps, reading-keeps-spelled, look-state-keeps, look-state-keeps-spelled}
 use Rattle.mdconstructs_flow.specs.Laws.Fit.{none}
 use Rattle.mdconstructs_flow.specs.Laws.Headings.{spans-more, paragraph-first, paragraph-more, paragraph-linked, paragraph-last, underline-more, heading-made}
 use Rattle.mdconstructs_flow.specs.Laws.Renamings.{told-edits-apart, told-in-shape, told-well-formed}
@@ -61,7 +63,7 @@ flow_after-keeps : KeepsKnowing flow knows_flow flow_after
 flow_after-keeps = reading-keeps FlowAfter flow_after_rows refl refl tt
 
 flow_blank_line_before-keeps : KeepsKnowing flow knows_flow flow_blank_line_before
-flow_blank_line_before-keeps = look-state-keeps FlowBlankLineBefore flow_blank_line_before_rows refl refl (λ k. refl, (λ k. refl, (λ k. refl, (λ k. refl, (λ k. refl, (λ k. refl, (λ k. refl, (λ k. refl, (λ k. refl, (λ k. refl, (λ k. refl, (λ k. refl, (λ k. refl, (λ k. refl, (λ k. refl, (λ k. refl, (λ k. refl, (λ k. refl, (λ k. refl, (λ k. refl, (λ k. refl, (λ k. refl, (λ k. refl, (λ k. refl, (λ k. refl, (λ k. refl, (λ k. refl, (λ k. refl, tt))))))))))))))))))))))))))))
+flow_blank_line_before-keeps = look-state-keeps FlowBlankLineBefore flow_blank_line_before_rows refl refl (λ k. refl, (λ k. refl, (λ k. refl, (λ k. refl, (λ k. refl, (λ k. refl, (λ k. refl, (λ k. refl, (λ k. refl, (λ k. refl, (λ k. refl, (λ k. refl, (λ k. refl, (λ k. refl, (λ k. refl, (λ k. refl, (λ k. refl, (λ k. refl, (λ k. refl, (λ k. refl, (λ k. refl, (λ k. refl, (λ k. refl, (λ k. refl, (λ k. refl, (λ k. refl, (λ k. refl, (λ k. refl, (λ k. refl, tt)))))))))))))))))))))))))))))
 
 non_lazy_continuation_start-keeps : KeepsKnowing flow knows_flow non_lazy_continuation_start
 non_lazy_continuation_start-keeps = look-state-keeps NonLazyContinuationStart non_lazy_continuation_start_rows refl refl (λ k. refl, tt)
@@ -209,6 +211,96 @@ raw_text_sequence_close-keeps = reading-keeps RawTextSequenceClose raw_text_sequ
 
 raw_text_data-keeps : KeepsKnowing flow knows_flow raw_text_data
 raw_text_data-keeps = reading-keeps RawTextData raw_text_data_rows refl refl tt
+
+html_flow_open-keeps : KeepsKnowing flow knows_flow html_flow_open
+html_flow_open-keeps = look-state-keeps HtmlFlowOpen html_flow_open_rows refl refl (λ k. refl, (λ k. refl, (λ k. refl, tt)))
+
+html_flow_declaration_open-keeps : KeepsKnowing flow knows_flow html_flow_declaration_open
+html_flow_declaration_open-keeps = look-state-keeps HtmlFlowDeclarationOpen html_flow_declaration_open_rows refl refl (λ k. refl, (λ k. refl, tt))
+
+html_flow_comment_open_inside-keeps : KeepsKnowing flow knows_flow html_flow_comment_open_inside
+html_flow_comment_open_inside-keeps = look-state-keeps HtmlFlowCommentOpenInside html_flow_comment_open_inside_rows refl refl (λ k. refl, tt)
+
+html_flow_cdata_open_inside-keeps : KeepsKnowing flow knows_flow html_flow_cdata_open_inside
+html_flow_cdata_open_inside-keeps = look-state-keeps HtmlFlowCdataOpenInside html_flow_cdata_open_inside_rows refl refl (λ k. refl, (λ k. refl, tt))
+
+html_flow_tag_close_start-keeps : KeepsKnowing flow knows_flow html_flow_tag_close_start
+html_flow_tag_close_start-keeps = look-state-keeps HtmlFlowTagCloseStart html_flow_tag_close_start_rows refl refl (λ k. refl, (λ k. refl, tt))
+
+html_flow_tag_name-keeps : KeepsKnowing flow knows_flow html_flow_tag_name
+html_flow_tag_name-keeps = look-state-keeps-spelled HtmlFlowTagName html_flow_tag_name_goes_on html_flow_tag_name_rows refl (λ byte. refl) (λ byte. (λ k. refl, tt)) refl (λ k. refl, (λ k. refl, (λ k. refl, (λ k. refl, (λ k. refl, (λ k. refl, (λ k. refl, (λ k. refl, (λ k. refl, tt)))))))))
+
+html_flow_basic_self_closing-keeps : KeepsKnowing flow knows_flow html_flow_basic_self_closing
+html_flow_basic_self_closing-keeps = look-state-keeps HtmlFlowBasicSelfClosing html_flow_basic_self_closing_rows refl refl (λ k. refl, tt)
+
+html_flow_complete_closing_tag_after-keeps : KeepsKnowing flow knows_flow html_flow_complete_closing_tag_after
+html_flow_complete_closing_tag_after-keeps = look-state-keeps HtmlFlowCompleteClosingTagAfter html_flow_complete_closing_tag_after_rows refl refl tt
+
+html_flow_complete_end-keeps : KeepsKnowing flow knows_flow html_flow_complete_end
+html_flow_complete_end-keeps = look-state-keeps HtmlFlowCompleteEnd html_flow_complete_end_rows refl refl tt
+
+html_flow_complete_attribute_name_before-keeps : KeepsKnowing flow knows_flow html_flow_complete_attribute_name_before
+html_flow_complete_attribute_name_before-keeps = look-state-keeps HtmlFlowCompleteAttributeNameBefore html_flow_complete_attribute_name_before_rows refl refl tt
+
+html_flow_complete_attribute_name-keeps : KeepsKnowing flow knows_flow html_flow_complete_attribute_name
+html_flow_complete_attribute_name-keeps = look-state-keeps HtmlFlowCompleteAttributeName html_flow_complete_attribute_name_rows refl refl tt
+
+html_flow_complete_attribute_name_after-keeps : KeepsKnowing flow knows_flow html_flow_complete_attribute_name_after
+html_flow_complete_attribute_name_after-keeps = look-state-keeps HtmlFlowCompleteAttributeNameAfter html_flow_complete_attribute_name_after_rows refl refl tt
+
+html_flow_complete_attribute_value_before-keeps : KeepsKnowing flow knows_flow html_flow_complete_attribute_value_before
+html_flow_complete_attribute_value_before-keeps = look-state-keeps HtmlFlowCompleteAttributeValueBefore html_flow_complete_attribute_value_before_rows refl refl (λ k. refl, (λ k. refl, tt))
+
+html_flow_complete_attribute_value_quoted-keeps : KeepsKnowing flow knows_flow html_flow_complete_attribute_value_quoted
+html_flow_complete_attribute_value_quoted-keeps = look-state-keeps HtmlFlowCompleteAttributeValueQuoted html_flow_complete_attribute_value_quoted_rows refl refl tt
+
+html_flow_complete_attribute_value_quoted_after-keeps : KeepsKnowing flow knows_flow html_flow_complete_attribute_value_quoted_after
+html_flow_complete_attribute_value_quoted_after-keeps = look-state-keeps HtmlFlowCompleteAttributeValueQuotedAfter html_flow_complete_attribute_value_quoted_after_rows refl refl tt
+
+html_flow_complete_attribute_value_unquoted-keeps : KeepsKnowing flow knows_flow html_flow_complete_attribute_value_unquoted
+html_flow_complete_attribute_value_unquoted-keeps = look-state-keeps HtmlFlowCompleteAttributeValueUnquoted html_flow_complete_attribute_value_unquoted_rows refl refl tt
+
+html_flow_complete_after-keeps : KeepsKnowing flow knows_flow html_flow_complete_after
+html_flow_complete_after-keeps = look-state-keeps HtmlFlowCompleteAfter html_flow_complete_after_rows refl refl (λ k. refl, (λ k. refl, tt))
+
+html_flow_start-keeps : KeepsKnowing flow knows_flow html_flow_start
+html_flow_start-keeps = reading-keeps HtmlFlowStart html_flow_start_rows refl refl tt
+
+html_flow_continuation-keeps : KeepsKnowing flow knows_flow html_flow_continuation
+html_flow_continuation-keeps = reading-keeps HtmlFlowContinuation html_flow_continuation_rows refl refl tt
+
+html_flow_continuation_comment_inside-keeps : KeepsKnowing flow knows_flow html_flow_continuation_comment_inside
+html_flow_continuation_comment_inside-keeps = reading-keeps HtmlFlowContinuationCommentInside html_flow_continuation_comment_inside_rows refl refl tt
+
+html_flow_continuation_cdata_inside-keeps : KeepsKnowing flow knows_flow html_flow_continuation_cdata_inside
+html_flow_continuation_cdata_inside-keeps = reading-keeps HtmlFlowContinuationCdataInside html_flow_continuation_cdata_inside_rows refl refl tt
+
+html_flow_continuation_declaration_inside-keeps : KeepsKnowing flow knows_flow html_flow_continuation_declaration_inside
+html_flow_continuation_declaration_inside-keeps = reading-keeps HtmlFlowContinuationDeclarationInside html_flow_continuation_declaration_inside_rows refl refl tt
+
+html_flow_continuation_raw_tag_open-keeps : KeepsKnowing flow knows_flow html_flow_continuation_raw_tag_open
+html_flow_continuation_raw_tag_open-keeps = reading-keeps HtmlFlowContinuationRawTagOpen html_flow_continuation_raw_tag_open_rows refl refl (λ k. refl, tt)
+
+html_flow_continuation_raw_end_tag-keeps : KeepsKnowing flow knows_flow html_flow_continuation_raw_end_tag
+html_flow_continuation_raw_end_tag-keeps = reading-keeps-spelled HtmlFlowContinuationRawEndTag html_flow_continuation_raw_end_tag_goes_on html_flow_continuation_raw_end_tag_rows refl (λ byte. refl) (λ byte. (λ k. refl, tt)) refl tt
+
+html_flow_continuation_close-keeps : KeepsKnowing flow knows_flow html_flow_continuation_close
+html_flow_continuation_close-keeps = reading-keeps HtmlFlowContinuationClose html_flow_continuation_close_rows refl refl tt
+
+html_flow_continuation_before-keeps : KeepsKnowing flow knows_flow html_flow_continuation_before
+html_flow_continuation_before-keeps = reading-keeps HtmlFlowContinuationBefore html_flow_continuation_before_rows refl refl tt
+
+html_flow_blank_line_before-keeps : KeepsKnowing flow knows_flow html_flow_blank_line_before
+html_flow_blank_line_before-keeps = look-state-keeps HtmlFlowBlankLineBefore html_flow_blank_line_before_rows refl refl tt
+
+blank_line_after-keeps : KeepsKnowing flow knows_flow blank_line_after
+blank_line_after-keeps = look-state-keeps BlankLineAfter blank_line_after_rows refl refl tt
+
+html_flow_continuation_after-keeps : KeepsKnowing flow knows_flow html_flow_continuation_after
+html_flow_continuation_after-keeps = reading-keeps HtmlFlowContinuationAfter html_flow_continuation_after_rows refl refl tt
+
+html_flow_continuation_start-keeps : KeepsKnowing flow knows_flow html_flow_continuation_start
+html_flow_continuation_start-keeps = reading-keeps HtmlFlowContinuationStart html_flow_continuation_start_rows refl refl tt
 
 paragraph_inside-keeps : KeepsKnowing flow knows_flow paragraph_inside
 paragraph_inside-keeps = reading-keeps ParagraphInside paragraph_inside_rows refl refl tt
@@ -481,7 +573,7 @@ pub flow-known : IsKnownThroughout flow knows_flow EndsWellFormed
 flow-known = record {
   at_starts = at-starts;
   by_feeding = by-feeding;
-  by_rows = (flow_start-keeps, (flow_blank_line_after-keeps, (flow_after-keeps, (flow_blank_line_before-keeps, (non_lazy_continuation_start-keeps, (blank_line_start-keeps, (flow_before_thematic_break-keeps, (thematic_break_before-keeps, (thematic_break_at_break-keeps, (thematic_break_sequence-keeps, (flow_before_heading_atx-keeps, (string_start-keeps, (string_before_data-keeps, (string_before-keeps, (text_before-keeps, (text_before_data-keeps, (heading_atx_start-keeps, (heading_atx_sequence_open-keeps, (heading_atx_at_break-keeps, (heading_atx_before-keeps, (heading_atx_data-keeps, (code_indented_start-keeps, (code_indented_at_break-keeps, (code_indented_further_after-keeps, (code_indented_inside-keeps, (code_indented_further_start-keeps, (space_or_tab_eol_after_first-keeps, (code_indented_after-keeps, (code_indented_further_begin-keeps, (flow_before_raw-keeps, (flow_before_code_indented-keeps, (raw_flow_start-keeps, (raw_flow_sequence_open-keeps, (raw_flow_info_before-keeps, (raw_flow_before_sequence_open-keeps, (raw_flow_info-keeps, (raw_text_start-keeps, (raw_flow_meta_before-keeps, (raw_flow_meta-keeps, (raw_flow_at_non_lazy_break-keeps, (raw_flow_close_start-keeps, (raw_flow_before_sequence_close-keeps, (raw_flow_sequence_close-keeps, (raw_flow_after_sequence_close-keeps, (raw_flow_content_before-keeps, (raw_flow_content_start-keeps, (raw_flow_before_content_chunk-keeps, (raw_flow_content_chunk-keeps, (raw_flow_after-keeps, (raw_text_sequence_open-keeps, (raw_text_between-keeps, (raw_text_sequence_close-keeps, (raw_text_data-keeps, (flow_before_heading_setext-keeps, (flow_before_gfm_table-keeps, (content_definition_after-keeps, (heading_setext_start-keeps, (heading_setext_before-keeps, (heading_setext_inside-keeps, (heading_setext_after-keeps, (flow_before_content-keeps, (paragraph_start-keeps, (paragraph_inside-keeps, (paragraph_line_start-keeps, (content_chunk_inside-keeps, tt)))))))))))))))))))))))))))))))))))))))))))))))))))))))))))))))));
+  by_rows = (flow_start-keeps, (flow_blank_line_after-keeps, (flow_after-keeps, (flow_blank_line_before-keeps, (non_lazy_continuation_start-keeps, (blank_line_start-keeps, (flow_before_thematic_break-keeps, (thematic_break_before-keeps, (thematic_break_at_break-keeps, (thematic_break_sequence-keeps, (flow_before_heading_atx-keeps, (string_start-keeps, (string_before_data-keeps, (string_before-keeps, (text_before-keeps, (text_before_data-keeps, (heading_atx_start-keeps, (heading_atx_sequence_open-keeps, (heading_atx_at_break-keeps, (heading_atx_before-keeps, (heading_atx_data-keeps, (code_indented_start-keeps, (code_indented_at_break-keeps, (code_indented_further_after-keeps, (code_indented_inside-keeps, (code_indented_further_start-keeps, (space_or_tab_eol_after_first-keeps, (code_indented_after-keeps, (code_indented_further_begin-keeps, (flow_before_raw-keeps, (flow_before_code_indented-keeps, (raw_flow_start-keeps, (raw_flow_sequence_open-keeps, (raw_flow_info_before-keeps, (raw_flow_before_sequence_open-keeps, (raw_flow_info-keeps, (raw_text_start-keeps, (raw_flow_meta_before-keeps, (raw_flow_meta-keeps, (raw_flow_at_non_lazy_break-keeps, (raw_flow_close_start-keeps, (raw_flow_before_sequence_close-keeps, (raw_flow_sequence_close-keeps, (raw_flow_after_sequence_close-keeps, (raw_flow_content_before-keeps, (raw_flow_content_start-keeps, (raw_flow_before_content_chunk-keeps, (raw_flow_content_chunk-keeps, (raw_flow_after-keeps, (raw_text_sequence_open-keeps, (raw_text_between-keeps, (raw_text_sequence_close-keeps, (raw_text_data-keeps, (flow_before_heading_setext-keeps, (flow_before_gfm_table-keeps, (content_definition_after-keeps, (heading_setext_start-keeps, (heading_setext_before-keeps, (heading_setext_inside-keeps, (heading_setext_after-keeps, (html_flow_open-keeps, (html_flow_declaration_open-keeps, (html_flow_comment_open_inside-keeps, (html_flow_cdata_open_inside-keeps, (html_flow_tag_close_start-keeps, (html_flow_tag_name-keeps, (html_flow_basic_self_closing-keeps, (html_flow_complete_closing_tag_after-keeps, (html_flow_complete_end-keeps, (html_flow_complete_attribute_name_before-keeps, (html_flow_complete_attribute_name-keeps, (html_flow_complete_attribute_name_after-keeps, (html_flow_complete_attribute_value_before-keeps, (html_flow_complete_attribute_value_quoted-keeps, (html_flow_complete_attribute_value_quoted_after-keeps, (html_flow_complete_attribute_value_unquoted-keeps, (html_flow_complete_after-keeps, (html_flow_start-keeps, (html_flow_continuation-keeps, (html_flow_continuation_comment_inside-keeps, (html_flow_continuation_cdata_inside-keeps, (html_flow_continuation_declaration_inside-keeps, (html_flow_continuation_raw_tag_open-keeps, (html_flow_continuation_raw_end_tag-keeps, (html_flow_continuation_close-keeps, (html_flow_continuation_before-keeps, (html_flow_blank_line_before-keeps, (blank_line_after-keeps, (html_flow_continuation_after-keeps, (html_flow_continuation_start-keeps, (flow_before_content-keeps, (paragraph_start-keeps, (paragraph_inside-keeps, (paragraph_line_start-keeps, (content_chunk_inside-keeps, tt)))))))))))))))))))))))))))))))))))))))))))))))))))))))))))))))))))))))))))))))))))))))))))))));
   by_ok = by-ok;
   by_nok = by-nok;
   at_end = at-end;

@@ -6,7 +6,7 @@ use Rattle.mdconstructs_tables.specs.Late.{hasty, IsLate}
 use Rattle.mdconstructs_tables.specs.RowTest.{never}
 use Rattle.mdconstructs_tables.proofs.Tables.Knowledge.{falling-lawful}
 use Rattle.mdconstructs_tables.proofs.Tables.Late.{all-late}
-use Rattle.mdconstructs_flow.specs.FlowBytes.{FlowByte, line_feed, blank, sign, star, underscore, dash, equals, tick, tilde, other}
+use Rattle.mdconstructs_flow.specs.FlowBytes.{FlowByte, line_feed, blank, sign, star, underscore, dash, equals, tick, tilde, less, greater, slash, bang, question, opening, closing, double, single, colon, dot, letter, digit, other}
 use Rattle.mdconstructs_flow.specs.FlowTable.{flow}
 use Rattle.mdconstructs_flow.specs.FlowKnows.{knows_flow, flow_rules}
 use Rattle.mdconstructs_flow.specs.Laws.Fit.{flow-fit, none}
@@ -23,6 +23,19 @@ late previous (Some dash) = refl
 late previous (Some equals) = refl
 late previous (Some tick) = refl
 late previous (Some tilde) = refl
+late previous (Some less) = refl
+late previous (Some greater) = refl
+late previous (Some slash) = refl
+late previous (Some bang) = refl
+late previous (Some question) = refl
+late previous (Some opening) = refl
+late previous (Some closing) = refl
+late previous (Some double) = refl
+late previous (Some single) = refl
+late previous (Some colon) = refl
+late previous (Some dot) = refl
+late previous (Some (letter byte)) = refl
+late previous (Some (digit byte)) = refl
 late previous (Some other) = refl
 
 flow-late : IsLate flow never none

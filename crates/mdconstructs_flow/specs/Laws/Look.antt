@@ -1,11 +1,12 @@
 -- The costs of the states of Look are enough.
-use Rattle.std.proofs.Common.{arith}
+use Rattle.std.proofs.Common.{arith, refl}
 use Rattle.mdconstructs_tables.specs.RowTest.{never}
 use Rattle.mdconstructs_tables.specs.RowInvariant.{PaysRows}
+use Rattle.mdconstructs_flow.specs.FlowBytes.{is_less}
 use Rattle.mdconstructs_flow.specs.FlowCosts.{looking, at_next_line}
 use Rattle.mdconstructs_flow.specs.Look.{flow_blank_line_before_rows, flow_blank_line_before, non_lazy_continuation_start_rows, non_lazy_continuation_start}
 use Rattle.mdconstructs_flow.specs.FlowTable.{flow}
-use Rattle.mdconstructs_flow.specs.Laws.Measures.{sign-word, star-word, underscore-word, dash-word, equals-word, tick-word, tilde-word, at-feed, at-blank, at-word, at-other, at-in-line}
+use Rattle.mdconstructs_flow.specs.Laws.Measures.{word-of, sign-word, star-word, underscore-word, dash-word, equals-word, tick-word, tilde-word, at-feed, at-blank, at-word, at-other, at-in-line}
 use Rattle.mdconstructs_flow.specs.Laws.Paying.{pays}
 
 pub flow_blank_line_before-pays : PaysRows flow never flow_blank_line_before
@@ -28,7 +29,10 @@ flow_blank_line_before-pays b w text p read at seen called =
                     λ w is b text p m. let q = at-word text p w m (tick-word w is) in omega arith,
                     (
                       λ w is b text p m. let q = at-word text p w m (tilde-word w is) in omega arith,
-                      λ w others b text p m. let q = at-other text p w m others.1.1.1.1.1.1.1.1.0 others.1.1.1.1.1.1.1.0 in omega arith,
+                      (
+                        λ w is b text p m. let q = at-word text p w m (word-of is_less refl refl w is) in omega arith,
+                        λ w others b text p m. let q = at-other text p w m others.1.1.1.1.1.1.1.1.1.0 others.1.1.1.1.1.1.1.1.0 in omega arith,
+                      ),
                     ),
                   ),
                 ),

@@ -1,5 +1,6 @@
 -- How far a line reaches, at each class of byte, and what follows for the costs.
 use Rattle.std.proofs.Common.{◌≡◌, ℕ, suc, ◌+◌, ◌-◌, ◌<◌, ◌≤◌, ◌==◌, not, List, [], ◌∷◌, Bool, true, false, cond, Some, None, length, drop, refl, sym, ap, ◌∙◌, arith, inl, inr, length-drop, add-one, subst}
+use Rattle.std.specs.Char.{is_ascii_alphabetic, is_ascii_digit}
 use Rattle.std.specs.Prelude.{slice_get}
 use Rattle.std.proofs.lemmas.Option.{slice_get_cases}
 use Rattle.markdown_base.specs.Virtual.{Seat}
@@ -8,8 +9,9 @@ use Rattle.markdown_tokenizer.specs.Text.{Text}
 use Rattle.markdown_tokenizer.specs.Sight.{byte_of}
 use Rattle.mdconstructs_tables.specs.Rows.{class_of}
 use Rattle.mdconstructs_tables.specs.RowInvariant.{class_in}
+use Rattle.mdconstructs_tables.specs.RowTest.{is_some}
 use Rattle.mdconstructs_machines.specs.Breaks.{is_white}
-use Rattle.mdconstructs_flow.specs.FlowBytes.{FlowByte, line_feed, blank, sign, star, underscore, dash, equals, tick, tilde, other, flow_byte, word_byte, is_line_feed, is_blank, is_word, is_sign, is_star, is_underscore, is_dash, is_equals, is_tick, is_tilde, is_rule, is_underline, is_fence}
+use Rattle.mdconstructs_flow.specs.FlowBytes.{FlowByte, line_feed, blank, sign, star, underscore, dash, equals, tick, tilde, less, greater, slash, bang, question, opening, closing, double, single, colon, dot, letter, digit, other, flow_byte, html_byte, word_byte, name_byte, is_line_feed, is_blank, is_word, is_sign, is_star, is_underscore, is_dash, is_equals, is_tick, is_tilde, is_rule, is_underline, is_fence}
 use Rattle.mdconstructs_flow.specs.FlowCosts.{line, run, run_after}
 
 -- What holds of any bytes: a line and the run behind it are no longer than what is left
@@ -47,10 +49,16 @@ either-word : (t : Bool) (x y : FlowByte) → is_word x ≡ true → is_word y �
 either-word true x y h k = h
 either-word false x y h k = k
 
+html-is-word : (b : ℕ) → is_word (html_byte b) ≡ true
+html-is-word b =
+    either-word (b == 60) _ _ refl (either-word (b == 62) _ _ refl (either-word (b == 47) _ _ refl (either-word (b == 33) _ _ refl (either-word (b == 63) _ _ refl
+    (either-word (b == 91) _ _ refl (either-word (b == 93) _ _ refl (either-word (b == 34) _ _ refl (either-word (b == 39) _ _ refl (either-word (b == 58) _ _ refl
+    (either-word (b == 46) _ _ refl (either-word (is_ascii_alphabetic b) _ _ refl (either-word (is_ascii_digit b) _ _ refl refl))))))))))))
+
 pub word-is-word : (b : ℕ) → is_word (word_byte b) ≡ true
 word-is-word b =
     either-word (b == 35) _ _ refl (either-word (b == 42) _ _ refl (either-word (b == 95) _ _ refl (either-word (b == 45) _ _ refl
-    (either-word (b == 61) _ _ refl (either-word (b == 96) _ _ refl (either-word (b == 126) _ _ refl refl))))))
+    (either-word (b == 61) _ _ refl (either-word (b == 96) _ _ refl (either-word (b == 126) _ _ refl (html-is-word b)))))))
 
 -- no such byte is a line ending, or white space
 pub word-no-feed : (x : FlowByte) → is_word x ≡ true → (is_line_feed x ≡ false) × (is_blank x ≡ false)
@@ -63,6 +71,19 @@ word-no-feed dash h = (refl, refl)
 word-no-feed equals h = (refl, refl)
 word-no-feed tick h = (refl, refl)
 word-no-feed tilde h = (refl, refl)
+word-no-feed less h = (refl, refl)
+word-no-feed greater h = (refl, refl)
+word-no-feed slash h = (refl, refl)
+word-no-feed bang h = (refl, refl)
+word-no-feed question h = (refl, refl)
+word-no-feed opening h = (refl, refl)
+word-no-feed closing h = (refl, refl)
+word-no-feed double h = (refl, refl)
+word-no-feed single h = (refl, refl)
+word-no-feed colon h = (refl, refl)
+word-no-feed dot h = (refl, refl)
+word-no-feed (letter byte) h = (refl, refl)
+word-no-feed (digit byte) h = (refl, refl)
 word-no-feed other h = (refl, refl)
 
 -- the tests of a class say whether the byte is a line ending, white space, or another
@@ -156,123 +177,63 @@ in-line false text p m = record { line_is = m.line_is; run_is = omega (arith, m.
 pub at-in-line : (text : Text) (p : ℕ) (w : FlowByte) → IsMeasured w text p → is_line_feed w ≡ false → InLine text p
 at-in-line text p w m feed = in-line m.white text p (subst (λ f. Measured f m.white text p) (sym m.tests.0 ∙ feed) m.is)
 
--- the marks and number signs are neither line endings nor white space
+-- a test that no line ending and no white space passes is passed by other bytes alone
+pub word-of : (test : FlowByte → Bool) → test line_feed ≡ false → test blank ≡ false → (w : FlowByte) → test w ≡ true → is_word w ≡ true
+word-of test feed white line_feed h = absurd (let e : true ≡ false = sym h ∙ feed in cc)
+word-of test feed white blank h = absurd (let e : true ≡ false = sym h ∙ white in cc)
+word-of test feed white sign h = refl
+word-of test feed white star h = refl
+word-of test feed white underscore h = refl
+word-of test feed white dash h = refl
+word-of test feed white equals h = refl
+word-of test feed white tick h = refl
+word-of test feed white tilde h = refl
+word-of test feed white less h = refl
+word-of test feed white greater h = refl
+word-of test feed white slash h = refl
+word-of test feed white bang h = refl
+word-of test feed white question h = refl
+word-of test feed white opening h = refl
+word-of test feed white closing h = refl
+word-of test feed white double h = refl
+word-of test feed white single h = refl
+word-of test feed white colon h = refl
+word-of test feed white dot h = refl
+word-of test feed white (letter byte) h = refl
+word-of test feed white (digit byte) h = refl
+word-of test feed white other h = refl
+
+-- the marks and number signs are such tests
 pub rule-word : (w : FlowByte) → is_rule w ≡ true → is_word w ≡ true
-rule-word line_feed h = h
-rule-word blank h = h
-rule-word sign h = refl
-rule-word star h = refl
-rule-word underscore h = refl
-rule-word dash h = refl
-rule-word equals h = refl
-rule-word tick h = refl
-rule-word tilde h = refl
-rule-word other h = refl
+rule-word = word-of is_rule refl refl
 
 pub sign-word : (w : FlowByte) → is_sign w ≡ true → is_word w ≡ true
-sign-word line_feed h = h
-sign-word blank h = h
-sign-word sign h = refl
-sign-word star h = refl
-sign-word underscore h = refl
-sign-word dash h = refl
-sign-word equals h = refl
-sign-word tick h = refl
-sign-word tilde h = refl
-sign-word other h = refl
+sign-word = word-of is_sign refl refl
 
 pub star-word : (w : FlowByte) → is_star w ≡ true → is_word w ≡ true
-star-word line_feed h = h
-star-word blank h = h
-star-word sign h = refl
-star-word star h = refl
-star-word underscore h = refl
-star-word dash h = refl
-star-word equals h = refl
-star-word tick h = refl
-star-word tilde h = refl
-star-word other h = refl
+star-word = word-of is_star refl refl
 
 pub underscore-word : (w : FlowByte) → is_underscore w ≡ true → is_word w ≡ true
-underscore-word line_feed h = h
-underscore-word blank h = h
-underscore-word sign h = refl
-underscore-word star h = refl
-underscore-word underscore h = refl
-underscore-word dash h = refl
-underscore-word equals h = refl
-underscore-word tick h = refl
-underscore-word tilde h = refl
-underscore-word other h = refl
+underscore-word = word-of is_underscore refl refl
 
 pub dash-word : (w : FlowByte) → is_dash w ≡ true → is_word w ≡ true
-dash-word line_feed h = h
-dash-word blank h = h
-dash-word sign h = refl
-dash-word star h = refl
-dash-word underscore h = refl
-dash-word dash h = refl
-dash-word equals h = refl
-dash-word tick h = refl
-dash-word tilde h = refl
-dash-word other h = refl
+dash-word = word-of is_dash refl refl
 
 pub equals-word : (w : FlowByte) → is_equals w ≡ true → is_word w ≡ true
-equals-word line_feed h = h
-equals-word blank h = h
-equals-word sign h = refl
-equals-word star h = refl
-equals-word underscore h = refl
-equals-word dash h = refl
-equals-word equals h = refl
-equals-word tick h = refl
-equals-word tilde h = refl
-equals-word other h = refl
+equals-word = word-of is_equals refl refl
 
 pub tick-word : (w : FlowByte) → is_tick w ≡ true → is_word w ≡ true
-tick-word line_feed h = h
-tick-word blank h = h
-tick-word sign h = refl
-tick-word star h = refl
-tick-word underscore h = refl
-tick-word dash h = refl
-tick-word equals h = refl
-tick-word tick h = refl
-tick-word tilde h = refl
-tick-word other h = refl
+tick-word = word-of is_tick refl refl
 
 pub tilde-word : (w : FlowByte) → is_tilde w ≡ true → is_word w ≡ true
-tilde-word line_feed h = h
-tilde-word blank h = h
-tilde-word sign h = refl
-tilde-word star h = refl
-tilde-word underscore h = refl
-tilde-word dash h = refl
-tilde-word equals h = refl
-tilde-word tick h = refl
-tilde-word tilde h = refl
-tilde-word other h = refl
+tilde-word = word-of is_tilde refl refl
 
 pub underline-word : (w : FlowByte) → is_underline w ≡ true → is_word w ≡ true
-underline-word line_feed h = h
-underline-word blank h = h
-underline-word sign h = refl
-underline-word star h = refl
-underline-word underscore h = refl
-underline-word dash h = refl
-underline-word equals h = refl
-underline-word tick h = refl
-underline-word tilde h = refl
-underline-word other h = refl
+underline-word = word-of is_underline refl refl
 
 pub fence-word : (w : FlowByte) → is_fence w ≡ true → is_word w ≡ true
-fence-word line_feed h = h
-fence-word blank h = h
-fence-word sign h = refl
-fence-word star h = refl
-fence-word underscore h = refl
-fence-word dash h = refl
-fence-word equals h = refl
-fence-word tick h = refl
-fence-word tilde h = refl
-fence-word other h = refl
+fence-word = word-of is_fence refl refl
+
+-- and so is that of letters and digits
+pub name-word : (w : FlowByte) (byte : ℕ) → name_byte w ≡ Some byte → is_word w ≡ true
+name-word w byte is = word-of (λ w. is_some (name_byte w)) refl refl w (ap is_some is)

@@ -5,7 +5,7 @@ use Rattle.mdconstructs_tables.specs.Cases.{Case, rows_in}
 use Rattle.mdconstructs_tables.specs.Rows.{Rows}
 use Rattle.mdconstructs_tables.specs.RowTest.{never}
 use Rattle.mdconstructs_tables.specs.RowInvariant.{AreWithin, Stands, class_in}
-use Rattle.mdconstructs_flow.specs.FlowBytes.{FlowByte, flow_byte, Cased, cased}
+use Rattle.mdconstructs_flow.specs.FlowBytes.{FlowByte, flow_byte, name_byte, Cased, cased, by_byte, spelled}
 use Rattle.mdconstructs_flow.specs.FlowTable.{flow}
 use Rattle.mdconstructs_flow.specs.Laws.Measures.{AreBounded, bounds-at, IsMeasured, measured}
 
@@ -42,3 +42,14 @@ module _ (price : Text → ℕ → ℕ) where
       → AreWithin flow never b w text p (price text p) (cased c previous w)
   pays c ends each None b previous text p at seen = ends b text p (bounds-at text p) (bounds-at text (p + 1)) at
   pays c ends each (Some w) b previous text p at seen = in-cases PaysAt [] c.cases c.rest each w tt b text p (measured text p w at seen)
+
+  -- the same of a state in a name
+  pub pays-spelled : (by : ℕ → Rows Unit Unit) (c : Cased Unit Unit) → PaysEnd c.at_end → ((w : FlowByte) (byte : ℕ) → name_byte w ≡ Some byte → PaysAt w (by byte))
+      → InCases PaysAt [] c.cases c.rest → (w b previous : Option FlowByte) (text : Text) (p : ℕ) → Stands w text p → class_in flow_byte text p ≡ w
+      → AreWithin flow never b w text p (price text p) (spelled by c previous w)
+  pays-spelled by c ends named each None b previous text p at seen = ends b text p (bounds-at text p) (bounds-at text (p + 1)) at
+  pays-spelled by c ends named each (Some w) b previous text p at seen =
+      elim (name_byte w) as (λ o. name_byte w ≡ o → AreWithin flow never b (Some w) text p (price text p) (by_byte o by (rows_in c.cases c.rest w))) [
+        | None ↦ λ is. in-cases PaysAt [] c.cases c.rest each w tt b text p (measured text p w at seen)
+        | Some byte ↦ λ is. named w byte is b text p (measured text p w at seen)
+      ] refl

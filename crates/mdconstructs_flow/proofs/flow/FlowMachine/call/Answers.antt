@@ -11,6 +11,8 @@ use Rattle.mdconstructs_flow.specs.Flow.{flow_start, flow_blank_line_after, flow
 use Rattle.mdconstructs_flow.specs.HeadingAtx.{flow_before_heading_atx, string_start, string_before_data, string_before, text_before, text_before_data, heading_atx_start, heading_atx_sequence_open, heading_atx_at_break, heading_atx_before, heading_atx_data}
 use Rattle.mdconstructs_flow.specs.HeadingEdits.{CanEndHeading}
 use Rattle.mdconstructs_flow.specs.HeadingSetext.{flow_before_heading_setext, flow_before_gfm_table, content_definition_after, heading_setext_start, heading_setext_before, heading_setext_inside, heading_setext_after}
+use Rattle.mdconstructs_flow.specs.HtmlFlow.{html_flow_start, html_flow_continuation, html_flow_continuation_comment_inside, html_flow_continuation_cdata_inside, html_flow_continuation_declaration_inside, html_flow_continuation_raw_tag_open, html_flow_continuation_raw_end_tag, html_flow_continuation_close, html_flow_continuation_before, html_flow_blank_line_before, blank_line_after, html_flow_continuation_after, html_flow_continuation_start}
+use Rattle.mdconstructs_flow.specs.HtmlTags.{html_flow_open, html_flow_declaration_open, html_flow_comment_open_inside, html_flow_cdata_open_inside, html_flow_tag_close_start, html_flow_tag_name, html_flow_basic_self_closing, html_flow_complete_closing_tag_after, html_flow_complete_end, html_flow_complete_attribute_name_before, html_flow_complete_attribute_name, html_flow_complete_attribute_name_after, html_flow_complete_attribute_value_before, html_flow_complete_attribute_value_quoted, html_flow_complete_attribute_value_quoted_after, html_flow_complete_attribute_value_unquoted, html_flow_complete_after}
 use Rattle.mdconstructs_flow.specs.Look.{non_lazy_continuation_start, flow_blank_line_before}
 use Rattle.mdconstructs_flow.specs.Paragraph.{flow_before_content, paragraph_start, paragraph_inside, paragraph_line_start, content_chunk_inside}
 use Rattle.mdconstructs_flow.specs.ThematicBreak.{flow_before_thematic_break, thematic_break_before, thematic_break_at_break, thematic_break_sequence}
@@ -203,6 +205,96 @@ heading_setext_after-requires c =
       heading = subst (λ u. CanEndHeading u.configuration) (sym c.begin.ensures)
           (can-end (begun counts t).configuration (known-underline t.configuration.events t.configuration.local t.choices c.args.name.number (search rules) c.requires.invariant.known));
     }
+
+pub html_flow_open-requires : goal.html_flow_open-requires
+html_flow_open-requires c = callable flow counts c.args.name html_flow_open _ _ (search rules) refl c.requires.invariant.holds c.begin.ensures
+
+pub html_flow_declaration_open-requires : goal.html_flow_declaration_open-requires
+html_flow_declaration_open-requires c = callable flow counts c.args.name html_flow_declaration_open _ _ (search rules) refl c.requires.invariant.holds c.begin.ensures
+
+pub html_flow_comment_open_inside-requires : goal.html_flow_comment_open_inside-requires
+html_flow_comment_open_inside-requires c = callable flow counts c.args.name html_flow_comment_open_inside _ _ (search rules) refl c.requires.invariant.holds c.begin.ensures
+
+pub html_flow_cdata_open_inside-requires : goal.html_flow_cdata_open_inside-requires
+html_flow_cdata_open_inside-requires c = callable flow counts c.args.name html_flow_cdata_open_inside _ _ (search rules) refl c.requires.invariant.holds c.begin.ensures
+
+pub html_flow_tag_close_start-requires : goal.html_flow_tag_close_start-requires
+html_flow_tag_close_start-requires c = callable flow counts c.args.name html_flow_tag_close_start _ _ (search rules) refl c.requires.invariant.holds c.begin.ensures
+
+pub html_flow_tag_name-requires : goal.html_flow_tag_name-requires
+html_flow_tag_name-requires c = callable flow counts c.args.name html_flow_tag_name _ _ (search rules) refl c.requires.invariant.holds c.begin.ensures
+
+pub html_flow_basic_self_closing-requires : goal.html_flow_basic_self_closing-requires
+html_flow_basic_self_closing-requires c = callable flow counts c.args.name html_flow_basic_self_closing _ _ (search rules) refl c.requires.invariant.holds c.begin.ensures
+
+pub html_flow_complete_closing_tag_after-requires : goal.html_flow_complete_closing_tag_after-requires
+html_flow_complete_closing_tag_after-requires c = callable flow counts c.args.name html_flow_complete_closing_tag_after _ _ (search rules) refl c.requires.invariant.holds c.begin.ensures
+
+pub html_flow_complete_end-requires : goal.html_flow_complete_end-requires
+html_flow_complete_end-requires c = callable flow counts c.args.name html_flow_complete_end _ _ (search rules) refl c.requires.invariant.holds c.begin.ensures
+
+pub html_flow_complete_attribute_name_before-requires : goal.html_flow_complete_attribute_name_before-requires
+html_flow_complete_attribute_name_before-requires c = callable flow counts c.args.name html_flow_complete_attribute_name_before _ _ (search rules) refl c.requires.invariant.holds c.begin.ensures
+
+pub html_flow_complete_attribute_name-requires : goal.html_flow_complete_attribute_name-requires
+html_flow_complete_attribute_name-requires c = callable flow counts c.args.name html_flow_complete_attribute_name _ _ (search rules) refl c.requires.invariant.holds c.begin.ensures
+
+pub html_flow_complete_attribute_name_after-requires : goal.html_flow_complete_attribute_name_after-requires
+html_flow_complete_attribute_name_after-requires c = callable flow counts c.args.name html_flow_complete_attribute_name_after _ _ (search rules) refl c.requires.invariant.holds c.begin.ensures
+
+pub html_flow_complete_attribute_value_before-requires : goal.html_flow_complete_attribute_value_before-requires
+html_flow_complete_attribute_value_before-requires c = callable flow counts c.args.name html_flow_complete_attribute_value_before _ _ (search rules) refl c.requires.invariant.holds c.begin.ensures
+
+pub html_flow_complete_attribute_value_quoted-requires : goal.html_flow_complete_attribute_value_quoted-requires
+html_flow_complete_attribute_value_quoted-requires c = callable flow counts c.args.name html_flow_complete_attribute_value_quoted _ _ (search rules) refl c.requires.invariant.holds c.begin.ensures
+
+pub html_flow_complete_attribute_value_quoted_after-requires : goal.html_flow_complete_attribute_value_quoted_after-requires
+html_flow_complete_attribute_value_quoted_after-requires c = callable flow counts c.args.name html_flow_complete_attribute_value_quoted_after _ _ (search rules) refl c.requires.invariant.holds c.begin.ensures
+
+pub html_flow_complete_attribute_value_unquoted-requires : goal.html_flow_complete_attribute_value_unquoted-requires
+html_flow_complete_attribute_value_unquoted-requires c = callable flow counts c.args.name html_flow_complete_attribute_value_unquoted _ _ (search rules) refl c.requires.invariant.holds c.begin.ensures
+
+pub html_flow_complete_after-requires : goal.html_flow_complete_after-requires
+html_flow_complete_after-requires c = callable flow counts c.args.name html_flow_complete_after _ _ (search rules) refl c.requires.invariant.holds c.begin.ensures
+
+pub html_flow_start-requires : goal.html_flow_start-requires
+html_flow_start-requires c = callable flow counts c.args.name html_flow_start _ _ (search rules) refl c.requires.invariant.holds c.begin.ensures
+
+pub html_flow_continuation-requires : goal.html_flow_continuation-requires
+html_flow_continuation-requires c = callable flow counts c.args.name html_flow_continuation _ _ (search rules) refl c.requires.invariant.holds c.begin.ensures
+
+pub html_flow_continuation_comment_inside-requires : goal.html_flow_continuation_comment_inside-requires
+html_flow_continuation_comment_inside-requires c = callable flow counts c.args.name html_flow_continuation_comment_inside _ _ (search rules) refl c.requires.invariant.holds c.begin.ensures
+
+pub html_flow_continuation_cdata_inside-requires : goal.html_flow_continuation_cdata_inside-requires
+html_flow_continuation_cdata_inside-requires c = callable flow counts c.args.name html_flow_continuation_cdata_inside _ _ (search rules) refl c.requires.invariant.holds c.begin.ensures
+
+pub html_flow_continuation_declaration_inside-requires : goal.html_flow_continuation_declaration_inside-requires
+html_flow_continuation_declaration_inside-requires c = callable flow counts c.args.name html_flow_continuation_declaration_inside _ _ (search rules) refl c.requires.invariant.holds c.begin.ensures
+
+pub html_flow_continuation_raw_tag_open-requires : goal.html_flow_continuation_raw_tag_open-requires
+html_flow_continuation_raw_tag_open-requires c = callable flow counts c.args.name html_flow_continuation_raw_tag_open _ _ (search rules) refl c.requires.invariant.holds c.begin.ensures
+
+pub html_flow_continuation_raw_end_tag-requires : goal.html_flow_continuation_raw_end_tag-requires
+html_flow_continuation_raw_end_tag-requires c = callable flow counts c.args.name html_flow_continuation_raw_end_tag _ _ (search rules) refl c.requires.invariant.holds c.begin.ensures
+
+pub html_flow_continuation_close-requires : goal.html_flow_continuation_close-requires
+html_flow_continuation_close-requires c = callable flow counts c.args.name html_flow_continuation_close _ _ (search rules) refl c.requires.invariant.holds c.begin.ensures
+
+pub html_flow_continuation_before-requires : goal.html_flow_continuation_before-requires
+html_flow_continuation_before-requires c = callable flow counts c.args.name html_flow_continuation_before _ _ (search rules) refl c.requires.invariant.holds c.begin.ensures
+
+pub html_flow_blank_line_before-requires : goal.html_flow_blank_line_before-requires
+html_flow_blank_line_before-requires c = callable flow counts c.args.name html_flow_blank_line_before _ _ (search rules) refl c.requires.invariant.holds c.begin.ensures
+
+pub blank_line_after-requires : goal.blank_line_after-requires
+blank_line_after-requires c = callable flow counts c.args.name blank_line_after _ _ (search rules) refl c.requires.invariant.holds c.begin.ensures
+
+pub html_flow_continuation_after-requires : goal.html_flow_continuation_after-requires
+html_flow_continuation_after-requires c = callable flow counts c.args.name html_flow_continuation_after _ _ (search rules) refl c.requires.invariant.holds c.begin.ensures
+
+pub html_flow_continuation_start-requires : goal.html_flow_continuation_start-requires
+html_flow_continuation_start-requires c = callable flow counts c.args.name html_flow_continuation_start _ _ (search rules) refl c.requires.invariant.holds c.begin.ensures
 
 pub flow_before_content-requires : goal.flow_before_content-requires
 flow_before_content-requires c = callable flow counts c.args.name flow_before_content _ _ (search rules) refl c.requires.invariant.holds c.begin.ensures
