@@ -1,4 +1,6 @@
 pub mod BlankLine
+pub mod BlockEvents
+pub mod BlocksRead
 pub mod ChunkRows
 pub mod CodeFenced
 pub mod CodeIndented
