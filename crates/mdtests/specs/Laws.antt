@@ -5,3 +5,5 @@ pub mod Replacing
 pub mod Stars
 pub mod Marks
 pub mod Pairs
+pub mod Behind
+pub mod Names

@@ -1,3 +1,4 @@
+pub mod Behind
 pub mod Documents
 pub mod Found
 pub mod Starved
@@ -7,3 +8,4 @@ pub mod Replacing
 pub mod Stars
 pub mod Marks
 pub mod Pairs
+pub mod Names

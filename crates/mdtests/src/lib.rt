@@ -1,6 +1,7 @@
 //! Tests of the libraries and of the program, as a caller sees them. Each library is proved once so, and not again with its tests.
 #![tactic(auto)]
 
+pub mod behind;
 #[cfg(test)]
 mod calls;
 #[cfg(test)]
@@ -23,6 +24,7 @@ mod kept;
 mod looping;
 #[cfg(test)]
 mod machines;
+pub mod names;
 #[cfg(test)]
 mod no_memory;
 pub mod pairs;
