@@ -1,12 +1,14 @@
 pub mod Calm
 pub mod Cases
 pub mod Chunks
+pub mod DeepLooks
 pub mod Fitting
 pub mod Folds
 pub mod Joined
 pub mod Knowledge
 pub mod Late
 pub mod LinkShapes
+pub mod LookKnowledge
 pub mod Looks
 pub mod Markers
 pub mod Misfits

@@ -12,10 +12,12 @@ ghost use Rattle.markdown_tokenizer.specs.Sight.{Sight};
 ghost use Rattle.markdown_tokenizer.specs.Text.{Given, Text};
 ghost use Rattle.mdconstructs_tables.specs.Calm.{Calmness, CalmCasesKeep, CalmRowsKeep};
 ghost use Rattle.mdconstructs_tables.specs.Cases.{AreByBytes, AreOneByOne};
+ghost use Rattle.mdconstructs_tables.specs.DeepLooks.{DeepLooksAreScans};
 ghost use Rattle.mdconstructs_tables.specs.Fitting.{IsFit};
 ghost use Rattle.mdconstructs_tables.specs.Folds.{BytesAreFolded};
 ghost use Rattle.mdconstructs_tables.specs.Knowledge.{IsKnownThroughout, KnowsFalling, knowing_rules};
 ghost use Rattle.mdconstructs_tables.specs.Late.{IsLate, late_rules};
+ghost use Rattle.mdconstructs_tables.specs.LookKnowledge.{ChecksAreLooks};
 ghost use Rattle.mdconstructs_tables.specs.Looks.{LooksAreScans, Plays};
 ghost use Rattle.mdconstructs_tables.specs.NoFurther.{TestsLookNoFurther};
 ghost use Rattle.mdconstructs_tables.specs.Numbers.{AreEnough, Price};
@@ -143,6 +145,13 @@ pub fn stretches_are_read<W, R, D>()
         → Plays table g step → StretchesAreRead table g text step }
 {}
 
+/// So is a look with checks in it, and with checks in these, as deep as is asked: a check looks on from its place, goes back there, and the
+/// look goes on with what the check says.
+pub fn deep_looks_are_scans<W, R, D>()
+    ensures { (table : Table W R D) (g : Given) (text : Text) (step : Sight → Configuration R D → Name → Step R D)
+        → Plays table g step → DeepLooksAreScans table g text step }
+{}
+
 /// A look ends with `Ok` or `Nok` if the test names no state of it as loud: its states only write, read bytes, and go on among
 /// themselves. It takes at most as many calls at each place as the states have ranks.
 pub fn quiet_looks_end<W, R, D>()
@@ -197,4 +206,25 @@ pub fn cases_are_one_by_one<P: Property>()
 /// bytes names no class.
 pub fn cases_are_by_bytes<W, R, D>()
     ensures { (class : ℕ → W) → AreByBytes R D class }
+{}
+
+/// What is known where looks may wait.
+pub trait Looking {
+    /// The type of resolvers.
+    type Resolver;
+
+    /// What the machine keeps about a document.
+    type Document;
+
+    /// Whether a state may be returned in a look: it is one of its states, or `Ok` or `Nok`.
+    ghost looking: { State → Bool };
+
+    /// What is known at a state outside of looks.
+    ghost known: { State → List Event → Local Self.Resolver Self.Document → Type 0 };
+}
+
+/// Looks may wait in looks: all choices that wait are checks that take no event away, and what is known is what the outermost goes on
+/// with. So a machine that knows something (`Knowledge`) may look within a look.
+pub fn checks_are_looks<L: Looking>()
+    ensures { ChecksAreLooks L.looking L.known }
 {}

@@ -19,13 +19,13 @@ use Rattle.mdconstructs_tables.proofs.Looks.Left.{at-front, past-end}
 use Rattle.mdconstructs_tables.specs.Looks.{waits_at, ended_at, first_byte, Look, Glance, goes_on, is_over, one_more, answered, held, shows, shows_in, acted, row_here, called, glance, looked_on, scan, looked, uncalled, unfed_look, IsShown, look_from, Plays, LooksAreScans}
 
 -- what waits is the first of the bytes that are left
-sees : (text : Text) (l : List Seat) (q : ℕ) → drop q text.seats ≡ l → current_of text q (waits_at l) ≡ first_byte l
+pub sees : (text : Text) (l : List Seat) (q : ℕ) → drop q text.seats ≡ l → current_of text q (waits_at l) ≡ first_byte l
 sees text [] q at = refl
 sees text (s ∷ ss) q at = ap byte_of (at-front text.seats q s ss at)
 
 module _ {R D : Type 0} (stack : List EventName) (events : List Event) where
   -- what is fed
-  feeds : (text : Text) (l : List Seat) (q : ℕ) (b : Bool) (local : Local R D) → drop q text.seats ≡ l → fed text (held stack events q Nothing b local) ≡ shows stack events l q b local
+  pub feeds : (text : Text) (l : List Seat) (q : ℕ) (b : Bool) (local : Local R D) → drop q text.seats ≡ l → fed text (held stack events q Nothing b local) ≡ shows stack events l q b local
   feeds text [] q b local at = ap (λ t. cond t (held stack events q Byte b local) (held stack events q End true local)) (le-ltb q (length text.seats) (past-end text.seats q at))
   feeds text (s ∷ ss) q b local at =
       ap (λ t. cond t (held stack events q Byte b local) (held stack events q End true local)) (lt-ltb q (length text.seats) (slice_get_within text.seats q s (at-front text.seats q s ss at)))
@@ -111,7 +111,7 @@ module _ {W R D : Type 0} (table : Table W R D) (g : Given) (text : Text) (step 
     Comes local name o = Runs (calls_of stack events l q b o) (shows stack events l q b local) (Retry name) (ends_at stack events l q b o) (ends_with stack events l q b o)
 
     -- the step of a state whose row is quiet
-    step-is : (state : StateRows W R D) (local : Local R D) (name : Name) (r : Bool) (local' : Local R D)
+    pub step-is : (state : StateRows W R D) (local : Local R D) (name : Name) (r : Bool) (local' : Local R D)
         → named table.states name ≡ Some state
         → let row = row_here table g text stack events previous l q b local state in
         let s = sight g text (shows stack events l q b local) in
