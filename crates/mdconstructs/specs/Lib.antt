@@ -1,12 +1,14 @@
 pub use Rattle.mdconstructs_tables.specs.Calm
 pub use Rattle.mdconstructs_tables.specs.Cases
 pub use Rattle.mdconstructs_tables.specs.Chunks
+pub use Rattle.mdconstructs_tables.specs.DeepLooks
 pub use Rattle.mdconstructs_tables.specs.Fitting
 pub use Rattle.mdconstructs_tables.specs.Folds
 pub use Rattle.mdconstructs_tables.specs.Joined
 pub use Rattle.mdconstructs_tables.specs.Knowledge
 pub use Rattle.mdconstructs_tables.specs.Late
 pub use Rattle.mdconstructs_tables.specs.LinkShapes
+pub use Rattle.mdconstructs_tables.specs.LookKnowledge
 pub use Rattle.mdconstructs_tables.specs.Looks
 pub use Rattle.mdconstructs_tables.specs.Markers
 pub use Rattle.mdconstructs_tables.specs.Misfits
