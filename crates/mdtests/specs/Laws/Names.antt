@@ -1,13 +1,12 @@
 -- The table of the machine passes the test, so that the machine is lawful; and its numbers know the names.
-use Rattle.std.proofs.Common.{◌≡◌, ◌∙◌, ◌==◌, ◌⊎◌, inl, inr, ℕ, List, [], ◌∷◌, Bool, cond, Option, Some, None, refl, sym, ap, subst, true, false}
+use Rattle.std.proofs.Common.{◌≡◌, ◌∙◌, ◌==◌, ◌⊎◌, inl, inr, ℕ, List, [], ◌∷◌, cond, Option, Some, None, refl, sym, ap, true, false}
 use Rattle.std.proofs.lemmas.Bool.{eqb-true}
 use Rattle.mdconstructs.specs.PlainTables.{IsPlainEverywhere}
 use Rattle.mdconstructs.specs.PlainWrites.{StatesWritePlain, WritesPlain}
 use Rattle.mdconstructs.specs.Folds.{folds, fold_of}
 use Rattle.mdconstructs.specs.Misfits.{misfits}
 use Rattle.mdconstructs_tables.specs.Fitting.{IsFit}
-use Rattle.markdown.specs.Sight.{Sight}
-use Rattle.markdown.specs.Configuration.{Configuration, Local}
+use Rattle.markdown.specs.Configuration.{Configuration}
 use Rattle.markdown.specs.Plain.{IsPlain}
 use Rattle.markdown.specs.Calls.{with_local}
 use Rattle.mdconstructs.specs.Tables.{LineByte, line_ending, other}
