@@ -9,6 +9,7 @@ pub use Rattle.mdconstructs_tables.proofs.Markers
 pub use Rattle.mdconstructs_tables.proofs.Numbers
 pub use Rattle.mdconstructs_tables.proofs.Rows
 pub use Rattle.mdconstructs_tables.proofs.Tables
+pub use Rattle.mdconstructs_tables.proofs.Unlinked
 pub use Rattle.mdconstructs_machines.proofs.BlockReads
 pub use Rattle.mdconstructs_machines.proofs.Breaks
 pub use Rattle.mdconstructs_machines.proofs.Innermost

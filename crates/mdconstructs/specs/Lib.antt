@@ -23,6 +23,7 @@ pub use Rattle.mdconstructs_tables.specs.Plans
 pub use Rattle.mdconstructs_tables.specs.Quiet
 pub use Rattle.mdconstructs_tables.specs.Refusals
 pub use Rattle.mdconstructs_tables.specs.Stretches
+pub use Rattle.mdconstructs_tables.specs.Unlinked
 pub use Rattle.mdconstructs_machines.specs.Costs
 pub use Rattle.mdconstructs_machines.specs.Back
 pub use Rattle.mdconstructs_machines.specs.Breaks

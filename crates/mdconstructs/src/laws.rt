@@ -13,6 +13,7 @@ pub use mdconstructs_tables::laws::{
     Calm, Knowledge, Planned, calm_rows_keep_what_is_known, fitting_tables_are_lawful,
     knowing_tables_are_lawful, knowing_tables_look_no_further, numbers_are_enough,
     planned_machines_are_lawful, planned_machines_look_no_further, tables_look_no_further,
+    unlinked_tables_are_lawful,
 };
 pub use mdconstructs_text::laws::{
     chains_are_read_as_data, chains_are_read_as_texts, chains_of_paragraphs_can_be_read,

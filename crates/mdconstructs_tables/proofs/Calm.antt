@@ -17,7 +17,7 @@ use Rattle.mdconstructs_tables.specs.RowTest.{all_rows}
 
 module _ {R D : Type 0} (harmless : (Sight → Configuration R D → Local R D) → Type 0) where
   -- what is asked behind writes
-  behind-acts : (acts : List (Act R D)) (P : Type 0) → WriteHarmless harmless acts P → WriteHarmless harmless acts (Unit {0}) × P
+  pub behind-acts : (acts : List (Act R D)) (P : Type 0) → WriteHarmless harmless acts P → WriteHarmless harmless acts (Unit {0}) × P
   behind-acts [] P h = (tt, h)
   behind-acts (enters name link ∷ acts) P h = behind-acts acts P h
   behind-acts (exit name ∷ acts) P h = behind-acts acts P h
@@ -26,7 +26,7 @@ module _ {R D : Type 0} (harmless : (Sight → Configuration R D → Local R D) 
   behind-acts (writes f ∷ acts) P h = let rest = behind-acts acts P h.1 in ((h.0, rest.0), rest.1)
   behind-acts (choose kind ok nok ∷ acts) P h = behind-acts acts P h
 
-  behind-rows : (rows : Rows R D) (P : Type 0) → RowsHarmless harmless rows P → P
+  pub behind-rows : (rows : Rows R D) (P : Type 0) → RowsHarmless harmless rows P → P
   behind-rows (row acts answer) P h = (behind-acts acts P h).1
   behind-rows (when test one other) P h = behind-rows other P (behind-rows one (RowsHarmless harmless other P) h)
 

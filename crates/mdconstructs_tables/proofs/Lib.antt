@@ -10,3 +10,4 @@ pub mod Numbers
 mod Prelude
 pub mod Rows
 pub mod Tables
+pub mod Unlinked

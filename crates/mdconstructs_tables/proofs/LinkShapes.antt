@@ -14,7 +14,7 @@ end-more end xs e i h = refl
 pub next-more : (xs : List Event) (e : Event) (i : ℕ) → next_end e ≡ None → next_of (xs ++ e ∷ []) i ≡ next_of xs i
 next-more = end-more (λ l. l.next)
 
-no-ends-below : (n : ℕ) (o : Option Link) → option_and_then (λ (l : Link). l.next) o ≡ None → option_and_then (λ (l : Link). l.previous) o ≡ None → IfSome o (EachEnd (λ k. k < n))
+pub no-ends-below : (n : ℕ) (o : Option Link) → option_and_then (λ (l : Link). l.next) o ≡ None → option_and_then (λ (l : Link). l.previous) o ≡ None → IfSome o (EachEnd (λ k. k < n))
 no-ends-below n None h k = tt
 no-ends-below n (Some l) h k = (rw k tt, rw h tt)
 

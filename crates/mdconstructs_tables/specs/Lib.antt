@@ -23,3 +23,4 @@ pub mod Plans
 pub mod Quiet
 pub mod Refusals
 pub mod Stretches
+pub mod Unlinked

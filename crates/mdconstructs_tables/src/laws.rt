@@ -27,6 +27,7 @@ ghost use Rattle.mdconstructs_tables.specs.Plans.{IsSound, Plan, planned_rules};
 ghost use Rattle.mdconstructs_tables.specs.Quiet.{QuietLooksEnd};
 ghost use Rattle.mdconstructs_tables.specs.RowInvariant.{table_rules};
 ghost use Rattle.mdconstructs_tables.specs.RowTest.{never};
+ghost use Rattle.mdconstructs_tables.specs.Unlinked.{LinksNothing, unlinked_rules};
 ghost use Rattle.mdconstructs_tables.specs.Rows.{Rows, Table};
 ghost use Rattle.mdconstructs_tables.specs.Stretches.{StretchesAreRead};
 
@@ -99,6 +100,12 @@ pub trait Planned {
 /// stand in one plan. The laws above are of plans that have less.
 pub fn planned_machines_are_lawful<P: Planned>()
     ensures { IsSound P.plan → (g : Given) → IsLawful g (planned_rules P.plan g) }
+{}
+
+/// A table that links no events to one another has lawful rules if it fits, and no write registers a resolver or makes an edit. Its
+/// events may be chunks, each alone, and it may make choices: what such a machine knows is the same for all tables, and is proved once.
+pub fn unlinked_tables_are_lawful<W, R, D>()
+    ensures { (table : Table W R D) → IsFit table → LinksNothing table → (g : Given) → IsLawful g (unlinked_rules table g) }
 {}
 
 /// A table, what its machine knows, and what leaves that as it is.
