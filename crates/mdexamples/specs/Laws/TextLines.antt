@@ -1,8 +1,8 @@
 -- The table of the machine passes the test, and what its resolver leaves is in shape, so that the machine is lawful. Its chunks can be read.
-use Rattle.std.proofs.Common.{◌≡◌, ◌==◌, ℕ, zero, suc, ◌+◌, List, [], ◌∷◌, ◌++◌, Bool, true, false, cond, Option, Some, None, inl, inr, length, map, refl, sym, ap, ◌∙◌, subst, arith}
-use Rattle.std.specs.Prelude.{nat_lt, slice_get, option_and_then, option_map, unwrap_or, Contains, All}
+use Rattle.std.proofs.Common.{◌≡◌, ℕ, zero, suc, ◌+◌, List, [], ◌∷◌, ◌++◌, false, Option, Some, None, inl, inr, length, map, refl, sym, ap, ◌∙◌, subst, arith}
+use Rattle.std.specs.Prelude.{slice_get, option_and_then, option_map, unwrap_or, All}
 use Rattle.std.specs.List.{AllByRecursion}
-use Rattle.std.proofs.lemmas.List.Elements.{recursion_from_All}
+use Rattle.std.proofs.lemmas.List.Elements.{All-cons, All-nil, recursion_from_All}
 use Rattle.markdown_base.proofs.Common.{every-append}
 use Rattle.markdown_base.specs.declared.event.Content.TheVariants.{Text as TextContent}
 use Rattle.markdown_base.specs.declared.event.Event.{Event}
@@ -10,20 +10,19 @@ use Rattle.markdown_base.specs.declared.event.Kind.TheVariants.{Enter, Exit}
 use Rattle.markdown_base.specs.declared.event.Link.{Link}
 use Rattle.markdown_base.specs.declared.event.Name.{Name as EventName}
 use Rattle.markdown_base.specs.declared.state.Name.{Name}
-use Rattle.markdown_base.specs.declared.state.TheConstants.Name.{FlowStart, ParagraphStart, ParagraphInside}
-use Rattle.markdown_base.specs.declared.state.State.TheVariants.{Next, Retry}
+use Rattle.markdown_base.specs.declared.state.TheConstants.Name.{FlowStart}
+use Rattle.markdown_base.specs.declared.state.State.TheVariants.{Next}
 use Rattle.markdown_base.specs.Events.{is_void, IsBalanced, IsVoidTight, empty, span, EndsBelow}
 use Rattle.markdown_base.specs.Places.{IsPointOf}
 use Rattle.markdown_base.specs.Virtual.{Seat, end_after}
 use Rattle.markdown_tokenizer.specs.declared.subtokenize.Subresult.{Subresult}
-use Rattle.markdown_tokenizer.specs.declared.waiting.Waits.TheVariants.{Byte, End}
 use Rattle.markdown_tokenizer.specs.Text.{Given, Text}
-use Rattle.markdown_tokenizer.specs.Configuration.{Configuration, Choice, Step}
+use Rattle.markdown_tokenizer.specs.Configuration.{Configuration, start_configuration}
 use Rattle.markdown_tokenizer.specs.Sight.{Sight, sight}
-use Rattle.markdown_tokenizer.specs.Calls.{with_local, with_events, with_resolvers, registered}
+use Rattle.markdown_tokenizer.specs.Calls.{with_events, with_resolvers, registered}
 use Rattle.markdown_tokenizer.specs.Engine.{IsWellFormed}
 use Rattle.markdown_tokenizer.specs.Resolving.{done, taken, IsInShape}
-use Rattle.markdown_tokenizer.specs.Lawful.{ConsumesOnce, OnlyAdds, EndsWhenRead, KeepsInvariant, CostPays, ResolversKeep, IsAsFar, IsLawful}
+use Rattle.markdown_tokenizer.specs.Lawful.{ResolversKeep, IsAsFar, IsLawful}
 use Rattle.markdown_tokenizer.proofs.Readings.Plain.{no-links-shape}
 use Rattle.markdown_edits.specs.Edits.{AreDisjoint, Edit}
 use Rattle.markdown_edits.specs.Edited.{edited}
@@ -35,11 +34,12 @@ use Rattle.markdown_children.specs.LawStatements.{IsTornNowhere}
 use Rattle.markdown_children.specs.Parts.{Divided, parts, divided_over}
 use Rattle.markdown_children.specs.Ready.{IsReady, place_at}
 use Rattle.markdown_children.proofs.Parts.InShape.{children_fit}
-use Rattle.mdconstructs_tables.specs.Rows.{class_of, step_of, picked, step_at}
 use Rattle.mdconstructs_tables.specs.Misfits.{misfits}
-use Rattle.mdconstructs_tables.specs.Fitting.{IsFit}
-use Rattle.mdconstructs_tables.proofs.Tables.Laws.{table-consumes_once, table-only_adds, table-ends_when_read, table-invariant_kept}
-use Rattle.mdconstructs_tables.proofs.Tables.Prices.{table-cost_pays}
+use Rattle.mdconstructs_tables.specs.Fitting.{IsFit, every}
+use Rattle.mdconstructs_tables.specs.Plans.{KeepsKnowledge, KeepsKnown, Plan}
+use Rattle.mdconstructs_tables.specs.RowTest.{never}
+use Rattle.mdconstructs_tables.proofs.Tables.Plans.{formed-lawful}
+use Rattle.mdconstructs_tables.proofs.Tables.Prices.{all-fall, every-late}
 use Rattle.mdconstructs_machines.specs.Spans.{event, leaf, span as span_of}
 use Rattle.mdconstructs_text.specs.ChainTexts.{chain_text, chain_events, with_texts}
 use Rattle.mdconstructs_text.specs.TextEvents.{text_events}
@@ -49,10 +49,10 @@ use Rattle.mdconstructs_text.proofs.Texts.Built.{IsKeptBySpans}
 use Rattle.mdconstructs_text.proofs.Texts.ItemsBuilt.{text-built}
 use Rattle.mdconstructs_text.proofs.Texts.Tight.{text-alone, text-tight}
 use Rattle.mdconstructs.specs.Paragraphs.{text_link}
-use Rattle.mdconstructs.specs.Tables.{LineByte, line_ending, other, line_byte, counts}
+use Rattle.mdconstructs.specs.Tables.{LineByte, line_ending, other}
 use Rattle.mdexamples.specs.declared.text_lines.Resolver.{Resolver}
 use Rattle.mdexamples.specs.declared.text_lines.Resolver.TheVariants.{ReadTexts}
-use Rattle.mdexamples.specs.TextLines.{same_resolver, flow_start, line_start_rows, line_start, line_inside_rows, line_inside, text_lines, text_lines_resolver, IsAlone, registered_at, IsUnread, IsUnreadAt, AreTextLines, text_lines_resolves, text_lines_rules}
+use Rattle.mdexamples.specs.TextLines.{same_resolver, flow_start, line_start, line_inside, text_lines, text_lines_resolver, IsAlone, IsUnreadAt, AreTextLines, text_lines_resolves, text_lines_rules}
 
 fits : (previous current : Option LineByte) → misfits text_lines previous current ≡ []
 fits previous None = refl
@@ -160,84 +160,43 @@ still-tight g es alone formed =
 
 -- ---- the laws
 
--- what a step leaves
-abbrev IsLeft : Step Resolver Unit → Type 0
-IsLeft q = IsUnreadAt q.configuration q.choices q.answer
+-- what the machine is, as a plan: its invariant is that of its rules, said in another form
+abbrev plan : Plan LineByte Resolver Unit
+plan = record {
+  table = text_lines;
+  early = never;
+  falling = every;
+  knows = λ g text k choices state. IsUnreadAt k choices state;
+  resolver = text_lines_resolver;
+  resolves = text_lines_resolves;
+  ends = λ g text. AreTextLines g;
+}
 
-first-left : (g : Given) (s : Sight) (k : Configuration Resolver Unit) → IsUnread [] k → IsLeft (step_of (picked (flow_start.rows None None) g s k) s k)
-first-left g s k h = (refl, (ap (registered same_resolver ReadTexts) h.0, h.1, h.2))
+keeps-first : KeepsKnown plan flow_start
+keeps-first g text k choices b w is before here h = (h.known.0, (ap (registered same_resolver ReadTexts) h.known.1.0, h.known.1.1, h.known.1.2))
 
-start-left : (w : Option LineByte) (g : Given) (s : Sight) (k : Configuration Resolver Unit) → IsUnread (ReadTexts ∷ []) k → IsLeft (step_of (picked (line_start_rows None w) g s k) s k)
-start-left None g s k h = (refl, h)
-start-left (Some line_ending) g s k h = (refl, (h.0, h.1, alone-more _ _ (inl refl) (alone-more k.events _ (inl refl) h.2)))
-start-left (Some other) g s k h = (refl, (h.0, h.1, alone-more k.events _ (inr (refl, refl, refl)) h.2))
+keeps-start : KeepsKnown plan line_start
+keeps-start g text k choices b None is before here h = h.known
+keeps-start g text k choices b (Some line_ending) is before here h = (h.known.0, (h.known.1.0, h.known.1.1, alone-more _ _ (inl refl) (alone-more k.events _ (inl refl) h.known.1.2)))
+keeps-start g text k choices b (Some other) is before here h = (h.known.0, (h.known.1.0, h.known.1.1, alone-more k.events _ (inr (refl, refl, refl)) h.known.1.2))
 
-inside-left : (w : Option LineByte) (g : Given) (s : Sight) (k : Configuration Resolver Unit) → IsUnread (ReadTexts ∷ []) k → IsLeft (step_of (picked (line_inside_rows None w) g s k) s k)
-inside-left None g s k h = (refl, (h.0, h.1, alone-more k.events _ (inl refl) h.2))
-inside-left (Some line_ending) g s k h = (refl, (h.0, h.1, alone-more k.events _ (inl refl) h.2))
-inside-left (Some other) g s k h = (refl, h)
+keeps-inside : KeepsKnown plan line_inside
+keeps-inside g text k choices b None is before here h = (h.known.0, (h.known.1.0, h.known.1.1, alone-more k.events _ (inl refl) h.known.1.2))
+keeps-inside g text k choices b (Some line_ending) is before here h = (h.known.0, (h.known.1.0, h.known.1.1, alone-more k.events _ (inl refl) h.known.1.2))
+keeps-inside g text k choices b (Some other) is before here h = h.known
 
--- the state of any name leaves that
-step-left : (one two three : Bool) (g : Given) (s : Sight) (k : Configuration Resolver Unit) → IsUnread (cond one [] (ReadTexts ∷ [])) k
-    → IsLeft (step_at text_lines g (cond one (Some flow_start) (cond two (Some line_start) (cond three (Some line_inside) None))) s (with_local k (counts k.local)))
-step-left true two three g s k h = first-left g s (with_local k (counts k.local)) h
-step-left false true three g s k h = start-left (class_of line_byte s.current) g s (with_local k (counts k.local)) h
-step-left false false true g s k h = inside-left (class_of line_byte s.current) g s (with_local k (counts k.local)) h
-step-left false false false g s k h = (refl, h)
-
-fed-left : (b : Bool) (k : Configuration Resolver Unit) (choices : List Choice) (name : Name) → IsUnreadAt k choices (Next name)
-    → IsUnreadAt (cond b (record { position = k.position; waiting = Byte; ended = k.ended; events = k.events; stack = k.stack; local = k.local })
-    (record { position = k.position; waiting = End; ended = true; events = k.events; stack = k.stack; local = k.local })) choices (Retry name)
-fed-left true k choices name h = h
-fed-left false k choices name h = h
-
-none-first : (name : Name) → Contains (FlowStart ∷ []) name → [] ≡ registered_at (Next name)
-none-first name (zero, below, is) = rw (← is) refl
-none-first name (suc i, below, is) = absurd (omega arith)
-
--- choices in front of none
-none-more : (made choices : List Choice) → made ≡ [] → choices ≡ [] → made ++ choices ≡ []
-none-more made choices e f = rw (e, f) refl
+kept : KeepsKnowledge plan
+kept = record {
+  at_starts = λ g p flag is. let Known = λ (name : Name). IsUnreadAt (start_configuration flag) [] (Next name) in All-cons Known FlowStart [] (refl, (refl, refl, tt)) (All-nil Known);
+  by_byte = λ g text k choices name is within h. h.known;
+  by_end = λ g text k choices name is behind h. h.known;
+  by_rows = (keeps-first, (keeps-start, (keeps-inside, tt)));
+  by_ok = λ g text k choice choices is h. absurd (let e : choice ∷ choices ≡ [] = h.known.0 in cc);
+  by_nok = λ g text k choice choices is h. absurd (let e : choice ∷ choices ≡ [] = h.known.0 in cc);
+  by_pieces = λ g text piece k choices state is fits fresh h. h.known;
+}
 
 module _ (g : Given) where
-  consumes_once : ConsumesOnce g (text_lines_rules g)
-  consumes_once text k choices name is h = table-consumes_once text_lines g text-lines-fit text k choices name is h.1
-
-  only_adds : OnlyAdds g (text_lines_rules g)
-  only_adds =
-      let law = table-only_adds text_lines g text-lines-fit in record {
-        events = λ text k choices name is h. law.events text k choices name is h.1;
-        stack = λ text k choices name is h. law.stack text k choices name is h.1;
-        choices = λ text k choices name is h. law.choices text k choices name is h.1;
-      }
-
-  ends_when_read : EndsWhenRead g (text_lines_rules g)
-  ends_when_read = let law = table-ends_when_read text_lines g text-lines-fit in record { nok = λ text k is h. law.nok text k is h.1; ok = λ text k is h. law.ok text k is h.1 }
-
-  invariant_kept : KeepsInvariant g (text_lines_rules g)
-  invariant_kept =
-      let law = table-invariant_kept text_lines g text-lines-fit in record {
-        at_starts = λ p flag name is among. ((refl, (none-first name among, refl, tt)), law.at_starts p flag name is among);
-        unfed = λ text k choices name is h. law.unfed text k choices name is h.1;
-        waits = λ text k choices name is h. law.waits text k choices name is h.1;
-        by_feeding = λ text k choices name is h. (fed-left (nat_lt k.position (length text.seats)) k choices name h.0, law.by_feeding text k choices name is h.1);
-        by_calls = λ text k choices name is h.
-            let left = step-left (name.number == FlowStart.number) (name.number == ParagraphStart.number) (name.number == ParagraphInside.number) g (sight g text k) k h.0.1 in
-            ((none-more _ choices left.0 h.0.0, left.1), law.by_calls text k choices name is h.1);
-        by_ok = λ text k choice choices is h. absurd (let e : choice ∷ choices ≡ [] = h.0.0 in cc);
-        by_nok = λ text k choice choices is h. absurd (let e : choice ∷ choices ≡ [] = h.0.0 in cc);
-        by_pieces = λ text piece k choices state is fits fresh h. (h.0, law.by_pieces text piece k choices state is fits fresh h.1);
-      }
-
-  cost_pays : CostPays g (text_lines_rules g)
-  cost_pays =
-      let law = table-cost_pays text_lines g text-lines-fit in record {
-        for_calls = λ text k choices name is h. law.for_calls text k choices name is h.1;
-        for_feeding = λ text k choices name is h. law.for_feeding text k choices name is h.1;
-        for_ok = λ text k choice choices is h. law.for_ok text k choice choices is h.1;
-        for_nok = λ text k choice choices is h. law.for_nok text k choice choices is h.1;
-      }
-
   -- what the resolver leaves
   abbrev IsPassed : Text → List Resolver → (k new : Configuration Resolver Unit) → Type 0
   IsPassed text rs k new = text_lines_resolves g text rs new × IsAsFar new k × (new.stack ≡ k.stack)
@@ -268,11 +227,6 @@ module _ (g : Given) where
   }
 
 pub text-lines-lawful : (g : Given) → IsLawful g (text_lines_rules g)
-text-lines-lawful g = record {
-  consumes_once = consumes_once g;
-  only_adds = only_adds g;
-  ends_when_read = ends_when_read g;
-  invariant_kept = invariant_kept g;
-  cost_pays = cost_pays g;
-  resolvers_keep = resolvers_keep g;
-}
+text-lines-lawful g =
+    formed-lawful plan g text-lines-fit (every-late text_lines g text-lines-fit) (text_lines_rules g).holds (λ text k choices state h. record { holds = h.1; falls = all-fall choices; known = h.0 })
+    (λ text k choices state h. (h.known, h.holds)) kept (resolvers_keep g)
