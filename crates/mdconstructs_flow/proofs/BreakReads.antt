@@ -22,7 +22,7 @@ use Rattle.mdconstructs_machines.specs.Breaks.{is_white}
 use Rattle.mdconstructs_machines.specs.Spans.{event}
 use Rattle.mdconstructs_tables.specs.Stretches.{sight_before, Halt, to_come, over, one_call_more, fed_before, ahead, halt, stretch}
 use Rattle.mdconstructs_flow.specs.FlowBytes.{FlowByte, line_feed, blank, star, underscore, dash, cased, flow_byte, is_rule}
-use Rattle.mdconstructs_flow.specs.Flow.{flow_blank_line_after_rows}
+use Rattle.mdconstructs_flow.specs.Flow.{flow_blank_line_after_rows, mark_begins_line}
 use Rattle.mdconstructs_flow.specs.FlowTable.{flow}
 use Rattle.mdconstructs_flow.specs.ThematicBreak.{thematic_break_before_rows, thematic_break_at_break_rows, thematic_break_sequence_rows}
 use Rattle.mdconstructs_flow.specs.BlockEvents.{thematic_break_events}
@@ -88,7 +88,7 @@ module _ (g : Given) (end : Point) where
     break-mark dash h = refl
     break-mark c h = absurd (cc)
 
-    line-mark : (c : FlowByte) → is_rule c ≡ true → ◌≡◌ {A = Rows Unit Unit} (cased flow_blank_line_after_rows before (Some c)) (row (enter ThematicBreak ∷ enter Marks ∷ consume ∷ []) (Next ThematicBreakSequence))
+    line-mark : (c : FlowByte) → is_rule c ≡ true → ◌≡◌ {A = Rows Unit Unit} (cased flow_blank_line_after_rows before (Some c)) mark_begins_line
     line-mark star h = refl
     line-mark underscore h = refl
     line-mark dash h = refl
@@ -134,8 +134,8 @@ module _ (g : Given) (end : Point) where
       begins-white : k.local.tokenize_state.token_1 ≡ ThematicBreak → now ≡ Some blank → halt flow g end until 3 seen k FlowBlankLineAfter ≡ to_come (begun SpaceOrTab) ThematicBreakBefore 1
       begins-white kind is = at-line g end until seen 2 k (Some blank) is ∙ rw kind refl
 
-      begins-marks : (c : FlowByte) → is_rule c ≡ true → now ≡ Some c → halt flow g end until 3 seen k FlowBlankLineAfter ≡ to_come (begun Marks) ThematicBreakSequence 1
-      begins-marks c mark is = at-line g end until seen 2 k (Some c) is ∙ ap (tells 2 k FlowBlankLineAfter) (line-mark c mark)
+      begins-marks : k.local.tokenize_state.token_1 ≡ ThematicBreak → (c : FlowByte) → is_rule c ≡ true → now ≡ Some c → halt flow g end until 3 seen k FlowBlankLineAfter ≡ to_come (begun Marks) ThematicBreakSequence 1
+      begins-marks kind c mark is = at-line g end until seen 2 k (Some c) is ∙ ap (tells 2 k FlowBlankLineAfter) (line-mark c mark) ∙ rw kind refl
 
   abbrev EndsBreak : List Seat → List Seat → Configuration Unit Unit → List Event → Reading Unit Unit → Type 0
   EndsBreak line rest k events r = Ends g end until line rest k events (Retry FlowAfter) r
@@ -227,7 +227,7 @@ module _ (g : Given) (end : Point) where
         | false ↦ λ e.
             let mark = mark-is-rule s.byte (subst (λ t. (t || ((s.byte == 42) || ((s.byte == 95) || (s.byte == 45)))) ≡ true) e all.0) in
             let k' = begun seen k Marks in
-            subst (λ h. EndsBreak (s ∷ ss) rest k (events_from s ss false) (ahead more h)) (sym (begins-marks seen k (flow_byte s.byte) mark refl))
+            subst (λ h. EndsBreak (s ∷ ss) rest k (events_from s ss false) (ahead more h)) (sym (begins-marks seen k kind (flow_byte s.byte) mark refl))
             (ends-on g end until s ss rest k k' (into ∷ first false ∷ []) (behind_piece g.bytes false s.end ss ++ last) (Retry FlowAfter) ThematicBreakSequence 1 (append_assoc k.events (into ∷ []) (first false ∷ [])) refl (read false k'))
       ] refl)
 
