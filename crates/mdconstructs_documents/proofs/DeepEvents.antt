@@ -1,6 +1,6 @@
 -- What is read with the children of chains of text: it is refused nowhere where rules refuse nothing, its chains can be read, and the
 -- definitions without states say what is read.
-use Rattle.mdconstructs_documents.proofs.Prelude.{Unmade, OfFault, NotReady, Memory, Failed, OfMessage, Result, Ok, Err, IsErrOf, IfErr, refl, ◌≡◌, ℕ, List, ⊎_elim, false, true, ap, ◌∙◌, ParseOptions, Event, Message, Name, start_configuration, IsRunRefused, Rules, Given, IsDocument, FlowStart, chain_of, text_of_chain, IsChildRefused, RulesRefuseNothing, none-refused, no-run-refused, Seat, document, virtual_bytes, Gives, GivesDeep, GivesUnready, HasRefusedChild, IsRefusedDeep, HasReadableChains, with_data, with_texts, data_events, paragraph_events, paragraphs_rules, IsReadAs, text_events, text_rules, text-refuses-nothing, inl, inr, HasChildren, AreFlowEvents, AreFlowTexts, IsReadable, chains-read, reads-as-data, reads-items, paragraphs-by-blocks, text-by-blocks}
+use Rattle.mdconstructs_documents.proofs.Prelude.{Unmade, OfFault, NotReady, Memory, Failed, OfMessage, Result, Ok, Err, IsErrOf, IfErr, refl, ◌≡◌, ℕ, List, ⊎_elim, false, true, ap, ◌∙◌, ParseOptions, Event, Message, Name, start_configuration, IsRunRefused, Rules, Given, IsDocument, FlowStart, chain_of, text_of_chain, IsChildRefused, RulesRefuseNothing, none-refused, no-run-refused, Seat, document, virtual_bytes, Gives, GivesDeep, GivesUnready, HasRefusedChild, IsRefusedDeep, HasReadableChains, with_data, with_texts, data_events, paragraph_events, paragraphs_rules, IsReadAs, text_events, text_rules, text-refuses-nothing, HasChildren, AreFlowEvents, AreFlowTexts, chains-read, reads-as-data, reads-items, paragraphs-by-blocks, text-by-blocks}
 
 -- what is not a message, not a failure before and not a list that cannot be read is want of memory
 pub only-memory : {A : Type 0} (result : Result A Unmade) → ((m : Message) → ¬ IsErrOf result (OfFault (OfMessage m))) → ¬ IsErrOf result NotReady → ¬ IsErrOf result (OfFault Failed)
@@ -52,8 +52,4 @@ no-text-refused options bytes flat m h = no-child-refused text_rules text-refuse
 pub flow-texts : (options : ParseOptions) (bytes : List ℕ) → IsDocument (document options bytes) → (flat new : List Event) → AreFlowEvents options bytes flat → HasChildren text_rules options bytes flat new → AreFlowTexts options bytes new
 flow-texts options bytes is flat new run h =
     let g = document options bytes in
-    (flat, run, inl (h.0, chains-read g flat is h.0 text_rules (text_events g) (reads-items g) new h.1.0 h.1.1))
-
--- and as they are, if these chains could not be read
-pub flow-alone : (options : ParseOptions) (bytes : List ℕ) (flat : List Event) → AreFlowEvents options bytes flat → ¬ IsReadable options bytes flat → AreFlowTexts options bytes flat
-flow-alone options bytes flat run unready = (flat, run, inr (unready, refl))
+    (flat, run, chains-read g flat is h.0 text_rules (text_events g) (reads-items g) new h.1.0 h.1.1)

@@ -1,4 +1,5 @@
 mod DeepEvents
+mod FlowChains
 mod Prelude
 mod Tight
 mod Tiled

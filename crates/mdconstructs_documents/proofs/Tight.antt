@@ -9,7 +9,8 @@ use Rattle.mdconstructs_text.proofs.Paragraphs.Formed.{paragraphs-formed}
 use Rattle.mdconstructs_text.proofs.Paragraphs.Tight.{data-stays-tight, texts-stay-tight}
 use Rattle.mdconstructs_text.proofs.Texts.Built.{IsKeptBySpans, flat-built, line-built}
 use Rattle.mdconstructs_text.proofs.Texts.Tight.{data-tight, tight-kept}
-use Rattle.mdconstructs_documents.specs.Documents.{AreEventsOf, AreFlowEvents, AreTight}
+use Rattle.mdconstructs_documents.proofs.FlowChains.Ready.{flow-stays-tight}
+use Rattle.mdconstructs_documents.specs.Documents.{AreEventsOf, AreFlowEvents}
 use Rattle.mdconstructs_documents.specs.declared.choice.Which.{Which}
 use Rattle.mdconstructs_documents.specs.declared.choice.Which.TheVariants.{Lines, Paragraphs, Peek, Deep, Back, Save, Text, Flow}
 
@@ -33,7 +34,7 @@ module _ (options : ParseOptions) (bytes : List ℕ) (is : IsDocument (document 
   run-tight events h = (h.1.promised refl).void_tight
 
   -- the events of a document are tight
-  pub events-tight : (deep : Bool) (which : Which) (events : List Event) → AreEventsOf deep which options bytes events → AreTight which deep events
+  pub events-tight : (deep : Bool) (which : Which) (events : List Event) → AreEventsOf deep which options bytes events → IsVoidTight events
   events-tight deep Lines events are = subst IsVoidTight (sym are) (flat-built bytes IsVoidTight kept (paragraph_line bytes) (lines_in seats) paragraph-line-tight)
   events-tight deep Peek events are = subst IsVoidTight (sym are) (data-tight bytes seats)
   events-tight deep Deep events are = subst IsVoidTight (sym are) (data-tight bytes seats)
@@ -47,4 +48,6 @@ module _ (options : ParseOptions) (bytes : List ℕ) (is : IsDocument (document 
   events-tight false Text events are = subst IsVoidTight (sym are) flat-tight
   events-tight true Text events are = subst IsVoidTight (sym are) (texts-stay-tight (document options bytes) is).new
   events-tight false Flow events are = run-tight events are
-  events-tight true Flow events are = tt
+  events-tight true Flow events are =
+      let run = are.1 in
+      subst IsVoidTight (sym are.2) (flow-stays-tight (document options bytes) is are.0 run.0 run.1).new

@@ -1,15 +1,14 @@
 -- The events of a document, by the machine that reads it and without states.
-use Rattle.std.specs.Prelude.{[], ◌≡◌, ◌⊎◌, ℕ, Bool, List, Some, true, false}
+use Rattle.std.specs.Prelude.{[], ◌≡◌, ℕ, Bool, List, Some, true, false}
 use Rattle.std.specs.Option.{option_map_or}
 use Rattle.markdown_base.specs.declared.configuration.Constructs.{Constructs}
 use Rattle.markdown_base.specs.declared.configuration.ParseOptions.{ParseOptions}
 use Rattle.markdown_base.specs.declared.event.Content.TheVariants.{Text as TextContent}
 use Rattle.markdown_base.specs.declared.event.Event.{Event}
 use Rattle.markdown_base.specs.declared.state.TheConstants.Name.{FlowStart}
-use Rattle.markdown_base.specs.Events.{IsVoidTight}
 use Rattle.markdown_base.specs.Presets.{default_parse_options}
 use Rattle.markdown_base.specs.Virtual.{Seat, virtual}
-use Rattle.markdown_tokenizer.specs.Text.{Given}
+use Rattle.markdown_tokenizer.specs.Text.{Given, IsDocument}
 use Rattle.markdown_tokenizer.specs.declared.subtokenize.Subresult.{Subresult}
 use Rattle.markdown_tokenizer.specs.Engine.{IsRun, given_by}
 use Rattle.markdown_tokenizer.specs.Cuts.{cuts_every}
@@ -36,8 +35,8 @@ module _ (options : ParseOptions) (bytes : List ℕ) where
   abbrev pub virtual_bytes : List Seat
   virtual_bytes = virtual options.tab_size bytes
 
-  -- Leaf blocks: the events are those that a run of `Flow` returns, with the edits of setext headings made. A lawful machine has one end, so a document has one list of them; a
-  -- definition of it without states is not proved yet
+  -- Leaf blocks: the events are those that a run of `Flow` returns, with the edits of setext headings made. A lawful machine has one end, so a
+  -- document has one list of them; a definition of it without states is not proved yet
   abbrev pub AreFlowEvents : List Event → Type 0
   AreFlowEvents events = (sub : Subresult) × IsRun (document options bytes) flow_rules true FlowStart events sub
 
@@ -45,10 +44,13 @@ module _ (options : ParseOptions) (bytes : List ℕ) where
   abbrev pub IsReadable : List Event → Type 0
   IsReadable events = IsReady options.tab_size bytes (Some TextContent) events
 
-  -- and with the events of the text of each chain in place of its chunks. Chains that cannot be read stay as they are
+  -- and with the events of the text of each chain in place of its chunks
   abbrev pub AreFlowTexts : List Event → Type 0
-  AreFlowTexts events = (flat : List Event) × AreFlowEvents flat
-      × ((IsReadable flat × (events ≡ with_texts (document options bytes) flat)) ⊎ ((¬ IsReadable flat) × (events ≡ flat)))
+  AreFlowTexts events = (flat : List Event) × AreFlowEvents flat × (events ≡ with_texts (document options bytes) flat)
+
+-- the chains of text of what is read of a document as leaf blocks can be read
+abbrev pub ChainsAreReadable : Type 0
+ChainsAreReadable = (options : ParseOptions) (bytes : List ℕ) (events : List Event) → IsDocument (document options bytes) → AreFlowEvents options bytes events → IsReadable options bytes events
 
 -- Events are the events of a document, by the machine that reads it, from the document's lines. Paragraphs have chunks; with `deep`, the
 -- events of the text of each chain of chunks are in place of the chunks: its lines as data, or its items. None of it has states, but for
@@ -65,11 +67,6 @@ AreEventsOf false Text options bytes events = events ≡ paragraph_events bytes 
 AreEventsOf true Text options bytes events = events ≡ with_texts (document options bytes) (paragraph_events bytes (virtual_bytes options bytes))
 AreEventsOf false Flow options bytes events = AreFlowEvents options bytes events
 AreEventsOf true Flow options bytes events = AreFlowTexts options bytes events
-
--- their void spans are empty. Of the texts of leaf blocks this is not proved yet
-abbrev pub AreTight : Which → (deep : Bool) → List Event → Type 0
-AreTight Flow true events = Unit {0}
-AreTight which deep events = IsVoidTight events
 
 -- the places at which a document is cut: none, or every n-th of its virtual bytes
 abbrev pub cut_places : Choice → List ℕ → List (ℕ × ℕ)

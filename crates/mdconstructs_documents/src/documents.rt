@@ -1,19 +1,19 @@
 //! The events of a document, by a choice of how it is read.
 
 ghost use Rattle.std.specs.Prelude.{◌≡◌, IfOk, IfErr, IsOk};
+ghost use Rattle.markdown_base.specs.Events.{IsVoidTight};
 ghost use Rattle.markdown_base.specs.Virtual.{IsWithinLimit};
 ghost use Rattle.markdown_tokenizer.specs.Engine.{AreCuts, given_by, whole_text};
 ghost use Rattle.markdown_tokenizer.specs.Text.{IsDocument};
 ghost use Rattle.mdconstructs_text.specs.TextEvents.{text_events};
 ghost use Rattle.mdconstructs_documents.specs.Choices.{CanCut};
-ghost use Rattle.mdconstructs_documents.specs.Documents.{document, options_with, cut_places, AreEventsOf, AreFlowEvents, AreFlowTexts, AreTight};
+ghost use Rattle.mdconstructs_documents.specs.Documents.{document, options_with, cut_places, AreEventsOf, AreFlowEvents, AreFlowTexts};
 
 use crate::choice::{Choice, Which};
 use crate::making::{Unmade, read_by, read_deep_by, read_resolved_by, with_children};
 use markdown_base::configuration::{Constructs, ParseOptions, TabSize};
-use markdown_base::event::{Content, Event};
+use markdown_base::event::Event;
 use markdown_base::state::Name;
-use markdown_children::subtokenize::ready;
 use markdown_tokenizer::tokenizer::{Fault, cuts_every};
 use mdconstructs_flow::flow::Flow;
 use mdconstructs_machines::back::Back;
@@ -27,8 +27,7 @@ use std::alloc::{AllocError, Global};
 
 /// The events of a document, read by the machine that the choice names, with these constructs. The cuts leave no trace in them.
 ///
-/// Each void span is empty, also where chunks of text were read: no chunks tear a span of what their chain is read as. Of the texts of
-/// leaf blocks this is not proved.
+/// Each void span is empty, also where chunks of text were read: no chunks tear a span of what their chain is read as.
 ///
 /// A cut in the choice must be at least 1. It fails only if it runs out of memory: no machine that can be chosen refuses a
 /// document, and the chains of text that such a machine makes can be read.
@@ -41,7 +40,7 @@ pub fn events_of(
     requires limit { IsWithinLimit choice.now.tab bytes.now }
     requires cut { CanCut choice.now }
     ensures events { IfOk result (λ events. AreEventsOf choice.now.deep choice.now.machine (options_with constructs choice.now.tab) bytes.now events.items) }
-    ensures tight { IfOk result (λ events. AreTight choice.now.machine choice.now.deep events.items) }
+    ensures tight { IfOk result (λ events. IsVoidTight events.items) }
 {
     match read_as(alloc, bytes, constructs, choice) {
         Ok(events) => Ok(events),
@@ -140,8 +139,7 @@ fn read_flow(
     read_resolved_by(alloc, &Flow {}, Name::FlowStart, bytes, options, cuts, true)
 }
 
-/// The events of leaf blocks, with those of the text of each chain of chunks in place of the chunks. If the chains could not be read, they
-/// would stay as they are.
+/// The events of leaf blocks, with those of the text of each chain of chunks in place of the chunks.
 fn read_flow_and_texts(
     alloc: Global,
     bytes: &[u8],
@@ -155,15 +153,6 @@ fn read_flow_and_texts(
     ensures document { IsDocument (document options.now bytes.now) }
 {
     let events = read_flow(alloc, bytes, options, cuts)?;
-    if !ready(
-        alloc,
-        events.as_slice(),
-        bytes,
-        options.tab_size,
-        Some(&Content::Text),
-    )? {
-        return Ok(events);
-    }
     with_children(alloc, &Text {}, bytes, options, events)
 }
 

@@ -1,5 +1,6 @@
 //! The laws about documents. Each is a function that does nothing; its contract is the law.
 
+ghost use Rattle.mdconstructs_documents.specs.Documents.{ChainsAreReadable};
 ghost use Rattle.mdconstructs_documents.specs.Tiles.{TilesDocuments};
 ghost use Rattle.mdconstructs_documents.specs.declared.choice.Which.TheVariants.{Lines, Paragraphs, Text};
 
@@ -14,3 +15,9 @@ pub fn innermost_spans_tile_documents()
 {
     innermost_spans_account_for_children();
 }
+
+/// The events that `Flow` makes of a document have chains of text that can be read: `ready` returns true for them, and `subtokenize` may
+/// be called.
+pub fn chains_of_leaf_blocks_can_be_read()
+    ensures { ChainsAreReadable }
+{}

@@ -88,7 +88,7 @@ module _ (ws : List Change) (new : (n : ℕ) → HasNo (of_list n) ws) (unlinked
       ]
 
 -- what leads somewhere by two steps leads there by the first, to a place from which the second leads there
-by-way : (f : ℕ → Option ℕ) (o : Option ℕ) (j : ℕ) → option_and_then f o ≡ Some j → (m : ℕ) × (o ≡ Some m) × (f m ≡ Some j)
+pub by-way : (f : ℕ → Option ℕ) (o : Option ℕ) (j : ℕ) → option_and_then f o ≡ Some j → (m : ℕ) × (o ≡ Some m) × (f m ≡ Some j)
 by-way f None j h = absurd (none-some j h)
 by-way f (Some m) j h = (m, refl, h)
 
@@ -103,7 +103,7 @@ module _ (ws : List Change) (xs : List Event) (new : AreNew ws) (unlinked : AddN
   none-linked end f e h = rw h refl
 
   -- an event of the new list that is linked is one of the old list, at its place
-  linked-found : (end : Link → Option ℕ) (i j : ℕ) → option_and_then (λ (e : Event). option_and_then end e.link) (slice_get (changed ws xs) i) ≡ Some j → (n : ℕ) × (place_after ws xs n ≡ Some i)
+  pub linked-found : (end : Link → Option ℕ) (i j : ℕ) → option_and_then (λ (e : Event). option_and_then end e.link) (slice_get (changed ws xs) i) ≡ Some j → (n : ℕ) × (place_after ws xs n ≡ Some i)
   linked-found end i j h =
       let got = slice_get-map moved (woven ws 0 xs) i in
       elim (slice_get (woven ws 0 xs) i) as (λ o. slice_get (woven ws 0 xs) i ≡ o → (n : ℕ) × (place_after ws xs n ≡ Some i)) [
@@ -114,7 +114,7 @@ module _ (ws : List Change) (xs : List Event) (new : AreNew ws) (unlinked : AddN
         ]
       ] refl
 
-  next-is : (n i : ℕ) → place_after ws xs n ≡ Some i → next_of (changed ws xs) i ≡ option_and_then (place_after ws xs) (next_of xs n)
+  pub next-is : (n i : ℕ) → place_after ws xs n ≡ Some i → next_of (changed ws xs) i ≡ option_and_then (place_after ws xs) (next_of xs n)
   next-is n i e = ap (option_and_then (λ (e : Event). option_and_then (λ (l : Link). l.next) e.link)) (stays_as_it_was ws xs new n i e) ∙ next_moved (place_after ws xs) (slice_get xs n)
 
   previous-is : (n i : ℕ) → place_after ws xs n ≡ Some i → previous_of (changed ws xs) i ≡ option_and_then (place_after ws xs) (previous_of xs n)

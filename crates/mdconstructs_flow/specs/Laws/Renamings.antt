@@ -229,7 +229,7 @@ additions-unlinked e [] = tt
 additions-unlinked e (n ∷ names) = (refl, additions-unlinked e names)
 
 -- what the edits add has none
-told-unlinked : (i : ℕ) (ts : List Told) → AddNoLinks (map as_change (edits_from i ts))
+pub told-unlinked : (i : ℕ) (ts : List Told) → AddNoLinks (map as_change (edits_from i ts))
 told-unlinked i [] = tt
 told-unlinked i (kept e ∷ ts) = told-unlinked (i + 1) ts
 told-unlinked i (renamed e names ∷ ts) = (additions-unlinked e names, told-unlinked (i + 1) ts)

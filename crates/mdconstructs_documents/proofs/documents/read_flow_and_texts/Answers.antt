@@ -1,6 +1,7 @@
 use Rattle.markdown_tokenizer.proofs.Runs.Whole.{err-if}
 use Rattle.mdconstructs_documents.proofs.Prelude.{◌≡◌, ◌∙◌, Err, false, subst, refl, arith, IfErr, IfOk-weaker, OfFault, Memory, flow_rules, flow-refuses-nothing, no-run-refused}
 use Rattle.mdconstructs_documents.proofs.DeepEvents.{only-memory, no-text-refused, flow-texts}
+use Rattle.mdconstructs_documents.proofs.FlowChains.Ready.{flow-readable}
 use Rattle.mdconstructs_documents.proofs.documents.read_flow_and_texts.Goals as goal
 
 pub returns-in_err-events-clause-err : goal.returns-in_err-events-clause-err
@@ -17,5 +18,5 @@ returns-clause-events c =
 
 pub returns-clause-err : goal.returns-clause-err
 returns-clause-err c =
-    let is_ready = rw c.as_slice.ensures.value at (c.in_ok-ready.ensures.0 c.if-not-branch.false) in
-    only-memory c.with_children.result (λ m e. no-text-refused _ _ _ m (c.with_children.ensures.message m e)) (λ e. c.with_children.ensures.unready e is_ready) c.with_children.ensures.cause
+    only-memory c.with_children.result (λ m e. no-text-refused _ _ _ m (c.with_children.ensures.message m e))
+    (λ e. c.with_children.ensures.unready e (flow-readable c.args.options.now c.args.bytes.now _ c.read_flow.ensures.document c.in_ok-events.ensures.events)) c.with_children.ensures.cause

@@ -1,0 +1,5 @@
+use Rattle.mdconstructs_documents.proofs.FlowChains.Ready.{flow-readable}
+use Rattle.mdconstructs_documents.proofs.laws.chains_of_leaf_blocks_can_be_read.Goals as goal
+
+pub returns : goal.returns
+returns c = flow-readable
