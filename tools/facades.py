@@ -14,10 +14,14 @@ import sys
 TOP = os.path.dirname(os.path.dirname(os.path.realpath(__file__)))
 PARTS = {
     "markdown": ["markdown_base", "markdown_edits", "markdown_tokenizer", "markdown_children"],
-    "mdconstructs": ["mdconstructs_tables", "mdconstructs_machines", "mdconstructs_text", "mdconstructs_flow", "mdconstructs_documents"],
+    "mdconstructs": ["mdconstructs_tables", "mdconstructs_machines", "mdconstructs_text", "mdconstructs_attention", "mdconstructs_flow", "mdconstructs_documents"],
 }
 NAMED = {
     ("markdown_children", "specs", "LawStatements"): "ChildrenLawStatements",
+    ("mdconstructs_attention", "specs", "Emphasis"): "EmphasisEvents",
+    ("mdconstructs_attention", "specs", "LawStatements"): "EmphasisLawStatements",
+    ("mdconstructs_attention", "specs", "Places"): "RunPlaces",
+    ("mdconstructs_attention", "specs", "Runs"): "DelimiterRuns",
     ("mdconstructs_flow", "specs", "Flow"): "FlowStates",
     ("mdconstructs_flow", "specs", "LawStatements"): "FlowLawStatements",
     ("mdconstructs_flow", "specs", "Laws"): "FlowLaws",

@@ -61,6 +61,12 @@ pub use Rattle.mdconstructs_text.specs.TextRules
 pub use Rattle.mdconstructs_text.specs.TextSizes
 pub use Rattle.mdconstructs_text.specs.TextTable
 pub use Rattle.mdconstructs_text.specs.Laws as TextLaws
+pub use Rattle.mdconstructs_attention.specs.Emphasis as EmphasisEvents
+pub use Rattle.mdconstructs_attention.specs.LawStatements as EmphasisLawStatements
+pub use Rattle.mdconstructs_attention.specs.Places as RunPlaces
+pub use Rattle.mdconstructs_attention.specs.RunEdits
+pub use Rattle.mdconstructs_attention.specs.Runs as DelimiterRuns
+pub use Rattle.mdconstructs_attention.specs.Searches
 pub use Rattle.mdconstructs_flow.specs.BlankLine
 pub use Rattle.mdconstructs_flow.specs.ChunkRows
 pub use Rattle.mdconstructs_flow.specs.CodeFenced

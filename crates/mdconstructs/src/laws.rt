@@ -1,5 +1,8 @@
 //! The laws about machines and tables. Each is a function that does nothing; its contract is the law.
 
+pub use mdconstructs_attention::laws::{
+    edits_make_emphasis, emphasis_can_be_made, emphasis_is_balanced,
+};
 pub use mdconstructs_documents::laws::innermost_spans_tile_documents;
 pub use mdconstructs_flow::laws::{
     cost_at_the_start as flow_cost_at_the_start, no_document_is_refused as flow_refuses_no_document,

@@ -1,10 +1,11 @@
 //! State machines, each proved lawful, `read_text`, `events_of`, and what the author of a machine needs.
 //!
-//! This crate has no code. It re-exports its five parts, which have the code and the proofs: `mdconstructs_tables` (machines as
+//! This crate has no code. It re-exports its six parts, which have the code and the proofs: `mdconstructs_tables` (machines as
 //! tables), `mdconstructs_machines` (the small machines), `mdconstructs_text` (`Text` and its definition),
-//! `mdconstructs_flow` (`Flow`, the machine of leaf blocks) and `mdconstructs_documents` (how a document is read, and its events).
+//! `mdconstructs_attention` (emphasis, as edits), `mdconstructs_flow` (`Flow`, the machine of leaf blocks) and `mdconstructs_documents` (how a document is read, and its events).
 #![tactic(auto)]
 
+pub mod emphasis;
 pub mod laws;
 
 pub use mdconstructs_documents::choice::{Choice, Which};

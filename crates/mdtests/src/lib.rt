@@ -13,6 +13,8 @@ mod driven;
 #[cfg(test)]
 mod edit_map;
 #[cfg(test)]
+mod emphasis;
+#[cfg(test)]
 mod every_cut;
 #[cfg(test)]
 mod examples;

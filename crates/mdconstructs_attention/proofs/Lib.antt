@@ -1,0 +1,10 @@
+mod Balance
+mod Bottoms
+mod PairsKeep
+mod RunEdits
+mod RunPlaces
+mod RunTexts
+mod RunsFrom
+mod Searches
+mod Stands
+mod Steps

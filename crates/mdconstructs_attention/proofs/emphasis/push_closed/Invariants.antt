@@ -1,0 +1,13 @@
+use Rattle.std.proofs.Common.{◌≡◌, ℕ, ◌-◌, ◌≤◌, ◌++◌, length, drop}
+use Rattle.mdconstructs_attention.specs.Emphasis.{later, closings, markers_of_all}
+use Rattle.mdconstructs_attention.proofs.emphasis.push_closed.Given as goal
+
+-- the events so far and those of the other pairs are all events, and the other markers reach to the same place
+abbrev pub invariant-loop-next : goal.invariant-loop-next
+invariant-loop-next l =
+    (l.events.items ++ closings l.point (drop l.next l.closed) ≡ l.fn.events.items ++ closings l.fn.start l.closed)
+    × (later (markers_of_all (drop l.next l.closed)) l.point ≡ later (markers_of_all l.closed) l.fn.start)
+    × (l.next ≤ length l.closed)
+
+abbrev pub decreases-loop-next : goal.decreases-loop-next
+decreases-loop-next l = length l.closed - l.next

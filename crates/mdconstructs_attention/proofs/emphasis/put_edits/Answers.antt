@@ -1,0 +1,30 @@
+use Rattle.std.proofs.Common.{◌≡◌, ℕ, ◌+◌, ◌<◌, ◌≤◌, ◌^◌, map, take, length, get_or, sym, ap, ◌∙◌, arith}
+use Rattle.std.proofs.lemmas.List.{get_or_default}
+use Rattle.markdown_edits.specs.Edits.{edit_at, put_after, removal_at}
+use Rattle.mdconstructs_attention.specs.RunEdits.{in_place, edits_of}
+use Rattle.mdconstructs_attention.specs.Searches.{as_run}
+use Rattle.mdconstructs_attention.proofs.RunPlaces.{fits-behind, one-more, room-at}
+use Rattle.mdconstructs_attention.proofs.emphasis.put_edits.Goals as goal
+
+pub in_place-requires : goal.in_place-requires
+in_place-requires c = record { room = room-at c.args.runs.now c.loop-next.next c.index-runs-next.result c.loop-next-test.true c.index-runs-next.is c.requires.room }
+
+pub add-requires : goal.add-requires
+add-requires c =
+    let i = c.loop-next.next in
+    let run = get_or c.args.runs.now i c.index-runs-next-in-loop-next.result in
+    let none = ap (λ es. removal_at es run.index) c.loop-next.invariant.0 ∙ fits-behind c.args.runs.now i run c.loop-next-test.true (get_or_default c.args.runs.now i _ run c.loop-next-test.true) c.requires.apart in
+    record { sum_fits = λ h. omega (arith, none) }
+
+pub loop-next-preserved : goal.loop-next-preserved
+loop-next-preserved c =
+    let i = c.loop-next.next in
+    let run = get_or c.args.runs.now i c.index-runs-next-in-loop-next.result in
+    let is = get_or_default c.args.runs.now i c.index-runs-next-in-loop-next.result run c.loop-next-test.true in
+    let same = c.index-runs-next.is ∙ get_or_default c.args.runs.now i _ c.index-runs-next-in-loop-next.result c.loop-next-test.true in (
+      c.in_ok-add.ensures.ok
+          ∙ ap (λ es. put_after es (edit_at run.index 2 c.in_ok-events.events.items)) c.loop-next.invariant.0
+          ∙ ap (λ ys. put_after (edits_of (map as_run (take i c.args.runs.now))) (edit_at run.index 2 ys)) (c.in_ok-events.ensures ∙ ap (λ d. in_place (as_run d)) same)
+          ∙ one-more c.args.runs.now i run c.loop-next-test.true is c.requires.apart,
+      omega (arith, c.loop-next-test.true),
+    )

@@ -1,0 +1,134 @@
+use Rattle.std.proofs.Common.{◌≡◌, ℕ, ◌+◌, ◌<◌, ◌≤◌, set, List, Some, true, cond, map, take, length, get_or, sym, ap, ◌∙◌, subst, arith}
+use Rattle.std.specs.Prelude.{slice_get, slice_index, nat_lt}
+use Rattle.std.proofs.lemmas.Option.{slice_get_within, get_or_from_slice_get}
+use Rattle.mdconstructs_attention.specs.Emphasis.{Run, SoFar, is_strong, opening, closing, put_back}
+use Rattle.mdconstructs_attention.specs.Searches.{as_run, can_close, left_of, with_pair, last_of, kind, AreBottoms, StandsAt}
+use Rattle.mdconstructs_attention.proofs.Stands.{closer-run, openers-below, some-next, none-next, close-unable, close-unfound, close-found}
+use Rattle.mdconstructs_attention.proofs.Bottoms.{bottoms-after-pair, bottoms-after-search}
+use Rattle.mdconstructs_attention.proofs.Steps.{next-inside, run-at, search-is, fewer, has-markers}
+use Rattle.mdconstructs_attention.proofs.pairs.closes_more.Goals as goal
+use Rattle.mdconstructs_attention.proofs.pairs.closes_more.Goals.{then-waits, else-waits}
+
+pub returns-then-not-can_close-clause-end : goal.returns-then-not-can_close-clause-end
+returns-then-not-can_close-clause-end c same z r rest h n =
+    let is = run-at c.args.runs.now c.args.openers.now.items c.args.closer c.index-runs-closer.result z r rest h in
+    close-unable n r z (sym (ap can_close is) ∙ sym c.can_close.ensures ∙ c.if-not-can_close.true)
+
+pub opener_for-requires-clause-inside : goal.opener_for-requires-clause-inside
+opener_for-requires-clause-inside c k d lt =
+    let w = c.requires.next in
+    let inside = next-inside c.args.runs.now c.args.openers.now.items c.args.closer w in
+    let long = ap length c.as_slice.ensures.value in
+    let below = openers-below (map as_run c.args.runs.now) c.args.openers.now.items c.args.closer w.0 w.1 w.2 w.3 k d (omega (arith, lt, long)) in
+    subst (λ xs. get_or xs k d < length c.args.runs.now) (sym c.as_slice.ensures.value) (omega (arith, below, inside))
+
+pub returns-in_default-clause-end : goal.returns-in_default-clause-end
+returns-in_default-clause-end c same z r rest h n =
+    close-unfound n r z (none-next (map as_run c.args.runs.now) c.args.openers.now.items c.args.closer z r rest h
+    (search-is c.args.runs.now c.args.openers.now.items c.as_slice.result.now c.args.closer c.index-all-closer.result c.opener_for.result z r rest h c.index-all-closer.is c.as_slice.ensures.value c.opener_for.ensures ∙ c.in_default.is))
+
+pub index-opener-requires : goal.index-opener-requires
+index-opener-requires c =
+    let w = c.requires.next in
+    let found = search-is c.args.runs.now c.args.openers.now.items c.as_slice.result.now c.args.closer c.index-all-closer.result c.opener_for.result w.0 w.1 w.2 w.3 c.index-all-closer.is c.as_slice.ensures.value c.opener_for.ensures in
+    let next = some-next (map as_run c.args.runs.now) c.args.openers.now.items c.args.closer w.0 w.1 w.2 w.3 c.in-Some.at (found ∙ c.in-Some.is) in
+    let below = slice_get_within c.args.openers.now.items c.in-Some.at next.2 next.3 in
+    let long = ap length c.as_slice.ensures.value in
+    omega (arith, below, long, c.as_slice.ensures.len)
+
+pub join-requires-clause-before : goal.join-requires-clause-before
+join-requires-clause-before c =
+    let w = c.requires.next in
+    let found = search-is c.args.runs.now c.args.openers.now.items c.as_slice.result.now c.args.closer c.index-all-closer.result c.opener_for.result w.0 w.1 w.2 w.3 c.index-all-closer.is c.as_slice.ensures.value c.opener_for.ensures in
+    let next = some-next (map as_run c.args.runs.now) c.args.openers.now.items c.args.closer w.0 w.1 w.2 w.3 c.in-Some.at (found ∙ c.in-Some.is) in
+    let same = c.index-opener.ensures ∙ get_or_from_slice_get c.args.openers.now.items c.in-Some.at next.2 c.index-opener.result.now next.3 in
+    subst (λ i. i < c.args.closer) (sym same) next.4
+
+pub overflow_add-height : goal.overflow_add-height
+overflow_add-height c =
+    let w = c.requires.next in
+    let found = search-is c.args.runs.now c.args.openers.now.items c.as_slice.result.now c.args.closer c.index-all-closer.result c.opener_for.result w.0 w.1 w.2 w.3 c.index-all-closer.is c.as_slice.ensures.value c.opener_for.ensures in
+    let next = some-next (map as_run c.args.runs.now) c.args.openers.now.items c.args.closer w.0 w.1 w.2 w.3 c.in-Some.at (found ∙ c.in-Some.is) in
+    let below = slice_get_within c.args.openers.now.items c.in-Some.at next.2 next.3 in
+    let may_pair = c.args.openers.now.ok in
+    omega (arith, below, may_pair.0, may_pair.1, c.args.openers.now.small)
+
+pub returns-clause-pair : goal.returns-clause-pair
+returns-clause-pair c same z r rest h =
+    let found = search-is c.args.runs.now c.args.openers.now.items c.as_slice.result.now c.args.closer c.index-all-closer.result c.opener_for.result z r rest h c.index-all-closer.is c.as_slice.ensures.value c.opener_for.ensures in
+    let next = some-next (map as_run c.args.runs.now) c.args.openers.now.items c.args.closer z r rest h c.in-Some.at (found ∙ c.in-Some.is) in
+    let f = next.0 in
+    let able : can_close r ≡ true = sym (ap can_close (run-at c.args.runs.now c.args.openers.now.items c.args.closer c.index-runs-closer.result z r rest h)) ∙ sym c.can_close.ensures ∙ c.if-not-can_close.false in
+    let i-is : c.index-opener.result.now ≡ next.2 = c.index-opener.ensures ∙ get_or_from_slice_get c.args.openers.now.items c.in-Some.at next.2 c.index-opener.result.now next.3 in
+    let s = is_strong f.last.opener r in
+    let w = record f.last { opener = opening s f.last.opener } in
+    let stands = next.6.1 in
+    let runs = c.in_ok-waits.ensures.pair ∙ ap (λ i. with_pair (map as_run c.args.runs.now) i c.args.closer) i-is in
+    let waits : c.in_ok-waits.waits ≡ nat_lt 0 w.opener.left =
+    c.in_ok-waits.ensures.waits ∙ ap (λ xs. nat_lt 0 (left_of (slice_get xs c.index-opener.result.now))) runs ∙ ap (λ i. nat_lt 0 (left_of (slice_get (with_pair (map as_run c.args.runs.now) next.2 c.args.closer) i))) i-is
+    ∙ ap (λ x. nat_lt 0 (left_of x)) next.6.0 in
+    let keep : c.if-waits.height ≡ cond (nat_lt 0 w.opener.left) (c.in-Some.at + 1) c.in-Some.at =
+    elim c.if-waits.branch [
+      | then-waits v ↦ v.height-is ∙ ap (λ b. cond b (c.in-Some.at + 1) c.in-Some.at) (sym v.if-waits.true ∙ waits)
+      | else-waits v ↦ v.height-is ∙ ap (λ b. cond b (c.in-Some.at + 1) c.in-Some.at) (sym v.if-waits.false ∙ waits)
+    ] in
+    let cut = c.truncate.ensures.items ∙ ap (λ n. take n c.args.openers.now.items) keep in
+    let after : StandsAt (map as_run c.join.new.runs) c.truncate.new.self.items c.args.closer (put_back w z.base f.before) (closing s r) rest =
+    subst (λ rs. StandsAt rs c.truncate.new.self.items c.args.closer (put_back w z.base f.before) (closing s r) rest) (sym runs)
+    (subst (λ ops. StandsAt (with_pair (map as_run c.args.runs.now) next.2 c.args.closer) ops c.args.closer (put_back w z.base f.before) (closing s r) rest) (sym cut) stands) in
+    (put_back w z.base f.before, closing s r, after, fewer s r.left (has-markers r.closes r.left able), λ n. close-found n r z f able next.1)
+
+pub opener_for-requires-clause-bottom : goal.opener_for-requires-clause-bottom
+opener_for-requires-clause-bottom c =
+    let w = c.requires.next in
+    let kind-is : c.kind_of-kind.result ≡ kind w.1 = c.kind_of-kind.ensures.kind ∙ ap kind (run-at c.args.runs.now c.args.openers.now.items c.args.closer c.index-runs-closer-2.result w.0 w.1 w.2 w.3) in
+    let low = (c.requires.bottoms w.1).0 in
+    let long = ap length c.as_slice.ensures.value in
+    subst (λ k. slice_index c.args.bottoms.now k ≤ length c.as_slice.result.now) (sym kind-is) (omega (arith, low, long))
+
+pub opener_for-requires-clause-nothing : goal.opener_for-requires-clause-nothing
+opener_for-requires-clause-nothing c =
+    let w = c.requires.next in
+    let rs = map as_run c.args.runs.now in
+    let kind-is : c.kind_of-kind.result ≡ kind w.1 = c.kind_of-kind.ensures.kind ∙ ap kind (run-at c.args.runs.now c.args.openers.now.items c.args.closer c.index-runs-closer-2.result w.0 w.1 w.2 w.3) in
+    let run-is : as_run c.index-all-closer.result ≡ w.1 = ap as_run c.index-all-closer.is ∙ run-at c.args.runs.now c.args.openers.now.items c.args.closer c.index-all-closer.result w.0 w.1 w.2 w.3 in
+    ap (λ xs. last_of rs xs (as_run c.index-all-closer.result) (slice_index c.args.bottoms.now c.kind_of-kind.result)) c.as_slice.ensures.value
+    ∙ ap (λ x. last_of rs c.args.openers.now.items x (slice_index c.args.bottoms.now c.kind_of-kind.result)) run-is
+    ∙ ap (λ k. last_of rs c.args.openers.now.items w.1 (slice_index c.args.bottoms.now k)) kind-is
+    ∙ (c.requires.bottoms w.1).1
+
+pub returns-in_default-clause-bottoms : goal.returns-in_default-clause-bottoms
+returns-in_default-clause-bottoms c =
+    let w = c.requires.next in
+    let rs = map as_run c.args.runs.now in
+    let ops = c.args.openers.now.items in
+    let kind-is : c.kind_of-kind.result ≡ kind w.1 = c.kind_of-kind.ensures.kind ∙ ap kind (run-at c.args.runs.now ops c.args.closer c.index-runs-closer-2.result w.0 w.1 w.2 w.3) in
+    let len-is : c.len.result ≡ length ops = c.len.ensures ∙ sym c.as_slice.ensures.len ∙ ap length c.as_slice.ensures.value in
+    let none = search-is c.args.runs.now ops c.as_slice.result.now c.args.closer c.index-all-closer.result c.opener_for.result w.0 w.1 w.2 w.3 c.index-all-closer.is c.as_slice.ensures.value c.opener_for.ensures ∙ c.in_default.is in
+    let inside : kind w.1 < length c.args.bottoms.now = omega (arith, c.kind_of-kind.ensures.below, kind-is, c.requires.kinds) in
+    subst (λ k. AreBottoms rs ops (set c.args.bottoms.now k c.len.result)) (sym kind-is)
+    (subst (λ n. AreBottoms rs ops (set c.args.bottoms.now (kind w.1) n)) (sym len-is) (bottoms-after-search rs ops c.args.bottoms.now w.1 inside none c.requires.bottoms))
+
+below-all : (rs : List Run) (ops : List ℕ) (closer : ℕ) (z : SoFar) (r : Run) (rest : List Run) → StandsAt rs ops closer z r rest → (k m : ℕ) → slice_get ops k ≡ Some m → m < closer
+below-all rs ops closer z r rest h k m e =
+    subst (λ x. x < closer) (get_or_from_slice_get ops k m m e) (openers-below rs ops closer z r rest h k m (slice_get_within ops k m e))
+
+pub returns-clause-bottoms : goal.returns-clause-bottoms
+returns-clause-bottoms c =
+    let w = c.requires.next in
+    let rs = map as_run c.args.runs.now in
+    let ops = c.args.openers.now.items in
+    let found = search-is c.args.runs.now ops c.as_slice.result.now c.args.closer c.index-all-closer.result c.opener_for.result w.0 w.1 w.2 w.3 c.index-all-closer.is c.as_slice.ensures.value c.opener_for.ensures in
+    let next = some-next rs ops c.args.closer w.0 w.1 w.2 w.3 c.in-Some.at (found ∙ c.in-Some.is) in
+    let i-is : c.index-opener.result.now ≡ next.2 = c.index-opener.ensures ∙ get_or_from_slice_get ops c.in-Some.at next.2 c.index-opener.result.now next.3 in
+    let runs = c.in_ok-waits.ensures.pair ∙ ap (λ i. with_pair rs i c.args.closer) i-is in
+    let inside = slice_get_within ops c.in-Some.at next.2 next.3 in
+    let within : c.if-waits.height ≤ length ops =
+    elim c.if-waits.branch [
+      | then-waits v ↦ omega (arith, v.height-is, inside)
+      | else-waits v ↦ omega (arith, v.height-is, inside)
+    ] in
+    let after = bottoms-after-pair rs next.2 c.args.closer next.0.last.opener w.1 next.5 (closer-run rs ops c.args.closer w.0 w.1 w.2 w.3) ops c.if-waits.height c.args.bottoms.now c.lower.new.bottoms
+    (below-all rs ops c.args.closer w.0 w.1 w.2 w.3) within c.lower.ensures.lower c.lower.ensures.below c.requires.bottoms in
+    subst (λ xs. AreBottoms xs c.truncate.new.self.items c.lower.new.bottoms) (sym runs)
+    (subst (λ xs. AreBottoms (with_pair rs next.2 c.args.closer) xs c.lower.new.bottoms) (sym c.truncate.ensures.items) after)

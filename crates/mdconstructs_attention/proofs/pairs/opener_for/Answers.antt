@@ -1,0 +1,35 @@
+use Rattle.std.proofs.Common.{◌≡◌, ℕ, suc, ◌-◌, ◌<◌, Bool, true, false, cond, List, Some, map, length, get_or, sym, ap, ◌∙◌, refl, arith}
+use Rattle.std.proofs.lemmas.Option.{slice_get-get_or, slice_get_read}
+use Rattle.std.proofs.lemmas.List.Elements.{All-get_or}
+use Rattle.mdconstructs_attention.specs.declared.pairs.Delimiters.{Delimiters}
+use Rattle.mdconstructs_attention.specs.Emphasis.{Run, may_pair}
+use Rattle.mdconstructs_attention.specs.Searches.{as_run, last_of}
+use Rattle.mdconstructs_attention.proofs.Searches.{search-step}
+use Rattle.mdconstructs_attention.proofs.pairs.opener_for.Goals as goal
+
+-- one step down, for the run that the code reads
+down : (ds : List Delimiters) (openers : List ℕ) (r : Run) (at : ℕ) (d : Delimiters) (b : Bool) → 0 < at → at - 1 < length openers → get_or openers (at - 1) 0 < length ds
+    → d ≡ get_or ds (get_or openers (at - 1) 0) d → may_pair (as_run d) r ≡ b
+    → last_of (map as_run ds) openers r at ≡ cond b (Some (at - 1)) (last_of (map as_run ds) openers r (at - 1))
+down ds openers r at d b pos below inside is same =
+    let one : at ≡ suc (at - 1) = omega (arith, pos) in
+    ap (last_of (map as_run ds) openers r) one
+    ∙ search-step ds openers r (at - 1) (get_or openers (at - 1) 0) d (slice_get-get_or openers (at - 1) 0 below) (slice_get_read ds (length ds) (get_or openers (at - 1) 0) d refl inside is)
+    ∙ ap (λ t. cond t (Some (at - 1)) (last_of (map as_run ds) openers r (at - 1))) same
+
+pub returns-then-may_pair : goal.returns-then-may_pair
+returns-then-may_pair c =
+    let at = c.loop-at.at in
+    let pos : 0 < at = omega (arith, c.loop-at-test.true) in
+    let below : at - 1 < length c.args.openers.now = omega (arith, c.loop-at.invariant.1, pos) in
+    sym (c.loop-at.invariant.2 ∙ down c.args.runs.now c.args.openers.now (as_run c.args.closer.now) at c.index-runs-openers.result true pos below (All-get_or (λ i. i < length c.args.runs.now) c.args.openers.now (at - 1) 0 below c.requires.inside) c.index-runs-openers.is (sym c.may_pair.ensures ∙ c.if-may_pair.true))
+
+pub loop-at-preserved : goal.loop-at-preserved
+loop-at-preserved c =
+    let at = c.loop-at.at in
+    let pos : 0 < at = omega (arith, c.loop-at-test.true) in
+    let below : at - 1 < length c.args.openers.now = omega (arith, c.loop-at.invariant.1, pos) in (
+      omega (arith, c.loop-at-test.true),
+      omega (arith, below),
+      c.loop-at.invariant.2 ∙ down c.args.runs.now c.args.openers.now (as_run c.args.closer.now) at c.index-runs-openers.result false pos below (All-get_or (λ i. i < length c.args.runs.now) c.args.openers.now (at - 1) 0 below c.requires.inside) c.index-runs-openers.is (sym c.may_pair.ensures ∙ c.if-may_pair.false),
+    )

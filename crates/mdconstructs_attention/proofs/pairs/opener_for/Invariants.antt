@@ -1,0 +1,11 @@
+use Rattle.std.proofs.Common.{◌-◌, ◌≡◌, ◌≤◌, length, map}
+use Rattle.mdconstructs_attention.specs.Searches.{as_run, last_of}
+use Rattle.mdconstructs_attention.proofs.pairs.opener_for.Given as goal
+
+abbrev pub invariant-loop-at : goal.invariant-loop-at
+invariant-loop-at l =
+    (l.bottom ≤ l.at) × (l.at ≤ length l.openers)
+    × (last_of (map as_run l.runs) l.openers (as_run l.closer) (length l.openers) ≡ last_of (map as_run l.runs) l.openers (as_run l.closer) l.at)
+
+abbrev pub decreases-loop-at : goal.decreases-loop-at
+decreases-loop-at l = l.at - l.bottom

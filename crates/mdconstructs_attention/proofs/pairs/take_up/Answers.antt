@@ -1,0 +1,53 @@
+use Rattle.std.proofs.Common.{◌≡◌, ℕ, suc, ◌-◌, true, false, List, Ok, map, sym, ap, ◌∙◌, subst, arith}
+use Rattle.mdconstructs_attention.specs.Emphasis.{Run, SoFar, close, put}
+use Rattle.mdconstructs_attention.specs.Searches.{AreBottoms, as_run, can_open, Stands, StandsAt}
+use Rattle.mdconstructs_attention.proofs.Stands.{stands-waiting, stands-behind}
+use Rattle.mdconstructs_attention.proofs.Bottoms.{bottoms-after-push}
+use Rattle.mdconstructs_attention.proofs.Steps.{run-at}
+use Rattle.mdconstructs_attention.proofs.pairs.take_up.Goals as goal
+
+pub closing-preserved : goal.closing-preserved
+closing-preserved c = (
+  c.closes_more.ensures.kinds,
+  c.in_ok-closes_more.ensures.bottoms,
+  λ z r rest h.
+      let i = c.closing.invariant.2 z r rest h in
+      let p = c.in_ok-closes_more.ensures.pair (ap Ok c.if-branch.true) i.0 i.1 rest i.2 in
+      let m = i.3 - 1 in
+      let one : suc m ≡ i.3 = omega (arith, i.4, p.3) in
+      (p.0, p.1, p.2, m, omega (arith, i.4, p.3), sym (p.4 m) ∙ ap (λ k. close k i.1 i.0) one ∙ i.5),
+)
+
+moved : (rs rs' : List Run) (ops ops' : List ℕ) (closer : ℕ) (z : SoFar) (r : Run) (rest : List Run) → StandsAt rs ops closer z r rest → rs' ≡ rs → ops' ≡ ops → StandsAt rs' ops' closer z r rest
+moved rs rs' ops ops' closer z r rest h e f = subst (λ xs. StandsAt xs ops' closer z r rest) (sym e) (subst (λ xs. StandsAt rs xs closer z r rest) (sym f) h)
+
+pub returns-in_ok-push-clause-taken : goal.returns-in_ok-push-clause-taken
+returns-in_ok-push-clause-taken c z r rest h =
+    let i = c.closing.invariant.2 z r rest h in
+    let same = c.in_ok-closes_more.ensures.same (ap Ok c.if-branch.false) in
+    let end = c.in_ok-closes_more.ensures.end (ap Ok c.if-branch.false) i.0 i.1 rest i.2 i.3 in
+    let rs = map as_run c.closes_more.new.runs in
+    let ops = c.closes_more.new.openers.items in
+    let now = moved (map as_run c.closing.runs) rs c.closing.openers.items ops c.args.closer i.0 i.1 rest i.2 same.0 same.1 in
+    let can : can_open i.1 ≡ true =
+    sym (ap can_open (run-at c.closes_more.new.runs ops c.args.closer c.index-runs-closer.result i.0 i.1 rest now)) ∙ sym c.can_open.ensures ∙ c.if-can_open.true in
+    let there = stands-waiting rs ops c.args.closer i.0 i.1 rest now can in
+    subst (λ y. Stands rs c.push.new.self.items y rest) (sym end ∙ i.5) (subst (λ xs. Stands rs xs (put i.1 i.0) rest) (sym c.in_ok-push.ensures.items) there)
+
+pub returns-else-can_open-clause-taken : goal.returns-else-can_open-clause-taken
+returns-else-can_open-clause-taken c z r rest h =
+    let i = c.closing.invariant.2 z r rest h in
+    let same = c.in_ok-closes_more.ensures.same (ap Ok c.if-branch.false) in
+    let end = c.in_ok-closes_more.ensures.end (ap Ok c.if-branch.false) i.0 i.1 rest i.2 i.3 in
+    let rs = map as_run c.closes_more.new.runs in
+    let ops = c.closes_more.new.openers.items in
+    let now = moved (map as_run c.closing.runs) rs c.closing.openers.items ops c.args.closer i.0 i.1 rest i.2 same.0 same.1 in
+    let cannot : can_open i.1 ≡ false =
+    sym (ap can_open (run-at c.closes_more.new.runs ops c.args.closer c.index-runs-closer.result i.0 i.1 rest now)) ∙ sym c.can_open.ensures ∙ c.if-can_open.false in
+    subst (λ y. Stands rs ops y rest) (sym end ∙ i.5) (stands-behind rs ops c.args.closer i.0 i.1 rest now cannot)
+
+pub returns-in_ok-push-clause-bottoms : goal.returns-in_ok-push-clause-bottoms
+returns-in_ok-push-clause-bottoms c =
+    let rs = map as_run c.closes_more.new.runs in
+    let after = bottoms-after-push rs c.closes_more.new.openers.items c.closes_more.new.bottoms c.args.closer c.in_ok-closes_more.ensures.bottoms in
+    subst (λ xs. AreBottoms rs xs c.closes_more.new.bottoms) (sym c.in_ok-push.ensures.items) after

@@ -1,0 +1,43 @@
+use Rattle.std.proofs.Common.{rules, ◌≡◌, ℕ, ◌+◌, ◌<◌, ◌≤◌, Bool, true, false, List, [], ◌∷◌, ◌++◌, Option, Some, map, drop, length, refl, sym, ap, ◌∙◌, subst, arith, append-nil}
+use Rattle.std.specs.Prelude.{◌==◌, ◌&&◌, slice_index_or}
+use Rattle.mdconstructs_attention.specs.Runs.{runs_from, runs_in, is_sequence, run_at}
+use Rattle.mdconstructs_attention.specs.Searches.{as_run}
+use Rattle.mdconstructs_attention.proofs.RunsFrom.{a-run, no-run, no-more, pushed, not-first, not-second, depth-grows, no_event}
+use Rattle.mdconstructs_attention.proofs.runs.runs_of.Goals as goal
+use Rattle.mdconstructs_attention.proofs.runs.runs_of.Goals.{else-depth-eq0-via-then-depth-eq0+else-is_sequence, else-depth-eq0-via-else-depth-eq0}
+
+pub loop-index-preserved-then-is_sequence : goal.loop-index-preserved-then-is_sequence
+loop-index-preserved-then-is_sequence c =
+    let l = c.loop-index in
+    let xs = c.args.events.now in
+    let e = slice_index_or xs l.index no_event in
+    let f = slice_index_or xs (l.index + 1) no_event in
+    let outside : (l.depth == 0) ≡ true = ap (λ n. n == 0) c.if-depth-eq0.true in (
+      pushed l.runs.items c.push.new.self.items c.run_at.result _ _ _ _ c.in_ok-push.ensures.items (c.run_at.ensures ∙ ap (λ o. run_at c.args.bytes.now l.index e f l.before o) c.index_of_event-behind.ensures)
+          (a-run c.args.bytes.now xs l.index l.depth l.before no_event c.loop-index-test.true outside (sym c.is_sequence.ensures ∙ c.if-is_sequence.true))
+          l.invariant.0,
+      omega (arith, c.loop-index-test.true),
+      omega (arith, l.invariant.2),
+    )
+
+pub loop-index-preserved : goal.loop-index-preserved
+loop-index-preserved c =
+    let l = c.loop-index in
+    let xs = c.args.events.now in
+    let e = slice_index_or xs l.index no_event in
+    let f = slice_index_or xs (l.index + 1) no_event in
+    let none : (l.depth == 0 && is_sequence e f) ≡ false =
+    elim c.else-depth-eq0.branch [
+      | else-depth-eq0-via-then-depth-eq0+else-is_sequence w ↦ not-second (l.depth == 0) (is_sequence e f) (sym w.is_sequence.ensures ∙ w.if-is_sequence.false)
+      | else-depth-eq0-via-else-depth-eq0 w ↦ not-first (l.depth == 0) (is_sequence e f) (grind (arith, w.if-depth-eq0.false))
+    ] in (
+      ap (λ d. map as_run l.runs.items ++ runs_from c.args.bytes.now (l.index + 1) d (Some e.point.index) (drop (l.index + 1) xs)) c.depth_after-depth.ensures
+          ∙ ap (λ rs. map as_run l.runs.items ++ rs) (sym (no-run c.args.bytes.now xs l.index l.depth l.before no_event c.loop-index-test.true none)) ∙ l.invariant.0,
+      omega (arith, c.loop-index-test.true),
+      (let grows = depth-grows e.kind l.depth in let is = c.depth_after-depth.ensures in omega (arith, is, grows, l.invariant.2)),
+    )
+
+pub returns : goal.returns
+returns c =
+    let l = c.loop-index in
+    sym (append-nil (map as_run l.runs.items)) ∙ ap (λ rs. map as_run l.runs.items ++ rs) (sym (no-more c.args.bytes.now c.args.events.now l.index l.depth l.before c.loop-index-test.false)) ∙ l.invariant.0

@@ -1,0 +1,13 @@
+use Rattle.std.proofs.Common.{◌≡◌, ℕ, ◌-◌, ◌≤◌, ◌++◌, map, length, drop}
+use Rattle.mdconstructs_attention.specs.Runs.{runs_from, runs_in}
+use Rattle.mdconstructs_attention.specs.Searches.{as_run}
+use Rattle.mdconstructs_attention.proofs.runs.runs_of.Given as goal
+
+-- the runs so far and those of the other events are all runs
+abbrev pub invariant-loop-index : goal.invariant-loop-index
+invariant-loop-index l =
+    (map as_run l.runs.items ++ runs_from l.bytes l.index l.depth l.before (drop l.index l.events) ≡ runs_in l.bytes l.events)
+    × (l.index ≤ length l.events) × (l.depth ≤ l.index)
+
+abbrev pub decreases-loop-index : goal.decreases-loop-index
+decreases-loop-index l = length l.events - l.index

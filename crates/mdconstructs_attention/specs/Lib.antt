@@ -1,0 +1,6 @@
+pub mod Emphasis
+pub mod LawStatements
+pub mod Places
+pub mod RunEdits
+pub mod Runs
+pub mod Searches

@@ -1,0 +1,202 @@
+//! The events that take the place of delimiter runs, as edits.
+
+ghost use Rattle.std.specs.Prelude.{ℕ, ◌≡◌, ◌+◌, ◌<◌, ◌≤◌, ◌^◌, ◌∷◌, [], ◌++◌, length, map, reverse, All, OnOk, IfOk};
+ghost use Rattle.markdown_base.specs.Events.{IsBalanced};
+ghost use Rattle.mdconstructs_attention.specs.Emphasis.{paired, later, unlinked_event, outer_name, sequence_name, inner_name, markers_of, markers_of_all, closings, openings, data_of};
+ghost use Rattle.mdconstructs_attention.specs.Places.{HasRoom, markers, AreApart, AllHaveRoom, ArePlacesInside, standing};
+ghost use Rattle.mdconstructs_attention.specs.RunEdits.{in_place, edits_of, index_of};
+ghost use Rattle.mdconstructs_attention.specs.Runs.{runs_in};
+ghost use Rattle.mdconstructs_attention.specs.Searches.{as_run};
+
+use crate::pairs::{Delimiters, pair_all};
+use crate::runs::runs_of;
+use markdown_base::event::{Event, Kind, Name, Point};
+use markdown_edits::edit_map::EditMap;
+use std::alloc::{AllocError, Global};
+
+/// A place some bytes later in the same line.
+fn later(point: Point, by: usize) -> Point
+    requires room { HasRoom by point }
+    ensures { result ≡ later by point }
+{
+    Point {
+        column: point.column + by,
+        index: point.index + by,
+        ..point
+    }
+}
+
+/// How many markers a pair has at each end.
+fn markers_of(strong: bool) -> usize
+    ensures { result ≡ markers_of strong }
+{
+    if strong { 2 } else { 1 }
+}
+
+/// The name of a pair's whole span.
+fn outer_name(strong: bool) -> Name
+    ensures { result ≡ outer_name strong }
+{
+    if strong { Name::Strong } else { Name::Emphasis }
+}
+
+/// The name of the markers at an end of a pair.
+fn sequence_name(strong: bool) -> Name
+    ensures { result ≡ sequence_name strong }
+{
+    if strong {
+        Name::StrongSequence
+    } else {
+        Name::EmphasisSequence
+    }
+}
+
+/// The name of the text of a pair.
+fn inner_name(strong: bool) -> Name
+    ensures { result ≡ inner_name strong }
+{
+    if strong {
+        Name::StrongText
+    } else {
+        Name::EmphasisText
+    }
+}
+
+/// Adds an event without a link.
+fn push_event(
+    events: &mut Vec<Event>,
+    kind: Kind,
+    name: Name,
+    point: Point,
+) -> Result<(), AllocError>
+    ensures { OnOk result (events.new.items ≡ events.old.items ++ unlinked_event kind name point ∷ []) }
+{
+    events.push(Event {
+        kind,
+        name,
+        point,
+        link: None,
+    })?;
+    Ok(())
+}
+
+/// Adds the events with which a pair ends. Returns the place behind its markers.
+fn push_closing(events: &mut Vec<Event>, point: Point, strong: bool) -> Result<Point, AllocError>
+    requires room { HasRoom (markers_of strong) point }
+    ensures events { OnOk result (events.new.items ≡ events.old.items ++ closings point (strong ∷ [])) }
+    ensures end { IfOk result (λ end. end ≡ later (markers_of strong) point) }
+{
+    let end = later(point, markers_of(strong));
+    push_event(events, Kind::Exit, inner_name(strong), point)?;
+    push_event(events, Kind::Enter, sequence_name(strong), point)?;
+    push_event(events, Kind::Exit, sequence_name(strong), end)?;
+    push_event(events, Kind::Exit, outer_name(strong), end)?;
+    Ok(end)
+}
+
+/// Adds the events with which a pair begins. Returns the place behind its markers.
+fn push_opening(events: &mut Vec<Event>, point: Point, strong: bool) -> Result<Point, AllocError>
+    requires room { HasRoom (markers_of strong) point }
+    ensures events { OnOk result (events.new.items ≡ events.old.items ++ openings point (strong ∷ [])) }
+    ensures end { IfOk result (λ end. end ≡ later (markers_of strong) point) }
+{
+    let end = later(point, markers_of(strong));
+    push_event(events, Kind::Enter, outer_name(strong), point)?;
+    push_event(events, Kind::Enter, sequence_name(strong), point)?;
+    push_event(events, Kind::Exit, sequence_name(strong), end)?;
+    push_event(events, Kind::Enter, inner_name(strong), end)?;
+    Ok(end)
+}
+
+/// Adds the events of the pairs that a run closes, the inner ones first. Returns the place behind their markers.
+fn push_closed(events: &mut Vec<Event>, start: Point, closed: &[bool]) -> Result<Point, AllocError>
+    requires room { HasRoom (markers_of_all closed.now) start }
+    ensures events { OnOk result (events.new.items ≡ events.old.items ++ closings start closed.now) }
+    ensures end { IfOk result (λ end. end ≡ later (markers_of_all closed.now) start) }
+{
+    let mut point = start;
+    let mut next = 0;
+    while next < closed.len() {
+        point = push_closing(events, point, closed[next])?;
+        next += 1;
+    }
+    Ok(point)
+}
+
+/// Adds the events of the pairs that a run opens. The list has the inner ones first, and the events begin with the outer ones.
+fn push_opened(events: &mut Vec<Event>, start: Point, opened: &[bool]) -> Result<(), AllocError>
+    requires room { HasRoom (markers_of_all (reverse opened.now)) start }
+    ensures { OnOk result (events.new.items ≡ events.old.items ++ openings start (reverse opened.now)) }
+{
+    let mut point = start;
+    let mut left = opened.len();
+    while left > 0 {
+        left -= 1;
+        point = push_opening(events, point, opened[left])?;
+    }
+    Ok(())
+}
+
+/// Adds the markers of a run that are in no pair, as data. Returns the place behind them.
+fn push_data(events: &mut Vec<Event>, point: Point, left: usize) -> Result<Point, AllocError>
+    requires room { HasRoom left point }
+    ensures events { OnOk result (events.new.items ≡ events.old.items ++ data_of point left) }
+    ensures end { IfOk result (λ end. end ≡ later left point) }
+{
+    let end = later(point, left);
+    if left > 0 {
+        push_event(events, Kind::Enter, Name::Data, point)?;
+        push_event(events, Kind::Exit, Name::Data, end)?;
+    }
+    Ok(end)
+}
+
+/// The events that take the place of a run: what it closes, what is left of it as data, and what it opens.
+pub fn in_place(alloc: Global, run: &Delimiters) -> Result<Vec<Event>, AllocError>
+    requires room { HasRoom (markers (as_run run.now)) run.now.start }
+    ensures { IfOk result (λ events. events.items ≡ in_place (as_run run.now)) }
+{
+    let mut events = Vec::new(alloc);
+    let behind_closed = push_closed(&mut events, run.start, run.closed.as_slice())?;
+    let behind_data = push_data(&mut events, behind_closed, run.left)?;
+    push_opened(&mut events, behind_data, run.opened.as_slice())?;
+    Ok(events)
+}
+
+/// Adds one edit for each run: its two events go, and what the run closes, leaves and opens comes in their place.
+///
+/// Returns `AllocError` if it runs out of memory; then some edits were added.
+pub fn put_edits(alloc: Global, runs: &[Delimiters], edits: &mut EditMap) -> Result<(), AllocError>
+    requires none { edits.old ≡ [] }
+    requires apart { AreApart 0 (map index_of (map as_run runs.now)) }
+    requires room { AllHaveRoom (map standing (map as_run runs.now)) }
+    ensures { OnOk result (edits.new ≡ edits_of (map as_run runs.now)) }
+{
+    let mut next = 0;
+    while next < runs.len() {
+        let events = in_place(alloc, &runs[next])?;
+        edits.add(runs[next].index, 2, events)?;
+        next += 1;
+    }
+    Ok(())
+}
+
+/// Puts emphasis in place of the delimiter runs of a list of events, by one edit for each run.
+///
+/// The edits can be made: they are disjoint, and leave the list balanced and without links, if it was so. Returns `AllocError` if it
+/// runs out of memory; then some edits were added.
+pub fn emphasize(
+    alloc: Global,
+    bytes: &[u8],
+    events: &[Event],
+    edits: &mut EditMap,
+) -> Result<(), AllocError>
+    requires none { edits.old ≡ [] }
+    requires balanced { IsBalanced events.now }
+    requires room { ArePlacesInside bytes.now events.now }
+    ensures { OnOk result (edits.new ≡ edits_of (paired (runs_in bytes.now events.now))) }
+{
+    let mut runs = runs_of(alloc, bytes, events)?;
+    pair_all(alloc, runs.as_mut_slice())?;
+    put_edits(alloc, runs.as_slice(), edits)
+}

@@ -1,0 +1,20 @@
+//! Laws about emphasis.
+
+ghost use Rattle.mdconstructs_attention.specs.LawStatements.{LeavesBalanced};
+ghost use Rattle.mdconstructs_attention.specs.RunEdits.{EditsMakeEmphasis, EmphasisCanBeMade};
+
+/// Emphasis leaves a balanced list.
+pub fn emphasis_is_balanced()
+    ensures { LeavesBalanced }
+{}
+
+/// One edit for each run makes emphasis: the edits can be made, and leave the events of the definition, balanced.
+pub fn edits_make_emphasis()
+    ensures { EditsMakeEmphasis }
+{}
+
+/// In any balanced list without links the edits of its delimiter runs can be made. They leave the list with emphasis in place of the
+/// runs, balanced and without links.
+pub fn emphasis_can_be_made()
+    ensures { EmphasisCanBeMade }
+{}

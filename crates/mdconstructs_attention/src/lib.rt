@@ -1,0 +1,7 @@
+//! Emphasis: the delimiter runs of a text, their pairs, and the edits that put emphasis in their place.
+#![tactic(auto)]
+
+pub mod emphasis;
+pub mod laws;
+pub mod pairs;
+pub mod runs;

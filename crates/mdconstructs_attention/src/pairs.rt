@@ -1,0 +1,235 @@
+//! Pairs of delimiter runs, in linear time, and the events in place of a run.
+
+ghost use Rattle.std.specs.Prelude.{ℕ, slice_index, nat_lt, slice_get, Ok, true, false, IfOk, ◌≡◌, ◌+◌, ◌<◌, ◌≤◌, ◌^◌, length, map, None, All, IfSome, OnOk, ◌++◌};
+ghost use Rattle.mdconstructs_attention.specs.Emphasis.{paired, rule_of_three, same, may_pair, opening, closing, is_strong};
+ghost use Rattle.mdconstructs_attention.specs.Searches.{as_run, last_of, with_pair, left_of, can_close, can_open, third, kind, AreBottoms, IsNext, HasClosed, ClosesNothing, IsTaken};
+
+use markdown_base::event::Point;
+use std::alloc::{AllocError, Global};
+
+/// A delimiter run.
+#[derive(Drop)]
+pub struct Delimiters {
+    /// Index of its enter among the events.
+    pub index: usize,
+    /// Where it begins.
+    pub start: Point,
+    /// `*`, not `_`.
+    pub is_star: bool,
+    /// How many markers it has, modulo 3.
+    pub rest: usize,
+    /// It can open emphasis.
+    pub opens: bool,
+    /// It can close emphasis.
+    pub closes: bool,
+    /// The pairs that it closes, the inner ones first: whether each is strong.
+    pub closed: Vec<bool>,
+    /// How many markers are in no pair yet.
+    pub left: usize,
+    /// The pairs that it opens, the inner ones first.
+    pub opened: Vec<bool>,
+}
+
+/// The rule of three, for two lengths modulo 3.
+fn rule_of_three(a: usize, b: usize) -> bool
+    ensures { result ≡ rule_of_three a b }
+{
+    !(a == 1 && b == 2 || a == 2 && b == 1)
+}
+
+/// Whether two markers are the same.
+fn same(a: bool, b: bool) -> bool
+    ensures { result ≡ same a b }
+{
+    if a { b } else { !b }
+}
+
+/// Whether an opener and a closer may be a pair: the same marker, and the rule of three.
+fn may_pair(opener: &Delimiters, closer: &Delimiters) -> bool
+    ensures { result ≡ may_pair (as_run opener.now) (as_run closer.now) }
+{
+    same(opener.is_star, closer.is_star)
+        && (!(opener.closes || closer.opens) || rule_of_three(opener.rest, closer.rest))
+}
+
+/// What the rule of three asks of a length modulo 3.
+fn third(rest: usize) -> usize
+    ensures third { result ≡ third rest }
+    ensures below { result < 3 }
+{
+    if rest == 1 {
+        1
+    } else if rest == 2 {
+        2
+    } else {
+        0
+    }
+}
+
+/// The kind of a closer: which openers fit depends on it alone.
+fn kind_of(closer: &Delimiters) -> usize
+    ensures kind { result ≡ kind (as_run closer.now) }
+    ensures below { result < 12 }
+{
+    let marker = if closer.is_star { 6 } else { 0 };
+    let opens = if closer.opens { 3 } else { 0 };
+    marker + opens + third(closer.rest)
+}
+
+/// The last opener at or above the bottom that fits.
+fn opener_for(
+    runs: &[Delimiters],
+    openers: &[usize],
+    bottom: usize,
+    closer: &Delimiters,
+) -> Option<usize>
+    requires inside { All (λ i. i < length runs.now) openers.now }
+    requires bottom { bottom ≤ length openers.now }
+    requires nothing { last_of (map as_run runs.now) openers.now (as_run closer.now) bottom ≡ None }
+    ensures { result ≡ last_of (map as_run runs.now) openers.now (as_run closer.now) (length openers.now) }
+{
+    let mut at = openers.len();
+    while at > bottom {
+        at -= 1;
+        if may_pair(&runs[openers[at]], closer) {
+            return Some(at);
+        }
+    }
+    None
+}
+
+/// No bottom is above this height.
+fn lower(bottoms: &mut [usize], height: usize)
+    ensures many { length bottoms.new ≡ length bottoms.old }
+    ensures lower { (k : ℕ) → slice_index bottoms.new k ≤ slice_index bottoms.old k }
+    ensures below { (k : ℕ) → slice_index bottoms.new k ≤ height }
+{
+    for bottom in bottoms.iter_mut() {
+        if *bottom > height {
+            *bottom = height;
+        }
+    }
+}
+
+/// The run opens a pair.
+fn open(run: &mut Delimiters, strong: bool) -> Result<(), AllocError>
+    ensures { OnOk result (as_run run.new ≡ opening strong (as_run run.old)) }
+{
+    run.opened.push(strong)?;
+    run.left = run.left.saturating_sub(if strong { 2 } else { 1 });
+    Ok(())
+}
+
+/// The run closes a pair.
+fn close(run: &mut Delimiters, strong: bool) -> Result<(), AllocError>
+    ensures { OnOk result (as_run run.new ≡ closing strong (as_run run.old)) }
+{
+    run.closed.push(strong)?;
+    run.left = run.left.saturating_sub(if strong { 2 } else { 1 });
+    Ok(())
+}
+
+/// Whether a pair of two runs is strong.
+fn is_strong(opener: &Delimiters, closer: &Delimiters) -> bool
+    ensures { result ≡ is_strong (as_run opener.now) (as_run closer.now) }
+{
+    opener.left >= 2 && closer.left >= 2
+}
+
+/// Makes a pair of two runs. Returns whether the opener has markers left.
+fn join(runs: &mut [Delimiters], opener: usize, closer: usize) -> Result<bool, AllocError>
+    requires before { opener < closer }
+    requires inside { closer < length runs.old }
+    ensures pair { OnOk result (map as_run runs.new ≡ with_pair (map as_run runs.old) opener closer) }
+    ensures waits { IfOk result (λ waits. waits ≡ nat_lt 0 (left_of (slice_get (map as_run runs.new) opener))) }
+{
+    let strong = is_strong(&runs[opener], &runs[closer]);
+    open(&mut runs[opener], strong)?;
+    close(&mut runs[closer], strong)?;
+    Ok(runs[opener].left > 0)
+}
+
+/// Whether a run can close a pair more, if it finds an opener.
+fn can_close(run: &Delimiters) -> bool
+    ensures { result ≡ can_close (as_run run.now) }
+{
+    run.closes && run.left > 0
+}
+
+/// Whether a run can open a pair more.
+fn can_open(run: &Delimiters) -> bool
+    ensures { result ≡ can_open (as_run run.now) }
+{
+    run.opens && run.left > 0
+}
+
+/// Makes one pair more with the run that is next, if it can close one. Returns whether it did.
+fn closes_more(
+    runs: &mut [Delimiters],
+    openers: &mut Vec<usize>,
+    bottoms: &mut [usize],
+    closer: usize,
+) -> Result<bool, AllocError>
+    requires next { IsNext (map as_run runs.old) openers.old.items closer }
+    requires kinds { length bottoms.old ≡ 12 }
+    requires bottoms { AreBottoms (map as_run runs.old) openers.old.items bottoms.old }
+    ensures kinds { length bottoms.new ≡ 12 }
+    ensures bottoms { OnOk result (AreBottoms (map as_run runs.new) openers.new.items bottoms.new) }
+    ensures pair { result ≡ Ok true → HasClosed (map as_run runs.old) openers.old.items closer (map as_run runs.new) openers.new.items }
+    ensures same { result ≡ Ok false → (map as_run runs.new ≡ map as_run runs.old) × (openers.new.items ≡ openers.old.items) }
+    ensures end { result ≡ Ok false → ClosesNothing (map as_run runs.old) openers.old.items closer }
+{
+    if !can_close(&runs[closer]) {
+        return Ok(false);
+    }
+    let kind = kind_of(&runs[closer]);
+    let all = &runs[..];
+    let Some(at) = opener_for(all, openers.as_slice(), bottoms[kind], &all[closer]) else {
+        bottoms[kind] = openers.len();
+        return Ok(false);
+    };
+    let opener = openers[at];
+    let waits = join(runs, opener, closer)?;
+    let height = if waits { at + 1 } else { at };
+    openers.truncate(height);
+    lower(bottoms, height);
+    Ok(true)
+}
+
+/// The run that is next closes what it can, and then waits if it can open.
+fn take_up(
+    runs: &mut [Delimiters],
+    openers: &mut Vec<usize>,
+    bottoms: &mut [usize],
+    closer: usize,
+) -> Result<(), AllocError>
+    requires next { IsNext (map as_run runs.old) openers.old.items closer }
+    requires kinds { length bottoms.old ≡ 12 }
+    requires bottoms { AreBottoms (map as_run runs.old) openers.old.items bottoms.old }
+    ensures kinds { length bottoms.new ≡ 12 }
+    ensures bottoms { OnOk result (AreBottoms (map as_run runs.new) openers.new.items bottoms.new) }
+    ensures taken { OnOk result (IsTaken (map as_run runs.old) openers.old.items closer (map as_run runs.new) openers.new.items) }
+{
+    'closing: while closes_more(runs, openers, bottoms, closer)? {}
+    if can_open(&runs[closer]) {
+        openers.push(closer)?;
+    }
+    Ok(())
+}
+
+/// Makes the pairs of all delimiter runs of a text.
+///
+/// If it runs out of memory, some pairs were made. Each run waits once and stops waiting once. A search that finds nothing looks at no
+/// run that an earlier one of its kind has seen in vain; there are 12 kinds.
+pub fn pair_all(alloc: Global, runs: &mut [Delimiters]) -> Result<(), AllocError>
+    ensures { OnOk result (map as_run runs.new ≡ paired (map as_run runs.old)) }
+{
+    let mut openers = Vec::new(alloc);
+    let mut bottoms = [0usize; 12];
+    let mut closer = 0;
+    while closer < runs.len() {
+        take_up(runs, &mut openers, &mut bottoms, closer)?;
+        closer += 1;
+    }
+    Ok(())
+}

@@ -1,0 +1,161 @@
+//! The delimiter runs of a text: its attention sequences, each with the characters beside it.
+
+ghost use Rattle.std.specs.Prelude.{◌≡◌, ◌-◌, ◌<◌, ◌^◌, map, slice_get, IfOk};
+ghost use Rattle.mdconstructs_attention.specs.Runs.{class_of_byte, is_punctuation, is_other, is_left_flanking, can_begin, byte_before, class_beside, is_star_byte, run_at, is_sequence, index_of_event, depth_after, runs_in};
+ghost use Rattle.mdconstructs_attention.specs.Searches.{as_run};
+
+use crate::pairs::Delimiters;
+use markdown_base::event::{Event, Kind, Name};
+use markdown_base::util::char::Kind as Class;
+use std::alloc::{AllocError, Global};
+
+/// The class of the character of a byte. The start and the end of a text count as white space, and bytes beyond ASCII are
+/// neither white space nor punctuation.
+fn class_of_byte(byte: Option<u8>) -> Class
+    ensures { result ≡ class_of_byte byte }
+{
+    match byte {
+        None => Class::Whitespace,
+        Some(byte) if byte.is_ascii_whitespace() => Class::Whitespace,
+        Some(byte) if byte.is_ascii_punctuation() => Class::Punctuation,
+        Some(_) => Class::Other,
+    }
+}
+
+/// Whether a class is punctuation.
+fn is_punctuation(class: &Class) -> bool
+    ensures { result ≡ is_punctuation class.now }
+{
+    matches!(class, Class::Punctuation)
+}
+
+/// Whether a class is neither white space nor punctuation.
+fn is_other(class: &Class) -> bool
+    ensures { result ≡ is_other class.now }
+{
+    matches!(class, Class::Other)
+}
+
+/// Whether a run between characters of these classes is left-flanking. It is right-flanking if it is left-flanking the other way
+/// round.
+fn is_left_flanking(before: &Class, after: &Class) -> bool
+    ensures { result ≡ is_left_flanking before.now after.now }
+{
+    is_other(after) || is_punctuation(after) && !is_other(before)
+}
+
+/// Whether a run can open emphasis. It can close emphasis if it can open it the other way round.
+fn can_begin(is_star: bool, before: &Class, after: &Class) -> bool
+    ensures { result ≡ can_begin is_star before.now after.now }
+{
+    is_left_flanking(before, after)
+        && (is_star || !is_left_flanking(after, before) || is_punctuation(before))
+}
+
+/// The byte before a place.
+fn byte_before(bytes: &[u8], index: usize) -> Option<u8>
+    ensures { result ≡ byte_before bytes.now index }
+{
+    if index == 0 {
+        None
+    } else {
+        bytes.get(index - 1).copied()
+    }
+}
+
+/// The class of the character at an end of a run: of this byte, if the event beside the run stands at the same index.
+fn class_beside(beside: Option<usize>, index: usize, byte: Option<u8>) -> Class
+    ensures { result ≡ class_beside beside index byte }
+{
+    match beside {
+        Some(other) if other == index => class_of_byte(byte),
+        _ => Class::Whitespace,
+    }
+}
+
+/// At which index an event of a list stands, if the list has it.
+fn index_of_event(events: &[Event], index: usize) -> Option<usize>
+    ensures { result ≡ index_of_event (slice_get events.now index) }
+{
+    match events.get(index) {
+        None => None,
+        Some(event) => Some(event.point.index),
+    }
+}
+
+/// Whether two events are an attention sequence.
+fn is_sequence(enter: &Event, exit: &Event) -> bool
+    ensures { result ≡ is_sequence enter.now exit.now }
+{
+    enter.kind == Kind::Enter
+        && enter.name == Name::AttentionSequence
+        && exit.kind == Kind::Exit
+        && exit.name == Name::AttentionSequence
+}
+
+/// How many spans are open after an event.
+fn depth_after(kind: Kind, depth: usize) -> usize
+    requires fits { depth < 2 ^ 64 - 1 }
+    ensures { result ≡ depth_after kind depth }
+{
+    match kind {
+        Kind::Enter => depth + 1,
+        Kind::Exit => depth.saturating_sub(1),
+    }
+}
+
+/// The run of an attention sequence, by the index of its enter in the list, and where the events beside it stand.
+fn run_at(
+    alloc: Global,
+    bytes: &[u8],
+    index: usize,
+    enter: &Event,
+    exit: &Event,
+    before: Option<usize>,
+    behind: Option<usize>,
+) -> Delimiters
+    ensures { as_run result ≡ run_at bytes.now index enter.now exit.now before behind }
+{
+    let start = enter.point.index;
+    let end = exit.point.index;
+    let class_before = class_beside(before, start, byte_before(bytes, start));
+    let class_after = class_beside(behind, end, bytes.get(end).copied());
+    let is_star = bytes.get(start) == Some(&b'*');
+    let left = end.saturating_sub(start);
+    Delimiters {
+        index,
+        start: enter.point,
+        is_star,
+        rest: left % 3,
+        opens: can_begin(is_star, &class_before, &class_after),
+        closes: can_begin(is_star, &class_after, &class_before),
+        closed: Vec::new(alloc),
+        left,
+        opened: Vec::new(alloc),
+    }
+}
+
+/// The delimiter runs of a list of events: its attention sequences that are in no other span.
+pub fn runs_of(alloc: Global, bytes: &[u8], events: &[Event]) -> Result<Vec<Delimiters>, AllocError>
+    ensures { IfOk result (λ runs. map as_run runs.items ≡ runs_in bytes.now events.now) }
+{
+    let mut runs = Vec::new(alloc);
+    let mut index = 0;
+    let mut depth = 0;
+    let mut before = None;
+    while index + 1 < events.len() {
+        let enter = &events[index];
+        let exit = &events[index + 1];
+        if depth == 0 && is_sequence(enter, exit) {
+            let behind = index_of_event(events, index + 2);
+            runs.push(run_at(alloc, bytes, index, enter, exit, before, behind))?;
+            before = Some(exit.point.index);
+            index += 2;
+        } else {
+            depth = depth_after(enter.kind, depth);
+            before = Some(enter.point.index);
+            index += 1;
+        }
+    }
+    Ok(runs)
+}
