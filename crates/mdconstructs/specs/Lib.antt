@@ -68,6 +68,8 @@ pub use Rattle.mdconstructs_attention.specs.RunEdits
 pub use Rattle.mdconstructs_attention.specs.Runs as DelimiterRuns
 pub use Rattle.mdconstructs_attention.specs.Searches
 pub use Rattle.mdconstructs_flow.specs.BlankLine
+pub use Rattle.mdconstructs_flow.specs.BlockEvents
+pub use Rattle.mdconstructs_flow.specs.BlocksRead
 pub use Rattle.mdconstructs_flow.specs.ChunkRows
 pub use Rattle.mdconstructs_flow.specs.CodeFenced
 pub use Rattle.mdconstructs_flow.specs.CodeIndented
@@ -81,6 +83,10 @@ pub use Rattle.mdconstructs_flow.specs.FlowWrites
 pub use Rattle.mdconstructs_flow.specs.HeadingAtx
 pub use Rattle.mdconstructs_flow.specs.HeadingEdits
 pub use Rattle.mdconstructs_flow.specs.HeadingSetext
+pub use Rattle.mdconstructs_flow.specs.HtmlFlow
+pub use Rattle.mdconstructs_flow.specs.HtmlNames
+pub use Rattle.mdconstructs_flow.specs.HtmlTags
+pub use Rattle.mdconstructs_flow.specs.HtmlWrites
 pub use Rattle.mdconstructs_flow.specs.LawStatements as FlowLawStatements
 pub use Rattle.mdconstructs_flow.specs.Laws as FlowLaws
 pub use Rattle.mdconstructs_flow.specs.Look
