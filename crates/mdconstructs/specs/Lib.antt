@@ -94,6 +94,7 @@ pub use Rattle.mdconstructs_flow.specs.Paragraph
 pub use Rattle.mdconstructs_flow.specs.Renamings
 pub use Rattle.mdconstructs_flow.specs.Steps as FlowSteps
 pub use Rattle.mdconstructs_flow.specs.ThematicBreak
+pub use Rattle.mdconstructs_documents.specs.ByteRanges
 pub use Rattle.mdconstructs_documents.specs.Choices
 pub use Rattle.mdconstructs_documents.specs.Documents
 pub use Rattle.mdconstructs_documents.specs.Runs

@@ -11,7 +11,7 @@ pub mod laws;
 pub use mdconstructs_documents::choice::{Choice, Which};
 pub use mdconstructs_documents::documents::{events_of, options_with, text_events_of};
 pub use mdconstructs_documents::limit::limit_of;
-pub use mdconstructs_documents::{choice, documents, limit};
+pub use mdconstructs_documents::{choice, documents, limit, ranges};
 pub use mdconstructs_flow::flow;
 pub use mdconstructs_flow::flow::Flow;
 pub use mdconstructs_machines::back::Back;

@@ -1,3 +1,4 @@
+pub mod ByteRanges
 pub mod Choices
 pub mod Documents
 pub mod Runs

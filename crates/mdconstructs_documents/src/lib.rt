@@ -6,3 +6,4 @@ pub mod documents;
 pub mod laws;
 pub mod limit;
 mod making;
+pub mod ranges;

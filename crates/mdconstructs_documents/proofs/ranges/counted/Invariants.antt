@@ -1,0 +1,7 @@
+use Rattle.std.specs.Prelude.{◌≡◌}
+use Rattle.markdown_children.specs.ByteStarts.{line_at}
+use Rattle.mdconstructs_documents.proofs.ranges.counted.Given as goal
+
+-- the line of the index reached
+abbrev pub invariant-loop-index : goal.invariant-loop-index
+invariant-loop-index l = l.line ≡ line_at l.bytes l.index
