@@ -8,7 +8,9 @@ use Rattle.markdown.specs.declared.event.Event.{Event}
 use Rattle.markdown.specs.declared.event.Kind.{Kind}
 use Rattle.markdown.specs.declared.event.Kind.TheVariants.{Enter, Exit}
 use Rattle.markdown.specs.Engine.{whole_text}
+use Rattle.mdconstructs.specs.ByteRanges.{text_events_in}
 use Rattle.mdconstructs.specs.declared.choice.Choice.{Choice}
+use Rattle.mdconstructs.specs.declared.ranges.ByteRange.{ByteRange}
 use Rattle.mdconstructs.specs.Documents.{AreEventsOf, options_with}
 use Rattle.mdconstructs.specs.TextEvents.{text_events}
 use Rattle.limecove.specs.declared.choose.Options.{Options}
@@ -65,6 +67,14 @@ pub record AreReadAsText (options : TextOptions) (bytes : List ℕ) (n : ℕ) (e
   pub are : let g = text_document options.constructs tab bytes in events ≡ text_events g (whole_text g)
   pub count : n ≡ length events
 
+-- Events that are this many, and that are those of ranges of a document, read as one text with the constructs and the tab size of the
+-- options
+pub record AreReadInRanges (options : TextOptions) (bytes : List ℕ) (ranges : List ByteRange) (n : ℕ) (events : List Event) : Type 0 where
+  pub tab : ℕ
+  pub chosen : text_choice_of options ≡ Ok tab
+  pub are : events ≡ text_events_in (options_with (constructs_of options.constructs) tab) bytes ranges
+  pub count : n ≡ length events
+
 -- Records after the records of such events were written over the first ones
 pub record HoldsEventsOf (options : Options) (bytes : List ℕ) (n : ℕ) (old new : List Record) : Type 0 where
   pub events : List Event
@@ -75,6 +85,12 @@ pub record HoldsEventsOf (options : Options) (bytes : List ℕ) (n : ℕ) (old n
 pub record HoldsTextOf (options : TextOptions) (bytes : List ℕ) (n : ℕ) (old new : List Record) : Type 0 where
   pub events : List Event
   pub read : AreReadAsText options bytes n events
+  pub written : new ≡ filled old events
+
+-- Records after the records of such events of ranges were written over the first ones
+pub record HoldsTextIn (options : TextOptions) (bytes : List ℕ) (ranges : List ByteRange) (n : ℕ) (old new : List Record) : Type 0 where
+  pub events : List Event
+  pub read : AreReadInRanges options bytes ranges n events
   pub written : new ≡ filled old events
 
 -- a record with the number of each field
@@ -106,5 +122,19 @@ echoed_text options = record {
   index = 0;
   vs = 0;
   previous = options.constructs;
+  next = 0;
+}
+
+-- the numbers of a range: where it begins as the line, and where it ends as the column
+abbrev pub echoed_range : ByteRange → Record
+echoed_range range = record {
+  kind = 0;
+  content = 0;
+  name = 0;
+  line = range.from;
+  column = range.to;
+  index = 0;
+  vs = 0;
+  previous = 0;
   next = 0;
 }

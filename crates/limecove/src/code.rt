@@ -20,3 +20,5 @@ pub const NO_SUCH_CONSTRUCT: u32 = 5;
 pub const NO_SUCH_MACHINE: u32 = 6;
 /// `deep` is on for a machine that links no text.
 pub const LINKS_NO_TEXT: u32 = 7;
+/// The ranges cannot be read as one text.
+pub const NO_SUCH_RANGES: u32 = 8;

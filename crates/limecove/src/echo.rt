@@ -1,10 +1,11 @@
 //! Options as records, for callers that compare layouts.
 
 ghost use Rattle.std.specs.Prelude.{◌≡◌};
-ghost use Rattle.limecove.specs.Records.{echoed, echoed_text, numbered};
+ghost use Rattle.limecove.specs.Records.{echoed, echoed_range, echoed_text, numbered};
 
 use crate::choose::{Options, TextOptions};
 use crate::record::Record;
+use mdconstructs::ranges::ByteRange;
 
 /// A record with the number of each field, in their order: 1 to 9.
 pub(crate) fn numbered() -> Record
@@ -54,6 +55,23 @@ pub(crate) fn echo_of_text(options: &TextOptions) -> Record
         index: 0,
         vs: 0,
         previous: options.constructs as usize,
+        next: 0,
+    }
+}
+
+/// The numbers of a range: where it begins as the line, and where it ends as the column. The other fields are 0.
+pub(crate) fn echo_of_range(range: &ByteRange) -> Record
+    ensures { result ≡ echoed_range range.now }
+{
+    Record {
+        kind: 0,
+        content: 0,
+        name: 0,
+        line: range.from,
+        column: range.to,
+        index: 0,
+        vs: 0,
+        previous: 0,
         next: 0,
     }
 }

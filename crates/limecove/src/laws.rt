@@ -6,8 +6,8 @@ use crate::choose::{
     ALL_CONSTRUCTS, AUTOLINK, CHARACTER_ESCAPE, CODE_TEXT, OPTIONS_SIZE, TEXT_OPTIONS_SIZE,
 };
 use crate::code::{
-    LINKS_NO_TEXT, NO_SUCH_CONSTRUCT, NO_SUCH_MACHINE, NO_SUCH_TAB_SIZE, OTHER_SIZE, OUT_OF_MEMORY,
-    READ, TOO_LONG, VERSION,
+    LINKS_NO_TEXT, NO_SUCH_CONSTRUCT, NO_SUCH_MACHINE, NO_SUCH_RANGES, NO_SUCH_TAB_SIZE,
+    OTHER_SIZE, OUT_OF_MEMORY, READ, TOO_LONG, VERSION,
 };
 
 /// The value of each number.
@@ -21,6 +21,7 @@ pub fn numbers_are_stated()
     ensures no_such_construct { NO_SUCH_CONSTRUCT ≡ 5 }
     ensures no_such_machine { NO_SUCH_MACHINE ≡ 6 }
     ensures links_no_text { LINKS_NO_TEXT ≡ 7 }
+    ensures no_such_ranges { NO_SUCH_RANGES ≡ 8 }
     ensures constructs { (CODE_TEXT ≡ 1) × (AUTOLINK ≡ 2) × (CHARACTER_ESCAPE ≡ 4) × (ALL_CONSTRUCTS ≡ 7) }
     ensures sizes { (TEXT_OPTIONS_SIZE ≡ 24) × (OPTIONS_SIZE ≡ 40) }
 {}

@@ -15,19 +15,21 @@ mod record;
 #[cfg(test)]
 mod tests;
 
-ghost use Rattle.std.specs.Prelude.{◌≡◌, ◌≢◌, ◌<◌, ◌≤◌, ◌-◌, ◌↔◌, Err, IfErr, IfOk, IsOkAnd, drop, length, min};
+ghost use Rattle.std.specs.Prelude.{◌≡◌, ◌≢◌, ◌<◌, ◌≤◌, ◌-◌, ◌↔◌, ◌⊎◌, Err, IfErr, IfOk, IsOkAnd, drop, length, min};
 ghost use Rattle.markdown.specs.Virtual.{IsWithinLimit};
+ghost use Rattle.mdconstructs.specs.ByteRanges.{AreRanges};
 ghost use Rattle.limecove.specs.Choices.{choice_of, text_choice_of};
 ghost use Rattle.limecove.specs.Readings.{IsClosed, events_in};
-ghost use Rattle.limecove.specs.Records.{AreRead, AreReadAsText, HoldsEventsOf, HoldsTextOf, echoed, echoed_text, filled, numbered};
+ghost use Rattle.limecove.specs.Records.{AreRead, AreReadAsText, AreReadInRanges, HoldsEventsOf, HoldsTextIn, HoldsTextOf, echoed, echoed_range, echoed_text, filled, numbered};
 
 use crate::choose::{Options, TextOptions, choose, choose_text, constructs_of};
-use crate::code::{LINKS_NO_TEXT, OUT_OF_MEMORY, READ, TOO_LONG, VERSION};
-use crate::echo::{echo_of, echo_of_text, numbered};
+use crate::code::{LINKS_NO_TEXT, NO_SUCH_RANGES, OUT_OF_MEMORY, READ, TOO_LONG, VERSION};
+use crate::echo::{echo_of, echo_of_range, echo_of_text, numbered};
 use crate::kept::Reading;
 use crate::reading::copy_from;
 use crate::record::{Record, write_records};
 use markdown::event::Event;
+use mdconstructs::ranges::{ByteRange, are_ranges, text_events_in};
 use mdconstructs::{events_of, limit_of, options_with, text_events_of};
 use std::alloc::Global;
 
@@ -151,6 +153,61 @@ pub extern "C" fn limecove_open(
     }
 }
 
+/// Reads ranges of a document as one text, and writes its events over the first records, as many as fit. Their places are those in the
+/// whole document.
+#[unsafe(no_mangle)]
+pub extern "C" fn limecove_read_text_in(
+    alloc: Global,
+    bytes: &[u8],
+    ranges: &[ByteRange],
+    options: &TextOptions,
+    records: &mut [Record],
+) -> Answer
+    ensures read { result.code ≡ READ → HoldsTextIn options.now bytes.now ranges.now result.count records.old records.new }
+    ensures kept { result.code ≢ READ → records.new ≡ records.old }
+    ensures none { result.code ≢ READ → result.count ≡ 0 }
+    ensures options { IfErr (text_choice_of options.now) (λ code. result.code ≡ code) }
+    ensures chosen { IfOk (text_choice_of options.now) (λ _. (result.code ≤ TOO_LONG) ⊎ (result.code ≡ NO_SUCH_RANGES)) }
+    ensures too_long { (result.code ≡ TOO_LONG) ↔ IsOkAnd (text_choice_of options.now) (λ tab. ¬ IsWithinLimit tab bytes.now) }
+    ensures ranges { (result.code ≡ NO_SUCH_RANGES) ↔ IsOkAnd (text_choice_of options.now) (λ tab. IsWithinLimit tab bytes.now × ¬ AreRanges bytes.now ranges.now) }
+    ensures codes { result.code ≤ NO_SUCH_RANGES }
+    ensures version { result.version ≡ VERSION }
+{
+    match text_events_in_ranges(alloc, bytes, ranges, options) {
+        Ok(found) => ended(READ, write_records(records, found.as_slice())),
+        Err(code) => ended(code, 0),
+    }
+}
+
+/// Reads ranges of a document as one text, as [`limecove_read_text_in`] does. The reading keeps its events, for [`limecove_copy`], until
+/// [`limecove_close`].
+#[unsafe(no_mangle)]
+pub extern "C" fn limecove_open_text_in(
+    alloc: Global,
+    bytes: &[u8],
+    ranges: &[ByteRange],
+    options: &TextOptions,
+    reading: &mut Reading,
+) -> Answer
+    ensures read { result.code ≡ READ → AreReadInRanges options.now bytes.now ranges.now result.count (events_in reading.new) }
+    ensures closed { result.code ≢ READ → IsClosed reading.new }
+    ensures none { result.code ≢ READ → result.count ≡ 0 }
+    ensures options { IfErr (text_choice_of options.now) (λ code. result.code ≡ code) }
+    ensures chosen { IfOk (text_choice_of options.now) (λ _. (result.code ≤ TOO_LONG) ⊎ (result.code ≡ NO_SUCH_RANGES)) }
+    ensures too_long { (result.code ≡ TOO_LONG) ↔ IsOkAnd (text_choice_of options.now) (λ tab. ¬ IsWithinLimit tab bytes.now) }
+    ensures ranges { (result.code ≡ NO_SUCH_RANGES) ↔ IsOkAnd (text_choice_of options.now) (λ tab. IsWithinLimit tab bytes.now × ¬ AreRanges bytes.now ranges.now) }
+    ensures codes { result.code ≤ NO_SUCH_RANGES }
+    ensures version { result.version ≡ VERSION }
+{
+    match text_events_in_ranges(alloc, bytes, ranges, options) {
+        Ok(found) => keep(alloc, found, reading),
+        Err(code) => {
+            *reading = Reading::closed();
+            ended(code, 0)
+        }
+    }
+}
+
 /// Writes the events of a reading from this one on over the first records, as many as fit. Returns how many were written. A reading
 /// that is not open has no events.
 #[unsafe(no_mangle)]
@@ -203,6 +260,15 @@ pub extern "C" fn limecove_echo(
     ended(1, 3)
 }
 
+/// Writes back a range as [`limecove_echo`] does options: where it begins as the line, where it ends as the column, and 0 in all other
+/// fields.
+#[unsafe(no_mangle)]
+pub extern "C" fn limecove_echo_range(range: &ByteRange, of_range: &mut Record)
+    ensures { of_range.new ≡ echoed_range range.now }
+{
+    *of_range = echo_of_range(range);
+}
+
 /// The events of a document that is read as text. If there are none, the code that says why.
 fn text_events(alloc: Global, bytes: &[u8], options: &TextOptions) -> Result<Vec<Event>, u32>
     ensures read { IfOk result (λ list. AreReadAsText options.now bytes.now (length list.items) list.items) }
@@ -217,6 +283,34 @@ fn text_events(alloc: Global, bytes: &[u8], options: &TextOptions) -> Result<Vec
     }
     let options = options_with(constructs_of(options.constructs), tab);
     match text_events_of(alloc, bytes, &options) {
+        Ok(events) => Ok(events),
+        Err(_) => Err(OUT_OF_MEMORY),
+    }
+}
+
+/// The events of ranges of a document that are read as one text. If there are none, the code that says why.
+fn text_events_in_ranges(
+    alloc: Global,
+    bytes: &[u8],
+    ranges: &[ByteRange],
+    options: &TextOptions,
+) -> Result<Vec<Event>, u32>
+    ensures read { IfOk result (λ list. AreReadInRanges options.now bytes.now ranges.now (length list.items) list.items) }
+    ensures options { IfErr (text_choice_of options.now) (λ code. result ≡ Err code) }
+    ensures chosen { IfOk (text_choice_of options.now) (λ _. IfErr result (λ code. (code ≤ TOO_LONG) ⊎ (code ≡ NO_SUCH_RANGES))) }
+    ensures too_long { (result ≡ Err TOO_LONG) ↔ IsOkAnd (text_choice_of options.now) (λ tab. ¬ IsWithinLimit tab bytes.now) }
+    ensures ranges { (result ≡ Err NO_SUCH_RANGES) ↔ IsOkAnd (text_choice_of options.now) (λ tab. IsWithinLimit tab bytes.now × ¬ AreRanges bytes.now ranges.now) }
+    ensures codes { IfErr result (λ code. (READ < code) × (code ≤ NO_SUCH_RANGES)) }
+{
+    let tab = choose_text(options)?;
+    if bytes.len() > limit_of(tab) {
+        return Err(TOO_LONG);
+    }
+    if !are_ranges(bytes, ranges) {
+        return Err(NO_SUCH_RANGES);
+    }
+    let options = options_with(constructs_of(options.constructs), tab);
+    match text_events_in(alloc, bytes, &options, ranges) {
         Ok(events) => Ok(events),
         Err(_) => Err(OUT_OF_MEMORY),
     }

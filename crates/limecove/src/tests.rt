@@ -4,15 +4,18 @@ use crate::choose::{
     AUTOLINK, CHARACTER_ESCAPE, OPTIONS_SIZE, Options, TEXT_OPTIONS_SIZE, TextOptions,
 };
 use crate::code::{
-    LINKS_NO_TEXT, NO_SUCH_CONSTRUCT, NO_SUCH_MACHINE, NO_SUCH_TAB_SIZE, OTHER_SIZE, READ, VERSION,
+    LINKS_NO_TEXT, NO_SUCH_CONSTRUCT, NO_SUCH_MACHINE, NO_SUCH_RANGES, NO_SUCH_TAB_SIZE,
+    OTHER_SIZE, READ, VERSION,
 };
 use crate::kept::Reading;
 use crate::record::{NO_INDEX, Record};
 use crate::{
-    Answer, limecove_close, limecove_copy, limecove_echo, limecove_open, limecove_open_text,
-    limecove_read, limecove_read_text, limecove_version,
+    Answer, limecove_close, limecove_copy, limecove_echo, limecove_echo_range, limecove_open,
+    limecove_open_text, limecove_open_text_in, limecove_read, limecove_read_text,
+    limecove_read_text_in, limecove_version,
 };
 use markdown::event::Name;
+use mdconstructs::ranges::ByteRange;
 use std::alloc::{AllocError, Global};
 use std::mem::size_of;
 
@@ -234,6 +237,108 @@ fn documents_are_read_as_text(rt: HostRuntime) {
         ..TEXT
     };
     assert!(rt; reads_text(rt.alloc(), b"`a`", &of_four, &code()));
+}
+
+/// A range.
+fn range(from: usize, to: usize) -> ByteRange {
+    ByteRange { from, to }
+}
+
+/// Of ``x`a\r\n> b`y``, read from the backtick on without the quote mark and without `y`: a code span over two lines.
+fn quoted_code() -> [Record; 12] {
+    [
+        at(0, Name::CodeText, 1, 2, 1),
+        at(0, Name::CodeTextSequence, 1, 2, 1),
+        at(1, Name::CodeTextSequence, 1, 3, 2),
+        at(0, Name::CodeTextData, 1, 3, 2),
+        at(1, Name::CodeTextData, 1, 4, 3),
+        at(0, Name::LineEnding, 1, 4, 3),
+        at(1, Name::LineEnding, 2, 1, 5),
+        at(0, Name::CodeTextData, 2, 3, 7),
+        at(1, Name::CodeTextData, 2, 4, 8),
+        at(0, Name::CodeTextSequence, 2, 4, 8),
+        at(1, Name::CodeTextSequence, 2, 5, 9),
+        at(1, Name::CodeText, 2, 5, 9),
+    ]
+}
+
+/// Whether ranges of a document are read as text, with every room from none to 12 records, and by a reading.
+fn reads_in(alloc: Global, document: &[u8], ranges: &[ByteRange], events: &[Record]) -> bool {
+    for room in 0..=12 {
+        let mut records = [OLD; 12];
+        let answer = limecove_read_text_in(alloc, document, ranges, &TEXT, &mut records[..room]);
+        if !holds(answer, events, room, &records) {
+            return false;
+        }
+    }
+    let mut reading = Reading::closed();
+    let answer = limecove_open_text_in(alloc, document, ranges, &TEXT, &mut reading);
+    keeps(alloc, answer, &mut reading, events)
+}
+
+#[test]
+fn ranges_are_read_as_one_text(rt: HostRuntime) {
+    let document = b"x`a\r\n> b`y";
+    let quoted = quoted_code();
+    assert!(rt; reads_in(rt.alloc(), document, &[range(1, 5), range(7, 9)], &quoted));
+    let parts = [
+        range(1, 2),
+        range(2, 2),
+        range(2, 5),
+        range(7, 8),
+        range(8, 9),
+    ];
+    assert!(rt; reads_in(rt.alloc(), document, &parts, &quoted));
+    assert!(rt; reads_in(rt.alloc(), b"`a`", &[range(0, 3)], &code()));
+    assert!(rt; reads_in(rt.alloc(), b"`a`", &[], &[]));
+    assert!(rt; reads_in(rt.alloc(), b"", &[range(0, 0)], &[]));
+}
+
+#[test]
+fn ranges_that_are_no_text_are_refused(rt: HostRuntime) {
+    let mut records = [OLD; 12];
+    let mut reading = Reading::closed();
+    // Past the end, backwards, overlapping, a gap inside a line, a gap over a line, and one between CR and LF.
+    for ranges in &[
+        [range(0, 1), range(1, 8)],
+        [range(0, 1), range(1, 0)],
+        [range(0, 2), range(1, 2)],
+        [range(0, 1), range(2, 3)],
+        [range(0, 2), range(4, 5)],
+        [range(5, 5), range(6, 7)],
+    ] {
+        let document = b"a\nb\nc\r\n";
+        let ranges = ranges.as_slice();
+        let answer = limecove_read_text_in(rt.alloc(), document, ranges, &TEXT, &mut records);
+        assert!(rt; answer == refused(NO_SUCH_RANGES));
+        let answer = limecove_open_text_in(rt.alloc(), document, ranges, &TEXT, &mut reading);
+        assert!(rt; answer == refused(NO_SUCH_RANGES) && reading.is_open == 0);
+    }
+    let more = TextOptions {
+        constructs: 8,
+        ..TEXT
+    };
+    let answer = limecove_read_text_in(rt.alloc(), b"a", &[range(2, 1)], &more, &mut records);
+    assert!(rt; answer == refused(NO_SUCH_CONSTRUCT));
+    assert!(rt; records.iter().all(|record| *record == OLD));
+}
+
+#[test]
+fn ranges_are_echoed(rt: HostRuntime) {
+    let mut of_range = OLD;
+    limecove_echo_range(&range(5, 6), &mut of_range);
+    let want = Record {
+        kind: 0,
+        content: 0,
+        name: 0,
+        line: 5,
+        column: 6,
+        index: 0,
+        vs: 0,
+        previous: 0,
+        next: 0,
+    };
+    assert!(rt; of_range == want && size_of::<ByteRange>() == 16);
 }
 
 /// An answer to options that choose nothing.
