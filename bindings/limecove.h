@@ -7,8 +7,8 @@
  * The caller owns all memory that is passed. What a call takes for itself, it gives back before it returns; only an open reading keeps
  * memory. A call keeps no other state, so calls may run at the same time in several threads, each with readings of its own. A caller owes
  * what the types say: a pointer is to as many bytes or records as the length next to it says, and the records share no byte with the
- * document, the options or the reading. The document and the records may be NULL if their length is 0; the others may not. malloc,
- * realloc and free are those of the program. */
+ * document, the ranges, the options or the reading. The document, the ranges and the records may be NULL if their length is 0; the others
+ * may not. malloc, realloc and free are those of the program. */
 #ifndef LIMECOVE_H
 #define LIMECOVE_H
 
@@ -40,8 +40,8 @@ extern "C" {
 /* An index in a record's link that there is not. */
 #define LIMECOVE_NO_INDEX ((size_t)-1)
 
-/* How a call ended. If it is not LIMECOVE_READ, no record was written. Codes from LIMECOVE_OTHER_SIZE on say what the options have that
- * there is not: the first of these, in this order. */
+/* How a call ended. If it is not LIMECOVE_READ, no record was written. Codes from LIMECOVE_OTHER_SIZE on say what the options or the ranges
+ * have that there is not: the first of these, in this order. Ranges are looked at last, after the length. */
 enum limecove_code {
     LIMECOVE_READ = 0,              /* the document was read */
     LIMECOVE_OUT_OF_MEMORY = 1,     /* the call ran out of memory */
@@ -50,7 +50,8 @@ enum limecove_code {
     LIMECOVE_NO_SUCH_TAB_SIZE = 4,  /* the tab size is above 16 */
     LIMECOVE_NO_SUCH_CONSTRUCT = 5, /* a bit is set that is no construct's */
     LIMECOVE_NO_SUCH_MACHINE = 6,   /* there is no machine of this number */
-    LIMECOVE_LINKS_NO_TEXT = 7      /* deep is on for a machine that links no text */
+    LIMECOVE_LINKS_NO_TEXT = 7,     /* deep is on for a machine that links no text */
+    LIMECOVE_NO_SUCH_RANGES = 8     /* the ranges cannot be read as one text */
 };
 
 /* The constructs, as bits. */
@@ -397,6 +398,14 @@ struct limecove_options {
     uint32_t deep;       /* if it is not 0, the chunks that LIMECOVE_PARAGRAPHS or LIMECOVE_TEXT links are read too */
 };
 
+/* A range of a document. Ranges can be read as one text if none runs backwards or past the end, and each begins where the one before it
+ * ends; or that one ends at the beginning of a line, and the next begins later in the line, as behind a quote mark. The first begins
+ * anywhere. A CR LF is read where its LF is. */
+struct limecove_byte_range {
+    size_t from; /* index of its first byte */
+    size_t to;   /* index of the byte behind its last one */
+};
+
 /* Where a span begins or ends. */
 struct limecove_record {
     uint16_t kind;    /* of limecove_kind */
@@ -467,7 +476,8 @@ LIMECOVE_INLINE int limecove_name_is_void(uint32_t name) {
 /* A code as text, as "out of memory". NULL if there is no code of this number. */
 LIMECOVE_INLINE const char *limecove_code_text(uint32_t code) {
     static const char *const texts[] = {"read", "out of memory", "document too long", "options of another size",
-                                        "no such tab size", "no such construct", "no such machine", "the machine links no text"};
+                                        "no such tab size", "no such construct", "no such machine", "the machine links no text",
+                                        "the ranges are no text"};
     return code < sizeof texts / sizeof *texts ? texts[code] : NULL;
 }
 
@@ -492,6 +502,18 @@ LIMECOVE_API struct limecove_answer limecove_open(const uint8_t *document, size_
 LIMECOVE_API struct limecove_answer limecove_open_text(const uint8_t *document, size_t document_len,
                                                        const struct limecove_text_options *options, struct limecove_reading *reading);
 
+/* Reads ranges of a document as one text. What is between them is never read. The places of events are those in the whole document. Writes
+ * records as limecove_read does. */
+LIMECOVE_API struct limecove_answer limecove_read_text_in(const uint8_t *document, size_t document_len,
+                                                          const struct limecove_byte_range *ranges, size_t ranges_len,
+                                                          const struct limecove_text_options *options, struct limecove_record *records,
+                                                          size_t records_len);
+
+/* Reads ranges of a document as one text, as limecove_read_text_in and limecove_open do. */
+LIMECOVE_API struct limecove_answer limecove_open_text_in(const uint8_t *document, size_t document_len,
+                                                          const struct limecove_byte_range *ranges, size_t ranges_len,
+                                                          const struct limecove_text_options *options, struct limecove_reading *reading);
+
 /* Writes the events of a reading from this one on over the first records, as many as fit. Returns how many were written. A reading that
  * is not open has no events. */
 LIMECOVE_API size_t limecove_copy(struct limecove_reading *reading, size_t from, struct limecove_record *records, size_t records_len);
@@ -506,6 +528,9 @@ LIMECOVE_API void limecove_close(struct limecove_reading *reading);
 LIMECOVE_API struct limecove_answer limecove_echo(const struct limecove_options *options, const struct limecove_text_options *text,
                                                   struct limecove_record *numbers, struct limecove_record *of_options,
                                                   struct limecove_record *of_text);
+
+/* Writes back a range as limecove_echo does options: where it begins as the line, where it ends as the column, and 0 in all other fields. */
+LIMECOVE_API void limecove_echo_range(const struct limecove_byte_range *range, struct limecove_record *of_range);
 
 #ifdef __cplusplus
 }

@@ -135,7 +135,8 @@ def rust(names, machines):
 
 
 # What crosses the border: the name of each struct in both Rattle and Rust, and where Rattle declares it.
-STRUCTS = {"Record": "record.rt", "TextOptions": "choose.rt", "Options": "choose.rt", "Answer": "lib.rt"}
+RANGES = CRATES / "mdconstructs_documents/src/ranges.rt"
+STRUCTS = {"Record": "record.rt", "TextOptions": "choose.rt", "Options": "choose.rt", "Answer": "lib.rt", "ByteRange": RANGES}
 # The same type in Rattle and Rust, and in C.
 TYPES = {"u16": "uint16_t", "u32": "uint32_t", "u64": "uint64_t", "usize": "size_t"}
 # The fields of a reading, as the three declare them. `kept` is a struct of one pointer.
@@ -199,7 +200,7 @@ def differences():
     c = numbers(HEADER, r"#define LIMECOVE_(VERSION) (\d+)")
     c |= enum_numbers("code") | enum_numbers("construct")
     for other, theirs in [(FOREIGN, rust), (HEADER, c)]:
-        if len(root) != 9 or len(bits) != 4 or theirs != root | bits:
+        if len(root) != 10 or len(bits) != 4 or theirs != root | bits:
             lines.append(f"{other}: the numbers are {theirs}, and {root | bits} in code.rt and choose.rt")
     contents = numbers(LIMECOVE / "specs/Records.antt", r"(?m)^content_number (\w+) = (\d+)$")
     contents["CONTENT"] = contents.pop("CONTENTOFCONTENT", None)

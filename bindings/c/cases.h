@@ -46,10 +46,28 @@ static inline uint8_t *random_document(size_t *len) {
     return document;
 }
 
-/* A way to read: one of the seven machines, paragraphs or text with their texts, or limecove_read_text and limecove_open_text. */
-#define WAYS 10
+/* The ranges of a document's lines, each behind the quote mark that its line begins with, if it does, and with its line ending. Returns how
+ * many: at most one more than bytes. */
+static inline size_t ranges_of_lines(const uint8_t *document, size_t len, struct limecove_byte_range *ranges) {
+    size_t count = 0, at = 0;
+    while (at < len) {
+        struct limecove_byte_range *range = &ranges[count++];
+        range->from = at + (document[at] == '>');
+        while (at < len && document[at] != '\n' && document[at] != '\r')
+            at++;
+        if (at < len)
+            at += 1 + (document[at] == '\r' && at + 1 < len && document[at + 1] == '\n');
+        range->to = at;
+    }
+    return count;
+}
 
-/* The options of each way but the last one. */
+/* A way to read: one of the seven machines, paragraphs or text with their texts, text by limecove_read_text and limecove_open_text, or the
+ * lines without quote marks by limecove_read_text_in and limecove_open_text_in. */
+#define WAYS 11
+#define MOST_LINES 180
+
+/* The options of each way but the last two. */
 static inline struct limecove_options options_of(size_t way, struct limecove_text_options text, size_t cut) {
     struct limecove_options options = limecove_default_options();
     options.tab_size = text.tab_size;
@@ -65,16 +83,22 @@ static inline struct limecove_options options_of(size_t way, struct limecove_tex
 static inline struct limecove_answer read_so(size_t way, const uint8_t *document, size_t len, struct limecove_text_options text, size_t cut,
                                       struct limecove_record *records, size_t room) {
     struct limecove_options options = options_of(way, text, cut);
+    struct limecove_byte_range ranges[MOST_LINES];
     if (way == 9)
         return limecove_read_text(document, len, &text, records, room);
+    if (way == 10)
+        return limecove_read_text_in(document, len, ranges, ranges_of_lines(document, len, ranges), &text, records, room);
     return limecove_read(document, len, &options, records, room);
 }
 
 static inline struct limecove_answer open_so(size_t way, const uint8_t *document, size_t len, struct limecove_text_options text, size_t cut,
                                       struct limecove_reading *reading) {
     struct limecove_options options = options_of(way, text, cut);
+    struct limecove_byte_range ranges[MOST_LINES];
     if (way == 9)
         return limecove_open_text(document, len, &text, reading);
+    if (way == 10)
+        return limecove_open_text_in(document, len, ranges, ranges_of_lines(document, len, ranges), &text, reading);
     return limecove_open(document, len, &options, reading);
 }
 

@@ -22,6 +22,10 @@ LIES(limecove_options, machine, 32, 4);
 LIES(limecove_options, deep, 36, 4);
 IS(sizeof(struct limecove_options) == 40);
 
+LIES(limecove_byte_range, from, 0, 8);
+LIES(limecove_byte_range, to, 8, 8);
+IS(sizeof(struct limecove_byte_range) == 16);
+
 LIES(limecove_record, kind, 0, 2);
 LIES(limecove_record, content, 2, 2);
 LIES(limecove_record, name, 4, 4);
@@ -54,6 +58,7 @@ static int is(const struct limecove_record *record, uint32_t name, size_t line, 
 int main(void) {
     struct limecove_options options;
     struct limecove_text_options text;
+    struct limecove_byte_range range;
     struct limecove_record records[5]; /* the first and the last are guards */
     struct limecove_answer answer;
     ask_version();
@@ -74,5 +79,11 @@ int main(void) {
     CHECK(records[1].index == 6 && records[1].vs == 7 && records[1].previous == 8 && records[1].next == 9);
     CHECK(is(&records[2], 0x05050505, LONG(1), LONG(2), LONG(4), 0x06060606, LONG(3)));
     CHECK(is(&records[3], 0, LONG(7), LONG(8), 0, 0, LONG(9)));
+    range.from = LONG(10);
+    range.to = LONG(11);
+    memset(records, 0xa5, sizeof records);
+    limecove_echo_range(&range, &records[1]);
+    CHECK(untouched(&records[0], sizeof *records) && untouched(&records[2], 3 * sizeof *records));
+    CHECK(is(&records[1], 0, LONG(10), LONG(11), 0, 0, 0));
     return 0;
 }

@@ -65,6 +65,27 @@ static void refused(void) {
     }
 }
 
+/* Ranges that are no text: they run backwards or past the end, overlap, or leave out what does not begin a line. */
+static void no_ranges(void) {
+    static const struct limecove_byte_range ranges[][2] = {{{0, 1}, {1, 9}}, {{0, 1}, {1, 0}}, {{0, 2}, {1, 2}}, {{0, 1}, {2, 3}}, {{0, 2}, {4, 5}}, {{5, 5}, {6, 7}}, {{0, 1}, {1, (size_t)-1}}, {{(size_t)-1, (size_t)-1}, {0, 0}}};
+    struct limecove_text_options text = limecove_default_text_options();
+    struct limecove_record record;
+    struct limecove_answer answer;
+    memset(&record, 0xa5, sizeof record);
+    for (size_t i = 0; i < sizeof ranges / sizeof *ranges; i++) {
+        struct limecove_reading reading = LIMECOVE_NO_READING;
+        answer = limecove_read_text_in((const uint8_t *)"a\nb\nc\r\n", 7, ranges[i], 2, &text, &record, 1);
+        CHECK(answer.code == LIMECOVE_NO_SUCH_RANGES && answer.count == 0 && untouched(&record, sizeof record));
+        answer = limecove_open_text_in((const uint8_t *)"a\nb\nc\r\n", 7, ranges[i], 2, &text, &reading);
+        CHECK(answer.code == LIMECOVE_NO_SUCH_RANGES && answer.count == 0 && reading.is_open == 0);
+    }
+    answer = limecove_read_text_in((const uint8_t *)"a", 1, NULL, 0, &text, &record, 1);
+    CHECK(answer.code == LIMECOVE_READ && answer.count == 0 && untouched(&record, sizeof record));
+    text.size = 40;
+    answer = limecove_read_text_in((const uint8_t *)"a", 1, ranges[1], 2, &text, &record, 1);
+    CHECK(answer.code == LIMECOVE_OTHER_SIZE);
+}
+
 /* Names and codes as text, at both ends of their numbers. */
 static void texts_of_numbers(void) {
     CHECK(strcmp(limecove_name_text(LIMECOVE_NAME_ATTENTION_SEQUENCE), "AttentionSequence") == 0);
@@ -75,13 +96,15 @@ static void texts_of_numbers(void) {
     CHECK(limecove_name_is_void(LIMECOVE_NAME_THEMATIC_BREAK_SEQUENCE) && !limecove_name_is_void(UINT32_MAX));
     CHECK(strcmp(limecove_code_text(LIMECOVE_OUT_OF_MEMORY), "out of memory") == 0);
     CHECK(strcmp(limecove_code_text(LIMECOVE_LINKS_NO_TEXT), "the machine links no text") == 0);
-    CHECK(limecove_code_text(LIMECOVE_LINKS_NO_TEXT + 1) == NULL);
+    CHECK(strcmp(limecove_code_text(LIMECOVE_NO_SUCH_RANGES), "the ranges are no text") == 0);
+    CHECK(limecove_code_text(LIMECOVE_NO_SUCH_RANGES + 1) == NULL);
 }
 
 int main(int argc, char **argv) {
     ask_version();
     null_is_none();
     refused();
+    no_ranges();
     texts_of_numbers();
     for (long n = argc > 1 ? atol(argv[1]) : 200; n > 0; n--) {
         size_t len;

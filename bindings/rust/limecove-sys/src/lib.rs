@@ -31,6 +31,9 @@ pub const NO_SUCH_MACHINE: u32 = 6;
 /// `deep` is on for a machine that links no text.
 pub const LINKS_NO_TEXT: u32 = 7;
 
+/// The ranges cannot be read as one text.
+pub const NO_SUCH_RANGES: u32 = 8;
+
 /// The bit of code spans.
 pub const CODE_TEXT: u64 = 1;
 /// The bit of autolinks.
@@ -83,6 +86,17 @@ pub struct Options {
     pub machine: u32,
     /// If it is not 0, the chunks of text that the machine links are read too.
     pub deep: u32,
+}
+
+/// A range of a document. Ranges can be read as one text if none runs backwards or past the end, and each begins where the one before it
+/// ends; or that one ends at the beginning of a line, and the next begins later in the line. The first begins anywhere.
+#[repr(C)]
+#[derive(Clone, Copy, Debug, PartialEq, Eq)]
+pub struct ByteRange {
+    /// The index of its first byte.
+    pub from: usize,
+    /// The index of the byte behind its last one.
+    pub to: usize,
 }
 
 /// An event. All of its bytes are in fields, and each may be any number.
@@ -185,6 +199,35 @@ extern "C" {
         reading: *mut Reading,
     ) -> Answer;
 
+    /// Reads ranges of a document as one text. What is between them is never read. Writes records as [`limecove_read`] does.
+    ///
+    /// # Safety
+    ///
+    /// As of [`limecove_read`], of the ranges too.
+    pub fn limecove_read_text_in(
+        document: *const u8,
+        document_len: usize,
+        ranges: *const ByteRange,
+        ranges_len: usize,
+        options: *const TextOptions,
+        records: *mut Record,
+        records_len: usize,
+    ) -> Answer;
+
+    /// Reads ranges of a document as one text, as [`limecove_read_text_in`] and [`limecove_open`] do.
+    ///
+    /// # Safety
+    ///
+    /// As of [`limecove_open`], of the ranges too.
+    pub fn limecove_open_text_in(
+        document: *const u8,
+        document_len: usize,
+        ranges: *const ByteRange,
+        ranges_len: usize,
+        options: *const TextOptions,
+        reading: *mut Reading,
+    ) -> Answer;
+
     /// Writes the events of a reading from this one on over the first records, as many as fit. Returns how many were written. A
     /// reading that is not open has no events.
     ///
@@ -221,4 +264,12 @@ extern "C" {
         of_options: *mut Record,
         of_text: *mut Record,
     ) -> Answer;
+
+    /// Writes back a range as [`limecove_echo`] does options: where it begins as the line, where it ends as the column, and 0 in all
+    /// other fields.
+    ///
+    /// # Safety
+    ///
+    /// As of [`limecove_echo`].
+    pub fn limecove_echo_range(range: *const ByteRange, of_range: *mut Record);
 }

@@ -1,8 +1,9 @@
 //! The layout of each struct, field by field, as the library has it.
 
 use limecove_sys::{
-    limecove_close, limecove_copy, limecove_echo, limecove_open_text, limecove_version, Answer,
-    Options, Reading, Record, TextOptions, ALL_CONSTRUCTS, NO_READING, READ, VERSION,
+    limecove_close, limecove_copy, limecove_echo, limecove_echo_range, limecove_open_text,
+    limecove_read_text_in, limecove_version, Answer, ByteRange, Options, Reading, Record,
+    TextOptions, ALL_CONSTRUCTS, NO_READING, READ, VERSION,
 };
 use std::mem::size_of;
 
@@ -85,10 +86,51 @@ fn each_field_crosses() {
 }
 
 #[test]
+fn ranges_cross() {
+    let long = |number: usize| 0x0101_0101_0101_0101 * number;
+    let range = ByteRange {
+        from: long(1),
+        to: long(2),
+    };
+    let mut of_range = all(!0);
+    let ranges = [ByteRange { from: 0, to: 1 }, ByteRange { from: 1, to: 2 }];
+    let mut records = [all(9); 4];
+    let options = TextOptions {
+        size: size_of::<TextOptions>(),
+        tab_size: 0,
+        constructs: ALL_CONSTRUCTS,
+    };
+    // SAFETY: the version is compared first, and each pointer is to its type.
+    let answer = unsafe {
+        assert_eq!(limecove_version(), VERSION);
+        limecove_echo_range(&range, &mut of_range);
+        let room = &mut records[1..3];
+        limecove_read_text_in(
+            b"ab".as_ptr(),
+            2,
+            ranges.as_ptr(),
+            2,
+            &options,
+            room.as_mut_ptr(),
+            room.len(),
+        )
+    };
+    let want = Record {
+        line: long(1),
+        column: long(2),
+        ..all(0)
+    };
+    assert_eq!(of_range, want);
+    assert_eq!((answer.code, answer.count), (READ, 2));
+    assert_eq!((records[1].index, records[2].index), (0, 2));
+    assert_eq!((records[0], records[3]), (all(9), all(9)));
+}
+
+#[test]
 fn sizes_are_those_of_the_library() {
     assert_eq!((size_of::<Options>(), size_of::<TextOptions>()), (40, 24));
     assert_eq!((size_of::<Record>(), size_of::<Answer>()), (56, 16));
-    assert_eq!(size_of::<Reading>(), 16);
+    assert_eq!((size_of::<Reading>(), size_of::<ByteRange>()), (16, 16));
 }
 
 #[test]

@@ -30,6 +30,7 @@ pub use crate::reading::{Iter, Reading};
 use std::error;
 use std::fmt;
 use std::num::NonZeroUsize;
+use std::ops::Range;
 
 /// How many columns tab stops are apart: from 1 to 16.
 #[derive(Clone, Copy, Debug, PartialEq, Eq, PartialOrd, Ord, Hash)]
@@ -190,6 +191,8 @@ pub enum Error {
     OutOfMemory,
     /// The size of tabs times the length of the document, and one more, do not fit `usize`.
     TooLong,
+    /// The ranges cannot be read as one text: [`tokenize_text_in`] says which can.
+    NoSuchRanges,
 }
 
 impl fmt::Display for Error {
@@ -197,6 +200,7 @@ impl fmt::Display for Error {
         f.write_str(match self {
             Error::OutOfMemory => "out of memory",
             Error::TooLong => "document too long",
+            Error::NoSuchRanges => "the ranges are no text",
         })
     }
 }
@@ -238,6 +242,36 @@ pub fn tokenize_text(
     options: &TextOptions,
 ) -> Result<Vec<Event>, Error> {
     Reading::open_text(document, options)?.to_vec()
+}
+
+/// Reads ranges of a document as one text, once. What is between them is never read. The places of events are those in the whole document.
+///
+/// The ranges are of bytes. Each begins where the one before it ends; or that one ends at the beginning of a line, and the next begins
+/// later in the line, as behind a quote mark. The first begins anywhere. A CR LF is read where its LF is.
+///
+/// # Errors
+///
+/// As those of [`tokenize`], and [`Error::NoSuchRanges`] if the ranges are no such ranges of the document.
+///
+/// # Panics
+///
+/// As [`tokenize`].
+///
+/// ```
+/// use limecove::{spans, tokenize_text_in, Name, TextOptions};
+///
+/// let document = "> a `b\n> c` d";
+/// let events = tokenize_text_in(document, &[2..7, 9..13], &TextOptions::default())?;
+/// let code = spans(&events).find(|span| span.name == Name::CodeText).unwrap();
+/// assert_eq!(code.text(document.as_bytes()), b"`b\n> c`");
+/// # Ok::<(), limecove::Error>(())
+/// ```
+pub fn tokenize_text_in(
+    document: impl AsRef<[u8]>,
+    ranges: &[Range<usize>],
+    options: &TextOptions,
+) -> Result<Vec<Event>, Error> {
+    Reading::open_text_in(document, ranges, options)?.to_vec()
 }
 
 #[cfg(test)]

@@ -1,11 +1,12 @@
 //! A document that was read, and how its events are copied from the library's memory.
 
 use crate::{Error, Event, Options, TextOptions};
-use limecove_sys::{Answer, Record, NO_READING};
+use limecove_sys::{Answer, ByteRange, Record, NO_READING};
 use std::fmt;
 use std::iter::FusedIterator;
 use std::mem::{size_of, MaybeUninit};
 use std::num::NonZeroUsize;
+use std::ops::Range;
 use std::sync::atomic::{AtomicBool, Ordering};
 
 /// A document that was read, with its events in the library's memory. It is given back when this is dropped.
@@ -61,14 +62,46 @@ impl Reading {
     /// As [`Reading::open`].
     pub fn open_text(document: impl AsRef<[u8]>, options: &TextOptions) -> Result<Reading, Error> {
         let document = document.as_ref();
-        let options = limecove_sys::TextOptions {
-            size: size_of::<limecove_sys::TextOptions>(),
-            tab_size: options.tab_size.get(),
-            constructs: options.constructs,
-        };
+        let options = numbers_of(options);
         // SAFETY: as in `open`.
         Reading::of(|reading| unsafe {
             limecove_sys::limecove_open_text(document.as_ptr(), document.len(), &options, reading)
+        })
+    }
+
+    /// Reads ranges of a document as one text: [`tokenize_text_in`](crate::tokenize_text_in) says which.
+    ///
+    /// # Errors
+    ///
+    /// As [`Error`] says.
+    ///
+    /// # Panics
+    ///
+    /// As [`Reading::open`].
+    pub fn open_text_in(
+        document: impl AsRef<[u8]>,
+        ranges: &[Range<usize>],
+        options: &TextOptions,
+    ) -> Result<Reading, Error> {
+        let document = document.as_ref();
+        let mut places = Vec::new();
+        let got = places.try_reserve_exact(ranges.len());
+        got.map_err(|_| Error::OutOfMemory)?;
+        places.extend(ranges.iter().map(|range| ByteRange {
+            from: range.start,
+            to: range.end,
+        }));
+        let options = numbers_of(options);
+        // SAFETY: as in `open`.
+        Reading::of(|reading| unsafe {
+            limecove_sys::limecove_open_text_in(
+                document.as_ptr(),
+                document.len(),
+                places.as_ptr(),
+                places.len(),
+                &options,
+                reading,
+            )
         })
     }
 
@@ -86,6 +119,7 @@ impl Reading {
             limecove_sys::READ => Ok(reading),
             limecove_sys::OUT_OF_MEMORY => Err(Error::OutOfMemory),
             limecove_sys::TOO_LONG => Err(Error::TooLong),
+            limecove_sys::NO_SUCH_RANGES => Err(Error::NoSuchRanges),
             code => unreachable!("the options choose something, and the code is {}", code),
         }
     }
@@ -137,6 +171,15 @@ impl Reading {
         let records = room.as_mut_ptr().cast::<Record>();
         // SAFETY: the reading is as a call of the library left it, and the room is that of a reference. An event is a record.
         unsafe { limecove_sys::limecove_copy(&mut self.reading, from, records, room.len()) }
+    }
+}
+
+/// Options of text, as the library takes them.
+fn numbers_of(options: &TextOptions) -> limecove_sys::TextOptions {
+    limecove_sys::TextOptions {
+        size: size_of::<limecove_sys::TextOptions>(),
+        tab_size: options.tab_size.get(),
+        constructs: options.constructs,
     }
 }
 
@@ -234,5 +277,6 @@ mod tests {
         assert_eq!(code(0), Ok(0));
         assert_eq!(code(1), Err(Error::OutOfMemory));
         assert_eq!(code(2), Err(Error::TooLong));
+        assert_eq!(code(8), Err(Error::NoSuchRanges));
     }
 }

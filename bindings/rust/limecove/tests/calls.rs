@@ -1,8 +1,8 @@
 //! Calls each function of the static library through its wrapper.
 
 use limecove::{
-    spans, spans_by_start, tokenize, tokenize_text, Content, Error, Link, Machine, Name, Options,
-    TabSize, TextOptions, UnknownName,
+    spans, spans_by_start, tokenize, tokenize_text, tokenize_text_in, Content, Error, Link,
+    Machine, Name, Options, TabSize, TextOptions, UnknownName,
 };
 use std::collections::HashSet;
 use std::num::NonZeroUsize;
@@ -57,6 +57,42 @@ fn spans_of_text_are_found() {
             ("CharacterEscape 2:18-2:20".to_string(), &b"\\*"[..]),
         ]
     );
+}
+
+/// The text of a quoted paragraph, and ranges that are none.
+#[test]
+fn ranges_are_read_as_one_text() {
+    let text = TextOptions::default();
+    let document = "x`a\r\n> b`y";
+    let found: Vec<_> = spans(&tokenize_text_in(document, &[1..5, 7..9], &text).unwrap())
+        .map(|span| (span.name, span.bytes()))
+        .collect();
+    assert_eq!(
+        found,
+        [
+            (Name::CodeTextSequence, 1..2),
+            (Name::CodeTextData, 2..3),
+            (Name::LineEnding, 3..5),
+            (Name::CodeTextData, 7..8),
+            (Name::CodeTextSequence, 8..9),
+            (Name::CodeText, 1..9),
+        ]
+    );
+    assert_eq!(tokenize_text_in(document, &[], &text), Ok(Vec::new()));
+    let whole = tokenize_text_in(document, &[0..10], &text);
+    assert_eq!(whole, tokenize_text(document, &text));
+    let backwards = std::ops::Range { start: 1, end: 0 };
+    for ranges in [
+        &[0..1, 1..11][..],
+        &[backwards],
+        &[0..2, 1..2],
+        &[0..1, 2..3],
+        &[0..3, 6..7],
+    ] {
+        let refused = tokenize_text_in(document, ranges, &text);
+        assert_eq!(refused, Err(Error::NoSuchRanges), "{:?}", ranges);
+    }
+    assert_eq!(Error::NoSuchRanges.to_string(), "the ranges are no text");
 }
 
 #[test]
