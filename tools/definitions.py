@@ -1,6 +1,6 @@
 #!/usr/bin/env python3
 """Writes the list of definitions into docs/DEFINITIONS.md: of each file of `specs` of the public crates and of their parts, the first
-sentence of its first comment. What stands above the list is written by hand.
+sentence of its first comment, a long one up to its colon. What stands above the list is written by hand.
 
 usage: tools/definitions.py [--check]     with --check it writes nothing, and prints what fails, and ends with 1 if something does
 """
@@ -38,6 +38,11 @@ def said(path):
     return " ".join(lines)
 
 
+def short(sentence):
+    """Returns a sentence, and of a long one what stands before its first colon or semicolon."""
+    return re.split(r"[:;] ", sentence)[0].removesuffix(".") + "." if len(sentence.split()) > 12 else sentence
+
+
 def section(crate):
     """Yields the lines of a crate: a line for each file, and one for all inner files. `Laws` has proofs and no definitions."""
     inner = []
@@ -49,7 +54,7 @@ def section(crate):
         if INNER.search(text):
             inner.append(f"`{name}`")
         else:
-            first = re.split(r"(?<=[.]) (?=[A-Z`])", text)[0].removeprefix(f"{name}: ")
+            first = short(re.split(r"(?<=[.]) (?=[A-Z`])", text)[0].removeprefix(f"{name}: "))
             yield f"- `{name}`: {first[:1].upper() + first[1:]}"
     if inner:
         yield f"- Inner: {', '.join(inner)}."

@@ -303,14 +303,15 @@ fn text_events_in_ranges(
     ensures codes { IfErr result (λ code. (READ < code) × (code ≤ NO_SUCH_RANGES)) }
 {
     let tab = choose_text(options)?;
-    if bytes.len() > limit_of(tab) {
+    let limit = limit_of(tab);
+    if bytes.len() > limit {
         return Err(TOO_LONG);
     }
     if !are_ranges(bytes, ranges) {
         return Err(NO_SUCH_RANGES);
     }
-    let options = options_with(constructs_of(options.constructs), tab);
-    match text_events_in(alloc, bytes, &options, ranges) {
+    let chosen = options_with(constructs_of(options.constructs), tab);
+    match text_events_in(alloc, bytes, &chosen, ranges) {
         Ok(events) => Ok(events),
         Err(_) => Err(OUT_OF_MEMORY),
     }
