@@ -1,5 +1,5 @@
 -- The events of a document are void-tight, whichever machine reads it.
-use Rattle.mdconstructs_documents.proofs.Prelude.{◌≡◌, ℕ, List, true, false, ap, ◌∙◌, arith, refl, subst, sym, IsDocument, paragraph_events, Seat, ParseOptions, Event, document, virtual_bytes}
+use Rattle.mdconstructs_documents.proofs.Prelude.{ℕ, List, true, false, arith, refl, subst, sym, IsDocument, paragraph_events, Seat, ParseOptions, Event, document, virtual_bytes}
 use Rattle.std.specs.Prelude.{Bool, drop, take}
 use Rattle.markdown_base.specs.Events.{IsVoidTight}
 use Rattle.markdown_base.specs.declared.event.Name.TheVariants.{Data, LineEnding, Paragraph}

@@ -11,11 +11,12 @@ use Rattle.markdown_edits.specs.Links.{AreMutual}
 use Rattle.markdown_children.proofs.Parts.InShape.{children_fit}
 use Rattle.markdown_children.specs.Chains.{fitting_starts}
 use Rattle.markdown_children.specs.Ready.{IsReady}
+use Rattle.markdown_tokenizer.specs.Calls.{with_resolvers}
 use Rattle.markdown_tokenizer.specs.Configuration.{Configuration, start_configuration}
 use Rattle.markdown_tokenizer.specs.declared.subtokenize.Subresult.{Subresult}
 use Rattle.markdown_tokenizer.specs.Engine.{IsRun, IsWellFormed, whole_text}
 use Rattle.markdown_tokenizer.specs.Reading.{Reading, EndsIn}
-use Rattle.markdown_tokenizer.specs.Resolving.{done, edits_made, found, resolved_by, taken, with_resolvers}
+use Rattle.markdown_tokenizer.specs.Resolving.{done, edits_made, found, resolved_by, taken}
 use Rattle.markdown_tokenizer.specs.Text.{Given, IsDocument}
 use Rattle.mdconstructs_tables.proofs.KeptByReading.{holds-at-start, kept-well}
 use Rattle.mdconstructs_text.proofs.Texts.Tight.{text-tight}

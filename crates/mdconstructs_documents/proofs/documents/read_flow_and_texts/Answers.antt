@@ -1,5 +1,5 @@
 use Rattle.markdown_tokenizer.proofs.Runs.Whole.{err-if}
-use Rattle.mdconstructs_documents.proofs.Prelude.{◌≡◌, ◌∙◌, Err, false, subst, refl, arith, IfErr, IfOk-weaker, OfFault, Memory, flow_rules, flow-refuses-nothing, no-run-refused}
+use Rattle.mdconstructs_documents.proofs.Prelude.{◌≡◌, ◌∙◌, refl, arith, IfOk-weaker, OfFault, Memory}
 use Rattle.mdconstructs_documents.proofs.DeepEvents.{only-memory, no-text-refused, flow-texts}
 use Rattle.mdconstructs_documents.proofs.FlowChains.Ready.{flow-readable}
 use Rattle.mdconstructs_documents.proofs.documents.read_flow_and_texts.Goals as goal
