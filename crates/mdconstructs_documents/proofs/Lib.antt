@@ -1,5 +1,6 @@
 mod DeepEvents
 mod FlowChains
+mod Formed
 mod Prelude
 mod RangeReads
 mod Tight

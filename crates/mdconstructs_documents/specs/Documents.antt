@@ -6,11 +6,13 @@ use Rattle.markdown_base.specs.declared.configuration.ParseOptions.{ParseOptions
 use Rattle.markdown_base.specs.declared.event.Content.TheVariants.{Text as TextContent}
 use Rattle.markdown_base.specs.declared.event.Event.{Event}
 use Rattle.markdown_base.specs.declared.state.TheConstants.Name.{FlowStart}
+use Rattle.markdown_base.specs.Events.{IsBalanced}
 use Rattle.markdown_base.specs.Presets.{default_parse_options}
 use Rattle.markdown_base.specs.Virtual.{Seat, virtual}
 use Rattle.markdown_tokenizer.specs.Text.{Given, IsDocument}
 use Rattle.markdown_tokenizer.specs.declared.subtokenize.Subresult.{Subresult}
-use Rattle.markdown_tokenizer.specs.Engine.{IsRun, given_by}
+use Rattle.markdown_tokenizer.specs.AtPlaces.{AreAtPlaces}
+use Rattle.markdown_tokenizer.specs.Engine.{IsRun, IsWellFormed, given_by}
 use Rattle.markdown_tokenizer.specs.Cuts.{cuts_every}
 use Rattle.markdown_children.specs.Ready.{IsReady}
 use Rattle.mdconstructs_flow.specs.FlowKnows.{flow_rules}
@@ -67,6 +69,19 @@ AreEventsOf false Text options bytes events = events ≡ paragraph_events bytes 
 AreEventsOf true Text options bytes events = events ≡ with_texts (document options bytes) (paragraph_events bytes (virtual_bytes options bytes))
 AreEventsOf false Flow options bytes events = AreFlowEvents options bytes events
 AreEventsOf true Flow options bytes events = AreFlowTexts options bytes events
+
+-- Events are balanced, and stand at places of a document
+pub record Stand (options : ParseOptions) (bytes : List ℕ) (events : List Event) : Type 0 where
+  pub balanced : IsBalanced events
+  pub at_places : AreAtPlaces options.tab_size bytes events
+
+-- The events of a document are well formed: balanced, at places of it, and in order of these. Where chunks of text were read, they are
+-- balanced and at places; their order is not proved yet
+abbrev pub AreFormed : Which → (deep : Bool) → ParseOptions → List ℕ → List Event → Type 0
+AreFormed Paragraphs true options bytes events = Stand options bytes events
+AreFormed Text true options bytes events = Stand options bytes events
+AreFormed Flow true options bytes events = Stand options bytes events
+AreFormed which deep options bytes events = IsWellFormed (document options bytes) events
 
 -- the places at which a document is cut: none, or every n-th of its virtual bytes
 abbrev pub cut_places : Choice → List ℕ → List (ℕ × ℕ)

@@ -7,7 +7,7 @@ ghost use Rattle.markdown_tokenizer.specs.Engine.{AreCuts, given_by, whole_text}
 ghost use Rattle.markdown_tokenizer.specs.Text.{IsDocument};
 ghost use Rattle.mdconstructs_text.specs.TextEvents.{text_events};
 ghost use Rattle.mdconstructs_documents.specs.Choices.{CanCut};
-ghost use Rattle.mdconstructs_documents.specs.Documents.{document, options_with, cut_places, AreEventsOf, AreFlowEvents, AreFlowTexts};
+ghost use Rattle.mdconstructs_documents.specs.Documents.{document, options_with, cut_places, AreEventsOf, AreFlowEvents, AreFlowTexts, AreFormed, Stand};
 
 use crate::choice::{Choice, Which};
 use crate::making::{Unmade, read_by, read_deep_by, read_resolved_by, with_children};
@@ -27,7 +27,8 @@ use std::alloc::{AllocError, Global};
 
 /// The events of a document, read by the machine that the choice names, with these constructs. The cuts leave no trace in them.
 ///
-/// Each void span is empty, also where chunks of text were read: no chunks tear a span of what their chain is read as.
+/// They are well formed: balanced, at places of the document, and in order of these. Where chunks of text were read, they are balanced
+/// and at places. Each void span is empty, also there: no chunks tear a span of what their chain is read as.
 ///
 /// A cut in the choice must be at least 1. It fails only if it runs out of memory: no machine that can be chosen refuses a
 /// document, and the chains of text that such a machine makes can be read.
@@ -40,6 +41,7 @@ pub fn events_of(
     requires limit { IsWithinLimit choice.now.tab bytes.now }
     requires cut { CanCut choice.now }
     ensures events { IfOk result (λ events. AreEventsOf choice.now.deep choice.now.machine (options_with constructs choice.now.tab) bytes.now events.items) }
+    ensures formed { IfOk result (λ events. AreFormed choice.now.machine choice.now.deep (options_with constructs choice.now.tab) bytes.now events.items) }
     ensures tight { IfOk result (λ events. IsVoidTight events.items) }
 {
     match read_as(alloc, bytes, constructs, choice) {
@@ -98,6 +100,7 @@ fn read_as(
     requires limit { IsWithinLimit choice.now.tab bytes.now }
     requires cut { CanCut choice.now }
     ensures events { IfOk result (λ events. AreEventsOf choice.now.deep choice.now.machine (options_with constructs choice.now.tab) bytes.now events.items) }
+    ensures formed { IfOk result (λ events. AreFormed choice.now.machine choice.now.deep (options_with constructs choice.now.tab) bytes.now events.items) }
     ensures err { IfErr result (λ unmade. unmade ≡ Unmade.Fault Fault.Memory) }
     ensures document { IsOk result → IsDocument (document (options_with constructs choice.now.tab) bytes.now) }
 {
@@ -149,6 +152,7 @@ fn read_flow_and_texts(
     requires limit { IsWithinLimit options.now.tab_size bytes.now }
     requires cuts { AreCuts options.now.tab_size bytes.now cuts.now }
     ensures events { IfOk result (λ events. AreFlowTexts options.now bytes.now events.items) }
+    ensures stand { IfOk result (λ events. Stand options.now bytes.now events.items) }
     ensures err { IfErr result (λ unmade. unmade ≡ Unmade.Fault Fault.Memory) }
     ensures document { IsDocument (document options.now bytes.now) }
 {
