@@ -46,6 +46,7 @@ pub(crate) fn echo_of(options: &Options) -> Record
 pub(crate) fn echo_of_text(options: &TextOptions) -> Record
     ensures { result ≡ echoed_text options.now }
 {
+    let constructs = options.constructs as usize;
     Record {
         kind: 0,
         content: 0,
@@ -54,7 +55,7 @@ pub(crate) fn echo_of_text(options: &TextOptions) -> Record
         column: options.tab_size,
         index: 0,
         vs: 0,
-        previous: options.constructs as usize,
+        previous: constructs,
         next: 0,
     }
 }
