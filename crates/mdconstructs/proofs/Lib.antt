@@ -39,3 +39,4 @@ pub use Rattle.mdconstructs_flow.proofs.Headings
 pub use Rattle.mdconstructs_flow.proofs.NoRefusals as FlowNoRefusals
 pub use Rattle.mdconstructs_flow.proofs.TagNames
 pub use Rattle.mdconstructs_flow.proofs.ThematicBreaks
+pub use Rattle.mdconstructs_flow.proofs.Underlines

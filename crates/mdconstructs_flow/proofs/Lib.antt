@@ -9,3 +9,4 @@ mod LineReads
 pub mod NoRefusals
 pub mod TagNames
 pub mod ThematicBreaks
+pub mod Underlines

@@ -1,10 +1,10 @@
 -- What looks say of a line. It is said of the bytes that are left, without states, positions or classes.
-use Rattle.std.specs.Prelude.{◌≡◌, ℕ, ◌==◌, ◌||◌, List, [], ◌∷◌, Bool, true, false, cond, nat_lt, nat_le, map, drop, Option}
+use Rattle.std.specs.Prelude.{◌≡◌, ℕ, ◌==◌, ◌||◌, ◌&&◌, List, [], ◌∷◌, Bool, true, false, cond, nat_lt, nat_le, map, drop, Option}
 use Rattle.markdown_base.specs.declared.event.Event.{Event}
 use Rattle.markdown_base.specs.declared.event.Name.{Name as EventName}
 use Rattle.markdown_base.specs.declared.state.Name.{Name}
 use Rattle.markdown_base.specs.Virtual.{Seat}
-use Rattle.markdown_base.specs.declared.state.TheConstants.Name.{FlowBeforeRaw, FlowBeforeThematicBreak, FlowBeforeHeadingAtx, FlowBeforeCodeIndented, HtmlFlowOpen, HtmlFlowTagCloseStart}
+use Rattle.markdown_base.specs.declared.state.TheConstants.Name.{FlowBeforeRaw, FlowBeforeThematicBreak, FlowBeforeHeadingSetext, FlowBeforeHeadingAtx, FlowBeforeCodeIndented, HtmlFlowOpen, HtmlFlowTagCloseStart}
 use Rattle.markdown_tokenizer.specs.Text.{Given, Text}
 use Rattle.markdown_tokenizer.specs.Configuration.{Local}
 use Rattle.mdconstructs_tables.specs.Looks.{scan}
@@ -41,6 +41,25 @@ ThematicBreaksAreSeen = (g : Given) (text : Text) (stack : List EventName) (even
     → is_break_mark local.tokenize_state.marker ≡ true
     → is_ok (scan flow g text stack events 2 (drop position text.seats) previous position mark local FlowBeforeThematicBreak).answer
     ≡ is_break_of local.tokenize_state.marker local.tokenize_state.size_b (map (λ s. s.byte) (drop position text.seats))
+
+-- Only spaces and tabs come in the rest of a line
+abbrev pub is_blank_rest : List ℕ → Bool
+is_blank_rest [] = true
+is_blank_rest (byte ∷ bytes) = cond (byte == 10) true (cond (is_white byte) (is_blank_rest bytes) false)
+
+-- Behind a mark the rest of a line makes an underline (CommonMark, 4.3): more marks of this kind, and then spaces and tabs
+abbrev pub is_underline_of : (mark : ℕ) → List ℕ → Bool
+is_underline_of mark [] = true
+is_underline_of mark (byte ∷ bytes) = cond (byte == 10) true (cond (byte == mark) (is_underline_of mark bytes) (cond (is_white byte) (is_blank_rest bytes) false))
+
+-- behind marks, the look at an underline ends with Ok exactly if the bytes that are left go on with one; behind dashes also if they go on with
+-- a thematic break
+abbrev pub UnderlinesAreSeen : Type 0
+UnderlinesAreSeen = (g : Given) (text : Text) (stack : List EventName) (events : List Event) (position : ℕ) (previous : Option ℕ) (mark : Bool) (local : Local Unit Unit)
+    → let bytes = map (λ s. s.byte) (drop position text.seats) in
+    let seen = is_ok (scan flow g text stack events 2 (drop position text.seats) previous position mark local FlowBeforeHeadingSetext).answer in
+    (local.tokenize_state.marker ≡ 61 → seen ≡ is_underline_of 61 bytes)
+    × (local.tokenize_state.marker ≡ 45 → seen ≡ (is_underline_of 45 bytes || (g.options.constructs.thematic_break && is_break_of 45 local.tokenize_state.size_b bytes)))
 
 -- Behind so many number signs the rest of a line makes an ATX heading (CommonMark, 4.2): it has nothing more, or goes on with white space, or
 -- with signs, six in all

@@ -9,7 +9,7 @@ ghost use Rattle.mdconstructs_tables.specs.Fitting.{HasNoMisfits};
 ghost use Rattle.mdconstructs_tables.specs.Refusals.{RulesRefuseNothing};
 ghost use Rattle.mdconstructs_flow.specs.BlocksRead.{BlankLinesAreRead, ThematicBreaksAreRead};
 ghost use Rattle.mdconstructs_flow.specs.FlowKnows.{flow_rules};
-ghost use Rattle.mdconstructs_flow.specs.FlowLines.{HeadingsAreSeen, InfoStringsAreSeen, LooksAreQuiet, ThematicBreaksAreSeen};
+ghost use Rattle.mdconstructs_flow.specs.FlowLines.{HeadingsAreSeen, InfoStringsAreSeen, LooksAreQuiet, ThematicBreaksAreSeen, UnderlinesAreSeen};
 ghost use Rattle.mdconstructs_flow.specs.FlowTable.{flow};
 ghost use Rattle.mdconstructs_flow.specs.HtmlNames.{AreToldApart};
 ghost use Rattle.mdconstructs_flow.specs.LawStatements.{StartsWithin};
@@ -49,6 +49,11 @@ pub fn thematic_breaks_are_read()
 /// A blank line with white space is read as its definition says, with its line ending, or at the end of the text.
 pub fn blank_lines_are_read()
     ensures { BlankLinesAreRead }
+{}
+
+/// The look at an underline ends well exactly if the bytes of the line make one, or, with dashes, a thematic break.
+pub fn underlines_are_seen()
+    ensures { UnderlinesAreSeen }
 {}
 
 /// The look at a heading's number signs ends well exactly if the bytes that are left make a heading, and the one at an info string
