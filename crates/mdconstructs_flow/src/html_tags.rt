@@ -263,7 +263,11 @@ pub(crate) fn html_flow_complete_attribute_name_before<'a, M: MachineTypes>(
             t.consume();
             Ok(State::Next(Name::HtmlFlowCompleteAttributeNameBefore))
         }
-        Some(b'_' | b':') => {
+        Some(b'_') => {
+            t.consume();
+            Ok(State::Next(Name::HtmlFlowCompleteAttributeName))
+        }
+        Some(b':') => {
             t.consume();
             Ok(State::Next(Name::HtmlFlowCompleteAttributeName))
         }
@@ -291,11 +295,19 @@ pub(crate) fn html_flow_complete_attribute_name<'a, M: MachineTypes>(
     ensures { IfOk result (DoesAll (step_in flow_byte html_flow_complete_attribute_name t.old) t.old t.new) }
 {
     match t.current() {
-        Some(b'_' | b':') => {
+        Some(b'_') => {
             t.consume();
             Ok(State::Next(Name::HtmlFlowCompleteAttributeName))
         }
-        Some(b'-' | b'.') => {
+        Some(b':') => {
+            t.consume();
+            Ok(State::Next(Name::HtmlFlowCompleteAttributeName))
+        }
+        Some(b'-') => {
+            t.consume();
+            Ok(State::Next(Name::HtmlFlowCompleteAttributeName))
+        }
+        Some(b'.') => {
             t.consume();
             Ok(State::Next(Name::HtmlFlowCompleteAttributeName))
         }
@@ -343,7 +355,11 @@ pub(crate) fn html_flow_complete_attribute_name_after<'a, M: MachineTypes>(
             t.consume();
             Ok(State::Next(Name::HtmlFlowCompleteAttributeValueBefore))
         }
-        Some(b'_' | b':') => {
+        Some(b'_') => {
+            t.consume();
+            Ok(State::Next(Name::HtmlFlowCompleteAttributeName))
+        }
+        Some(b':') => {
             t.consume();
             Ok(State::Next(Name::HtmlFlowCompleteAttributeName))
         }
@@ -386,8 +402,10 @@ pub(crate) fn html_flow_complete_attribute_value_before<'a, M: MachineTypes>(
             t.consume();
             Ok(State::Next(Name::HtmlFlowCompleteAttributeValueQuoted))
         }
-        Some(b'<' | b'>') => { Ok(State::Nok) }
-        Some(b'=' | b'`') => { Ok(State::Nok) }
+        Some(b'<') => { Ok(State::Nok) }
+        Some(b'>') => { Ok(State::Nok) }
+        Some(b'=') => { Ok(State::Nok) }
+        Some(b'`') => { Ok(State::Nok) }
         Some(_) => {
             t.consume();
             Ok(State::Next(Name::HtmlFlowCompleteAttributeValueUnquoted))
@@ -460,9 +478,11 @@ pub(crate) fn html_flow_complete_attribute_value_unquoted<'a, M: MachineTypes>(
             t.consume();
             Ok(State::Next(Name::HtmlFlowCompleteAfter))
         }
-        Some(b'<' | b'=') => { Ok(State::Nok) }
+        Some(b'<') => { Ok(State::Nok) }
+        Some(b'=') => { Ok(State::Nok) }
         Some(b'`') => { Ok(State::Nok) }
-        Some(b'"' | b'\'') => { Ok(State::Nok) }
+        Some(b'"') => { Ok(State::Nok) }
+        Some(b'\'') => { Ok(State::Nok) }
         Some(_) => {
             t.consume();
             Ok(State::Next(Name::HtmlFlowCompleteAttributeValueUnquoted))
