@@ -3,6 +3,7 @@ pub mod BlankReads
 mod BreakEvents
 pub mod BreakReads
 pub mod Called
+pub mod Dashes
 pub mod HeadingEdits
 pub mod Headings
 mod LineReads
