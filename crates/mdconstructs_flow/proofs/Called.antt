@@ -1,5 +1,5 @@
 -- What the machine knows where a chunk of a paragraph begins, and where an underline may end.
-use Rattle.std.proofs.Common.{◌≡◌, ℕ, List, [], ◌∷◌, true, false, refl, sym, subst, arith}
+use Rattle.std.proofs.Common.{◌≡◌, ℕ, List, [], ◌∷◌, true, false, refl, subst, arith}
 use Rattle.markdown_base.specs.declared.event.Event.{Event}
 use Rattle.markdown_base.specs.declared.state.State.TheVariants.{Retry}
 use Rattle.markdown_base.specs.declared.state.TheConstants.Name.{ParagraphStart, HeadingSetextAfter}
