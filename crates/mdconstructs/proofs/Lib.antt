@@ -34,6 +34,7 @@ pub use Rattle.mdconstructs_text.proofs.Texts
 pub use Rattle.mdconstructs_flow.proofs.BlankReads
 pub use Rattle.mdconstructs_flow.proofs.BreakReads
 pub use Rattle.mdconstructs_flow.proofs.Called as FlowCalled
+pub use Rattle.mdconstructs_flow.proofs.Dashes
 pub use Rattle.mdconstructs_flow.proofs.HeadingEdits
 pub use Rattle.mdconstructs_flow.proofs.Headings
 pub use Rattle.mdconstructs_flow.proofs.NoRefusals as FlowNoRefusals
