@@ -1,7 +1,6 @@
 -- One edit for each run leaves emphasis.
-use Rattle.std.proofs.Common.{◌≡◌, ℕ, zero, suc, ◌+◌, ◌-◌, ◌<◌, Bool, true, false, cond, List, [], ◌∷◌, ◌++◌, Option, Some, None, map, take, drop, length, refl, sym, ap, ◌∙◌, subst, arith, append_assoc, append-nil, length-append}
-use Rattle.std.specs.Prelude.{All, option_map, ◌&&◌, nat_lt, IfSome}
-use Rattle.std.proofs.lemmas.List.{map-append}
+use Rattle.std.proofs.Common.{◌≡◌, ℕ, zero, suc, ◌+◌, ◌-◌, ◌<◌, Bool, List, [], ◌∷◌, ◌++◌, Option, None, map, take, drop, length, refl, sym, ap, ◌∙◌, subst, arith, append_assoc, length-append}
+use Rattle.std.specs.Prelude.{All, option_map, IfSome}
 use Rattle.std.proofs.lemmas.List.Elements.{All-nil, All-cons}
 use Rattle.std.proofs.Math.Seq.{take-append_seam, drop-append-add}
 use Rattle.markdown_base.specs.declared.event.Event.{Event}
@@ -10,7 +9,7 @@ use Rattle.markdown_base.specs.Events.{EachEnd, EndsBelow, IsBalanced, relinked,
 use Rattle.markdown_edits.specs.Edits.{AreDisjoint}
 use Rattle.markdown_edits.specs.Spliced.{spliced, relinked_by}
 use Rattle.markdown_edits.proofs.Edits.Splices.{edited-spliced}
-use Rattle.mdconstructs_attention.specs.Emphasis.{Run, Waiting, SoFar, Found, may_pair, is_strong, opening, closing, closings, put_behind, put, put_back, last_fitting, close, paired_from, all_waiting, all_runs, none_read, paired, tail_events, head_events, run_events, events_of_runs, openings, data_of, later, markers_of, markers_of_all}
+use Rattle.mdconstructs_attention.specs.Emphasis.{Run, closings, paired, tail_events, head_events, run_events, events_of_runs, openings, data_of, later, markers_of, markers_of_all}
 use Rattle.mdconstructs_attention.specs.Runs.{runs_in, end_before, text_before, text_behind}
 use Rattle.mdconstructs_attention.proofs.RunTexts.{runs-and-texts}
 use Rattle.mdconstructs_attention.specs.RunEdits.{in_place, edits_of, index_of, HasRunsAt, EditsMakeEmphasis, EmphasisCanBeMade}

@@ -1,6 +1,6 @@
 -- The edits of runs, one by one, and that the runs of a list have room.
-use Rattle.std.proofs.Common.{◌≡◌, ℕ, zero, suc, ◌+◌, ◌-◌, ◌<◌, ◌≤◌, ◌^◌, Bool, true, false, cond, List, [], ◌∷◌, ◌++◌, Option, Some, None, inl, inr, map, take, length, get_or, refl, sym, ap, ◌∙◌, subst, arith}
-use Rattle.std.specs.Prelude.{All, ◌==◌, ◌&&◌, slice_get}
+use Rattle.std.proofs.Common.{◌≡◌, ℕ, zero, suc, ◌+◌, ◌-◌, ◌<◌, ◌≤◌, cond, List, [], ◌∷◌, ◌++◌, Option, Some, inl, inr, map, take, length, get_or, refl, sym, ap, ◌∙◌, subst, arith}
+use Rattle.std.specs.Prelude.{◌==◌, ◌&&◌, slice_get}
 use Rattle.std.proofs.lemmas.Bool.{cases_Bool}
 use Rattle.std.proofs.lemmas.Bool.Decides.{nat_tests}
 use Rattle.std.proofs.lemmas.List.{map-append}
@@ -12,7 +12,7 @@ use Rattle.mdconstructs_attention.specs.declared.pairs.Delimiters.{Delimiters}
 use Rattle.mdconstructs_attention.specs.Emphasis.{Run}
 use Rattle.mdconstructs_attention.specs.Places.{HasRoom, markers, standing, AreApart, AllHaveRoom, ArePlacesInside}
 use Rattle.mdconstructs_attention.specs.RunEdits.{in_place, edits_of, index_of}
-use Rattle.mdconstructs_attention.specs.Runs.{index_of_event, is_sequence, depth_after, run_at, runs_from, runs_in}
+use Rattle.mdconstructs_attention.specs.Runs.{index_of_event, is_sequence, depth_after, run_at, runs_from}
 use Rattle.mdconstructs_attention.specs.Searches.{as_run}
 use Rattle.mdconstructs_attention.proofs.RunTexts.{HasRuns}
 

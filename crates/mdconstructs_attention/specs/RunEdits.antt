@@ -1,5 +1,5 @@
 -- The edits that put emphasis among events: one for each run, in place of its enter and its exit.
-use Rattle.std.specs.Prelude.{◌≡◌, ℕ, ◌+◌, List, [], ◌∷◌, ◌++◌, map, None, length}
+use Rattle.std.specs.Prelude.{◌≡◌, ℕ, ◌+◌, List, [], ◌∷◌, ◌++◌, map, length}
 use Rattle.markdown_base.specs.declared.event.Event.{Event}
 use Rattle.markdown_base.specs.Events.{IsBalanced}
 use Rattle.markdown_edits.specs.Edits.{Edit, edit_at, AreDisjoint}

@@ -1,6 +1,6 @@
 -- The delimiter runs of a text (CommonMark, "Emphasis and strong emphasis"): its attention sequences that are in no other span, each with the
 -- characters beside it.
-use Rattle.std.specs.Prelude.{ℕ, zero, suc, ◌+◌, ◌-◌, ◌%◌, ◌==◌, ◌&&◌, ◌||◌, not, Bool, true, false, cond, nat_lt, List, [], ◌∷◌, ◌++◌, length, take, drop, slice_get, Option, Some, None}
+use Rattle.std.specs.Prelude.{ℕ, zero, suc, ◌+◌, ◌-◌, ◌%◌, ◌==◌, ◌&&◌, ◌||◌, not, Bool, true, false, cond, nat_lt, List, [], ◌∷◌, length, take, drop, slice_get, Option, Some, None}
 use Rattle.std.specs.Char.{is_ascii_punctuation, is_ascii_whitespace}
 use Rattle.markdown_base.specs.declared.event.Event.{Event}
 use Rattle.markdown_base.specs.declared.event.Kind.{Kind as EventKind}
@@ -9,7 +9,7 @@ use Rattle.markdown_base.specs.declared.event.Name.TheVariants.{AttentionSequenc
 use Rattle.markdown_base.specs.declared.util.char.Kind.{Kind}
 use Rattle.markdown_base.specs.declared.util.char.Kind.TheVariants.{Whitespace, Punctuation, Other}
 use Rattle.markdown_base.specs.Events.{is_enter, same_name}
-use Rattle.mdconstructs_attention.specs.Emphasis.{Run, paired, emphasised}
+use Rattle.mdconstructs_attention.specs.Emphasis.{Run, emphasised}
 
 -- the class of the character of a byte; the start and the end of a text count as white space
 abbrev pub class_of_byte : Option ℕ → Kind

@@ -1,5 +1,5 @@
 -- Events that account for the virtual bytes of a document have innermost spans that stand end to end.
-use Rattle.mdconstructs_documents.proofs.Prelude.{◌≡◌, ◌<◌, ℕ, List, [], ◌∷◌, ◌++◌, refl, sym, ◌∙◌, ap, subst, map, flat_map, Event, Point, Seat, shown, point, virtual, document_end, end_after, end-after-append, AccountFor, stretch_bytes, span_over, IsChain, chain-at, chain-split, whole-chain, StandEndToEnd, Tile}
+use Rattle.mdconstructs_documents.proofs.Prelude.{◌≡◌, ◌<◌, ℕ, List, [], ◌∷◌, ◌++◌, refl, sym, subst, map, flat_map, Event, Point, Seat, shown, point, virtual, document_end, end_after, end-after-append, AccountFor, stretch_bytes, span_over, IsChain, chain-at, chain-split, whole-chain, StandEndToEnd, Tile}
 
 module _ (t : ℕ) (bytes : List ℕ) where
   -- spans over stretches that follow each other

@@ -1,4 +1,4 @@
-use Rattle.std.proofs.Common.{◌≡◌, ℕ, ◌+◌, ◌<◌, ◌≤◌, None, map, length, sym, ap, ◌∙◌, subst, refl}
+use Rattle.std.proofs.Common.{◌≡◌, None, map, length, sym, ap, ◌∙◌, subst}
 use Rattle.mdconstructs_attention.specs.Emphasis.{paired}
 use Rattle.mdconstructs_attention.specs.Places.{AreApart, AllHaveRoom, standing}
 use Rattle.mdconstructs_attention.specs.RunEdits.{index_of}

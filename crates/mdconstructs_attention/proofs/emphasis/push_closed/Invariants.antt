@@ -1,4 +1,4 @@
-use Rattle.std.proofs.Common.{◌≡◌, ℕ, ◌-◌, ◌≤◌, ◌++◌, length, drop}
+use Rattle.std.proofs.Common.{◌≡◌, ◌-◌, ◌≤◌, ◌++◌, length, drop}
 use Rattle.mdconstructs_attention.specs.Emphasis.{later, closings, markers_of_all}
 use Rattle.mdconstructs_attention.proofs.emphasis.push_closed.Given as goal
 

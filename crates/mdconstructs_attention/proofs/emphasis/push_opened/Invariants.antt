@@ -1,4 +1,4 @@
-use Rattle.std.proofs.Common.{◌≡◌, ℕ, ◌≤◌, ◌++◌, length, take, reverse}
+use Rattle.std.proofs.Common.{◌≡◌, ◌≤◌, ◌++◌, length, take, reverse}
 use Rattle.mdconstructs_attention.specs.Emphasis.{later, openings, markers_of_all}
 use Rattle.mdconstructs_attention.proofs.emphasis.push_opened.Given as goal
 

@@ -1,4 +1,4 @@
-use Rattle.std.proofs.Common.{◌≡◌, ℕ, ◌-◌, ◌≤◌, map, length, take}
+use Rattle.std.proofs.Common.{◌≡◌, ◌-◌, ◌≤◌, map, length, take}
 use Rattle.mdconstructs_attention.specs.RunEdits.{edits_of}
 use Rattle.mdconstructs_attention.specs.Searches.{as_run}
 use Rattle.mdconstructs_attention.proofs.emphasis.put_edits.Given as goal

@@ -1,6 +1,6 @@
-use Rattle.std.proofs.Common.{rules, ◌≡◌, ℕ, ◌+◌, ◌<◌, ◌≤◌, Bool, true, false, List, [], ◌∷◌, ◌++◌, Option, Some, map, drop, length, refl, sym, ap, ◌∙◌, subst, arith, append-nil}
+use Rattle.std.proofs.Common.{◌≡◌, ◌+◌, true, false, ◌++◌, Some, map, drop, sym, ap, ◌∙◌, arith, append-nil}
 use Rattle.std.specs.Prelude.{◌==◌, ◌&&◌, slice_index_or}
-use Rattle.mdconstructs_attention.specs.Runs.{runs_from, runs_in, is_sequence, run_at}
+use Rattle.mdconstructs_attention.specs.Runs.{runs_from, is_sequence, run_at}
 use Rattle.mdconstructs_attention.specs.Searches.{as_run}
 use Rattle.mdconstructs_attention.proofs.RunsFrom.{a-run, no-run, no-more, pushed, not-first, not-second, depth-grows, no_event}
 use Rattle.mdconstructs_attention.proofs.runs.runs_of.Goals as goal
