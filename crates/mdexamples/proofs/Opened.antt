@@ -16,6 +16,7 @@ use Rattle.markdown.specs.Slices.{bytes_between, is_enter_of, nearest_enter}
 use Rattle.markdown.proofs.Balanced.{same_name-refl}
 use Rattle.markdown.proofs.Common.{get-front, every-get}
 use Rattle.mdexamples.specs.Texts.{EndsAt, bytes_from, ends_span, text_at, text_if, texts_upto}
+use Rattle.markdown_children.proofs.Parts.Weaves.{get-taken}
 
 -- ---- places in a list
 
@@ -41,12 +42,6 @@ taken zero l j h = absurd (omega (arith, h))
 taken (suc n) [] j h = refl
 taken (suc n) (x ∷ l) zero h = refl
 taken (suc n) (x ∷ l) (suc j) h = taken n l j (omega (arith, h))
-
-taken-from : {A : Type 0} (n : ℕ) (l : List A) (j : ℕ) (q : A) → slice_get (take n l) j ≡ Some q → (j < n) × (slice_get l j ≡ Some q)
-taken-from zero l j q e = absurd cc
-taken-from (suc n) [] j q e = absurd cc
-taken-from (suc n) (x ∷ l) zero q e = (omega arith, e)
-taken-from (suc n) (x ∷ l) (suc j) q e = let r = taken-from n l j q e in let lt = r.0 in (omega (arith, lt), r.1)
 
 pub all-at : {A : Type 0} (P : A → Type 0) (l : List A) (j : ℕ) (q : A) → All P l → slice_get l j ≡ Some q → P q
 all-at P l j q h e = every-get P l j q (recursion_from_All P l h) e
@@ -134,7 +129,7 @@ nearest events index exit balanced at exits =
     let passes : p r.enter ≡ true = ap (λ (k : _). is_enter k && same_name r.enter.name exit.name) r.enters ∙ ap (λ (n : _). same_name n exit.name) r.named ∙ same_name-refl exit.name in
     let q = finds p (take index events) r.place r.enter (taken index events r.place r.before ∙ r.there) passes in
     let place = found-in p (take index events) q.0 q.1 in
-    let there = taken-from index events place.0 q.0 place.1 in
+    let there = get-taken index events place.0 q.0 place.1 in
     record {
       enter = q.0;
       is = ap (option_and_then (λ (x : Event). find (λ (event : Event). is_enter_of event x) (reverse (take index events)))) at ∙ q.1;

@@ -1,7 +1,7 @@
 -- What `subtokenize` gives is what the function of the list gives: a reading needs no larger bound than it makes calls.
 use Rattle.markdown_children.proofs.Prelude.{◌≡◌, ◌+◌, ◌-◌, ◌<◌, ◌≤◌, ℕ, zero, suc, Bool, true, false, List, [], ◌∷◌, ◌++◌, length, take, Option, Some, None, inl, inr, refl, sym, ap, ◌∙◌, subst, arith, flat_map, slice_get, nat_lt, Message, Name, Next, Ok, Error, Event, Enter, Exit, Paragraph, IsBalanced, Given, Text, Configuration, start_configuration, Rules, Reading, resolving, same_from_decides, append-nil, lt-ltb, ltb-true, slice_get_within, fitting_starts, with_children, Child, lists, IsRead, IsChild, IsChildRefused, AreChildren, AllByRecursion, AreAtPlaces, AreMutual, IsInShape, IsVoidTight, IsReady, begins, range_with_len, every-all, ◌⊎◌}
 use Rattle.std.specs.Prelude.{IsSomeAnd, ◌↔◌, ◌&&◌, if◌then◌else◌}
-use Rattle.std.proofs.lemmas.Bool.{and_parts}
+use Rattle.std.proofs.lemmas.Bool.{and_parts, and_from}
 use Rattle.std.proofs.lemmas.List.{length-take-le}
 use denote.Enum.Bare.{sameb}
 use Rattle.markdown_base.specs.contracts.event.Kind.{the_type as kinds}
@@ -124,9 +124,6 @@ kind-refl : (k : Kind) → sameb kinds k k ≡ true
 kind-refl Enter = refl
 kind-refl Exit = refl
 
-both-true : (a b : Bool) → a ≡ true → b ≡ true → (a && b) ≡ true
-both-true a b h k = rw (h, k) refl
-
 is-event : (kind : Kind) (name : EventName) (o : Option Event) → is_of kind name o ≡ true → IsSomeAnd o (λ e. (e.kind ≡ kind) × (e.name ≡ name))
 is-event kind name None h = absurd (cc)
 is-event kind name (Some e) h =
@@ -135,7 +132,7 @@ is-event kind name (Some e) h =
 of-event : (kind : Kind) (name : EventName) (o : Option Event) → IsSomeAnd o (λ e. (e.kind ≡ kind) × (e.name ≡ name)) → is_of kind name o ≡ true
 of-event kind name None h = absurd h
 of-event kind name (Some e) h =
-    both-true (sameb kinds e.kind kind) (same_name e.name name) (ap (λ k. sameb kinds k kind) h.0 ∙ kind-refl kind) (ap (λ n. same_name n name) h.1 ∙ same_name-refl name)
+    and_from (sameb kinds e.kind kind) (same_name e.name name) (ap (λ k. sameb kinds k kind) h.0 ∙ kind-refl kind) (ap (λ n. same_name n name) h.1 ∙ same_name-refl name)
 
 some-within : (es : List Event) (i : ℕ) (P : Event → Type 0) → IsSomeAnd (slice_get es i) P → i < length es
 some-within es i P h = by (slice_get es i) refl h
@@ -193,9 +190,9 @@ first-decides on events c balanced = (yes, no)
         let same = one-begin passed events (c - 2) h.start (run_begin events (c - 2)) h.run (run h.above h.paragraph) in
         let there = of-event Exit ListItemPrefix (slice_get events (run_begin events (c - 2) - 1)) (subst (λ i. IsSomeAnd (slice_get events (i - 1)) (λ e. (e.kind ≡ Exit) × (e.name ≡ ListItemPrefix))) same h.item) in
         let first = of-event Enter Paragraph (slice_get events (c - 1)) h.paragraph in
-        both-true on.gfm_task_list_item (nat_lt 2 c && (is_of Enter Paragraph (slice_get events (c - 1)) && is_of Exit ListItemPrefix (slice_get events (run_begin events (c - 2) - 1)))) h.on
-        (both-true (nat_lt 2 c) (is_of Enter Paragraph (slice_get events (c - 1)) && is_of Exit ListItemPrefix (slice_get events (run_begin events (c - 2) - 1))) (lt-ltb 2 c h.above)
-        (both-true (is_of Enter Paragraph (slice_get events (c - 1))) (is_of Exit ListItemPrefix (slice_get events (run_begin events (c - 2) - 1))) first there))
+        and_from on.gfm_task_list_item (nat_lt 2 c && (is_of Enter Paragraph (slice_get events (c - 1)) && is_of Exit ListItemPrefix (slice_get events (run_begin events (c - 2) - 1)))) h.on
+        (and_from (nat_lt 2 c) (is_of Enter Paragraph (slice_get events (c - 1)) && is_of Exit ListItemPrefix (slice_get events (run_begin events (c - 2) - 1))) (lt-ltb 2 c h.above)
+        (and_from (is_of Enter Paragraph (slice_get events (c - 1))) (is_of Exit ListItemPrefix (slice_get events (run_begin events (c - 2) - 1))) first there))
 
 -- ---- children, one after another
 

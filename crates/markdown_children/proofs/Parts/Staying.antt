@@ -13,7 +13,7 @@ use Rattle.markdown_edits.proofs.Edits.FinalPlaces.{old_place, old_place-pass}
 use Rattle.markdown_edits.proofs.Edits.Survivors.{keeps_order, stays_as_it_was}
 use Rattle.markdown_edits.specs.Links.{IsLinkedEnter, content_of}
 use Rattle.markdown_edits.specs.Survivors.{place_after}
-use Rattle.markdown_tokenizer.proofs.Readings.Plain.{no-links-shape, no-links-take}
+use Rattle.markdown_tokenizer.proofs.Readings.Plain.{no-links-shape, no-links-take, no-links-drop}
 use Rattle.markdown_tokenizer.specs.Plain.{HaveNoLinks}
 use Rattle.markdown_children.specs.LawStatements.{StaysReady}
 use Rattle.markdown_children.proofs.ChainOrder.Following.{chunks-apart, Fits, by_test, by_option, chunk, fits_next, some_content, starts_fit, follow_one_another}
@@ -95,15 +95,10 @@ alone-uncut (k ∷ ks) (p ∷ ps) h = ((λ v. absurd (no-chunk p h.0 v)), alone-
     no-chunk (e ∷ []) h v = let no : is_some {T = Link} None ≡ true = ap is_some (sym h.0) ∙ v.linked in absurd (cc)
     no-chunk (e ∷ f ∷ es) h v = no-chunk (f ∷ es) h.1 v
 
-alone-drop : (k : ℕ) (es : List Event) → HaveNoLinks es → HaveNoLinks (drop k es)
-alone-drop zero es h = h
-alone-drop (suc k) [] h = tt
-alone-drop (suc k) (e ∷ es) h = alone-drop k es h.1
-
 alone-parts : (ends : List Point) (es : List Event) → HaveNoLinks es → AllByRecursion HaveNoLinks (parts ends es)
 alone-parts [] es h = tt
 alone-parts (end ∷ []) es h = (h, tt)
-alone-parts (end ∷ next ∷ ends) es h = (no-links-take _ es h, alone-parts (next ∷ ends) (drop (length (front_until end es)) es) (alone-drop (length (front_until end es)) es h))
+alone-parts (end ∷ next ∷ ends) es h = (no-links-take _ es h, alone-parts (next ∷ ends) (drop (length (front_until end es)) es) (no-links-drop (length (front_until end es)) es h))
 
 none-ready : (tab : ℕ) (bytes : List ℕ) (next : Option Content) → IsReady tab bytes next []
 none-ready tab bytes next = alone-ready tab bytes next [] empty tt

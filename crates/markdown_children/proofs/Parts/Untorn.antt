@@ -72,11 +72,11 @@ fails-next test (x ∷ es) f at = by_test (test x)
     (λ t. ap test (sym (same_Some x f (ap (λ (l : List Event). slice_get (drop (length l) (x ∷ es)) 0) (sym (front-none test x es t)) ∙ at))) ∙ t)
 
 -- a part without events does not end a void span
-goes-on-side : (k d : ℕ) (ks : List ℕ) (q : List Event) (qs : List (List Event)) → d ≡ k + 2 → (q ≡ [] → StandSideBySide d ks qs) → StandSideBySide k (d ∷ ks) (q ∷ qs)
+pub goes-on-side : (k d : ℕ) (ks : List ℕ) (q : List Event) (qs : List (List Event)) → d ≡ k + 2 → (q ≡ [] → StandSideBySide d ks qs) → StandSideBySide k (d ∷ ks) (q ∷ qs)
 goes-on-side k d ks [] qs at go = (at, go refl)
 goes-on-side k d ks (x ∷ q) qs at go = at
 
-passed-by : (b : Bool) → not b ≡ false → b ≡ true
+pub passed-by : (b : Bool) → not b ≡ false → b ≡ true
 passed-by true e = refl
 passed-by false e = absurd (cc)
 

@@ -9,7 +9,7 @@ pub AreApart-edits : (es : List Edit) (from n : ℕ) → AreDisjoint from es n �
 AreApart-edits [] from n d = d
 AreApart-edits (e ∷ es) from n d = (d.0, AreApart-edits es (e.index + e.remove) n d.1)
 
-place_in-additions : (n : ℕ) (xs : List Event) → place_in (of_list n) (map as_addition xs) ≡ None
+pub place_in-additions : (n : ℕ) (xs : List Event) → place_in (of_list n) (map as_addition xs) ≡ None
 place_in-additions n [] = refl
 place_in-additions n (x ∷ xs) = rw (place_in-additions n xs) refl
 

@@ -1,5 +1,5 @@
 -- The laws of machines without resolvers and links, from the laws of their states.
-use Rattle.markdown_tokenizer.proofs.Prelude.{◌≡◌, ℕ, zero, suc, ◌+◌, List, [], ◌∷◌, ◌++◌, true, false, cond, Option, Some, None, length, refl, sym, ap, ◌∙◌, subst, arith, take, nat_lt, All, Event, State, Ok, Nok, IsBalanced, EndsBelow, relinked, Byte, End, AttemptKind, Attempt, Check, Given, Configuration, Saved, sight, restored, settled_at, edited, Tagged, of_list, placed_end, placed_in, woven, next_of, previous_of, IsInShape, Rules, IsAsFar, ConsumesOnce, OnlyAdds, EndsWhenRead, KeepsInvariant, CostPays, IsLawful, HaveNoLinks, IsPlain, KeepsPlain, NothingResolves, ReadsAsPromised, plain}
+use Rattle.markdown_tokenizer.proofs.Prelude.{◌≡◌, ℕ, zero, suc, ◌+◌, List, [], ◌∷◌, ◌++◌, true, false, cond, Option, Some, None, length, refl, sym, ap, ◌∙◌, subst, arith, take, drop, nat_lt, All, Event, State, Ok, Nok, IsBalanced, EndsBelow, relinked, Byte, End, AttemptKind, Attempt, Check, Given, Configuration, Saved, sight, restored, settled_at, edited, Tagged, of_list, placed_end, placed_in, woven, next_of, previous_of, IsInShape, Rules, IsAsFar, ConsumesOnce, OnlyAdds, EndsWhenRead, KeepsInvariant, CostPays, IsLawful, HaveNoLinks, IsPlain, KeepsPlain, NothingResolves, ReadsAsPromised, plain}
 
 -- more events without links
 pub no-links-append : (xs ys : List Event) → HaveNoLinks xs → HaveNoLinks ys → HaveNoLinks (xs ++ ys)
@@ -12,6 +12,11 @@ no-links-more xs e f h = no-links-append xs (e ∷ []) h (f, tt)
 pub no-links-take : (n : ℕ) (xs : List Event) → HaveNoLinks xs → HaveNoLinks (take n xs)
 no-links-take (suc n) (x ∷ xs) h = (h.0, no-links-take n xs h.1)
 no-links-take n xs h = tt
+
+pub no-links-drop : (n : ℕ) (xs : List Event) → HaveNoLinks xs → HaveNoLinks (drop n xs)
+no-links-drop zero xs h = h
+no-links-drop (suc n) [] h = tt
+no-links-drop (suc n) (x ∷ xs) h = no-links-drop n xs h.1
 
 below-first : (n : ℕ) (x : Event) (xs : List Event) → x.link ≡ None → All (EndsBelow n) xs → All (EndsBelow n) (x ∷ xs)
 below-first n x xs e more zero d l = rw e tt

@@ -15,11 +15,7 @@ use Rattle.mdconstructs_tables.specs.Misfits.{Reason}
 use Rattle.mdconstructs_tables.specs.Numbers.{Numbers, Price, by_left, by_run, by_class, run_at, behind_at, counted_at, priced, none_more, together, are_at_most, in_a_row, TooLow, too_low, price_named, with_waiting, fed_numbers, called_numbers, fed_of, called_of, next_numbers, choice_numbers, chosen_numbers, answer_numbers, row_numbers, dear_rows, shortages, ArePriced, is_by_left, rising, AreEnough}
 use Rattle.mdconstructs_tables.proofs.Numbers.Arithmetic.{together-is, dearer-most, wherever-most, left-falls}
 use Rattle.mdconstructs_tables.proofs.Numbers.Places.{sum-is, counted, most-at, called-is, fed-most}
-
--- two lists that are empty together
-nil-parts : {A : Type 0} (xs ys : List A) → xs ++ ys ≡ [] → (xs ≡ []) × (ys ≡ [])
-nil-parts [] ys h = (refl, h)
-nil-parts (x ∷ xs) ys h = absurd (cc)
+use Rattle.mdconstructs_tables.proofs.Rows.Misfits.{none-left}
 
 -- what is not named as too low is enough
 unlisted : {A : Type 0} (t : Bool) (x : A) → cond t [] (x ∷ []) ≡ [] → t ≡ true
@@ -48,17 +44,17 @@ module _ {W R D : Type 0} (table : Table W R D) (in_run : W → Bool) (prices : 
 
   module _ (state : StateRows W R D) (price : Price W) (states : List (StateRows W R D)) (others : List (Price W)) (none : NoneShort (state ∷ states) (price ∷ others)) where
     fed-enough : (w : Option W) → are_at_most w (called_numbers in_run w price) (with_waiting in_run w (fed_numbers in_run price)) ≡ true
-    fed-enough w = not-low state.name w _ _ (nil-parts (too_low state.name w (called_numbers in_run w price) (with_waiting in_run w (fed_numbers in_run price))) _ (none w w)).0
+    fed-enough w = not-low state.name w _ _ (none-left (too_low state.name w (called_numbers in_run w price) (with_waiting in_run w (fed_numbers in_run price))) _ (none w w)).0
 
     rows-enough : (b w : Option W) → is_called table.states w state ≡ true → dear_rows table in_run prices early w state.name (called_numbers in_run w price) (state.rows b w) ≡ []
     rows-enough b w called =
-        let rest = (nil-parts (too_low state.name w (called_numbers in_run w price) (with_waiting in_run w (fed_numbers in_run price))) _ (none b w)).1 in
-        when-true (is_called table.states w state) _ (nil-parts (cond (is_called table.states w state) (dear_rows table in_run prices early w state.name (called_numbers in_run w price) (state.rows b w)) []) _ rest).0 called
+        let rest = (none-left (too_low state.name w (called_numbers in_run w price) (with_waiting in_run w (fed_numbers in_run price))) _ (none b w)).1 in
+        when-true (is_called table.states w state) _ (none-left (cond (is_called table.states w state) (dear_rows table in_run prices early w state.name (called_numbers in_run w price) (state.rows b w)) []) _ rest).0 called
 
     others-enough : NoneShort states others
     others-enough b w =
-        let rest = (nil-parts (too_low state.name w (called_numbers in_run w price) (with_waiting in_run w (fed_numbers in_run price))) _ (none b w)).1 in
-        (nil-parts (cond (is_called table.states w state) (dear_rows table in_run prices early w state.name (called_numbers in_run w price) (state.rows b w)) []) _ rest).1
+        let rest = (none-left (too_low state.name w (called_numbers in_run w price) (with_waiting in_run w (fed_numbers in_run price))) _ (none b w)).1 in
+        (none-left (cond (is_called table.states w state) (dear_rows table in_run prices early w state.name (called_numbers in_run w price) (state.rows b w)) []) _ rest).1
 
   -- the state of a name, and its price
   agree-at : (t : Bool) (state : StateRows W R D) (price : Price W) (o : Option (StateRows W R D)) (q : Option (Price W)) → HasPrice state price → Agree o q → Agree (cond t (Some state) o) (cond t (Some price) q)
@@ -154,7 +150,7 @@ module _ {W R D : Type 0} (table : Table W R D) (in_run : W → Bool) (prices : 
           let enough = most-at table.class in_run (row_numbers table in_run prices early w (record { acts = acts; answer = a })) has text p w (counted table.class in_run text p w is) (not-low name w _ _ none) in
           omega (arith, answer-most b a, chosen-most early acts a 0 p (omega arith), together-is (none_more 1) (together answered chosen) r s, together-is answered chosen r s, enough, most)
       rows-most b name has total most (when test one other) none =
-          let (first, second) = nil-parts (dear_rows table in_run prices early w name has one) (dear_rows table in_run prices early w name has other) none in
+          let (first, second) = none-left (dear_rows table in_run prices early w name has one) (dear_rows table in_run prices early w name has other) none in
           (rows-most b name has total most one first, rows-most b name has total most other second)
 
     -- what is asked of a state with a cost of its own
@@ -190,7 +186,7 @@ module _ {W R D : Type 0} (table : Table W R D) (in_run : W → Bool) (prices : 
   fall falling (state ∷ states) [] h none = absurd h
   fall falling (state ∷ states) (price ∷ others) h none =
       let level = is_by_left table in_run prices price in
-      let (one, rest) = nil-parts (cond (falling state.name && not level) (state.name ∷ []) []) (rising table in_run prices falling states others) none in
+      let (one, rest) = none-left (cond (falling state.name && not level) (state.name ∷ []) []) (rising table in_run prices falling states others) none in
       subst (λ c. and_falls (falling state.name) c (AllFall falling states)) (sym h.0)
       (falls-if (falling state.name) level state.name (priced table.class in_run price) (AllFall falling states) (price-falls price) one (fall falling states others h.1 rest))
 

@@ -10,7 +10,7 @@ or-false : (a : Bool) → (a || false) ≡ true → a ≡ true
 or-false true h = refl
 or-false false h = absurd (cc)
 
-or-true : (a b : Bool) → b ≡ true → (a || b) ≡ true
+pub or-true : (a b : Bool) → b ≡ true → (a || b) ≡ true
 or-true true b h = refl
 or-true false b h = h
 
