@@ -31,13 +31,8 @@ pub use Rattle.mdconstructs_text.proofs.Escapes
 pub use Rattle.mdconstructs_text.proofs.Plain
 pub use Rattle.mdconstructs_text.proofs.Paragraphs as TextParagraphs
 pub use Rattle.mdconstructs_text.proofs.Texts
-pub use Rattle.mdconstructs_flow.proofs.BlankReads
-pub use Rattle.mdconstructs_flow.proofs.BreakReads
 pub use Rattle.mdconstructs_flow.proofs.Called as FlowCalled
 pub use Rattle.mdconstructs_flow.proofs.Dashes
 pub use Rattle.mdconstructs_flow.proofs.HeadingEdits
-pub use Rattle.mdconstructs_flow.proofs.Headings
 pub use Rattle.mdconstructs_flow.proofs.NoRefusals as FlowNoRefusals
 pub use Rattle.mdconstructs_flow.proofs.TagNames
-pub use Rattle.mdconstructs_flow.proofs.ThematicBreaks
-pub use Rattle.mdconstructs_flow.proofs.Underlines

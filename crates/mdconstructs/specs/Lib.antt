@@ -68,8 +68,6 @@ pub use Rattle.mdconstructs_attention.specs.RunEdits
 pub use Rattle.mdconstructs_attention.specs.Runs as DelimiterRuns
 pub use Rattle.mdconstructs_attention.specs.Searches
 pub use Rattle.mdconstructs_flow.specs.BlankLine
-pub use Rattle.mdconstructs_flow.specs.BlockEvents
-pub use Rattle.mdconstructs_flow.specs.BlocksRead
 pub use Rattle.mdconstructs_flow.specs.ChunkRows
 pub use Rattle.mdconstructs_flow.specs.CodeFenced
 pub use Rattle.mdconstructs_flow.specs.CodeIndented
@@ -77,7 +75,6 @@ pub use Rattle.mdconstructs_flow.specs.Flow as FlowStates
 pub use Rattle.mdconstructs_flow.specs.FlowBytes
 pub use Rattle.mdconstructs_flow.specs.FlowCosts
 pub use Rattle.mdconstructs_flow.specs.FlowKnows
-pub use Rattle.mdconstructs_flow.specs.FlowLines
 pub use Rattle.mdconstructs_flow.specs.FlowTable
 pub use Rattle.mdconstructs_flow.specs.FlowWrites
 pub use Rattle.mdconstructs_flow.specs.HeadingAtx
@@ -91,6 +88,7 @@ pub use Rattle.mdconstructs_flow.specs.LawStatements as FlowLawStatements
 pub use Rattle.mdconstructs_flow.specs.Laws as FlowLaws
 pub use Rattle.mdconstructs_flow.specs.Look
 pub use Rattle.mdconstructs_flow.specs.Paragraph
+pub use Rattle.mdconstructs_flow.specs.QuietLooks
 pub use Rattle.mdconstructs_flow.specs.Renamings
 pub use Rattle.mdconstructs_flow.specs.Steps as FlowSteps
 pub use Rattle.mdconstructs_flow.specs.ThematicBreak

@@ -3,10 +3,11 @@ use Rattle.std.proofs.Common.{◌≡◌, inl, inr, ℕ, ◌+◌, ◌*◌, ◌<�
 use Rattle.std.specs.Char.{is_ascii_alphabetic, is_ascii_alphanumeric, to_ascii_lowercase}
 use Rattle.std.specs.List.{list_all}
 use Rattle.std.specs.Str.{str_to_ascii_lowercase}
-use Rattle.std.proofs.lemmas.Bool.{eqb-true, eq-eqb}
+use Rattle.std.proofs.lemmas.Bool.{eqb-true, eq-eqb, and_parts}
 use Rattle.std.proofs.lemmas.Bool.Decides.{nat_tests}
 use Rattle.markdown_base.specs.Texts.{html_block_names, html_raw_names}
 use Rattle.mdconstructs_flow.specs.HtmlNames.{digit_of, no_name, one_byte_more, number_behind, number_of, is_number_in, is_tag_name, IsListed, AreToldApart}
+use Rattle.mdconstructs_tables.proofs.Tables.Holding.{or-true}
 
 -- A number by its digits, the last one first, and a name the other way round
 abbrev value : List ℕ → ℕ
@@ -42,17 +43,13 @@ IsName [] = Unit {0}
 IsName (byte ∷ []) = is_ascii_alphabetic byte ≡ true
 IsName (byte ∷ next ∷ bytes) = (is_ascii_alphanumeric byte ≡ true) × IsName (next ∷ bytes)
 
-both : (a b : Bool) → (a && b) ≡ true → (a ≡ true) × (b ≡ true)
-both true b h = (refl, h)
-both false b h = absurd (cc)
-
 named-onto : (bytes : List ℕ) (byte : ℕ) (behind : List ℕ) → list_all is_ascii_alphanumeric bytes ≡ true → IsName (byte ∷ behind) → IsName (onto bytes (byte ∷ behind))
 named-onto [] byte behind h is = is
-named-onto (next ∷ bytes) byte behind h is = let (here, on) = both (is_ascii_alphanumeric next) (list_all is_ascii_alphanumeric bytes) h in named-onto bytes next (byte ∷ behind) on (here, is)
+named-onto (next ∷ bytes) byte behind h is = let (here, on) = and_parts (is_ascii_alphanumeric next) (list_all is_ascii_alphanumeric bytes) h in named-onto bytes next (byte ∷ behind) on (here, is)
 
 named : (name : List ℕ) → is_tag_name name ≡ true → IsName (onto name [])
 named [] h = absurd (cc)
-named (byte ∷ bytes) h = let (here, on) = both (is_ascii_alphabetic byte) (list_all is_ascii_alphanumeric bytes) h in named-onto bytes byte [] on here
+named (byte ∷ bytes) h = let (here, on) = and_parts (is_ascii_alphabetic byte) (list_all is_ascii_alphanumeric bytes) h in named-onto bytes byte [] on here
 
 -- Digits
 digit-fits : (byte : ℕ) → is_ascii_alphanumeric byte ≡ true → digit_of byte < 36
@@ -135,13 +132,13 @@ same-names name listed is is' same below =
 lower-number : (n : ℕ) (bytes : List ℕ) → list_all is_ascii_alphanumeric bytes ≡ true → number_behind n (map to_ascii_lowercase bytes) ≡ number_behind n bytes
 lower-number n [] h = refl
 lower-number n (byte ∷ bytes) h =
-    let (here, on) = both (is_ascii_alphanumeric byte) (list_all is_ascii_alphanumeric bytes) h in
+    let (here, on) = and_parts (is_ascii_alphanumeric byte) (list_all is_ascii_alphanumeric bytes) h in
     ap (λ d. number_behind (cond (nat_lt n room) (36 * n + d) no_name) (map to_ascii_lowercase bytes)) (digit-lower byte here) ∙ lower-number (one_byte_more n byte) bytes on
 
 all-of : (name : List ℕ) → is_tag_name name ≡ true → list_all is_ascii_alphanumeric name ≡ true
 all-of [] h = absurd (cc)
 all-of (byte ∷ bytes) h =
-    let (here, on) = both (is_ascii_alphabetic byte) (list_all is_ascii_alphanumeric bytes) h in ap (λ t. t && list_all is_ascii_alphanumeric bytes) (letter-is byte here) ∙ on
+    let (here, on) = and_parts (is_ascii_alphabetic byte) (list_all is_ascii_alphanumeric bytes) h in ap (λ t. t && list_all is_ascii_alphanumeric bytes) (letter-is byte here) ∙ on
 
 -- Listed names have numbers, and are in lowercase
 abbrev is_fine : List ℕ → Bool
@@ -150,22 +147,18 @@ is_fine listed = is_tag_name listed && (list_all (λ byte. to_ascii_lowercase by
 is-lower : (bytes : List ℕ) → list_all (λ byte. to_ascii_lowercase byte == byte) bytes ≡ true → str_to_ascii_lowercase bytes ≡ bytes
 is-lower [] h = refl
 is-lower (byte ∷ bytes) h =
-    let (here, on) = both (to_ascii_lowercase byte == byte) (list_all (λ byte. to_ascii_lowercase byte == byte) bytes) h in
+    let (here, on) = and_parts (to_ascii_lowercase byte == byte) (list_all (λ byte. to_ascii_lowercase byte == byte) bytes) h in
     ap (λ b. b ∷ map to_ascii_lowercase bytes) (eqb-true (to_ascii_lowercase byte) byte here) ∙ ap (λ bs. byte ∷ bs) (is-lower bytes on)
 
 below : (n : ℕ) → nat_lt n no_name ≡ true → n < no_name
 below n h = grind (arith, nat_tests)
 
-or-right : (a b : Bool) → b ≡ true → (a || b) ≡ true
-or-right true b h = refl
-or-right false b h = h
-
 told : (names : List (List ℕ)) → list_all is_fine names ≡ true → AreToldApart names
 told [] fine name is = ((λ h. absurd (cc)), (λ h. absurd h))
 told (listed ∷ names) fine name is =
-    let (here, on) = both (is_fine listed) (list_all is_fine names) fine in
-    let (tag, others) = both (is_tag_name listed) (list_all (λ byte. to_ascii_lowercase byte == byte) listed && nat_lt (number_of listed) no_name) here in
-    let (lowercase, fits) = both (list_all (λ byte. to_ascii_lowercase byte == byte) listed) (nat_lt (number_of listed) no_name) others in
+    let (here, on) = and_parts (is_fine listed) (list_all is_fine names) fine in
+    let (tag, others) = and_parts (is_tag_name listed) (list_all (λ byte. to_ascii_lowercase byte == byte) listed && nat_lt (number_of listed) no_name) here in
+    let (lowercase, fits) = and_parts (list_all (λ byte. to_ascii_lowercase byte == byte) listed) (nat_lt (number_of listed) no_name) others in
     let further = told names on name is in
     let n = number_of name in
     let m = number_of listed in (
@@ -176,7 +169,7 @@ told (listed ∷ names) fine name is =
       (λ h. elim h as (λ _. ((n == m) || is_number_in names n) ≡ true) [
         | inl same_name ↦
             let numbers : m ≡ n = ap number_of (sym same_name) ∙ lower-number 0 name (all-of name is) in ap (λ t. t || is_number_in names n) (eq-eqb n m (sym numbers))
-        | inr behind ↦ or-right (n == m) (is_number_in names n) (further.1 behind)
+        | inr behind ↦ or-true (n == m) (is_number_in names n) (further.1 behind)
       ]),
     )
 

@@ -10,7 +10,7 @@ use Rattle.mdconstructs_tables.specs.Rows.{enter, exit, consume, write, choose, 
 use Rattle.mdconstructs_flow.specs.FlowBytes.{FlowByte, is_blank, is_closing, is_dash, is_greater, is_in_line, is_less, is_line_feed, is_question, is_slash, Cased, cased, spelled}
 use Rattle.mdconstructs_flow.specs.FlowCosts.{at_next_line, looked, looking, reading}
 use Rattle.mdconstructs_flow.specs.FlowWrites.{size_becomes}
-use Rattle.mdconstructs_flow.specs.HtmlWrites.{ends_at_blank_line, html_is, is_raw_tag, name_grows}
+use Rattle.mdconstructs_flow.specs.HtmlWrites.{ends_at_blank_line, html_is, is_raw_tag, raw_name_grows}
 
 -- in white space before HTML
 abbrev pub html_flow_start_rows : {R D : Type 0} → Cased R D
@@ -92,7 +92,7 @@ html_flow_continuation_raw_tag_open = state HtmlFlowContinuationRawTagOpen (case
 
 -- a letter or a digit of such a name
 abbrev pub html_flow_continuation_raw_end_tag_goes_on : {R D : Type 0} → (byte : ℕ) → Rows R D
-html_flow_continuation_raw_end_tag_goes_on byte = row (write (name_grows byte) ∷ consume ∷ []) (Next HtmlFlowContinuationRawEndTag)
+html_flow_continuation_raw_end_tag_goes_on byte = row (write (raw_name_grows byte) ∷ consume ∷ []) (Next HtmlFlowContinuationRawEndTag)
 
 -- in the name of a closing tag there
 abbrev pub html_flow_continuation_raw_end_tag_rows : {R D : Type 0} → Cased R D

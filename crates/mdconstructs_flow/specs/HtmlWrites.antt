@@ -1,6 +1,7 @@
 -- What states of HTML blocks share. The kind of HTML, from 1 to 7, is in `marker_b`; whether a tag is a closing one, in `seen`; and the
 -- number of its name, in `size_b`.
 use Rattle.std.specs.Prelude.{ℕ, ◌==◌, ◌||◌, ◌&&◌, not, nat_le, Bool, cond}
+use Rattle.std.specs.Char.{is_ascii_alphabetic}
 use Rattle.markdown_base.specs.declared.event.Name.TheVariants.{CodeIndented, HtmlFlow}
 use Rattle.markdown_base.specs.Events.{same_name}
 use Rattle.markdown_base.specs.Texts.{html_block_names, html_raw_names}
@@ -8,7 +9,7 @@ use Rattle.markdown_tokenizer.specs.Text.{Given}
 use Rattle.markdown_tokenizer.specs.Configuration.{Configuration, Local}
 use Rattle.markdown_tokenizer.specs.Sight.{Sight}
 use Rattle.mdconstructs_flow.specs.FlowWrites.{size_becomes, is_byte}
-use Rattle.mdconstructs_flow.specs.HtmlNames.{one_byte_more, is_number_in}
+use Rattle.mdconstructs_flow.specs.HtmlNames.{no_name, one_byte_more, is_number_in}
 
 -- the bytes of `CDATA[`, by number
 abbrev pub cdata_byte : ℕ → ℕ
@@ -26,6 +27,10 @@ module _ {R D : Type 0} where
   -- the name of a tag has one more byte
   abbrev pub name_grows : ℕ → Configuration R D → Local R D
   name_grows byte k = size_becomes (one_byte_more k.local.tokenize_state.size_b byte) k
+
+  -- the name of a tag that ends HTML of kind 1 has one more byte; with a digit it is none of the listed names
+  abbrev pub raw_name_grows : ℕ → Configuration R D → Local R D
+  raw_name_grows byte k = size_becomes (cond (is_ascii_alphabetic byte) (one_byte_more k.local.tokenize_state.size_b byte) no_name) k
 
   -- the construct can be turned off
   abbrev pub html_is_on : Given → Sight → Configuration R D → Bool

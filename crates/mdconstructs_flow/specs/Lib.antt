@@ -1,6 +1,4 @@
 pub mod BlankLine
-pub mod BlockEvents
-pub mod BlocksRead
 pub mod ChunkRows
 pub mod CodeFenced
 pub mod CodeIndented
@@ -8,7 +6,6 @@ pub mod Flow
 pub mod FlowBytes
 pub mod FlowCosts
 pub mod FlowKnows
-pub mod FlowLines
 pub mod FlowTable
 pub mod FlowWrites
 pub mod HeadingAtx
@@ -22,6 +19,7 @@ pub mod LawStatements
 pub mod Laws
 pub mod Look
 pub mod Paragraph
+pub mod QuietLooks
 pub mod Renamings
 pub mod Steps
 pub mod ThematicBreak

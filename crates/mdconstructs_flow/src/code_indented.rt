@@ -152,6 +152,7 @@ pub(crate) fn code_indented_further_begin<'a, M: MachineTypes>(
             Ok(State::Retry(Name::FlowAfter))
         }
         Some(b'\n') => {
+            // A blank line. The look behind the last line saw that an indented one follows.
             marker(t, event::Name::LineEnding)?;
             Ok(State::Next(Name::CodeIndentedFurtherBegin))
         }

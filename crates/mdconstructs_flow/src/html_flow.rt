@@ -7,7 +7,7 @@ ghost use Rattle.mdconstructs_tables.specs.RowInvariant.{DoesAll, IsCallable, st
 ghost use Rattle.mdconstructs_flow.specs.FlowBytes.{flow_byte};
 ghost use Rattle.mdconstructs_flow.specs.HtmlFlow.{html_flow_start, html_flow_continuation, html_flow_continuation_comment_inside, html_flow_continuation_cdata_inside, html_flow_continuation_declaration_inside, html_flow_continuation_raw_tag_open, html_flow_continuation_raw_end_tag_goes_on, html_flow_continuation_raw_end_tag, html_flow_continuation_close, html_flow_continuation_before, html_flow_blank_line_before, blank_line_after, html_flow_continuation_after, html_flow_continuation_start};
 
-use crate::html_names::{add_to_name, ends_at_blank_line, html_is, is_raw_tag};
+use crate::html_names::{add_to_raw_name, ends_at_blank_line, html_is, is_raw_tag};
 use crate::sizes::set_size;
 use markdown_tokenizer::event;
 use markdown_tokenizer::state::{MachineTypes, Name, State};
@@ -323,7 +323,7 @@ fn html_flow_continuation_raw_end_tag_goes_on<'a, M: MachineTypes>(
     requires { t.old.configuration.waiting ≡ Byte }
     ensures { DoesAll (rows_step (html_flow_continuation_raw_end_tag_goes_on byte) t.old) t.old t.new result }
 {
-    add_to_name(t, byte);
+    add_to_raw_name(t, byte);
     t.consume();
     State::Next(Name::HtmlFlowContinuationRawEndTag)
 }

@@ -9,7 +9,7 @@ ghost use Rattle.markdown_tokenizer.specs.Calls.{with_local};
 ghost use Rattle.markdown_tokenizer.specs.Configuration.{at_configuration};
 ghost use Rattle.markdown_tokenizer.specs.Sight.{sight_of};
 ghost use Rattle.mdconstructs_flow.specs.HtmlNames.{digit_of, no_name, one_byte_more, is_number_in};
-ghost use Rattle.mdconstructs_flow.specs.HtmlWrites.{html_becomes, tag_closes, name_grows, html_is_on, html_is, ends_at_blank_line, is_passed_over, closes_tag, opens_raw, is_block_tag, is_raw_tag, cdata_byte, at_cdata};
+ghost use Rattle.mdconstructs_flow.specs.HtmlWrites.{html_becomes, tag_closes, name_grows, raw_name_grows, html_is_on, html_is, ends_at_blank_line, is_passed_over, closes_tag, opens_raw, is_block_tag, is_raw_tag, cdata_byte, at_cdata};
 
 use markdown_tokenizer::event;
 use markdown_tokenizer::state::MachineTypes;
@@ -41,6 +41,18 @@ pub(crate) fn add_to_name<'a, M: MachineTypes>(t: &mut Tokenizer<'a, M>, byte: u
     ensures { t.new ≡ at_configuration t.old (with_local t.old.configuration (name_grows byte t.old.configuration)) }
 {
     t.tokenize_state.size_b = one_byte_more(t.tokenize_state.size_b, byte);
+}
+
+/// Takes one more byte to the number of the name of a tag that ends HTML of kind 1. No listed name of these has a digit, and a digit zero
+/// at the beginning would leave no trace in the number.
+pub(crate) fn add_to_raw_name<'a, M: MachineTypes>(t: &mut Tokenizer<'a, M>, byte: u8)
+    ensures { t.new ≡ at_configuration t.old (with_local t.old.configuration (raw_name_grows byte t.old.configuration)) }
+{
+    if byte.is_ascii_alphabetic() {
+        t.tokenize_state.size_b = one_byte_more(t.tokenize_state.size_b, byte);
+    } else {
+        t.tokenize_state.size_b = NO_NAME;
+    }
 }
 
 /// A number with one more digit.

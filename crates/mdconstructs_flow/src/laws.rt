@@ -7,9 +7,8 @@ ghost use Rattle.markdown_tokenizer.specs.Lawful.{IsLawful};
 ghost use Rattle.markdown_tokenizer.specs.Text.{Given};
 ghost use Rattle.mdconstructs_tables.specs.Fitting.{HasNoMisfits};
 ghost use Rattle.mdconstructs_tables.specs.Refusals.{RulesRefuseNothing};
-ghost use Rattle.mdconstructs_flow.specs.BlocksRead.{BlankLinesAreRead, ThematicBreaksAreRead};
 ghost use Rattle.mdconstructs_flow.specs.FlowKnows.{flow_rules};
-ghost use Rattle.mdconstructs_flow.specs.FlowLines.{HeadingsAreSeen, InfoStringsAreSeen, LooksAreQuiet, ThematicBreaksAreSeen, UnderlinesAreSeen};
+ghost use Rattle.mdconstructs_flow.specs.QuietLooks.{LooksAreQuiet};
 ghost use Rattle.mdconstructs_flow.specs.FlowTable.{flow};
 ghost use Rattle.mdconstructs_flow.specs.HtmlNames.{AreToldApart};
 ghost use Rattle.mdconstructs_flow.specs.LawStatements.{StartsWithin};
@@ -33,34 +32,6 @@ pub fn table_fits()
 /// Looks make no event: each of their states only writes, reads bytes, goes on among the others, and ends.
 pub fn looks_are_quiet()
     ensures { LooksAreQuiet }
-{}
-
-/// The look at a thematic break ends well exactly if the bytes of the line make one. The definition has no states.
-pub fn thematic_breaks_are_seen()
-    ensures { ThematicBreaksAreSeen }
-{}
-
-/// A thematic break is read as its definition says, which has no states: once its kind is known, reading on from the line's beginning is
-/// reading on from its end, with the definition's events added.
-pub fn thematic_breaks_are_read()
-    ensures { ThematicBreaksAreRead }
-{}
-
-/// A blank line with white space is read as its definition says, with its line ending, or at the end of the text.
-pub fn blank_lines_are_read()
-    ensures { BlankLinesAreRead }
-{}
-
-/// The look at an underline ends well exactly if the bytes of the line make one, or, with dashes, a thematic break.
-pub fn underlines_are_seen()
-    ensures { UnderlinesAreSeen }
-{}
-
-/// The look at a heading's number signs ends well exactly if the bytes that are left make a heading, and the one at an info string
-/// exactly if no grave accent comes before the line ends.
-pub fn headings_are_seen()
-    ensures headings { HeadingsAreSeen }
-    ensures info_strings { InfoStringsAreSeen }
 {}
 
 /// Numbers of names tell tags apart: a letter with letters and digits behind it has the number of a listed name exactly if it is that

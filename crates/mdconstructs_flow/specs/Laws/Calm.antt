@@ -24,6 +24,7 @@ use Rattle.mdconstructs_flow.specs.FlowBytes.{FlowByte, name_byte, Cased, cased,
 use Rattle.mdconstructs_flow.specs.FlowTable.{flow}
 use Rattle.mdconstructs_flow.specs.FlowKnows.{Place, in_chunk, before_chunk, in_underline, elsewhere, place_of, is_looking, KnowsChunk, KnowsEdits, RenameSpans, Knows, IsLook, knows_flow}
 use Rattle.mdconstructs_flow.specs.Laws.Headings.{spans-more, paragraph-left, underline-left}
+use Rattle.std.proofs.lemmas.Bool.{and_parts}
 
 -- A write is harmless, whatever is seen: what states share may change, but for the indices that are noted
 abbrev pub IsHarmless : (Sight → Configuration Unit Unit → Local Unit Unit) → Type 0
@@ -102,11 +103,7 @@ all_cases test (c ∷ cs) = all_rows test c.rows && all_cases test cs
 abbrev pub all_cased : (Row Unit Unit → Bool) → Cased Unit Unit → Bool
 all_cased test c = all_rows test c.at_end && (all_cases test c.cases && all_rows test c.rest)
 
--- Both of two tests, and equal places
-both : (a b : Bool) → (a && b) ≡ true → (a ≡ true) × (b ≡ true)
-both true b h = (refl, h)
-both false b h = absurd (cc)
-
+-- Equal places
 same-place : (p q : Place) → same_place p q ≡ true → q ≡ p
 same-place in_chunk in_chunk h = refl
 same-place in_chunk before_chunk h = absurd (cc)
@@ -128,7 +125,7 @@ no-end (Some i) h = absurd (cc)
 
 fresh-ends : (link : Option Link) → is_fresh_link link ≡ true → (option_and_then (λ (l : Link). l.next) link ≡ None) × (option_and_then (λ (l : Link). l.previous) link ≡ None)
 fresh-ends None h = (refl, refl)
-fresh-ends (Some l) h = let (next, previous) = both (is_alone l.next) (is_alone l.previous) h in (no-end l.next next, no-end l.previous previous)
+fresh-ends (Some l) h = let (next, previous) = and_parts (is_alone l.next) (is_alone l.previous) h in (no-end l.next next, no-end l.previous previous)
 
 -- What stays of what states share
 pub record Stays (old new : Local Unit Unit) : Type 0 where
@@ -158,7 +155,7 @@ calm : (acts : List (Act Unit Unit)) (P : Type 0) → are_calm acts ≡ true →
     → let k' = does acts s k in AreInShape k'.events × RenameSpans k'.events k'.local.map × Stays k.local k'.local × ((cs : List Choice) → chooses acts s k cs ≡ cs)
 calm [] P is h s k shape edits = (shape, edits, stays k.local, λ cs. refl)
 calm (enters name link ∷ acts) P is h s k shape edits =
-    let (fresh, rest) = both (is_fresh_link link) (are_calm acts) is in
+    let (fresh, rest) = and_parts (is_fresh_link link) (are_calm acts) is in
     let (next, previous) = fresh-ends link fresh in
     calm acts P rest h s (done (enters name link) s k) (more-shape k.events _ next previous shape) (spans-more k.events k.local.map _ edits)
 calm (exit name ∷ acts) P is h s k shape edits = calm acts P is h s (done (exit name) s k) (more-shape k.events _ refl refl shape) (spans-more k.events k.local.map _ edits)
@@ -223,9 +220,9 @@ look-begins place (links previous next ∷ acts) answer P is harmless s k known 
 look-begins place (writes f ∷ acts) answer P is harmless s k known = absurd (cc)
 look-begins place (choose Attempt ok nok ∷ acts) answer P is harmless s k known = absurd (cc)
 look-begins place (choose Check ok nok ∷ acts) answer P is harmless s k known =
-    let (by_ok, further) = both (same_place place (place_of ok)) (same_place place (place_of nok) && (are_silent acts && is_looking answer)) is in
-    let (by_nok, last) = both (same_place place (place_of nok)) (are_silent acts && is_looking answer) further in
-    let (quiet, looking) = both (are_silent acts) (is_looking answer) last in
+    let (by_ok, further) = and_parts (same_place place (place_of ok)) (same_place place (place_of nok) && (are_silent acts && is_looking answer)) is in
+    let (by_nok, last) = and_parts (same_place place (place_of nok)) (are_silent acts && is_looking answer) further in
+    let (quiet, looking) = and_parts (are_silent acts) (is_looking answer) last in
     let (same, kept, none) = silent acts P quiet harmless s k in
     let k' = does acts s k in
     let c = check_at ok nok k in
@@ -241,7 +238,7 @@ row-keeps : (place : Place) (acts : List (Act Unit Unit)) (answer : State) (P : 
 row-keeps place acts answer P is harmless s k known =
     elim (are_calm acts && same_place elsewhere (place_of answer)) as (λ t. (are_calm acts && same_place elsewhere (place_of answer)) ≡ t → cond t true (cond (are_silent acts && same_place place (place_of answer)) true (begin_look place acts answer)) ≡ true → KnownAfter flow knows_flow (step_of (record { acts = acts; answer = answer }) s k) []) [
       | true ↦ λ quiet on.
-          let (added, there) = both (are_calm acts) (same_place elsewhere (place_of answer)) quiet in
+          let (added, there) = and_parts (are_calm acts) (same_place elsewhere (place_of answer)) quiet in
           let (shape, spans, kept, none) = calm acts P added harmless s k known.shape (edits-left place k.events k.local known.edits) in
           let k' = does acts s k in
           let after : Knows elsewhere k'.events k'.local = record { chunk = tt; shape = shape; resolvers = kept.resolvers ∙ known.resolvers; edits = spans } in
@@ -249,7 +246,7 @@ row-keeps place acts answer P is harmless s k known =
       | false ↦ λ loud on.
           elim (are_silent acts && same_place place (place_of answer)) as (λ t. (are_silent acts && same_place place (place_of answer)) ≡ t → cond t true (begin_look place acts answer) ≡ true → KnownAfter flow knows_flow (step_of (record { acts = acts; answer = answer }) s k) []) [
             | true ↦ λ quiet on.
-                let (added, there) = both (are_silent acts) (same_place place (place_of answer)) quiet in
+                let (added, there) = and_parts (are_silent acts) (same_place place (place_of answer)) quiet in
                 let (same, kept, none) = silent acts P added harmless s k in
                 let k' = does acts s k in
                 let after = knows-stays place k.events k'.events k.local k'.local same kept known in
@@ -263,8 +260,8 @@ look-keeps : (place : Place) (acts : List (Act Unit Unit)) (answer : State) (P :
     → (s : Sight) (k : Configuration Unit Unit) (choices : List Choice) (name : Name) → place_of (Retry name) ≡ elsewhere → knows_flow k.events k.local choices (Retry name)
     → KnownAfter flow knows_flow (step_of (record { acts = acts; answer = answer }) s k) choices
 look-keeps place acts answer P is harmless s k choices name out known =
-    let (quiet, further) = both (are_silent acts) (is_looking answer && same_place elsewhere (place_of answer)) is in
-    let (looking, there) = both (is_looking answer) (same_place elsewhere (place_of answer)) further in
+    let (quiet, further) = and_parts (are_silent acts) (is_looking answer && same_place elsewhere (place_of answer)) is in
+    let (looking, there) = and_parts (is_looking answer) (same_place elsewhere (place_of answer)) further in
     let (same, kept, none) = silent acts P quiet harmless s k in
     let k' = does acts s k in
     elim choices as (λ cs. knows_flow k.events k.local cs (Retry name) → KnownAfter flow knows_flow (step_of (record { acts = acts; answer = answer }) s k) cs) [
@@ -307,14 +304,14 @@ module _ (test : Row Unit Unit → Bool) (g : Given) (s : Sight) (k : Configurat
   each : (rows : Rows Unit Unit) (P : Type 0) → all_rows test rows ≡ true → HarmlessRows rows P → Each rows
   each (row acts answer) P is h = one acts answer P is h
   each (when t a b) P is h =
-      let (first, second) = both (all_rows test a) (all_rows test b) is in
+      let (first, second) = and_parts (all_rows test a) (all_rows test b) is in
       ((λ e. each a (HarmlessRows b P) first h), (λ e. each b P second (behind-rows a (HarmlessRows b P) h)))
 
   in-rows : (cs : List (Case FlowByte Unit Unit)) (rest : Rows Unit Unit) (P : Type 0) → all_cases test cs ≡ true → all_rows test rest ≡ true → HarmlessCases cs (HarmlessRows rest P)
       → (w : FlowByte) → Each (rows_in cs rest w)
   in-rows [] rest P is last h w = each rest P last h
   in-rows (c ∷ cs) rest P is last h w =
-      let (first, others) = both (all_rows test c.rows) (all_cases test cs) is in
+      let (first, others) = and_parts (all_rows test c.rows) (all_cases test cs) is in
       elim (c.test w) as (λ t. Each (cond t c.rows (rows_in cs rest w))) [
         | true ↦ each c.rows (HarmlessCases cs (HarmlessRows rest P)) first h
         | false ↦ in-rows cs rest P others last (behind-rows c.rows (HarmlessCases cs (HarmlessRows rest P)) h) w
@@ -322,11 +319,11 @@ module _ (test : Row Unit Unit → Bool) (g : Given) (s : Sight) (k : Configurat
 
   each-case : (c : Cased Unit Unit) → all_cased test c ≡ true → AreHarmless c → (previous current : Option FlowByte) → Each (cased c previous current)
   each-case c is h previous None =
-      let (ends, others) = both (all_rows test c.at_end) (all_cases test c.cases && all_rows test c.rest) is in
+      let (ends, others) = and_parts (all_rows test c.at_end) (all_cases test c.cases && all_rows test c.rest) is in
       each c.at_end (HarmlessCases c.cases (HarmlessRows c.rest (Unit {0}))) ends h
   each-case c is h previous (Some w) =
-      let (ends, others) = both (all_rows test c.at_end) (all_cases test c.cases && all_rows test c.rest) is in
-      let (cs, rest) = both (all_cases test c.cases) (all_rows test c.rest) others in
+      let (ends, others) = and_parts (all_rows test c.at_end) (all_cases test c.cases && all_rows test c.rest) is in
+      let (cs, rest) = and_parts (all_cases test c.cases) (all_rows test c.rest) others in
       in-rows c.cases c.rest (Unit {0}) cs rest (behind-rows c.at_end (HarmlessCases c.cases (HarmlessRows c.rest (Unit {0}))) h) w
 
   -- and so do those of a state in a name

@@ -13,6 +13,7 @@ use Rattle.markdown_edits.specs.Survivors.{AreNew, place_after}
 use Rattle.markdown_edits.specs.Woven.{of_list, Change, Tagged, as_listed, changed, events_at, is_removed, place_in, placed_end, woven}
 use Rattle.markdown_edits.proofs.Edits.FinalPlaces.{HasNo, place_in-append}
 use Rattle.markdown_edits.proofs.Edits.Survivors.{stays_as_it_was, next_moved, previous_moved}
+use Rattle.markdown_base.proofs.Common.{every-append, every-get}
 
 -- an element of two lists together is in the first, or in the second behind it
 in-either : {A : Type 0} (xs ys : List A) (p : ℕ) (x : A) → slice_get (xs ++ ys) p ≡ Some x → (slice_get xs p ≡ Some x) ⊎ ((q : ℕ) × (p ≡ length xs + q) × (slice_get ys q ≡ Some x))
@@ -27,19 +28,10 @@ in-either (y ∷ xs) ys (suc p) x h = elim (in-either xs ys p x h) [
 abbrev pub AddNoLinks : List Change → Type 0
 AddNoLinks ws = AllByRecursion (λ (w : Change). AllByRecursion (λ (t : Tagged). t.event.link ≡ None) w.events) ws
 
-joined-all : {A : Type 0} (P : A → Type 0) (xs ys : List A) → AllByRecursion P xs → AllByRecursion P ys → AllByRecursion P (xs ++ ys)
-joined-all P [] ys h k = k
-joined-all P (x ∷ xs) ys h k = (h.0, joined-all P xs ys h.1 k)
-
-all-at : {A : Type 0} (P : A → Type 0) (xs : List A) (p : ℕ) (x : A) → AllByRecursion P xs → slice_get xs p ≡ Some x → P x
-all-at P [] p x h is = absurd (none-some x is)
-all-at P (y ∷ xs) zero x h is = subst P (same_Some y x is) h.0
-all-at P (y ∷ xs) (suc p) x h is = all-at P xs p x h.1 is
-
 unlinked-at : (ws : List Change) (i : ℕ) → AddNoLinks ws → AllByRecursion (λ (t : Tagged). t.event.link ≡ None) (events_at ws i)
 unlinked-at [] i h = tt
 unlinked-at (w ∷ ws) i h = elim (w.index == i) as (λ b. AllByRecursion (λ (t : Tagged). t.event.link ≡ None) (cond b w.events [] ++ events_at ws i)) [
-  | true ↦ joined-all (λ (t : Tagged). t.event.link ≡ None) w.events (events_at ws i) h.0 (unlinked-at ws i h.1)
+  | true ↦ every-append (λ (t : Tagged). t.event.link ≡ None) w.events (events_at ws i) h.0 (unlinked-at ws i h.1)
   | false ↦ unlinked-at ws i h.1
 ]
 
@@ -59,12 +51,12 @@ module _ (ws : List Change) (new : (n : ℕ) → HasNo (of_list n) ws) (unlinked
   behind-added n i ts q h = place_in-append (of_list n) (events_at ws i) ts ∙ rw (none-at n ws i (new n), h) refl
 
   found : (i : ℕ) (xs : List Event) (p : ℕ) (t : Tagged) → slice_get (woven ws i xs) p ≡ Some t → IsFound ws i xs p t
-  found i [] p t h = inl (all-at (λ (t : Tagged). t.event.link ≡ None) (events_at ws i) p t (unlinked-at ws i unlinked) h)
+  found i [] p t h = inl (every-get (λ (t : Tagged). t.event.link ≡ None) (events_at ws i) p t (unlinked-at ws i unlinked) h)
   found i (x ∷ xs) p t h =
       let rest = woven ws (i + 1) xs in
       let added = length (events_at ws i) in
       elim (in-either (events_at ws i) (cond (is_removed ws i) [] (as_listed i x ∷ []) ++ rest) p t h) [
-        | inl k ↦ inl (all-at (λ (t : Tagged). t.event.link ≡ None) (events_at ws i) p t (unlinked-at ws i unlinked) k)
+        | inl k ↦ inl (every-get (λ (t : Tagged). t.event.link ≡ None) (events_at ws i) p t (unlinked-at ws i unlinked) k)
         | inr k ↦ elim (is_removed ws i) as (λ r. slice_get (cond r [] (as_listed i x ∷ []) ++ rest) k.0 ≡ Some t → (t.event.link ≡ None) ⊎ ((n : ℕ) × (i ≤ n) × (t.identity ≡ of_list n) × (place_in (of_list n) (events_at ws i ++ (cond r [] (as_listed i x ∷ []) ++ rest)) ≡ Some p))) [
           | true ↦ λ there. elim (found (i + 1) xs k.0 t there) [
             | inl none ↦ inl none

@@ -52,6 +52,7 @@ use Rattle.mdconstructs_flow.specs.Laws.Calm.{Keeps, edits-left, reading-keeps, 
 use Rattle.mdconstructs_flow.specs.Laws.Fit.{none}
 use Rattle.mdconstructs_flow.specs.Laws.Headings.{spans-more, paragraph-first, paragraph-more, paragraph-linked, paragraph-last, underline-more, heading-made}
 use Rattle.mdconstructs_flow.specs.Laws.Renamings.{told-edits-apart, told-in-shape, told-well-formed}
+use Rattle.std.proofs.Math.Seq.{take-length}
 
 flow_start-keeps : KeepsKnowing flow knows_flow flow_start
 flow_start-keeps = reading-keeps FlowStart flow_start_rows refl refl (λ k. refl, tt)
@@ -539,15 +540,12 @@ by-feeding events local (c ∷ []) name h = h
 by-feeding events local (c ∷ d ∷ cs) name h = absurd h
 
 -- a look leaves the events, and what states share, as they were
-take-all : (xs : List Event) → take (length xs) xs ≡ xs
-take-all [] = refl
-take-all (x ∷ xs) = ap (λ ys. x ∷ ys) (take-all xs)
 
 settles : (kind : AttemptKind) (saved : Option Saved) (answer : State) (place : Place) (k : Configuration Unit Unit) → kind ≡ Check → IfSome saved (λ saved. saved.events ≡ length k.events)
     → Knows place k.events k.local → let k' = settled_at kind saved answer k in Knows place k'.events k'.local
 settles Attempt saved answer place k check same h = absurd (cc)
 settles Check None answer place k check same h = h
-settles Check (Some saved) answer place k check same h = let all : take saved.events k.events ≡ k.events = ap (λ n. take n k.events) same ∙ take-all k.events in rw all h
+settles Check (Some saved) answer place k check same h = let all : take saved.events k.events ≡ k.events = ap (λ n. take n k.events) same ∙ take-length k.events in rw all h
 
 by-ok : (k : Configuration Unit Unit) (choice : Choice) (choices : List Choice) → knows_flow k.events k.local (choice ∷ choices) Ok
     → let k' = settled_at choice.kind choice.saved Ok k in knows_flow k'.events k'.local choices choice.ok
