@@ -1,0 +1,13 @@
+-- Lines, and how what is in them is read.
+pub mod Checks
+pub mod Fronts
+pub mod KindsOfLines
+pub mod Leading
+pub mod LineCounts
+pub mod LineParts
+pub mod LineReads
+pub mod Lines
+pub mod Rooms
+pub mod RowReads
+pub mod RunReads
+pub mod WholeLines

@@ -1,0 +1,54 @@
+-- Reading on from one state is reading on from another, in parts and over a stretch.
+use Rattle.std.proofs.Common.{◌≡◌, ℕ, ◌+◌, List, Bool, drop, refl, sym, ap, ◌∙◌, subst, arith}
+use Rattle.markdown_base.specs.declared.state.Name.{Name}
+use Rattle.markdown_base.specs.declared.state.State.{State}
+use Rattle.markdown_base.specs.declared.state.State.TheVariants.{Next, Retry}
+use Rattle.markdown_base.specs.Virtual.{Seat}
+use Rattle.markdown_tokenizer.proofs.Readings.Bounds.{fed-ends}
+use Rattle.markdown_tokenizer.specs.Configuration.{Configuration, Choice}
+use Rattle.markdown_tokenizer.specs.Reading.{Reading, EndsIn, fed}
+use Rattle.markdown_tokenizer.specs.Sight.{byte_of, end_place, seat_before}
+use Rattle.markdown_tokenizer.specs.Text.{Given, Text}
+use Rattle.mdconstructs_tables.proofs.Looks.Deep.{Leads as LeadsIn}
+use Rattle.mdconstructs_tables.proofs.Looks.Stretches.{stretches-are-read}
+use Rattle.mdconstructs_tables.specs.Looks.{waits_at}
+use Rattle.mdconstructs_tables.specs.Rows.{table_step}
+use Rattle.mdconstructs_tables.specs.Stretches.{stretch, stretch_from}
+use Rattle.mdconstructs_flow.specs.FlowTable.{flow}
+
+module _ (g : Given) (t : Text) where
+  -- with choices that wait, reading on from a state is reading on from another, some calls later
+  pub record Leads (k : Configuration Unit Unit) (from : State) (after : Configuration Unit Unit) (to : State) : Type 0 where
+    pub calls : ℕ
+    pub leads : (choices : List Choice) (before : ℕ) (z : Reading Unit Unit) → EndsIn g (table_step flow g) t (before + calls) after choices to z → EndsIn g (table_step flow g) t before k choices from z
+
+  pub leads-on : (k : Configuration Unit Unit) (from : State) (mid : Configuration Unit Unit) (then : State) (after : Configuration Unit Unit) (to : State) → Leads k from mid then → Leads mid then after to → Leads k from after to
+  leads-on k from mid then after to one two = record {
+    calls = one.calls + two.calls;
+    leads = λ choices before z h.
+        let e : before + (one.calls + two.calls) ≡ before + one.calls + two.calls = omega arith in
+        one.leads choices before z (two.leads choices (before + one.calls) z (subst (λ n. EndsIn g (table_step flow g) t n after choices to z) e h));
+  }
+
+  -- so many calls later
+  pub from-leads : (n : ℕ) (k : Configuration Unit Unit) (from : State) (after : Configuration Unit Unit) (to : State) → LeadsIn g (table_step flow g) t n k from after to → Leads k from after to
+  from-leads n k from after to h = record { calls = n; leads = λ choices before z e. h choices before z e }
+
+  -- the next byte, or the end, is fed
+  pub leads-fed : (k : Configuration Unit Unit) (name : Name) → Leads k (Next name) (fed t k) (Retry name)
+  leads-fed k name = record {
+    calls = 0;
+    leads = λ choices before z h.
+        let e : before + 0 ≡ before = omega arith in
+        (fed-ends g (table_step flow g) t before k choices name z).0 (subst (λ n. EndsIn g (table_step flow g) t n (fed t k) choices (Retry name) z) e h);
+  }
+
+  -- a stretch leads to where it stops
+  pub stretch-leads : (until : Name → Bool) (k : Configuration Unit Unit) (name : Name) (l : List Seat) → drop k.position t.seats ≡ l → k.waiting ≡ waits_at l
+      → let r = stretch flow g t.end until 3 (end_place t k.position) (byte_of (seat_before t k.position)) l k name in Leads k (Retry name) r.configuration r.answer
+  stretch-leads until k name l at waits =
+      subst (λ l. let r = stretch flow g t.end until 3 (end_place t k.position) (byte_of (seat_before t k.position)) l k name in Leads k (Retry name) r.configuration r.answer) at
+      (record {
+        calls = (stretch_from flow g t until 3 k name).calls;
+        leads = λ choices before z h. (stretches-are-read flow g t (table_step flow g) (λ name state is s k. refl)).leads until 3 k name (waits ∙ ap waits_at (sym at)) choices before z h;
+      })

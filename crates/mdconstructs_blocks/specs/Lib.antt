@@ -1,0 +1,14 @@
+pub mod BlocksFormed
+pub mod BlocksRead
+pub mod BlocksTold
+pub mod ChunksJoin
+pub mod FlowAccounts
+pub mod FlowEnds
+pub mod FlowRead
+pub mod HtmlLines
+pub mod LeafBlocks
+pub mod LeafEvents
+pub mod LineKinds
+pub mod LooksFind
+pub mod ToldChunks
+pub mod ToldMarks

@@ -1,0 +1,4 @@
+//! What leaf blocks are read as, without states: the lines of a text, cut into blocks, and the events of these.
+#![tactic(auto)]
+
+pub mod laws;
