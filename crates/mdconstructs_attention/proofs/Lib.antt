@@ -1,9 +1,13 @@
+mod AsciiClasses
 mod Balance
 mod Bottoms
-mod PairsKeep
-mod RunEdits
+mod Chars
+mod CharsFound
+pub mod PairsKeep
+mod Ranges
+pub mod RunEdits
 mod RunPlaces
-mod RunTexts
+pub mod RunTexts
 mod RunsFrom
 mod Searches
 mod Stands

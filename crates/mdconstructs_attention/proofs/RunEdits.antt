@@ -16,15 +16,13 @@ use Rattle.mdconstructs_attention.specs.RunEdits.{in_place, edits_of, index_of, 
 use Rattle.markdown_tokenizer.specs.Plain.{HaveNoLinks}
 use Rattle.mdconstructs_attention.proofs.Balance.{leaves-balanced}
 use Rattle.mdconstructs_attention.proofs.PairsKeep.{pairs-keep-indices}
+use Rattle.markdown_tokenizer.proofs.Readings.Plain.{no-links-append, no-links-below, no-links-drop, no-links-take, unlinked-same}
 
 -- ---- edits
 
-relinked-none : (place : ℕ → Option ℕ) (e : Event) → e.link ≡ None → relinked place e ≡ e
-relinked-none place e h = ap (λ l. record e { link = option_map (with_ends place) l }) h ∙ ap (λ l. record e { link = l }) (sym h)
-
 relinked-nowhere : (place : ℕ → Option ℕ) (xs : List Event) → HaveNoLinks xs → relinked_by place xs ≡ xs
 relinked-nowhere place [] h = refl
-relinked-nowhere place (x ∷ xs) h = rw (relinked-none place x h.0, relinked-nowhere place xs h.1) refl
+relinked-nowhere place (x ∷ xs) h = rw (unlinked-same place x h.0, relinked-nowhere place xs h.1) refl
 
 no-links-front : (xs ys : List Event) → HaveNoLinks (xs ++ ys) → HaveNoLinks xs
 no-links-front [] ys h = tt
@@ -36,10 +34,6 @@ no-links-back (x ∷ xs) ys h = no-links-back xs ys h.1
 
 below-none : (o : Event) (n : ℕ) → o.link ≡ None → EndsBelow n o
 below-none o n h = subst (λ l. IfSome l (EachEnd (λ k. k < n))) (sym h) tt
-
-no-links-below : (n : ℕ) (xs : List Event) → HaveNoLinks xs → All (EndsBelow n) xs
-no-links-below n [] h = All-nil (EndsBelow n)
-no-links-below n (x ∷ xs) h = All-cons (EndsBelow n) x xs (below-none x n h.0) (no-links-below n xs h.1)
 
 module _ (texts : ℕ → List Event) (rest : List Event) where
   disjoint : (i : ℕ) (rs : List Run) (xs : List Event) → HasRunsAt texts rest i (map index_of rs) xs → AreDisjoint i (edits_of rs) (i + length xs)
@@ -81,20 +75,6 @@ edits-make-emphasis texts rest rs events h none fresh balanced =
 
 -- ---- a list without links stays so
 
-no-links-both : (xs ys : List Event) → HaveNoLinks xs → HaveNoLinks ys → HaveNoLinks (xs ++ ys)
-no-links-both [] ys h k = k
-no-links-both (x ∷ xs) ys h k = (h.0, no-links-both xs ys h.1 k)
-
-no-links-take : (n : ℕ) (xs : List Event) → HaveNoLinks xs → HaveNoLinks (take n xs)
-no-links-take zero xs h = tt
-no-links-take (suc n) [] h = tt
-no-links-take (suc n) (x ∷ xs) h = (h.0, no-links-take n xs h.1)
-
-no-links-drop : (n : ℕ) (xs : List Event) → HaveNoLinks xs → HaveNoLinks (drop n xs)
-no-links-drop zero xs h = h
-no-links-drop (suc n) [] h = tt
-no-links-drop (suc n) (x ∷ xs) h = no-links-drop n xs h.1
-
 no-links-closed : (p : Point) (ss : List Bool) → HaveNoLinks (closings p ss)
 no-links-closed p [] = tt
 no-links-closed p (s ∷ ss) = (refl, (refl, (refl, (refl, no-links-closed (later (markers_of s) p) ss))))
@@ -111,9 +91,9 @@ no-links-runs : (texts : ℕ → List Event) (rs : List Run) → ((k : ℕ) → 
 no-links-runs texts [] h = tt
 no-links-runs texts (r ∷ rs) h =
     let p = later (markers_of_all r.closed) r.start in
-    no-links-both (run_events texts r) (events_of_runs texts rs)
-    (no-links-both (head_events texts r) (tail_events r) (no-links-both (texts r.index) (closings r.start r.closed) (h r.index) (no-links-closed r.start r.closed))
-    (no-links-both (data_of p r.left) (openings (later r.left p) r.opened) (no-links-data p r.left) (no-links-opened (later r.left p) r.opened)))
+    no-links-append (run_events texts r) (events_of_runs texts rs)
+    (no-links-append (head_events texts r) (tail_events r) (no-links-append (texts r.index) (closings r.start r.closed) (h r.index) (no-links-closed r.start r.closed))
+    (no-links-append (data_of p r.left) (openings (later r.left p) r.opened) (no-links-data p r.left) (no-links-opened (later r.left p) r.opened)))
     (no-links-runs texts rs h)
 
 pub emphasis-can-be-made : EmphasisCanBeMade
@@ -126,7 +106,7 @@ emphasis-can-be-made bytes events balanced none =
       made.0,
       made.1,
       subst IsBalanced made.1 made.2,
-      no-links-both (events_of_runs texts (paired rs)) rest
+      no-links-append (events_of_runs texts (paired rs)) rest
           (no-links-runs texts (paired rs) (λ k. let from = end_before 0 rs k in no-links-take (k - from) (drop from events) (no-links-drop from events none)))
           (no-links-drop (end_before 0 rs (length events)) events none),
     )

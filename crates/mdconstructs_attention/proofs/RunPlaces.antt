@@ -66,14 +66,14 @@ pub apart : (i : ℕ) (rs : List Run) (xs : List Event) → HasRuns i rs xs → 
 apart i [] xs h = tt
 apart i (r ∷ rs) xs h = (omega (arith, h.6), apart (r.index + 2) rs h.1 h.9)
 
-room : (bytes : List ℕ) (e f : Event) → (e.point.index ≤ length bytes) × HasRoom (length bytes) e.point → f.point.index ≤ length bytes → HasRoom (0 + (f.point.index - e.point.index + 0)) e.point
+room : (bytes : List ℕ) (e f : Event) → (e.point.index ≤ length bytes) × HasRoom (length bytes - e.point.index) e.point → f.point.index ≤ length bytes → HasRoom (0 + (f.point.index - e.point.index + 0)) e.point
 room bytes e f h k = (omega (arith, h.1.0, k), omega (arith, h.1.1, k))
 
 pub all-room : (bytes : List ℕ) (ys : List Event) (i depth : ℕ) (before : Option ℕ) → ArePlacesInside bytes ys → AllHaveRoom (map standing (runs_from bytes i depth before ys))
 all-room bytes [] i depth before h = tt
 all-room bytes (e ∷ []) i depth before h = tt
 all-room bytes (e ∷ f ∷ es) i depth before h =
-    let Fit : Event → Type 0 = λ x. (x.point.index ≤ length bytes) × HasRoom (length bytes) x.point in
+    let Fit : Event → Type 0 = λ x. (x.point.index ≤ length bytes) × HasRoom (length bytes - x.point.index) x.point in
     let first = All-head Fit e (f ∷ es) h in
     let others = All-tail Fit e (f ∷ es) h in
     let second = All-head Fit f es others in

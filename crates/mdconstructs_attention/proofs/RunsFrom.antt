@@ -10,6 +10,7 @@ use Rattle.mdconstructs_attention.specs.declared.pairs.Delimiters.{Delimiters}
 use Rattle.mdconstructs_attention.specs.Emphasis.{Run}
 use Rattle.mdconstructs_attention.specs.Searches.{as_run}
 use Rattle.mdconstructs_attention.specs.Runs.{index_of_event, run_at, is_sequence, depth_after, runs_from}
+use Rattle.std.proofs.lemmas.Bool.{and_from}
 
 -- what stands for an event behind the end of a list
 abbrev pub no_event : Event
@@ -27,9 +28,6 @@ first-left : (xs : List Event) (n : ℕ) → index_of_event (slice_get (drop n x
 first-left xs zero = refl
 first-left [] (suc n) = refl
 first-left (x ∷ xs) (suc n) = first-left xs n
-
-both : (b c : Bool) → b ≡ true → c ≡ true → (b && c) ≡ true
-both b c h k = ap (λ x. x && c) h ∙ k
 
 pub not-second : (b c : Bool) → c ≡ false → (b && c) ≡ false
 not-second true c h = h
@@ -50,7 +48,7 @@ a-run bytes xs i depth before d more outside h =
     let rest = drop (i + 2) xs in
     let others = runs_from bytes (i + 2) depth (Some f.point.index) rest in
     ap (runs_from bytes i depth before) (two-left xs i d more)
-    ∙ ap (λ b. cond b (run_at bytes i e f before (index_of_event (slice_get rest 0)) ∷ others) (runs_from bytes (i + 1) (depth_after e.kind depth) (Some e.point.index) (f ∷ rest))) (both (depth == 0) (is_sequence e f) outside h)
+    ∙ ap (λ b. cond b (run_at bytes i e f before (index_of_event (slice_get rest 0)) ∷ others) (runs_from bytes (i + 1) (depth_after e.kind depth) (Some e.point.index) (f ∷ rest))) (and_from (depth == 0) (is_sequence e f) outside h)
     ∙ ap (λ o. run_at bytes i e f before o ∷ others) (first-left xs (i + 2))
 
 -- any other event is passed

@@ -1,3 +1,4 @@
+pub mod Classes
 pub mod Emphasis
 pub mod LawStatements
 pub mod Places

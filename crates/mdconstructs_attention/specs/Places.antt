@@ -1,5 +1,5 @@
 -- Places of runs: what a run closes, leaves and opens has room behind its place.
-use Rattle.std.specs.Prelude.{ℕ, ◌+◌, ◌<◌, ◌≤◌, ◌^◌, List, [], ◌∷◌, length, All}
+use Rattle.std.specs.Prelude.{ℕ, ◌+◌, ◌-◌, ◌<◌, ◌≤◌, ◌^◌, List, [], ◌∷◌, length, All}
 use Rattle.markdown_base.specs.declared.event.Event.{Event}
 use Rattle.markdown_base.specs.declared.event.Point.{Point}
 use Rattle.mdconstructs_attention.specs.Emphasis.{Run, markers_of_all}
@@ -31,6 +31,6 @@ abbrev pub AllHaveRoom : List Standing → Type 0
 AllHaveRoom [] = Unit {0}
 AllHaveRoom (s ∷ ss) = HasRoom s.markers s.start × AllHaveRoom ss
 
--- Places of events are in the document, and their columns have room for as many bytes as it has
+-- Places of events are in the document, and their columns have room for the bytes behind them
 abbrev pub ArePlacesInside : List ℕ → List Event → Type 0
-ArePlacesInside bytes events = All (λ e. (e.point.index ≤ length bytes) × HasRoom (length bytes) e.point) events
+ArePlacesInside bytes events = All (λ e. (e.point.index ≤ length bytes) × HasRoom (length bytes - e.point.index) e.point) events

@@ -1,7 +1,6 @@
 -- The delimiter runs of a text (CommonMark, "Emphasis and strong emphasis"): its attention sequences that are in no other span, each with the
 -- characters beside it.
-use Rattle.std.specs.Prelude.{ℕ, zero, suc, ◌+◌, ◌-◌, ◌%◌, ◌==◌, ◌&&◌, ◌||◌, not, Bool, true, false, cond, nat_lt, List, [], ◌∷◌, length, take, drop, slice_get, Option, Some, None}
-use Rattle.std.specs.Char.{is_ascii_punctuation, is_ascii_whitespace}
+use Rattle.std.specs.Prelude.{ℕ, suc, ◌+◌, ◌-◌, ◌%◌, ◌==◌, ◌&&◌, ◌||◌, not, Bool, true, false, cond, nat_lt, List, [], ◌∷◌, length, take, drop, slice_get, Option, Some, None}
 use Rattle.markdown_base.specs.declared.event.Event.{Event}
 use Rattle.markdown_base.specs.declared.event.Kind.{Kind as EventKind}
 use Rattle.markdown_base.specs.declared.event.Kind.TheVariants.{Enter, Exit}
@@ -9,12 +8,8 @@ use Rattle.markdown_base.specs.declared.event.Name.TheVariants.{AttentionSequenc
 use Rattle.markdown_base.specs.declared.util.char.Kind.{Kind}
 use Rattle.markdown_base.specs.declared.util.char.Kind.TheVariants.{Whitespace, Punctuation, Other}
 use Rattle.markdown_base.specs.Events.{is_enter, same_name}
+use Rattle.mdconstructs_attention.specs.Classes.{class_before, class_after}
 use Rattle.mdconstructs_attention.specs.Emphasis.{Run, emphasised}
-
--- the class of the character of a byte; the start and the end of a text count as white space
-abbrev pub class_of_byte : Option ℕ → Kind
-class_of_byte None = Whitespace
-class_of_byte (Some byte) = cond (is_ascii_whitespace byte) Whitespace (cond (is_ascii_punctuation byte) Punctuation Other)
 
 abbrev pub is_punctuation : Kind → Bool
 is_punctuation Punctuation = true
@@ -33,16 +28,11 @@ is_left_flanking before after = is_other after || is_punctuation after && not (i
 abbrev pub can_begin : (is_star : Bool) → (before after : Kind) → Bool
 can_begin is_star before after = is_left_flanking before after && (is_star || (not (is_left_flanking after before) || is_punctuation before))
 
--- the byte before a place
-abbrev pub byte_before : List ℕ → ℕ → Option ℕ
-byte_before bytes zero = None
-byte_before bytes (suc n) = slice_get bytes n
-
--- The class of the character at an end of a run: of this byte, if the text goes on there. That is so if the event beside the run stands at the
--- same index
-abbrev pub class_beside : (beside : Option ℕ) → (index : ℕ) → Option ℕ → Kind
-class_beside None index byte = Whitespace
-class_beside (Some other) index byte = cond (other == index) (class_of_byte byte) Whitespace
+-- The class of the character at an end of a run: that of the document there, if the text goes on there; else white space. The text goes on if the
+-- event beside the run stands at the same index
+abbrev pub class_beside : (beside : Option ℕ) → (index : ℕ) → Kind → Kind
+class_beside None index class = Whitespace
+class_beside (Some other) index class = cond (other == index) class Whitespace
 
 -- at which index an event stands, if there is one
 abbrev pub index_of_event : Option Event → Option ℕ
@@ -57,8 +47,8 @@ is_star_byte (Some byte) = byte == 42
 -- the run of an attention sequence: the index of its enter in the list, its enter and its exit, and where the events beside it stand
 abbrev pub run_at : List ℕ → ℕ → (e f : Event) → (before behind : Option ℕ) → Run
 run_at bytes index e f before behind =
-    let class_before = class_beside before e.point.index (byte_before bytes e.point.index) in
-    let class_after = class_beside behind f.point.index (slice_get bytes f.point.index) in
+    let before_it = class_beside before e.point.index (class_before bytes e.point.index) in
+    let after_it = class_beside behind f.point.index (class_after bytes f.point.index) in
     let is_star = is_star_byte (slice_get bytes e.point.index) in
     let length = f.point.index - e.point.index in
     record {
@@ -66,8 +56,8 @@ run_at bytes index e f before behind =
       start = e.point;
       is_star = is_star;
       rest = length % 3;
-      opens = can_begin is_star class_before class_after;
-      closes = can_begin is_star class_after class_before;
+      opens = can_begin is_star before_it after_it;
+      closes = can_begin is_star after_it before_it;
       closed = [];
       left = length;
       opened = [];

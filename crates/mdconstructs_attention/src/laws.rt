@@ -1,5 +1,6 @@
-//! Laws about emphasis.
+//! Laws about emphasis, and about the classes of characters that it asks for.
 
+ghost use Rattle.mdconstructs_attention.specs.Classes.{AsciiHasItsClasses, CharsAreUtf8};
 ghost use Rattle.mdconstructs_attention.specs.LawStatements.{LeavesBalanced};
 ghost use Rattle.mdconstructs_attention.specs.RunEdits.{EditsMakeEmphasis, EmphasisCanBeMade};
 
@@ -17,4 +18,14 @@ pub fn edits_make_emphasis()
 /// runs, balanced and without links.
 pub fn emphasis_can_be_made()
     ensures { EmphasisCanBeMade }
+{}
+
+/// The character with which bytes begin, or end, is the one whose UTF-8 they begin or end with.
+pub fn characters_are_utf8()
+    ensures { CharsAreUtf8 }
+{}
+
+/// The characters of ASCII have the classes that std gives them.
+pub fn ascii_has_its_classes()
+    ensures { AsciiHasItsClasses }
 {}

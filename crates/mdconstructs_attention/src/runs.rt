@@ -1,26 +1,14 @@
 //! The delimiter runs of a text: its attention sequences, each with the characters beside it.
 
 ghost use Rattle.std.specs.Prelude.{◌≡◌, ◌-◌, ◌<◌, ◌^◌, map, slice_get, IfOk};
-ghost use Rattle.mdconstructs_attention.specs.Runs.{class_of_byte, is_punctuation, is_other, is_left_flanking, can_begin, byte_before, class_beside, is_star_byte, run_at, is_sequence, index_of_event, depth_after, runs_in};
+ghost use Rattle.mdconstructs_attention.specs.Runs.{is_punctuation, is_other, is_left_flanking, can_begin, class_beside, is_star_byte, run_at, is_sequence, index_of_event, depth_after, runs_in};
 ghost use Rattle.mdconstructs_attention.specs.Searches.{as_run};
 
+use crate::classes::{class_after, class_before};
 use crate::pairs::Delimiters;
 use markdown_base::event::{Event, Kind, Name};
 use markdown_base::util::char::Kind as Class;
 use std::alloc::{AllocError, Global};
-
-/// The class of the character of a byte. The start and the end of a text count as white space, and bytes beyond ASCII are
-/// neither white space nor punctuation.
-fn class_of_byte(byte: Option<u8>) -> Class
-    ensures { result ≡ class_of_byte byte }
-{
-    match byte {
-        None => Class::Whitespace,
-        Some(byte) if byte.is_ascii_whitespace() => Class::Whitespace,
-        Some(byte) if byte.is_ascii_punctuation() => Class::Punctuation,
-        Some(_) => Class::Other,
-    }
-}
 
 /// Whether a class is punctuation.
 fn is_punctuation(class: &Class) -> bool
@@ -52,23 +40,12 @@ fn can_begin(is_star: bool, before: &Class, after: &Class) -> bool
         && (is_star || !is_left_flanking(after, before) || is_punctuation(before))
 }
 
-/// The byte before a place.
-fn byte_before(bytes: &[u8], index: usize) -> Option<u8>
-    ensures { result ≡ byte_before bytes.now index }
-{
-    if index == 0 {
-        None
-    } else {
-        bytes.get(index - 1).copied()
-    }
-}
-
-/// The class of the character at an end of a run: of this byte, if the event beside the run stands at the same index.
-fn class_beside(beside: Option<usize>, index: usize, byte: Option<u8>) -> Class
-    ensures { result ≡ class_beside beside index byte }
+/// The class of the character at an end of a run: that of the document there, if the event beside the run stands at the same index.
+fn class_beside(beside: Option<usize>, index: usize, class: Class) -> Class
+    ensures { result ≡ class_beside beside index class }
 {
     match beside {
-        Some(other) if other == index => class_of_byte(byte),
+        Some(other) if other == index => class,
         _ => Class::Whitespace,
     }
 }
@@ -118,8 +95,8 @@ fn run_at(
 {
     let start = enter.point.index;
     let end = exit.point.index;
-    let class_before = class_beside(before, start, byte_before(bytes, start));
-    let class_after = class_beside(behind, end, bytes.get(end).copied());
+    let before_it = class_beside(before, start, class_before(bytes, start));
+    let after_it = class_beside(behind, end, class_after(bytes, end));
     let is_star = bytes.get(start) == Some(&b'*');
     let left = end.saturating_sub(start);
     Delimiters {
@@ -127,8 +104,8 @@ fn run_at(
         start: enter.point,
         is_star,
         rest: left % 3,
-        opens: can_begin(is_star, &class_before, &class_after),
-        closes: can_begin(is_star, &class_after, &class_before),
+        opens: can_begin(is_star, &before_it, &after_it),
+        closes: can_begin(is_star, &after_it, &before_it),
         closed: Vec::new(alloc),
         left,
         opened: Vec::new(alloc),

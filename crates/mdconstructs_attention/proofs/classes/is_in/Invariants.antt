@@ -1,0 +1,11 @@
+use Rattle.std.proofs.Common.{◌≡◌, ◌-◌, ◌≤◌, false, length, take, drop}
+use Rattle.mdconstructs_attention.specs.Classes.{in_ranges}
+use Rattle.mdconstructs_attention.proofs.classes.is_in.Given as goal
+
+-- the code point is in no range before the low end, and in none from the high end on
+abbrev pub invariant-loop-low : goal.invariant-loop-low
+invariant-loop-low l =
+    (l.low ≤ l.high) × (l.high ≤ length l.ranges) × (in_ranges (take l.low l.ranges) l.code ≡ false) × (in_ranges (drop l.high l.ranges) l.code ≡ false)
+
+abbrev pub decreases-loop-low : goal.decreases-loop-low
+decreases-loop-low l = l.high - l.low
