@@ -37,17 +37,17 @@ text_before =
     state TextBefore text_before_rows [] (text_cost (by_left 4 9 1))
 
 -- Data begins
-abbrev pub text_before_data_rows : (previous current : Option TextByte) → Rows Unit Unit
+abbrev pub text_before_data_rows : {R D : Type 0} → (previous current : Option TextByte) → Rows R D
 text_before_data_rows _ (Some backtick) = row (enter Data ∷ []) (Retry DataAtBreak)
 text_before_data_rows _ _ = row (enter Data ∷ consume ∷ []) (Next DataInside)
 
 -- its state: no span is open, and a byte waits
-abbrev pub text_before_data : StateRows TextByte Unit Unit
+abbrev pub text_before_data : {R D : Type 0} → StateRows TextByte R D
 text_before_data =
     record (state TextBeforeData text_before_data_rows [] (text_cost (by_left 4 1 0))) { called = at_a_byte }
 
 -- A backtick string that begins data is read whole
-abbrev pub data_at_break_rows : (previous current : Option TextByte) → Rows Unit Unit
+abbrev pub data_at_break_rows : {R D : Type 0} → (previous current : Option TextByte) → Rows R D
 data_at_break_rows _ (Some backtick) = row (consume ∷ []) (Next DataAtBreak)
 data_at_break_rows _ _ = row [] (Retry DataInside)
 
@@ -56,7 +56,7 @@ abbrev pub at_break : Price TextByte
 at_break = by_class (numbers 4 9 9 3) (λ w. cond (is_backtick_class w) (numbers 4 9 9 4) (numbers 4 17 17 16))
 
 -- its state: a data span is open
-abbrev pub data_at_break : StateRows TextByte Unit Unit
+abbrev pub data_at_break : {R D : Type 0} → StateRows TextByte R D
 data_at_break =
     record (state DataAtBreak data_at_break_rows (Data ∷ [])
     (text_cost at_break)) { begun = at_byte is_backtick_class }

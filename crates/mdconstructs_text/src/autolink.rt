@@ -25,9 +25,7 @@ use mdconstructs_tables::marker;
 use std::alloc::AllocError;
 
 /// At `<`: an autolink is tried.
-pub(crate) fn autolink_start<'a, M: MachineTypes>(
-    t: &mut Tokenizer<'a, M>,
-) -> Result<State, AllocError>
+pub fn autolink_start<'a, M: MachineTypes>(t: &mut Tokenizer<'a, M>) -> Result<State, AllocError>
     requires { IsCallable text_byte autolink_start t.old }
     ensures { IfOk result (DoesAll (step_in text_byte autolink_start t.old) t.old t.new) }
 {
@@ -38,9 +36,7 @@ pub(crate) fn autolink_start<'a, M: MachineTypes>(
 }
 
 /// At the start of the scheme of an autolink.
-pub(crate) fn autolink_open<'a, M: MachineTypes>(
-    t: &mut Tokenizer<'a, M>,
-) -> Result<State, AllocError>
+pub fn autolink_open<'a, M: MachineTypes>(t: &mut Tokenizer<'a, M>) -> Result<State, AllocError>
     requires { IsCallable text_byte autolink_open t.old }
     ensures { IfOk result (DoesAll (step_in text_byte autolink_open t.old) t.old t.new) }
 {
@@ -55,9 +51,7 @@ pub(crate) fn autolink_open<'a, M: MachineTypes>(
 }
 
 /// In the scheme of an autolink, which has 2 to `AUTOLINK_SCHEME_SIZE_MAX` bytes.
-pub(crate) fn autolink_scheme<'a, M: MachineTypes>(
-    t: &mut Tokenizer<'a, M>,
-) -> Result<State, AllocError>
+pub fn autolink_scheme<'a, M: MachineTypes>(t: &mut Tokenizer<'a, M>) -> Result<State, AllocError>
     requires { IsCallable text_byte autolink_scheme t.old }
     ensures { IfOk result (DoesAll (step_in text_byte autolink_scheme t.old) t.old t.new) }
 {
@@ -77,9 +71,7 @@ pub(crate) fn autolink_scheme<'a, M: MachineTypes>(
 }
 
 /// In an autolink, after its scheme.
-pub(crate) fn autolink_url<'a, M: MachineTypes>(
-    t: &mut Tokenizer<'a, M>,
-) -> Result<State, AllocError>
+pub fn autolink_url<'a, M: MachineTypes>(t: &mut Tokenizer<'a, M>) -> Result<State, AllocError>
     requires { IsCallable text_byte autolink_url t.old }
     ensures { IfOk result (DoesAll (step_in text_byte autolink_url t.old) t.old t.new) }
 {
@@ -127,7 +119,7 @@ fn has_room<'a, M: MachineTypes>(t: &Tokenizer<'a, M>) -> bool
 }
 
 /// Whether autolinks are on.
-pub(crate) fn autolinks_are_on<'a, M: MachineTypes>(t: &Tokenizer<'a, M>) -> bool
+pub fn autolinks_are_on<'a, M: MachineTypes>(t: &Tokenizer<'a, M>) -> bool
     ensures { result ≡ autolinks_are_on t.now.given (sight_of t.now) t.now.configuration }
 {
     t.parse_state().options.constructs.autolink

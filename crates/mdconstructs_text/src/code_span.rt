@@ -23,9 +23,7 @@ use mdconstructs_tables::marker;
 use std::alloc::AllocError;
 
 /// At a backtick: a code span is tried.
-pub(crate) fn raw_text_start<'a, M: MachineTypes>(
-    t: &mut Tokenizer<'a, M>,
-) -> Result<State, AllocError>
+pub fn raw_text_start<'a, M: MachineTypes>(t: &mut Tokenizer<'a, M>) -> Result<State, AllocError>
     requires { IsCallable text_byte raw_text_start t.old }
     ensures { IfOk result (DoesAll (step_in text_byte raw_text_start t.old) t.old t.new) }
 {
@@ -36,7 +34,7 @@ pub(crate) fn raw_text_start<'a, M: MachineTypes>(
 }
 
 /// In the backtick string that opens a code span.
-pub(crate) fn raw_text_sequence_open<'a, M: MachineTypes>(
+pub fn raw_text_sequence_open<'a, M: MachineTypes>(
     t: &mut Tokenizer<'a, M>,
 ) -> Result<State, AllocError>
     requires { IsCallable text_byte raw_text_sequence_open t.old }
@@ -53,9 +51,7 @@ pub(crate) fn raw_text_sequence_open<'a, M: MachineTypes>(
 }
 
 /// In a code span, between line endings and data.
-pub(crate) fn raw_text_between<'a, M: MachineTypes>(
-    t: &mut Tokenizer<'a, M>,
-) -> Result<State, AllocError>
+pub fn raw_text_between<'a, M: MachineTypes>(t: &mut Tokenizer<'a, M>) -> Result<State, AllocError>
     requires { IsCallable text_byte raw_text_between t.old }
     ensures { IfOk result (DoesAll (step_in text_byte raw_text_between t.old) t.old t.new) }
 {
@@ -82,9 +78,7 @@ pub(crate) fn raw_text_between<'a, M: MachineTypes>(
 }
 
 /// In data of a code span.
-pub(crate) fn raw_text_data<'a, M: MachineTypes>(
-    t: &mut Tokenizer<'a, M>,
-) -> Result<State, AllocError>
+pub fn raw_text_data<'a, M: MachineTypes>(t: &mut Tokenizer<'a, M>) -> Result<State, AllocError>
     requires { IsCallable text_byte raw_text_data t.old }
     ensures { IfOk result (DoesAll (step_in text_byte raw_text_data t.old) t.old t.new) }
 {
@@ -101,7 +95,7 @@ pub(crate) fn raw_text_data<'a, M: MachineTypes>(
 }
 
 /// In a backtick string that may close a code span: it does if it is as long as the one that opened it.
-pub(crate) fn raw_text_sequence_close<'a, M: MachineTypes>(
+pub fn raw_text_sequence_close<'a, M: MachineTypes>(
     t: &mut Tokenizer<'a, M>,
 ) -> Result<State, AllocError>
     requires { IsCallable text_byte raw_text_sequence_close t.old }
@@ -118,9 +112,7 @@ pub(crate) fn raw_text_sequence_close<'a, M: MachineTypes>(
 }
 
 /// After the backtick string that closed a code span.
-pub(crate) fn raw_flow_after<'a, M: MachineTypes>(
-    t: &mut Tokenizer<'a, M>,
-) -> Result<State, AllocError>
+pub fn raw_flow_after<'a, M: MachineTypes>(t: &mut Tokenizer<'a, M>) -> Result<State, AllocError>
     requires { IsCallable text_byte raw_flow_after t.old }
     ensures { IfOk result (DoesAll (step_in text_byte raw_flow_after t.old) t.old t.new) }
 {
@@ -129,7 +121,7 @@ pub(crate) fn raw_flow_after<'a, M: MachineTypes>(
 }
 
 /// At a backtick string that closes nothing: it begins data of the code span.
-pub(crate) fn raw_flow_before_content_chunk<'a, M: MachineTypes>(
+pub fn raw_flow_before_content_chunk<'a, M: MachineTypes>(
     t: &mut Tokenizer<'a, M>,
 ) -> Result<State, AllocError>
     requires { IsCallable text_byte raw_flow_before_content_chunk t.old }
@@ -140,7 +132,7 @@ pub(crate) fn raw_flow_before_content_chunk<'a, M: MachineTypes>(
 }
 
 /// In a backtick string that begins data of a code span.
-pub(crate) fn raw_flow_content_chunk<'a, M: MachineTypes>(
+pub fn raw_flow_content_chunk<'a, M: MachineTypes>(
     t: &mut Tokenizer<'a, M>,
 ) -> Result<State, AllocError>
     requires { IsCallable text_byte raw_flow_content_chunk t.old }
@@ -187,7 +179,7 @@ fn sizes_are_equal<'a, M: MachineTypes>(t: &Tokenizer<'a, M>) -> bool
 }
 
 /// Whether code spans are on.
-pub(crate) fn code_spans_are_on<'a, M: MachineTypes>(t: &Tokenizer<'a, M>) -> bool
+pub fn code_spans_are_on<'a, M: MachineTypes>(t: &Tokenizer<'a, M>) -> bool
     ensures { result ≡ code_spans_are_on t.now.given (sight_of t.now) t.now.configuration }
 {
     t.parse_state().options.constructs.code_text

@@ -19,9 +19,7 @@ use mdconstructs_tables::marker;
 use std::alloc::AllocError;
 
 /// At a backslash: a backslash escape is tried.
-pub(crate) fn escape_start<'a, M: MachineTypes>(
-    t: &mut Tokenizer<'a, M>,
-) -> Result<State, AllocError>
+pub fn escape_start<'a, M: MachineTypes>(t: &mut Tokenizer<'a, M>) -> Result<State, AllocError>
     requires { IsCallable text_byte escape_start t.old }
     ensures { IfOk result (DoesAll (step_in text_byte escape_start t.old) t.old t.new) }
 {
@@ -31,9 +29,7 @@ pub(crate) fn escape_start<'a, M: MachineTypes>(
 }
 
 /// After the backslash of a backslash escape.
-pub(crate) fn escape_inside<'a, M: MachineTypes>(
-    t: &mut Tokenizer<'a, M>,
-) -> Result<State, AllocError>
+pub fn escape_inside<'a, M: MachineTypes>(t: &mut Tokenizer<'a, M>) -> Result<State, AllocError>
     requires { IsCallable text_byte escape_inside t.old }
     ensures { IfOk result (DoesAll (step_in text_byte escape_inside t.old) t.old t.new) }
 {
@@ -52,7 +48,7 @@ pub(crate) fn escape_inside<'a, M: MachineTypes>(
 }
 
 /// Whether backslash escapes are on.
-pub(crate) fn escapes_are_on<'a, M: MachineTypes>(t: &Tokenizer<'a, M>) -> bool
+pub fn escapes_are_on<'a, M: MachineTypes>(t: &Tokenizer<'a, M>) -> bool
     ensures { result ≡ escapes_are_on t.now.given (sight_of t.now) t.now.configuration }
 {
     t.parse_state().options.constructs.character_escape

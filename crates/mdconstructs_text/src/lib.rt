@@ -2,9 +2,9 @@
 //! data.
 #![tactic(auto)]
 
-mod autolink;
-mod code_span;
-mod escape;
+pub mod autolink;
+pub mod code_span;
+pub mod escape;
 pub mod laws;
 pub mod read;
 mod sizes;

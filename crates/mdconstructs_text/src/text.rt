@@ -151,7 +151,7 @@ fn text_before<'a>(t: &mut Tokenizer<'a, Text>) -> Result<State, AllocError>
 }
 
 /// At a byte of data: no construct is there.
-fn text_before_data<'a>(t: &mut Tokenizer<'a, Text>) -> Result<State, AllocError>
+pub fn text_before_data<'a, M: MachineTypes>(t: &mut Tokenizer<'a, M>) -> Result<State, AllocError>
     requires { IsCallable text_byte text_before_data t.old }
     ensures { IfOk result (DoesAll (step_in text_byte text_before_data t.old) t.old t.new) }
 {
@@ -169,7 +169,7 @@ fn text_before_data<'a>(t: &mut Tokenizer<'a, Text>) -> Result<State, AllocError
 }
 
 /// In a backtick string that begins data.
-fn data_at_break<'a>(t: &mut Tokenizer<'a, Text>) -> Result<State, AllocError>
+pub fn data_at_break<'a, M: MachineTypes>(t: &mut Tokenizer<'a, M>) -> Result<State, AllocError>
     requires { IsCallable text_byte data_at_break t.old }
     ensures { IfOk result (DoesAll (step_in text_byte data_at_break t.old) t.old t.new) }
 {

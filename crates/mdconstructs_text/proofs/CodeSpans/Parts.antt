@@ -1,7 +1,7 @@
 -- The pieces of a code span, as the machine of texts reads them: line endings, data, and runs that do not close it.
 use Rattle.mdconstructs_text.proofs.Prelude.{by-class, at-front, ◌≡◌, ℕ, suc, ◌+◌, ◌^◌, ◌<◌, ◌≤◌, ◌∷◌, ◌++◌, [], List, Bool, true, false, cond, not, ◌==◌, ◌||◌, refl, sym, ◌∙◌, ap, subst, Option, Some, None, arith, nat_tests, not-true, not-false, max, length, take, drop, slice_get, append_assoc, take_at, drop-drop, drop-map, drop-next, length-drop, length-map, prefix_len-le-length, prefix_len, position_or_len, Event, Enter, Exit, CodeText, CodeTextSequence, CodeTextData, LineEnding, Next, Retry, RawTextBetween, RawTextData, RawTextSequenceClose, RawFlowAfter, RawFlowBeforeContentChunk, RawFlowContentChunk, Seat, Nothing, Byte, Attempt, Given, Text, Local, Choice, byte_of, point_or, end_or, end_place, class_of, counts, passes, Part, line_ending, plain_run, is_line_feed, is_backtick, is_backtick_or_line_feed, backticks, part_length, plain_length, bytes_of, row, enter, exit, consume, event, leaf, part_events, held, TextByte, backtick, line_feed, text_byte, more_than, sizes_are_equal, raw_text_between_rows, raw_text_data_rows, raw_text_sequence_close_rows, raw_flow_content_chunk_rows, line-ending-read}
 use Rattle.markdown_base.specs.declared.event.Name.{Name as EventName}
-use Rattle.mdconstructs_text.proofs.Texts.Steps.{EndsWith, Leads, leads-called, leads-seen, leads-tested, leads-nok, before_class}
+use Rattle.mdconstructs_text.proofs.Texts.Steps.{Plays, EndsWith, Leads, leads-row, leads-seen, leads-tested, leads-nok, before_class}
 use Rattle.mdconstructs_text.proofs.Plain.Classes.{tick-class, run-ended}
 use Rattle.mdconstructs_text.proofs.Plain.Stretches.{shows, first_byte, past, passed, past-is, past-at, past-stops, passed-keeps, passed-counts, goes-next, class-rows, sees, loops, leaf-read}
 use Rattle.mdconstructs_text.proofs.CodeSpans.FoundParts.{piece_of}
@@ -83,7 +83,7 @@ run-positive b bs e = let more : backticks (b ∷ bs) ≡ 1 + backticks bs = ap 
 pub count-within : (p : ℕ → Bool) (l : List Seat) → prefix_len p (bytes_of l) ≤ length l
 count-within p l = omega (arith, prefix_len-le-length p (bytes_of l), length-map l (λ (s : Seat). s.byte))
 
-module _ (g : Given) (text : Text) where
+module _ (g : Given) (text : Text) (m : Plays g text) where
   -- an event at the start of the byte at a position, or at the end of the byte before it
   abbrev pub enter_at : EventName → ℕ → Event
   enter_at name q = event g.bytes Enter name (point_or text.end (slice_get text.seats q))
@@ -103,37 +103,37 @@ module _ (g : Given) (text : Text) where
   -- a run is tried, and read to its end
   pub tries-run : (q q' : ℕ) (s : Seat) (ss : List Seat) (events : List Event) (local : Local Unit Unit) (cs : List Choice) → drop q text.seats ≡ s ∷ ss → is_backtick s.byte ≡ true
       → q' ≡ q + backticks (bytes_of (s ∷ ss))
-      → Leads g text (held in_code q Byte false events local) cs (Retry RawTextBetween)
+      → Leads g text m (held in_code q Byte false events local) cs (Retry RawTextBetween)
       (shows (past is_backtick (s ∷ ss)) in_run q' (events ++ enter_at CodeTextSequence q ∷ []) (passed is_backtick grows_c (s ∷ ss) (with_c 0 (counts local)))) (inner q events ∷ cs)
       (Retry RawTextSequenceClose)
   tries-run q q' s ss events local cs at tick is es h =
       let tried = inner q events ∷ cs in
-      leads-seen g text raw_text_between_rows (held in_code q Byte false events local) cs RawTextBetween es (ap byte_of (at-front text.seats q s ss at))
-      (class-rows g text raw_text_between_rows q s backtick (tick-class s.byte tick)) refl
-      (loops g text in_run tried RawTextSequenceClose is_backtick grows_c
+      leads-seen g text m raw_text_between_rows (held in_code q Byte false events local) cs RawTextBetween es (ap byte_of (at-front text.seats q s ss at))
+      (class-rows g text m raw_text_between_rows q s backtick (tick-class s.byte tick)) (m.raw_text_between _)
+      (loops g text m in_run tried RawTextSequenceClose is_backtick grows_c
       (λ q ended events local s at tick es.
-      leads-seen g text raw_text_sequence_close_rows (held in_run q Byte ended events local) tried RawTextSequenceClose es (ap byte_of at)
-      (class-rows g text raw_text_sequence_close_rows q s backtick (tick-class s.byte tick)) refl)
+      leads-seen g text m raw_text_sequence_close_rows (held in_run q Byte ended events local) tried RawTextSequenceClose es (ap byte_of at)
+      (class-rows g text m raw_text_sequence_close_rows q s backtick (tick-class s.byte tick)) (m.raw_text_sequence_close _))
       (s ∷ ss) q q' (events ++ enter_at CodeTextSequence q ∷ []) (with_c 0 (counts local)) at is es h)
 
   -- data is read to its end
   data-read : (l : List Seat) (q q' : ℕ) (events : List Event) (local : Local Unit Unit) (cs : List Choice) → drop q text.seats ≡ l → q' ≡ q + data_length (bytes_of l)
-      → Leads g text (shows l in_code_data q events local) cs (Retry RawTextData)
+      → Leads g text m (shows l in_code_data q events local) cs (Retry RawTextData)
       (shows (past is_code_byte l) in_code q' (events ++ exit_at CodeTextData q' ∷ []) (counts (passed is_code_byte counts l local))) cs (Retry RawTextBetween)
   data-read l q q' events local cs at is es h =
       let rest = past is_code_byte l in
-      loops g text in_code_data cs RawTextData is_code_byte counts
+      loops g text m in_code_data cs RawTextData is_code_byte counts
       (λ q ended events local s at inside es.
-      leads-seen g text raw_text_data_rows (held in_code_data q Byte ended events local) cs RawTextData es (ap byte_of at) (at-data (before_class g text q) s.byte (not-true _ inside)).1 refl)
+      leads-seen g text m raw_text_data_rows (held in_code_data q Byte ended events local) cs RawTextData es (ap byte_of at) (at-data (before_class g text q) s.byte (not-true _ inside)).1 (m.raw_text_data _))
       l q q' events local at is es
-      (leads-seen g text raw_text_data_rows (shows rest in_code_data q' events (passed is_code_byte counts l local)) cs RawTextData es (sees g text rest q' (past-at g text is_code_byte l q q' at is))
-      (data-ended (before_class g text q') (first_byte rest) (past-stops is_code_byte l)) refl h)
+      (leads-seen g text m raw_text_data_rows (shows rest in_code_data q' events (passed is_code_byte counts l local)) cs RawTextData es (sees g text m rest q' (past-at g text m is_code_byte l q q' at is))
+      (data-ended (before_class g text q') (first_byte rest) (past-stops is_code_byte l)) (m.raw_text_data _) h)
 
   -- a piece is read, with its events
   abbrev pub ReadsAs : (q : ℕ) (s : Seat) (ss : List Seat) (events : List Event) (local : Local Unit Unit) (cs : List Choice) → Part → Type 0
   ReadsAs q s ss events local cs a =
       (after : Local Unit Unit) × (size_b after ≡ size_b local)
-      × Leads g text (held in_code q Byte false events local) cs (Retry RawTextBetween)
+      × Leads g text m (held in_code q Byte false events local) cs (Retry RawTextBetween)
       (shows (drop (part_length a) (s ∷ ss)) in_code (q + part_length a) (events ++ part_events g.bytes CodeTextData (a, take (part_length a) (s ∷ ss))) after) cs (Retry RawTextBetween)
 
   -- the events of data, as they are made
@@ -161,7 +161,7 @@ module _ (g : Given) (text : Text) where
       let l1 = past is_backtick l in
       let d = data_length (bytes_of l1) in
       let q1 = q + j in
-      let at1 : drop q1 text.seats ≡ l1 = past-at g text is_backtick l q q1 at refl in
+      let at1 : drop q1 text.seats ≡ l1 = past-at g text m is_backtick l q q1 at refl in
       let ended = run-ended (before_class g text q1) (first_byte l1) (past-stops is_backtick l) in
       let begun = events ++ enter_at CodeTextData q ∷ [] in
       let read = passed is_backtick grows_c l (with_c 0 (counts local)) in
@@ -178,20 +178,20 @@ module _ (g : Given) (text : Text) where
         kept,
         λ es h.
             tries-run q q1 s ss events local cs at tick refl es
-            (leads-tested g text sizes_are_equal raw_text_sequence_close_rows (shows l1 in_run q1 (events ++ enter_at CodeTextSequence q ∷ []) read) (inner q events ∷ cs) RawTextSequenceClose es
-            (sees g text l1 q1 at1)
-            ended.1 (sizes-read l local short ∙ other) refl
-            (leads-nok g text (shows l1 in_run q1 (events ++ enter_at CodeTextSequence q ∷ []) (counts read)) (inner q events) cs es
-            (subst (λ l. EndsWith g text (held in_code q Nothing false l (counts read)) cs (Next RawFlowBeforeContentChunk) es)
+            (leads-tested g text m sizes_are_equal raw_text_sequence_close_rows (shows l1 in_run q1 (events ++ enter_at CodeTextSequence q ∷ []) read) (inner q events ∷ cs) RawTextSequenceClose es
+            (sees g text m l1 q1 at1)
+            ended.1 (sizes-read l local short ∙ other) (m.raw_text_sequence_close _)
+            (leads-nok g text m (shows l1 in_run q1 (events ++ enter_at CodeTextSequence q ∷ []) (counts read)) (inner q events) cs es
+            (subst (λ l. EndsWith g text m (held in_code q Nothing false l (counts read)) cs (Next RawFlowBeforeContentChunk) es)
             (sym (take_at events (enter_at CodeTextSequence q ∷ []) (length events) refl))
-            (goes-next g text l in_code q events (counts read) cs RawFlowBeforeContentChunk at es
-            (leads-called g text (held in_code q Byte false events (counts read)) cs RawFlowBeforeContentChunk es
-            (loops g text in_code_data cs RawFlowContentChunk is_backtick counts
+            (goes-next g text m l in_code q events (counts read) cs RawFlowBeforeContentChunk at es
+            (leads-row g text m (row (enter CodeTextData ∷ []) (Retry RawFlowContentChunk)) (held in_code q Byte false events (counts read)) cs RawFlowBeforeContentChunk es (m.raw_flow_before_content_chunk _)
+            (loops g text m in_code_data cs RawFlowContentChunk is_backtick counts
             (λ q ended events local s at tick es.
-            leads-seen g text raw_flow_content_chunk_rows (held in_code_data q Byte ended events local) cs RawFlowContentChunk es (ap byte_of at)
-            (class-rows g text raw_flow_content_chunk_rows q s backtick (tick-class s.byte tick)) refl)
+            leads-seen g text m raw_flow_content_chunk_rows (held in_code_data q Byte ended events local) cs RawFlowContentChunk es (ap byte_of at)
+            (class-rows g text m raw_flow_content_chunk_rows q s backtick (tick-class s.byte tick)) (m.raw_flow_content_chunk _))
             l q q1 begun (counts (counts read)) at refl es
-            (leads-seen g text raw_flow_content_chunk_rows (shows l1 in_code_data q1 begun again) cs RawFlowContentChunk es (sees g text l1 q1 at1) ended.4 refl
+            (leads-seen g text m raw_flow_content_chunk_rows (shows l1 in_code_data q1 begun again) cs RawFlowContentChunk es (sees g text m l1 q1 at1) ended.4 (m.raw_flow_content_chunk _)
             (data-read l1 q1 (q + (j + d)) begun (counts again) cs at1 place es
             (rw (behind, same) h))))))))),
       )
@@ -209,10 +209,10 @@ module _ (g : Given) (text : Text) where
               counts local,
               refl,
               λ es h.
-                  leads-seen g text raw_text_between_rows (held in_code q Byte false events local) cs RawTextBetween es (ap byte_of front)
-                  (class-rows g text raw_text_between_rows q s line_feed (line-feed-class s.byte e)) refl
-                  (goes-next g text ss in_code (q + 1) made (counts local) cs RawTextBetween (drop-next text.seats q s ss at) es
-                  (subst (λ l. EndsWith g text (shows ss in_code (q + 1) l (counts local)) cs (Retry RawTextBetween) es) (sym (line-ending-read g text events q s front)) h)),
+                  leads-seen g text m raw_text_between_rows (held in_code q Byte false events local) cs RawTextBetween es (ap byte_of front)
+                  (class-rows g text m raw_text_between_rows q s line_feed (line-feed-class s.byte e)) (m.raw_text_between _)
+                  (goes-next g text m ss in_code (q + 1) made (counts local) cs RawTextBetween (drop-next text.seats q s ss at) es
+                  (subst (λ l. EndsWith g text m (shows ss in_code (q + 1) l (counts local)) cs (Retry RawTextBetween) es) (sym (line-ending-read g text events q s front)) h)),
             )
         | false ↦ λ e.
             elim (is_backtick s.byte) as (λ t. is_backtick s.byte ≡ t → ReadsAs q s ss events local cs (plain_run (plain_length is_backtick_or_line_feed bytes))) [
@@ -235,7 +235,7 @@ module _ (g : Given) (text : Text) where
                     after,
                     passed-keeps size_b counts (λ l. refl) is_code_byte l (counts local),
                     λ es h.
-                        leads-seen g text raw_text_between_rows (held in_code q Byte false events local) cs RawTextBetween es (ap byte_of front) (at-data (before_class g text q) s.byte inside).0 refl
+                        leads-seen g text m raw_text_between_rows (held in_code q Byte false events local) cs RawTextBetween es (ap byte_of front) (at-data (before_class g text q) s.byte inside).0 (m.raw_text_between _)
                         (data-read l q (q + n) begun (counts local) cs at refl es
                         (rw (past-is is_code_byte l, same) h)),
                   )

@@ -1,7 +1,7 @@
 -- The inside of a code span, as the machine of texts reads it: up to the backtick string that closes it, or to the end.
-use Rattle.mdconstructs_text.proofs.Prelude.{◌≡◌, ℕ, zero, suc, ◌+◌, ◌^◌, ◌<◌, ◌≤◌, ◌∷◌, ◌++◌, [], List, true, false, ◌==◌, refl, sym, ◌∙◌, ap, subst, cond, Option, Some, None, arith, length, take, drop, append-nil, append_assoc, drop-drop, flat_map, Event, CodeTextData, Retry, Nok, RawTextBetween, Seat, Given, Text, Local, Choice, counts, is_backtick_or_line_feed, backticks, part_length, bytes_of, part_events, drop-map}
+use Rattle.mdconstructs_text.proofs.Prelude.{◌≡◌, ℕ, zero, suc, ◌+◌, ◌^◌, ◌<◌, ◌≤◌, ◌∷◌, ◌++◌, [], List, true, false, ◌==◌, refl, sym, ◌∙◌, ap, subst, cond, Option, Some, None, arith, length, take, drop, append-nil, append_assoc, drop-drop, flat_map, Event, CodeTextData, Retry, Nok, RawTextBetween, Seat, Given, Text, Local, Choice, counts, is_backtick_or_line_feed, backticks, part_length, bytes_of, part_events, drop-map, row}
 use Rattle.mdconstructs_text.proofs.Texts.Cutting.{drop-less}
-use Rattle.mdconstructs_text.proofs.Texts.Steps.{EndsWith, Leads, leads-called}
+use Rattle.mdconstructs_text.proofs.Texts.Steps.{Plays, EndsWith, Leads, leads-row}
 use Rattle.mdconstructs_text.proofs.CodeSpans.Found.{first_run, further, passes-piece}
 use Rattle.mdconstructs_text.proofs.CodeSpans.FoundParts.{piece-positive, cut_pieces, piece_of, cut-front}
 use Rattle.mdconstructs_text.proofs.Plain.Stretches.{shows}
@@ -11,44 +11,44 @@ use Rattle.mdconstructs_text.proofs.CodeSpans.Parts.{in_code, size_b, reads-piec
 abbrev pub RunsAreShort : Text → Type 0
 RunsAreShort text = (q : ℕ) → backticks (bytes_of (drop q text.seats)) < 2 ^ 64
 
-module _ (g : Given) (text : Text) (k : ℕ) (cs : List Choice) where
+module _ (g : Given) (text : Text) (m : Plays g text) (k : ℕ) (cs : List Choice) where
   -- From between two pieces: if a backtick string closes the code span, the machine comes to it, with the events of the pieces before it;
   -- if there is none, it comes to the end, and nothing that was there before is lost
   abbrev pub Walks : (bound q : ℕ) (l : List Seat) (events : List Event) (local : Local Unit Unit) → Option ℕ → Type 0
   Walks bound q l events local None =
       (end : ℕ) × (added : List Event) × (after : Local Unit Unit)
-      × Leads g text (shows l in_code q events local) cs (Retry RawTextBetween) (shows [] in_code end (events ++ added) after) cs Nok
-  Walks bound q l events local (Some m) =
+      × Leads g text m (shows l in_code q events local) cs (Retry RawTextBetween) (shows [] in_code end (events ++ added) after) cs Nok
+  Walks bound q l events local (Some n') =
       (after : Local Unit Unit) × (size_b after ≡ k)
-      × Leads g text (shows l in_code q events local) cs (Retry RawTextBetween)
-      (shows (drop m l) in_code (q + m) (events ++ flat_map (part_events g.bytes CodeTextData) (cut_pieces bound (take m l))) after) cs (Retry RawTextBetween)
+      × Leads g text m (shows l in_code q events local) cs (Retry RawTextBetween)
+      (shows (drop n' l) in_code (q + n') (events ++ flat_map (part_events g.bytes CodeTextData) (cut_pieces bound (take n' l))) after) cs (Retry RawTextBetween)
 
   -- over a piece
   goes-on : (bound q : ℕ) (s : Seat) (ss : List Seat) (events : List Event) (local mid : Local Unit Unit)
       → let a = piece_of (s ∷ ss) in let n = part_length a in let passed = events ++ part_events g.bytes CodeTextData (a, take n (s ∷ ss)) in
-      Leads g text (shows (s ∷ ss) in_code q events local) cs (Retry RawTextBetween) (shows (drop n (s ∷ ss)) in_code (q + n) passed mid) cs (Retry RawTextBetween)
+      Leads g text m (shows (s ∷ ss) in_code q events local) cs (Retry RawTextBetween) (shows (drop n (s ∷ ss)) in_code (q + n) passed mid) cs (Retry RawTextBetween)
       → (o : Option ℕ) → Walks bound (q + n) (drop n (s ∷ ss)) passed mid o → Walks (suc bound) q (s ∷ ss) events local (further n o)
   goes-on bound q s ss events local mid piece None rest =
       let made = part_events g.bytes CodeTextData (piece_of (s ∷ ss), take (part_length (piece_of (s ∷ ss))) (s ∷ ss)) in (
         rest.0,
         made ++ rest.1,
         rest.2,
-        λ es h. piece es (rest.3 es (subst (λ l. EndsWith g text (shows [] in_code rest.0 l rest.2) cs Nok es) (sym (append_assoc events made rest.1)) h)),
+        λ es h. piece es (rest.3 es (subst (λ l. EndsWith g text m (shows [] in_code rest.0 l rest.2) cs Nok es) (sym (append_assoc events made rest.1)) h)),
       )
-  goes-on bound q s ss events local mid piece (Some m) rest =
+  goes-on bound q s ss events local mid piece (Some n') rest =
       let l = s ∷ ss in
       let n = part_length (piece_of l) in
       let made = part_events g.bytes CodeTextData (piece_of l, take n l) in
-      let others = flat_map (part_events g.bytes CodeTextData) (cut_pieces bound (take m (drop n l))) in
-      let place : q + n + m ≡ q + (n + m) = omega arith in
-      let same : (events ++ made) ++ others ≡ events ++ flat_map (part_events g.bytes CodeTextData) (cut_pieces (suc bound) (take (n + m) l)) =
-      append_assoc events made others ∙ ap (λ c. events ++ flat_map (part_events g.bytes CodeTextData) c) (sym (cut-front bound m (n + m) s ss refl)) in (
+      let others = flat_map (part_events g.bytes CodeTextData) (cut_pieces bound (take n' (drop n l))) in
+      let place : q + n + n' ≡ q + (n + n') = omega arith in
+      let same : (events ++ made) ++ others ≡ events ++ flat_map (part_events g.bytes CodeTextData) (cut_pieces (suc bound) (take (n + n') l)) =
+      append_assoc events made others ∙ ap (λ c. events ++ flat_map (part_events g.bytes CodeTextData) c) (sym (cut-front bound n' (n + n') s ss refl)) in (
         rest.0,
         rest.1,
         λ es h.
             piece es
             (rest.2 es
-            (rw (drop-drop m n l, place, same) h)),
+            (rw (drop-drop n' n l, place, same) h)),
       )
 
   -- The walk, by the number of bytes that are left
@@ -58,7 +58,7 @@ module _ (g : Given) (text : Text) (k : ℕ) (cs : List Choice) where
     q,
     [],
     counts local,
-    λ es h. leads-called g text (shows [] in_code q events local) cs RawTextBetween es (subst (λ l. EndsWith g text (shows [] in_code q l (counts local)) cs Nok es) (append-nil events) h),
+    λ es h. leads-row g text m (row [] Nok) (shows [] in_code q events local) cs RawTextBetween es (m.raw_text_between _) (subst (λ l. EndsWith g text m (shows [] in_code q l (counts local)) cs Nok es) (append-nil events) h),
   )
   walks short some zero q (s ∷ ss) events local size within at = absurd (omega (arith, within))
   walks short some (suc bound) q (s ∷ ss) events local size within at =
@@ -74,7 +74,7 @@ module _ (g : Given) (text : Text) (k : ℕ) (cs : List Choice) where
                   rw (append-nil events, here) at h,
             )
         | false ↦ λ e.
-            let it = reads-piece g text q s ss events local cs at (ap (λ b. backticks (bytes_of l) == b) size ∙ e) (subst (λ c. backticks (bytes_of c) < 2 ^ 64) at (short q)) in
+            let it = reads-piece g text m q s ss events local cs at (ap (λ b. backticks (bytes_of l) == b) size ∙ e) (subst (λ c. backticks (bytes_of c) < 2 ^ 64) at (short q)) in
             let passed = events ++ part_events g.bytes CodeTextData (piece_of l, take n l) in
             let less : length (drop n l) ≤ length ss = drop-less n s ss (piece-positive is_backtick_or_line_feed s.byte (bytes_of ss)) in
             let behind : drop (q + n) text.seats ≡ drop n l = sym (drop-drop n q text.seats) ∙ ap (drop n) at in

@@ -1,6 +1,6 @@
 -- The main law of a machine that is a list of constructs, once for all lists. Each construct is read if it is there, and else leaves nothing, and
 -- what follows it reads the rest of the list. So the machine reads a text item by item. What is there may depend on a memory of what was read.
-use Rattle.mdconstructs_text.proofs.Prelude.{at-front, ◌≡◌, ℕ, zero, suc, ◌+◌, ◌<◌, ◌≤◌, ◌∷◌, ◌++◌, [], List, Bool, true, false, cond, refl, sym, ◌∙◌, ap, subst, Option, Some, None, arith, length, take, drop, drop-drop, append-nil, append_assoc, flat_map, Event, Name, State, Next, Retry, Ok, TextBefore, TextBeforeData, Seat, Waits, Nothing, Byte, End, Given, Text, Configuration, Local, Choice, Step, Sight, sight, byte_of, class_of, with_local, counts, if_on, or_else, Rows, row, when, row_step, bytes_of, held, EndsWith, goes-next, picked, step_of, Construct, first_there, grammars_of, some_first, tried_at, before_rows, enter, exit, consume, choose, Attempt, LineEnding}
+use Rattle.mdconstructs_text.proofs.Prelude.{at-front, ◌≡◌, ℕ, zero, suc, ◌+◌, ◌<◌, ◌≤◌, ◌∷◌, ◌++◌, [], List, Bool, true, false, cond, refl, sym, ◌∙◌, ap, subst, Option, Some, None, arith, length, take, drop, drop-drop, append-nil, append_assoc, flat_map, Event, Name, State, Next, Retry, Ok, TextBefore, TextBeforeData, Seat, Waits, Nothing, Byte, End, Given, Text, Configuration, Local, Choice, Step, Sight, sight, byte_of, class_of, with_local, counts, if_on, or_else, Rows, row, when, row_step, bytes_of, held, EndsWith, goes-next, picked, step_of, Construct, first_there, grammars_of, some_first, tried_at, choose, Attempt}
 use Rattle.mdconstructs_machines.proofs.LineReads.Steps.{Leads, leads-step, ended as ended-so}
 use Rattle.mdconstructs_text.proofs.Constructs.Apart.{AreApart, IsApart, none-there, or-none, positive}
 use Rattle.mdconstructs_text.proofs.Texts.Cutting.{cut_by, drop-less}
@@ -61,11 +61,11 @@ module _ {A W M : Type 0} (g : Given) (text : Text) (step : Sight → Configurat
     AreTried m [] = Unit {0}
     AreTried m (c ∷ cs) = IsTried m c cs × AreTried m cs
 
-    module _ (ends_line : W → Bool) (cs : M → List (Construct A W Unit Unit)) where
+    module _ (cs : M → List (Construct A W Unit Unit)) where
       -- What the machine of a list owes: the rows of the state between constructs, and what its parts read
       pub record IsListed : Type 0 where
-        pub has_before : (m : M) → HasRowsBy TextBefore (before_rows ends_line (cs m))
-        pub lines : (b : ℕ) → ends_line (class b) ≡ is_line b
+        pub at_byte : (m : M) (k : Configuration Unit Unit) (b : ℕ) → (sight g text k).current ≡ Some b → is_line b ≡ false → step (sight g text k) k TextBefore ≡ row_step g text k (tried_at (cs m) (class b))
+        pub at_end : (k : Configuration Unit Unit) → (sight g text k).current ≡ None → step (sight g text k) k TextBefore ≡ row_step g text k (row [] Ok)
         pub lines_alone : (m : M) (b : ℕ) → is_line b ≡ true → some_first (grammars_of (cs m)) b ≡ false
         pub apart : (m : M) → AreApart class size (cs m)
         pub tried : (m : M) → AreTried m (cs m)
@@ -148,14 +148,10 @@ module _ {A W M : Type 0} (g : Given) (text : Text) (step : Sight → Configurat
         listed (c ∷ cs) tried apart local knows name has =
             list-step c cs (c.grammar.first s.byte) (c.grammar.on g.options.constructs) refl refl tried.0 apart.0 (listed cs tried.1 apart.1) local knows name has
 
-      module _ (ends_line : W → Bool) (cs : M → List (Construct A W Unit Unit)) (is : IsListed ends_line cs) where
+      module _ (cs : M → List (Construct A W Unit Unit)) (is : IsListed cs) where
         row-here : (m : M) (p : ℕ) (ended : Bool) (events : List Event) (local : Local Unit Unit) (s : Seat) (ss : List Seat) → drop p text.seats ≡ s ∷ ss → is_line s.byte ≡ false
             → let k = between p Byte ended events local in step (sight g text k) k TextBefore ≡ row_step g text k (tried_at (cs m) (class s.byte))
-        row-here m p ended events local s ss here plain =
-            let k = between p Byte ended events local in
-            let before = class_of class (sight g text k).previous in
-            is.has_before m k ∙ ap (λ o. row_step g text k (before_rows ends_line (cs m) before (class_of class (byte_of o)))) (at-front text.seats p s ss here)
-            ∙ ap (λ b. row_step g text k (cond b (row (enter LineEnding ∷ consume ∷ exit LineEnding ∷ []) (Next TextBefore)) (tried_at (cs m) (class s.byte)))) (is.lines s.byte ∙ plain)
+        row-here m p ended events local s ss here plain = is.at_byte m (between p Byte ended events local) s.byte (ap byte_of (at-front text.seats p s ss here)) plain
 
         -- One item is read, from before it to behind it
         item-read : (m : M) (p : ℕ) (ended : Bool) (events : List Event) (local : Local Unit Unit) (s : Seat) (ss : List Seat) → drop p text.seats ≡ s ∷ ss → Knows m p local → (t : Bool) → is_line s.byte ≡ t
@@ -188,4 +184,4 @@ module _ {A W M : Type 0} (g : Given) (text : Text) (step : Sight → Configurat
             let k = between p End true events local in
             subst (λ es. EndsWith g text step (between p Nothing ended events local) [] (Next TextBefore) es) (sym (append-nil events))
             (goes-next g text step [] [] p ended events local [] TextBefore at events
-            (goes k [] TextBefore (row [] Ok) (is.has_before m k) events (ended-so g text step (between p End true events (counts local)))))
+            (goes k [] TextBefore (row [] Ok) (is.at_end k refl) events (ended-so g text step (between p End true events (counts local)))))

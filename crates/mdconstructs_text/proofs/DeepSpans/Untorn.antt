@@ -12,6 +12,7 @@ use Rattle.mdconstructs_text.proofs.DeepSpans.Atoms.{Atom, IsCut, all_at, events
 use Rattle.mdconstructs_text.proofs.DeepSpans.Chunks.{chunk_seats, chain-seats, Stands, has-chunk}
 use Rattle.mdconstructs_text.proofs.DeepSpans.Chains.{Comes, cut-at-mark, comes-directly}
 use Rattle.mdconstructs_text.proofs.Paragraphs.ChunkPairs.{FollowsChunk}
+use Rattle.markdown_children.proofs.Parts.Untorn.{goes-on-side}
 
 -- ---- how lists of events end
 -- what is in front does not matter
@@ -52,10 +53,6 @@ module _ (bytes : List ℕ) where
       (subst EndsInVoidEnter (append_assoc enters (enter ∷ exit ∷ exits) others) h)
 
 -- ---- the parts of a child
--- a part without events does not end a void span
-by-part : (k d : ℕ) (ks : List ℕ) (q : List Event) (qs : List (List Event)) → d ≡ k + 2 → (q ≡ [] → StandSideBySide d ks qs) → StandSideBySide k (d ∷ ks) (q ∷ qs)
-by-part k d ks [] qs at go = (at, go refl)
-by-part k d ks (x ∷ q) qs at go = at
 
 module _ (g : Given) (some : 0 < g.tab) (events : List Event) (ready : IsReady g.tab g.bytes (Some TextContent) events)
     (pairs : (k d : ℕ) → next_of events k ≡ Some d → FollowsChunk events k d) where
@@ -92,7 +89,7 @@ module _ (g : Given) (some : 0 < g.tab) (events : List Event) (ready : IsReady g
       elim (pairs k d lead.0) [
         | inl directly ↦
             let next = comes-directly g some events ready pairs k d ks read left pre s ss behind fit lead.0 directly.0 directly.1 h chunk in
-            subst (StandSideBySide k (d ∷ ks)) (sym (parts-are d ks rest)) (by-part k d ks (first_part d ks rest) (other_parts d ks rest) directly.0 (λ none.
+            subst (StandSideBySide k (d ∷ ks)) (sym (parts-are d ks rest)) (goes-on-side k d ks (first_part d ks rest) (other_parts d ks rest) directly.0 (λ none.
             side d ks more (read ++ front) rest pre s (ss ++ chunk.first ∷ chunk.others) chunk.behind fit_next lead.2 spaced.1 next
             (subst EndsInVoidEnter (sym (ap (λ q. (read ++ front) ++ q) none ∙ append-nil (read ++ front))) v)))
         | inr marked ↦

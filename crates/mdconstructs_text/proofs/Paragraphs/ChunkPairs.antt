@@ -35,7 +35,7 @@ all-updated P zero f (x ∷ xs) keeps h = (keeps x h.0, h.1)
 all-updated P (suc p) f (x ∷ xs) keeps h = (h.0, all-updated P p f xs keeps h.1)
 
 -- an event that was linked has the new next event
-next-is : (p n d : ℕ) (xs : List Event) → next_of (updated_at p (with_next n) xs) p ≡ Some d → d ≡ n
+pub next-is : (p n d : ℕ) (xs : List Event) → next_of (updated_at p (with_next n) xs) p ≡ Some d → d ≡ n
 next-is p n d [] is = absurd (cc)
 next-is zero n d (x ∷ xs) is = elim x.link as (λ o. option_and_then (λ (l : Link). l.next) (option_map (next_set n) o) ≡ Some d → d ≡ n) [ None ↦ λ h. absurd (cc) | Some l ↦ λ h. cc ] is
 next-is (suc p) n d (x ∷ xs) is = next-is p n d xs is

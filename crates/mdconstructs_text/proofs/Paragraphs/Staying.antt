@@ -9,7 +9,7 @@ use Rattle.mdconstructs_text.proofs.Paragraphs.ChainEvents.{all-begin, children-
 use Rattle.mdconstructs_text.proofs.Texts.Ends.{reads-items}
 use Rattle.mdconstructs_text.proofs.Texts.Tight.{text-alone}
 
-each-alone : (of_chain : ℕ → List Event) → ((c : ℕ) → HaveNoLinks (of_chain c)) → (cs : List ℕ) → AllByRecursion HaveNoLinks (map of_chain cs)
+pub each-alone : (of_chain : ℕ → List Event) → ((c : ℕ) → HaveNoLinks (of_chain c)) → (cs : List ℕ) → AllByRecursion HaveNoLinks (map of_chain cs)
 each-alone of_chain alone [] = tt
 each-alone of_chain alone (c ∷ cs) = (alone c, each-alone of_chain alone cs)
 

@@ -11,7 +11,7 @@ use Rattle.mdconstructs_text.proofs.Paragraphs.Formed.{paragraphs-formed}
 use Rattle.mdconstructs_text.proofs.Paragraphs.Ready.{document-readable}
 use Rattle.mdconstructs_text.proofs.Texts.Tight.{data-tight, text-tight}
 
-each-tight : (of_chain : ℕ → List Event) → ((c : ℕ) → IsVoidTight (of_chain c)) → (cs : List ℕ) → AllByRecursion IsVoidTight (map of_chain cs)
+pub each-tight : (of_chain : ℕ → List Event) → ((c : ℕ) → IsVoidTight (of_chain c)) → (cs : List ℕ) → AllByRecursion IsVoidTight (map of_chain cs)
 each-tight of_chain tight [] = tt
 each-tight of_chain tight (c ∷ cs) = (tight c, each-tight of_chain tight cs)
 

@@ -14,8 +14,8 @@ HasEnded R D b w =
     × (allows_all {R = R} {D = D} (exit CodeTextSequence ∷ exit CodeText ∷ []) (start_shape b w (raw_text_sequence_open {R = R} {D = D})) ≡ true)
     × (allows_all {R = R} {D = D} (exit CodeTextSequence ∷ []) (start_shape b w (raw_text_sequence_close {R = R} {D = D})) ≡ true)
     × (raw_flow_content_chunk_rows {R = R} {D = D} b w ≡ row [] (Retry RawTextData))
-    × (data_at_break_rows b w ≡ row [] (Retry DataInside))
-    × (text_before_data_rows b w ≡ row (enter Data ∷ consume ∷ []) (Next DataInside))
+    × (data_at_break_rows {R = R} {D = D} b w ≡ row [] (Retry DataInside))
+    × (text_before_data_rows {R = R} {D = D} b w ≡ row (enter Data ∷ consume ∷ []) (Next DataInside))
 
 pub has-ended : {R D : Type 0} (before waits : Option TextByte) → is_tick waits ≡ false → HasEnded R D before waits
 has-ended b (Some backtick) e = absurd (cc)

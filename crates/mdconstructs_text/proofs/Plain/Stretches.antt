@@ -3,7 +3,7 @@ use Rattle.mdconstructs_text.proofs.Prelude.{at-front, ◌≡◌, ℕ, zero, suc
 use Rattle.markdown_base.specs.declared.event.Name.{Name as EventName}
 use Rattle.mdconstructs_machines.proofs.LineReads.Steps.{stands as fed_as}
 use Rattle.mdconstructs_text.specs.Parts.{span}
-use Rattle.mdconstructs_text.proofs.Texts.Steps.{EndsWith, Leads, text_step, leads-fed, before_class}
+use Rattle.mdconstructs_text.proofs.Texts.Steps.{Plays, EndsWith, Leads, leads-fed, before_class}
 
 -- what waits where these virtual bytes are left: the first of them, or the end
 abbrev pub waits_at : List Seat → Waits
@@ -105,7 +105,7 @@ module _ (text : Text) where
       → event bytes Enter name (point_or text.end (slice_get text.seats p)) ∷ event bytes Exit name (end_place text (p + n)) ∷ [] ≡ leaf bytes name (take n (s ∷ ss))
   leaf-read bytes name n p s ss h l m = span-read bytes name [] n p s ss h l m
 
-module _ (g : Given) (text : Text) where
+module _ (g : Given) (text : Text) (m : Plays g text) where
   -- the seats behind the bytes that pass
   pub past-at : (p : ℕ → Bool) (l : List Seat) (q q' : ℕ) → drop q text.seats ≡ l → q' ≡ q + prefix_len p (bytes_of l) → drop q' text.seats ≡ past p l
   past-at p l q q' at is =
@@ -114,30 +114,30 @@ module _ (g : Given) (text : Text) where
   -- what is fed, and what is fed once more
   stands : (l : List Seat) (stack : List EventName) (q : ℕ) (events : List Event) (local : Local Unit Unit) → drop q text.seats ≡ l
       → fed text (held stack q Nothing false events local) ≡ shows l stack q events local
-  stands [] stack q events local at = fed_as g text (text_step g) [] stack q false events local at
-  stands (s ∷ ss) stack q events local at = fed_as g text (text_step g) (s ∷ ss) stack q false events local at
+  stands [] stack q events local at = fed_as g text m.step [] stack q false events local at
+  stands (s ∷ ss) stack q events local at = fed_as g text m.step (s ∷ ss) stack q false events local at
 
   pub shown-fed : (l : List Seat) (stack : List EventName) (q : ℕ) (events : List Event) (local : Local Unit Unit) → drop q text.seats ≡ l
       → fed text (held stack q Nothing (is_end l) events local) ≡ shows l stack q events local
-  shown-fed [] stack q events local at = fed_as g text (text_step g) [] stack q true events local at
+  shown-fed [] stack q events local at = fed_as g text m.step [] stack q true events local at
   shown-fed (s ∷ ss) stack q events local at = stands (s ∷ ss) stack q events local at
 
   -- a state that is to come is called with what is fed
   pub goes-next : (l : List Seat) (stack : List EventName) (q : ℕ) (events : List Event) (local : Local Unit Unit) (cs : List Choice) (name : Name) → drop q text.seats ≡ l
-      → Leads g text (held stack q Nothing false events local) cs (Next name) (shows l stack q events local) cs (Retry name)
+      → Leads g text m (held stack q Nothing false events local) cs (Next name) (shows l stack q events local) cs (Retry name)
   goes-next l stack q events local cs name at es h =
-      leads-fed g text (held stack q Nothing false events local) cs name es (subst (λ k. EndsWith g text k cs (Retry name) es) (sym (stands l stack q events local at)) h)
+      leads-fed g text m (held stack q Nothing false events local) cs name es (subst (λ k. EndsWith g text m k cs (Retry name) es) (sym (stands l stack q events local at)) h)
 
   -- feeding may come later
-  pub leads-unfed : (k : Configuration Unit Unit) (cs : List Choice) (n : Name) → Leads g text (fed text k) cs (Retry n) k cs (Next n)
+  pub leads-unfed : (k : Configuration Unit Unit) (cs : List Choice) (n : Name) → Leads g text m (fed text k) cs (Retry n) k cs (Next n)
   leads-unfed k cs n events h calls =
       let it = h calls in
-      (it.0, ((fed-ends g (text_step g) text calls k cs n it.0).1 it.1.0, it.1.1, it.1.2))
+      (it.0, ((fed-ends g m.step text calls k cs n it.0).1 it.1.0, it.1.1, it.1.2))
 
   pub goes-back : (l : List Seat) (stack : List EventName) (q : ℕ) (events : List Event) (local : Local Unit Unit) (cs : List Choice) (name : Name) → drop q text.seats ≡ l
-      → Leads g text (shows l stack q events local) cs (Retry name) (held stack q Nothing false events local) cs (Next name)
+      → Leads g text m (shows l stack q events local) cs (Retry name) (held stack q Nothing false events local) cs (Next name)
   goes-back l stack q events local cs name at es h =
-      subst (λ k. EndsWith g text k cs (Retry name) es) (stands l stack q events local at) (leads-unfed (held stack q Nothing false events local) cs name es h)
+      subst (λ k. EndsWith g text m k cs (Retry name) es) (stands l stack q events local at) (leads-unfed (held stack q Nothing false events local) cs name es h)
 
   -- the rows at a byte of a class
   pub class-rows : (rows : Option TextByte → Option TextByte → Rows Unit Unit) (q : ℕ) (s : Seat) (w : TextByte) → text_byte s.byte ≡ w
@@ -149,41 +149,41 @@ module _ (g : Given) (text : Text) where
   sees [] q at = refl
   sees (s ∷ ss) q at = ap byte_of (at-front text.seats q s ss at)
 
-module _ (g : Given) (text : Text) (stack : List EventName) (cs : List Choice) (name : Name) (p : ℕ → Bool) (f : Local Unit Unit → Local Unit Unit) where
+module _ (g : Given) (text : Text) (m : Plays g text) (stack : List EventName) (cs : List Choice) (name : Name) (p : ℕ → Bool) (f : Local Unit Unit → Local Unit Unit) where
   -- the state reads a byte that passes, and goes on with itself
   abbrev pub Reads : Type 0
   Reads = (q : ℕ) (ended : Bool) (events : List Event) (local : Local Unit Unit) (s : Seat) → slice_get text.seats q ≡ Some s → p s.byte ≡ true
-      → Leads g text (held stack q Byte ended events local) cs (Retry name) (held stack (q + 1) Nothing false events (f local)) cs (Next name)
+      → Leads g text m (held stack q Byte ended events local) cs (Retry name) (held stack (q + 1) Nothing false events (f local)) cs (Next name)
 
   -- if none passes, the machine stays there
   stays : (l : List Seat) (q q' : ℕ) (events : List Event) (local : Local Unit Unit) → q ≡ q'
-      → Leads g text (shows l stack q events local) cs (Retry name) (shows l stack q' events local) cs (Retry name)
-  stays l q q' events local same = subst (λ n. Leads g text (shows l stack q events local) cs (Retry name) (shows l stack n events local) cs (Retry name)) same (λ es h. h)
+      → Leads g text m (shows l stack q events local) cs (Retry name) (shows l stack q' events local) cs (Retry name)
+  stays l q q' events local same = subst (λ n. Leads g text m (shows l stack q events local) cs (Retry name) (shows l stack n events local) cs (Retry name)) same (λ es h. h)
 
   -- and so it comes behind all that pass
   pub loops : Reads → (l : List Seat) (q q' : ℕ) (events : List Event) (local : Local Unit Unit) → drop q text.seats ≡ l → q' ≡ q + prefix_len p (bytes_of l)
-      → Leads g text (shows l stack q events local) cs (Retry name) (shows (past p l) stack q' events (passed p f l local)) cs (Retry name)
+      → Leads g text m (shows l stack q events local) cs (Retry name) (shows (past p l) stack q' events (passed p f l local)) cs (Retry name)
   loops reads [] q q' events local at is = stays [] q q' events local (omega (arith, is))
   loops reads (s ∷ ss) q q' events local at is =
       elim (p s.byte) as (λ t. p s.byte ≡ t → q' ≡ q + cond t (1 + prefix_len p (bytes_of ss)) 0
-      → Leads g text (shows (s ∷ ss) stack q events local) cs (Retry name) (shows (cond t (past p ss) (s ∷ ss)) stack q' events (cond t (passed p f ss (f local)) local)) cs (Retry name)) [
+      → Leads g text m (shows (s ∷ ss) stack q events local) cs (Retry name) (shows (cond t (past p ss) (s ∷ ss)) stack q' events (cond t (passed p f ss (f local)) local)) cs (Retry name)) [
         | true ↦ λ e i. λ es h.
             let next = drop-next text.seats q s ss at in
             reads q false events local s (at-front text.seats q s ss at) e es
-            (goes-next g text ss stack (q + 1) events (f local) cs name next es (loops reads ss (q + 1) q' events (f local) next (omega (arith, i)) es h))
+            (goes-next g text m ss stack (q + 1) events (f local) cs name next es (loops reads ss (q + 1) q' events (f local) next (omega (arith, i)) es h))
         | false ↦ λ e i. stays (s ∷ ss) q q' events local (omega (arith, i))
       ] refl is
 
   -- from a byte that passes it does, whatever was said of the end
   pub loops-from : Reads → (s : Seat) (ss : List Seat) (q q' : ℕ) (ended : Bool) (events : List Event) (local : Local Unit Unit) → drop q text.seats ≡ s ∷ ss → p s.byte ≡ true
       → q' ≡ q + prefix_len p (bytes_of (s ∷ ss))
-      → Leads g text (held stack q Byte ended events local) cs (Retry name) (shows (past p (s ∷ ss)) stack q' events (passed p f (s ∷ ss) local)) cs (Retry name)
+      → Leads g text m (held stack q Byte ended events local) cs (Retry name) (shows (past p (s ∷ ss)) stack q' events (passed p f (s ∷ ss) local)) cs (Retry name)
   loops-from reads s ss q q' ended events local at passing is =
       elim (p s.byte) as (λ t. t ≡ true → q' ≡ q + cond t (1 + prefix_len p (bytes_of ss)) 0
-      → Leads g text (held stack q Byte ended events local) cs (Retry name) (shows (cond t (past p ss) (s ∷ ss)) stack q' events (cond t (passed p f ss (f local)) local)) cs (Retry name)) [
+      → Leads g text m (held stack q Byte ended events local) cs (Retry name) (shows (cond t (past p ss) (s ∷ ss)) stack q' events (cond t (passed p f ss (f local)) local)) cs (Retry name)) [
         | true ↦ λ e i. λ es h.
             let next = drop-next text.seats q s ss at in
             reads q ended events local s (at-front text.seats q s ss at) passing es
-            (goes-next g text ss stack (q + 1) events (f local) cs name next es (loops reads ss (q + 1) q' events (f local) next (omega (arith, i)) es h))
+            (goes-next g text m ss stack (q + 1) events (f local) cs name next es (loops reads ss (q + 1) q' events (f local) next (omega (arith, i)) es h))
         | false ↦ λ e i. absurd (cc)
       ] passing is

@@ -20,7 +20,7 @@ line-classed b =
     (λ e. sym (grind (arith, nat_tests))) (λ o e. sym (grind (arith, nat_tests))) (λ o e. sym (grind (arith, nat_tests))) (λ o n e. sym (grind (arith, nat_tests)))
 
 -- a class ends data exactly if the byte does
-special-classed : (b : ℕ) → (is_line_feed_class (text_byte b) || some_begins text_constructs (text_byte b)) ≡ is_special b
+pub special-classed : (b : ℕ) → (is_line_feed_class (text_byte b) || some_begins text_constructs (text_byte b)) ≡ is_special b
 special-classed b = λ i. line-classed b i || begins-classed text_byte item_length text_constructs text-apart b i
 
 abbrev data_row : Bool → Rows Unit Unit

@@ -1,5 +1,7 @@
 -- How the machine of texts reads on, in small steps: to come to these events it is enough to come to them from further on.
-use Rattle.mdconstructs_text.proofs.Prelude.{◌≡◌, ℕ, ◌<◌, ◌∷◌, ◌++◌, [], List, Bool, cond, Option, ap, length, slice_get, lt-ltb, Event, Name, State, Next, Retry, Ok, Nok, Waits, Nothing, Byte, End, Given, Text, Configuration, Local, Choice, Step, Sight, sight, byte_of, seat_before, Reading, EndsIn, fed, settled_at, settled-ok-ends, Rows, when, with_local, counts, subst, sym, ◌∙◌, Some, true, false, Seat, slice_get_within, class_of, picked, step_of, TextByte, text_byte, text_rules}
+use Rattle.mdconstructs_text.proofs.Prelude.{◌≡◌, ℕ, ◌<◌, ◌∷◌, ◌++◌, [], List, Bool, cond, Option, ap, length, slice_get, lt-ltb, Event, Name, State, Next, Retry, Ok, Nok, Waits, Nothing, Byte, End, Given, Text, Configuration, Local, Choice, Step, Sight, sight, byte_of, seat_before, Reading, EndsIn, fed, settled_at, settled-ok-ends, Rows, when, with_local, counts, subst, sym, ◌∙◌, Some, true, false, Seat, slice_get_within, class_of, picked, step_of, TextByte, text_byte, text_rules, not, passes, row, enter, exit, consume, Data, LineEnding, TextBefore, TextBeforeData, DataInside, DataAtBreak, RawTextStart, RawTextSequenceOpen, RawTextBetween, RawTextData, RawTextSequenceClose, RawFlowAfter, RawFlowBeforeContentChunk, RawFlowContentChunk, AutolinkStart, AutolinkOpen, AutolinkSchemeInsideOrEmailAtext, AutolinkUrlInside, CharacterEscapeStart, CharacterEscapeInside, text_before_data_rows, data_at_break_rows, raw_text_start_rows, raw_text_sequence_open_rows, raw_text_between_rows, raw_text_data_rows, raw_text_sequence_close_rows, raw_flow_content_chunk_rows, autolink_open_rows, autolink_scheme_rows, autolink_url_rows, escape_start_rows, escape_inside_rows}
+use Rattle.mdconstructs_text.specs.Autolink.{autolink_start_rows}
+use Rattle.mdconstructs_text.specs.CodeSpan.{raw_flow_after_rows, raw_flow_before_content_chunk_rows}
 use Rattle.markdown_base.specs.declared.event.Name.{Name as EventName}
 use Rattle.mdconstructs_machines.proofs.LineReads.Steps.{held, leads-called as line-called, leads-fed as line-fed, leads-nok as line-nok}
 use Rattle.mdconstructs_machines.proofs.LineReads.Rows.{row_step}
@@ -12,42 +14,48 @@ text_step g = (text_rules g).step
 abbrev pub between_items : ℕ → Waits → Bool → List Event → Local Unit Unit → Configuration Unit Unit
 between_items p waits ended events local = held [] p waits ended events local
 
-module _ (g : Given) (text : Text) where
+module _ (g : Given) (text : Text) (step : Sight → Configuration Unit Unit → Name → Step Unit Unit) where
+  -- the step of a name is that of a row, or of the row of what is seen
+  abbrev pub HasRow : Configuration Unit Unit → Name → Rows Unit Unit → Type 0
+  HasRow k name rows = step (sight g text k) k name ≡ row_step g text k rows
+
+  abbrev pub HasRows : Name → ((previous current : Option TextByte) → Rows Unit Unit) → Type 0
+  HasRows name rows = (k : Configuration Unit Unit) → HasRow k name (rows (class_of text_byte (sight g text k).previous) (class_of text_byte (sight g text k).current))
+
+-- A machine that reads constructs of texts: at the names of their states it does what their rows say. Data ends at bytes that are special
+pub record Plays (g : Given) (text : Text) : Type 0 where
+  pub step : Sight → Configuration Unit Unit → Name → Step Unit Unit
+  pub special : ℕ → Bool
+  pub line_ends : (k : Configuration Unit Unit) → (sight g text k).current ≡ Some 10 → HasRow g text step k TextBefore (row (enter LineEnding ∷ consume ∷ exit LineEnding ∷ []) (Next TextBefore))
+  pub data_goes_on : (k : Configuration Unit Unit) (b : ℕ) → (sight g text k).current ≡ Some b → special b ≡ false → HasRow g text step k DataInside (row (consume ∷ []) (Next DataInside))
+  pub data_ends : (k : Configuration Unit Unit) → passes (λ b. not (special b)) (sight g text k).current ≡ false → HasRow g text step k DataInside (row (exit Data ∷ []) (Retry TextBefore))
+  pub text_before_data : HasRows g text step TextBeforeData text_before_data_rows
+  pub data_at_break : HasRows g text step DataAtBreak data_at_break_rows
+  pub raw_text_start : HasRows g text step RawTextStart raw_text_start_rows
+  pub raw_text_sequence_open : HasRows g text step RawTextSequenceOpen raw_text_sequence_open_rows
+  pub raw_text_between : HasRows g text step RawTextBetween raw_text_between_rows
+  pub raw_text_data : HasRows g text step RawTextData raw_text_data_rows
+  pub raw_text_sequence_close : HasRows g text step RawTextSequenceClose raw_text_sequence_close_rows
+  pub raw_flow_after : HasRows g text step RawFlowAfter raw_flow_after_rows
+  pub raw_flow_before_content_chunk : HasRows g text step RawFlowBeforeContentChunk raw_flow_before_content_chunk_rows
+  pub raw_flow_content_chunk : HasRows g text step RawFlowContentChunk raw_flow_content_chunk_rows
+  pub autolink_start : HasRows g text step AutolinkStart autolink_start_rows
+  pub autolink_open : HasRows g text step AutolinkOpen autolink_open_rows
+  pub autolink_scheme : HasRows g text step AutolinkSchemeInsideOrEmailAtext autolink_scheme_rows
+  pub autolink_url : HasRows g text step AutolinkUrlInside autolink_url_rows
+  pub escape_start : HasRows g text step CharacterEscapeStart escape_start_rows
+  pub escape_inside : HasRows g text step CharacterEscapeInside escape_inside_rows
+
+module _ (g : Given) (text : Text) (m : Plays g text) where
   -- reading on ends in Ok with these events
   abbrev pub EndsWith : Configuration Unit Unit → List Choice → State → List Event → Type 0
-  EndsWith k cs s events = (calls : ℕ) → (r : Reading Unit Unit) × (EndsIn g (text_step g) text calls k cs s r × (r.answer ≡ Ok) × (r.configuration.events ≡ events))
+  EndsWith k cs s events = (calls : ℕ) → (r : Reading Unit Unit) × (EndsIn g m.step text calls k cs s r × (r.answer ≡ Ok) × (r.configuration.events ≡ events))
 
   -- what the second ends with the first does too
   abbrev pub Leads : (k : Configuration Unit Unit) (cs : List Choice) (s : State) (k' : Configuration Unit Unit) (cs' : List Choice) (s' : State) → Type 0
   Leads k cs s k' cs' s' = (events : List Event) → EndsWith k' cs' s' events → EndsWith k cs s events
 
 module _ (g : Given) (text : Text) where
-  -- a call, a byte or the end that is fed, and a choice that ends
-  pub leads-called : (k : Configuration Unit Unit) (cs : List Choice) (n : Name)
-      → let s = text_step g (sight g text k) k n in Leads g text k cs (Retry n) s.configuration (s.choices ++ cs) s.answer
-  leads-called k cs n events h = line-called g text (text_step g) k cs n events h
-
-  pub leads-fed : (k : Configuration Unit Unit) (cs : List Choice) (n : Name) → Leads g text k cs (Next n) (fed text k) cs (Retry n)
-  leads-fed k cs n events h = line-fed g text (text_step g) k cs n events h
-
-  pub leads-ok : (k : Configuration Unit Unit) (c : Choice) (cs : List Choice) → Leads g text k (c ∷ cs) Ok (settled_at c.kind c.saved Ok k) cs c.ok
-  leads-ok k c cs events h calls =
-      let it = h calls in
-      (it.0, ((settled-ok-ends g (text_step g) text calls k c cs it.0).0 it.1.0, it.1.1, it.1.2))
-
-  pub leads-nok : (k : Configuration Unit Unit) (c : Choice) (cs : List Choice) → Leads g text k (c ∷ cs) Nok (settled_at c.kind c.saved Nok k) cs c.nok
-  leads-nok k c cs events h = line-nok g text (text_step g) k c cs events h
-
-  -- if a byte is left, it is fed
-  pub fed-is : (p : ℕ) (ended : Bool) (events : List Event) (stack : List EventName) (local : Local Unit Unit) → p < length text.seats
-      → fed text (held stack p Nothing ended events local) ≡ held stack p Byte ended events local
-  fed-is p ended events stack local h = ap (λ b. cond b (held stack p Byte ended events local) (held stack p End true events local)) (lt-ltb p (length text.seats) h)
-
-  pub leads-byte : {s : Seat} (stack : List EventName) (p : ℕ) (ended : Bool) (events : List Event) (local : Local Unit Unit) (cs : List Choice) (n : Name) → slice_get text.seats p ≡ Some s
-      → Leads g text (held stack p Nothing ended events local) cs (Next n) (held stack p Byte ended events local) cs (Retry n)
-  leads-byte {s} stack p ended events local cs n at es h =
-      leads-fed (held stack p Nothing ended events local) cs n es (subst (λ k. EndsWith g text k cs (Retry n) es) (sym (fed-is p ended events stack local (slice_get_within text.seats p s at))) h)
-
   -- the classes of the byte before and of the one that waits
   abbrev pub before_class : ℕ → Option TextByte
   before_class p = class_of text_byte (byte_of (seat_before text p))
@@ -55,29 +63,61 @@ module _ (g : Given) (text : Text) where
   abbrev pub waiting_class : ℕ → Option TextByte
   waiting_class p = class_of text_byte (byte_of (slice_get text.seats p))
 
-  -- reading on from the step of these rows
-  abbrev WithRows : Configuration Unit Unit → List Choice → List Event → Rows Unit Unit → Type 0
-  WithRows k cs es rows = let q = row_step g text k rows in EndsWith g text q.configuration (q.choices ++ cs) q.answer es
-
-  -- a call, by what waits and the rows of the state there
-  pub leads-seen : {o : Option ℕ} {rows : Rows Unit Unit} (table : (previous current : Option TextByte) → Rows Unit Unit) (k : Configuration Unit Unit) (cs : List Choice) (n : Name) (es : List Event)
-      → (sight g text k).current ≡ o → table (class_of text_byte (sight g text k).previous) (class_of text_byte o) ≡ rows
-      → text_step g (sight g text k) k n ≡ row_step g text k (table (class_of text_byte (sight g text k).previous) (class_of text_byte (sight g text k).current)) → WithRows k cs es rows
-      → EndsWith g text k cs (Retry n) es
-  leads-seen {o} {rows} table k cs n es waits are has h =
-      let all : text_step g (sight g text k) k n ≡ row_step g text k rows =
-      has ∙ ap (λ o. row_step g text k (table (class_of text_byte (sight g text k).previous) (class_of text_byte o))) waits ∙ ap (row_step g text k) are in
-      leads-called k cs n es (subst (λ (q : Step Unit Unit). EndsWith g text q.configuration (q.choices ++ cs) q.answer es) (sym all) h)
-
-  -- and by a test, if there are two rows
-  tested : (test : Given → Sight → Configuration Unit Unit → Bool) (a b : Rows Unit Unit) (k : Configuration Unit Unit) (t : Bool) → test g (sight g text k) (with_local k (counts k.local)) ≡ t
+  -- of two rows one is picked by a test
+  pub tested : (test : Given → Sight → Configuration Unit Unit → Bool) (a b : Rows Unit Unit) (k : Configuration Unit Unit) (t : Bool) → test g (sight g text k) (with_local k (counts k.local)) ≡ t
       → row_step g text k (when test a b) ≡ row_step g text k (cond t a b)
   tested test a b k true e = let s = sight g text k in let k1 = with_local k (counts k.local) in ap (λ c. step_of (cond c (picked a g s k1) (picked b g s k1)) s k1) e
   tested test a b k false e = let s = sight g text k in let k1 = with_local k (counts k.local) in ap (λ c. step_of (cond c (picked a g s k1) (picked b g s k1)) s k1) e
 
+module _ (g : Given) (text : Text) (m : Plays g text) where
+  -- a call, a byte or the end that is fed, and a choice that ends
+  pub leads-called : (k : Configuration Unit Unit) (cs : List Choice) (n : Name)
+      → let s = m.step (sight g text k) k n in Leads g text m k cs (Retry n) s.configuration (s.choices ++ cs) s.answer
+  leads-called k cs n events h = line-called g text m.step k cs n events h
+
+  pub leads-fed : (k : Configuration Unit Unit) (cs : List Choice) (n : Name) → Leads g text m k cs (Next n) (fed text k) cs (Retry n)
+  leads-fed k cs n events h = line-fed g text m.step k cs n events h
+
+  pub leads-ok : (k : Configuration Unit Unit) (c : Choice) (cs : List Choice) → Leads g text m k (c ∷ cs) Ok (settled_at c.kind c.saved Ok k) cs c.ok
+  leads-ok k c cs events h calls =
+      let it = h calls in
+      (it.0, ((settled-ok-ends g m.step text calls k c cs it.0).0 it.1.0, it.1.1, it.1.2))
+
+  pub leads-nok : (k : Configuration Unit Unit) (c : Choice) (cs : List Choice) → Leads g text m k (c ∷ cs) Nok (settled_at c.kind c.saved Nok k) cs c.nok
+  leads-nok k c cs events h = line-nok g text m.step k c cs events h
+
+  -- if a byte is left, it is fed
+  pub fed-is : (p : ℕ) (ended : Bool) (events : List Event) (stack : List EventName) (local : Local Unit Unit) → p < length text.seats
+      → fed text (held stack p Nothing ended events local) ≡ held stack p Byte ended events local
+  fed-is p ended events stack local h = ap (λ b. cond b (held stack p Byte ended events local) (held stack p End true events local)) (lt-ltb p (length text.seats) h)
+
+  pub leads-byte : {s : Seat} (stack : List EventName) (p : ℕ) (ended : Bool) (events : List Event) (local : Local Unit Unit) (cs : List Choice) (n : Name) → slice_get text.seats p ≡ Some s
+      → Leads g text m (held stack p Nothing ended events local) cs (Next n) (held stack p Byte ended events local) cs (Retry n)
+  leads-byte {s} stack p ended events local cs n at es h =
+      leads-fed (held stack p Nothing ended events local) cs n es (subst (λ k. EndsWith g text m k cs (Retry n) es) (sym (fed-is p ended events stack local (slice_get_within text.seats p s at))) h)
+
+  -- reading on from the step of these rows
+  abbrev WithRows : Configuration Unit Unit → List Choice → List Event → Rows Unit Unit → Type 0
+  WithRows k cs es rows = let q = row_step g text k rows in EndsWith g text m q.configuration (q.choices ++ cs) q.answer es
+
+  -- a call, by its row
+  pub leads-row : (rows : Rows Unit Unit) (k : Configuration Unit Unit) (cs : List Choice) (n : Name) (es : List Event) → HasRow g text m.step k n rows → WithRows k cs es rows → EndsWith g text m k cs (Retry n) es
+  leads-row rows k cs n es has h = leads-called k cs n es (subst (λ (q : Step Unit Unit). EndsWith g text m q.configuration (q.choices ++ cs) q.answer es) (sym has) h)
+
+  -- a call, by what waits and the rows of the state there
+  pub leads-seen : {o : Option ℕ} {rows : Rows Unit Unit} (table : (previous current : Option TextByte) → Rows Unit Unit) (k : Configuration Unit Unit) (cs : List Choice) (n : Name) (es : List Event)
+      → (sight g text k).current ≡ o → table (class_of text_byte (sight g text k).previous) (class_of text_byte o) ≡ rows
+      → m.step (sight g text k) k n ≡ row_step g text k (table (class_of text_byte (sight g text k).previous) (class_of text_byte (sight g text k).current)) → WithRows k cs es rows
+      → EndsWith g text m k cs (Retry n) es
+  leads-seen {o} {rows} table k cs n es waits are has h =
+      let all : m.step (sight g text k) k n ≡ row_step g text k rows =
+      has ∙ ap (λ o. row_step g text k (table (class_of text_byte (sight g text k).previous) (class_of text_byte o))) waits ∙ ap (row_step g text k) are in
+      leads-called k cs n es (subst (λ (q : Step Unit Unit). EndsWith g text m q.configuration (q.choices ++ cs) q.answer es) (sym all) h)
+
+  -- and by a test, if there are two rows
   pub leads-tested : {o : Option ℕ} {a b : Rows Unit Unit} {t : Bool} (test : Given → Sight → Configuration Unit Unit → Bool) (table : (previous current : Option TextByte) → Rows Unit Unit) (k : Configuration Unit Unit) (cs : List Choice) (n : Name) (es : List Event)
       → (sight g text k).current ≡ o → table (class_of text_byte (sight g text k).previous) (class_of text_byte o) ≡ when test a b → test g (sight g text k) (with_local k (counts k.local)) ≡ t
-      → text_step g (sight g text k) k n ≡ row_step g text k (table (class_of text_byte (sight g text k).previous) (class_of text_byte (sight g text k).current)) → WithRows k cs es (cond t a b)
-      → EndsWith g text k cs (Retry n) es
+      → m.step (sight g text k) k n ≡ row_step g text k (table (class_of text_byte (sight g text k).previous) (class_of text_byte (sight g text k).current)) → WithRows k cs es (cond t a b)
+      → EndsWith g text m k cs (Retry n) es
   leads-tested {o} {a} {b} {t} test table k cs n es waits are picks has h =
-      leads-seen table k cs n es waits are has (subst (λ (q : Step Unit Unit). EndsWith g text q.configuration (q.choices ++ cs) q.answer es) (sym (tested test a b k t picks)) h)
+      leads-seen table k cs n es waits are has (subst (λ (q : Step Unit Unit). EndsWith g text m q.configuration (q.choices ++ cs) q.answer es) (sym (tested g text test a b k t picks)) h)

@@ -41,7 +41,7 @@ module _ (bytes : List ℕ) where
   span-alone name [] es other h = h
   span-alone name (s ∷ ss) es other h = (refl, no-links-append es (event bytes Exit name (end_after s.end ss) ∷ []) h (refl, tt))
 
-  links-kept : IsKeptBySpans bytes HaveNoLinks
+  pub links-kept : IsKeptBySpans bytes HaveNoLinks
   links-kept = record { none = tt; both = no-links-append; alone = leaf-alone; around = span-alone }
 
 -- the events of a text
