@@ -1,0 +1,64 @@
+-- What is read of inline text is balanced, and no event of it has a link: that holds of each item.
+use Rattle.std.proofs.Common.{ℕ, zero, suc, List, [], ◌∷◌, false, true, cond, take, drop, length, refl}
+use Rattle.std.specs.List.{flat_map}
+use Rattle.markdown_base.specs.declared.configuration.Constructs.{Constructs}
+use Rattle.markdown_base.specs.declared.event.Event.{Event}
+use Rattle.markdown_base.specs.declared.event.Kind.TheVariants.{Enter, Exit}
+use Rattle.markdown_base.specs.declared.event.Name.{Name}
+use Rattle.markdown_base.specs.declared.event.Name.TheVariants.{AttentionSequence, Data}
+use Rattle.markdown_base.specs.Events.{IsBalanced, empty, span as balanced_span}
+use Rattle.markdown_base.specs.Virtual.{Seat, end_after}
+use Rattle.markdown_edits.proofs.Balanced.{IsBalanced-append}
+use Rattle.markdown_tokenizer.specs.Plain.{HaveNoLinks}
+use Rattle.markdown_tokenizer.specs.Text.{Given, Text}
+use Rattle.mdconstructs_text.specs.Bytes.{has_byte_at}
+use Rattle.mdconstructs_text.specs.Items.{item_length, text_grammars}
+use Rattle.mdconstructs_text.specs.Parts.{bytes_of, cut, event, part, part_at, span}
+use Rattle.mdconstructs_text.specs.TextEvents.{item_events}
+use Rattle.mdconstructs_text.proofs.Autolinks.Cuts.{autolink-built}
+use Rattle.mdconstructs_text.proofs.CodeSpans.Cuts.{code-span-built}
+use Rattle.mdconstructs_text.proofs.Constructs.Apart.{there-holds}
+use Rattle.mdconstructs_text.proofs.Escapes.Cuts.{escape-built}
+use Rattle.mdconstructs_text.proofs.Texts.Built.{IsKeptBySpans, IsBuilt, part-built}
+use Rattle.mdconstructs_text.proofs.Texts.Tight.{links-kept}
+use Rattle.mdconstructs_inlines.specs.InlineEvents.{begins_run, delimiter_run, ends_data, inline_item_at, read_events, run_length, run_or_part}
+
+module _ (bytes : List ℕ) (P : List Event → Type 0) (kept : IsKeptBySpans bytes P) (on : Constructs) where
+  other-built : (text : List ℕ) → IsBuilt bytes P kept (run_or_part on text)
+  other-built text = elim (has_byte_at text 0 (begins_run on)) as (λ t. IsBuilt bytes P kept (cond t (delimiter_run (run_length text)) (part (part_at (ends_data on) text)))) [
+    | true ↦ λ seats. kept.alone AttentionSequence seats
+    | false ↦ λ seats. part-built bytes P kept Data (part_at (ends_data on) text, seats)
+  ]
+
+  item-built : (text : List ℕ) → IsBuilt bytes P kept (inline_item_at on text)
+  item-built text =
+      there-holds (IsBuilt bytes P kept) text_grammars on text (run_or_part on text) (code-span-built bytes P kept text, (autolink-built bytes P kept text, (escape-built bytes P kept text, tt))) (other-built text)
+
+  pub items-built : (n : ℕ) (seats : List Seat) → P (flat_map (item_events bytes) (cut (inline_item_at on) item_length n seats))
+  items-built zero seats = kept.none
+  items-built (suc n) [] = kept.none
+  items-built (suc n) (s ∷ ss) =
+      let item = inline_item_at on (bytes_of (s ∷ ss)) in
+      let m = item_length item in
+      kept.both (item_events bytes (item, take m (s ∷ ss))) (flat_map (item_events bytes) (cut (inline_item_at on) item_length n (drop m (s ∷ ss)))) (item-built (bytes_of (s ∷ ss)) (take m (s ∷ ss)))
+      (items-built n (drop m (s ∷ ss)))
+
+module _ (bytes : List ℕ) where
+  span-balanced : (name : Name) (seats : List Seat) (es : List Event) → IsBalanced es → IsBalanced (span bytes name seats es)
+  span-balanced name [] es h = h
+  span-balanced name (s ∷ ss) es h = balanced_span (event bytes Enter name s.point) (event bytes Exit name (end_after s.end ss)) es [] refl refl refl refl h empty
+
+  balance-kept : IsKeptBySpans bytes IsBalanced
+  balance-kept = record {
+    none = empty;
+    both = IsBalanced-append;
+    alone = λ name seats. span-balanced name seats [] empty;
+    around = λ name seats es other h. span-balanced name seats es h;
+  }
+
+-- the events that are read of a text
+pub read-balanced : (g : Given) (text : Text) → IsBalanced (read_events g text)
+read-balanced g text = items-built g.bytes IsBalanced (balance-kept g.bytes) g.options.constructs (length text.seats) text.seats
+
+pub read-alone : (g : Given) (text : Text) → HaveNoLinks (read_events g text)
+read-alone g text = items-built g.bytes HaveNoLinks (links-kept g.bytes) g.options.constructs (length text.seats) text.seats

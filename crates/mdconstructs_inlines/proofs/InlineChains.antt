@@ -1,0 +1,49 @@
+-- Chains of text are read as inline text; and what is read leaves other chains ready.
+use Rattle.std.proofs.Common.{Some, sym, ap, ◌∙◌, subst}
+use Rattle.std.specs.List.{AllByRecursion}
+use Rattle.markdown_base.specs.declared.event.Content.TheVariants.{Text as TextContent}
+use Rattle.markdown_base.specs.declared.state.State.TheVariants.{Next}
+use Rattle.markdown_base.specs.declared.state.TheConstants.Name.{TextStart}
+use Rattle.markdown_base.specs.Events.{IsBalanced}
+use Rattle.markdown_children.specs.Chains.{fitting_starts}
+use Rattle.markdown_children.specs.Reads.{lists}
+use Rattle.markdown_children.specs.Ready.{IsReady}
+use Rattle.markdown_children.proofs.ChildReads.SoFar.{lists-all}
+use Rattle.markdown_children.proofs.Parts.Staying.{stays-ready}
+use Rattle.markdown_edits.specs.Edited.{edited}
+use Rattle.markdown_tokenizer.specs.Configuration.{start_configuration}
+use Rattle.markdown_tokenizer.specs.Plain.{HaveNoLinks}
+use Rattle.markdown_tokenizer.specs.Text.{Given, Text}
+use Rattle.mdconstructs_attention.proofs.RunEdits.{emphasis-can-be-made}
+use Rattle.mdconstructs_text.specs.ChainTexts.{chain_text}
+use Rattle.mdconstructs_text.proofs.Paragraphs.ChainEvents.{all-begin, chains-read, children-events}
+use Rattle.mdconstructs_text.proofs.Paragraphs.Staying.{each-alone}
+use Rattle.mdconstructs_text.proofs.Texts.Ends.{ReadsTexts, ends-so}
+use Rattle.mdconstructs_inlines.specs.InlineEvents.{inline_events, read_events}
+use Rattle.mdconstructs_inlines.specs.InlineRules.{emphasis_edits, inlines_rules}
+use Rattle.mdconstructs_inlines.specs.LawStatements.{ReadsChainsAsInlineText, StaysReadyAfterInlineText}
+use Rattle.mdconstructs_inlines.proofs.InlineBuilt.{read-alone, read-balanced}
+use Rattle.mdconstructs_inlines.proofs.InlineReads.{from-start}
+use Rattle.mdconstructs_inlines.proofs.Resolved.{resolved-so}
+
+-- what is read of any text, once all is resolved
+pub reads-texts : (g : Given) → ReadsTexts g inlines_rules (inline_events g)
+reads-texts g text is flag r ends well final sub resolved =
+    let read = (ends-so g text (inlines_rules g).step (start_configuration flag) (Next TextStart) (read_events g text) (from-start g text is flag) r ends).1 in
+    (resolved-so g text is flag r ends well final sub resolved).1 ∙ ap (λ es. edited (emphasis_edits g es) es) read
+    ∙ (emphasis-can-be-made g.bytes (read_events g text) (read-balanced g text) (read-alone g text)).1
+
+pub chains-read-inline : ReadsChainsAsInlineText
+chains-read-inline g events document ready = chains-read g events document ready inlines_rules (inline_events g) (reads-texts g)
+
+-- what is read has no links
+pub inline-alone : (g : Given) (text : Text) → HaveNoLinks (inline_events g text)
+inline-alone g text = (emphasis-can-be-made g.bytes (read_events g text) (read-balanced g text) (read-alone g text)).3
+
+pub inline-stays-ready : StaysReadyAfterInlineText
+inline-stays-ready g events document ready next new sub other h =
+    let starts = fitting_starts (Some TextContent) events in
+    let are = children-events g events document ready inlines_rules (inline_events g) (reads-texts g) starts h.children (all-begin g events document ready) h.read in
+    let balanced = lists-all g inlines_rules events IsBalanced (λ c child is. is.in_shape.balanced) starts h.children h.read in
+    let alone = subst (AllByRecursion HaveNoLinks) (sym are) (each-alone (λ c. inline_events g (chain_text g events c)) (λ c. inline-alone g (chain_text g events c)) starts) in
+    subst (IsReady g.tab g.bytes next) (sym h.events) (stays-ready g.tab g.bytes (Some TextContent) events ready next (lists h.children) other balanced alone)

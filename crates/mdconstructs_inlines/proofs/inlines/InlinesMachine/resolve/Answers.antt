@@ -1,0 +1,27 @@
+use Rattle.std.proofs.Common.{None, ap, sym, subst, ◌∙◌}
+use Rattle.markdown_base.specs.declared.state.TheConstants.Name.{TextStart}
+use Rattle.markdown_tokenizer.specs.Resolving.{done}
+use Rattle.mdconstructs_attention.specs.Emphasis.{paired}
+use Rattle.mdconstructs_attention.specs.Places.{ArePlacesInside}
+use Rattle.mdconstructs_attention.specs.RunEdits.{edits_of}
+use Rattle.mdconstructs_attention.specs.Runs.{runs_in}
+use Rattle.mdconstructs_text.specs.TextTable.{begins_construct, follows_construct}
+use Rattle.mdconstructs_inlines.specs.InlineRules.{emphasis_edits, EndsEmphasised}
+use Rattle.mdconstructs_inlines.specs.InlineTable.{inlines}
+use Rattle.mdconstructs_inlines.specs.Laws.Registered.{before-resolver}
+use Rattle.mdconstructs_inlines.proofs.Room.{places-inside}
+use Rattle.mdconstructs_inlines.proofs.inlines.InlinesMachine.resolve.Goals as goal
+
+pub emphasis_edits-requires-clause-room : goal.emphasis_edits-requires-clause-room
+emphasis_edits-requires-clause-room c =
+    let t = c.args.t.now in
+    let h = before-resolver inlines begins_construct follows_construct TextStart tt emphasis_edits EndsEmphasised t.given t.text c.args.name c.requires.invariant.0 t.configuration c.requires.invariant.1 in
+    let inside = places-inside t.given h.document t.configuration.events h.formed.at_places in
+    subst (λ g. ArePlacesInside g.bytes c.events.result.now) (sym c.parse_state.ensures.given) (subst (ArePlacesInside t.given.bytes) (sym c.events.ensures) inside)
+
+pub returns-clause-resolves : goal.returns-clause-resolves
+returns-clause-resolves c =
+    let t = c.args.t.now in
+    let k = t.configuration in
+    let made = c.in_ok-map.ensures ∙ ap (λ es. edits_of (paired (runs_in c.parse_state.result.now.bytes.now es))) c.events.ensures ∙ ap (λ g. emphasis_edits g k.events) c.parse_state.ensures.given in
+    ap (λ es. done (record k { local = record k.local { map = es } }) None) (sym made) ∙ ap (λ u. done u.configuration None) (sym c.put_edits.ensures)

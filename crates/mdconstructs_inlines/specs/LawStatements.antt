@@ -1,0 +1,40 @@
+-- What is promised of inline text.
+use Rattle.std.specs.Prelude.{◌≡◌, List, Some, false, true}
+use Rattle.markdown_base.specs.declared.event.Content.TheVariants.{Text as TextContent}
+use Rattle.markdown_base.specs.declared.event.Event.{Event}
+use Rattle.markdown_base.specs.declared.state.TheConstants.Name.{TextStart}
+use Rattle.markdown_children.specs.Ready.{IsReady}
+use Rattle.markdown_tokenizer.specs.declared.subtokenize.Subresult.{Subresult}
+use Rattle.markdown_tokenizer.specs.Engine.{IsRun, whole_text}
+use Rattle.markdown_tokenizer.specs.Text.{Given, IsDocument}
+use Rattle.mdconstructs_attention.specs.Runs.{with_emphasis}
+use Rattle.mdconstructs_text.specs.ChainTexts.{AreReadBy, StaysReadyBy, chain_text, with_read}
+use Rattle.mdconstructs_inlines.specs.InlineEvents.{inline_events, read_events}
+use Rattle.mdconstructs_inlines.specs.InlineRules.{inlines_rules}
+
+-- these are the events of a run of the machine, from the start of texts, which resolves
+abbrev pub IsRunOfInlines : Given → List Event → Type 0
+IsRunOfInlines g events = (sub : Subresult) × IsRun g inlines_rules true TextStart events sub
+
+-- For each document, a run that resolves returns the events with which its reading ends, with emphasis in place of their delimiter runs
+abbrev pub MakesEmphasis : Type 0
+MakesEmphasis = (g : Given) (events : List Event) (sub : Subresult) → IsDocument g → (run : IsRun g inlines_rules true TextStart events sub)
+    → events ≡ with_emphasis g.bytes run.result.configuration.events
+
+-- For each document, a run that resolves returns the events of inline text; and one that does not, the events that are read
+abbrev pub ReadsInlineText : Type 0
+ReadsInlineText = (g : Given) (events : List Event) (sub : Subresult) → IsDocument g
+    → (IsRun g inlines_rules true TextStart events sub → events ≡ inline_events g (whole_text g))
+    × (IsRun g inlines_rules false TextStart events sub → events ≡ read_events g (whole_text g))
+
+-- the list with each chunk of each chain of text replaced by its part of the inline text of the chain
+abbrev pub with_inlines : Given → List Event → List Event
+with_inlines g events = with_read g events (λ c. inline_events g (chain_text g events c))
+
+-- The machine makes that of each list whose chains of text can be read
+abbrev pub ReadsChainsAsInlineText : Type 0
+ReadsChainsAsInlineText = (g : Given) (events : List Event) → IsDocument g → IsReady g.tab g.bytes (Some TextContent) events → AreReadBy g events inlines_rules (with_inlines g events)
+
+-- and leaves it ready for another content, if it was
+abbrev pub StaysReadyAfterInlineText : Type 0
+StaysReadyAfterInlineText = (g : Given) (events : List Event) → IsDocument g → IsReady g.tab g.bytes (Some TextContent) events → StaysReadyBy g events inlines_rules

@@ -1,0 +1,47 @@
+//! Laws about the machine of inline text. Each is a function that does nothing; its contract is the law.
+
+ghost use Rattle.std.specs.Prelude.{◌+◌, ◌*◌};
+ghost use Rattle.markdown_base.specs.declared.state.TheConstants.Name.{TextStart};
+ghost use Rattle.markdown_tokenizer.specs.Alike.{LooksNoFurther};
+ghost use Rattle.mdconstructs_tables.specs.Refusals.{RulesRefuseNothing};
+ghost use Rattle.mdconstructs_machines.specs.Costs.{StartsAt};
+ghost use Rattle.mdconstructs_inlines.specs.InlineRules.{inlines_rules};
+ghost use Rattle.mdconstructs_inlines.specs.LawStatements.{MakesEmphasis, ReadsChainsAsInlineText, ReadsInlineText, StaysReadyAfterInlineText};
+
+/// How many calls the machine takes at most, on a text of n virtual bytes: as many as that of texts.
+pub fn cost_at_the_start()
+    ensures { StartsAt inlines_rules TextStart (λ n. 4 * n * n + 9 * n + 2) }
+{}
+
+/// No reading by the machine ends in a message, whatever the text and the state: it makes events of every document.
+pub fn no_document_is_refused()
+    ensures { RulesRefuseNothing inlines_rules }
+{}
+
+/// A run that resolves returns the events that were read, with emphasis in place of their delimiter runs.
+pub fn emphasis_takes_the_place_of_runs()
+    ensures { MakesEmphasis }
+{}
+
+/// Inline text is what its definition says: a run that resolves returns `inline_events` of the document, and one that does not, the events
+/// that are read. The definition has no states.
+pub fn inline_text_is_read()
+    ensures { ReadsInlineText }
+{}
+
+/// If the chains of text of a list can be read, `subtokenize` with `Inlines` replaces each chunk by its part of the inline text of the
+/// chain: emphasis goes over the lines of a paragraph.
+pub fn chains_are_read_as_inline_text()
+    ensures { ReadsChainsAsInlineText }
+{}
+
+/// If a list is ready for texts and for another content, it stays ready for that one where its texts were read as inline text.
+pub fn other_chains_stay_ready_after_inline_text()
+    ensures { StaysReadyAfterInlineText }
+{}
+
+/// The machine looks no further than the byte that waits: of a document its tests take the options alone. So a tokenizer that it drives
+/// can go on in another document that begins alike.
+pub fn inline_text_looks_no_further()
+    ensures { LooksNoFurther inlines_rules }
+{}

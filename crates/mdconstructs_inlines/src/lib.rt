@@ -1,0 +1,7 @@
+//! The machine of inline text: what the machine of texts reads, and emphasis.
+#![tactic(auto)]
+
+mod attention;
+pub mod inlines;
+pub mod laws;
+pub mod read;

@@ -1,0 +1,4 @@
+pub mod Orders
+pub mod Parts
+pub mod Searches
+pub mod Tables

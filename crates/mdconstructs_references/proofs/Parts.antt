@@ -1,0 +1,34 @@
+-- The references whose names have one length.
+use Rattle.std.proofs.Common.{◌≡◌, ℕ, List, [], ◌∷◌, Bool, ◌||◌, true, false, ◌==◌, length, refl, sym, ap, ◌∙◌}
+use Rattle.std.proofs.lemmas.Map.Entries.{lookup-filter-keys}
+use Rattle.std.proofs.lemmas.Slice.Eq.{bytes_eq-Decides}
+use Rattle.std.specs.List.{AllByRecursion, filter, list_any}
+use Rattle.std.specs.Prelude.{None, bytes_eq}
+use Rattle.std.proofs.Common.{eq-eqb, eqb-true}
+use Rattle.mdconstructs_references.specs.CharacterReferences.{Reference, character_references}
+use Rattle.mdconstructs_references.specs.References.{characters_in, characters_of}
+
+abbrev pub of_length : ℕ → List Reference → List Reference
+of_length n references = filter (λ reference. length reference.0 == n) references
+
+pub characters_in_part : (n : ℕ) (part : List Reference) (name : List ℕ) → length name ≡ n → part ≡ of_length n character_references → characters_in part name ≡ characters_of name
+unfolding characters_of
+characters_in_part n part name long is =
+    ap (λ references. characters_in references name) is
+    ∙ lookup-filter-keys (bytes_eq name) (λ key. length key == n) true (λ key same. eq-eqb _ _ (ap length (sym ((bytes_eq-Decides name key).0 same)) ∙ long)) character_references
+
+-- a name that is not as each name of a reference is
+pub no_characters : (is_so : List ℕ → Bool) (name : List ℕ) → is_so name ≡ false → character_references ≡ filter (λ reference. is_so reference.0) character_references → characters_of name ≡ None
+unfolding characters_of
+no_characters is_so name other is =
+    ap (λ references. characters_in references name) is
+    ∙ lookup-filter-keys (bytes_eq name) is_so false (λ key same. ap is_so (sym ((bytes_eq-Decides name key).0 same)) ∙ other) character_references
+
+-- a number that is none of these
+pub unlisted : (numbers : List ℕ) (n : ℕ) → AllByRecursion (λ m. n ≡ m → ⊥) numbers → list_any (λ m. n == m) numbers ≡ false
+unlisted [] n all = refl
+unlisted (m ∷ numbers) n all =
+    elim (n == m) as (λ t. (n == m) ≡ t → (t || list_any (λ x. n == x) numbers) ≡ false) [
+      | true ↦ λ e. absurd (all.0 (eqb-true n m e))
+      | false ↦ λ e. unlisted numbers n all.1
+    ] refl

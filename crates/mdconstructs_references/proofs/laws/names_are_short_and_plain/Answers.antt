@@ -1,0 +1,13 @@
+use Rattle.std.proofs.Common.{length, nat_le}
+use Rattle.std.proofs.lemmas.Bool.{lt-leb}
+use Rattle.std.specs.Char.{is_ascii_alphanumeric}
+use Rattle.std.specs.List.{list_all}
+use Rattle.mdconstructs_references.proofs.Parts.{no_characters}
+use Rattle.mdconstructs_references.proofs.Tables.{all_are_short, all_are_plain}
+use Rattle.mdconstructs_references.proofs.laws.names_are_short_and_plain.Goals as goal
+
+pub returns : goal.returns
+returns c = record {
+  short = λ name long. no_characters (λ key. nat_le (length key) 31) name (lt-leb (length name) 31 long) all_are_short;
+  plain = λ name other. no_characters (list_all is_ascii_alphanumeric) name other all_are_plain;
+}

@@ -1,0 +1,2 @@
+pub mod CharacterReferences
+pub mod References
