@@ -1,5 +1,11 @@
 -- What is read with the children of chains of text: it is refused nowhere where rules refuse nothing, its chains can be read, and the
 -- definitions without states say what is read.
+use Rattle.mdconstructs_documents.proofs.FlowTexts.Whole.{inlines-are-read, texts-are-read}
+use Rattle.mdconstructs_inlines.proofs.InlineChains.{chains-read-inline}
+use Rattle.mdconstructs_inlines.proofs.Looks.{inlines-refuse-nothing}
+use Rattle.mdconstructs_inlines.specs.InlineRules.{inlines_rules}
+use Rattle.mdconstructs_inlines.specs.LawStatements.{with_inlines}
+use Rattle.mdconstructs_documents.specs.Documents.{AreFlowInlines}
 use Rattle.mdconstructs_documents.proofs.Prelude.{Unmade, OfFault, NotReady, Memory, Failed, OfMessage, Result, Ok, Err, IsErrOf, IfErr, refl, ◌≡◌, ℕ, List, ⊎_elim, false, true, ap, ◌∙◌, ParseOptions, Event, Message, Name, start_configuration, IsRunRefused, Rules, Given, IsDocument, FlowStart, chain_of, text_of_chain, IsChildRefused, RulesRefuseNothing, none-refused, no-run-refused, Seat, document, virtual_bytes, Gives, GivesDeep, GivesUnready, HasRefusedChild, IsRefusedDeep, HasReadableChains, with_data, with_texts, data_events, paragraph_events, paragraphs_rules, IsReadAs, text_events, text_rules, text-refuses-nothing, HasChildren, AreFlowEvents, AreFlowTexts, chains-read, reads-as-data, reads-items, paragraphs-by-blocks, text-by-blocks}
 
 -- what is not a message, not a failure before and not a list that cannot be read is want of memory
@@ -50,6 +56,16 @@ no-text-refused options bytes flat m h = no-child-refused text_rules text-refuse
 
 -- leaf blocks, with the texts of their chains
 pub flow-texts : (options : ParseOptions) (bytes : List ℕ) → IsDocument (document options bytes) → (flat new : List Event) → AreFlowEvents options bytes flat → HasChildren text_rules options bytes flat new → AreFlowTexts options bytes new
-flow-texts options bytes is flat new run h =
+flow-texts options bytes is flat new are h =
     let g = document options bytes in
-    (flat, run, chains-read g flat is h.0 text_rules (text_events g) (reads-items g) new h.1.0 h.1.1)
+    chains-read g flat is h.0 text_rules (text_events g) (reads-items g) new h.1.0 h.1.1 ∙ ap (with_texts g) are ∙ texts-are-read options bytes is
+
+-- no child that the machine of inline text reads is refused
+pub no-inline-refused : (options : ParseOptions) (bytes : List ℕ) (flat : List Event) (m : Message) → ¬ HasRefusedChild inlines_rules options bytes flat m
+no-inline-refused options bytes flat m h = no-child-refused inlines_rules inlines-refuse-nothing (document options bytes) flat h.1.chain m h.1.refused
+
+-- leaf blocks, with the inline text of their chains
+pub flow-inlines : (options : ParseOptions) (bytes : List ℕ) → IsDocument (document options bytes) → (flat new : List Event) → AreFlowEvents options bytes flat → HasChildren inlines_rules options bytes flat new → AreFlowInlines options bytes new
+flow-inlines options bytes is flat new are h =
+    let g = document options bytes in
+    chains-read-inline g flat is h.0 new h.1.0 h.1.1 ∙ ap (with_inlines g) are ∙ inlines-are-read options bytes is

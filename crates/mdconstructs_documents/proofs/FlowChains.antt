@@ -1,5 +1,3 @@
--- The chains of leaf blocks: each chunk stands directly before the one that it is linked to, through the edits of setext headings too.
+-- The chains of leaf blocks: each chunk stands directly before the one that it is linked to.
 mod Adjoined
-mod Edited
 pub mod Ready
-mod States

@@ -1,5 +1,8 @@
 mod DeepEvents
 mod FlowChains
+mod FlowRuns
+mod FlowTexts
+mod FlowTiles
 mod Formed
 mod Prelude
 mod RangeReads

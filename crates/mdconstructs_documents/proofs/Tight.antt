@@ -9,8 +9,9 @@ use Rattle.mdconstructs_text.proofs.Paragraphs.Formed.{paragraphs-formed}
 use Rattle.mdconstructs_text.proofs.Paragraphs.Tight.{data-stays-tight, texts-stay-tight}
 use Rattle.mdconstructs_text.proofs.Texts.Built.{IsKeptBySpans, flat-built, line-built}
 use Rattle.mdconstructs_text.proofs.Texts.Tight.{data-tight, tight-kept}
-use Rattle.mdconstructs_documents.proofs.FlowChains.Ready.{flow-stays-tight}
-use Rattle.mdconstructs_documents.specs.Documents.{AreEventsOf, AreFlowEvents}
+use Rattle.mdconstructs_documents.proofs.FlowRuns.{flow-formed}
+use Rattle.mdconstructs_documents.proofs.FlowTexts.Whole.{texts-well-formed}
+use Rattle.mdconstructs_documents.specs.Documents.{AreEventsOf}
 use Rattle.mdconstructs_documents.specs.declared.choice.Which.{Which}
 use Rattle.mdconstructs_documents.specs.declared.choice.Which.TheVariants.{Lines, Paragraphs, Peek, Deep, Back, Save, Text, Flow}
 
@@ -29,10 +30,6 @@ module _ (options : ParseOptions) (bytes : List ℕ) (is : IsDocument (document 
   flat-tight : IsVoidTight (paragraph_events bytes seats)
   flat-tight = (paragraphs-formed options.tab_size bytes (let tab = is.tab.0 in omega (arith, tab))).1
 
-  -- what a run of leaf blocks returns is well formed, as the machine promises
-  run-tight : (events : List Event) → AreFlowEvents options bytes events → IsVoidTight events
-  run-tight events h = (h.1.promised refl).void_tight
-
   -- the events of a document are tight
   pub events-tight : (deep : Bool) (which : Which) (events : List Event) → AreEventsOf deep which options bytes events → IsVoidTight events
   events-tight deep Lines events are = subst IsVoidTight (sym are) (flat-built bytes IsVoidTight kept (paragraph_line bytes) (lines_in seats) paragraph-line-tight)
@@ -47,7 +44,5 @@ module _ (options : ParseOptions) (bytes : List ℕ) (is : IsDocument (document 
   events-tight true Paragraphs events are = subst IsVoidTight (sym are) (data-stays-tight (document options bytes) is).new
   events-tight false Text events are = subst IsVoidTight (sym are) flat-tight
   events-tight true Text events are = subst IsVoidTight (sym are) (texts-stay-tight (document options bytes) is).new
-  events-tight false Flow events are = run-tight events are
-  events-tight true Flow events are =
-      let run = are.1 in
-      subst IsVoidTight (sym are.2) (flow-stays-tight (document options bytes) is are.0 run.0 run.1).new
+  events-tight false Flow events are = (flow-formed options bytes is events are).void_tight
+  events-tight true Flow events are = (texts-well-formed options bytes is events are).void_tight

@@ -5,20 +5,19 @@ use Rattle.markdown_base.specs.declared.configuration.Constructs.{Constructs}
 use Rattle.markdown_base.specs.declared.configuration.ParseOptions.{ParseOptions}
 use Rattle.markdown_base.specs.declared.event.Content.TheVariants.{Text as TextContent}
 use Rattle.markdown_base.specs.declared.event.Event.{Event}
-use Rattle.markdown_base.specs.declared.state.TheConstants.Name.{FlowStart}
 use Rattle.markdown_base.specs.Events.{IsBalanced}
 use Rattle.markdown_base.specs.Presets.{default_parse_options}
 use Rattle.markdown_base.specs.Virtual.{Seat, virtual}
 use Rattle.markdown_tokenizer.specs.Text.{Given, IsDocument}
-use Rattle.markdown_tokenizer.specs.declared.subtokenize.Subresult.{Subresult}
 use Rattle.markdown_tokenizer.specs.AtPlaces.{AreAtPlaces}
-use Rattle.markdown_tokenizer.specs.Engine.{IsRun, IsWellFormed, given_by}
+use Rattle.markdown_tokenizer.specs.Engine.{IsWellFormed, given_by}
 use Rattle.markdown_tokenizer.specs.Cuts.{cuts_every}
 use Rattle.markdown_children.specs.Ready.{IsReady}
-use Rattle.mdconstructs_flow.specs.FlowKnows.{flow_rules}
+use Rattle.mdconstructs_blocks.specs.LeafEvents.{flow_events}
 use Rattle.mdconstructs_machines.specs.LineEvents.{line_events, data_events, back_events, save_events}
 use Rattle.mdconstructs_machines.specs.ParagraphEvents.{paragraph_events}
 use Rattle.mdconstructs_text.specs.ChainTexts.{with_data, with_texts}
+use Rattle.mdconstructs_documents.specs.FlowTexts.{flow_inlines, flow_texts}
 use Rattle.mdconstructs_documents.specs.declared.choice.Choice.{Choice}
 use Rattle.mdconstructs_documents.specs.declared.choice.Which.{Which}
 use Rattle.mdconstructs_documents.specs.declared.choice.Which.TheVariants.{Lines, Paragraphs, Peek, Deep, Back, Save, Text, Flow}
@@ -37,26 +36,28 @@ module _ (options : ParseOptions) (bytes : List ℕ) where
   abbrev pub virtual_bytes : List Seat
   virtual_bytes = virtual options.tab_size bytes
 
-  -- Leaf blocks: the events are those that a run of `Flow` returns, with the edits of setext headings made. A lawful machine has one end, so a
-  -- document has one list of them; a definition of it without states is not proved yet
+  -- Leaf blocks: the events of the text's lines, cut into blocks
   abbrev pub AreFlowEvents : List Event → Type 0
-  AreFlowEvents events = (sub : Subresult) × IsRun (document options bytes) flow_rules true FlowStart events sub
+  AreFlowEvents events = events ≡ flow_events options.constructs bytes virtual_bytes
 
   -- the chains of text of a list can be read
   abbrev pub IsReadable : List Event → Type 0
   IsReadable events = IsReady options.tab_size bytes (Some TextContent) events
 
-  -- and with the events of the text of each chain in place of its chunks
+  -- and with the events of their texts in place of chunks
   abbrev pub AreFlowTexts : List Event → Type 0
-  AreFlowTexts events = (flat : List Event) × AreFlowEvents flat × (events ≡ with_texts (document options bytes) flat)
+  AreFlowTexts events = events ≡ flow_texts options.constructs bytes virtual_bytes
+
+  -- or with their texts read as inline text
+  abbrev pub AreFlowInlines : List Event → Type 0
+  AreFlowInlines events = events ≡ flow_inlines options.constructs bytes virtual_bytes
 
 -- the chains of text of what is read of a document as leaf blocks can be read
 abbrev pub ChainsAreReadable : Type 0
 ChainsAreReadable = (options : ParseOptions) (bytes : List ℕ) (events : List Event) → IsDocument (document options bytes) → AreFlowEvents options bytes events → IsReadable options bytes events
 
 -- Events are the events of a document, by the machine that reads it, from the document's lines. Paragraphs have chunks; with `deep`, the
--- events of the text of each chain of chunks are in place of the chunks: its lines as data, or its items. None of it has states, but for
--- `Flow`.
+-- events of the text of each chain of chunks are in place of the chunks: its lines as data, or its items. None of it has states.
 abbrev pub AreEventsOf : (deep : Bool) → Which → ParseOptions → List ℕ → List Event → Type 0
 AreEventsOf deep Lines options bytes events = events ≡ line_events bytes (virtual_bytes options bytes)
 AreEventsOf deep Peek options bytes events = events ≡ data_events bytes (virtual_bytes options bytes)
@@ -75,12 +76,11 @@ pub record Stand (options : ParseOptions) (bytes : List ℕ) (events : List Even
   pub balanced : IsBalanced events
   pub at_places : AreAtPlaces options.tab_size bytes events
 
--- The events of a document are well formed: balanced, at places of it, and in order of these. Where chunks of text were read, they are
--- balanced and at places; their order is not proved yet
+-- The events of a document are well formed: balanced, at places of it, and in order of these. Where the chunks of paragraphs alone were read,
+-- they are balanced and at places; their order is not proved yet
 abbrev pub AreFormed : Which → (deep : Bool) → ParseOptions → List ℕ → List Event → Type 0
 AreFormed Paragraphs true options bytes events = Stand options bytes events
 AreFormed Text true options bytes events = Stand options bytes events
-AreFormed Flow true options bytes events = Stand options bytes events
 AreFormed which deep options bytes events = IsWellFormed (document options bytes) events
 
 -- the places at which a document is cut: none, or every n-th of its virtual bytes

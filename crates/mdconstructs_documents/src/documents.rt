@@ -3,11 +3,11 @@
 ghost use Rattle.std.specs.Prelude.{◌≡◌, IfOk, IfErr, IsOk};
 ghost use Rattle.markdown_base.specs.Events.{IsVoidTight};
 ghost use Rattle.markdown_base.specs.Virtual.{IsWithinLimit};
-ghost use Rattle.markdown_tokenizer.specs.Engine.{AreCuts, given_by, whole_text};
+ghost use Rattle.markdown_tokenizer.specs.Engine.{AreCuts, IsWellFormed, given_by, whole_text};
 ghost use Rattle.markdown_tokenizer.specs.Text.{IsDocument};
 ghost use Rattle.mdconstructs_text.specs.TextEvents.{text_events};
 ghost use Rattle.mdconstructs_documents.specs.Choices.{CanCut};
-ghost use Rattle.mdconstructs_documents.specs.Documents.{document, options_with, cut_places, AreEventsOf, AreFlowEvents, AreFlowTexts, AreFormed, Stand};
+ghost use Rattle.mdconstructs_documents.specs.Documents.{document, options_with, cut_places, AreEventsOf, AreFlowEvents, AreFlowInlines, AreFlowTexts, AreFormed};
 
 use crate::choice::{Choice, Which};
 use crate::making::{Unmade, read_by, read_deep_by, read_resolved_by, with_children};
@@ -16,6 +16,7 @@ use markdown_base::event::Event;
 use markdown_base::state::Name;
 use markdown_tokenizer::tokenizer::{Fault, cuts_every};
 use mdconstructs_flow::flow::Flow;
+use mdconstructs_inlines::inlines::Inlines;
 use mdconstructs_machines::back::Back;
 use mdconstructs_machines::deep::Deep;
 use mdconstructs_machines::lines::Lines;
@@ -45,6 +46,30 @@ pub fn events_of(
     ensures tight { IfOk result (λ events. IsVoidTight events.items) }
 {
     match read_as(alloc, bytes, constructs, choice) {
+        Ok(events) => Ok(events),
+        Err(Unmade::Fault(Fault::Memory)) => Err(AllocError),
+        Err(_) => unreachable!(),
+    }
+}
+
+/// The events of a document: its leaf blocks, each text of them read as inline text, so that emphasis stands in its block. The document
+/// is cut at these places, which leave no trace in the events.
+///
+/// The events are what a definition without states says of the document's lines (CommonMark, "Leaf blocks" and "Inlines", without what
+/// the machines do not read yet). They are well formed: balanced, each void span empty, at places of the document, and in order of these.
+/// It fails only if it runs out of memory.
+pub fn read_document(
+    alloc: Global,
+    bytes: &[u8],
+    options: &ParseOptions,
+    cuts: &[(usize, usize)],
+) -> Result<Vec<Event>, AllocError>
+    requires limit { IsWithinLimit options.now.tab_size bytes.now }
+    requires cuts { AreCuts options.now.tab_size bytes.now cuts.now }
+    ensures events { IfOk result (λ events. AreFlowInlines options.now bytes.now events.items) }
+    ensures formed { IfOk result (λ events. IsWellFormed (document options.now bytes.now) events.items) }
+{
+    match read_flow_and_inlines(alloc, bytes, options, cuts) {
         Ok(events) => Ok(events),
         Err(Unmade::Fault(Fault::Memory)) => Err(AllocError),
         Err(_) => unreachable!(),
@@ -152,12 +177,29 @@ fn read_flow_and_texts(
     requires limit { IsWithinLimit options.now.tab_size bytes.now }
     requires cuts { AreCuts options.now.tab_size bytes.now cuts.now }
     ensures events { IfOk result (λ events. AreFlowTexts options.now bytes.now events.items) }
-    ensures stand { IfOk result (λ events. Stand options.now bytes.now events.items) }
+    ensures formed { IfOk result (λ events. IsWellFormed (document options.now bytes.now) events.items) }
     ensures err { IfErr result (λ unmade. unmade ≡ Unmade.Fault Fault.Memory) }
     ensures document { IsDocument (document options.now bytes.now) }
 {
     let events = read_flow(alloc, bytes, options, cuts)?;
     with_children(alloc, &Text {}, bytes, options, events)
+}
+
+/// As [`read_document`], with the reason for which there are no events.
+fn read_flow_and_inlines(
+    alloc: Global,
+    bytes: &[u8],
+    options: &ParseOptions,
+    cuts: &[(usize, usize)],
+) -> Result<Vec<Event>, Unmade>
+    requires limit { IsWithinLimit options.now.tab_size bytes.now }
+    requires cuts { AreCuts options.now.tab_size bytes.now cuts.now }
+    ensures events { IfOk result (λ events. AreFlowInlines options.now bytes.now events.items) }
+    ensures formed { IfOk result (λ events. IsWellFormed (document options.now bytes.now) events.items) }
+    ensures err { IfErr result (λ unmade. unmade ≡ Unmade.Fault Fault.Memory) }
+{
+    let events = read_flow(alloc, bytes, options, cuts)?;
+    with_children(alloc, &Inlines {}, bytes, options, events)
 }
 
 /// The places at which a document is cut.

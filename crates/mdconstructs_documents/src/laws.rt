@@ -1,8 +1,9 @@
 //! The laws about documents. Each is a function that does nothing; its contract is the law.
 
 ghost use Rattle.mdconstructs_documents.specs.Documents.{ChainsAreReadable};
+ghost use Rattle.mdconstructs_documents.specs.FlowTextLaws.{InlinesAreFormed, InlinesAreRead, TextsAccount, TextsAreFormed, TextsAreRead};
 ghost use Rattle.mdconstructs_documents.specs.Tiles.{TilesDocuments};
-ghost use Rattle.mdconstructs_documents.specs.declared.choice.Which.TheVariants.{Lines, Paragraphs, Text};
+ghost use Rattle.mdconstructs_documents.specs.declared.choice.Which.TheVariants.{Flow, Lines, Paragraphs, Text};
 
 use mdconstructs_text::laws::innermost_spans_account_for_children;
 
@@ -12,6 +13,7 @@ pub fn innermost_spans_tile_documents()
     ensures lines { TilesDocuments Lines }
     ensures paragraphs { TilesDocuments Paragraphs }
     ensures text { TilesDocuments Text }
+    ensures flow { TilesDocuments Flow }
 {
     innermost_spans_account_for_children();
 }
@@ -20,4 +22,32 @@ pub fn innermost_spans_tile_documents()
 /// be called.
 pub fn chains_of_leaf_blocks_can_be_read()
     ensures { ChainsAreReadable }
+{}
+
+/// Where the texts of leaf blocks are read, each text stands in its block: the list with the events of each chain's text in place of its
+/// chunks is what a definition says of the lines. It has neither chains nor parts.
+pub fn texts_stand_in_their_blocks()
+    ensures { TextsAreRead }
+{}
+
+/// And where the texts are read as inline text: emphasis stands in its block.
+pub fn inline_texts_stand_in_their_blocks()
+    ensures { InlinesAreRead }
+{}
+
+/// The events of a document's leaf blocks with inline text are well formed: emphasis keeps places in order, and each of its own is one of
+/// the document.
+pub fn inline_texts_in_their_blocks_are_well_formed()
+    ensures { InlinesAreFormed }
+{}
+
+/// Each virtual byte is in exactly one innermost span of the events of leaf blocks with their texts.
+pub fn texts_in_their_blocks_account_for_each_byte()
+    ensures { TextsAccount }
+{}
+
+/// The events of a document's leaf blocks with their texts are well formed: balanced, each void span empty, at places of the document, and
+/// in order of these.
+pub fn texts_in_their_blocks_are_well_formed()
+    ensures { TextsAreFormed }
 {}

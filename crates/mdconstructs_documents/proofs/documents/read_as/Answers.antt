@@ -1,5 +1,6 @@
-use Rattle.mdconstructs_documents.proofs.Prelude.{false, refl, FlowStart, TextStart, StringStart, back-reads, deep-reads, lines-read, peek-reads, save-reads, paragraphs-by-blocks, text-by-blocks, line_events, data_events, back_events, save_events, paragraph_events, IfOk-weaker, no-run-refused, lines_rules, paragraphs_rules, peek_rules, deep_rules, back_rules, save_rules, lines-refuse-nothing, paragraphs-refuse-nothing, peek-refuses-nothing, deep-refuses-nothing, back-refuses-nothing, save-refuses-nothing, text_rules, text-refuses-nothing, paragraphs-readable, text-readable}
+use Rattle.mdconstructs_documents.proofs.Prelude.{false, FlowStart, TextStart, StringStart, back-reads, deep-reads, lines-read, peek-reads, save-reads, paragraphs-by-blocks, text-by-blocks, line_events, data_events, back_events, save_events, paragraph_events, IfOk-weaker, no-run-refused, lines_rules, paragraphs_rules, peek_rules, deep_rules, back_rules, save_rules, lines-refuse-nothing, paragraphs-refuse-nothing, peek-refuses-nothing, deep-refuses-nothing, back-refuses-nothing, save-refuses-nothing, text_rules, text-refuses-nothing, paragraphs-readable, text-readable}
 use Rattle.mdconstructs_documents.proofs.DeepEvents.{only-memory, none-refused-deep, all-ready, flat-events, with-data, with-texts}
+use Rattle.mdconstructs_documents.proofs.FlowRuns.{flow-formed}
 use Rattle.mdconstructs_documents.proofs.Formed.{data-stand, run-formed, texts-stand}
 use Rattle.mdconstructs_documents.proofs.documents.read_as.Goals as goal
 
@@ -76,10 +77,12 @@ pub returns-in-Text-2-clause-formed : goal.returns-in-Text-2-clause-formed
 returns-in-Text-2-clause-formed c = rw (c.in-Text-2.is, c.if-choice-2.false) (IfOk-weaker c.read_by-in-Text-2.result _ _ (λ events h. run-formed _ text_rules FlowStart events.items h.0 h.1) (rw c.options_with.ensures at c.read_by-in-Text-2.ensures.events))
 
 pub returns-clause-formed : goal.returns-clause-formed
-returns-clause-formed c = rw (c.in-Flow-2.is, c.if-choice-3.false) (IfOk-weaker c.read_flow.result _ _ (λ events h. h.1.promised refl) (rw c.options_with.ensures at c.read_flow.ensures.events))
+returns-clause-formed c =
+    let document = rw c.options_with.ensures at c.read_flow.ensures.document in
+    rw c.in-Flow-2.is (IfOk-weaker c.read_flow.result _ _ (λ events h. flow-formed _ c.args.bytes.now document events.items h) (rw c.options_with.ensures at c.read_flow.ensures.events))
 
 pub returns-in-Flow-clause-formed : goal.returns-in-Flow-clause-formed
-returns-in-Flow-clause-formed c = rw (c.in-Flow.is, c.if-choice-3.true) (rw c.options_with.ensures at c.read_flow_and_texts.ensures.stand)
+returns-in-Flow-clause-formed c = rw c.in-Flow.is (rw c.options_with.ensures at c.read_flow_and_texts.ensures.formed)
 
 pub returns-in-Paragraphs-clause-formed : goal.returns-in-Paragraphs-clause-formed
 returns-in-Paragraphs-clause-formed c =

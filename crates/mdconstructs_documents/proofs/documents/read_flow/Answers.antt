@@ -1,6 +1,11 @@
-use Rattle.mdconstructs_documents.proofs.Prelude.{flow_rules, flow-refuses-nothing, no-run-refused, true}
+use Rattle.mdconstructs_documents.proofs.Prelude.{flow_rules, flow-refuses-nothing, no-run-refused, true, IfOk-weaker}
 use Rattle.mdconstructs_documents.proofs.DeepEvents.{only-memory}
+use Rattle.mdconstructs_blocks.proofs.Whole.WholeFlow.{whole-flow-is-read}
+use Rattle.mdconstructs_documents.proofs.FlowRuns.{run-is-flow}
 use Rattle.mdconstructs_documents.proofs.documents.read_flow.Goals as goal
+
+pub returns-clause-events : goal.returns-clause-events
+returns-clause-events c = IfOk-weaker c.read_resolved_by.result _ _ (λ events h. run-is-flow whole-flow-is-read _ c.read_resolved_by.ensures.document events.items h.0 h.1) c.read_resolved_by.ensures.events
 
 pub returns-clause-err : goal.returns-clause-err
 returns-clause-err c =

@@ -2,7 +2,7 @@ use Rattle.markdown_tokenizer.proofs.Runs.Whole.{err-if}
 use Rattle.mdconstructs_documents.proofs.Prelude.{◌≡◌, ◌∙◌, refl, arith, IfOk-weaker, OfFault, Memory}
 use Rattle.mdconstructs_documents.proofs.DeepEvents.{only-memory, no-text-refused, flow-texts}
 use Rattle.mdconstructs_documents.proofs.FlowChains.Ready.{flow-readable}
-use Rattle.mdconstructs_documents.proofs.Formed.{children-stand}
+use Rattle.mdconstructs_documents.proofs.FlowTexts.Whole.{texts-well-formed}
 use Rattle.mdconstructs_documents.proofs.documents.read_flow_and_texts.Goals as goal
 
 pub returns-in_err-events-clause-err : goal.returns-in_err-events-clause-err
@@ -17,9 +17,10 @@ pub returns-clause-events : goal.returns-clause-events
 returns-clause-events c =
     IfOk-weaker c.with_children.result _ _ (λ events h. flow-texts c.args.options.now c.args.bytes.now c.read_flow.ensures.document c.in_ok-events.events.items events.items c.in_ok-events.ensures.events h) c.with_children.ensures.events
 
-pub returns-clause-stand : goal.returns-clause-stand
-returns-clause-stand c =
-    IfOk-weaker c.with_children.result _ _ (λ events h. children-stand c.args.options.now c.args.bytes.now c.read_flow.ensures.document events.items c.in_ok-events.events.items (c.in_ok-events.ensures.events.1.promised refl).at_places h) c.with_children.ensures.events
+pub returns-clause-formed : goal.returns-clause-formed
+returns-clause-formed c = IfOk-weaker c.with_children.result _ _ (λ events h.
+    texts-well-formed c.args.options.now c.args.bytes.now c.read_flow.ensures.document events.items
+    (flow-texts c.args.options.now c.args.bytes.now c.read_flow.ensures.document c.in_ok-events.events.items events.items c.in_ok-events.ensures.events h)) c.with_children.ensures.events
 
 pub returns-clause-err : goal.returns-clause-err
 returns-clause-err c =

@@ -1,6 +1,7 @@
 use Rattle.mdconstructs_documents.proofs.Prelude.{true, false, sym, subst, virtual_bytes, document, Tile, lines-account-for, paragraphs-account}
 use Rattle.mdconstructs_documents.specs.Documents.{AreEventsOf}
 use Rattle.mdconstructs_documents.specs.declared.choice.Which.TheVariants.{Paragraphs, Text}
+use Rattle.mdconstructs_documents.proofs.FlowTiles.{flow-tiles}
 use Rattle.mdconstructs_documents.proofs.Tiled.{tiled}
 use Rattle.mdconstructs_documents.proofs.laws.innermost_spans_tile_documents.Goals as goal
 
@@ -19,3 +20,6 @@ returns-clause-text c = λ options bytes deep events d. elim deep as (λ is_deep
   | false ↦ λ are. subst (Tile options.tab_size bytes) (sym are) (tiled options.tab_size bytes d.tab.0 _ (paragraphs-account bytes (virtual_bytes options bytes)))
   | true ↦ λ are. subst (Tile options.tab_size bytes) (sym are) (tiled options.tab_size bytes d.tab.0 _ (c.innermost_spans_account_for_children.ensures.texts (document options bytes) d))
 ]
+
+pub returns-clause-flow : goal.returns-clause-flow
+returns-clause-flow c = flow-tiles

@@ -1,0 +1,21 @@
+-- A run over a document returns the events of its leaf blocks, and these are well formed.
+use Rattle.mdconstructs_documents.proofs.Prelude.{◌≡◌, ◌∙◌, ℕ, List, true, subst, sym, Event, FlowStart, Given, IsDocument, virtual, flow_rules, AreFlowEvents, ParseOptions, document}
+use Rattle.markdown_tokenizer.specs.Engine.{IsRun, IsWellFormed, whole_text}
+use Rattle.markdown_tokenizer.specs.declared.subtokenize.Subresult.{Subresult}
+use Rattle.mdconstructs_blocks.proofs.Marks.BlocksFormed.{blocks-are-formed}
+use Rattle.mdconstructs_blocks.proofs.Whole.FlowEnds.{flow-ends}
+use Rattle.mdconstructs_blocks.proofs.Lines.Rooms.{has-room}
+use Rattle.mdconstructs_blocks.specs.FlowRead.{FlowIsRead}
+use Rattle.mdconstructs_blocks.specs.LeafEvents.{flow_events}
+
+module _ (read : FlowIsRead) (g : Given) (is : IsDocument g) where
+  abbrev blocks_events : List Event
+  blocks_events = flow_events g.options.constructs g.bytes (virtual g.tab g.bytes)
+
+  -- what a run returns
+  pub run-is-flow : (events : List Event) (sub : Subresult) → IsRun g flow_rules true FlowStart events sub → events ≡ blocks_events
+  run-is-flow events sub run = run.events ∙ (flow-ends read g (whole_text g) (has-room g is) run.result run.ends).events_are run.final sub run.resolved
+
+-- the events of leaf blocks of a document are well formed
+pub flow-formed : (options : ParseOptions) (bytes : List ℕ) → IsDocument (document options bytes) → (events : List Event) → AreFlowEvents options bytes events → IsWellFormed (document options bytes) events
+flow-formed options bytes is events are = subst (IsWellFormed (document options bytes)) (sym are) (blocks-are-formed.blocks (document options bytes) is)

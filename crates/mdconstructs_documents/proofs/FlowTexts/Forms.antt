@@ -1,0 +1,137 @@
+-- The events of leaf blocks with their texts are well formed: balanced, void spans empty, at places, and in order of these.
+use Rattle.std.proofs.Common.{◌≡◌, ℕ, List, [], ◌∷◌, ◌++◌, true, false, Some, append_assoc, refl, sym, ap, ◌∙◌, subst}
+use Rattle.std.specs.List.{AllByRecursion, flat_map}
+use Rattle.markdown_base.proofs.Common.{every-append}
+use Rattle.markdown_base.proofs.Seats.{end-after-append, stands-self}
+use Rattle.markdown_base.specs.declared.configuration.Constructs.{Constructs}
+use Rattle.markdown_base.specs.declared.event.Event.{Event}
+use Rattle.markdown_base.specs.declared.event.Kind.{Kind}
+use Rattle.markdown_base.specs.declared.event.Kind.TheVariants.{Enter, Exit}
+use Rattle.markdown_base.specs.declared.event.Name.{Name}
+use Rattle.markdown_base.specs.declared.event.Point.{Point}
+use Rattle.markdown_base.specs.Events.{is_void}
+use Rattle.markdown_base.specs.Places.{shown, stands_before}
+use Rattle.markdown_base.specs.Virtual.{Seat, end_after, point, virtual}
+use Rattle.markdown_edits.proofs.Balanced.{names_after_all-append}
+use Rattle.markdown_edits.specs.OpenNames.{names_after_all}
+use Rattle.markdown_tokenizer.specs.Text.{empty_text}
+use Rattle.mdconstructs_machines.specs.LineEvents.{lines_in}
+use Rattle.mdconstructs_machines.specs.Spans.{event, leaf, span}
+use Rattle.mdconstructs_text.proofs.DeepSpans.Atoms.{Atom, all_at, atom_events, atom_seats, events_of, seats_of}
+use Rattle.mdconstructs_text.proofs.Texts.Built.{IsKeptBySpans}
+use Rattle.mdconstructs_text.proofs.Texts.ItemsBuilt.{text-built}
+use Rattle.mdconstructs_text.specs.TextEvents.{seat_events}
+use Rattle.mdconstructs_blocks.proofs.Marks.MarkForms.{AreTight, Formed, Forms, InOrder, Place, Track, forms-kept, name-closed, order-both, tight-both, track-on, track-place, track-upto, whole-formed}
+use Rattle.mdconstructs_blocks.specs.LeafBlocks.{leaf_blocks}
+use Rattle.mdconstructs_documents.specs.Documents.{document, options_with}
+use Rattle.mdconstructs_documents.specs.FlowTextLaws.{TextsAreFormed}
+use Rattle.mdconstructs_documents.specs.FlowTexts.{block_texts, read_marks}
+use Rattle.mdconstructs_documents.proofs.FlowTexts.Accounts.{bare-marks, read-cut}
+use Rattle.mdconstructs_documents.proofs.FlowTexts.Spans.{texts-keep}
+
+-- ---- shape: the events leave each stack of open names, and void spans are empty
+-- the events leave each stack of open names as it is
+abbrev LeaveNames : List Event → Type 0
+LeaveNames es = (st : List Name) → names_after_all (Some st) es ≡ Some st
+
+names-both : (xs ys : List Event) → LeaveNames xs → LeaveNames ys → LeaveNames (xs ++ ys)
+names-both xs ys h k st = names_after_all-append (Some st) xs ys ∙ ap (λ o. names_after_all o ys) (h st) ∙ k st
+
+exit-tight : (e : Event) → e.kind ≡ Exit → AreTight (e ∷ [])
+exit-tight e exits = ((λ enters void. let no : Exit ≡ Enter = sym exits ∙ enters in absurd (cc)), tt)
+
+module _ (bytes : List ℕ) where
+  names-span : (n : Name) (seats : List Seat) (es : List Event) → LeaveNames es → LeaveNames (span bytes n seats es)
+  names-span n [] es h st = h st
+  names-span n (s ∷ ss) es h st =
+      let exit = event bytes Exit n (end_after s.end ss) in
+      names_after_all-append (Some (n ∷ st)) es (exit ∷ []) ∙ ap (λ o. names_after_all o (exit ∷ [])) (h (n ∷ st)) ∙ name-closed exit n st refl refl
+
+  names-leaf : (n : Name) (seats : List Seat) → LeaveNames (leaf bytes n seats)
+  names-leaf n [] st = refl
+  names-leaf n (s ∷ ss) st = name-closed (event bytes Exit n (end_after s.end ss)) n st refl refl
+
+  names-kept : IsKeptBySpans bytes LeaveNames
+  names-kept = record { none = λ st. refl; both = names-both; alone = names-leaf; around = λ n seats es other h. names-span n seats es h }
+
+  tight-leaf : (n : Name) (seats : List Seat) → AreTight (leaf bytes n seats)
+  tight-leaf n [] = tt
+  tight-leaf n (s ∷ ss) = ((λ enters void. (refl, refl)), exit-tight (event bytes Exit n (end_after s.end ss)) refl)
+
+  tight-span : (n : Name) (seats : List Seat) (es : List Event) → is_void n ≡ false → AreTight es → AreTight (span bytes n seats es)
+  tight-span n [] es other h = h
+  tight-span n (s ∷ ss) es other h =
+      let exit = event bytes Exit n (end_after s.end ss) in
+      ((λ enters void. absurd (let no : false ≡ true = sym other ∙ void in cc)), tight-both es (exit ∷ []) h (exit-tight exit refl))
+
+  pub tight-kept : IsKeptBySpans bytes AreTight
+  tight-kept = record { none = tt; both = tight-both; alone = tight-leaf; around = tight-span }
+
+-- ---- places: those of atoms are in order
+module _ (t : ℕ) (bytes : List ℕ) where
+  order-at : (k : Kind) (p : Point) (names : List Name) → InOrder (shown bytes p) (all_at bytes k p names) (shown bytes p)
+  order-at k p [] = stands-self (shown bytes p)
+  order-at k p (n ∷ ns) = (stands-self (shown bytes p), order-at k p ns)
+
+  places-at : (k : Kind) (p : Point) (names : List Name) → Place t bytes (shown bytes p) → AllByRecursion (λ (e : Event). Place t bytes e.point) (all_at bytes k p names)
+  places-at k p [] h = tt
+  places-at k p (n ∷ ns) h = (h, places-at k p ns h)
+
+  -- Events between two places, in order and at places
+  pub record Ordered (p : Point) (es : List Event) (q : Point) : Type 0 where
+    pub order : InOrder p es q
+    pub places : AllByRecursion (λ (e : Event). Place t bytes e.point) es
+
+  pub ordered-both : (p : Point) (xs : List Event) (m : Point) (ys : List Event) (q : Point) → Ordered p xs m → Ordered m ys q → Ordered p (xs ++ ys) q
+  ordered-both p xs m ys q h k = record { order = order-both p xs m ys q h.order k.order; places = every-append (λ (e : Event). Place t bytes e.point) xs ys h.places k.places }
+
+  ordered-at : (k : Kind) (p q : Point) (names : List Name) → shown bytes p ≡ q → Place t bytes q → Ordered q (all_at bytes k p names) q
+  ordered-at k p q names is place =
+      record { order = subst (λ r. InOrder r (all_at bytes k p names) r) is (order-at k p names); places = places-at k p names (subst (Place t bytes) (sym is) place) }
+
+  ordered-pair : (p q r s : Point) (n : Name) → shown bytes r ≡ p → shown bytes s ≡ q → stands_before q p ≡ false → Place t bytes p → Place t bytes q → Ordered p (event bytes Enter n r ∷ event bytes Exit n s ∷ []) q
+  ordered-pair p q r s n from to upto here there =
+      let first : stands_before (shown bytes r) p ≡ false = subst (λ x. stands_before x p ≡ false) (sym from) (stands-self p) in
+      let second : stands_before (shown bytes s) (shown bytes r) ≡ false = (λ i. stands_before (to i) (from i)) ∙ upto in
+      let last : stands_before q (shown bytes s) ≡ false = subst (λ x. stands_before q x ≡ false) (sym to) (stands-self q) in
+      record { order = (first, (second, last)); places = (subst (Place t bytes) (sym from) here, (subst (Place t bytes) (sym to) there, tt)) }
+
+  ordered-atom : (p : Point) (a : Atom) (rest : List Seat) → Track t bytes p (atom_seats a ++ rest) → Ordered p (atom_events bytes a) (end_after p (atom_seats a))
+  ordered-atom p a rest track =
+      let q = end_after a.first.end a.others in
+      let there = track-place t bytes q rest (track-on t bytes p (atom_seats a) rest track) in
+      let upto = track-upto t bytes p (atom_seats a) rest track in
+      let exits = all_at bytes Exit q a.exits in
+      let pair = event bytes Enter a.name a.first.point ∷ event bytes Exit a.name q ∷ [] in
+      ordered-both p (all_at bytes Enter a.first.point a.enters) p (pair ++ exits) q (ordered-at Enter a.first.point p a.enters track.1 track.0)
+      (ordered-both p pair q exits q (ordered-pair p q a.first.point q a.name track.1 there.is_shown upto track.0 there) (ordered-at Exit q q a.exits there.is_shown there))
+
+  pub ordered-atoms : (p : Point) (atoms : List Atom) (rest : List Seat) → Track t bytes p (seats_of atoms ++ rest) → Ordered p (events_of bytes atoms) (end_after p (seats_of atoms))
+  ordered-atoms p [] rest track = record { order = stands-self p; places = tt }
+  ordered-atoms p (a ∷ atoms) rest track =
+      let seats = seats_of atoms in
+      let whole = subst (Track t bytes p) (append_assoc (atom_seats a) seats rest) track in
+      let m = end_after p (atom_seats a) in
+      let more = ordered-atoms m atoms rest (track-on t bytes p (atom_seats a) (seats ++ rest) whole) in
+      subst (Ordered p (events_of bytes (a ∷ atoms))) (sym (end-after-append p (atom_seats a) seats))
+      (ordered-both p (atom_events bytes a) m (events_of bytes atoms) (end_after m seats) (ordered-atom p a (seats ++ rest) whole) more)
+
+  -- ---- the events of a text
+  module _ (on : Constructs) where
+    built : (P : List Event → Type 0) → IsKeptBySpans bytes P → (seats : List Seat) → P (seat_events on bytes seats)
+    built P kept seats = text-built (document (options_with on 4) bytes) P kept (record (empty_text (point 1 1 0 0)) { seats = seats })
+
+    read-forms : (seats : List Seat) → Forms t bytes (read_marks (seat_events on bytes) bytes seats) seats
+    read-forms seats p rest track =
+        let es = seat_events on bytes seats in
+        let cut = read-cut on bytes seats in
+        let ordered = ordered-atoms p cut.atoms rest (subst (λ l. Track t bytes p (l ++ rest)) cut.all track) in
+        let placed = subst (λ l. Ordered p l (end_after p seats)) (sym cut.are) (subst (λ l. Ordered p (events_of bytes cut.atoms) (end_after p l)) (sym cut.all) ordered) in
+        subst (λ l. Formed t bytes p l (end_after p seats)) (sym (bare-marks es))
+        (record { balanced = built LeaveNames (names-kept bytes) seats; tight = built AreTight (tight-kept bytes) seats; order = placed.order; places = placed.places })
+
+pub texts-formed : TextsAreFormed
+texts-formed g is =
+    let on = g.options.constructs in
+    let seats = virtual g.tab g.bytes in
+    whole-formed g is (flat_map (block_texts (seat_events on g.bytes) g.bytes) (leaf_blocks on (lines_in seats))) (texts-keep on (seat_events on g.bytes) g.bytes (Forms g.tab g.bytes) (forms-kept g.tab g.bytes) (read-forms g.tab g.bytes on) seats)

@@ -1,0 +1,294 @@
+-- Delimiter runs of inline text go byte by byte: none goes over a tab or a line ending; and no other item has an attention sequence.
+use Rattle.std.proofs.Common.{◌≡◌, ℕ, zero, suc, ◌+◌, ◌-◌, ◌≤◌, ◌<◌, ◌==◌, Bool, true, false, cond, List, [], ◌∷◌, ◌++◌, Option, Some, None, append_assoc, length, take, drop, refl, sym, ap, ◌∙◌, subst, arith}
+use Rattle.std.specs.Char.{is_ascii_punctuation}
+use Rattle.std.specs.Prelude.{◌&&◌, not, option_map}
+use Rattle.std.specs.List.{AllByRecursion, between, flat_map, prefix_len}
+use Rattle.std.proofs.lemmas.Bool.{eqb-true}
+use Rattle.std.proofs.lemmas.List.{take-append-drop}
+use Rattle.markdown_base.proofs.Common.{and-right, every-append}
+use Rattle.markdown_base.specs.declared.configuration.Constructs.{Constructs}
+use Rattle.markdown_base.specs.declared.event.Event.{Event}
+use Rattle.markdown_base.specs.declared.event.Kind.TheVariants.{Enter, Exit}
+use Rattle.markdown_base.specs.declared.event.Name.{Name}
+use Rattle.markdown_base.specs.declared.event.Name.TheVariants.{AttentionSequence, Autolink, AutolinkMarker, AutolinkProtocol, CharacterEscape, CharacterEscapeMarker, CharacterEscapeValue, CodeText, CodeTextData, CodeTextSequence, Data, LineEnding}
+use Rattle.markdown_base.specs.declared.event.Point.{Point}
+use Rattle.markdown_base.specs.Events.{is_enter, same_name}
+use Rattle.markdown_base.specs.Places.{shown}
+use Rattle.markdown_base.specs.Virtual.{Seat, begins_with_lf, end_after, in_tab, point, tab_width, virtual, virtual_from}
+use Rattle.markdown_tokenizer.proofs.Positions.Chains.{shown-other}
+use Rattle.markdown_tokenizer.proofs.Positions.Order.{every-back, every-front}
+use Rattle.markdown_tokenizer.proofs.Positions.Seats.{drop-first}
+use Rattle.mdconstructs_attention.proofs.RunTexts.{and-left}
+use Rattle.mdconstructs_attention.specs.Emphasis.{later}
+use Rattle.mdconstructs_attention.specs.Runs.{is_sequence}
+use Rattle.mdconstructs_machines.specs.Spans.{event, leaf, span}
+use Rattle.mdconstructs_text.proofs.Constructs.Apart.{OfOption, there-holds, when-there}
+use Rattle.mdconstructs_text.proofs.Texts.Built.{IsKeptBySpans}
+use Rattle.mdconstructs_text.specs.Autolink.{autolink, autolink_at, autolink_to, uri}
+use Rattle.mdconstructs_text.specs.Bytes.{backticks, has_byte_at, is_backslash, is_backtick, is_greater_than, is_less_than}
+use Rattle.mdconstructs_text.specs.CodeSpan.{before_backtick_string, code_span, code_span_at, pieces}
+use Rattle.mdconstructs_text.specs.Construct.{Found}
+use Rattle.mdconstructs_text.specs.Escape.{escape, escape_at}
+use Rattle.mdconstructs_text.specs.Items.{item_length, text_grammars}
+use Rattle.mdconstructs_text.specs.Parts.{Part, line_ending, plain_run, bytes_of, cut, part, part_at, part_events}
+use Rattle.mdconstructs_text.specs.TextEvents.{item_events}
+use Rattle.mdconstructs_inlines.proofs.InlineBuilt.{items-built}
+use Rattle.mdconstructs_inlines.specs.InlineEvents.{begins_run, delimiter_run, ends_data, inline_item_at, run_length, run_or_part}
+use Rattle.mdconstructs_inlines.specs.RunRows.{is_delimiter}
+use Rattle.mdconstructs_blocks.proofs.Marks.MarkForms.{Place, Track, track-on, track-place}
+use Rattle.mdconstructs_documents.proofs.FlowTexts.InlineOrder.{Next, RunSteps, RunsStep, Walk, later-later, later-none}
+
+-- ---- delimiters among virtual bytes
+-- behind a delimiter is the place one byte later; and it is shown at itself
+abbrev pub Steps : List ℕ → Seat → Type 0
+Steps bytes s = is_delimiter s.byte ≡ true → (s.end ≡ later 1 s.point) × (shown bytes s.point ≡ s.point)
+
+module _ (bytes : List ℕ) where
+  steps-tab : (b n l c i v : ℕ) → is_delimiter b ≡ false → AllByRecursion (Steps bytes) (in_tab b n l c i v)
+  steps-tab b zero l c i v other = tt
+  steps-tab b (suc n) l c i v other = ((λ is. let no : true ≡ false = sym is ∙ other in absurd (cc)), steps-tab 32 n l (suc c) i (suc v) refl)
+
+  steps-other : (b l c i : ℕ) (bs : List ℕ) → drop i bytes ≡ b ∷ bs → is_delimiter b ≡ true → (point l (suc c) (suc i) 0 ≡ later 1 (point l c i 0)) × (shown bytes (point l c i 0) ≡ point l c i 0)
+  steps-other b l c i bs at is =
+      let column : suc c ≡ c + 1 = omega arith in
+      let index : suc i ≡ i + 1 = omega arith in (
+        λ j. point l (column j) (index j) 0,
+        shown-other bytes (point l c i 0) (λ ten. let b-ten : b ≡ 10 = sym (drop-first i bytes b bs at).1 ∙ ten in let no : is_delimiter 10 ≡ true = subst (λ x. is_delimiter x ≡ true) b-ten is in absurd (cc)),
+      )
+
+  steps-from : (t l c i : ℕ) (bs : List ℕ) → drop i bytes ≡ bs → AllByRecursion (Steps bytes) (virtual_from t l c i bs)
+  steps-from t l c i [] at = tt
+  steps-from t l c i (b ∷ bs) at =
+      let next = (drop-first i bytes b bs at).2 in
+      let feed : AllByRecursion (Steps bytes) (record { byte = 10; point = point l c i 0; end = point (suc l) 1 (suc i) 0 } ∷ virtual_from t (suc l) 1 (suc i) bs) = ((λ is. absurd (cc)), steps-from t (suc l) 1 (suc i) bs next) in
+      elim (b == 10) as (λ x. AllByRecursion (Steps bytes) (cond x
+      (record { byte = 10; point = point l c i 0; end = point (suc l) 1 (suc i) 0 } ∷ virtual_from t (suc l) 1 (suc i) bs)
+      (cond (b == 13)
+      (cond (begins_with_lf bs) (virtual_from t l c (suc i) bs) (record { byte = 10; point = point l c i 0; end = point (suc l) 1 (suc i) 0 } ∷ virtual_from t (suc l) 1 (suc i) bs))
+      (cond (b == 9) (in_tab 9 (tab_width t c) l c i 0 ++ virtual_from t l (c + tab_width t c) (suc i) bs)
+      (record { byte = b; point = point l c i 0; end = point l (suc c) (suc i) 0 } ∷ virtual_from t l (suc c) (suc i) bs))))) [
+        | true ↦ feed
+        | false ↦ elim (b == 13) as (λ x. AllByRecursion (Steps bytes) (cond x
+            (cond (begins_with_lf bs) (virtual_from t l c (suc i) bs) (record { byte = 10; point = point l c i 0; end = point (suc l) 1 (suc i) 0 } ∷ virtual_from t (suc l) 1 (suc i) bs))
+            (cond (b == 9) (in_tab 9 (tab_width t c) l c i 0 ++ virtual_from t l (c + tab_width t c) (suc i) bs)
+            (record { byte = b; point = point l c i 0; end = point l (suc c) (suc i) 0 } ∷ virtual_from t l (suc c) (suc i) bs)))) [
+              | true ↦ elim (begins_with_lf bs) as (λ x. AllByRecursion (Steps bytes) (cond x (virtual_from t l c (suc i) bs) (record { byte = 10; point = point l c i 0; end = point (suc l) 1 (suc i) 0 } ∷ virtual_from t (suc l) 1 (suc i) bs))) [
+                | true ↦ steps-from t l c (suc i) bs next
+                | false ↦ feed
+              ]
+              | false ↦ elim (b == 9) as (λ x. AllByRecursion (Steps bytes) (cond x (in_tab 9 (tab_width t c) l c i 0 ++ virtual_from t l (c + tab_width t c) (suc i) bs)
+                  (record { byte = b; point = point l c i 0; end = point l (suc c) (suc i) 0 } ∷ virtual_from t l (suc c) (suc i) bs))) [
+                    | true ↦ every-append (Steps bytes) (in_tab 9 (tab_width t c) l c i 0) (virtual_from t l (c + tab_width t c) (suc i) bs) (steps-tab 9 (tab_width t c) l c i 0 refl) (steps-from t l (c + tab_width t c) (suc i) bs next)
+                    | false ↦ (steps-other b l c i bs at, steps-from t l (suc c) (suc i) bs next)
+                  ]
+            ]
+      ]
+
+  pub steps-virtual : (t : ℕ) → AllByRecursion (Steps bytes) (virtual t bytes)
+  steps-virtual t = steps-from t 1 1 0 bytes refl
+
+-- ---- runs
+abbrev pub AreDelimiters : List Seat → Type 0
+AreDelimiters l = AllByRecursion (λ (s : Seat). is_delimiter s.byte ≡ true) l
+
+taken-like : (b : ℕ) (l : List Seat) → is_delimiter b ≡ true → AreDelimiters (take (prefix_len (λ c. c == b) (bytes_of l)) l)
+taken-like b [] h = tt
+taken-like b (s ∷ ss) h =
+    let n = prefix_len (λ c. c == b) (bytes_of ss) in
+    elim (s.byte == b) as (λ x. (s.byte == b) ≡ x → AreDelimiters (take (cond x (1 + n) 0) (s ∷ ss))) [
+      | true ↦ λ e.
+          let one : suc n ≡ 1 + n = omega arith in
+          subst (λ k. AreDelimiters (take k (s ∷ ss))) one (subst (λ x. is_delimiter x ≡ true) (sym (eqb-true s.byte b e)) h, taken-like b ss h)
+      | false ↦ λ e. tt
+    ] refl
+
+pub run-delimiters : (s : Seat) (ss : List Seat) → is_delimiter s.byte ≡ true → AreDelimiters (take (run_length (bytes_of (s ∷ ss))) (s ∷ ss))
+run-delimiters s ss h =
+    let n = prefix_len (λ c. c == s.byte) (bytes_of ss) in
+    let one : suc n ≡ 1 + n = omega arith in
+    subst (λ k. AreDelimiters (take k (s ∷ ss))) one (h, taken-like s.byte ss h)
+
+module _ (t : ℕ) (bytes : List ℕ) where
+  walk-one : (p : Point) (n : ℕ) → Place t bytes p → Walk t bytes (later 1 p) n → Walk t bytes p (suc n)
+  walk-one p n here more zero l = subst (Place t bytes) (sym (later-none p)) here
+  walk-one p n here more (suc k) l =
+      let one : 1 + k ≡ suc k = omega arith in
+      subst (λ j. Place t bytes (later j p)) one (subst (Place t bytes) (later-later k 1 p) (more k (omega (arith, l))))
+
+  walk-track : (p : Point) (l rest : List Seat) → Track t bytes p (l ++ rest) → AllByRecursion (Steps bytes) l → AreDelimiters l → (end_after p l ≡ later (length l) p) × Walk t bytes p (length l)
+  walk-track p [] rest track steps are =
+      (sym (later-none p), λ k l. let none : 0 ≡ k = omega (arith, l) in subst (λ j. Place t bytes (later j p)) none (subst (Place t bytes) (sym (later-none p)) (track-place t bytes p rest track)))
+  walk-track p (s ∷ ss) rest track steps are =
+      let step = steps.0 are.0 in
+      let end : s.end ≡ later 1 p = step.0 ∙ ap (later 1) (sym step.1 ∙ track.1) in
+      let more = walk-track s.end ss rest track.3 steps.1 are.1 in
+      let one : 1 + length ss ≡ length (s ∷ ss) = omega arith in (
+        more.0 ∙ ap (later (length ss)) end ∙ later-later (length ss) 1 p ∙ ap (λ n. later n p) one,
+        walk-one p (length ss) track.0 (subst (λ x. Walk t bytes x (length ss)) end more.1),
+      )
+
+  steps-between : (p : Point) (n : ℕ) → Walk t bytes p n → let m = (later n p).index - p.index in (later m p ≡ later n p) × Walk t bytes p m
+  steps-between p n h =
+      let same : n ≡ p.index + n - p.index = omega arith in
+      (ap (λ k. later k p) (sym same), subst (Walk t bytes p) same h)
+
+  run-steps : (p : Point) (l rest : List Seat) → Track t bytes p (l ++ rest) → AllByRecursion (Steps bytes) l → AreDelimiters l → RunsStep t bytes (leaf bytes AttentionSequence l)
+  run-steps p [] rest track steps are = tt
+  run-steps p (s ∷ ss) rest track steps are =
+      let n = length (s ∷ ss) in
+      let q = end_after s.end ss in
+      let there = track-place t bytes q rest (track-on t bytes p (s ∷ ss) rest track) in
+      let walk = walk-track p (s ∷ ss) rest track steps are in
+      let end : shown bytes q ≡ later n p = there.is_shown ∙ walk.0 in
+      let between = subst (λ (b : Point). let m = b.index - p.index in (later m p ≡ b) × Walk t bytes p m) (sym end) (steps-between p n walk.1) in
+      let both = subst (λ (a : Point). let m = (shown bytes q).index - a.index in (later m a ≡ shown bytes q) × Walk t bytes a m) (sym track.1) between in
+      ((λ is. both), (tt, tt))
+
+  -- ---- events without attention sequences
+  abbrev IsOther : Event → Type 0
+  IsOther e = same_name e.name AttentionSequence ≡ false
+
+  free-next : (e : Event) (es : List Event) → IsOther e → Next t bytes e es
+  free-next e [] h = tt
+  free-next e (f ∷ es) h = λ is.
+      let first = and-left (is_enter e.kind && same_name e.name AttentionSequence) (not (is_enter f.kind) && same_name f.name AttentionSequence) is in
+      let no : true ≡ false = sym (and-right (is_enter e.kind) (same_name e.name AttentionSequence) first) ∙ h in
+      absurd (cc)
+
+  free-steps : (es : List Event) → AllByRecursion IsOther es → RunsStep t bytes es
+  free-steps [] h = tt
+  free-steps (e ∷ es) h = (free-next e es h.0, free-steps es h.1)
+
+  free-leaf : (n : Name) (seats : List Seat) → same_name n AttentionSequence ≡ false → AllByRecursion IsOther (leaf bytes n seats)
+  free-leaf n [] h = tt
+  free-leaf n (s ∷ ss) h = (h, (h, tt))
+
+  free-span : (n : Name) (seats : List Seat) (es : List Event) → same_name n AttentionSequence ≡ false → AllByRecursion IsOther es → AllByRecursion IsOther (span bytes n seats es)
+  free-span n [] es h k = k
+  free-span n (s ∷ ss) es h k = (h, every-append IsOther es (event bytes Exit n (end_after s.end ss) ∷ []) k (h, tt))
+
+  free-three : (a c : Name) (xs zs : List Seat) (inner : List Event) → same_name a AttentionSequence ≡ false → same_name c AttentionSequence ≡ false → AllByRecursion IsOther inner
+      → AllByRecursion IsOther (leaf bytes a xs ++ (inner ++ leaf bytes c zs))
+  free-three a c xs zs inner h k i =
+      every-append IsOther (leaf bytes a xs) (inner ++ leaf bytes c zs) (free-leaf a xs h) (every-append IsOther inner (leaf bytes c zs) i (free-leaf c zs k))
+
+  abbrev IsFree : Found → Type 0
+  IsFree found = (seats : List Seat) → AllByRecursion IsOther (found.events bytes seats)
+
+  free-part : (n : Name) → same_name n AttentionSequence ≡ false → (p : Part) (seats : List Seat) → AllByRecursion IsOther (part_events bytes n (p, seats))
+  free-part n h line_ending seats = free-leaf LineEnding seats refl
+  free-part n h (plain_run m) seats = free-leaf n seats h
+
+  free-parts : (ps : List (Part × List Seat)) → AllByRecursion IsOther (flat_map (part_events bytes CodeTextData) ps)
+  free-parts [] = tt
+  free-parts (p ∷ ps) = every-append IsOther (part_events bytes CodeTextData p) (flat_map (part_events bytes CodeTextData) ps) (free-part CodeTextData refl p.0 p.1) (free-parts ps)
+
+  free-code : (k : ℕ) (o : Option ℕ) → OfOption IsFree (option_map (code_span k) o)
+  free-code k None = tt
+  free-code k (Some n) = λ seats.
+      let inner = flat_map (part_events bytes CodeTextData) (pieces (between k (k + n) seats)) in
+      free-span CodeText seats _ refl (free-three CodeTextSequence CodeTextSequence (take k seats) (drop (k + n) seats) inner refl refl (free-parts (pieces (between k (k + n) seats))))
+
+  free-code-span : (text : List ℕ) → OfOption IsFree (code_span_at text)
+  free-code-span text =
+      let k = backticks text in
+      when-there IsFree (has_byte_at text 0 is_backtick) (option_map (code_span k) (before_backtick_string k (drop k text))) (free-code k (before_backtick_string k (drop k text)))
+
+  free-link : (text : List ℕ) (o : Option ℕ) → OfOption IsFree (autolink_to text o)
+  free-link text None = tt
+  free-link text (Some n) =
+      when-there IsFree (has_byte_at text (n + 1) is_greater_than) (Some (autolink n)) (λ seats.
+      let inner = between 1 (1 + n) seats in
+      free-span Autolink seats _ refl (free-three AutolinkMarker AutolinkMarker (take 1 seats) (drop (1 + n) seats) (leaf bytes AutolinkProtocol inner) refl refl (free-leaf AutolinkProtocol inner refl)))
+
+  free-autolink : (text : List ℕ) → OfOption IsFree (autolink_at text)
+  free-autolink text = when-there IsFree (has_byte_at text 0 is_less_than) (autolink_to text (uri (drop 1 text))) (free-link text (uri (drop 1 text)))
+
+  free-escape : (text : List ℕ) → OfOption IsFree (escape_at text)
+  free-escape text =
+      when-there IsFree (has_byte_at text 0 is_backslash && has_byte_at text 1 is_ascii_punctuation) (Some escape) (λ seats.
+      let a = leaf bytes CharacterEscapeMarker (take 1 seats) in
+      let b = leaf bytes CharacterEscapeValue (drop 1 seats) in
+      free-span CharacterEscape seats (a ++ b) refl (every-append IsOther a b (free-leaf CharacterEscapeMarker (take 1 seats) refl) (free-leaf CharacterEscapeValue (drop 1 seats) refl)))
+
+  -- ---- one item behind another
+  -- events begin with an enter, if there are any
+  abbrev Opens : List Event → Type 0
+  Opens [] = Unit {0}
+  Opens (e ∷ es) = e.kind ≡ Enter
+
+  opens-both : (xs ys : List Event) → Opens xs → Opens ys → Opens (xs ++ ys)
+  opens-both [] ys h k = k
+  opens-both (x ∷ xs) ys h k = h
+
+  opens-leaf : (n : Name) (seats : List Seat) → Opens (leaf bytes n seats)
+  opens-leaf n [] = tt
+  opens-leaf n (s ∷ ss) = refl
+
+  opens-span : (n : Name) (seats : List Seat) (es : List Event) → Opens es → Opens (span bytes n seats es)
+  opens-span n [] es h = h
+  opens-span n (s ∷ ss) es h = refl
+
+  opens-kept : IsKeptBySpans bytes Opens
+  opens-kept = record { none = tt; both = opens-both; alone = opens-leaf; around = λ n seats es other h. opens-span n seats es h }
+
+  next-opens : (x : Event) (ys : List Event) → Opens ys → Next t bytes x ys
+  next-opens x [] h = tt
+  next-opens x (y ∷ ys) h = λ is.
+      let second = and-right (is_enter x.kind && same_name x.name AttentionSequence) (not (is_enter y.kind) && same_name y.name AttentionSequence) is in
+      let exits = and-left (not (is_enter y.kind)) (same_name y.name AttentionSequence) second in
+      let no : not (is_enter Enter) ≡ true = subst (λ k. not (is_enter k) ≡ true) h exits in
+      absurd (cc)
+
+  steps-both : (xs ys : List Event) → RunsStep t bytes xs → RunsStep t bytes ys → Opens ys → RunsStep t bytes (xs ++ ys)
+  steps-both [] ys h k opens = k
+  steps-both (x ∷ []) ys h k opens = (next-opens x ys opens, k)
+  steps-both (x ∷ y ∷ xs) ys h k opens = (h.0, steps-both (y ∷ xs) ys h.1 k opens)
+
+  module _ (on : Constructs) where
+    abbrev ItemSteps : List Seat → Found → Type 0
+    ItemSteps l found = RunsStep t bytes (found.events bytes (take (item_length found) l))
+
+    free-item : (l : List Seat) (found : Found) → IsFree found → ItemSteps l found
+    free-item l found h = free-steps (found.events bytes (take (item_length found) l)) (h (take (item_length found) l))
+
+    free-option : (l : List Seat) (o : Option Found) → OfOption IsFree o → OfOption (ItemSteps l) o
+    free-option l None h = tt
+    free-option l (Some found) h = free-item l found h
+
+    part-track : (p : Point) (m : ℕ) (l rest : List Seat) → Track t bytes p (l ++ rest) → Track t bytes p (take m l ++ (drop m l ++ rest))
+    part-track p m l rest track = subst (Track t bytes p) (append_assoc (take m l) (drop m l) rest) (subst (λ x. Track t bytes p (x ++ rest)) (sym (take-append-drop m l)) track)
+
+    steps-taken : (m : ℕ) (l : List Seat) → AllByRecursion (Steps bytes) l → AllByRecursion (Steps bytes) (take m l)
+    steps-taken m l h = every-front (Steps bytes) (take m l) (drop m l) (subst (AllByRecursion (Steps bytes)) (sym (take-append-drop m l)) h)
+
+    steps-left : (m : ℕ) (l : List Seat) → AllByRecursion (Steps bytes) l → AllByRecursion (Steps bytes) (drop m l)
+    steps-left m l h = every-back (Steps bytes) (take m l) (drop m l) (subst (AllByRecursion (Steps bytes)) (sym (take-append-drop m l)) h)
+
+    other-steps : (p : Point) (s : Seat) (ss rest : List Seat) → Track t bytes p ((s ∷ ss) ++ rest) → AllByRecursion (Steps bytes) (s ∷ ss) → ItemSteps (s ∷ ss) (run_or_part on (bytes_of (s ∷ ss)))
+    other-steps p s ss rest track steps =
+        let l = s ∷ ss in
+        let n = run_length (bytes_of l) in
+        elim (begins_run on s.byte) as (λ x. (begins_run on s.byte) ≡ x → ItemSteps l (cond x (delimiter_run n) (part (part_at (ends_data on) (bytes_of l))))) [
+          | true ↦ λ is. run-steps p (take n l) (drop n l ++ rest) (part-track p n l rest track) (steps-taken n l steps) (run-delimiters s ss (and-right on.attention (is_delimiter s.byte) is))
+          | false ↦ λ is. free-item l (part (part_at (ends_data on) (bytes_of l))) (λ seats. free-part Data refl (part_at (ends_data on) (bytes_of l)) seats)
+        ] refl
+
+    item-steps : (p : Point) (s : Seat) (ss rest : List Seat) → Track t bytes p ((s ∷ ss) ++ rest) → AllByRecursion (Steps bytes) (s ∷ ss) → ItemSteps (s ∷ ss) (inline_item_at on (bytes_of (s ∷ ss)))
+    item-steps p s ss rest track steps =
+        let l = s ∷ ss in
+        let text = bytes_of l in
+        there-holds (ItemSteps l) text_grammars on text (run_or_part on text)
+        (free-option l (code_span_at text) (free-code-span text), (free-option l (autolink_at text) (free-autolink text), (free-option l (escape_at text) (free-escape text), tt)))
+        (other-steps p s ss rest track steps)
+
+    pub items-steps : (n : ℕ) (p : Point) (l rest : List Seat) → Track t bytes p (l ++ rest) → AllByRecursion (Steps bytes) l → RunsStep t bytes (flat_map (item_events bytes) (cut (inline_item_at on) item_length n l))
+    items-steps zero p l rest track steps = tt
+    items-steps (suc n) p [] rest track steps = tt
+    items-steps (suc n) p (s ∷ ss) rest track steps =
+        let l = s ∷ ss in
+        let item = inline_item_at on (bytes_of l) in
+        let m = item_length item in
+        let behind = drop m l in
+        let others = items-steps n (end_after p (take m l)) behind rest (track-on t bytes p (take m l) (behind ++ rest) (part-track p m l rest track)) (steps-left m l steps) in
+        steps-both (item_events bytes (item, take m l)) (flat_map (item_events bytes) (cut (inline_item_at on) item_length n behind)) (item-steps p s ss rest track steps) others (items-built bytes Opens opens-kept on n behind)

@@ -1,0 +1,106 @@
+-- Marks, cut into segments: chains of chunks of text, which adjoin, and marks that are kept.
+use Rattle.std.proofs.Common.{◌≡◌, ℕ, List, [], ◌∷◌, ◌++◌, Bool, true, false, Some, None, refl, sym, ◌∙◌}
+use Rattle.std.proofs.lemmas.Grind.{flat_map-append}
+use Rattle.std.proofs.lemmas.List.{append-nil}
+use Rattle.std.specs.List.{AllByRecursion, flat_map}
+use Rattle.markdown_base.proofs.Common.{every-append}
+use Rattle.markdown_base.specs.declared.event.Content.{Content}
+use Rattle.markdown_base.specs.declared.event.Content.TheVariants as content
+use Rattle.markdown_base.specs.declared.event.Event.{Event}
+use Rattle.markdown_base.specs.declared.event.Kind.TheVariants.{Enter, Exit}
+use Rattle.markdown_base.specs.declared.event.Name.{Name}
+use Rattle.markdown_base.specs.declared.event.Name.TheVariants as name
+use Rattle.markdown_base.specs.Virtual.{Seat, end_after}
+use Rattle.mdconstructs_machines.specs.Spans.{event}
+use Rattle.mdconstructs_blocks.proofs.Marks.MarkChunks.{IsSingle}
+use Rattle.mdconstructs_blocks.specs.LeafEvents.{Mark, chunk_span, span_marks}
+use Rattle.mdconstructs_documents.specs.FlowTexts.{read_marks}
+
+-- A segment of marks: marks that are kept, with the virtual bytes that they are over; or a chain, by the virtual bytes of its chunks
+pub data Segment : Type 0 where
+  kept : List Mark → List Seat → Segment
+  chain : List (List Seat) → Segment
+
+-- a mark without a chunk, or with a string that stands alone
+abbrev pub IsString : Content → Type 0
+IsString c = c ≡ content.String
+
+abbrev pub IsKept : Mark → Type 0
+IsKept mark = IsSingle IsString mark
+
+-- there is a byte
+abbrev pub HasByte : List Seat → Type 0
+HasByte [] = ⊥
+HasByte (s ∷ ss) = Unit {0}
+
+abbrev pub IsGood : Segment → Type 0
+IsGood (kept marks seats) = AllByRecursion IsKept marks
+IsGood (chain chunks) = AllByRecursion HasByte chunks
+
+-- the virtual bytes of chunks, one behind another
+abbrev pub in_line : List (List Seat) → List Seat
+in_line chunks = flat_map (λ (c : List Seat). c) chunks
+
+abbrev pub seats_of : Segment → List Seat
+seats_of (kept marks seats) = seats
+seats_of (chain chunks) = in_line chunks
+
+module _ (bytes : List ℕ) where
+  -- the marks of a chain
+  abbrev pub chain_marks : (has_previous : Bool) → List (List Seat) → List Mark
+  chain_marks has_previous [] = []
+  chain_marks has_previous (c ∷ []) = chunk_span bytes (Some (record { content = content.Text; has_previous = has_previous; has_next = false })) name.Data c []
+  chain_marks has_previous (c ∷ d ∷ cs) = chunk_span bytes (Some (record { content = content.Text; has_previous = has_previous; has_next = true })) name.Data c [] ++ chain_marks true (d ∷ cs)
+
+  -- the marks of a segment with its chunks
+  abbrev pub flat_of : Segment → List Mark
+  flat_of (kept marks seats) = marks
+  flat_of (chain chunks) = chain_marks false chunks
+
+  -- and with the events of its text
+  abbrev pub deep_of : (List Seat → List Event) → Segment → List Mark
+  deep_of reads (kept marks seats) = marks
+  deep_of reads (chain chunks) = read_marks reads bytes (in_line chunks)
+
+  module _ (reads : List Seat → List Event) where
+    -- Marks with chunks and marks with texts are those of the same segments over virtual bytes
+    pub record AreSegments (flat deep : List Mark) (seats : List Seat) : Type 0 where
+      pub segments : List Segment
+      pub flat_is : flat ≡ flat_map flat_of segments
+      pub deep_is : deep ≡ flat_map (deep_of reads) segments
+      pub seats_is : seats ≡ flat_map seats_of segments
+      pub good : AllByRecursion IsGood segments
+
+    pub no-segments : AreSegments [] [] []
+    no-segments = record { segments = []; flat_is = refl; deep_is = refl; seats_is = refl; good = tt }
+
+    pub segments-both : {f g d e : List Mark} {a b : List Seat} → AreSegments f d a → AreSegments g e b → AreSegments (f ++ g) (d ++ e) (a ++ b)
+    segments-both h k = record {
+      segments = h.segments ++ k.segments;
+      flat_is = (λ i. h.flat_is i ++ k.flat_is i) ∙ sym (flat_map-append flat_of h.segments k.segments);
+      deep_is = (λ i. h.deep_is i ++ k.deep_is i) ∙ sym (flat_map-append (deep_of reads) h.segments k.segments);
+      seats_is = (λ i. h.seats_is i ++ k.seats_is i) ∙ sym (flat_map-append seats_of h.segments k.segments);
+      good = every-append IsGood h.segments k.segments h.good k.good;
+    }
+
+    pub segments-kept : (marks : List Mark) (seats : List Seat) → AllByRecursion IsKept marks → AreSegments marks marks seats
+    segments-kept marks seats h = record { segments = kept marks seats ∷ []; flat_is = sym (append-nil marks); deep_is = sym (append-nil marks); seats_is = sym (append-nil seats); good = (h, tt) }
+
+    pub segments-chain : (chunks : List (List Seat)) → AllByRecursion HasByte chunks → AreSegments (chain_marks false chunks) (read_marks reads bytes (in_line chunks)) (in_line chunks)
+    segments-chain chunks h = record {
+      segments = chain chunks ∷ [];
+      flat_is = sym (append-nil (chain_marks false chunks));
+      deep_is = sym (append-nil (read_marks reads bytes (in_line chunks)));
+      seats_is = sym (append-nil (in_line chunks));
+      good = (h, tt);
+    }
+
+    -- a span around segments
+    pub segments-around : (n : Name) (seats : List Seat) {f d : List Mark} → AreSegments f d seats → AreSegments (span_marks bytes n seats f) (span_marks bytes n seats d) seats
+    segments-around n [] h = h
+    segments-around n (s ∷ ss) h =
+        segments-both (segments-kept ((event bytes Enter n s.point, None) ∷ []) [] (refl, tt))
+        (over-more (segments-both h (segments-kept ((event bytes Exit n (end_after s.end ss), None) ∷ []) [] (refl, tt))))
+      where
+        over-more : {f d : List Mark} → AreSegments f d ((s ∷ ss) ++ []) → AreSegments f d (s ∷ ss)
+        over-more h = record { segments = h.segments; flat_is = h.flat_is; deep_is = h.deep_is; seats_is = sym (append-nil (s ∷ ss)) ∙ h.seats_is; good = h.good }
