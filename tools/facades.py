@@ -14,7 +14,7 @@ import sys
 TOP = os.path.dirname(os.path.dirname(os.path.realpath(__file__)))
 PARTS = {
     "markdown": ["markdown_base", "markdown_edits", "markdown_tokenizer", "markdown_children"],
-    "mdconstructs": ["mdconstructs_tables", "mdconstructs_machines", "mdconstructs_text", "mdconstructs_attention", "mdconstructs_flow", "mdconstructs_documents"],
+    "mdconstructs": ["mdconstructs_tables", "mdconstructs_machines", "mdconstructs_text", "mdconstructs_attention", "mdconstructs_references", "mdconstructs_inlines", "mdconstructs_flow", "mdconstructs_blocks", "mdconstructs_documents"],
 }
 NAMED = {
     ("markdown_children", "specs", "LawStatements"): "ChildrenLawStatements",
@@ -22,12 +22,24 @@ NAMED = {
     ("mdconstructs_attention", "specs", "LawStatements"): "EmphasisLawStatements",
     ("mdconstructs_attention", "specs", "Places"): "RunPlaces",
     ("mdconstructs_attention", "specs", "Runs"): "DelimiterRuns",
+    ("mdconstructs_blocks", "proofs", "Blocks"): "LeafReads",
+    ("mdconstructs_blocks", "proofs", "Html"): "HtmlReads",
+    ("mdconstructs_blocks", "proofs", "Lines"): "LineParts",
+    ("mdconstructs_blocks", "proofs", "Looks"): "LineLooks",
+    ("mdconstructs_blocks", "proofs", "Paragraphs"): "LeafParagraphs",
     ("mdconstructs_flow", "specs", "Flow"): "FlowStates",
     ("mdconstructs_flow", "specs", "LawStatements"): "FlowLawStatements",
     ("mdconstructs_flow", "specs", "Laws"): "FlowLaws",
     ("mdconstructs_flow", "specs", "Steps"): "FlowSteps",
     ("mdconstructs_flow", "proofs", "Called"): "FlowCalled",
     ("mdconstructs_flow", "proofs", "NoRefusals"): "FlowNoRefusals",
+    ("mdconstructs_inlines", "proofs", "Looks"): "InlineLooks",
+    ("mdconstructs_inlines", "specs", "Laws"): "InlineLaws",
+    ("mdconstructs_inlines", "specs", "LawStatements"): "InlineLawStatements",
+    ("mdconstructs_references", "proofs", "Tables"): "ReferenceTables",
+    ("mdconstructs_references", "proofs", "Parts"): "ReferenceParts",
+    ("mdconstructs_references", "proofs", "Orders"): "ReferenceOrders",
+    ("mdconstructs_references", "proofs", "Searches"): "ReferenceSearches",
     ("mdconstructs_text", "specs", "Laws"): "TextLaws",
     ("mdconstructs_text", "proofs", "NoFurther"): "TextNoFurther",
     ("mdconstructs_text", "proofs", "NoRefusals"): "TextNoRefusals",

@@ -31,8 +31,29 @@ pub use Rattle.mdconstructs_text.proofs.Escapes
 pub use Rattle.mdconstructs_text.proofs.Plain
 pub use Rattle.mdconstructs_text.proofs.Paragraphs as TextParagraphs
 pub use Rattle.mdconstructs_text.proofs.Texts
+pub use Rattle.mdconstructs_attention.proofs.PairsKeep
+pub use Rattle.mdconstructs_attention.proofs.RunEdits
+pub use Rattle.mdconstructs_attention.proofs.RunTexts
+pub use Rattle.mdconstructs_references.proofs.Orders as ReferenceOrders
+pub use Rattle.mdconstructs_references.proofs.Parts as ReferenceParts
+pub use Rattle.mdconstructs_references.proofs.Searches as ReferenceSearches
+pub use Rattle.mdconstructs_references.proofs.Tables as ReferenceTables
+pub use Rattle.mdconstructs_inlines.proofs.InlineBuilt
+pub use Rattle.mdconstructs_inlines.proofs.InlineChains
+pub use Rattle.mdconstructs_inlines.proofs.InlineReads
+pub use Rattle.mdconstructs_inlines.proofs.Looks as InlineLooks
+pub use Rattle.mdconstructs_inlines.proofs.Resolved
 pub use Rattle.mdconstructs_flow.proofs.Called as FlowCalled
 pub use Rattle.mdconstructs_flow.proofs.Dashes
 pub use Rattle.mdconstructs_flow.proofs.HeadingEdits
 pub use Rattle.mdconstructs_flow.proofs.NoRefusals as FlowNoRefusals
 pub use Rattle.mdconstructs_flow.proofs.TagNames
+pub use Rattle.mdconstructs_blocks.proofs.Blocks as LeafReads
+pub use Rattle.mdconstructs_blocks.proofs.Fenced
+pub use Rattle.mdconstructs_blocks.proofs.Html as HtmlReads
+pub use Rattle.mdconstructs_blocks.proofs.Lines as LineParts
+pub use Rattle.mdconstructs_blocks.proofs.Looks as LineLooks
+pub use Rattle.mdconstructs_blocks.proofs.Marks
+pub use Rattle.mdconstructs_blocks.proofs.Paragraphs as LeafParagraphs
+pub use Rattle.mdconstructs_blocks.proofs.Tags
+pub use Rattle.mdconstructs_blocks.proofs.Whole

@@ -61,12 +61,22 @@ pub use Rattle.mdconstructs_text.specs.TextRules
 pub use Rattle.mdconstructs_text.specs.TextSizes
 pub use Rattle.mdconstructs_text.specs.TextTable
 pub use Rattle.mdconstructs_text.specs.Laws as TextLaws
+pub use Rattle.mdconstructs_attention.specs.Classes
 pub use Rattle.mdconstructs_attention.specs.Emphasis as EmphasisEvents
 pub use Rattle.mdconstructs_attention.specs.LawStatements as EmphasisLawStatements
 pub use Rattle.mdconstructs_attention.specs.Places as RunPlaces
 pub use Rattle.mdconstructs_attention.specs.RunEdits
 pub use Rattle.mdconstructs_attention.specs.Runs as DelimiterRuns
 pub use Rattle.mdconstructs_attention.specs.Searches
+pub use Rattle.mdconstructs_references.specs.CharacterReferences
+pub use Rattle.mdconstructs_references.specs.References
+pub use Rattle.mdconstructs_inlines.specs.InlineEvents
+pub use Rattle.mdconstructs_inlines.specs.InlineRules
+pub use Rattle.mdconstructs_inlines.specs.InlineTable
+pub use Rattle.mdconstructs_inlines.specs.LawStatements as InlineLawStatements
+pub use Rattle.mdconstructs_inlines.specs.Laws as InlineLaws
+pub use Rattle.mdconstructs_inlines.specs.Registered
+pub use Rattle.mdconstructs_inlines.specs.RunRows
 pub use Rattle.mdconstructs_flow.specs.BlankLine
 pub use Rattle.mdconstructs_flow.specs.ChunkRows
 pub use Rattle.mdconstructs_flow.specs.CodeFenced
@@ -92,8 +102,24 @@ pub use Rattle.mdconstructs_flow.specs.QuietLooks
 pub use Rattle.mdconstructs_flow.specs.Renamings
 pub use Rattle.mdconstructs_flow.specs.Steps as FlowSteps
 pub use Rattle.mdconstructs_flow.specs.ThematicBreak
+pub use Rattle.mdconstructs_blocks.specs.BlocksFormed
+pub use Rattle.mdconstructs_blocks.specs.BlocksRead
+pub use Rattle.mdconstructs_blocks.specs.BlocksTold
+pub use Rattle.mdconstructs_blocks.specs.ChunksJoin
+pub use Rattle.mdconstructs_blocks.specs.FlowAccounts
+pub use Rattle.mdconstructs_blocks.specs.FlowEnds
+pub use Rattle.mdconstructs_blocks.specs.FlowRead
+pub use Rattle.mdconstructs_blocks.specs.HtmlLines
+pub use Rattle.mdconstructs_blocks.specs.LeafBlocks
+pub use Rattle.mdconstructs_blocks.specs.LeafEvents
+pub use Rattle.mdconstructs_blocks.specs.LineKinds
+pub use Rattle.mdconstructs_blocks.specs.LooksFind
+pub use Rattle.mdconstructs_blocks.specs.ToldChunks
+pub use Rattle.mdconstructs_blocks.specs.ToldMarks
 pub use Rattle.mdconstructs_documents.specs.ByteRanges
 pub use Rattle.mdconstructs_documents.specs.Choices
 pub use Rattle.mdconstructs_documents.specs.Documents
+pub use Rattle.mdconstructs_documents.specs.FlowTextLaws
+pub use Rattle.mdconstructs_documents.specs.FlowTexts
 pub use Rattle.mdconstructs_documents.specs.Runs
 pub use Rattle.mdconstructs_documents.specs.Tiles

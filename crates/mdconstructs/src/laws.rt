@@ -1,17 +1,32 @@
 //! The laws about machines and tables. Each is a function that does nothing; its contract is the law.
 
 pub use mdconstructs_attention::laws::{
-    edits_make_emphasis, emphasis_can_be_made, emphasis_is_balanced,
+    ascii_has_its_classes, characters_are_utf8, edits_make_emphasis, emphasis_can_be_made,
+    emphasis_is_balanced,
 };
-pub use mdconstructs_documents::laws::innermost_spans_tile_documents;
+pub use mdconstructs_blocks::laws::{
+    flow_is_read, leaf_blocks_account_for_each_byte, leaf_blocks_are_well_formed, lines_are_seen,
+    readings_end_as_blocks,
+};
+pub use mdconstructs_documents::laws::{
+    chains_of_leaf_blocks_can_be_read, inline_texts_stand_in_their_blocks,
+    innermost_spans_tile_documents, texts_stand_in_their_blocks,
+};
 pub use mdconstructs_flow::laws::{
     cost_at_the_start as flow_cost_at_the_start, no_document_is_refused as flow_refuses_no_document,
+};
+pub use mdconstructs_inlines::laws::{
+    chains_are_read_as_inline_text, cost_at_the_start as inlines_cost_at_the_start,
+    emphasis_takes_the_place_of_runs, inline_text_is_read, inline_text_looks_no_further,
+    no_document_is_refused as inlines_refuse_no_document,
+    other_chains_stay_ready_after_inline_text,
 };
 pub use mdconstructs_machines::laws::{
     costs_at_the_start, documents_are_read_by_lines, innermost_spans_account_for_documents,
     low_numbers_are_named, misfits_are_not_all, misfits_have_reasons, no_document_is_refused,
     paragraphs_look_no_further,
 };
+pub use mdconstructs_references::laws::{names_are_in_order, names_are_short_and_plain};
 pub use mdconstructs_tables::laws::{
     Calm, Knowledge, Planned, calm_rows_keep_what_is_known, fitting_tables_are_lawful,
     knowing_tables_are_lawful, knowing_tables_look_no_further, numbers_are_enough,

@@ -1,19 +1,27 @@
 //! State machines, each proved lawful, `read_text`, `events_of`, and what the author of a machine needs.
 //!
-//! This crate has no code. It re-exports its six parts, which have the code and the proofs: `mdconstructs_tables` (machines as
+//! This crate has no code. It re-exports its nine parts, which have the code and the proofs: `mdconstructs_tables` (machines as
 //! tables), `mdconstructs_machines` (the small machines), `mdconstructs_text` (`Text` and its definition),
-//! `mdconstructs_attention` (emphasis, as edits), `mdconstructs_flow` (`Flow`, the machine of leaf blocks) and `mdconstructs_documents` (how a document is read, and its events).
+//! `mdconstructs_attention` (emphasis, as edits), `mdconstructs_references` (character references), `mdconstructs_inlines`
+//! (`Inlines`, texts with emphasis), `mdconstructs_flow` (`Flow`, the machine of leaf blocks), `mdconstructs_blocks` (what `Flow`
+//! reads, without states) and `mdconstructs_documents` (how a document is read, and its events).
 #![tactic(auto)]
 
 pub mod emphasis;
 pub mod laws;
+pub mod references;
 
 pub use mdconstructs_documents::choice::{Choice, Which};
-pub use mdconstructs_documents::documents::{events_of, options_with, text_events_of};
+pub use mdconstructs_documents::documents::{
+    events_of, options_with, read_document, text_events_of,
+};
 pub use mdconstructs_documents::limit::limit_of;
 pub use mdconstructs_documents::{choice, documents, limit, ranges};
 pub use mdconstructs_flow::flow;
 pub use mdconstructs_flow::flow::Flow;
+pub use mdconstructs_inlines::inlines;
+pub use mdconstructs_inlines::inlines::Inlines;
+pub use mdconstructs_inlines::read::read_inline_text;
 pub use mdconstructs_machines::back::Back;
 pub use mdconstructs_machines::deep::Deep;
 pub use mdconstructs_machines::fail::Fail;

@@ -1,0 +1,3 @@
+//! Character references: the characters that a name or a number stands for.
+
+pub use mdconstructs_references::{find, numeric};
