@@ -39,6 +39,8 @@ mod ranges;
 #[cfg(test)]
 mod ready;
 #[cfg(test)]
+mod references;
+#[cfg(test)]
 mod refusals;
 pub mod replacing;
 #[cfg(test)]

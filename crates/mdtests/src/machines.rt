@@ -11,7 +11,7 @@ use markdown::configuration::ParseOptions;
 use markdown::parser::ParseState;
 use markdown::state::{Machine, Name};
 use markdown::tokenizer::{cuts_every, run};
-use mdconstructs::{Flow, Words, Wrap, read_text};
+use mdconstructs::{Flow, Words, Wrap, read_document, read_inline_text, read_text};
 use std::alloc::{AllocError, Global};
 
 /// The events that a machine makes of a document that is cut after each given number of virtual bytes, from this start, with or
@@ -233,6 +233,116 @@ fn long_texts_are_read(rt: HostRuntime) -> Result<(), AllocError> {
     for &(part, count, words, end) in MANY {
         let made = lines_of_many(rt.alloc(), part, count, words)?;
         assert!(rt; made.as_str().ends_with(end));
+    }
+    Ok(())
+}
+
+/// A text with delimiter runs, and its events: emphasis in strong emphasis, a run in a code span, and runs that are in no pair.
+const EMPHASIS: &[(&[u8], &str)] = &[
+    (
+        b"*a*",
+        "enter Emphasis 1:1 (0+0); EmphasisSequence 1:1 (0+0) to 1:2 (1+0); enter EmphasisText 1:2 (1+0); \
+        Data 1:2 (1+0) to 1:3 (2+0); exit EmphasisText 1:3 (2+0); EmphasisSequence 1:3 (2+0) to 1:4 (3+0); exit Emphasis 1:4 (3+0)",
+    ),
+    (
+        b"**a _b_**",
+        "enter Strong 1:1 (0+0); StrongSequence 1:1 (0+0) to 1:3 (2+0); enter StrongText 1:3 (2+0); Data 1:3 (2+0) to 1:5 (4+0); \
+        enter Emphasis 1:5 (4+0); EmphasisSequence 1:5 (4+0) to 1:6 (5+0); enter EmphasisText 1:6 (5+0); \
+        Data 1:6 (5+0) to 1:7 (6+0); exit EmphasisText 1:7 (6+0); EmphasisSequence 1:7 (6+0) to 1:8 (7+0); exit Emphasis 1:8 (7+0); \
+        exit StrongText 1:8 (7+0); StrongSequence 1:8 (7+0) to 1:10 (9+0); exit Strong 1:10 (9+0)",
+    ),
+    (
+        b"*`*`*",
+        "enter Emphasis 1:1 (0+0); EmphasisSequence 1:1 (0+0) to 1:2 (1+0); enter EmphasisText 1:2 (1+0); \
+        enter CodeText 1:2 (1+0); CodeTextSequence 1:2 (1+0) to 1:3 (2+0); CodeTextData 1:3 (2+0) to 1:4 (3+0); \
+        CodeTextSequence 1:4 (3+0) to 1:5 (4+0); exit CodeText 1:5 (4+0); \
+        exit EmphasisText 1:5 (4+0); EmphasisSequence 1:5 (4+0) to 1:6 (5+0); exit Emphasis 1:6 (5+0)",
+    ),
+    (
+        b"\\*a*!*_",
+        "enter CharacterEscape 1:1 (0+0); CharacterEscapeMarker 1:1 (0+0) to 1:2 (1+0); CharacterEscapeValue 1:2 (1+0) to 1:3 (2+0); \
+        exit CharacterEscape 1:3 (2+0); Data 1:3 (2+0) to 1:4 (3+0); Data 1:4 (3+0) to 1:5 (4+0); Data 1:5 (4+0) to 1:6 (5+0); \
+        Data 1:6 (5+0) to 1:7 (6+0); Data 1:7 (6+0) to 1:8 (7+0)",
+    ),
+];
+
+/// The events of a document that is read as inline text, cut after each `cut` virtual bytes.
+fn lines_of_inlines(alloc: Global, bytes: &[u8], cut: usize) -> Result<String, AllocError>
+    requires limit { IsWithinLimit 4 bytes.now }
+    requires cut { 0 < cut }
+{
+    let options = ParseOptions::default();
+    let cuts = cuts_every(alloc, bytes, options.tab_size, cut)?;
+    match read_inline_text(alloc, bytes, &options, cuts.as_slice()) {
+        Ok(events) => shown(alloc, events.as_slice()),
+        Err(_) => Err(AllocError),
+    }
+}
+
+/// Emphasis is made, however the document is cut.
+#[test]
+fn emphasis_is_made(rt: HostRuntime) -> Result<(), AllocError> {
+    for &(bytes, want) in EMPHASIS {
+        for cut in [1, 2, 99] {
+            assert!(rt; bytes.len() < 99 && cut > 0);
+            assert_shown(&rt, lines_of_inlines(rt.alloc(), bytes, cut), want)?;
+        }
+    }
+    Ok(())
+}
+
+/// A document, and its events with its texts read as inline text: emphasis over two lines, in a heading beside a run in code, and in a
+/// setext heading; and none in code.
+const DOCUMENTS: &[(&[u8], &str)] = &[
+    (
+        b"*a\nb*",
+        "enter Paragraph 1:1 (0+0); enter Emphasis 1:1 (0+0); EmphasisSequence 1:1 (0+0) to 1:2 (1+0); enter EmphasisText 1:2 (1+0); \
+        Data 1:2 (1+0) to 1:3 (2+0); LineEnding 1:3 (2+0) to 2:1 (3+0); Data 2:1 (3+0) to 2:2 (4+0); \
+        exit EmphasisText 2:2 (4+0); EmphasisSequence 2:2 (4+0) to 2:3 (5+0); exit Emphasis 2:3 (5+0); exit Paragraph 2:3 (5+0)",
+    ),
+    (
+        b"# *a*`*`",
+        "enter HeadingAtx 1:1 (0+0); HeadingAtxSequence 1:1 (0+0) to 1:2 (1+0); SpaceOrTab 1:2 (1+0) to 1:3 (2+0); \
+        enter HeadingAtxText 1:3 (2+0); enter Emphasis 1:3 (2+0); EmphasisSequence 1:3 (2+0) to 1:4 (3+0); \
+        enter EmphasisText 1:4 (3+0); Data 1:4 (3+0) to 1:5 (4+0); exit EmphasisText 1:5 (4+0); \
+        EmphasisSequence 1:5 (4+0) to 1:6 (5+0); exit Emphasis 1:6 (5+0); \
+        enter CodeText 1:6 (5+0); CodeTextSequence 1:6 (5+0) to 1:7 (6+0); CodeTextData 1:7 (6+0) to 1:8 (7+0); \
+        CodeTextSequence 1:8 (7+0) to 1:9 (8+0); exit CodeText 1:9 (8+0); exit HeadingAtxText 1:9 (8+0); exit HeadingAtx 1:9 (8+0)",
+    ),
+    (
+        b"__a__\n=",
+        "enter HeadingSetext 1:1 (0+0); enter HeadingSetextText 1:1 (0+0); enter Strong 1:1 (0+0); StrongSequence 1:1 (0+0) to 1:3 (2+0); \
+        enter StrongText 1:3 (2+0); Data 1:3 (2+0) to 1:4 (3+0); exit StrongText 1:4 (3+0); StrongSequence 1:4 (3+0) to 1:6 (5+0); \
+        exit Strong 1:6 (5+0); exit HeadingSetextText 1:6 (5+0); LineEnding 1:6 (5+0) to 2:1 (6+0); \
+        enter HeadingSetextUnderline 2:1 (6+0); HeadingSetextUnderlineSequence 2:1 (6+0) to 2:2 (7+0); \
+        exit HeadingSetextUnderline 2:2 (7+0); exit HeadingSetext 2:2 (7+0)",
+    ),
+    (
+        b"    *a*",
+        "enter CodeIndented 1:1 (0+0); SpaceOrTab 1:1 (0+0) to 1:5 (4+0); CodeFlowChunk 1:5 (4+0) to 1:8 (7+0); \
+        exit CodeIndented 1:8 (7+0)",
+    ),
+];
+
+/// The events of a document that is cut after each `cut` virtual bytes.
+fn lines_of_document(alloc: Global, bytes: &[u8], cut: usize) -> Result<String, AllocError>
+    requires limit { IsWithinLimit 4 bytes.now }
+    requires cut { 0 < cut }
+{
+    let options = ParseOptions::default();
+    let cuts = cuts_every(alloc, bytes, options.tab_size, cut)?;
+    let events = read_document(alloc, bytes, &options, cuts.as_slice())?;
+    shown(alloc, events.as_slice())
+}
+
+/// Emphasis stands in its block, however the document is cut.
+#[test]
+fn documents_are_read(rt: HostRuntime) -> Result<(), AllocError> {
+    for &(bytes, want) in DOCUMENTS {
+        for cut in [1, 2, 99] {
+            assert!(rt; bytes.len() < 99 && cut > 0);
+            assert_shown(&rt, lines_of_document(rt.alloc(), bytes, cut), want)?;
+        }
     }
     Ok(())
 }

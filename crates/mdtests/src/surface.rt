@@ -2,8 +2,8 @@
 //! The program's own items are at the root of `mdevents`, and no crate can import from a program.
 //!
 //! Each call that takes memory and returns something is made with ample memory, and what it returns is compared. Clones are in
-//! `values`, `cuts_every` and what is of slices and locations in `places`, `read_text` and `run` in `machines`, and the rest in the
-//! module of its name, or for `Tokenizer` in `driven`, `ranges` and `tokenizer`.
+//! `values`, `cuts_every` and what is of slices and locations in `places`, `read_document`, `read_text`, `read_inline_text` and `run` in
+//! `machines`, and the rest in the module of its name, or for `Tokenizer` in `driven`, `ranges` and `tokenizer`.
 
 use markdown::configuration::{CompileOptions, Constructs, Options, ParseOptions, TabSize};
 use markdown::event::{Content, Event, Kind, Link, Name, Point, VOID_EVENTS};
@@ -33,6 +33,6 @@ use markdown::{
 };
 use mdconstructs::chunks::{connect, disconnect, is_connected, last_event, link_chunk};
 use mdconstructs::{
-    Back, Choice, Deep, Fail, Lines, Paragraphs, Peek, Save, Text, Which, Words, Wrap, events_of,
-    limit_of, options_with, read_text,
+    Back, Choice, Deep, Fail, Inlines, Lines, Paragraphs, Peek, Save, Text, Which, Words, Wrap,
+    events_of, limit_of, options_with, read_document, read_inline_text, read_text,
 };
