@@ -1,5 +1,6 @@
 mod AsciiClasses
 mod Balance
+pub mod Beside
 mod Bottoms
 mod Chars
 mod CharsFound

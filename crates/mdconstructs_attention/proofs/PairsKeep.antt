@@ -1,4 +1,4 @@
--- Pairs keep the runs in their order, each with its index, its place, and its number of markers.
+-- Pairs keep the runs in their order, each with its index, its place, its marker, and its number of markers.
 use Rattle.std.proofs.Common.{◌≡◌, ℕ, zero, suc, ◌+◌, ◌<◌, ◌≤◌, Bool, true, false, cond, List, [], ◌∷◌, ◌++◌, Option, Some, None, inl, inr, map, take, drop, length, refl, sym, ap, ◌∙◌, subst, arith, append_assoc, append-nil}
 use Rattle.std.specs.Prelude.{◌&&◌, nat_lt, nat_le}
 use Rattle.std.proofs.lemmas.Bool.{cases_Bool}
@@ -24,19 +24,19 @@ closed-more [] s = omega arith
 closed-more (t ∷ ss) s = let more = closed-more ss s in omega (arith, more)
 
 opened-standing : (s : Bool) (o : Run) → markers_of s ≤ o.left → standing (opening s o) ≡ standing o
-opened-standing s o h = ap (λ n. record { index = o.index; start = o.start; markers = n }) (let same : markers (opening s o) ≡ markers o = omega (arith, h) in same)
+opened-standing s o h = ap (λ n. record { index = o.index; start = o.start; is_star = o.is_star; markers = n }) (let same : markers (opening s o) ≡ markers o = omega (arith, h) in same)
 
 closed-standing : (s : Bool) (r : Run) → markers_of s ≤ r.left → standing (closing s r) ≡ standing r
 closed-standing s r h =
     let more = closed-more r.closed s in
-    ap (λ n. record { index = r.index; start = r.start; markers = n }) (let same : markers (closing s r) ≡ markers r = omega (arith, more, h) in same)
+    ap (λ n. record { index = r.index; start = r.start; is_star = r.is_star; markers = n }) (let same : markers (closing s r) ≡ markers r = omega (arith, more, h) in same)
 
 -- each run that waits has markers left
-abbrev HaveLeft : List Waiting → Type 0
+abbrev pub HaveLeft : List Waiting → Type 0
 HaveLeft [] = Unit {0}
 HaveLeft (w ∷ ws) = (0 < w.opener.left) × HaveLeft ws
 
-some-left : (n : ℕ) → nat_lt 0 n ≡ true → 0 < n
+pub some-left : (n : ℕ) → nat_lt 0 n ≡ true → 0 < n
 some-left n h = grind (arith, h)
 
 two-left : (n : ℕ) → nat_le 2 n ≡ true → 2 ≤ n
@@ -68,10 +68,10 @@ left-put_behind rs base [] h = tt
 left-put_behind rs base (w ∷ ws) h = h
 
 -- the last one that fits, with what is behind it
-record IsFound (f : Found) (all : List Run) : Type 0 where
-  runs : all_waiting f.before ++ f.last.opener ∷ f.last.behind ≡ all
-  left : 0 < f.last.opener.left
-  before : HaveLeft f.before
+pub record IsFound (f : Found) (all : List Run) : Type 0 where
+  pub runs : all_waiting f.before ++ f.last.opener ∷ f.last.behind ≡ all
+  pub left : 0 < f.last.opener.left
+  pub before : HaveLeft f.before
 
 found-case : (b : Bool) (w : Waiting) (ws : List Waiting) (more : Option Found) (f : Found) (all : List Run) → all_waiting ws ++ w.opener ∷ w.behind ≡ all
     → 0 < w.opener.left → HaveLeft ws → (more ≡ Some f → IsFound f all)
@@ -81,7 +81,7 @@ found-case true w ws more f all h l hs later e =
     subst (λ (g : Found). IsFound g all) same (record { runs = h; left = l; before = hs })
 found-case false w ws more f all h l hs later e = later e
 
-found-all : (r : Run) (behind : List Run) (ws : List Waiting) (f : Found) → HaveLeft ws → last_fitting r behind ws ≡ Some f → IsFound f (all_waiting ws ++ behind)
+pub found-all : (r : Run) (behind : List Run) (ws : List Waiting) (f : Found) → HaveLeft ws → last_fitting r behind ws ≡ Some f → IsFound f (all_waiting ws ++ behind)
 found-all r behind [] f h e = absurd (cc)
 found-all r behind (w ∷ ws) f h e =
     let same : all_waiting ws ++ w.opener ∷ (w.behind ++ behind) ≡ (all_waiting ws ++ w.opener ∷ w.behind) ++ behind = sym (append_assoc (all_waiting ws) (w.opener ∷ w.behind) behind) in
@@ -90,32 +90,33 @@ found-all r behind (w ∷ ws) f h e =
 
 -- ---- a run is put behind the others as it stands
 
+pub record IsPut (r : Run) (z : SoFar) (z' : SoFar) : Type 0 where
+  pub runs : all_runs z' ≡ all_runs z ++ r ∷ []
+  pub left : HaveLeft z'.waiting
+
+pub put-is : (r : Run) (z : SoFar) → HaveLeft z.waiting → IsPut r z (put r z)
+put-is r z h =
+    elim (cases_Bool (r.opens && nat_lt 0 r.left)) [
+      | inl b ↦
+          subst (λ c. IsPut r z (cond c (record z { waiting = record { opener = r; behind = [] } ∷ z.waiting }) (put_behind (r ∷ []) z.base z.waiting))) (sym b)
+          (record { runs = sym (append_assoc z.base (all_waiting z.waiting) (r ∷ [])); left = (some-left r.left (and-right r.opens (nat_lt 0 r.left) b), h) })
+      | inr b ↦
+          subst (λ c. IsPut r z (cond c (record z { waiting = record { opener = r; behind = [] } ∷ z.waiting }) (put_behind (r ∷ []) z.base z.waiting))) (sym b)
+          (record { runs = all-put_behind (r ∷ []) z.base z.waiting; left = left-put_behind (r ∷ []) z.base z.waiting h })
+    ]
+
 record Keeps (z : SoFar) (r : Run) (z' : SoFar) : Type 0 where
   runs : all_standing (all_runs z') ≡ all_standing (all_runs z) ++ standing r ∷ []
   left : HaveLeft z'.waiting
 
 put-keeps : (r : Run) (z : SoFar) → HaveLeft z.waiting → Keeps z r (put r z)
-put-keeps r z h =
-    elim (cases_Bool (r.opens && nat_lt 0 r.left)) [
-      | inl b ↦
-          subst (λ c. Keeps z r (cond c (record z { waiting = record { opener = r; behind = [] } ∷ z.waiting }) (put_behind (r ∷ []) z.base z.waiting))) (sym b)
-          (record {
-            runs = ap all_standing (sym (append_assoc z.base (all_waiting z.waiting) (r ∷ []))) ∙ standing-append (all_runs z) (r ∷ []);
-            left = (some-left r.left (and-right r.opens (nat_lt 0 r.left) b), h);
-          })
-      | inr b ↦
-          subst (λ c. Keeps z r (cond c (record z { waiting = record { opener = r; behind = [] } ∷ z.waiting }) (put_behind (r ∷ []) z.base z.waiting))) (sym b)
-          (record {
-            runs = ap all_standing (all-put_behind (r ∷ []) z.base z.waiting) ∙ standing-append (all_runs z) (r ∷ []);
-            left = left-put_behind (r ∷ []) z.base z.waiting h;
-          })
-    ]
+put-keeps r z h = let put = put-is r z h in record { runs = ap all_standing put.runs ∙ standing-append (all_runs z) (r ∷ []); left = put.left }
 
-record IsBack (w : Waiting) (base : List Run) (ws : List Waiting) (z : SoFar) : Type 0 where
-  runs : all_runs z ≡ (base ++ all_waiting ws) ++ w.opener ∷ w.behind
-  left : HaveLeft z.waiting
+pub record IsBack (w : Waiting) (base : List Run) (ws : List Waiting) (z : SoFar) : Type 0 where
+  pub runs : all_runs z ≡ (base ++ all_waiting ws) ++ w.opener ∷ w.behind
+  pub left : HaveLeft z.waiting
 
-back : (w : Waiting) (base : List Run) (ws : List Waiting) → HaveLeft ws → IsBack w base ws (put_back w base ws)
+pub back : (w : Waiting) (base : List Run) (ws : List Waiting) → HaveLeft ws → IsBack w base ws (put_back w base ws)
 back w base ws h =
     elim (cases_Bool (nat_lt 0 w.opener.left)) [
       | inl b ↦

@@ -1,11 +1,10 @@
 -- One edit for each run leaves emphasis.
 use Rattle.std.proofs.Common.{◌≡◌, ℕ, zero, suc, ◌+◌, ◌-◌, ◌<◌, Bool, List, [], ◌∷◌, ◌++◌, Option, None, map, take, drop, length, refl, sym, ap, ◌∙◌, subst, arith, append_assoc, length-append}
-use Rattle.std.specs.Prelude.{All, option_map, IfSome}
-use Rattle.std.proofs.lemmas.List.Elements.{All-nil, All-cons}
+use Rattle.std.specs.Prelude.{IfSome}
 use Rattle.std.proofs.Math.Seq.{take-append_seam, drop-append-add}
 use Rattle.markdown_base.specs.declared.event.Event.{Event}
 use Rattle.markdown_base.specs.declared.event.Point.{Point}
-use Rattle.markdown_base.specs.Events.{EachEnd, EndsBelow, IsBalanced, relinked, with_ends}
+use Rattle.markdown_base.specs.Events.{EachEnd, EndsBelow, IsBalanced}
 use Rattle.markdown_edits.specs.Edits.{AreDisjoint}
 use Rattle.markdown_edits.specs.Spliced.{spliced, relinked_by}
 use Rattle.markdown_edits.proofs.Edits.Splices.{edited-spliced}

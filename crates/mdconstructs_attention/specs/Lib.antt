@@ -1,3 +1,4 @@
+pub mod Beside
 pub mod Classes
 pub mod Emphasis
 pub mod LawStatements

@@ -1,5 +1,5 @@
 -- Places of runs: what a run closes, leaves and opens has room behind its place.
-use Rattle.std.specs.Prelude.{ℕ, ◌+◌, ◌-◌, ◌<◌, ◌≤◌, ◌^◌, List, [], ◌∷◌, length, All}
+use Rattle.std.specs.Prelude.{Bool, ℕ, ◌+◌, ◌-◌, ◌<◌, ◌≤◌, ◌^◌, List, [], ◌∷◌, length, All}
 use Rattle.markdown_base.specs.declared.event.Event.{Event}
 use Rattle.markdown_base.specs.declared.event.Point.{Point}
 use Rattle.mdconstructs_attention.specs.Emphasis.{Run, markers_of_all}
@@ -12,14 +12,15 @@ markers r = markers_of_all r.closed + (r.left + markers_of_all r.opened)
 abbrev pub HasRoom : ℕ → Point → Type 0
 HasRoom n p = (p.column + n < 2 ^ 64) × (p.index + n < 2 ^ 64)
 
--- where a run stands: the index of its enter in the list, its place, and how many markers it has
+-- where a run stands: the index of its enter in the list, its place, its marker, and how many markers it has
 pub record Standing : Type 0 where
   pub index : ℕ
   pub start : Point
+  pub is_star : Bool
   pub markers : ℕ
 
 abbrev pub standing : Run → Standing
-standing r = record { index = r.index; start = r.start; markers = markers r }
+standing r = record { index = r.index; start = r.start; is_star = r.is_star; markers = markers r }
 
 -- runs stand one behind another, from an index on, if their enters have these indices
 abbrev pub AreApart : ℕ → List ℕ → Type 0

@@ -1,5 +1,6 @@
 //! Laws about emphasis, and about the classes of characters that it asks for.
 
+ghost use Rattle.mdconstructs_attention.specs.Beside.{PairsBeside};
 ghost use Rattle.mdconstructs_attention.specs.Classes.{AsciiHasItsClasses, CharsAreUtf8};
 ghost use Rattle.mdconstructs_attention.specs.LawStatements.{LeavesBalanced};
 ghost use Rattle.mdconstructs_attention.specs.RunEdits.{EditsMakeEmphasis, EmphasisCanBeMade};
@@ -7,6 +8,12 @@ ghost use Rattle.mdconstructs_attention.specs.RunEdits.{EditsMakeEmphasis, Empha
 /// Emphasis leaves a balanced list.
 pub fn emphasis_is_balanced()
     ensures { LeavesBalanced }
+{}
+
+/// Of two neighbours among the runs of a text, with their pairs, the first opens none, the second closes none, or they have one marker. So
+/// emphasis with no text in it could only lie between two runs of one marker.
+pub fn neighbours_of_pairs()
+    ensures { PairsBeside }
 {}
 
 /// One edit for each run makes emphasis: the edits can be made, and leave the events of the definition, balanced.
