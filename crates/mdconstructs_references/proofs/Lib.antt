@@ -1,3 +1,5 @@
+pub mod Fronts
+pub mod Names
 pub mod Orders
 pub mod Parts
 pub mod Searches

@@ -6,10 +6,7 @@ use Rattle.std.specs.List.{AllByRecursion, filter, list_any}
 use Rattle.std.specs.Prelude.{None, bytes_eq}
 use Rattle.std.proofs.Common.{eq-eqb, eqb-true}
 use Rattle.mdconstructs_references.specs.CharacterReferences.{Reference, character_references}
-use Rattle.mdconstructs_references.specs.References.{characters_in, characters_of}
-
-abbrev pub of_length : ℕ → List Reference → List Reference
-of_length n references = filter (λ reference. length reference.0 == n) references
+use Rattle.mdconstructs_references.specs.References.{characters_in, characters_of, of_length}
 
 pub characters_in_part : (n : ℕ) (part : List Reference) (name : List ℕ) → length name ≡ n → part ≡ of_length n character_references → characters_in part name ≡ characters_of name
 unfolding characters_of

@@ -19,10 +19,10 @@ use Rattle.std.specs.Prelude.{Option, None, Some, bytes_eq}
 use Rattle.mdconstructs_references.specs.CharacterReferences.{Reference}
 use Rattle.mdconstructs_references.specs.References.{characters_in, code_points, read}
 
-abbrev Entry : Type 0
+abbrev pub Entry : Type 0
 Entry = List ℕ × ℕ × Option ℕ
 
-abbrev entry : Entry → Reference
+abbrev pub entry : Entry → Reference
 entry e = (e.0, code_points (e.1, e.2))
 
 module _ (references : List Entry) (name : List ℕ) (sorted : IsStrictlySortedBy (slice_cmp nat_cmp) (keys_of (read references))) where
@@ -61,7 +61,7 @@ module _ (references : List Entry) (name : List ℕ) (sorted : IsStrictlySortedB
       let more : slice_cmp nat_cmp e.0.0 name ≡ Greater = subst (λ (r : Entry). slice_cmp nat_cmp r.0 name ≡ Greater) (get_or_from_slice_get references i e.0 e.0 e.1) (parts.1 i e.0 (omega arith) within) in
       nat_list_cmp_total.antisymm name reference.0 ∙ ap ordering_reverse (subst (λ (n : List ℕ). slice_cmp nat_cmp n name ≡ Greater) e.2 more)))
 
-  key_at : (k : ℕ) (d : Entry) → slice_index_or (keys_of (read references)) k d.0 ≡ (slice_index_or references k d).0
+  pub key_at : (k : ℕ) (d : Entry) → slice_index_or (keys_of (read references)) k d.0 ≡ (slice_index_or references k d).0
   key_at k d = get_or-map (λ (e : Reference). e.0) (read references) k (entry d) ∙ ap (λ (e : Reference). e.0) (get_or-map entry references k d)
 
   pub rises : IsNonDecreasingBy (λ (y : Entry). ordering_index (slice_cmp nat_cmp y.0 name)) references

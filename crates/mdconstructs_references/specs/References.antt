@@ -1,7 +1,9 @@
 -- What character references mean.
 use Rattle.std.specs.Char.{IsScalar}
-use Rattle.std.specs.Map.{lookup}
-use Rattle.std.specs.Prelude.{◌≡◌, ◌≢◌, ℕ, List, [], ◌∷◌, Option, None, Some, map, bytes_eq}
+use Rattle.std.specs.Map.{keys_of, lookup}
+use Rattle.std.specs.List.{filter, find}
+use Rattle.std.specs.Option.{option_or}
+use Rattle.std.specs.Prelude.{◌≡◌, ◌≢◌, ◌==◌, ℕ, Bool, List, [], ◌∷◌, Option, None, Some, length, map, take, bytes_eq}
 use Rattle.mdconstructs_references.specs.CharacterReferences.{Reference, character_references}
 
 -- the characters of the first of these references that has this name
@@ -26,3 +28,28 @@ pub record IsCharacterAt (number : ℕ) (character : ℕ) : Type 0 where
   pub there : IsScalar number → number ≢ 0 → character ≡ number
   pub none : ¬ IsScalar number → character ≡ 0xFFFD
   pub zero_is_none : number ≡ 0 → character ≡ 0xFFFD
+
+-- the name begins with these bytes
+abbrev pub begins_with : (start : List ℕ) → List ℕ → Bool
+begins_with start name = bytes_eq (take (length start) name) start
+
+-- the first name of these references that begins with these bytes
+abbrev pub first_from : List Reference → (start : List ℕ) → Option (List ℕ)
+first_from references start = find (begins_with start) (keys_of references)
+
+-- the references whose names have this length
+abbrev pub of_length : ℕ → List Reference → List Reference
+of_length n references = filter (λ reference. length reference.0 == n) references
+
+-- the lengths of names
+abbrev pub lengths : List ℕ
+lengths = 2 ∷ 3 ∷ 4 ∷ 5 ∷ 6 ∷ 7 ∷ 8 ∷ 9 ∷ 10 ∷ 11 ∷ 12 ∷ 13 ∷ 14 ∷ 15 ∷ 16 ∷ 17 ∷ 18 ∷ 19 ∷ 20 ∷ 21 ∷ 22 ∷ 23 ∷ 24 ∷ 31 ∷ []
+
+-- a name of one of these lengths that begins with these bytes
+abbrev pub name_among : (lengths : List ℕ) → (start : List ℕ) → Option (List ℕ)
+name_among [] start = None
+name_among (n ∷ ns) start = option_or (first_from (of_length n character_references) start) (name_among ns start)
+
+-- a name that begins with these bytes: of the shortest the first, in the order of their bytes
+unfoldable pub name_from : (start : List ℕ) → Option (List ℕ)
+name_from start = name_among lengths start

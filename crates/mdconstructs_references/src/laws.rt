@@ -6,9 +6,9 @@ ghost use Rattle.std.specs.List.{list_all};
 ghost use Rattle.std.specs.List.Sorted.{IsStrictlySortedBy};
 ghost use Rattle.std.specs.Map.{keys_of};
 ghost use Rattle.std.specs.Ordering.{nat_cmp};
-ghost use Rattle.std.specs.Prelude.{◌≡◌, ◌<◌, ℕ, List, length, None, false};
+ghost use Rattle.std.specs.Prelude.{◌≡◌, ◌<◌, ◌++◌, ℕ, List, length, take, None, Some, IsSome, false};
 ghost use Rattle.mdconstructs_references.specs.CharacterReferences.{character_references};
-ghost use Rattle.mdconstructs_references.specs.References.{characters_of};
+ghost use Rattle.mdconstructs_references.specs.References.{characters_of, name_from};
 
 /// The names are listed in the order of their bytes, each once.
 pub fn names_are_in_order()
@@ -19,4 +19,10 @@ pub fn names_are_in_order()
 pub fn names_are_short_and_plain()
     ensures short { (name : List ℕ) → 31 < length name → characters_of name ≡ None }
     ensures plain { (name : List ℕ) → list_all is_ascii_alphanumeric name ≡ false → characters_of name ≡ None }
+{}
+
+/// A name that is found by its beginning begins so, and one is found wherever a name begins so.
+pub fn names_are_found_by_their_beginnings()
+    ensures sound { (start name : List ℕ) → name_from start ≡ Some name → take (length start) name ≡ start }
+    ensures complete { (start rest : List ℕ) → IsSome (characters_of (start ++ rest)) → IsSome (name_from start) }
 {}

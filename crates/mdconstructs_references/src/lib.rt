@@ -4,11 +4,11 @@
 ghost use Rattle.std.specs.Cmp.Lexicographic.{slice_cmp};
 ghost use Rattle.std.specs.List.Sorted.{IsStrictlySortedBy};
 ghost use Rattle.std.specs.Map.{keys_of};
-ghost use Rattle.std.specs.Option.{option_map};
-ghost use Rattle.std.specs.Ordering.{nat_cmp};
-ghost use Rattle.std.specs.Prelude.{◌≡◌, ◌⊎◌};
+ghost use Rattle.std.specs.Option.{option_copied, option_map};
+ghost use Rattle.std.specs.Ordering.{is_lt, nat_cmp};
+ghost use Rattle.std.specs.Prelude.{◌≡◌, ◌⊎◌, ◌+◌, ◌++◌, [], ◌∷◌, length, take};
 ghost use Rattle.std.specs.Str.Parse.{IsNumeral, digits_value};
-ghost use Rattle.mdconstructs_references.specs.References.{IsCharacterAt, characters_of, characters_in, code_points, read};
+ghost use Rattle.mdconstructs_references.specs.References.{IsCharacterAt, characters_of, characters_in, code_points, first_from, name_from, read};
 
 pub mod laws;
 mod table;
@@ -67,6 +67,68 @@ fn find_in<const N: usize>(references: &[Reference<N>], name: &[u8]) -> Option<(
             Some((reference.1, reference.2))
         }
         Err(_) => None,
+    }
+}
+
+/// A name that begins with these bytes and goes on with this one, if there is one: of the shortest the first, in the order of their bytes.
+pub fn name_from(start: &[u8], next: u8) -> Option<&'static [u8]>
+    ensures { option_copied result ≡ name_from (start.now ++ (next ∷ [])) }
+{
+    first_from(&NAMES_OF_2, start, next)
+        .or(first_from(&NAMES_OF_3, start, next))
+        .or(first_from(&NAMES_OF_4, start, next))
+        .or(first_from(&NAMES_OF_5, start, next))
+        .or(first_from(&NAMES_OF_6, start, next))
+        .or(first_from(&NAMES_OF_7, start, next))
+        .or(first_from(&NAMES_OF_8, start, next))
+        .or(first_from(&NAMES_OF_9, start, next))
+        .or(first_from(&NAMES_OF_10, start, next))
+        .or(first_from(&NAMES_OF_11, start, next))
+        .or(first_from(&NAMES_OF_12, start, next))
+        .or(first_from(&NAMES_OF_13, start, next))
+        .or(first_from(&NAMES_OF_14, start, next))
+        .or(first_from(&NAMES_OF_15, start, next))
+        .or(first_from(&NAMES_OF_16, start, next))
+        .or(first_from(&NAMES_OF_17, start, next))
+        .or(first_from(&NAMES_OF_18, start, next))
+        .or(first_from(&NAMES_OF_19, start, next))
+        .or(first_from(&NAMES_OF_20, start, next))
+        .or(first_from(&NAMES_OF_21, start, next))
+        .or(first_from(&NAMES_OF_22, start, next))
+        .or(first_from(&NAMES_OF_23, start, next))
+        .or(first_from(&NAMES_OF_24, start, next))
+        .or(first_from(&NAMES_OF_31, start, next))
+}
+
+/// The first name of this list that begins so.
+fn first_from<const N: usize>(
+    references: &'static [Reference<N>],
+    start: &[u8],
+    next: u8,
+) -> Option<&'static [u8]>
+    ensures { IsStrictlySortedBy (slice_cmp nat_cmp) (keys_of (read references.now)) → option_copied result ≡ first_from (read references.now) (start.now ++ (next ∷ [])) }
+{
+    let is_before = |reference: &Reference<N>| -> bool
+        ensures { result ≡ is_lt (slice_cmp nat_cmp (take (length start.entry.now + 1) reference.now.0) (start.entry.now ++ (next ∷ []))) }
+    { order_of_front(reference.0.as_slice(), start, next) == Ordering::Less };
+    let reference = references.get(references.partition_point(is_before))?;
+    let name = reference.0.as_slice();
+    match order_of_front(name, start, next) {
+        Ordering::Equal => Some(name),
+        _ => None,
+    }
+}
+
+/// How the front of a name compares to these bytes and this one.
+fn order_of_front(name: &[u8], start: &[u8], next: u8) -> Ordering
+    ensures { result ≡ slice_cmp nat_cmp (take (length start.now + 1) name.now) (start.now ++ (next ∷ [])) }
+{
+    if name.len() > start.len() {
+        name[..start.len()]
+            .cmp(start)
+            .then(name[start.len()].cmp(&next))
+    } else {
+        name.cmp(start).then(Ordering::Less)
     }
 }
 
