@@ -7,5 +7,6 @@ pub mod DeepSpans
 pub mod Escapes
 pub mod Plain
 pub mod Paragraphs
+pub mod ParagraphTexts
 mod Prelude
 pub mod Texts

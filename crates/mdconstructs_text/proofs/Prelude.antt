@@ -113,13 +113,13 @@ pub use Rattle.mdconstructs_text.specs.Autolink.{autolink, autolink_at, autolink
 pub use Rattle.mdconstructs_text.specs.Bytes.{backticks, ends_with, has_byte_at, is_backslash, is_backtick, is_colon, is_greater_than, is_less_than, is_line_feed, passes}
 pub use Rattle.mdconstructs_text.specs.ChainTexts.{AreReadAtPlaces, AreReadBy, HasReadableChains, chain_data, chain_events, chain_text, with_data, with_read, with_texts}
 pub use Rattle.mdconstructs_text.specs.CodeSpan.{before_backtick_string, code_span, code_span_at, code_spans, code_spans_are_on, is_backtick_or_line_feed, is_backtick_string, pieces, raw_flow_after, raw_flow_before_content_chunk, raw_flow_content_chunk, raw_flow_content_chunk_rows, raw_text_between, raw_text_between_rows, raw_text_data, raw_text_data_rows, raw_text_sequence_close, raw_text_sequence_close_rows, raw_text_sequence_open, raw_text_sequence_open_rows, raw_text_start, raw_text_start_rows, sizes_are_equal}
-pub use Rattle.mdconstructs_text.specs.Construct.{Construct, Found, Grammar, before_rows, first_there, grammars_of, if_on, or_else, some_begins, some_first, tried_at}
+pub use Rattle.mdconstructs_text.specs.Construct.{Between, Construct, Found, Grammar, before_rows, between_texts, first_there, grammars_of, if_on, or_else, some_begins, some_first, tried_at}
 pub use Rattle.mdconstructs_text.specs.Escape.{escape, escape_at, escape_inside, escape_inside_rows, escape_start, escape_start_rows, escaped, escapes, escapes_are_on}
 pub use Rattle.mdconstructs_text.specs.Items.{is_special, item_at, item_length, text_grammars}
 pub use Rattle.mdconstructs_text.specs.Laws.Classes.{by-class, tick-classed}
 pub use Rattle.mdconstructs_text.specs.Laws.Rules.{in-paragraphs, in-text, text-lawful}
 pub use Rattle.mdconstructs_text.specs.Parts.{Part, bytes_of, cut, event, leaf, line_ending, part, part_at, part_events, part_length, plain_length, plain_run}
-pub use Rattle.mdconstructs_text.specs.TextBytes.{TextByte, backslash, backtick, blank, colon, digit, greater, is_backslash_class, is_backtick_class, is_less_class, is_line_feed_class, is_tick, less, letter, line_feed, mark, other, punctuation, text_byte}
+pub use Rattle.mdconstructs_text.specs.TextBytes.{TextByte, ampersand, backslash, backtick, blank, colon, digit, greater, is_backslash_class, is_backtick_class, is_less_class, is_line_feed_class, is_tick, less, letter, line_feed, mark, other, punctuation, text_byte, white}
 pub use Rattle.mdconstructs_text.specs.TextEvents.{item_events, items, seat_events, text_events}
 pub use Rattle.mdconstructs_text.specs.TextRules.{flow, text_rules}
 pub use Rattle.mdconstructs_text.specs.TextSizes.{more_than}

@@ -13,7 +13,7 @@ use Rattle.mdconstructs_tables.specs.Numbers.{Price, by_left}
 use Rattle.mdconstructs_text.specs.Bytes.{is_less_than, is_greater_than, is_colon, is_scheme_mark, is_space, has_byte_at}
 use Rattle.mdconstructs_text.specs.Construct.{Found, Grammar, Construct, tried}
 use Rattle.mdconstructs_text.specs.Parts.{span, leaf}
-use Rattle.mdconstructs_text.specs.TextBytes.{TextByte, line_feed, less, greater, colon, letter, digit, mark, blank, is_less_class}
+use Rattle.mdconstructs_text.specs.TextBytes.{TextByte, line_feed, less, greater, colon, letter, digit, mark, white, blank, is_less_class}
 use Rattle.mdconstructs_text.specs.TextCosts.{text_cost}
 use Rattle.mdconstructs_text.specs.TextSizes.{size_b_is, size_b_grows}
 
@@ -116,6 +116,7 @@ abbrev pub autolink_url_rows : {R D : Type 0} → (previous current : Option Tex
 autolink_url_rows _ None = row [] Nok
 autolink_url_rows _ (Some greater) = row (exit AutolinkProtocol ∷ enter AutolinkMarker ∷ consume ∷ exit AutolinkMarker ∷ exit Autolink ∷ []) Ok
 autolink_url_rows _ (Some line_feed) = row [] Nok
+autolink_url_rows _ (Some white) = row [] Nok
 autolink_url_rows _ (Some blank) = row [] Nok
 autolink_url_rows _ (Some less) = row [] Nok
 autolink_url_rows _ (Some _) = row (consume ∷ []) (Next AutolinkUrlInside)

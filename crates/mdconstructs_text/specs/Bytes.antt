@@ -35,6 +35,10 @@ is_greater_than byte = byte == 62
 abbrev pub is_backslash : ℕ → Bool
 is_backslash byte = byte == 92
 
+-- `&`
+abbrev pub is_ampersand : ℕ → Bool
+is_ampersand byte = byte == 38
+
 -- a colon
 abbrev pub is_colon : ℕ → Bool
 is_colon byte = byte == 58

@@ -42,6 +42,16 @@ abbrev pub some_first : {A : Type 0} → List (Grammar A) → ℕ → Bool
 some_first [] byte = false
 some_first (grammar ∷ grammars) byte = grammar.first byte || some_first grammars byte
 
+-- The names of the states of a machine between constructs: where an item begins, before data, and in data
+pub record Between : Type 0 where
+  pub home : Name
+  pub before_data : Name
+  pub inside : Name
+
+-- those of texts
+abbrev pub between_texts : Between
+between_texts = record { home = TextBefore; before_data = TextBeforeData; inside = DataInside }
+
 -- How a machine reads a construct: what it is; the classes of bytes at which it is tried; its states, of which this one is called first; the
 -- state that follows if it is not there; which of its states are called only if it is tried, at which class; and which of them go on once a
 -- part of it was there
@@ -85,20 +95,20 @@ module _ {A W R D : Type 0} where
   some_follows (c ∷ cs) name = c.follows name || some_follows cs name
 
   -- a construct is tried if it is on; if not, other rows are taken
-  abbrev pub tries : Construct A W R D → Rows R D → Rows R D
-  tries c others = when (λ g s k. c.grammar.on g.options.constructs) (row (choose Attempt (Next TextBefore) (Next c.otherwise) ∷ []) (Retry c.start)) others
+  abbrev pub tries : (home : Name) → Construct A W R D → Rows R D → Rows R D
+  tries home c others = when (λ g s k. c.grammar.on g.options.constructs) (row (choose Attempt (Next home) (Next c.otherwise) ∷ []) (Retry c.start)) others
 
   -- what is tried at a class of bytes: the first construct that may begin there and is on; if there is none, data is read
-  abbrev pub tried_at : List (Construct A W R D) → W → Rows R D
-  tried_at [] w = row [] (Retry TextBeforeData)
-  tried_at (c ∷ cs) w = cond (c.begins w) (tries c (tried_at cs w)) (tried_at cs w)
+  abbrev pub tried_at : Between → List (Construct A W R D) → W → Rows R D
+  tried_at names [] w = row [] (Retry names.before_data)
+  tried_at names (c ∷ cs) w = cond (c.begins w) (tries names.home c (tried_at names cs w)) (tried_at names cs w)
 
   -- between constructs: a line ending is read, a construct is tried, or data is read
-  abbrev pub before_rows : (ends_line : W → Bool) → List (Construct A W R D) → (previous current : Option W) → Rows R D
-  before_rows ends_line cs _ None = row [] Ok
-  before_rows ends_line cs _ (Some w) = cond (ends_line w) (row (enter LineEnding ∷ consume ∷ exit LineEnding ∷ []) (Next TextBefore)) (tried_at cs w)
+  abbrev pub before_rows : Between → (ends_line : W → Bool) → List (Construct A W R D) → (previous current : Option W) → Rows R D
+  before_rows names ends_line cs _ None = row [] Ok
+  before_rows names ends_line cs _ (Some w) = cond (ends_line w) (row (enter LineEnding ∷ consume ∷ exit LineEnding ∷ []) (Next names.home)) (tried_at names cs w)
 
   -- in data: it ends where a line ending or a construct may begin
-  abbrev pub data_rows : (ends_line : W → Bool) → List (Construct A W R D) → (previous current : Option W) → Rows R D
-  data_rows ends_line cs _ None = row (exit Data ∷ []) (Retry TextBefore)
-  data_rows ends_line cs _ (Some w) = cond (ends_line w || some_begins cs w) (row (exit Data ∷ []) (Retry TextBefore)) (row (consume ∷ []) (Next DataInside))
+  abbrev pub data_rows : Between → (ends_line : W → Bool) → List (Construct A W R D) → (previous current : Option W) → Rows R D
+  data_rows names ends_line cs _ None = row (exit Data ∷ []) (Retry names.home)
+  data_rows names ends_line cs _ (Some w) = cond (ends_line w || some_begins cs w) (row (exit Data ∷ []) (Retry names.home)) (row (consume ∷ []) (Next names.inside))

@@ -12,7 +12,7 @@ use Rattle.mdconstructs_tables.specs.Numbers.{Price, by_left}
 use Rattle.mdconstructs_text.specs.Bytes.{is_backslash, has_byte_at}
 use Rattle.mdconstructs_text.specs.Construct.{Found, Grammar, Construct, tried}
 use Rattle.mdconstructs_text.specs.Parts.{span, leaf}
-use Rattle.mdconstructs_text.specs.TextBytes.{TextByte, backtick, less, greater, backslash, colon, mark, punctuation, is_backslash_class}
+use Rattle.mdconstructs_text.specs.TextBytes.{TextByte, backtick, less, greater, backslash, colon, mark, ampersand, punctuation, is_backslash_class}
 use Rattle.mdconstructs_text.specs.TextCosts.{text_cost}
 
 -- A backslash escape. Its events: its marker, and the character that is escaped
@@ -55,6 +55,7 @@ escape_inside_rows _ (Some greater) = escaped
 escape_inside_rows _ (Some backslash) = escaped
 escape_inside_rows _ (Some colon) = escaped
 escape_inside_rows _ (Some mark) = escaped
+escape_inside_rows _ (Some ampersand) = escaped
 escape_inside_rows _ (Some punctuation) = escaped
 escape_inside_rows _ _ = row [] Nok
 

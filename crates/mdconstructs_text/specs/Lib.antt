@@ -5,6 +5,7 @@ pub mod CodeSpan
 pub mod Construct
 pub mod Escape
 pub mod Items
+pub mod ParagraphTexts
 pub mod Parts
 pub mod TextBytes
 pub mod TextCosts

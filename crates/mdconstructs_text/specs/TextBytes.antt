@@ -1,10 +1,11 @@
 -- The classes of bytes of the machine of texts.
 use Rattle.std.specs.Prelude.{ℕ, ◌==◌, ◌||◌, nat_lt, Bool, true, false, cond, Option, Some, None}
 use Rattle.std.specs.Char.{is_ascii_alphabetic, is_ascii_alphanumeric, is_ascii_punctuation}
-use Rattle.mdconstructs_text.specs.Bytes.{is_line_feed, is_backtick, is_less_than, is_greater_than, is_backslash, is_colon, is_scheme_mark}
+use Rattle.mdconstructs_machines.specs.Breaks.{is_white}
+use Rattle.mdconstructs_text.specs.Bytes.{is_line_feed, is_backtick, is_less_than, is_greater_than, is_backslash, is_ampersand, is_colon, is_scheme_mark}
 
--- The classes. Letters, digits and marks are the characters of schemes; a blank is a space, or an ASCII control character that is
--- no line feed.
+-- The classes. Letters, digits and marks are the characters of schemes; white is a space or a tab, and a blank another ASCII control
+-- character that is no line feed.
 pub data TextByte : Type 0 where
   line_feed : TextByte
   backtick : TextByte
@@ -15,6 +16,8 @@ pub data TextByte : Type 0 where
   letter : TextByte
   digit : TextByte
   mark : TextByte
+  ampersand : TextByte
+  white : TextByte
   punctuation : TextByte
   blank : TextByte
   other : TextByte
@@ -24,7 +27,7 @@ abbrev pub text_byte : ℕ → TextByte
 text_byte b =
     cond (is_line_feed b) line_feed (cond (is_backtick b) backtick (cond (is_less_than b) less (cond (is_greater_than b) greater (cond (is_backslash b) backslash (cond (is_colon b) colon
     (cond (is_ascii_alphabetic b) letter (cond (is_ascii_alphanumeric b) digit (cond (is_scheme_mark b) mark
-    (cond (is_ascii_punctuation b) punctuation (cond (nat_lt b 33 || (b == 127)) blank other))))))))))
+    (cond (is_ampersand b) ampersand (cond (is_white b) white (cond (is_ascii_punctuation b) punctuation (cond (nat_lt b 33 || (b == 127)) blank other))))))))))))
 
 -- the class is a backtick's
 abbrev pub is_tick : Option TextByte → Bool

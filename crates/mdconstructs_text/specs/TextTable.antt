@@ -9,7 +9,7 @@ use Rattle.mdconstructs_tables.specs.Numbers.{Price, by_left, by_class, numbers}
 use Rattle.mdconstructs_machines.specs.Tables.{counts}
 use Rattle.mdconstructs_text.specs.Autolink.{autolinks, autolink_prices}
 use Rattle.mdconstructs_text.specs.CodeSpan.{code_spans, code_span_prices}
-use Rattle.mdconstructs_text.specs.Construct.{Found, Construct, before_rows, data_rows, states_of, some_begun, some_follows}
+use Rattle.mdconstructs_text.specs.Construct.{Found, Construct, between_texts, before_rows, data_rows, states_of, some_begun, some_follows}
 use Rattle.mdconstructs_text.specs.Escape.{escapes, escape_prices}
 use Rattle.mdconstructs_text.specs.TextBytes.{TextByte, backtick, text_byte, is_line_feed_class, is_backtick_class}
 use Rattle.mdconstructs_text.specs.TextCosts.{text_cost}
@@ -29,7 +29,7 @@ text_start =
 
 -- Between constructs: one is tried, or data is read
 abbrev pub text_before_rows : (previous current : Option TextByte) → Rows Unit Unit
-text_before_rows = before_rows is_line_feed_class text_constructs
+text_before_rows = before_rows between_texts is_line_feed_class text_constructs
 
 -- their state: no span is open
 abbrev pub text_before : StateRows TextByte Unit Unit
@@ -63,7 +63,7 @@ data_at_break =
 
 -- In data, which ends at a byte that a line ending or a construct may begin with
 abbrev pub data_inside_rows : (previous current : Option TextByte) → Rows Unit Unit
-data_inside_rows = data_rows is_line_feed_class text_constructs
+data_inside_rows = data_rows between_texts is_line_feed_class text_constructs
 
 -- its state: a data span is open
 abbrev pub data_inside : StateRows TextByte Unit Unit

@@ -17,7 +17,8 @@ ghost use Rattle.mdconstructs_machines.specs.Paragraphs.{paragraphs_rules};
 ghost use Rattle.mdconstructs_machines.specs.ReadAs.{IsReadAs};
 ghost use Rattle.mdconstructs_text.specs.ChainTexts.{AreReadAsData, AreReadAsTexts, AreReadAtPlaces, HasReadableChains, StaysReadyBy, StaysTight};
 ghost use Rattle.mdconstructs_text.specs.ChainTexts.{chain_data, chain_events, paragraphs_of, with_data, with_texts};
-ghost use Rattle.mdconstructs_text.specs.TextEvents.{text_events};
+ghost use Rattle.mdconstructs_text.specs.ParagraphTexts.{ParagraphsReadAsData, ParagraphsReadAsTexts, TextsAreInOrder};
+ghost use Rattle.mdconstructs_text.specs.TextEvents.{seat_events, text_events};
 ghost use Rattle.mdconstructs_text.specs.TextRules.{text_rules};
 
 use markdown_tokenizer::event::Content;
@@ -108,4 +109,17 @@ pub fn other_chains_stay_ready_after_texts()
 /// it drives can go on in another document that begins alike.
 pub fn texts_look_no_further()
     ensures { LooksNoFurther text_rules }
+{}
+
+/// With the text of each chain in place of its chunks, the events of a document's paragraphs are these: of each paragraph the events of its
+/// text, with the quote marks of its lines between them. The definition has no chains.
+pub fn texts_stand_in_their_paragraphs()
+    ensures as_data { ParagraphsReadAsData }
+    ensures as_texts { ParagraphsReadAsTexts }
+{}
+
+/// They are in order of place, and their void spans are empty.
+pub fn texts_in_their_paragraphs_are_in_order()
+    ensures as_data { TextsAreInOrder (λ g. data_events g.bytes) }
+    ensures as_texts { TextsAreInOrder (λ g. seat_events g.options.constructs g.bytes) }
 {}

@@ -7,5 +7,5 @@ pub mod code_span;
 pub mod escape;
 pub mod laws;
 pub mod read;
-mod sizes;
+pub mod sizes;
 pub mod text;

@@ -1,5 +1,5 @@
 -- Autolinks, as the machine of texts reads them: if one is there, it is read whole, with its events; if not, what was tried leaves nothing.
-use Rattle.mdconstructs_text.proofs.Prelude.{by-class, IsText, autolinks, at-front, ◌≡◌, ℕ, ◌+◌, ◌<◌, ◌≤◌, ◌∷◌, [], List, Bool, true, false, cond, refl, sym, ◌∙◌, ap, subst, Option, Some, None, inl, inr, arith, take, drop, nat_le, ◌&&◌, ◌==◌, and-false, and-true, cases_lt, eqb-true, lt-ltb, drop-drop, drop-map, is_ascii_alphabetic, prefix_len, drop-next, Event, Autolink, AutolinkProtocol, Name, Next, Retry, AutolinkStart, AutolinkOpen, AutolinkSchemeInsideOrEmailAtext, AutolinkUrlInside, Seat, Nothing, Byte, Given, Text, Configuration, Local, Choice, byte_of, counts, Found, autolink, passes, has_byte_at, is_scheme_byte, is_allowed, uri, autolink_to, autolink_at, is_colon, is_greater_than, bytes_of, Rows, TextByte, text_byte, class_of, row, Nok, row_step, sight, held, has_room, has_scheme, autolink_open_rows, autolink_scheme_rows, autolink_url_rows, nat_tests, consume, enter, exit, AutolinkMarker, letter, scheme_goes_on, zero, suc, length-prefix_len, list_all, is_scheme, more_than}
+use Rattle.mdconstructs_text.proofs.Prelude.{by-class, Between, IsText, autolinks, at-front, ◌≡◌, ℕ, ◌+◌, ◌<◌, ◌≤◌, ◌∷◌, [], List, Bool, true, false, cond, refl, sym, ◌∙◌, ap, subst, Option, Some, None, inl, inr, arith, take, drop, nat_le, ◌&&◌, ◌==◌, and-false, and-true, cases_lt, eqb-true, lt-ltb, drop-drop, drop-map, is_ascii_alphabetic, prefix_len, drop-next, Event, Autolink, AutolinkProtocol, Name, Next, Retry, AutolinkStart, AutolinkOpen, AutolinkSchemeInsideOrEmailAtext, AutolinkUrlInside, Seat, Nothing, Byte, Given, Text, Configuration, Local, Choice, byte_of, counts, Found, autolink, passes, has_byte_at, is_scheme_byte, is_allowed, uri, autolink_to, autolink_at, is_colon, is_greater_than, bytes_of, Rows, TextByte, text_byte, class_of, row, Nok, row_step, sight, held, has_room, has_scheme, autolink_open_rows, autolink_scheme_rows, autolink_url_rows, nat_tests, consume, enter, exit, AutolinkMarker, letter, scheme_goes_on, zero, suc, length-prefix_len, list_all, is_scheme, more_than}
 use Rattle.std.proofs.lemmas.Bool.{le-leb, lt-leb, le-ltb}
 use Rattle.markdown_base.specs.declared.event.Name.{Name as EventName}
 use Rattle.mdconstructs_text.proofs.Texts.Steps.{Plays, between_items, leads-row, leads-seen, leads-tested, leads-ok, before_class}
@@ -16,7 +16,7 @@ open-class : (before : Option TextByte) (b : ℕ) → is_ascii_alphabetic b ≡ 
 open-class before b h =
     by-class (λ w. autolink_open_rows {R = Unit} {D = Unit} before (Some w) ≡ autolink_open_rows {R = Unit} {D = Unit} before (Some letter)) b
     (λ e. absurd (grind (arith, nat_tests))) (λ e. absurd (grind (arith, nat_tests))) (λ e. absurd (grind (arith, nat_tests))) (λ e. absurd (grind (arith, nat_tests)))
-    (λ e. absurd (grind (arith, nat_tests))) (λ e. absurd (grind (arith, nat_tests))) (λ e. refl) (λ e f. absurd (cc)) (λ e. absurd (grind (arith, nat_tests)))
+    (λ e. absurd (grind (arith, nat_tests))) (λ e. absurd (grind (arith, nat_tests))) (λ e. refl) (λ e f. absurd (cc)) (λ e. absurd (grind (arith, nat_tests))) (λ e. absurd (grind (arith, nat_tests))) (λ e. absurd (grind (arith, nat_tests)))
     (λ o e. absurd (cc (o.6))) (λ o e. absurd (cc (o.6))) (λ o n e. absurd (cc (o.6)))
 
 -- and at no other byte, nor at the end
@@ -24,14 +24,14 @@ open-refused : (before : Option TextByte) (o : Option ℕ) → passes is_ascii_a
 open-refused before None h = refl
 open-refused before (Some b) h =
     by-class (λ w. autolink_open_rows {R = Unit} {D = Unit} before (Some w) ≡ row [] Nok) b
-    (λ e. refl) (λ e. refl) (λ e. refl) (λ e. refl) (λ e. refl) (λ e. refl) (λ e. absurd (cc)) (λ e f. refl) (λ e. refl) (λ o e. refl) (λ o e. refl) (λ o n e. refl)
+    (λ e. refl) (λ e. refl) (λ e. refl) (λ e. refl) (λ e. refl) (λ e. refl) (λ e. absurd (cc)) (λ e f. refl) (λ e. refl) (λ e. refl) (λ e. refl) (λ o e. refl) (λ o e. refl) (λ o n e. refl)
 
 -- it goes on at the bytes of schemes, and may end at a colon
 scheme-class : (before : Option TextByte) (b : ℕ) → is_scheme_byte b ≡ true → autolink_scheme_rows {R = Unit} {D = Unit} before (Some (text_byte b)) ≡ scheme_goes_on
 scheme-class before b h =
     by-class (λ w. autolink_scheme_rows {R = Unit} {D = Unit} before (Some w) ≡ scheme_goes_on) b
     (λ e. absurd (grind (arith, nat_tests))) (λ e. absurd (grind (arith, nat_tests))) (λ e. absurd (grind (arith, nat_tests))) (λ e. absurd (grind (arith, nat_tests)))
-    (λ e. absurd (grind (arith, nat_tests))) (λ e. absurd (grind (arith, nat_tests))) (λ e. refl) (λ e f. refl) (λ e. refl)
+    (λ e. absurd (grind (arith, nat_tests))) (λ e. absurd (grind (arith, nat_tests))) (λ e. refl) (λ e f. refl) (λ e. refl) (λ e. absurd (grind (arith, nat_tests))) (λ e. absurd (grind (arith, nat_tests)))
     (λ o e. absurd (grind (arith, nat_tests, o))) (λ o e. absurd (grind (arith, nat_tests, o))) (λ o n e. absurd (grind (arith, nat_tests, o)))
 
 -- any other byte refuses it, and so does the end
@@ -40,14 +40,14 @@ scheme-refused before None h i = refl
 scheme-refused before (Some b) h i =
     by-class (λ w. autolink_scheme_rows {R = Unit} {D = Unit} before (Some w) ≡ row [] Nok) b
     (λ e. refl) (λ e. refl) (λ e. refl) (λ e. refl) (λ e. refl) (λ e. absurd (cc))
-    (λ e. absurd (grind (arith, nat_tests))) (λ e f. absurd (grind (arith, nat_tests))) (λ e. absurd (grind (arith, nat_tests))) (λ o e. refl) (λ o e. refl) (λ o n e. refl)
+    (λ e. absurd (grind (arith, nat_tests))) (λ e f. absurd (grind (arith, nat_tests))) (λ e. absurd (grind (arith, nat_tests))) (λ e. refl) (λ e. refl) (λ o e. refl) (λ o e. refl) (λ o n e. refl)
 
 -- behind the scheme all allowed bytes are read, and it may end at `>`
 link-class : (before : Option TextByte) (b : ℕ) → is_allowed b ≡ true → autolink_url_rows {R = Unit} {D = Unit} before (Some (text_byte b)) ≡ row (consume ∷ []) (Next AutolinkUrlInside)
 link-class before b h =
     by-class (λ w. autolink_url_rows {R = Unit} {D = Unit} before (Some w) ≡ row (consume ∷ []) (Next AutolinkUrlInside)) b
     (λ e. absurd (grind (arith, nat_tests))) (λ e. refl) (λ e. absurd (grind (arith, nat_tests))) (λ e. absurd (grind (arith, nat_tests)))
-    (λ e. refl) (λ e. refl) (λ e. refl) (λ e f. refl) (λ e. refl) (λ o e. refl) (λ o e. absurd (grind (arith, nat_tests))) (λ o n e. refl)
+    (λ e. refl) (λ e. refl) (λ e. refl) (λ e f. refl) (λ e. refl) (λ e. refl) (λ e. absurd (grind (arith, nat_tests))) (λ o e. refl) (λ o e. absurd (grind (arith, nat_tests))) (λ o n e. refl)
 
 -- any other byte refuses it, and so does the end
 link-refused : (before : Option TextByte) (o : Option ℕ) → passes is_allowed o ≡ false → passes (λ b. b == 62) o ≡ false → autolink_url_rows {R = Unit} {D = Unit} before (class_of text_byte o) ≡ row [] Nok
@@ -55,7 +55,7 @@ link-refused before None h i = refl
 link-refused before (Some b) h i =
     by-class (λ w. autolink_url_rows {R = Unit} {D = Unit} before (Some w) ≡ row [] Nok) b
     (λ e. refl) (λ e. absurd (grind (arith, nat_tests))) (λ e. refl) (λ e. absurd (cc))
-    (λ e. absurd (grind (arith, nat_tests))) (λ e. absurd (grind (arith, nat_tests))) (λ e. absurd (grind (arith, nat_tests))) (λ e f. absurd (grind (arith, nat_tests))) (λ e. absurd (grind (arith, nat_tests)))
+    (λ e. absurd (grind (arith, nat_tests))) (λ e. absurd (grind (arith, nat_tests))) (λ e. absurd (grind (arith, nat_tests))) (λ e f. absurd (grind (arith, nat_tests))) (λ e. absurd (grind (arith, nat_tests))) (λ e. absurd (grind (arith, nat_tests))) (λ e. refl)
     (λ o e. absurd (grind (arith, nat_tests, o))) (λ o e. refl) (λ o n e. absurd (grind (arith, nat_tests, o)))
 
 -- this many bytes are enough for a scheme, and not too many, and the first is a letter
@@ -95,17 +95,17 @@ scheme-is r rs h = let is : is_scheme_byte r.byte ≡ true = grind (arith, nat_t
 abbrev link_spans : List EventName
 link_spans = Autolink ∷ AutolinkProtocol ∷ []
 
-module _ (g : Given) (text : Text) (m : Plays g text) (nok : Name) (p : ℕ) (ended : Bool) (events : List Event) where
+module _ (g : Given) (text : Text) (m : Plays g text) (names : Between) (nok : Name) (p : ℕ) (ended : Bool) (events : List Event) where
   -- what waits in the autolink that is tried at a place
   abbrev choices : List Choice
-  choices = outer nok p ended events ∷ []
+  choices = outer names.home nok p ended events ∷ []
 
   abbrev in_tried : ℕ → List Seat → Local Unit Unit → Configuration Unit Unit
   in_tried q l local = shows l link_spans q (begun_link g text events p) local
 
   -- the reading of an autolink is decided
   abbrev IsDecided : List Seat → ℕ → List Seat → Local Unit Unit → Name → Option Found → Type 0
-  IsDecided seats q l local name o = Decides g text m nok p ended events seats (in_tried q l local) choices (Retry name) o
+  IsDecided seats q l local name o = Decides g text m names nok p ended events seats (in_tried q l local) choices (Retry name) o
 
   -- it is rejected by a state whose row fails
   rejects : (table : (previous current : Option TextByte) → Rows Unit Unit) (name : Name)
@@ -113,7 +113,7 @@ module _ (g : Given) (text : Text) (m : Plays g text) (nok : Name) (p : ℕ) (en
       → (seats : List Seat) (q : ℕ) (l : List Seat) (local : Local Unit Unit) → drop q text.seats ≡ l → table (before_class g text q) (class_of text_byte (first_byte l)) ≡ row [] Nok
       → IsDecided seats q l local name None
   rejects table name has seats q l local at fails =
-      (counts local, refused g text m table name has nok p ended events l link_spans q (begun_link g text events p) local at fails (begun-front g text events p))
+      (counts local, refused g text m names table name has nok p ended events l link_spans q (begun_link g text events p) local at fails (begun-front g text events p))
 
   -- a scheme is read whole, or rejected if it is too long
   reads-scheme : (seats l : List Seat) (q q' : ℕ) (local : Local Unit Unit) (o : Option Found) → drop q text.seats ≡ l → q' ≡ q + prefix_len is_scheme_byte (bytes_of l) → size_b local ≤ 32
@@ -135,7 +135,7 @@ module _ (g : Given) (text : Text) (m : Plays g text) (nok : Name) (p : ℕ) (en
             elim (cases_lt size 32) [
               | inl room ↦
                   let grown : more_than size ≡ size + 1 = more-is size (omega (arith, room)) in
-                  decides-before g text m nok p ended events seats (in_tried q l local) (in_tried (q + 1) ss (grows_b local)) choices choices (Retry AutolinkSchemeInsideOrEmailAtext)
+                  decides-before g text m names nok p ended events seats (in_tried q l local) (in_tried (q + 1) ss (grows_b local)) choices choices (Retry AutolinkSchemeInsideOrEmailAtext)
                   (Retry AutolinkSchemeInsideOrEmailAtext) o
                   (λ es h.
                   leads-tested g text m has_room autolink_scheme_rows (in_tried q l local) choices AutolinkSchemeInsideOrEmailAtext es (ap byte_of front)
@@ -147,7 +147,7 @@ module _ (g : Given) (text : Text) (m : Plays g text) (nok : Name) (p : ℕ) (en
                 λ es h.
                     leads-tested g text m has_room autolink_scheme_rows (in_tried q l local) choices AutolinkSchemeInsideOrEmailAtext es (ap byte_of front)
                     (scheme-class (before_class g text q) s.byte e) (le-ltb size 32 full) (m.autolink_scheme _)
-                    (puts-back g text m nok p ended events (in_tried q l (counts local)) (begun-front g text events p) es h),
+                    (puts-back g text m names nok p ended events (in_tried q l (counts local)) (begun-front g text events p) es h),
               )
             ]
         | false ↦ λ e i more over.
@@ -155,7 +155,7 @@ module _ (g : Given) (text : Text) (m : Plays g text) (nok : Name) (p : ℕ) (en
             subst (λ n. IsDecided seats n l local AutolinkSchemeInsideOrEmailAtext o) same (more (omega (arith, upto)))
       ] refl is ends none
 
-module _ (g : Given) (text : Text) (m : Plays g text) (joined : IsJoined g text) (nok : Name) (p : ℕ) (ended : Bool) (events : List Event) (s r : Seat) (rs : List Seat) (here : drop p text.seats ≡ s ∷ r ∷ rs) (plain : (s.byte == 10) ≡ false) where
+module _ (g : Given) (text : Text) (m : Plays g text) (joined : IsJoined g text) (names : Between) (nok : Name) (p : ℕ) (ended : Bool) (events : List Event) (s r : Seat) (rs : List Seat) (here : drop p text.seats ≡ s ∷ r ∷ rs) (plain : (s.byte == 10) ≡ false) where
   -- the bytes, how many may be the scheme, and how many that is between the markers
   abbrev bytes : List ℕ
   bytes = bytes_of (s ∷ r ∷ rs)
@@ -168,7 +168,7 @@ module _ (g : Given) (text : Text) (m : Plays g text) (joined : IsJoined g text)
 
   -- the reading is decided from a place in it
   abbrev Decided : ℕ → List Seat → Local Unit Unit → Name → Option Found → Type 0
-  Decided q l local name o = IsDecided g text m nok p ended events (s ∷ r ∷ rs) q l local name o
+  Decided q l local name o = IsDecided g text m names nok p ended events (s ∷ r ∷ rs) q l local name o
 
   -- the seats behind the first marker
   behind : drop (p + 1) text.seats ≡ r ∷ rs
@@ -177,7 +177,7 @@ module _ (g : Given) (text : Text) (m : Plays g text) (joined : IsJoined g text)
   -- behind all allowed bytes it ends at `>`
   closes : (l : List Seat) (local : Local Unit Unit) → drop (p + 1 + inside) text.seats ≡ l → passes is_allowed (first_byte l) ≡ false
       → Decided (p + 1 + inside) l local AutolinkUrlInside (cond (passes is_greater_than (first_byte l)) (Some (autolink inside)) None)
-  closes [] local at none = rejects g text m nok p ended events autolink_url_rows AutolinkUrlInside m.autolink_url (s ∷ r ∷ rs) (p + 1 + inside) [] local at refl
+  closes [] local at none = rejects g text m names nok p ended events autolink_url_rows AutolinkUrlInside m.autolink_url (s ∷ r ∷ rs) (p + 1 + inside) [] local at refl
   closes (x ∷ xs) local at none =
       let q = p + 1 + inside in
       elim (x.byte == 62) as (λ b. (x.byte == 62) ≡ b → Decided q (x ∷ xs) local AutolinkUrlInside (cond b (Some (autolink inside)) None)) [
@@ -187,14 +187,14 @@ module _ (g : Given) (text : Text) (m : Plays g text) (joined : IsJoined g text)
               false,
               counts local,
               λ es h.
-                  leads-seen g text m autolink_url_rows (in_tried g text m nok p ended events q (x ∷ xs) local) (choices g text m nok p ended events) AutolinkUrlInside es
+                  leads-seen g text m autolink_url_rows (in_tried g text m names nok p ended events q (x ∷ xs) local) (choices g text m names nok p ended events) AutolinkUrlInside es
                   (ap byte_of (at-front text.seats q x xs at))
                   (ap (λ c. autolink_url_rows (before_class g text q) (Some (text_byte c))) (eqb-true x.byte 62 is)) (m.autolink_url _)
-                  (leads-ok g text m (between_items (q + 1) Nothing false (ended_link g text (begun_link g text events p) q) (counts local)) (outer nok p ended events) [] es
+                  (leads-ok g text m (between_items (q + 1) Nothing false (ended_link g text (begun_link g text events p) q) (counts local)) (outer names.home nok p ended events) [] es
                   (rw (made, further) h)),
             )
         | false ↦ λ other.
-            rejects g text m nok p ended events autolink_url_rows AutolinkUrlInside m.autolink_url (s ∷ r ∷ rs) q (x ∷ xs) local at (link-refused (before_class g text q) (Some x.byte) none other)
+            rejects g text m names nok p ended events autolink_url_rows AutolinkUrlInside m.autolink_url (s ∷ r ∷ rs) q (x ∷ xs) local at (link-refused (before_class g text q) (Some x.byte) none other)
       ] refl
 
   -- behind a whole scheme a colon is passed, and then all allowed bytes
@@ -215,12 +215,12 @@ module _ (g : Given) (text : Text) (m : Plays g text) (joined : IsJoined g text)
       let marker : p + (inside + 1) ≡ q' = omega arith in
       let last = byte-behind text.seats p (inside + 1) (s ∷ r ∷ rs) rest here (ap (λ i. drop i text.seats) marker ∙ at') in
       let after = passed is_allowed counts l (counts local) in
-      let waits = choices g text m nok p ended events in
+      let waits = choices g text m names nok p ended events in
       let begun = begun_link g text events p in
-      decides-before g text m nok p ended events (s ∷ r ∷ rs) (in_tried g text m nok p ended events q (c ∷ l) local) (in_tried g text m nok p ended events q' rest after) waits waits
+      decides-before g text m names nok p ended events (s ∷ r ∷ rs) (in_tried g text m names nok p ended events q (c ∷ l) local) (in_tried g text m names nok p ended events q' rest after) waits waits
       (Retry AutolinkSchemeInsideOrEmailAtext) (Retry AutolinkUrlInside) (autolink_to bytes (Some inside))
       (λ es h.
-      leads-tested g text m has_scheme autolink_scheme_rows (in_tried g text m nok p ended events q (c ∷ l) local) waits AutolinkSchemeInsideOrEmailAtext es (ap byte_of (at-front text.seats q c l at))
+      leads-tested g text m has_scheme autolink_scheme_rows (in_tried g text m names nok p ended events q (c ∷ l) local) waits AutolinkSchemeInsideOrEmailAtext es (ap byte_of (at-front text.seats q c l at))
       (ap (λ b. autolink_scheme_rows (before_class g text q) (Some (text_byte b))) (eqb-true c.byte 58 colon)) long (m.autolink_scheme _)
       (goes-next g text m l link_spans (q + 1) begun (counts local) waits AutolinkUrlInside next es
       (loops g text m link_spans waits AutolinkUrlInside is_allowed counts
@@ -234,7 +234,7 @@ module _ (g : Given) (text : Text) (m : Plays g text) (joined : IsJoined g text)
       → Decided (p + 1 + scheme_length) l local AutolinkSchemeInsideOrEmailAtext (autolink_to bytes (cond (nat_le 2 scheme_length && passes is_colon (first_byte l)) (Some inside) None))
   ends-scheme [] local at none size =
       subst (λ b. Decided (p + 1 + scheme_length) [] local AutolinkSchemeInsideOrEmailAtext (autolink_to bytes (cond b (Some inside) None))) (sym (and-false (nat_le 2 scheme_length)))
-      (rejects g text m nok p ended events autolink_scheme_rows AutolinkSchemeInsideOrEmailAtext m.autolink_scheme (s ∷ r ∷ rs) (p + 1 + scheme_length) [] local at refl)
+      (rejects g text m names nok p ended events autolink_scheme_rows AutolinkSchemeInsideOrEmailAtext m.autolink_scheme (s ∷ r ∷ rs) (p + 1 + scheme_length) [] local at refl)
   ends-scheme (c ∷ l) local at none size =
       let n = scheme_length in
       let q = p + 1 + n in
@@ -246,15 +246,15 @@ module _ (g : Given) (text : Text) (m : Plays g text) (joined : IsJoined g text)
               | false ↦ λ short. (
                 counts local,
                 λ es h.
-                    leads-tested g text m has_scheme autolink_scheme_rows (in_tried g text m nok p ended events q (c ∷ l) local) (choices g text m nok p ended events) AutolinkSchemeInsideOrEmailAtext es
+                    leads-tested g text m has_scheme autolink_scheme_rows (in_tried g text m names nok p ended events q (c ∷ l) local) (choices g text m names nok p ended events) AutolinkSchemeInsideOrEmailAtext es
                     (ap byte_of (at-front text.seats q c l at))
                     (ap (λ b. autolink_scheme_rows (before_class g text q) (Some (text_byte b))) (eqb-true c.byte 58 colon)) (ap (nat_le 2) size ∙ short) (m.autolink_scheme _)
-                    (puts-back g text m nok p ended events (in_tried g text m nok p ended events q (c ∷ l) (counts local)) (begun-front g text events p) es h),
+                    (puts-back g text m names nok p ended events (in_tried g text m names nok p ended events q (c ∷ l) (counts local)) (begun-front g text events p) es h),
               )
             ] refl
         | false ↦ λ other.
             subst Here (sym (and-false (nat_le 2 n)))
-            (rejects g text m nok p ended events autolink_scheme_rows AutolinkSchemeInsideOrEmailAtext m.autolink_scheme (s ∷ r ∷ rs) q (c ∷ l) local at
+            (rejects g text m names nok p ended events autolink_scheme_rows AutolinkSchemeInsideOrEmailAtext m.autolink_scheme (s ∷ r ∷ rs) q (c ∷ l) local at
             (scheme-refused (before_class g text q) (Some c.byte) none other))
       ] refl
 
@@ -263,7 +263,7 @@ module _ (g : Given) (text : Text) (m : Plays g text) (joined : IsJoined g text)
   decides-link local =
       let n = scheme_length in
       let colon = has_byte_at (bytes_of (r ∷ rs)) n is_colon in
-      let waits = choices g text m nok p ended events in
+      let waits = choices g text m names nok p ended events in
       let Here = λ (b : Bool). Decided (p + 1) (r ∷ rs) local AutolinkOpen (autolink_to bytes (cond (b && colon) (Some inside) None)) in
       subst Here (sym (front-is-scheme (bytes_of (r ∷ rs))))
       (elim (is_ascii_alphabetic r.byte) as (λ a. is_ascii_alphabetic r.byte ≡ a → Here (nat_le 2 n && (nat_le n 32 && a))) [
@@ -276,13 +276,13 @@ module _ (g : Given) (text : Text) (m : Plays g text) (joined : IsJoined g text)
             let rest = past is_scheme_byte rs in
             let at = past-at g text m is_scheme_byte rs (p + 1 + 1) (p + 1 + n) next place in
             let item = λ (b : Bool). autolink_to bytes (cond ((nat_le 2 n && (b && true)) && colon) (Some inside) None) in
-            decides-before g text m nok p ended events (s ∷ r ∷ rs) (in_tried g text m nok p ended events (p + 1) (r ∷ rs) local) (in_tried g text m nok p ended events (p + 1 + 1) rs first) waits waits
+            decides-before g text m names nok p ended events (s ∷ r ∷ rs) (in_tried g text m names nok p ended events (p + 1) (r ∷ rs) local) (in_tried g text m names nok p ended events (p + 1 + 1) rs first) waits waits
             (Retry AutolinkOpen) (Retry AutolinkSchemeInsideOrEmailAtext) (item (nat_le n 32))
             (λ es h.
-            leads-seen g text m autolink_open_rows (in_tried g text m nok p ended events (p + 1) (r ∷ rs) local) waits AutolinkOpen es (ap byte_of (at-front text.seats (p + 1) r rs behind))
+            leads-seen g text m autolink_open_rows (in_tried g text m names nok p ended events (p + 1) (r ∷ rs) local) waits AutolinkOpen es (ap byte_of (at-front text.seats (p + 1) r rs behind))
             (open-class (before_class g text (p + 1)) r.byte letter) (m.autolink_open _)
             (goes-next g text m rs link_spans (p + 1 + 1) (begun_link g text events p) first waits AutolinkSchemeInsideOrEmailAtext next es h))
-            (reads-scheme g text m nok p ended events (s ∷ r ∷ rs) rs (p + 1 + 1) (p + 1 + n) first (item (nat_le n 32)) next place (omega arith)
+            (reads-scheme g text m names nok p ended events (s ∷ r ∷ rs) rs (p + 1 + 1) (p + 1 + n) first (item (nat_le n 32)) next place (omega arith)
             (λ fits.
             let size : size_b read ≡ n = omega (arith, passed-counts size_b grows_b (λ c h. more-is (size_b c) h) is_scheme_byte rs first (omega (arith, fits)), is) in
             let long = le-leb n 32 (omega (arith, fits, is)) in
@@ -295,17 +295,17 @@ module _ (g : Given) (text : Text) (m : Plays g text) (joined : IsJoined g text)
         | false ↦ λ other.
             let none : (nat_le 2 n && (nat_le n 32 && false)) ≡ false = ap (λ t. nat_le 2 n && t) (and-false (nat_le n 32)) ∙ and-false (nat_le 2 n) in
             subst Here (sym none)
-            (rejects g text m nok p ended events autolink_open_rows AutolinkOpen m.autolink_open (s ∷ r ∷ rs) (p + 1) (r ∷ rs) local behind (open-refused (before_class g text (p + 1)) (Some r.byte) other))
+            (rejects g text m names nok p ended events autolink_open_rows AutolinkOpen m.autolink_open (s ∷ r ∷ rs) (p + 1) (r ∷ rs) local behind (open-refused (before_class g text (p + 1)) (Some r.byte) other))
       ] refl)
 
-module _ (g : Given) (text : Text) (m : Plays g text) where
+module _ (g : Given) (text : Text) (m : Plays g text) (names : Between) where
   -- If the construct is on, an autolink is tried at its marker
   tries-marker : (nok : Name) (p : ℕ) (ended : Bool) (events : List Event) (local : Local Unit Unit) (s : Seat) (ss : List Seat) → drop p text.seats ≡ s ∷ ss → s.byte ≡ 60
-      → (o : Option Found) → IsDecided g text m nok p ended events (s ∷ ss) (p + 1) ss (counts local) AutolinkOpen o → Tried g text m AutolinkStart nok p ended events local (s ∷ ss) o
+      → (o : Option Found) → IsDecided g text m names nok p ended events (s ∷ ss) (p + 1) ss (counts local) AutolinkOpen o → Tried g text m names AutolinkStart nok p ended events local (s ∷ ss) o
   tries-marker nok p ended events local s ss here is o decided =
       let begun = begun_link g text events p in
-      let waits = outer nok p ended events ∷ [] in
-      decides-before g text m nok p ended events (s ∷ ss) (between_items p Byte ended events local) (shows ss link_spans (p + 1) begun (counts local)) waits waits (Retry AutolinkStart)
+      let waits = outer names.home nok p ended events ∷ [] in
+      decides-before g text m names nok p ended events (s ∷ ss) (between_items p Byte ended events local) (shows ss link_spans (p + 1) begun (counts local)) waits waits (Retry AutolinkStart)
       (Retry AutolinkOpen) o
       (λ es h.
       leads-row g text m (row (enter Autolink ∷ enter AutolinkMarker ∷ consume ∷ exit AutolinkMarker ∷ enter AutolinkProtocol ∷ []) (Next AutolinkOpen)) (between_items p Byte ended events local) waits AutolinkStart es (m.autolink_start _)
@@ -314,17 +314,17 @@ module _ (g : Given) (text : Text) (m : Plays g text) where
 
   -- So autolinks are tried at `<`
   pub tries-autolink : IsJoined g text → (nok : Name) (p : ℕ) (ended : Bool) (events : List Event) (local : Local Unit Unit) (s : Seat) (ss : List Seat) → drop p text.seats ≡ s ∷ ss → s.byte ≡ 60
-      → Tried g text m AutolinkStart nok p ended events local (s ∷ ss) (autolink_at (bytes_of (s ∷ ss)))
+      → Tried g text m names AutolinkStart nok p ended events local (s ∷ ss) (autolink_at (bytes_of (s ∷ ss)))
   tries-autolink joined nok p ended events local s [] here is =
-      subst (λ b. Tried g text m AutolinkStart nok p ended events local (s ∷ []) (cond b (autolink_to (bytes_of (s ∷ [])) (uri [])) None)) (sym (ap (λ b. b == 60) is))
+      subst (λ b. Tried g text m names AutolinkStart nok p ended events local (s ∷ []) (cond b (autolink_to (bytes_of (s ∷ [])) (uri [])) None)) (sym (ap (λ b. b == 60) is))
       (tries-marker nok p ended events local s [] here is None
-      (rejects g text m nok p ended events autolink_open_rows AutolinkOpen m.autolink_open (s ∷ []) (p + 1) [] (counts local) (drop-next text.seats p s [] here) refl))
+      (rejects g text m names nok p ended events autolink_open_rows AutolinkOpen m.autolink_open (s ∷ []) (p + 1) [] (counts local) (drop-next text.seats p s [] here) refl))
   tries-autolink joined nok p ended events local s (r ∷ rs) here is =
-      subst (λ b. Tried g text m AutolinkStart nok p ended events local (s ∷ r ∷ rs) (cond b (autolink_to (bytes_of (s ∷ r ∷ rs)) (uri (bytes_of (r ∷ rs)))) None)) (sym (ap (λ b. b == 60) is))
+      subst (λ b. Tried g text m names AutolinkStart nok p ended events local (s ∷ r ∷ rs) (cond b (autolink_to (bytes_of (s ∷ r ∷ rs)) (uri (bytes_of (r ∷ rs)))) None)) (sym (ap (λ b. b == 60) is))
       (tries-marker nok p ended events local s (r ∷ rs) here is (autolink_to (bytes_of (s ∷ r ∷ rs)) (uri (bytes_of (r ∷ rs))))
-      (decides-link g text m joined nok p ended events s r rs here (ap (λ b. b == 10) is) (counts local)))
+      (decides-link g text m joined names nok p ended events s r rs here (ap (λ b. b == 10) is) (counts local)))
 
 -- The theorem of autolinks
-pub autolinks-read : (g : Given) (text : Text) (m : Plays g text) → IsText g text → ReadsPart g text m autolinks
-autolinks-read g text m is nok p ended events local s ss here first knows =
-    decided-so g text m nok p ended events (s ∷ ss) _ _ _ (autolink_at (bytes_of (s ∷ ss))) (tries-autolink g text m (text-joined g text is) nok p ended events local s ss here (eqb-true s.byte 60 first))
+pub autolinks-read : (g : Given) (text : Text) (m : Plays g text) (names : Between) → IsText g text → ReadsPart g text m names autolinks
+autolinks-read g text m names is nok p ended events local s ss here first knows =
+    decided-so g text m names nok p ended events (s ∷ ss) _ _ _ (autolink_at (bytes_of (s ∷ ss))) (tries-autolink g text m names (text-joined g text is) nok p ended events local s ss here (eqb-true s.byte 60 first))

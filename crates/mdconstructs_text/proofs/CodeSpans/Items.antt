@@ -1,5 +1,5 @@
 -- Code spans as items: if one is there, it is read with its events; if not, data is read from its first backtick.
-use Rattle.mdconstructs_text.proofs.Prelude.{row, exit, eqb-true, IsText, Name, code_spans, at-front, ◌≡◌, ℕ, suc, ◌+◌, ◌-◌, ◌^◌, ◌<◌, ◌≤◌, ◌∷◌, ◌++◌, [], List, Bool, true, false, cond, refl, sym, ◌∙◌, ap, subst, Option, Some, None, arith, length, take, drop, option_map, append_assoc, take_at, drop-drop, drop-take, take-take, length-take, length-drop, flat_map, between, Event, CodeText, CodeTextSequence, CodeTextData, Retry, Ok, Nok, RawTextStart, RawTextSequenceOpen, RawTextSequenceClose, RawTextBetween, RawFlowAfter, Seat, Nothing, Byte, Given, Text, Local, Choice, byte_of, counts, code_span, is_backtick, is_backtick_or_line_feed, backticks, part_length, part_at, code_span_at, bytes_of, leaf, part_events, pieces, item_events, drop-map, held, backtick, sizes_are_equal, raw_text_start_rows, raw_text_sequence_open_rows, raw_text_sequence_close_rows}
+use Rattle.mdconstructs_text.proofs.Prelude.{Between, row, exit, eqb-true, IsText, Name, code_spans, at-front, ◌≡◌, ℕ, suc, ◌+◌, ◌-◌, ◌^◌, ◌<◌, ◌≤◌, ◌∷◌, ◌++◌, [], List, Bool, true, false, cond, refl, sym, ◌∙◌, ap, subst, Option, Some, None, arith, length, take, drop, option_map, append_assoc, take_at, drop-drop, drop-take, take-take, length-take, length-drop, flat_map, between, Event, CodeText, CodeTextSequence, CodeTextData, Retry, Ok, Nok, RawTextStart, RawTextSequenceOpen, RawTextSequenceClose, RawTextBetween, RawFlowAfter, Seat, Nothing, Byte, Given, Text, Local, Choice, byte_of, counts, code_span, is_backtick, is_backtick_or_line_feed, backticks, part_length, part_at, code_span_at, bytes_of, leaf, part_events, pieces, item_events, drop-map, held, backtick, sizes_are_equal, raw_text_start_rows, raw_text_sequence_open_rows, raw_text_sequence_close_rows}
 use Rattle.std.proofs.lemmas.Bool.{eq-eqb}
 use Rattle.mdconstructs_text.proofs.Texts.Cutting.{cut-enough}
 use Rattle.mdconstructs_text.proofs.Texts.Steps.{Plays, leads-row, EndsWith, Leads, between_items, leads-fed, leads-seen, leads-tested, leads-ok, before_class}
@@ -25,7 +25,7 @@ begins-run b bs h = elim (is_backtick b) as (λ t. 0 < cond t (1 + backticks bs)
   | false ↦ λ i. absurd (omega (arith, i))
 ] h
 
-module _ (g : Given) (text : Text) (m : Plays g text) where
+module _ (g : Given) (text : Text) (m : Plays g text) (names : Between) where
   -- The events of the first run, of the pieces and of the last run are the code span's
   code-span-events : (k n' bound p : ℕ) (s : Seat) (ss : List Seat) (events : List Event) → drop p text.seats ≡ s ∷ ss → 0 < k → k + n' + k ≤ suc (length ss) → length (drop k (s ∷ ss)) ≤ bound
       → ((events ++ enter_at g text m CodeText p ∷ leaf g.bytes CodeTextSequence (take k (s ∷ ss))) ++ flat_map (part_events g.bytes CodeTextData) (cut_pieces bound (take n' (drop k (s ∷ ss)))))
@@ -87,12 +87,12 @@ module _ (g : Given) (text : Text) (m : Plays g text) where
       → backticks (bytes_of (s ∷ ss)) < 2 ^ 64
       → let k = backticks (bytes_of (s ∷ ss)) in
       (after : Local Unit Unit) × (size_b after ≡ k)
-      × Leads g text m (between_items p Byte ended events local) (outer nok p ended events ∷ []) (Retry RawTextStart)
-      (shows (past is_backtick (s ∷ ss)) in_code (p + k) (events ++ enter_at g text m CodeText p ∷ leaf g.bytes CodeTextSequence (take k (s ∷ ss))) after) (outer nok p ended events ∷ []) (Retry RawTextBetween)
+      × Leads g text m (between_items p Byte ended events local) (outer names.home nok p ended events ∷ []) (Retry RawTextStart)
+      (shows (past is_backtick (s ∷ ss)) in_code (p + k) (events ++ enter_at g text m CodeText p ∷ leaf g.bytes CodeTextSequence (take k (s ∷ ss))) after) (outer names.home nok p ended events ∷ []) (Retry RawTextBetween)
   opens nok p ended events local s ss at is short =
       let l = s ∷ ss in
       let k = backticks (bytes_of l) in
-      let cs = outer nok p ended events ∷ [] in
+      let cs = outer names.home nok p ended events ∷ [] in
       let front = at-front text.seats p s ss at in
       let tick = ap is_backtick is in
       let begun = (events ++ enter_at g text m CodeText p ∷ []) ++ enter_at g text m CodeTextSequence p ∷ [] in
@@ -121,17 +121,17 @@ module _ (g : Given) (text : Text) (m : Plays g text) where
   -- what the walk behind the opening backtick string has come to
   from-walk : RunsAreShort text → (nok : Name) (p : ℕ) (ended : Bool) (events : List Event) (mid : Local Unit Unit) (s : Seat) (ss : List Seat) → drop p text.seats ≡ s ∷ ss → is_backtick s.byte ≡ true
       → let l = s ∷ ss in let k = backticks (bytes_of l) in let rest = past is_backtick l in
-      let cs = outer nok p ended events ∷ [] in
+      let cs = outer names.home nok p ended events ∷ [] in
       let begun = events ++ enter_at g text m CodeText p ∷ leaf g.bytes CodeTextSequence (take k l) in
       (o : Option ℕ) → first_run k false (bytes_of rest) ≡ o → Walks g text m k cs (length rest) (p + k) rest begun mid o
-      → Decides g text m nok p ended events l (shows rest in_code (p + k) begun mid) cs (Retry RawTextBetween) (option_map (code_span k) o)
+      → Decides g text m names nok p ended events l (shows rest in_code (p + k) begun mid) cs (Retry RawTextBetween) (option_map (code_span k) o)
   from-walk short nok p ended events mid s ss at tick None found walked =
       let made = enter_at g text m CodeText p ∷ leaf g.bytes CodeTextSequence (take (backticks (bytes_of (s ∷ ss))) (s ∷ ss)) in (
         walked.2,
         λ es h.
             walked.3 es
-            (subst (λ c. EndsWith g text m (shows [] in_code walked.0 c walked.2) (outer nok p ended events ∷ []) Nok es) (sym (append_assoc events made walked.1))
-            (puts-back g text m nok p ended events (shows [] in_code walked.0 (events ++ (made ++ walked.1)) walked.2) (take_at events (made ++ walked.1) (length events) refl) es h)),
+            (subst (λ c. EndsWith g text m (shows [] in_code walked.0 c walked.2) (outer names.home nok p ended events ∷ []) Nok es) (sym (append_assoc events made walked.1))
+            (puts-back g text m names nok p ended events (shows [] in_code walked.0 (events ++ (made ++ walked.1)) walked.2) (take_at events (made ++ walked.1) (length events) refl) es h)),
       )
   from-walk short nok p ended events mid s ss at tick (Some n') found walked =
       let l = s ∷ ss in
@@ -144,7 +144,7 @@ module _ (g : Given) (text : Text) (m : Plays g text) where
       let behind : rest ≡ drop k l = past-is is_backtick l in
       let at1 : drop (p + k + n') text.seats ≡ drop n' rest = sym (drop-drop n' (p + k) text.seats) ∙ ap (drop n') (past-at g text m is_backtick l p (p + k) at refl) in
       let last : backticks (bytes_of (drop n' rest)) ≡ k = ap backticks (sym (drop-map (λ (s : Seat). s.byte) n' rest)) ∙ first-run-is k false (bytes_of rest) n' found in
-      let closed = closes short k some (drop n' rest) (p + k + n') (begun ++ pieces_at rest) walked.0 (outer nok p ended events ∷ []) at1 walked.1 last in
+      let closed = closes short k some (drop n' rest) (p + k + n') (begun ++ pieces_at rest) walked.0 (outer names.home nok p ended events ∷ []) at1 walked.1 last in
       let left : length rest ≡ suc (length ss) - k = ap length behind ∙ length-drop k l in
       let place : p + k + n' + k ≡ p + (k + n' + k) = omega arith in
       let whole = (begun ++ pieces_at rest) ++ (leaf g.bytes CodeTextSequence (take k (drop n' rest)) ++ exit_at g text m CodeText (p + k + n' + k) ∷ []) in
@@ -159,18 +159,18 @@ module _ (g : Given) (text : Text) (m : Plays g text) where
         λ es h.
             walked.2 es
             (closed.2 es
-            (leads-ok g text m (shows closed.0 [] (p + k + n' + k) whole closed.1) (outer nok p ended events) [] es
+            (leads-ok g text m (shows closed.0 [] (p + k + n' + k) whole closed.1) (outer names.home nok p ended events) [] es
             (rw (made, place) h))),
       )
 
   -- Code spans are tried at backticks
   pub tries-code-span : RunsAreShort text → (nok : Name) (p : ℕ) (ended : Bool) (events : List Event) (local : Local Unit Unit) (s : Seat) (ss : List Seat) → drop p text.seats ≡ s ∷ ss → s.byte ≡ 96
-      → Tried g text m RawTextStart nok p ended events local (s ∷ ss) (code_span_at (bytes_of (s ∷ ss)))
+      → Tried g text m names RawTextStart nok p ended events local (s ∷ ss) (code_span_at (bytes_of (s ∷ ss)))
   tries-code-span short nok p ended events local s ss at is =
       let l = s ∷ ss in
       let k = backticks (bytes_of l) in
       let rest = past is_backtick l in
-      let cs = outer nok p ended events ∷ [] in
+      let cs = outer names.home nok p ended events ∷ [] in
       let tick = ap is_backtick is in
       let opened = opens nok p ended events local s ss at is (subst (λ c. backticks (bytes_of c) < 2 ^ 64) at (short p)) in
       let begun = events ++ enter_at g text m CodeText p ∷ leaf g.bytes CodeTextSequence (take k l) in
@@ -178,12 +178,12 @@ module _ (g : Given) (text : Text) (m : Plays g text) where
       let walked = walks g text m k cs short (run-positive s.byte (bytes_of ss) tick) (length rest) (p + k) rest begun opened.0 opened.1 (omega arith) at1 in
       let o = first_run k false (bytes_of rest) in
       let same : o ≡ first_run k false (drop k (bytes_of l)) = ap (first_run k false) (ap bytes_of (past-is is_backtick l) ∙ sym (drop-map (λ (s : Seat). s.byte) k l)) in
-      subst (Tried g text m RawTextStart nok p ended events local l) (ap (option_map (code_span k)) same ∙ sym (code-span-found s.byte (bytes_of ss) is))
-      (decides-before g text m nok p ended events l (between_items p Byte ended events local) (shows rest in_code (p + k) begun opened.0) cs cs (Retry RawTextStart) (Retry RawTextBetween)
+      subst (Tried g text m names RawTextStart nok p ended events local l) (ap (option_map (code_span k)) same ∙ sym (code-span-found s.byte (bytes_of ss) is))
+      (decides-before g text m names nok p ended events l (between_items p Byte ended events local) (shows rest in_code (p + k) begun opened.0) cs cs (Retry RawTextStart) (Retry RawTextBetween)
       (option_map (code_span k) o) opened.2
       (from-walk short nok p ended events opened.0 s ss at tick o refl walked))
 
 -- The theorem of code spans
-pub code-spans-read : (g : Given) (text : Text) (m : Plays g text) → IsText g text → ReadsPart g text m code_spans
-code-spans-read g text m is nok p ended events local s ss here first knows =
-    decided-so g text m nok p ended events (s ∷ ss) _ _ _ (code_span_at (bytes_of (s ∷ ss))) (tries-code-span g text m (runs-of-text g text is) nok p ended events local s ss here (eqb-true s.byte 96 first))
+pub code-spans-read : (g : Given) (text : Text) (m : Plays g text) (names : Between) → IsText g text → ReadsPart g text m names code_spans
+code-spans-read g text m names is nok p ended events local s ss here first knows =
+    decided-so g text m names nok p ended events (s ∷ ss) _ _ _ (code_span_at (bytes_of (s ∷ ss))) (tries-code-span g text m names (runs-of-text g text is) nok p ended events local s ss here (eqb-true s.byte 96 first))

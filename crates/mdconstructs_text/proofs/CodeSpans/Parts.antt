@@ -58,7 +58,7 @@ AtData b w = (raw_text_between_rows {R = Unit} {D = Unit} b (Some w) ≡ row (en
 at-data : (before : Option TextByte) (b : ℕ) → is_backtick_or_line_feed b ≡ false → AtData before (text_byte b)
 at-data before b h =
     by-class (AtData before) b
-    (λ e. absurd (grind (arith, nat_tests))) (λ e. absurd (grind (arith, nat_tests))) (λ e. (refl, refl)) (λ e. (refl, refl)) (λ e. (refl, refl)) (λ e. (refl, refl)) (λ e. (refl, refl)) (λ e f. (refl, refl)) (λ e. (refl, refl))
+    (λ e. absurd (grind (arith, nat_tests))) (λ e. absurd (grind (arith, nat_tests))) (λ e. (refl, refl)) (λ e. (refl, refl)) (λ e. (refl, refl)) (λ e. (refl, refl)) (λ e. (refl, refl)) (λ e f. (refl, refl)) (λ e. (refl, refl)) (λ e. (refl, refl)) (λ e. (refl, refl))
     (λ o e. (refl, refl)) (λ o e. (refl, refl)) (λ o n e. (refl, refl))
 
 -- line endings are of the class of LF

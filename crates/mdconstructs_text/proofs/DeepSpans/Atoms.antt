@@ -14,16 +14,16 @@ spans-apart (x ∷ y ∷ xs) e ys enters =
     ap (λ l. here ++ l) (spans-apart (y ∷ xs) e ys enters) ∙ sym (append_assoc here (innermost_spans (y ∷ xs)) (innermost_spans (e ∷ ys)))
 
 -- What a function gives of a list, cut at an element
-record MapCut {A B : Type 0} (f : A → B) (zs : List A) (xs : List B) (y : B) (ys : List B) : Type 0 where
-  front : List A
-  here : A
-  back : List A
-  are : zs ≡ front ++ here ∷ back
-  front_is : xs ≡ map f front
-  here_is : y ≡ f here
-  back_is : ys ≡ map f back
+pub record MapCut {A B : Type 0} (f : A → B) (zs : List A) (xs : List B) (y : B) (ys : List B) : Type 0 where
+  pub front : List A
+  pub here : A
+  pub back : List A
+  pub are : zs ≡ front ++ here ∷ back
+  pub front_is : xs ≡ map f front
+  pub here_is : y ≡ f here
+  pub back_is : ys ≡ map f back
 
-map-cut : {A B : Type 0} (f : A → B) (zs : List A) (xs : List B) (y : B) (ys : List B) → xs ++ y ∷ ys ≡ map f zs → MapCut f zs xs y ys
+pub map-cut : {A B : Type 0} (f : A → B) (zs : List A) (xs : List B) (y : B) (ys : List B) → xs ++ y ∷ ys ≡ map f zs → MapCut f zs xs y ys
 map-cut f [] [] y ys h = absurd (cc)
 map-cut f [] (x ∷ xs) y ys h = absurd (cc)
 map-cut f (z ∷ zs) [] y ys h = record { front = []; here = z; back = zs; are = refl; front_is = refl; here_is = (cc); back_is = (cc) }

@@ -16,16 +16,16 @@ use Rattle.mdconstructs_text.proofs.Paragraphs.ChunksReady.{between-none, betwee
 
 -- ---- the leading events up to a place
 module _ (end : Point) where
-  front-at : (b : Bool) (e : Event) (es : List Event) → stands_before end e.point ≡ b → front_until end (e ∷ es) ≡ cond (not b) (e ∷ front_until end es) []
+  pub front-at : (b : Bool) (e : Event) (es : List Event) → stands_before end e.point ≡ b → front_until end (e ∷ es) ≡ cond (not b) (e ∷ front_until end es) []
   front-at b e es is = take_while-cons (λ (x : Event). not (stands_before end x.point)) e es ∙ ap (λ b. cond (not b) (e ∷ front_until end es) []) is
 
   -- what is up to the place is in front
-  front-over : (xs ys : List Event) → AllByRecursion (Upto end) xs → front_until end (xs ++ ys) ≡ xs ++ front_until end ys
+  pub front-over : (xs ys : List Event) → AllByRecursion (Upto end) xs → front_until end (xs ++ ys) ≡ xs ++ front_until end ys
   front-over [] ys h = refl
   front-over (x ∷ xs) ys h = front-at false x (xs ++ ys) h.0 ∙ ap (λ l. x ∷ l) (front-over xs ys h.1)
 
   -- what is in front is up to the place
-  front-upto : (es : List Event) → AllByRecursion (Upto end) (front_until end es)
+  pub front-upto : (es : List Event) → AllByRecursion (Upto end) (front_until end es)
   front-upto [] = tt
   front-upto (e ∷ es) = elim (stands_before end e.point) as (λ b. stands_before end e.point ≡ b → AllByRecursion (Upto end) (front_until end (e ∷ es))) [
     | true ↦ λ h. subst (AllByRecursion (Upto end)) (sym (front-at true e es h)) tt
@@ -33,7 +33,7 @@ module _ (end : Point) where
   ] refl
 
   -- and the rest is behind it
-  front-and-rest : (es : List Event) → front_until end es ++ drop (length (front_until end es)) es ≡ es
+  pub front-and-rest : (es : List Event) → front_until end es ++ drop (length (front_until end es)) es ≡ es
   front-and-rest es = ap (λ l. front_until end es ++ l) (sym (append-nil (drop (length (front_until end es)) es))) ∙ joined-parts end (end ∷ []) es
 
 -- link ends do not matter
@@ -46,7 +46,7 @@ spans-placed ts (u ∷ v ∷ us) =
 module _ (g : Given) (some : 0 < g.tab) (events : List Event) (ready : IsReady g.tab g.bytes (Some TextContent) events)
     (pairs : (k d : ℕ) → next_of events k ≡ Some d → FollowsChunk events k d) where
   -- the events from i on, after changes
-  abbrev after : List Change → ℕ → List Event
+  abbrev pub after : List Change → ℕ → List Event
   after ws i = after_changes events ws i
 
   -- they account for virtual bytes, and begin with an enter at the first
@@ -61,13 +61,13 @@ module _ (g : Given) (some : 0 < g.tab) (events : List Event) (ready : IsReady g
       (subst (λ l. AccountFor (events_of g.bytes atoms ++ es) g.bytes (l ++ behind)) is (atoms-more g.bytes atoms es behind h), open-atoms g.bytes atoms s ss es is)
 
   -- from a chunk on, the parts of a child's events, and what is between the chunks and behind them
-  abbrev from_chunk : ℕ → List ℕ → List Event → List Change → List Event
+  abbrev pub from_chunk : ℕ → List ℕ → List Event → List Change → List Event
   from_chunk k [] es ws = es ++ after ws (k + 2)
   from_chunk k (d ∷ ks) es ws =
       let front = front_until (place_at events (k + 1)) es in
       front ++ (between (k + 2) d events ++ from_chunk d ks (drop (length front) es) ws)
 
-  up-to-chunk : (c j i k : ℕ) (ks more : List ℕ) (es : List Event) (ws : List Change) → AreSpaced i (k ∷ (ks ++ more)) (length events)
+  pub up-to-chunk : (c j i k : ℕ) (ks more : List ℕ) (es : List Event) (ws : List Change) → AreSpaced i (k ∷ (ks ++ more)) (length events)
       → after (part_changes c j (k ∷ ks) (parts (map (λ k. place_at events (k + 1)) (k ∷ ks)) es) ++ ws) i ≡ between i k events ++ from_chunk k ks es ws
   up-to-chunk c j i k [] more es ws spaced = part_after events c j i k [] es [] ws spaced.0
   up-to-chunk c j i k (d ∷ ks) more es ws spaced =

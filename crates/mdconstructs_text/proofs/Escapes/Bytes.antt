@@ -7,7 +7,7 @@ backslash-classed b =
     by-class (λ w. is_backslash_class w ≡ (b == 92)) b
     (λ e. sym (grind (arith, nat_tests))) (λ e. sym (grind (arith, nat_tests))) (λ e. sym (grind (arith, nat_tests))) (λ e. sym (grind (arith, nat_tests)))
     (λ e. sym e) (λ e. sym (grind (arith, nat_tests))) (λ e. sym (grind (arith, nat_tests))) (λ n e. sym (grind (arith, nat_tests)))
-    (λ e. sym (grind (arith, nat_tests))) (λ o e. sym (grind (arith, nat_tests))) (λ o e. sym (grind (arith, nat_tests))) (λ o n e. sym (grind (arith, nat_tests)))
+    (λ e. sym (grind (arith, nat_tests))) (λ e. sym (grind (arith, nat_tests))) (λ e. sym (grind (arith, nat_tests))) (λ o e. sym (grind (arith, nat_tests))) (λ o e. sym (grind (arith, nat_tests))) (λ o n e. sym (grind (arith, nat_tests)))
 
 pub escapes-apart : IsApart text_byte item_length escapes
 escapes-apart = record {

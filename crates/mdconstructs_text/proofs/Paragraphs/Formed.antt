@@ -22,15 +22,15 @@ void-append (x ∷ xs) ys h k =
     (void-append xs ys (λ i f at enter void. let r = h (suc i) f at enter void in let z : suc i + 1 ≡ suc (i + 1) = omega arith in (r.0, sym (ap (slice_get (x ∷ xs)) z) ∙ r.1, r.2, r.3)) k)
 
 -- ---- events between two places, in order
-abbrev InOrder : Point → List Event → Point → Type 0
+abbrev pub InOrder : Point → List Event → Point → Type 0
 InOrder p [] q = stands_before q p ≡ false
 InOrder p (e ∷ es) q = (stands_before e.point p ≡ false) × InOrder e.point es q
 
-order-from : (o p : Point) (es : List Event) (q : Point) → stands_before p o ≡ false → InOrder p es q → InOrder o es q
+pub order-from : (o p : Point) (es : List Event) (q : Point) → stands_before p o ≡ false → InOrder p es q → InOrder o es q
 order-from o p [] q h k = upto-upto o p q h k
 order-from o p (e ∷ es) q h k = (upto-upto o p e.point h k.0, k.1)
 
-order-append : (p : Point) (xs : List Event) (m : Point) (ys : List Event) (q : Point) → InOrder p xs m → InOrder m ys q → InOrder p (xs ++ ys) q
+pub order-append : (p : Point) (xs : List Event) (m : Point) (ys : List Event) (q : Point) → InOrder p xs m → InOrder m ys q → InOrder p (xs ++ ys) q
 order-append p [] m ys q h k = order-from p m ys q h k
 order-append p (x ∷ xs) m ys q h k = (h.0, order-append x.point xs m ys q h.1 k)
 
@@ -39,7 +39,7 @@ order-later p [] q h = tt
 order-later p (e ∷ es) q h =
     (h.0, every-map (λ (f : Event). stands_before f.point e.point ≡ false) (λ (f : Event). stands_before f.point p ≡ false) (λ (f : Event) later. upto-upto p e.point f.point h.0 later) es (order-later e.point es q h.1))
 
-order-pairs : (p : Point) (es : List Event) (q : Point) → InOrder p es q → AllPairs (λ (e f : Event). stands_before f.point e.point ≡ false) es
+pub order-pairs : (p : Point) (es : List Event) (q : Point) → InOrder p es q → AllPairs (λ (e f : Event). stands_before f.point e.point ≡ false) es
 order-pairs p [] q h = λ i j d less within. absurd (omega (arith, within))
 order-pairs p (e ∷ es) q h =
     AllPairs-cons (λ (e f : Event). stands_before f.point e.point ≡ false) e es (All-from_recursion (λ (f : Event). stands_before f.point e.point ≡ false) es (order-later e.point es q h.1)) (order-pairs e.point es q h.1)

@@ -1,42 +1,35 @@
 -- Plain data, and an item at a byte: if no construct is there, data is read, a backtick string or one byte, and all up to the next byte at which
 -- another item may begin.
-use Rattle.mdconstructs_text.proofs.Prelude.{at-front, ◌≡◌, ℕ, ◌+◌, ◌∷◌, ◌++◌, [], List, Bool, true, false, sym, ◌∙◌, ap, subst, arith, Option, Some, None, length, take, drop, slice_get, Event, Name, State, Next, Retry, Nok, TextBefore, TextBeforeData, Seat, Nothing, Byte, Given, Text, Configuration, Local, Choice, sight, byte_of, class_of, counts, refl, Found, plain_run, part, item_length, plain_length, Rows, TextByte, row, row_step, text_byte, bytes_of, item_events, suc, ◌≤◌, cond, max, not, add_assoc, not-true, append_assoc, drop-drop, drop-map, drop-next, length-drop, length-map, prefix_len-le-length, prefix_len, Enter, Exit, Data, DataAtBreak, DataInside, point_or, end_place, is_backtick, backticks, backtick, event, leaf, text_before_data_rows, data_at_break_rows, exit, consume, passes, held}
+use Rattle.mdconstructs_text.proofs.Prelude.{at-front, ◌≡◌, ℕ, ◌+◌, ◌∷◌, ◌++◌, [], List, Bool, true, false, sym, ◌∙◌, ap, subst, arith, Option, Some, None, length, take, drop, slice_get, Event, Name, State, Next, Retry, Nok, TextBeforeData, Between, between_texts, Seat, Nothing, Byte, Given, Text, Configuration, Local, Choice, sight, byte_of, class_of, counts, refl, Found, plain_run, part, item_length, plain_length, Rows, TextByte, row, row_step, text_byte, bytes_of, item_events, suc, ◌≤◌, cond, max, not, add_assoc, not-true, append_assoc, drop-drop, drop-map, drop-next, length-drop, length-map, prefix_len-le-length, prefix_len, position_or_len, Enter, Exit, Data, DataAtBreak, DataInside, point_or, end_place, is_backtick, backticks, backtick, event, leaf, text_before_data_rows, data_at_break_rows, exit, consume, passes, held}
 use Rattle.markdown_base.specs.declared.event.Name.{Name as EventName}
-use Rattle.mdconstructs_text.proofs.Texts.Steps.{Plays, EndsWith, Leads, between_items, leads-nok, leads-row, leads-seen, before_class}
+use Rattle.mdconstructs_text.proofs.Texts.Steps.{Plays, PlaysData, BeginsData, EndsWith, Leads, between_items, leads-nok, leads-row, leads-seen, before_class}
 use Rattle.mdconstructs_text.proofs.Plain.Classes.{tick-class, run-ended}
 use Rattle.mdconstructs_text.proofs.Plain.Stretches.{shows, first_byte, sees, past, passed, past-stops, past-is, leaf-read, past-at, goes-next, goes-back, class-rows, loops, loops-from}
 use Rattle.mdconstructs_text.specs.Parts.{first_plain}
 use Rattle.mdconstructs_text.proofs.Constructs.Listed.{outer}
 use Rattle.mdconstructs_text.proofs.Texts.Reads.{AddsItem, DecidesPart}
 
-module _ (g : Given) (text : Text) (m : Plays g text) where
-  -- a byte at which no other item may begin
-  abbrev is_plain : ℕ → Bool
-  is_plain b = not (m.special b)
-
-  -- plain data, as much as there is
-  abbrev pub plain_of : List Seat → Found
-  plain_of seats = part (plain_run (plain_length m.special (bytes_of seats)))
-
+module _ (g : Given) (text : Text) (m : Plays g text) (names : Between) where
   -- data begins at the byte that waits
-  abbrev entered_data : List Event → ℕ → List Event
+  abbrev pub entered_data : List Event → ℕ → List Event
   entered_data events p = events ++ event g.bytes Enter Data (point_or text.end (slice_get text.seats p)) ∷ []
 
   -- with its first bytes, which were read
   abbrev HasBegun : (p : ℕ) → Bool → List Event → Local Unit Unit → List Seat → (n : ℕ) → Type 0
   HasBegun p ended events local l n =
       (after : Local Unit Unit)
-      × Leads g text m (between_items p Byte ended events local) [] (Retry TextBeforeData) (shows (drop n l) (Data ∷ []) (p + n) (entered_data events p) after) [] (Retry DataInside)
+      × Leads g text m (between_items p Byte ended events local) [] (Retry names.before_data) (shows (drop n l) (Data ∷ []) (p + n) (entered_data events p) after) [] (Retry names.inside)
 
+module _ (g : Given) (text : Text) (m : Plays g text) (b : BeginsData g text m) where
   -- a whole backtick string, or another byte
-  data-begun : (p : ℕ) (ended : Bool) (events : List Event) (local : Local Unit Unit) (s : Seat) (ss : List Seat) → drop p text.seats ≡ s ∷ ss
-      → HasBegun p ended events local (s ∷ ss) (first_plain (bytes_of (s ∷ ss)))
+  pub data-begun : (p : ℕ) (ended : Bool) (events : List Event) (local : Local Unit Unit) (s : Seat) (ss : List Seat) → drop p text.seats ≡ s ∷ ss
+      → HasBegun g text m between_texts p ended events local (s ∷ ss) (first_plain (bytes_of (s ∷ ss)))
   data-begun p ended events local s ss here =
       let l = s ∷ ss in
       let r = backticks (bytes_of ss) in
       let at = at-front text.seats p s ss here in
-      let begun = entered_data events p in
-      elim (is_backtick s.byte) as (λ b. is_backtick s.byte ≡ b → HasBegun p ended events local l (max 1 (cond b (1 + r) 0))) [
+      let begun = entered_data g text m between_texts events p in
+      elim (is_backtick s.byte) as (λ t. is_backtick s.byte ≡ t → HasBegun g text m between_texts p ended events local l (max 1 (cond t (1 + r) 0))) [
         | true ↦ λ is.
             let size : backticks (bytes_of l) ≡ 1 + r = ap (λ t. cond t (1 + r) 0) is in
             let first : backticks (bytes_of l) ≡ max 1 (1 + r) = omega (arith, size) in
@@ -47,39 +40,40 @@ module _ (g : Given) (text : Text) (m : Plays g text) where
               counts after,
               λ es h.
                   leads-seen g text m text_before_data_rows (between_items p Byte ended events local) [] TextBeforeData es (ap byte_of at)
-                  (class-rows g text m text_before_data_rows p s backtick (tick-class s.byte is)) (m.text_before_data _)
+                  (class-rows g text m text_before_data_rows p s backtick (tick-class s.byte is)) (b.text_before_data _)
                   (loops-from g text m (Data ∷ []) [] DataAtBreak is_backtick counts
                   (λ q ended events local s at is es.
                   leads-seen g text m data_at_break_rows (held (Data ∷ []) q Byte ended events local) [] DataAtBreak es (ap byte_of at)
-                  (class-rows g text m data_at_break_rows q s backtick (tick-class s.byte is)) (m.data_at_break _))
+                  (class-rows g text m data_at_break_rows q s backtick (tick-class s.byte is)) (b.data_at_break _))
                   s ss p q ended begun (counts local) here is place es
                   (leads-seen g text m data_at_break_rows (shows rest (Data ∷ []) q begun after) [] DataAtBreak es (sees g text m rest q (past-at g text m is_backtick l p q here place))
-                  (run-ended (before_class g text q) (first_byte rest) (past-stops is_backtick l)).5 (m.data_at_break _)
+                  (run-ended (before_class g text q) (first_byte rest) (past-stops is_backtick l)).5 (b.data_at_break _)
                   (subst (λ l. EndsWith g text m (shows l (Data ∷ []) q begun (counts after)) [] (Retry DataInside) es) (sym (past-is is_backtick l ∙ ap (λ n. drop n l) first)) h))),
             )
         | false ↦ λ other. (
           counts local,
           λ es h.
-              leads-seen g text m text_before_data_rows (between_items p Byte ended events local) [] TextBeforeData es (ap byte_of at) (run-ended (before_class g text p) (Some s.byte) other).6 (m.text_before_data _)
+              leads-seen g text m text_before_data_rows (between_items p Byte ended events local) [] TextBeforeData es (ap byte_of at) (run-ended (before_class g text p) (Some s.byte) other).6 (b.text_before_data _)
               (goes-next g text m ss (Data ∷ []) (p + 1) begun (counts local) [] DataInside (drop-next text.seats p s ss here) es h),
         )
       ] refl
 
+module _ (g : Given) (text : Text) (m : Plays g text) (names : Between) where
   -- From a state in which a construct is tried at a byte: if it is there, it is read, with its events; if not, another state
   -- follows at the byte, and what was tried leaves nothing
   abbrev pub Decides : (nok : Name) (p : ℕ) (ended : Bool) (events : List Event) → List Seat → Configuration Unit Unit → List Choice → State → Option Found → Type 0
   Decides nok p ended events seats k cs s None = (after : Local Unit Unit) × Leads g text m k cs s (between_items p Nothing ended events after) [] (Next nok)
   Decides nok p ended events seats k cs s (Some item) =
       (ended_after : Bool) × (after : Local Unit Unit)
-      × Leads g text m k cs s (between_items (p + item_length item) Nothing ended_after (events ++ item_events g.bytes (item, take (item_length item) seats)) after) [] (Next TextBefore)
+      × Leads g text m k cs s (between_items (p + item_length item) Nothing ended_after (events ++ item_events g.bytes (item, take (item_length item) seats)) after) [] (Next names.home)
 
   -- from the first state of a construct
   abbrev pub Tried : Name → (nok : Name) (p : ℕ) (ended : Bool) (events : List Event) (local : Local Unit Unit) → List Seat → Option Found → Type 0
-  Tried name nok p ended events local seats o = Decides nok p ended events seats (between_items p Byte ended events local) (outer nok p ended events ∷ []) (Retry name) o
+  Tried name nok p ended events local seats o = Decides nok p ended events seats (between_items p Byte ended events local) (outer names.home nok p ended events ∷ []) (Retry name) o
 
   -- so it is decided, by a machine with no memory
   pub decided-so : (nok : Name) (p : ℕ) (ended : Bool) (events : List Event) (seats : List Seat) (k : Configuration Unit Unit) (cs : List Choice) (s : State) (o : Option Found)
-      → Decides nok p ended events seats k cs s o → DecidesPart g text m nok p ended events seats k cs s o
+      → Decides nok p ended events seats k cs s o → DecidesPart g text m names nok p ended events seats k cs s o
   decided-so nok p ended events seats k cs s None d = (d.0, tt, d.1)
   decided-so nok p ended events seats k cs s (Some item) d = (d.0, d.1, tt, d.2)
 
@@ -91,55 +85,76 @@ module _ (g : Given) (text : Text) (m : Plays g text) where
 
   -- what was tried is put back
   pub puts-back : (nok : Name) (p : ℕ) (ended : Bool) (events : List Event) (k : Configuration Unit Unit) → take (length events) k.events ≡ events
-      → Leads g text m k (outer nok p ended events ∷ []) Nok (between_items p Nothing ended events k.local) [] (Next nok)
+      → Leads g text m k (outer names.home nok p ended events ∷ []) Nok (between_items p Nothing ended events k.local) [] (Next nok)
   puts-back nok p ended events k kept es h =
-      leads-nok g text m k (outer nok p ended events) [] es (subst (λ l. EndsWith g text m (between_items p Nothing ended l k.local) [] (Next nok) es) (sym kept) h)
+      leads-nok g text m k (outer names.home nok p ended events) [] es (subst (λ l. EndsWith g text m (between_items p Nothing ended l k.local) [] (Next nok) es) (sym kept) h)
 
   -- by a state whose row fails, whatever waits
   pub refused : (table : (previous current : Option TextByte) → Rows Unit Unit) (name : Name)
       → ((k : Configuration Unit Unit) → m.step (sight g text k) k name ≡ row_step g text k (table (class_of text_byte (sight g text k).previous) (class_of text_byte (sight g text k).current)))
       → (nok : Name) (p : ℕ) (ended : Bool) (events : List Event) (l : List Seat) (stack : List EventName) (q : ℕ) (begun : List Event) (local : Local Unit Unit) → drop q text.seats ≡ l
       → table (before_class g text q) (class_of text_byte (first_byte l)) ≡ row [] Nok → take (length events) begun ≡ events
-      → Leads g text m (shows l stack q begun local) (outer nok p ended events ∷ []) (Retry name) (between_items p Nothing ended events (counts local)) [] (Next nok)
+      → Leads g text m (shows l stack q begun local) (outer names.home nok p ended events ∷ []) (Retry name) (between_items p Nothing ended events (counts local)) [] (Next nok)
   refused table name has nok p ended events l stack q begun local at fails kept es h =
-      leads-seen g text m table (shows l stack q begun local) (outer nok p ended events ∷ []) name es (sees g text m l q at) fails (has (shows l stack q begun local))
+      leads-seen g text m table (shows l stack q begun local) (outer names.home nok p ended events ∷ []) name es (sees g text m l q at) fails (has (shows l stack q begun local))
       (puts-back nok p ended events (shows l stack q begun (counts local)) kept es h)
 
-  -- data is read, with its events
-  pub reads-data : (p : ℕ) (ended : Bool) (events : List Event) (between : Local Unit Unit) (s : Seat) (ss : List Seat) → drop p text.seats ≡ s ∷ ss
-      → AddsItem g text m (between_items p Byte ended events between) (Retry TextBeforeData) p events (s ∷ ss) (plain_of (s ∷ ss))
-  reads-data p ended events between s ss here =
+module _ (g : Given) (text : Text) (m : Plays g text) (names : Between) (d : PlaysData g text m names) where
+  -- a byte at which no other item may begin
+  abbrev is_plain : ℕ → Bool
+  is_plain b = not (d.special b)
+
+  -- plain data: these first bytes, and as much as there is
+  abbrev pub plain_from : ℕ → List Seat → Found
+  plain_from n seats = part (plain_run (n + position_or_len d.special (drop n (bytes_of seats))))
+
+  -- data that has begun with its first bytes is read, with its events
+  pub reads-begun : (p : ℕ) (ended : Bool) (events : List Event) (between : Local Unit Unit) (s : Seat) (ss : List Seat) → drop p text.seats ≡ s ∷ ss
+      → (n : ℕ) → 1 ≤ n → n ≤ suc (length ss) → HasBegun g text m names p ended events between (s ∷ ss) n
+      → AddsItem g text m names (between_items p Byte ended events between) (Retry names.before_data) p events (s ∷ ss) (plain_from n (s ∷ ss))
+  reads-begun p ended events between s ss here n some short begun =
       let bytes = bytes_of (s ∷ ss) in
-      let n = first_plain bytes in
-      let whole = plain_length m.special bytes in
+      let whole = n + position_or_len d.special (drop n bytes) in
       let l = drop n (s ∷ ss) in
       let q = p + whole in
       let behind : drop (p + n) text.seats ≡ l = sym (drop-drop n p text.seats) ∙ ap (drop n) here in
       let total : p + n + prefix_len is_plain (bytes_of l) ≡ q =
       add_assoc p n (prefix_len is_plain (bytes_of l)) ∙ ap (λ xs. p + (n + prefix_len is_plain xs)) (sym (drop-map (λ (x : Seat). x.byte) n (s ∷ ss))) in
       let size : length bytes ≡ suc (length ss) = length-map (s ∷ ss) (λ x. x.byte) in
-      let first : (1 ≤ n) × (n ≤ length bytes) = ((omega arith), (omega (arith, prefix_len-le-length is_backtick bytes, size))) in
-      let entered = entered_data events p in
-      let begun = data-begun p ended events between s ss here in
+      let entered = entered_data g text m names events p in
       let read = passed is_plain counts l begun.0 in
       let rest = past is_plain l in
       let there = past-at g text m is_plain l (p + n) q behind (sym total) in
       let made = entered ++ event g.bytes Exit Data (end_place text q) ∷ [] in
       let same : made ≡ events ++ leaf g.bytes Data (take whole (s ∷ ss)) =
-      append_assoc events _ _ ∙ ap (λ es. events ++ es) (leaf-read text g.bytes Data whole p s ss here (omega (arith, first.0))
-      (omega (arith, first.0, first.1, prefix_len-le-length is_plain (drop n bytes), length-drop n bytes, size))) in (
+      append_assoc events _ _ ∙ ap (λ es. events ++ es) (leaf-read text g.bytes Data whole p s ss here (omega (arith, some))
+      (omega (arith, some, short, prefix_len-le-length is_plain (drop n bytes), length-drop n bytes, size))) in (
         false,
         counts read,
         tt,
         λ es h.
             begun.1 es
-            (loops g text m (Data ∷ []) [] DataInside is_plain counts
+            (loops g text m (Data ∷ []) [] names.inside is_plain counts
             (λ q ended events local s at is es.
-            leads-row g text m (row (consume ∷ []) (Next DataInside)) (held (Data ∷ []) q Byte ended events local) [] DataInside es
-            (m.data_goes_on (held (Data ∷ []) q Byte ended events local) s.byte (ap byte_of at) (not-true (m.special s.byte) is)))
+            leads-row g text m (row (consume ∷ []) (Next names.inside)) (held (Data ∷ []) q Byte ended events local) [] names.inside es
+            (d.data_goes_on (held (Data ∷ []) q Byte ended events local) s.byte (ap byte_of at) (not-true (d.special s.byte) is)))
             l (p + n) q entered begun.0 behind (sym total) es
-            (leads-row g text m (row (exit Data ∷ []) (Retry TextBefore)) (shows rest (Data ∷ []) q entered read) [] DataInside es
-            (m.data_ends (shows rest (Data ∷ []) q entered read) (ap (passes is_plain) (sees g text m rest q there) ∙ past-stops is_plain l))
-            (goes-back g text m rest [] q made (counts read) [] TextBefore there es
-            (subst (λ l. EndsWith g text m (between_items q Nothing false l (counts read)) [] (Next TextBefore) es) (sym same) h)))),
+            (leads-row g text m (row (exit Data ∷ []) (Retry names.home)) (shows rest (Data ∷ []) q entered read) [] names.inside es
+            (d.data_ends (shows rest (Data ∷ []) q entered read) (ap (passes is_plain) (sees g text m rest q there) ∙ past-stops is_plain l))
+            (goes-back g text m rest [] q made (counts read) [] names.home there es
+            (subst (λ l. EndsWith g text m (between_items q Nothing false l (counts read)) [] (Next names.home) es) (sym same) h)))),
       )
+
+module _ (g : Given) (text : Text) (m : Plays g text) (d : PlaysData g text m between_texts) (b : BeginsData g text m) where
+  -- plain data of texts, as much as there is
+  abbrev pub plain_of : List Seat → Found
+  plain_of seats = part (plain_run (plain_length d.special (bytes_of seats)))
+
+  -- data of texts is read, with its events
+  pub reads-data : (p : ℕ) (ended : Bool) (events : List Event) (between : Local Unit Unit) (s : Seat) (ss : List Seat) → drop p text.seats ≡ s ∷ ss
+      → AddsItem g text m between_texts (between_items p Byte ended events between) (Retry TextBeforeData) p events (s ∷ ss) (plain_of (s ∷ ss))
+  reads-data p ended events between s ss here =
+      let bytes = bytes_of (s ∷ ss) in
+      let size : length bytes ≡ suc (length ss) = length-map (s ∷ ss) (λ x. x.byte) in
+      reads-begun g text m between_texts d p ended events between s ss here (first_plain bytes) (omega arith) (omega (arith, prefix_len-le-length is_backtick bytes, size))
+      (data-begun g text m b p ended events between s ss here)

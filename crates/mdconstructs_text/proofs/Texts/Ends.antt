@@ -1,5 +1,5 @@
 -- What reading a text from its start ends in, for a machine that leaves nothing to resolve; and so for the machine of texts, whose items are read one by one.
-use Rattle.mdconstructs_text.proofs.Prelude.{Some, LineEnding, consume, enter, exit, tried_at, class_of, data_inside_rows, text_before_rows, Bool, Byte, Configuration, Construct, Contains, EndsIn, EndsWith, Event, Found, Given, IsResolved, IsText, KeepsInvariant, LeavesEvents, List, Name, Next, Nothing, Ok, Reading, Retry, Rules, Sight, State, Step, Subresult, Text, TextBefore, TextBeforeData, TextByte, TextStart, [], ap, arith, autolinks, bytes_of, code_spans, cond, counts, done, edited, edited-none, edited-same, edits_made, eqb-true, escapes, false, fed, fed-ends, first_there, flat_map, found, grammars_of, holds-at-start, inl, inr, is_line_feed, is_special, item_at, item_events, item_length, kept-well, lawful-kept, length, line_ending, nat_lt, one-end, part, part_at, plain_length, plain_run, refl, resolved_by, row, row_step, sight, some_first, start_configuration, subst, sym, taken, text-lawful, text_byte, text_constructs, text_events, text_rules, true, with_local, with_resolvers, ℕ, ◌∙◌, ◌∷◌, ◌≡◌}
+use Rattle.mdconstructs_text.proofs.Prelude.{Some, LineEnding, consume, enter, exit, tried_at, class_of, data_inside_rows, text_before_rows, Bool, Byte, Configuration, Construct, Contains, EndsIn, EndsWith, Event, Found, Given, IsResolved, IsText, KeepsInvariant, LeavesEvents, List, Name, Next, Nothing, Ok, Reading, Retry, Rules, Sight, State, Step, Subresult, Text, TextBefore, TextBeforeData, TextByte, TextStart, [], ap, arith, autolinks, between_texts, bytes_of, code_spans, cond, counts, done, edited, edited-none, edited-same, edits_made, eqb-true, escapes, false, fed, fed-ends, first_there, flat_map, found, grammars_of, holds-at-start, inl, inr, is_line_feed, is_special, item_at, item_events, item_length, kept-well, lawful-kept, length, line_ending, nat_lt, one-end, part, part_at, plain_length, plain_run, refl, resolved_by, row, row_step, sight, some_first, start_configuration, subst, sym, taken, text-lawful, text_byte, text_constructs, text_events, text_rules, true, with_local, with_resolvers, ℕ, ◌∙◌, ◌∷◌, ◌≡◌}
 use Rattle.mdconstructs_machines.proofs.LineReads.Steps.{leads-fed, leads-step}
 use Rattle.mdconstructs_text.proofs.Autolinks.Readings.{autolinks-read}
 use Rattle.mdconstructs_text.proofs.CodeSpans.FoundParts.{piece-positive}
@@ -13,13 +13,17 @@ use Rattle.mdconstructs_text.proofs.Texts.Apart.{data-ends, data-goes-on, line-c
 use Rattle.mdconstructs_text.proofs.Texts.Cutting.{cut-same}
 use Rattle.mdconstructs_text.proofs.Texts.LineEndings.{reads-line}
 use Rattle.mdconstructs_text.proofs.Texts.Reads.{AddsItem, ReadsItems, no_memory, knows_nothing}
-use Rattle.mdconstructs_text.proofs.Texts.Steps.{Plays, between_items, text_step}
+use Rattle.mdconstructs_text.proofs.Texts.Steps.{BeginsData, Plays, PlaysData, between_items, text_step}
 
--- What is read of a text from its start, and what is left where all is resolved, has these events
-abbrev pub ReadsTexts : (g : Given) → (Given → Rules Unit Unit) → (Text → List Event) → Type 0
-ReadsTexts g rules events_of =
-    (text : Text) → IsText g text → (flag : Bool) (r : Reading Unit Unit) → EndsIn g (rules g).step text 0 (start_configuration flag) [] (Next TextStart) r → r.answer ≡ Ok
+-- What is read of a text from a start, and what is left where all is resolved, has these events
+abbrev pub ReadsTextsFrom : (start : Name) → (g : Given) → (Given → Rules Unit Unit) → (Text → List Event) → Type 0
+ReadsTextsFrom start g rules events_of =
+    (text : Text) → IsText g text → (flag : Bool) (r : Reading Unit Unit) → EndsIn g (rules g).step text 0 (start_configuration flag) [] (Next start) r → r.answer ≡ Ok
     → (final : Configuration Unit Unit) (found : Subresult) → IsResolved (rules g).resolver g text true r.configuration final found → final.events ≡ events_of text
+
+-- the same from the start of texts
+abbrev pub ReadsTexts : (g : Given) → (Given → Rules Unit Unit) → (Text → List Event) → Type 0
+ReadsTexts = ReadsTextsFrom TextStart
 
 module _ (g : Given) (text : Text) (step : Sight → Configuration Unit Unit → Name → Step Unit Unit) where
   -- a reading that ends with these events ends in no other way
@@ -66,14 +70,6 @@ module _ (g : Given) (text : Text) where
   abbrev pub text_plays : Plays g text
   text_plays = record {
     step = text_step g;
-    special = is_special;
-    line_ends = λ k at. ap (λ o. row_step g text k (text_before_rows (class_of text_byte (sight g text k).previous) (class_of text_byte o))) at;
-    data_goes_on = λ k b at plain.
-        let before = class_of text_byte (sight g text k).previous in
-        ap (λ o. row_step g text k (data_inside_rows before (class_of text_byte o))) at ∙ ap (row_step g text k) (data-goes-on before b plain);
-    data_ends = λ k ends. ap (row_step g text k) (data-ends (class_of text_byte (sight g text k).previous) (sight g text k).current ends);
-    text_before_data = λ k. refl;
-    data_at_break = λ k. refl;
     raw_text_start = λ k. refl;
     raw_text_sequence_open = λ k. refl;
     raw_text_between = λ k. refl;
@@ -90,6 +86,19 @@ module _ (g : Given) (text : Text) where
     escape_inside = λ k. refl;
   }
 
+  abbrev pub text_plays_data : PlaysData g text text_plays between_texts
+  text_plays_data = record {
+    special = is_special;
+    line_ends = λ k at. ap (λ o. row_step g text k (text_before_rows (class_of text_byte (sight g text k).previous) (class_of text_byte o))) at;
+    data_goes_on = λ k b at plain.
+        let before = class_of text_byte (sight g text k).previous in
+        ap (λ o. row_step g text k (data_inside_rows before (class_of text_byte o))) at ∙ ap (row_step g text k) (data-goes-on before b plain);
+    data_ends = λ k ends. ap (row_step g text k) (data-ends (class_of text_byte (sight g text k).previous) (sight g text k).current ends);
+  }
+
+  abbrev pub text_begins_data : BeginsData g text text_plays
+  text_begins_data = record { text_before_data = λ k. refl; data_at_break = λ k. refl }
+
 module _ (g : Given) (text : Text) (is-text : IsText g text) where
   abbrev m : Plays g text
   m = text_plays g text
@@ -97,39 +106,39 @@ module _ (g : Given) (text : Text) (is-text : IsText g text) where
   abbrev other : List ℕ → Found
   other bs = part (part_at is_special bs)
 
-  data-read : ReadsItems g text m TextBeforeData (λ b. is_line_feed b ≡ false) other
+  data-read : ReadsItems g text m between_texts TextBeforeData (λ b. is_line_feed b ≡ false) other
   data-read p ended events local s ss here plain knows =
-      subst (AddsItem g text m (between_items p Byte ended events local) (Retry TextBeforeData) p events (s ∷ ss))
-      (ap (λ t. part (cond t line_ending (plain_run (plain_length is_special (bytes_of (s ∷ ss)))))) (sym plain)) (reads-data g text m p ended events local s ss here)
+      subst (AddsItem g text m between_texts (between_items p Byte ended events local) (Retry TextBeforeData) p events (s ∷ ss))
+      (ap (λ t. part (cond t line_ending (plain_run (plain_length is_special (bytes_of (s ∷ ss)))))) (sym plain)) (reads-data g text m (text_plays_data g text) (text_begins_data g text) p ended events local s ss here)
 
-  line-read : ReadsItems g text m TextBefore (λ b. is_line_feed b ≡ true) other
+  line-read : ReadsItems g text m between_texts TextBefore (λ b. is_line_feed b ≡ true) other
   line-read p ended events local s ss here line knows =
-      subst (AddsItem g text m (between_items p Byte ended events local) (Retry TextBefore) p events (s ∷ ss))
-      (ap (λ t. part (cond t line_ending (plain_run (plain_length is_special (bytes_of (s ∷ ss)))))) (sym line)) (reads-line g text m p ended events local s ss here (eqb-true s.byte 10 line))
+      subst (AddsItem g text m between_texts (between_items p Byte ended events local) (Retry TextBefore) p events (s ∷ ss))
+      (ap (λ t. part (cond t line_ending (plain_run (plain_length is_special (bytes_of (s ∷ ss)))))) (sym line)) (reads-line g text m between_texts (text_plays_data g text) p ended events local s ss here (eqb-true s.byte 10 line))
 
   -- data follows a construct, if the others in the list begin at other bytes
   data-follows : (c : Construct Found TextByte Unit Unit) (cs : List (Construct Found TextByte Unit Unit)) → AreApart text_byte item_length cs
       → ((b : ℕ) → c.grammar.first b ≡ true → some_first (grammars_of cs) b ≡ false)
-      → ReadsItems g text m TextBeforeData (λ b. (is_line_feed b ≡ false) × (c.grammar.first b ≡ true)) (λ bs. first_there (grammars_of cs) g.options.constructs bs (other bs))
+      → ReadsItems g text m between_texts TextBeforeData (λ b. (is_line_feed b ≡ false) × (c.grammar.first b ≡ true)) (λ bs. first_there (grammars_of cs) g.options.constructs bs (other bs))
   data-follows c cs apart alone p ended events local s ss here at knows =
-      subst (AddsItem g text m (between_items p Byte ended events local) (Retry TextBeforeData) p events (s ∷ ss))
+      subst (AddsItem g text m between_texts (between_items p Byte ended events local) (Retry TextBeforeData) p events (s ∷ ss))
       (sym (none-there text_byte item_length cs apart g.options.constructs s.byte (bytes_of ss) (other (bytes_of (s ∷ ss))) (alone s.byte at.1)))
       (data-read p ended events local s ss here at.0 knows)
 
-  text-listed : IsListed g text (text_step g) text_byte item_length (item_events g.bytes) no_memory knows_nothing is_line_feed (λ m. other) (λ m. text_constructs)
+  text-listed : IsListed g text (text_step g) between_texts text_byte item_length (item_events g.bytes) no_memory knows_nothing is_line_feed (λ m. other) (λ m. text_constructs)
   text-listed = record {
     at_byte = λ m k b at plain.
         let before = class_of text_byte (sight g text k).previous in
         ap (λ o. row_step g text k (text_before_rows before (class_of text_byte o))) at
-        ∙ ap (λ t. row_step g text k (cond t (row (enter LineEnding ∷ consume ∷ exit LineEnding ∷ []) (Next TextBefore)) (tried_at text_constructs (text_byte b)))) (line-classed b ∙ plain);
+        ∙ ap (λ t. row_step g text k (cond t (row (enter LineEnding ∷ consume ∷ exit LineEnding ∷ []) (Next TextBefore)) (tried_at between_texts text_constructs (text_byte b)))) (line-classed b ∙ plain);
     at_end = λ k at. ap (λ o. row_step g text k (text_before_rows (class_of text_byte (sight g text k).previous) (class_of text_byte o))) at;
     lines_alone = λ m b h. (let e : b ≡ 10 = eqb-true b 10 h in rw e refl);
     apart = λ m. text-apart;
     tried = λ m. (
-      record { reads = code-spans-read g text (text_plays g text) is-text; follows = data-follows code_spans (autolinks ∷ escapes ∷ []) text-apart.1 (λ b h. (let e : b ≡ 96 = eqb-true b 96 h in rw e refl)) },
+      record { reads = code-spans-read g text (text_plays g text) between_texts is-text; follows = data-follows code_spans (autolinks ∷ escapes ∷ []) text-apart.1 (λ b h. (let e : b ≡ 96 = eqb-true b 96 h in rw e refl)) },
       (
-        record { reads = autolinks-read g text (text_plays g text) is-text; follows = data-follows autolinks (escapes ∷ []) text-apart.1.1 (λ b h. (let e : b ≡ 60 = eqb-true b 60 h in rw e refl)) },
-        (record { reads = escapes-read g text (text_plays g text); follows = data-follows escapes [] tt (λ b h. refl) }, tt),
+        record { reads = autolinks-read g text (text_plays g text) between_texts is-text; follows = data-follows autolinks (escapes ∷ []) text-apart.1.1 (λ b h. (let e : b ≡ 60 = eqb-true b 60 h in rw e refl)) },
+        (record { reads = escapes-read g text (text_plays g text) between_texts; follows = data-follows escapes [] tt (λ b h. refl) }, tt),
       ),
     );
     reads_data = λ m. data-read;
@@ -145,7 +154,7 @@ module _ (g : Given) (text : Text) (is-text : IsText g text) where
       leads-on g text (text_step g) TextStart TextBefore (λ k. refl) k (text_events g text)
       (subst (λ items. EndsWith g text (text_step g) (between_items 0 Nothing false [] (counts k.local)) [] (Next TextBefore) (flat_map (item_events g.bytes) items))
       (cut-same (item_at on) item_length (length text.seats) tt text.seats)
-      (items-read g text (text_step g) text_byte item_length (item_events g.bytes) no_memory knows_nothing is_line_feed (λ m. other) (λ m p local h. tt) (λ m. text_constructs) text-listed
+      (items-read g text (text_step g) between_texts text_byte item_length (item_events g.bytes) no_memory knows_nothing is_line_feed (λ m. other) (λ m p local h. tt) (λ m. text_constructs) text-listed
       (length text.seats) 0 tt false [] (counts k.local) text.seats refl (omega arith) tt))
 
 -- The machine of texts leaves nothing to resolve

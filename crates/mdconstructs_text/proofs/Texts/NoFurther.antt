@@ -10,7 +10,7 @@ use Rattle.mdconstructs_machines.specs.Tables as line
 use Rattle.mdconstructs_text.specs.Autolink.{autolinks_are_on, has_room, has_scheme}
 use Rattle.mdconstructs_text.specs.CodeSpan.{code_spans_are_on, sizes_are_equal}
 use Rattle.mdconstructs_text.specs.Escape.{escapes_are_on}
-use Rattle.mdconstructs_text.specs.TextBytes.{TextByte, line_feed, backtick, less, greater, backslash, colon, letter, digit, mark, punctuation, blank, other}
+use Rattle.mdconstructs_text.specs.TextBytes.{TextByte, line_feed, backtick, less, greater, backslash, colon, letter, digit, mark, ampersand, white, punctuation, blank, other}
 use Rattle.mdconstructs_text.specs.TextRules.{flow, flow_rules, inline_rules, text_rules}
 use Rattle.mdconstructs_text.specs.TextTable.{texts}
 
@@ -48,6 +48,8 @@ texts-tests previous (Some colon) = (sizes, (scheme, tt))
 texts-tests previous (Some letter) = (sizes, (room, tt))
 texts-tests previous (Some digit) = (sizes, (room, tt))
 texts-tests previous (Some mark) = (sizes, (room, tt))
+texts-tests previous (Some ampersand) = (sizes, tt)
+texts-tests previous (Some white) = (sizes, tt)
 texts-tests previous (Some punctuation) = (sizes, tt)
 texts-tests previous (Some blank) = (sizes, tt)
 texts-tests previous (Some other) = (sizes, tt)

@@ -1,5 +1,5 @@
 -- How the machine of texts reads on, in small steps: to come to these events it is enough to come to them from further on.
-use Rattle.mdconstructs_text.proofs.Prelude.{◌≡◌, ℕ, ◌<◌, ◌∷◌, ◌++◌, [], List, Bool, cond, Option, ap, length, slice_get, lt-ltb, Event, Name, State, Next, Retry, Ok, Nok, Waits, Nothing, Byte, End, Given, Text, Configuration, Local, Choice, Step, Sight, sight, byte_of, seat_before, Reading, EndsIn, fed, settled_at, settled-ok-ends, Rows, when, with_local, counts, subst, sym, ◌∙◌, Some, true, false, Seat, slice_get_within, class_of, picked, step_of, TextByte, text_byte, text_rules, not, passes, row, enter, exit, consume, Data, LineEnding, TextBefore, TextBeforeData, DataInside, DataAtBreak, RawTextStart, RawTextSequenceOpen, RawTextBetween, RawTextData, RawTextSequenceClose, RawFlowAfter, RawFlowBeforeContentChunk, RawFlowContentChunk, AutolinkStart, AutolinkOpen, AutolinkSchemeInsideOrEmailAtext, AutolinkUrlInside, CharacterEscapeStart, CharacterEscapeInside, text_before_data_rows, data_at_break_rows, raw_text_start_rows, raw_text_sequence_open_rows, raw_text_between_rows, raw_text_data_rows, raw_text_sequence_close_rows, raw_flow_content_chunk_rows, autolink_open_rows, autolink_scheme_rows, autolink_url_rows, escape_start_rows, escape_inside_rows}
+use Rattle.mdconstructs_text.proofs.Prelude.{◌≡◌, ℕ, ◌<◌, ◌∷◌, ◌++◌, [], List, Bool, cond, Option, ap, length, slice_get, lt-ltb, Event, Name, State, Next, Retry, Ok, Nok, Waits, Nothing, Byte, End, Given, Text, Configuration, Local, Choice, Step, Sight, sight, byte_of, seat_before, Reading, EndsIn, fed, settled_at, settled-ok-ends, Rows, when, with_local, counts, subst, sym, ◌∙◌, Some, true, false, Seat, slice_get_within, class_of, picked, step_of, TextByte, text_byte, text_rules, not, passes, row, enter, exit, consume, Data, LineEnding, TextBeforeData, DataAtBreak, Between, RawTextStart, RawTextSequenceOpen, RawTextBetween, RawTextData, RawTextSequenceClose, RawFlowAfter, RawFlowBeforeContentChunk, RawFlowContentChunk, AutolinkStart, AutolinkOpen, AutolinkSchemeInsideOrEmailAtext, AutolinkUrlInside, CharacterEscapeStart, CharacterEscapeInside, text_before_data_rows, data_at_break_rows, raw_text_start_rows, raw_text_sequence_open_rows, raw_text_between_rows, raw_text_data_rows, raw_text_sequence_close_rows, raw_flow_content_chunk_rows, autolink_open_rows, autolink_scheme_rows, autolink_url_rows, escape_start_rows, escape_inside_rows}
 use Rattle.mdconstructs_text.specs.Autolink.{autolink_start_rows}
 use Rattle.mdconstructs_text.specs.CodeSpan.{raw_flow_after_rows, raw_flow_before_content_chunk_rows}
 use Rattle.markdown_base.specs.declared.event.Name.{Name as EventName}
@@ -22,15 +22,9 @@ module _ (g : Given) (text : Text) (step : Sight → Configuration Unit Unit →
   abbrev pub HasRows : Name → ((previous current : Option TextByte) → Rows Unit Unit) → Type 0
   HasRows name rows = (k : Configuration Unit Unit) → HasRow k name (rows (class_of text_byte (sight g text k).previous) (class_of text_byte (sight g text k).current))
 
--- A machine that reads constructs of texts: at the names of their states it does what their rows say. Data ends at bytes that are special
+-- A machine that reads constructs of texts: at the names of their states it does what their rows say
 pub record Plays (g : Given) (text : Text) : Type 0 where
   pub step : Sight → Configuration Unit Unit → Name → Step Unit Unit
-  pub special : ℕ → Bool
-  pub line_ends : (k : Configuration Unit Unit) → (sight g text k).current ≡ Some 10 → HasRow g text step k TextBefore (row (enter LineEnding ∷ consume ∷ exit LineEnding ∷ []) (Next TextBefore))
-  pub data_goes_on : (k : Configuration Unit Unit) (b : ℕ) → (sight g text k).current ≡ Some b → special b ≡ false → HasRow g text step k DataInside (row (consume ∷ []) (Next DataInside))
-  pub data_ends : (k : Configuration Unit Unit) → passes (λ b. not (special b)) (sight g text k).current ≡ false → HasRow g text step k DataInside (row (exit Data ∷ []) (Retry TextBefore))
-  pub text_before_data : HasRows g text step TextBeforeData text_before_data_rows
-  pub data_at_break : HasRows g text step DataAtBreak data_at_break_rows
   pub raw_text_start : HasRows g text step RawTextStart raw_text_start_rows
   pub raw_text_sequence_open : HasRows g text step RawTextSequenceOpen raw_text_sequence_open_rows
   pub raw_text_between : HasRows g text step RawTextBetween raw_text_between_rows
@@ -45,6 +39,18 @@ pub record Plays (g : Given) (text : Text) : Type 0 where
   pub autolink_url : HasRows g text step AutolinkUrlInside autolink_url_rows
   pub escape_start : HasRows g text step CharacterEscapeStart escape_start_rows
   pub escape_inside : HasRows g text step CharacterEscapeInside escape_inside_rows
+
+-- It reads line endings between constructs of these names, and data up to a byte that is special
+pub record PlaysData (g : Given) (text : Text) (m : Plays g text) (names : Between) : Type 0 where
+  pub special : ℕ → Bool
+  pub line_ends : (k : Configuration Unit Unit) → (sight g text k).current ≡ Some 10 → HasRow g text m.step k names.home (row (enter LineEnding ∷ consume ∷ exit LineEnding ∷ []) (Next names.home))
+  pub data_goes_on : (k : Configuration Unit Unit) (b : ℕ) → (sight g text k).current ≡ Some b → special b ≡ false → HasRow g text m.step k names.inside (row (consume ∷ []) (Next names.inside))
+  pub data_ends : (k : Configuration Unit Unit) → passes (λ b. not (special b)) (sight g text k).current ≡ false → HasRow g text m.step k names.inside (row (exit Data ∷ []) (Retry names.home))
+
+-- and data of texts begins with a byte or a whole backtick string
+pub record BeginsData (g : Given) (text : Text) (m : Plays g text) : Type 0 where
+  pub text_before_data : HasRows g text m.step TextBeforeData text_before_data_rows
+  pub data_at_break : HasRows g text m.step DataAtBreak data_at_break_rows
 
 module _ (g : Given) (text : Text) (m : Plays g text) where
   -- reading on ends in Ok with these events
