@@ -1,0 +1,5 @@
+-- Hard breaks: they are read, and what their events keep.
+pub mod Bytes
+pub mod Cuts
+pub mod Escaped
+pub mod Trailing

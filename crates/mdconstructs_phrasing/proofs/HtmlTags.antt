@@ -1,0 +1,7 @@
+pub mod Bytes
+pub mod Examples
+pub mod Grammar
+pub mod Looks
+pub mod Places
+pub mod Readings
+pub mod Rows

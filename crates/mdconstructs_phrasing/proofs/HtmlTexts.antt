@@ -1,0 +1,9 @@
+pub mod Calls
+pub mod Cuts
+pub mod Following
+pub mod Picked
+pub mod Pieces
+pub mod Reads
+pub mod Rows
+pub mod Through
+pub mod Walks

@@ -1,0 +1,7 @@
+pub mod Emails
+pub mod HardBreaks
+pub mod HtmlMarks
+pub mod HtmlTags
+pub mod HtmlTexts
+pub mod References
+pub mod WhiteSpaces

@@ -1,0 +1,10 @@
+//! Further constructs of inline text: character references, hard breaks, white space, email autolinks and raw HTML.
+#![tactic(auto)]
+
+pub mod email;
+pub mod hard_break;
+pub mod html_marked;
+pub mod html_tag;
+pub mod html_text;
+pub mod reference;
+pub mod white_space;
