@@ -1,38 +1,54 @@
 -- What is read of inline text is balanced, and no event of it has a link: that holds of each item.
 use Rattle.std.proofs.Common.{ℕ, zero, suc, List, [], ◌∷◌, false, true, cond, take, drop, length, refl}
-use Rattle.std.specs.List.{flat_map}
+use Rattle.std.specs.List.{flat_map, prefix_len}
 use Rattle.markdown_base.specs.declared.configuration.Constructs.{Constructs}
 use Rattle.markdown_base.specs.declared.event.Event.{Event}
 use Rattle.markdown_base.specs.declared.event.Kind.TheVariants.{Enter, Exit}
 use Rattle.markdown_base.specs.declared.event.Name.{Name}
-use Rattle.markdown_base.specs.declared.event.Name.TheVariants.{AttentionSequence, Data}
+use Rattle.markdown_base.specs.declared.event.Name.TheVariants.{AttentionSequence, Data, LineEnding, SpaceOrTab}
 use Rattle.markdown_base.specs.Events.{IsBalanced, empty, span as balanced_span}
 use Rattle.markdown_base.specs.Virtual.{Seat, end_after}
 use Rattle.markdown_edits.proofs.Balanced.{IsBalanced-append}
 use Rattle.markdown_tokenizer.specs.Plain.{HaveNoLinks}
 use Rattle.markdown_tokenizer.specs.Text.{Given, Text}
-use Rattle.mdconstructs_text.specs.Bytes.{has_byte_at}
-use Rattle.mdconstructs_text.specs.Items.{item_length, text_grammars}
-use Rattle.mdconstructs_text.specs.Parts.{bytes_of, cut, event, part, part_at, span}
+use Rattle.mdconstructs_machines.specs.Breaks.{is_white}
+use Rattle.mdconstructs_text.specs.Bytes.{has_byte_at, is_line_feed}
+use Rattle.mdconstructs_text.specs.Items.{item_length}
+use Rattle.mdconstructs_text.specs.Parts.{bytes_of, cut, event, leaf, span}
 use Rattle.mdconstructs_text.specs.TextEvents.{item_events}
 use Rattle.mdconstructs_text.proofs.Autolinks.Cuts.{autolink-built}
 use Rattle.mdconstructs_text.proofs.CodeSpans.Cuts.{code-span-built}
-use Rattle.mdconstructs_text.proofs.Constructs.Apart.{there-holds}
+use Rattle.mdconstructs_text.proofs.Constructs.Apart.{EachThere, there-holds}
 use Rattle.mdconstructs_text.proofs.Escapes.Cuts.{escape-built}
-use Rattle.mdconstructs_text.proofs.Texts.Built.{IsKeptBySpans, IsBuilt, part-built}
+use Rattle.mdconstructs_text.proofs.Texts.Built.{IsKeptBySpans, IsBuilt}
 use Rattle.mdconstructs_text.proofs.Texts.Tight.{links-kept}
-use Rattle.mdconstructs_inlines.specs.InlineEvents.{begins_run, delimiter_run, ends_data, inline_item_at, read_events, run_length, run_or_part}
+use Rattle.mdconstructs_phrasing.proofs.Emails.Cuts.{email-built}
+use Rattle.mdconstructs_phrasing.proofs.HtmlMarks.Bytes.{html-mark-built}
+use Rattle.mdconstructs_phrasing.proofs.HtmlTags.Bytes.{html-tag-built}
+use Rattle.mdconstructs_phrasing.proofs.HardBreaks.Cuts.{break-escape-built, trailing-break-built}
+use Rattle.mdconstructs_phrasing.proofs.References.Cuts.{reference-built}
+use Rattle.mdconstructs_phrasing.proofs.WhiteSpaces.Cuts.{white-space-built}
+use Rattle.mdconstructs_inlines.specs.InlineEvents.{begins_run, data_length, data_run, delimiter_run, inline_grammars, inline_item_at, inline_items, line_break, read_events, run_length, run_or_part}
 
 module _ (bytes : List ℕ) (P : List Event → Type 0) (kept : IsKeptBySpans bytes P) (on : Constructs) where
   other-built : (text : List ℕ) → IsBuilt bytes P kept (run_or_part on text)
-  other-built text = elim (has_byte_at text 0 (begins_run on)) as (λ t. IsBuilt bytes P kept (cond t (delimiter_run (run_length text)) (part (part_at (ends_data on) text)))) [
+  other-built text = elim (has_byte_at text 0 (begins_run on)) as (λ t. IsBuilt bytes P kept (cond t (delimiter_run (run_length text)) (cond (has_byte_at text 0 is_line_feed) (line_break (prefix_len is_white (drop 1 text))) (data_run (data_length on text))))) [
     | true ↦ λ seats. kept.alone AttentionSequence seats
-    | false ↦ λ seats. part-built bytes P kept Data (part_at (ends_data on) text, seats)
+    | false ↦ elim (has_byte_at text 0 is_line_feed) as (λ t. IsBuilt bytes P kept (cond t (line_break (prefix_len is_white (drop 1 text))) (data_run (data_length on text)))) [
+      | true ↦ λ seats. kept.both (leaf bytes LineEnding (take 1 seats)) (leaf bytes SpaceOrTab (drop 1 seats)) (kept.alone LineEnding (take 1 seats)) (kept.alone SpaceOrTab (drop 1 seats))
+      | false ↦ λ seats. kept.alone Data seats
+    ]
   ]
 
+  -- of what each construct has at the front of a text
+  each-built : (text : List ℕ) → EachThere (IsBuilt bytes P kept) inline_grammars text
+  each-built text = (
+    code-span-built bytes P kept text,
+    (autolink-built bytes P kept text, (email-built bytes P kept text, (html-mark-built bytes P kept text, (html-tag-built bytes P kept text, (escape-built bytes P kept text, (break-escape-built bytes P kept text, (reference-built bytes P kept text, (trailing-break-built bytes P kept text, (white-space-built bytes P kept text, tt))))))))),
+  )
+
   item-built : (text : List ℕ) → IsBuilt bytes P kept (inline_item_at on text)
-  item-built text =
-      there-holds (IsBuilt bytes P kept) text_grammars on text (run_or_part on text) (code-span-built bytes P kept text, (autolink-built bytes P kept text, (escape-built bytes P kept text, tt))) (other-built text)
+  item-built text = there-holds (IsBuilt bytes P kept) inline_grammars on text (run_or_part on text) (each-built text) (other-built text)
 
   pub items-built : (n : ℕ) (seats : List Seat) → P (flat_map (item_events bytes) (cut (inline_item_at on) item_length n seats))
   items-built zero seats = kept.none
@@ -42,6 +58,12 @@ module _ (bytes : List ℕ) (P : List Event → Type 0) (kept : IsKeptBySpans by
       let m = item_length item in
       kept.both (item_events bytes (item, take m (s ∷ ss))) (flat_map (item_events bytes) (cut (inline_item_at on) item_length n (drop m (s ∷ ss)))) (item-built (bytes_of (s ∷ ss)) (take m (s ∷ ss)))
       (items-built n (drop m (s ∷ ss)))
+
+  -- and so of the events of all items
+  pub all-built : (seats : List Seat) → P (flat_map (item_events bytes) (inline_items on seats))
+  all-built seats =
+      let n = prefix_len is_white (bytes_of seats) in
+      kept.both (leaf bytes SpaceOrTab (take n seats)) (flat_map (item_events bytes) (cut (inline_item_at on) item_length (length seats) (drop n seats))) (kept.alone SpaceOrTab (take n seats)) (items-built (length seats) (drop n seats))
 
 module _ (bytes : List ℕ) where
   span-balanced : (name : Name) (seats : List Seat) (es : List Event) → IsBalanced es → IsBalanced (span bytes name seats es)
@@ -58,7 +80,7 @@ module _ (bytes : List ℕ) where
 
 -- the events that are read of a text
 pub read-balanced : (g : Given) (text : Text) → IsBalanced (read_events g text)
-read-balanced g text = items-built g.bytes IsBalanced (balance-kept g.bytes) g.options.constructs (length text.seats) text.seats
+read-balanced g text = all-built g.bytes IsBalanced (balance-kept g.bytes) g.options.constructs text.seats
 
 pub read-alone : (g : Given) (text : Text) → HaveNoLinks (read_events g text)
-read-alone g text = items-built g.bytes HaveNoLinks (links-kept g.bytes) g.options.constructs (length text.seats) text.seats
+read-alone g text = all-built g.bytes HaveNoLinks (links-kept g.bytes) g.options.constructs text.seats

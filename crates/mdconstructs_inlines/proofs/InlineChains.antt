@@ -1,5 +1,5 @@
 -- Chains of text are read as inline text; and what is read leaves other chains ready.
-use Rattle.std.proofs.Common.{Some, sym, ap, ◌∙◌, subst}
+use Rattle.std.proofs.Common.{Some, arith, refl, sym, ap, ◌∙◌, subst}
 use Rattle.std.specs.List.{AllByRecursion}
 use Rattle.markdown_base.specs.declared.event.Content.TheVariants.{Text as TextContent}
 use Rattle.markdown_base.specs.declared.state.State.TheVariants.{Next}
@@ -30,7 +30,7 @@ use Rattle.mdconstructs_inlines.proofs.Resolved.{resolved-so}
 pub reads-texts : (g : Given) → ReadsTexts g inlines_rules (inline_events g)
 reads-texts g text is flag r ends well final sub resolved =
     let read = (ends-so g text (inlines_rules g).step (start_configuration flag) (Next TextStart) (read_events g text) (from-start g text is flag) r ends).1 in
-    (resolved-so g text is flag r ends well final sub resolved).1 ∙ ap (λ es. edited (emphasis_edits g es) es) read
+    (resolved-so g TextStart (0, omega arith, (cc)) text is flag r ends well final sub resolved).1 ∙ ap (λ es. edited (emphasis_edits g es) es) read
     ∙ (emphasis-can-be-made g.bytes (read_events g text) (read-balanced g text) (read-alone g text)).1
 
 pub chains-read-inline : ReadsChainsAsInlineText
@@ -43,7 +43,7 @@ inline-alone g text = (emphasis-can-be-made g.bytes (read_events g text) (read-b
 pub inline-stays-ready : StaysReadyAfterInlineText
 inline-stays-ready g events document ready next new sub other h =
     let starts = fitting_starts (Some TextContent) events in
-    let are = children-events g events document ready inlines_rules (inline_events g) (reads-texts g) starts h.children (all-begin g events document ready) h.read in
+    let are = children-events g events document TextContent ready TextStart refl inlines_rules (inline_events g) (reads-texts g) starts h.children (all-begin g events document TextContent ready) h.read in
     let balanced = lists-all g inlines_rules events IsBalanced (λ c child is. is.in_shape.balanced) starts h.children h.read in
     let alone = subst (AllByRecursion HaveNoLinks) (sym are) (each-alone (λ c. inline_events g (chain_text g events c)) (λ c. inline-alone g (chain_text g events c)) starts) in
     subst (IsReady g.tab g.bytes next) (sym h.events) (stays-ready g.tab g.bytes (Some TextContent) events ready next (lists h.children) other balanced alone)

@@ -1,21 +1,35 @@
 -- The machine of inline text refuses no document, by the test of its rows; and it looks no further than the byte that waits: its tests take
 -- nothing of the document but the options.
-use Rattle.std.proofs.Common.{◌≡◌, ◌&&◌, [], Option, Some, None, refl, ap}
+use Rattle.std.proofs.Common.{◌≡◌, ◌&&◌, List, [], ◌∷◌, ◌++◌, true, Option, Some, None, refl, ap}
 use Rattle.std.specs.List.{AllByRecursion}
 use Rattle.markdown_base.specs.declared.configuration.ParseOptions.{ParseOptions}
 use Rattle.markdown_tokenizer.specs.Alike.{LooksNoFurther}
-use Rattle.mdconstructs_tables.specs.NoFurther.{IsAnsweredAlike, tests}
+use Rattle.mdconstructs_tables.specs.NoFurther.{IsAnsweredAlike, tests, tests_of}
 use Rattle.mdconstructs_tables.specs.Refusals.{refusing, RulesRefuseNothing}
 use Rattle.mdconstructs_tables.proofs.Tables.NoFurther.{steps-alike}
 use Rattle.mdconstructs_tables.proofs.Tables.Refusals.{table-steps, refuse-nothing}
-use Rattle.mdconstructs_text.specs.Autolink.{autolinks_are_on, has_room, has_scheme}
+use Rattle.mdconstructs_text.specs.Autolink.{autolinks, autolinks_are_on, has_room, has_scheme}
 use Rattle.mdconstructs_text.specs.Bytes.{passes}
-use Rattle.mdconstructs_text.specs.CodeSpan.{code_spans_are_on, sizes_are_equal}
-use Rattle.mdconstructs_text.specs.Escape.{escapes_are_on}
-use Rattle.mdconstructs_text.specs.TextBytes.{TextByte, line_feed, backtick, less, greater, backslash, colon, letter, digit, mark, punctuation, blank, other}
+use Rattle.mdconstructs_text.specs.CodeSpan.{code_spans, code_spans_are_on, sizes_are_equal}
+use Rattle.mdconstructs_text.specs.Escape.{escapes, escapes_are_on}
+use Rattle.mdconstructs_text.specs.TextBytes.{TextByte, line_feed, backtick, less, greater, backslash, colon, letter, digit, mark, ampersand, white, punctuation, blank, other}
+use Rattle.markdown_base.proofs.Common.{every-append}
+use Rattle.markdown_base.specs.declared.state.TheConstants.Name.{TextBeforeHardBreakEscape}
+use Rattle.markdown_tokenizer.proofs.Positions.Order.{every-back, every-front}
+use Rattle.mdconstructs_tables.specs.Rows.{StateRows}
+use Rattle.mdconstructs_text.specs.Construct.{states_of}
+use Rattle.mdconstructs_phrasing.proofs.HtmlTags.Looks.{html-on-alike, html-tags-alike}
+use Rattle.mdconstructs_phrasing.specs.Email.{emails}
+use Rattle.mdconstructs_phrasing.specs.HtmlMarked.{html_marks}
+use Rattle.mdconstructs_phrasing.specs.HtmlTag.{html_tags}
+use Rattle.mdconstructs_phrasing.specs.Laws.Email.{domain-ends-alike, hyphen-alike, label-alike, label-ends-alike, name-alike, name-ends-alike}
+use Rattle.mdconstructs_phrasing.specs.HardBreak.{break_escapes_are_on, space_waits, trailing_breaks_are_on}
+use Rattle.mdconstructs_phrasing.specs.Reference.{at_number_sign, at_semicolon, at_x, value_goes_on, value_is_whole}
+use Rattle.mdconstructs_phrasing.proofs.References.Alike.{goes-on-alike, number-sign-alike, on-alike, semicolon-alike, whole-alike, x-alike}
 use Rattle.mdconstructs_inlines.specs.InlineRules.{inlines_rules}
-use Rattle.mdconstructs_inlines.specs.InlineTable.{inlines}
-use Rattle.mdconstructs_inlines.specs.RunRows.{is_delimiter, run_begins, run_goes_on}
+use Rattle.mdconstructs_inlines.specs.InlineTable.{behind_escapes, inline_constructs, inline_start, inlines, own_states}
+use Rattle.mdconstructs_inlines.specs.RunRows.{is_delimiter, run_begins, run_goes_on, run_states}
+use Rattle.mdconstructs_inlines.specs.StringTable.{string_states}
 
 none-refuses : (previous current : Option TextByte) → refusing inlines previous current ≡ []
 none-refuses previous (Some line_feed) = refl
@@ -36,11 +50,11 @@ room g h s k alike = refl
 code-spans : IsAnsweredAlike {R = Unit {0}} {D = Unit {0}} code_spans_are_on
 code-spans g h s k alike = ap (λ (o : ParseOptions). o.constructs.code_text) alike.options
 
-autolinks : IsAnsweredAlike {R = Unit {0}} {D = Unit {0}} autolinks_are_on
-autolinks g h s k alike = ap (λ (o : ParseOptions). o.constructs.autolink) alike.options
+autolinks-on : IsAnsweredAlike {R = Unit {0}} {D = Unit {0}} autolinks_are_on
+autolinks-on g h s k alike = ap (λ (o : ParseOptions). o.constructs.autolink) alike.options
 
-escapes : IsAnsweredAlike {R = Unit {0}} {D = Unit {0}} escapes_are_on
-escapes g h s k alike = ap (λ (o : ParseOptions). o.constructs.character_escape) alike.options
+escapes-on : IsAnsweredAlike {R = Unit {0}} {D = Unit {0}} escapes_are_on
+escapes-on g h s k alike = ap (λ (o : ParseOptions). o.constructs.character_escape) alike.options
 
 begins : IsAnsweredAlike {R = Unit {0}} {D = Unit {0}} run_begins
 begins g h s k alike = ap (λ (o : ParseOptions). o.constructs.attention && passes is_delimiter s.current) alike.options
@@ -48,20 +62,88 @@ begins g h s k alike = ap (λ (o : ParseOptions). o.constructs.attention && pass
 goes-on : IsAnsweredAlike {R = Unit {0}} {D = Unit {0}} run_goes_on
 goes-on g h s k alike = refl
 
+break-escapes : IsAnsweredAlike {R = Unit {0}} {D = Unit {0}} break_escapes_are_on
+break-escapes g h s k alike = ap (λ (o : ParseOptions). o.constructs.hard_break_escape) alike.options
+
+trailing-breaks : IsAnsweredAlike {R = Unit {0}} {D = Unit {0}} trailing_breaks_are_on
+trailing-breaks g h s k alike = ap (λ (o : ParseOptions). o.constructs.hard_break_trailing) alike.options
+
+always : IsAnsweredAlike {R = Unit {0}} {D = Unit {0}} (λ g s k. true)
+always g h s k alike = refl
+
+space : IsAnsweredAlike {R = Unit {0}} {D = Unit {0}} space_waits
+space g h s k alike = refl
+
+-- the tests of character references, and others
+refs : {P : Type 0} → P
+    → IsAnsweredAlike {R = Unit {0}} {D = Unit {0}} at_number_sign × (IsAnsweredAlike {R = Unit {0}} {D = Unit {0}} value_goes_on × (IsAnsweredAlike {R = Unit {0}} {D = Unit {0}} at_x
+    × (IsAnsweredAlike {R = Unit {0}} {D = Unit {0}} value_goes_on × (IsAnsweredAlike {R = Unit {0}} {D = Unit {0}} at_semicolon × (IsAnsweredAlike {R = Unit {0}} {D = Unit {0}} value_is_whole
+    × (IsAnsweredAlike {R = Unit {0}} {D = Unit {0}} value_goes_on × P))))))
+refs others = (number-sign-alike, (goes-on-alike, (x-alike, (goes-on-alike, (semicolon-alike, (whole-alike, (goes-on-alike, others)))))))
+
+-- of the states between constructs
+abbrev between_states : List (StateRows TextByte Unit Unit)
+between_states = string_states ++ (run_states ++ inline_start ∷ own_states)
+
+between-alike : (previous current : Option TextByte) → AllByRecursion IsAnsweredAlike (tests between_states previous current)
+between-alike previous None = (break-escapes, (always, (autolinks-on, (html-on-alike, (html-on-alike, (html-on-alike, (html-on-alike, (html-on-alike, tt))))))))
+between-alike previous (Some line_feed) = (goes-on, (break-escapes, (always, (autolinks-on, (html-on-alike, (html-on-alike, (html-on-alike, (html-on-alike, (html-on-alike, tt)))))))))
+between-alike previous (Some backtick) = (goes-on, (code-spans, (break-escapes, (always, (autolinks-on, (html-on-alike, (html-on-alike, (html-on-alike, (html-on-alike, (html-on-alike, tt))))))))))
+between-alike previous (Some less) = (goes-on, (autolinks-on, (autolinks-on, (html-on-alike, (html-on-alike, (break-escapes, (always, (autolinks-on, (html-on-alike, (html-on-alike, (html-on-alike, (html-on-alike, (html-on-alike, tt)))))))))))))
+between-alike previous (Some greater) = (goes-on, (break-escapes, (always, (autolinks-on, (html-on-alike, (html-on-alike, (html-on-alike, (html-on-alike, (html-on-alike, tt)))))))))
+between-alike previous (Some backslash) = (escapes-on, (goes-on, (escapes-on, (break-escapes, (break-escapes, (always, (autolinks-on, (html-on-alike, (html-on-alike, (html-on-alike, (html-on-alike, (html-on-alike, tt))))))))))))
+between-alike previous (Some colon) = (goes-on, (break-escapes, (always, (autolinks-on, (html-on-alike, (html-on-alike, (html-on-alike, (html-on-alike, (html-on-alike, tt)))))))))
+between-alike previous (Some letter) = (goes-on, (break-escapes, (always, (autolinks-on, (html-on-alike, (html-on-alike, (html-on-alike, (html-on-alike, (html-on-alike, tt)))))))))
+between-alike previous (Some digit) = (goes-on, (break-escapes, (always, (autolinks-on, (html-on-alike, (html-on-alike, (html-on-alike, (html-on-alike, (html-on-alike, tt)))))))))
+between-alike previous (Some mark) = (goes-on, (break-escapes, (always, (autolinks-on, (html-on-alike, (html-on-alike, (html-on-alike, (html-on-alike, (html-on-alike, tt)))))))))
+between-alike previous (Some ampersand) = (on-alike, (goes-on, (on-alike, (break-escapes, (always, (autolinks-on, (html-on-alike, (html-on-alike, (html-on-alike, (html-on-alike, (html-on-alike, tt)))))))))))
+between-alike previous (Some white) = (goes-on, (trailing-breaks, (always, (break-escapes, (always, (autolinks-on, (html-on-alike, (html-on-alike, (html-on-alike, (html-on-alike, (html-on-alike, tt)))))))))))
+between-alike previous (Some punctuation) = (goes-on, (begins, (break-escapes, (always, (autolinks-on, (html-on-alike, (html-on-alike, (html-on-alike, (html-on-alike, (html-on-alike, (begins, tt)))))))))))
+between-alike previous (Some blank) = (goes-on, (break-escapes, (always, (autolinks-on, (html-on-alike, (html-on-alike, (html-on-alike, (html-on-alike, (html-on-alike, tt)))))))))
+between-alike previous (Some other) = (goes-on, (break-escapes, (always, (autolinks-on, (html-on-alike, (html-on-alike, (html-on-alike, (html-on-alike, (html-on-alike, tt)))))))))
+
+code-spans-alike : (previous current : Option TextByte) → AllByRecursion IsAnsweredAlike (tests (code_spans {R = Unit {0}} {D = Unit {0}}).states previous current)
+code-spans-alike previous (Some backtick) = tt
+code-spans-alike previous _ = (sizes, tt)
+
+autolinks-alike : (previous current : Option TextByte) → AllByRecursion IsAnsweredAlike (tests (autolinks {R = Unit {0}} {D = Unit {0}}).states previous current)
+autolinks-alike previous (Some colon) = (scheme, tt)
+autolinks-alike previous (Some letter) = (room, tt)
+autolinks-alike previous (Some digit) = (room, tt)
+autolinks-alike previous (Some mark) = (room, tt)
+autolinks-alike previous _ = tt
+
+emails-alike : (previous current : Option TextByte) → AllByRecursion IsAnsweredAlike (tests (emails {R = Unit {0}} {D = Unit {0}}).states previous current)
+emails-alike previous None = tt
+emails-alike previous (Some _) = (name-ends-alike, (name-alike, (label-alike, (hyphen-alike, (label-ends-alike, (domain-ends-alike, (label-alike, (hyphen-alike, tt))))))))
+
+marks-alike : (previous current : Option TextByte) → AllByRecursion IsAnsweredAlike (tests (html_marks {R = Unit {0}} {D = Unit {0}}).states previous current)
+marks-alike previous None = tt
+marks-alike previous (Some line_feed) = tt
+marks-alike previous (Some _) = ((λ g h s k alike. refl), ((λ g h s k alike. refl), ((λ g h s k alike. refl), ((λ g h s k alike. refl), ((λ g h s k alike. refl), ((λ g h s k alike. refl), ((λ g h s k alike. refl), ((λ g h s k alike. refl), ((λ g h s k alike. refl), ((λ g h s k alike. refl), ((λ g h s k alike. refl), ((λ g h s k alike. refl), ((λ g h s k alike. refl), tt)))))))))))))
+
+-- of backslash escapes and those that follow them
+others-alike : (previous current : Option TextByte) → AllByRecursion IsAnsweredAlike (tests (states_of (record escapes { otherwise = TextBeforeHardBreakEscape } ∷ behind_escapes)) previous current)
+others-alike previous None = tt
+others-alike previous (Some white) = refs (space, (space, (space, tt)))
+others-alike previous (Some _) = refs tt
+
+-- of two lists of states together
+both-alike : (xs ys : List (StateRows TextByte Unit Unit)) (previous current : Option TextByte) → AllByRecursion IsAnsweredAlike (tests xs previous current) → AllByRecursion IsAnsweredAlike (tests ys previous current)
+    → AllByRecursion IsAnsweredAlike (tests (xs ++ ys) previous current)
+both-alike [] ys b w h k = k
+both-alike (x ∷ xs) ys b w h k =
+    let first = tests_of (x.rows b w) in
+    every-append IsAnsweredAlike first (tests (xs ++ ys) b w) (every-front IsAnsweredAlike first (tests xs b w) h) (both-alike xs ys b w (every-back IsAnsweredAlike first (tests xs b w) h) k)
+
 alike : (previous current : Option TextByte) → AllByRecursion IsAnsweredAlike (tests inlines.states previous current)
-alike previous None = (sizes, tt)
-alike previous (Some line_feed) = (goes-on, (sizes, tt))
-alike previous (Some backtick) = (goes-on, (code-spans, tt))
-alike previous (Some less) = (goes-on, (autolinks, (sizes, tt)))
-alike previous (Some greater) = (goes-on, (sizes, tt))
-alike previous (Some backslash) = (goes-on, (escapes, (sizes, tt)))
-alike previous (Some colon) = (goes-on, (sizes, (scheme, tt)))
-alike previous (Some letter) = (goes-on, (sizes, (room, tt)))
-alike previous (Some digit) = (goes-on, (sizes, (room, tt)))
-alike previous (Some mark) = (goes-on, (sizes, (room, tt)))
-alike previous (Some punctuation) = (goes-on, (begins, (begins, (sizes, tt))))
-alike previous (Some blank) = (goes-on, (sizes, tt))
-alike previous (Some other) = (goes-on, (sizes, tt))
+alike b w =
+    let escaped : List (StateRows TextByte Unit Unit) = states_of (record escapes { otherwise = TextBeforeHardBreakEscape } ∷ behind_escapes) in
+    let tags = both-alike html_tags.states escaped b w (html-tags-alike b w) (others-alike b w) in
+    let marks = both-alike html_marks.states (html_tags.states ++ escaped) b w (marks-alike b w) tags in
+    let mails = both-alike emails.states (html_marks.states ++ (html_tags.states ++ escaped)) b w (emails-alike b w) marks in
+    let links = both-alike autolinks.states (emails.states ++ (html_marks.states ++ (html_tags.states ++ escaped))) b w (autolinks-alike b w) mails in
+    both-alike between_states (states_of inline_constructs) b w (between-alike b w) (both-alike code_spans.states (autolinks.states ++ (emails.states ++ (html_marks.states ++ (html_tags.states ++ escaped)))) b w (code-spans-alike b w) links)
 
 pub inlines-look : LooksNoFurther inlines_rules
 inlines-look g h text k name is same = steps-alike inlines alike g h _ k name same

@@ -1,73 +1,69 @@
 -- The machine of inline text does what the rows of constructs say; and between them what bytes say.
-use Rattle.std.proofs.Common.{◌≡◌, ◌⊎◌, inl, inr, ℕ, ◌==◌, ◌&&◌, ◌||◌, not, [], ◌∷◌, Bool, true, false, cond, Option, Some, None, refl, sym, ap, ◌∙◌, subst, arith}
-use Rattle.std.proofs.lemmas.Bool.{not-false}
+use Rattle.std.proofs.Common.{◌≡◌, ◌⊎◌, inl, inr, ℕ, ◌==◌, ◌&&◌, ◌||◌, [], ◌∷◌, Bool, true, false, cond, Option, Some, None, refl, sym, ap, ◌∙◌, arith}
 use Rattle.std.proofs.lemmas.Bool.Decides.{nat_tests}
 use Rattle.markdown_base.specs.declared.configuration.Constructs.{Constructs}
 use Rattle.markdown_base.specs.declared.event.Name.TheVariants.{Data, LineEnding}
 use Rattle.markdown_base.specs.declared.state.State.TheVariants.{Next, Retry}
-use Rattle.markdown_base.specs.declared.state.TheConstants.Name.{AttentionStart, DataInside, TextBefore, TextBeforeData}
+use Rattle.markdown_base.specs.declared.state.TheConstants.Name.{AttentionStart, BlankLineAfter, DataInside, SpaceOrTabAfter, SpaceOrTabEolAtEol, SpaceOrTabStart, TextBefore, TextBeforeData}
+use Rattle.markdown_tokenizer.specs.declared.waiting.AttemptKind.TheVariants.{Check}
 use Rattle.markdown_tokenizer.specs.Calls.{with_local}
 use Rattle.markdown_tokenizer.specs.Configuration.{Configuration}
 use Rattle.markdown_tokenizer.specs.Sight.{sight}
 use Rattle.markdown_tokenizer.specs.Text.{Given, Text}
-use Rattle.mdconstructs_tables.specs.Rows.{row, exit, consume, enter, class_of}
+use Rattle.mdconstructs_tables.specs.Rows.{Rows, choose, class_of, consume, enter, exit, row}
+use Rattle.mdconstructs_machines.specs.Breaks.{is_white}
 use Rattle.mdconstructs_machines.specs.Tables.{counts}
 use Rattle.mdconstructs_machines.proofs.LineReads.Rows.{row_step}
 use Rattle.mdconstructs_text.specs.Bytes.{is_line_feed, passes}
-use Rattle.mdconstructs_text.specs.Construct.{some_begins, tried_at}
-use Rattle.mdconstructs_text.specs.Items.{is_special}
-use Rattle.mdconstructs_text.specs.TextBytes.{TextByte, punctuation, text_byte, is_line_feed_class}
-use Rattle.mdconstructs_text.specs.TextTable.{text_constructs, text_before_rows, data_inside_rows}
-use Rattle.mdconstructs_text.proofs.Texts.Apart.{data-ends, data-goes-on, line-classed, special-classed}
-use Rattle.mdconstructs_text.proofs.Texts.Steps.{HasRow, Plays, tested}
+use Rattle.mdconstructs_text.specs.Construct.{between_texts, some_begins, tried_at}
+use Rattle.mdconstructs_text.specs.TextBytes.{TextByte, is_line_feed_class, line_feed, punctuation, text_byte, white}
+use Rattle.mdconstructs_text.proofs.Texts.Apart.{line-classed}
+use Rattle.mdconstructs_text.proofs.Texts.Steps.{BeginsData, HasRow, HasRows, Plays, tested}
+use Rattle.mdconstructs_phrasing.proofs.Emails.Readings.{PlaysEmails}
+use Rattle.mdconstructs_phrasing.proofs.HtmlMarks.Places.{MarkPlace, at_cdata, at_comment, at_declaration, at_inside, at_open, mark_name}
+use Rattle.mdconstructs_phrasing.proofs.HtmlMarks.Rows.{PlaysMarks, mark_rows}
+use Rattle.mdconstructs_phrasing.proofs.HtmlTags.Places as place
+use Rattle.mdconstructs_phrasing.proofs.HtmlTags.Places.{Place}
+use Rattle.mdconstructs_phrasing.proofs.HtmlTags.Rows.{PlaysTags, rows_of, state_of}
+use Rattle.mdconstructs_phrasing.proofs.HardBreaks.Escaped.{PlaysBreakEscapes}
+use Rattle.mdconstructs_phrasing.proofs.HardBreaks.Trailing.{PlaysTrailingBreaks}
+use Rattle.mdconstructs_phrasing.proofs.References.Readings.{PlaysReferences}
+use Rattle.mdconstructs_phrasing.proofs.WhiteSpaces.Bytes.{white-classed}
+use Rattle.mdconstructs_phrasing.proofs.WhiteSpaces.Classes.{white-class}
+use Rattle.mdconstructs_phrasing.proofs.WhiteSpaces.Readings.{PlaysWhiteSpaces}
+use Rattle.mdconstructs_phrasing.specs.WhiteSpace.{is_white_class}
 use Rattle.mdconstructs_inlines.specs.InlineEvents.{begins_run, ends_data}
 use Rattle.mdconstructs_inlines.specs.InlineRules.{inlines_rules}
-use Rattle.mdconstructs_inlines.specs.InlineTable.{inline_before_rows, inline_data_rows}
+use Rattle.mdconstructs_inlines.specs.InlineTable.{inline_before_rows, inline_constructs, inline_data_rows}
 use Rattle.mdconstructs_inlines.specs.RunRows.{is_delimiter, run_begins}
+use Rattle.mdconstructs_inlines.proofs.InlineApart.{marked-classed, punctuation-ends}
 
--- at a class that is not punctuation, rows are those of texts
-abbrev IsAsInTexts : TextByte → Type 0
-IsAsInTexts w = (before : Option TextByte) → (inline_before_rows before (Some w) ≡ text_before_rows before (Some w)) × (inline_data_rows before (Some w) ≡ data_inside_rows before (Some w))
+-- between constructs a run may begin at punctuation, and a line ends at a line feed; at the other classes constructs are tried
+before-class : (w : TextByte) → (w ≡ punctuation) ⊎ ((w ≡ line_feed) ⊎ ((before : Option TextByte) → inline_before_rows before (Some w) ≡ tried_at between_texts inline_constructs w))
+before-class punctuation = inl refl
+before-class line_feed = inr (inl refl)
+before-class _ = inr (inr (λ before. refl))
 
-as-in-texts : (w : TextByte) → (w ≡ punctuation) ⊎ IsAsInTexts w
-as-in-texts punctuation = inl refl
-as-in-texts _ = inr (λ before. (refl, refl))
+-- in data there is a look at white space, and a run may begin at punctuation; at the other classes data ends or goes on
+abbrev ends_or_goes : Bool → Rows Unit Unit
+ends_or_goes ends = cond ends (row (exit Data ∷ []) (Retry TextBefore)) (row (consume ∷ []) (Next DataInside))
 
--- delimiters are punctuation, and punctuation is not special
+data-class : (w : TextByte)
+    → (w ≡ punctuation) ⊎ ((w ≡ white) ⊎ ((w ≡ punctuation → ⊥) × ((before : Option TextByte) → inline_data_rows before (Some w) ≡ ends_or_goes (is_line_feed_class w || some_begins inline_constructs w))))
+data-class punctuation = inl refl
+data-class white = inr (inl refl)
+data-class _ = inr (inr ((λ e. absurd (cc)), (λ before. refl)))
+
+-- delimiters are punctuation, and punctuation begins nothing else
 delimiter-class : (b : ℕ) → is_delimiter b ≡ true → text_byte b ≡ punctuation
 delimiter-class b h = elim (b == 42) as (λ t. (b == 42) ≡ t → (t || (b == 95)) ≡ true → text_byte b ≡ punctuation) [
   | true ↦ λ e i. let same : b ≡ 42 = grind (arith, nat_tests) in ap text_byte same
   | false ↦ λ e i. let same : b ≡ 95 = grind (arith, nat_tests) in ap text_byte same
 ] refl h
 
-pub or-parts : (x y : Bool) → (x || y) ≡ false → (x ≡ false) × (y ≡ false)
-or-parts true y h = absurd (cc)
-or-parts false y h = (refl, h)
-
-or-false : (x : Bool) → (x || false) ≡ x
-or-false true = refl
-or-false false = refl
-
-or-second : (x y : Bool) → (x || y) ≡ true → x ≡ false → y ≡ true
-or-second true y h e = absurd (cc)
-or-second false y h e = h
-
 and-second : (x y : Bool) → (x && y) ≡ true → y ≡ true
 and-second true y h = h
 and-second false y h = absurd (cc)
-
-plain-class : (b : ℕ) → text_byte b ≡ punctuation → is_special b ≡ false
-plain-class b is = sym (special-classed b) ∙ ap (λ w. is_line_feed_class w || some_begins text_constructs w) is
-
--- a byte begins no run if its class is not punctuation
-no-run : (on : Constructs) (b : ℕ) → IsAsInTexts (text_byte b) → begins_run on b ≡ false
-no-run on b as_texts = elim (begins_run on b) as (λ t. begins_run on b ≡ t → t ≡ false) [
-  | true ↦ λ e.
-      let is = delimiter-class b (and-second on.attention (is_delimiter b) e) in
-      let rows = (subst IsAsInTexts is as_texts None).0 in
-      absurd (cc)
-  | false ↦ λ e. refl
-] refl
 
 module _ (g : Given) (text : Text) where
   abbrev on : Constructs
@@ -81,7 +77,17 @@ module _ (g : Given) (text : Text) where
   begins-here : (k : Configuration Unit Unit) (b : ℕ) (t : Bool) → (sight g text k).current ≡ Some b → begins_run on b ≡ t → run_begins g (sight g text k) (with_local k (counts k.local)) ≡ t
   begins-here k b t at is = ap (λ o. on.attention && passes is_delimiter o) at ∙ is
 
-  -- between constructs a run begins, or the rows are those of texts
+  -- a byte that is not punctuation begins no run
+  no-run : (b : ℕ) → (text_byte b ≡ punctuation → ⊥) → begins_run on b ≡ false
+  no-run b other = elim (begins_run on b) as (λ t. begins_run on b ≡ t → t ≡ false) [
+    | true ↦ λ e. absurd (other (delimiter-class b (and-second on.attention (is_delimiter b) e)))
+    | false ↦ λ e. refl
+  ] refl
+
+  -- between constructs a line ending is read, a run begins, or constructs are tried
+  pub line-row : (k : Configuration Unit Unit) → (sight g text k).current ≡ Some 10 → HasRow g text (inlines_rules g).step k TextBefore (row (enter LineEnding ∷ consume ∷ exit LineEnding ∷ []) (Next SpaceOrTabEolAtEol))
+  line-row k at = ap (λ o. row_step g text k (inline_before_rows (behind k) (class_of text_byte o))) at
+
   pub runs-begin : (k : Configuration Unit Unit) (b : ℕ) → (sight g text k).current ≡ Some b → begins_run on b ≡ true → HasRow g text (inlines_rules g).step k TextBefore (row [] (Retry AttentionStart))
   runs-begin k b at is =
       ap (λ o. row_step g text k (inline_before_rows (behind k) (class_of text_byte o))) at
@@ -89,51 +95,46 @@ module _ (g : Given) (text : Text) where
       ∙ tested g text run_begins (row [] (Retry AttentionStart)) (row [] (Retry TextBeforeData)) k true (begins-here k b true at is)
 
   pub tried-between : (k : Configuration Unit Unit) (b : ℕ) → (sight g text k).current ≡ Some b → is_line_feed b ≡ false → begins_run on b ≡ false
-      → HasRow g text (inlines_rules g).step k TextBefore (tried_at text_constructs (text_byte b))
+      → HasRow g text (inlines_rules g).step k TextBefore (tried_at between_texts inline_constructs (text_byte b))
   tried-between k b at plain none =
-      ap (λ o. row_step g text k (inline_before_rows (behind k) (class_of text_byte o))) at ∙ elim (as-in-texts (text_byte b)) [
+      ap (λ o. row_step g text k (inline_before_rows (behind k) (class_of text_byte o))) at ∙ elim (before-class (text_byte b)) [
         | inl is ↦
             ap (λ w. row_step g text k (inline_before_rows (behind k) (Some w))) is
             ∙ tested g text run_begins (row [] (Retry AttentionStart)) (row [] (Retry TextBeforeData)) k false (begins-here k b false at none)
-            ∙ ap (λ w. row_step g text k (tried_at text_constructs w)) (sym is)
-        | inr as_texts ↦
-            ap (row_step g text k) (as_texts (behind k)).0
-            ∙ ap (λ t. row_step g text k (cond t (row (enter LineEnding ∷ consume ∷ exit LineEnding ∷ []) (Next TextBefore)) (tried_at text_constructs (text_byte b)))) (line-classed b ∙ plain)
+            ∙ ap (λ w. row_step g text k (tried_at between_texts inline_constructs w)) (sym is)
+        | inr (inl is) ↦ absurd (let no : true ≡ false = ap is_line_feed_class (sym is) ∙ line-classed b ∙ plain in cc)
+        | inr (inr tried) ↦ ap (row_step g text k) (tried (behind k))
       ]
 
-  pub data-on : (k : Configuration Unit Unit) (b : ℕ) → (sight g text k).current ≡ Some b → ends_data on b ≡ false → HasRow g text (inlines_rules g).step k DataInside (row (consume ∷ []) (Next DataInside))
-  data-on k b at plain =
-      let (other, none) = or-parts (is_special b) (begins_run on b) plain in
-      ap (λ o. row_step g text k (inline_data_rows (behind k) (class_of text_byte o))) at ∙ elim (as-in-texts (text_byte b)) [
+  -- in data it goes on at a byte that ends none, ends at one that does and at the end, and there is a look at white space
+  data-at : (k : Configuration Unit Unit) (b : ℕ) (t : Bool) → (sight g text k).current ≡ Some b → is_white b ≡ false → ends_data on b ≡ t → HasRow g text (inlines_rules g).step k DataInside (ends_or_goes t)
+  data-at k b t at other ends =
+      ap (λ o. row_step g text k (inline_data_rows (behind k) (class_of text_byte o))) at ∙ elim (data-class (text_byte b)) [
         | inl is ↦
             ap (λ w. row_step g text k (inline_data_rows (behind k) (Some w))) is
-            ∙ tested g text run_begins (row (exit Data ∷ []) (Retry TextBefore)) (row (consume ∷ []) (Next DataInside)) k false (begins-here k b false at none)
-        | inr as_texts ↦ ap (row_step g text k) ((as_texts (behind k)).1 ∙ data-goes-on (behind k) b other)
+            ∙ tested g text run_begins (row (exit Data ∷ []) (Retry TextBefore)) (row (consume ∷ []) (Next DataInside)) k t (begins-here k b t at (sym (punctuation-ends on b other is) ∙ ends))
+        | inr (inl is) ↦ absurd (let no : true ≡ false = ap is_white_class (sym is) ∙ white-classed b ∙ other in cc)
+        | inr (inr rows) ↦ ap (row_step g text k) (rows.1 (behind k) ∙ ap ends_or_goes (marked-classed on b other (no-run b rows.0) ∙ ends))
       ]
 
-  pub data-over : (k : Configuration Unit Unit) (o : Option ℕ) → (sight g text k).current ≡ o → passes (λ b. not (ends_data on b)) o ≡ false → HasRow g text (inlines_rules g).step k DataInside (row (exit Data ∷ []) (Retry TextBefore))
-  data-over k None at ends = ap (λ o. row_step g text k (inline_data_rows (behind k) (class_of text_byte o))) at
-  data-over k (Some b) at ends =
-      let here = not-false (ends_data on b) ends in
-      ap (λ o. row_step g text k (inline_data_rows (behind k) (class_of text_byte o))) at ∙ elim (as-in-texts (text_byte b)) [
-        | inl is ↦
-            ap (λ w. row_step g text k (inline_data_rows (behind k) (Some w))) is
-            ∙ tested g text run_begins (row (exit Data ∷ []) (Retry TextBefore)) (row (consume ∷ []) (Next DataInside)) k true (begins-here k b true at (or-second (is_special b) (begins_run on b) here (plain-class b is)))
-        | inr as_texts ↦
-            let special : is_special b ≡ true = sym (or-false (is_special b)) ∙ ap (λ t. is_special b || t) (sym (no-run on b as_texts)) ∙ here in
-            ap (row_step g text k) ((as_texts (behind k)).1 ∙ data-ends (behind k) (Some b) (ap not special))
-      ]
+  pub data-on : (k : Configuration Unit Unit) (b : ℕ) → (sight g text k).current ≡ Some b → is_white b ≡ false → ends_data on b ≡ false → HasRow g text (inlines_rules g).step k DataInside (row (consume ∷ []) (Next DataInside))
+  data-on k b at other ends = data-at k b false at other ends
 
-  -- the machine reads constructs as texts have them
+  pub data-ends : (k : Configuration Unit Unit) (b : ℕ) → (sight g text k).current ≡ Some b → is_white b ≡ false → ends_data on b ≡ true → HasRow g text (inlines_rules g).step k DataInside (row (exit Data ∷ []) (Retry TextBefore))
+  data-ends k b at other ends = data-at k b true at other ends
+
+  pub data-ends-last : (k : Configuration Unit Unit) → (sight g text k).current ≡ None → HasRow g text (inlines_rules g).step k DataInside (row (exit Data ∷ []) (Retry TextBefore))
+  data-ends-last k at = ap (λ o. row_step g text k (inline_data_rows (behind k) (class_of text_byte o))) at
+
+  pub data-looks : (k : Configuration Unit Unit) (b : ℕ) → (sight g text k).current ≡ Some b → is_white b ≡ true
+      → HasRow g text (inlines_rules g).step k DataInside (row (choose Check (Next BlankLineAfter) (Next SpaceOrTabAfter) ∷ []) (Retry SpaceOrTabStart))
+  data-looks k b at is =
+      ap (λ o. row_step g text k (inline_data_rows (behind k) (class_of text_byte o))) at ∙ ap (λ w. row_step g text k (inline_data_rows (behind k) (Some w))) (white-class b is)
+
+  -- the machine reads constructs as others do
   abbrev pub inlines_play : Plays g text
   inlines_play = record {
     step = (inlines_rules g).step;
-    special = ends_data on;
-    line_ends = λ k at. ap (λ o. row_step g text k (inline_before_rows (behind k) (class_of text_byte o))) at;
-    data_goes_on = data-on;
-    data_ends = λ k ends. data-over k (sight g text k).current refl ends;
-    text_before_data = λ k. refl;
-    data_at_break = λ k. refl;
     raw_text_start = λ k. refl;
     raw_text_sequence_open = λ k. refl;
     raw_text_between = λ k. refl;
@@ -149,3 +150,51 @@ module _ (g : Given) (text : Text) where
     escape_start = λ k. refl;
     escape_inside = λ k. refl;
   }
+
+  -- and so it begins data
+  abbrev pub inlines_begin_data : BeginsData g text inlines_play
+  inlines_begin_data = record { text_before_data = λ k. refl; data_at_break = λ k. refl }
+
+  abbrev pub inlines_play_break_escapes : PlaysBreakEscapes g text (inlines_rules g).step
+  inlines_play_break_escapes = record { start = λ k. refl; after = λ k. refl }
+
+  abbrev pub inlines_play_trailing_breaks : PlaysTrailingBreaks g text (inlines_rules g).step
+  inlines_play_trailing_breaks = record { start = λ k. refl; after_first = λ k. refl; after_more = λ k. refl }
+
+  abbrev pub inlines_play_white_spaces : PlaysWhiteSpaces g text (inlines_rules g).step
+  inlines_play_white_spaces = record { start = λ k. refl; inside = λ k. refl }
+
+  abbrev pub inlines_play_references : PlaysReferences g text inlines_play
+  inlines_play_references = record { reference_start = λ k. refl; reference_open = λ k. refl; reference_numeric = λ k. refl; reference_value = λ k. refl }
+
+  abbrev pub inlines_play_emails : PlaysEmails g text inlines_play
+  inlines_play_emails = record { email_start = λ k. refl; email_atext = λ k. refl; email_label = λ k. refl; email_value = λ k. refl }
+
+  pub tag-places : (s : Place) → HasRows g text (inlines_rules g).step (state_of s) (rows_of s)
+  tag-places place.opened = λ k. refl
+  tag-places place.closed = λ k. refl
+  tag-places place.closing_name = λ k. refl
+  tag-places place.closing = λ k. refl
+  tag-places place.tag_name = λ k. refl
+  tag-places place.before = λ k. refl
+  tag-places place.name = λ k. refl
+  tag-places place.named = λ k. refl
+  tag-places place.value = λ k. refl
+  tag-places place.double_quoted = λ k. refl
+  tag-places place.single_quoted = λ k. refl
+  tag-places place.after = λ k. refl
+  tag-places place.bare = λ k. refl
+  tag-places place.slashed = λ k. refl
+
+  abbrev pub inlines_play_tags : PlaysTags g text (inlines_rules g).step
+  inlines_play_tags = record { start = λ k. refl; places = tag-places; after_line = λ k. refl; in_white = λ k. refl }
+
+  pub mark-places : (s : MarkPlace) → HasRows g text (inlines_rules g).step (mark_name s) (mark_rows s)
+  mark-places at_open = λ k. refl
+  mark-places at_declaration = λ k. refl
+  mark-places at_comment = λ k. refl
+  mark-places (at_cdata n) = λ k. refl
+  mark-places (at_inside kind n) = λ k. refl
+
+  abbrev pub inlines_play_marks : PlaysMarks g text (inlines_rules g).step
+  inlines_play_marks = record { start = λ k. refl; places = mark-places; after_line = λ k. refl; in_white = λ k. refl }

@@ -1,5 +1,7 @@
 -- Where a reading of inline text ends, one resolver is registered; and so emphasis is made.
 use Rattle.std.proofs.Common.{Bool, ◌≡◌, List, [], Some, false, true, refl, sym, ap, ◌∙◌, arith}
+use Rattle.std.specs.Prelude.{Contains}
+use Rattle.markdown_base.specs.declared.state.Name.{Name}
 use Rattle.markdown_base.specs.declared.state.State.TheVariants.{Next, Ok}
 use Rattle.markdown_base.specs.declared.state.TheConstants.Name.{TextStart}
 use Rattle.markdown_edits.specs.Edited.{edited}
@@ -14,29 +16,28 @@ use Rattle.markdown_tokenizer.specs.Text.{Given, IsText, Text}
 use Rattle.mdconstructs_attention.proofs.RunEdits.{emphasis-can-be-made}
 use Rattle.mdconstructs_text.proofs.Texts.Ends.{holds-at-end}
 use Rattle.mdconstructs_text.proofs.Texts.WholePlaces.{whole-is-text}
-use Rattle.mdconstructs_text.specs.TextTable.{begins_construct, follows_construct}
 use Rattle.mdconstructs_inlines.specs.InlineRules.{emphasis_edits, EndsEmphasised, inlines_rules}
-use Rattle.mdconstructs_inlines.specs.InlineTable.{inlines}
+use Rattle.mdconstructs_inlines.specs.InlineTable.{begins_inline, follows_inline, inline_starts, inlines}
 use Rattle.mdconstructs_inlines.specs.LawStatements.{MakesEmphasis}
 use Rattle.mdconstructs_inlines.specs.Laws.Inlines.{inlines-lawful}
 use Rattle.mdconstructs_inlines.specs.Laws.Registered.{goes-on}
 
 -- where a reading ends, no event has a link; and resolving makes the edits of its events
-pub resolved-so : (g : Given) (text : Text) → IsText g text → (flag : Bool) (r : Reading Unit Unit) → EndsIn g (inlines_rules g).step text 0 (start_configuration flag) [] (Next TextStart) r → r.answer ≡ Ok
+pub resolved-so : (g : Given) (start : Name) → Contains (inlines_rules g).starts start → (text : Text) → IsText g text → (flag : Bool) (r : Reading Unit Unit) → EndsIn g (inlines_rules g).step text 0 (start_configuration flag) [] (Next start) r → r.answer ≡ Ok
     → (final : Configuration Unit Unit) (sub : Subresult) → IsResolved (inlines_rules g).resolver g text true r.configuration final sub
     → HaveNoLinks r.configuration.events × (final.events ≡ edited (emphasis_edits g r.configuration.events) r.configuration.events)
-resolved-so g text is flag r ends well final sub resolved =
+resolved-so g start among text is flag r ends well final sub resolved =
     let k = r.configuration in
-    let holds = holds-at-end g inlines_rules (inlines-lawful g).invariant_kept TextStart (0, omega arith, (cc)) text is flag r ends well in
-    let known = goes-on inlines begins_construct follows_construct TextStart tt emphasis_edits EndsEmphasised k [] _ refl holds.known in
-    let start = with_resolvers (taken k) [] in
-    let put : Configuration Unit Unit = record start { local = record start.local { map = emphasis_edits g k.events } } in
+    let holds = holds-at-end g inlines_rules (inlines-lawful g).invariant_kept start among text is flag r ends well in
+    let known = goes-on inlines begins_inline follows_inline inline_starts tt emphasis_edits EndsEmphasised k [] _ refl holds.known in
+    let begun = with_resolvers (taken k) [] in
+    let put : Configuration Unit Unit = record begun { local = record begun.local { map = emphasis_edits g k.events } } in
     let e : done (edits_made put) (Some (found k)) ≡ done final (Some sub) =
-    sym (ap (λ (rs : List Unit). resolved_by (inlines_rules g).resolver g text rs start (found k)) known.2) ∙ resolved in
+    sym (ap (λ (rs : List Unit). resolved_by (inlines_rules g).resolver g text rs begun (found k)) known.2) ∙ resolved in
     let last : edits_made put ≡ final = cc in
     (known.0, sym (ap (λ (q : Configuration Unit Unit). q.events) last))
 
 pub makes-emphasis : MakesEmphasis
 makes-emphasis g events sub document run =
-    let there = resolved-so g (whole_text g) (whole-is-text g document) false run.result run.ends run.well run.final sub run.resolved in
+    let there = resolved-so g TextStart (0, omega arith, (cc)) (whole_text g) (whole-is-text g document) false run.result run.ends run.well run.final sub run.resolved in
     run.events ∙ there.1 ∙ (emphasis-can-be-made g.bytes run.result.configuration.events run.well_formed.balanced there.0).1

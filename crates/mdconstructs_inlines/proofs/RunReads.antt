@@ -21,6 +21,7 @@ use Rattle.mdconstructs_tables.specs.Rows.{row, enter, exit, consume}
 use Rattle.mdconstructs_machines.specs.Tables.{counts}
 use Rattle.mdconstructs_machines.proofs.LineReads.Steps.{at-front}
 use Rattle.mdconstructs_text.specs.Bytes.{passes}
+use Rattle.mdconstructs_text.specs.Construct.{between_texts}
 use Rattle.mdconstructs_text.specs.Parts.{bytes_of, event, leaf}
 use Rattle.mdconstructs_text.proofs.Plain.Stretches.{shows, first_byte, goes-back, goes-next, leaf-read, sees}
 use Rattle.mdconstructs_text.proofs.Texts.Reads.{AddsItem}
@@ -90,7 +91,7 @@ module _ (g : Given) (text : Text) where
 
   -- A run is read, with its events
   pub reads-run : (p : ℕ) (ended : Bool) (events : List Event) (local : Local Unit Unit) (s : Seat) (ss : List Seat) → drop p text.seats ≡ s ∷ ss → begins_run g.options.constructs s.byte ≡ true
-      → AddsItem g text m (between_items p Byte ended events local) (Retry TextBefore) p events (s ∷ ss) (delimiter_run (run_length (bytes_of (s ∷ ss))))
+      → AddsItem g text m between_texts (between_items p Byte ended events local) (Retry TextBefore) p events (s ∷ ss) (delimiter_run (run_length (bytes_of (s ∷ ss))))
   reads-run p ended events local s ss here is =
       let n = run_length (bytes_of (s ∷ ss)) in
       let rest = prefix_len (λ c. c == s.byte) (bytes_of ss) in

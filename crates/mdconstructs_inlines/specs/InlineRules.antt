@@ -1,7 +1,6 @@
 -- The rules of the machine of inline text: once all was read, emphasis takes the place of delimiter runs.
 use Rattle.std.specs.Prelude.{◌≡◌, List}
 use Rattle.markdown_base.specs.declared.event.Event.{Event}
-use Rattle.markdown_base.specs.declared.state.TheConstants.Name.{TextStart}
 use Rattle.markdown_edits.specs.Edits.{Edit}
 use Rattle.markdown_tokenizer.specs.Engine.{IsWellFormed}
 use Rattle.markdown_tokenizer.specs.Plain.{HaveNoLinks}
@@ -12,8 +11,7 @@ use Rattle.mdconstructs_attention.specs.Emphasis.{paired}
 use Rattle.mdconstructs_attention.specs.RunEdits.{edits_of}
 use Rattle.mdconstructs_attention.specs.Runs.{runs_in, with_emphasis}
 use Rattle.mdconstructs_text.specs.TextBytes.{TextByte}
-use Rattle.mdconstructs_text.specs.TextTable.{begins_construct, follows_construct}
-use Rattle.mdconstructs_inlines.specs.InlineTable.{inlines}
+use Rattle.mdconstructs_inlines.specs.InlineTable.{begins_inline, follows_inline, inline_starts, inlines}
 use Rattle.mdconstructs_inlines.specs.Registered.{registered_plan}
 
 -- the edits that put emphasis in place of the delimiter runs of events: one for each run
@@ -27,7 +25,7 @@ EndsEmphasised g text events = (read : List Event) × IsWellFormed g read × Hav
 
 -- the plan of the machine
 abbrev pub inline_plan : Plan TextByte Unit Unit
-inline_plan = registered_plan inlines begins_construct follows_construct TextStart tt emphasis_edits EndsEmphasised
+inline_plan = registered_plan inlines begins_inline follows_inline inline_starts tt emphasis_edits EndsEmphasised
 
 abbrev pub inlines_rules : Given → Rules Unit Unit
 inlines_rules = planned_rules inline_plan

@@ -1,8 +1,12 @@
 -- What is promised of inline text.
-use Rattle.std.specs.Prelude.{◌≡◌, List, Some, false, true}
-use Rattle.markdown_base.specs.declared.event.Content.TheVariants.{Text as TextContent}
+use Rattle.std.specs.Prelude.{◌≡◌, Bool, List, Option, Some, false, map, true}
+use Rattle.markdown_base.specs.declared.event.Content.{Content}
+use Rattle.markdown_base.specs.declared.event.Content.TheVariants.{String, Text as TextContent}
 use Rattle.markdown_base.specs.declared.event.Event.{Event}
-use Rattle.markdown_base.specs.declared.state.TheConstants.Name.{TextStart}
+use Rattle.markdown_base.specs.declared.state.TheConstants.Name.{StringStart, TextStart}
+use Rattle.markdown_children.specs.Chains.{fitting_starts}
+use Rattle.markdown_children.specs.Children.{with_children}
+use Rattle.markdown_children.specs.Reads.{IsSubtokenized}
 use Rattle.markdown_children.specs.Ready.{IsReady}
 use Rattle.markdown_tokenizer.specs.declared.subtokenize.Subresult.{Subresult}
 use Rattle.markdown_tokenizer.specs.Engine.{IsRun, whole_text}
@@ -11,6 +15,7 @@ use Rattle.mdconstructs_attention.specs.Runs.{with_emphasis}
 use Rattle.mdconstructs_text.specs.ChainTexts.{AreReadBy, StaysReadyBy, chain_text, with_read}
 use Rattle.mdconstructs_inlines.specs.InlineEvents.{inline_events, read_events}
 use Rattle.mdconstructs_inlines.specs.InlineRules.{inlines_rules}
+use Rattle.mdconstructs_inlines.specs.StringEvents.{string_events}
 
 -- these are the events of a run of the machine, from the start of texts, which resolves
 abbrev pub IsRunOfInlines : Given → List Event → Type 0
@@ -38,3 +43,22 @@ ReadsChainsAsInlineText = (g : Given) (events : List Event) → IsDocument g →
 -- and leaves it ready for another content, if it was
 abbrev pub StaysReadyAfterInlineText : Type 0
 StaysReadyAfterInlineText = (g : Given) (events : List Event) → IsDocument g → IsReady g.tab g.bytes (Some TextContent) events → StaysReadyBy g events inlines_rules
+
+-- For each document, a run from the start of strings, resolving or not, returns the events of a string
+abbrev pub ReadsStrings : Type 0
+ReadsStrings = (g : Given) (resolving : Bool) (events : List Event) (sub : Subresult) → IsDocument g → IsRun g inlines_rules resolving StringStart events sub
+    → events ≡ string_events g (whole_text g)
+
+-- the list with each chunk of each chain of strings replaced by its part of the events of the string that the chain is
+abbrev pub with_strings : Given → List Event → List Event
+with_strings g events = with_children (Some String) events (map (λ c. string_events g (chain_text g events c)) (fitting_starts (Some String) events))
+
+-- The machine makes that of each list whose chains of strings can be read
+abbrev pub ReadsChainsAsStrings : Type 0
+ReadsChainsAsStrings = (g : Given) (events new : List Event) (sub : Subresult) → IsDocument g → IsReady g.tab g.bytes (Some String) events
+    → IsSubtokenized g inlines_rules (Some String) events new sub → new ≡ with_strings g events
+
+-- and leaves it ready for another content, if it was
+abbrev pub StaysReadyAfterStrings : Type 0
+StaysReadyAfterStrings = (g : Given) (events new : List Event) (sub : Subresult) (next : Option Content) → IsDocument g → IsReady g.tab g.bytes (Some String) events
+    → IsReady g.tab g.bytes next events → IsSubtokenized g inlines_rules (Some String) events new sub → IsReady g.tab g.bytes next new

@@ -5,3 +5,5 @@ pub mod LawStatements
 pub mod Laws
 pub mod Registered
 pub mod RunRows
+pub mod StringEvents
+pub mod StringTable

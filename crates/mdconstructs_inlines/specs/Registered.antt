@@ -1,5 +1,5 @@
 -- Machines with one resolver, which the first call registers: once all was read, it adds edits to a list without links.
-use Rattle.std.specs.Prelude.{◌≡◌, ◌⊎◌, ◌==◌, ◌&&◌, not, List, [], ◌∷◌, Bool, true, false, filter, map, length, Option, Some, None}
+use Rattle.std.specs.Prelude.{◌≡◌, ◌⊎◌, ◌&&◌, not, List, [], ◌∷◌, Bool, true, false, filter, map, length, Option, Some, None}
 use Rattle.markdown_base.specs.declared.event.Event.{Event}
 use Rattle.markdown_base.specs.declared.state.Name.{Name}
 use Rattle.markdown_base.specs.declared.state.State.{State}
@@ -14,14 +14,15 @@ use Rattle.markdown_tokenizer.specs.Resolving.{Resolved, done}
 use Rattle.markdown_tokenizer.specs.Sight.{Sight}
 use Rattle.markdown_tokenizer.specs.Text.{Given, Text, IsDocument}
 use Rattle.mdconstructs_tables.specs.Plans.{Plan}
+use Rattle.mdconstructs_tables.specs.Quiet.{is_one_of}
 use Rattle.mdconstructs_tables.specs.RowTest.{all_rows}
 use Rattle.mdconstructs_tables.specs.Rows.{Act, enters, links, Row, StateRows, Table}
 
--- the state is the one of the first call
-abbrev pub is_first : (start : Name) → State → Bool
-is_first start (Next name) = name.number == start.number
-is_first start (Retry name) = name.number == start.number
-is_first start _ = false
+-- the state is one of the first call
+abbrev pub is_first : (starts : List Name) → State → Bool
+is_first starts (Next name) = is_one_of starts name
+is_first starts (Retry name) = is_one_of starts name
+is_first starts _ = false
 
 module _ {R D : Type 0} where
   -- acts give no event a link
@@ -35,10 +36,10 @@ module _ {R D : Type 0} where
   is_linkless r = are_linkless r.acts
 
   -- What is known: no event has a link, no edit waits, and the resolver is registered, but for the first call
-  pub record KnowsRegistered (start : Name) (r : R) (k : Configuration R D) (choices : List Choice) (state : State) : Type 0 where
+  pub record KnowsRegistered (starts : List Name) (r : R) (k : Configuration R D) (choices : List Choice) (state : State) : Type 0 where
     pub unlinked : HaveNoLinks k.events
     pub unedited : k.local.map ≡ []
-    pub registered : (k.local.resolvers ≡ r ∷ []) ⊎ ((k.local.resolvers ≡ []) × (choices ≡ []) × (is_first start state ≡ true))
+    pub registered : (k.local.resolvers ≡ r ∷ []) ⊎ ((k.local.resolvers ≡ []) × (choices ≡ []) × (is_first starts state ≡ true))
 
   -- once all was read, the events of a possible document are well formed, and none has a link
   pub record IsUnresolved (g : Given) (k : Configuration R D) : Type 0 where
@@ -63,18 +64,18 @@ EditsCanBeMade edits ends = (g : Given) (text : Text) (events : List Event) → 
     → let es = edits g events in let after = edited es events in
     AreDisjoint 0 es (length events) × IsBalanced after × HaveNoLinks after × ends g text after
 
-module _ {W R D : Type 0} (start : Name) where
-  -- none of the states is the one of the first call
+module _ {W R D : Type 0} (starts : List Name) where
+  -- none of the states is one of the first call
   abbrev pub are_later : List (StateRows W R D) → Bool
   are_later [] = true
-  are_later (state ∷ states) = not (is_first start (Retry state.name)) && are_later states
+  are_later (state ∷ states) = not (is_first starts (Retry state.name)) && are_later states
 
 module _ {W R D : Type 0} where
   -- the names of the states with a row that gives an event a link
   abbrev pub link_makers : List (StateRows W R D) → (previous current : Option W) → List Name
   link_makers states b w = map (λ (state : StateRows W R D). state.name) (filter (λ state. not (all_rows is_linkless (state.rows b w))) states)
 
-module _ {W R D : Type 0} (table : Table W R D) (early : Name → Option W → Bool) (falling : Name → Bool) (start : Name) (r : R) (edits : Given → List Event → List Edit)
+module _ {W R D : Type 0} (table : Table W R D) (early : Name → Option W → Bool) (falling : Name → Bool) (starts : List Name) (r : R) (edits : Given → List Event → List Edit)
     (ends : Given → Text → List Event → Type 0) where
   -- the plan of such a machine
   abbrev pub registered_plan : Plan W R D
@@ -82,7 +83,7 @@ module _ {W R D : Type 0} (table : Table W R D) (early : Name → Option W → B
     table = table;
     early = early;
     falling = falling;
-    knows = λ g text. KnowsRegistered start r;
+    knows = λ g text. KnowsRegistered starts r;
     resolver = adds_edits edits;
     resolves = resolves_edits edits;
     ends = ends;

@@ -42,7 +42,7 @@ module _ {R D : Type 0} where
   -- its state: it is called only at punctuation, and no span is open yet
   abbrev pub attention_start : StateRows TextByte R D
   attention_start =
-      record (state AttentionStart attention_start_rows [] (text_cost (by_left 4 1 0))) { called = at_bytes is_punctuation_class }
+      record (state AttentionStart attention_start_rows [] (text_cost (by_left 4 12 0))) { called = at_bytes is_punctuation_class }
 
   -- the run ends
   abbrev pub run_ends : Rows R D
@@ -56,7 +56,7 @@ module _ {R D : Type 0} where
   -- its state: the run is open
   abbrev pub attention_inside : StateRows TextByte R D
   attention_inside =
-      state AttentionInside attention_inside_rows (AttentionSequence ∷ []) (text_cost (by_left 4 9 2))
+      state AttentionInside attention_inside_rows (AttentionSequence ∷ []) (text_cost (by_left 4 20 8))
 
   -- the states that read runs
   abbrev pub run_states : List (StateRows TextByte R D)
@@ -64,4 +64,4 @@ module _ {R D : Type 0} where
 
 -- What they cost: behind each byte another construct may begin that is read to the end and fails
 abbrev pub run_prices : List (Price TextByte)
-run_prices = by_left 4 1 0 ∷ by_left 4 9 2 ∷ []
+run_prices = by_left 4 12 0 ∷ by_left 4 20 8 ∷ []

@@ -10,9 +10,10 @@ ghost use Rattle.mdconstructs_attention.specs.RunEdits.{edits_of};
 ghost use Rattle.mdconstructs_attention.specs.Runs.{runs_in};
 ghost use Rattle.mdconstructs_tables.specs.RowInvariant.{DoesAll, IsCallable, step_in};
 ghost use Rattle.mdconstructs_text.specs.TextBytes.{text_byte};
-ghost use Rattle.mdconstructs_inlines.specs.InlineTable.{inline_start, inline_before, inline_data};
+ghost use Rattle.mdconstructs_inlines.specs.InlineTable.{inline_start, line_start, line_white, inline_before, before_hard_break_escape, before_white_space, before_email, before_html, before_tag, inline_data, data_over, white_data};
 
 use crate::attention::{attention_inside, attention_start, run_begins};
+use crate::strings::{string_before, string_before_data, string_data, string_start};
 use markdown_tokenizer::event::{self, Event};
 use markdown_tokenizer::state::{Machine, MachineTypes, Name, State};
 use markdown_tokenizer::subtokenize::Subresult;
@@ -20,6 +21,28 @@ use markdown_tokenizer::tokenizer::{Fault, Tokenizer};
 use markdown_tokenizer::util::edit_map::EditMap;
 use mdconstructs_attention::emphasis::emphasize;
 use mdconstructs_machines::begin::begin;
+use mdconstructs_phrasing::email::{email_atext, email_label, email_start, email_value};
+use mdconstructs_phrasing::hard_break::{
+    break_escape_after, break_escape_start, break_escapes_are_on, trailing_after_first,
+    trailing_after_more, trailing_breaks_are_on, trailing_start,
+};
+use mdconstructs_phrasing::html_marked::{
+    cdata_open, comment_open, declaration_open, mark_inside, mark_line, mark_open, mark_start,
+    mark_white,
+};
+use mdconstructs_phrasing::html_tag::{
+    html_text_attribute_name, html_text_attribute_name_after, html_text_end, html_text_open,
+    html_text_start, html_text_tag_close, html_text_tag_close_between, html_text_tag_close_start,
+    html_text_tag_open, html_text_tag_open_between, html_text_value_before, html_text_value_quoted,
+    html_text_value_quoted_after, html_text_value_unquoted,
+};
+use mdconstructs_phrasing::html_text::{
+    html_is_on, html_line_ending_after, html_line_ending_after_prefix,
+};
+use mdconstructs_phrasing::reference::{
+    reference_numeric, reference_open, reference_start, reference_value, references_are_on,
+};
+use mdconstructs_phrasing::white_space::{white_inside, white_start};
 use mdconstructs_tables::marker;
 use mdconstructs_text::autolink::{
     autolink_open, autolink_scheme, autolink_start, autolink_url, autolinks_are_on,
@@ -33,10 +56,12 @@ use mdconstructs_text::escape::{escape_inside, escape_start, escapes_are_on};
 use mdconstructs_text::text::{data_at_break, text_before_data};
 use std::alloc::{AllocError, Global};
 
-/// Reads a text, from `TextStart`: code spans, autolinks, backslash escapes and emphasis, if they are on, line endings, and all else
-/// as data. Emphasis is made once all was read: until then its delimiter runs are attention sequences.
+/// Reads a text, from `TextStart`: code spans, autolinks, backslash escapes, hard breaks, character references and emphasis, if they are on, line endings and
+/// the white space beside them, and all else as data. Emphasis is made once all was read: until then its delimiter runs are attention
+/// sequences. It reads a string, from `StringStart`: backslash escapes and character references, if they are on, line endings, and all else as
+/// data.
 ///
-/// It takes at most 4 n n + 9 n + 2 calls for n virtual bytes.
+/// It takes at most 4 n n + 20 n + 9 calls for n virtual bytes.
 #[derive(Drop)]
 pub struct Inlines {}
 
@@ -52,7 +77,8 @@ impl Machine for Inlines {
 
     ghost rules = { λ _. inlines_rules };
 
-    /// Calls the state of this name. Names are used as `Text` uses them.
+    /// Calls the state of this name. Names are used as `Text` uses them. The Rust crate has none for the states that end data before
+    /// white space, or go on behind a hard break that is none: two names of blank lines are used.
     fn call<'a>(
         &self,
         alloc: Global,
@@ -61,11 +87,24 @@ impl Machine for Inlines {
     ) -> Result<State, AllocError> {
         begin(t);
         match name {
+            Name::StringStart => string_start(t),
+            Name::StringBefore => string_before(t),
+            Name::StringBeforeData => string_before_data(t),
+            Name::DataStart => string_data(t),
             Name::TextStart => inline_start(t),
+            Name::SpaceOrTabEolAtEol => line_start(t),
+            Name::SpaceOrTabEolAfterEol => line_white(t),
             Name::TextBefore => inline_before(t),
+            Name::TextBeforeHardBreakEscape => before_hard_break_escape(t),
+            Name::BlankLineStart => before_white_space(t),
+            Name::AutolinkSchemeOrEmailAtext => before_email(t),
+            Name::TextBeforeHtml => before_html(t),
+            Name::HtmlTextCdataEnd => before_tag(t),
             Name::TextBeforeData => text_before_data(t),
             Name::DataAtBreak => data_at_break(t),
             Name::DataInside => inline_data(t),
+            Name::BlankLineAfter => data_over(t),
+            Name::SpaceOrTabAfter => white_data(t),
             Name::AttentionStart => attention_start(t),
             Name::AttentionInside => attention_inside(t),
             Name::RawTextStart => raw_text_start(t),
@@ -80,8 +119,47 @@ impl Machine for Inlines {
             Name::AutolinkOpen => autolink_open(t),
             Name::AutolinkSchemeInsideOrEmailAtext => autolink_scheme(t),
             Name::AutolinkUrlInside => autolink_url(t),
+            Name::AutolinkEmailAtSignOrDot => email_start(t),
+            Name::AutolinkEmailAtext => email_atext(t),
+            Name::AutolinkEmailLabel => email_label(t),
+            Name::AutolinkEmailValue => email_value(t),
+            Name::HtmlTextDeclaration => mark_start(t),
+            Name::HtmlTextInstruction => mark_open(t),
+            Name::HtmlTextDeclarationOpen => declaration_open(t),
+            Name::HtmlTextCommentOpenInside => comment_open(t),
+            Name::HtmlTextCdataOpenInside => cdata_open(t),
+            Name::HtmlTextComment => mark_inside(t),
+            Name::HtmlTextCommentClose => mark_line(t),
+            Name::HtmlTextCommentEnd => mark_white(t),
+            Name::HtmlTextStart => html_text_start(t),
+            Name::HtmlTextOpen => html_text_open(t),
+            Name::HtmlTextTagCloseStart => html_text_tag_close_start(t),
+            Name::HtmlTextTagClose => html_text_tag_close(t),
+            Name::HtmlTextTagCloseBetween => html_text_tag_close_between(t),
+            Name::HtmlTextTagOpen => html_text_tag_open(t),
+            Name::HtmlTextTagOpenBetween => html_text_tag_open_between(t),
+            Name::HtmlTextTagOpenAttributeName => html_text_attribute_name(t),
+            Name::HtmlTextTagOpenAttributeNameAfter => html_text_attribute_name_after(t),
+            Name::HtmlTextTagOpenAttributeValueBefore => html_text_value_before(t),
+            Name::HtmlTextTagOpenAttributeValueQuoted => html_text_value_quoted(t),
+            Name::HtmlTextTagOpenAttributeValueQuotedAfter => html_text_value_quoted_after(t),
+            Name::HtmlTextTagOpenAttributeValueUnquoted => html_text_value_unquoted(t),
+            Name::HtmlTextEnd => html_text_end(t),
+            Name::HtmlTextLineEndingAfter => html_line_ending_after(t),
+            Name::HtmlTextLineEndingAfterPrefix => html_line_ending_after_prefix(t),
             Name::CharacterEscapeStart => escape_start(t),
             Name::CharacterEscapeInside => escape_inside(t),
+            Name::CharacterReferenceStart => reference_start(t),
+            Name::CharacterReferenceOpen => reference_open(t),
+            Name::CharacterReferenceNumeric => reference_numeric(t),
+            Name::CharacterReferenceValue => reference_value(t),
+            Name::HardBreakEscapeStart => break_escape_start(t),
+            Name::HardBreakEscapeAfter => break_escape_after(t),
+            Name::SpaceOrTabEolStart => trailing_start(t),
+            Name::SpaceOrTabEolAfterFirst => trailing_after_first(t),
+            Name::SpaceOrTabEolAfterMore => trailing_after_more(t),
+            Name::SpaceOrTabStart => white_start(t),
+            Name::SpaceOrTabInside => white_inside(t),
             _ => unreachable!(),
         }
     }
@@ -125,10 +203,42 @@ fn inline_start<'a>(t: &mut Tokenizer<'a, Inlines>) -> Result<State, AllocError>
     ensures { IfOk result (DoesAll (step_in text_byte inline_start t.old) t.old t.new) }
 {
     t.register_resolver(())?;
-    Ok(State::Retry(Name::TextBefore))
+    Ok(State::Retry(Name::SpaceOrTabEolAtEol))
 }
 
-/// Between constructs: a run begins, another construct is tried if it is on, or data is read.
+/// At the beginning of a line.
+fn line_start<'a>(t: &mut Tokenizer<'a, Inlines>) -> Result<State, AllocError>
+    requires { IsCallable text_byte line_start t.old }
+    ensures { IfOk result (DoesAll (step_in text_byte line_start t.old) t.old t.new) }
+{
+    match t.current() {
+        Some(b' ' | b'\t') => {
+            t.enter(event::Name::SpaceOrTab)?;
+            t.consume();
+            Ok(State::Next(Name::SpaceOrTabEolAfterEol))
+        }
+        _ => Ok(State::Retry(Name::TextBefore)),
+    }
+}
+
+/// In white space at the beginning of a line.
+fn line_white<'a>(t: &mut Tokenizer<'a, Inlines>) -> Result<State, AllocError>
+    requires { IsCallable text_byte line_white t.old }
+    ensures { IfOk result (DoesAll (step_in text_byte line_white t.old) t.old t.new) }
+{
+    match t.current() {
+        Some(b' ' | b'\t') => {
+            t.consume();
+            Ok(State::Next(Name::SpaceOrTabEolAfterEol))
+        }
+        _ => {
+            t.exit(event::Name::SpaceOrTab)?;
+            Ok(State::Retry(Name::TextBefore))
+        }
+    }
+}
+
+/// Between constructs: a line ending is read, a run begins, another construct is tried if it is on, or data is read.
 fn inline_before<'a>(t: &mut Tokenizer<'a, Inlines>) -> Result<State, AllocError>
     requires { IsCallable text_byte inline_before t.old }
     ensures { IfOk result (DoesAll (step_in text_byte inline_before t.old) t.old t.new) }
@@ -137,7 +247,7 @@ fn inline_before<'a>(t: &mut Tokenizer<'a, Inlines>) -> Result<State, AllocError
         None => Ok(State::Ok),
         Some(b'\n') => {
             marker(t, event::Name::LineEnding)?;
-            Ok(State::Next(Name::TextBefore))
+            Ok(State::Next(Name::SpaceOrTabEolAtEol))
         }
         Some(b'`') => {
             if !code_spans_are_on(t) {
@@ -150,24 +260,62 @@ fn inline_before<'a>(t: &mut Tokenizer<'a, Inlines>) -> Result<State, AllocError
             Ok(State::Retry(Name::RawTextStart))
         }
         Some(b'<') => {
-            if !autolinks_are_on(t) {
+            if autolinks_are_on(t) {
+                t.attempt(
+                    State::Next(Name::TextBefore),
+                    State::Next(Name::AutolinkSchemeOrEmailAtext),
+                )?;
+                return Ok(State::Retry(Name::AutolinkStart));
+            }
+            if !html_is_on(t) {
                 return Ok(State::Retry(Name::TextBeforeData));
             }
             t.attempt(
                 State::Next(Name::TextBefore),
-                State::Next(Name::TextBeforeData),
+                State::Next(Name::HtmlTextCdataEnd),
             )?;
-            Ok(State::Retry(Name::AutolinkStart))
+            Ok(State::Retry(Name::HtmlTextDeclaration))
         }
         Some(b'\\') => {
-            if !escapes_are_on(t) {
+            if escapes_are_on(t) {
+                t.attempt(
+                    State::Next(Name::TextBefore),
+                    State::Next(Name::TextBeforeHardBreakEscape),
+                )?;
+                return Ok(State::Retry(Name::CharacterEscapeStart));
+            }
+            if !break_escapes_are_on(t) {
                 return Ok(State::Retry(Name::TextBeforeData));
             }
             t.attempt(
                 State::Next(Name::TextBefore),
                 State::Next(Name::TextBeforeData),
             )?;
-            Ok(State::Retry(Name::CharacterEscapeStart))
+            Ok(State::Retry(Name::HardBreakEscapeStart))
+        }
+        Some(b'&') => {
+            if !references_are_on(t) {
+                return Ok(State::Retry(Name::TextBeforeData));
+            }
+            t.attempt(
+                State::Next(Name::TextBefore),
+                State::Next(Name::TextBeforeData),
+            )?;
+            Ok(State::Retry(Name::CharacterReferenceStart))
+        }
+        Some(b' ' | b'\t') => {
+            if trailing_breaks_are_on(t) {
+                t.attempt(
+                    State::Next(Name::TextBefore),
+                    State::Next(Name::BlankLineStart),
+                )?;
+                return Ok(State::Retry(Name::SpaceOrTabEolStart));
+            }
+            t.attempt(
+                State::Next(Name::TextBefore),
+                State::Next(Name::TextBeforeData),
+            )?;
+            Ok(State::Retry(Name::SpaceOrTabStart))
         }
         Some(b'*' | b'_') => {
             if run_begins(t) {
@@ -179,15 +327,101 @@ fn inline_before<'a>(t: &mut Tokenizer<'a, Inlines>) -> Result<State, AllocError
     }
 }
 
-/// In data.
+/// At a backslash that escapes nothing: a hard break is tried if it is on, or data is read.
+fn before_hard_break_escape<'a>(t: &mut Tokenizer<'a, Inlines>) -> Result<State, AllocError>
+    requires { IsCallable text_byte before_hard_break_escape t.old }
+    ensures { IfOk result (DoesAll (step_in text_byte before_hard_break_escape t.old) t.old t.new) }
+{
+    if !break_escapes_are_on(t) {
+        return Ok(State::Retry(Name::TextBeforeData));
+    }
+    t.attempt(
+        State::Next(Name::TextBefore),
+        State::Next(Name::TextBeforeData),
+    )?;
+    Ok(State::Retry(Name::HardBreakEscapeStart))
+}
+
+/// At white space that is no hard break: it is tried as the end of its line.
+fn before_white_space<'a>(t: &mut Tokenizer<'a, Inlines>) -> Result<State, AllocError>
+    requires { IsCallable text_byte before_white_space t.old }
+    ensures { IfOk result (DoesAll (step_in text_byte before_white_space t.old) t.old t.new) }
+{
+    t.attempt(
+        State::Next(Name::TextBefore),
+        State::Next(Name::TextBeforeData),
+    )?;
+    Ok(State::Retry(Name::SpaceOrTabStart))
+}
+
+/// At `<` that begins no autolink: an email autolink is tried if autolinks are on, or raw HTML if that is, or data is read.
+fn before_email<'a>(t: &mut Tokenizer<'a, Inlines>) -> Result<State, AllocError>
+    requires { IsCallable text_byte before_email t.old }
+    ensures { IfOk result (DoesAll (step_in text_byte before_email t.old) t.old t.new) }
+{
+    if autolinks_are_on(t) {
+        t.attempt(
+            State::Next(Name::TextBefore),
+            State::Next(Name::TextBeforeHtml),
+        )?;
+        return Ok(State::Retry(Name::AutolinkEmailAtSignOrDot));
+    }
+    if !html_is_on(t) {
+        return Ok(State::Retry(Name::TextBeforeData));
+    }
+    t.attempt(
+        State::Next(Name::TextBefore),
+        State::Next(Name::HtmlTextCdataEnd),
+    )?;
+    Ok(State::Retry(Name::HtmlTextDeclaration))
+}
+
+/// At `<` that begins no email autolink: raw HTML between marks is tried if raw HTML is on, or data is read.
+fn before_html<'a>(t: &mut Tokenizer<'a, Inlines>) -> Result<State, AllocError>
+    requires { IsCallable text_byte before_html t.old }
+    ensures { IfOk result (DoesAll (step_in text_byte before_html t.old) t.old t.new) }
+{
+    if !html_is_on(t) {
+        return Ok(State::Retry(Name::TextBeforeData));
+    }
+    t.attempt(
+        State::Next(Name::TextBefore),
+        State::Next(Name::HtmlTextCdataEnd),
+    )?;
+    Ok(State::Retry(Name::HtmlTextDeclaration))
+}
+
+/// At `<` that begins no raw HTML between marks: a tag is tried if raw HTML is on, or data is read.
+fn before_tag<'a>(t: &mut Tokenizer<'a, Inlines>) -> Result<State, AllocError>
+    requires { IsCallable text_byte before_tag t.old }
+    ensures { IfOk result (DoesAll (step_in text_byte before_tag t.old) t.old t.new) }
+{
+    if !html_is_on(t) {
+        return Ok(State::Retry(Name::TextBeforeData));
+    }
+    t.attempt(
+        State::Next(Name::TextBefore),
+        State::Next(Name::TextBeforeData),
+    )?;
+    Ok(State::Retry(Name::HtmlTextStart))
+}
+
+/// In data. White space may be the end of its line: that is looked at.
 fn inline_data<'a>(t: &mut Tokenizer<'a, Inlines>) -> Result<State, AllocError>
     requires { IsCallable text_byte inline_data t.old }
     ensures { IfOk result (DoesAll (step_in text_byte inline_data t.old) t.old t.new) }
 {
     match t.current() {
-        None | Some(b'\n' | b'`' | b'<' | b'\\') => {
+        None | Some(b'\n' | b'`' | b'<' | b'\\' | b'&') => {
             t.exit(event::Name::Data)?;
             Ok(State::Retry(Name::TextBefore))
+        }
+        Some(b' ' | b'\t') => {
+            t.check(
+                State::Next(Name::BlankLineAfter),
+                State::Next(Name::SpaceOrTabAfter),
+            )?;
+            Ok(State::Retry(Name::SpaceOrTabStart))
         }
         Some(b'*' | b'_') => {
             if run_begins(t) {
@@ -201,5 +435,28 @@ fn inline_data<'a>(t: &mut Tokenizer<'a, Inlines>) -> Result<State, AllocError>
             t.consume();
             Ok(State::Next(Name::DataInside))
         }
+    }
+}
+
+/// In data, before white space that is the end of its line.
+fn data_over<'a>(t: &mut Tokenizer<'a, Inlines>) -> Result<State, AllocError>
+    requires { IsCallable text_byte data_over t.old }
+    ensures { IfOk result (DoesAll (step_in text_byte data_over t.old) t.old t.new) }
+{
+    t.exit(event::Name::Data)?;
+    Ok(State::Retry(Name::TextBefore))
+}
+
+/// In white space of data.
+fn white_data<'a>(t: &mut Tokenizer<'a, Inlines>) -> Result<State, AllocError>
+    requires { IsCallable text_byte white_data t.old }
+    ensures { IfOk result (DoesAll (step_in text_byte white_data t.old) t.old t.new) }
+{
+    match t.current() {
+        Some(b' ' | b'\t') => {
+            t.consume();
+            Ok(State::Next(Name::SpaceOrTabAfter))
+        }
+        _ => Ok(State::Retry(Name::DataInside)),
     }
 }

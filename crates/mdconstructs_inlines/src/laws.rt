@@ -1,16 +1,17 @@
 //! Laws about the machine of inline text. Each is a function that does nothing; its contract is the law.
 
-ghost use Rattle.std.specs.Prelude.{◌+◌, ◌*◌};
-ghost use Rattle.markdown_base.specs.declared.state.TheConstants.Name.{TextStart};
+ghost use Rattle.std.specs.Prelude.{[], ◌∷◌, ◌+◌, ◌*◌};
+ghost use Rattle.markdown_base.specs.declared.state.TheConstants.Name.{StringStart, TextStart};
 ghost use Rattle.markdown_tokenizer.specs.Alike.{LooksNoFurther};
 ghost use Rattle.mdconstructs_tables.specs.Refusals.{RulesRefuseNothing};
-ghost use Rattle.mdconstructs_machines.specs.Costs.{StartsAt};
+ghost use Rattle.mdconstructs_machines.specs.Costs.{StartsAmong};
 ghost use Rattle.mdconstructs_inlines.specs.InlineRules.{inlines_rules};
-ghost use Rattle.mdconstructs_inlines.specs.LawStatements.{MakesEmphasis, ReadsChainsAsInlineText, ReadsInlineText, StaysReadyAfterInlineText};
+ghost use Rattle.mdconstructs_inlines.specs.LawStatements.{MakesEmphasis, ReadsChainsAsInlineText, ReadsChainsAsStrings, ReadsInlineText, ReadsStrings, StaysReadyAfterInlineText, StaysReadyAfterStrings};
 
-/// How many calls the machine takes at most, on a text of n virtual bytes: as many as that of texts.
+/// The machine has two starts, one for texts and one for strings. This is how many calls it takes at most from each, on n virtual bytes.
 pub fn cost_at_the_start()
-    ensures { StartsAt inlines_rules TextStart (λ n. 4 * n * n + 9 * n + 2) }
+    ensures text { StartsAmong inlines_rules (TextStart ∷ StringStart ∷ []) TextStart (λ n. 4 * n * n + 20 * n + 9) }
+    ensures string { StartsAmong inlines_rules (TextStart ∷ StringStart ∷ []) StringStart (λ n. 4 * n * n + 9 * n + 2) }
 {}
 
 /// No reading by the machine ends in a message, whatever the text and the state: it makes events of every document.
@@ -38,6 +39,23 @@ pub fn chains_are_read_as_inline_text()
 /// If a list is ready for texts and for another content, it stays ready for that one where its texts were read as inline text.
 pub fn other_chains_stay_ready_after_inline_text()
     ensures { StaysReadyAfterInlineText }
+{}
+
+/// A string is what its definition says: a run from the start of strings returns `string_events` of the document, whether it resolves or
+/// not. The definition has no states.
+pub fn strings_are_read()
+    ensures { ReadsStrings }
+{}
+
+/// If the chains of strings of a list can be read, `subtokenize` with `Inlines` replaces each chunk by its part of the string that the
+/// chain is.
+pub fn chains_are_read_as_strings()
+    ensures { ReadsChainsAsStrings }
+{}
+
+/// If a list is ready for strings and for another content, it stays ready for that one where its strings were read.
+pub fn other_chains_stay_ready_after_strings()
+    ensures { StaysReadyAfterStrings }
 {}
 
 /// The machine looks no further than the byte that waits: of a document its tests take the options alone. So a tokenizer that it drives

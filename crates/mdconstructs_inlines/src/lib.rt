@@ -1,7 +1,8 @@
-//! The machine of inline text: what the machine of texts reads, and emphasis.
+//! The machine of inline text: what the machine of texts reads, and emphasis; and strings.
 #![tactic(auto)]
 
 mod attention;
 pub mod inlines;
 pub mod laws;
 pub mod read;
+mod strings;

@@ -1,42 +1,48 @@
 -- The table of inline text passes the tests, with the numbers of its states; and its resolver makes emphasis. So the machine is lawful.
-use Rattle.std.proofs.Common.{◌≡◌, [], inl, inr, Option, Some, refl, sym, subst}
-use Rattle.markdown_base.specs.declared.state.TheConstants.Name.{TextStart}
+use Rattle.std.proofs.Common.{◌≡◌, [], ◌∷◌, inl, inr, Option, None, Some, true, refl, sym, subst}
+use Rattle.std.proofs.lemmas.List.Elements.{All-from_recursion}
+use Rattle.markdown_base.specs.declared.state.Name.{Name}
+use Rattle.markdown_base.specs.declared.state.State.TheVariants.{Next, Retry}
+use Rattle.markdown_base.specs.declared.state.TheConstants.Name.{SpaceOrTabEolAtEol, StringBefore, StringStart, TextStart}
 use Rattle.markdown_base.specs.Events.{IsBalanced}
 use Rattle.markdown_tokenizer.specs.Lawful.{IsLawful}
 use Rattle.markdown_tokenizer.specs.Plain.{HaveNoLinks}
 use Rattle.markdown_tokenizer.specs.Text.{Given}
 use Rattle.mdconstructs_tables.specs.Late.{IsLate}
-use Rattle.mdconstructs_tables.specs.Numbers.{priced_tests}
+use Rattle.mdconstructs_tables.specs.Numbers.{by_left, priced_tests}
 use Rattle.mdconstructs_tables.specs.Plans.{KeepsKnown, AllKeepKnown}
+use Rattle.mdconstructs_tables.specs.Rows.{Cost, row, state, write}
 use Rattle.mdconstructs_tables.specs.Unlinked.{RegisterNothing}
 use Rattle.mdconstructs_tables.proofs.Numbers.Enough.{numbered-late}
 use Rattle.mdconstructs_tables.proofs.Tables.Lawful.{planned-lawful}
 use Rattle.mdconstructs_attention.proofs.RunEdits.{emphasis-can-be-made}
 use Rattle.mdconstructs_text.specs.TextBytes.{TextByte, line_feed, backtick, letter, digit, mark, is_backtick_class}
-use Rattle.mdconstructs_text.specs.TextTable.{begins_construct, follows_construct}
+use Rattle.mdconstructs_text.specs.TextCosts.{text_cost}
 use Rattle.mdconstructs_inlines.specs.RunRows.{run_states}
 use Rattle.mdconstructs_inlines.specs.InlineRules.{emphasis_edits, EndsEmphasised, inline_plan, inlines_rules}
-use Rattle.mdconstructs_inlines.specs.InlineTable.{inline_start, inline_prices, later_states, inlines}
-use Rattle.mdconstructs_inlines.specs.Registered.{EditsCanBeMade, link_makers}
+use Rattle.mdconstructs_inlines.specs.InlineTable.{begins_inline, follows_inline, inline_prices, inline_starts, later_states, inlines}
+use Rattle.mdconstructs_inlines.specs.Registered.{EditsCanBeMade, is_first, link_makers}
+use Rattle.mdconstructs_inlines.specs.StringTable.{later_string_states, registers}
 use Rattle.mdconstructs_inlines.specs.Laws.Registered.{states-keep, registered-kept, registered-resolved}
 
-tested : (previous current : Option TextByte) → priced_tests inlines is_backtick_class inline_prices begins_construct follows_construct previous current ≡ ([], [], [])
+tested : (previous current : Option TextByte) → priced_tests inlines is_backtick_class inline_prices begins_inline follows_inline previous current ≡ ([], [], [])
 tested previous (Some line_feed) = refl
 tested previous _ = refl
 
 -- The table fits, and ends its choices late
-pub inlines-late : IsLate inlines begins_construct follows_construct
+pub inlines-late : IsLate inlines begins_inline follows_inline
 inlines-late =
-    numbered-late inlines is_backtick_class inline_prices begins_construct follows_construct (record {
-      priced = (refl, (refl, (refl, (refl, (refl, (refl, (refl, (refl, (refl, (refl, (refl, (refl, (refl, (refl, (refl, (refl, (refl, (refl, (refl, (refl, (refl, tt)))))))))))))))))))));
+    numbered-late inlines is_backtick_class inline_prices begins_inline follows_inline (record {
+      priced = (refl, (refl, (refl, (refl, (refl, (refl, (refl, (refl, (refl, (refl, (refl, (refl, (refl, (refl, (refl, (refl, (refl, (refl, (refl, (refl, (refl, (refl, (refl, (refl, (refl, (refl, (refl, (refl, (refl, (refl, (refl, (refl, (refl, (refl, (refl, (refl, (refl, (refl, (refl, (refl, (refl, (refl, (refl, (refl, (refl, (refl, (refl, (refl, (refl, (refl, (refl, (refl, (refl, (refl, (refl, (refl, (refl, (refl, (refl, (refl, (refl, (refl, (refl, (refl, (refl, (refl, (refl, (refl, (refl, (refl, (refl, (refl, (refl, tt)))))))))))))))))))))))))))))))))))))))))))))))))))))))))))))))))))))))));
       falls = refl;
       tested = tested;
     })
 
 -- ---- what is known
 
-keeps-start : KeepsKnown inline_plan inline_start
-keeps-start g text k choices b w is before here h = record {
+-- a state that registers the resolver and goes on
+starts-keep : (start next : Name) (cost : Cost) → KeepsKnown inline_plan (state start (λ b w. row (write registers ∷ []) (Retry next)) [] cost)
+starts-keep start next cost g text k choices b w is before here h = record {
   unlinked = h.known.unlinked;
   unedited = h.known.unedited;
   registered = inl (elim h.known.registered [
@@ -45,23 +51,32 @@ keeps-start g text k choices b w is before here h = record {
   ]);
 }
 
--- no state but the first gives an event a link; what they write are sizes, which registers nothing
+-- no other state gives an event a link; what they write registers nothing
 linkless-early : (b w : Option TextByte) → (link_makers (run_states {R = Unit} {D = Unit}) b w ≡ []) × RegisterNothing (run_states {R = Unit} {D = Unit}) b w
 linkless-early b (Some line_feed) = (refl, tt)
 linkless-early b _ = (refl, tt)
 
+linkless-strings : (b w : Option TextByte) → (link_makers later_string_states b w ≡ []) × RegisterNothing later_string_states b w
+linkless-strings b (Some line_feed) = (refl, tt)
+linkless-strings b _ = (refl, tt)
+
 linkless : (b w : Option TextByte) → (link_makers later_states b w ≡ []) × RegisterNothing later_states b w
-linkless b (Some backtick) = (refl, ((λ s k. (refl, refl)), ((λ s k. (refl, refl)), ((λ s k. (refl, refl)), ((λ s k. (refl, refl)), tt)))))
-linkless b (Some letter) = (refl, ((λ s k. (refl, refl)), ((λ s k. (refl, refl)), ((λ s k. (refl, refl)), tt))))
-linkless b (Some digit) = (refl, ((λ s k. (refl, refl)), ((λ s k. (refl, refl)), tt)))
-linkless b (Some mark) = (refl, ((λ s k. (refl, refl)), ((λ s k. (refl, refl)), tt)))
-linkless b _ = (refl, ((λ s k. (refl, refl)), tt))
+linkless b None = (refl, ((λ s k. (refl, refl)), ((λ s k. (refl, refl)), ((λ s k. (refl, refl)), tt))))
+linkless b (Some line_feed) = (refl, ((λ s k. (refl, refl)), ((λ s k. (refl, refl)), ((λ s k. (refl, refl)), ((λ s k. (refl, refl)), ((λ s k. (refl, refl)), ((λ s k. (refl, refl)), ((λ s k. (refl, refl)), ((λ s k. (refl, refl)), ((λ s k. (refl, refl)), ((λ s k. (refl, refl)), ((λ s k. (refl, refl)), ((λ s k. (refl, refl)), ((λ s k. (refl, refl)), ((λ s k. (refl, refl)), ((λ s k. (refl, refl)), ((λ s k. (refl, refl)), ((λ s k. (refl, refl)), ((λ s k. (refl, refl)), ((λ s k. (refl, refl)), ((λ s k. (refl, refl)), ((λ s k. (refl, refl)), ((λ s k. (refl, refl)), ((λ s k. (refl, refl)), ((λ s k. (refl, refl)), ((λ s k. (refl, refl)), ((λ s k. (refl, refl)), tt)))))))))))))))))))))))))))
+linkless b (Some backtick) = (refl, ((λ s k. (refl, refl)), ((λ s k. (refl, refl)), ((λ s k. (refl, refl)), ((λ s k. (refl, refl)), ((λ s k. (refl, refl)), ((λ s k. (refl, refl)), ((λ s k. (refl, refl)), ((λ s k. (refl, refl)), ((λ s k. (refl, refl)), ((λ s k. (refl, refl)), ((λ s k. (refl, refl)), ((λ s k. (refl, refl)), ((λ s k. (refl, refl)), ((λ s k. (refl, refl)), ((λ s k. (refl, refl)), ((λ s k. (refl, refl)), ((λ s k. (refl, refl)), ((λ s k. (refl, refl)), ((λ s k. (refl, refl)), ((λ s k. (refl, refl)), ((λ s k. (refl, refl)), ((λ s k. (refl, refl)), ((λ s k. (refl, refl)), ((λ s k. (refl, refl)), ((λ s k. (refl, refl)), ((λ s k. (refl, refl)), ((λ s k. (refl, refl)), ((λ s k. (refl, refl)), tt)))))))))))))))))))))))))))))
+linkless b (Some letter) = (refl, ((λ s k. (refl, refl)), ((λ s k. (refl, refl)), ((λ s k. (refl, refl)), ((λ s k. (refl, refl)), ((λ s k. (refl, refl)), ((λ s k. (refl, refl)), ((λ s k. (refl, refl)), ((λ s k. (refl, refl)), ((λ s k. (refl, refl)), ((λ s k. (refl, refl)), ((λ s k. (refl, refl)), ((λ s k. (refl, refl)), ((λ s k. (refl, refl)), ((λ s k. (refl, refl)), ((λ s k. (refl, refl)), ((λ s k. (refl, refl)), ((λ s k. (refl, refl)), ((λ s k. (refl, refl)), ((λ s k. (refl, refl)), ((λ s k. (refl, refl)), ((λ s k. (refl, refl)), ((λ s k. (refl, refl)), ((λ s k. (refl, refl)), ((λ s k. (refl, refl)), ((λ s k. (refl, refl)), ((λ s k. (refl, refl)), ((λ s k. (refl, refl)), tt))))))))))))))))))))))))))))
+linkless b (Some digit) = (refl, ((λ s k. (refl, refl)), ((λ s k. (refl, refl)), ((λ s k. (refl, refl)), ((λ s k. (refl, refl)), ((λ s k. (refl, refl)), ((λ s k. (refl, refl)), ((λ s k. (refl, refl)), ((λ s k. (refl, refl)), ((λ s k. (refl, refl)), ((λ s k. (refl, refl)), ((λ s k. (refl, refl)), ((λ s k. (refl, refl)), ((λ s k. (refl, refl)), ((λ s k. (refl, refl)), ((λ s k. (refl, refl)), ((λ s k. (refl, refl)), ((λ s k. (refl, refl)), ((λ s k. (refl, refl)), ((λ s k. (refl, refl)), ((λ s k. (refl, refl)), ((λ s k. (refl, refl)), ((λ s k. (refl, refl)), ((λ s k. (refl, refl)), ((λ s k. (refl, refl)), ((λ s k. (refl, refl)), ((λ s k. (refl, refl)), tt)))))))))))))))))))))))))))
+linkless b (Some mark) = (refl, ((λ s k. (refl, refl)), ((λ s k. (refl, refl)), ((λ s k. (refl, refl)), ((λ s k. (refl, refl)), ((λ s k. (refl, refl)), ((λ s k. (refl, refl)), ((λ s k. (refl, refl)), ((λ s k. (refl, refl)), ((λ s k. (refl, refl)), ((λ s k. (refl, refl)), ((λ s k. (refl, refl)), ((λ s k. (refl, refl)), ((λ s k. (refl, refl)), ((λ s k. (refl, refl)), ((λ s k. (refl, refl)), ((λ s k. (refl, refl)), ((λ s k. (refl, refl)), ((λ s k. (refl, refl)), ((λ s k. (refl, refl)), ((λ s k. (refl, refl)), ((λ s k. (refl, refl)), ((λ s k. (refl, refl)), ((λ s k. (refl, refl)), ((λ s k. (refl, refl)), ((λ s k. (refl, refl)), ((λ s k. (refl, refl)), tt)))))))))))))))))))))))))))
+linkless b (Some _) = (refl, ((λ s k. (refl, refl)), ((λ s k. (refl, refl)), ((λ s k. (refl, refl)), ((λ s k. (refl, refl)), ((λ s k. (refl, refl)), ((λ s k. (refl, refl)), ((λ s k. (refl, refl)), ((λ s k. (refl, refl)), ((λ s k. (refl, refl)), ((λ s k. (refl, refl)), ((λ s k. (refl, refl)), ((λ s k. (refl, refl)), ((λ s k. (refl, refl)), ((λ s k. (refl, refl)), ((λ s k. (refl, refl)), ((λ s k. (refl, refl)), ((λ s k. (refl, refl)), ((λ s k. (refl, refl)), ((λ s k. (refl, refl)), ((λ s k. (refl, refl)), ((λ s k. (refl, refl)), ((λ s k. (refl, refl)), ((λ s k. (refl, refl)), ((λ s k. (refl, refl)), ((λ s k. (refl, refl)), tt))))))))))))))))))))))))))
 
 rows-keep : AllKeepKnown inline_plan inlines.states
 rows-keep =
-    let early = states-keep inlines begins_construct follows_construct TextStart tt emphasis_edits EndsEmphasised (λ s k. (refl, refl)) run_states refl linkless-early in
-    let later = states-keep inlines begins_construct follows_construct TextStart tt emphasis_edits EndsEmphasised (λ s k. (refl, refl)) later_states refl linkless in
-    (early.0, (early.1.0, (keeps-start, later)))
+    let strings = states-keep inlines begins_inline follows_inline inline_starts tt emphasis_edits EndsEmphasised (λ s k. (refl, refl)) later_string_states refl linkless-strings in
+    let early = states-keep inlines begins_inline follows_inline inline_starts tt emphasis_edits EndsEmphasised (λ s k. (refl, refl)) run_states refl linkless-early in
+    let later = states-keep inlines begins_inline follows_inline inline_starts tt emphasis_edits EndsEmphasised (λ s k. (refl, refl)) later_states refl linkless in (
+      starts-keep StringStart StringBefore (text_cost (by_left 4 9 2)),
+      (strings.0, (strings.1.0, (strings.1.1.0, (early.0, (early.1.0, (starts-keep TextStart SpaceOrTabEolAtEol (text_cost (by_left 4 20 9)), later)))))),
+    )
 
 -- ---- the resolver
 
@@ -73,6 +88,6 @@ made g text events formed unlinked =
 pub inlines-lawful : (g : Given) → IsLawful g (inlines_rules g)
 inlines-lawful g = planned-lawful inline_plan g (record {
   late = inlines-late;
-  kept = registered-kept inlines begins_construct follows_construct TextStart tt emphasis_edits EndsEmphasised refl rows-keep refl;
-  resolved = registered-resolved inlines begins_construct follows_construct TextStart tt emphasis_edits EndsEmphasised made;
+  kept = registered-kept inlines begins_inline follows_inline inline_starts tt emphasis_edits EndsEmphasised refl rows-keep (All-from_recursion (λ name. is_first inline_starts (Next name) ≡ true) inline_starts (refl, (refl, tt)));
+  resolved = registered-resolved inlines begins_inline follows_inline inline_starts tt emphasis_edits EndsEmphasised made;
 })

@@ -2,7 +2,7 @@
 use Rattle.std.proofs.Common.{◌≡◌, inl, inr, List, [], ◌∷◌, Bool, true, false, cond, not, Option, Some, None, refl, sym, ◌∙◌, subst}
 use Rattle.std.specs.Prelude.{All, filter, map}
 use Rattle.std.proofs.lemmas.Bool.{and_parts}
-use Rattle.std.proofs.lemmas.List.Elements.{All-nil, All-cons}
+use Rattle.std.proofs.lemmas.List.Elements.{All-weaker}
 use Rattle.markdown_base.specs.declared.event.Event.{Event}
 use Rattle.markdown_base.specs.declared.state.Name.{Name}
 use Rattle.markdown_base.specs.declared.state.State.{State}
@@ -68,20 +68,20 @@ is-false : (b : Bool) → not b ≡ true → b ≡ false
 is-false true h = absurd (cc)
 is-false false h = refl
 
-module _ {W R D : Type 0} (table : Table W R D) (early : Name → Option W → Bool) (falling : Name → Bool) (start : Name) (r : R) (edits : Given → List Event → List Edit)
+module _ {W R D : Type 0} (table : Table W R D) (early : Name → Option W → Bool) (falling : Name → Bool) (starts : List Name) (r : R) (edits : Given → List Event → List Edit)
     (ends : Given → Text → List Event → Type 0) where
   abbrev plan : Plan W R D
-  plan = registered_plan table early falling start r edits ends
+  plan = registered_plan table early falling starts r edits ends
 
-  knows-so : (k : Configuration R D) (choices : List Choice) (state : State) → GoesOn r k → KnowsRegistered start r k choices state
+  knows-so : (k : Configuration R D) (choices : List Choice) (state : State) → GoesOn r k → KnowsRegistered starts r k choices state
   knows-so k choices state h = record { unlinked = h.0; unedited = h.1; registered = inl h.2 }
 
   -- where it is not the first call, the resolver is registered
-  pub goes-on : (k : Configuration R D) (choices : List Choice) (state : State) → is_first start state ≡ false → KnowsRegistered start r k choices state → GoesOn r k
+  pub goes-on : (k : Configuration R D) (choices : List Choice) (state : State) → is_first starts state ≡ false → KnowsRegistered starts r k choices state → GoesOn r k
   goes-on k choices state later h = (h.unlinked, h.unedited, elim h.registered [ inl e ↦ e | inr (none, alone, first) ↦ absurd (let c : false ≡ true = sym later ∙ first in cc) ])
 
   -- nor where a choice waits
-  goes-on-behind : (k : Configuration R D) (choice : Choice) (choices : List Choice) (state : State) → KnowsRegistered start r k (choice ∷ choices) state → GoesOn r k
+  goes-on-behind : (k : Configuration R D) (choice : Choice) (choices : List Choice) (state : State) → KnowsRegistered starts r k (choice ∷ choices) state → GoesOn r k
   goes-on-behind k choice choices state h = (h.unlinked, h.unedited, elim h.registered [ inl e ↦ e | inr (none, alone, first) ↦ absurd (let c : choice ∷ choices ≡ [] = alone in cc) ])
 
   each-keeps : (g : Given) (text : Text) (s : Sight) (k : Configuration R D) (choices : List Choice) → GoesOn r k → (rows : Rows R D) (P : Type 0) → all_rows is_linkless rows ≡ true → RowsHarmless RegistersNothing rows P
@@ -96,29 +96,29 @@ module _ {W R D : Type 0} (table : Table W R D) (early : Name → Option W → B
     called-keeps s k h = let (resolvers, edits) = first s k in (h.0, edits ∙ h.1, resolvers ∙ h.2)
 
     -- states but the first keep what is known
-    pub states-keep : (states : List (StateRows W R D)) → are_later start states ≡ true → ((b w : Option W) → (link_makers states b w ≡ []) × RegisterNothing states b w) → AllKeepKnown plan states
+    pub states-keep : (states : List (StateRows W R D)) → are_later starts states ≡ true → ((b w : Option W) → (link_makers states b w ≡ []) × RegisterNothing states b w) → AllKeepKnown plan states
     states-keep [] later h = tt
     states-keep (state ∷ states) later h =
-        let (one, more) = and_parts (not (is_first start (Retry state.name))) (are_later start states) later in
+        let (one, more) = and_parts (not (is_first starts (Retry state.name))) (are_later starts states) later in
         let is : (b w : Option W) → all_rows is_linkless (state.rows b w) ≡ true = λ b w. (none-left (λ (y : StateRows W R D). all_rows is_linkless (y.rows b w)) (λ (y : StateRows W R D). y.name) state states (h b w).0).0 in
         let others : (b w : Option W) → (link_makers states b w ≡ []) × RegisterNothing states b w =
         λ b w. ((none-left (λ (y : StateRows W R D). all_rows is_linkless (y.rows b w)) (λ (y : StateRows W R D). y.name) state states (h b w).0).1, behind-rows RegistersNothing (state.rows b w) (RegisterNothing states b w) (h b w).1) in (
           (λ g text k choices b w well before here known.
               each-keeps g text (sight g text k) (with_local k (table.first k.local)) choices
-              (called-keeps (sight g text k) k (goes-on k choices (Retry state.name) (is-false (is_first start (Retry state.name)) one) known.known)) (state.rows b w) (RegisterNothing states b w) (is b w) (h b w).1),
+              (called-keeps (sight g text k) k (goes-on k choices (Retry state.name) (is-false (is_first starts (Retry state.name)) one) known.known)) (state.rows b w) (RegisterNothing states b w) (is b w) (h b w).1),
           states-keep states more others,
         )
 
   -- ---- what is known, throughout
 
-  fed-knows : (k k' : Configuration R D) (choices : List Choice) (name : Name) → k'.events ≡ k.events → k'.local ≡ k.local → KnowsRegistered start r k choices (Next name) → KnowsRegistered start r k' choices (Retry name)
+  fed-knows : (k k' : Configuration R D) (choices : List Choice) (name : Name) → k'.events ≡ k.events → k'.local ≡ k.local → KnowsRegistered starts r k choices (Next name) → KnowsRegistered starts r k' choices (Retry name)
   fed-knows k k' choices name events local h = record { unlinked = subst HaveNoLinks (sym events) h.unlinked; unedited = rw local h.unedited; registered = rw local h.registered }
 
-  pub registered-kept : table.starts ≡ start ∷ [] → AllKeepKnown plan table.states → (start_is : is_first start (Next start) ≡ true) → KeepsKnowledge plan
-  registered-kept starts rows start_is = record {
+  pub registered-kept : table.starts ≡ starts → AllKeepKnown plan table.states → All (λ name. is_first starts (Next name) ≡ true) starts → KeepsKnowledge plan
+  registered-kept are rows first_is = record {
     at_starts = λ g p flag is.
-        let Known = λ (name : Name). KnowsRegistered {R = R} {D = D} start r (start_configuration flag) [] (Next name) in
-        subst (All Known) (sym starts) (All-cons Known start [] (record { unlinked = tt; unedited = refl; registered = inr (refl, refl, start_is) }) (All-nil Known));
+        let Known = λ (name : Name). KnowsRegistered {R = R} {D = D} starts r (start_configuration flag) [] (Next name) in
+        subst (All Known) (sym are) (All-weaker (λ name. is_first starts (Next name) ≡ true) Known (λ name first. record { unlinked = tt; unedited = refl; registered = inr (refl, refl, first) }) starts first_is);
     by_byte = λ g text k choices name is within h. fed-knows k _ choices name refl refl h.known;
     by_end = λ g text k choices name is behind h. fed-knows k _ choices name refl refl h.known;
     by_rows = rows;

@@ -4,9 +4,21 @@ use Rattle.mdconstructs_tables.proofs.Rows.Calls.{callable, never-called}
 use Rattle.mdconstructs_text.specs.Autolink.{autolink_start, autolink_open, autolink_scheme, autolink_url}
 use Rattle.mdconstructs_text.specs.CodeSpan.{raw_text_start, raw_text_sequence_open, raw_text_between, raw_text_data, raw_text_sequence_close, raw_flow_after, raw_flow_before_content_chunk, raw_flow_content_chunk}
 use Rattle.mdconstructs_text.specs.Escape.{escape_start, escape_inside}
+use Rattle.mdconstructs_tables.specs.Numbers.{by_left}
+use Rattle.mdconstructs_text.specs.TextBytes.{text_byte}
+use Rattle.mdconstructs_text.specs.TextCosts.{text_cost}
 use Rattle.mdconstructs_text.specs.TextTable.{text_before_data, data_at_break}
+use Rattle.mdconstructs_phrasing.specs.Email.{email_start, email_atext, email_label, email_value}
+use Rattle.mdconstructs_phrasing.specs.HtmlMarked.{cdata_open, comment_open, declaration_open, mark_inside, mark_line, mark_open, mark_start, mark_white}
+use Rattle.mdconstructs_phrasing.specs.HtmlTag.{html_text_start, html_text_open, html_text_tag_close_start, html_text_tag_close, html_text_tag_close_between, html_text_tag_open, html_text_tag_open_between, html_text_attribute_name, html_text_attribute_name_after, html_text_value_before, html_text_value_quoted, html_text_value_quoted_after, html_text_value_unquoted, html_text_end}
+use Rattle.mdconstructs_phrasing.specs.HtmlText.{html_line_ending_after, html_line_ending_after_prefix}
+use Rattle.mdconstructs_phrasing.specs.HardBreak.{break_escape_start, break_escape_after, trailing_start, trailing_after_first, trailing_after_more}
+use Rattle.mdconstructs_phrasing.specs.WhiteSpace.{white_start, white_inside}
+use Rattle.mdconstructs_inlines.proofs.Priced.{at-any-cost}
+use Rattle.mdconstructs_phrasing.specs.Reference.{reference_start, reference_open, reference_numeric, reference_value}
+use Rattle.mdconstructs_inlines.specs.StringTable.{string_start, string_before, string_before_data, string_data}
 use Rattle.mdconstructs_inlines.specs.RunRows.{attention_start, attention_inside}
-use Rattle.mdconstructs_inlines.specs.InlineTable.{inline_start, inline_before, inline_data, inlines}
+use Rattle.mdconstructs_inlines.specs.InlineTable.{inline_start, line_start, line_white, inline_before, before_hard_break_escape, before_white_space, before_email, before_html, before_tag, inline_data, data_over, white_data, at_data_break, inlines}
 use Rattle.mdconstructs_inlines.proofs.inlines.InlinesMachine.call.Goals as goal
 
 pub inline_start-requires : goal.inline_start-requires
@@ -16,10 +28,10 @@ pub inline_before-requires : goal.inline_before-requires
 inline_before-requires c = callable inlines counts c.args.name inline_before _ _ (search rules) refl c.requires.invariant.holds c.begin.ensures
 
 pub text_before_data-requires : goal.text_before_data-requires
-text_before_data-requires c = callable inlines counts c.args.name text_before_data _ _ (search rules) refl c.requires.invariant.holds c.begin.ensures
+text_before_data-requires c = at-any-cost text_byte text_before_data (text_cost (by_left 4 13 0)) _ (callable inlines counts c.args.name (record text_before_data { cost = text_cost (by_left 4 13 0) }) _ _ (search rules) refl c.requires.invariant.holds c.begin.ensures)
 
 pub data_at_break-requires : goal.data_at_break-requires
-data_at_break-requires c = callable inlines counts c.args.name data_at_break _ _ (search rules) refl c.requires.invariant.holds c.begin.ensures
+data_at_break-requires c = at-any-cost text_byte data_at_break (text_cost at_data_break) _ (callable inlines counts c.args.name (record data_at_break { cost = text_cost at_data_break }) _ _ (search rules) refl c.requires.invariant.holds c.begin.ensures)
 
 pub inline_data-requires : goal.inline_data-requires
 inline_data-requires c = callable inlines counts c.args.name inline_data _ _ (search rules) refl c.requires.invariant.holds c.begin.ensures
@@ -71,6 +83,162 @@ escape_start-requires c = callable inlines counts c.args.name escape_start _ _ (
 
 pub escape_inside-requires : goal.escape_inside-requires
 escape_inside-requires c = callable inlines counts c.args.name escape_inside _ _ (search rules) refl c.requires.invariant.holds c.begin.ensures
+
+pub line_start-requires : goal.line_start-requires
+line_start-requires c = callable inlines counts c.args.name line_start _ _ (search rules) refl c.requires.invariant.holds c.begin.ensures
+
+pub line_white-requires : goal.line_white-requires
+line_white-requires c = callable inlines counts c.args.name line_white _ _ (search rules) refl c.requires.invariant.holds c.begin.ensures
+
+pub before_hard_break_escape-requires : goal.before_hard_break_escape-requires
+before_hard_break_escape-requires c = callable inlines counts c.args.name before_hard_break_escape _ _ (search rules) refl c.requires.invariant.holds c.begin.ensures
+
+pub before_white_space-requires : goal.before_white_space-requires
+before_white_space-requires c = callable inlines counts c.args.name before_white_space _ _ (search rules) refl c.requires.invariant.holds c.begin.ensures
+
+pub data_over-requires : goal.data_over-requires
+data_over-requires c = callable inlines counts c.args.name data_over _ _ (search rules) refl c.requires.invariant.holds c.begin.ensures
+
+pub white_data-requires : goal.white_data-requires
+white_data-requires c = callable inlines counts c.args.name white_data _ _ (search rules) refl c.requires.invariant.holds c.begin.ensures
+
+pub break_escape_start-requires : goal.break_escape_start-requires
+break_escape_start-requires c = callable inlines counts c.args.name break_escape_start _ _ (search rules) refl c.requires.invariant.holds c.begin.ensures
+
+pub break_escape_after-requires : goal.break_escape_after-requires
+break_escape_after-requires c = callable inlines counts c.args.name break_escape_after _ _ (search rules) refl c.requires.invariant.holds c.begin.ensures
+
+pub trailing_start-requires : goal.trailing_start-requires
+trailing_start-requires c = callable inlines counts c.args.name trailing_start _ _ (search rules) refl c.requires.invariant.holds c.begin.ensures
+
+pub trailing_after_first-requires : goal.trailing_after_first-requires
+trailing_after_first-requires c = callable inlines counts c.args.name trailing_after_first _ _ (search rules) refl c.requires.invariant.holds c.begin.ensures
+
+pub trailing_after_more-requires : goal.trailing_after_more-requires
+trailing_after_more-requires c = callable inlines counts c.args.name trailing_after_more _ _ (search rules) refl c.requires.invariant.holds c.begin.ensures
+
+pub white_start-requires : goal.white_start-requires
+white_start-requires c = callable inlines counts c.args.name white_start _ _ (search rules) refl c.requires.invariant.holds c.begin.ensures
+
+pub white_inside-requires : goal.white_inside-requires
+white_inside-requires c = callable inlines counts c.args.name white_inside _ _ (search rules) refl c.requires.invariant.holds c.begin.ensures
+
+pub string_start-requires : goal.string_start-requires
+string_start-requires c = callable inlines counts c.args.name string_start _ _ (search rules) refl c.requires.invariant.holds c.begin.ensures
+
+pub string_before-requires : goal.string_before-requires
+string_before-requires c = callable inlines counts c.args.name string_before _ _ (search rules) refl c.requires.invariant.holds c.begin.ensures
+
+pub string_before_data-requires : goal.string_before_data-requires
+string_before_data-requires c = callable inlines counts c.args.name string_before_data _ _ (search rules) refl c.requires.invariant.holds c.begin.ensures
+
+pub string_data-requires : goal.string_data-requires
+string_data-requires c = callable inlines counts c.args.name string_data _ _ (search rules) refl c.requires.invariant.holds c.begin.ensures
+
+pub reference_start-requires : goal.reference_start-requires
+reference_start-requires c = callable inlines counts c.args.name reference_start _ _ (search rules) refl c.requires.invariant.holds c.begin.ensures
+
+pub reference_open-requires : goal.reference_open-requires
+reference_open-requires c = callable inlines counts c.args.name reference_open _ _ (search rules) refl c.requires.invariant.holds c.begin.ensures
+
+pub reference_numeric-requires : goal.reference_numeric-requires
+reference_numeric-requires c = callable inlines counts c.args.name reference_numeric _ _ (search rules) refl c.requires.invariant.holds c.begin.ensures
+
+pub reference_value-requires : goal.reference_value-requires
+reference_value-requires c = callable inlines counts c.args.name reference_value _ _ (search rules) refl c.requires.invariant.holds c.begin.ensures
+
+pub before_email-requires : goal.before_email-requires
+before_email-requires c = callable inlines counts c.args.name before_email _ _ (search rules) refl c.requires.invariant.holds c.begin.ensures
+
+pub before_html-requires : goal.before_html-requires
+before_html-requires c = callable inlines counts c.args.name before_html _ _ (search rules) refl c.requires.invariant.holds c.begin.ensures
+
+pub email_start-requires : goal.email_start-requires
+email_start-requires c = callable inlines counts c.args.name email_start _ _ (search rules) refl c.requires.invariant.holds c.begin.ensures
+
+pub email_atext-requires : goal.email_atext-requires
+email_atext-requires c = callable inlines counts c.args.name email_atext _ _ (search rules) refl c.requires.invariant.holds c.begin.ensures
+
+pub email_label-requires : goal.email_label-requires
+email_label-requires c = callable inlines counts c.args.name email_label _ _ (search rules) refl c.requires.invariant.holds c.begin.ensures
+
+pub email_value-requires : goal.email_value-requires
+email_value-requires c = callable inlines counts c.args.name email_value _ _ (search rules) refl c.requires.invariant.holds c.begin.ensures
+
+pub html_text_start-requires : goal.html_text_start-requires
+html_text_start-requires c = callable inlines counts c.args.name html_text_start _ _ (search rules) refl c.requires.invariant.holds c.begin.ensures
+
+pub html_text_open-requires : goal.html_text_open-requires
+html_text_open-requires c = callable inlines counts c.args.name html_text_open _ _ (search rules) refl c.requires.invariant.holds c.begin.ensures
+
+pub html_text_tag_close_start-requires : goal.html_text_tag_close_start-requires
+html_text_tag_close_start-requires c = callable inlines counts c.args.name html_text_tag_close_start _ _ (search rules) refl c.requires.invariant.holds c.begin.ensures
+
+pub html_text_tag_close-requires : goal.html_text_tag_close-requires
+html_text_tag_close-requires c = callable inlines counts c.args.name html_text_tag_close _ _ (search rules) refl c.requires.invariant.holds c.begin.ensures
+
+pub html_text_tag_close_between-requires : goal.html_text_tag_close_between-requires
+html_text_tag_close_between-requires c = callable inlines counts c.args.name html_text_tag_close_between _ _ (search rules) refl c.requires.invariant.holds c.begin.ensures
+
+pub html_text_tag_open-requires : goal.html_text_tag_open-requires
+html_text_tag_open-requires c = callable inlines counts c.args.name html_text_tag_open _ _ (search rules) refl c.requires.invariant.holds c.begin.ensures
+
+pub html_text_tag_open_between-requires : goal.html_text_tag_open_between-requires
+html_text_tag_open_between-requires c = callable inlines counts c.args.name html_text_tag_open_between _ _ (search rules) refl c.requires.invariant.holds c.begin.ensures
+
+pub html_text_attribute_name-requires : goal.html_text_attribute_name-requires
+html_text_attribute_name-requires c = callable inlines counts c.args.name html_text_attribute_name _ _ (search rules) refl c.requires.invariant.holds c.begin.ensures
+
+pub html_text_attribute_name_after-requires : goal.html_text_attribute_name_after-requires
+html_text_attribute_name_after-requires c = callable inlines counts c.args.name html_text_attribute_name_after _ _ (search rules) refl c.requires.invariant.holds c.begin.ensures
+
+pub html_text_value_before-requires : goal.html_text_value_before-requires
+html_text_value_before-requires c = callable inlines counts c.args.name html_text_value_before _ _ (search rules) refl c.requires.invariant.holds c.begin.ensures
+
+pub html_text_value_quoted-requires : goal.html_text_value_quoted-requires
+html_text_value_quoted-requires c = callable inlines counts c.args.name html_text_value_quoted _ _ (search rules) refl c.requires.invariant.holds c.begin.ensures
+
+pub html_text_value_quoted_after-requires : goal.html_text_value_quoted_after-requires
+html_text_value_quoted_after-requires c = callable inlines counts c.args.name html_text_value_quoted_after _ _ (search rules) refl c.requires.invariant.holds c.begin.ensures
+
+pub html_text_value_unquoted-requires : goal.html_text_value_unquoted-requires
+html_text_value_unquoted-requires c = callable inlines counts c.args.name html_text_value_unquoted _ _ (search rules) refl c.requires.invariant.holds c.begin.ensures
+
+pub html_text_end-requires : goal.html_text_end-requires
+html_text_end-requires c = callable inlines counts c.args.name html_text_end _ _ (search rules) refl c.requires.invariant.holds c.begin.ensures
+
+pub html_line_ending_after-requires : goal.html_line_ending_after-requires
+html_line_ending_after-requires c = callable inlines counts c.args.name html_line_ending_after _ _ (search rules) refl c.requires.invariant.holds c.begin.ensures
+
+pub html_line_ending_after_prefix-requires : goal.html_line_ending_after_prefix-requires
+html_line_ending_after_prefix-requires c = callable inlines counts c.args.name html_line_ending_after_prefix _ _ (search rules) refl c.requires.invariant.holds c.begin.ensures
+
+pub before_tag-requires : goal.before_tag-requires
+before_tag-requires c = callable inlines counts c.args.name before_tag _ _ (search rules) refl c.requires.invariant.holds c.begin.ensures
+
+pub mark_start-requires : goal.mark_start-requires
+mark_start-requires c = callable inlines counts c.args.name mark_start _ _ (search rules) refl c.requires.invariant.holds c.begin.ensures
+
+pub mark_open-requires : goal.mark_open-requires
+mark_open-requires c = callable inlines counts c.args.name mark_open _ _ (search rules) refl c.requires.invariant.holds c.begin.ensures
+
+pub declaration_open-requires : goal.declaration_open-requires
+declaration_open-requires c = callable inlines counts c.args.name declaration_open _ _ (search rules) refl c.requires.invariant.holds c.begin.ensures
+
+pub comment_open-requires : goal.comment_open-requires
+comment_open-requires c = callable inlines counts c.args.name comment_open _ _ (search rules) refl c.requires.invariant.holds c.begin.ensures
+
+pub cdata_open-requires : goal.cdata_open-requires
+cdata_open-requires c = callable inlines counts c.args.name cdata_open _ _ (search rules) refl c.requires.invariant.holds c.begin.ensures
+
+pub mark_inside-requires : goal.mark_inside-requires
+mark_inside-requires c = callable inlines counts c.args.name mark_inside _ _ (search rules) refl c.requires.invariant.holds c.begin.ensures
+
+pub mark_line-requires : goal.mark_line-requires
+mark_line-requires c = callable inlines counts c.args.name mark_line _ _ (search rules) refl c.requires.invariant.holds c.begin.ensures
+
+pub mark_white-requires : goal.mark_white-requires
+mark_white-requires c = callable inlines counts c.args.name mark_white _ _ (search rules) refl c.requires.invariant.holds c.begin.ensures
 
 pub unreachable-requires : goal.unreachable-requires
 unreachable-requires c = never-called inlines c.args.name c.args.t.now (search rules) c.requires.invariant.holds

@@ -1,13 +1,11 @@
 use Rattle.std.proofs.Common.{None, ap, sym, subst, ◌∙◌}
-use Rattle.markdown_base.specs.declared.state.TheConstants.Name.{TextStart}
 use Rattle.markdown_tokenizer.specs.Resolving.{done}
 use Rattle.mdconstructs_attention.specs.Emphasis.{paired}
 use Rattle.mdconstructs_attention.specs.Places.{ArePlacesInside}
 use Rattle.mdconstructs_attention.specs.RunEdits.{edits_of}
 use Rattle.mdconstructs_attention.specs.Runs.{runs_in}
-use Rattle.mdconstructs_text.specs.TextTable.{begins_construct, follows_construct}
 use Rattle.mdconstructs_inlines.specs.InlineRules.{emphasis_edits, EndsEmphasised}
-use Rattle.mdconstructs_inlines.specs.InlineTable.{inlines}
+use Rattle.mdconstructs_inlines.specs.InlineTable.{begins_inline, follows_inline, inline_starts, inlines}
 use Rattle.mdconstructs_inlines.specs.Laws.Registered.{before-resolver}
 use Rattle.mdconstructs_inlines.proofs.Room.{places-inside}
 use Rattle.mdconstructs_inlines.proofs.inlines.InlinesMachine.resolve.Goals as goal
@@ -15,7 +13,7 @@ use Rattle.mdconstructs_inlines.proofs.inlines.InlinesMachine.resolve.Goals as g
 pub emphasis_edits-requires-clause-room : goal.emphasis_edits-requires-clause-room
 emphasis_edits-requires-clause-room c =
     let t = c.args.t.now in
-    let h = before-resolver inlines begins_construct follows_construct TextStart tt emphasis_edits EndsEmphasised t.given t.text c.args.name c.requires.invariant.0 t.configuration c.requires.invariant.1 in
+    let h = before-resolver inlines begins_inline follows_inline inline_starts tt emphasis_edits EndsEmphasised t.given t.text c.args.name c.requires.invariant.0 t.configuration c.requires.invariant.1 in
     let inside = places-inside t.given h.document t.configuration.events h.formed.at_places in
     subst (λ g. ArePlacesInside g.bytes c.events.result.now) (sym c.parse_state.ensures.given) (subst (ArePlacesInside t.given.bytes) (sym c.events.ensures) inside)
 

@@ -1,0 +1,136 @@
+-- How the machine of inline text reads a line ending with the white space behind it, and the white space that a text begins with.
+use Rattle.std.proofs.Common.{◌≡◌, ℕ, suc, ◌+◌, ◌≤◌, List, [], ◌∷◌, ◌++◌, Bool, true, false, cond, Option, Some, None, refl, sym, ap, ◌∙◌, subst, arith, append_assoc, length, take, drop}
+use Rattle.std.proofs.lemmas.List.{append-nil, length-map}
+use Rattle.std.proofs.lemmas.List.Sums.{prefix_len-le-length}
+use Rattle.std.specs.List.{prefix_len}
+use Rattle.std.specs.Prelude.{slice_get}
+use Rattle.markdown_base.proofs.Common.{drop-next}
+use Rattle.markdown_base.specs.declared.event.Event.{Event}
+use Rattle.markdown_base.specs.declared.event.Kind.TheVariants.{Enter, Exit}
+use Rattle.markdown_base.specs.declared.event.Name.TheVariants.{LineEnding, SpaceOrTab}
+use Rattle.markdown_base.specs.declared.state.State.TheVariants.{Next, Retry}
+use Rattle.markdown_base.specs.declared.state.TheConstants.Name.{SpaceOrTabEolAfterEol, SpaceOrTabEolAtEol, TextBefore}
+use Rattle.markdown_base.specs.Virtual.{Seat}
+use Rattle.markdown_tokenizer.specs.declared.waiting.Waits.TheVariants.{Byte, Nothing}
+use Rattle.markdown_tokenizer.specs.Configuration.{Local}
+use Rattle.markdown_tokenizer.specs.Sight.{byte_of, end_place, point_or}
+use Rattle.markdown_tokenizer.specs.Text.{Given, Text}
+use Rattle.mdconstructs_tables.specs.Rows.{class_of, consume, enter, exit, row}
+use Rattle.mdconstructs_machines.proofs.LineReads.Rows.{line-ending-read}
+use Rattle.mdconstructs_machines.proofs.LineReads.Steps.{at-front, held}
+use Rattle.mdconstructs_machines.specs.Breaks.{is_white}
+use Rattle.mdconstructs_machines.specs.Tables.{counts}
+use Rattle.mdconstructs_text.proofs.Plain.Stretches.{first_byte, goes-back, goes-next, leaf-read, loops, past, past-at, past-stops, passed, sees, shows}
+use Rattle.mdconstructs_text.proofs.Texts.Reads.{AddsItem}
+use Rattle.mdconstructs_text.proofs.Texts.Steps.{EndsWith, Leads, Plays, before_class, between_items, leads-row, leads-seen}
+use Rattle.mdconstructs_text.specs.Bytes.{passes}
+use Rattle.mdconstructs_text.specs.Construct.{between_texts}
+use Rattle.mdconstructs_text.specs.Laws.Classes.{by-class}
+use Rattle.mdconstructs_text.specs.Parts.{bytes_of, event, leaf}
+use Rattle.mdconstructs_text.specs.TextBytes.{TextByte, text_byte}
+use Rattle.mdconstructs_phrasing.proofs.WhiteSpaces.Bytes.{run-some}
+use Rattle.mdconstructs_phrasing.proofs.WhiteSpaces.Classes.{white-class}
+use Rattle.mdconstructs_inlines.specs.InlineEvents.{line_break}
+use Rattle.mdconstructs_inlines.specs.InlineTable.{line_start_rows, line_white_rows}
+use Rattle.mdconstructs_inlines.proofs.Playing.{inlines_play, line-row}
+
+-- ---- rows
+module _ (before : Option TextByte) where
+  start-other : (o : Option ℕ) → passes is_white o ≡ false → line_start_rows before (class_of text_byte o) ≡ row [] (Retry TextBefore)
+  start-other None h = refl
+  start-other (Some b) h =
+      by-class (λ w. line_start_rows before (Some w) ≡ row [] (Retry TextBefore)) b
+      (λ e. refl) (λ e. refl) (λ e. refl) (λ e. refl) (λ e. refl) (λ e. refl) (λ e. refl) (λ e f. refl) (λ e. refl) (λ e. refl) (λ e. absurd (cc)) (λ o e. refl) (λ o e. refl) (λ o n e. refl)
+
+  white-ends : (o : Option ℕ) → passes is_white o ≡ false → line_white_rows before (class_of text_byte o) ≡ row (exit SpaceOrTab ∷ []) (Retry TextBefore)
+  white-ends None h = refl
+  white-ends (Some b) h =
+      by-class (λ w. line_white_rows before (Some w) ≡ row (exit SpaceOrTab ∷ []) (Retry TextBefore)) b
+      (λ e. refl) (λ e. refl) (λ e. refl) (λ e. refl) (λ e. refl) (λ e. refl) (λ e. refl) (λ e f. refl) (λ e. refl) (λ e. refl) (λ e. absurd (cc)) (λ o e. refl) (λ o e. refl) (λ o n e. refl)
+
+module _ (g : Given) (text : Text) where
+  abbrev m : Plays g text
+  m = inlines_play g text
+
+  -- From the beginning of a line its white space is read, if there is any
+  abbrev pub StartRead : List Seat → ℕ → List Event → Local Unit Unit → ℕ → Type 0
+  StartRead l q events local n =
+      (after : Local Unit Unit) × Leads g text m (shows l [] q events local) [] (Retry SpaceOrTabEolAtEol) (between_items (q + n) Nothing false (events ++ leaf g.bytes SpaceOrTab (take n l)) after) [] (Next TextBefore)
+
+  -- there is none
+  no-white : (l : List Seat) (q : ℕ) (events : List Event) (local : Local Unit Unit) → drop q text.seats ≡ l → passes is_white (first_byte l) ≡ false → StartRead l q events local 0
+  no-white l q events local at none =
+      let same : q ≡ q + 0 = omega arith in (
+        counts local,
+        λ es h.
+            leads-seen g text m line_start_rows (shows l [] q events local) [] SpaceOrTabEolAtEol es (sees g text m l q at) (start-other (before_class g text q) (first_byte l) none) refl
+            (goes-back g text m l [] q events (counts local) [] TextBefore at es
+            (subst (λ n. EndsWith g text m (between_items n Nothing false events (counts local)) [] (Next TextBefore) es) (sym same)
+            (subst (λ xs. EndsWith g text m (between_items (q + 0) Nothing false xs (counts local)) [] (Next TextBefore) es) (append-nil events) h))),
+      )
+
+  some-white : (s : Seat) (ss : List Seat) (q : ℕ) (events : List Event) (local : Local Unit Unit) → drop q text.seats ≡ s ∷ ss → is_white s.byte ≡ true → StartRead (s ∷ ss) q events local (prefix_len is_white (bytes_of (s ∷ ss)))
+  some-white s ss q events local at is =
+      let l = s ∷ ss in
+      let n = prefix_len is_white (bytes_of l) in
+      let st = SpaceOrTab ∷ [] in
+      let begun = events ++ event g.bytes Enter SpaceOrTab (point_or text.end (slice_get text.seats q)) ∷ [] in
+      let next = drop-next text.seats q s ss at in
+      let length-is : n ≡ 1 + prefix_len is_white (bytes_of ss) = ap (λ t. cond t (1 + prefix_len is_white (bytes_of ss)) 0) is in
+      let place : q + n ≡ q + 1 + prefix_len is_white (bytes_of ss) = omega (arith, length-is) in
+      let rest = past is_white ss in
+      let there : drop (q + n) text.seats ≡ rest = past-at g text m is_white ss (q + 1) (q + n) next place in
+      let read = passed is_white counts ss (counts local) in
+      let inside : n ≤ suc (length ss) = omega (arith, prefix_len-le-length is_white (bytes_of l), length-map l (λ x. x.byte)) in
+      let made : begun ++ event g.bytes Exit SpaceOrTab (end_place text (q + n)) ∷ [] ≡ events ++ leaf g.bytes SpaceOrTab (take n l) =
+      append_assoc events _ _ ∙ ap (λ xs. events ++ xs) (leaf-read text g.bytes SpaceOrTab n q s ss at (run-some s.byte (bytes_of ss) is) inside) in (
+        counts read,
+        λ es h.
+            leads-seen g text m line_start_rows (shows l [] q events local) [] SpaceOrTabEolAtEol es (ap byte_of (at-front text.seats q s ss at))
+            (ap (λ w. line_start_rows (before_class g text q) (Some w)) (white-class s.byte is)) refl
+            (goes-next g text m ss st (q + 1) begun (counts local) [] SpaceOrTabEolAfterEol next es
+            (loops g text m st [] SpaceOrTabEolAfterEol is_white counts
+            (λ q ended events local s at is es.
+            leads-seen g text m line_white_rows (held st q Byte ended events local) [] SpaceOrTabEolAfterEol es (ap byte_of at) (ap (λ w. line_white_rows (before_class g text q) (Some w)) (white-class s.byte is)) refl)
+            ss (q + 1) (q + n) begun (counts local) next place es
+            (leads-seen g text m line_white_rows (shows rest st (q + n) begun read) [] SpaceOrTabEolAfterEol es (sees g text m rest (q + n) there)
+            (white-ends (before_class g text (q + n)) (first_byte rest) (past-stops is_white ss)) refl
+            (goes-back g text m rest [] (q + n) (begun ++ event g.bytes Exit SpaceOrTab (end_place text (q + n)) ∷ []) (counts read) [] TextBefore there es
+            (subst (λ xs. EndsWith g text m (between_items (q + n) Nothing false xs (counts read)) [] (Next TextBefore) es) (sym made) h))))),
+      )
+
+  pub start-read : (l : List Seat) (q : ℕ) (events : List Event) (local : Local Unit Unit) → drop q text.seats ≡ l → StartRead l q events local (prefix_len is_white (bytes_of l))
+  start-read [] q events local at = no-white [] q events local at refl
+  start-read (s ∷ ss) q events local at =
+      elim (is_white s.byte) as (λ t. is_white s.byte ≡ t → StartRead (s ∷ ss) q events local (cond t (1 + prefix_len is_white (bytes_of ss)) 0)) [
+        | true ↦ λ is.
+            let length-is : prefix_len is_white (bytes_of (s ∷ ss)) ≡ 1 + prefix_len is_white (bytes_of ss) = ap (λ t. cond t (1 + prefix_len is_white (bytes_of ss)) 0) is in
+            subst (StartRead (s ∷ ss) q events local) length-is (some-white s ss q events local at is)
+        | false ↦ λ other. no-white (s ∷ ss) q events local at other
+      ] refl
+
+  -- A line ending is read, with the white space behind it
+  pub reads-line-break : (p : ℕ) (ended : Bool) (events : List Event) (local : Local Unit Unit) (s : Seat) (ss : List Seat) → drop p text.seats ≡ s ∷ ss → s.byte ≡ 10
+      → AddsItem g text m between_texts (between_items p Byte ended events local) (Retry TextBefore) p events (s ∷ ss) (line_break (prefix_len is_white (bytes_of ss)))
+  reads-line-break p ended events local s ss here is =
+      let at = at-front text.seats p s ss here in
+      let n = prefix_len is_white (bytes_of ss) in
+      let ending = events ++ leaf g.bytes LineEnding (s ∷ []) in
+      let next = drop-next text.seats p s ss here in
+      let read = start-read ss (p + 1) ending (counts local) next in
+      let place : p + 1 + n ≡ p + (1 + n) = omega arith in
+      let one : 1 + n ≡ suc n = omega arith in
+      let made : ending ++ leaf g.bytes SpaceOrTab (take n ss) ≡ events ++ (leaf g.bytes LineEnding (take 1 (take (1 + n) (s ∷ ss))) ++ leaf g.bytes SpaceOrTab (drop 1 (take (1 + n) (s ∷ ss)))) =
+      append_assoc events (leaf g.bytes LineEnding (s ∷ [])) (leaf g.bytes SpaceOrTab (take n ss))
+      ∙ ap (λ k. events ++ (leaf g.bytes LineEnding (take 1 (take k (s ∷ ss))) ++ leaf g.bytes SpaceOrTab (drop 1 (take k (s ∷ ss))))) (sym one) in (
+        false,
+        read.0,
+        tt,
+        λ es h.
+            leads-row g text m (row (enter LineEnding ∷ consume ∷ exit LineEnding ∷ []) (Next SpaceOrTabEolAtEol)) (between_items p Byte ended events local) [] TextBefore es (line-row g text (between_items p Byte ended events local) (ap byte_of at ∙ ap Some is))
+            (subst (λ l. EndsWith g text m (held [] (p + 1) Nothing false l (counts local)) [] (Next SpaceOrTabEolAtEol) es) (sym (line-ending-read g text events p s at))
+            (goes-next g text m ss [] (p + 1) ending (counts local) [] SpaceOrTabEolAtEol next es
+            (read.1 es
+            (subst (λ q. EndsWith g text m (between_items q Nothing false (ending ++ leaf g.bytes SpaceOrTab (take n ss)) read.0) [] (Next TextBefore) es) (sym place)
+            (subst (λ l. EndsWith g text m (between_items (p + (1 + n)) Nothing false l read.0) [] (Next TextBefore) es) (sym made) h))))),
+      )

@@ -1,0 +1,59 @@
+-- What a run makes of a string; and chains of strings, which are read as strings, and leave other chains ready.
+use Rattle.std.proofs.Common.{◌≡◌, Bool, List, Some, false, true, arith, refl, sym, ap, ◌∙◌, subst}
+use Rattle.std.specs.List.{AllByRecursion}
+use Rattle.markdown_base.specs.declared.event.Content.TheVariants.{String}
+use Rattle.markdown_base.specs.declared.event.Event.{Event}
+use Rattle.markdown_base.specs.declared.state.State.TheVariants.{Next}
+use Rattle.markdown_base.specs.declared.state.TheConstants.Name.{StringStart}
+use Rattle.markdown_base.specs.Events.{IsBalanced}
+use Rattle.markdown_children.specs.Chains.{fitting_starts}
+use Rattle.markdown_children.specs.Reads.{lists}
+use Rattle.markdown_children.specs.Ready.{IsReady}
+use Rattle.markdown_children.proofs.ChildReads.SoFar.{lists-all}
+use Rattle.markdown_children.proofs.Parts.Staying.{stays-ready}
+use Rattle.markdown_edits.specs.Edited.{edited}
+use Rattle.markdown_tokenizer.specs.declared.subtokenize.Subresult.{Subresult}
+use Rattle.markdown_tokenizer.specs.Configuration.{Configuration, start_configuration}
+use Rattle.markdown_tokenizer.specs.Engine.{IsRun, whole_text}
+use Rattle.markdown_tokenizer.specs.Plain.{HaveNoLinks}
+use Rattle.markdown_tokenizer.specs.Text.{Given, IsDocument}
+use Rattle.mdconstructs_text.specs.ChainTexts.{chain_text}
+use Rattle.mdconstructs_text.proofs.Paragraphs.ChainEvents.{all-begin, chains-read-from, children-events}
+use Rattle.mdconstructs_text.proofs.Paragraphs.Staying.{each-alone}
+use Rattle.mdconstructs_text.proofs.Texts.Ends.{ReadsTextsFrom, ends-so}
+use Rattle.mdconstructs_text.proofs.Texts.WholePlaces.{whole-is-text}
+use Rattle.mdconstructs_inlines.specs.InlineRules.{emphasis_edits, inlines_rules}
+use Rattle.mdconstructs_inlines.specs.LawStatements.{ReadsChainsAsStrings, ReadsStrings, StaysReadyAfterStrings}
+use Rattle.mdconstructs_inlines.specs.StringEvents.{string_events}
+use Rattle.mdconstructs_inlines.proofs.Resolved.{resolved-so}
+use Rattle.mdconstructs_inlines.proofs.StringReads.{strings-from-start}
+use Rattle.mdconstructs_inlines.proofs.StringRuns.{calm-same, string-alone, string-calm}
+
+-- what is read of any string, once all is resolved
+pub reads-strings-of : (g : Given) → ReadsTextsFrom StringStart g inlines_rules (string_events g)
+reads-strings-of g text is flag r ends well final sub resolved =
+    let read = (ends-so g text (inlines_rules g).step (start_configuration flag) (Next StringStart) (string_events g text) (strings-from-start g text flag) r ends).1 in
+    (resolved-so g StringStart (1, omega arith, (cc)) text is flag r ends well final sub resolved).1 ∙ ap (λ es. edited (emphasis_edits g es) es) read
+    ∙ calm-same g (string_events g text) (string-calm g text) (string-alone g text)
+
+run-reads : (g : Given) (events : List Event) (sub : Subresult) → IsDocument g → (resolving : Bool) → IsRun g inlines_rules resolving StringStart events sub → events ≡ string_events g (whole_text g)
+run-reads g events sub document true run =
+    run.events ∙ reads-strings-of g (whole_text g) (whole-is-text g document) false run.result run.ends run.well run.final sub run.resolved
+run-reads g events sub document false run =
+    let text = whole_text g in
+    let read = ends-so g text (inlines_rules g).step (start_configuration false) (Next StringStart) (string_events g text) (strings-from-start g text false) run.result run.ends in
+    run.events ∙ ap (λ (k : Configuration Unit Unit). k.events) run.resolved.0 ∙ read.1
+
+pub reads-strings : ReadsStrings
+reads-strings g resolving events sub document run = run-reads g events sub document resolving run
+
+pub chains-read-strings : ReadsChainsAsStrings
+chains-read-strings g events new sub document ready h = chains-read-from g events document String ready StringStart refl inlines_rules (string_events g) (reads-strings-of g) new sub h
+
+pub strings-stay-ready : StaysReadyAfterStrings
+strings-stay-ready g events new sub next document ready other h =
+    let starts = fitting_starts (Some String) events in
+    let are = children-events g events document String ready StringStart refl inlines_rules (string_events g) (reads-strings-of g) starts h.children (all-begin g events document String ready) h.read in
+    let balanced = lists-all g inlines_rules events IsBalanced (λ c child is. is.in_shape.balanced) starts h.children h.read in
+    let alone = subst (AllByRecursion HaveNoLinks) (sym are) (each-alone (λ c. string_events g (chain_text g events c)) (λ c. string-alone g (chain_text g events c)) starts) in
+    subst (IsReady g.tab g.bytes next) (sym h.events) (stays-ready g.tab g.bytes (Some String) events ready next (lists h.children) other balanced alone)

@@ -1,0 +1,135 @@
+-- No event of a string is one of a delimiter run, and none has a link: so emphasis changes nothing.
+use Rattle.std.proofs.Common.{◌≡◌, ℕ, zero, suc, ◌+◌, ◌&&◌, ◌==◌, not, ◌++◌, List, [], ◌∷◌, false, true, cond, drop, length, Option, Some, refl, ap, ◌∙◌, take}
+use Rattle.std.specs.List.{AllByRecursion, between, flat_map}
+use Rattle.std.specs.Prelude.{slice_get}
+use Rattle.std.proofs.Math.Bool.{and-false}
+use Rattle.markdown_base.specs.declared.configuration.Constructs.{Constructs}
+use Rattle.markdown_base.specs.declared.event.Event.{Event}
+use Rattle.markdown_base.specs.declared.event.Kind.TheVariants.{Exit}
+use Rattle.markdown_base.specs.declared.event.Name.{Name}
+use Rattle.markdown_base.specs.declared.event.Name.TheVariants.{AttentionSequence, CharacterEscape, CharacterEscapeMarker, CharacterEscapeValue, CharacterReference, CharacterReferenceMarker, CharacterReferenceMarkerHexadecimal, CharacterReferenceMarkerNumeric, CharacterReferenceMarkerSemi, CharacterReferenceValue, Data, LineEnding}
+use Rattle.markdown_base.specs.Events.{is_enter, same_name}
+use Rattle.markdown_base.specs.Virtual.{Seat, end_after}
+use Rattle.markdown_base.proofs.Common.{every-append}
+use Rattle.markdown_tokenizer.specs.Plain.{HaveNoLinks}
+use Rattle.markdown_tokenizer.specs.Text.{Given, Text}
+use Rattle.markdown_tokenizer.proofs.Readings.Plain.{edited-same}
+use Rattle.markdown_edits.specs.Edited.{edited}
+use Rattle.mdconstructs_attention.specs.Emphasis.{paired}
+use Rattle.mdconstructs_attention.specs.RunEdits.{edits_of}
+use Rattle.mdconstructs_attention.specs.Runs.{depth_after, index_of_event, is_sequence, run_at, runs_from}
+use Rattle.mdconstructs_text.specs.Bytes.{has_byte_at, is_line_feed}
+use Rattle.mdconstructs_text.specs.Construct.{Found}
+use Rattle.mdconstructs_text.specs.Escape.{escape, escape_at}
+use Rattle.mdconstructs_text.specs.Items.{item_length}
+use Rattle.mdconstructs_text.specs.Parts.{bytes_of, cut, event, leaf, line_ending, part, span}
+use Rattle.mdconstructs_text.specs.TextEvents.{item_events}
+use Rattle.mdconstructs_text.proofs.Constructs.Apart.{OfOption, there-holds, when-there}
+use Rattle.mdconstructs_text.proofs.Escapes.Cuts.{escape-built}
+use Rattle.mdconstructs_text.proofs.Texts.Built.{IsBuilt, IsKeptBySpans}
+use Rattle.mdconstructs_text.proofs.Texts.Tight.{links-kept}
+use Rattle.mdconstructs_inlines.specs.InlineRules.{emphasis_edits}
+use Rattle.mdconstructs_phrasing.specs.Reference.{Kind, decimal, hexadecimal, mark_events, marks, named, reference, reference_at}
+use Rattle.mdconstructs_phrasing.proofs.References.Bytes.{reference-holds}
+use Rattle.mdconstructs_phrasing.proofs.References.Cuts.{reference-built}
+use Rattle.mdconstructs_inlines.specs.StringEvents.{string_data, string_events, string_grammars, string_item_at, string_part}
+
+-- an event that is none of a delimiter run, and lists of them
+abbrev pub IsCalm : Event → Type 0
+IsCalm e = same_name e.name AttentionSequence ≡ false
+
+abbrev pub AreCalm : List Event → Type 0
+AreCalm es = AllByRecursion IsCalm es
+
+no-sequence : (e f : Event) → IsCalm e → is_sequence e f ≡ false
+no-sequence e f calm =
+    ap (λ t. (is_enter e.kind && t) && (not (is_enter f.kind) && same_name f.name AttentionSequence)) calm
+    ∙ ap (λ t. t && (not (is_enter f.kind) && same_name f.name AttentionSequence)) (and-false (is_enter e.kind))
+
+-- among them no run is
+runs-none : (bytes : List ℕ) (i depth : ℕ) (before : Option ℕ) (es : List Event) → AreCalm es → runs_from bytes i depth before es ≡ []
+runs-none bytes i depth before [] calm = refl
+runs-none bytes i depth before (e ∷ []) calm = refl
+runs-none bytes i depth before (e ∷ f ∷ es) calm =
+    ap (λ t. cond t (run_at bytes i e f before (index_of_event (slice_get es 0)) ∷ runs_from bytes (i + 2) depth (Some f.point.index) es) (runs_from bytes (i + 1) (depth_after e.kind depth) (Some e.point.index) (f ∷ es))) (ap (λ t. (depth == 0) && t) (no-sequence e f calm.0) ∙ and-false (depth == 0))
+    ∙ runs-none bytes (i + 1) (depth_after e.kind depth) (Some e.point.index) (f ∷ es) calm.1
+
+-- so emphasis changes nothing
+pub calm-same : (g : Given) (es : List Event) → AreCalm es → HaveNoLinks es → edited (emphasis_edits g es) es ≡ es
+calm-same g es calm unlinked = ap (λ rs. edited (edits_of (paired rs)) es) (runs-none g.bytes 0 0 _ es calm) ∙ edited-same es unlinked
+
+module _ (bytes : List ℕ) where
+  calm-leaf : (name : Name) → same_name name AttentionSequence ≡ false → (seats : List Seat) → AreCalm (leaf bytes name seats)
+  calm-leaf name other [] = tt
+  calm-leaf name other (s ∷ ss) = (other, (other, tt))
+
+  pub calm-span : (name : Name) → same_name name AttentionSequence ≡ false → (seats : List Seat) (es : List Event) → AreCalm es → AreCalm (span bytes name seats es)
+  calm-span name other [] es calm = calm
+  calm-span name other (s ∷ ss) es calm = (other, every-append IsCalm es (event bytes Exit name (end_after s.end ss) ∷ []) calm (other, tt))
+
+  -- what is found is calm, over any virtual bytes
+  abbrev pub IsCalmFound : Found → Type 0
+  IsCalmFound found = (seats : List Seat) → AreCalm (found.events bytes seats)
+
+  calm-escape : (text : List ℕ) → OfOption IsCalmFound (escape_at text)
+  calm-escape text =
+      when-there IsCalmFound _ (Some escape)
+      (λ seats. calm-span CharacterEscape refl seats (leaf bytes CharacterEscapeMarker (take 1 seats) ++ leaf bytes CharacterEscapeValue (drop 1 seats))
+      (every-append IsCalm (leaf bytes CharacterEscapeMarker (take 1 seats)) (leaf bytes CharacterEscapeValue (drop 1 seats)) (calm-leaf CharacterEscapeMarker refl (take 1 seats)) (calm-leaf CharacterEscapeValue refl (drop 1 seats))))
+
+  calm-marks : (kind : Kind) (seats : List Seat) → AreCalm (mark_events bytes kind seats)
+  calm-marks named seats = calm-leaf CharacterReferenceMarker refl (take 1 seats)
+  calm-marks decimal seats =
+      every-append IsCalm (leaf bytes CharacterReferenceMarker (take 1 seats)) (leaf bytes CharacterReferenceMarkerNumeric (between 1 2 seats)) (calm-leaf CharacterReferenceMarker refl (take 1 seats))
+      (calm-leaf CharacterReferenceMarkerNumeric refl (between 1 2 seats))
+  calm-marks hexadecimal seats =
+      every-append IsCalm (leaf bytes CharacterReferenceMarker (take 1 seats)) _ (calm-leaf CharacterReferenceMarker refl (take 1 seats))
+      (every-append IsCalm (leaf bytes CharacterReferenceMarkerNumeric (between 1 2 seats)) (leaf bytes CharacterReferenceMarkerHexadecimal (between 2 3 seats)) (calm-leaf CharacterReferenceMarkerNumeric refl (between 1 2 seats))
+      (calm-leaf CharacterReferenceMarkerHexadecimal refl (between 2 3 seats)))
+
+  calm-kind : (kind : Kind) (n : ℕ) → IsCalmFound (reference kind n)
+  calm-kind kind n seats =
+      let value = leaf bytes CharacterReferenceValue (between (marks kind) (marks kind + n) seats) in
+      let last = leaf bytes CharacterReferenceMarkerSemi (drop (marks kind + n) seats) in
+      calm-span CharacterReference refl seats (mark_events bytes kind seats ++ (value ++ last))
+      (every-append IsCalm (mark_events bytes kind seats) (value ++ last) (calm-marks kind seats)
+      (every-append IsCalm value last (calm-leaf CharacterReferenceValue refl (between (marks kind) (marks kind + n) seats)) (calm-leaf CharacterReferenceMarkerSemi refl (drop (marks kind + n) seats))))
+
+  calm-reference : (text : List ℕ) → OfOption IsCalmFound (reference_at text)
+  calm-reference = reference-holds IsCalmFound calm-kind
+
+  calm-item : (on : Constructs) (text : List ℕ) → IsCalmFound (string_item_at on text)
+  calm-item on text =
+      there-holds IsCalmFound string_grammars on text (string_part text) (calm-escape text, (calm-reference text, tt)) (elim (has_byte_at text 0 is_line_feed) as (λ t. IsCalmFound (cond t (part line_ending) (string_data text))) [
+        | true ↦ λ seats. calm-leaf LineEnding refl seats
+        | false ↦ λ seats. calm-leaf Data refl seats
+      ])
+
+-- What holds of each item of a string holds of its events
+module _ (bytes : List ℕ) (P : List Event → Type 0) (none : P []) (both : (xs ys : List Event) → P xs → P ys → P (xs ++ ys)) (on : Constructs)
+    (item : (text : List ℕ) (seats : List Seat) → P ((string_item_at on text).events bytes seats)) where
+  each-item : (n : ℕ) (seats : List Seat) → P (flat_map (item_events bytes) (cut (string_item_at on) item_length n seats))
+  each-item zero seats = none
+  each-item (suc n) [] = none
+  each-item (suc n) (s ∷ ss) =
+      let found = string_item_at on (bytes_of (s ∷ ss)) in
+      let m = item_length found in
+      both (item_events bytes (found, take m (s ∷ ss))) (flat_map (item_events bytes) (cut (string_item_at on) item_length n (drop m (s ∷ ss)))) (item (bytes_of (s ∷ ss)) (take m (s ∷ ss))) (each-item n (drop m (s ∷ ss)))
+
+pub string-calm : (g : Given) (text : Text) → AreCalm (string_events g text)
+string-calm g text = each-item g.bytes AreCalm tt (every-append IsCalm) g.options.constructs (calm-item g.bytes g.options.constructs) (length text.seats) text.seats
+
+-- What spans keep holds of a string
+module _ (bytes : List ℕ) (P : List Event → Type 0) (kept : IsKeptBySpans bytes P) (on : Constructs) where
+  item-built : (text : List ℕ) → IsBuilt bytes P kept (string_item_at on text)
+  item-built text =
+      there-holds (IsBuilt bytes P kept) string_grammars on text (string_part text) (escape-built bytes P kept text, (reference-built bytes P kept text, tt)) (elim (has_byte_at text 0 is_line_feed) as (λ t. IsBuilt bytes P kept (cond t (part line_ending) (string_data text))) [
+        | true ↦ λ seats. kept.alone LineEnding seats
+        | false ↦ λ seats. kept.alone Data seats
+      ])
+
+  pub string-built : (seats : List Seat) → P (flat_map (item_events bytes) (cut (string_item_at on) item_length (length seats) seats))
+  string-built seats = each-item bytes P kept.none kept.both on item-built (length seats) seats
+
+pub string-alone : (g : Given) (text : Text) → HaveNoLinks (string_events g text)
+string-alone g text = string-built g.bytes HaveNoLinks (links-kept g.bytes) g.options.constructs text.seats
