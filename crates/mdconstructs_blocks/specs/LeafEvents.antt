@@ -80,13 +80,20 @@ module _ (bytes : List ℕ) where
       ++ (span_marks name.HeadingAtxText text (read text)
       ++ sequence_marks name.HeadingAtxSequence (run 35 (unindented (drop end t))) (drop end seats))
 
+  -- a text, or a string, that is a chunk of its own
+  abbrev pub text_chunk : List Seat → List Mark
+  text_chunk seats = chunk_span (alone content.Text) name.Data seats []
+
+  abbrev pub string_chunk : List Seat → List Mark
+  string_chunk seats = chunk_span (alone content.String) name.Data seats []
+
   -- its text is a chunk
   abbrev pub heading_marks : List Seat → List Mark
-  heading_marks seats = heading_around (λ text. chunk_span (alone content.Text) name.Data text []) seats
+  heading_marks seats = heading_around text_chunk seats
 
-  -- Opening fence: its sequence, the first word behind it, and the rest
-  abbrev pub fence_marks : (size : ℕ) → List Seat → List Mark
-  fence_marks size seats =
+  -- Opening fence: its sequence, and what the first word behind it and the rest are read as
+  abbrev pub fence_around : (List Seat → List Mark) → (size : ℕ) → List Seat → List Mark
+  fence_around read size seats =
       let t = bytes_of seats in
       let signs = indent t + size in
       let start = signs + indent (drop signs t) in
@@ -96,8 +103,12 @@ module _ (bytes : List ℕ) where
       let meta = drop rest seats in
       span_marks name.CodeFencedFence seats
       (sequence_marks name.CodeFencedFenceSequence size (take start seats)
-      ++ (span_marks name.CodeFencedFenceInfo info (chunk_span (alone content.String) name.Data info [])
-      ++ (white (take (rest - word) (drop word seats)) ++ span_marks name.CodeFencedFenceMeta meta (chunk_span (alone content.String) name.Data meta []))))
+      ++ (span_marks name.CodeFencedFenceInfo info (read info)
+      ++ (white (take (rest - word) (drop word seats)) ++ span_marks name.CodeFencedFenceMeta meta (read meta))))
+
+  -- both are chunks
+  abbrev pub fence_marks : (size : ℕ) → List Seat → List Mark
+  fence_marks size seats = fence_around string_chunk size seats
 
   -- a line of code: white space of so many columns at most, and the rest
   abbrev pub code_marks : (most : ℕ) → List Seat → List Mark
@@ -133,10 +144,14 @@ module _ (bytes : List ℕ) where
       (code_marks f.indent (line_text line) ++ line_end line)
   fenced_marks f is_closed (line ∷ lines) = code_marks f.indent (line_text line) ++ (line_end line ++ fenced_marks f is_closed lines)
 
+  -- Fenced code, by what the strings of its opening fence are read as
+  abbrev pub code_fenced_around : (List Seat → List Mark) → Fence → (is_closed : Bool) → List Line → List Mark
+  code_fenced_around read f is_closed [] = []
+  code_fenced_around read f is_closed (line ∷ []) = fence_around read f.size (line_text line) ++ line_end line
+  code_fenced_around read f is_closed (line ∷ lines) = fence_around read f.size (line_text line) ++ (line_end line ++ fenced_marks f is_closed lines)
+
   abbrev pub code_fenced_marks : Fence → (is_closed : Bool) → List Line → List Mark
-  code_fenced_marks f is_closed [] = []
-  code_fenced_marks f is_closed (line ∷ []) = fence_marks f.size (line_text line) ++ line_end line
-  code_fenced_marks f is_closed (line ∷ lines) = fence_marks f.size (line_text line) ++ (line_end line ++ fenced_marks f is_closed lines)
+  code_fenced_marks f is_closed lines = code_fenced_around string_chunk f is_closed lines
 
   -- HTML: the white space before it is data of its own
   abbrev pub html_marks : (is_open : Bool) → List Line → List Mark
@@ -152,18 +167,22 @@ module _ (bytes : List ℕ) where
   abbrev pub underline_marks : List Seat → List Mark
   underline_marks seats = span_marks name.HeadingSetextUnderline seats (underline_inside seats)
 
+  -- The events of a leaf block, by what the text of an ATX heading, other lines of text, and strings are read as
+  abbrev pub block_around : (text : List Seat → List Mark) → (lines_of_text : List Line → List Mark) → (string : List Seat → List Mark) → LeafBlock → List Mark
+  block_around text lines_of_text string (blank_line line) = white (line_text line) ++ leaf_marks name.BlankLineEnding (ending_of line)
+  block_around text lines_of_text string (break_line line) = block_span name.ThematicBreak false (line ∷ []) (break_marks (length line) (line_text line))
+  block_around text lines_of_text string (atx_heading line) = block_span name.HeadingAtx false (line ∷ []) (heading_around text (line_text line))
+  block_around text lines_of_text string (paragraph lines) = block_span name.Paragraph false lines (lines_of_text lines)
+  block_around text lines_of_text string (setext_heading lines underline) =
+      block_span name.HeadingSetext false (lines ++ underline ∷ [])
+      (span_marks name.HeadingSetextText (body lines) (lines_of_text lines) ++ (last_end lines ++ underline_marks (line_text underline)))
+  block_around text lines_of_text string (indented_code lines) = block_span name.CodeIndented false lines (lines_marks (code_marks 4) false lines)
+  block_around text lines_of_text string (fenced_code f is_closed lines) = block_span name.CodeFenced (not is_closed) lines (code_fenced_around string f is_closed lines)
+  block_around text lines_of_text string (html_block is_closed lines) = block_span name.HtmlFlow (not is_closed) lines (html_marks (not is_closed) lines)
+
   -- The events of a leaf block, with its chunks
   abbrev pub leaf_block_marks : LeafBlock → List Mark
-  leaf_block_marks (blank_line line) = white (line_text line) ++ leaf_marks name.BlankLineEnding (ending_of line)
-  leaf_block_marks (break_line line) = block_span name.ThematicBreak false (line ∷ []) (break_marks (length line) (line_text line))
-  leaf_block_marks (atx_heading line) = block_span name.HeadingAtx false (line ∷ []) (heading_marks (line_text line))
-  leaf_block_marks (paragraph lines) = block_span name.Paragraph false lines (text_marks false lines)
-  leaf_block_marks (setext_heading lines underline) =
-      block_span name.HeadingSetext false (lines ++ underline ∷ [])
-      (span_marks name.HeadingSetextText (body lines) (text_marks false lines) ++ (last_end lines ++ underline_marks (line_text underline)))
-  leaf_block_marks (indented_code lines) = block_span name.CodeIndented false lines (lines_marks (code_marks 4) false lines)
-  leaf_block_marks (fenced_code f is_closed lines) = block_span name.CodeFenced (not is_closed) lines (code_fenced_marks f is_closed lines)
-  leaf_block_marks (html_block is_closed lines) = block_span name.HtmlFlow (not is_closed) lines (html_marks (not is_closed) lines)
+  leaf_block_marks block = block_around text_chunk (text_marks false) string_chunk block
 
   abbrev pub leaf_blocks_marks : List LeafBlock → List Mark
   leaf_blocks_marks blocks = flat_map leaf_block_marks blocks

@@ -5,6 +5,7 @@ use Rattle.std.specs.List.{AllByRecursion}
 use Rattle.std.proofs.lemmas.List.{append-nil, take-append-drop}
 use Rattle.std.proofs.lemmas.List.Sums.{prefix_len-le-length}
 use Rattle.markdown_base.specs.declared.configuration.Constructs.{Constructs}
+use Rattle.markdown_base.specs.declared.event.Content.TheVariants as content
 use Rattle.markdown_base.specs.declared.event.Name.TheVariants as name
 use Rattle.mdconstructs_machines.proofs.BlockReads.Accounts.{lines-are-all}
 use Rattle.mdconstructs_machines.specs.Innermost.{AccountFor}
@@ -13,7 +14,7 @@ use Rattle.mdconstructs_blocks.proofs.Marks.FullBlocks.{IsFull, IsOfText, Starts
 use Rattle.mdconstructs_blocks.proofs.Marks.MarkAccounts.{AreSpans, accounts-kept, bare, linked-spans}
 use Rattle.mdconstructs_blocks.proofs.Lines.Lines.{all-of-split, body-and-text}
 use Rattle.mdconstructs_blocks.proofs.Marks.MarkLists.{kept-before}
-use Rattle.mdconstructs_blocks.proofs.Marks.MarkSpans.{IsKeptBySpans, no-spans, over, spans-around, spans-block, spans-both, spans-break, spans-code, spans-code-fenced, spans-heading, spans-html, spans-last, spans-leaf, spans-lines, spans-text, spans-underline}
+use Rattle.mdconstructs_blocks.proofs.Marks.MarkSpans.{IsKeptBySpans, no-spans, over, spans-around, spans-block, spans-both, spans-break, spans-code, spans-code-fenced-around, spans-data, spans-heading-around, spans-html, spans-last, spans-leaf, spans-lines, spans-text, spans-underline}
 use Rattle.mdconstructs_blocks.proofs.Lines.WholeLines.{IsWhole, body-and-last, text-and-ending, whole-lines}
 use Rattle.mdconstructs_blocks.specs.BlocksRead.{last_ending, paragraph_told, underline_told}
 use Rattle.mdconstructs_blocks.specs.BlocksTold.{block_told, blocks_told, flow_told}
@@ -24,7 +25,7 @@ use Rattle.std.proofs.lemmas.List.{map-append}
 use Rattle.markdown_base.specs.declared.event.Kind.TheVariants.{Enter, Exit}
 use Rattle.markdown_base.specs.Virtual.{Seat, end_after}
 use Rattle.mdconstructs_machines.specs.Spans.{event}
-use Rattle.mdconstructs_blocks.specs.LeafEvents.{Mark, block_span, body, code_marks, last_end, leaf_block_marks, leaf_blocks_marks, span_marks, text_marks, underline_inside, underline_marks}
+use Rattle.mdconstructs_blocks.specs.LeafEvents.{Mark, block_around, block_span, body, code_marks, last_end, leaf_block_marks, leaf_blocks_marks, span_marks, string_chunk, text_chunk, text_marks, underline_inside, underline_marks}
 use Rattle.mdconstructs_blocks.specs.FlowAccounts.{FlowAccounts}
 use Rattle.mdconstructs_blocks.specs.HtmlLines.{ends_html}
 use Rattle.mdconstructs_blocks.specs.LeafBlocks.{Line, LeafBlock, blank_line, break_line, atx_heading, paragraph, setext_heading, indented_code, fenced_code, html_block, block_of_kind, blocks_in, content_at, ends_paragraph, has_line, html_block_at, leaf_blocks, lines_through, lines_until, text_of, underlined}
@@ -85,15 +86,23 @@ module _ (bytes : List ℕ) (P : List Mark → List Seat → Type 0) (kept : IsK
       spans-block bytes P kept name.HeadingSetext false (lines ++ below ∷ []) _ refl whole
       (over bytes P kept (body (lines ++ below ∷ [])) is (spans-both bytes P kept (spans-around bytes P kept name.HeadingSetextText (body lines) _ refl h) (spans-both bytes P kept (spans-last bytes P kept lines) (spans-underline bytes P kept t))))
 
+  -- a block, by what its texts and strings are read as
+  pub spans-of-around : (read : List Seat → List Mark) → ((seats : List Seat) → P (read seats) seats)
+      → (lines_of_text : List Line → List Mark) → ((lines : List Line) → AllByRecursion StartsText lines → P (lines_of_text lines) (body lines))
+      → (string : List Seat → List Mark) → ((seats : List Seat) → P (string seats) seats)
+      → (block : LeafBlock) → IsFull block → AllByRecursion IsWhole (block_lines block) → IsLong block → P (block_around bytes read lines_of_text string block) (all_of (block_lines block))
+  spans-of-around read texts ls lines_read string strings (blank_line line) full whole long = over bytes P kept (line ++ []) (text-and-ending line whole.0 ∙ sym (append-nil line)) (spans-both bytes P kept (spans-leaf bytes P kept name.SpaceOrTab (line_text line)) (spans-leaf bytes P kept name.BlankLineEnding (ending_of line)))
+  spans-of-around read texts ls lines_read string strings (break_line line) full whole long = spans-block bytes P kept name.ThematicBreak false (line ∷ []) _ refl whole (spans-break bytes P kept (length line) (line_text line) (text-shorter line whole.0))
+  spans-of-around read texts ls lines_read string strings (atx_heading line) full whole long = spans-block bytes P kept name.HeadingAtx false (line ∷ []) _ refl whole (spans-heading-around bytes P kept read texts (line_text line))
+  spans-of-around read texts ls lines_read string strings (paragraph lines) full whole long = spans-block bytes P kept name.Paragraph false lines _ refl whole (lines_read lines full)
+  spans-of-around read texts ls lines_read string strings (setext_heading lines below) full whole long = spans-setext-around lines below (ls lines) (lines_read lines full.0) whole
+  spans-of-around read texts ls lines_read string strings (indented_code lines) full whole long = spans-block bytes P kept name.CodeIndented false lines _ refl whole (spans-lines bytes P kept (code_marks bytes 4) (spans-code bytes P kept 4) false lines whole)
+  spans-of-around read texts ls lines_read string strings (fenced_code f is_closed lines) full whole long = spans-block bytes P kept name.CodeFenced (not is_closed) lines _ refl whole (spans-code-fenced-around bytes P kept string strings f is_closed lines long whole)
+  spans-of-around read texts ls lines_read string strings (html_block is_closed lines) full whole long = spans-block bytes P kept name.HtmlFlow (not is_closed) lines _ refl whole (spans-html bytes P kept (not is_closed) lines whole)
+
   pub spans-of : (block : LeafBlock) → IsFull block → AllByRecursion IsWhole (block_lines block) → IsLong block → P (leaf_block_marks bytes block) (all_of (block_lines block))
-  spans-of (blank_line line) full whole long = over bytes P kept (line ++ []) (text-and-ending line whole.0 ∙ sym (append-nil line)) (spans-both bytes P kept (spans-leaf bytes P kept name.SpaceOrTab (line_text line)) (spans-leaf bytes P kept name.BlankLineEnding (ending_of line)))
-  spans-of (break_line line) full whole long = spans-block bytes P kept name.ThematicBreak false (line ∷ []) _ refl whole (spans-break bytes P kept (length line) (line_text line) (text-shorter line whole.0))
-  spans-of (atx_heading line) full whole long = spans-block bytes P kept name.HeadingAtx false (line ∷ []) _ refl whole (spans-heading bytes P kept (line_text line))
-  spans-of (paragraph lines) full whole long = spans-block bytes P kept name.Paragraph false lines _ refl whole (spans-text bytes P kept lines full)
-  spans-of (setext_heading lines below) full whole long = spans-setext-around lines below (text_marks bytes false lines) (spans-text bytes P kept lines full.0) whole
-  spans-of (indented_code lines) full whole long = spans-block bytes P kept name.CodeIndented false lines _ refl whole (spans-lines bytes P kept (code_marks bytes 4) (spans-code bytes P kept 4) false lines whole)
-  spans-of (fenced_code f is_closed lines) full whole long = spans-block bytes P kept name.CodeFenced (not is_closed) lines _ refl whole (spans-code-fenced bytes P kept f is_closed lines long whole)
-  spans-of (html_block is_closed lines) full whole long = spans-block bytes P kept name.HtmlFlow (not is_closed) lines _ refl whole (spans-html bytes P kept (not is_closed) lines whole)
+  spans-of block full whole long =
+      spans-of-around (text_chunk bytes) (spans-data bytes P kept content.Text) (text_marks bytes false) (spans-text bytes P kept) (string_chunk bytes) (spans-data bytes P kept content.String) block full whole long
 
 -- ---- lines are cut into blocks
 

@@ -19,17 +19,18 @@ abbrev pub IsSingle : (Content → Type 0) → Mark → Type 0
 IsSingle Fits (e, None) = e.link ≡ None
 IsSingle Fits (e, Some chunk) = Fits chunk.content × (chunk.has_previous ≡ false) × (chunk.has_next ≡ false)
 
--- a block without lines of text; the text of an ATX heading is one chunk
+-- a block without lines of text; the text of an ATX heading is one chunk, and so are the strings of fenced code
 abbrev pub IsPlain : (Content → Type 0) → LeafBlock → Type 0
 IsPlain Fits (paragraph lines) = ⊥
 IsPlain Fits (setext_heading lines below) = ⊥
 IsPlain Fits (atx_heading line) = Fits content.Text
+IsPlain Fits (fenced_code f is_closed lines) = Fits content.String
 IsPlain Fits _ = Unit {0}
 
 pub record AreSingle (Fits : Content → Type 0) (ms : List Mark) : Type 0 where
   pub each : AllByRecursion (IsSingle Fits) ms
 
-module _ (Fits : Content → Type 0) (strings : Fits content.String) where
+module _ (Fits : Content → Type 0) where
   abbrev Single : List Mark → Type 0
   Single ms = AreSingle Fits ms
 
@@ -44,7 +45,7 @@ module _ (Fits : Content → Type 0) (strings : Fits content.String) where
     pub single-leaf : (n : Name) (seats : List Seat) → Single (leaf_marks bytes n seats)
     single-leaf n seats = single-span n seats [] (record { each = tt })
 
-    single-data : (c : Content) → Fits c → (n : Name) (seats : List Seat) → Single (chunk_span bytes (alone c) n seats [])
+    pub single-data : (c : Content) → Fits c → (n : Name) (seats : List Seat) → Single (chunk_span bytes (alone c) n seats [])
     single-data c fit n [] = record { each = tt }
     single-data c fit n (s ∷ ss) = record { each = ((fit, refl, refl), (refl, tt)) }
 
@@ -65,8 +66,8 @@ module _ (Fits : Content → Type 0) (strings : Fits content.String) where
         single-both (single-sequence name.HeadingAtxSequence (run 35 (unindented t)) (take start seats))
         (single-both (single-span name.HeadingAtxText text _ (single-data content.Text texts name.Data text)) (single-sequence name.HeadingAtxSequence (run 35 (unindented (drop end t))) (drop end seats)))
 
-    single-fence : (size : ℕ) (seats : List Seat) → Single (fence_marks bytes size seats)
-    single-fence size seats =
+    single-fence : Fits content.String → (size : ℕ) (seats : List Seat) → Single (fence_marks bytes size seats)
+    single-fence strings size seats =
         let t = bytes_of seats in
         let start = indent t + size + indent (drop (indent t + size) t) in
         let word = start + prefix_len (λ c. not (is_white c)) (drop start t) in
@@ -85,7 +86,7 @@ module _ (Fits : Content → Type 0) (strings : Fits content.String) where
     single-if true ms h = h
     single-if false ms h = record { each = tt }
 
-    single-end : (line : Line) → Single (line_end bytes line)
+    pub single-end : (line : Line) → Single (line_end bytes line)
     single-end line = single-leaf name.LineEnding (ending_of line)
 
     single-lines : (marks : List Seat → List Mark) → ((seats : List Seat) → Single (marks seats)) → (is_open : Bool) (lines : List Line) → Single (lines_marks bytes marks is_open lines)
@@ -102,16 +103,16 @@ module _ (Fits : Content → Type 0) (strings : Fits content.String) where
     single-block n false lines inside h = single-both (single-span n (body lines) inside h) (single-last lines)
     single-block n true lines inside h = single-span n (all_of lines) inside h
 
-    single-fenced : (f : Fence) (is_closed : Bool) (lines : List Line) → Single (fenced_marks bytes f is_closed lines)
+    pub single-fenced : (f : Fence) (is_closed : Bool) (lines : List Line) → Single (fenced_marks bytes f is_closed lines)
     single-fenced f is_closed [] = record { each = tt }
     single-fenced f true (line ∷ []) = single-span name.CodeFencedFence (line_text line) _ (single-sequence name.CodeFencedFenceSequence (run f.byte (unindented (bytes_of (line_text line)))) (line_text line))
     single-fenced f false (line ∷ []) = single-both (single-code f.indent (line_text line)) (single-end line)
     single-fenced f is_closed (line ∷ next ∷ lines) = single-both (single-code f.indent (line_text line)) (single-both (single-end line) (single-fenced f is_closed (next ∷ lines)))
 
-    single-code-fenced : (f : Fence) (is_closed : Bool) (lines : List Line) → Single (code_fenced_marks bytes f is_closed lines)
-    single-code-fenced f is_closed [] = record { each = tt }
-    single-code-fenced f is_closed (line ∷ []) = single-both (single-fence f.size (line_text line)) (single-end line)
-    single-code-fenced f is_closed (line ∷ next ∷ lines) = single-both (single-fence f.size (line_text line)) (single-both (single-end line) (single-fenced f is_closed (next ∷ lines)))
+    single-code-fenced : Fits content.String → (f : Fence) (is_closed : Bool) (lines : List Line) → Single (code_fenced_marks bytes f is_closed lines)
+    single-code-fenced strings f is_closed [] = record { each = tt }
+    single-code-fenced strings f is_closed (line ∷ []) = single-both (single-fence strings f.size (line_text line)) (single-end line)
+    single-code-fenced strings f is_closed (line ∷ next ∷ lines) = single-both (single-fence strings f.size (line_text line)) (single-both (single-end line) (single-fenced f is_closed (next ∷ lines)))
 
     single-html : (is_open : Bool) (lines : List Line) → Single (html_marks bytes is_open lines)
     single-html is_open [] = record { each = tt }
@@ -129,5 +130,5 @@ module _ (Fits : Content → Type 0) (strings : Fits content.String) where
     single-block-marks (break_line line) h = single-block name.ThematicBreak false (line ∷ []) _ (single-break (length line) (line_text line))
     single-block-marks (atx_heading line) h = single-block name.HeadingAtx false (line ∷ []) _ (single-heading h (line_text line))
     single-block-marks (indented_code lines) h = single-block name.CodeIndented false lines _ (single-lines (code_marks bytes 4) (single-code 4) false lines)
-    single-block-marks (fenced_code f is_closed lines) h = single-block name.CodeFenced (not is_closed) lines _ (single-code-fenced f is_closed lines)
+    single-block-marks (fenced_code f is_closed lines) h = single-block name.CodeFenced (not is_closed) lines _ (single-code-fenced h f is_closed lines)
     single-block-marks (html_block is_closed lines) h = single-block name.HtmlFlow (not is_closed) lines _ (single-html (not is_closed) lines)

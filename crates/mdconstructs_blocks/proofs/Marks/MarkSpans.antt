@@ -5,7 +5,6 @@ use Rattle.std.specs.List.{AllByRecursion, prefix_len}
 use Rattle.std.proofs.lemmas.List.{append-nil, take-append-drop, length-map}
 use Rattle.std.proofs.lemmas.List.Sums.{prefix_len-le-length}
 use Rattle.markdown_base.specs.declared.event.Content.{Content}
-use Rattle.markdown_base.specs.declared.event.Content.TheVariants as content
 use Rattle.markdown_base.specs.declared.event.Name.{Name}
 use Rattle.markdown_base.specs.declared.event.Name.TheVariants as name
 use Rattle.markdown_base.specs.Events.{is_void}
@@ -16,7 +15,7 @@ use Rattle.mdconstructs_blocks.proofs.Marks.FullBlocks.{StartsText}
 use Rattle.mdconstructs_blocks.proofs.Lines.WholeLines.{IsWhole, body-and-last, part-behind, text-and-ending, text-behind, three-parts, whole-behind}
 use Rattle.mdconstructs_blocks.specs.BlocksRead.{last_ending, block_seats}
 use Rattle.mdconstructs_blocks.specs.LeafBlocks.{Line, bytes_of}
-use Rattle.mdconstructs_blocks.specs.LeafEvents.{Chunk, Mark, alone, block_span, body, break_marks, chunk_span, code_fenced_marks, code_marks, fence_marks, fenced_marks, heading_around, heading_marks, html_marks, last_end, leaf_marks, lines_marks, sequence_marks, span_marks, text_marks, underline_marks}
+use Rattle.mdconstructs_blocks.specs.LeafEvents.{Chunk, Mark, alone, block_span, body, break_marks, chunk_span, code_fenced_around, code_marks, fence_around, fenced_marks, heading_around, html_marks, last_end, leaf_marks, lines_marks, sequence_marks, span_marks, text_marks, underline_marks}
 use Rattle.mdconstructs_blocks.specs.LineKinds.{Fence, heading_text, indent, run, unindented}
 
 -- What is said of marks over virtual bytes is kept by marks behind others, by spans, alone and around others, and by lines of text
@@ -40,6 +39,16 @@ module _ (bytes : List ℕ) (P : List Mark → List Seat → Type 0) (none : P [
   text-by-chunks has_previous (line ∷ []) = any-chunk _ (line_text line)
   text-by-chunks has_previous (line ∷ next ∷ lines) = both _ _ _ _ (any-chunk _ line) (text-by-chunks true (next ∷ lines))
 
+seats-on : (is_open : Bool) (line next : Line) (lines : List Line) → block_seats is_open (line ∷ next ∷ lines) ≡ line ++ block_seats is_open (next ∷ lines)
+seats-on true line next lines = refl
+seats-on false line next lines = refl
+
+-- a line, its line ending, and more
+pub line-on : (is_open : Bool) (line next : Line) (lines : List Line) → IsWhole line → line_text line ++ (ending_of line ++ block_seats is_open (next ∷ lines)) ≡ block_seats is_open (line ∷ next ∷ lines)
+line-on is_open line next lines h =
+    let rest = block_seats is_open (next ∷ lines) in
+    sym (append_assoc (line_text line) (ending_of line) rest) ∙ ap (λ l. l ++ rest) (text-and-ending line h) ∙ sym (seats-on is_open line next lines)
+
 module _ (bytes : List ℕ) (P : List Mark → List Seat → Type 0) (kept : IsKeptBySpans bytes P) where
   pub over : {marks : List Mark} {a : List Seat} (b : List Seat) → a ≡ b → P marks a → P marks b
   over {marks} b e h = subst (P marks) e h
@@ -50,7 +59,7 @@ module _ (bytes : List ℕ) (P : List Mark → List Seat → Type 0) (kept : IsK
   pub spans-both : {xs ys : List Mark} {a b : List Seat} → P xs a → P ys b → P (xs ++ ys) (a ++ b)
   spans-both h k = kept.both h k
 
-  spans-data : (c : Content) (seats : List Seat) → P (chunk_span bytes (alone c) name.Data seats []) seats
+  pub spans-data : (c : Content) (seats : List Seat) → P (chunk_span bytes (alone c) name.Data seats []) seats
   spans-data c [] = kept.none
   spans-data c (s ∷ ss) = kept.datum c s ss
 
@@ -102,11 +111,9 @@ module _ (bytes : List ℕ) (P : List Mark → List Seat → Type 0) (kept : IsK
       (spans-both (spans-sequence name.HeadingAtxSequence (run 35 (unindented t)) (take start seats))
       (spans-both (spans-around name.HeadingAtxText text _ refl (reads text)) (spans-sequence name.HeadingAtxSequence (run 35 (unindented (drop end t))) (drop end seats))))
 
-  pub spans-heading : (seats : List Seat) → P (heading_marks bytes seats) seats
-  spans-heading seats = spans-heading-around (λ text. chunk_span bytes (alone content.Text) name.Data text []) (λ text. spans-data content.Text text) seats
-
-  spans-fence : (size : ℕ) (seats : List Seat) → P (fence_marks bytes size seats) seats
-  spans-fence size seats =
+  -- an opening fence, by what its strings are read as
+  spans-fence-around : (read : List Seat → List Mark) → ((string : List Seat) → P (read string) string) → (size : ℕ) (seats : List Seat) → P (fence_around bytes read size seats) seats
+  spans-fence-around read reads size seats =
       let t = bytes_of seats in
       let signs = indent t + size in
       let start = signs + indent (drop signs t) in
@@ -118,23 +125,13 @@ module _ (bytes : List ℕ) (P : List Mark → List Seat → Type 0) (kept : IsK
       spans-around name.CodeFencedFence seats _ refl
       (over seats all
       (spans-both (spans-sequence name.CodeFencedFenceSequence size (take start seats))
-      (spans-both (spans-around name.CodeFencedFenceInfo info _ refl (spans-data content.String info))
-      (spans-both (spans-leaf name.SpaceOrTab (take (rest - word) (drop word seats))) (spans-around name.CodeFencedFenceMeta meta _ refl (spans-data content.String meta))))))
+      (spans-both (spans-around name.CodeFencedFenceInfo info _ refl (reads info))
+      (spans-both (spans-leaf name.SpaceOrTab (take (rest - word) (drop word seats))) (spans-around name.CodeFencedFenceMeta meta _ refl (reads meta))))))
 
   pub spans-code : (most : ℕ) (seats : List Seat) → P (code_marks bytes most seats) seats
   spans-code most seats =
       let n = min most (indent (bytes_of seats)) in
       over seats (take-append-drop n seats) (spans-both (spans-leaf name.SpaceOrTab (take n seats)) (spans-leaf name.CodeFlowChunk (drop n seats)))
-
-  seats-on : (is_open : Bool) (line next : Line) (lines : List Line) → block_seats is_open (line ∷ next ∷ lines) ≡ line ++ block_seats is_open (next ∷ lines)
-  seats-on true line next lines = refl
-  seats-on false line next lines = refl
-
-  -- a line, its line ending, and more
-  line-on : (is_open : Bool) (line next : Line) (lines : List Line) → IsWhole line → line_text line ++ (ending_of line ++ block_seats is_open (next ∷ lines)) ≡ block_seats is_open (line ∷ next ∷ lines)
-  line-on is_open line next lines h =
-      let rest = block_seats is_open (next ∷ lines) in
-      sym (append_assoc (line_text line) (ending_of line) rest) ∙ ap (λ l. l ++ rest) (text-and-ending line h) ∙ sym (seats-on is_open line next lines)
 
   pub spans-lines : (marks : List Seat → List Mark) → ((seats : List Seat) → P (marks seats) seats) → (is_open : Bool) (lines : List Line) → AllByRecursion IsWhole lines → P (lines_marks bytes marks is_open lines) (block_seats is_open lines)
   spans-lines marks each true [] h = no-spans
@@ -168,14 +165,17 @@ module _ (bytes : List ℕ) (P : List Mark → List Seat → Type 0) (kept : IsK
       over (block_seats (not is_closed) (line ∷ next ∷ lines)) (line-on (not is_closed) line next lines h.0)
       (spans-both (spans-code f.indent (line_text line)) (spans-both (spans-leaf name.LineEnding (ending_of line)) (spans-fenced f is_closed (next ∷ lines) h.1)))
 
-  pub spans-code-fenced : (f : Fence) (is_closed : Bool) (lines : List Line) → (is_closed ≡ true → 2 ≤ length lines) → AllByRecursion IsWhole lines → P (code_fenced_marks bytes f is_closed lines) (block_seats (not is_closed) lines)
-  spans-code-fenced f true [] long h = no-spans
-  spans-code-fenced f false [] long h = no-spans
-  spans-code-fenced f true (line ∷ []) long h = absurd (let two = long refl in omega (arith, two))
-  spans-code-fenced f false (line ∷ []) long h = over (line ++ []) (text-and-ending line h.0 ∙ sym (append-nil line)) (spans-both (spans-fence f.size (line_text line)) (spans-leaf name.LineEnding (ending_of line)))
-  spans-code-fenced f is_closed (line ∷ next ∷ lines) long h =
+  -- fenced code, by what its strings are read as
+  pub spans-code-fenced-around : (read : List Seat → List Mark) → ((string : List Seat) → P (read string) string) → (f : Fence) (is_closed : Bool) (lines : List Line) → (is_closed ≡ true → 2 ≤ length lines) → AllByRecursion IsWhole lines
+      → P (code_fenced_around bytes read f is_closed lines) (block_seats (not is_closed) lines)
+  spans-code-fenced-around read reads f true [] long h = no-spans
+  spans-code-fenced-around read reads f false [] long h = no-spans
+  spans-code-fenced-around read reads f true (line ∷ []) long h = absurd (let two = long refl in omega (arith, two))
+  spans-code-fenced-around read reads f false (line ∷ []) long h =
+      over (line ++ []) (text-and-ending line h.0 ∙ sym (append-nil line)) (spans-both (spans-fence-around read reads f.size (line_text line)) (spans-leaf name.LineEnding (ending_of line)))
+  spans-code-fenced-around read reads f is_closed (line ∷ next ∷ lines) long h =
       over (block_seats (not is_closed) (line ∷ next ∷ lines)) (line-on (not is_closed) line next lines h.0)
-      (spans-both (spans-fence f.size (line_text line)) (spans-both (spans-leaf name.LineEnding (ending_of line)) (spans-fenced f is_closed (next ∷ lines) h.1)))
+      (spans-both (spans-fence-around read reads f.size (line_text line)) (spans-both (spans-leaf name.LineEnding (ending_of line)) (spans-fenced f is_closed (next ∷ lines) h.1)))
 
   -- columns of white space at the beginning of a line are no part of its line ending
   seats-behind : (is_open : Bool) (n : ℕ) (line : Line) (lines : List Line) → IsWhole line → n ≤ length (line_text line) → take n line ++ block_seats is_open (drop n line ∷ lines) ≡ block_seats is_open (line ∷ lines)

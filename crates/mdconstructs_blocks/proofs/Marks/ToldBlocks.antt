@@ -83,7 +83,7 @@ module _ (bytes : List ℕ) where
   stand-paragraph lines h =
       let span = span_marks bytes name.Paragraph (body lines) (text_marks bytes false lines) in
       subst (ChunksStand 0) (sym (map-append as_it_is span (last_end bytes lines)))
-      (stand-both 0 (map as_it_is span) (map as_it_is (last_end bytes lines)) (stand-span name.Paragraph (body lines) _ (stand-text 0 false lines (λ is. absurd (cc)) h)) (stand-one _ (single-last AnyContent tt bytes lines)))
+      (stand-both 0 (map as_it_is span) (map as_it_is (last_end bytes lines)) (stand-span name.Paragraph (body lines) _ (stand-text 0 false lines (λ is. absurd (cc)) h)) (stand-one _ (single-last AnyContent bytes lines)))
 
   -- ---- a setext heading
   stand-told-paragraph : (seats : List Seat) (inside : List ToldMark) → ChunksStand 0 inside → ChunksStand 0 (paragraph_told bytes seats inside)
@@ -103,18 +103,18 @@ module _ (bytes : List ℕ) where
       let under = underline_told bytes (line_text below) (underline_inside bytes (line_text below)) in
       stand-both 0 (heading_told bytes lines below) _
       (stand-both 0 paragraph (ends ++ under) (stand-told-paragraph (body lines) _ (stand-text 0 false lines (λ is. absurd (cc)) h))
-      (stand-both 0 ends under (stand-one _ (single-last AnyContent tt bytes lines)) (stand-told-underline (line_text below) _ (single-underline AnyContent tt bytes (line_text below)))))
-      (stand-one _ (single-last AnyContent tt bytes (below ∷ [])))
+      (stand-both 0 ends under (stand-one _ (single-last AnyContent bytes lines)) (stand-told-underline (line_text below) _ (single-underline AnyContent bytes (line_text below)))))
+      (stand-one _ (single-last AnyContent bytes (below ∷ [])))
 
   stand-block : (block : LeafBlock) → IsFull block → ChunksStand 0 (block_told bytes block)
   stand-block (paragraph lines) h = stand-paragraph lines h
   stand-block (setext_heading lines below) h = stand-heading lines below h.0
-  stand-block (blank_line line) h = stand-one _ (single-block-marks AnyContent tt bytes (blank_line line) tt)
-  stand-block (break_line line) h = stand-one _ (single-block-marks AnyContent tt bytes (break_line line) tt)
-  stand-block (atx_heading line) h = stand-one _ (single-block-marks AnyContent tt bytes (atx_heading line) tt)
-  stand-block (indented_code lines) h = stand-one _ (single-block-marks AnyContent tt bytes (indented_code lines) tt)
-  stand-block (fenced_code f is_closed lines) h = stand-one _ (single-block-marks AnyContent tt bytes (fenced_code f is_closed lines) tt)
-  stand-block (html_block is_closed lines) h = stand-one _ (single-block-marks AnyContent tt bytes (html_block is_closed lines) tt)
+  stand-block (blank_line line) h = stand-one _ (single-block-marks AnyContent bytes (blank_line line) tt)
+  stand-block (break_line line) h = stand-one _ (single-block-marks AnyContent bytes (break_line line) tt)
+  stand-block (atx_heading line) h = stand-one _ (single-block-marks AnyContent bytes (atx_heading line) tt)
+  stand-block (indented_code lines) h = stand-one _ (single-block-marks AnyContent bytes (indented_code lines) tt)
+  stand-block (fenced_code f is_closed lines) h = stand-one _ (single-block-marks AnyContent bytes (fenced_code f is_closed lines) tt)
+  stand-block (html_block is_closed lines) h = stand-one _ (single-block-marks AnyContent bytes (html_block is_closed lines) tt)
 
   pub stand-blocks : (blocks : List LeafBlock) → AllByRecursion IsFull blocks → ChunksStand 0 (blocks_told bytes blocks)
   stand-blocks [] h = tt
