@@ -1,12 +1,21 @@
 -- What is read with the children of chains of text: it is refused nowhere where rules refuse nothing, its chains can be read, and the
 -- definitions without states say what is read.
-use Rattle.mdconstructs_documents.proofs.FlowTexts.Whole.{inlines-are-read, texts-are-read}
-use Rattle.mdconstructs_inlines.proofs.InlineChains.{chains-read-inline}
+use Rattle.std.proofs.Common.{Some, subst, sym}
+use Rattle.markdown_base.specs.declared.event.Content.{Content}
+use Rattle.markdown_base.specs.declared.event.Content.TheVariants.{String as StringContent, Text as TextContent}
+use Rattle.markdown_children.specs.Ready.{IsReady}
+use Rattle.mdconstructs_documents.proofs.FlowChains.Ready.{flow-ready}
+use Rattle.mdconstructs_documents.proofs.FlowTexts.Whole.{inlines-are-read}
+use Rattle.mdconstructs_inlines.proofs.InlineChains.{chains-read-inline, inline-stays-ready}
 use Rattle.mdconstructs_inlines.proofs.Looks.{inlines-refuse-nothing}
+use Rattle.mdconstructs_inlines.proofs.StringChains.{chains-read-strings}
 use Rattle.mdconstructs_inlines.specs.InlineRules.{inlines_rules}
-use Rattle.mdconstructs_inlines.specs.LawStatements.{with_inlines}
+use Rattle.mdconstructs_inlines.specs.LawStatements.{with_inlines, with_strings}
 use Rattle.mdconstructs_documents.specs.Documents.{AreFlowInlines}
-use Rattle.mdconstructs_documents.proofs.Prelude.{Unmade, OfFault, NotReady, Memory, Failed, OfMessage, Result, Ok, Err, IsErrOf, IfErr, refl, ◌≡◌, ℕ, List, ⊎_elim, false, true, ap, ◌∙◌, ParseOptions, Event, Message, Name, start_configuration, IsRunRefused, Rules, Given, IsDocument, FlowStart, chain_of, text_of_chain, IsChildRefused, RulesRefuseNothing, none-refused, no-run-refused, Seat, document, virtual_bytes, Gives, GivesDeep, GivesUnready, HasRefusedChild, IsRefusedDeep, HasReadableChains, with_data, with_texts, data_events, paragraph_events, paragraphs_rules, IsReadAs, text_events, text_rules, text-refuses-nothing, HasChildren, AreFlowEvents, AreFlowTexts, chains-read, reads-as-data, reads-items, paragraphs-by-blocks, text-by-blocks}
+use Rattle.mdconstructs_text.proofs.ParagraphTexts.Whole.{read-as-data, read-as-texts}
+use Rattle.mdconstructs_text.specs.ParagraphTexts.{paragraph_texts}
+use Rattle.mdconstructs_text.specs.TextEvents.{seat_events}
+use Rattle.mdconstructs_documents.proofs.Prelude.{Unmade, OfFault, NotReady, Memory, Failed, OfMessage, Result, Ok, Err, IsErrOf, IfErr, refl, ◌≡◌, ℕ, List, ⊎_elim, false, true, ap, ◌∙◌, ParseOptions, Event, Message, Name, start_configuration, IsRunRefused, Rules, Given, IsDocument, FlowStart, chain_of, text_of_chain, IsChildRefused, RulesRefuseNothing, none-refused, no-run-refused, Seat, document, virtual_bytes, Gives, GivesDeep, GivesUnready, HasRefusedChild, IsRefusedDeep, HasReadableChains, with_data, with_texts, data_events, paragraph_events, paragraphs_rules, IsReadAs, text_events, text_rules, HasChildren, AreFlowEvents, chains-read, reads-as-data, reads-items, paragraphs-by-blocks, text-by-blocks}
 
 -- what is not a message, not a failure before and not a list that cannot be read is want of memory
 pub only-memory : {A : Type 0} (result : Result A Unmade) → ((m : Message) → ¬ IsErrOf result (OfFault (OfMessage m))) → ¬ IsErrOf result NotReady → ¬ IsErrOf result (OfFault Failed)
@@ -25,7 +34,7 @@ module _ {R D : Type 0} (rules : Given → Rules R D) (nothing : RulesRefuseNoth
   pub none-refused-deep : (start : Name) (options : ParseOptions) (bytes : List ℕ) (m : Message) → ¬ IsRefusedDeep rules start options bytes m
   none-refused-deep start options bytes m h =
       ⊎_elim (λ (run : IsRunRefused (document options bytes) rules false start m). no-run-refused rules nothing (document options bytes) false start m run)
-      (λ (child : (flat : List Event) × Gives rules start options bytes flat × HasRefusedChild rules options bytes flat m). no-child-refused (document options bytes) child.0 child.2.1.chain m child.2.1.refused) h
+      (λ (child : (flat : List Event) × Gives rules start options bytes flat × HasRefusedChild rules options bytes TextContent flat m). no-child-refused (document options bytes) child.0 child.2.1.chain m child.2.1.refused) h
 
 -- a run from the start of paragraphs has chains that can be read
 pub all-ready : (rules : Given → Rules Unit Unit) → HasReadableChains rules FlowStart → (options : ParseOptions) (bytes : List ℕ) → IsDocument (document options bytes) → ¬ GivesUnready rules FlowStart options bytes
@@ -39,33 +48,37 @@ flat-events rules start events_of reads options bytes is events h = reads (docum
 
 -- the children that the machine of paragraphs read are data, and those that the machine of texts read are the texts
 pub with-data : (options : ParseOptions) (bytes : List ℕ) → IsDocument (document options bytes) → (events : List Event) → GivesDeep paragraphs_rules FlowStart options bytes events
-    → events ≡ with_data (document options bytes) (paragraph_events bytes (virtual_bytes options bytes))
+    → events ≡ paragraph_texts (data_events bytes) bytes (virtual_bytes options bytes)
 with-data options bytes is events h =
     chains-read (document options bytes) h.0 is h.2.0 paragraphs_rules (λ text. data_events bytes text.seats) (reads-as-data (document options bytes)) events h.2.1.0 h.2.1.1
     ∙ ap (with_data (document options bytes)) (flat-events paragraphs_rules FlowStart paragraph_events paragraphs-by-blocks options bytes is h.0 h.1)
+    ∙ read-as-data (document options bytes) is
 
 pub with-texts : (options : ParseOptions) (bytes : List ℕ) → IsDocument (document options bytes) → (events : List Event) → GivesDeep text_rules FlowStart options bytes events
-    → events ≡ with_texts (document options bytes) (paragraph_events bytes (virtual_bytes options bytes))
+    → events ≡ paragraph_texts (seat_events options.constructs bytes) bytes (virtual_bytes options bytes)
 with-texts options bytes is events h =
     chains-read (document options bytes) h.0 is h.2.0 text_rules (text_events (document options bytes)) (reads-items (document options bytes)) events h.2.1.0 h.2.1.1
     ∙ ap (with_texts (document options bytes)) (flat-events text_rules FlowStart paragraph_events text-by-blocks options bytes is h.0 h.1)
+    ∙ read-as-texts (document options bytes) is
 
--- no child that the machine of texts reads is refused
-pub no-text-refused : (options : ParseOptions) (bytes : List ℕ) (flat : List Event) (m : Message) → ¬ HasRefusedChild text_rules options bytes flat m
-no-text-refused options bytes flat m h = no-child-refused text_rules text-refuses-nothing (document options bytes) flat h.1.chain m h.1.refused
+-- what is read of leaf blocks, of which chains of text and then strings are read by the machine of inline text
+module _ (options : ParseOptions) (bytes : List ℕ) where
+  -- no child is refused
+  pub no-inline-refused : (wanted : Content) (old : List Event) (m : Message) → ¬ HasRefusedChild inlines_rules options bytes wanted old m
+  no-inline-refused wanted old m h = no-child-refused inlines_rules inlines-refuse-nothing (document options bytes) old h.1.chain m h.1.refused
 
--- leaf blocks, with the texts of their chains
-pub flow-texts : (options : ParseOptions) (bytes : List ℕ) → IsDocument (document options bytes) → (flat new : List Event) → AreFlowEvents options bytes flat → HasChildren text_rules options bytes flat new → AreFlowTexts options bytes new
-flow-texts options bytes is flat new are h =
-    let g = document options bytes in
-    chains-read g flat is h.0 text_rules (text_events g) (reads-items g) new h.1.0 h.1.1 ∙ ap (with_texts g) are ∙ texts-are-read options bytes is
+  module _ (is : IsDocument (document options bytes)) (flat half : List Event) (are : AreFlowEvents options bytes flat) where
+    abbrev g : Given
+    g = document options bytes
 
--- no child that the machine of inline text reads is refused
-pub no-inline-refused : (options : ParseOptions) (bytes : List ℕ) (flat : List Event) (m : Message) → ¬ HasRefusedChild inlines_rules options bytes flat m
-no-inline-refused options bytes flat m h = no-child-refused inlines_rules inlines-refuse-nothing (document options bytes) flat h.1.chain m h.1.refused
+    strings-ready : IsReady options.tab_size bytes (Some StringContent) flat
+    strings-ready = subst (IsReady options.tab_size bytes (Some StringContent)) (sym are) (flow-ready g is StringContent (λ e. absurd (cc)))
 
--- leaf blocks, with the inline text of their chains
-pub flow-inlines : (options : ParseOptions) (bytes : List ℕ) → IsDocument (document options bytes) → (flat new : List Event) → AreFlowEvents options bytes flat → HasChildren inlines_rules options bytes flat new → AreFlowInlines options bytes new
-flow-inlines options bytes is flat new are h =
-    let g = document options bytes in
-    chains-read-inline g flat is h.0 new h.1.0 h.1.1 ∙ ap (with_inlines g) are ∙ inlines-are-read options bytes is
+    -- strings stay ready where texts were read
+    pub strings-after-inlines : HasChildren inlines_rules options bytes TextContent flat half → IsReady options.tab_size bytes (Some StringContent) half
+    strings-after-inlines h = inline-stays-ready g flat is h.0 (Some StringContent) half h.1.0 strings-ready h.1.1
+
+    -- leaf blocks, with inline text and strings
+    pub flow-inlines : (new : List Event) → HasChildren inlines_rules options bytes TextContent flat half → HasChildren inlines_rules options bytes StringContent half new → AreFlowInlines options bytes new
+    flow-inlines new h k =
+        chains-read-strings g half new k.1.0 is k.0 k.1.1 ∙ ap (with_strings g) (chains-read-inline g flat is h.0 half h.1.0 h.1.1 ∙ ap (with_inlines g) are) ∙ inlines-are-read options bytes is

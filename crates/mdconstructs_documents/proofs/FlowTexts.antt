@@ -6,10 +6,12 @@ pub mod ChainsRead
 pub mod Changes
 pub mod Chunks
 pub mod Forms
+pub mod InlineCuts
 pub mod InlineForms
 pub mod InlineOrder
 pub mod InlineSteps
 pub mod InlineTight
 pub mod Segments
 pub mod Spans
+pub mod Strings
 pub mod Whole

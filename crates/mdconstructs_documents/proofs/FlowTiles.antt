@@ -1,14 +1,14 @@
 -- The innermost spans of the events of leaf blocks account for each virtual byte, also with the texts of their chains.
 use Rattle.mdconstructs_documents.proofs.Prelude.{false, true, subst, sym, virtual_bytes, Tile}
 use Rattle.mdconstructs_blocks.proofs.Marks.LeafSpans.{flow-accounts}
-use Rattle.mdconstructs_documents.proofs.FlowTexts.Accounts.{texts-account}
+use Rattle.mdconstructs_documents.proofs.Emphasis.InlineAccounts.{inlines-account}
 use Rattle.mdconstructs_documents.proofs.Tiled.{tiled}
-use Rattle.mdconstructs_documents.specs.Documents.{AreEventsOf}
+use Rattle.mdconstructs_documents.specs.Documents.{document, AreEventsOf}
 use Rattle.mdconstructs_documents.specs.Tiles.{TilesDocuments}
 use Rattle.mdconstructs_documents.specs.declared.choice.Which.TheVariants.{Flow}
 
 pub flow-tiles : TilesDocuments Flow
 flow-tiles options bytes deep events d = elim deep as (λ is_deep. AreEventsOf is_deep Flow options bytes events → Tile options.tab_size bytes events) [
   | false ↦ λ are. subst (Tile options.tab_size bytes) (sym are) (tiled options.tab_size bytes d.tab.0 _ (flow-accounts options.constructs bytes (virtual_bytes options bytes)))
-  | true ↦ λ are. subst (Tile options.tab_size bytes) (sym are) (tiled options.tab_size bytes d.tab.0 _ (texts-account options.constructs bytes (virtual_bytes options bytes)))
+  | true ↦ λ are. subst (Tile options.tab_size bytes) (sym are) (tiled options.tab_size bytes d.tab.0 _ (inlines-account (document options bytes) d))
 ]

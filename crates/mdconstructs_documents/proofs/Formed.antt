@@ -1,18 +1,18 @@
--- What is known of the events of a document: they are well formed; with the children of their chains of text they are balanced, and stand at
--- places.
-use Rattle.mdconstructs_documents.proofs.Prelude.{Bool, ◌≡◌, ◌∙◌, ℕ, List, [], ap, arith, false, subst, sym, true, Event, FlowStart, Given, GivesDeep, HasChildren, IsDocument, Name, ParseOptions, Rules, TextStart, document, paragraphs_rules, start_configuration, text_rules}
+-- The events of a document are well formed, also with the children of their chains of text.
+use Rattle.mdconstructs_documents.proofs.Prelude.{Bool, ◌≡◌, ◌∙◌, ℕ, List, [], ap, arith, false, subst, sym, true, Event, FlowStart, Given, GivesDeep, IsDocument, Name, ParseOptions, Rules, TextStart, document, paragraphs_rules, start_configuration, text_rules}
+use Rattle.markdown_base.specs.Events.{IsInOrder, IsVoidTight}
 use Rattle.markdown_base.specs.declared.state.State.TheVariants.{Next, Ok}
-use Rattle.markdown_tokenizer.specs.AtPlaces.{AreAtPlaces}
 use Rattle.markdown_tokenizer.specs.Configuration.{Configuration}
 use Rattle.markdown_tokenizer.specs.Engine.{IsRun, IsWellFormed}
 use Rattle.markdown_tokenizer.specs.Reading.{EndsIn, Reading}
 use Rattle.markdown_tokenizer.specs.Resolving.{LeavesEvents}
 use Rattle.markdown_tokenizer.specs.Text.{IsText, Text}
 use Rattle.markdown_tokenizer.specs.declared.subtokenize.Subresult.{Subresult}
-use Rattle.mdconstructs_documents.specs.Documents.{Stand}
+use Rattle.mdconstructs_documents.proofs.DeepEvents.{with-data, with-texts}
 use Rattle.mdconstructs_machines.specs.Laws.Paragraphs.{paragraphs-fit, paragraphs-known}
 use Rattle.mdconstructs_machines.specs.Paragraphs.{knows_chunk, paragraphs}
 use Rattle.mdconstructs_tables.proofs.Tables.Lawful.{knowing-lawful}
+use Rattle.mdconstructs_text.proofs.ParagraphTexts.Whole.{data-formed, texts-formed}
 use Rattle.mdconstructs_text.proofs.Paragraphs.ChainEvents.{chains-stand}
 use Rattle.mdconstructs_text.proofs.Texts.Ends.{holds-at-end, texts-unresolved}
 
@@ -28,18 +28,22 @@ paragraphs-unresolved g text is flag r ends well =
     let h = holds-at-end g paragraphs_rules (knowing-lawful paragraphs knows_chunk g paragraphs-fit paragraphs-known).invariant_kept TextStart (1, omega arith, (cc)) text is flag r ends well in
     (h.known.resolvers, h.known.edits)
 
+-- with the text of each chain read, they are well formed: their order, and the void spans, are those of the lines
 module _ (options : ParseOptions) (bytes : List ℕ) (is : IsDocument (document options bytes)) (events : List Event) where
-  pub data-stand : GivesDeep paragraphs_rules FlowStart options bytes events → Stand options bytes events
-  data-stand h =
-      let g = document options bytes in
-      let formed = run-formed g paragraphs_rules FlowStart h.0 h.1.0 h.1.1 in
-      record { balanced = h.2.1.1.in_shape.balanced; at_places = chains-stand g h.0 is h.2.0 paragraphs_rules (paragraphs-unresolved g) events h.2.1.0 h.2.1.1 formed.at_places }
+  abbrev g : Given
+  g = document options bytes
 
-  -- with children that the machine of texts read, a list that stands at places does
-  pub children-stand : (flat : List Event) → AreAtPlaces options.tab_size bytes flat → HasChildren text_rules options bytes flat events → Stand options bytes events
-  children-stand flat at_places h =
-      let g = document options bytes in
-      record { balanced = h.1.1.in_shape.balanced; at_places = chains-stand g flat is h.0 text_rules (texts-unresolved g) events h.1.0 h.1.1 at_places }
+  abbrev AreInOrder : List Event → Type 0
+  AreInOrder es = IsVoidTight es × IsInOrder bytes es
 
-  pub texts-stand : GivesDeep text_rules FlowStart options bytes events → Stand options bytes events
-  texts-stand h = children-stand h.0 (run-formed (document options bytes) text_rules FlowStart h.0 h.1.0 h.1.1).at_places h.2
+  pub data-well-formed : GivesDeep paragraphs_rules FlowStart options bytes events → IsWellFormed g events
+  data-well-formed h =
+      let flat = run-formed g paragraphs_rules FlowStart h.0 h.1.0 h.1.1 in
+      let order = subst AreInOrder (sym (with-data options bytes is events h)) (data-formed g is) in
+      record { balanced = h.2.1.1.in_shape.balanced; void_tight = order.0; at_places = chains-stand g h.0 is h.2.0 paragraphs_rules (paragraphs-unresolved g) events h.2.1.0 h.2.1.1 flat.at_places; in_order = order.1 }
+
+  pub texts-well-formed : GivesDeep text_rules FlowStart options bytes events → IsWellFormed g events
+  texts-well-formed h =
+      let flat = run-formed g text_rules FlowStart h.0 h.1.0 h.1.1 in
+      let order = subst AreInOrder (sym (with-texts options bytes is events h)) (texts-formed g is) in
+      record { balanced = h.2.1.1.in_shape.balanced; void_tight = order.0; at_places = chains-stand g h.0 is h.2.0 text_rules (texts-unresolved g) events h.2.1.0 h.2.1.1 flat.at_places; in_order = order.1 }

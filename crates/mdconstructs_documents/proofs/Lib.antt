@@ -1,4 +1,5 @@
 mod DeepEvents
+mod Emphasis
 mod FlowChains
 mod FlowRuns
 mod FlowTexts

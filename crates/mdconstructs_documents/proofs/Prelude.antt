@@ -61,5 +61,5 @@ pub use Rattle.mdconstructs_machines.proofs.BlockReads.Accounts.{paragraphs-acco
 pub use Rattle.mdconstructs_machines.proofs.LineReads.Accounts.{lines-account-for}
 pub use Rattle.mdconstructs_machines.specs.Innermost.{AccountFor, span_over, stretch_bytes}
 pub use Rattle.mdconstructs_documents.specs.Tiles.{StandEndToEnd, Tile}
-pub use Rattle.mdconstructs_documents.specs.Documents.{AreFlowEvents, AreFlowTexts}
+pub use Rattle.mdconstructs_documents.specs.Documents.{AreFlowEvents}
 pub use Rattle.mdconstructs_documents.specs.Runs.{HasChildren}

@@ -5,12 +5,12 @@ use Rattle.markdown_base.specs.Events.{IsVoidTight}
 use Rattle.markdown_base.specs.declared.event.Name.TheVariants.{Data, LineEnding, Paragraph}
 use Rattle.mdconstructs_machines.specs.LineEvents.{all_of, data_line, ending_of, line_text, lines_in, paragraph_line}
 use Rattle.mdconstructs_machines.specs.Spans.{leaf, span}
+use Rattle.mdconstructs_text.proofs.ParagraphTexts.Whole.{data-formed, texts-formed}
 use Rattle.mdconstructs_text.proofs.Paragraphs.Formed.{paragraphs-formed}
-use Rattle.mdconstructs_text.proofs.Paragraphs.Tight.{data-stays-tight, texts-stay-tight}
 use Rattle.mdconstructs_text.proofs.Texts.Built.{IsKeptBySpans, flat-built, line-built}
 use Rattle.mdconstructs_text.proofs.Texts.Tight.{data-tight, tight-kept}
 use Rattle.mdconstructs_documents.proofs.FlowRuns.{flow-formed}
-use Rattle.mdconstructs_documents.proofs.FlowTexts.Whole.{texts-well-formed}
+use Rattle.mdconstructs_documents.proofs.FlowTexts.InlineForms.{inlines-well-formed}
 use Rattle.mdconstructs_documents.specs.Documents.{AreEventsOf}
 use Rattle.mdconstructs_documents.specs.declared.choice.Which.{Which}
 use Rattle.mdconstructs_documents.specs.declared.choice.Which.TheVariants.{Lines, Paragraphs, Peek, Deep, Back, Save, Text, Flow}
@@ -41,8 +41,8 @@ module _ (options : ParseOptions) (bytes : List ℕ) (is : IsDocument (document 
       subst IsVoidTight (sym are) (kept.both (leaf bytes Data first) (leaf bytes Data others) (kept.alone Data first) (kept.alone Data others))
   events-tight deep Save events are = subst IsVoidTight (sym are) (flat-built bytes IsVoidTight kept (data_line bytes) (drop 1 (lines_in seats)) (line-built bytes IsVoidTight kept))
   events-tight false Paragraphs events are = subst IsVoidTight (sym are) flat-tight
-  events-tight true Paragraphs events are = subst IsVoidTight (sym are) (data-stays-tight (document options bytes) is).new
+  events-tight true Paragraphs events are = subst IsVoidTight (sym are) (data-formed (document options bytes) is).0
   events-tight false Text events are = subst IsVoidTight (sym are) flat-tight
-  events-tight true Text events are = subst IsVoidTight (sym are) (texts-stay-tight (document options bytes) is).new
+  events-tight true Text events are = subst IsVoidTight (sym are) (texts-formed (document options bytes) is).0
   events-tight false Flow events are = (flow-formed options bytes is events are).void_tight
-  events-tight true Flow events are = (texts-well-formed options bytes is events are).void_tight
+  events-tight true Flow events are = (inlines-well-formed options bytes is events are).void_tight

@@ -5,19 +5,18 @@ use Rattle.markdown_base.specs.declared.configuration.Constructs.{Constructs}
 use Rattle.markdown_base.specs.declared.configuration.ParseOptions.{ParseOptions}
 use Rattle.markdown_base.specs.declared.event.Content.TheVariants.{Text as TextContent}
 use Rattle.markdown_base.specs.declared.event.Event.{Event}
-use Rattle.markdown_base.specs.Events.{IsBalanced}
 use Rattle.markdown_base.specs.Presets.{default_parse_options}
 use Rattle.markdown_base.specs.Virtual.{Seat, virtual}
 use Rattle.markdown_tokenizer.specs.Text.{Given, IsDocument}
-use Rattle.markdown_tokenizer.specs.AtPlaces.{AreAtPlaces}
-use Rattle.markdown_tokenizer.specs.Engine.{IsWellFormed, given_by}
+use Rattle.markdown_tokenizer.specs.Engine.{given_by}
 use Rattle.markdown_tokenizer.specs.Cuts.{cuts_every}
 use Rattle.markdown_children.specs.Ready.{IsReady}
 use Rattle.mdconstructs_blocks.specs.LeafEvents.{flow_events}
 use Rattle.mdconstructs_machines.specs.LineEvents.{line_events, data_events, back_events, save_events}
 use Rattle.mdconstructs_machines.specs.ParagraphEvents.{paragraph_events}
-use Rattle.mdconstructs_text.specs.ChainTexts.{with_data, with_texts}
-use Rattle.mdconstructs_documents.specs.FlowTexts.{flow_inlines, flow_texts}
+use Rattle.mdconstructs_text.specs.ParagraphTexts.{paragraph_texts}
+use Rattle.mdconstructs_text.specs.TextEvents.{seat_events}
+use Rattle.mdconstructs_documents.specs.FlowTexts.{flow_inlines}
 use Rattle.mdconstructs_documents.specs.declared.choice.Choice.{Choice}
 use Rattle.mdconstructs_documents.specs.declared.choice.Which.{Which}
 use Rattle.mdconstructs_documents.specs.declared.choice.Which.TheVariants.{Lines, Paragraphs, Peek, Deep, Back, Save, Text, Flow}
@@ -44,11 +43,7 @@ module _ (options : ParseOptions) (bytes : List ℕ) where
   abbrev pub IsReadable : List Event → Type 0
   IsReadable events = IsReady options.tab_size bytes (Some TextContent) events
 
-  -- and with the events of their texts in place of chunks
-  abbrev pub AreFlowTexts : List Event → Type 0
-  AreFlowTexts events = events ≡ flow_texts options.constructs bytes virtual_bytes
-
-  -- or with their texts read as inline text
+  -- and with their texts read as inline text, and strings as strings
   abbrev pub AreFlowInlines : List Event → Type 0
   AreFlowInlines events = events ≡ flow_inlines options.constructs bytes virtual_bytes
 
@@ -56,8 +51,8 @@ module _ (options : ParseOptions) (bytes : List ℕ) where
 abbrev pub ChainsAreReadable : Type 0
 ChainsAreReadable = (options : ParseOptions) (bytes : List ℕ) (events : List Event) → IsDocument (document options bytes) → AreFlowEvents options bytes events → IsReadable options bytes events
 
--- Events are the events of a document, by the machine that reads it, from the document's lines. Paragraphs have chunks; with `deep`, the
--- events of the text of each chain of chunks are in place of the chunks: its lines as data, or its items. None of it has states.
+-- Events are the events of a document, by the machine that reads it, from the document's lines. Paragraphs have chunks; with `deep`, each
+-- has the events of its text in their place: its lines as data, or its items. None of it has states.
 abbrev pub AreEventsOf : (deep : Bool) → Which → ParseOptions → List ℕ → List Event → Type 0
 AreEventsOf deep Lines options bytes events = events ≡ line_events bytes (virtual_bytes options bytes)
 AreEventsOf deep Peek options bytes events = events ≡ data_events bytes (virtual_bytes options bytes)
@@ -65,23 +60,11 @@ AreEventsOf deep Deep options bytes events = events ≡ data_events bytes (virtu
 AreEventsOf deep Back options bytes events = events ≡ back_events bytes (virtual_bytes options bytes)
 AreEventsOf deep Save options bytes events = events ≡ save_events bytes (virtual_bytes options bytes)
 AreEventsOf false Paragraphs options bytes events = events ≡ paragraph_events bytes (virtual_bytes options bytes)
-AreEventsOf true Paragraphs options bytes events = events ≡ with_data (document options bytes) (paragraph_events bytes (virtual_bytes options bytes))
+AreEventsOf true Paragraphs options bytes events = events ≡ paragraph_texts (data_events bytes) bytes (virtual_bytes options bytes)
 AreEventsOf false Text options bytes events = events ≡ paragraph_events bytes (virtual_bytes options bytes)
-AreEventsOf true Text options bytes events = events ≡ with_texts (document options bytes) (paragraph_events bytes (virtual_bytes options bytes))
+AreEventsOf true Text options bytes events = events ≡ paragraph_texts (seat_events options.constructs bytes) bytes (virtual_bytes options bytes)
 AreEventsOf false Flow options bytes events = AreFlowEvents options bytes events
-AreEventsOf true Flow options bytes events = AreFlowTexts options bytes events
-
--- Events are balanced, and stand at places of a document
-pub record Stand (options : ParseOptions) (bytes : List ℕ) (events : List Event) : Type 0 where
-  pub balanced : IsBalanced events
-  pub at_places : AreAtPlaces options.tab_size bytes events
-
--- The events of a document are well formed: balanced, at places of it, and in order of these. Where the chunks of paragraphs alone were read,
--- they are balanced and at places; their order is not proved yet
-abbrev pub AreFormed : Which → (deep : Bool) → ParseOptions → List ℕ → List Event → Type 0
-AreFormed Paragraphs true options bytes events = Stand options bytes events
-AreFormed Text true options bytes events = Stand options bytes events
-AreFormed which deep options bytes events = IsWellFormed (document options bytes) events
+AreEventsOf true Flow options bytes events = AreFlowInlines options bytes events
 
 -- the places at which a document is cut: none, or every n-th of its virtual bytes
 abbrev pub cut_places : Choice → List ℕ → List (ℕ × ℕ)

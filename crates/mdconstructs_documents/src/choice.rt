@@ -22,8 +22,8 @@ pub enum Which {
     Save,
     /// `text`: as `paragraphs`, but in the text of its chunks are code spans, autolinks and escapes.
     Text,
-    /// `flow`: the leaf blocks of CommonMark without HTML. In the text of paragraphs and headings is what `text`
-    /// reads.
+    /// `flow`: the leaf blocks of CommonMark. In paragraphs and headings is inline text, with emphasis; in info strings
+    /// of fenced code are escapes and character references.
     Flow,
 }
 

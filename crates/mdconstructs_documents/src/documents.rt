@@ -7,12 +7,12 @@ ghost use Rattle.markdown_tokenizer.specs.Engine.{AreCuts, IsWellFormed, given_b
 ghost use Rattle.markdown_tokenizer.specs.Text.{IsDocument};
 ghost use Rattle.mdconstructs_text.specs.TextEvents.{text_events};
 ghost use Rattle.mdconstructs_documents.specs.Choices.{CanCut};
-ghost use Rattle.mdconstructs_documents.specs.Documents.{document, options_with, cut_places, AreEventsOf, AreFlowEvents, AreFlowInlines, AreFlowTexts, AreFormed};
+ghost use Rattle.mdconstructs_documents.specs.Documents.{document, options_with, cut_places, AreEventsOf, AreFlowEvents, AreFlowInlines};
 
 use crate::choice::{Choice, Which};
 use crate::making::{Unmade, read_by, read_deep_by, read_resolved_by, with_children};
 use markdown_base::configuration::{Constructs, ParseOptions, TabSize};
-use markdown_base::event::Event;
+use markdown_base::event::{Content, Event};
 use markdown_base::state::Name;
 use markdown_tokenizer::tokenizer::{Fault, cuts_every};
 use mdconstructs_flow::flow::Flow;
@@ -28,8 +28,8 @@ use std::alloc::{AllocError, Global};
 
 /// The events of a document, read by the machine that the choice names, with these constructs. The cuts leave no trace in them.
 ///
-/// They are well formed: balanced, at places of the document, and in order of these. Where chunks of text were read, they are balanced
-/// and at places. Each void span is empty, also there: no chunks tear a span of what their chain is read as.
+/// They are well formed, also where the text of each chain of chunks is in their place: balanced, each void span empty, at places of the
+/// document, and in order of these.
 ///
 /// A cut in the choice must be at least 1. It fails only if it runs out of memory: no machine that can be chosen refuses a
 /// document, and the chains of text that such a machine makes can be read.
@@ -42,7 +42,7 @@ pub fn events_of(
     requires limit { IsWithinLimit choice.now.tab bytes.now }
     requires cut { CanCut choice.now }
     ensures events { IfOk result (λ events. AreEventsOf choice.now.deep choice.now.machine (options_with constructs choice.now.tab) bytes.now events.items) }
-    ensures formed { IfOk result (λ events. AreFormed choice.now.machine choice.now.deep (options_with constructs choice.now.tab) bytes.now events.items) }
+    ensures formed { IfOk result (λ events. IsWellFormed (document (options_with constructs choice.now.tab) bytes.now) events.items) }
     ensures tight { IfOk result (λ events. IsVoidTight events.items) }
 {
     match read_as(alloc, bytes, constructs, choice) {
@@ -125,7 +125,7 @@ fn read_as(
     requires limit { IsWithinLimit choice.now.tab bytes.now }
     requires cut { CanCut choice.now }
     ensures events { IfOk result (λ events. AreEventsOf choice.now.deep choice.now.machine (options_with constructs choice.now.tab) bytes.now events.items) }
-    ensures formed { IfOk result (λ events. AreFormed choice.now.machine choice.now.deep (options_with constructs choice.now.tab) bytes.now events.items) }
+    ensures formed { IfOk result (λ events. IsWellFormed (document (options_with constructs choice.now.tab) bytes.now) events.items) }
     ensures err { IfErr result (λ unmade. unmade ≡ Unmade.Fault Fault.Memory) }
     ensures document { IsOk result → IsDocument (document (options_with constructs choice.now.tab) bytes.now) }
 {
@@ -146,7 +146,7 @@ fn read_as(
             read_deep_by(alloc, &Text {}, Name::FlowStart, bytes, options, cuts)
         }
         Which::Text => read_by(alloc, &Text {}, Name::FlowStart, bytes, options, cuts),
-        Which::Flow if choice.deep => read_flow_and_texts(alloc, bytes, options, cuts),
+        Which::Flow if choice.deep => read_flow_and_inlines(alloc, bytes, options, cuts),
         Which::Flow => read_flow(alloc, bytes, options, cuts),
     }
 }
@@ -167,24 +167,6 @@ fn read_flow(
     read_resolved_by(alloc, &Flow {}, Name::FlowStart, bytes, options, cuts, true)
 }
 
-/// The events of leaf blocks, with those of the text of each chain of chunks in place of the chunks.
-fn read_flow_and_texts(
-    alloc: Global,
-    bytes: &[u8],
-    options: &ParseOptions,
-    cuts: &[(usize, usize)],
-) -> Result<Vec<Event>, Unmade>
-    requires limit { IsWithinLimit options.now.tab_size bytes.now }
-    requires cuts { AreCuts options.now.tab_size bytes.now cuts.now }
-    ensures events { IfOk result (λ events. AreFlowTexts options.now bytes.now events.items) }
-    ensures formed { IfOk result (λ events. IsWellFormed (document options.now bytes.now) events.items) }
-    ensures err { IfErr result (λ unmade. unmade ≡ Unmade.Fault Fault.Memory) }
-    ensures document { IsDocument (document options.now bytes.now) }
-{
-    let events = read_flow(alloc, bytes, options, cuts)?;
-    with_children(alloc, &Text {}, bytes, options, events)
-}
-
 /// As [`read_document`], with the reason for which there are no events.
 fn read_flow_and_inlines(
     alloc: Global,
@@ -197,9 +179,11 @@ fn read_flow_and_inlines(
     ensures events { IfOk result (λ events. AreFlowInlines options.now bytes.now events.items) }
     ensures formed { IfOk result (λ events. IsWellFormed (document options.now bytes.now) events.items) }
     ensures err { IfErr result (λ unmade. unmade ≡ Unmade.Fault Fault.Memory) }
+    ensures document { IsDocument (document options.now bytes.now) }
 {
     let events = read_flow(alloc, bytes, options, cuts)?;
-    with_children(alloc, &Inlines {}, bytes, options, events)
+    let read = with_children(alloc, &Inlines {}, bytes, options, events, Content::Text)?;
+    with_children(alloc, &Inlines {}, bytes, options, read, Content::String)
 }
 
 /// The places at which a document is cut.

@@ -1,7 +1,7 @@
 //! The laws about documents. Each is a function that does nothing; its contract is the law.
 
 ghost use Rattle.mdconstructs_documents.specs.Documents.{ChainsAreReadable};
-ghost use Rattle.mdconstructs_documents.specs.FlowTextLaws.{InlinesAreFormed, InlinesAreRead, TextsAccount, TextsAreFormed, TextsAreRead};
+ghost use Rattle.mdconstructs_documents.specs.FlowTextLaws.{InlinesAccount, InlinesAreFormed, InlinesAreRead};
 ghost use Rattle.mdconstructs_documents.specs.Tiles.{TilesDocuments};
 ghost use Rattle.mdconstructs_documents.specs.declared.choice.Which.TheVariants.{Flow, Lines, Paragraphs, Text};
 
@@ -24,13 +24,8 @@ pub fn chains_of_leaf_blocks_can_be_read()
     ensures { ChainsAreReadable }
 {}
 
-/// Where the texts of leaf blocks are read, each text stands in its block: the list with the events of each chain's text in place of its
-/// chunks is what a definition says of the lines. It has neither chains nor parts.
-pub fn texts_stand_in_their_blocks()
-    ensures { TextsAreRead }
-{}
-
-/// And where the texts are read as inline text: emphasis stands in its block.
+/// Where the texts of leaf blocks are read as inline text, each stands in its block, and so does emphasis: the list with the events of each
+/// chain's text in place of its chunks is what a definition says of the lines. It has neither chains nor parts.
 pub fn inline_texts_stand_in_their_blocks()
     ensures { InlinesAreRead }
 {}
@@ -41,13 +36,8 @@ pub fn inline_texts_in_their_blocks_are_well_formed()
     ensures { InlinesAreFormed }
 {}
 
-/// Each virtual byte is in exactly one innermost span of the events of leaf blocks with their texts.
-pub fn texts_in_their_blocks_account_for_each_byte()
-    ensures { TextsAccount }
-{}
-
-/// The events of a document's leaf blocks with their texts are well formed: balanced, each void span empty, at places of the document, and
-/// in order of these.
-pub fn texts_in_their_blocks_are_well_formed()
-    ensures { TextsAreFormed }
+/// Each virtual byte of a document is in exactly one innermost span of the events of its leaf blocks with inline text: what emphasis puts in
+/// place of a delimiter run loses no byte, and no span of it is empty.
+pub fn inline_texts_in_their_blocks_account_for_each_byte()
+    ensures { InlinesAccount }
 {}

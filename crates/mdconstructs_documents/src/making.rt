@@ -7,7 +7,7 @@ ghost use Rattle.markdown_tokenizer.specs.Text.{IsDocument};
 ghost use Rattle.markdown_tokenizer.specs.declared.tokenizer.fault.Fault.TheVariants.{Memory};
 ghost use Rattle.markdown_children.specs.Ready.{IsReady};
 ghost use Rattle.mdconstructs_documents.specs.Documents.{document};
-ghost use Rattle.mdconstructs_documents.specs.Runs.{Gives, Returns, GivesDeep, IsRefusedDeep, GivesUnready, HasChildren, HasRefusedChild};
+ghost use Rattle.mdconstructs_documents.specs.Runs.{Gives, Returns, GivesDeep, IsRefusedDeep, GivesUnready, HasChildren, HasRefusedChild, MayRead};
 ghost use Rattle.mdconstructs_documents.specs.declared.making.Unmade.TheVariants.{Fault as OfFault};
 
 use markdown_base::configuration::ParseOptions;
@@ -113,31 +113,32 @@ pub(crate) fn read_deep_by<M: Machine>(
     ensures document { IsDocument (document options.now bytes.now) }
 {
     let events = read_by(alloc, machine, start, bytes, options, cuts)?;
-    with_children(alloc, machine, bytes, options, events)
+    with_children(alloc, machine, bytes, options, events, Content::Text)
 }
 
-/// The events with the children of their chains of text in place of the chunks. The machine reads each child.
+/// The events with the children of their chains of a content in place of the chunks. The machine reads each child.
 pub(crate) fn with_children<M: Machine>(
     alloc: Global,
     machine: &M,
     bytes: &[u8],
     options: &ParseOptions,
     mut events: Vec<Event>,
+    content: Content,
 ) -> Result<Vec<Event>, Unmade>
     requires limit { IsWithinLimit options.now.tab_size bytes.now }
-    requires start { Contains (M.rules machine.now (document options.now bytes.now)).starts Name.TextStart }
-    ensures events { IfOk result (λ new. HasChildren (M.rules machine.now) options.now bytes.now events.items new.items) }
-    ensures message { (m : _) → IsErrOf result (Unmade.Fault (Fault.Message m)) → HasRefusedChild (M.rules machine.now) options.now bytes.now events.items m }
-    ensures unready { IsErrOf result Unmade.NotReady → ¬ IsReady options.now.tab_size bytes.now (Some Content.Text) events.items }
+    requires start { MayRead (M.rules machine.now) options.now bytes.now content }
+    ensures events { IfOk result (λ new. HasChildren (M.rules machine.now) options.now bytes.now content events.items new.items) }
+    ensures message { (m : _) → IsErrOf result (Unmade.Fault (Fault.Message m)) → HasRefusedChild (M.rules machine.now) options.now bytes.now content events.items m }
+    ensures unready { IsErrOf result Unmade.NotReady → ¬ IsReady options.now.tab_size bytes.now (Some content) events.items }
     ensures cause { ¬ IsErrOf result (Unmade.Fault Fault.Failed) }
 {
-    let text = Some(&Content::Text);
-    if !ready(alloc, events.as_slice(), bytes, options.tab_size, text)? {
+    let wanted = Some(&content);
+    if !ready(alloc, events.as_slice(), bytes, options.tab_size, wanted)? {
         return Err(Unmade::NotReady);
     }
     let Some(parse_state) = ParseState::new(bytes, options, machine) else {
         unreachable!();
     };
-    subtokenize(alloc, &mut events, &parse_state, text)?;
+    subtokenize(alloc, &mut events, &parse_state, wanted)?;
     Ok(events)
 }

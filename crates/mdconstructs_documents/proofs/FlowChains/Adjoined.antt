@@ -5,7 +5,7 @@ use Rattle.std.specs.Prelude.{slice_get, option_and_then}
 use Rattle.std.specs.List.{AllByRecursion}
 use Rattle.markdown_base.proofs.Common.{every-get}
 use Rattle.markdown_base.specs.declared.event.Content.{Content}
-use Rattle.markdown_base.specs.declared.event.Content.TheVariants.{Flow, Text}
+use Rattle.markdown_base.specs.declared.event.Content.TheVariants.{Flow}
 use Rattle.markdown_base.specs.declared.event.Event.{Event}
 use Rattle.markdown_base.specs.Events.{IsBalanced, empty, IsVoidTight, IsInOrder}
 use Rattle.markdown_base.specs.Places.{stands_before, IsPointOf, IsShown}
@@ -13,7 +13,7 @@ use Rattle.markdown_edits.specs.Links.{AreMutual, IsChunk, IsLinkedEnter, conten
 use Rattle.markdown_children.specs.Ready.{IsReady, IsShownPlace, place_at}
 use Rattle.markdown_tokenizer.specs.AtPlaces.{AreAtPlaces}
 use Rattle.mdconstructs_blocks.specs.ChunksJoin.{ChunksJoin}
-use Rattle.mdconstructs_text.proofs.Paragraphs.ChainEvents.{is-text-content}
+use Rattle.mdconstructs_documents.proofs.FlowChains.Contents.{is-content}
 use Rattle.mdconstructs_text.proofs.Paragraphs.ChunkPairs.{place-at-event}
 use Rattle.mdconstructs_text.proofs.Paragraphs.ChunksReady.{between-none}
 
@@ -75,28 +75,28 @@ module _ (t : ℕ) (bytes : List ℕ) (es : List Event) (h : AreAdjoined es) (ba
       let second : place_at es j ≡ (get_or es j e).point = place-at-event es j f then ∙ ap (λ (x : Event). x.point) (sym (get_or_from_slice_get es j f e then)) in
       (λ x. stands_before (second x) (first x)) ∙ order.0 i j e less (slice_get_within es j f then)
 
-  pub adjoined-ready : IsReady t bytes (Some Text) es
-  adjoined-ready = record {
+  pub adjoined-ready : (wanted : Content) → ¬ (wanted ≡ Flow) → IsReady t bytes (Some wanted) es
+  adjoined-ready wanted other = record {
     balanced = balanced;
     chunks = chunk-at;
     joined = joined;
     forward = λ k d is. let next = (h.pairs k d is).next in omega (arith, next);
     one_content = λ k d is. sym (h.pairs k d is).content;
     readable = λ k fit.
-        let text = is-text-content (content_at es k) fit in
-        let c = chunk-at k Text text in
+        let at = is-content wanted (content_at es k) fit in
+        let c = chunk-at k wanted at in
         record {
-          content = λ flow. let no : Some Text ≡ Some Flow = sym text ∙ flow in absurd (cc);
+          content = λ flow. let no : Some wanted ≡ Some Flow = sym at ∙ flow in other (cc);
           from = stands-shown k c.enter c.enter_at;
           to = stands-shown (k + 1) c.exit c.exit_at;
           forward = stand-in-order k (k + 1) c.enter c.exit (omega arith) c.enter_at c.exit_at;
         };
     gaps = λ k d fit is.
-        let text = is-text-content (content_at es k) fit in
+        let at = is-content wanted (content_at es k) fit in
         let pair = h.pairs k d is in
         let next = pair.next in
-        let c = chunk-at k Text text in
-        let behind = chunk-at d Text (pair.content ∙ text) in
+        let c = chunk-at k wanted at in
+        let behind = chunk-at d wanted (pair.content ∙ at) in
         record {
           forward = stand-in-order (k + 1) d c.exit behind.enter (omega (arith, next)) c.exit_at behind.enter_at;
           in_line = inl (sym pair.place);

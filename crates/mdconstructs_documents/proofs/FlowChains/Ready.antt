@@ -1,6 +1,7 @@
--- The events of a document's leaf blocks have chains of text that can be read.
-use Rattle.std.proofs.Common.{List, Some, sym, subst}
-use Rattle.markdown_base.specs.declared.event.Content.TheVariants.{Text as TextContent}
+-- The events of a document's leaf blocks have chains of text, and strings, that can be read.
+use Rattle.std.proofs.Common.{◌≡◌, List, Some, sym, subst}
+use Rattle.markdown_base.specs.declared.event.Content.{Content}
+use Rattle.markdown_base.specs.declared.event.Content.TheVariants.{Flow, Text as TextContent}
 use Rattle.markdown_base.specs.declared.event.Event.{Event}
 use Rattle.markdown_children.specs.Ready.{IsReady}
 use Rattle.markdown_tokenizer.specs.Engine.{IsWellFormed}
@@ -24,8 +25,8 @@ module _ (g : Given) (document : IsDocument g) where
   flow-adjoined : AreAdjoined flat
   flow-adjoined = joined-adjoined flat (blocks-join g document)
 
-  flow-ready : IsReady g.tab g.bytes (Some TextContent) flat
-  flow-ready = adjoined-ready g.tab g.bytes flat flow-adjoined formed.balanced formed.void_tight formed.at_places formed.in_order (blocks-join g document).both_ways
+  pub flow-ready : (wanted : Content) → ¬ (wanted ≡ Flow) → IsReady g.tab g.bytes (Some wanted) flat
+  flow-ready wanted other = adjoined-ready g.tab g.bytes flat flow-adjoined formed.balanced formed.void_tight formed.at_places formed.in_order (blocks-join g document).both_ways wanted other
 
 pub flow-readable : ChainsAreReadable
-flow-readable options bytes events is are = subst (IsReadable options bytes) (sym are) (flow-ready (document options bytes) is)
+flow-readable options bytes events is are = subst (IsReadable options bytes) (sym are) (flow-ready (document options bytes) is TextContent (λ e. absurd (cc)))

@@ -1,9 +1,10 @@
--- The marks of leaf blocks are cut into segments over their lines: the lines of a text are one chain.
-use Rattle.std.proofs.Common.{◌≡◌, ℕ, ◌+◌, ◌-◌, List, [], ◌∷◌, ◌++◌, Bool, true, false, Some, length, take, drop, refl, sym, ap, ◌∙◌, subst, arith}
-use Rattle.std.specs.List.{AllByRecursion, flat_map}
+-- The marks of leaf blocks are cut into segments over their lines: the lines of a text are one chain, and so is each string.
+use Rattle.std.proofs.Common.{◌≡◌, ℕ, ◌+◌, ◌-◌, List, [], ◌∷◌, ◌++◌, Bool, true, false, not, Some, length, take, drop, refl, sym, ap, ◌∙◌, subst, arith}
+use Rattle.std.specs.List.{AllByRecursion, flat_map, prefix_len}
 use Rattle.std.proofs.lemmas.Grind.{flat_map-append}
 use Rattle.std.proofs.lemmas.List.{append-nil}
 use Rattle.markdown_base.specs.declared.configuration.Constructs.{Constructs}
+use Rattle.markdown_base.specs.declared.event.Content.{Content}
 use Rattle.markdown_base.specs.declared.event.Content.TheVariants as content
 use Rattle.markdown_base.specs.declared.event.Event.{Event}
 use Rattle.markdown_base.specs.declared.event.Name.{Name}
@@ -11,17 +12,20 @@ use Rattle.markdown_base.specs.declared.event.Name.TheVariants as name
 use Rattle.markdown_base.specs.Virtual.{Seat}
 use Rattle.markdown_tokenizer.proofs.Positions.Order.{every-back, every-front}
 use Rattle.mdconstructs_machines.proofs.BlockReads.Accounts.{lines-are-all}
-use Rattle.mdconstructs_machines.specs.LineEvents.{all_of, line_text, lines_in}
+use Rattle.markdown_tokenizer.specs.Plain.{HaveNoLinks}
+use Rattle.mdconstructs_machines.specs.Breaks.{is_white}
+use Rattle.mdconstructs_machines.specs.LineEvents.{all_of, ending_of, line_text, lines_in}
 use Rattle.mdconstructs_blocks.proofs.Marks.FullBlocks.{IsFull, StartsText, leaf-blocks-full}
 use Rattle.mdconstructs_blocks.proofs.Marks.LeafSpans.{block_lines, leaf-blocks-lines, setext-body}
-use Rattle.mdconstructs_blocks.proofs.Marks.MarkChunks.{AreSingle, IsPlain, single-block-marks, single-last, single-sequence, single-span, single-underline}
-use Rattle.mdconstructs_blocks.proofs.Lines.WholeLines.{IsWhole, body-and-last, three-parts, whole-lines}
-use Rattle.mdconstructs_blocks.specs.BlocksRead.{last_ending}
+use Rattle.mdconstructs_blocks.proofs.Marks.MarkChunks.{AreSingle, IsPlain, single-block-marks, single-both, single-data, single-end, single-fenced, single-last, single-leaf, single-sequence, single-span, single-underline}
+use Rattle.mdconstructs_blocks.proofs.Marks.MarkSpans.{line-on}
+use Rattle.mdconstructs_blocks.proofs.Lines.WholeLines.{IsWhole, body-and-last, part-behind, text-and-ending, three-parts, whole-lines}
+use Rattle.mdconstructs_blocks.specs.BlocksRead.{block_seats, last_ending}
 use Rattle.mdconstructs_blocks.specs.LeafBlocks.{Line, LeafBlock, blank_line, break_line, atx_heading, paragraph, setext_heading, indented_code, fenced_code, html_block, bytes_of, leaf_blocks}
-use Rattle.mdconstructs_blocks.specs.LeafEvents.{Mark, alone, body, block_span, chunk_span, heading_around, last_end, leaf_block_marks, leaf_blocks_marks, text_marks, underline_marks}
-use Rattle.mdconstructs_blocks.specs.LineKinds.{heading_text, indent, run, unindented}
+use Rattle.mdconstructs_blocks.specs.LeafEvents.{Mark, alone, block_around, block_span, body, chunk_span, code_fenced_around, fence_around, fenced_marks, heading_around, last_end, leaf_block_marks, leaf_blocks_marks, line_end, string_chunk, text_chunk, text_marks, underline_marks}
+use Rattle.mdconstructs_blocks.specs.LineKinds.{Fence, heading_text, indent, run, unindented}
 use Rattle.mdconstructs_documents.specs.FlowTexts.{block_texts, read_marks}
-use Rattle.mdconstructs_documents.proofs.FlowTexts.Segments.{AreSegments, HasByte, IsString, chain_marks, in_line, no-segments, segments-around, segments-both, segments-chain, segments-kept}
+use Rattle.mdconstructs_documents.proofs.FlowTexts.Segments.{AreSegments, HasByte, IsOther, chain_marks, in_line, kept-events, no-segments, segments-around, segments-both, segments-chain, segments-kept}
 
 -- ---- lines of text as chunks
 -- each line is a chunk with its line ending, the last without it
@@ -49,96 +53,160 @@ full-chunks (line ∷ []) h = (full-text line h.0, tt)
 full-chunks (line ∷ next ∷ lines) h = (full-line line h.0, full-chunks (next ∷ lines) h.1)
 
 module _ (bytes : List ℕ) where
-  text-chain : (p : Bool) (lines : List Line) → text_marks bytes p lines ≡ chain_marks bytes p (chunks_of lines)
+  text-chain : (p : Bool) (lines : List Line) → text_marks bytes p lines ≡ chain_marks content.Text bytes p (chunks_of lines)
   text-chain p [] = refl
   text-chain p (line ∷ []) = refl
   text-chain p (line ∷ next ∷ []) = refl
   text-chain p (line ∷ next ∷ third ∷ lines) =
       ap (λ l. chunk_span bytes (Some (record { content = content.Text; has_previous = p; has_next = true })) name.Data line [] ++ l) (text-chain true (next ∷ third ∷ lines))
 
-  module _ (on : Constructs) (reads : List Seat → List Event) where
-    abbrev Are : List Mark → List Mark → List Seat → Type 0
-    Are = AreSegments bytes reads
+-- what chains of one content are read as
+module _ (wanted : Content) (bytes : List ℕ) (reads : List Seat → List Event) where
+  abbrev Are : List Mark → List Mark → List Seat → Type 0
+  Are = AreSegments wanted bytes reads
 
-    over : {f d : List Mark} {a : List Seat} (b : List Seat) → a ≡ b → Are f d a → Are f d b
-    over {f} {d} b e h = subst (Are f d) e h
+  abbrev Other : Content → Type 0
+  Other = IsOther wanted
 
-    -- the lines of a text
-    segments-text : (lines : List Line) → AllByRecursion StartsText lines → Are (text_marks bytes false lines) (read_marks reads bytes (body lines)) (body lines)
-    segments-text lines h =
-        let are = segments-chain bytes reads (chunks_of lines) (full-chunks lines h) in
-        over (body lines) (chunks-body lines)
-        (subst (λ d. Are (text_marks bytes false lines) d (in_line (chunks_of lines))) (ap (read_marks reads bytes) (chunks-body lines))
-        (subst (λ f. Are f (read_marks reads bytes (in_line (chunks_of lines))) (in_line (chunks_of lines))) (sym (text-chain false lines)) are))
+  over : {f d : List Mark} {a : List Seat} (b : List Seat) → a ≡ b → Are f d a → Are f d b
+  over {f} {d} b e h = subst (Are f d) e h
 
-    -- the text of an ATX heading
-    segments-chunk : (seats : List Seat) → Are (chunk_span bytes (alone content.Text) name.Data seats []) (read_marks reads bytes seats) seats
-    segments-chunk [] = segments-chain bytes reads [] tt
-    segments-chunk (s ∷ ss) =
-        let t = s ∷ ss in
-        let same : in_line (t ∷ []) ≡ t = append-nil t in
-        over t same (subst (λ d. Are (chunk_span bytes (alone content.Text) name.Data t []) d (in_line (t ∷ []))) (ap (read_marks reads bytes) same) (segments-chain bytes reads (t ∷ []) (tt, tt)))
+  -- virtual bytes that are a chunk of their own
+  segments-chunk : (seats : List Seat) → Are (chunk_span bytes (alone wanted) name.Data seats []) (read_marks reads bytes seats) seats
+  segments-chunk [] = segments-chain wanted bytes reads [] tt
+  segments-chunk (s ∷ ss) =
+      let t = s ∷ ss in
+      let same : in_line (t ∷ []) ≡ t = append-nil t in
+      over t same (subst (λ d. Are (chunk_span bytes (alone wanted) name.Data t []) d (in_line (t ∷ []))) (ap (read_marks reads bytes) same) (segments-chain wanted bytes reads (t ∷ []) (tt, tt)))
 
-    segments-single : (marks : List Mark) (seats : List Seat) → AreSingle IsString marks → Are marks marks seats
-    segments-single marks seats h = segments-kept bytes reads marks seats h.each
+  segments-single : (marks : List Mark) (seats : List Seat) → AreSingle Other marks → Are marks marks seats
+  segments-single marks seats h = segments-kept wanted bytes reads marks seats h.each
 
-    segments-last : (lines : List Line) → Are (last_end bytes lines) (last_end bytes lines) (last_ending lines)
-    segments-last lines = segments-single (last_end bytes lines) (last_ending lines) (single-last IsString refl bytes lines)
+  segments-last : (lines : List Line) → Are (last_end bytes lines) (last_end bytes lines) (last_ending lines)
+  segments-last lines = segments-single (last_end bytes lines) (last_ending lines) (single-last Other bytes lines)
 
-    -- a block that is closed, over its lines
-    segments-block : (n : Name) (lines : List Line) {f d : List Mark} → AllByRecursion IsWhole lines → Are f d (body lines) → Are (block_span bytes n false lines f) (block_span bytes n false lines d) (all_of lines)
-    segments-block n lines whole h = over (all_of lines) (body-and-last lines whole) (segments-both bytes reads (segments-around bytes reads n (body lines) h) (segments-last lines))
+  -- a block over its lines
+  segments-block : (n : Name) (is_open : Bool) (lines : List Line) {f d : List Mark} → AllByRecursion IsWhole lines → Are f d (block_seats is_open lines)
+      → Are (block_span bytes n is_open lines f) (block_span bytes n is_open lines d) (all_of lines)
+  segments-block n false lines whole h = over (all_of lines) (body-and-last lines whole) (segments-both wanted bytes reads (segments-around wanted bytes reads n (body lines) h) (segments-last lines))
+  segments-block n true lines whole h = segments-around wanted bytes reads n (all_of lines) h
 
-    segments-heading : (seats : List Seat)
-        → Are (heading_around bytes (λ text. chunk_span bytes (alone content.Text) name.Data text []) seats) (heading_around bytes (read_marks reads bytes) seats) seats
+  -- two ways to read texts, lines of text, and strings
+  module _ (text text2 : List Seat → List Mark) (texts : (seats : List Seat) → Are (text seats) (text2 seats) seats) (rows rows2 : List Line → List Mark)
+      (lines_of_text : (lines : List Line) → AllByRecursion StartsText lines → Are (rows lines) (rows2 lines) (body lines)) (string string2 : List Seat → List Mark)
+      (strings : (seats : List Seat) → Are (string seats) (string2 seats) seats) where
+    segments-heading : (seats : List Seat) → Are (heading_around bytes text seats) (heading_around bytes text2 seats) seats
     segments-heading seats =
         let t = bytes_of seats in
         let signs = indent t + run 35 (unindented t) in
         let start = signs + indent (drop signs t) in
         let end = start + length (heading_text (drop start t)) in
-        let text = take (end - start) (drop start seats) in
+        let part = take (end - start) (drop start seats) in
         over seats (three-parts start end seats (omega arith))
-        (segments-both bytes reads (segments-single _ (take start seats) (single-sequence IsString refl bytes name.HeadingAtxSequence (run 35 (unindented t)) (take start seats)))
-        (segments-both bytes reads (segments-around bytes reads name.HeadingAtxText text (segments-chunk text))
-        (segments-single _ (drop end seats) (single-sequence IsString refl bytes name.HeadingAtxSequence (run 35 (unindented (drop end t))) (drop end seats)))))
+        (segments-both wanted bytes reads (segments-single _ (take start seats) (single-sequence Other bytes name.HeadingAtxSequence (run 35 (unindented t)) (take start seats)))
+        (segments-both wanted bytes reads (segments-around wanted bytes reads name.HeadingAtxText part (texts part))
+        (segments-single _ (drop end seats) (single-sequence Other bytes name.HeadingAtxSequence (run 35 (unindented (drop end t))) (drop end seats)))))
 
     segments-setext : (lines : List Line) (below : Line) → AllByRecursion StartsText lines → AllByRecursion IsWhole (lines ++ below ∷ [])
-        → Are (leaf_block_marks bytes (setext_heading lines below)) (block_texts reads bytes (setext_heading lines below)) (all_of (lines ++ below ∷ []))
+        → Are (block_around bytes text rows string (setext_heading lines below)) (block_around bytes text2 rows2 string2 (setext_heading lines below)) (all_of (lines ++ below ∷ []))
     segments-setext lines below full whole =
         let t = line_text below in
         let is = setext-body lines below whole in
-        let under = single-span IsString refl bytes name.HeadingSetextUnderline t _ (single-underline IsString refl bytes t) in
-        segments-block name.HeadingSetext (lines ++ below ∷ []) whole
+        let under = single-span Other bytes name.HeadingSetextUnderline t _ (single-underline Other bytes t) in
+        segments-block name.HeadingSetext false (lines ++ below ∷ []) whole
         (over (body (lines ++ below ∷ [])) is
-        (segments-both bytes reads (segments-around bytes reads name.HeadingSetextText (body lines) (segments-text lines full))
-        (segments-both bytes reads (segments-last lines) (segments-single (underline_marks bytes t) t under))))
+        (segments-both wanted bytes reads (segments-around wanted bytes reads name.HeadingSetextText (body lines) (lines_of_text lines full))
+        (segments-both wanted bytes reads (segments-last lines) (segments-single (underline_marks bytes t) t under))))
+
+    segments-fence : (size : ℕ) (seats : List Seat) → Are (fence_around bytes string size seats) (fence_around bytes string2 size seats) seats
+    segments-fence size seats =
+        let t = bytes_of seats in
+        let signs = indent t + size in
+        let start = signs + indent (drop signs t) in
+        let word = start + prefix_len (λ c. not (is_white c)) (drop start t) in
+        let rest = word + indent (drop word t) in
+        let info = take (word - start) (drop start seats) in
+        let meta = drop rest seats in
+        let gap = take (rest - word) (drop word seats) in
+        let all = ap (λ l. take start seats ++ (info ++ l)) (part-behind word rest seats (omega arith)) ∙ three-parts start word seats (omega arith) in
+        segments-around wanted bytes reads name.CodeFencedFence seats
+        (over seats all
+        (segments-both wanted bytes reads (segments-single _ (take start seats) (single-sequence Other bytes name.CodeFencedFenceSequence size (take start seats)))
+        (segments-both wanted bytes reads (segments-around wanted bytes reads name.CodeFencedFenceInfo info (strings info))
+        (segments-both wanted bytes reads (segments-single _ gap (single-leaf Other bytes name.SpaceOrTab gap)) (segments-around wanted bytes reads name.CodeFencedFenceMeta meta (strings meta))))))
+
+    -- an opening fence, and marks that are kept
+    fence-on : (f : Fence) (line : Line) (marks : List Mark) (behind whole : List Seat) → AreSingle Other marks → line_text line ++ behind ≡ whole
+        → Are (fence_around bytes string f.size (line_text line) ++ marks) (fence_around bytes string2 f.size (line_text line) ++ marks) whole
+    fence-on f line marks behind whole h e = over whole e (segments-both wanted bytes reads (segments-fence f.size (line_text line)) (segments-single marks behind h))
+
+    segments-code-fenced : (f : Fence) (is_closed : Bool) (lines : List Line) → AllByRecursion IsWhole lines
+        → Are (code_fenced_around bytes string f is_closed lines) (code_fenced_around bytes string2 f is_closed lines) (block_seats (not is_closed) lines)
+    segments-code-fenced f true [] h = no-segments wanted bytes reads
+    segments-code-fenced f false [] h = no-segments wanted bytes reads
+    segments-code-fenced f true (line ∷ []) h = fence-on f line (line_end bytes line) [] (line_text line) (single-end Other bytes line) (append-nil (line_text line))
+    segments-code-fenced f false (line ∷ []) h = fence-on f line (line_end bytes line) (ending_of line) (line ++ []) (single-end Other bytes line) (text-and-ending line h.0 ∙ sym (append-nil line))
+    segments-code-fenced f is_closed (line ∷ next ∷ lines) h =
+        let more = next ∷ lines in
+        fence-on f line (line_end bytes line ++ fenced_marks bytes f is_closed more) (ending_of line ++ block_seats (not is_closed) more) (block_seats (not is_closed) (line ∷ more))
+        (single-both Other (single-end Other bytes line) (single-fenced Other bytes f is_closed more)) (line-on (not is_closed) line next lines h.0)
 
     -- ---- each block
-    segments-plain : (block : LeafBlock) → IsPlain IsString block → Are (leaf_block_marks bytes block) (leaf_block_marks bytes block) (all_of (block_lines block))
-    segments-plain block h = segments-single (leaf_block_marks bytes block) (all_of (block_lines block)) (single-block-marks IsString refl bytes block h)
+    segments-plain : (block : LeafBlock) → IsPlain Other block → Are (leaf_block_marks bytes block) (leaf_block_marks bytes block) (all_of (block_lines block))
+    segments-plain block h = segments-single (leaf_block_marks bytes block) (all_of (block_lines block)) (single-block-marks Other bytes block h)
 
-    segments-of : (block : LeafBlock) → IsFull block → AllByRecursion IsWhole (block_lines block) → Are (leaf_block_marks bytes block) (block_texts reads bytes block) (all_of (block_lines block))
+    segments-of : (block : LeafBlock) → IsFull block → AllByRecursion IsWhole (block_lines block) → Are (block_around bytes text rows string block) (block_around bytes text2 rows2 string2 block) (all_of (block_lines block))
     segments-of (blank_line line) full whole = segments-plain (blank_line line) tt
     segments-of (break_line line) full whole = segments-plain (break_line line) tt
-    segments-of (atx_heading line) full whole = segments-block name.HeadingAtx (line ∷ []) whole (segments-heading (line_text line))
-    segments-of (paragraph lines) full whole = segments-block name.Paragraph lines whole (segments-text lines full)
+    segments-of (atx_heading line) full whole = segments-block name.HeadingAtx false (line ∷ []) whole (segments-heading (line_text line))
+    segments-of (paragraph lines) full whole = segments-block name.Paragraph false lines whole (lines_of_text lines full)
     segments-of (setext_heading lines below) full whole = segments-setext lines below full.0 whole
     segments-of (indented_code lines) full whole = segments-plain (indented_code lines) tt
-    segments-of (fenced_code f is_closed lines) full whole = segments-plain (fenced_code f is_closed lines) tt
+    segments-of (fenced_code f is_closed lines) full whole = segments-block name.CodeFenced (not is_closed) lines whole (segments-code-fenced f is_closed lines whole)
     segments-of (html_block is_closed lines) full whole = segments-plain (html_block is_closed lines) tt
 
     segments-blocks : (blocks : List LeafBlock) → AllByRecursion IsFull blocks → AllByRecursion IsWhole (flat_map block_lines blocks)
-        → Are (leaf_blocks_marks bytes blocks) (flat_map (block_texts reads bytes) blocks) (all_of (flat_map block_lines blocks))
-    segments-blocks [] full whole = no-segments bytes reads
+        → Are (flat_map (block_around bytes text rows string) blocks) (flat_map (block_around bytes text2 rows2 string2) blocks) (all_of (flat_map block_lines blocks))
+    segments-blocks [] full whole = no-segments wanted bytes reads
     segments-blocks (block ∷ blocks) full whole =
         let lines = block_lines block in
         let more = flat_map block_lines blocks in
         over (all_of (lines ++ more)) (sym (flat_map-append (λ (line : Line). line) lines more))
-        (segments-both bytes reads (segments-of block full.0 (every-front IsWhole lines more whole)) (segments-blocks blocks full.1 (every-back IsWhole lines more whole)))
+        (segments-both wanted bytes reads (segments-of block full.0 (every-front IsWhole lines more whole)) (segments-blocks blocks full.1 (every-back IsWhole lines more whole)))
 
-    pub segments-all : (seats : List Seat) → let blocks = leaf_blocks on (lines_in seats) in Are (leaf_blocks_marks bytes blocks) (flat_map (block_texts reads bytes) blocks) seats
-    segments-all seats =
+    segments-all : (on : Constructs) (seats : List Seat)
+        → let blocks = leaf_blocks on (lines_in seats) in Are (flat_map (block_around bytes text rows string) blocks) (flat_map (block_around bytes text2 rows2 string2) blocks) seats
+    segments-all on seats =
         let lines = lines_in seats in
         let blocks = leaf_blocks on lines in
         let are = leaf-blocks-lines on lines in
         over seats (ap all_of are ∙ lines-are-all seats) (segments-blocks blocks (leaf-blocks-full on seats) (subst (AllByRecursion IsWhole) (sym are) (whole-lines seats)))
+
+module _ (bytes : List ℕ) (texts strings : List Seat → List Event) where
+  -- a block with its texts read, and strings that are chunks
+  abbrev pub half_read : LeafBlock → List Mark
+  half_read block = block_around bytes (read_marks texts bytes) (λ lines. read_marks texts bytes (body lines)) (string_chunk bytes) block
+
+  -- the lines of a text
+  segments-text : (lines : List Line) → AllByRecursion StartsText lines → AreSegments content.Text bytes texts (text_marks bytes false lines) (read_marks texts bytes (body lines)) (body lines)
+  segments-text lines h =
+      let are = segments-chain content.Text bytes texts (chunks_of lines) (full-chunks lines h) in
+      over content.Text bytes texts (body lines) (chunks-body lines)
+      (subst (λ d. AreSegments content.Text bytes texts (text_marks bytes false lines) d (in_line (chunks_of lines))) (ap (read_marks texts bytes) (chunks-body lines))
+      (subst (λ f. AreSegments content.Text bytes texts f (read_marks texts bytes (in_line (chunks_of lines))) (in_line (chunks_of lines))) (sym (text-chain bytes false lines)) are))
+
+  -- chains of text, where strings stay
+  pub text-segments : (on : Constructs) (seats : List Seat)
+      → let blocks = leaf_blocks on (lines_in seats) in AreSegments content.Text bytes texts (leaf_blocks_marks bytes blocks) (flat_map half_read blocks) seats
+  text-segments on seats =
+      segments-all content.Text bytes texts (text_chunk bytes) (read_marks texts bytes) (segments-chunk content.Text bytes texts) (text_marks bytes false) (λ lines. read_marks texts bytes (body lines)) segments-text
+      (string_chunk bytes) (string_chunk bytes) (λ seats. segments-single content.Text bytes texts (string_chunk bytes seats) seats (single-data (IsOther content.Text) bytes content.String refl name.Data seats)) on seats
+
+  -- then strings, where the events of texts stay
+  pub string-segments : ((seats : List Seat) → HaveNoLinks (texts seats)) → (on : Constructs) (seats : List Seat)
+      → let blocks = leaf_blocks on (lines_in seats) in AreSegments content.String bytes strings (flat_map half_read blocks) (flat_map (block_texts texts strings bytes) blocks) seats
+  string-segments unlinked on seats =
+      let read = read_marks texts bytes in
+      let stays : (l : List Seat) → AreSegments content.String bytes strings (read l) (read l) l = λ l. segments-kept content.String bytes strings (read l) l (kept-events content.String (texts l) (unlinked l)) in
+      segments-all content.String bytes strings read read stays (λ lines. read (body lines)) (λ lines. read (body lines)) (λ lines h. stays (body lines)) (string_chunk bytes) (read_marks strings bytes)
+      (segments-chunk content.String bytes strings) on seats

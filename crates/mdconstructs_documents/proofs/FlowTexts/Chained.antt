@@ -3,7 +3,7 @@ use Rattle.std.proofs.Common.{◌≡◌, ℕ, suc, ◌+◌, List, [], ◌∷◌,
 use Rattle.std.specs.Prelude.{filter, slice_get}
 use Rattle.std.specs.List.{AllByRecursion, range_with_len}
 use Rattle.std.proofs.lemmas.List.{drop-drop}
-use Rattle.markdown_base.specs.declared.event.Content.TheVariants.{Text as TextContent}
+use Rattle.markdown_base.specs.declared.event.Content.{Content}
 use Rattle.markdown_base.specs.declared.event.Event.{Event}
 use Rattle.markdown_base.specs.Virtual.{Seat}
 use Rattle.markdown_children.proofs.Parts.Weaves.{get-dropped}
@@ -38,25 +38,27 @@ module _ (events : List Event) where
       let same : i + 1 ≡ 1 + i = omega arith in
       sym (drop-drop 1 i events) ∙ ap (drop 1) (at ∙ first-linked i m marks)
 
-  -- an event without a link begins no chain, nor does one that begins a string
-  no-start : (i : ℕ) (m : Mark) → slice_get events i ≡ Some (mark_at i m) → IsKept m → begins (Some TextContent) events i ≡ false
-  no-start i (e, None) is h = rw (is, h) refl
-  no-start i (e, Some chunk) is h = rw (is, h.0) refl
-
-  -- the first chunks of chains of text among the events from an index on
-  abbrev pub starts_in : (i n : ℕ) → List ℕ
-  starts_in i n = filter (begins (Some TextContent) events) (range_with_len i n)
-
-  pub kept-starts : (i : ℕ) (marks rest : List Mark) → AllByRecursion IsKept marks → IsAt events i (marks ++ rest) → starts_in i (length (marks ++ rest)) ≡ starts_in (i + length marks) (length rest)
-  kept-starts i [] rest h at = let same : i ≡ i + 0 = omega arith in ap (λ j. starts_in j (length rest)) same
-  kept-starts i (m ∷ marks) rest h at =
-      let same : i + 1 + length marks ≡ i + length (m ∷ marks) = omega arith in
-      let none = no-start i m (first-at i m (marks ++ rest) at) h.0 in
-      let one : starts_in i (suc (length (marks ++ rest))) ≡ starts_in (i + 1) (length (marks ++ rest)) = rw none refl in
-      one ∙ kept-starts (i + 1) marks rest h.1 (next-at i m (marks ++ rest) at) ∙ ap (λ j. starts_in j (length rest)) same
-
   pub kept-at : (i : ℕ) (marks rest : List Mark) → IsAt events i (marks ++ rest) → IsAt events (i + length marks) rest
   kept-at i [] rest at = let same : i ≡ i + 0 = omega arith in subst (λ j. IsAt events j rest) same at
   kept-at i (m ∷ marks) rest at =
       let same : i + 1 + length marks ≡ i + length (m ∷ marks) = omega arith in
       subst (λ j. IsAt events j rest) same (kept-at (i + 1) marks rest (next-at i m (marks ++ rest) at))
+
+-- chunks of one content
+module _ (wanted : Content) (events : List Event) where
+  -- an event without a link begins no such chain, nor does one that begins a chunk of another content
+  no-start : (i : ℕ) (m : Mark) → slice_get events i ≡ Some (mark_at i m) → IsKept wanted m → begins (Some wanted) events i ≡ false
+  no-start i (e, None) is h = rw (is, h) refl
+  no-start i (e, Some chunk) is h = rw (is, h.0) refl
+
+  -- the first chunks of chains of the content among the events from an index on
+  abbrev pub starts_in : (i n : ℕ) → List ℕ
+  starts_in i n = filter (begins (Some wanted) events) (range_with_len i n)
+
+  pub kept-starts : (i : ℕ) (marks rest : List Mark) → AllByRecursion (IsKept wanted) marks → IsAt events i (marks ++ rest) → starts_in i (length (marks ++ rest)) ≡ starts_in (i + length marks) (length rest)
+  kept-starts i [] rest h at = let same : i ≡ i + 0 = omega arith in ap (λ j. starts_in j (length rest)) same
+  kept-starts i (m ∷ marks) rest h at =
+      let same : i + 1 + length marks ≡ i + length (m ∷ marks) = omega arith in
+      let none = no-start i m (first-at events i m (marks ++ rest) at) h.0 in
+      let one : starts_in i (suc (length (marks ++ rest))) ≡ starts_in (i + 1) (length (marks ++ rest)) = rw none refl in
+      one ∙ kept-starts (i + 1) marks rest h.1 (next-at events i m (marks ++ rest) at) ∙ ap (λ j. starts_in j (length rest)) same

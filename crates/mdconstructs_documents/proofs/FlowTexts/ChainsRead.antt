@@ -4,13 +4,13 @@ use Rattle.std.specs.Prelude.{option_map}
 use Rattle.std.specs.List.{AllByRecursion, flat_map}
 use Rattle.markdown_base.proofs.Common.{every-append}
 use Rattle.markdown_base.specs.Events.{relinked, with_ends}
-use Rattle.markdown_base.specs.declared.event.Content.TheVariants.{Text as TextContent}
+use Rattle.markdown_base.specs.declared.event.Content.{Content}
 use Rattle.markdown_base.specs.declared.event.Event.{Event}
 use Rattle.markdown_base.specs.declared.event.Link.{Link}
 use Rattle.markdown_base.specs.Virtual.{Seat, virtual}
 use Rattle.markdown_children.proofs.Parts.Kept.{untagged}
 use Rattle.markdown_children.specs.Chains.{chain_of, fitting_starts}
-use Rattle.markdown_children.specs.Children.{chain_changes, child_changes, first_chunk, part_changes}
+use Rattle.markdown_children.specs.Children.{chain_changes, child_changes, first_chunk, part_changes, with_children}
 use Rattle.markdown_children.specs.Parts.{divided_over, parts}
 use Rattle.markdown_children.specs.Reads.{text_of_chain}
 use Rattle.markdown_children.specs.Ready.{place_at}
@@ -19,50 +19,45 @@ use Rattle.markdown_edits.specs.Woven.{AreApart, Change, Tagged, placed, placed_
 use Rattle.markdown_tokenizer.specs.Plain.{HaveNoLinks}
 use Rattle.markdown_tokenizer.specs.Text.{Given}
 use Rattle.mdconstructs_text.proofs.DeepSpans.Chunks.{chain-seats}
-use Rattle.mdconstructs_text.specs.ChainTexts.{chain_text, with_read}
+use Rattle.mdconstructs_text.specs.ChainTexts.{chain_text}
 use Rattle.mdconstructs_blocks.proofs.Marks.ToldEdits.{first-linked, mark_at}
 use Rattle.mdconstructs_blocks.specs.LeafEvents.{Mark, linked_from}
 use Rattle.mdconstructs_documents.proofs.FlowTexts.Chained.{two_for, indices, IsAt, starts_in, kept-at}
 use Rattle.mdconstructs_documents.proofs.FlowTexts.Changes.{after-texts, changes-apart, changes_of, kept-room, marks_of, starts-are, starts_of, texts_of}
 use Rattle.mdconstructs_documents.proofs.FlowTexts.Chunks.{chain-is, chain-next, chain-room, chain-seats-are}
-use Rattle.mdconstructs_documents.proofs.FlowTexts.Segments.{Segment, kept, chain, IsKept, IsGood, HasByte, chain_marks, in_line, seats_of}
+use Rattle.mdconstructs_documents.proofs.FlowTexts.Segments.{Segment, kept, chain, IsKept, IsGood, HasByte, chain_marks, in_line, kept-events, seats_of}
 
 -- ---- no link leads anywhere
 -- link ends of the event do not change
 abbrev IsSame : Event → Type 0
 IsSame e = (f : ℕ → Option ℕ) → relinked f e ≡ e
 
-same-kept : (i : ℕ) (m : Mark) → IsKept m → IsSame (mark_at i m)
-same-kept i (e, None) h f = ap (λ (o : Option Link). record e { link = option_map (with_ends f) o }) h ∙ ap (λ (o : Option Link). record e { link = o }) (sym h)
-same-kept i (e, Some chunk) h f = rw (h.1, h.2) refl
+same-kept : (wanted : Content) (i : ℕ) (m : Mark) → IsKept wanted m → IsSame (mark_at i m)
+same-kept wanted i (e, None) h f = ap (λ (o : Option Link). record e { link = option_map (with_ends f) o }) h ∙ ap (λ (o : Option Link). record e { link = o }) (sym h)
+same-kept wanted i (e, Some chunk) h f = rw (h.1, h.2) refl
 
-all-same : (i : ℕ) (marks : List Mark) → AllByRecursion IsKept marks → AllByRecursion IsSame (linked_from i marks)
-all-same i [] h = tt
-all-same i (m ∷ marks) h = subst (AllByRecursion IsSame) (sym (first-linked i m marks)) (same-kept i m h.0, all-same (i + 1) marks h.1)
+all-same : (wanted : Content) (i : ℕ) (marks : List Mark) → AllByRecursion (IsKept wanted) marks → AllByRecursion IsSame (linked_from i marks)
+all-same wanted i [] h = tt
+all-same wanted i (m ∷ marks) h = subst (AllByRecursion IsSame) (sym (first-linked i m marks)) (same-kept wanted i m h.0, all-same wanted (i + 1) marks h.1)
 
 -- so places change nothing
 placed-same : (ts us : List Tagged) → AllByRecursion IsSame (untagged us) → placed_in ts us ≡ untagged us
 placed-same ts [] h = refl
 placed-same ts (u ∷ us) h = λ i. h.0 (placed_end ts u.identity) i ∷ placed-same ts us h.1 i
 
--- the events of texts have no links
-kept-events : (es : List Event) → HaveNoLinks es → AllByRecursion IsKept (map (λ (e : Event). (e, None)) es)
-kept-events [] h = tt
-kept-events (e ∷ es) h = (h.0, kept-events es h.1)
-
--- what the virtual bytes of a text are read as: events without links
-module _ (g : Given) (reads : List Seat → List Event) (none : reads [] ≡ []) (alone : (seats : List Seat) → HaveNoLinks (reads seats)) where
+-- what the virtual bytes of a chain are read as: events without links
+module _ (wanted : Content) (g : Given) (reads : List Seat → List Event) (none : reads [] ≡ []) (alone : (seats : List Seat) → HaveNoLinks (reads seats)) where
   -- what a chain is read as
   abbrev chain_read : List Event → ℕ → List Event
   chain_read events c = reads (chain_text g events c).seats
 
-  kept-read : (seats : List Seat) → AllByRecursion IsKept (map (λ (e : Event). (e, None)) (reads seats))
-  kept-read seats = kept-events (reads seats) (alone seats)
+  kept-read : (seats : List Seat) → AllByRecursion (IsKept wanted) (map (λ (e : Event). (e, None)) (reads seats))
+  kept-read seats = kept-events wanted (reads seats) (alone seats)
 
-  kept-texts : (events : List Event) (segments : List Segment) → AllByRecursion IsGood segments → AllByRecursion IsKept (texts_of g reads events segments)
+  kept-texts : (events : List Event) (segments : List Segment) → AllByRecursion (IsGood wanted) segments → AllByRecursion (IsKept wanted) (texts_of wanted g reads events segments)
   kept-texts events [] good = tt
-  kept-texts events (kept marks seats ∷ segments) good = every-append IsKept marks (texts_of g reads events segments) good.0 (kept-texts events segments good.1)
-  kept-texts events (chain cs ∷ segments) good = every-append IsKept (map (λ (e : Event). (e, None)) (reads (in_line cs))) (texts_of g reads events segments) (kept-read (in_line cs)) (kept-texts events segments good.1)
+  kept-texts events (kept marks seats ∷ segments) good = every-append (IsKept wanted) marks (texts_of wanted g reads events segments) good.0 (kept-texts events segments good.1)
+  kept-texts events (chain cs ∷ segments) good = every-append (IsKept wanted) (map (λ (e : Event). (e, None)) (reads (in_line cs))) (texts_of wanted g reads events segments) (kept-read (in_line cs)) (kept-texts events segments good.1)
 
   -- ---- the changes
   few : (cs : List (List Seat)) → length cs ≤ two_for cs
@@ -74,33 +69,33 @@ module _ (g : Given) (reads : List Seat → List Event) (none : reads [] ≡ [])
     abbrev changes_at : List ℕ → List Event → List Change
     changes_at ks child = part_changes (first_chunk ks) 0 ks (parts (map (λ k. place_at events (k + 1)) ks) child)
 
-    one-chain : (i : ℕ) (c : List Seat) (cs : List (List Seat)) (rest : List Mark) → AllByRecursion HasByte (c ∷ cs) → IsAt events i (chain_marks g.bytes false (c ∷ cs) ++ rest) → i ≤ length events
+    one-chain : (i : ℕ) (c : List Seat) (cs : List (List Seat)) (rest : List Mark) → AllByRecursion HasByte (c ∷ cs) → IsAt events i (chain_marks wanted g.bytes false (c ∷ cs) ++ rest) → i ≤ length events
         → (pre more : List Seat) → virtual g.tab g.bytes ≡ pre ++ (in_line (c ∷ cs) ++ more)
         → changes_at (chain_of events i) (chain_read events i) ≡ changes_at (indices i (c ∷ cs)) (reads (in_line (c ∷ cs)))
     one-chain i c cs rest h at l pre more whole =
-        let room = chain-room g events i false (c ∷ cs) rest h at l in
+        let room = chain-room wanted g events i false (c ∷ cs) rest h at l in
         let less = few (c ∷ cs) in
-        let are : chain_of events i ≡ indices i (c ∷ cs) = chain-is g events (length events) i false c cs rest (omega (arith, room, less)) h at in
+        let are : chain_of events i ≡ indices i (c ∷ cs) = chain-is wanted g events (length events) i false c cs rest (omega (arith, room, less)) h at in
         let seats : (text_of_chain g events (chain_of events i)).seats ≡ in_line (c ∷ cs) =
-        ap (λ (ks : List ℕ). (text_of_chain g events ks).seats) are ∙ chain-seats g events i (indices (i + 2) cs) ∙ chain-seats-are g events some i false (c ∷ cs) rest h at pre more whole in
+        ap (λ (ks : List ℕ). (text_of_chain g events ks).seats) are ∙ chain-seats g events i (indices (i + 2) cs) ∙ chain-seats-are wanted g events some i false (c ∷ cs) rest h at pre more whole in
         λ j. changes_at (are j) (reads (seats j))
 
-    changes-are : (i : ℕ) (segments : List Segment) → AllByRecursion IsGood segments → IsAt events i (marks_of g reads events segments) → i ≤ length events
+    changes-are : (i : ℕ) (segments : List Segment) → AllByRecursion (IsGood wanted) segments → IsAt events i (marks_of wanted g reads events segments) → i ≤ length events
         → (pre : List Seat) → virtual g.tab g.bytes ≡ pre ++ flat_map seats_of segments
-        → flat_map chain_changes (divided_over events (starts_of g reads events i segments) (map (chain_read events) (starts_of g reads events i segments))) ≡ changes_of g reads events i segments
+        → flat_map chain_changes (divided_over events (starts_of wanted g reads events i segments) (map (chain_read events) (starts_of wanted g reads events i segments))) ≡ changes_of wanted g reads events i segments
     changes-are i [] good at l pre whole = refl
     changes-are i (kept marks seats ∷ segments) good at l pre whole =
-        changes-are (i + length marks) segments good.1 (kept-at events i marks (marks_of g reads events segments) at) (kept-room events i marks (marks_of g reads events segments) at l) (pre ++ seats)
+        changes-are (i + length marks) segments good.1 (kept-at events i marks (marks_of wanted g reads events segments) at) (kept-room events i marks (marks_of wanted g reads events segments) at l) (pre ++ seats)
         (whole ∙ sym (append_assoc pre seats (flat_map seats_of segments)))
     changes-are i (chain [] ∷ segments) good at l pre whole =
         let same : i ≡ i + 0 = omega arith in
-        changes-are i segments good.1 at l pre whole ∙ ap (λ k. changes_of g reads events k segments) same
+        changes-are i segments good.1 at l pre whole ∙ ap (λ k. changes_of wanted g reads events k segments) same
     changes-are i (chain (c ∷ cs) ∷ segments) good at l pre whole =
-        let rest = marks_of g reads events segments in
+        let rest = marks_of wanted g reads events segments in
         let more = flat_map seats_of segments in
         let t = in_line (c ∷ cs) in
-        let next = chain-next g events i false (c ∷ cs) rest good.0 at in
-        let room = chain-room g events i false (c ∷ cs) rest good.0 at l in
+        let next = chain-next wanted g events i false (c ∷ cs) rest good.0 at in
+        let room = chain-room wanted g events i false (c ∷ cs) rest good.0 at l in
         let others = changes-are (i + two_for (c ∷ cs)) segments good.1 next room (pre ++ t) (whole ∙ sym (append_assoc pre t more)) in
         λ j. one-chain i c cs rest good.0 at l pre more whole j ++ others j
 
@@ -109,21 +104,20 @@ module _ (g : Given) (reads : List Seat → List Event) (none : reads [] ≡ [])
   linked-long i (m ∷ marks) = ap length (first-linked i m marks) ∙ ap suc (linked-long (i + 1) marks)
 
   -- the list with the texts of its chains
-  pub texts-read : 0 < g.tab → (segments : List Segment) → AllByRecursion IsGood segments → virtual g.tab g.bytes ≡ flat_map seats_of segments
-      → let events = linked_from 0 (marks_of g reads [] segments) in with_read g events (chain_read events) ≡ linked_from 0 (texts_of g reads [] segments)
+  pub texts-read : 0 < g.tab → (segments : List Segment) → AllByRecursion (IsGood wanted) segments → virtual g.tab g.bytes ≡ flat_map seats_of segments
+      → let events = linked_from 0 (marks_of wanted g reads [] segments) in with_children (Some wanted) events (map (chain_read events) (fitting_starts (Some wanted) events)) ≡ linked_from 0 (texts_of wanted g reads [] segments)
   texts-read some segments good whole =
-      let marks = marks_of g reads [] segments in
+      let marks = marks_of wanted g reads [] segments in
       let events : List Event = linked_from 0 marks in
       let n = length events in
-      let wanted = Some TextContent in
-      let starts : fitting_starts wanted events ≡ starts_of g reads events 0 segments = ap (starts_in events 0) (linked-long 0 marks) ∙ starts-are g reads events 0 segments good refl in
-      let ws : List Change = changes_of g reads events 0 segments in
-      let are : child_changes wanted events (map (chain_read events) (fitting_starts wanted events)) ≡ ws =
+      let starts : fitting_starts (Some wanted) events ≡ starts_of wanted g reads events 0 segments = ap (starts_in wanted events 0) (linked-long 0 marks) ∙ starts-are wanted g reads events 0 segments good refl in
+      let ws : List Change = changes_of wanted g reads events 0 segments in
+      let are : child_changes (Some wanted) events (map (chain_read events) (fitting_starts (Some wanted) events)) ≡ ws =
       ap (λ (cs : List ℕ). flat_map chain_changes (divided_over events cs (map (chain_read events) cs))) starts ∙ changes-are some events 0 segments good refl (omega arith) [] whole in
       let z : n ≡ 0 + n = omega arith in
-      let apart : AreApart 0 ws (0 + n) = subst (AreApart 0 ws) z (changes-apart g reads events 0 segments good refl (omega arith)) in
+      let apart : AreApart 0 ws (0 + n) = subst (AreApart 0 ws) z (changes-apart wanted g reads events 0 segments good refl (omega arith)) in
       let ts = woven ws 0 events in
-      let texts = linked_from 0 (texts_of g reads [] segments) in
-      let untagged-is : untagged ts ≡ texts = ap untagged (woven-pass ws 0 events apart) ∙ after-texts g reads events none 0 0 segments good refl (omega arith) in
-      let same = subst (AllByRecursion IsSame) (sym untagged-is) (all-same 0 (texts_of g reads [] segments) (kept-texts [] segments good)) in
+      let texts = linked_from 0 (texts_of wanted g reads [] segments) in
+      let untagged-is : untagged ts ≡ texts = ap untagged (woven-pass ws 0 events apart) ∙ after-texts wanted g reads events none 0 0 segments good refl (omega arith) in
+      let same = subst (AllByRecursion IsSame) (sym untagged-is) (all-same wanted 0 (texts_of wanted g reads [] segments) (kept-texts [] segments good)) in
       ap (λ ws. placed (woven ws 0 events)) are ∙ placed-same ts ts same ∙ untagged-is

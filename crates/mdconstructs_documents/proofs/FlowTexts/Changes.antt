@@ -2,6 +2,7 @@
 use Rattle.std.proofs.Common.{◌≡◌, ℕ, suc, ◌+◌, ◌-◌, ◌≤◌, List, [], ◌∷◌, ◌++◌, false, Some, None, append_assoc, length, map, take, drop, refl, sym, ap, ◌∙◌, subst, arith}
 use Rattle.std.proofs.lemmas.Option.{slice_get_within}
 use Rattle.std.specs.List.{AllByRecursion, between, flat_map}
+use Rattle.markdown_base.specs.declared.event.Content.{Content}
 use Rattle.markdown_base.specs.declared.event.Event.{Event}
 use Rattle.markdown_base.specs.declared.event.Point.{Point}
 use Rattle.markdown_base.specs.Virtual.{Seat}
@@ -32,9 +33,9 @@ apart-parts c j i n (d ∷ cs) (p ∷ ps) ws l h =
     (omega arith, apart-parts c (j + length p) (i + 2) n cs ps ws (omega (arith, l)) (subst (λ m. AreApart m ws n) same h))
 
 -- a kept mark has the same event at each index
-same-mark : (i j : ℕ) (m : Mark) → IsKept m → mark_at i m ≡ mark_at j m
-same-mark i j (e, None) h = refl
-same-mark i j (e, Some chunk) h = rw (h.1, h.2) refl
+same-mark : (wanted : Content) (i j : ℕ) (m : Mark) → IsKept wanted m → mark_at i m ≡ mark_at j m
+same-mark wanted i j (e, None) h = refl
+same-mark wanted i j (e, Some chunk) h = rw (h.1, h.2) refl
 
 linked-append : (j : ℕ) (marks rest : List Mark) → linked_from j (marks ++ rest) ≡ linked_from j marks ++ linked_from (j + length marks) rest
 linked-append j [] rest = let same : j ≡ j + 0 = omega arith in ap (λ i. linked_from i rest) same
@@ -64,15 +65,15 @@ module _ (events : List Event) where
       let behind : List Event = untagged w.events ++ after_changes events ws (w.index + w.remove) in
       after-step events w ws i (omega (arith, first)) ∙ ap (λ l. l ++ behind) (between-more i w.index x xs here then first) ∙ ap (λ l. x ∷ l) (sym (after-step events w ws (i + 1) first))
 
-  pub after-kept : (i j n : ℕ) (marks rest : List Mark) (ws : List Change) → AllByRecursion IsKept marks → IsAt events i (marks ++ rest) → AreApart (i + length marks) ws n
+  pub after-kept : (wanted : Content) (i j n : ℕ) (marks rest : List Mark) (ws : List Change) → AllByRecursion (IsKept wanted) marks → IsAt events i (marks ++ rest) → AreApart (i + length marks) ws n
       → after_changes events ws i ≡ linked_from j marks ++ after_changes events ws (i + length marks)
-  after-kept i j n [] rest ws h at apart = let same : i ≡ i + 0 = omega arith in ap (after_changes events ws) same
-  after-kept i j n (m ∷ marks) rest ws h at apart =
+  after-kept wanted i j n [] rest ws h at apart = let same : i ≡ i + 0 = omega arith in ap (after_changes events ws) same
+  after-kept wanted i j n (m ∷ marks) rest ws h at apart =
       let same : i + 1 + length marks ≡ i + length (m ∷ marks) = omega arith in
       let next = next-at events i m (marks ++ rest) at in
       let behind : AreApart (i + 1 + length marks) ws n = subst (λ k. AreApart k ws n) (sym same) apart in
       let one = after-one i n (mark_at i m) (linked_from (i + 1) (marks ++ rest)) ws (at ∙ first-linked i m (marks ++ rest)) next (apart-before (i + 1 + length marks) (i + 1) n ws (omega arith) behind) in
-      one ∙ (λ k. same-mark i j m h.0 k ∷ (after-kept (i + 1) (j + 1) n marks rest ws h.1 next behind ∙ ap (λ k. linked_from (j + 1) marks ++ after_changes events ws k) same) k)
+      one ∙ (λ k. same-mark wanted i j m h.0 k ∷ (after-kept wanted (i + 1) (j + 1) n marks rest ws h.1 next behind ∙ ap (λ k. linked_from (j + 1) marks ++ after_changes events ws k) same) k)
       ∙ ap (λ l. l ++ after_changes events ws (i + length (m ∷ marks))) (sym (first-linked j m marks))
 
   -- the parts of a chain stand one behind another
@@ -95,7 +96,7 @@ module _ (events : List Event) where
       let more = kept-room (i + 1) marks rest (next-at events i m (marks ++ rest) at) (omega (arith, within)) in
       omega (arith, more)
 
-module _ (g : Given) (reads : List Seat → List Event) (events : List Event) where
+module _ (wanted : Content) (g : Given) (reads : List Seat → List Event) (events : List Event) where
   abbrev n : ℕ
   n = length events
 
@@ -123,7 +124,7 @@ module _ (g : Given) (reads : List Seat → List Event) (events : List Event) wh
   starts_of i (chain (c ∷ cs) ∷ segments) = i ∷ starts_of (i + two_for (c ∷ cs)) segments
 
   abbrev pub marks_of : List Segment → List Mark
-  marks_of segments = flat_map (flat_of g.bytes) segments
+  marks_of segments = flat_map (flat_of wanted g.bytes) segments
 
   abbrev pub texts_of : List Segment → List Mark
   texts_of segments = flat_map (deep_of g.bytes reads) segments
@@ -136,40 +137,40 @@ module _ (g : Given) (reads : List Seat → List Event) (events : List Event) wh
   all-parts none i (c ∷ cs) = joined-parts (place_at events (i + 1)) (ends_of (indices (i + 2) cs)) (child_of (c ∷ cs))
 
   -- the chains of the list are those of segments
-  pub starts-are : (i : ℕ) (segments : List Segment) → AllByRecursion IsGood segments → IsAt events i (marks_of segments) → starts_in events i (length (marks_of segments)) ≡ starts_of i segments
+  pub starts-are : (i : ℕ) (segments : List Segment) → AllByRecursion (IsGood wanted) segments → IsAt events i (marks_of segments) → starts_in wanted events i (length (marks_of segments)) ≡ starts_of i segments
   starts-are i [] good at = refl
   starts-are i (kept marks seats ∷ segments) good at =
-      kept-starts events i marks (marks_of segments) good.0 at ∙ starts-are (i + length marks) segments good.1 (kept-at events i marks (marks_of segments) at)
+      kept-starts wanted events i marks (marks_of segments) good.0 at ∙ starts-are (i + length marks) segments good.1 (kept-at events i marks (marks_of segments) at)
   starts-are i (chain [] ∷ segments) good at = starts-are i segments good.1 at
   starts-are i (chain (c ∷ cs) ∷ segments) good at =
-      chain-starts g events i c cs (marks_of segments) good.0 at
-      ∙ ap (λ l. i ∷ l) (starts-are (i + two_for (c ∷ cs)) segments good.1 (chain-next g events i false (c ∷ cs) (marks_of segments) good.0 at))
+      chain-starts wanted g events i c cs (marks_of segments) good.0 at
+      ∙ ap (λ l. i ∷ l) (starts-are (i + two_for (c ∷ cs)) segments good.1 (chain-next wanted g events i false (c ∷ cs) (marks_of segments) good.0 at))
 
   -- the changes are apart
-  pub changes-apart : (i : ℕ) (segments : List Segment) → AllByRecursion IsGood segments → IsAt events i (marks_of segments) → i ≤ n → AreApart i (changes_of i segments) n
+  pub changes-apart : (i : ℕ) (segments : List Segment) → AllByRecursion (IsGood wanted) segments → IsAt events i (marks_of segments) → i ≤ n → AreApart i (changes_of i segments) n
   changes-apart i [] good at l = l
   changes-apart i (kept marks seats ∷ segments) good at l =
       let more = changes-apart (i + length marks) segments good.1 (kept-at events i marks (marks_of segments) at) (kept-room events i marks (marks_of segments) at l) in
       apart-before (i + length marks) i n (changes_of (i + length marks) segments) (omega arith) more
   changes-apart i (chain cs ∷ segments) good at l =
-      let more = changes-apart (i + two_for cs) segments good.1 (chain-next g events i false cs (marks_of segments) good.0 at) (chain-room g events i false cs (marks_of segments) good.0 at l) in
+      let more = changes-apart (i + two_for cs) segments good.1 (chain-next wanted g events i false cs (marks_of segments) good.0 at) (chain-room wanted g events i false cs (marks_of segments) good.0 at l) in
       apart-parts i 0 i n cs (parts_of i cs) (changes_of (i + two_for cs) segments) (as-many i cs) more
 
   -- behind them the list has the texts of segments
-  pub after-texts : reads [] ≡ [] → (i j : ℕ) (segments : List Segment) → AllByRecursion IsGood segments → IsAt events i (marks_of segments) → i ≤ n → after_changes events (changes_of i segments) i ≡ linked_from j (texts_of segments)
+  pub after-texts : reads [] ≡ [] → (i j : ℕ) (segments : List Segment) → AllByRecursion (IsGood wanted) segments → IsAt events i (marks_of segments) → i ≤ n → after_changes events (changes_of i segments) i ≡ linked_from j (texts_of segments)
   after-texts none i j [] good at l = after-none events i ∙ at
   after-texts none i j (kept marks seats ∷ segments) good at l =
       let k = i + length marks in
       let next = kept-at events i marks (marks_of segments) at in
       let room = kept-room events i marks (marks_of segments) at l in
-      after-kept events i j n marks (marks_of segments) (changes_of k segments) good.0 at (changes-apart k segments good.1 next room)
+      after-kept events wanted i j n marks (marks_of segments) (changes_of k segments) good.0 at (changes-apart k segments good.1 next room)
       ∙ ap (λ l. linked_from j marks ++ l) (after-texts none k (j + length marks) segments good.1 next room) ∙ sym (linked-append j marks (texts_of segments))
   after-texts none i j (chain cs ∷ segments) good at l =
       let k = i + two_for cs in
       let child = child_of cs in
       let read : List Mark = map (λ (e : Event). (e, None)) child in
-      let next = chain-next g events i false cs (marks_of segments) good.0 at in
-      let room = chain-room g events i false cs (marks_of segments) good.0 at l in
+      let next = chain-next wanted g events i false cs (marks_of segments) good.0 at in
+      let room = chain-room wanted g events i false cs (marks_of segments) good.0 at l in
       after-parts events i 0 i cs (parts_of i cs) (changes_of k segments) (as-many i cs)
       ∙ (λ x. all-parts none i cs x ++ after-texts none k (j + length read) segments good.1 next room x)
       ∙ ap (λ l. l ++ linked_from (j + length read) (texts_of segments)) (sym (linked-read j child)) ∙ sym (linked-append j read (texts_of segments))

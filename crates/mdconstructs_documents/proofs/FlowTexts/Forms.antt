@@ -1,6 +1,6 @@
 -- The events of leaf blocks with their texts are well formed: balanced, void spans empty, at places, and in order of these.
 use Rattle.std.proofs.Common.{◌≡◌, ℕ, List, [], ◌∷◌, ◌++◌, true, false, Some, append_assoc, refl, sym, ap, ◌∙◌, subst}
-use Rattle.std.specs.List.{AllByRecursion, flat_map}
+use Rattle.std.specs.List.{AllByRecursion}
 use Rattle.markdown_base.proofs.Common.{every-append}
 use Rattle.markdown_base.proofs.Seats.{end-after-append, stands-self}
 use Rattle.markdown_base.specs.declared.configuration.Constructs.{Constructs}
@@ -11,23 +11,18 @@ use Rattle.markdown_base.specs.declared.event.Name.{Name}
 use Rattle.markdown_base.specs.declared.event.Point.{Point}
 use Rattle.markdown_base.specs.Events.{is_void}
 use Rattle.markdown_base.specs.Places.{shown, stands_before}
-use Rattle.markdown_base.specs.Virtual.{Seat, end_after, point, virtual}
+use Rattle.markdown_base.specs.Virtual.{Seat, end_after, point}
 use Rattle.markdown_edits.proofs.Balanced.{names_after_all-append}
 use Rattle.markdown_edits.specs.OpenNames.{names_after_all}
-use Rattle.markdown_tokenizer.specs.Text.{empty_text}
-use Rattle.mdconstructs_machines.specs.LineEvents.{lines_in}
 use Rattle.mdconstructs_machines.specs.Spans.{event, leaf, span}
-use Rattle.mdconstructs_text.proofs.DeepSpans.Atoms.{Atom, all_at, atom_events, atom_seats, events_of, seats_of}
+use Rattle.mdconstructs_text.proofs.DeepSpans.Atoms.{Atom, IsCut, all_at, atom_events, atom_seats, events_of, seats_of}
 use Rattle.mdconstructs_text.proofs.Texts.Built.{IsKeptBySpans}
-use Rattle.mdconstructs_text.proofs.Texts.ItemsBuilt.{text-built}
-use Rattle.mdconstructs_text.specs.TextEvents.{seat_events}
-use Rattle.mdconstructs_blocks.proofs.Marks.MarkForms.{AreTight, Formed, Forms, InOrder, Place, Track, forms-kept, name-closed, order-both, tight-both, track-on, track-place, track-upto, whole-formed}
-use Rattle.mdconstructs_blocks.specs.LeafBlocks.{leaf_blocks}
-use Rattle.mdconstructs_documents.specs.Documents.{document, options_with}
-use Rattle.mdconstructs_documents.specs.FlowTextLaws.{TextsAreFormed}
-use Rattle.mdconstructs_documents.specs.FlowTexts.{block_texts, read_marks}
-use Rattle.mdconstructs_documents.proofs.FlowTexts.Accounts.{bare-marks, read-cut}
-use Rattle.mdconstructs_documents.proofs.FlowTexts.Spans.{texts-keep}
+use Rattle.mdconstructs_inlines.proofs.StringRuns.{string-built}
+use Rattle.mdconstructs_inlines.specs.StringEvents.{string_seat_events}
+use Rattle.mdconstructs_blocks.proofs.Marks.MarkForms.{AreTight, Formed, Forms, InOrder, Place, Track, name-closed, order-both, tight-both, track-on, track-place, track-upto}
+use Rattle.mdconstructs_documents.specs.FlowTexts.{read_marks}
+use Rattle.mdconstructs_documents.proofs.FlowTexts.Accounts.{bare-marks}
+use Rattle.mdconstructs_documents.proofs.FlowTexts.Strings.{string-cut}
 
 -- ---- shape: the events leave each stack of open names, and void spans are empty
 -- the events leave each stack of open names as it is
@@ -116,22 +111,16 @@ module _ (t : ℕ) (bytes : List ℕ) where
       subst (Ordered p (events_of bytes (a ∷ atoms))) (sym (end-after-append p (atom_seats a) seats))
       (ordered-both p (atom_events bytes a) m (events_of bytes atoms) (end_after m seats) (ordered-atom p a (seats ++ rest) whole) more)
 
-  -- ---- the events of a text
-  module _ (on : Constructs) where
-    built : (P : List Event → Type 0) → IsKeptBySpans bytes P → (seats : List Seat) → P (seat_events on bytes seats)
-    built P kept seats = text-built (document (options_with on 4) bytes) P kept (record (empty_text (point 1 1 0 0)) { seats = seats })
+  -- ---- what texts and strings are read as: it is cut into innermost spans, and what spans keep holds of it
+  pub read-forms : (reads : List Seat → List Event) → ((seats : List Seat) → IsCut bytes (reads seats) seats)
+      → ((P : List Event → Type 0) → IsKeptBySpans bytes P → (seats : List Seat) → P (reads seats)) → (seats : List Seat) → Forms t bytes (read_marks reads bytes seats) seats
+  read-forms reads cuts built seats p rest track =
+      let es = reads seats in
+      let cut = cuts seats in
+      let ordered = ordered-atoms p cut.atoms rest (subst (λ l. Track t bytes p (l ++ rest)) cut.all track) in
+      let placed = subst (λ l. Ordered p l (end_after p seats)) (sym cut.are) (subst (λ l. Ordered p (events_of bytes cut.atoms) (end_after p l)) (sym cut.all) ordered) in
+      subst (λ l. Formed t bytes p l (end_after p seats)) (sym (bare-marks es))
+      (record { balanced = built LeaveNames (names-kept bytes) seats; tight = built AreTight (tight-kept bytes) seats; order = placed.order; places = placed.places })
 
-    read-forms : (seats : List Seat) → Forms t bytes (read_marks (seat_events on bytes) bytes seats) seats
-    read-forms seats p rest track =
-        let es = seat_events on bytes seats in
-        let cut = read-cut on bytes seats in
-        let ordered = ordered-atoms p cut.atoms rest (subst (λ l. Track t bytes p (l ++ rest)) cut.all track) in
-        let placed = subst (λ l. Ordered p l (end_after p seats)) (sym cut.are) (subst (λ l. Ordered p (events_of bytes cut.atoms) (end_after p l)) (sym cut.all) ordered) in
-        subst (λ l. Formed t bytes p l (end_after p seats)) (sym (bare-marks es))
-        (record { balanced = built LeaveNames (names-kept bytes) seats; tight = built AreTight (tight-kept bytes) seats; order = placed.order; places = placed.places })
-
-pub texts-formed : TextsAreFormed
-texts-formed g is =
-    let on = g.options.constructs in
-    let seats = virtual g.tab g.bytes in
-    whole-formed g is (flat_map (block_texts (seat_events on g.bytes) g.bytes) (leaf_blocks on (lines_in seats))) (texts-keep on (seat_events on g.bytes) g.bytes (Forms g.tab g.bytes) (forms-kept g.tab g.bytes) (read-forms g.tab g.bytes on) seats)
+  pub string-forms : (on : Constructs) (seats : List Seat) → Forms t bytes (read_marks (string_seat_events on bytes) bytes seats) seats
+  string-forms on = read-forms (string_seat_events on bytes) (string-cut on bytes) (λ P kept. string-built bytes P kept on)

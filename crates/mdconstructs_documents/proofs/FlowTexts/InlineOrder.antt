@@ -1,13 +1,13 @@
 -- Emphasis keeps the order of places: its events stand in their runs, between the events beside these.
 use Rattle.std.proofs.Common.{◌≡◌, ℕ, zero, suc, ◌+◌, ◌-◌, ◌≤◌, Bool, true, false, cond, inl, inr, List, [], ◌∷◌, ◌++◌, Option, Some, None, length, drop, map, refl, sym, ap, ◌∙◌, subst, arith}
-use Rattle.std.specs.Prelude.{◌==◌, ◌&&◌, ◌||◌, nat_lt, slice_get}
+use Rattle.std.specs.Prelude.{◌==◌, ◌&&◌, slice_get}
 use Rattle.std.specs.List.{AllByRecursion}
 use Rattle.std.proofs.lemmas.Bool.{cases_Bool}
 use Rattle.std.proofs.lemmas.Bool.Decides.{nat_tests}
 use Rattle.std.proofs.lemmas.List.{drop-drop}
 use Rattle.std.proofs.lemmas.Option.{same_Some}
 use Rattle.std.proofs.Math.Seq.{drop-append-add}
-use Rattle.markdown_base.proofs.Common.{and-right}
+use Rattle.markdown_base.proofs.Common.{and-right, drop-next}
 use Rattle.markdown_base.proofs.Seats.{stands-self}
 use Rattle.markdown_base.specs.declared.event.Event.{Event}
 use Rattle.markdown_base.specs.declared.event.Point.{Point}
@@ -39,6 +39,20 @@ later-none p =
 
 upto-later : (n : ℕ) (p : Point) → stands_before (later n p) p ≡ false
 upto-later n p = grind (arith, nat_tests)
+
+-- ---- events of a list, by what is left of it
+pub get-drop : {A : Type 0} (xs : List A) (j : ℕ) (x : A) (ys : List A) → drop j xs ≡ x ∷ ys → slice_get xs j ≡ Some x
+get-drop {A} xs j x ys at =
+    let same : j + 0 ≡ j = omega arith in
+    ap (slice_get xs) (sym same) ∙ sym (get-dropped j xs 0) ∙ ap (λ (l : List A). slice_get l 0) at
+
+get-seam : (xs ys : List Event) (n : ℕ) → slice_get (xs ++ ys) (length xs + n) ≡ slice_get ys n
+get-seam [] ys n = let same : 0 + n ≡ n = omega arith in ap (slice_get ys) same
+get-seam (x ∷ xs) ys n = let same : suc (length xs) + n ≡ suc (length xs + n) = omega arith in ap (slice_get (x ∷ (xs ++ ys))) same ∙ get-seam xs ys n
+
+-- an event behind the text before a run
+pub found-at : (events text : List Event) (i k n : ℕ) (pair : List Event) → drop i events ≡ text ++ pair → k ≡ i + (length text + n) → slice_get events k ≡ slice_get pair n
+found-at events text i k n pair at is = ap (slice_get events) is ∙ sym (get-dropped i events (length text + n)) ∙ ap (λ l. slice_get l (length text + n)) at ∙ get-seam text pair n
 
 module _ (t : ℕ) (bytes : List ℕ) where
   -- each place up to so many bytes later is one of the document
@@ -121,26 +135,18 @@ module _ (t : ℕ) (bytes : List ℕ) where
   abbrev AllStand : List Event → List Run → Type 0
   AllStand events rs = AllByRecursion (StandsAt events) (map standing rs)
 
-  next-drop : (events : List Event) (j : ℕ) (e : Event) (es : List Event) → drop j events ≡ e ∷ es → drop (j + 1) events ≡ es
-  next-drop events j e es at = sym (drop-drop 1 j events) ∙ ap (drop 1) at
-
-  get-drop : (events : List Event) (j : ℕ) (e : Event) (es : List Event) → drop j events ≡ e ∷ es → slice_get events j ≡ Some e
-  get-drop events j e es at =
-      let same : j + 0 ≡ j = omega arith in
-      ap (slice_get events) (sym same) ∙ sym (get-dropped j events 0) ∙ ap (λ (l : List Event). slice_get l 0) at
-
   runs-stand : (events ys : List Event) (j depth : ℕ) (before : Option ℕ) → drop j events ≡ ys → RunsStep ys → AllStand events (runs_from bytes j depth before ys)
   runs-stand events [] j depth before at h = tt
   runs-stand events (e ∷ []) j depth before at h = tt
   runs-stand events (e ∷ f ∷ es) j depth before at h =
-      let next = next-drop events j e (f ∷ es) at in
+      let next = drop-next events j e (f ∷ es) at in
       elim (cases_Bool (depth == 0 && is_sequence e f)) [
         | inl b ↦
             let n = f.point.index - e.point.index in
             let steps = h.0 (and-right (depth == 0) (is_sequence e f) b) in
             let many : n ≡ 0 + (n + 0) = omega arith in
             let two : j + 1 + 1 ≡ j + 2 = omega arith in
-            let third = subst (λ k. drop k events ≡ es) two (next-drop events (j + 1) f es next) in
+            let third = subst (λ k. drop k events ≡ es) two (drop-next events (j + 1) f es next) in
             subst (λ c. AllStand events (cond c (run_at bytes j e f before (index_of_event (slice_get es 0)) ∷ runs_from bytes (j + 2) depth (Some f.point.index) es) (runs_from bytes (j + 1) (depth_after e.kind depth) (Some e.point.index) (f ∷ es)))) (sym b) (
               (e, f, get-drop events j e (f ∷ es) at, get-drop events (j + 1) f es next, refl, subst (λ k. later k e.point ≡ f.point) many steps.0, subst (Walk e.point) many steps.1),
               runs-stand events es (j + 2) depth (Some f.point.index) third h.1.1,
@@ -156,14 +162,6 @@ module _ (t : ℕ) (bytes : List ℕ) where
   ordered-split p (x ∷ xs) e ys q h =
       let more = ordered-split x.point xs e ys q (record { order = h.order.1; places = h.places.1 }) in
       (record { order = (h.order.0, more.0.order); places = (h.places.0, more.0.places) }, more.1)
-
-  get-seam : (xs ys : List Event) (n : ℕ) → slice_get (xs ++ ys) (length xs + n) ≡ slice_get ys n
-  get-seam [] ys n = let same : 0 + n ≡ n = omega arith in ap (slice_get ys) same
-  get-seam (x ∷ xs) ys n = let same : suc (length xs) + n ≡ suc (length xs + n) = omega arith in ap (slice_get (x ∷ (xs ++ ys))) same ∙ get-seam xs ys n
-
-  -- an event behind the text before a run
-  found-at : (events text : List Event) (i k n : ℕ) (pair : List Event) → drop i events ≡ text ++ pair → k ≡ i + (length text + n) → slice_get events k ≡ slice_get pair n
-  found-at events text i k n pair at is = ap (slice_get events) is ∙ sym (get-dropped i events (length text + n)) ∙ ap (λ l. slice_get l (length text + n)) at ∙ get-seam text pair n
 
   module _ (events : List Event) (texts : ℕ → List Event) (rest : List Event) where
     ordered-runs : (i : ℕ) (rs : List Run) (xs : List Event) → HasRunsAt texts rest i (map index_of rs) xs → drop i events ≡ xs → AllStand events rs → (p q : Point) → Ordered t bytes p xs q

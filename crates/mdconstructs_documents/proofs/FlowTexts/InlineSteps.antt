@@ -1,7 +1,7 @@
 -- Delimiter runs of inline text go byte by byte: none goes over a tab or a line ending; and no other item has an attention sequence.
 use Rattle.std.proofs.Common.{◌≡◌, ℕ, zero, suc, ◌+◌, ◌-◌, ◌≤◌, ◌<◌, ◌==◌, Bool, true, false, cond, List, [], ◌∷◌, ◌++◌, Option, Some, None, append_assoc, length, take, drop, refl, sym, ap, ◌∙◌, subst, arith}
 use Rattle.std.specs.Char.{is_ascii_punctuation}
-use Rattle.std.specs.Prelude.{◌&&◌, not, option_map}
+use Rattle.std.specs.Prelude.{◌&&◌, nat_le, nat_lt, not, option_map, slice_get}
 use Rattle.std.specs.List.{AllByRecursion, between, flat_map, prefix_len}
 use Rattle.std.proofs.lemmas.Bool.{eqb-true}
 use Rattle.std.proofs.lemmas.List.{take-append-drop}
@@ -10,7 +10,7 @@ use Rattle.markdown_base.specs.declared.configuration.Constructs.{Constructs}
 use Rattle.markdown_base.specs.declared.event.Event.{Event}
 use Rattle.markdown_base.specs.declared.event.Kind.TheVariants.{Enter, Exit}
 use Rattle.markdown_base.specs.declared.event.Name.{Name}
-use Rattle.markdown_base.specs.declared.event.Name.TheVariants.{AttentionSequence, Autolink, AutolinkMarker, AutolinkProtocol, CharacterEscape, CharacterEscapeMarker, CharacterEscapeValue, CodeText, CodeTextData, CodeTextSequence, Data, LineEnding}
+use Rattle.markdown_base.specs.declared.event.Name.TheVariants.{AttentionSequence, Autolink, AutolinkEmail, AutolinkMarker, AutolinkProtocol, CharacterEscape, CharacterEscapeMarker, CharacterEscapeValue, CharacterReference, CharacterReferenceMarker, CharacterReferenceMarkerHexadecimal, CharacterReferenceMarkerNumeric, CharacterReferenceMarkerSemi, CharacterReferenceValue, CodeText, CodeTextData, CodeTextSequence, Data, HardBreakEscape, HardBreakTrailing, HtmlText, HtmlTextData, LineEnding, SpaceOrTab}
 use Rattle.markdown_base.specs.declared.event.Point.{Point}
 use Rattle.markdown_base.specs.Events.{is_enter, same_name}
 use Rattle.markdown_base.specs.Places.{shown}
@@ -21,39 +21,51 @@ use Rattle.markdown_tokenizer.proofs.Positions.Seats.{drop-first}
 use Rattle.mdconstructs_attention.proofs.RunTexts.{and-left}
 use Rattle.mdconstructs_attention.specs.Emphasis.{later}
 use Rattle.mdconstructs_attention.specs.Runs.{is_sequence}
+use Rattle.mdconstructs_machines.specs.Breaks.{is_white}
 use Rattle.mdconstructs_machines.specs.Spans.{event, leaf, span}
-use Rattle.mdconstructs_text.proofs.Constructs.Apart.{OfOption, there-holds, when-there}
+use Rattle.mdconstructs_text.proofs.Constructs.Apart.{EachThere, OfOption, there-holds, when-there}
 use Rattle.mdconstructs_text.proofs.Texts.Built.{IsKeptBySpans}
 use Rattle.mdconstructs_text.specs.Autolink.{autolink, autolink_at, autolink_to, uri}
-use Rattle.mdconstructs_text.specs.Bytes.{backticks, has_byte_at, is_backslash, is_backtick, is_greater_than, is_less_than}
+use Rattle.mdconstructs_text.specs.Bytes.{backticks, has_byte_at, is_backslash, is_backtick, is_greater_than, is_less_than, is_line_feed, is_space}
 use Rattle.mdconstructs_text.specs.CodeSpan.{before_backtick_string, code_span, code_span_at, pieces}
-use Rattle.mdconstructs_text.specs.Construct.{Found}
+use Rattle.mdconstructs_text.specs.Construct.{Found, Grammar}
 use Rattle.mdconstructs_text.specs.Escape.{escape, escape_at}
-use Rattle.mdconstructs_text.specs.Items.{item_length, text_grammars}
-use Rattle.mdconstructs_text.specs.Parts.{Part, line_ending, plain_run, bytes_of, cut, part, part_at, part_events}
+use Rattle.mdconstructs_text.specs.Items.{item_length}
+use Rattle.mdconstructs_text.specs.Parts.{Part, line_ending, plain_run, bytes_of, cut, part_events}
 use Rattle.mdconstructs_text.specs.TextEvents.{item_events}
+use Rattle.mdconstructs_phrasing.proofs.References.Bytes.{reference-holds}
+use Rattle.mdconstructs_phrasing.specs.Reference.{Kind, decimal, hexadecimal, mark_events, marks, named, reference_at}
+use Rattle.mdconstructs_phrasing.specs.Email.{email, email_at, email_with, is_at_sign, is_atext, is_domain, is_domain_byte}
+use Rattle.mdconstructs_phrasing.proofs.HtmlTexts.Cuts.{html-there}
+use Rattle.mdconstructs_phrasing.specs.HtmlMarked.{marked}
+use Rattle.mdconstructs_phrasing.specs.HtmlTag.{tag_length}
+use Rattle.mdconstructs_phrasing.specs.HtmlText as html
+use Rattle.mdconstructs_phrasing.specs.HtmlText.{Piece, html_of, piece_at, piece_events, piece_length}
+use Rattle.mdconstructs_phrasing.specs.HardBreak.{break_escape_at, hard_break_escape, hard_break_trailing, trailing_break_at}
+use Rattle.mdconstructs_phrasing.specs.WhiteSpace.{is_white_left, white_space, white_space_at}
 use Rattle.mdconstructs_inlines.proofs.InlineBuilt.{items-built}
-use Rattle.mdconstructs_inlines.specs.InlineEvents.{begins_run, delimiter_run, ends_data, inline_item_at, run_length, run_or_part}
+use Rattle.mdconstructs_inlines.specs.InlineEvents.{begins_run, data_length, data_run, delimiter_run, inline_grammars, inline_item_at, inline_items, line_break, run_length, run_or_part}
 use Rattle.mdconstructs_inlines.specs.RunRows.{is_delimiter}
 use Rattle.mdconstructs_blocks.proofs.Marks.MarkForms.{Place, Track, track-on, track-place}
-use Rattle.mdconstructs_documents.proofs.FlowTexts.InlineOrder.{Next, RunSteps, RunsStep, Walk, later-later, later-none}
+use Rattle.mdconstructs_documents.proofs.FlowTexts.InlineOrder.{Next, RunSteps, RunsStep, Walk, get-drop, later-later, later-none}
 
 -- ---- delimiters among virtual bytes
--- behind a delimiter is the place one byte later; and it is shown at itself
+-- behind a delimiter is the place one byte later; it is shown at itself; and it is the byte there
 abbrev pub Steps : List ℕ → Seat → Type 0
-Steps bytes s = is_delimiter s.byte ≡ true → (s.end ≡ later 1 s.point) × (shown bytes s.point ≡ s.point)
+Steps bytes s = is_delimiter s.byte ≡ true → (s.end ≡ later 1 s.point) × (shown bytes s.point ≡ s.point) × (slice_get bytes s.point.index ≡ Some s.byte)
 
 module _ (bytes : List ℕ) where
   steps-tab : (b n l c i v : ℕ) → is_delimiter b ≡ false → AllByRecursion (Steps bytes) (in_tab b n l c i v)
   steps-tab b zero l c i v other = tt
   steps-tab b (suc n) l c i v other = ((λ is. let no : true ≡ false = sym is ∙ other in absurd (cc)), steps-tab 32 n l (suc c) i (suc v) refl)
 
-  steps-other : (b l c i : ℕ) (bs : List ℕ) → drop i bytes ≡ b ∷ bs → is_delimiter b ≡ true → (point l (suc c) (suc i) 0 ≡ later 1 (point l c i 0)) × (shown bytes (point l c i 0) ≡ point l c i 0)
+  steps-other : (b l c i : ℕ) (bs : List ℕ) → drop i bytes ≡ b ∷ bs → is_delimiter b ≡ true → (point l (suc c) (suc i) 0 ≡ later 1 (point l c i 0)) × (shown bytes (point l c i 0) ≡ point l c i 0) × (slice_get bytes i ≡ Some b)
   steps-other b l c i bs at is =
       let column : suc c ≡ c + 1 = omega arith in
       let index : suc i ≡ i + 1 = omega arith in (
         λ j. point l (column j) (index j) 0,
         shown-other bytes (point l c i 0) (λ ten. let b-ten : b ≡ 10 = sym (drop-first i bytes b bs at).1 ∙ ten in let no : is_delimiter 10 ≡ true = subst (λ x. is_delimiter x ≡ true) b-ten is in absurd (cc)),
+        get-drop bytes i b bs at,
       )
 
   steps-from : (t l c i : ℕ) (bs : List ℕ) → drop i bytes ≡ bs → AllByRecursion (Steps bytes) (virtual_from t l c i bs)
@@ -159,7 +171,7 @@ module _ (t : ℕ) (bytes : List ℕ) where
   free-steps [] h = tt
   free-steps (e ∷ es) h = (free-next e es h.0, free-steps es h.1)
 
-  free-leaf : (n : Name) (seats : List Seat) → same_name n AttentionSequence ≡ false → AllByRecursion IsOther (leaf bytes n seats)
+  pub free-leaf : (n : Name) (seats : List Seat) → same_name n AttentionSequence ≡ false → AllByRecursion IsOther (leaf bytes n seats)
   free-leaf n [] h = tt
   free-leaf n (s ∷ ss) h = (h, (h, tt))
 
@@ -175,7 +187,7 @@ module _ (t : ℕ) (bytes : List ℕ) where
   abbrev IsFree : Found → Type 0
   IsFree found = (seats : List Seat) → AllByRecursion IsOther (found.events bytes seats)
 
-  free-part : (n : Name) → same_name n AttentionSequence ≡ false → (p : Part) (seats : List Seat) → AllByRecursion IsOther (part_events bytes n (p, seats))
+  pub free-part : (n : Name) → same_name n AttentionSequence ≡ false → (p : Part) (seats : List Seat) → AllByRecursion IsOther (part_events bytes n (p, seats))
   free-part n h line_ending seats = free-leaf LineEnding seats refl
   free-part n h (plain_run m) seats = free-leaf n seats h
 
@@ -189,7 +201,7 @@ module _ (t : ℕ) (bytes : List ℕ) where
       let inner = flat_map (part_events bytes CodeTextData) (pieces (between k (k + n) seats)) in
       free-span CodeText seats _ refl (free-three CodeTextSequence CodeTextSequence (take k seats) (drop (k + n) seats) inner refl refl (free-parts (pieces (between k (k + n) seats))))
 
-  free-code-span : (text : List ℕ) → OfOption IsFree (code_span_at text)
+  pub free-code-span : (text : List ℕ) → OfOption IsFree (code_span_at text)
   free-code-span text =
       let k = backticks text in
       when-there IsFree (has_byte_at text 0 is_backtick) (option_map (code_span k) (before_backtick_string k (drop k text))) (free-code k (before_backtick_string k (drop k text)))
@@ -201,15 +213,88 @@ module _ (t : ℕ) (bytes : List ℕ) where
       let inner = between 1 (1 + n) seats in
       free-span Autolink seats _ refl (free-three AutolinkMarker AutolinkMarker (take 1 seats) (drop (1 + n) seats) (leaf bytes AutolinkProtocol inner) refl refl (free-leaf AutolinkProtocol inner refl)))
 
-  free-autolink : (text : List ℕ) → OfOption IsFree (autolink_at text)
+  pub free-autolink : (text : List ℕ) → OfOption IsFree (autolink_at text)
   free-autolink text = when-there IsFree (has_byte_at text 0 is_less_than) (autolink_to text (uri (drop 1 text))) (free-link text (uri (drop 1 text)))
 
-  free-escape : (text : List ℕ) → OfOption IsFree (escape_at text)
+  pub free-email : (text : List ℕ) → OfOption IsFree (email_at text)
+  free-email text =
+      let n = prefix_len is_atext (drop 1 text) in
+      let domain = drop (n + 2) text in
+      let d = prefix_len is_domain_byte domain in
+      let inside = n + 1 + d in
+      when-there IsFree (has_byte_at text 0 is_less_than) (email_with text n)
+      (when-there IsFree (nat_lt 0 n && (has_byte_at text (n + 1) is_at_sign && (is_domain (take d domain) && has_byte_at domain d is_greater_than)))
+      (Some (email inside))
+      (λ seats.
+      let inner = between 1 (1 + inside) seats in
+      free-span Autolink seats _ refl (free-three AutolinkMarker AutolinkMarker (take 1 seats) (drop (1 + inside) seats) (leaf bytes AutolinkEmail inner) refl refl (free-leaf AutolinkEmail inner refl))))
+
+  free-piece : (p : Piece × List Seat) → AllByRecursion IsOther (piece_events bytes p)
+  free-piece (html.line_break n, seats) =
+      every-append IsOther (leaf bytes LineEnding (take 1 seats)) (leaf bytes SpaceOrTab (drop 1 seats)) (free-leaf LineEnding (take 1 seats) refl) (free-leaf SpaceOrTab (drop 1 seats) refl)
+  free-piece (html.data_run n, seats) = free-leaf HtmlTextData seats refl
+
+  free-pieces : (ps : List (Piece × List Seat)) → AllByRecursion IsOther (flat_map (piece_events bytes) ps)
+  free-pieces [] = tt
+  free-pieces (p ∷ ps) = every-append IsOther (piece_events bytes p) (flat_map (piece_events bytes) ps) (free-piece p) (free-pieces ps)
+
+  -- raw HTML
+  pub free-html : (text : List ℕ) (o : Option ℕ) → OfOption IsFree (html_of text o)
+  free-html text o =
+      html-there IsFree text o (λ n seats.
+      let ps = cut piece_at piece_length (length seats) seats in free-span HtmlText seats (flat_map (piece_events bytes) ps) refl (free-pieces ps))
+
+  pub free-escape : (text : List ℕ) → OfOption IsFree (escape_at text)
   free-escape text =
       when-there IsFree (has_byte_at text 0 is_backslash && has_byte_at text 1 is_ascii_punctuation) (Some escape) (λ seats.
       let a = leaf bytes CharacterEscapeMarker (take 1 seats) in
       let b = leaf bytes CharacterEscapeValue (drop 1 seats) in
       free-span CharacterEscape seats (a ++ b) refl (every-append IsOther a b (free-leaf CharacterEscapeMarker (take 1 seats) refl) (free-leaf CharacterEscapeValue (drop 1 seats) refl)))
+
+  free-break-escape : (text : List ℕ) → OfOption IsFree (break_escape_at text)
+  free-break-escape text =
+      when-there IsFree (has_byte_at text 0 is_backslash && has_byte_at text 1 is_line_feed) (Some hard_break_escape) (λ seats. free-leaf HardBreakEscape seats refl)
+
+  free-marks : (kind : Kind) (seats : List Seat) → AllByRecursion IsOther (mark_events bytes kind seats)
+  free-marks named seats = free-leaf CharacterReferenceMarker (take 1 seats) refl
+  free-marks decimal seats =
+      every-append IsOther (leaf bytes CharacterReferenceMarker (take 1 seats)) (leaf bytes CharacterReferenceMarkerNumeric (between 1 2 seats)) (free-leaf CharacterReferenceMarker (take 1 seats) refl)
+      (free-leaf CharacterReferenceMarkerNumeric (between 1 2 seats) refl)
+  free-marks hexadecimal seats =
+      let a = leaf bytes CharacterReferenceMarkerNumeric (between 1 2 seats) in
+      let b = leaf bytes CharacterReferenceMarkerHexadecimal (between 2 3 seats) in
+      every-append IsOther (leaf bytes CharacterReferenceMarker (take 1 seats)) (a ++ b) (free-leaf CharacterReferenceMarker (take 1 seats) refl)
+      (every-append IsOther a b (free-leaf CharacterReferenceMarkerNumeric (between 1 2 seats) refl) (free-leaf CharacterReferenceMarkerHexadecimal (between 2 3 seats) refl))
+
+  free-reference : (text : List ℕ) → OfOption IsFree (reference_at text)
+  free-reference text =
+      reference-holds IsFree
+      (λ kind n seats.
+      let a = leaf bytes CharacterReferenceValue (between (marks kind) (marks kind + n) seats) in
+      let b = leaf bytes CharacterReferenceMarkerSemi (drop (marks kind + n) seats) in
+      free-span CharacterReference seats (mark_events bytes kind seats ++ (a ++ b)) refl
+      (every-append IsOther (mark_events bytes kind seats) (a ++ b) (free-marks kind seats)
+      (every-append IsOther a b (free-leaf CharacterReferenceValue (between (marks kind) (marks kind + n) seats) refl) (free-leaf CharacterReferenceMarkerSemi (drop (marks kind + n) seats) refl))))
+      text
+
+  free-trailing-break : (text : List ℕ) → OfOption IsFree (trailing_break_at text)
+  free-trailing-break text =
+      let n = prefix_len is_space text in
+      when-there IsFree (nat_le 2 n && has_byte_at text n is_line_feed) (Some (hard_break_trailing n)) (λ seats. free-leaf HardBreakTrailing seats refl)
+
+  free-white-space : (text : List ℕ) → OfOption IsFree (white_space_at text)
+  free-white-space text =
+      when-there IsFree (has_byte_at text 0 is_white && is_white_left text) (Some (white_space (prefix_len is_white text))) (λ seats. free-leaf SpaceOrTab seats refl)
+
+  pub free-line-break : (n : ℕ) → IsFree (line_break n)
+  free-line-break n = λ seats.
+      let a = leaf bytes LineEnding (take 1 seats) in
+      let b = leaf bytes SpaceOrTab (drop 1 seats) in
+      every-append IsOther a b (free-leaf LineEnding (take 1 seats) refl) (free-leaf SpaceOrTab (drop 1 seats) refl)
+
+  -- of each construct
+  pub free-each : (text : List ℕ) → EachThere IsFree inline_grammars text
+  free-each text = (free-code-span text, (free-autolink text, (free-email text, (free-html text (marked text), (free-html text (tag_length text), (free-escape text, (free-break-escape text, (free-reference text, (free-trailing-break text, (free-white-space text, tt))))))))))
 
   -- ---- one item behind another
   -- events begin with an enter, if there are any
@@ -269,20 +354,26 @@ module _ (t : ℕ) (bytes : List ℕ) where
     other-steps p s ss rest track steps =
         let l = s ∷ ss in
         let n = run_length (bytes_of l) in
-        elim (begins_run on s.byte) as (λ x. (begins_run on s.byte) ≡ x → ItemSteps l (cond x (delimiter_run n) (part (part_at (ends_data on) (bytes_of l))))) [
+        let line = line_break (prefix_len is_white (bytes_of ss)) in
+        let datum = data_run (data_length on (bytes_of l)) in
+        elim (begins_run on s.byte) as (λ x. (begins_run on s.byte) ≡ x → ItemSteps l (cond x (delimiter_run n) (cond (is_line_feed s.byte) line datum))) [
           | true ↦ λ is. run-steps p (take n l) (drop n l ++ rest) (part-track p n l rest track) (steps-taken n l steps) (run-delimiters s ss (and-right on.attention (is_delimiter s.byte) is))
-          | false ↦ λ is. free-item l (part (part_at (ends_data on) (bytes_of l))) (λ seats. free-part Data refl (part_at (ends_data on) (bytes_of l)) seats)
+          | false ↦ λ is. elim (is_line_feed s.byte) as (λ x. ItemSteps l (cond x line datum)) [
+            | true ↦ free-item l line (free-line-break (prefix_len is_white (bytes_of ss)))
+            | false ↦ free-item l datum (λ seats. free-leaf Data seats refl)
+          ]
         ] refl
+
+    free-there : (l : List Seat) (grammars : List (Grammar Found)) (text : List ℕ) → EachThere IsFree grammars text → EachThere (ItemSteps l) grammars text
+    free-there l [] text h = tt
+    free-there l (grammar ∷ grammars) text h = (free-option l (grammar.front text) h.0, free-there l grammars text h.1)
 
     item-steps : (p : Point) (s : Seat) (ss rest : List Seat) → Track t bytes p ((s ∷ ss) ++ rest) → AllByRecursion (Steps bytes) (s ∷ ss) → ItemSteps (s ∷ ss) (inline_item_at on (bytes_of (s ∷ ss)))
     item-steps p s ss rest track steps =
         let l = s ∷ ss in
-        let text = bytes_of l in
-        there-holds (ItemSteps l) text_grammars on text (run_or_part on text)
-        (free-option l (code_span_at text) (free-code-span text), (free-option l (autolink_at text) (free-autolink text), (free-option l (escape_at text) (free-escape text), tt)))
-        (other-steps p s ss rest track steps)
+        let text = bytes_of l in there-holds (ItemSteps l) inline_grammars on text (run_or_part on text) (free-there l inline_grammars text (free-each text)) (other-steps p s ss rest track steps)
 
-    pub items-steps : (n : ℕ) (p : Point) (l rest : List Seat) → Track t bytes p (l ++ rest) → AllByRecursion (Steps bytes) l → RunsStep t bytes (flat_map (item_events bytes) (cut (inline_item_at on) item_length n l))
+    items-steps : (n : ℕ) (p : Point) (l rest : List Seat) → Track t bytes p (l ++ rest) → AllByRecursion (Steps bytes) l → RunsStep t bytes (flat_map (item_events bytes) (cut (inline_item_at on) item_length n l))
     items-steps zero p l rest track steps = tt
     items-steps (suc n) p [] rest track steps = tt
     items-steps (suc n) p (s ∷ ss) rest track steps =
@@ -292,3 +383,12 @@ module _ (t : ℕ) (bytes : List ℕ) where
         let behind = drop m l in
         let others = items-steps n (end_after p (take m l)) behind rest (track-on t bytes p (take m l) (behind ++ rest) (part-track p m l rest track)) (steps-left m l steps) in
         steps-both (item_events bytes (item, take m l)) (flat_map (item_events bytes) (cut (inline_item_at on) item_length n behind)) (item-steps p s ss rest track steps) others (items-built bytes Opens opens-kept on n behind)
+
+    -- and so it is with the events of all items
+    pub all-steps : (p : Point) (l rest : List Seat) → Track t bytes p (l ++ rest) → AllByRecursion (Steps bytes) l → RunsStep t bytes (flat_map (item_events bytes) (inline_items on l))
+    all-steps p l rest track steps =
+        let n = prefix_len is_white (bytes_of l) in
+        let behind = drop n l in
+        let first = leaf bytes SpaceOrTab (take n l) in
+        let others = items-steps (length l) (end_after p (take n l)) behind rest (track-on t bytes p (take n l) (behind ++ rest) (part-track p n l rest track)) (steps-left n l steps) in
+        steps-both first (flat_map (item_events bytes) (cut (inline_item_at on) item_length (length l) behind)) (free-steps first (free-leaf SpaceOrTab (take n l) refl)) others (items-built bytes Opens opens-kept on (length l) behind)

@@ -26,14 +26,15 @@ use Rattle.mdconstructs_blocks.proofs.Marks.MarkSpans.{IsKeptBySpans, text-by-ch
 use Rattle.mdconstructs_blocks.specs.LeafBlocks.{leaf_blocks}
 use Rattle.mdconstructs_blocks.specs.LeafEvents.{Chunk, Mark, alone, chunk_span, span_marks}
 use Rattle.mdconstructs_blocks.proofs.Marks.MarkForms.{AreTight, tight-at, tight-both, tight-linked}
-use Rattle.mdconstructs_inlines.proofs.InlineBuilt.{items-built, read-balanced}
+use Rattle.mdconstructs_inlines.proofs.InlineBuilt.{all-built, read-balanced}
 use Rattle.mdconstructs_inlines.specs.InlineEvents.{read_events}
+use Rattle.mdconstructs_inlines.proofs.StringRuns.{string-built}
+use Rattle.mdconstructs_inlines.specs.StringEvents.{string_seat_events}
 use Rattle.mdconstructs_documents.specs.Documents.{document, options_with}
 use Rattle.mdconstructs_documents.specs.FlowTexts.{block_texts, flow_inlines, inline_seat_events, read_marks}
 use Rattle.mdconstructs_documents.proofs.FlowTexts.Accounts.{bare-marks}
 use Rattle.mdconstructs_documents.proofs.FlowTexts.Spans.{texts-keep}
 use Rattle.mdconstructs_documents.proofs.FlowTexts.Forms.{tight-kept}
-use Rattle.std.specs.Prelude.{length}
 
 -- ---- what comes in place of a run
 outer-holds : (s : Bool) → is_void (outer_name s) ≡ false
@@ -97,10 +98,11 @@ tight-front (Some st) (x ∷ []) ys n h = ((λ enters void. let ended : names_af
 tight-front (Some st) (x ∷ y ∷ xs) ys n h = (h.0, tight-front (names_after x.kind x.name st) (y ∷ xs) ys n h.1)
 
 module _ (texts : ℕ → List Event) (rest : List Event) where
-  abbrev AreBalanced : List ℕ → Type 0
+  -- what is before each of these runs is balanced
+  abbrev pub AreBalanced : List ℕ → Type 0
   AreBalanced ks = AllByRecursion (λ (k : ℕ). IsBalanced (texts k)) ks
 
-  fresh-balanced : (rs : List Run) → AreFresh texts rs → AreBalanced (map index_of rs)
+  pub fresh-balanced : (rs : List Run) → AreFresh texts rs → AreBalanced (map index_of rs)
   fresh-balanced [] h = tt
   fresh-balanced (r ∷ rs) h = (h.2, fresh-balanced rs h.3)
 
@@ -138,7 +140,7 @@ pub inline-tight : (on : Constructs) (bytes : List ℕ) (seats : List Seat) → 
 inline-tight on bytes seats =
     let g = document (options_with on 4) bytes in
     let text = record (empty_text (point 1 1 0 0)) { seats = seats } in
-    tight-emphasis bytes (read_events g text) (read-balanced g text) (items-built bytes AreTight (tight-kept bytes) on (length seats) seats)
+    tight-emphasis bytes (read_events g text) (read-balanced g text) (all-built bytes AreTight (tight-kept bytes) on seats)
 
 -- ---- in their blocks
 module _ (bytes : List ℕ) where
@@ -167,7 +169,9 @@ module _ (bytes : List ℕ) where
 
 pub inlines-tight : (on : Constructs) (bytes : List ℕ) (seats : List Seat) → IsVoidTight (flow_inlines on bytes seats)
 inlines-tight on bytes seats =
-    let reads = inline_seat_events on bytes in
-    let read : (l : List Seat) → Tight bytes (read_marks reads bytes l) l = λ l. subst AreTight (sym (bare-marks (reads l))) (inline-tight on bytes l) in
-    let marks = flat_map (block_texts reads bytes) (leaf_blocks on (lines_in seats)) in
-    tight-at (flow_inlines on bytes seats) (tight-linked 0 marks (texts-keep on reads bytes (Tight bytes) (spans-tight bytes) read seats))
+    let texts = inline_seat_events on bytes in
+    let strings = string_seat_events on bytes in
+    let read : (reads : List Seat → List Event) → ((l : List Seat) → AreTight (reads l)) → (l : List Seat) → Tight bytes (read_marks reads bytes l) l = λ reads h l. subst AreTight (sym (bare-marks (reads l))) (h l) in
+    let marks = flat_map (block_texts texts strings bytes) (leaf_blocks on (lines_in seats)) in
+    tight-at (flow_inlines on bytes seats)
+    (tight-linked 0 marks (texts-keep on texts strings bytes (Tight bytes) (spans-tight bytes) (read texts (inline-tight on bytes)) (read strings (string-built bytes AreTight (tight-kept bytes) on)) seats))

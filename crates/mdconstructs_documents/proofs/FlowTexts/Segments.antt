@@ -1,16 +1,17 @@
--- Marks, cut into segments: chains of chunks of text, which adjoin, and marks that are kept.
-use Rattle.std.proofs.Common.{◌≡◌, ℕ, List, [], ◌∷◌, ◌++◌, Bool, true, false, Some, None, refl, sym, ◌∙◌}
+-- Marks, cut into segments: chains of chunks of one content, which adjoin, and marks that are kept.
+use Rattle.std.proofs.Common.{◌≡◌, ℕ, List, [], ◌∷◌, ◌++◌, Bool, true, false, Some, None, map, refl, sym, ◌∙◌}
 use Rattle.std.proofs.lemmas.Grind.{flat_map-append}
 use Rattle.std.proofs.lemmas.List.{append-nil}
 use Rattle.std.specs.List.{AllByRecursion, flat_map}
 use Rattle.markdown_base.proofs.Common.{every-append}
 use Rattle.markdown_base.specs.declared.event.Content.{Content}
-use Rattle.markdown_base.specs.declared.event.Content.TheVariants as content
 use Rattle.markdown_base.specs.declared.event.Event.{Event}
 use Rattle.markdown_base.specs.declared.event.Kind.TheVariants.{Enter, Exit}
 use Rattle.markdown_base.specs.declared.event.Name.{Name}
 use Rattle.markdown_base.specs.declared.event.Name.TheVariants as name
 use Rattle.markdown_base.specs.Virtual.{Seat, end_after}
+use Rattle.markdown_children.specs.Chains.{lets_through}
+use Rattle.markdown_tokenizer.specs.Plain.{HaveNoLinks}
 use Rattle.mdconstructs_machines.specs.Spans.{event}
 use Rattle.mdconstructs_blocks.proofs.Marks.MarkChunks.{IsSingle}
 use Rattle.mdconstructs_blocks.specs.LeafEvents.{Mark, chunk_span, span_marks}
@@ -21,21 +22,26 @@ pub data Segment : Type 0 where
   kept : List Mark → List Seat → Segment
   chain : List (List Seat) → Segment
 
--- a mark without a chunk, or with a string that stands alone
-abbrev pub IsString : Content → Type 0
-IsString c = c ≡ content.String
+-- a mark without a chunk, or with one that stands alone and has another content
+abbrev pub IsOther : (wanted : Content) → Content → Type 0
+IsOther wanted c = lets_through (Some wanted) c ≡ false
 
-abbrev pub IsKept : Mark → Type 0
-IsKept mark = IsSingle IsString mark
+abbrev pub IsKept : (wanted : Content) → Mark → Type 0
+IsKept wanted mark = IsSingle (IsOther wanted) mark
+
+-- events without links begin no chunk
+pub kept-events : (wanted : Content) (es : List Event) → HaveNoLinks es → AllByRecursion (IsKept wanted) (map (λ (e : Event). (e, None)) es)
+kept-events wanted [] h = tt
+kept-events wanted (e ∷ es) h = (h.0, kept-events wanted es h.1)
 
 -- there is a byte
 abbrev pub HasByte : List Seat → Type 0
 HasByte [] = ⊥
 HasByte (s ∷ ss) = Unit {0}
 
-abbrev pub IsGood : Segment → Type 0
-IsGood (kept marks seats) = AllByRecursion IsKept marks
-IsGood (chain chunks) = AllByRecursion HasByte chunks
+abbrev pub IsGood : (wanted : Content) → Segment → Type 0
+IsGood wanted (kept marks seats) = AllByRecursion (IsKept wanted) marks
+IsGood wanted (chain chunks) = AllByRecursion HasByte chunks
 
 -- the virtual bytes of chunks, one behind another
 abbrev pub in_line : List (List Seat) → List Seat
@@ -45,31 +51,31 @@ abbrev pub seats_of : Segment → List Seat
 seats_of (kept marks seats) = seats
 seats_of (chain chunks) = in_line chunks
 
-module _ (bytes : List ℕ) where
+-- the marks of a segment with the events of its chain
+abbrev pub deep_of : (bytes : List ℕ) → (List Seat → List Event) → Segment → List Mark
+deep_of bytes reads (kept marks seats) = marks
+deep_of bytes reads (chain chunks) = read_marks reads bytes (in_line chunks)
+
+module _ (wanted : Content) (bytes : List ℕ) where
   -- the marks of a chain
   abbrev pub chain_marks : (has_previous : Bool) → List (List Seat) → List Mark
   chain_marks has_previous [] = []
-  chain_marks has_previous (c ∷ []) = chunk_span bytes (Some (record { content = content.Text; has_previous = has_previous; has_next = false })) name.Data c []
-  chain_marks has_previous (c ∷ d ∷ cs) = chunk_span bytes (Some (record { content = content.Text; has_previous = has_previous; has_next = true })) name.Data c [] ++ chain_marks true (d ∷ cs)
+  chain_marks has_previous (c ∷ []) = chunk_span bytes (Some (record { content = wanted; has_previous = has_previous; has_next = false })) name.Data c []
+  chain_marks has_previous (c ∷ d ∷ cs) = chunk_span bytes (Some (record { content = wanted; has_previous = has_previous; has_next = true })) name.Data c [] ++ chain_marks true (d ∷ cs)
 
   -- the marks of a segment with its chunks
   abbrev pub flat_of : Segment → List Mark
   flat_of (kept marks seats) = marks
   flat_of (chain chunks) = chain_marks false chunks
 
-  -- and with the events of its text
-  abbrev pub deep_of : (List Seat → List Event) → Segment → List Mark
-  deep_of reads (kept marks seats) = marks
-  deep_of reads (chain chunks) = read_marks reads bytes (in_line chunks)
-
   module _ (reads : List Seat → List Event) where
-    -- Marks with chunks and marks with texts are those of the same segments over virtual bytes
+    -- Marks with chunks and marks with what they are read as are those of the same segments over virtual bytes
     pub record AreSegments (flat deep : List Mark) (seats : List Seat) : Type 0 where
       pub segments : List Segment
       pub flat_is : flat ≡ flat_map flat_of segments
-      pub deep_is : deep ≡ flat_map (deep_of reads) segments
+      pub deep_is : deep ≡ flat_map (deep_of bytes reads) segments
       pub seats_is : seats ≡ flat_map seats_of segments
-      pub good : AllByRecursion IsGood segments
+      pub good : AllByRecursion (IsGood wanted) segments
 
     pub no-segments : AreSegments [] [] []
     no-segments = record { segments = []; flat_is = refl; deep_is = refl; seats_is = refl; good = tt }
@@ -78,12 +84,12 @@ module _ (bytes : List ℕ) where
     segments-both h k = record {
       segments = h.segments ++ k.segments;
       flat_is = (λ i. h.flat_is i ++ k.flat_is i) ∙ sym (flat_map-append flat_of h.segments k.segments);
-      deep_is = (λ i. h.deep_is i ++ k.deep_is i) ∙ sym (flat_map-append (deep_of reads) h.segments k.segments);
+      deep_is = (λ i. h.deep_is i ++ k.deep_is i) ∙ sym (flat_map-append (deep_of bytes reads) h.segments k.segments);
       seats_is = (λ i. h.seats_is i ++ k.seats_is i) ∙ sym (flat_map-append seats_of h.segments k.segments);
-      good = every-append IsGood h.segments k.segments h.good k.good;
+      good = every-append (IsGood wanted) h.segments k.segments h.good k.good;
     }
 
-    pub segments-kept : (marks : List Mark) (seats : List Seat) → AllByRecursion IsKept marks → AreSegments marks marks seats
+    pub segments-kept : (marks : List Mark) (seats : List Seat) → AllByRecursion (IsKept wanted) marks → AreSegments marks marks seats
     segments-kept marks seats h = record { segments = kept marks seats ∷ []; flat_is = sym (append-nil marks); deep_is = sym (append-nil marks); seats_is = sym (append-nil seats); good = (h, tt) }
 
     pub segments-chain : (chunks : List (List Seat)) → AllByRecursion HasByte chunks → AreSegments (chain_marks false chunks) (read_marks reads bytes (in_line chunks)) (in_line chunks)

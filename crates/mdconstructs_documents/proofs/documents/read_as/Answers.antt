@@ -1,7 +1,7 @@
 use Rattle.mdconstructs_documents.proofs.Prelude.{false, FlowStart, TextStart, StringStart, back-reads, deep-reads, lines-read, peek-reads, save-reads, paragraphs-by-blocks, text-by-blocks, line_events, data_events, back_events, save_events, paragraph_events, IfOk-weaker, no-run-refused, lines_rules, paragraphs_rules, peek_rules, deep_rules, back_rules, save_rules, lines-refuse-nothing, paragraphs-refuse-nothing, peek-refuses-nothing, deep-refuses-nothing, back-refuses-nothing, save-refuses-nothing, text_rules, text-refuses-nothing, paragraphs-readable, text-readable}
 use Rattle.mdconstructs_documents.proofs.DeepEvents.{only-memory, none-refused-deep, all-ready, flat-events, with-data, with-texts}
 use Rattle.mdconstructs_documents.proofs.FlowRuns.{flow-formed}
-use Rattle.mdconstructs_documents.proofs.Formed.{data-stand, run-formed, texts-stand}
+use Rattle.mdconstructs_documents.proofs.Formed.{data-well-formed, run-formed, texts-well-formed}
 use Rattle.mdconstructs_documents.proofs.documents.read_as.Goals as goal
 
 pub returns-in-Lines-clause-events : goal.returns-in-Lines-clause-events
@@ -50,49 +50,49 @@ returns-in-Text-2-clause-events c =
     rw (c.in-Text-2.is, c.if-choice-2.false) (IfOk-weaker c.read_by-in-Text-2.result _ _ (λ events h. flat-events text_rules FlowStart paragraph_events text-by-blocks _ c.args.bytes.now document events.items h) (rw c.options_with.ensures at c.read_by-in-Text-2.ensures.events))
 
 pub returns-in-Flow-clause-events : goal.returns-in-Flow-clause-events
-returns-in-Flow-clause-events c = rw (c.in-Flow.is, c.if-choice-3.true) (rw c.options_with.ensures at c.read_flow_and_texts.ensures.events)
+returns-in-Flow-clause-events c = rw (c.in-Flow.is, c.if-choice-3.true) (rw c.options_with.ensures at c.read_flow_and_inlines.ensures.events)
 
 pub returns-clause-events : goal.returns-clause-events
 returns-clause-events c = rw (c.in-Flow-2.is, c.if-choice-3.false) (rw c.options_with.ensures at c.read_flow.ensures.events)
 
 pub returns-in-Lines-clause-formed : goal.returns-in-Lines-clause-formed
-returns-in-Lines-clause-formed c = rw c.in-Lines.is (IfOk-weaker c.read_by.result _ _ (λ events h. run-formed _ lines_rules FlowStart events.items h.0 h.1) (rw c.options_with.ensures at c.read_by.ensures.events))
+returns-in-Lines-clause-formed c = IfOk-weaker c.read_by.result _ _ (λ events h. run-formed _ lines_rules FlowStart events.items h.0 h.1) (rw c.options_with.ensures at c.read_by.ensures.events)
 
 pub returns-in-Paragraphs-2-clause-formed : goal.returns-in-Paragraphs-2-clause-formed
-returns-in-Paragraphs-2-clause-formed c = rw (c.in-Paragraphs-2.is, c.if-choice.false) (IfOk-weaker c.read_by-in-Paragraphs-2.result _ _ (λ events h. run-formed _ paragraphs_rules FlowStart events.items h.0 h.1) (rw c.options_with.ensures at c.read_by-in-Paragraphs-2.ensures.events))
+returns-in-Paragraphs-2-clause-formed c = IfOk-weaker c.read_by-in-Paragraphs-2.result _ _ (λ events h. run-formed _ paragraphs_rules FlowStart events.items h.0 h.1) (rw c.options_with.ensures at c.read_by-in-Paragraphs-2.ensures.events)
 
 pub returns-in-Peek-clause-formed : goal.returns-in-Peek-clause-formed
-returns-in-Peek-clause-formed c = rw c.in-Peek.is (IfOk-weaker c.read_by-in-Peek.result _ _ (λ events h. run-formed _ peek_rules TextStart events.items h.0 h.1) (rw c.options_with.ensures at c.read_by-in-Peek.ensures.events))
+returns-in-Peek-clause-formed c = IfOk-weaker c.read_by-in-Peek.result _ _ (λ events h. run-formed _ peek_rules TextStart events.items h.0 h.1) (rw c.options_with.ensures at c.read_by-in-Peek.ensures.events)
 
 pub returns-in-Deep-clause-formed : goal.returns-in-Deep-clause-formed
-returns-in-Deep-clause-formed c = rw c.in-Deep.is (IfOk-weaker c.read_by-in-Deep.result _ _ (λ events h. run-formed _ deep_rules StringStart events.items h.0 h.1) (rw c.options_with.ensures at c.read_by-in-Deep.ensures.events))
+returns-in-Deep-clause-formed c = IfOk-weaker c.read_by-in-Deep.result _ _ (λ events h. run-formed _ deep_rules StringStart events.items h.0 h.1) (rw c.options_with.ensures at c.read_by-in-Deep.ensures.events)
 
 pub returns-in-Back-clause-formed : goal.returns-in-Back-clause-formed
-returns-in-Back-clause-formed c = rw c.in-Back.is (IfOk-weaker c.read_by-in-Back.result _ _ (λ events h. run-formed _ back_rules TextStart events.items h.0 h.1) (rw c.options_with.ensures at c.read_by-in-Back.ensures.events))
+returns-in-Back-clause-formed c = IfOk-weaker c.read_by-in-Back.result _ _ (λ events h. run-formed _ back_rules TextStart events.items h.0 h.1) (rw c.options_with.ensures at c.read_by-in-Back.ensures.events)
 
 pub returns-in-Save-clause-formed : goal.returns-in-Save-clause-formed
-returns-in-Save-clause-formed c = rw c.in-Save.is (IfOk-weaker c.read_by-in-Save.result _ _ (λ events h. run-formed _ save_rules TextStart events.items h.0 h.1) (rw c.options_with.ensures at c.read_by-in-Save.ensures.events))
+returns-in-Save-clause-formed c = IfOk-weaker c.read_by-in-Save.result _ _ (λ events h. run-formed _ save_rules TextStart events.items h.0 h.1) (rw c.options_with.ensures at c.read_by-in-Save.ensures.events)
 
 pub returns-in-Text-2-clause-formed : goal.returns-in-Text-2-clause-formed
-returns-in-Text-2-clause-formed c = rw (c.in-Text-2.is, c.if-choice-2.false) (IfOk-weaker c.read_by-in-Text-2.result _ _ (λ events h. run-formed _ text_rules FlowStart events.items h.0 h.1) (rw c.options_with.ensures at c.read_by-in-Text-2.ensures.events))
+returns-in-Text-2-clause-formed c = IfOk-weaker c.read_by-in-Text-2.result _ _ (λ events h. run-formed _ text_rules FlowStart events.items h.0 h.1) (rw c.options_with.ensures at c.read_by-in-Text-2.ensures.events)
 
 pub returns-clause-formed : goal.returns-clause-formed
 returns-clause-formed c =
     let document = rw c.options_with.ensures at c.read_flow.ensures.document in
-    rw c.in-Flow-2.is (IfOk-weaker c.read_flow.result _ _ (λ events h. flow-formed _ c.args.bytes.now document events.items h) (rw c.options_with.ensures at c.read_flow.ensures.events))
+    IfOk-weaker c.read_flow.result _ _ (λ events h. flow-formed _ c.args.bytes.now document events.items h) (rw c.options_with.ensures at c.read_flow.ensures.events)
 
 pub returns-in-Flow-clause-formed : goal.returns-in-Flow-clause-formed
-returns-in-Flow-clause-formed c = rw c.in-Flow.is (rw c.options_with.ensures at c.read_flow_and_texts.ensures.formed)
+returns-in-Flow-clause-formed c = rw c.options_with.ensures at c.read_flow_and_inlines.ensures.formed
 
 pub returns-in-Paragraphs-clause-formed : goal.returns-in-Paragraphs-clause-formed
 returns-in-Paragraphs-clause-formed c =
     let document = rw c.options_with.ensures at c.read_deep_by.ensures.document in
-    rw (c.in-Paragraphs.is, c.if-choice.true) (IfOk-weaker c.read_deep_by.result _ _ (λ events h. data-stand _ c.args.bytes.now document events.items h) (rw c.options_with.ensures at c.read_deep_by.ensures.events))
+    IfOk-weaker c.read_deep_by.result _ _ (λ events h. data-well-formed _ c.args.bytes.now document events.items h) (rw c.options_with.ensures at c.read_deep_by.ensures.events)
 
 pub returns-in-Text-clause-formed : goal.returns-in-Text-clause-formed
 returns-in-Text-clause-formed c =
     let document = rw c.options_with.ensures at c.read_deep_by-in-Text.ensures.document in
-    rw (c.in-Text.is, c.if-choice-2.true) (IfOk-weaker c.read_deep_by-in-Text.result _ _ (λ events h. texts-stand _ c.args.bytes.now document events.items h) (rw c.options_with.ensures at c.read_deep_by-in-Text.ensures.events))
+    IfOk-weaker c.read_deep_by-in-Text.result _ _ (λ events h. texts-well-formed _ c.args.bytes.now document events.items h) (rw c.options_with.ensures at c.read_deep_by-in-Text.ensures.events)
 
 pub returns-in-Lines-clause-err : goal.returns-in-Lines-clause-err
 returns-in-Lines-clause-err c = only-memory c.read_by.result (λ m e. no-run-refused lines_rules lines-refuse-nothing _ false _ m (c.read_by.ensures.message m e)) c.read_by.ensures.ready c.read_by.ensures.cause

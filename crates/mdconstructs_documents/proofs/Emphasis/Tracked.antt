@@ -1,0 +1,65 @@
+-- Delimiter runs among atoms, by their virtual bytes: in a document they go byte by byte, and two that adjoin have different markers.
+use Rattle.std.proofs.Common.{◌≡◌, ℕ, ◌==◌, Bool, true, false, List, [], ◌∷◌, ◌++◌, append_assoc, refl, sym, ap, ◌∙◌, subst}
+use Rattle.std.specs.Prelude.{◌||◌, slice_get}
+use Rattle.std.specs.List.{AllByRecursion}
+use Rattle.std.proofs.lemmas.Bool.{eqb-true}
+use Rattle.markdown_base.specs.declared.event.Point.{Point}
+use Rattle.markdown_base.specs.Places.{shown}
+use Rattle.markdown_base.specs.Virtual.{Seat, end_after}
+use Rattle.markdown_tokenizer.proofs.Positions.Order.{every-back, every-front}
+use Rattle.mdconstructs_attention.specs.Emphasis.{later, same}
+use Rattle.mdconstructs_attention.specs.Runs.{is_star_byte}
+use Rattle.mdconstructs_text.proofs.DeepSpans.Atoms.{Atom, atom_seats, seats_of}
+use Rattle.mdconstructs_inlines.specs.RunRows.{is_delimiter}
+use Rattle.mdconstructs_blocks.proofs.Marks.MarkForms.{Track, track-on, track-place}
+use Rattle.mdconstructs_documents.proofs.Emphasis.Follow.{FollowFrom}
+use Rattle.mdconstructs_documents.proofs.Emphasis.RunAtoms.{AreWholeRuns, Differs, is_run}
+use Rattle.mdconstructs_documents.proofs.Emphasis.Runs.{AreRuns, HasOther}
+use Rattle.mdconstructs_documents.proofs.FlowTexts.InlineSteps.{AreDelimiters, Steps}
+
+-- two delimiters that are not equal are different markers
+markers-differ : (x y : ℕ) → is_delimiter x ≡ true → is_delimiter y ≡ true → (x ≡ y → ⊥) → same (x == 42) (y == 42) ≡ false
+markers-differ x y h k differ = by (x == 42) (y == 42) refl refl
+  where
+    by : (a b : Bool) → (x == 42) ≡ a → (y == 42) ≡ b → same a b ≡ false
+    by true true e f = absurd (differ (eqb-true x 42 e ∙ sym (eqb-true y 42 f)))
+    by true false e f = refl
+    by false true e f = refl
+    by false false e f =
+        let one : (x == 95) ≡ true = sym (ap (λ (a : Bool). a || (x == 95)) e) ∙ h in
+        let other : (y == 95) ≡ true = sym (ap (λ (a : Bool). a || (y == 95)) f) ∙ k in
+        absurd (differ (eqb-true x 95 one ∙ sym (eqb-true y 95 other)))
+
+module _ (bytes : List ℕ) where
+  star-is : (s : Seat) → Steps bytes s → is_delimiter s.byte ≡ true → is_star_byte (slice_get bytes (shown bytes s.point).index) ≡ (s.byte == 42)
+  star-is s steps is = let step = steps is in ap (λ (q : Point). is_star_byte (slice_get bytes q.index)) step.1 ∙ ap is_star_byte step.2
+
+  other-marker : (a : Atom) (atoms : List Atom) → Steps bytes a.first → AllByRecursion (Steps bytes) (seats_of atoms) → (is_run a ≡ true → AreDelimiters (atom_seats a)) → AreWholeRuns atoms → Differs a atoms → HasOther bytes a atoms
+  other-marker a [] step steps here whole differ = tt
+  other-marker a (b ∷ bs) step steps here whole differ = λ first second.
+      let one = star-is a.first step (here first).0 in
+      let other = star-is b.first steps.0 (whole.0 second).0 in
+      (λ i. same (one i) (other i)) ∙ markers-differ a.first.byte b.first.byte (here first).0 (whole.0 second).0 (differ first second)
+
+  module _ (t : ℕ) where
+    -- delimiters of a document that adjoin go byte by byte
+    follow-track : (p : Point) (l rest : List Seat) → Track t bytes p (l ++ rest) → AllByRecursion (Steps bytes) l → AreDelimiters l → FollowFrom bytes p l
+    follow-track p [] rest track steps are = tt
+    follow-track p (s ∷ ss) rest track steps are =
+        let step = steps.0 are.0 in
+        let end : s.end ≡ later 1 p = step.0 ∙ ap (later 1) (sym step.1 ∙ track.1) in
+        let there = track-place t bytes s.end (ss ++ rest) track.3 in
+        (track.1, there.is_shown ∙ end, subst (λ q. FollowFrom bytes q ss) end (follow-track s.end ss rest track.3 steps.1 are.1))
+
+    pub runs-tracked : (atoms : List Atom) (p : Point) (rest : List Seat) → Track t bytes p (seats_of atoms ++ rest) → AllByRecursion (Steps bytes) (seats_of atoms) → AreWholeRuns atoms → AreRuns bytes atoms
+    runs-tracked [] p rest track steps whole = tt
+    runs-tracked (a ∷ atoms) p rest track steps whole =
+        let l = atom_seats a in
+        let more = seats_of atoms in
+        let here = subst (Track t bytes p) (append_assoc l more rest) track in
+        let front = every-front (Steps bytes) l more steps in
+        let back = every-back (Steps bytes) l more steps in (
+          λ is. subst (λ q. FollowFrom bytes q l) (sym here.1) (follow-track p l (more ++ rest) here front (whole.0 is)),
+          other-marker a atoms front.0 back whole.0 whole.2 whole.1,
+          runs-tracked atoms (end_after p l) rest (track-on t bytes p l (more ++ rest) here) back whole.2,
+        )

@@ -1,0 +1,152 @@
+-- Virtual bytes that are cut from the front, item by item, into delimiter runs and items that hold none: their runs are as long as can be.
+use Rattle.std.proofs.Common.{◌≡◌, ℕ, zero, suc, ◌+◌, ◌<◌, ◌≤◌, ◌==◌, true, false, cond, inl, inr, List, [], ◌∷◌, ◌++◌, length, take, drop, Option, Some, None, refl, sym, ◌∙◌, subst, arith}
+use Rattle.std.specs.Prelude.{◌⊎◌}
+use Rattle.std.specs.List.{AllByRecursion, flat_map, prefix_len}
+use Rattle.std.proofs.lemmas.Bool.Decides.{nat_tests}
+use Rattle.std.proofs.lemmas.Grind.{flat_map-append}
+use Rattle.std.proofs.lemmas.List.{append-nil, take-append-drop}
+use Rattle.markdown_base.proofs.Common.{every-append}
+use Rattle.markdown_base.specs.declared.event.Event.{Event}
+use Rattle.markdown_base.specs.declared.event.Kind.TheVariants.{Enter, Exit}
+use Rattle.markdown_base.specs.declared.event.Name.TheVariants.{AttentionSequence}
+use Rattle.markdown_base.specs.Events.{same_name}
+use Rattle.markdown_base.specs.Virtual.{Seat, end_after}
+use Rattle.markdown_tokenizer.proofs.Positions.Order.{every-back, every-front}
+use Rattle.mdconstructs_machines.specs.Spans.{event}
+use Rattle.mdconstructs_text.proofs.Constructs.Apart.{EachThere, OfOption}
+use Rattle.mdconstructs_text.proofs.DeepSpans.Atoms.{Atom, InOneLine, IsCut, all_at, atom_events, atom_seats, events_of, seats_of}
+use Rattle.mdconstructs_text.proofs.DeepSpans.Stretches.{ItemCut, NoEnding, no-feed, plain-line}
+use Rattle.mdconstructs_text.proofs.Texts.Cutting.{drop-less}
+use Rattle.mdconstructs_text.specs.Construct.{Found, Grammar}
+use Rattle.mdconstructs_text.specs.Items.{item_length}
+use Rattle.mdconstructs_text.specs.Parts.{bytes_of, cut}
+use Rattle.mdconstructs_text.specs.TextEvents.{item_events}
+use Rattle.mdconstructs_inlines.specs.InlineEvents.{delimiter_run, run_length}
+use Rattle.mdconstructs_inlines.specs.RunRows.{is_delimiter}
+use Rattle.mdconstructs_documents.proofs.Emphasis.RunAtoms.{is_run, Differs, AreWholeRuns}
+use Rattle.mdconstructs_documents.proofs.FlowTexts.InlineSteps.{AreDelimiters, run-delimiters}
+
+-- an event is of no attention sequence
+abbrev pub IsOther : Event → Type 0
+IsOther e = same_name e.name AttentionSequence ≡ false
+
+-- an atom is no run
+abbrev IsNoRun : Atom → Type 0
+IsNoRun a = is_run a ≡ false
+
+-- virtual bytes do not begin with this byte
+abbrev Stops : ℕ → List Seat → Type 0
+Stops b [] = Unit {0}
+Stops b (s ∷ ss) = b ≡ s.byte → ⊥
+
+-- ---- runs before atoms
+no-run-differs : (a : Atom) (atoms : List Atom) → IsNoRun a → Differs a atoms
+no-run-differs a [] other = tt
+no-run-differs a (b ∷ bs) other = λ is. absurd (cc)
+
+no-runs-before : (xs ys : List Atom) → AllByRecursion IsNoRun xs → AreWholeRuns ys → AreWholeRuns (xs ++ ys)
+no-runs-before [] ys others h = h
+no-runs-before (a ∷ xs) ys others h =
+    let other = others.0 in
+    ((λ is. let no : true ≡ false = sym is ∙ other in absurd (cc)), no-run-differs a (xs ++ ys) other, no-runs-before xs ys others.1 h)
+
+run-differs : (a : Atom) (atoms : List Atom) → Stops a.first.byte (seats_of atoms) → Differs a atoms
+run-differs a [] stops = tt
+run-differs a (b ∷ bs) stops = λ is other same. stops same
+
+run-before : (a : Atom) (atoms : List Atom) → AreDelimiters (atom_seats a) → Stops a.first.byte (seats_of atoms) → AreWholeRuns atoms → AreWholeRuns (a ∷ atoms)
+run-before a atoms are stops h = ((λ is. are), run-differs a atoms stops, h)
+
+-- a run stops at another byte
+run-stops : (b : ℕ) (l : List Seat) → Stops b (drop (prefix_len (λ c. c == b) (bytes_of l)) l)
+run-stops b [] = tt
+run-stops b (s ∷ ss) =
+    let n = prefix_len (λ c. c == b) (bytes_of ss) in
+    elim (s.byte == b) as (λ x. (s.byte == b) ≡ x → Stops b (drop (cond x (1 + n) 0) (s ∷ ss))) [
+      | true ↦ λ e. let one : suc n ≡ 1 + n = omega arith in subst (λ k. Stops b (drop k (s ∷ ss))) one (run-stops b ss)
+      | false ↦ λ e same. grind (arith, nat_tests)
+    ] refl
+
+module _ (bytes : List ℕ) where
+  -- no event of a thing that is found is of an attention sequence
+  abbrev pub IsFree : Found → Type 0
+  IsFree found = (seats : List Seat) → AllByRecursion IsOther (found.events bytes seats)
+
+  others-no-runs : (atoms : List Atom) → AllByRecursion IsOther (events_of bytes atoms) → AllByRecursion IsNoRun atoms
+  others-no-runs [] h = tt
+  others-no-runs (a ∷ atoms) h =
+      let end = end_after a.first.end a.others in
+      let here = every-front IsOther (atom_events bytes a) (events_of bytes atoms) h in
+      let pair = every-back IsOther (all_at bytes Enter a.first.point a.enters) (event bytes Enter a.name a.first.point ∷ event bytes Exit a.name end ∷ all_at bytes Exit end a.exits) here in
+      (pair.0, others-no-runs atoms (every-back IsOther (atom_events bytes a) (events_of bytes atoms) h))
+
+  -- ---- an item at the front of virtual bytes
+  -- its atoms are no runs; or it is one run, and another byte is behind it
+  abbrev pub ItemRuns : List Seat → Found → Type 0
+  ItemRuns l item =
+      (c : ItemCut bytes l item)
+      × (AllByRecursion IsNoRun c.atoms ⊎ ((a : Atom) × (c.atoms ≡ a ∷ []) × AreDelimiters (atom_seats a) × Stops a.first.byte (drop (item_length item) l)))
+
+  pub free-item : (l : List Seat) (item : Found) → ItemCut bytes l item → IsFree item → ItemRuns l item
+  free-item l item c free = (c, inl (others-no-runs c.atoms (subst (AllByRecursion IsOther) c.are (free (take (item_length item) l)))))
+
+  free-option : (l : List Seat) (o : Option Found) → OfOption (ItemCut bytes l) o → OfOption IsFree o → OfOption (ItemRuns l) o
+  free-option l None c free = tt
+  free-option l (Some item) c free = free-item l item c free
+
+  -- so it is with constructs that can be cut and have no attention sequence
+  pub free-constructs : (l : List Seat) (grammars : List (Grammar Found)) (text : List ℕ) → EachThere (ItemCut bytes l) grammars text → EachThere IsFree grammars text → EachThere (ItemRuns l) grammars text
+  free-constructs l [] text cuts frees = tt
+  free-constructs l (grammar ∷ grammars) text cuts frees = (free-option l (grammar.front text) cuts.0 frees.0, free-constructs l grammars text cuts.1 frees.1)
+
+  -- and with a delimiter run
+  no-endings : (l : List Seat) → AreDelimiters l → NoEnding l
+  no-endings [] h = tt
+  no-endings (s ∷ ss) h = (no-feed is_delimiter refl s.byte h.0, no-endings ss h.1)
+
+  pub run-item : (s : Seat) (ss : List Seat) → is_delimiter s.byte ≡ true → ItemRuns (s ∷ ss) (delimiter_run (run_length (bytes_of (s ∷ ss))))
+  run-item s ss is =
+      let n = prefix_len (λ c. c == s.byte) (bytes_of ss) in
+      let one : suc n ≡ 1 + n = omega arith in
+      let a : Atom = record { enters = []; name = AttentionSequence; first = s; others = take n ss; exits = [] } in
+      let are : AreDelimiters (atom_seats a) = subst (λ k. AreDelimiters (take k (s ∷ ss))) (sym one) (run-delimiters s ss is) in
+      let c : IsCut bytes ((delimiter_run (suc n)).events bytes (s ∷ take n ss)) (s ∷ take n ss) = record { atoms = a ∷ []; are = refl; all = sym (append-nil (s ∷ take n ss)); lines = (plain-line (atom_seats a) (no-endings (atom_seats a) are), tt) } in
+      subst (λ k. ItemRuns (s ∷ ss) (delimiter_run k)) one (c, inr (a, refl, are, run-stops s.byte ss))
+
+  -- ---- all of them
+  -- what is cut into atoms with such runs
+  abbrev pub CutRuns : List Event → List Seat → Type 0
+  CutRuns events seats = (c : IsCut bytes events seats) × AreWholeRuns c.atoms
+
+  -- an item, and what is behind it
+  pub item-more : (l : List Seat) (item : Found) (es : List Event) → ItemRuns l item → CutRuns es (drop (item_length item) l) → CutRuns (item_events bytes (item, take (item_length item) l) ++ es) l
+  item-more l item es here more =
+      let m = item_length item in
+      let h = here.0 in
+      let k = more.0 in (
+        record {
+          atoms = h.atoms ++ k.atoms;
+          are = (λ i. h.are i ++ k.are i) ∙ sym (flat_map-append (atom_events bytes) h.atoms k.atoms);
+          all = sym (take-append-drop m l) ∙ (λ i. h.all i ++ k.all i) ∙ sym (flat_map-append atom_seats h.atoms k.atoms);
+          lines = every-append InOneLine h.atoms k.atoms h.lines k.lines;
+        },
+        elim here.1 [
+          | inl none ↦ no-runs-before h.atoms k.atoms none more.1
+          | inr run ↦ subst (λ atoms. AreWholeRuns (atoms ++ k.atoms)) (sym run.1) (run-before run.0 k.atoms run.2 (subst (Stops run.0.first.byte) k.all run.3) more.1)
+        ],
+      )
+
+  none-runs : CutRuns [] []
+  none-runs = (record { atoms = []; are = refl; all = refl; lines = tt }, tt)
+
+  pub cut-runs : (front : List ℕ → Found) → ((b : ℕ) (bs : List ℕ) → 0 < item_length (front (b ∷ bs))) → ((s : Seat) (ss : List Seat) → ItemRuns (s ∷ ss) (front (bytes_of (s ∷ ss))))
+      → (n : ℕ) (l : List Seat) → length l ≤ n → CutRuns (flat_map (item_events bytes) (cut front item_length n l)) l
+  cut-runs front positive each zero [] few = none-runs
+  cut-runs front positive each zero (s ∷ ss) few = absurd (omega (arith, few))
+  cut-runs front positive each (suc n) [] few = none-runs
+  cut-runs front positive each (suc n) (s ∷ ss) few =
+      let item = front (bytes_of (s ∷ ss)) in
+      let m = item_length item in
+      let less : length (drop m (s ∷ ss)) ≤ length ss = drop-less m s ss (positive s.byte (bytes_of ss)) in
+      let rest = drop m (s ∷ ss) in
+      item-more (s ∷ ss) item (flat_map (item_events bytes) (cut front item_length n rest)) (each s ss) (cut-runs front positive each n rest (omega (arith, less, few)))

@@ -1,0 +1,28 @@
+-- Chains of one content: what begins one, and the state that it is read with.
+use Rattle.std.proofs.Common.{◌≡◌, List, true, Option, Some, None, sym, ap, subst}
+use Rattle.std.specs.Prelude.{Contains, IfSome, is_none}
+use denote.Enum.Bare.{same_true}
+use Rattle.std.proofs.lemmas.Bool.{and_parts}
+use Rattle.markdown_base.specs.contracts.event.Content.{the_type}
+use Rattle.markdown_base.specs.declared.event.Content.{Content}
+use Rattle.markdown_base.specs.declared.event.Event.{Event}
+use Rattle.markdown_base.specs.declared.state.Name.{Name}
+use Rattle.markdown_children.specs.Chains.{content_at, fits, some_fits}
+use Rattle.markdown_children.specs.Reads.{StartAmong, start_name}
+use Rattle.markdown_edits.specs.Links.{previous_of}
+
+pub is-content : (wanted : Content) (o : Option Content) → some_fits (Some wanted) o ≡ true → o ≡ Some wanted
+is-content wanted None h = absurd (cc)
+is-content wanted (Some c) h = ap Some (sym (same_true the_type tt wanted c h))
+
+when-some : (o : Option Name) (P : Name → Type 0) (name : Name) → IfSome o P → o ≡ Some name → P name
+when-some None P name h e = absurd (cc)
+when-some (Some n) P name h e = let same : n ≡ name = cc in subst P same h
+
+-- a machine that may start with the state of a content may start with each chain of it
+pub may-start : (content : Content) (starts : List Name) (events : List Event) → IfSome (start_name content) (λ start. Contains starts start) → StartAmong starts (Some content) events
+may-start content starts events h c name begin is =
+    let fit = and_parts (fits (Some content) events c) (is_none (previous_of events c)) begin in
+    let at = is-content content (content_at events c) fit.0 in
+    let start : start_name content ≡ Some name = rw at at is in
+    when-some (start_name content) (λ start. Contains starts start) name h start

@@ -1,0 +1,94 @@
+-- The items of inline text can be cut into innermost spans: none goes over a line ending.
+use Rattle.std.proofs.Common.{◌≡◌, ℕ, ◌+◌, ◌≤◌, ◌==◌, ◌&&◌, Bool, true, false, cond, List, [], ◌∷◌, length, take, drop, refl, sym, ap, subst, arith, suc}
+use Rattle.std.proofs.lemmas.List.{drop-map, drop-take, length-drop, take-append-drop}
+use Rattle.std.specs.List.{flat_map, prefix_len}
+use Rattle.markdown_base.proofs.Common.{and-right, every-map}
+use Rattle.markdown_base.specs.declared.configuration.Constructs.{Constructs}
+use Rattle.markdown_base.specs.declared.event.Name.TheVariants.{AttentionSequence, Data, LineEnding, SpaceOrTab}
+use Rattle.markdown_base.specs.Virtual.{Seat}
+use Rattle.mdconstructs_machines.specs.Breaks.{is_white}
+use Rattle.mdconstructs_machines.specs.LineEvents.{is_line_ending}
+use Rattle.mdconstructs_text.proofs.Autolinks.Cuts.{autolink-cut}
+use Rattle.mdconstructs_text.proofs.CodeSpans.Cuts.{code-span-cut}
+use Rattle.mdconstructs_text.proofs.Constructs.Apart.{EachThere, there-holds}
+use Rattle.mdconstructs_text.proofs.DeepSpans.Atoms.{IsCut, OneLine, cut-append, cut-leaf}
+use Rattle.mdconstructs_text.proofs.DeepSpans.Stretches.{ItemCut, NoEnding, cuts, first-plain, no-feed, one-taken, plain-add, plain-line, run-plain}
+use Rattle.mdconstructs_text.proofs.Escapes.Cuts.{escape-cut}
+use Rattle.mdconstructs_text.specs.Bytes.{backticks, is_backtick, is_line_feed}
+use Rattle.mdconstructs_text.specs.Items.{item_length}
+use Rattle.mdconstructs_text.specs.Parts.{bytes_of, first_plain, leaf}
+use Rattle.mdconstructs_text.specs.TextEvents.{item_events}
+use Rattle.mdconstructs_phrasing.proofs.Emails.Cuts.{email-cut}
+use Rattle.mdconstructs_phrasing.proofs.HtmlMarks.Bytes.{html-mark-cut}
+use Rattle.mdconstructs_phrasing.proofs.HtmlTags.Bytes.{html-tag-cut}
+use Rattle.mdconstructs_phrasing.proofs.HardBreaks.Cuts.{break-escape-cut, trailing-break-cut}
+use Rattle.mdconstructs_phrasing.proofs.References.Cuts.{reference-cut}
+use Rattle.mdconstructs_phrasing.proofs.WhiteSpaces.Cuts.{white-run-cut, white-space-cut}
+use Rattle.mdconstructs_phrasing.specs.WhiteSpace.{is_white_left}
+use Rattle.mdconstructs_inlines.proofs.InlineApart.{or-parts, some-item}
+use Rattle.mdconstructs_inlines.specs.InlineEvents.{begins_run, data_length, data_run, delimiter_run, ends_data, ends_data_at, inline_grammars, inline_item_at, inline_items, line_break, run_length, run_or_part, up_to}
+use Rattle.mdconstructs_inlines.specs.RunRows.{is_delimiter}
+use Rattle.mdconstructs_documents.proofs.FlowTexts.InlineSteps.{AreDelimiters, run-delimiters}
+
+no-endings : (l : List Seat) → AreDelimiters l → NoEnding l
+no-endings l h = every-map (λ (s : Seat). is_delimiter s.byte ≡ true) (λ (s : Seat). is_line_ending s ≡ false) (λ s is. no-feed is_delimiter refl s.byte is) l h
+
+module _ (on : Constructs) where
+  -- no line ending is in data
+  up-to-plain : (l : List Seat) → NoEnding (take (up_to (ends_data_at on) (bytes_of l)) l)
+  up-to-plain [] = tt
+  up-to-plain (s ∷ ss) =
+      let text = bytes_of (s ∷ ss) in
+      let n = up_to (ends_data_at on) (bytes_of ss) in
+      elim (ends_data_at on text) as (λ t. ends_data_at on text ≡ t → NoEnding (take (cond t 0 (1 + n)) (s ∷ ss))) [
+        | true ↦ λ e. tt
+        | false ↦ λ e.
+            let one : suc n ≡ 1 + n = omega arith in
+            let (here, white) = or-parts (ends_data on s.byte) (is_white s.byte && is_white_left text) e in
+            let (line, other) = or-parts (is_line_feed s.byte) _ here in
+            subst (λ k. NoEnding (take k (s ∷ ss))) one (line, up-to-plain ss)
+      ] refl
+
+module _ (bytes : List ℕ) (on : Constructs) where
+  pub line-break-cut : (s : Seat) (ss : List Seat) → ItemCut bytes (s ∷ ss) (line_break (prefix_len is_white (bytes_of ss)))
+  line-break-cut s ss =
+      let n = prefix_len is_white (bytes_of ss) in
+      let l = take (1 + n) (s ∷ ss) in
+      subst (IsCut bytes (item_events bytes (line_break n, l))) (take-append-drop 1 l)
+      (cut-append bytes (cut-leaf bytes LineEnding (take 1 l) (one-taken l)) (cut-leaf bytes SpaceOrTab (drop 1 l) (subst OneLine (sym (drop-take 1 n (s ∷ ss))) (plain-line (take n ss) (run-plain is_white refl ss)))))
+
+  pub data-run-cut : (s : Seat) (ss : List Seat) → is_line_feed s.byte ≡ false → ItemCut bytes (s ∷ ss) (data_run (data_length on (bytes_of (s ∷ ss))))
+  data-run-cut s ss other =
+      let l = s ∷ ss in
+      let text = bytes_of l in
+      let n = first_plain text in
+      let first = first-plain (backticks text) s ss other (run-plain is_backtick refl l) in
+      let more = subst (λ bs. NoEnding (take (up_to (ends_data_at on) bs) (drop n l))) (sym (drop-map (λ (s : Seat). s.byte) n l)) (up-to-plain on (drop n l)) in
+      cut-leaf bytes Data (take (data_length on text) l) (plain-line (take (data_length on text) l) (plain-add n (up_to (ends_data_at on) (drop n text)) l first more))
+
+  other-cut : (s : Seat) (ss : List Seat) → ItemCut bytes (s ∷ ss) (run_or_part on (bytes_of (s ∷ ss)))
+  other-cut s ss =
+      let l = s ∷ ss in
+      let n = run_length (bytes_of l) in
+      let line = line_break (prefix_len is_white (bytes_of ss)) in
+      let datum = data_run (data_length on (bytes_of l)) in
+      elim (begins_run on s.byte) as (λ x. (begins_run on s.byte) ≡ x → ItemCut bytes l (cond x (delimiter_run n) (cond (is_line_feed s.byte) line datum))) [
+        | true ↦ λ is. cut-leaf bytes AttentionSequence (take n l) (plain-line (take n l) (no-endings (take n l) (run-delimiters s ss (and-right on.attention (is_delimiter s.byte) is))))
+        | false ↦ λ is. elim (is_line_feed s.byte) as (λ x. is_line_feed s.byte ≡ x → ItemCut bytes l (cond x line datum)) [
+          | true ↦ λ feed. line-break-cut s ss
+          | false ↦ λ other. data-run-cut s ss other
+        ] refl
+      ] refl
+
+  pub each-cut : (l : List Seat) → EachThere (ItemCut bytes l) inline_grammars (bytes_of l)
+  each-cut l = (code-span-cut bytes l, (autolink-cut bytes l, (email-cut bytes l, (html-mark-cut bytes l, (html-tag-cut bytes l, (escape-cut bytes l, (break-escape-cut bytes l, (reference-cut bytes l, (trailing-break-cut bytes l, (white-space-cut bytes l, tt))))))))))
+
+  item-cut : (s : Seat) (ss : List Seat) → ItemCut bytes (s ∷ ss) (inline_item_at on (bytes_of (s ∷ ss)))
+  item-cut s ss = let l = s ∷ ss in there-holds (ItemCut bytes l) inline_grammars on (bytes_of l) (run_or_part on (bytes_of l)) (each-cut l) (other-cut s ss)
+
+  pub inline-cut : (seats : List Seat) → IsCut bytes (flat_map (item_events bytes) (inline_items on seats)) seats
+  inline-cut seats =
+      let n = prefix_len is_white (bytes_of seats) in
+      let few : length (drop n seats) ≤ length seats = omega (arith, length-drop n seats) in
+      subst (IsCut bytes (flat_map (item_events bytes) (inline_items on seats))) (take-append-drop n seats)
+      (cut-append bytes (white-run-cut bytes seats) (cuts bytes (inline_item_at on) item_length (item_events bytes) (some-item on) item-cut (length seats) (drop n seats) few))
