@@ -14,7 +14,7 @@ import sys
 TOP = os.path.dirname(os.path.dirname(os.path.realpath(__file__)))
 PARTS = {
     "markdown": ["markdown_base", "markdown_edits", "markdown_tokenizer", "markdown_children"],
-    "mdconstructs": ["mdconstructs_tables", "mdconstructs_machines", "mdconstructs_text", "mdconstructs_attention", "mdconstructs_references", "mdconstructs_inlines", "mdconstructs_flow", "mdconstructs_blocks", "mdconstructs_documents"],
+    "mdconstructs": ["mdconstructs_tables", "mdconstructs_machines", "mdconstructs_text", "mdconstructs_attention", "mdconstructs_references", "mdconstructs_phrasing", "mdconstructs_inlines", "mdconstructs_flow", "mdconstructs_blocks", "mdconstructs_documents"],
 }
 NAMED = {
     ("markdown_children", "specs", "LawStatements"): "ChildrenLawStatements",
@@ -36,6 +36,7 @@ NAMED = {
     ("mdconstructs_inlines", "proofs", "Looks"): "InlineLooks",
     ("mdconstructs_inlines", "specs", "Laws"): "InlineLaws",
     ("mdconstructs_inlines", "specs", "LawStatements"): "InlineLawStatements",
+    ("mdconstructs_phrasing", "specs", "Laws"): "PhrasingLaws",
     ("mdconstructs_references", "proofs", "Tables"): "ReferenceTables",
     ("mdconstructs_references", "proofs", "Parts"): "ReferenceParts",
     ("mdconstructs_references", "proofs", "Orders"): "ReferenceOrders",

@@ -30,19 +30,35 @@ pub use Rattle.mdconstructs_text.proofs.DeepSpans
 pub use Rattle.mdconstructs_text.proofs.Escapes
 pub use Rattle.mdconstructs_text.proofs.Plain
 pub use Rattle.mdconstructs_text.proofs.Paragraphs as TextParagraphs
+pub use Rattle.mdconstructs_text.proofs.ParagraphTexts
 pub use Rattle.mdconstructs_text.proofs.Texts
+pub use Rattle.mdconstructs_attention.proofs.Beside
 pub use Rattle.mdconstructs_attention.proofs.PairsKeep
 pub use Rattle.mdconstructs_attention.proofs.RunEdits
 pub use Rattle.mdconstructs_attention.proofs.RunTexts
+pub use Rattle.mdconstructs_references.proofs.Fronts
+pub use Rattle.mdconstructs_references.proofs.Names
 pub use Rattle.mdconstructs_references.proofs.Orders as ReferenceOrders
 pub use Rattle.mdconstructs_references.proofs.Parts as ReferenceParts
 pub use Rattle.mdconstructs_references.proofs.Searches as ReferenceSearches
 pub use Rattle.mdconstructs_references.proofs.Tables as ReferenceTables
+pub use Rattle.mdconstructs_phrasing.proofs.Emails
+pub use Rattle.mdconstructs_phrasing.proofs.HardBreaks
+pub use Rattle.mdconstructs_phrasing.proofs.HtmlMarks
+pub use Rattle.mdconstructs_phrasing.proofs.HtmlTags
+pub use Rattle.mdconstructs_phrasing.proofs.HtmlTexts
+pub use Rattle.mdconstructs_phrasing.proofs.References
+pub use Rattle.mdconstructs_phrasing.proofs.WhiteSpaces
 pub use Rattle.mdconstructs_inlines.proofs.InlineBuilt
 pub use Rattle.mdconstructs_inlines.proofs.InlineChains
 pub use Rattle.mdconstructs_inlines.proofs.InlineReads
 pub use Rattle.mdconstructs_inlines.proofs.Looks as InlineLooks
+pub use Rattle.mdconstructs_inlines.proofs.InlineApart
 pub use Rattle.mdconstructs_inlines.proofs.Resolved
+pub use Rattle.mdconstructs_inlines.proofs.Starts
+pub use Rattle.mdconstructs_inlines.proofs.StringChains
+pub use Rattle.mdconstructs_inlines.proofs.StringReads
+pub use Rattle.mdconstructs_inlines.proofs.StringRuns
 pub use Rattle.mdconstructs_flow.proofs.Called as FlowCalled
 pub use Rattle.mdconstructs_flow.proofs.Dashes
 pub use Rattle.mdconstructs_flow.proofs.HeadingEdits

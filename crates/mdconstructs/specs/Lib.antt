@@ -53,6 +53,7 @@ pub use Rattle.mdconstructs_text.specs.CodeSpan
 pub use Rattle.mdconstructs_text.specs.Construct
 pub use Rattle.mdconstructs_text.specs.Escape
 pub use Rattle.mdconstructs_text.specs.Items
+pub use Rattle.mdconstructs_text.specs.ParagraphTexts
 pub use Rattle.mdconstructs_text.specs.Parts
 pub use Rattle.mdconstructs_text.specs.TextBytes
 pub use Rattle.mdconstructs_text.specs.TextCosts
@@ -61,6 +62,7 @@ pub use Rattle.mdconstructs_text.specs.TextRules
 pub use Rattle.mdconstructs_text.specs.TextSizes
 pub use Rattle.mdconstructs_text.specs.TextTable
 pub use Rattle.mdconstructs_text.specs.Laws as TextLaws
+pub use Rattle.mdconstructs_attention.specs.Beside
 pub use Rattle.mdconstructs_attention.specs.Classes
 pub use Rattle.mdconstructs_attention.specs.Emphasis as EmphasisEvents
 pub use Rattle.mdconstructs_attention.specs.LawStatements as EmphasisLawStatements
@@ -70,6 +72,14 @@ pub use Rattle.mdconstructs_attention.specs.Runs as DelimiterRuns
 pub use Rattle.mdconstructs_attention.specs.Searches
 pub use Rattle.mdconstructs_references.specs.CharacterReferences
 pub use Rattle.mdconstructs_references.specs.References
+pub use Rattle.mdconstructs_phrasing.specs.Email
+pub use Rattle.mdconstructs_phrasing.specs.HardBreak
+pub use Rattle.mdconstructs_phrasing.specs.HtmlMarked
+pub use Rattle.mdconstructs_phrasing.specs.HtmlTag
+pub use Rattle.mdconstructs_phrasing.specs.HtmlText
+pub use Rattle.mdconstructs_phrasing.specs.Reference
+pub use Rattle.mdconstructs_phrasing.specs.WhiteSpace
+pub use Rattle.mdconstructs_phrasing.specs.Laws as PhrasingLaws
 pub use Rattle.mdconstructs_inlines.specs.InlineEvents
 pub use Rattle.mdconstructs_inlines.specs.InlineRules
 pub use Rattle.mdconstructs_inlines.specs.InlineTable
@@ -77,6 +87,8 @@ pub use Rattle.mdconstructs_inlines.specs.LawStatements as InlineLawStatements
 pub use Rattle.mdconstructs_inlines.specs.Laws as InlineLaws
 pub use Rattle.mdconstructs_inlines.specs.Registered
 pub use Rattle.mdconstructs_inlines.specs.RunRows
+pub use Rattle.mdconstructs_inlines.specs.StringEvents
+pub use Rattle.mdconstructs_inlines.specs.StringTable
 pub use Rattle.mdconstructs_flow.specs.BlankLine
 pub use Rattle.mdconstructs_flow.specs.ChunkRows
 pub use Rattle.mdconstructs_flow.specs.CodeFenced

@@ -2,31 +2,36 @@
 
 pub use mdconstructs_attention::laws::{
     ascii_has_its_classes, characters_are_utf8, edits_make_emphasis, emphasis_can_be_made,
-    emphasis_is_balanced,
+    emphasis_is_balanced, neighbours_of_pairs,
 };
 pub use mdconstructs_blocks::laws::{
     flow_is_read, leaf_blocks_account_for_each_byte, leaf_blocks_are_well_formed, lines_are_seen,
     readings_end_as_blocks,
 };
 pub use mdconstructs_documents::laws::{
-    chains_of_leaf_blocks_can_be_read, inline_texts_stand_in_their_blocks,
-    innermost_spans_tile_documents, texts_stand_in_their_blocks,
+    chains_of_leaf_blocks_can_be_read, inline_texts_in_their_blocks_account_for_each_byte,
+    inline_texts_in_their_blocks_are_well_formed, inline_texts_stand_in_their_blocks,
+    innermost_spans_tile_documents,
 };
 pub use mdconstructs_flow::laws::{
     cost_at_the_start as flow_cost_at_the_start, no_document_is_refused as flow_refuses_no_document,
 };
 pub use mdconstructs_inlines::laws::{
-    chains_are_read_as_inline_text, cost_at_the_start as inlines_cost_at_the_start,
-    emphasis_takes_the_place_of_runs, inline_text_is_read, inline_text_looks_no_further,
+    chains_are_read_as_inline_text, chains_are_read_as_strings,
+    cost_at_the_start as inlines_cost_at_the_start, emphasis_takes_the_place_of_runs,
+    inline_text_is_read, inline_text_looks_no_further,
     no_document_is_refused as inlines_refuse_no_document,
-    other_chains_stay_ready_after_inline_text,
+    other_chains_stay_ready_after_inline_text, other_chains_stay_ready_after_strings,
+    strings_are_read,
 };
 pub use mdconstructs_machines::laws::{
     costs_at_the_start, documents_are_read_by_lines, innermost_spans_account_for_documents,
     low_numbers_are_named, misfits_are_not_all, misfits_have_reasons, no_document_is_refused,
     paragraphs_look_no_further,
 };
-pub use mdconstructs_references::laws::{names_are_in_order, names_are_short_and_plain};
+pub use mdconstructs_references::laws::{
+    names_are_found_by_their_beginnings, names_are_in_order, names_are_short_and_plain,
+};
 pub use mdconstructs_tables::laws::{
     Calm, Knowledge, Planned, calm_rows_keep_what_is_known, fitting_tables_are_lawful,
     knowing_tables_are_lawful, knowing_tables_look_no_further, numbers_are_enough,
@@ -38,5 +43,6 @@ pub use mdconstructs_text::laws::{
     cost_at_the_start, documents_are_read_by_blocks, innermost_spans_account_for_blocks,
     innermost_spans_account_for_children, innermost_spans_account_for_texts,
     no_document_is_refused as text_refuses_no_document, other_chains_stay_ready_after_texts,
-    texts_look_no_further, void_spans_of_texts_are_empty, void_spans_stay_empty_with_children,
+    texts_in_their_paragraphs_are_in_order, texts_look_no_further, texts_stand_in_their_paragraphs,
+    void_spans_of_texts_are_empty, void_spans_stay_empty_with_children,
 };

@@ -1,10 +1,11 @@
 //! State machines, each proved lawful, `read_text`, `events_of`, and what the author of a machine needs.
 //!
-//! This crate has no code. It re-exports its nine parts, which have the code and the proofs: `mdconstructs_tables` (machines as
+//! This crate has no code. It re-exports its ten parts, which have the code and the proofs: `mdconstructs_tables` (machines as
 //! tables), `mdconstructs_machines` (the small machines), `mdconstructs_text` (`Text` and its definition),
-//! `mdconstructs_attention` (emphasis, as edits), `mdconstructs_references` (character references), `mdconstructs_inlines`
-//! (`Inlines`, texts with emphasis), `mdconstructs_flow` (`Flow`, the machine of leaf blocks), `mdconstructs_blocks` (what `Flow`
-//! reads, without states) and `mdconstructs_documents` (how a document is read, and its events).
+//! `mdconstructs_attention` (emphasis, as edits), `mdconstructs_references` (the characters of references), `mdconstructs_phrasing`
+//! (further constructs of inline text), `mdconstructs_inlines` (`Inlines`, inline text and strings), `mdconstructs_flow` (`Flow`, the
+//! machine of leaf blocks), `mdconstructs_blocks` (what `Flow` reads, without states) and `mdconstructs_documents` (how a document is
+//! read, and its events).
 #![tactic(auto)]
 
 pub mod emphasis;
