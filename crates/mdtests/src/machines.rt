@@ -264,6 +264,45 @@ const EMPHASIS: &[(&[u8], &str)] = &[
         exit CharacterEscape 1:3 (2+0); Data 1:3 (2+0) to 1:4 (3+0); Data 1:4 (3+0) to 1:5 (4+0); Data 1:5 (4+0) to 1:6 (5+0); \
         Data 1:6 (5+0) to 1:7 (6+0); Data 1:7 (6+0) to 1:8 (7+0)",
     ),
+    (
+        b"a  \nb",
+        "Data 1:1 (0+0) to 1:2 (1+0); HardBreakTrailing 1:2 (1+0) to 1:4 (3+0); \
+        LineEnding 1:4 (3+0) to 2:1 (4+0); Data 2:1 (4+0) to 2:2 (5+0)",
+    ),
+    (
+        b"a \n b",
+        "Data 1:1 (0+0) to 1:2 (1+0); SpaceOrTab 1:2 (1+0) to 1:3 (2+0); LineEnding 1:3 (2+0) to 2:1 (3+0); \
+        SpaceOrTab 2:1 (3+0) to 2:2 (4+0); Data 2:2 (4+0) to 2:3 (5+0)",
+    ),
+    (
+        b"a b\\\nc",
+        "Data 1:1 (0+0) to 1:4 (3+0); HardBreakEscape 1:4 (3+0) to 1:5 (4+0); LineEnding 1:5 (4+0) to 2:1 (5+0); \
+        Data 2:1 (5+0) to 2:2 (6+0)",
+    ),
+    (
+        b"&amp;&x;",
+        "enter CharacterReference 1:1 (0+0); CharacterReferenceMarker 1:1 (0+0) to 1:2 (1+0); \
+        CharacterReferenceValue 1:2 (1+0) to 1:5 (4+0); CharacterReferenceMarkerSemi 1:5 (4+0) to 1:6 (5+0); \
+        exit CharacterReference 1:6 (5+0); Data 1:6 (5+0) to 1:9 (8+0)",
+    ),
+    (
+        b"&#X41;",
+        "enter CharacterReference 1:1 (0+0); CharacterReferenceMarker 1:1 (0+0) to 1:2 (1+0); \
+        CharacterReferenceMarkerNumeric 1:2 (1+0) to 1:3 (2+0); \
+        CharacterReferenceMarkerHexadecimal 1:3 (2+0) to 1:4 (3+0); \
+        CharacterReferenceValue 1:4 (3+0) to 1:6 (5+0); CharacterReferenceMarkerSemi 1:6 (5+0) to 1:7 (6+0); \
+        exit CharacterReference 1:7 (6+0)",
+    ),
+    (
+        b"<a@b.c>",
+        "enter Autolink 1:1 (0+0); AutolinkMarker 1:1 (0+0) to 1:2 (1+0); AutolinkEmail 1:2 (1+0) to 1:7 (6+0); \
+        AutolinkMarker 1:7 (6+0) to 1:8 (7+0); exit Autolink 1:8 (7+0)",
+    ),
+    (
+        b"<a\n b>",
+        "enter HtmlText 1:1 (0+0); HtmlTextData 1:1 (0+0) to 1:3 (2+0); LineEnding 1:3 (2+0) to 2:1 (3+0); \
+        SpaceOrTab 2:1 (3+0) to 2:2 (4+0); HtmlTextData 2:2 (4+0) to 2:4 (6+0); exit HtmlText 2:4 (6+0)",
+    ),
 ];
 
 /// The events of a document that is read as inline text, cut after each `cut` virtual bytes.
@@ -321,6 +360,15 @@ const DOCUMENTS: &[(&[u8], &str)] = &[
         b"    *a*",
         "enter CodeIndented 1:1 (0+0); SpaceOrTab 1:1 (0+0) to 1:5 (4+0); CodeFlowChunk 1:5 (4+0) to 1:8 (7+0); \
         exit CodeIndented 1:8 (7+0)",
+    ),
+    (
+        b"```a\\*",
+        "enter CodeFenced 1:1 (0+0); enter CodeFencedFence 1:1 (0+0); \
+        CodeFencedFenceSequence 1:1 (0+0) to 1:4 (3+0); enter CodeFencedFenceInfo 1:4 (3+0); \
+        Data 1:4 (3+0) to 1:5 (4+0); enter CharacterEscape 1:5 (4+0); \
+        CharacterEscapeMarker 1:5 (4+0) to 1:6 (5+0); CharacterEscapeValue 1:6 (5+0) to 1:7 (6+0); \
+        exit CharacterEscape 1:7 (6+0); exit CodeFencedFenceInfo 1:7 (6+0); exit CodeFencedFence 1:7 (6+0); \
+        exit CodeFenced 1:7 (6+0)",
     ),
 ];
 
