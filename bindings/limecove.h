@@ -35,7 +35,7 @@ extern "C" {
 
 /* The version of this header. limecove_version() and each answer have that of the library. It changes with each layout and meaning
  * that changes. It stays if a function, a code, a construct, a machine or a name is added, with the next number. */
-#define LIMECOVE_VERSION 2
+#define LIMECOVE_VERSION 3
 
 /* An index in a record's link that there is not. */
 #define LIMECOVE_NO_INDEX ((size_t)-1)
@@ -56,10 +56,21 @@ enum limecove_code {
 
 /* The constructs, as bits. */
 enum limecove_construct {
-    LIMECOVE_CODE_TEXT = 1,        /* code spans */
-    LIMECOVE_AUTOLINK = 2,         /* autolinks */
-    LIMECOVE_CHARACTER_ESCAPE = 4, /* backslash escapes */
-    LIMECOVE_ALL_CONSTRUCTS = 7
+    LIMECOVE_CODE_TEXT = 1,               /* code spans */
+    LIMECOVE_AUTOLINK = 2,                /* autolinks */
+    LIMECOVE_CHARACTER_ESCAPE = 4,        /* backslash escapes */
+    LIMECOVE_ATTENTION = 8,               /* emphasis */
+    LIMECOVE_CHARACTER_REFERENCE = 16,    /* character references */
+    LIMECOVE_HARD_BREAK_ESCAPE = 32,      /* hard breaks by a backslash */
+    LIMECOVE_HARD_BREAK_TRAILING = 64,    /* hard breaks by spaces */
+    LIMECOVE_HTML_TEXT = 128,             /* raw HTML in texts */
+    LIMECOVE_CODE_FENCED = 256,           /* fenced code */
+    LIMECOVE_CODE_INDENTED = 512,         /* indented code */
+    LIMECOVE_HEADING_ATX = 1024,          /* ATX headings */
+    LIMECOVE_HEADING_SETEXT = 2048,       /* setext headings */
+    LIMECOVE_HTML_FLOW = 4096,            /* HTML blocks */
+    LIMECOVE_THEMATIC_BREAK = 8192,       /* thematic breaks */
+    LIMECOVE_ALL_CONSTRUCTS = 16383
 };
 
 /* Whether a span begins or ends. */
@@ -86,7 +97,8 @@ enum limecove_machine {
     LIMECOVE_DEEP = 3,
     LIMECOVE_BACK = 4,
     LIMECOVE_SAVE = 5,
-    LIMECOVE_TEXT = 6
+    LIMECOVE_TEXT = 6,
+    LIMECOVE_FLOW = 7
 };
 
 /* What a span is. */
@@ -392,10 +404,10 @@ struct limecove_text_options {
 struct limecove_options {
     size_t size;         /* sizeof(struct limecove_options) */
     size_t tab_size;     /* how many columns tab stops are apart, from 1 to 16; 0 is 4 */
-    uint64_t constructs; /* the sum of the bits of limecove_construct that are on in texts */
+    uint64_t constructs; /* the sum of the bits of limecove_construct that are on */
     size_t cut;          /* after how many virtual bytes the document is cut each time, which changes no event; 0 for never */
     uint32_t machine;    /* of limecove_machine */
-    uint32_t deep;       /* if it is not 0, the chunks that LIMECOVE_PARAGRAPHS or LIMECOVE_TEXT links are read too */
+    uint32_t deep;       /* if it is not 0, the chunks that LIMECOVE_PARAGRAPHS, LIMECOVE_TEXT or LIMECOVE_FLOW links are read too */
 };
 
 /* A range of a document. Ranges can be read as one text if none runs backwards or past the end, and each begins where the one before it
@@ -445,14 +457,14 @@ LIMECOVE_INLINE struct limecove_text_options limecove_default_text_options(void)
     return options;
 }
 
-/* Paragraphs and the text in them, and tab stops at every 4 columns. */
+/* The whole document: leaf blocks, inline text with emphasis in them, and tab stops at every 4 columns. */
 LIMECOVE_INLINE struct limecove_options limecove_default_options(void) {
     struct limecove_options options;
     options.size = sizeof options;
     options.tab_size = 4;
     options.constructs = LIMECOVE_ALL_CONSTRUCTS;
     options.cut = 0;
-    options.machine = LIMECOVE_TEXT;
+    options.machine = LIMECOVE_FLOW;
     options.deep = 1;
     return options;
 }

@@ -89,7 +89,7 @@ def rust_enum(name, about, variants, comments, derives):
     lines = [f"/// {about} More may be added.", f"#[derive({derives})]", "#[non_exhaustive]", "#[repr(u32)]", f"pub enum {name} {{"]
     for number, variant in enumerate(variants):
         lines += [f"    {line}" for line in comments[variant]]
-        if variant == "Text" and name == "Machine":
+        if variant == "Flow" and name == "Machine":
             lines.append("    #[default]")
         lines.append(f"    {variant} = {number},")
     return lines + ["}", ""]
@@ -200,7 +200,7 @@ def differences():
     c = numbers(HEADER, r"#define LIMECOVE_(VERSION) (\d+)")
     c |= enum_numbers("code") | enum_numbers("construct")
     for other, theirs in [(FOREIGN, rust), (HEADER, c)]:
-        if len(root) != 10 or len(bits) != 4 or theirs != root | bits:
+        if len(root) != 10 or len(bits) != 15 or theirs != root | bits:
             lines.append(f"{other}: the numbers are {theirs}, and {root | bits} in code.rt and choose.rt")
     contents = numbers(LIMECOVE / "specs/Records.antt", r"(?m)^content_number (\w+) = (\d+)$")
     contents["CONTENT"] = contents.pop("CONTENTOFCONTENT", None)

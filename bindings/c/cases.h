@@ -62,9 +62,9 @@ static inline size_t ranges_of_lines(const uint8_t *document, size_t len, struct
     return count;
 }
 
-/* A way to read: one of the seven machines, paragraphs or text with their texts, text by limecove_read_text and limecove_open_text, or the
- * lines without quote marks by limecove_read_text_in and limecove_open_text_in. */
-#define WAYS 11
+/* A way to read: one of the eight machines, paragraphs, text or flow with their texts, text by limecove_read_text and limecove_open_text, or
+ * the lines without quote marks by limecove_read_text_in and limecove_open_text_in. */
+#define WAYS 13
 #define MOST_LINES 180
 
 /* The options of each way but the last two. */
@@ -74,9 +74,11 @@ static inline struct limecove_options options_of(size_t way, struct limecove_tex
     options.constructs = text.constructs;
     options.cut = cut;
     options.machine = (uint32_t)way;
-    options.deep = way >= 7;
-    if (way >= 7)
-        options.machine = way == 7 ? LIMECOVE_PARAGRAPHS : LIMECOVE_TEXT;
+    options.deep = way >= 8;
+    if (way >= 8)
+        options.machine = way == 8 ? LIMECOVE_PARAGRAPHS : way == 9 ? LIMECOVE_TEXT : LIMECOVE_FLOW;
+    if (options.machine == LIMECOVE_FLOW)
+        options.constructs = LIMECOVE_ALL_CONSTRUCTS;
     return options;
 }
 
@@ -84,9 +86,9 @@ static inline struct limecove_answer read_so(size_t way, const uint8_t *document
                                       struct limecove_record *records, size_t room) {
     struct limecove_options options = options_of(way, text, cut);
     struct limecove_byte_range ranges[MOST_LINES];
-    if (way == 9)
+    if (way == 11)
         return limecove_read_text(document, len, &text, records, room);
-    if (way == 10)
+    if (way == 12)
         return limecove_read_text_in(document, len, ranges, ranges_of_lines(document, len, ranges), &text, records, room);
     return limecove_read(document, len, &options, records, room);
 }
@@ -95,9 +97,9 @@ static inline struct limecove_answer open_so(size_t way, const uint8_t *document
                                       struct limecove_reading *reading) {
     struct limecove_options options = options_of(way, text, cut);
     struct limecove_byte_range ranges[MOST_LINES];
-    if (way == 9)
+    if (way == 11)
         return limecove_open_text(document, len, &text, reading);
-    if (way == 10)
+    if (way == 12)
         return limecove_open_text_in(document, len, ranges, ranges_of_lines(document, len, ranges), &text, reading);
     return limecove_open(document, len, &options, reading);
 }
@@ -105,7 +107,7 @@ static inline struct limecove_answer open_so(size_t way, const uint8_t *document
 static inline struct limecove_text_options random_text_options(void) {
     struct limecove_text_options text = limecove_default_text_options();
     text.tab_size = below(17);
-    text.constructs = below(8);
+    text.constructs = LIMECOVE_ALL_CONSTRUCTS - below(8);
     return text;
 }
 

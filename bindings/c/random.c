@@ -12,7 +12,7 @@
 #include <unistd.h>
 
 #define MOST 4096
-static const char *const machines[] = {"lines", "paragraphs", "peek", "deep", "back", "save", "text"};
+static const char *const machines[] = {"lines", "paragraphs", "peek", "deep", "back", "save", "text", "flow"};
 static char printed[1 << 20];
 
 /* What the program prints of a document. It is short, so it fits the pipe. */
@@ -54,11 +54,28 @@ static size_t print_by_program(const char *program, const uint8_t *document, siz
     return filled;
 }
 
+/* Whether each link is to an enter of data that is linked back, with the same content. */
+static int has_mutual_links(const struct limecove_record *records, size_t count) {
+    for (size_t i = 0; i < count; i++) {
+        const struct limecove_record *it = &records[i];
+        int is_chunk = it->kind == LIMECOVE_ENTER && it->name == LIMECOVE_NAME_DATA;
+        if (it->content == 0 ? it->previous != LIMECOVE_NO_INDEX || it->next != LIMECOVE_NO_INDEX : !is_chunk)
+            return 0;
+        if (it->next != LIMECOVE_NO_INDEX && (it->next >= count || records[it->next].previous != i || records[it->next].content != it->content))
+            return 0;
+        if (it->previous != LIMECOVE_NO_INDEX && (it->previous >= count || records[it->previous].next != i))
+            return 0;
+    }
+    return 1;
+}
+
 /* Whether the links are these: without `deep`, the texts of a paragraph are one chain for the two machines that link text; else there is
- * none. */
+ * none. Those of leaf blocks are mutual. */
 static int has_links(const struct limecove_record *records, size_t count, const struct limecove_options *options) {
     int links = !options->deep && (options->machine == LIMECOVE_PARAGRAPHS || options->machine == LIMECOVE_TEXT);
     size_t last = LIMECOVE_NO_INDEX;
+    if (options->machine == LIMECOVE_FLOW && !options->deep)
+        return has_mutual_links(records, count);
     for (size_t i = 0; i < count; i++) {
         const struct limecove_record *it = &records[i];
         if (it->name == LIMECOVE_NAME_PARAGRAPH)
@@ -229,7 +246,7 @@ int main(int argc, char **argv) {
     for (long n = atol(argv[2]); n > 0; n--) {
         size_t len;
         uint8_t *document = random_document(&len);
-        struct limecove_options options = options_of(below(9), random_text_options(), below(5));
+        struct limecove_options options = options_of(below(11), random_text_options(), below(5));
         options.tab_size = 1 + below(16);
         compare(argv[1], document, len, &options);
         free(document);

@@ -8,7 +8,7 @@ use Rattle.markdown.specs.Presets.{default_constructs}
 use Rattle.markdown.specs.Text.{Given}
 use Rattle.mdconstructs.specs.declared.choice.Choice.{Choice}
 use Rattle.mdconstructs.specs.declared.choice.Which.{Which}
-use Rattle.mdconstructs.specs.declared.choice.Which.TheVariants.{Lines, Paragraphs, Peek, Deep, Back, Save, Text}
+use Rattle.mdconstructs.specs.declared.choice.Which.TheVariants.{Lines, Paragraphs, Peek, Deep, Back, Save, Text, Flow}
 use Rattle.mdconstructs.specs.Choices.{choice_together}
 use Rattle.mdconstructs.specs.Documents.{options_with}
 use Rattle.limecove.specs.declared.choose.Options.{Options}
@@ -19,7 +19,7 @@ abbrev pub machine_of : ℕ → Option Which
 machine_of n =
     cond (nat_eq n 0) (Some Lines)
     (cond (nat_eq n 1) (Some Paragraphs)
-    (cond (nat_eq n 2) (Some Peek) (cond (nat_eq n 3) (Some Deep) (cond (nat_eq n 4) (Some Back) (cond (nat_eq n 5) (Some Save) (cond (nat_eq n 6) (Some Text) None))))))
+    (cond (nat_eq n 2) (Some Peek) (cond (nat_eq n 3) (Some Deep) (cond (nat_eq n 4) (Some Back) (cond (nat_eq n 5) (Some Save) (cond (nat_eq n 6) (Some Text) (cond (nat_eq n 7) (Some Flow) None)))))))
 
 -- the tab size of a number: itself, from 1 to 16; 0 is 4
 abbrev pub tab_of : ℕ → Option ℕ
@@ -33,9 +33,9 @@ cut_of n = cond (nat_eq n 0) None (Some n)
 abbrev pub is_yes : ℕ → Bool
 is_yes n = not (nat_eq n 0)
 
--- a sum of bits without the bits of the first three constructs is none
+-- a sum of bits has the bits of constructs alone
 abbrev pub are_constructs : ℕ → Bool
-are_constructs bits = nat_lt bits 8
+are_constructs bits = nat_lt bits 16384
 
 -- why options choose nothing, as codes
 abbrev pub other_size : ℕ
@@ -77,12 +77,23 @@ text_choice_of options =
 abbrev pub has_bit : ℕ → ℕ → Bool
 has_bit bits bit = is_yes (bit_and bits bit)
 
--- the default constructs, except for three, each of which is on if its bit is there
+-- each construct that has a bit is on if its bit is there; the others are as in CommonMark
 abbrev pub constructs_of : ℕ → Constructs
 constructs_of bits = record default_constructs {
+  attention = has_bit bits 8;
   autolink = has_bit bits 2;
   character_escape = has_bit bits 4;
+  character_reference = has_bit bits 16;
+  code_fenced = has_bit bits 256;
+  code_indented = has_bit bits 512;
   code_text = has_bit bits 1;
+  hard_break_escape = has_bit bits 32;
+  hard_break_trailing = has_bit bits 64;
+  heading_atx = has_bit bits 1024;
+  heading_setext = has_bit bits 2048;
+  html_flow = has_bit bits 4096;
+  html_text = has_bit bits 128;
+  thematic_break = has_bit bits 8192;
 }
 
 -- a document that is read as text with these constructs and this tab size

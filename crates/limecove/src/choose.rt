@@ -16,8 +16,30 @@ pub const CODE_TEXT: u64 = 1;
 pub const AUTOLINK: u64 = 2;
 /// The bit of backslash escapes.
 pub const CHARACTER_ESCAPE: u64 = 4;
+/// The bit of emphasis.
+pub const ATTENTION: u64 = 8;
+/// The bit of character references.
+pub const CHARACTER_REFERENCE: u64 = 16;
+/// The bit of hard breaks by a backslash.
+pub const HARD_BREAK_ESCAPE: u64 = 32;
+/// The bit of hard breaks by spaces.
+pub const HARD_BREAK_TRAILING: u64 = 64;
+/// The bit of raw HTML in texts.
+pub const HTML_TEXT: u64 = 128;
+/// The bit of fenced code.
+pub const CODE_FENCED: u64 = 256;
+/// The bit of indented code.
+pub const CODE_INDENTED: u64 = 512;
+/// The bit of ATX headings.
+pub const HEADING_ATX: u64 = 1024;
+/// The bit of setext headings.
+pub const HEADING_SETEXT: u64 = 2048;
+/// The bit of HTML blocks.
+pub const HTML_FLOW: u64 = 4096;
+/// The bit of thematic breaks.
+pub const THEMATIC_BREAK: u64 = 8192;
 /// The bits of all constructs.
-pub const ALL_CONSTRUCTS: u64 = 7;
+pub const ALL_CONSTRUCTS: u64 = 16383;
 
 /// How many bytes `TextOptions` has.
 pub const TEXT_OPTIONS_SIZE: usize = 24;
@@ -44,13 +66,14 @@ pub struct Options {
     pub size: usize,
     /// The distance from one tab stop to the next, from 1 to 16 columns. 0 is 4.
     pub tab_size: usize,
-    /// The constructs that are on in texts: the sum of their bits.
+    /// The constructs that are on: the sum of their bits.
     pub constructs: u64,
     /// After how many virtual bytes the document is cut each time. If it is 0, the document is not cut.
     pub cut: usize,
-    /// The machine that reads: 0 for lines, 1 for paragraphs, 2 for peek, 3 for deep, 4 for back, 5 for save, 6 for text.
+    /// The machine that reads: 0 for lines, 1 for paragraphs, 2 for peek, 3 for deep, 4 for back, 5 for save, 6 for text, 7 for
+    /// flow.
     pub machine: u32,
-    /// If it is not 0, the chunks of text that the machine links are read too. Only paragraphs and text link any.
+    /// If it is not 0, the chunks of text that the machine links are read too. Only paragraphs, text and flow link any.
     pub deep: u32,
 }
 
@@ -106,14 +129,25 @@ pub(crate) fn choose_text(options: &TextOptions) -> Result<TabSize, u32>
     Ok(tab)
 }
 
-/// The constructs that a sum of bits has on: the default ones, except for three.
+/// The constructs that a sum of bits has on. Those that have no bit are as in CommonMark.
 pub(crate) fn constructs_of(bits: u64) -> Constructs
     ensures { result ≡ constructs_of bits }
 {
     Constructs {
+        attention: bits & ATTENTION != 0,
         autolink: bits & AUTOLINK != 0,
         character_escape: bits & CHARACTER_ESCAPE != 0,
+        character_reference: bits & CHARACTER_REFERENCE != 0,
+        code_fenced: bits & CODE_FENCED != 0,
+        code_indented: bits & CODE_INDENTED != 0,
         code_text: bits & CODE_TEXT != 0,
+        hard_break_escape: bits & HARD_BREAK_ESCAPE != 0,
+        hard_break_trailing: bits & HARD_BREAK_TRAILING != 0,
+        heading_atx: bits & HEADING_ATX != 0,
+        heading_setext: bits & HEADING_SETEXT != 0,
+        html_flow: bits & HTML_FLOW != 0,
+        html_text: bits & HTML_TEXT != 0,
+        thematic_break: bits & THEMATIC_BREAK != 0,
         ..Constructs::default()
     }
 }
@@ -141,6 +175,7 @@ fn machine_of(number: u32) -> Option<Which>
         4 => Some(Which::Back),
         5 => Some(Which::Save),
         6 => Some(Which::Text),
+        7 => Some(Which::Flow),
         _ => None,
     }
 }

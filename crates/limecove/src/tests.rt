@@ -1,7 +1,8 @@
 //! Calls of the functions, as a program in C makes them.
 
 use crate::choose::{
-    AUTOLINK, CHARACTER_ESCAPE, OPTIONS_SIZE, Options, TEXT_OPTIONS_SIZE, TextOptions,
+    ALL_CONSTRUCTS, AUTOLINK, CHARACTER_ESCAPE, OPTIONS_SIZE, Options, TEXT_OPTIONS_SIZE,
+    TextOptions,
 };
 use crate::code::{
     LINKS_NO_TEXT, NO_SUCH_CONSTRUCT, NO_SUCH_MACHINE, NO_SUCH_RANGES, NO_SUCH_TAB_SIZE,
@@ -126,6 +127,32 @@ fn plain_code() -> [Record; 4] {
     ]
 }
 
+/// Of `# a`, as leaf blocks with their texts.
+fn heading() -> [Record; 10] {
+    [
+        at(0, Name::HeadingAtx, 1, 1, 0),
+        at(0, Name::HeadingAtxSequence, 1, 1, 0),
+        at(1, Name::HeadingAtxSequence, 1, 2, 1),
+        at(0, Name::SpaceOrTab, 1, 2, 1),
+        at(1, Name::SpaceOrTab, 1, 3, 2),
+        at(0, Name::HeadingAtxText, 1, 3, 2),
+        at(0, Name::Data, 1, 3, 2),
+        at(1, Name::Data, 1, 4, 3),
+        at(1, Name::HeadingAtxText, 1, 4, 3),
+        at(1, Name::HeadingAtx, 1, 4, 3),
+    ]
+}
+
+/// And without headings: a paragraph.
+fn no_heading() -> [Record; 4] {
+    [
+        at(0, Name::Paragraph, 1, 1, 0),
+        at(0, Name::Data, 1, 1, 0),
+        at(1, Name::Data, 1, 4, 3),
+        at(1, Name::Paragraph, 1, 4, 3),
+    ]
+}
+
 /// Whether a call returned that it read a document of this many events, and wrote these records: as many as fit below `room`,
 /// and nothing after them. There is memory, so a call that runs out of it fails the test.
 fn holds(answer: Answer, events: &[Record], room: usize, records: &[Record]) -> bool {
@@ -204,10 +231,10 @@ fn readings_keep_their_events(rt: HostRuntime) {
     assert!(rt; keeps(rt.alloc(), none, &mut reading, &[]));
     let text = limecove_open_text(rt.alloc(), b"`a`", &TEXT, &mut reading);
     assert!(rt; keeps(rt.alloc(), text, &mut reading, &code()));
-    let many = limecove_open(rt.alloc(), b"a", &by(7, 0), &mut reading);
+    let many = limecove_open(rt.alloc(), b"a", &by(8, 0), &mut reading);
     assert!(rt; many == refused(NO_SUCH_MACHINE) && reading.is_open == 0);
     let more = TextOptions {
-        constructs: 8,
+        constructs: ALL_CONSTRUCTS + 1,
         ..TEXT
     };
     let more = limecove_open_text(rt.alloc(), b"a", &more, &mut reading);
@@ -221,6 +248,16 @@ fn documents_are_read(rt: HostRuntime) {
     let cut = Options { cut: 1, ..by(0, 0) };
     assert!(rt; reads(rt.alloc(), b"a\r\nb", &cut, &two_lines()));
     assert!(rt; reads(rt.alloc(), b"", &by(6, 1), &[]));
+}
+
+#[test]
+fn documents_are_read_by_blocks(rt: HostRuntime) {
+    let all = Options {
+        constructs: ALL_CONSTRUCTS,
+        ..by(7, 1)
+    };
+    assert!(rt; reads(rt.alloc(), b"# a", &all, &heading()));
+    assert!(rt; reads(rt.alloc(), b"# a", &by(7, 1), &no_heading()));
 }
 
 #[test]
@@ -315,7 +352,7 @@ fn ranges_that_are_no_text_are_refused(rt: HostRuntime) {
         assert!(rt; answer == refused(NO_SUCH_RANGES) && reading.is_open == 0);
     }
     let more = TextOptions {
-        constructs: 8,
+        constructs: ALL_CONSTRUCTS + 1,
         ..TEXT
     };
     let answer = limecove_read_text_in(rt.alloc(), b"a", &[range(2, 1)], &more, &mut records);
@@ -361,15 +398,15 @@ fn refused_options() -> [(Options, u32); 6] {
         ..by(6, 1)
     };
     let constructs = Options {
-        constructs: 8,
+        constructs: ALL_CONSTRUCTS + 1,
         ..by(6, 1)
     };
     [
         (size, OTHER_SIZE),
         (tabs, NO_SUCH_TAB_SIZE),
         (constructs, NO_SUCH_CONSTRUCT),
-        (by(7, 0), NO_SUCH_MACHINE),
-        (by(7, 1), NO_SUCH_MACHINE),
+        (by(8, 0), NO_SUCH_MACHINE),
+        (by(8, 1), NO_SUCH_MACHINE),
         (by(0, 1), LINKS_NO_TEXT),
     ]
 }
@@ -387,7 +424,7 @@ fn options_that_choose_nothing_are_refused(rt: HostRuntime) {
         ..TEXT
     };
     let constructs = TextOptions {
-        constructs: 8,
+        constructs: ALL_CONSTRUCTS + 1,
         ..TEXT
     };
     for (options, code) in &[
@@ -403,7 +440,7 @@ fn options_that_choose_nothing_are_refused(rt: HostRuntime) {
 
 #[test]
 fn the_version_is_told(rt: HostRuntime) {
-    assert!(rt; limecove_version() == 2);
+    assert!(rt; limecove_version() == 3);
 }
 
 /// Options with a value of its own in each field.
@@ -428,7 +465,7 @@ fn fields_lie_in_their_order(rt: HostRuntime) -> Result<(), AllocError> {
     let want =
         "Record { kind: 1, content: 2, name: 3, line: 4, column: 5, index: 6, vs: 7, previous: 8, next: 9 }, \
         Options { size: 1, tab_size: 2, constructs: 3, cut: 4, machine: 5, deep: 6 }, \
-        TextOptions { size: 1, tab_size: 2, constructs: 3 }, Answer { code: 1, version: 2, count: 3 }";
+        TextOptions { size: 1, tab_size: 2, constructs: 3 }, Answer { code: 1, version: 3, count: 3 }";
     let (mut numbers, mut of_options, mut of_text) = (OLD, OLD, OLD);
     let answer = limecove_echo(
         &OPTIONS,

@@ -12,7 +12,7 @@ use core::ffi::c_void;
 use core::ptr::null_mut;
 
 /// The version of these declarations. [`limecove_version`] has that of the library, and is asked first.
-pub const VERSION: u32 = 2;
+pub const VERSION: u32 = 3;
 
 /// The document was read.
 pub const READ: u32 = 0;
@@ -40,8 +40,30 @@ pub const CODE_TEXT: u64 = 1;
 pub const AUTOLINK: u64 = 2;
 /// The bit of backslash escapes.
 pub const CHARACTER_ESCAPE: u64 = 4;
+/// The bit of emphasis.
+pub const ATTENTION: u64 = 8;
+/// The bit of character references.
+pub const CHARACTER_REFERENCE: u64 = 16;
+/// The bit of hard breaks by a backslash.
+pub const HARD_BREAK_ESCAPE: u64 = 32;
+/// The bit of hard breaks by spaces.
+pub const HARD_BREAK_TRAILING: u64 = 64;
+/// The bit of raw HTML in texts.
+pub const HTML_TEXT: u64 = 128;
+/// The bit of fenced code.
+pub const CODE_FENCED: u64 = 256;
+/// The bit of indented code.
+pub const CODE_INDENTED: u64 = 512;
+/// The bit of ATX headings.
+pub const HEADING_ATX: u64 = 1024;
+/// The bit of setext headings.
+pub const HEADING_SETEXT: u64 = 2048;
+/// The bit of HTML blocks.
+pub const HTML_FLOW: u64 = 4096;
+/// The bit of thematic breaks.
+pub const THEMATIC_BREAK: u64 = 8192;
 /// The bits of all constructs.
-pub const ALL_CONSTRUCTS: u64 = 7;
+pub const ALL_CONSTRUCTS: u64 = 16383;
 
 /// An index in a record's link that there is not.
 pub const NO_INDEX: usize = usize::MAX;
@@ -78,7 +100,7 @@ pub struct Options {
     pub size: usize,
     /// The distance from one tab stop to the next, from 1 to 16 columns. 0 is 4.
     pub tab_size: usize,
-    /// The constructs that are on in texts: the sum of their bits.
+    /// The constructs that are on: the sum of their bits.
     pub constructs: u64,
     /// After how many virtual bytes the document is cut each time. If it is 0, the document is not cut.
     pub cut: usize,

@@ -10,7 +10,8 @@
 //! # Ok::<(), limecove::Error>(())
 //! ```
 //!
-//! What is read are code spans, autolinks, backslash escapes and paragraphs. Headings, lists, emphasis and links are not read.
+//! What is read are leaf blocks (headings, code, HTML, thematic breaks, paragraphs) and inline text with emphasis. Links, lists and block
+//! quotes are not read yet.
 //!
 //! The crate `limecove-sys` links `liblimecove.a`. If it is not found, set `LIMECOVE_LIB` to the folder that has it.
 #![deny(missing_docs)]
@@ -58,7 +59,8 @@ impl Default for TabSize {
     }
 }
 
-/// How text is read. The default: code spans, autolinks and backslash escapes, and tab stops at every 4 columns.
+/// How text is read. The default: all constructs of CommonMark that are read, and tab stops at every 4 columns. [`tokenize_text`] reads
+/// code spans, autolinks and backslash escapes; the other constructs are read in whole documents.
 ///
 /// ```
 /// let options = limecove::TextOptions::default().autolink(false);
@@ -76,10 +78,18 @@ impl Default for TextOptions {
     fn default() -> TextOptions {
         TextOptions {
             tab_size: TabSize::default(),
-            constructs: limecove_sys::ALL_CONSTRUCTS,
+            constructs: limecove_sys::ALL_CONSTRUCTS & !BLOCKS,
         }
     }
 }
+
+/// The constructs of leaf blocks.
+const BLOCKS: u64 = limecove_sys::CODE_FENCED
+    | limecove_sys::CODE_INDENTED
+    | limecove_sys::HEADING_ATX
+    | limecove_sys::HEADING_SETEXT
+    | limecove_sys::HTML_FLOW
+    | limecove_sys::THEMATIC_BREAK;
 
 impl TextOptions {
     /// The same, with tab stops so many columns apart.
@@ -107,6 +117,36 @@ impl TextOptions {
         self.with(limecove_sys::CHARACTER_ESCAPE, is_on)
     }
 
+    /// The same, with or without emphasis.
+    #[must_use]
+    pub const fn attention(self, is_on: bool) -> TextOptions {
+        self.with(limecove_sys::ATTENTION, is_on)
+    }
+
+    /// The same, with or without character references.
+    #[must_use]
+    pub const fn character_reference(self, is_on: bool) -> TextOptions {
+        self.with(limecove_sys::CHARACTER_REFERENCE, is_on)
+    }
+
+    /// The same, with or without hard breaks by a backslash.
+    #[must_use]
+    pub const fn hard_break_escape(self, is_on: bool) -> TextOptions {
+        self.with(limecove_sys::HARD_BREAK_ESCAPE, is_on)
+    }
+
+    /// The same, with or without hard breaks by spaces.
+    #[must_use]
+    pub const fn hard_break_trailing(self, is_on: bool) -> TextOptions {
+        self.with(limecove_sys::HARD_BREAK_TRAILING, is_on)
+    }
+
+    /// The same, with or without raw HTML.
+    #[must_use]
+    pub const fn html_text(self, is_on: bool) -> TextOptions {
+        self.with(limecove_sys::HTML_TEXT, is_on)
+    }
+
     /// The same, with a construct on or off.
     const fn with(mut self, bit: u64, is_on: bool) -> TextOptions {
         self.constructs = if is_on {
@@ -118,7 +158,7 @@ impl TextOptions {
     }
 }
 
-/// How a document is read. The default: paragraphs, and text in them.
+/// How a document is read. The default: all of it, leaf blocks and the inline text in them.
 ///
 /// ```
 /// use limecove::{tokenize, Machine, Options};
@@ -132,15 +172,17 @@ pub struct Options {
     machine: Machine,
     deep: bool,
     cut: Option<NonZeroUsize>,
+    blocks: u64,
     text: TextOptions,
 }
 
 impl Default for Options {
     fn default() -> Options {
         Options {
-            machine: Machine::Text,
+            machine: Machine::Flow,
             deep: true,
             cut: None,
+            blocks: BLOCKS,
             text: TextOptions::default(),
         }
     }
@@ -174,12 +216,58 @@ impl Options {
         self.text = text;
         self
     }
+
+    /// The same, with or without fenced code.
+    #[must_use]
+    pub const fn code_fenced(self, is_on: bool) -> Options {
+        self.with(limecove_sys::CODE_FENCED, is_on)
+    }
+
+    /// The same, with or without indented code.
+    #[must_use]
+    pub const fn code_indented(self, is_on: bool) -> Options {
+        self.with(limecove_sys::CODE_INDENTED, is_on)
+    }
+
+    /// The same, with or without ATX headings.
+    #[must_use]
+    pub const fn heading_atx(self, is_on: bool) -> Options {
+        self.with(limecove_sys::HEADING_ATX, is_on)
+    }
+
+    /// The same, with or without setext headings.
+    #[must_use]
+    pub const fn heading_setext(self, is_on: bool) -> Options {
+        self.with(limecove_sys::HEADING_SETEXT, is_on)
+    }
+
+    /// The same, with or without HTML blocks.
+    #[must_use]
+    pub const fn html_flow(self, is_on: bool) -> Options {
+        self.with(limecove_sys::HTML_FLOW, is_on)
+    }
+
+    /// The same, with or without thematic breaks.
+    #[must_use]
+    pub const fn thematic_break(self, is_on: bool) -> Options {
+        self.with(limecove_sys::THEMATIC_BREAK, is_on)
+    }
+
+    /// The same, with a construct of blocks on or off.
+    const fn with(mut self, bit: u64, is_on: bool) -> Options {
+        self.blocks = if is_on {
+            self.blocks | bit
+        } else {
+            self.blocks & !bit
+        };
+        self
+    }
 }
 
 impl Machine {
     /// Whether it links chunks of text, which can be read too.
     pub const fn links_text(self) -> bool {
-        matches!(self, Machine::Paragraphs | Machine::Text)
+        matches!(self, Machine::Paragraphs | Machine::Text | Machine::Flow)
     }
 }
 
@@ -207,7 +295,30 @@ impl fmt::Display for Error {
 
 impl error::Error for Error {}
 
-/// Reads a whole document, once. [`Reading`] is for events that are not all needed at a time.
+/// Reads a whole document with the default options, once: its leaf blocks, and the inline text in them, with emphasis.
+///
+/// # Errors
+///
+/// As those of [`tokenize`].
+///
+/// # Panics
+///
+/// As [`tokenize`].
+///
+/// ```
+/// use limecove::{read_document, spans, Name};
+///
+/// let document = "# a *b*\n";
+/// let events = read_document(document)?;
+/// let text = spans(&events).find(|span| span.name == Name::EmphasisText).unwrap();
+/// assert_eq!(text.text(document.as_bytes()), b"b");
+/// # Ok::<(), limecove::Error>(())
+/// ```
+pub fn read_document(document: impl AsRef<[u8]>) -> Result<Vec<Event>, Error> {
+    tokenize(document, &Options::default())
+}
+
+/// Reads a whole document, once, as the options say. [`Reading`] is for events that are not all needed at a time.
 ///
 /// # Errors
 ///

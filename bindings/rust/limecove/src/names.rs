@@ -21,8 +21,11 @@ pub enum Machine {
     /// `save`: passes the first line, tries something after it, which fails, and reads each line of the rest as data.
     Save = 5,
     /// `text`: as `paragraphs`, but in the text of its chunks are code spans, autolinks and escapes.
-    #[default]
     Text = 6,
+    /// `flow`: the leaf blocks of CommonMark. In paragraphs and headings is inline text, with emphasis; in info strings
+    /// of fenced code are escapes and character references.
+    #[default]
+    Flow = 7,
 }
 
 impl Machine {
@@ -35,6 +38,7 @@ impl Machine {
         Machine::Back,
         Machine::Save,
         Machine::Text,
+        Machine::Flow,
     ];
 
     /// As it is declared.
@@ -47,6 +51,7 @@ impl Machine {
             Machine::Back => "Back",
             Machine::Save => "Save",
             Machine::Text => "Text",
+            Machine::Flow => "Flow",
         }
     }
 }

@@ -40,7 +40,7 @@ impl Reading {
         let options = limecove_sys::Options {
             size: size_of::<limecove_sys::Options>(),
             tab_size: options.text.tab_size.get(),
-            constructs: options.text.constructs,
+            constructs: options.text.constructs | options.blocks,
             cut: options.cut.map_or(0, NonZeroUsize::get),
             machine: options.machine as u32,
             deep: u32::from(options.deep && options.machine.links_text()),

@@ -71,6 +71,6 @@ fn machines_have_their_proved_numbers() {
             Some((name.to_string(), number.parse().ok()?))
         })
         .collect();
-    assert_eq!(proved.len(), 7);
+    assert_eq!(proved.len(), 8);
     compare(&proved, Machine::ALL, "LIMECOVE_");
 }

@@ -53,13 +53,17 @@ impl Random {
     }
 }
 
-/// The ways in which the program reads: each machine, and two with their texts.
+/// The ways in which the program reads: each machine, and three with their texts.
 fn ways() -> Vec<(Machine, bool)> {
     let mut ways: Vec<_> = Machine::ALL
         .iter()
         .map(|machine| (*machine, false))
         .collect();
-    ways.extend([(Machine::Paragraphs, true), (Machine::Text, true)]);
+    ways.extend([
+        (Machine::Paragraphs, true),
+        (Machine::Text, true),
+        (Machine::Flow, true),
+    ]);
     ways
 }
 
