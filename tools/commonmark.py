@@ -8,14 +8,14 @@ usage: tools/commonmark.py SPEC PROGRAM [--machine NAME] [--failing] [--example 
                   golang-github-yuin-goldmark-dev has that of CommonMark 0.30 (652 examples); `apt-get download` it and `dpkg -x` it, and
                   take usr/share/gocode/src/github.com/yuin/goldmark/_test/spec.json
   PROGRAM         mdevents, or what prints events as it does; it is called with --deep --machine NAME
-  --machine NAME  the machine that reads the documents; without it, text
+  --machine NAME  the machine that reads the documents; without it, flow
   --failing       also the numbers of the examples that are not right
   --example N     only one example: its events, and how its HTML differs. The status is 1 if it does
   --self-test     the HTML of a few lists of events that are written by hand; no SPEC, no PROGRAM
 
 The renderer knows no Markdown: it sees the names and places of events, and the bytes between places. A name without a rule makes the
-example wrong. Three rules are not of events, as no event says these: in a paragraph or heading, white space at the start of a line is
-left out, and so is data's white space at its end; a code span that begins and ends with a space loses both, unless it is all spaces.
+example wrong. Two rules are of code spans, as no event says these: white space at the start of a line in it is left out; and one that
+begins and ends with a space loses both, unless it is all spaces.
 """
 
 import argparse
@@ -81,31 +81,24 @@ def address(text):
 
 
 class Inline:
-    """Writes the spans of a text. White space and line endings wait until something comes after them on the same line."""
+    """Writes the spans of a text."""
 
     def __init__(self, document):
-        self.document, self.html, self.waiting, self.is_line_start = document, "", "", True
+        self.document, self.html = document, ""
 
     def write(self, shown):
-        self.html, self.waiting, self.is_line_start = self.html + self.waiting + shown, "", False
-
-    def text(self, span):
-        """The bytes of a span, without white space that a line begins with."""
-        text = bytes_of(self.document, span)
-        return text.lstrip(BLANKS) if self.is_line_start else text
+        self.html += shown
 
     def spans(self, spans):
         for span in spans:
             self.span(span)
 
     def span(self, span):
-        name, text = span.name, self.text(span)
+        name, text = span.name, bytes_of(self.document, span)
         if name == "Data":
-            if shown := text.rstrip(BLANKS):
-                self.write(escaped(shown))
-            self.waiting += text[len(shown) :]
+            self.write(escaped(text))
         elif name == "LineEnding":
-            self.waiting, self.is_line_start = "\n", True
+            self.write("\n")
         elif name in ("HardBreakEscape", "HardBreakTrailing"):
             self.write("<br />")
         elif name == "CharacterEscapeValue":
@@ -130,13 +123,14 @@ class Inline:
 
     def code(self, spans):
         """The text of a code span."""
-        self.is_line_start, code = False, ""
+        is_line_start, code = False, ""
         for span in spans:
             if span.name not in ("CodeTextSequence", "CodeTextData", "LineEnding"):
                 raise NoRule(f"no rule for {span.name} in a code span")
             if span.name != "CodeTextSequence":
-                code += self.text(span).replace("\n", " ")
-                self.is_line_start = span.name == "LineEnding"
+                text = bytes_of(self.document, span)
+                code += (text.lstrip(BLANKS) if is_line_start else text).replace("\n", " ")
+                is_line_start = span.name == "LineEnding"
         return code[1:-1] if code[:1] == code[-1:] == " " and code.strip(" ") else code
 
 
@@ -266,7 +260,8 @@ BY_HAND = [
     ("# a *b*\n", "+HeadingAtx 0:1 =HeadingAtxSequence 0:1 1:2 =SpaceOrTab 1:2 2:3 +HeadingAtxText 2:3 =Data 2:3 4:5 +Emphasis 4:5 =EmphasisSequence 4:5 5:6"
      " +EmphasisText 5:6 =Data 5:6 6:7 -EmphasisText 6:7 =EmphasisSequence 6:7 7:8 -Emphasis 7:8 -HeadingAtxText 7:8 -HeadingAtx 7:8 =LineEnding 7:8 8:1",
      "<h1>a <em>b</em></h1>\n"),
-    (" a \n b<\n", "+Paragraph 0:1 =Data 0:1 3:4 =LineEnding 3:4 4:1 =Data 4:1 7:4 -Paragraph 7:4 =LineEnding 7:4 8:1", "<p>a\nb&lt;</p>\n"),
+    (" a \n b<\n", "+Paragraph 0:1 =SpaceOrTab 0:1 1:2 =Data 1:2 2:3 =SpaceOrTab 2:3 3:4 =LineEnding 3:4 4:1 =SpaceOrTab 4:1 5:2 =Data 5:2 7:4"
+     " -Paragraph 7:4 =LineEnding 7:4 8:1", "<p>a\nb&lt;</p>\n"),
     ("\ta\n\n\t b", "+CodeIndented 0:1 =SpaceOrTab 0:1 1:5 =CodeFlowChunk 1:5 2:6 =LineEnding 2:6 3:1 =LineEnding 3:1 4:1 =SpaceOrTab 4:1 5:5"
      " =CodeFlowChunk 5:5 7:7 -CodeIndented 7:7", "<pre><code>a\n\n b\n</code></pre>\n"),
     # two columns of a tab are of the fence's indentation, and two of the code
@@ -317,7 +312,7 @@ def main():
     parser = argparse.ArgumentParser(description=__doc__, formatter_class=argparse.RawDescriptionHelpFormatter, usage=argparse.SUPPRESS)
     parser.add_argument("spec", nargs="?", help=argparse.SUPPRESS)
     parser.add_argument("program", nargs="?", help=argparse.SUPPRESS)
-    parser.add_argument("--machine", default="text", help=argparse.SUPPRESS)
+    parser.add_argument("--machine", default="flow", help=argparse.SUPPRESS)
     parser.add_argument("--failing", action="store_true", help=argparse.SUPPRESS)
     parser.add_argument("--example", type=int, help=argparse.SUPPRESS)
     parser.add_argument("--self-test", action="store_true", help=argparse.SUPPRESS)
