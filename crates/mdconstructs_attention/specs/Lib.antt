@@ -1,5 +1,6 @@
 pub mod Beside
 pub mod Classes
+pub mod Costs
 pub mod Emphasis
 pub mod LawStatements
 pub mod Places

@@ -1,11 +1,15 @@
 //! Pairs of delimiter runs, in linear time, and the events in place of a run.
 
-ghost use Rattle.std.specs.Prelude.{ℕ, slice_index, nat_lt, slice_get, Ok, true, false, IfOk, ◌≡◌, ◌+◌, ◌<◌, ◌≤◌, ◌^◌, length, map, None, All, IfSome, OnOk, ◌++◌};
+ghost use Rattle.std.specs.Prelude.{ℕ, slice_index, nat_lt, slice_get, Ok, true, false, cond, IfOk, ◌≡◌, ◌+◌, ◌-◌, ◌*◌, ◌<◌, ◌≤◌, ◌^◌, length, map, None, All, IfSome, OnOk, ◌++◌};
 ghost use Rattle.mdconstructs_attention.specs.Emphasis.{paired, rule_of_three, same, may_pair, opening, closing, is_strong};
 ghost use Rattle.mdconstructs_attention.specs.Searches.{as_run, last_of, with_pair, left_of, can_close, can_open, third, kind, AreBottoms, IsNext, HasClosed, ClosesNothing, IsTaken};
+ghost use Rattle.mdconstructs_attention.specs.Costs.{markers_left, end_of, to_pay};
 
+use crate::turns::Turns;
 use markdown_base::event::Point;
 use std::alloc::{AllocError, Global};
+use std::marker::Brand;
+use std::sync::ledger::{Blank, Ledger};
 
 /// A delimiter run.
 #[derive(Drop)]
@@ -77,19 +81,22 @@ fn kind_of(closer: &Delimiters) -> usize
 }
 
 /// The last opener at or above the bottom that fits.
-fn opener_for(
+fn opener_for<L: Ledger>(
     runs: &[Delimiters],
     openers: &[usize],
     bottom: usize,
     closer: &Delimiters,
+    turns: &mut Turns<L>,
 ) -> Option<usize>
     requires inside { All (λ i. i < length runs.now) openers.now }
     requires bottom { bottom ≤ length openers.now }
     requires nothing { last_of (map as_run runs.now) openers.now (as_run closer.now) bottom ≡ None }
-    ensures { result ≡ last_of (map as_run runs.now) openers.now (as_run closer.now) (length openers.now) }
+    ensures found { result ≡ last_of (map as_run runs.now) openers.now (as_run closer.now) (length openers.now) }
+    ensures turns { turns.new + end_of result bottom ≡ turns.old + length openers.now }
 {
     let mut at = openers.len();
     while at > bottom {
+        turns.add_one();
         at -= 1;
         if may_pair(&runs[openers[at]], closer) {
             return Some(at);
@@ -103,6 +110,7 @@ fn lower(bottoms: &mut [usize], height: usize)
     ensures many { length bottoms.new ≡ length bottoms.old }
     ensures lower { (k : ℕ) → slice_index bottoms.new k ≤ slice_index bottoms.old k }
     ensures below { (k : ℕ) → slice_index bottoms.new k ≤ height }
+    ensures kept { (k : ℕ) → height - slice_index bottoms.new k ≤ height - slice_index bottoms.old k }
 {
     for bottom in bottoms.iter_mut() {
         if *bottom > height {
@@ -164,11 +172,12 @@ fn can_open(run: &Delimiters) -> bool
 }
 
 /// Makes one pair more with the run that is next, if it can close one. Returns whether it did.
-fn closes_more(
+fn closes_more<L: Ledger>(
     runs: &mut [Delimiters],
     openers: &mut Vec<usize>,
     bottoms: &mut [usize],
     closer: usize,
+    turns: &mut Turns<L>,
 ) -> Result<bool, AllocError>
     requires next { IsNext (map as_run runs.old) openers.old.items closer }
     requires kinds { length bottoms.old ≡ 12 }
@@ -178,13 +187,16 @@ fn closes_more(
     ensures pair { result ≡ Ok true → HasClosed (map as_run runs.old) openers.old.items closer (map as_run runs.new) openers.new.items }
     ensures same { result ≡ Ok false → (map as_run runs.new ≡ map as_run runs.old) × (openers.new.items ≡ openers.old.items) }
     ensures end { result ≡ Ok false → ClosesNothing (map as_run runs.old) openers.old.items closer }
+    ensures paid { IfOk result (λ more. turns.new + to_pay (map as_run runs.new) openers.new.items bottoms.new ≤ turns.old + to_pay (map as_run runs.old) openers.old.items bottoms.old + cond more 0 1) }
+    ensures turns { turns.new ≤ turns.old + to_pay (map as_run runs.old) openers.old.items bottoms.old + 1 }
 {
+    turns.add_one();
     if !can_close(&runs[closer]) {
         return Ok(false);
     }
     let kind = kind_of(&runs[closer]);
     let all = &runs[..];
-    let Some(at) = opener_for(all, openers.as_slice(), bottoms[kind], &all[closer]) else {
+    let Some(at) = opener_for(all, openers.as_slice(), bottoms[kind], &all[closer], turns) else {
         bottoms[kind] = openers.len();
         return Ok(false);
     };
@@ -197,11 +209,12 @@ fn closes_more(
 }
 
 /// The run that is next closes what it can, and then waits if it can open.
-fn take_up(
+fn take_up<L: Ledger>(
     runs: &mut [Delimiters],
     openers: &mut Vec<usize>,
     bottoms: &mut [usize],
     closer: usize,
+    turns: &mut Turns<L>,
 ) -> Result<(), AllocError>
     requires next { IsNext (map as_run runs.old) openers.old.items closer }
     requires kinds { length bottoms.old ≡ 12 }
@@ -209,27 +222,59 @@ fn take_up(
     ensures kinds { length bottoms.new ≡ 12 }
     ensures bottoms { OnOk result (AreBottoms (map as_run runs.new) openers.new.items bottoms.new) }
     ensures taken { OnOk result (IsTaken (map as_run runs.old) openers.old.items closer (map as_run runs.new) openers.new.items) }
+    ensures paid { OnOk result (turns.new + to_pay (map as_run runs.new) openers.new.items bottoms.new ≤ turns.old + to_pay (map as_run runs.old) openers.old.items bottoms.old + 14) }
+    ensures turns { turns.new ≤ turns.old + to_pay (map as_run runs.old) openers.old.items bottoms.old + 1 }
 {
-    'closing: while closes_more(runs, openers, bottoms, closer)? {}
+    'closing: while closes_more(runs, openers, bottoms, closer, turns)? {}
     if can_open(&runs[closer]) {
         openers.push(closer)?;
     }
     Ok(())
 }
 
-/// Makes the pairs of all delimiter runs of a text.
+/// Makes the pairs of all delimiter runs of a text, in linear time.
 ///
-/// If it runs out of memory, some pairs were made. Each run waits once and stops waiting once. A search that finds nothing looks at no
-/// run that an earlier one of its kind has seen in vain; there are 12 kinds.
-pub fn pair_all(alloc: Global, runs: &mut [Delimiters]) -> Result<(), AllocError>
-    ensures { OnOk result (map as_run runs.new ≡ paired (map as_run runs.old)) }
+/// A turn is a look at a run that waits, or a try to make one more pair. There are at most 14 for each run, and two for each marker; each
+/// pair lowers 12 heights besides. If it runs out of memory, some pairs were made. Each run waits once and stops waiting once. A search
+/// that finds nothing looks at no run that an earlier one of its kind has seen in vain; there are 12 kinds.
+pub fn pair_counted<L: Ledger>(
+    alloc: Global,
+    runs: &mut [Delimiters],
+    turns: &mut Turns<L>,
+) -> Result<(), AllocError>
+    ensures pairs { OnOk result (map as_run runs.new ≡ paired (map as_run runs.old)) }
+    ensures linear { turns.new ≤ turns.old + 14 * length runs.old + 2 * markers_left (map as_run runs.old) }
 {
     let mut openers = Vec::new(alloc);
     let mut bottoms = [0usize; 12];
     let mut closer = 0;
     while closer < runs.len() {
-        take_up(runs, &mut openers, &mut bottoms, closer)?;
+        take_up(runs, &mut openers, &mut bottoms, closer, turns)?;
         closer += 1;
     }
     Ok(())
+}
+
+/// Makes the pairs of all delimiter runs, and counts from nothing.
+fn pair_uncounted<L: Ledger>(
+    alloc: Global,
+    runs: &mut [Delimiters],
+    blank: Blank,
+) -> Result<(), AllocError>
+    requires name { blank.name ≡ L.name }
+    requires parts { blank.parts ≡ L.parts }
+    requires some { 0 < blank.parts }
+    ensures { OnOk result (map as_run runs.new ≡ paired (map as_run runs.old)) }
+{
+    let mut turns = Turns::<L>::new(blank);
+    pair_counted(alloc, runs, &mut turns)
+}
+
+/// Makes the pairs of all delimiter runs of a text, as `pair_counted` does.
+///
+/// If it runs out of memory, some pairs were made.
+pub fn pair_all(alloc: Global, runs: &mut [Delimiters]) -> Result<(), AllocError>
+    ensures { OnOk result (map as_run runs.new ≡ paired (map as_run runs.old)) }
+{
+    pair_uncounted::<Brand>(alloc, runs, Blank::new(1))
 }

@@ -1,8 +1,11 @@
-use Rattle.std.proofs.Common.{◌≡◌, ℕ, ◌+◌, ◌<◌, ◌≤◌, set, List, Some, true, cond, map, take, length, get_or, sym, ap, ◌∙◌, subst, arith}
+use Rattle.std.proofs.Common.{◌≡◌, ℕ, ◌+◌, ◌*◌, ◌<◌, ◌≤◌, set, List, Some, true, cond, map, take, length, get_or, sym, ap, ◌∙◌, subst, arith}
 use Rattle.std.specs.Prelude.{slice_get, slice_index, nat_lt}
 use Rattle.std.proofs.lemmas.Option.{slice_get_within, get_or_from_slice_get}
 use Rattle.mdconstructs_attention.specs.Emphasis.{Run, SoFar, is_strong, opening, closing, put_back}
 use Rattle.mdconstructs_attention.specs.Searches.{as_run, can_close, left_of, with_pair, last_of, kind, AreBottoms, StandsAt}
+use Rattle.std.proofs.lemmas.List.{length-take-le}
+use Rattle.mdconstructs_attention.specs.Costs.{markers_left, end_of, above}
+use Rattle.mdconstructs_attention.proofs.Costs.{pair-takes, above-set, above-lower}
 use Rattle.mdconstructs_attention.proofs.Stands.{closer-run, openers-below, some-next, none-next, close-unable, close-unfound, close-found}
 use Rattle.mdconstructs_attention.proofs.Bottoms.{bottoms-after-pair, bottoms-after-search}
 use Rattle.mdconstructs_attention.proofs.Steps.{next-inside, run-at, search-is, fewer, has-markers}
@@ -10,12 +13,12 @@ use Rattle.mdconstructs_attention.proofs.pairs.closes_more.Goals as goal
 use Rattle.mdconstructs_attention.proofs.pairs.closes_more.Goals.{then-waits, else-waits}
 
 pub returns-then-not-can_close-clause-end : goal.returns-then-not-can_close-clause-end
-returns-then-not-can_close-clause-end c same z r rest h n =
+returns-then-not-can_close-clause-end g c same z r rest h n =
     let is = run-at c.args.runs.now c.args.openers.now.items c.args.closer c.index-runs-closer.result z r rest h in
     close-unable n r z (sym (ap can_close is) ∙ sym c.can_close.ensures ∙ c.if-not-can_close.true)
 
 pub opener_for-requires-clause-inside : goal.opener_for-requires-clause-inside
-opener_for-requires-clause-inside c k d lt =
+opener_for-requires-clause-inside g c k d lt =
     let w = c.requires.next in
     let inside = next-inside c.args.runs.now c.args.openers.now.items c.args.closer w in
     let long = ap length c.as_slice.ensures.value in
@@ -23,39 +26,39 @@ opener_for-requires-clause-inside c k d lt =
     subst (λ xs. get_or xs k d < length c.args.runs.now) (sym c.as_slice.ensures.value) (omega (arith, below, inside))
 
 pub returns-in_default-clause-end : goal.returns-in_default-clause-end
-returns-in_default-clause-end c same z r rest h n =
+returns-in_default-clause-end g c same z r rest h n =
     close-unfound n r z (none-next (map as_run c.args.runs.now) c.args.openers.now.items c.args.closer z r rest h
-    (search-is c.args.runs.now c.args.openers.now.items c.as_slice.result.now c.args.closer c.index-all-closer.result c.opener_for.result z r rest h c.index-all-closer.is c.as_slice.ensures.value c.opener_for.ensures ∙ c.in_default.is))
+    (search-is c.args.runs.now c.args.openers.now.items c.as_slice.result.now c.args.closer c.index-all-closer.result c.opener_for.result z r rest h c.index-all-closer.is c.as_slice.ensures.value c.opener_for.ensures.found ∙ c.in_default.is))
 
 pub index-opener-requires : goal.index-opener-requires
-index-opener-requires c =
+index-opener-requires g c =
     let w = c.requires.next in
-    let found = search-is c.args.runs.now c.args.openers.now.items c.as_slice.result.now c.args.closer c.index-all-closer.result c.opener_for.result w.0 w.1 w.2 w.3 c.index-all-closer.is c.as_slice.ensures.value c.opener_for.ensures in
+    let found = search-is c.args.runs.now c.args.openers.now.items c.as_slice.result.now c.args.closer c.index-all-closer.result c.opener_for.result w.0 w.1 w.2 w.3 c.index-all-closer.is c.as_slice.ensures.value c.opener_for.ensures.found in
     let next = some-next (map as_run c.args.runs.now) c.args.openers.now.items c.args.closer w.0 w.1 w.2 w.3 c.in-Some.at (found ∙ c.in-Some.is) in
     let below = slice_get_within c.args.openers.now.items c.in-Some.at next.2 next.3 in
     let long = ap length c.as_slice.ensures.value in
     omega (arith, below, long, c.as_slice.ensures.len)
 
 pub join-requires-clause-before : goal.join-requires-clause-before
-join-requires-clause-before c =
+join-requires-clause-before g c =
     let w = c.requires.next in
-    let found = search-is c.args.runs.now c.args.openers.now.items c.as_slice.result.now c.args.closer c.index-all-closer.result c.opener_for.result w.0 w.1 w.2 w.3 c.index-all-closer.is c.as_slice.ensures.value c.opener_for.ensures in
+    let found = search-is c.args.runs.now c.args.openers.now.items c.as_slice.result.now c.args.closer c.index-all-closer.result c.opener_for.result w.0 w.1 w.2 w.3 c.index-all-closer.is c.as_slice.ensures.value c.opener_for.ensures.found in
     let next = some-next (map as_run c.args.runs.now) c.args.openers.now.items c.args.closer w.0 w.1 w.2 w.3 c.in-Some.at (found ∙ c.in-Some.is) in
     let same = c.index-opener.ensures ∙ get_or_from_slice_get c.args.openers.now.items c.in-Some.at next.2 c.index-opener.result.now next.3 in
     subst (λ i. i < c.args.closer) (sym same) next.4
 
 pub overflow_add-height : goal.overflow_add-height
-overflow_add-height c =
+overflow_add-height g c =
     let w = c.requires.next in
-    let found = search-is c.args.runs.now c.args.openers.now.items c.as_slice.result.now c.args.closer c.index-all-closer.result c.opener_for.result w.0 w.1 w.2 w.3 c.index-all-closer.is c.as_slice.ensures.value c.opener_for.ensures in
+    let found = search-is c.args.runs.now c.args.openers.now.items c.as_slice.result.now c.args.closer c.index-all-closer.result c.opener_for.result w.0 w.1 w.2 w.3 c.index-all-closer.is c.as_slice.ensures.value c.opener_for.ensures.found in
     let next = some-next (map as_run c.args.runs.now) c.args.openers.now.items c.args.closer w.0 w.1 w.2 w.3 c.in-Some.at (found ∙ c.in-Some.is) in
     let below = slice_get_within c.args.openers.now.items c.in-Some.at next.2 next.3 in
     let may_pair = c.args.openers.now.ok in
     omega (arith, below, may_pair.0, may_pair.1, c.args.openers.now.small)
 
 pub returns-clause-pair : goal.returns-clause-pair
-returns-clause-pair c same z r rest h =
-    let found = search-is c.args.runs.now c.args.openers.now.items c.as_slice.result.now c.args.closer c.index-all-closer.result c.opener_for.result z r rest h c.index-all-closer.is c.as_slice.ensures.value c.opener_for.ensures in
+returns-clause-pair g c same z r rest h =
+    let found = search-is c.args.runs.now c.args.openers.now.items c.as_slice.result.now c.args.closer c.index-all-closer.result c.opener_for.result z r rest h c.index-all-closer.is c.as_slice.ensures.value c.opener_for.ensures.found in
     let next = some-next (map as_run c.args.runs.now) c.args.openers.now.items c.args.closer z r rest h c.in-Some.at (found ∙ c.in-Some.is) in
     let f = next.0 in
     let able : can_close r ≡ true = sym (ap can_close (run-at c.args.runs.now c.args.openers.now.items c.args.closer c.index-runs-closer.result z r rest h)) ∙ sym c.can_close.ensures ∙ c.if-not-can_close.false in
@@ -79,7 +82,7 @@ returns-clause-pair c same z r rest h =
     (put_back w z.base f.before, closing s r, after, fewer s r.left (has-markers r.closes r.left able), λ n. close-found n r z f able next.1)
 
 pub opener_for-requires-clause-bottom : goal.opener_for-requires-clause-bottom
-opener_for-requires-clause-bottom c =
+opener_for-requires-clause-bottom g c =
     let w = c.requires.next in
     let kind-is : c.kind_of-kind.result ≡ kind w.1 = c.kind_of-kind.ensures.kind ∙ ap kind (run-at c.args.runs.now c.args.openers.now.items c.args.closer c.index-runs-closer-2.result w.0 w.1 w.2 w.3) in
     let low = (c.requires.bottoms w.1).0 in
@@ -87,7 +90,7 @@ opener_for-requires-clause-bottom c =
     subst (λ k. slice_index c.args.bottoms.now k ≤ length c.as_slice.result.now) (sym kind-is) (omega (arith, low, long))
 
 pub opener_for-requires-clause-nothing : goal.opener_for-requires-clause-nothing
-opener_for-requires-clause-nothing c =
+opener_for-requires-clause-nothing g c =
     let w = c.requires.next in
     let rs = map as_run c.args.runs.now in
     let kind-is : c.kind_of-kind.result ≡ kind w.1 = c.kind_of-kind.ensures.kind ∙ ap kind (run-at c.args.runs.now c.args.openers.now.items c.args.closer c.index-runs-closer-2.result w.0 w.1 w.2 w.3) in
@@ -98,13 +101,13 @@ opener_for-requires-clause-nothing c =
     ∙ (c.requires.bottoms w.1).1
 
 pub returns-in_default-clause-bottoms : goal.returns-in_default-clause-bottoms
-returns-in_default-clause-bottoms c =
+returns-in_default-clause-bottoms g c =
     let w = c.requires.next in
     let rs = map as_run c.args.runs.now in
     let ops = c.args.openers.now.items in
     let kind-is : c.kind_of-kind.result ≡ kind w.1 = c.kind_of-kind.ensures.kind ∙ ap kind (run-at c.args.runs.now ops c.args.closer c.index-runs-closer-2.result w.0 w.1 w.2 w.3) in
     let len-is : c.len.result ≡ length ops = c.len.ensures ∙ sym c.as_slice.ensures.len ∙ ap length c.as_slice.ensures.value in
-    let none = search-is c.args.runs.now ops c.as_slice.result.now c.args.closer c.index-all-closer.result c.opener_for.result w.0 w.1 w.2 w.3 c.index-all-closer.is c.as_slice.ensures.value c.opener_for.ensures ∙ c.in_default.is in
+    let none = search-is c.args.runs.now ops c.as_slice.result.now c.args.closer c.index-all-closer.result c.opener_for.result w.0 w.1 w.2 w.3 c.index-all-closer.is c.as_slice.ensures.value c.opener_for.ensures.found ∙ c.in_default.is in
     let inside : kind w.1 < length c.args.bottoms.now = omega (arith, c.kind_of-kind.ensures.below, kind-is, c.requires.kinds) in
     subst (λ k. AreBottoms rs ops (set c.args.bottoms.now k c.len.result)) (sym kind-is)
     (subst (λ n. AreBottoms rs ops (set c.args.bottoms.now (kind w.1) n)) (sym len-is) (bottoms-after-search rs ops c.args.bottoms.now w.1 inside none c.requires.bottoms))
@@ -114,11 +117,11 @@ below-all rs ops closer z r rest h k m e =
     subst (λ x. x < closer) (get_or_from_slice_get ops k m m e) (openers-below rs ops closer z r rest h k m (slice_get_within ops k m e))
 
 pub returns-clause-bottoms : goal.returns-clause-bottoms
-returns-clause-bottoms c =
+returns-clause-bottoms g c =
     let w = c.requires.next in
     let rs = map as_run c.args.runs.now in
     let ops = c.args.openers.now.items in
-    let found = search-is c.args.runs.now ops c.as_slice.result.now c.args.closer c.index-all-closer.result c.opener_for.result w.0 w.1 w.2 w.3 c.index-all-closer.is c.as_slice.ensures.value c.opener_for.ensures in
+    let found = search-is c.args.runs.now ops c.as_slice.result.now c.args.closer c.index-all-closer.result c.opener_for.result w.0 w.1 w.2 w.3 c.index-all-closer.is c.as_slice.ensures.value c.opener_for.ensures.found in
     let next = some-next rs ops c.args.closer w.0 w.1 w.2 w.3 c.in-Some.at (found ∙ c.in-Some.is) in
     let i-is : c.index-opener.result.now ≡ next.2 = c.index-opener.ensures ∙ get_or_from_slice_get ops c.in-Some.at next.2 c.index-opener.result.now next.3 in
     let runs = c.in_ok-waits.ensures.pair ∙ ap (λ i. with_pair rs i c.args.closer) i-is in
@@ -132,3 +135,59 @@ returns-clause-bottoms c =
     (below-all rs ops c.args.closer w.0 w.1 w.2 w.3) within c.lower.ensures.lower c.lower.ensures.below c.requires.bottoms in
     subst (λ xs. AreBottoms xs c.truncate.new.self.items c.lower.new.bottoms) (sym runs)
     (subst (λ xs. AreBottoms (with_pair rs next.2 c.args.closer) xs c.lower.new.bottoms) (sym c.truncate.ensures.items) after)
+
+-- a search in vain is paid by the height that grows
+pub returns-in_default-clause-paid : goal.returns-in_default-clause-paid
+returns-in_default-clause-paid g c =
+    let ops = c.args.openers.now.items in
+    let bs = c.args.bottoms.now in
+    let k = c.kind_of-kind.result in
+    let m = markers_left (map as_run c.args.runs.now) in
+    let t = c.opener_for.new.turns in
+    let len-is : c.len.result ≡ length ops = c.len.ensures ∙ sym c.as_slice.ensures.len ∙ ap length c.as_slice.ensures.value in
+    let inside : k < length bs = omega (arith, c.kind_of-kind.ensures.below, c.requires.kinds) in
+    let cost : t + slice_index bs k ≡ c.add_one.new.self + length c.as_slice.result.now = ap (λ x. t + end_of x (slice_index bs k)) (sym c.in_default.is) ∙ c.opener_for.ensures.turns in
+    let one : c.add_one.new.self ≡ c.args.turns.now + 1 = c.add_one.ensures in
+    let long = ap length c.as_slice.ensures.value in
+    let same = ap (λ n. above (length ops) (set bs k n)) len-is in
+    let grown = above-set (length ops) bs k inside in
+    let paid : t + ((length ops + above (length ops) (set bs k c.len.result)) + 2 * m) ≤ c.args.turns.now + ((length ops + above (length ops) bs) + 2 * m) + 1 = omega (arith, cost, one, long, same, grown) in
+    paid
+
+-- a search that finds one is paid by those that wait no more, and by the markers of the pair
+pub returns-clause-paid : goal.returns-clause-paid
+returns-clause-paid g c =
+    let w = c.requires.next in
+    let rs = map as_run c.args.runs.now in
+    let ops = c.args.openers.now.items in
+    let bs = c.args.bottoms.now in
+    let t = c.opener_for.new.turns in
+    let h = c.if-waits.height in
+    let found = search-is c.args.runs.now ops c.as_slice.result.now c.args.closer c.index-all-closer.result c.opener_for.result w.0 w.1 w.2 w.3 c.index-all-closer.is c.as_slice.ensures.value c.opener_for.ensures.found in
+    let next = some-next rs ops c.args.closer w.0 w.1 w.2 w.3 c.in-Some.at (found ∙ c.in-Some.is) in
+    let able : can_close w.1 ≡ true = sym (ap can_close (run-at c.args.runs.now ops c.args.closer c.index-runs-closer.result w.0 w.1 w.2 w.3)) ∙ sym c.can_close.ensures ∙ c.if-not-can_close.false in
+    let i-is : c.index-opener.result.now ≡ next.2 = c.index-opener.ensures ∙ get_or_from_slice_get ops c.in-Some.at next.2 c.index-opener.result.now next.3 in
+    let runs = c.in_ok-waits.ensures.pair ∙ ap (λ i. with_pair rs i c.args.closer) i-is in
+    let left = ap markers_left runs in
+    let takes = pair-takes rs next.2 c.args.closer next.0.last.opener w.1 next.5 (closer-run rs ops c.args.closer w.0 w.1 w.2 w.3) next.4 (has-markers w.1.closes w.1.left able) in
+    let inside = slice_get_within ops c.in-Some.at next.2 next.3 in
+    let within : h ≤ length ops =
+    elim c.if-waits.branch [
+      | then-waits v ↦ omega (arith, v.height-is, inside)
+      | else-waits v ↦ omega (arith, v.height-is, inside)
+    ] in
+    let low : h ≤ c.in-Some.at + 1 =
+    elim c.if-waits.branch [
+      | then-waits v ↦ omega (arith, v.height-is)
+      | else-waits v ↦ omega (arith, v.height-is)
+    ] in
+    let cut : length c.truncate.new.self.items ≡ h = ap length c.truncate.ensures.items ∙ length-take-le h ops within in
+    let cost : t + c.in-Some.at ≡ c.add_one.new.self + length c.as_slice.result.now = ap (λ x. t + end_of x (slice_index bs c.kind_of-kind.result)) (sym c.in-Some.is) ∙ c.opener_for.ensures.turns in
+    let one : c.add_one.new.self ≡ c.args.turns.now + 1 = c.add_one.ensures in
+    let long = ap length c.as_slice.ensures.value in
+    let same = ap (λ n. above n c.lower.new.bottoms) cut in
+    let heights = above-lower h (length ops) c.lower.new.bottoms bs within c.lower.ensures.many c.lower.ensures.kept in
+    let paid : t + ((length c.truncate.new.self.items + above (length c.truncate.new.self.items) c.lower.new.bottoms) + 2 * markers_left (map as_run c.join.new.runs))
+    ≤ c.args.turns.now + ((length ops + above (length ops) bs) + 2 * markers_left rs) + 0 =
+    omega (arith, cost, one, long, cut, same, heights, low, left, takes) in
+    paid

@@ -1,4 +1,4 @@
-use Rattle.std.proofs.Common.{◌≡◌, ℕ, suc, ◌-◌, ◌<◌, Bool, true, false, cond, List, Some, map, length, get_or, sym, ap, ◌∙◌, refl, arith}
+use Rattle.std.proofs.Common.{◌≡◌, ℕ, suc, ◌+◌, ◌-◌, ◌<◌, Bool, true, false, cond, List, Some, map, length, get_or, sym, ap, ◌∙◌, refl, arith}
 use Rattle.std.proofs.lemmas.Option.{slice_get-get_or, slice_get_read}
 use Rattle.std.proofs.lemmas.List.Elements.{All-get_or}
 use Rattle.mdconstructs_attention.specs.declared.pairs.Delimiters.{Delimiters}
@@ -17,19 +17,27 @@ down ds openers r at d b pos below inside is same =
     ∙ search-step ds openers r (at - 1) (get_or openers (at - 1) 0) d (slice_get-get_or openers (at - 1) 0 below) (slice_get_read ds (length ds) (get_or openers (at - 1) 0) d refl inside is)
     ∙ ap (λ t. cond t (Some (at - 1)) (last_of (map as_run ds) openers r (at - 1))) same
 
-pub returns-then-may_pair : goal.returns-then-may_pair
-returns-then-may_pair c =
+pub returns-then-may_pair-clause-found : goal.returns-then-may_pair-clause-found
+returns-then-may_pair-clause-found g c =
     let at = c.loop-at.at in
     let pos : 0 < at = omega (arith, c.loop-at-test.true) in
     let below : at - 1 < length c.args.openers.now = omega (arith, c.loop-at.invariant.1, pos) in
     sym (c.loop-at.invariant.2 ∙ down c.args.runs.now c.args.openers.now (as_run c.args.closer.now) at c.index-runs-openers.result true pos below (All-get_or (λ i. i < length c.args.runs.now) c.args.openers.now (at - 1) 0 below c.requires.inside) c.index-runs-openers.is (sym c.may_pair.ensures ∙ c.if-may_pair.true))
 
 pub loop-at-preserved : goal.loop-at-preserved
-loop-at-preserved c =
+loop-at-preserved g c =
     let at = c.loop-at.at in
     let pos : 0 < at = omega (arith, c.loop-at-test.true) in
     let below : at - 1 < length c.args.openers.now = omega (arith, c.loop-at.invariant.1, pos) in (
       omega (arith, c.loop-at-test.true),
       omega (arith, below),
       c.loop-at.invariant.2 ∙ down c.args.runs.now c.args.openers.now (as_run c.args.closer.now) at c.index-runs-openers.result false pos below (All-get_or (λ i. i < length c.args.runs.now) c.args.openers.now (at - 1) 0 below c.requires.inside) c.index-runs-openers.is (sym c.may_pair.ensures ∙ c.if-may_pair.false),
+      omega (arith, c.loop-at.invariant.3, c.add_one.ensures, pos),
     )
+
+pub returns-then-may_pair-clause-turns : goal.returns-then-may_pair-clause-turns
+returns-then-may_pair-clause-turns g c =
+    let at = c.loop-at.at in
+    let pos : 0 < at = omega (arith, c.loop-at-test.true) in
+    let here : c.add_one.new.self + (at - 1) ≡ c.args.turns.now + length c.args.openers.now = omega (arith, c.loop-at.invariant.3, c.add_one.ensures, pos) in
+    here

@@ -1,15 +1,17 @@
-use Rattle.std.proofs.Common.{◌≡◌, ℕ, ◌≤◌, List, map, length}
+use Rattle.std.proofs.Common.{◌≡◌, ℕ, ◌+◌, ◌≤◌, List, map, length}
 use Rattle.std.specs.Prelude.{slice_get}
 use Rattle.mdconstructs_attention.specs.Emphasis.{Run, SoFar, close}
 use Rattle.mdconstructs_attention.specs.Searches.{as_run, left_of, AreBottoms, StandsAt}
+use Rattle.mdconstructs_attention.specs.Costs.{to_pay}
 use Rattle.mdconstructs_attention.proofs.pairs.take_up.Given as goal
 
 -- heights hold; and whatever the runs stood for, they stand for what is reached after some pairs
 abbrev pub invariant-closing : goal.invariant-closing
-invariant-closing l =
+invariant-closing g l =
     (length l.bottoms ≡ 12) × AreBottoms (map as_run l.runs) l.openers.items l.bottoms
     × ((z : SoFar) (r : Run) (rest : List Run) → StandsAt (map as_run l.fn.runs) l.fn.openers.items l.fn.closer z r rest
     → (z' : SoFar) × (r' : Run) × StandsAt (map as_run l.runs) l.openers.items l.closer z' r' rest × (n : ℕ) × (r'.left ≤ n) × (close n r' z' ≡ close r.left r z))
+    × (l.turns + to_pay (map as_run l.runs) l.openers.items l.bottoms ≤ l.fn.turns + to_pay (map as_run l.fn.runs) l.fn.openers.items l.fn.bottoms)
 
 abbrev pub decreases-closing : goal.decreases-closing
-decreases-closing l = left_of (slice_get (map as_run l.runs) l.closer)
+decreases-closing g l = left_of (slice_get (map as_run l.runs) l.closer)

@@ -1,10 +1,11 @@
-use Rattle.std.proofs.Common.{◌≡◌, ℕ, zero, suc, replicate, ◌<◌, List, [], ◌∷◌, map, length, refl, sym, ap, ◌∙◌, subst, arith, append-nil, length-append}
+use Rattle.std.proofs.Common.{◌≡◌, ℕ, zero, suc, ◌+◌, ◌*◌, ◌≤◌, replicate, ◌<◌, List, [], ◌∷◌, map, length, refl, sym, ap, ◌∙◌, subst, arith, append-nil, length-append}
 use Rattle.std.specs.Prelude.{slice_index}
 use Rattle.std.proofs.lemmas.List.{length-map}
 use Rattle.mdconstructs_attention.specs.Emphasis.{Run, SoFar, all_runs, paired_from, none_read, close}
 use Rattle.mdconstructs_attention.specs.Searches.{AreBottoms, as_run, Stands}
+use Rattle.mdconstructs_attention.specs.Costs.{markers_left, to_pay}
 use Rattle.mdconstructs_attention.proofs.Bottoms.{bottoms-at-first}
-use Rattle.mdconstructs_attention.proofs.pairs.pair_all.Goals as goal
+use Rattle.mdconstructs_attention.proofs.pairs.pair_counted.Goals as goal
 
 -- if some runs are not read yet, there is a next one
 first : (rs : List Run) (openers : List ℕ) (closer : ℕ) (z : SoFar) (rest : List Run) → Stands rs openers z rest → closer ≡ length (all_runs z) → closer < length rs
@@ -22,15 +23,21 @@ are-zeros xs n e k = ap (λ ys. slice_index ys k) e ∙ zeros n k
     zeros (suc m) (suc i) = zeros m i
 
 pub loop-closer-init : goal.loop-closer-init
-loop-closer-init c =
-    let none = 0 ∷ 0 ∷ 0 ∷ 0 ∷ 0 ∷ 0 ∷ 0 ∷ 0 ∷ 0 ∷ 0 ∷ 0 ∷ 0 ∷ [] in (
+loop-closer-init g c =
+    let none : List ℕ = 0 ∷ 0 ∷ 0 ∷ 0 ∷ 0 ∷ 0 ∷ 0 ∷ 0 ∷ 0 ∷ 0 ∷ 0 ∷ 0 ∷ [] in (
       refl,
       subst (λ xs. AreBottoms (map as_run c.args.runs.now) xs none) (sym c.new-openers.ensures.items) (bottoms-at-first (map as_run c.args.runs.now) none (are-zeros none 12 refl)),
       (none_read, map as_run c.args.runs.now, record { runs = refl; waiting = c.new-openers.ensures.items }, refl, refl),
+      (
+          let rs = map as_run c.args.runs.now in
+          let start : c.args.turns.now + to_pay rs [] none ≤ c.args.turns.now + 2 * markers_left rs + 14 * 0 = omega arith in
+          subst (λ xs. c.args.turns.now + to_pay rs xs none ≤ c.args.turns.now + 2 * markers_left rs + 14 * 0) (sym c.new-openers.ensures.items) start
+          ),
+      omega arith,
     )
 
 pub take_up-requires-clause-next : goal.take_up-requires-clause-next
-take_up-requires-clause-next c =
+take_up-requires-clause-next g c =
     let i = c.loop-closer.invariant.2 in
     let rs = map as_run c.loop-closer.runs in
     let long = length-map c.loop-closer.runs as_run in
@@ -38,7 +45,7 @@ take_up-requires-clause-next c =
     (i.0, f.0, f.1, record { so_far = subst (λ xs. Stands rs c.loop-closer.openers.items i.0 xs) f.2 i.2; next = i.3 })
 
 pub loop-closer-preserved : goal.loop-closer-preserved
-loop-closer-preserved c =
+loop-closer-preserved g c =
     let i = c.loop-closer.invariant.2 in
     let rs = map as_run c.loop-closer.runs in
     let long = length-map c.loop-closer.runs as_run in
@@ -50,4 +57,4 @@ loop-closer-preserved c =
     let two = ap length there.runs ∙ length-append (all_runs z') f.1 in
     let new = length-map c.take_up.new.runs as_run in
     let same : length c.take_up.new.runs ≡ length c.loop-closer.runs = c.take_up.auto.runs in
-    (c.take_up.ensures.kinds, c.in_ok-take_up.ensures.bottoms, (z', f.1, there, omega (arith, one, two, long, new, i.3, same), ap (paired_from i.0) (sym f.2) ∙ i.4))
+    (c.take_up.ensures.kinds, c.in_ok-take_up.ensures.bottoms, (z', f.1, there, omega (arith, one, two, long, new, i.3, same), ap (paired_from i.0) (sym f.2) ∙ i.4), omega (arith, c.in_ok-take_up.ensures.paid, c.loop-closer.invariant.3), omega (arith, same, c.loop-closer-test.true))
