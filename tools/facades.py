@@ -18,6 +18,7 @@ PARTS = {
 }
 NAMED = {
     ("markdown_children", "specs", "LawStatements"): "ChildrenLawStatements",
+    ("mdconstructs_attention", "specs", "Costs"): "PairCosts",
     ("mdconstructs_attention", "specs", "Emphasis"): "EmphasisEvents",
     ("mdconstructs_attention", "specs", "LawStatements"): "EmphasisLawStatements",
     ("mdconstructs_attention", "specs", "Places"): "RunPlaces",

@@ -48,14 +48,22 @@ pub use Rattle.mdconstructs_phrasing.proofs.HtmlMarks
 pub use Rattle.mdconstructs_phrasing.proofs.HtmlTags
 pub use Rattle.mdconstructs_phrasing.proofs.HtmlTexts
 pub use Rattle.mdconstructs_phrasing.proofs.References
+pub use Rattle.mdconstructs_phrasing.proofs.RememberedCode
 pub use Rattle.mdconstructs_phrasing.proofs.WhiteSpaces
-pub use Rattle.mdconstructs_inlines.proofs.InlineBuilt
-pub use Rattle.mdconstructs_inlines.proofs.InlineChains
-pub use Rattle.mdconstructs_inlines.proofs.InlineReads
-pub use Rattle.mdconstructs_inlines.proofs.Looks as InlineLooks
+pub use Rattle.mdconstructs_inlines.proofs.Budgets
+pub use Rattle.mdconstructs_inlines.proofs.CallsCounted
 pub use Rattle.mdconstructs_inlines.proofs.InlineApart
+pub use Rattle.mdconstructs_inlines.proofs.InlineBuilt
+pub use Rattle.mdconstructs_inlines.proofs.InlineCalls
+pub use Rattle.mdconstructs_inlines.proofs.InlineChains
+pub use Rattle.mdconstructs_inlines.proofs.InlineListed
+pub use Rattle.mdconstructs_inlines.proofs.InlineMemory
+pub use Rattle.mdconstructs_inlines.proofs.InlineReads
+pub use Rattle.mdconstructs_inlines.proofs.InlinesCounted
+pub use Rattle.mdconstructs_inlines.proofs.Looks as InlineLooks
 pub use Rattle.mdconstructs_inlines.proofs.Resolved
 pub use Rattle.mdconstructs_inlines.proofs.Starts
+pub use Rattle.mdconstructs_inlines.proofs.StringCalls
 pub use Rattle.mdconstructs_inlines.proofs.StringChains
 pub use Rattle.mdconstructs_inlines.proofs.StringReads
 pub use Rattle.mdconstructs_inlines.proofs.StringRuns

@@ -64,6 +64,7 @@ pub use Rattle.mdconstructs_text.specs.TextTable
 pub use Rattle.mdconstructs_text.specs.Laws as TextLaws
 pub use Rattle.mdconstructs_attention.specs.Beside
 pub use Rattle.mdconstructs_attention.specs.Classes
+pub use Rattle.mdconstructs_attention.specs.Costs as PairCosts
 pub use Rattle.mdconstructs_attention.specs.Emphasis as EmphasisEvents
 pub use Rattle.mdconstructs_attention.specs.LawStatements as EmphasisLawStatements
 pub use Rattle.mdconstructs_attention.specs.Places as RunPlaces
@@ -78,6 +79,7 @@ pub use Rattle.mdconstructs_phrasing.specs.HtmlMarked
 pub use Rattle.mdconstructs_phrasing.specs.HtmlTag
 pub use Rattle.mdconstructs_phrasing.specs.HtmlText
 pub use Rattle.mdconstructs_phrasing.specs.Reference
+pub use Rattle.mdconstructs_phrasing.specs.RememberedCode
 pub use Rattle.mdconstructs_phrasing.specs.WhiteSpace
 pub use Rattle.mdconstructs_phrasing.specs.Laws as PhrasingLaws
 pub use Rattle.mdconstructs_inlines.specs.InlineEvents

@@ -19,10 +19,10 @@ pub use mdconstructs_flow::laws::{
 pub use mdconstructs_inlines::laws::{
     chains_are_read_as_inline_text, chains_are_read_as_strings,
     cost_at_the_start as inlines_cost_at_the_start, emphasis_takes_the_place_of_runs,
-    inline_text_is_read, inline_text_looks_no_further,
+    inline_text_is_linear, inline_text_is_read, inline_text_looks_no_further,
     no_document_is_refused as inlines_refuse_no_document,
     other_chains_stay_ready_after_inline_text, other_chains_stay_ready_after_strings,
-    strings_are_read,
+    strings_are_linear, strings_are_read,
 };
 pub use mdconstructs_machines::laws::{
     costs_at_the_start, documents_are_read_by_lines, innermost_spans_account_for_documents,

@@ -31,6 +31,7 @@ use Rattle.markdown_tokenizer.specs.Text.{CanFollow, empty_text, FitsAfter, foll
 use Rattle.markdown_tokenizer.specs.declared.subtokenize.Subresult.{Subresult}
 use Rattle.mdconstructs_documents.specs.ByteRanges.{FollowFrom, is_in, IsRangeFrom, seats_in, text_events_in}
 use Rattle.mdconstructs_documents.specs.declared.ranges.ByteRange.{ByteRange}
+use Rattle.mdconstructs_text.proofs.Texts.Leads.{ending}
 use Rattle.mdconstructs_text.proofs.Texts.Ends.{ends-so, from-start}
 use Rattle.mdconstructs_text.proofs.Texts.Steps.{text_step}
 use Rattle.mdconstructs_text.specs.TextEvents.{seat_events, text_events}
@@ -231,7 +232,7 @@ module _ (options : ParseOptions) (bytes : List ℕ) {M : Type 0} (m : M) (start
   ranges-text q ends =
       let g = given_by bytes options in
       let text = text_from options bytes start ranges in
-      let so = ends-so g text (text_step g) (start_configuration false) (Next TextStart) (text_events g text) (from-start g text (ranges-are-text options bytes text_rules m start ranges document inside follow) false) q
+      let so = ends-so g text (text_step g) (start_configuration false) (Next TextStart) (ending (text_events g text)) (from-start g text (ranges-are-text options bytes text_rules m start ranges document inside follow) false) q
       (ranges-end options bytes text_rules m start ranges document inside follow r q ends) in
       (so.0, so.1 ∙ ap (seat_events options.constructs bytes) (pieces-seats options bytes (empty_text (place options.tab_size bytes start)) start ranges))
 

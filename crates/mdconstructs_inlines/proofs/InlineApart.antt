@@ -40,7 +40,7 @@ pub behind-autolinks-apart : AreApart text_byte item_length behind_autolinks
 behind-autolinks-apart = (record { classed = emails-apart.classed; nowhere = emails-apart.nowhere; some = emails-apart.some }, behind-emails-apart)
 
 pub inline-apart : AreApart text_byte item_length inline_constructs
-inline-apart = (code-spans-apart, (record { classed = autolinks-apart.classed; nowhere = autolinks-apart.nowhere; some = autolinks-apart.some }, behind-autolinks-apart))
+inline-apart = (record { classed = code-spans-apart.classed; nowhere = code-spans-apart.nowhere; some = code-spans-apart.some }, (record { classed = autolinks-apart.classed; nowhere = autolinks-apart.nowhere; some = autolinks-apart.some }, behind-autolinks-apart))
 
 pub or-parts : (x y : Bool) → (x || y) ≡ false → (x ≡ false) × (y ≡ false)
 or-parts true y h = absurd (cc)

@@ -23,13 +23,14 @@ use Rattle.mdconstructs_inlines.specs.InlineEvents.{inline_events, read_events}
 use Rattle.mdconstructs_inlines.specs.InlineRules.{emphasis_edits, inlines_rules}
 use Rattle.mdconstructs_inlines.specs.LawStatements.{ReadsChainsAsInlineText, StaysReadyAfterInlineText}
 use Rattle.mdconstructs_inlines.proofs.InlineBuilt.{read-alone, read-balanced}
-use Rattle.mdconstructs_inlines.proofs.InlineReads.{from-start}
+use Rattle.mdconstructs_inlines.proofs.InlineMemory.{inlines-read}
+use Rattle.mdconstructs_inlines.proofs.InlineReads.{text_ending}
 use Rattle.mdconstructs_inlines.proofs.Resolved.{resolved-so}
 
 -- what is read of any text, once all is resolved
 pub reads-texts : (g : Given) → ReadsTexts g inlines_rules (inline_events g)
 reads-texts g text is flag r ends well final sub resolved =
-    let read = (ends-so g text (inlines_rules g).step (start_configuration flag) (Next TextStart) (read_events g text) (from-start g text is flag) r ends).1 in
+    let read = (ends-so g text (inlines_rules g).step (start_configuration flag) (Next TextStart) (text_ending g text) (inlines-read g text is flag) r ends).1 in
     (resolved-so g TextStart (0, omega arith, (cc)) text is flag r ends well final sub resolved).1 ∙ ap (λ es. edited (emphasis_edits g es) es) read
     ∙ (emphasis-can-be-made g.bytes (read_events g text) (read-balanced g text) (read-alone g text)).1
 

@@ -1,4 +1,5 @@
--- How the machine of inline text reads a line ending with the white space behind it, and the white space that a text begins with.
+-- How the machine of inline text reads a line ending with the white space behind it, and the white space that a text begins with; and in how many
+-- calls.
 use Rattle.std.proofs.Common.{◌≡◌, ℕ, suc, ◌+◌, ◌≤◌, List, [], ◌∷◌, ◌++◌, Bool, true, false, cond, Option, Some, None, refl, sym, ap, ◌∙◌, subst, arith, append_assoc, length, take, drop}
 use Rattle.std.proofs.lemmas.List.{append-nil, length-map}
 use Rattle.std.proofs.lemmas.List.Sums.{prefix_len-le-length}
@@ -20,7 +21,10 @@ use Rattle.mdconstructs_machines.proofs.LineReads.Rows.{line-ending-read}
 use Rattle.mdconstructs_machines.proofs.LineReads.Steps.{at-front, held}
 use Rattle.mdconstructs_machines.specs.Breaks.{is_white}
 use Rattle.mdconstructs_machines.specs.Tables.{counts}
+use Rattle.mdconstructs_text.proofs.Plain.Items.{AddsItemIn, adds-of}
+use Rattle.mdconstructs_text.proofs.Plain.Passed.{after-passed}
 use Rattle.mdconstructs_text.proofs.Plain.Stretches.{first_byte, goes-back, goes-next, leaf-read, loops, past, past-at, past-stops, passed, sees, shows}
+use Rattle.mdconstructs_text.proofs.Texts.Counted.{IsAfter, after-call, after-more, after-within}
 use Rattle.mdconstructs_text.proofs.Texts.Reads.{AddsItem}
 use Rattle.mdconstructs_text.proofs.Texts.Steps.{EndsWith, Leads, Plays, before_class, between_items, leads-row, leads-seen}
 use Rattle.mdconstructs_text.specs.Bytes.{passes}
@@ -57,11 +61,18 @@ module _ (g : Given) (text : Text) where
   StartRead l q events local n =
       (after : Local Unit Unit) × Leads g text m (shows l [] q events local) [] (Retry SpaceOrTabEolAtEol) (between_items (q + n) Nothing false (events ++ leaf g.bytes SpaceOrTab (take n l)) after) [] (Next TextBefore)
 
+  -- in a call more than it has bytes
+  abbrev pub StartReadIn : List Seat → ℕ → List Event → Local Unit Unit → ℕ → Type 0
+  StartReadIn l q events local n =
+      (after : Local Unit Unit) × IsAfter (n + 1) local after
+      × Leads g text m (shows l [] q events local) [] (Retry SpaceOrTabEolAtEol) (between_items (q + n) Nothing false (events ++ leaf g.bytes SpaceOrTab (take n l)) after) [] (Next TextBefore)
+
   -- there is none
-  no-white : (l : List Seat) (q : ℕ) (events : List Event) (local : Local Unit Unit) → drop q text.seats ≡ l → passes is_white (first_byte l) ≡ false → StartRead l q events local 0
+  no-white : (l : List Seat) (q : ℕ) (events : List Event) (local : Local Unit Unit) → drop q text.seats ≡ l → passes is_white (first_byte l) ≡ false → StartReadIn l q events local 0
   no-white l q events local at none =
       let same : q ≡ q + 0 = omega arith in (
         counts local,
+        after-call local,
         λ es h.
             leads-seen g text m line_start_rows (shows l [] q events local) [] SpaceOrTabEolAtEol es (sees g text m l q at) (start-other (before_class g text q) (first_byte l) none) refl
             (goes-back g text m l [] q events (counts local) [] TextBefore at es
@@ -69,7 +80,7 @@ module _ (g : Given) (text : Text) where
             (subst (λ xs. EndsWith g text m (between_items (q + 0) Nothing false xs (counts local)) [] (Next TextBefore) es) (append-nil events) h))),
       )
 
-  some-white : (s : Seat) (ss : List Seat) (q : ℕ) (events : List Event) (local : Local Unit Unit) → drop q text.seats ≡ s ∷ ss → is_white s.byte ≡ true → StartRead (s ∷ ss) q events local (prefix_len is_white (bytes_of (s ∷ ss)))
+  some-white : (s : Seat) (ss : List Seat) (q : ℕ) (events : List Event) (local : Local Unit Unit) → drop q text.seats ≡ s ∷ ss → is_white s.byte ≡ true → StartReadIn (s ∷ ss) q events local (prefix_len is_white (bytes_of (s ∷ ss)))
   some-white s ss q events local at is =
       let l = s ∷ ss in
       let n = prefix_len is_white (bytes_of l) in
@@ -81,10 +92,13 @@ module _ (g : Given) (text : Text) where
       let rest = past is_white ss in
       let there : drop (q + n) text.seats ≡ rest = past-at g text m is_white ss (q + 1) (q + n) next place in
       let read = passed is_white counts ss (counts local) in
+      let k = prefix_len is_white (bytes_of ss) in
+      let white : IsAfter (1 + k) local read = after-more 1 k local (counts local) read (after-call local) (after-passed counts after-call is_white ss (counts local)) in
       let inside : n ≤ suc (length ss) = omega (arith, prefix_len-le-length is_white (bytes_of l), length-map l (λ x. x.byte)) in
       let made : begun ++ event g.bytes Exit SpaceOrTab (end_place text (q + n)) ∷ [] ≡ events ++ leaf g.bytes SpaceOrTab (take n l) =
       append_assoc events _ _ ∙ ap (λ xs. events ++ xs) (leaf-read text g.bytes SpaceOrTab n q s ss at (run-some s.byte (bytes_of ss) is) inside) in (
         counts read,
+        after-within (1 + k + 1) (n + 1) local (counts read) (omega (arith, length-is)) (after-more (1 + k) 1 local read (counts read) white (after-call read)),
         λ es h.
             leads-seen g text m line_start_rows (shows l [] q events local) [] SpaceOrTabEolAtEol es (ap byte_of (at-front text.seats q s ss at))
             (ap (λ w. line_start_rows (before_class g text q) (Some w)) (white-class s.byte is)) refl
@@ -99,25 +113,28 @@ module _ (g : Given) (text : Text) where
             (subst (λ xs. EndsWith g text m (between_items (q + n) Nothing false xs (counts read)) [] (Next TextBefore) es) (sym made) h))))),
       )
 
-  pub start-read : (l : List Seat) (q : ℕ) (events : List Event) (local : Local Unit Unit) → drop q text.seats ≡ l → StartRead l q events local (prefix_len is_white (bytes_of l))
-  start-read [] q events local at = no-white [] q events local at refl
-  start-read (s ∷ ss) q events local at =
-      elim (is_white s.byte) as (λ t. is_white s.byte ≡ t → StartRead (s ∷ ss) q events local (cond t (1 + prefix_len is_white (bytes_of ss)) 0)) [
+  pub start-read-in : (l : List Seat) (q : ℕ) (events : List Event) (local : Local Unit Unit) → drop q text.seats ≡ l → StartReadIn l q events local (prefix_len is_white (bytes_of l))
+  start-read-in [] q events local at = no-white [] q events local at refl
+  start-read-in (s ∷ ss) q events local at =
+      elim (is_white s.byte) as (λ t. is_white s.byte ≡ t → StartReadIn (s ∷ ss) q events local (cond t (1 + prefix_len is_white (bytes_of ss)) 0)) [
         | true ↦ λ is.
             let length-is : prefix_len is_white (bytes_of (s ∷ ss)) ≡ 1 + prefix_len is_white (bytes_of ss) = ap (λ t. cond t (1 + prefix_len is_white (bytes_of ss)) 0) is in
-            subst (StartRead (s ∷ ss) q events local) length-is (some-white s ss q events local at is)
+            subst (StartReadIn (s ∷ ss) q events local) length-is (some-white s ss q events local at is)
         | false ↦ λ other. no-white (s ∷ ss) q events local at other
       ] refl
 
-  -- A line ending is read, with the white space behind it
-  pub reads-line-break : (p : ℕ) (ended : Bool) (events : List Event) (local : Local Unit Unit) (s : Seat) (ss : List Seat) → drop p text.seats ≡ s ∷ ss → s.byte ≡ 10
-      → AddsItem g text m between_texts (between_items p Byte ended events local) (Retry TextBefore) p events (s ∷ ss) (line_break (prefix_len is_white (bytes_of ss)))
-  reads-line-break p ended events local s ss here is =
+  pub start-read : (l : List Seat) (q : ℕ) (events : List Event) (local : Local Unit Unit) → drop q text.seats ≡ l → StartRead l q events local (prefix_len is_white (bytes_of l))
+  start-read l q events local at = let read = start-read-in l q events local at in (read.0, read.2)
+
+  -- A line ending is read, with the white space behind it, in a call more than they have bytes
+  pub reads-line-break-in : (p : ℕ) (ended : Bool) (events : List Event) (local : Local Unit Unit) (s : Seat) (ss : List Seat) → drop p text.seats ≡ s ∷ ss → s.byte ≡ 10
+      → AddsItemIn g text m between_texts (prefix_len is_white (bytes_of ss) + 2) (between_items p Byte ended events local) (Retry TextBefore) p events (s ∷ ss) (line_break (prefix_len is_white (bytes_of ss)))
+  reads-line-break-in p ended events local s ss here is =
       let at = at-front text.seats p s ss here in
       let n = prefix_len is_white (bytes_of ss) in
       let ending = events ++ leaf g.bytes LineEnding (s ∷ []) in
       let next = drop-next text.seats p s ss here in
-      let read = start-read ss (p + 1) ending (counts local) next in
+      let read = start-read-in ss (p + 1) ending (counts local) next in
       let place : p + 1 + n ≡ p + (1 + n) = omega arith in
       let one : 1 + n ≡ suc n = omega arith in
       let made : ending ++ leaf g.bytes SpaceOrTab (take n ss) ≡ events ++ (leaf g.bytes LineEnding (take 1 (take (1 + n) (s ∷ ss))) ++ leaf g.bytes SpaceOrTab (drop 1 (take (1 + n) (s ∷ ss)))) =
@@ -125,12 +142,18 @@ module _ (g : Given) (text : Text) where
       ∙ ap (λ k. events ++ (leaf g.bytes LineEnding (take 1 (take k (s ∷ ss))) ++ leaf g.bytes SpaceOrTab (drop 1 (take k (s ∷ ss))))) (sym one) in (
         false,
         read.0,
-        tt,
+        after-within (1 + (n + 1)) (n + 2) local read.0 (omega arith) (after-more 1 (n + 1) local (counts local) read.0 (after-call local) read.1),
         λ es h.
             leads-row g text m (row (enter LineEnding ∷ consume ∷ exit LineEnding ∷ []) (Next SpaceOrTabEolAtEol)) (between_items p Byte ended events local) [] TextBefore es (line-row g text (between_items p Byte ended events local) (ap byte_of at ∙ ap Some is))
             (subst (λ l. EndsWith g text m (held [] (p + 1) Nothing false l (counts local)) [] (Next SpaceOrTabEolAtEol) es) (sym (line-ending-read g text events p s at))
             (goes-next g text m ss [] (p + 1) ending (counts local) [] SpaceOrTabEolAtEol next es
-            (read.1 es
+            (read.2 es
             (subst (λ q. EndsWith g text m (between_items q Nothing false (ending ++ leaf g.bytes SpaceOrTab (take n ss)) read.0) [] (Next TextBefore) es) (sym place)
             (subst (λ l. EndsWith g text m (between_items (p + (1 + n)) Nothing false l read.0) [] (Next TextBefore) es) (sym made) h))))),
       )
+
+  pub reads-line-break : (p : ℕ) (ended : Bool) (events : List Event) (local : Local Unit Unit) (s : Seat) (ss : List Seat) → drop p text.seats ≡ s ∷ ss → s.byte ≡ 10
+      → AddsItem g text m between_texts (between_items p Byte ended events local) (Retry TextBefore) p events (s ∷ ss) (line_break (prefix_len is_white (bytes_of ss)))
+  reads-line-break p ended events local s ss here is =
+      let n = prefix_len is_white (bytes_of ss) in
+      adds-of g text m between_texts (n + 2) (between_items p Byte ended events local) (Retry TextBefore) p events (s ∷ ss) (line_break n) (reads-line-break-in p ended events local s ss here is)

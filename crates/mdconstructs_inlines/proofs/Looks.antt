@@ -10,7 +10,7 @@ use Rattle.mdconstructs_tables.proofs.Tables.NoFurther.{steps-alike}
 use Rattle.mdconstructs_tables.proofs.Tables.Refusals.{table-steps, refuse-nothing}
 use Rattle.mdconstructs_text.specs.Autolink.{autolinks, autolinks_are_on, has_room, has_scheme}
 use Rattle.mdconstructs_text.specs.Bytes.{passes}
-use Rattle.mdconstructs_text.specs.CodeSpan.{code_spans, code_spans_are_on, sizes_are_equal}
+use Rattle.mdconstructs_text.specs.CodeSpan.{code_spans_are_on, sizes_are_equal}
 use Rattle.mdconstructs_text.specs.Escape.{escapes, escapes_are_on}
 use Rattle.mdconstructs_text.specs.TextBytes.{TextByte, line_feed, backtick, less, greater, backslash, colon, letter, digit, mark, ampersand, white, punctuation, blank, other}
 use Rattle.markdown_base.proofs.Common.{every-append}
@@ -26,6 +26,7 @@ use Rattle.mdconstructs_phrasing.specs.Laws.Email.{domain-ends-alike, hyphen-ali
 use Rattle.mdconstructs_phrasing.specs.HardBreak.{break_escapes_are_on, space_waits, trailing_breaks_are_on}
 use Rattle.mdconstructs_phrasing.specs.Reference.{at_number_sign, at_semicolon, at_x, value_goes_on, value_is_whole}
 use Rattle.mdconstructs_phrasing.proofs.References.Alike.{goes-on-alike, number-sign-alike, on-alike, semicolon-alike, whole-alike, x-alike}
+use Rattle.mdconstructs_phrasing.specs.RememberedCode.{remembered_code_spans}
 use Rattle.mdconstructs_inlines.specs.InlineRules.{inlines_rules}
 use Rattle.mdconstructs_inlines.specs.InlineTable.{behind_escapes, inline_constructs, inline_start, inlines, own_states}
 use Rattle.mdconstructs_inlines.specs.RunRows.{is_delimiter, run_begins, run_goes_on, run_states}
@@ -102,9 +103,10 @@ between-alike previous (Some punctuation) = (goes-on, (begins, (break-escapes, (
 between-alike previous (Some blank) = (goes-on, (break-escapes, (always, (autolinks-on, (html-on-alike, (html-on-alike, (html-on-alike, (html-on-alike, (html-on-alike, tt)))))))))
 between-alike previous (Some other) = (goes-on, (break-escapes, (always, (autolinks-on, (html-on-alike, (html-on-alike, (html-on-alike, (html-on-alike, (html-on-alike, tt)))))))))
 
-code-spans-alike : (previous current : Option TextByte) → AllByRecursion IsAnsweredAlike (tests (code_spans {R = Unit {0}} {D = Unit {0}}).states previous current)
+code-spans-alike : (previous current : Option TextByte) → AllByRecursion IsAnsweredAlike (tests (remembered_code_spans {R = Unit {0}} {D = Unit {0}}).states previous current)
+code-spans-alike previous None = (sizes, tt)
 code-spans-alike previous (Some backtick) = tt
-code-spans-alike previous _ = (sizes, tt)
+code-spans-alike previous (Some _) = ((λ g h s k alike. refl), (sizes, tt))
 
 autolinks-alike : (previous current : Option TextByte) → AllByRecursion IsAnsweredAlike (tests (autolinks {R = Unit {0}} {D = Unit {0}}).states previous current)
 autolinks-alike previous (Some colon) = (scheme, tt)
@@ -120,7 +122,7 @@ emails-alike previous (Some _) = (name-ends-alike, (name-alike, (label-alike, (h
 marks-alike : (previous current : Option TextByte) → AllByRecursion IsAnsweredAlike (tests (html_marks {R = Unit {0}} {D = Unit {0}}).states previous current)
 marks-alike previous None = tt
 marks-alike previous (Some line_feed) = tt
-marks-alike previous (Some _) = ((λ g h s k alike. refl), ((λ g h s k alike. refl), ((λ g h s k alike. refl), ((λ g h s k alike. refl), ((λ g h s k alike. refl), ((λ g h s k alike. refl), ((λ g h s k alike. refl), ((λ g h s k alike. refl), ((λ g h s k alike. refl), ((λ g h s k alike. refl), ((λ g h s k alike. refl), ((λ g h s k alike. refl), ((λ g h s k alike. refl), tt)))))))))))))
+marks-alike previous (Some _) = ((λ g h s k alike. refl), ((λ g h s k alike. refl), ((λ g h s k alike. refl), ((λ g h s k alike. refl), ((λ g h s k alike. refl), ((λ g h s k alike. refl), ((λ g h s k alike. refl), ((λ g h s k alike. refl), ((λ g h s k alike. refl), ((λ g h s k alike. refl), ((λ g h s k alike. refl), ((λ g h s k alike. refl), ((λ g h s k alike. refl), ((λ g h s k alike. refl), ((λ g h s k alike. refl), ((λ g h s k alike. refl), ((λ g h s k alike. refl), tt)))))))))))))))))
 
 -- of backslash escapes and those that follow them
 others-alike : (previous current : Option TextByte) → AllByRecursion IsAnsweredAlike (tests (states_of (record escapes { otherwise = TextBeforeHardBreakEscape } ∷ behind_escapes)) previous current)
@@ -143,7 +145,7 @@ alike b w =
     let marks = both-alike html_marks.states (html_tags.states ++ escaped) b w (marks-alike b w) tags in
     let mails = both-alike emails.states (html_marks.states ++ (html_tags.states ++ escaped)) b w (emails-alike b w) marks in
     let links = both-alike autolinks.states (emails.states ++ (html_marks.states ++ (html_tags.states ++ escaped))) b w (autolinks-alike b w) mails in
-    both-alike between_states (states_of inline_constructs) b w (between-alike b w) (both-alike code_spans.states (autolinks.states ++ (emails.states ++ (html_marks.states ++ (html_tags.states ++ escaped)))) b w (code-spans-alike b w) links)
+    both-alike between_states (states_of inline_constructs) b w (between-alike b w) (both-alike remembered_code_spans.states (autolinks.states ++ (emails.states ++ (html_marks.states ++ (html_tags.states ++ escaped)))) b w (code-spans-alike b w) links)
 
 pub inlines-look : LooksNoFurther inlines_rules
 inlines-look g h text k name is same = steps-alike inlines alike g h _ k name same

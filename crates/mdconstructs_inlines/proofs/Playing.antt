@@ -17,6 +17,8 @@ use Rattle.mdconstructs_machines.proofs.LineReads.Rows.{row_step}
 use Rattle.mdconstructs_text.specs.Bytes.{is_line_feed, passes}
 use Rattle.mdconstructs_text.specs.Construct.{between_texts, some_begins, tried_at}
 use Rattle.mdconstructs_text.specs.TextBytes.{TextByte, is_line_feed_class, line_feed, punctuation, text_byte, white}
+use Rattle.mdconstructs_text.proofs.CodeSpans.Plays.{PlaysCodeSpans}
+use Rattle.mdconstructs_text.proofs.CodeSpans.Remembered.{remembering}
 use Rattle.mdconstructs_text.proofs.Texts.Apart.{line-classed}
 use Rattle.mdconstructs_text.proofs.Texts.Steps.{BeginsData, HasRow, HasRows, Plays, tested}
 use Rattle.mdconstructs_phrasing.proofs.Emails.Readings.{PlaysEmails}
@@ -28,6 +30,7 @@ use Rattle.mdconstructs_phrasing.proofs.HtmlTags.Rows.{PlaysTags, rows_of, state
 use Rattle.mdconstructs_phrasing.proofs.HardBreaks.Escaped.{PlaysBreakEscapes}
 use Rattle.mdconstructs_phrasing.proofs.HardBreaks.Trailing.{PlaysTrailingBreaks}
 use Rattle.mdconstructs_phrasing.proofs.References.Readings.{PlaysReferences}
+use Rattle.mdconstructs_phrasing.proofs.RememberedCode.Memory.{between-remembered, code_memory, opening-remembered}
 use Rattle.mdconstructs_phrasing.proofs.WhiteSpaces.Bytes.{white-classed}
 use Rattle.mdconstructs_phrasing.proofs.WhiteSpaces.Classes.{white-class}
 use Rattle.mdconstructs_phrasing.proofs.WhiteSpaces.Readings.{PlaysWhiteSpaces}
@@ -135,20 +138,25 @@ module _ (g : Given) (text : Text) where
   abbrev pub inlines_play : Plays g text
   inlines_play = record {
     step = (inlines_rules g).step;
-    raw_text_start = λ k. refl;
-    raw_text_sequence_open = λ k. refl;
-    raw_text_between = λ k. refl;
-    raw_text_data = λ k. refl;
-    raw_text_sequence_close = λ k. refl;
-    raw_flow_after = λ k. refl;
-    raw_flow_before_content_chunk = λ k. refl;
-    raw_flow_content_chunk = λ k. refl;
     autolink_start = λ k. refl;
     autolink_open = λ k. refl;
     autolink_scheme = λ k. refl;
     autolink_url = λ k. refl;
     escape_start = λ k. refl;
     escape_inside = λ k. refl;
+  }
+
+  abbrev pub inlines_play_code_spans : PlaysCodeSpans g text inlines_play (remembering code_memory)
+  inlines_play_code_spans = record {
+    raw_text_start = λ k. refl;
+    raw_text_sequence_open = λ k. ap (row_step g text k) (opening-remembered (behind k) (class_of text_byte (sight g text k).current));
+    raw_text_between = λ k. ap (row_step g text k) (between-remembered (behind k) (class_of text_byte (sight g text k).current));
+    raw_text_data = λ k. refl;
+    raw_text_sequence_close = λ k. refl;
+    raw_flow_after = λ k. refl;
+    raw_flow_before_content_chunk = λ k. refl;
+    raw_flow_content_chunk = λ k. refl;
+    keeps = λ events local. refl;
   }
 
   -- and so it begins data

@@ -1,4 +1,4 @@
--- Delimiter runs, as the machine of inline text reads them between items.
+-- Delimiter runs, as the machine of inline text reads them between items; and in how many calls.
 use Rattle.std.proofs.Common.{◌≡◌, ℕ, suc, ◌+◌, ◌≤◌, ◌==◌, List, [], ◌∷◌, ◌++◌, Bool, true, false, cond, Some, refl, sym, ap, ◌∙◌, subst, arith, length, take, drop}
 use Rattle.std.proofs.lemmas.Bool.{eqb-true}
 use Rattle.std.proofs.lemmas.List.{append_assoc, length-map}
@@ -23,7 +23,9 @@ use Rattle.mdconstructs_machines.proofs.LineReads.Steps.{at-front}
 use Rattle.mdconstructs_text.specs.Bytes.{passes}
 use Rattle.mdconstructs_text.specs.Construct.{between_texts}
 use Rattle.mdconstructs_text.specs.Parts.{bytes_of, event, leaf}
+use Rattle.mdconstructs_text.proofs.Plain.Items.{AddsItemIn, adds-of}
 use Rattle.mdconstructs_text.proofs.Plain.Stretches.{shows, first_byte, goes-back, goes-next, leaf-read, sees}
+use Rattle.mdconstructs_text.proofs.Texts.Counted.{IsAfter, after-call, after-more, after-within}
 use Rattle.mdconstructs_text.proofs.Texts.Reads.{AddsItem}
 use Rattle.mdconstructs_text.proofs.Texts.Steps.{Plays, EndsWith, Leads, between_items, leads-row, leads-tested}
 use Rattle.mdconstructs_inlines.specs.InlineEvents.{begins_run, delimiter_run, run_length}
@@ -42,10 +44,11 @@ module _ (g : Given) (text : Text) where
   abbrev with_end : List Event → ℕ → List Event
   with_end events q = events ++ event g.bytes Exit AttentionSequence (end_place text q) ∷ []
 
-  -- Behind a byte of a run all bytes like it are read, and the run ends
+  -- Behind a byte of a run all bytes like it are read, and the run ends, in a call more than they are
   abbrev RunRead : (b : ℕ) (l : List Seat) (q : ℕ) (events : List Event) (local : Local Unit Unit) (n : ℕ) → Type 0
   RunRead b l q events local n =
-      (after : Local Unit Unit) × Leads g text m (shows l in_run q events local) [] (Retry AttentionInside) (between_items (q + n) Nothing false (with_end events (q + n)) after) [] (Next TextBefore)
+      (after : Local Unit Unit) × IsAfter (n + 1) local after
+      × Leads g text m (shows l in_run q events local) [] (Retry AttentionInside) (between_items (q + n) Nothing false (with_end events (q + n)) after) [] (Next TextBefore)
 
   -- it ends at once
   ends-here : (b : ℕ) (l : List Seat) (q : ℕ) (events : List Event) (local : Local Unit Unit) → drop q text.seats ≡ l → byte_of (seat_before text q) ≡ Some b → passes (λ c. c == b) (first_byte l) ≡ false
@@ -53,6 +56,7 @@ module _ (g : Given) (text : Text) where
   ends-here b [] q events local at before other =
       let same : q ≡ q + 0 = omega arith in (
         counts local,
+        after-call local,
         λ es h.
             leads-row g text m (row (exit AttentionSequence ∷ []) (Retry TextBefore)) (shows [] in_run q events local) [] AttentionInside es refl
             (goes-back g text m [] [] q (with_end events q) (counts local) [] TextBefore at es (subst (λ n. EndsWith g text m (between_items n Nothing false (with_end events n) (counts local)) [] (Next TextBefore) es) (sym same) h)),
@@ -61,6 +65,7 @@ module _ (g : Given) (text : Text) where
       let same : q ≡ q + 0 = omega arith in
       let here = sees g text m (c ∷ cs) q at in (
         counts local,
+        after-call local,
         λ es h.
             leads-tested g text m run_goes_on attention_inside_rows (shows (c ∷ cs) in_run q events local) [] AttentionInside es here refl
             (ap (λ o. passes (λ byte. is_byte byte (sight g text (shows (c ∷ cs) in_run q events local)).current) o) before ∙ ap (is_byte b) here ∙ other) refl
@@ -80,19 +85,20 @@ module _ (g : Given) (text : Text) where
             let place : q + 1 + rest ≡ q + (1 + rest) = omega arith in
             let here = sees g text m (c ∷ cs) q at in (
               further.0,
+              after-within (1 + (rest + 1)) (1 + rest + 1) local further.0 (omega arith) (after-more 1 (rest + 1) local (counts local) further.0 (after-call local) further.1),
               λ es h.
                   leads-tested g text m run_goes_on attention_inside_rows (shows (c ∷ cs) in_run q events local) [] AttentionInside es here refl
                   (ap (λ o. passes (λ byte. is_byte byte (sight g text (shows (c ∷ cs) in_run q events local)).current) o) before ∙ ap (is_byte b) here ∙ like) refl
                   (goes-next g text m cs in_run (q + 1) events (counts local) [] AttentionInside (drop-next text.seats q c cs at) es
-                  (further.1 es (subst (λ n. EndsWith g text m (between_items n Nothing false (with_end events n) further.0) [] (Next TextBefore) es) (sym place) h))),
+                  (further.2 es (subst (λ n. EndsWith g text m (between_items n Nothing false (with_end events n) further.0) [] (Next TextBefore) es) (sym place) h))),
             )
         | false ↦ λ other. ends-here b (c ∷ cs) q events local at before other
       ] refl
 
-  -- A run is read, with its events
-  pub reads-run : (p : ℕ) (ended : Bool) (events : List Event) (local : Local Unit Unit) (s : Seat) (ss : List Seat) → drop p text.seats ≡ s ∷ ss → begins_run g.options.constructs s.byte ≡ true
-      → AddsItem g text m between_texts (between_items p Byte ended events local) (Retry TextBefore) p events (s ∷ ss) (delimiter_run (run_length (bytes_of (s ∷ ss))))
-  reads-run p ended events local s ss here is =
+  -- A run is read, with its events, in two calls more than it has bytes
+  pub reads-run-in : (p : ℕ) (ended : Bool) (events : List Event) (local : Local Unit Unit) (s : Seat) (ss : List Seat) → drop p text.seats ≡ s ∷ ss → begins_run g.options.constructs s.byte ≡ true
+      → AddsItemIn g text m between_texts (run_length (bytes_of (s ∷ ss)) + 2) (between_items p Byte ended events local) (Retry TextBefore) p events (s ∷ ss) (delimiter_run (run_length (bytes_of (s ∷ ss))))
+  reads-run-in p ended events local s ss here is =
       let n = run_length (bytes_of (s ∷ ss)) in
       let rest = prefix_len (λ c. c == s.byte) (bytes_of ss) in
       let at = at-front text.seats p s ss here in
@@ -106,12 +112,19 @@ module _ (g : Given) (text : Text) where
       append_assoc events _ _ ∙ ap (λ es. events ++ es) (leaf-read text g.bytes AttentionSequence n p s ss here (omega arith) inside) in (
         false,
         read.0,
-        tt,
+        after-within (1 + (1 + (rest + 1))) (n + 2) local read.0 (omega arith)
+            (after-more 1 (1 + (rest + 1)) local (counts local) read.0 (after-call local) (after-more 1 (rest + 1) (counts local) (counts (counts local)) read.0 (after-call (counts local)) read.1)),
         λ es h.
             leads-row g text m (row [] (Retry AttentionStart)) (between_items p Byte ended events local) [] TextBefore es (runs-begin g text (between_items p Byte ended events local) s.byte (ap byte_of at) is)
             (leads-row g text m (row (enter AttentionSequence ∷ consume ∷ []) (Next AttentionInside)) (between_items p Byte ended events (counts local)) [] AttentionStart es refl
             (goes-next g text m ss in_run (p + 1) begun (counts (counts local)) [] AttentionInside next es
-            (read.1 es
+            (read.2 es
             (subst (λ q. EndsWith g text m (between_items q Nothing false (with_end begun q) read.0) [] (Next TextBefore) es) (sym place)
             (subst (λ l. EndsWith g text m (between_items (p + n) Nothing false l read.0) [] (Next TextBefore) es) (sym made) h))))),
       )
+
+  pub reads-run : (p : ℕ) (ended : Bool) (events : List Event) (local : Local Unit Unit) (s : Seat) (ss : List Seat) → drop p text.seats ≡ s ∷ ss → begins_run g.options.constructs s.byte ≡ true
+      → AddsItem g text m between_texts (between_items p Byte ended events local) (Retry TextBefore) p events (s ∷ ss) (delimiter_run (run_length (bytes_of (s ∷ ss))))
+  reads-run p ended events local s ss here is =
+      let n = run_length (bytes_of (s ∷ ss)) in
+      adds-of g text m between_texts (n + 2) (between_items p Byte ended events local) (Retry TextBefore) p events (s ∷ ss) (delimiter_run n) (reads-run-in p ended events local s ss here is)

@@ -20,6 +20,7 @@ use Rattle.markdown_tokenizer.specs.Text.{Given, IsDocument}
 use Rattle.mdconstructs_text.specs.ChainTexts.{chain_text}
 use Rattle.mdconstructs_text.proofs.Paragraphs.ChainEvents.{all-begin, chains-read-from, children-events}
 use Rattle.mdconstructs_text.proofs.Paragraphs.Staying.{each-alone}
+use Rattle.mdconstructs_text.proofs.Texts.Leads.{ending}
 use Rattle.mdconstructs_text.proofs.Texts.Ends.{ReadsTextsFrom, ends-so}
 use Rattle.mdconstructs_text.proofs.Texts.WholePlaces.{whole-is-text}
 use Rattle.mdconstructs_inlines.specs.InlineRules.{emphasis_edits, inlines_rules}
@@ -32,7 +33,7 @@ use Rattle.mdconstructs_inlines.proofs.StringRuns.{calm-same, string-alone, stri
 -- what is read of any string, once all is resolved
 pub reads-strings-of : (g : Given) → ReadsTextsFrom StringStart g inlines_rules (string_events g)
 reads-strings-of g text is flag r ends well final sub resolved =
-    let read = (ends-so g text (inlines_rules g).step (start_configuration flag) (Next StringStart) (string_events g text) (strings-from-start g text flag) r ends).1 in
+    let read = (ends-so g text (inlines_rules g).step (start_configuration flag) (Next StringStart) (ending (string_events g text)) (strings-from-start g text flag) r ends).1 in
     (resolved-so g StringStart (1, omega arith, (cc)) text is flag r ends well final sub resolved).1 ∙ ap (λ es. edited (emphasis_edits g es) es) read
     ∙ calm-same g (string_events g text) (string-calm g text) (string-alone g text)
 
@@ -41,7 +42,7 @@ run-reads g events sub document true run =
     run.events ∙ reads-strings-of g (whole_text g) (whole-is-text g document) false run.result run.ends run.well run.final sub run.resolved
 run-reads g events sub document false run =
     let text = whole_text g in
-    let read = ends-so g text (inlines_rules g).step (start_configuration false) (Next StringStart) (string_events g text) (strings-from-start g text false) run.result run.ends in
+    let read = ends-so g text (inlines_rules g).step (start_configuration false) (Next StringStart) (ending (string_events g text)) (strings-from-start g text false) run.result run.ends in
     run.events ∙ ap (λ (k : Configuration Unit Unit). k.events) run.resolved.0 ∙ read.1
 
 pub reads-strings : ReadsStrings

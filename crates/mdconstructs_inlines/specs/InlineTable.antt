@@ -9,7 +9,7 @@ use Rattle.mdconstructs_tables.specs.Rows.{enter, exit, consume, write, choose, 
 use Rattle.mdconstructs_tables.specs.Numbers.{Price, by_left, by_class, numbers}
 use Rattle.mdconstructs_machines.specs.Tables.{counts}
 use Rattle.mdconstructs_text.specs.Autolink.{autolinks, autolink_prices}
-use Rattle.mdconstructs_text.specs.CodeSpan.{code_spans, code_span_prices}
+use Rattle.mdconstructs_text.specs.CodeSpan.{code_span_prices}
 use Rattle.mdconstructs_text.specs.Construct.{Construct, Found, between_texts, data_rows, some_begun, some_follows, states_of, tried_at}
 use Rattle.mdconstructs_text.specs.Escape.{escapes, escape_prices}
 use Rattle.mdconstructs_text.specs.TextBytes.{TextByte, backslash, less, line_feed, punctuation, white, text_byte, is_backslash_class, is_backtick_class, is_less_class, is_line_feed_class}
@@ -18,6 +18,7 @@ use Rattle.mdconstructs_text.specs.TextTable.{text_before_data, data_at_break}
 use Rattle.mdconstructs_phrasing.specs.Email.{emails, email_prices}
 use Rattle.mdconstructs_phrasing.specs.HardBreak.{break_escapes, break_escape_prices, trailing_breaks, trailing_break_prices}
 use Rattle.mdconstructs_phrasing.specs.Reference.{references, reference_prices}
+use Rattle.mdconstructs_phrasing.specs.RememberedCode.{remembered_code_spans}
 use Rattle.mdconstructs_phrasing.specs.HtmlMarked.{html_marks, html_mark_prices}
 use Rattle.mdconstructs_phrasing.specs.HtmlTag.{html_tags, html_tag_prices}
 use Rattle.mdconstructs_phrasing.specs.WhiteSpace.{is_white_class, white_spaces, white_space_prices}
@@ -47,7 +48,7 @@ behind_autolinks = record emails { otherwise = TextBeforeHtml } ∷ behind_email
 
 -- The constructs of inline text: what is tried at which byte
 abbrev pub inline_constructs : List (Construct Found TextByte Unit Unit)
-inline_constructs = code_spans ∷ record autolinks { otherwise = AutolinkSchemeOrEmailAtext } ∷ behind_autolinks
+inline_constructs = remembered_code_spans ∷ record autolinks { otherwise = AutolinkSchemeOrEmailAtext } ∷ behind_autolinks
 
 -- If a construct is not there, the others are tried that begin with bytes of its class
 abbrev pub others_rows : List (Construct Found TextByte Unit Unit) → TextByte → (previous current : Option TextByte) → Rows Unit Unit

@@ -1,8 +1,9 @@
 -- What is promised of inline text.
-use Rattle.std.specs.Prelude.{◌≡◌, Bool, List, Option, Some, false, map, true}
+use Rattle.std.specs.Prelude.{◌≡◌, ℕ, ◌-◌, ◌^◌, ◌<◌, ◌≤◌, Bool, List, Option, Some, false, length, map, true}
 use Rattle.markdown_base.specs.declared.event.Content.{Content}
 use Rattle.markdown_base.specs.declared.event.Content.TheVariants.{String, Text as TextContent}
 use Rattle.markdown_base.specs.declared.event.Event.{Event}
+use Rattle.markdown_base.specs.declared.state.Name.{Name}
 use Rattle.markdown_base.specs.declared.state.TheConstants.Name.{StringStart, TextStart}
 use Rattle.markdown_children.specs.Chains.{fitting_starts}
 use Rattle.markdown_children.specs.Children.{with_children}
@@ -62,3 +63,8 @@ ReadsChainsAsStrings = (g : Given) (events new : List Event) (sub : Subresult) �
 abbrev pub StaysReadyAfterStrings : Type 0
 StaysReadyAfterStrings = (g : Given) (events new : List Event) (sub : Subresult) (next : Option Content) → IsDocument g → IsReady g.tab g.bytes (Some String) events
     → IsReady g.tab g.bytes next events → IsSubtokenized g inlines_rules (Some String) events new sub → IsReady g.tab g.bytes next new
+
+-- For each document, a run from a start makes at most so many calls, by how many virtual bytes there are, if so many can be counted
+abbrev pub RunsWithin : Name → (calls : ℕ → ℕ) → Type 0
+RunsWithin start calls = (g : Given) (resolving : Bool) (events : List Event) (sub : Subresult) → IsDocument g → (run : IsRun g inlines_rules resolving start events sub)
+    → let most = calls (length (whole_text g).seats) in most < 2 ^ 64 - 1 → run.result.calls ≤ most

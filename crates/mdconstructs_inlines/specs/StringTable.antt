@@ -21,9 +21,13 @@ registers k = (with_resolvers k (registered (λ a b. true) tt k.local.resolvers)
 abbrev pub between_strings : Between
 between_strings = record { home = StringBefore; before_data = StringBeforeData; inside = DataStart }
 
--- The constructs of strings, as they are read: what is tried at which byte
+-- The constructs of strings, as they are read, in any machine: what is tried at which byte
+abbrev pub tried_in_strings : {R D : Type 0} → List (Construct Found TextByte R D)
+tried_in_strings = record escapes { otherwise = StringBeforeData } ∷ record references { otherwise = StringBeforeData } ∷ []
+
+-- the same in the machine of inline text
 abbrev pub string_constructs : List (Construct Found TextByte Unit Unit)
-string_constructs = record escapes { otherwise = StringBeforeData } ∷ record references { otherwise = StringBeforeData } ∷ []
+string_constructs = tried_in_strings
 
 -- Before a string. It has no delimiter run, so the resolver will change nothing
 abbrev pub string_start_rows : (previous current : Option TextByte) → Rows Unit Unit
@@ -35,29 +39,29 @@ string_start =
     state StringStart string_start_rows [] (text_cost (by_left 4 9 2))
 
 -- Between constructs: one is tried, or data is read
-abbrev pub string_before_rows : (previous current : Option TextByte) → Rows Unit Unit
-string_before_rows = before_rows between_strings is_line_feed_class string_constructs
+abbrev pub string_before_rows : {R D : Type 0} → (previous current : Option TextByte) → Rows R D
+string_before_rows = before_rows between_strings is_line_feed_class tried_in_strings
 
 -- their state: no span is open
-abbrev pub string_before : StateRows TextByte Unit Unit
+abbrev pub string_before : {R D : Type 0} → StateRows TextByte R D
 string_before =
     state StringBefore string_before_rows [] (text_cost (by_left 4 9 1))
 
 -- Data begins
-abbrev pub string_before_data_rows : (previous current : Option TextByte) → Rows Unit Unit
+abbrev pub string_before_data_rows : {R D : Type 0} → (previous current : Option TextByte) → Rows R D
 string_before_data_rows _ _ = row (enter Data ∷ consume ∷ []) (Next DataStart)
 
 -- its state: no span is open, and a byte waits
-abbrev pub string_before_data : StateRows TextByte Unit Unit
+abbrev pub string_before_data : {R D : Type 0} → StateRows TextByte R D
 string_before_data =
     record (state StringBeforeData string_before_data_rows [] (text_cost (by_left 4 1 0))) { called = at_a_byte }
 
 -- In data, which ends at a byte that a line ending or a construct may begin with
-abbrev pub string_data_rows : (previous current : Option TextByte) → Rows Unit Unit
-string_data_rows = data_rows between_strings is_line_feed_class string_constructs
+abbrev pub string_data_rows : {R D : Type 0} → (previous current : Option TextByte) → Rows R D
+string_data_rows = data_rows between_strings is_line_feed_class tried_in_strings
 
 -- its state: a data span is open
-abbrev pub string_data : StateRows TextByte Unit Unit
+abbrev pub string_data : {R D : Type 0} → StateRows TextByte R D
 string_data =
     state DataStart string_data_rows (Data ∷ []) (text_cost (by_left 4 9 2))
 

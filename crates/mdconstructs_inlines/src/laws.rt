@@ -6,7 +6,7 @@ ghost use Rattle.markdown_tokenizer.specs.Alike.{LooksNoFurther};
 ghost use Rattle.mdconstructs_tables.specs.Refusals.{RulesRefuseNothing};
 ghost use Rattle.mdconstructs_machines.specs.Costs.{StartsAmong};
 ghost use Rattle.mdconstructs_inlines.specs.InlineRules.{inlines_rules};
-ghost use Rattle.mdconstructs_inlines.specs.LawStatements.{MakesEmphasis, ReadsChainsAsInlineText, ReadsChainsAsStrings, ReadsInlineText, ReadsStrings, StaysReadyAfterInlineText, StaysReadyAfterStrings};
+ghost use Rattle.mdconstructs_inlines.specs.LawStatements.{MakesEmphasis, ReadsChainsAsInlineText, ReadsChainsAsStrings, ReadsInlineText, ReadsStrings, RunsWithin, StaysReadyAfterInlineText, StaysReadyAfterStrings};
 
 /// The machine has two starts, one for texts and one for strings. This is how many calls it takes at most from each, on n virtual bytes.
 pub fn cost_at_the_start()
@@ -30,6 +30,12 @@ pub fn inline_text_is_read()
     ensures { ReadsInlineText }
 {}
 
+/// Inline text is read in linear time: a run from the start of texts on n virtual bytes makes at most 143 n + 4 calls, whatever the bytes
+/// are. What was looked for to the end in vain is remembered, and not looked for again.
+pub fn inline_text_is_linear()
+    ensures { RunsWithin TextStart (λ n. 143 * n + 4) }
+{}
+
 /// If the chains of text of a list can be read, `subtokenize` with `Inlines` replaces each chunk by its part of the inline text of the
 /// chain: emphasis goes over the lines of a paragraph.
 pub fn chains_are_read_as_inline_text()
@@ -45,6 +51,11 @@ pub fn other_chains_stay_ready_after_inline_text()
 /// not. The definition has no states.
 pub fn strings_are_read()
     ensures { ReadsStrings }
+{}
+
+/// Strings are read in linear time: a run from their start on n virtual bytes makes at most 87 n + 2 calls, whatever the bytes are.
+pub fn strings_are_linear()
+    ensures { RunsWithin StringStart (λ n. 87 * n + 2) }
 {}
 
 /// If the chains of strings of a list can be read, `subtokenize` with `Inlines` replaces each chunk by its part of the string that the

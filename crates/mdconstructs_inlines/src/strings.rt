@@ -3,9 +3,8 @@
 ghost use Rattle.std.specs.Prelude.{IfOk};
 ghost use Rattle.mdconstructs_tables.specs.RowInvariant.{DoesAll, IsCallable, step_in};
 ghost use Rattle.mdconstructs_text.specs.TextBytes.{text_byte};
-ghost use Rattle.mdconstructs_inlines.specs.StringTable.{string_start, string_before, string_before_data, string_data};
+ghost use Rattle.mdconstructs_inlines.specs.StringTable.{string_before, string_before_data, string_data};
 
-use crate::inlines::Inlines;
 use markdown_tokenizer::event;
 use markdown_tokenizer::state::{MachineTypes, Name, State};
 use markdown_tokenizer::tokenizer::Tokenizer;
@@ -14,17 +13,10 @@ use mdconstructs_tables::marker;
 use mdconstructs_text::escape::escapes_are_on;
 use std::alloc::AllocError;
 
-/// Before a string: registers the resolver, which changes nothing, as a string has no delimiter run.
-pub(crate) fn string_start<'a>(t: &mut Tokenizer<'a, Inlines>) -> Result<State, AllocError>
-    requires { IsCallable text_byte string_start t.old }
-    ensures { IfOk result (DoesAll (step_in text_byte string_start t.old) t.old t.new) }
-{
-    t.register_resolver(())?;
-    Ok(State::Retry(Name::StringBefore))
-}
-
 /// Between constructs of a string: one is tried if it is on, or data is read.
-pub(crate) fn string_before<'a>(t: &mut Tokenizer<'a, Inlines>) -> Result<State, AllocError>
+pub(crate) fn string_before<'a, M: MachineTypes>(
+    t: &mut Tokenizer<'a, M>,
+) -> Result<State, AllocError>
     requires { IsCallable text_byte string_before t.old }
     ensures { IfOk result (DoesAll (step_in text_byte string_before t.old) t.old t.new) }
 {
@@ -59,7 +51,9 @@ pub(crate) fn string_before<'a>(t: &mut Tokenizer<'a, Inlines>) -> Result<State,
 }
 
 /// At a byte of data in a string: no construct is there.
-pub(crate) fn string_before_data<'a>(t: &mut Tokenizer<'a, Inlines>) -> Result<State, AllocError>
+pub(crate) fn string_before_data<'a, M: MachineTypes>(
+    t: &mut Tokenizer<'a, M>,
+) -> Result<State, AllocError>
     requires { IsCallable text_byte string_before_data t.old }
     ensures { IfOk result (DoesAll (step_in text_byte string_before_data t.old) t.old t.new) }
 {
@@ -69,7 +63,9 @@ pub(crate) fn string_before_data<'a>(t: &mut Tokenizer<'a, Inlines>) -> Result<S
 }
 
 /// In data of a string.
-pub(crate) fn string_data<'a>(t: &mut Tokenizer<'a, Inlines>) -> Result<State, AllocError>
+pub(crate) fn string_data<'a, M: MachineTypes>(
+    t: &mut Tokenizer<'a, M>,
+) -> Result<State, AllocError>
     requires { IsCallable text_byte string_data t.old }
     ensures { IfOk result (DoesAll (step_in text_byte string_data t.old) t.old t.new) }
 {

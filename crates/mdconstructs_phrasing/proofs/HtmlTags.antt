@@ -1,4 +1,5 @@
 pub mod Bytes
+pub mod Calls
 pub mod Examples
 pub mod Grammar
 pub mod Looks

@@ -4,4 +4,5 @@ pub mod HtmlMarks
 pub mod HtmlTags
 pub mod HtmlTexts
 pub mod References
+pub mod RememberedCode
 pub mod WhiteSpaces

@@ -4,4 +4,5 @@ pub mod HtmlMarked
 pub mod HtmlTag
 pub mod HtmlText
 pub mod Reference
+pub mod RememberedCode
 pub mod WhiteSpace

@@ -4,5 +4,6 @@ pub mod HtmlMarked
 pub mod HtmlTag
 pub mod HtmlText
 pub mod Reference
+pub mod RememberedCode
 pub mod WhiteSpace
 pub mod Laws

@@ -9,8 +9,12 @@
 //!
 //! Each ends with the first closing mark behind its opening mark (CommonMark, "Raw HTML"). One state reads all four: a closing
 //! mark is so many of a byte, and `>`, and how many of that byte are directly before is counted.
+//!
+//! A look that fails is remembered: an index of the document, for each kind. No mark of the kind that begins before it ends, so none is looked
+//! for there again. It is kept in `start` (comments), `end` (instructions), `space_or_tab_min` (declarations) and `space_or_tab_max` (CDATA).
 
-ghost use Rattle.std.specs.Prelude.{◌≡◌, IfOk};
+ghost use Rattle.std.specs.Prelude.{◌≡◌, cond, IfOk};
+ghost use Rattle.markdown_base.specs.Places.{shown};
 ghost use Rattle.markdown_tokenizer.specs.Calls.{with_local};
 ghost use Rattle.markdown_tokenizer.specs.Configuration.{at_configuration};
 ghost use Rattle.markdown_tokenizer.specs.Sight.{sight_of};
@@ -18,10 +22,10 @@ ghost use Rattle.mdconstructs_tables.specs.RowInvariant.{DoesAll, IsCallable, st
 ghost use Rattle.mdconstructs_tables.specs.Rows.{picked, step_of};
 ghost use Rattle.mdconstructs_text.specs.TextBytes.{text_byte};
 ghost use Rattle.mdconstructs_phrasing.specs.HtmlText.{CanEndHtmlLine};
-ghost use Rattle.mdconstructs_phrasing.specs.HtmlMarked.{cdata_open, closed_by, comment_open, declaration_open, ends_cdata_mark, in_cdata_mark, in_mark, mark_begun, mark_ends, mark_inside, mark_line, mark_line_ends, mark_open, mark_start, mark_white};
+ghost use Rattle.mdconstructs_phrasing.specs.HtmlMarked.{cdata_open, closed_by, comment_open, declaration_open, ends_cdata_mark, in_cdata_mark, in_mark, mark_begun, mark_ends, mark_fails, mark_inside, mark_line, mark_line_ends, mark_open, mark_start, mark_white, no_cdata, no_comment, no_declaration, no_instruction, none_upto, stopped_at};
 
 use crate::html_text::html_ends;
-use markdown_tokenizer::event;
+use markdown_tokenizer::event::{self, Point};
 use markdown_tokenizer::state::{MachineTypes, Name, State};
 use markdown_tokenizer::tokenizer::Tokenizer;
 use mdconstructs_tables::marker;
@@ -48,6 +52,9 @@ pub fn mark_open<'a, M: MachineTypes>(t: &mut Tokenizer<'a, M>) -> Result<State,
         None => Ok(State::Nok),
         Some(b'\n') => Ok(State::Nok),
         Some(b'?') => {
+            if no_instruction(t) {
+                return Ok(State::Nok);
+            }
             set_closing(t, b'?', 1, 0);
             t.consume();
             Ok(State::Next(Name::HtmlTextComment))
@@ -67,6 +74,9 @@ pub fn declaration_open<'a, M: MachineTypes>(t: &mut Tokenizer<'a, M>) -> Result
 {
     match t.current() {
         Some(b'A'..=b'Z' | b'a'..=b'z') => {
+            if no_declaration(t) {
+                return Ok(State::Nok);
+            }
             set_closing(t, 0, 0, 0);
             t.consume();
             Ok(State::Next(Name::HtmlTextComment))
@@ -91,6 +101,9 @@ pub fn comment_open<'a, M: MachineTypes>(t: &mut Tokenizer<'a, M>) -> Result<Sta
 {
     match t.current() {
         Some(b'-') => {
+            if no_comment(t) {
+                return Ok(State::Nok);
+            }
             set_closing(t, b'-', 2, 2);
             t.consume();
             Ok(State::Next(Name::HtmlTextComment))
@@ -113,6 +126,9 @@ pub fn cdata_open<'a, M: MachineTypes>(t: &mut Tokenizer<'a, M>) -> Result<State
                 t.consume();
                 Ok(State::Next(Name::HtmlTextCdataOpenInside))
             } else if ends_cdata_mark(t) {
+                if no_cdata(t) {
+                    return Ok(State::Nok);
+                }
                 set_closing(t, b']', 2, 0);
                 t.consume();
                 Ok(State::Next(Name::HtmlTextComment))
@@ -129,7 +145,7 @@ pub fn mark_inside<'a, M: MachineTypes>(t: &mut Tokenizer<'a, M>) -> Result<Stat
     ensures { IfOk result (DoesAll (step_in text_byte mark_inside t.old) t.old t.new) }
 {
     match t.current() {
-        None => Ok(State::Nok),
+        None => mark_fails(t),
         Some(b'\n') => mark_line_ends(t),
         Some(_) => {
             if mark_ends(t) {
@@ -156,7 +172,7 @@ pub fn mark_line<'a, M: MachineTypes>(t: &mut Tokenizer<'a, M>) -> Result<State,
     ensures { IfOk result (DoesAll (step_in text_byte mark_line t.old) t.old t.new) }
 {
     match t.current() {
-        None | Some(b'\n') => Ok(State::Nok),
+        None | Some(b'\n') => mark_fails(t),
         Some(b' ' | b'\t') => {
             t.enter(event::Name::SpaceOrTab)?;
             t.consume();
@@ -175,7 +191,7 @@ pub fn mark_white<'a, M: MachineTypes>(t: &mut Tokenizer<'a, M>) -> Result<State
     ensures { IfOk result (DoesAll (step_in text_byte mark_white t.old) t.old t.new) }
 {
     match t.current() {
-        None | Some(b'\n') => Ok(State::Nok),
+        None | Some(b'\n') => mark_fails(t),
         Some(b' ' | b'\t') => {
             t.consume();
             Ok(State::Next(Name::HtmlTextCommentEnd))
@@ -250,4 +266,91 @@ fn set_closing<'a, M: MachineTypes>(t: &mut Tokenizer<'a, M>, byte: u8, times: u
     t.tokenize_state.marker = byte;
     t.tokenize_state.size_c = times;
     t.tokenize_state.size_b = read;
+}
+
+/// Whether no comment ends that begins here.
+fn no_comment<'a, M: MachineTypes>(t: &Tokenizer<'a, M>) -> bool
+    ensures { result ≡ no_comment t.now.given (sight_of t.now) t.now.configuration }
+{
+    t.point().index < t.tokenize_state.start
+}
+
+/// Whether no instruction ends that begins here.
+fn no_instruction<'a, M: MachineTypes>(t: &Tokenizer<'a, M>) -> bool
+    ensures { result ≡ no_instruction t.now.given (sight_of t.now) t.now.configuration }
+{
+    t.point().index < t.tokenize_state.end
+}
+
+/// Whether no declaration ends that begins here.
+fn no_declaration<'a, M: MachineTypes>(t: &Tokenizer<'a, M>) -> bool
+    ensures { result ≡ no_declaration t.now.given (sight_of t.now) t.now.configuration }
+{
+    t.point().index < t.tokenize_state.space_or_tab_min
+}
+
+/// Whether no CDATA section ends that begins here.
+fn no_cdata<'a, M: MachineTypes>(t: &Tokenizer<'a, M>) -> bool
+    ensures { result ≡ no_cdata t.now.given (sight_of t.now) t.now.configuration }
+{
+    t.point().index < t.tokenize_state.space_or_tab_max
+}
+
+/// At the end, or at a blank line: remembers that the kind that is open does not end up to there.
+fn mark_fails<'a, M: MachineTypes>(t: &mut Tokenizer<'a, M>) -> Result<State, AllocError>
+    ensures { IfOk result (DoesAll (step_of (picked mark_fails t.old.given (sight_of t.old) t.old.configuration) (sight_of t.old) t.old.configuration) t.old t.new) }
+{
+    let index = stopped_at(t);
+    set_none_upto(t, index);
+    Ok(State::Nok)
+}
+
+/// Up to which index the kind that is open does not end, if a look stops here.
+fn stopped_at<'a, M: MachineTypes>(t: &Tokenizer<'a, M>) -> usize
+    ensures { result ≡ stopped_at (sight_of t.now).current (sight_of t.now).enter_place.index }
+{
+    match t.current() {
+        None => usize::MAX,
+        Some(_) => shown_index(t.parse_state().bytes, t.point()),
+    }
+}
+
+/// The index at which a place is shown: its own, except that the LF of a CR LF is shown at its CR.
+fn shown_index(bytes: &[u8], point: Point) -> usize
+    ensures { result ≡ (shown bytes.now point).index }
+{
+    let index = point.index;
+    if index == 0 || index >= bytes.len() {
+        return index;
+    }
+    if bytes[index] == b'\n' && bytes[index - 1] == b'\r' {
+        return index - 1;
+    }
+    index
+}
+
+/// Keeps up to which index the kind that is open does not end.
+fn set_none_upto<'a, M: MachineTypes>(t: &mut Tokenizer<'a, M>, index: usize)
+    ensures { t.new ≡ at_configuration t.old (with_local t.old.configuration (none_upto t.old.configuration.local.tokenize_state.marker index t.old.configuration)) }
+{
+    let marker = t.tokenize_state.marker;
+    t.tokenize_state.start = either(marker == b'-', index, t.tokenize_state.start);
+    t.tokenize_state.end = either(marker == b'?', index, t.tokenize_state.end);
+    t.tokenize_state.space_or_tab_min = either(
+        marker == 0,
+        index,
+        t.tokenize_state.space_or_tab_min,
+    );
+    t.tokenize_state.space_or_tab_max = either(
+        marker == b']',
+        index,
+        t.tokenize_state.space_or_tab_max,
+    );
+}
+
+/// One number if the test holds, and the other if not.
+fn either(test: bool, one: usize, other: usize) -> usize
+    ensures { result ≡ cond test one other }
+{
+    if test { one } else { other }
 }

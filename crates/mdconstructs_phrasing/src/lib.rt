@@ -7,4 +7,5 @@ pub mod html_marked;
 pub mod html_tag;
 pub mod html_text;
 pub mod reference;
+pub mod remembered_code;
 pub mod white_space;

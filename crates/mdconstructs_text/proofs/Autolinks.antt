@@ -1,5 +1,6 @@
 -- Autolinks, as the machine of texts reads them.
 pub mod Bytes
+pub mod Calls
 pub mod Cuts
 pub mod Events
 pub mod Places

@@ -5,5 +5,10 @@ pub mod Found
 pub mod FoundParts
 pub mod Items
 pub mod Parts
+pub mod Plays
+pub mod Remembered
+pub mod Seen
 pub mod Short
+pub mod Sizes
+pub mod Ticks
 pub mod Walks

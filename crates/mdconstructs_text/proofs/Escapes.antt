@@ -1,5 +1,6 @@
 -- Escapes, as the machine of texts reads them.
 pub mod Bytes
+pub mod Calls
 pub mod Classes
 pub mod Cuts
 pub mod Readings

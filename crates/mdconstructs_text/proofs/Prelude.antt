@@ -86,7 +86,7 @@ pub use Rattle.mdconstructs_machines.proofs.Innermost.{enter-more, exit-more, sp
 pub use Rattle.mdconstructs_machines.proofs.LineReads.Accounts.{both}
 pub use Rattle.mdconstructs_machines.proofs.LineReads.Data.{data-read}
 pub use Rattle.mdconstructs_machines.proofs.LineReads.Rows.{line-ending-read, row_step, waits_class}
-pub use Rattle.mdconstructs_machines.proofs.LineReads.Steps.{EndsWith, at-front, goes-next, held}
+pub use Rattle.mdconstructs_machines.proofs.LineReads.Steps.{at-front, held}
 pub use Rattle.mdconstructs_machines.specs.Innermost.{AccountFor, ended_next, innermost_spans, span_over, stretch_bytes}
 pub use Rattle.mdconstructs_machines.specs.Laws.Paragraphs.{begins-chunk, can-follow, chunk_enter, known-before, paragraphs-fit, paragraphs-known}
 pub use Rattle.mdconstructs_machines.specs.LineEvents.{all_of, data_events, data_line, ending_of, is_line_ending, joined, line_text, lines_in}
@@ -124,3 +124,4 @@ pub use Rattle.mdconstructs_text.specs.TextEvents.{item_events, items, seat_even
 pub use Rattle.mdconstructs_text.specs.TextRules.{flow, text_rules}
 pub use Rattle.mdconstructs_text.specs.TextSizes.{more_than}
 pub use Rattle.mdconstructs_text.specs.TextTable.{data_at_break, data_at_break_rows, data_inside, data_inside_rows, text_before, text_before_data, text_before_data_rows, text_before_rows, text_constructs, text_start, texts}
+pub use Rattle.mdconstructs_text.proofs.Texts.Leads.{Ending, EndsWith, ending, goes-next}

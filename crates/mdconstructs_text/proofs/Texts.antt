@@ -1,4 +1,6 @@
 -- Whole texts, item by item.
+pub mod Counted
+pub mod Leads
 pub mod Apart
 pub mod Built
 pub mod Cutting

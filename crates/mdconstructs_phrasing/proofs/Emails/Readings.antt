@@ -14,23 +14,29 @@ use Rattle.markdown_tokenizer.specs.declared.waiting.Waits.TheVariants.{Byte, No
 use Rattle.mdconstructs_machines.proofs.LineReads.Rows.{row_step}
 use Rattle.mdconstructs_machines.proofs.LineReads.Steps.{at-front, held}
 use Rattle.mdconstructs_machines.specs.Tables.{counts}
+use Rattle.mdconstructs_phrasing.proofs.Emails.Calls.{alphanumeric-allowed, at-sign-allowed, atext-allowed, dot-allowed, hyphen-allowed}
 use Rattle.mdconstructs_phrasing.proofs.Emails.Domains.{domain-left, left_of_domain, more, none-begun, pieces-some}
 use Rattle.mdconstructs_phrasing.proofs.Emails.Events.{begun-kept, begun_email, email-events, ended_email}
 use Rattle.mdconstructs_phrasing.specs.Email.{domain_ends, email, email_at, email_atext_rows, email_label_rows, email_start_rows, email_value_rows, email_with, emails, is_at_sign, is_atext, is_domain, is_domain_byte, is_dot, is_hyphen, is_label, label_end_rows, label_ends, label_goes_on, label_has_hyphen, label_rows, name_ends, name_goes_on}
 use Rattle.mdconstructs_tables.specs.Rows.{Rows, class_of, consume, enter, exit, row, when, write}
+use Rattle.mdconstructs_text.proofs.Autolinks.Calls.{after-sized, link_calls, looked-once}
 use Rattle.mdconstructs_text.proofs.Autolinks.Events.{IsJoined}
 use Rattle.mdconstructs_text.proofs.Autolinks.Places.{text-joined}
 use Rattle.mdconstructs_text.proofs.CodeSpans.Parts.{grows_b, more-is, size_b, with_b}
 use Rattle.mdconstructs_text.proofs.Constructs.Listed.{outer}
-use Rattle.mdconstructs_text.proofs.Plain.Items.{Decides, Tried, decided-so, decides-before, puts-back, refused}
+use Rattle.mdconstructs_text.proofs.Plain.Items.{DecidesIn, ReadsIn, TriedIn, decides-more, decides-within, puts-back, reads-of, refused}
+use Rattle.mdconstructs_text.proofs.Plain.Passed.{after-passed}
 use Rattle.mdconstructs_text.proofs.Plain.Stretches.{byte-behind, first_byte, goes-next, loops, passed, past, past-at, past-stops, shows}
+use Rattle.mdconstructs_text.proofs.Texts.Counted.{IsAfter, after-call}
 use Rattle.mdconstructs_text.proofs.Texts.Reads.{ReadsPart}
+use Rattle.mdconstructs_text.proofs.Texts.Leads.{Ending}
 use Rattle.mdconstructs_text.proofs.Texts.Steps.{EndsWith, HasRow, HasRows, Plays, before_class, between_items, leads-ok, leads-row, leads-seen, tested}
+use Rattle.mdconstructs_text.specs.Autolink.{is_allowed}
 use Rattle.mdconstructs_text.specs.Bytes.{has_byte_at, is_greater_than, passes}
 use Rattle.mdconstructs_text.specs.Construct.{Between, Found}
 use Rattle.mdconstructs_text.specs.Parts.{bytes_of}
 use Rattle.mdconstructs_text.specs.TextBytes.{text_byte}
-use Rattle.mdconstructs_text.specs.TextSizes.{size_b_grows, size_b_is}
+use Rattle.mdconstructs_text.specs.TextSizes.{more_than, size_b_grows, size_b_is}
 use Rattle.std.proofs.Common.{Bool, List, None, Option, Some, [], ap, arith, cond, drop, false, nat_lt, refl, slice_get, subst, suc, sym, take, true, ℕ, ◌&&◌, ◌++◌, ◌+◌, ◌<◌, ◌==◌, ◌∙◌, ◌∷◌, ◌≡◌, ◌≤◌}
 use Rattle.std.proofs.Math.Bool.{and-false}
 use Rattle.std.proofs.lemmas.Bool.{and_parts, eqb-true, lt-ltb, ltb-true}
@@ -145,33 +151,45 @@ module _ (g : Given) (text : Text) (m : Plays g text) (e : PlaysEmails g text m)
   abbrev in_tried : ℕ → List Seat → Local Unit Unit → Configuration Unit Unit
   in_tried q l local = shows l email_spans q (begun_email g text events p) local
 
-  -- its reading is decided from a place in it
-  abbrev IsDecided : ℕ → List Seat → Local Unit Unit → Name → Option Found → Type 0
-  IsDecided q l local name o = Decides g text m names nok p ended events (s ∷ r ∷ rs) (in_tried q l local) choices (Retry name) o
+  -- its reading is decided from a place in it, within so many calls
+  abbrev IsDecided : ℕ → ℕ → List Seat → Local Unit Unit → Name → Option Found → Type 0
+  IsDecided n q l local name o = DecidesIn g text m names n nok p ended events (s ∷ r ∷ rs) (in_tried q l local) choices (Retry name) o
+
+  -- one for each byte that is allowed, and one more
+  abbrev calls_at : List Seat → ℕ
+  calls_at l = prefix_len is_allowed (bytes_of l) + 1
+
+  -- or one
+  in-one : (q : ℕ) (l : List Seat) (local : Local Unit Unit) (name : Name) (o : Option Found) → IsDecided 1 q l local name o → IsDecided (calls_at l) q l local name o
+  in-one q l local name o d = decides-more g text m names 1 (calls_at l) nok p ended events (s ∷ r ∷ rs) (in_tried q l local) choices (Retry name) o (omega arith) d
 
   -- what is read on from the step of rows
-  abbrev Goes : Configuration Unit Unit → List Event → Rows Unit Unit → Type 0
+  abbrev Goes : Configuration Unit Unit → Ending → Rows Unit Unit → Type 0
   Goes k es rows = let q = row_step g text k rows in EndsWith g text m q.configuration (q.choices ++ choices) q.answer es
 
   -- of two rows a test picks one
-  picks : (test : Given → Sight → Configuration Unit Unit → Bool) (a b : Rows Unit Unit) (k : Configuration Unit Unit) (es : List Event) (t : Bool) → test g (sight g text k) (with_local k (counts k.local)) ≡ t
+  picks : (test : Given → Sight → Configuration Unit Unit → Bool) (a b : Rows Unit Unit) (k : Configuration Unit Unit) (es : Ending) (t : Bool) → test g (sight g text k) (with_local k (counts k.local)) ≡ t
       → Goes k es (cond t a b) → Goes k es (when test a b)
   picks test a b k es t is h = subst (λ (q : Step Unit Unit). EndsWith g text m q.configuration (q.choices ++ choices) q.answer es) (sym (tested g text test a b k t is)) h
 
   -- it is rejected by a state whose row fails
   rejects : (name : Name) (q : ℕ) (l : List Seat) (local : Local Unit Unit) (rows : Rows Unit Unit) → HasRow g text m.step (in_tried q l local) name rows
-      → ((es : List Event) → Goes (in_tried q l local) es (row [] Nok) → Goes (in_tried q l local) es rows) → IsDecided q l local name None
-  rejects name q l local rows has fails = (
+      → ((es : Ending) → Goes (in_tried q l local) es (row [] Nok) → Goes (in_tried q l local) es rows) → IsDecided (calls_at l) q l local name None
+  rejects name q l local rows has fails = in-one q l local name None (
     counts local,
+    after-call local,
     λ es h. leads-row g text m rows (in_tried q l local) choices name es has (fails es (puts-back g text m names nok p ended events (in_tried q l (counts local)) (begun-kept g text events p) es h)),
   )
 
-  -- a byte is read, and a state follows
-  goes-on : (name next : Name) (q : ℕ) (x : Seat) (xs : List Seat) (local after : Local Unit Unit) (rows : Rows Unit Unit) (o : Option Found) → drop q text.seats ≡ x ∷ xs → HasRow g text m.step (in_tried q (x ∷ xs) local) name rows
-      → ((es : List Event) → EndsWith g text m (held email_spans (q + 1) Nothing false (begun_email g text events p) after) choices (Next next) es → Goes (in_tried q (x ∷ xs) local) es rows)
-      → IsDecided (q + 1) xs after next o → IsDecided q (x ∷ xs) local name o
-  goes-on name next q x xs local after rows o at has goes decided =
-      decides-before g text m names nok p ended events (s ∷ r ∷ rs) (in_tried q (x ∷ xs) local) (in_tried (q + 1) xs after) choices choices (Retry name) (Retry next) o
+  -- a byte that is allowed is read, and a state follows
+  goes-on : (name next : Name) (q : ℕ) (x : Seat) (xs : List Seat) (local after : Local Unit Unit) (rows : Rows Unit Unit) (o : Option Found) → drop q text.seats ≡ x ∷ xs → is_allowed x.byte ≡ true
+      → IsAfter 1 local after → HasRow g text m.step (in_tried q (x ∷ xs) local) name rows
+      → ((es : Ending) → EndsWith g text m (held email_spans (q + 1) Nothing false (begun_email g text events p) after) choices (Next next) es → Goes (in_tried q (x ∷ xs) local) es rows)
+      → IsDecided (calls_at xs) (q + 1) xs after next o → IsDecided (calls_at (x ∷ xs)) q (x ∷ xs) local name o
+  goes-on name next q x xs local after rows o at allowed one has goes decided =
+      let calls : calls_at (x ∷ xs) ≡ 1 + prefix_len is_allowed (bytes_of xs) + 1 = ap (λ t. cond t (1 + prefix_len is_allowed (bytes_of xs)) 0 + 1) allowed in
+      decides-within g text m names 1 (calls_at xs) (calls_at (x ∷ xs)) nok p ended events (s ∷ r ∷ rs) (in_tried q (x ∷ xs) local) (in_tried (q + 1) xs after) choices choices (Retry name) (Retry next) o
+      (omega (arith, calls)) one
       (λ es h. leads-row g text m rows (in_tried q (x ∷ xs) local) choices name es has
       (goes es (goes-next g text m xs email_spans (q + 1) (begun_email g text events p) after choices next (drop-next text.seats q x xs at) es h)))
       decided
@@ -193,14 +211,16 @@ module _ (g : Given) (text : Text) (m : Plays g text) (e : PlaysEmails g text m)
   -- `>` ends it
   closes : (q i : ℕ) (x : Seat) (xs : List Seat) (local : Local Unit Unit) (rows : Rows Unit Unit) (name : Name) → drop q text.seats ≡ x ∷ xs → q ≡ p + 1 + i → 0 < i
       → HasRow g text m.step (in_tried q (x ∷ xs) local) name rows
-      → ((es : List Event) → Goes (in_tried q (x ∷ xs) local) es ends_email → Goes (in_tried q (x ∷ xs) local) es rows)
-      → IsDecided q (x ∷ xs) local name (Some (email i))
+      → ((es : Ending) → Goes (in_tried q (x ∷ xs) local) es ends_email → Goes (in_tried q (x ∷ xs) local) es rows)
+      → IsDecided (calls_at (x ∷ xs)) q (x ∷ xs) local name (Some (email i))
   closes q i x xs local rows name at is some has goes =
       let further : q + 1 ≡ p + (i + 2) = omega (arith, is) in
       let made = email-events g text joined events p i s r x rs xs here plain some (ap (λ q. drop q text.seats) (sym is) ∙ at) in
-      let place : ended_email g text (begun_email g text events p) q ≡ ended_email g text (begun_email g text events p) (p + 1 + i) = ap (ended_email g text (begun_email g text events p)) is in (
+      let place : ended_email g text (begun_email g text events p) q ≡ ended_email g text (begun_email g text events p) (p + 1 + i) = ap (ended_email g text (begun_email g text events p)) is in
+      in-one q (x ∷ xs) local name (Some (email i)) (
         false,
         counts local,
+        after-call local,
         λ es h.
             leads-row g text m rows (in_tried q (x ∷ xs) local) choices name es has
             (goes es
@@ -210,7 +230,7 @@ module _ (g : Given) (text : Text) (m : Plays g text) (e : PlaysEmails g text m)
 
   -- the domain is read byte by byte
   decides-domain : (l : List Seat) (q i : ℕ) (hyphen : Bool) (n : ℕ) (local : Local Unit Unit) → drop q text.seats ≡ l → q ≡ p + 1 + i → 0 < i → size_b local ≡ n → n ≤ 63
-      → IsDecided q l local (label_name hyphen) (email_of i (left_of_domain hyphen n (bytes_of l)))
+      → IsDecided (calls_at l) q l local (label_name hyphen) (email_of i (left_of_domain hyphen n (bytes_of l)))
   decides-domain [] q i hyphen n local at is some size fits = rejects (label_name hyphen) q [] local (row [] Nok) (label-ends hyphen q local) (λ es h. h)
   decides-domain (x ∷ xs) q i hyphen n local at is some size fits =
       let k = in_tried q (x ∷ xs) local in
@@ -233,35 +253,38 @@ module _ (g : Given) (text : Text) (m : Plays g text) (e : PlaysEmails g text m)
       let tests_third : (passes is_dot (byte_of (slice_get text.seats q)) && nat_lt 0 (size_b local)) ≡ third = (λ j. passes is_dot (waits j) && nat_lt 0 (size j)) in
       let tests_last : (passes is_greater_than (byte_of (slice_get text.seats q)) && nat_lt 0 (size_b local)) ≡ last = (λ j. passes is_greater_than (waits j) && nat_lt 0 (size j)) in
       let grown : n < 63 → size_b (grows_b local) ≡ n + 1 = λ room. more-is (size_b local) (omega (arith, room, size)) ∙ ap (λ k. k + 1) size in
-      let label_first = λ (es : List Event) (t : Bool) (is : first ≡ t). picks label_goes_on goes_label (when label_has_hyphen goes_value (behind_label hyphen)) k es t (tests_first ∙ is) in
-      let label_second = λ (es : List Event) (t : Bool) (is : second ≡ t). picks label_has_hyphen goes_value (behind_label hyphen) k es t (tests_second ∙ is) in
-      elim first as (λ t. first ≡ t → IsDecided q (x ∷ xs) local name (email_of i (cond t A (cond second Y (cond hyphen None (cond third D (cond last (Some 0) None))))))) [
+      let label_first = λ (es : Ending) (t : Bool) (is : first ≡ t). picks label_goes_on goes_label (when label_has_hyphen goes_value (behind_label hyphen)) k es t (tests_first ∙ is) in
+      let label_second = λ (es : Ending) (t : Bool) (is : second ≡ t). picks label_has_hyphen goes_value (behind_label hyphen) k es t (tests_second ∙ is) in
+      elim first as (λ t. first ≡ t → IsDecided (calls_at (x ∷ xs)) q (x ∷ xs) local name (email_of i (cond t A (cond second Y (cond hyphen None (cond third D (cond last (Some 0) None))))))) [
         | true ↦ λ one.
-            let room : n < 63 = ltb-true n 63 (and_parts (is_ascii_alphanumeric b) (nat_lt n 63) one).1 in
-            goes-on name AutolinkEmailLabel q x xs local (grows_b local) (label_rows (behind_label hyphen)) (email_of i A) at has (λ es h. label_first es true one h)
-            (subst (IsDecided (q + 1) xs (grows_b local) AutolinkEmailLabel) (email-more i (left_of_domain false (n + 1) (bytes_of xs)))
+            let parts = and_parts (is_ascii_alphanumeric b) (nat_lt n 63) one in
+            let room : n < 63 = ltb-true n 63 parts.1 in
+            goes-on name AutolinkEmailLabel q x xs local (grows_b local) (label_rows (behind_label hyphen)) (email_of i A) at (alphanumeric-allowed b parts.0) (after-sized (more_than (size_b local)) local) has (λ es h. label_first es true one h)
+            (subst (IsDecided (calls_at xs) (q + 1) xs (grows_b local) AutolinkEmailLabel) (email-more i (left_of_domain false (n + 1) (bytes_of xs)))
             (decides-domain xs (q + 1) (i + 1) false (n + 1) (grows_b local) next place (omega arith) (grown room) (omega (arith, room))))
-        | false ↦ λ one. elim second as (λ t. second ≡ t → IsDecided q (x ∷ xs) local name (email_of i (cond t Y (cond hyphen None (cond third D (cond last (Some 0) None)))))) [
+        | false ↦ λ one. elim second as (λ t. second ≡ t → IsDecided (calls_at (x ∷ xs)) q (x ∷ xs) local name (email_of i (cond t Y (cond hyphen None (cond third D (cond last (Some 0) None)))))) [
           | true ↦ λ two.
-              let room : n < 63 = ltb-true n 63 (and_parts (nat_lt 0 n) (nat_lt n 63) (and_parts (is_hyphen b) (nat_lt 0 n && nat_lt n 63) two).1).1 in
-              goes-on name AutolinkEmailValue q x xs local (grows_b local) (label_rows (behind_label hyphen)) (email_of i Y) at has (λ es h. label_first es false one (label_second es true two h))
-              (subst (IsDecided (q + 1) xs (grows_b local) AutolinkEmailValue) (email-more i (left_of_domain true (n + 1) (bytes_of xs)))
+              let parts = and_parts (is_hyphen b) (nat_lt 0 n && nat_lt n 63) two in
+              let room : n < 63 = ltb-true n 63 (and_parts (nat_lt 0 n) (nat_lt n 63) parts.1).1 in
+              goes-on name AutolinkEmailValue q x xs local (grows_b local) (label_rows (behind_label hyphen)) (email_of i Y) at (hyphen-allowed b parts.0) (after-sized (more_than (size_b local)) local) has (λ es h. label_first es false one (label_second es true two h))
+              (subst (IsDecided (calls_at xs) (q + 1) xs (grows_b local) AutolinkEmailValue) (email-more i (left_of_domain true (n + 1) (bytes_of xs)))
               (decides-domain xs (q + 1) (i + 1) true (n + 1) (grows_b local) next place (omega arith) (grown room) (omega (arith, room))))
-          | false ↦ λ two. elim hyphen as (λ (t : Bool). HasRow g text m.step k (label_name t) (label_rows (behind_label t)) → IsDecided q (x ∷ xs) local (label_name t) (email_of i (cond t None (cond third D (cond last (Some 0) None))))) [
+          | false ↦ λ two. elim hyphen as (λ (t : Bool). HasRow g text m.step k (label_name t) (label_rows (behind_label t)) → IsDecided (calls_at (x ∷ xs)) q (x ∷ xs) local (label_name t) (email_of i (cond t None (cond third D (cond last (Some 0) None))))) [
             | true ↦ λ has. rejects AutolinkEmailValue q (x ∷ xs) local (label_rows (row [] Nok)) has
                 (λ es h. picks label_goes_on goes_label (when label_has_hyphen goes_value (row [] Nok)) k es false (tests_first ∙ one) (picks label_has_hyphen goes_value (row [] Nok) k es false (tests_second ∙ two) h))
             | false ↦ λ has.
-                let passed_over = λ (es : List Event) (h : Goes k es label_end_rows). picks label_goes_on goes_label (when label_has_hyphen goes_value label_end_rows) k es false (tests_first ∙ one) (picks label_has_hyphen goes_value label_end_rows k es false (tests_second ∙ two) h) in
-                elim third as (λ t. third ≡ t → IsDecided q (x ∷ xs) local AutolinkEmailLabel (email_of i (cond t D (cond last (Some 0) None)))) [
+                let passed_over = λ (es : Ending) (h : Goes k es label_end_rows). picks label_goes_on goes_label (when label_has_hyphen goes_value label_end_rows) k es false (tests_first ∙ one) (picks label_has_hyphen goes_value label_end_rows k es false (tests_second ∙ two) h) in
+                elim third as (λ t. third ≡ t → IsDecided (calls_at (x ∷ xs)) q (x ∷ xs) local AutolinkEmailLabel (email_of i (cond t D (cond last (Some 0) None)))) [
                   | true ↦ λ dotted.
-                      goes-on AutolinkEmailLabel AutolinkEmailLabel q x xs local (with_b 0 (counts local)) (label_rows label_end_rows) (email_of i D) at has
+                      goes-on AutolinkEmailLabel AutolinkEmailLabel q x xs local (with_b 0 (counts local)) (label_rows label_end_rows) (email_of i D) at
+                      (dot-allowed b (and_parts (is_dot b) (nat_lt 0 n) dotted).0) (after-sized 0 local) has
                       (λ es h. passed_over es (picks label_ends next_label closing_rows k es true (tests_third ∙ dotted) h))
-                      (subst (IsDecided (q + 1) xs (with_b 0 (counts local)) AutolinkEmailLabel) (email-more i (left_of_domain false 0 (bytes_of xs)))
+                      (subst (IsDecided (calls_at xs) (q + 1) xs (with_b 0 (counts local)) AutolinkEmailLabel) (email-more i (left_of_domain false 0 (bytes_of xs)))
                       (decides-domain xs (q + 1) (i + 1) false 0 (with_b 0 (counts local)) next place (omega arith) refl (omega arith)))
-                  | false ↦ λ dotted. elim last as (λ t. last ≡ t → IsDecided q (x ∷ xs) local AutolinkEmailLabel (email_of i (cond t (Some 0) None))) [
+                  | false ↦ λ dotted. elim last as (λ t. last ≡ t → IsDecided (calls_at (x ∷ xs)) q (x ∷ xs) local AutolinkEmailLabel (email_of i (cond t (Some 0) None))) [
                     | true ↦ λ closing.
                         let same : i ≡ i + 0 = omega arith in
-                        subst (λ n. IsDecided q (x ∷ xs) local AutolinkEmailLabel (Some (email n))) same
+                        subst (λ n. IsDecided (calls_at (x ∷ xs)) q (x ∷ xs) local AutolinkEmailLabel (Some (email n))) same
                         (closes q i x xs local (label_rows label_end_rows) AutolinkEmailLabel at is some has
                         (λ es h. passed_over es (picks label_ends next_label closing_rows k es false (tests_third ∙ dotted) (picks domain_ends ends_email (row [] Nok) k es true (tests_last ∙ closing) h))))
                     | false ↦ λ closing. rejects AutolinkEmailLabel q (x ∷ xs) local (label_rows label_end_rows) has
@@ -275,13 +298,13 @@ module _ (g : Given) (text : Text) (m : Plays g text) (e : PlaysEmails g text m)
   -- behind a name `@` must follow
   at-name-end : (rest : List Seat) (local : Local Unit Unit) → let n = prefix_len is_atext (bytes_of (r ∷ rs)) in drop (p + 1 + n) text.seats ≡ rest → passes is_atext (first_byte rest) ≡ false
       → nat_lt 0 (size_b local) ≡ nat_lt 0 n
-      → IsDecided (p + 1 + n) rest local AutolinkEmailAtext (cond (nat_lt 0 n && passes is_at_sign (first_byte rest)) (email_of (n + 1) (left_of_domain false 0 (drop (n + 1) (bytes_of (r ∷ rs))))) None)
+      → IsDecided (calls_at rest) (p + 1 + n) rest local AutolinkEmailAtext (cond (nat_lt 0 n && passes is_at_sign (first_byte rest)) (email_of (n + 1) (left_of_domain false 0 (drop (n + 1) (bytes_of (r ∷ rs))))) None)
   at-name-end [] local at stops size =
       let n = prefix_len is_atext (bytes_of (r ∷ rs)) in
       let q = p + 1 + n in
       let k = in_tried q [] local in
       let o = λ (t : Bool). cond t (email_of (n + 1) (left_of_domain false 0 (drop (n + 1) (bytes_of (r ∷ rs))))) None in
-      subst (λ t. IsDecided q [] local AutolinkEmailAtext (o t)) (sym (and-false (nat_lt 0 n))) (rejects AutolinkEmailAtext q [] local (row [] Nok) (e.email_atext k) (λ es h. h))
+      subst (λ t. IsDecided (calls_at []) q [] local AutolinkEmailAtext (o t)) (sym (and-false (nat_lt 0 n))) (rejects AutolinkEmailAtext q [] local (row [] Nok) (e.email_atext k) (λ es h. h))
   at-name-end (x ∷ xs) local at stops size =
       let n = prefix_len is_atext (bytes_of (r ∷ rs)) in
       let q = p + 1 + n in
@@ -292,7 +315,7 @@ module _ (g : Given) (text : Text) (m : Plays g text) (e : PlaysEmails g text m)
       let o = λ (t : Bool). cond t (email_of (n + 1) (left_of_domain false 0 (drop (n + 1) (bytes_of (r ∷ rs))))) None in
       let swapped : (nat_lt 0 n && is_at_sign x.byte) ≡ (is_at_sign x.byte && nat_lt 0 n) = and-swapped (nat_lt 0 n) (is_at_sign x.byte) in
       let tests : (passes is_at_sign (byte_of (slice_get text.seats q)) && nat_lt 0 (size_b local)) ≡ (nat_lt 0 n && is_at_sign x.byte) = (λ j. passes is_at_sign (waits j) && size j) ∙ sym swapped in
-      elim (nat_lt 0 n && is_at_sign x.byte) as (λ t. (nat_lt 0 n && is_at_sign x.byte) ≡ t → IsDecided q (x ∷ xs) local AutolinkEmailAtext (o t)) [
+      elim (nat_lt 0 n && is_at_sign x.byte) as (λ t. (nat_lt 0 n && is_at_sign x.byte) ≡ t → IsDecided (calls_at (x ∷ xs)) q (x ∷ xs) local AutolinkEmailAtext (o t)) [
         | true ↦ λ is.
             let behind : drop (p + 1) text.seats ≡ r ∷ rs = drop-next text.seats p s (r ∷ rs) here in
             let next = drop-next text.seats q x xs at in
@@ -300,16 +323,17 @@ module _ (g : Given) (text : Text) (m : Plays g text) (e : PlaysEmails g text m)
             let tail : drop (n + 1) (r ∷ rs) ≡ xs = ap (drop (n + 1)) (sym behind) ∙ drop-drop (n + 1) (p + 1) text.seats ∙ ap (λ i. drop i text.seats) (sym place) ∙ next in
             let domain : bytes_of xs ≡ drop (n + 1) (bytes_of (r ∷ rs)) = ap bytes_of (sym tail) ∙ sym (drop-map (λ (y : Seat). y.byte) (n + 1) (r ∷ rs)) in
             goes-on AutolinkEmailAtext AutolinkEmailLabel q x xs local (with_b 0 (counts local)) (email_atext_rows (before_class g text q) (Some (text_byte x.byte)))
-            (email_of (n + 1) (left_of_domain false 0 (drop (n + 1) (bytes_of (r ∷ rs))))) at has
+            (email_of (n + 1) (left_of_domain false 0 (drop (n + 1) (bytes_of (r ∷ rs))))) at
+            (at-sign-allowed x.byte (and_parts (nat_lt 0 n) (is_at_sign x.byte) is).1) (after-sized 0 local) has
             (λ es h. picks name_ends next_label (when name_goes_on goes_name (row [] Nok)) k es true (tests ∙ is) h)
-            (subst (λ bs. IsDecided (q + 1) xs (with_b 0 (counts local)) AutolinkEmailLabel (email_of (n + 1) (left_of_domain false 0 bs))) domain
+            (subst (λ bs. IsDecided (calls_at xs) (q + 1) xs (with_b 0 (counts local)) AutolinkEmailLabel (email_of (n + 1) (left_of_domain false 0 bs))) domain
             (decides-domain xs (q + 1) (n + 1) false 0 (with_b 0 (counts local)) next place (omega arith) refl (omega arith)))
         | false ↦ λ is. rejects AutolinkEmailAtext q (x ∷ xs) local (email_atext_rows (before_class g text q) (Some (text_byte x.byte))) has
             (λ es h. picks name_ends next_label (when name_goes_on goes_name (row [] Nok)) k es false (tests ∙ is) (picks name_goes_on goes_name (row [] Nok) k es false (ap (passes is_atext) waits ∙ stops) h))
       ] refl
 
   -- what is before `@` is read whole, and then `@`
-  pub decides-address : (local : Local Unit Unit) → size_b local ≡ 0 → IsDecided (p + 1) (r ∷ rs) local AutolinkEmailAtext (email_with (bytes_of (s ∷ r ∷ rs)) (prefix_len is_atext (bytes_of (r ∷ rs))))
+  pub decides-address : (local : Local Unit Unit) → size_b local ≡ 0 → IsDecided (calls_at (r ∷ rs)) (p + 1) (r ∷ rs) local AutolinkEmailAtext (email_with (bytes_of (s ∷ r ∷ rs)) (prefix_len is_atext (bytes_of (r ∷ rs))))
   decides-address local zero_read =
       let l = r ∷ rs in
       let bs = bytes_of l in
@@ -323,8 +347,9 @@ module _ (g : Given) (text : Text) (m : Plays g text) (e : PlaysEmails g text m)
       let last : slice_get bs n ≡ first_byte rest = byte-behind text.seats (p + 1) n l rest behind at in
       let o = λ (w : Option ℕ). cond (nat_lt 0 n && passes is_at_sign w) (email_of (n + 1) (left_of_domain false 0 (drop (n + 1) bs))) None in
       let item : o (first_byte rest) ≡ email_with (bytes_of (s ∷ l)) n = ap o (sym last) ∙ sym (email-is s.byte bs n) in
-      subst (IsDecided (p + 1) l local AutolinkEmailAtext) item
-      (decides-before g text m names nok p ended events (s ∷ l) (in_tried (p + 1) l local) (in_tried q rest after) choices choices (Retry AutolinkEmailAtext) (Retry AutolinkEmailAtext) (o (first_byte rest))
+      subst (IsDecided (calls_at l) (p + 1) l local AutolinkEmailAtext) item
+      (decides-within g text m names (prefix_len is_atext bs) (calls_at rest) (calls_at l) nok p ended events (s ∷ l) (in_tried (p + 1) l local) (in_tried q rest after) choices choices
+      (Retry AutolinkEmailAtext) (Retry AutolinkEmailAtext) (o (first_byte rest)) (omega (arith, looked-once is_atext is_allowed atext-allowed l)) (after-passed name_read (after-sized 1) is_atext l local)
       (loops g text m email_spans choices AutolinkEmailAtext is_atext name_read
       (λ q ended events local x at is es h.
       let k = held email_spans q Byte ended events local in
@@ -338,35 +363,41 @@ module _ (g : Given) (text : Text) (m : Plays g text) (e : PlaysEmails g text m)
 
 module _ (g : Given) (text : Text) (m : Plays g text) (e : PlaysEmails g text m) (names : Between) where
   -- an email autolink is tried at its marker
-  tries-marker : (nok : Name) (p : ℕ) (ended : Bool) (events : List Event) (local : Local Unit Unit) (s : Seat) (ss : List Seat) → drop p text.seats ≡ s ∷ ss → s.byte ≡ 60 → (o : Option Found)
-      → Decides g text m names nok p ended events (s ∷ ss) (shows ss email_spans (p + 1) (begun_email g text events p) (with_b 0 (counts local))) (outer names.home nok p ended events ∷ []) (Retry AutolinkEmailAtext) o
-      → Tried g text m names AutolinkEmailAtSignOrDot nok p ended events local (s ∷ ss) o
-  tries-marker nok p ended events local s ss here is o decided =
+  tries-marker : (n n' : ℕ) (nok : Name) (p : ℕ) (ended : Bool) (events : List Event) (local : Local Unit Unit) (s : Seat) (ss : List Seat) → drop p text.seats ≡ s ∷ ss → s.byte ≡ 60 → 1 + n ≤ n' → (o : Option Found)
+      → DecidesIn g text m names n nok p ended events (s ∷ ss) (shows ss email_spans (p + 1) (begun_email g text events p) (with_b 0 (counts local))) (outer names.home nok p ended events ∷ []) (Retry AutolinkEmailAtext) o
+      → TriedIn g text m names n' AutolinkEmailAtSignOrDot nok p ended events local (s ∷ ss) o
+  tries-marker n n' nok p ended events local s ss here is fits o decided =
       let waits = outer names.home nok p ended events ∷ [] in
       let k = between_items p Byte ended events local in
-      decides-before g text m names nok p ended events (s ∷ ss) k (shows ss email_spans (p + 1) (begun_email g text events p) (with_b 0 (counts local))) waits waits (Retry AutolinkEmailAtSignOrDot)
-      (Retry AutolinkEmailAtext) o
+      decides-within g text m names 1 n n' nok p ended events (s ∷ ss) k (shows ss email_spans (p + 1) (begun_email g text events p) (with_b 0 (counts local))) waits waits (Retry AutolinkEmailAtSignOrDot)
+      (Retry AutolinkEmailAtext) o fits (after-sized 0 local)
       (λ es h.
       leads-row g text m (email_start_rows None None) k waits AutolinkEmailAtSignOrDot es (e.email_start k)
       (goes-next g text m ss email_spans (p + 1) (begun_email g text events p) (with_b 0 (counts local)) waits AutolinkEmailAtext (drop-next text.seats p s ss here) es h))
       decided
 
   tries-email : IsJoined g text → (nok : Name) (p : ℕ) (ended : Bool) (events : List Event) (local : Local Unit Unit) (s : Seat) (ss : List Seat) → drop p text.seats ≡ s ∷ ss → s.byte ≡ 60
-      → Tried g text m names AutolinkEmailAtSignOrDot nok p ended events local (s ∷ ss) (email_at (bytes_of (s ∷ ss)))
+      → TriedIn g text m names (link_calls (bytes_of (s ∷ ss))) AutolinkEmailAtSignOrDot nok p ended events local (s ∷ ss) (email_at (bytes_of (s ∷ ss)))
   tries-email joined nok p ended events local s [] here is =
-      subst (λ b. Tried g text m names AutolinkEmailAtSignOrDot nok p ended events local (s ∷ []) (cond b None None)) (sym (ap (λ b. b == 60) is))
-      (tries-marker nok p ended events local s [] here is None (
+      let calls = link_calls (bytes_of (s ∷ [])) in
+      subst (λ b. TriedIn g text m names calls AutolinkEmailAtSignOrDot nok p ended events local (s ∷ []) (cond b None None)) (sym (ap (λ b. b == 60) is))
+      (tries-marker 1 calls nok p ended events local s [] here is (omega arith) None (
         counts (with_b 0 (counts local)),
+        after-call (with_b 0 (counts local)),
         refused g text m names email_atext_rows AutolinkEmailAtext e.email_atext nok p ended events [] email_spans (p + 1) (begun_email g text events p) (with_b 0 (counts local)) (drop-next text.seats p s [] here) refl
             (begun-kept g text events p),
       ))
   tries-email joined nok p ended events local s (r ∷ rs) here is =
+      let calls = link_calls (bytes_of (s ∷ r ∷ rs)) in
       let o = email_with (bytes_of (s ∷ r ∷ rs)) (prefix_len is_atext (bytes_of (r ∷ rs))) in
-      subst (λ b. Tried g text m names AutolinkEmailAtSignOrDot nok p ended events local (s ∷ r ∷ rs) (cond b o None)) (sym (ap (λ b. b == 60) is))
-      (tries-marker nok p ended events local s (r ∷ rs) here is o (decides-address g text m e names joined nok p ended events s r rs here (ap (λ b. b == 10) is) (with_b 0 (counts local)) refl))
+      subst (λ b. TriedIn g text m names calls AutolinkEmailAtSignOrDot nok p ended events local (s ∷ r ∷ rs) (cond b o None)) (sym (ap (λ b. b == 60) is))
+      (tries-marker (prefix_len is_allowed (bytes_of (r ∷ rs)) + 1) calls nok p ended events local s (r ∷ rs) here is (omega arith) o
+      (decides-address g text m e names joined nok p ended events s r rs here (ap (λ b. b == 10) is) (with_b 0 (counts local)) refl))
 
--- The theorem of email autolinks
+-- The theorem of email autolinks, within so many calls
+pub emails-reads-in : (g : Given) (text : Text) (m : Plays g text) → PlaysEmails g text m → (names : Between) → IsText g text → ReadsIn g text m names link_calls emails
+emails-reads-in g text m e names is nok p ended events local s ss here first =
+    tries-email g text m e names (text-joined g text is) nok p ended events local s ss here (eqb-true s.byte 60 first)
+
 pub emails-read : (g : Given) (text : Text) (m : Plays g text) → PlaysEmails g text m → (names : Between) → IsText g text → ReadsPart g text m names emails
-emails-read g text m e names is nok p ended events local s ss here first knows =
-    decided-so g text m names nok p ended events (s ∷ ss) _ _ _ (email_at (bytes_of (s ∷ ss)))
-    (tries-email g text m e names (text-joined g text is) nok p ended events local s ss here (eqb-true s.byte 60 first))
+emails-read g text m e names is = reads-of g text m names link_calls emails (emails-reads-in g text m e names is)

@@ -19,7 +19,8 @@ use Rattle.mdconstructs_machines.proofs.LineReads.Steps.{at-front}
 use Rattle.mdconstructs_machines.specs.Tables.{counts}
 use Rattle.mdconstructs_tables.specs.Rows.{class_of, row}
 use Rattle.mdconstructs_text.proofs.Constructs.Listed.{outer}
-use Rattle.mdconstructs_text.proofs.Plain.Items.{decided-so, Tried, refused}
+use Rattle.mdconstructs_text.proofs.Escapes.Calls.{after-two}
+use Rattle.mdconstructs_text.proofs.Plain.Items.{ReadsIn, TriedIn, reads-of, refused}
 use Rattle.mdconstructs_text.proofs.Plain.Stretches.{first_byte, goes-next, leaf-read, sees, shows}
 use Rattle.mdconstructs_text.proofs.Texts.Reads.{ReadsPart}
 use Rattle.mdconstructs_text.proofs.Texts.Steps.{HasRows, Leads, Plays, before_class, between_items, leads-ok, leads-seen}
@@ -29,6 +30,7 @@ use Rattle.mdconstructs_text.specs.Laws.Classes.{by-class}
 use Rattle.mdconstructs_text.specs.Parts.{bytes_of, event}
 use Rattle.mdconstructs_text.specs.TextBytes.{TextByte, text_byte}
 use Rattle.mdconstructs_text.specs.TextEvents.{item_events}
+use Rattle.mdconstructs_phrasing.proofs.HardBreaks.Calls.{break_escape_calls}
 use Rattle.mdconstructs_phrasing.specs.HardBreak.{break_escape_after_rows, break_escape_at, break_escape_start_rows, break_escapes, hard_break_escape}
 
 -- A machine that reads hard breaks by a backslash: at the names of their states it does what their rows say
@@ -57,9 +59,10 @@ module _ (g : Given) (text : Text) (m : Plays g text) (w : PlaysBreakEscapes g t
       (goes-next g text m ss (HardBreakEscape ∷ []) (p + 1) begun (counts local) (outer names.home nok p ended events ∷ []) HardBreakEscapeAfter (drop-next text.seats p s ss here) es h)
 
   -- nothing is left of it if no line ending follows
-  refuses : (ss : List Seat) → drop p text.seats ≡ s ∷ ss → passes is_line_feed (first_byte ss) ≡ false → Tried g text m names HardBreakEscapeStart nok p ended events local (s ∷ ss) None
+  refuses : (ss : List Seat) → drop p text.seats ≡ s ∷ ss → passes is_line_feed (first_byte ss) ≡ false → TriedIn g text m names 2 HardBreakEscapeStart nok p ended events local (s ∷ ss) None
   refuses ss here none = (
     counts (counts local),
+    after-two local,
     λ es h.
         begins ss here es
         (refused g text m names break_escape_after_rows HardBreakEscapeAfter w.after nok p ended events ss (HardBreakEscape ∷ []) (p + 1) begun (counts local) (drop-next text.seats p s ss here)
@@ -67,18 +70,19 @@ module _ (g : Given) (text : Text) (m : Plays g text) (w : PlaysBreakEscapes g t
   )
 
   -- At a backslash a hard break is read, or what was tried leaves nothing
-  tries-break : (ss : List Seat) → drop p text.seats ≡ s ∷ ss → Tried g text m names HardBreakEscapeStart nok p ended events local (s ∷ ss) (break_escape_at (bytes_of (s ∷ ss)))
-  tries-break [] here = subst (λ b. Tried g text m names HardBreakEscapeStart nok p ended events local (s ∷ []) (cond (b && false) (Some hard_break_escape) None)) (sym (ap (λ b. b == 92) is)) (refuses [] here refl)
+  tries-break : (ss : List Seat) → drop p text.seats ≡ s ∷ ss → TriedIn g text m names 2 HardBreakEscapeStart nok p ended events local (s ∷ ss) (break_escape_at (bytes_of (s ∷ ss)))
+  tries-break [] here = subst (λ b. TriedIn g text m names 2 HardBreakEscapeStart nok p ended events local (s ∷ []) (cond (b && false) (Some hard_break_escape) None)) (sym (ap (λ b. b == 92) is)) (refuses [] here refl)
   tries-break (v ∷ vs) here =
       let next = drop-next text.seats p s (v ∷ vs) here in
       let made : begun ++ event g.bytes Exit HardBreakEscape (end_place text (p + 1)) ∷ [] ≡ events ++ item_events g.bytes (hard_break_escape, s ∷ []) =
       append_assoc events _ _ ∙ ap (λ es. events ++ es) (leaf-read text g.bytes HardBreakEscape 1 p s (v ∷ vs) here (omega arith) (omega arith)) in
       let after = counts (counts local) in
-      subst (λ b. Tried g text m names HardBreakEscapeStart nok p ended events local (s ∷ v ∷ vs) (cond (b && is_line_feed v.byte) (Some hard_break_escape) None)) (sym (ap (λ b. b == 92) is))
-      (elim (is_line_feed v.byte) as (λ b. is_line_feed v.byte ≡ b → Tried g text m names HardBreakEscapeStart nok p ended events local (s ∷ v ∷ vs) (cond b (Some hard_break_escape) None)) [
+      subst (λ b. TriedIn g text m names 2 HardBreakEscapeStart nok p ended events local (s ∷ v ∷ vs) (cond (b && is_line_feed v.byte) (Some hard_break_escape) None)) (sym (ap (λ b. b == 92) is))
+      (elim (is_line_feed v.byte) as (λ b. is_line_feed v.byte ≡ b → TriedIn g text m names 2 HardBreakEscapeStart nok p ended events local (s ∷ v ∷ vs) (cond b (Some hard_break_escape) None)) [
         | true ↦ λ line. (
           false,
           after,
+          after-two local,
           λ es h.
               let ten : v.byte ≡ 10 = eqb-true v.byte 10 line in
               begins (v ∷ vs) here es
@@ -89,7 +93,10 @@ module _ (g : Given) (text : Text) (m : Plays g text) (w : PlaysBreakEscapes g t
         | false ↦ λ other. refuses (v ∷ vs) here other
       ] refl)
 
--- The theorem of hard breaks by a backslash
+-- The theorem of hard breaks by a backslash, within so many calls
+pub break-escapes-read-in : (g : Given) (text : Text) (m : Plays g text) → PlaysBreakEscapes g text m.step → (names : Between) → ReadsIn g text m names break_escape_calls break_escapes
+break-escapes-read-in g text m w names nok p ended events local s ss here first = tries-break g text m w names nok p ended events local s (eqb-true s.byte 92 first) ss here
+
+-- and within any number
 pub break-escapes-read : (g : Given) (text : Text) (m : Plays g text) → PlaysBreakEscapes g text m.step → (names : Between) → ReadsPart g text m names break_escapes
-break-escapes-read g text m w names nok p ended events local s ss here first knows =
-    decided-so g text m names nok p ended events (s ∷ ss) _ _ _ (break_escape_at (bytes_of (s ∷ ss))) (tries-break g text m w names nok p ended events local s (eqb-true s.byte 92 first) ss here)
+break-escapes-read g text m w names = reads-of g text m names break_escape_calls break_escapes (break-escapes-read-in g text m w names)

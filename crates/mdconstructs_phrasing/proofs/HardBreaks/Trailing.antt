@@ -26,8 +26,11 @@ use Rattle.mdconstructs_machines.specs.Breaks.{is_white}
 use Rattle.mdconstructs_machines.specs.Tables.{counts}
 use Rattle.mdconstructs_tables.specs.Rows.{Rows, class_of, exit, row, when}
 use Rattle.mdconstructs_text.proofs.Constructs.Listed.{outer}
-use Rattle.mdconstructs_text.proofs.Plain.Items.{decided-so, Tried, puts-back}
+use Rattle.mdconstructs_text.proofs.Escapes.Calls.{after-two}
+use Rattle.mdconstructs_text.proofs.Plain.Items.{ReadsIn, TriedIn, puts-back, reads-of}
+use Rattle.mdconstructs_text.proofs.Plain.Passed.{after-passed}
 use Rattle.mdconstructs_text.proofs.Plain.Stretches.{byte-behind, first_byte, goes-next, is_end, leaf-read, loops, past, past-at, past-stops, passed, sees, shows}
+use Rattle.mdconstructs_text.proofs.Texts.Counted.{IsAfter, after-call, after-more, after-within}
 use Rattle.mdconstructs_text.proofs.Texts.Reads.{ReadsPart}
 use Rattle.mdconstructs_text.proofs.Texts.Steps.{HasRows, Leads, Plays, before_class, between_items, leads-ok, leads-seen, leads-tested}
 use Rattle.mdconstructs_text.specs.Bytes.{has_byte_at, is_line_feed, is_space, passes}
@@ -35,6 +38,7 @@ use Rattle.mdconstructs_text.specs.Construct.{Between}
 use Rattle.mdconstructs_text.specs.Laws.Classes.{by-class}
 use Rattle.mdconstructs_text.specs.Parts.{bytes_of, event, leaf}
 use Rattle.mdconstructs_text.specs.TextBytes.{TextByte, text_byte, white}
+use Rattle.mdconstructs_phrasing.proofs.HardBreaks.Calls.{trailing_break_calls}
 use Rattle.mdconstructs_phrasing.proofs.WhiteSpaces.Classes.{white-class}
 use Rattle.mdconstructs_phrasing.specs.HardBreak.{hard_break_trailing, space_waits, trailing_after_first_rows, trailing_after_more_rows, trailing_break_at, trailing_breaks, trailing_start_rows}
 
@@ -100,12 +104,13 @@ module _ (g : Given) (text : Text) (m : Plays g text) (w : PlaysTrailingBreaks g
       (puts-back g text m names nok p ended events (shows l in_break q begun (counts read)) (take_at events enter_here (length events) refl) es h)
 
   abbrev IsDecided : (n : ℕ) (t : Bool) → Type 0
-  IsDecided n t = Tried g text m names SpaceOrTabEolStart nok p ended events local (s ∷ ss) (cond (nat_le 2 n && t) (Some (hard_break_trailing n)) None)
+  IsDecided n t = TriedIn g text m names (1 + n) SpaceOrTabEolStart nok p ended events local (s ∷ ss) (cond (nat_le 2 n && t) (Some (hard_break_trailing n)) None)
 
   -- a tab begins no hard break
   at-tab : is_space s.byte ≡ false → (t : Bool) → IsDecided 0 t
   at-tab tab t = (
     counts local,
+    after-call local,
     λ es h.
         let front = ap byte_of (at-front text.seats p s ss here) in
         leads-tested g text m {t = false} space_waits trailing_start_rows (between_items p Byte ended events local) cs SpaceOrTabEolStart es front
@@ -126,6 +131,7 @@ module _ (g : Given) (text : Text) (m : Plays g text) (w : PlaysTrailingBreaks g
     at-one : passes is_space (first_byte ss) ≡ false → (t : Bool) → IsDecided 1 t
     at-one none t = (
       counts (counts local),
+      after-two local,
       λ es h.
           begins es
           (fails trailing_after_first_rows SpaceOrTabEolAfterFirst w.after_first ss (p + 1) (counts local) (drop-next text.seats p s ss here) none (first-fails (before_class g text (p + 1)) (first_byte ss)) es h),
@@ -145,6 +151,14 @@ module _ (g : Given) (text : Text) (m : Plays g text) (w : PlaysTrailingBreaks g
 
   abbrev read : Local Unit Unit
   read = passed is_space counts rs (counts (counts local))
+
+  -- so many calls it takes
+  calls : IsAfter (1 + spaces) local (counts read)
+  calls =
+      let k = prefix_len is_space (bytes_of rs) in
+      let two = counts (counts local) in
+      let all = after-more (2 + k) 1 local read (counts read) (after-more 2 k local two read (after-two local) (after-passed counts after-call is_space rs two)) (after-call read) in
+      after-within (2 + k + 1) (1 + spaces) local (counts read) (omega arith) all
 
   abbrev entered : List Event
   entered = begun g text m w names nok p ended events local s (r ∷ rs) here is
@@ -187,11 +201,12 @@ module _ (g : Given) (text : Text) (m : Plays g text) (w : PlaysTrailingBreaks g
       let inside : spaces ≤ suc (length (r ∷ rs)) = omega (arith, prefix_len-le-length is_space (bytes_of rs), length-map rs (λ x. x.byte)) in
       let made : entered ++ event g.bytes Exit HardBreakTrailing (end_place text (p + spaces)) ∷ [] ≡ events ++ leaf g.bytes HardBreakTrailing (take spaces l) =
       append_assoc events _ _ ∙ ap (λ es. events ++ es) (leaf-read text g.bytes HardBreakTrailing spaces p s (r ∷ rs) here (omega arith) inside) in
-      subst (λ b. Tried g text m names SpaceOrTabEolStart nok p ended events local l (cond (b && t) (Some (hard_break_trailing spaces)) None)) (sym enough)
-      (elim t as (λ t. passes is_line_feed (first_byte rest) ≡ t → Tried g text m names SpaceOrTabEolStart nok p ended events local l (cond t (Some (hard_break_trailing spaces)) None)) [
+      subst (λ b. TriedIn g text m names (1 + spaces) SpaceOrTabEolStart nok p ended events local l (cond (b && t) (Some (hard_break_trailing spaces)) None)) (sym enough)
+      (elim t as (λ t. passes is_line_feed (first_byte rest) ≡ t → TriedIn g text m names (1 + spaces) SpaceOrTabEolStart nok p ended events local l (cond t (Some (hard_break_trailing spaces)) None)) [
         | true ↦ λ line. (
           is_end rest,
           counts read,
+          calls,
           λ es h.
               reads-on es
               (leads-seen g text m trailing_after_more_rows (shows rest st (p + spaces) entered read) cs SpaceOrTabEolAfterMore es (sees g text m rest (p + spaces) rest-at)
@@ -200,6 +215,7 @@ module _ (g : Given) (text : Text) (m : Plays g text) (w : PlaysTrailingBreaks g
         )
         | false ↦ λ other. (
           counts read,
+          calls,
           λ es h.
               reads-on es
               (fails g text m w names nok p ended events local s (r ∷ rs) here is trailing_after_more_rows SpaceOrTabEolAfterMore w.after_more rest (p + spaces) read rest-at (past-stops is_space rs)
@@ -209,7 +225,7 @@ module _ (g : Given) (text : Text) (m : Plays g text) (w : PlaysTrailingBreaks g
 
 module _ (g : Given) (text : Text) (m : Plays g text) (w : PlaysTrailingBreaks g text m.step) (names : Between) (nok : Name) (p : ℕ) (ended : Bool) (events : List Event) (local : Local Unit Unit) (s : Seat) where
   abbrev DecidedAt : List Seat → ℕ → Type 0
-  DecidedAt ss n = Tried g text m names SpaceOrTabEolStart nok p ended events local (s ∷ ss) (cond (nat_le 2 n && has_byte_at (bytes_of (s ∷ ss)) n is_line_feed) (Some (hard_break_trailing n)) None)
+  DecidedAt ss n = TriedIn g text m names (1 + n) SpaceOrTabEolStart nok p ended events local (s ∷ ss) (cond (nat_le 2 n && has_byte_at (bytes_of (s ∷ ss)) n is_line_feed) (Some (hard_break_trailing n)) None)
 
   -- behind the first space
   from-first : (ss : List Seat) → drop p text.seats ≡ s ∷ ss → is_white s.byte ≡ true → is_space s.byte ≡ true → DecidedAt ss (1 + prefix_len is_space (bytes_of ss))
@@ -225,14 +241,17 @@ module _ (g : Given) (text : Text) (m : Plays g text) (w : PlaysTrailingBreaks g
       ] refl
 
   -- At white space a hard break is read, or what was tried leaves nothing
-  tries-trailing : (ss : List Seat) → drop p text.seats ≡ s ∷ ss → is_white s.byte ≡ true → Tried g text m names SpaceOrTabEolStart nok p ended events local (s ∷ ss) (trailing_break_at (bytes_of (s ∷ ss)))
+  tries-trailing : (ss : List Seat) → drop p text.seats ≡ s ∷ ss → is_white s.byte ≡ true → TriedIn g text m names (trailing_break_calls (bytes_of (s ∷ ss))) SpaceOrTabEolStart nok p ended events local (s ∷ ss) (trailing_break_at (bytes_of (s ∷ ss)))
   tries-trailing ss here is =
       elim (is_space s.byte) as (λ t. is_space s.byte ≡ t → DecidedAt ss (cond t (1 + prefix_len is_space (bytes_of ss)) 0)) [
         | true ↦ λ space. from-first ss here is space
         | false ↦ λ tab. at-tab g text m w names nok p ended events local s ss here is tab (has_byte_at (bytes_of (s ∷ ss)) 0 is_line_feed)
       ] refl
 
--- The theorem of hard breaks by spaces
+-- The theorem of hard breaks by spaces, within so many calls
+pub trailing-breaks-read-in : (g : Given) (text : Text) (m : Plays g text) → PlaysTrailingBreaks g text m.step → (names : Between) → ReadsIn g text m names trailing_break_calls trailing_breaks
+trailing-breaks-read-in g text m w names nok p ended events local s ss here first = tries-trailing g text m w names nok p ended events local s ss here first
+
+-- and within any number
 pub trailing-breaks-read : (g : Given) (text : Text) (m : Plays g text) → PlaysTrailingBreaks g text m.step → (names : Between) → ReadsPart g text m names trailing_breaks
-trailing-breaks-read g text m w names nok p ended events local s ss here first knows =
-    decided-so g text m names nok p ended events (s ∷ ss) _ _ _ (trailing_break_at (bytes_of (s ∷ ss))) (tries-trailing g text m w names nok p ended events local s ss here first)
+trailing-breaks-read g text m w names = reads-of g text m names trailing_break_calls trailing_breaks (trailing-breaks-read-in g text m w names)

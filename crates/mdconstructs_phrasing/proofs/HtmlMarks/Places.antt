@@ -1,13 +1,15 @@
 -- Places in raw HTML between marks, from byte to byte; and how many bytes there are from each on.
 use Rattle.markdown_base.specs.declared.state.Name.{Name}
 use Rattle.markdown_base.specs.declared.state.TheConstants.Name.{HtmlTextCdataOpenInside, HtmlTextComment, HtmlTextCommentOpenInside, HtmlTextDeclarationOpen, HtmlTextInstruction}
+use Rattle.markdown_tokenizer.specs.Configuration.{Configuration, Local}
+use Rattle.markdown_tokenizer.specs.Sight.{Sight}
 use Rattle.mdconstructs_machines.specs.Breaks.{is_white}
 use Rattle.mdconstructs_phrasing.proofs.HtmlMarks.Marks.{left-enough, left_to_mark}
-use Rattle.mdconstructs_phrasing.proofs.HtmlTexts.Walks.{GoesThroughLines, IsThrough, Move, OfLine, done, goes, moved, one_further, refused, run}
-use Rattle.mdconstructs_phrasing.specs.HtmlMarked.{closed_by}
+use Rattle.mdconstructs_phrasing.proofs.HtmlTexts.Walks.{GoesThroughLines, IsThrough, Move, OfLine, Stop, done, goes, moved, one_further, refused, run}
+use Rattle.mdconstructs_phrasing.specs.HtmlMarked.{closed_by, none_upto, stopped_at}
 use Rattle.mdconstructs_text.specs.Bytes.{has_byte_at}
 use Rattle.mdconstructs_text.specs.TextSizes.{more_than, size_b_grows, size_b_is}
-use Rattle.std.proofs.Common.{List, None, Option, Some, [], ap, arith, cond, false, inl, inr, nat_le, refl, subst, suc, sym, true, zero, ℕ, ◌&&◌, ◌+◌, ◌==◌, ◌^◌, ◌∙◌, ◌∷◌, ◌≡◌, ◌≤◌}
+use Rattle.std.proofs.Common.{Bool, List, None, Option, Some, [], ap, arith, cond, false, inl, inr, nat_le, refl, subst, suc, sym, true, zero, ℕ, ◌&&◌, ◌+◌, ◌<◌, ◌==◌, ◌^◌, ◌∙◌, ◌∷◌, ◌≡◌, ◌≤◌}
 use Rattle.std.proofs.Math.Bool.{and-false}
 use Rattle.std.proofs.lemmas.Bool.{cases_lt}
 use Rattle.std.proofs.lemmas.Bool.Decides.{nat_tests}
@@ -51,18 +53,31 @@ abbrev pub nothing_before : Mark → ℕ → Move MarkPlace
 nothing_before kind zero = goes None (at_inside kind 0)
 nothing_before kind (suc n) = goes (Some (size_b_is 0)) (at_inside kind 0)
 
--- what a byte does
-abbrev pub mark_next : MarkPlace → ℕ → Move MarkPlace
-mark_next at_open b = cond (b == 63) (opens of_instruction 0) (cond (b == 33) (goes None at_declaration) refused)
-mark_next at_declaration b =
-    cond (is_ascii_alphabetic b) (opens of_declaration 0) (cond (b == 45) (goes None at_comment) (cond (b == 91) (goes (Some (size_b_is 0)) (at_cdata 0)) refused))
-mark_next at_comment b = cond (b == 45) (opens of_comment 2) refused
-mark_next (at_cdata n) b =
-    cond (has_byte_at (codes "CDATA") n (λ c. b == c)) (goes (Some size_b_grows) (at_cdata (more_than n))) (cond ((n == 5) && (b == 91)) (opens of_cdata 0) refused)
-mark_next (at_inside kind n) b =
+-- unless it is known that none of its kind ends
+abbrev pub opens_unless : Bool → Mark → ℕ → Move MarkPlace
+opens_unless known kind n = cond known refused (opens kind n)
+
+-- what a byte does, by the kinds of which this is known
+abbrev pub mark_move : (known : Mark → Bool) → MarkPlace → ℕ → Move MarkPlace
+mark_move known at_open b = cond (b == 63) (opens_unless (known of_instruction) of_instruction 0) (cond (b == 33) (goes None at_declaration) refused)
+mark_move known at_declaration b =
+    cond (is_ascii_alphabetic b) (opens_unless (known of_declaration) of_declaration 0)
+    (cond (b == 45) (goes None at_comment) (cond (b == 91) (goes (Some (size_b_is 0)) (at_cdata 0)) refused))
+mark_move known at_comment b = cond (b == 45) (opens_unless (known of_comment) of_comment 2) refused
+mark_move known (at_cdata n) b =
+    cond (has_byte_at (codes "CDATA") n (λ c. b == c)) (goes (Some size_b_grows) (at_cdata (more_than n)))
+    (cond ((n == 5) && (b == 91)) (opens_unless (known of_cdata) of_cdata 0) refused)
+mark_move known (at_inside kind n) b =
     cond ((b == 62) && nat_le (mark_times kind) n) done
     (cond (b == mark_byte kind) (goes (Some size_b_grows) (at_inside kind (more_than n)))
     (nothing_before kind n))
+
+-- of none
+abbrev pub nothing_known : Mark → Bool
+nothing_known kind = false
+
+abbrev pub mark_next : MarkPlace → ℕ → Move MarkPlace
+mark_next = mark_move nothing_known
 
 -- the state of a place
 abbrev pub mark_name : MarkPlace → Name
@@ -72,6 +87,17 @@ mark_name at_comment = HtmlTextCommentOpenInside
 mark_name (at_cdata n) = HtmlTextCdataOpenInside
 mark_name (at_inside kind n) = HtmlTextComment
 
+-- what is written where the end or a blank line stops a look: its kind does not end up to there. An opening mark is just not there
+abbrev pub kind_fails : Mark → Sight → Configuration Unit Unit → Local Unit Unit
+kind_fails kind s k = none_upto (mark_byte kind) (stopped_at s.current s.point.index) k
+
+abbrev pub mark_gives_up : MarkPlace → Stop
+mark_gives_up at_open = None
+mark_gives_up at_declaration = None
+mark_gives_up at_comment = None
+mark_gives_up (at_cdata n) = None
+mark_gives_up (at_inside kind n) = Some (kind_fails kind)
+
 times-few : (kind : Mark) → mark_times kind ≤ 2
 times-few of_comment = omega arith
 times-few of_instruction = omega arith
@@ -79,7 +105,7 @@ times-few of_declaration = omega arith
 times-few of_cdata = omega arith
 
 -- from there on
-nothing-left : (kind : Mark) (n : ℕ) (f : MarkPlace → Option ℕ) → moved f (nothing_before kind n) ≡ one_further (f (at_inside kind 0))
+pub nothing-left : (kind : Mark) (n : ℕ) (f : MarkPlace → Option ℕ) → moved f (nothing_before kind n) ≡ one_further (f (at_inside kind 0))
 nothing-left kind zero f = refl
 nothing-left kind (suc n) f = refl
 
@@ -115,40 +141,50 @@ cdata-feed (suc (suc (suc zero))) = refl
 cdata-feed (suc (suc (suc (suc zero)))) = refl
 cdata-feed (suc (suc (suc (suc (suc n))))) = refl
 
-pub cdata-line : (n : ℕ) → mark_next (at_cdata n) 10 ≡ refused
-cdata-line n =
-    let last : ((n == 5) && (10 == 91)) ≡ false = and-false (n == 5) in
-    λ i. cond (cdata-feed n i) (goes (Some size_b_grows) (at_cdata (more_than n))) (cond (last i) (opens of_cdata 0) refused)
+-- there are five letters in it
+pub cdata-few : (n b : ℕ) → has_byte_at (codes "CDATA") n (λ c. b == c) ≡ true → n < 5
+cdata-few zero b h = omega arith
+cdata-few (suc zero) b h = omega arith
+cdata-few (suc (suc zero)) b h = omega arith
+cdata-few (suc (suc (suc zero))) b h = omega arith
+cdata-few (suc (suc (suc (suc zero)))) b h = omega arith
+cdata-few (suc (suc (suc (suc (suc n))))) b h = absurd (cc)
 
-no-feed : (kind : Mark) → (10 == mark_byte kind) ≡ false
+pub cdata-line : (known : Mark → Bool) (n : ℕ) → mark_move known (at_cdata n) 10 ≡ refused
+cdata-line known n =
+    let last : ((n == 5) && (10 == 91)) ≡ false = and-false (n == 5) in
+    λ i. cond (cdata-feed n i) (goes (Some size_b_grows) (at_cdata (more_than n))) (cond (last i) (opens_unless (known of_cdata) of_cdata 0) refused)
+
+pub no-feed : (kind : Mark) → (10 == mark_byte kind) ≡ false
 no-feed of_comment = refl
 no-feed of_instruction = refl
 no-feed of_declaration = refl
 no-feed of_cdata = refl
 
-pub inside-line : (kind : Mark) (n : ℕ) → mark_next (at_inside kind n) 10 ≡ nothing_before kind n
-inside-line kind n = λ i. cond (no-feed kind i) (goes (Some size_b_grows) (at_inside kind (more_than n))) (nothing_before kind n)
+pub inside-line : (known : Mark → Bool) (kind : Mark) (n : ℕ) → mark_move known (at_inside kind n) 10 ≡ nothing_before kind n
+inside-line known kind n = λ i. cond (no-feed kind i) (goes (Some size_b_grows) (at_inside kind (more_than n))) (nothing_before kind n)
 
-white-other : (kind : Mark) (b : ℕ) → is_white b ≡ true → (b == mark_byte kind) ≡ false
+pub white-other : (kind : Mark) (b : ℕ) → is_white b ≡ true → (b == mark_byte kind) ≡ false
 white-other of_comment b h = grind (arith, nat_tests)
 white-other of_instruction b h = grind (arith, nat_tests)
 white-other of_declaration b h = grind (arith, nat_tests)
 white-other of_cdata b h = grind (arith, nat_tests)
 
--- there white space changes nothing
-through-white : (kind : Mark) → IsThrough mark_next (at_inside kind 0)
-through-white kind b white =
-    let last : (b == 62) ≡ false = grind (arith, nat_tests) in
-    let others = white-other kind b white in
-    λ i. cond (last i && nat_le (mark_times kind) 0) done (cond (others i) (goes (Some size_b_grows) (at_inside kind (more_than 0))) (goes None (at_inside kind 0)))
+module _ (known : Mark → Bool) where
+  -- there white space changes nothing
+  through-white : (kind : Mark) → IsThrough (mark_move known) (at_inside kind 0)
+  through-white kind b white =
+      let last : (b == 62) ≡ false = grind (arith, nat_tests) in
+      let others = white-other kind b white in
+      λ i. cond (last i && nat_le (mark_times kind) 0) done (cond (others i) (goes (Some size_b_grows) (at_inside kind (more_than 0))) (goes None (at_inside kind 0)))
 
-nothing-through : (kind : Mark) (n : ℕ) → OfLine mark_next (nothing_before kind n)
-nothing-through kind zero = through-white kind
-nothing-through kind (suc n) = through-white kind
+  nothing-through : (kind : Mark) (n : ℕ) → OfLine (mark_move known) (nothing_before kind n)
+  nothing-through kind zero = through-white kind
+  nothing-through kind (suc n) = through-white kind
 
-pub marks-go-through-lines : GoesThroughLines mark_next
-marks-go-through-lines at_open = tt
-marks-go-through-lines at_declaration = tt
-marks-go-through-lines at_comment = tt
-marks-go-through-lines (at_cdata n) = subst (OfLine mark_next) (sym (cdata-line n)) tt
-marks-go-through-lines (at_inside kind n) = subst (OfLine mark_next) (sym (inside-line kind n)) (nothing-through kind n)
+  pub marks-go-through-lines : GoesThroughLines (mark_move known)
+  marks-go-through-lines at_open = tt
+  marks-go-through-lines at_declaration = tt
+  marks-go-through-lines at_comment = tt
+  marks-go-through-lines (at_cdata n) = subst (OfLine (mark_move known)) (sym (cdata-line known n)) tt
+  marks-go-through-lines (at_inside kind n) = subst (OfLine (mark_move known)) (sym (inside-line known kind n)) (nothing-through kind n)

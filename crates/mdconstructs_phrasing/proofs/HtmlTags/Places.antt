@@ -1,5 +1,5 @@
 -- Tags, byte by byte: the places in a tag, and what is behind the tag from each of them on.
-use Rattle.std.proofs.Common.{◌≡◌, ℕ, suc, ◌-◌, ◌≤◌, ◌==◌, ◌||◌, List, [], ◌∷◌, true, false, cond, Option, Some, None, option_map, length, refl, sym, ap, ◌∙◌, arith}
+use Rattle.std.proofs.Common.{◌≡◌, ℕ, suc, ◌-◌, ◌≤◌, ◌==◌, ◌||◌, List, [], ◌∷◌, Bool, true, false, cond, Option, Some, None, option_map, length, refl, sym, ap, ◌∙◌, arith}
 use Rattle.std.specs.Char.{is_ascii_alphabetic}
 use Rattle.std.proofs.lemmas.Bool.{eqb-true}
 use Rattle.mdconstructs_machines.specs.Breaks.{is_white}
@@ -52,10 +52,10 @@ next slashed b = cond (is_greater_than b) done refused
 white-is : (b : ℕ) → is_white b ≡ true → is_tag_white b ≡ true
 white-is b h = ap (λ t. t || (b == 10)) h
 
--- and it is no quotation mark
-no-quote : (b q : ℕ) → is_white b ≡ true → is_white q ≡ false → (b == q) ≡ false
-no-quote b q h other = elim (b == q) as (λ t. (b == q) ≡ t → t ≡ false) [
-  | true ↦ λ e. let no : true ≡ false = sym h ∙ ap is_white (eqb-true b q e) ∙ other in absurd (cc)
+-- a byte that passes a test is no byte that does not, as a quotation mark
+pub not-that : (test : ℕ → Bool) (q b : ℕ) → test q ≡ false → test b ≡ true → (b == q) ≡ false
+not-that test q b other h = elim (b == q) as (λ t. (b == q) ≡ t → t ≡ false) [
+  | true ↦ λ e. let no : true ≡ false = sym h ∙ ap test (eqb-true b q e) ∙ other in absurd (cc)
   | false ↦ λ e. refl
 ] refl
 
@@ -83,8 +83,8 @@ tags-go-through-lines before = λ b h. before-white b (white-is b h)
 tags-go-through-lines name = λ b h. named-white b (white-is b h)
 tags-go-through-lines named = λ b h. named-white b (white-is b h)
 tags-go-through-lines value = λ b h. value-white b (white-is b h)
-tags-go-through-lines double_quoted = λ b h. ap (λ t. cond t (goes None after) (goes None double_quoted)) (no-quote b 34 h refl)
-tags-go-through-lines single_quoted = λ b h. ap (λ t. cond t (goes None after) (goes None single_quoted)) (no-quote b 39 h refl)
+tags-go-through-lines double_quoted = λ b h. ap (λ t. cond t (goes None after) (goes None double_quoted)) (not-that is_white 34 b refl h)
+tags-go-through-lines single_quoted = λ b h. ap (λ t. cond t (goes None after) (goes None single_quoted)) (not-that is_white 39 b refl h)
 tags-go-through-lines after = λ b h. before-white b (white-is b h)
 tags-go-through-lines bare = λ b h. before-white b (white-is b h)
 tags-go-through-lines slashed = tt

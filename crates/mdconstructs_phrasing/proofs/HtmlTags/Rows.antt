@@ -15,13 +15,14 @@ use Rattle.mdconstructs_machines.specs.Tables.{counts}
 use Rattle.mdconstructs_tables.specs.Rows.{Act, Rows, row, when, enter, exit, consume, class_of}
 use Rattle.mdconstructs_text.specs.Bytes.{is_greater_than, passes}
 use Rattle.mdconstructs_text.specs.TextBytes.{TextByte, text_byte}
+use Rattle.mdconstructs_text.proofs.Texts.Counted.{IsAfter, after-call}
 use Rattle.mdconstructs_text.proofs.Texts.Steps.{HasRow, HasRows, tested}
 use Rattle.mdconstructs_phrasing.specs.HtmlTag.{is_slash, is_equals_sign, is_double_quote, is_single_quote, is_tag_white, is_tag_name_byte, begins_attribute_name, is_attribute_name_byte, is_unquoted, quote_is, quote_waits, html_text_start_rows, html_text_open_rows, html_text_tag_close_start_rows, html_text_tag_close_rows, html_text_tag_close_between_rows, html_text_tag_open_rows, html_text_tag_open_between_rows, html_text_attribute_name_rows, html_text_attribute_name_after_rows, html_text_value_before_rows, html_text_value_quoted_rows, html_text_value_quoted_after_rows, html_text_value_unquoted_rows, html_text_end_rows}
 use Rattle.mdconstructs_phrasing.specs.HtmlText.{html_following, html_line_begins, html_line_ends, html_rows, sees, html_line_ending_after_rows, html_line_ending_after_prefix_rows, follows_line_ending}
 use Rattle.mdconstructs_phrasing.proofs.HtmlTexts.Pieces.{is_no_line_feed}
-use Rattle.mdconstructs_phrasing.proofs.HtmlTexts.Reads.{PlaysHtml, called, row_of, line_row_of, wrote, Writes}
+use Rattle.mdconstructs_phrasing.proofs.HtmlTexts.Reads.{PlaysHtml, called, written-counts, row_of, line_row_of, wrote, Writes}
 use Rattle.mdconstructs_phrasing.proofs.HtmlTexts.Rows.{other-rows, stopped-rows, at-seen, at-cases, by-byte, followed, line-begun}
-use Rattle.mdconstructs_phrasing.proofs.HtmlTexts.Walks.{Move, refused, done, goes}
+use Rattle.mdconstructs_phrasing.proofs.HtmlTexts.Walks.{Move, refused, done, goes, never_writes}
 use Rattle.mdconstructs_phrasing.proofs.HtmlTags.Places.{Place, opened, closed, closing_name, closing, tag_name, before, name, named, value, double_quoted, single_quoted, after, bare, slashed, next, tags-go-through-lines}
 
 -- the states of places
@@ -117,7 +118,7 @@ quote-counted slashed local h = tt
 
 -- what a move writes, and what is known behind it
 abbrev Keeps : Place → Move Place → Type 0
-Keeps s (goes w s') = (k : Configuration Unit Unit) → KnowsQuote s k.local → KnowsQuote s' (wrote w (called k))
+Keeps s (goes w s') = (k : Configuration Unit Unit) → IsAfter 1 k.local (wrote w (called k)) × (KnowsQuote s k.local → KnowsQuote s' (wrote w (called k)))
 Keeps s _ = Unit {0}
 
 either-keeps : (s : Place) (t : Bool) (x y : Move Place) → Keeps s x → Keeps s y → Keeps s (cond t x y)
@@ -128,29 +129,29 @@ ending-keeps : (s : Place) (b : ℕ) → Keeps s (cond (is_greater_than b) done 
 ending-keeps s b = either-keeps s (is_greater_than b) done refused tt tt
 
 slash-keeps : (s : Place) (b : ℕ) → Keeps s (cond (is_slash b) (goes None slashed) (cond (is_greater_than b) done refused))
-slash-keeps s b = either-keeps s (is_slash b) (goes None slashed) (cond (is_greater_than b) done refused) (λ k h. tt) (ending-keeps s b)
+slash-keeps s b = either-keeps s (is_slash b) (goes None slashed) (cond (is_greater_than b) done refused) (λ k. (after-call k.local, λ h. tt)) (ending-keeps s b)
 
 keeps : (s : Place) (b : ℕ) → Keeps s (next s b)
-keeps opened b = either-keeps opened (is_slash b) _ _ (λ k h. tt) (either-keeps opened (is_ascii_alphabetic b) (goes None tag_name) refused (λ k h. tt) tt)
-keeps closed b = either-keeps closed (is_ascii_alphabetic b) (goes None closing_name) refused (λ k h. tt) tt
-keeps closing_name b = either-keeps closing_name (is_tag_name_byte b) _ _ (λ k h. tt) (either-keeps closing_name (is_tag_white b) _ _ (λ k h. tt) (ending-keeps closing_name b))
-keeps closing b = either-keeps closing (is_tag_white b) _ _ (λ k h. tt) (ending-keeps closing b)
-keeps tag_name b = either-keeps tag_name (is_tag_name_byte b) _ _ (λ k h. tt) (either-keeps tag_name (is_tag_white b) _ _ (λ k h. tt) (slash-keeps tag_name b))
-keeps before b = either-keeps before (is_tag_white b) _ _ (λ k h. tt) (either-keeps before (begins_attribute_name b) _ _ (λ k h. tt) (slash-keeps before b))
+keeps opened b = either-keeps opened (is_slash b) _ _ (λ k. (after-call k.local, λ h. tt)) (either-keeps opened (is_ascii_alphabetic b) (goes None tag_name) refused (λ k. (after-call k.local, λ h. tt)) tt)
+keeps closed b = either-keeps closed (is_ascii_alphabetic b) (goes None closing_name) refused (λ k. (after-call k.local, λ h. tt)) tt
+keeps closing_name b = either-keeps closing_name (is_tag_name_byte b) _ _ (λ k. (after-call k.local, λ h. tt)) (either-keeps closing_name (is_tag_white b) _ _ (λ k. (after-call k.local, λ h. tt)) (ending-keeps closing_name b))
+keeps closing b = either-keeps closing (is_tag_white b) _ _ (λ k. (after-call k.local, λ h. tt)) (ending-keeps closing b)
+keeps tag_name b = either-keeps tag_name (is_tag_name_byte b) _ _ (λ k. (after-call k.local, λ h. tt)) (either-keeps tag_name (is_tag_white b) _ _ (λ k. (after-call k.local, λ h. tt)) (slash-keeps tag_name b))
+keeps before b = either-keeps before (is_tag_white b) _ _ (λ k. (after-call k.local, λ h. tt)) (either-keeps before (begins_attribute_name b) _ _ (λ k. (after-call k.local, λ h. tt)) (slash-keeps before b))
 keeps name b =
-    either-keeps name (is_attribute_name_byte b) _ _ (λ k h. tt)
-    (either-keeps name (is_tag_white b) _ _ (λ k h. tt) (either-keeps name (is_equals_sign b) _ _ (λ k h. tt) (slash-keeps name b)))
+    either-keeps name (is_attribute_name_byte b) _ _ (λ k. (after-call k.local, λ h. tt))
+    (either-keeps name (is_tag_white b) _ _ (λ k. (after-call k.local, λ h. tt)) (either-keeps name (is_equals_sign b) _ _ (λ k. (after-call k.local, λ h. tt)) (slash-keeps name b)))
 keeps named b =
-    either-keeps named (is_tag_white b) _ _ (λ k h. tt)
-    (either-keeps named (is_equals_sign b) _ _ (λ k h. tt) (either-keeps named (begins_attribute_name b) _ _ (λ k h. tt) (slash-keeps named b)))
+    either-keeps named (is_tag_white b) _ _ (λ k. (after-call k.local, λ h. tt))
+    (either-keeps named (is_equals_sign b) _ _ (λ k. (after-call k.local, λ h. tt)) (either-keeps named (begins_attribute_name b) _ _ (λ k. (after-call k.local, λ h. tt)) (slash-keeps named b)))
 keeps value b =
-    either-keeps value (is_tag_white b) _ _ (λ k h. tt)
-    (either-keeps value (is_double_quote b) (goes (Some (quote_is 34)) double_quoted) _ (λ k h. refl)
-    (either-keeps value (is_single_quote b) (goes (Some (quote_is 39)) single_quoted) _ (λ k h. refl) (either-keeps value (is_unquoted b) (goes None bare) refused (λ k h. tt) tt)))
-keeps double_quoted b = either-keeps double_quoted (b == 34) (goes None after) (goes None double_quoted) (λ k h. tt) (λ k h. h)
-keeps single_quoted b = either-keeps single_quoted (b == 39) (goes None after) (goes None single_quoted) (λ k h. tt) (λ k h. h)
-keeps after b = either-keeps after (is_tag_white b) _ _ (λ k h. tt) (slash-keeps after b)
-keeps bare b = either-keeps bare (is_unquoted b) _ _ (λ k h. tt) (either-keeps bare (is_tag_white b) _ _ (λ k h. tt) (ending-keeps bare b))
+    either-keeps value (is_tag_white b) _ _ (λ k. (after-call k.local, λ h. tt))
+    (either-keeps value (is_double_quote b) (goes (Some (quote_is 34)) double_quoted) _ (λ k. (written-counts k.local (wrote (Some (quote_is 34)) (called k)) refl refl, λ h. refl))
+    (either-keeps value (is_single_quote b) (goes (Some (quote_is 39)) single_quoted) _ (λ k. (written-counts k.local (wrote (Some (quote_is 39)) (called k)) refl refl, λ h. refl)) (either-keeps value (is_unquoted b) (goes None bare) refused (λ k. (after-call k.local, λ h. tt)) tt)))
+keeps double_quoted b = either-keeps double_quoted (b == 34) (goes None after) (goes None double_quoted) (λ k. (after-call k.local, λ h. tt)) (λ k. (after-call k.local, λ h. h))
+keeps single_quoted b = either-keeps single_quoted (b == 39) (goes None after) (goes None single_quoted) (λ k. (after-call k.local, λ h. tt)) (λ k. (after-call k.local, λ h. h))
+keeps after b = either-keeps after (is_tag_white b) _ _ (λ k. (after-call k.local, λ h. tt)) (slash-keeps after b)
+keeps bare b = either-keeps bare (is_unquoted b) _ _ (λ k. (after-call k.local, λ h. tt)) (either-keeps bare (is_tag_white b) _ _ (λ k. (after-call k.local, λ h. tt)) (ending-keeps bare b))
 keeps slashed b = ending-keeps slashed b
 
 -- what follows a line feed
@@ -275,22 +276,24 @@ module _ (g : Given) (text : Text) (step : Sight → Configuration Unit Unit →
         ∙ line-begun g text k acts html_following (state_of s).number follows.number ∙ ap (row_step g text k) (followed-is k acts s follows.may)
 
   -- So it reads raw HTML
-  pub plays-html : PlaysHtml g text step next state_of returns_to HtmlTextLineEndingAfter HtmlTextLineEndingAfterPrefix KnowsQuote FollowsLine
+  pub plays-html : PlaysHtml g text step next state_of returns_to never_writes HtmlTextLineEndingAfter HtmlTextLineEndingAfterPrefix (λ s q local. KnowsQuote s local) FollowsLine
   plays-html = record {
     through = tags-go-through-lines;
-    kept = λ s s' b w is. subst (Keeps s) is (keeps s b);
-    follows = λ s s' w is. subst (FollowsAfter s) is (follows-line s);
+    kept = λ s s' b w is k. let it = subst (Keeps s) is (keeps s b) k in it.1;
+    follows = λ s s' w is q k h. let it = subst (FollowsAfter s) is (follows-line s) k h in it;
+    after_move = λ s s' b w is k. let it = subst (Keeps s) is (keeps s b) k in it.0;
+    after_return = λ s k. written-counts k.local (wrote (returns_to s) (called k)) refl refl;
     counted = λ s local f. record { may = f.may; quote = quote-counted s local f.quote; number = f.number };
-    known = λ s local f. f.quote;
-    at_end = λ s k waits. at-seen g text step (state_of s) (rows_of s) (row [] Nok) k None (m.places s) waits (end-rows s (class_of text_byte (sight g text k).previous));
+    known = λ s q local f. f.quote;
+    at_end = λ s k waits knows. at-seen g text step (state_of s) (rows_of s) (row [] Nok) k None (m.places s) waits (end-rows s (class_of text_byte (sight g text k).previous));
     at_line = λ s k waits. at-seen g text step (state_of s) (rows_of s) (line_row_of state_of returns_to HtmlTextLineEndingAfter (next s 10)) k (Some 10) (m.places s) waits
         (line-rows s (class_of text_byte (sight g text k).previous));
     at_byte = λ s b k waits plain knows. at-seen g text step (state_of s) (rows_of s) (rows_of s (class_of text_byte (sight g text k).previous) (Some (text_byte b))) k (Some b) (m.places s) waits refl
         ∙ byte-rows k b waits s (class_of text_byte (sight g text k).previous) plain knows;
-    after_stops = stops HtmlTextLineEndingAfter (row (enter SpaceOrTab ∷ consume ∷ []) (Next HtmlTextLineEndingAfterPrefix)) [] m.after_line;
+    after_stops = λ s k h f. stops HtmlTextLineEndingAfter (row (enter SpaceOrTab ∷ consume ∷ []) (Next HtmlTextLineEndingAfterPrefix)) [] m.after_line k h;
     after_white = whites HtmlTextLineEndingAfter (row (enter SpaceOrTab ∷ consume ∷ []) (Next HtmlTextLineEndingAfterPrefix)) [] m.after_line;
     after_begins = begins HtmlTextLineEndingAfter (row (enter SpaceOrTab ∷ consume ∷ []) (Next HtmlTextLineEndingAfterPrefix)) [] m.after_line;
-    prefix_stops = stops HtmlTextLineEndingAfterPrefix (row (consume ∷ []) (Next HtmlTextLineEndingAfterPrefix)) (exit SpaceOrTab ∷ []) m.in_white;
+    prefix_stops = λ s k h f. stops HtmlTextLineEndingAfterPrefix (row (consume ∷ []) (Next HtmlTextLineEndingAfterPrefix)) (exit SpaceOrTab ∷ []) m.in_white k h;
     prefix_white = whites HtmlTextLineEndingAfterPrefix (row (consume ∷ []) (Next HtmlTextLineEndingAfterPrefix)) (exit SpaceOrTab ∷ []) m.in_white;
     prefix_begins = begins HtmlTextLineEndingAfterPrefix (row (consume ∷ []) (Next HtmlTextLineEndingAfterPrefix)) (exit SpaceOrTab ∷ []) m.in_white;
   }

@@ -16,7 +16,7 @@ use Rattle.mdconstructs_text.specs.TextBytes.{TextByte, line_feed, text_byte}
 use Rattle.mdconstructs_phrasing.specs.HtmlText.{CanEndHtml, CanEndHtmlLine, html_state}
 
 -- a byte that is seen waits
-byte-waits : (text : Text) (p : ℕ) (waits : Waits) (b : ℕ) → current_of text p waits ≡ Some b → waits ≡ Byte
+pub byte-waits : (text : Text) (p : ℕ) (waits : Waits) (b : ℕ) → current_of text p waits ≡ Some b → waits ≡ Byte
 byte-waits text p Nothing b h = absurd (cc)
 byte-waits text p Byte b h = refl
 byte-waits text p End b h = absurd (cc)

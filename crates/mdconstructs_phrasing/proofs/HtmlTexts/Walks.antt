@@ -3,6 +3,7 @@ use Rattle.std.proofs.Common.{◌≡◌, ℕ, suc, ◌+◌, ◌==◌, ◌&&◌, 
 use Rattle.std.specs.List.{prefix_len}
 use Rattle.std.proofs.lemmas.Bool.{eqb-true}
 use Rattle.markdown_tokenizer.specs.Configuration.{Configuration, Local}
+use Rattle.markdown_tokenizer.specs.Sight.{Sight}
 use Rattle.mdconstructs_machines.specs.Breaks.{is_white}
 use Rattle.mdconstructs_text.specs.Bytes.{has_byte_at, is_line_feed}
 use Rattle.mdconstructs_phrasing.specs.HtmlText.{has_blank_line}
@@ -12,6 +13,14 @@ pub data Move (S : Type 0) : Type 0 where
   refused : Move S
   done : Move S
   goes : Option (Configuration Unit Unit → Local Unit Unit) → S → Move S
+
+-- What is written where the end or a blank line stops a reader, if anything is, by what is seen there
+abbrev pub Stop : Type 0
+Stop = Option (Sight → Configuration Unit Unit → Local Unit Unit)
+
+-- nothing is, at any place
+abbrev pub never_writes : {S : Type 0} → S → Stop
+never_writes s = None
 
 -- one byte more
 abbrev pub one_further : Option ℕ → Option ℕ
@@ -23,6 +32,18 @@ abbrev pub moved : {S : Type 0} → (S → Option ℕ) → Move S → Option ℕ
 moved f refused = None
 moved f done = Some 1
 moved f (goes w s) = one_further (f s)
+
+-- how many bytes are gone over, by how many there are from the place that follows on
+abbrev pub gone_over : {S : Type 0} → (S → ℕ) → Move S → ℕ
+gone_over f refused = 0
+gone_over f done = 1
+gone_over f (goes w s) = suc (f s)
+
+-- what is written at the stop: nothing where a byte is refused
+abbrev pub stop_behind : {S : Type 0} → (S → Stop) → Move S → Stop
+stop_behind f refused = None
+stop_behind f done = None
+stop_behind f (goes w s) = f s
 
 -- a blank line is ahead, behind a line ending
 abbrev pub blank_ahead : List ℕ → Bool
@@ -54,6 +75,41 @@ module _ {S : Type 0} (next : S → ℕ → Move S) where
   walk (b ∷ bs) line s =
       cond (b == 10) (cond line None (moved (walk bs true) (next s b)))
       (cond (line && is_white b) (one_further (walk bs true s)) (moved (walk bs false) (next s b)))
+
+  -- how many bytes it goes over, until it is done or stops
+  abbrev pub looked : List ℕ → (line : Bool) → S → ℕ
+  looked [] line s = 0
+  looked (b ∷ bs) line s =
+      cond (b == 10) (cond line 0 (gone_over (looked bs true) (next s b)))
+      (cond (line && is_white b) (suc (looked bs true s)) (gone_over (looked bs false) (next s b)))
+
+  -- what is written where it stops, by the place at which the end or a blank line stops it
+  abbrev pub stop_of : (S → Stop) → List ℕ → (line : Bool) → S → Stop
+  stop_of gives_up [] line s = gives_up s
+  stop_of gives_up (b ∷ bs) line s =
+      cond (b == 10) (cond line (gives_up s) (stop_behind (stop_of gives_up bs true) (next s b)))
+      (cond (line && is_white b) (stop_of gives_up bs true s) (stop_behind (stop_of gives_up bs false) (next s b)))
+
+  -- nothing is, if no place writes
+  stays-unwritten : (move : Move S) (f : S → Stop) → ((s : S) → f s ≡ None) → stop_behind f move ≡ None
+  stays-unwritten refused f h = refl
+  stays-unwritten done f h = refl
+  stays-unwritten (goes w s) f h = h s
+
+  pub nothing-written : (bs : List ℕ) (line : Bool) (s : S) → stop_of never_writes bs line s ≡ None
+  nothing-written [] line s = refl
+  nothing-written (b ∷ bs) line s =
+      elim (b == 10) as (λ t. cond t (cond line None (stop_behind (stop_of never_writes bs true) (next s b)))
+      (cond (line && is_white b) (stop_of never_writes bs true s) (stop_behind (stop_of never_writes bs false) (next s b))) ≡ None) [
+        | true ↦ elim line as (λ l. cond l None (stop_behind (stop_of never_writes bs true) (next s b)) ≡ None) [
+          | true ↦ refl
+          | false ↦ stays-unwritten (next s b) (stop_of never_writes bs true) (nothing-written bs true)
+        ]
+        | false ↦ elim (line && is_white b) as (λ l. cond l (stop_of never_writes bs true s) (stop_behind (stop_of never_writes bs false) (next s b)) ≡ None) [
+          | true ↦ nothing-written bs true s
+          | false ↦ stays-unwritten (next s b) (stop_of never_writes bs false) (nothing-written bs false)
+        ]
+      ]
 
   -- A place that may follow a line ending: white space changes nothing there
   abbrev pub IsThrough : S → Type 0

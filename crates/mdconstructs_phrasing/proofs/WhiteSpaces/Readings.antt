@@ -22,14 +22,17 @@ use Rattle.mdconstructs_machines.proofs.LineReads.Steps.{at-front, held}
 use Rattle.mdconstructs_machines.specs.Breaks.{is_white}
 use Rattle.mdconstructs_machines.specs.Tables.{counts}
 use Rattle.mdconstructs_text.proofs.Constructs.Listed.{outer}
-use Rattle.mdconstructs_text.proofs.Plain.Items.{decided-so, Tried, puts-back}
+use Rattle.mdconstructs_text.proofs.Plain.Items.{ReadsIn, TriedIn, puts-back, reads-of}
+use Rattle.mdconstructs_text.proofs.Plain.Passed.{after-passed}
 use Rattle.mdconstructs_text.proofs.Plain.Stretches.{byte-behind, first_byte, goes-next, is_end, leaf-read, loops, past, past-at, past-stops, passed, sees, shows}
+use Rattle.mdconstructs_text.proofs.Texts.Counted.{IsAfter, after-call, after-more, after-within}
 use Rattle.mdconstructs_text.proofs.Texts.Reads.{ReadsPart}
 use Rattle.mdconstructs_text.proofs.Texts.Steps.{EndsWith, HasRows, Leads, Plays, before_class, leads-ok, leads-seen}
 use Rattle.mdconstructs_text.specs.Bytes.{passes}
 use Rattle.mdconstructs_text.specs.Construct.{Between}
 use Rattle.mdconstructs_text.specs.Parts.{bytes_of, event, leaf}
 use Rattle.mdconstructs_phrasing.proofs.WhiteSpaces.Bytes.{run-some}
+use Rattle.mdconstructs_phrasing.proofs.WhiteSpaces.Calls.{white_calls}
 use Rattle.mdconstructs_phrasing.proofs.WhiteSpaces.Classes.{inside-ends, inside-on, inside-refused, is_of_line}
 use Rattle.mdconstructs_phrasing.specs.WhiteSpace.{is_white_left, white_inside_rows, white_space, white_space_at, white_spaces, white_start_rows}
 
@@ -65,6 +68,15 @@ module _ (g : Given) (text : Text) (m : Plays g text) (w : PlaysWhiteSpaces g te
 
   length-is : n ≡ 1 + prefix_len is_white (bytes_of ss)
   length-is = ap (λ t. cond t (1 + prefix_len is_white (bytes_of ss)) 0) is
+
+  -- so many calls it takes, whether or not it is there
+  pub white-calls : IsAfter (white_calls (bytes_of l)) local after_white
+  white-calls =
+      let k = prefix_len is_white (bytes_of ss) in
+      let one = counts local in
+      let read = passed is_white counts ss one in
+      let all = after-more (1 + k) 1 local read after_white (after-more 1 k local one read (after-call local) (after-passed counts after-call is_white ss one)) (after-call read) in
+      after-within (1 + k + 1) (white_calls (bytes_of l)) local after_white (omega (arith, length-is)) all
 
   pub rest-is : past is_white l ≡ rest
   rest-is = ap (λ t. cond t (past is_white ss) l) is
@@ -121,16 +133,17 @@ module _ (g : Given) (text : Text) (m : Plays g text) (w : PlaysWhiteSpaces g te
       ap (λ b. cond (b && is_white_left (bytes_of (s ∷ ss))) found None) is ∙ ap (λ b. cond b found None) left
 
   -- At white space it is read, or what was tried leaves nothing
-  tries-white : (t : Bool) → is_white_left (bytes_of (s ∷ ss)) ≡ t → Tried g text m names SpaceOrTabStart nok p ended events local (s ∷ ss) (white_space_at (bytes_of (s ∷ ss)))
+  tries-white : (t : Bool) → is_white_left (bytes_of (s ∷ ss)) ≡ t → TriedIn g text m names (white_calls (bytes_of (s ∷ ss))) SpaceOrTabStart nok p ended events local (s ∷ ss) (white_space_at (bytes_of (s ∷ ss)))
   tries-white true left =
       let n = prefix_len is_white (bytes_of (s ∷ ss)) in
       let cs = outer names.home nok p ended events ∷ [] in
       let rest = past is_white ss in
       let after = after_white g text m w [] cs p ended events local s ss here is in
       let made = events ++ leaf g.bytes SpaceOrTab (take n (s ∷ ss)) in
-      subst (Tried g text m names SpaceOrTabStart nok p ended events local (s ∷ ss)) (sym (there true left)) (
+      subst (TriedIn g text m names (white_calls (bytes_of (s ∷ ss))) SpaceOrTabStart nok p ended events local (s ∷ ss)) (sym (there true left)) (
         is_end rest,
         after,
+        white-calls g text m w [] cs p ended events local s ss here is,
         λ es h. ends-white g text m w [] cs p ended events local s ss here is left es (leads-ok g text m (shows rest [] (p + n) made after) (outer names.home nok p ended events) [] es h),
       )
   tries-white false left =
@@ -139,14 +152,18 @@ module _ (g : Given) (text : Text) (m : Plays g text) (w : PlaysWhiteSpaces g te
       let rest = past is_white ss in
       let after = after_white g text m w [] cs p ended events local s ss here is in
       let enter = event g.bytes Enter SpaceOrTab (point_or text.end (slice_get text.seats p)) ∷ [] in
-      subst (Tried g text m names SpaceOrTabStart nok p ended events local (s ∷ ss)) (sym (there false left)) (
+      subst (TriedIn g text m names (white_calls (bytes_of (s ∷ ss))) SpaceOrTabStart nok p ended events local (s ∷ ss)) (sym (there false left)) (
         after,
+        white-calls g text m w [] cs p ended events local s ss here is,
         λ es h.
             fails-white g text m w [] cs p ended events local s ss here is left es
             (puts-back g text m names nok p ended events (shows rest (SpaceOrTab ∷ []) (p + n) (events ++ enter) after) (take_at events enter (length events) refl) es h),
       )
 
--- The theorem of white space at the end of a line
+-- The theorem of white space at the end of a line, within so many calls
+pub white-spaces-read-in : (g : Given) (text : Text) (m : Plays g text) → PlaysWhiteSpaces g text m.step → (names : Between) → ReadsIn g text m names white_calls white_spaces
+white-spaces-read-in g text m w names nok p ended events local s ss here first = tries-white g text m w names nok p ended events local s ss here first (is_white_left (bytes_of (s ∷ ss))) refl
+
+-- and within any number
 pub white-spaces-read : (g : Given) (text : Text) (m : Plays g text) → PlaysWhiteSpaces g text m.step → (names : Between) → ReadsPart g text m names white_spaces
-white-spaces-read g text m w names nok p ended events local s ss here first knows =
-    decided-so g text m names nok p ended events (s ∷ ss) _ _ _ (white_space_at (bytes_of (s ∷ ss))) (tries-white g text m w names nok p ended events local s ss here first (is_white_left (bytes_of (s ∷ ss))) refl)
+white-spaces-read g text m w names = reads-of g text m names white_calls white_spaces (white-spaces-read-in g text m w names)

@@ -11,11 +11,11 @@ first_run k before [] = None
 first_run k before (b ∷ bs) = cond (not before && (backticks (b ∷ bs) == k)) (Some 0) (further 1 (first_run k (b == 96) bs))
 
 -- sums of such places
-further-further : (m n : ℕ) (o : Option ℕ) → further m (further n o) ≡ further (m + n) o
+pub further-further : (m n : ℕ) (o : Option ℕ) → further m (further n o) ≡ further (m + n) o
 further-further m n None = refl
 further-further m n (Some x) = let e : m + (n + x) ≡ m + n + x = omega arith in ap Some e
 
-no-further : (o : Option ℕ) → further 0 o ≡ o
+pub no-further : (o : Option ℕ) → further 0 o ≡ o
 no-further None = refl
 no-further (Some m) = let e : 0 + m ≡ m = omega arith in ap Some e
 
@@ -57,7 +57,7 @@ passes-more : (k : ℕ) (before between after : Bool) (text : List ℕ) (m n : �
 passes-more k before between after text m n h i = h ∙ ap (further m) i ∙ further-further m n _ ∙ ap (λ l. further (m + n) (first_run k after l)) (drop-drop n m text)
 
 -- nothing begins in bytes that are no backticks
-no-run : (k : ℕ) → 0 < k → (before : Bool) (b : ℕ) (bs : List ℕ) → (b == 96) ≡ false → first_run k before (b ∷ bs) ≡ further 1 (first_run k false bs)
+pub no-run : (k : ℕ) → 0 < k → (before : Bool) (b : ℕ) (bs : List ℕ) → (b == 96) ≡ false → first_run k before (b ∷ bs) ≡ further 1 (first_run k false bs)
 no-run k some before b bs h =
     let other : (0 == k) ≡ false = grind (arith, nat_tests) in
     let no : (not before && (backticks (b ∷ bs) == k)) ≡ false = ap (λ t. not before && (cond t (1 + backticks bs) 0 == k)) h ∙ ap (λ t. not before && t) other ∙ and-false _ in

@@ -10,6 +10,11 @@ pub when-there : {A : Type 0} (P : A → Type 0) (b : Bool) (o : Option A) → O
 when-there P true o h = h
 when-there P false o h = tt
 
+-- of which the test may tell something
+pub when-so : {A : Type 0} (P : A → Type 0) (b : Bool) (o : Option A) → (b ≡ true → OfOption P o) → OfOption P (cond b o None)
+when-so P true o h = h refl
+when-so P false o h = tt
+
 -- nothing is there at a byte that fails the test
 pub only-there : {A : Type 0} (b : Bool) (o : Option A) → b ≡ false → cond b o None ≡ None
 only-there b o h = ap (λ t. cond t o None) h

@@ -1,6 +1,6 @@
 -- The machine of paragraphs reads a text as data.
-use Rattle.mdconstructs_text.proofs.Prelude.{[], false, refl, arith, DataStart, TextStart, Given, Configuration, start_configuration, edited-none, knowing-lawful, data_events, paragraphs, knows_chunk, paragraphs_rules, paragraphs-fit, paragraphs-known, counts, data-read}
-use Rattle.mdconstructs_text.proofs.Texts.Ends.{ReadsTexts, leads-on, reads-so}
+use Rattle.mdconstructs_text.proofs.Prelude.{◌+◌, [], false, refl, arith, DataStart, TextStart, Given, Configuration, start_configuration, edited-none, knowing-lawful, data_events, paragraphs, knows_chunk, paragraphs_rules, paragraphs-fit, paragraphs-known, counts, data-read}
+use Rattle.mdconstructs_text.proofs.Texts.Ends.{ReadsTexts, on-start, reads-so}
 
 pub reads-as-data : (g : Given) → ReadsTexts g paragraphs_rules (λ text. data_events g.bytes text.seats)
 reads-as-data g =
@@ -9,5 +9,5 @@ reads-as-data g =
     (λ text is flag.
     let k : Configuration Unit Unit = start_configuration flag in
     let step = (paragraphs_rules g).step in
-    leads-on g text step TextStart DataStart (λ k. refl) k (data_events g.bytes text.seats)
-    (data-read g text step (record { start = λ k. refl; inside = λ k. refl }) text.seats 0 false [] (counts k.local) refl))
+    let it = data-read g text step (record { start = λ k. refl; inside = λ k. refl }) text.seats 0 false [] (counts k.local) refl (0 + 1) in
+    (it.0, (on-start g text step TextStart DataStart (λ k. refl) k 0 it.0 it.1.0, it.1.1, it.1.2)))

@@ -3,6 +3,7 @@ use Rattle.mdconstructs_text.proofs.Prelude.{at-front, ◌≡◌, ℕ, zero, suc
 use Rattle.markdown_base.specs.declared.event.Name.{Name as EventName}
 use Rattle.mdconstructs_machines.proofs.LineReads.Steps.{stands as fed_as}
 use Rattle.mdconstructs_text.specs.Parts.{span}
+use Rattle.mdconstructs_text.proofs.Texts.Leads.{leads-unfed as step-unfed}
 use Rattle.mdconstructs_text.proofs.Texts.Steps.{Plays, EndsWith, Leads, leads-fed, before_class}
 
 -- what waits where these virtual bytes are left: the first of them, or the end
@@ -130,9 +131,7 @@ module _ (g : Given) (text : Text) (m : Plays g text) where
 
   -- feeding may come later
   pub leads-unfed : (k : Configuration Unit Unit) (cs : List Choice) (n : Name) → Leads g text m (fed text k) cs (Retry n) k cs (Next n)
-  leads-unfed k cs n events h calls =
-      let it = h calls in
-      (it.0, ((fed-ends g m.step text calls k cs n it.0).1 it.1.0, it.1.1, it.1.2))
+  leads-unfed k cs n e h = step-unfed g text m.step k cs n e h
 
   pub goes-back : (l : List Seat) (stack : List EventName) (q : ℕ) (events : List Event) (local : Local Unit Unit) (cs : List Choice) (name : Name) → drop q text.seats ≡ l
       → Leads g text m (shows l stack q events local) cs (Retry name) (held stack q Nothing false events local) cs (Next name)

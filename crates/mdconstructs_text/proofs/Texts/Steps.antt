@@ -1,9 +1,9 @@
--- How the machine of texts reads on, in small steps: to come to these events it is enough to come to them from further on.
-use Rattle.mdconstructs_text.proofs.Prelude.{◌≡◌, ℕ, ◌<◌, ◌∷◌, ◌++◌, [], List, Bool, cond, Option, ap, length, slice_get, lt-ltb, Event, Name, State, Next, Retry, Ok, Nok, Waits, Nothing, Byte, End, Given, Text, Configuration, Local, Choice, Step, Sight, sight, byte_of, seat_before, Reading, EndsIn, fed, settled_at, settled-ok-ends, Rows, when, with_local, counts, subst, sym, ◌∙◌, Some, true, false, Seat, slice_get_within, class_of, picked, step_of, TextByte, text_byte, text_rules, not, passes, row, enter, exit, consume, Data, LineEnding, TextBeforeData, DataAtBreak, Between, RawTextStart, RawTextSequenceOpen, RawTextBetween, RawTextData, RawTextSequenceClose, RawFlowAfter, RawFlowBeforeContentChunk, RawFlowContentChunk, AutolinkStart, AutolinkOpen, AutolinkSchemeInsideOrEmailAtext, AutolinkUrlInside, CharacterEscapeStart, CharacterEscapeInside, text_before_data_rows, data_at_break_rows, raw_text_start_rows, raw_text_sequence_open_rows, raw_text_between_rows, raw_text_data_rows, raw_text_sequence_close_rows, raw_flow_content_chunk_rows, autolink_open_rows, autolink_scheme_rows, autolink_url_rows, escape_start_rows, escape_inside_rows}
+-- How the machine of texts reads on, in small steps: to come to an ending it is enough to come to it from further on.
+use Rattle.mdconstructs_text.proofs.Prelude.{◌≡◌, ℕ, ◌<◌, ◌∷◌, ◌++◌, [], List, Bool, cond, Option, ap, length, slice_get, lt-ltb, Event, Name, State, Next, Retry, Ok, Nok, Waits, Nothing, Byte, End, Given, Text, Configuration, Local, Choice, Step, Sight, sight, byte_of, seat_before, fed, settled_at, Rows, when, with_local, counts, subst, sym, ◌∙◌, Some, true, false, Seat, slice_get_within, class_of, picked, step_of, TextByte, text_byte, text_rules, not, passes, row, enter, exit, consume, Data, LineEnding, TextBeforeData, DataAtBreak, Between, AutolinkStart, AutolinkOpen, AutolinkSchemeInsideOrEmailAtext, AutolinkUrlInside, CharacterEscapeStart, CharacterEscapeInside, text_before_data_rows, data_at_break_rows, autolink_open_rows, autolink_scheme_rows, autolink_url_rows, escape_start_rows, escape_inside_rows}
 use Rattle.mdconstructs_text.specs.Autolink.{autolink_start_rows}
-use Rattle.mdconstructs_text.specs.CodeSpan.{raw_flow_after_rows, raw_flow_before_content_chunk_rows}
 use Rattle.markdown_base.specs.declared.event.Name.{Name as EventName}
-use Rattle.mdconstructs_machines.proofs.LineReads.Steps.{held, leads-called as line-called, leads-fed as line-fed, leads-nok as line-nok}
+use Rattle.mdconstructs_machines.proofs.LineReads.Steps.{held}
+use Rattle.mdconstructs_text.proofs.Texts.Leads.{Ending, EndsWith as step_ends, Leads as step_leads, leads-called as step-called, leads-fed as step-fed, leads-nok as step-nok, leads-ok as step-ok}
 use Rattle.mdconstructs_machines.proofs.LineReads.Rows.{row_step}
 
 -- the step of the machine
@@ -25,14 +25,6 @@ module _ (g : Given) (text : Text) (step : Sight → Configuration Unit Unit →
 -- A machine that reads constructs of texts: at the names of their states it does what their rows say
 pub record Plays (g : Given) (text : Text) : Type 0 where
   pub step : Sight → Configuration Unit Unit → Name → Step Unit Unit
-  pub raw_text_start : HasRows g text step RawTextStart raw_text_start_rows
-  pub raw_text_sequence_open : HasRows g text step RawTextSequenceOpen raw_text_sequence_open_rows
-  pub raw_text_between : HasRows g text step RawTextBetween raw_text_between_rows
-  pub raw_text_data : HasRows g text step RawTextData raw_text_data_rows
-  pub raw_text_sequence_close : HasRows g text step RawTextSequenceClose raw_text_sequence_close_rows
-  pub raw_flow_after : HasRows g text step RawFlowAfter raw_flow_after_rows
-  pub raw_flow_before_content_chunk : HasRows g text step RawFlowBeforeContentChunk raw_flow_before_content_chunk_rows
-  pub raw_flow_content_chunk : HasRows g text step RawFlowContentChunk raw_flow_content_chunk_rows
   pub autolink_start : HasRows g text step AutolinkStart autolink_start_rows
   pub autolink_open : HasRows g text step AutolinkOpen autolink_open_rows
   pub autolink_scheme : HasRows g text step AutolinkSchemeInsideOrEmailAtext autolink_scheme_rows
@@ -53,13 +45,13 @@ pub record BeginsData (g : Given) (text : Text) (m : Plays g text) : Type 0 wher
   pub data_at_break : HasRows g text m.step DataAtBreak data_at_break_rows
 
 module _ (g : Given) (text : Text) (m : Plays g text) where
-  -- reading on ends in Ok with these events
-  abbrev pub EndsWith : Configuration Unit Unit → List Choice → State → List Event → Type 0
-  EndsWith k cs s events = (calls : ℕ) → (r : Reading Unit Unit) × (EndsIn g m.step text calls k cs s r × (r.answer ≡ Ok) × (r.configuration.events ≡ events))
+  -- reading on ends in Ok, as is asked
+  abbrev pub EndsWith : Configuration Unit Unit → List Choice → State → Ending → Type 0
+  EndsWith k cs s e = step_ends g text m.step k cs s e
 
   -- what the second ends with the first does too
   abbrev pub Leads : (k : Configuration Unit Unit) (cs : List Choice) (s : State) (k' : Configuration Unit Unit) (cs' : List Choice) (s' : State) → Type 0
-  Leads k cs s k' cs' s' = (events : List Event) → EndsWith k' cs' s' events → EndsWith k cs s events
+  Leads k cs s k' cs' s' = step_leads g text m.step k cs s k' cs' s'
 
 module _ (g : Given) (text : Text) where
   -- the classes of the byte before and of the one that waits
@@ -79,18 +71,16 @@ module _ (g : Given) (text : Text) (m : Plays g text) where
   -- a call, a byte or the end that is fed, and a choice that ends
   pub leads-called : (k : Configuration Unit Unit) (cs : List Choice) (n : Name)
       → let s = m.step (sight g text k) k n in Leads g text m k cs (Retry n) s.configuration (s.choices ++ cs) s.answer
-  leads-called k cs n events h = line-called g text m.step k cs n events h
+  leads-called k cs n e h = step-called g text m.step k cs n e h
 
   pub leads-fed : (k : Configuration Unit Unit) (cs : List Choice) (n : Name) → Leads g text m k cs (Next n) (fed text k) cs (Retry n)
-  leads-fed k cs n events h = line-fed g text m.step k cs n events h
+  leads-fed k cs n e h = step-fed g text m.step k cs n e h
 
   pub leads-ok : (k : Configuration Unit Unit) (c : Choice) (cs : List Choice) → Leads g text m k (c ∷ cs) Ok (settled_at c.kind c.saved Ok k) cs c.ok
-  leads-ok k c cs events h calls =
-      let it = h calls in
-      (it.0, ((settled-ok-ends g m.step text calls k c cs it.0).0 it.1.0, it.1.1, it.1.2))
+  leads-ok k c cs e h = step-ok g text m.step k c cs e h
 
   pub leads-nok : (k : Configuration Unit Unit) (c : Choice) (cs : List Choice) → Leads g text m k (c ∷ cs) Nok (settled_at c.kind c.saved Nok k) cs c.nok
-  leads-nok k c cs events h = line-nok g text m.step k c cs events h
+  leads-nok k c cs e h = step-nok g text m.step k c cs e h
 
   -- if a byte is left, it is fed
   pub fed-is : (p : ℕ) (ended : Bool) (events : List Event) (stack : List EventName) (local : Local Unit Unit) → p < length text.seats
@@ -103,15 +93,15 @@ module _ (g : Given) (text : Text) (m : Plays g text) where
       leads-fed (held stack p Nothing ended events local) cs n es (subst (λ k. EndsWith g text m k cs (Retry n) es) (sym (fed-is p ended events stack local (slice_get_within text.seats p s at))) h)
 
   -- reading on from the step of these rows
-  abbrev WithRows : Configuration Unit Unit → List Choice → List Event → Rows Unit Unit → Type 0
+  abbrev pub WithRows : Configuration Unit Unit → List Choice → Ending → Rows Unit Unit → Type 0
   WithRows k cs es rows = let q = row_step g text k rows in EndsWith g text m q.configuration (q.choices ++ cs) q.answer es
 
   -- a call, by its row
-  pub leads-row : (rows : Rows Unit Unit) (k : Configuration Unit Unit) (cs : List Choice) (n : Name) (es : List Event) → HasRow g text m.step k n rows → WithRows k cs es rows → EndsWith g text m k cs (Retry n) es
+  pub leads-row : (rows : Rows Unit Unit) (k : Configuration Unit Unit) (cs : List Choice) (n : Name) (es : Ending) → HasRow g text m.step k n rows → WithRows k cs es rows → EndsWith g text m k cs (Retry n) es
   leads-row rows k cs n es has h = leads-called k cs n es (subst (λ (q : Step Unit Unit). EndsWith g text m q.configuration (q.choices ++ cs) q.answer es) (sym has) h)
 
   -- a call, by what waits and the rows of the state there
-  pub leads-seen : {o : Option ℕ} {rows : Rows Unit Unit} (table : (previous current : Option TextByte) → Rows Unit Unit) (k : Configuration Unit Unit) (cs : List Choice) (n : Name) (es : List Event)
+  pub leads-seen : {o : Option ℕ} {rows : Rows Unit Unit} (table : (previous current : Option TextByte) → Rows Unit Unit) (k : Configuration Unit Unit) (cs : List Choice) (n : Name) (es : Ending)
       → (sight g text k).current ≡ o → table (class_of text_byte (sight g text k).previous) (class_of text_byte o) ≡ rows
       → m.step (sight g text k) k n ≡ row_step g text k (table (class_of text_byte (sight g text k).previous) (class_of text_byte (sight g text k).current)) → WithRows k cs es rows
       → EndsWith g text m k cs (Retry n) es
@@ -121,7 +111,7 @@ module _ (g : Given) (text : Text) (m : Plays g text) where
       leads-called k cs n es (subst (λ (q : Step Unit Unit). EndsWith g text m q.configuration (q.choices ++ cs) q.answer es) (sym all) h)
 
   -- and by a test, if there are two rows
-  pub leads-tested : {o : Option ℕ} {a b : Rows Unit Unit} {t : Bool} (test : Given → Sight → Configuration Unit Unit → Bool) (table : (previous current : Option TextByte) → Rows Unit Unit) (k : Configuration Unit Unit) (cs : List Choice) (n : Name) (es : List Event)
+  pub leads-tested : {o : Option ℕ} {a b : Rows Unit Unit} {t : Bool} (test : Given → Sight → Configuration Unit Unit → Bool) (table : (previous current : Option TextByte) → Rows Unit Unit) (k : Configuration Unit Unit) (cs : List Choice) (n : Name) (es : Ending)
       → (sight g text k).current ≡ o → table (class_of text_byte (sight g text k).previous) (class_of text_byte o) ≡ when test a b → test g (sight g text k) (with_local k (counts k.local)) ≡ t
       → m.step (sight g text k) k n ≡ row_step g text k (table (class_of text_byte (sight g text k).previous) (class_of text_byte (sight g text k).current)) → WithRows k cs es (cond t a b)
       → EndsWith g text m k cs (Retry n) es

@@ -1,6 +1,7 @@
 use Rattle.mdconstructs_documents.proofs.Prelude.{◌≡◌, ◌∙◌, ap, false, List, Event, Given, IsDocument, TextStart, start_configuration, text_events, text_rules, text-refuses-nothing, no-run-refused, IfOk-weaker}
 use Rattle.markdown_base.specs.declared.state.State.TheVariants.{Next}
 use Rattle.markdown_tokenizer.specs.Configuration.{Configuration}
+use Rattle.mdconstructs_text.proofs.Texts.Leads.{ending}
 use Rattle.mdconstructs_text.proofs.Texts.Ends.{ends-so, from-start}
 use Rattle.mdconstructs_text.proofs.Texts.Steps.{text_step}
 use Rattle.mdconstructs_text.proofs.Texts.WholePlaces.{whole-is-text}
@@ -14,7 +15,7 @@ reads-whole : (g : Given) → IsDocument g → (events : List Event) → ((sub :
 reads-whole g document events h =
     let run = h.1 in
     run.events ∙ ap (λ (k : Configuration Unit Unit). k.events) run.resolved.0
-    ∙ (ends-so g (whole_text g) (text_step g) (start_configuration false) (Next TextStart) (text_events g (whole_text g)) (from-start g (whole_text g) (whole-is-text g document) false) run.result run.ends).1
+    ∙ (ends-so g (whole_text g) (text_step g) (start_configuration false) (Next TextStart) (ending (text_events g (whole_text g))) (from-start g (whole_text g) (whole-is-text g document) false) run.result run.ends).1
 
 pub returns-clause-events : goal.returns-clause-events
 returns-clause-events c = IfOk-weaker c.read_by.result _ _ (λ events h. reads-whole _ c.read_by.ensures.document events.items h) c.read_by.ensures.events

@@ -5,7 +5,7 @@ use Rattle.markdown_base.specs.declared.state.TheConstants.Name.{HtmlTextCdataOp
 use Rattle.markdown_tokenizer.specs.Sight.{sight_of}
 use Rattle.mdconstructs_tables.specs.Rows.{row, write, consume, when}
 use Rattle.mdconstructs_text.specs.TextSizes.{size_b_grows}
-use Rattle.mdconstructs_phrasing.specs.HtmlMarked.{closed_by, ends_cdata_mark, in_cdata_mark}
+use Rattle.mdconstructs_phrasing.specs.HtmlMarked.{closed_by, ends_cdata_mark, in_cdata_mark, no_cdata}
 use Rattle.mdconstructs_phrasing.specs.HtmlText.{no_html}
 use Rattle.mdconstructs_phrasing.proofs.HtmlTexts.Picked.{does-by, seen}
 use Rattle.mdconstructs_phrasing.proofs.HtmlMarks.Picked.{known-by}
@@ -19,22 +19,40 @@ returns-then-in_cdata_mark g c =
     let plain : (b == 10) ≡ false = grind (arith, nat_tests, c.in-Some.field-0-test) in
     let e0 : in_cdata_mark t.given (sight_of t) t.configuration ≡ true = sym c.in_cdata_mark.ensures ∙ c.if-in_cdata_mark.true in
     does-by
-    (seen t b is no_html (when in_cdata_mark (row (write size_b_grows ∷ consume ∷ []) (Next HtmlTextCdataOpenInside)) (when ends_cdata_mark (row (write (closed_by 93 2 0) ∷ consume ∷ []) (Next HtmlTextComment)) no_html)) plain
-    ∙ known-by t in_cdata_mark (row (write size_b_grows ∷ consume ∷ []) (Next HtmlTextCdataOpenInside)) (when ends_cdata_mark (row (write (closed_by 93 2 0) ∷ consume ∷ []) (Next HtmlTextComment)) no_html) true e0)
+    (seen t b is no_html (when in_cdata_mark (row (write size_b_grows ∷ consume ∷ []) (Next HtmlTextCdataOpenInside)) (when ends_cdata_mark (when no_cdata no_html (row (write (closed_by 93 2 0) ∷ consume ∷ []) (Next HtmlTextComment))) no_html)) plain
+    ∙ known-by t in_cdata_mark (row (write size_b_grows ∷ consume ∷ []) (Next HtmlTextCdataOpenInside)) (when ends_cdata_mark (when no_cdata no_html (row (write (closed_by 93 2 0) ∷ consume ∷ []) (Next HtmlTextComment))) no_html) true e0)
     (search rules)
 
-pub returns-then-ends_cdata_mark : goal.returns-then-ends_cdata_mark
-returns-then-ends_cdata_mark g c =
+pub returns-then-no_cdata : goal.returns-then-no_cdata
+returns-then-no_cdata g c =
     let t = c.args.t.now in
     let b = c.in-Some.field-0 in
     let is = sym c.current.ensures ∙ c.in-Some.is in
     let plain : (b == 10) ≡ false = grind (arith, nat_tests, c.in-Some.field-0-test) in
     let e0 : in_cdata_mark t.given (sight_of t) t.configuration ≡ false = sym c.in_cdata_mark.ensures ∙ c.if-in_cdata_mark.false in
     let e1 : ends_cdata_mark t.given (sight_of t) t.configuration ≡ true = sym c.ends_cdata_mark.ensures ∙ c.if-ends_cdata_mark.true in
+    let e2 : no_cdata t.given (sight_of t) t.configuration ≡ true = sym c.no_cdata.ensures ∙ c.if-no_cdata.true in
     does-by
-    (seen t b is no_html (when in_cdata_mark (row (write size_b_grows ∷ consume ∷ []) (Next HtmlTextCdataOpenInside)) (when ends_cdata_mark (row (write (closed_by 93 2 0) ∷ consume ∷ []) (Next HtmlTextComment)) no_html)) plain
-    ∙ known-by t in_cdata_mark (row (write size_b_grows ∷ consume ∷ []) (Next HtmlTextCdataOpenInside)) (when ends_cdata_mark (row (write (closed_by 93 2 0) ∷ consume ∷ []) (Next HtmlTextComment)) no_html) false e0
-    ∙ known-by t ends_cdata_mark (row (write (closed_by 93 2 0) ∷ consume ∷ []) (Next HtmlTextComment)) no_html true e1)
+    (seen t b is no_html (when in_cdata_mark (row (write size_b_grows ∷ consume ∷ []) (Next HtmlTextCdataOpenInside)) (when ends_cdata_mark (when no_cdata no_html (row (write (closed_by 93 2 0) ∷ consume ∷ []) (Next HtmlTextComment))) no_html)) plain
+    ∙ known-by t in_cdata_mark (row (write size_b_grows ∷ consume ∷ []) (Next HtmlTextCdataOpenInside)) (when ends_cdata_mark (when no_cdata no_html (row (write (closed_by 93 2 0) ∷ consume ∷ []) (Next HtmlTextComment))) no_html) false e0
+    ∙ known-by t ends_cdata_mark (when no_cdata no_html (row (write (closed_by 93 2 0) ∷ consume ∷ []) (Next HtmlTextComment))) no_html true e1
+    ∙ known-by t no_cdata no_html (row (write (closed_by 93 2 0) ∷ consume ∷ []) (Next HtmlTextComment)) true e2)
+    (record { answered = refl; became = refl })
+
+pub returns-else-no_cdata : goal.returns-else-no_cdata
+returns-else-no_cdata g c =
+    let t = c.args.t.now in
+    let b = c.in-Some.field-0 in
+    let is = sym c.current.ensures ∙ c.in-Some.is in
+    let plain : (b == 10) ≡ false = grind (arith, nat_tests, c.in-Some.field-0-test) in
+    let e0 : in_cdata_mark t.given (sight_of t) t.configuration ≡ false = sym c.in_cdata_mark.ensures ∙ c.if-in_cdata_mark.false in
+    let e1 : ends_cdata_mark t.given (sight_of t) t.configuration ≡ true = sym c.ends_cdata_mark.ensures ∙ c.if-ends_cdata_mark.true in
+    let e2 : no_cdata t.given (sight_of t) t.configuration ≡ false = sym c.no_cdata.ensures ∙ c.if-no_cdata.false in
+    does-by
+    (seen t b is no_html (when in_cdata_mark (row (write size_b_grows ∷ consume ∷ []) (Next HtmlTextCdataOpenInside)) (when ends_cdata_mark (when no_cdata no_html (row (write (closed_by 93 2 0) ∷ consume ∷ []) (Next HtmlTextComment))) no_html)) plain
+    ∙ known-by t in_cdata_mark (row (write size_b_grows ∷ consume ∷ []) (Next HtmlTextCdataOpenInside)) (when ends_cdata_mark (when no_cdata no_html (row (write (closed_by 93 2 0) ∷ consume ∷ []) (Next HtmlTextComment))) no_html) false e0
+    ∙ known-by t ends_cdata_mark (when no_cdata no_html (row (write (closed_by 93 2 0) ∷ consume ∷ []) (Next HtmlTextComment))) no_html true e1
+    ∙ known-by t no_cdata no_html (row (write (closed_by 93 2 0) ∷ consume ∷ []) (Next HtmlTextComment)) false e2)
     (search rules)
 
 pub returns-else-ends_cdata_mark : goal.returns-else-ends_cdata_mark
@@ -46,7 +64,7 @@ returns-else-ends_cdata_mark g c =
     let e0 : in_cdata_mark t.given (sight_of t) t.configuration ≡ false = sym c.in_cdata_mark.ensures ∙ c.if-in_cdata_mark.false in
     let e1 : ends_cdata_mark t.given (sight_of t) t.configuration ≡ false = sym c.ends_cdata_mark.ensures ∙ c.if-ends_cdata_mark.false in
     does-by
-    (seen t b is no_html (when in_cdata_mark (row (write size_b_grows ∷ consume ∷ []) (Next HtmlTextCdataOpenInside)) (when ends_cdata_mark (row (write (closed_by 93 2 0) ∷ consume ∷ []) (Next HtmlTextComment)) no_html)) plain
-    ∙ known-by t in_cdata_mark (row (write size_b_grows ∷ consume ∷ []) (Next HtmlTextCdataOpenInside)) (when ends_cdata_mark (row (write (closed_by 93 2 0) ∷ consume ∷ []) (Next HtmlTextComment)) no_html) false e0
-    ∙ known-by t ends_cdata_mark (row (write (closed_by 93 2 0) ∷ consume ∷ []) (Next HtmlTextComment)) no_html false e1)
+    (seen t b is no_html (when in_cdata_mark (row (write size_b_grows ∷ consume ∷ []) (Next HtmlTextCdataOpenInside)) (when ends_cdata_mark (when no_cdata no_html (row (write (closed_by 93 2 0) ∷ consume ∷ []) (Next HtmlTextComment))) no_html)) plain
+    ∙ known-by t in_cdata_mark (row (write size_b_grows ∷ consume ∷ []) (Next HtmlTextCdataOpenInside)) (when ends_cdata_mark (when no_cdata no_html (row (write (closed_by 93 2 0) ∷ consume ∷ []) (Next HtmlTextComment))) no_html) false e0
+    ∙ known-by t ends_cdata_mark (when no_cdata no_html (row (write (closed_by 93 2 0) ∷ consume ∷ []) (Next HtmlTextComment))) no_html false e1)
     (record { answered = refl; became = refl })

@@ -8,8 +8,8 @@ use Rattle.mdconstructs_tables.specs.Rows.{row, write, consume, when}
 use Rattle.mdconstructs_text.specs.TextSizes.{size_b_is, size_b_grows}
 use Rattle.mdconstructs_phrasing.specs.HtmlMarked.{in_mark, mark_begun, mark_ends, mark_inside_rows, mark_line_ends}
 use Rattle.mdconstructs_phrasing.specs.HtmlText.{html_ends, html_goes_on}
-use Rattle.mdconstructs_phrasing.proofs.HtmlTexts.Picked.{does-by, seen}
-use Rattle.mdconstructs_phrasing.proofs.HtmlMarks.Picked.{ends-at, known-by}
+use Rattle.mdconstructs_phrasing.proofs.HtmlTexts.Picked.{does-by}
+use Rattle.mdconstructs_phrasing.proofs.HtmlMarks.Picked.{ends-at, known-by, look-seen}
 use Rattle.mdconstructs_phrasing.proofs.HtmlTexts.Calls.{html-can-end, line-can-end}
 use Rattle.mdconstructs_phrasing.proofs.html_marked.mark_inside.Goals as goal
 
@@ -29,7 +29,7 @@ returns-then-mark_ends g c =
     let is = sym c.current.ensures ∙ c.in-Some.is in
     let plain : (b == 10) ≡ false = grind (arith, nat_tests, c.in-Some.field-0-test) in
     let e0 : mark_ends t.given (sight_of t) t.configuration ≡ true = sym c.mark_ends.ensures ∙ c.if-mark_ends.true in
-    subst (λ s. IfOk c.html_ends.result (DoesAll s t c.html_ends.new.t)) (sym (seen t b is mark_line_ends (when mark_ends html_ends (when in_mark (row (write size_b_grows ∷ consume ∷ []) (Next HtmlTextComment)) (when mark_begun (row (write (size_b_is 0) ∷ consume ∷ []) (Next HtmlTextComment)) (html_goes_on HtmlTextComment)))) plain
+    subst (λ s. IfOk c.html_ends.result (DoesAll s t c.html_ends.new.t)) (sym (look-seen t b is mark_line_ends (when mark_ends html_ends (when in_mark (row (write size_b_grows ∷ consume ∷ []) (Next HtmlTextComment)) (when mark_begun (row (write (size_b_is 0) ∷ consume ∷ []) (Next HtmlTextComment)) (html_goes_on HtmlTextComment)))) plain
     ∙ known-by t mark_ends html_ends (when in_mark (row (write size_b_grows ∷ consume ∷ []) (Next HtmlTextComment)) (when mark_begun (row (write (size_b_is 0) ∷ consume ∷ []) (Next HtmlTextComment)) (html_goes_on HtmlTextComment))) true e0)) c.html_ends.ensures
 
 pub returns-then-in_mark : goal.returns-then-in_mark
@@ -41,7 +41,7 @@ returns-then-in_mark g c =
     let e0 : mark_ends t.given (sight_of t) t.configuration ≡ false = sym c.mark_ends.ensures ∙ c.if-mark_ends.false in
     let e1 : in_mark t.given (sight_of t) t.configuration ≡ true = sym c.in_mark.ensures ∙ c.if-in_mark.true in
     does-by
-    (seen t b is mark_line_ends (when mark_ends html_ends (when in_mark (row (write size_b_grows ∷ consume ∷ []) (Next HtmlTextComment)) (when mark_begun (row (write (size_b_is 0) ∷ consume ∷ []) (Next HtmlTextComment)) (html_goes_on HtmlTextComment)))) plain
+    (look-seen t b is mark_line_ends (when mark_ends html_ends (when in_mark (row (write size_b_grows ∷ consume ∷ []) (Next HtmlTextComment)) (when mark_begun (row (write (size_b_is 0) ∷ consume ∷ []) (Next HtmlTextComment)) (html_goes_on HtmlTextComment)))) plain
     ∙ known-by t mark_ends html_ends (when in_mark (row (write size_b_grows ∷ consume ∷ []) (Next HtmlTextComment)) (when mark_begun (row (write (size_b_is 0) ∷ consume ∷ []) (Next HtmlTextComment)) (html_goes_on HtmlTextComment))) false e0
     ∙ known-by t in_mark (row (write size_b_grows ∷ consume ∷ []) (Next HtmlTextComment)) (when mark_begun (row (write (size_b_is 0) ∷ consume ∷ []) (Next HtmlTextComment)) (html_goes_on HtmlTextComment)) true e1)
     (search rules)
@@ -56,7 +56,7 @@ returns-then-mark_begun g c =
     let e1 : in_mark t.given (sight_of t) t.configuration ≡ false = sym c.in_mark.ensures ∙ c.if-in_mark.false in
     let e2 : mark_begun t.given (sight_of t) t.configuration ≡ true = sym c.mark_begun.ensures ∙ c.if-mark_begun.true in
     does-by
-    (seen t b is mark_line_ends (when mark_ends html_ends (when in_mark (row (write size_b_grows ∷ consume ∷ []) (Next HtmlTextComment)) (when mark_begun (row (write (size_b_is 0) ∷ consume ∷ []) (Next HtmlTextComment)) (html_goes_on HtmlTextComment)))) plain
+    (look-seen t b is mark_line_ends (when mark_ends html_ends (when in_mark (row (write size_b_grows ∷ consume ∷ []) (Next HtmlTextComment)) (when mark_begun (row (write (size_b_is 0) ∷ consume ∷ []) (Next HtmlTextComment)) (html_goes_on HtmlTextComment)))) plain
     ∙ known-by t mark_ends html_ends (when in_mark (row (write size_b_grows ∷ consume ∷ []) (Next HtmlTextComment)) (when mark_begun (row (write (size_b_is 0) ∷ consume ∷ []) (Next HtmlTextComment)) (html_goes_on HtmlTextComment))) false e0
     ∙ known-by t in_mark (row (write size_b_grows ∷ consume ∷ []) (Next HtmlTextComment)) (when mark_begun (row (write (size_b_is 0) ∷ consume ∷ []) (Next HtmlTextComment)) (html_goes_on HtmlTextComment)) false e1
     ∙ known-by t mark_begun (row (write (size_b_is 0) ∷ consume ∷ []) (Next HtmlTextComment)) (html_goes_on HtmlTextComment) true e2)
@@ -72,7 +72,7 @@ returns-else-mark_begun g c =
     let e1 : in_mark t.given (sight_of t) t.configuration ≡ false = sym c.in_mark.ensures ∙ c.if-in_mark.false in
     let e2 : mark_begun t.given (sight_of t) t.configuration ≡ false = sym c.mark_begun.ensures ∙ c.if-mark_begun.false in
     does-by
-    (seen t b is mark_line_ends (when mark_ends html_ends (when in_mark (row (write size_b_grows ∷ consume ∷ []) (Next HtmlTextComment)) (when mark_begun (row (write (size_b_is 0) ∷ consume ∷ []) (Next HtmlTextComment)) (html_goes_on HtmlTextComment)))) plain
+    (look-seen t b is mark_line_ends (when mark_ends html_ends (when in_mark (row (write size_b_grows ∷ consume ∷ []) (Next HtmlTextComment)) (when mark_begun (row (write (size_b_is 0) ∷ consume ∷ []) (Next HtmlTextComment)) (html_goes_on HtmlTextComment)))) plain
     ∙ known-by t mark_ends html_ends (when in_mark (row (write size_b_grows ∷ consume ∷ []) (Next HtmlTextComment)) (when mark_begun (row (write (size_b_is 0) ∷ consume ∷ []) (Next HtmlTextComment)) (html_goes_on HtmlTextComment))) false e0
     ∙ known-by t in_mark (row (write size_b_grows ∷ consume ∷ []) (Next HtmlTextComment)) (when mark_begun (row (write (size_b_is 0) ∷ consume ∷ []) (Next HtmlTextComment)) (html_goes_on HtmlTextComment)) false e1
     ∙ known-by t mark_begun (row (write (size_b_is 0) ∷ consume ∷ []) (Next HtmlTextComment)) (html_goes_on HtmlTextComment) false e2)

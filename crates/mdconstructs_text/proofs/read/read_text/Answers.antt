@@ -1,4 +1,5 @@
 use Rattle.mdconstructs_text.proofs.Prelude.{◌≡◌, ◌<◌, [], false, inl, inr, refl, sym, ◌∙◌, ap, arith, All-from_get_or, IsTabSize, Error, Next, Ok, TextStart, Configuration, start_configuration, whole_text, given_by, Given, IsDocument, Reading, EndsIn, text_events}
+use Rattle.mdconstructs_text.proofs.Texts.Leads.{ending}
 use Rattle.mdconstructs_text.proofs.Texts.Ends.{ends-so, from-start}
 use Rattle.mdconstructs_text.proofs.Texts.Steps.{text_step}
 use Rattle.mdconstructs_text.proofs.Texts.WholePlaces.{whole-is-text}
@@ -8,7 +9,7 @@ use Rattle.mdconstructs_text.proofs.read.read_text.Goals as goal
 reads-whole : (g : Given) → IsDocument g → (r : Reading Unit Unit) → EndsIn g (text_step g) (whole_text g) 0 (start_configuration false) [] (Next TextStart) r
     → (r.answer ≡ Ok) × (r.configuration.events ≡ text_events g (whole_text g))
 reads-whole g document =
-    ends-so g (whole_text g) (text_step g) (start_configuration false) (Next TextStart) (text_events g (whole_text g)) (from-start g (whole_text g) (whole-is-text g document) false)
+    ends-so g (whole_text g) (text_step g) (start_configuration false) (Next TextStart) (ending (text_events g (whole_text g))) (from-start g (whole_text g) (whole-is-text g document) false)
 
 pub returns-in-Ok-clause-ok : goal.returns-in-Ok-clause-ok
 returns-in-Ok-clause-ok c =

@@ -2,7 +2,7 @@ use Rattle.std.proofs.Common.{refl, rules}
 use Rattle.mdconstructs_machines.specs.Tables.{counts}
 use Rattle.mdconstructs_tables.proofs.Rows.Calls.{callable, never-called}
 use Rattle.mdconstructs_text.specs.Autolink.{autolink_start, autolink_open, autolink_scheme, autolink_url}
-use Rattle.mdconstructs_text.specs.CodeSpan.{raw_text_start, raw_text_sequence_open, raw_text_between, raw_text_data, raw_text_sequence_close, raw_flow_after, raw_flow_before_content_chunk, raw_flow_content_chunk}
+use Rattle.mdconstructs_text.specs.CodeSpan.{raw_text_start, raw_text_data, raw_text_sequence_close, raw_flow_after, raw_flow_content_chunk}
 use Rattle.mdconstructs_text.specs.Escape.{escape_start, escape_inside}
 use Rattle.mdconstructs_tables.specs.Numbers.{by_left}
 use Rattle.mdconstructs_text.specs.TextBytes.{text_byte}
@@ -15,6 +15,7 @@ use Rattle.mdconstructs_phrasing.specs.HtmlText.{html_line_ending_after, html_li
 use Rattle.mdconstructs_phrasing.specs.HardBreak.{break_escape_start, break_escape_after, trailing_start, trailing_after_first, trailing_after_more}
 use Rattle.mdconstructs_phrasing.specs.WhiteSpace.{white_start, white_inside}
 use Rattle.mdconstructs_inlines.proofs.Priced.{at-any-cost}
+use Rattle.mdconstructs_phrasing.specs.RememberedCode.{remembered_between, remembered_chunk, remembered_open}
 use Rattle.mdconstructs_phrasing.specs.Reference.{reference_start, reference_open, reference_numeric, reference_value}
 use Rattle.mdconstructs_inlines.specs.StringTable.{string_start, string_before, string_before_data, string_data}
 use Rattle.mdconstructs_inlines.specs.RunRows.{attention_start, attention_inside}
@@ -45,11 +46,11 @@ attention_inside-requires c = callable inlines counts c.args.name attention_insi
 pub raw_text_start-requires : goal.raw_text_start-requires
 raw_text_start-requires c = callable inlines counts c.args.name raw_text_start _ _ (search rules) refl c.requires.invariant.holds c.begin.ensures
 
-pub raw_text_sequence_open-requires : goal.raw_text_sequence_open-requires
-raw_text_sequence_open-requires c = callable inlines counts c.args.name raw_text_sequence_open _ _ (search rules) refl c.requires.invariant.holds c.begin.ensures
+pub remembered_open-requires : goal.remembered_open-requires
+remembered_open-requires c = callable inlines counts c.args.name remembered_open _ _ (search rules) refl c.requires.invariant.holds c.begin.ensures
 
-pub raw_text_between-requires : goal.raw_text_between-requires
-raw_text_between-requires c = callable inlines counts c.args.name raw_text_between _ _ (search rules) refl c.requires.invariant.holds c.begin.ensures
+pub remembered_between-requires : goal.remembered_between-requires
+remembered_between-requires c = callable inlines counts c.args.name remembered_between _ _ (search rules) refl c.requires.invariant.holds c.begin.ensures
 
 pub raw_text_data-requires : goal.raw_text_data-requires
 raw_text_data-requires c = callable inlines counts c.args.name raw_text_data _ _ (search rules) refl c.requires.invariant.holds c.begin.ensures
@@ -60,8 +61,8 @@ raw_text_sequence_close-requires c = callable inlines counts c.args.name raw_tex
 pub raw_flow_after-requires : goal.raw_flow_after-requires
 raw_flow_after-requires c = callable inlines counts c.args.name raw_flow_after _ _ (search rules) refl c.requires.invariant.holds c.begin.ensures
 
-pub raw_flow_before_content_chunk-requires : goal.raw_flow_before_content_chunk-requires
-raw_flow_before_content_chunk-requires c = callable inlines counts c.args.name raw_flow_before_content_chunk _ _ (search rules) refl c.requires.invariant.holds c.begin.ensures
+pub remembered_chunk-requires : goal.remembered_chunk-requires
+remembered_chunk-requires c = callable inlines counts c.args.name remembered_chunk _ _ (search rules) refl c.requires.invariant.holds c.begin.ensures
 
 pub raw_flow_content_chunk-requires : goal.raw_flow_content_chunk-requires
 raw_flow_content_chunk-requires c = callable inlines counts c.args.name raw_flow_content_chunk _ _ (search rules) refl c.requires.invariant.holds c.begin.ensures

@@ -1,0 +1,262 @@
+-- A budget of calls, for a machine that reads items of constructs: what was spent and what is still to be paid is within it. Each construct has a
+-- potential, which pays for looks that fail; and each item is paid by its bytes.
+use Rattle.std.proofs.Common.{◌≡◌, ℕ, zero, suc, ◌+◌, ◌<◌, ◌≤◌, List, [], ◌∷◌, ◌++◌, Bool, true, Option, Some, None, refl, sym, ap, ◌∙◌, subst, arith, length, take, drop}
+use Rattle.std.proofs.lemmas.List.{drop-drop}
+use Rattle.markdown_base.specs.declared.configuration.Constructs.{Constructs}
+use Rattle.markdown_base.specs.declared.event.Event.{Event}
+use Rattle.markdown_base.specs.declared.state.Name.{Name}
+use Rattle.markdown_base.specs.declared.state.State.{State}
+use Rattle.markdown_base.specs.declared.state.State.TheVariants.{Next, Retry}
+use Rattle.markdown_base.specs.Virtual.{Seat}
+use Rattle.markdown_tokenizer.specs.declared.waiting.Waits.TheVariants.{Byte, Nothing}
+use Rattle.markdown_tokenizer.specs.Configuration.{Choice, Configuration, Local}
+use Rattle.markdown_tokenizer.specs.Text.{Given, Text}
+use Rattle.mdconstructs_machines.specs.Tables.{counts}
+use Rattle.mdconstructs_text.specs.Construct.{Between, Construct, Found, first_there, grammars_of}
+use Rattle.mdconstructs_text.specs.Items.{item_length}
+use Rattle.mdconstructs_text.specs.Parts.{bytes_of}
+use Rattle.mdconstructs_text.specs.TextBytes.{TextByte, text_byte}
+use Rattle.mdconstructs_text.specs.TextEvents.{item_events}
+use Rattle.mdconstructs_text.proofs.Constructs.Apart.{or-none}
+use Rattle.mdconstructs_text.proofs.Constructs.Listed.{AddsFrom, DecidesTo, IsKept, Knowledge, Reads, outer}
+use Rattle.mdconstructs_text.proofs.Plain.Items.{AddsItemIn, DecidesIn, ReadsIn}
+use Rattle.mdconstructs_text.proofs.Texts.Counted.{Remembered, after-call, remembered}
+use Rattle.mdconstructs_text.proofs.Texts.Leads.{spent}
+use Rattle.mdconstructs_text.proofs.Texts.Steps.{Leads, Plays, between_items}
+
+-- how many calls a construct may still cost, by what is remembered and the virtual bytes that are left
+abbrev pub Potential : Type 0
+Potential = Remembered → List Seat → ℕ
+
+-- What is paid. `potentials`: those of the constructs, the last of the list first. `toll`: what a try of each costs beside, by the virtual bytes that are
+-- left. `fixed`: what these pay in any case. `sound`: what is known of what is remembered, at a place. `other` and `item`: what is there if no construct is,
+-- and what is there
+pub record Prices : Type 1 where
+  pub potentials : List Potential
+  pub toll : List Seat → ℕ → ℕ
+  pub fixed : List Seat → ℕ
+  pub sound : ℕ → Remembered → Type 0
+  pub other : List ℕ → Found
+  pub item : List ℕ → Found
+
+-- ---- potentials
+
+-- all of them
+abbrev pub total : List Potential → Remembered → List Seat → ℕ
+total [] r l = 0
+total (v ∷ vs) r l = v r l + total vs r l
+
+-- a try of each
+abbrev pub tolls : List Potential → (toll : ℕ → ℕ) → ℕ
+tolls [] t = 0
+tolls (v ∷ vs) t = t 0 + tolls vs (λ n. t (suc n))
+
+-- What is to be paid where so many constructs may still be tried at a byte: the potentials of the others are those behind it
+abbrev pub to_try : List Potential → (toll : ℕ → ℕ) → ℕ → Remembered → List Seat → ℕ
+to_try vs t zero r l = total vs r (drop 1 l)
+to_try [] t (suc n) r l = t 0 + to_try [] (λ n. t (suc n)) n r l
+to_try (v ∷ vs) t (suc n) r l = t 0 + (v r l + to_try vs (λ n. t (suc n)) n r l)
+
+-- a byte less costs no more
+abbrev pub GoDown : List Potential → Type 0
+GoDown [] = Unit {0}
+GoDown (v ∷ vs) = ((r : Remembered) (s : Seat) (ss : List Seat) → v r ss ≤ v r (s ∷ ss)) × GoDown vs
+
+pub total-down : (vs : List Potential) → GoDown vs → (r : Remembered) (s : Seat) (ss : List Seat) → total vs r ss ≤ total vs r (s ∷ ss)
+total-down [] down r s ss = omega arith
+total-down (v ∷ vs) down r s ss = omega (arith, down.0 r s ss, total-down vs down.1 r s ss)
+
+pub total-drop : (vs : List Potential) → GoDown vs → (n : ℕ) (r : Remembered) (l : List Seat) → total vs r (drop n l) ≤ total vs r l
+total-drop vs down zero r l = omega arith
+total-drop vs down (suc n) r [] = omega arith
+total-drop vs down (suc n) r (s ∷ ss) = omega (arith, total-drop vs down n r ss, total-down vs down r s ss)
+
+-- behind an item they are no more than behind a byte
+pub total-behind : (vs : List Potential) → GoDown vs → (n : ℕ) (r : Remembered) (s : Seat) (ss : List Seat) → 0 < n → total vs r (drop n (s ∷ ss)) ≤ total vs r ss
+total-behind vs down zero r s ss h = absurd (omega (arith, h))
+total-behind vs down (suc n) r s ss h = total-drop vs down n r ss
+
+-- a construct less to be tried costs no more
+pub try-fewer : (vs : List Potential) → GoDown vs → (t : ℕ → ℕ) (n : ℕ) (r : Remembered) (s : Seat) (ss : List Seat) → to_try vs t n r (s ∷ ss) ≤ to_try vs t (suc n) r (s ∷ ss)
+try-fewer [] down t zero r s ss = omega arith
+try-fewer [] down t (suc n) r s ss = omega (arith, try-fewer [] down (λ n. t (suc n)) n r s ss)
+try-fewer (v ∷ vs) down t zero r s ss = omega (arith, down.0 r s ss)
+try-fewer (v ∷ vs) down t (suc n) r s ss = omega (arith, try-fewer vs down.1 (λ n. t (suc n)) n r s ss)
+
+-- where none is left, they are those behind the byte
+pub try-none : (vs : List Potential) → GoDown vs → (t : ℕ → ℕ) (n : ℕ) (r : Remembered) (s : Seat) (ss : List Seat) → total vs r ss ≤ to_try vs t n r (s ∷ ss)
+try-none vs down t zero r s ss = omega arith
+try-none vs down t (suc n) r s ss = omega (arith, try-none vs down t n r s ss, try-fewer vs down t n r s ss)
+
+-- the potential of a construct, by how many are behind it in the list
+abbrev pub at_index : List Potential → ℕ → Potential
+at_index [] n r l = 0
+at_index (v ∷ vs) zero r l = v r l
+at_index (v ∷ vs) (suc n) r l = at_index vs n r l
+
+-- once a construct more was tried, its potential is that behind the byte
+pub try-one : (vs : List Potential) (t : ℕ → ℕ) (n : ℕ) (r : Remembered) (l : List Seat) → to_try vs t n r l + t n + at_index vs n r l ≡ to_try vs t (suc n) r l + at_index vs n r (drop 1 l)
+try-one [] t zero r l = omega arith
+try-one [] t (suc n) r l = omega (arith, try-one [] (λ n. t (suc n)) n r l)
+try-one (v ∷ vs) t zero r l = omega arith
+try-one (v ∷ vs) t (suc n) r l = omega (arith, try-one vs (λ n. t (suc n)) n r l)
+
+-- where all may be tried, they are whole
+pub try-all : (vs : List Potential) (t : ℕ → ℕ) (r : Remembered) (l : List Seat) → to_try vs t (length vs) r l ≤ total vs r l + tolls vs t
+try-all [] t r l = omega arith
+try-all (v ∷ vs) t r l = omega (arith, try-all vs (λ n. t (suc n)) r l)
+
+-- ---- the knowledge that holds a budget
+module _ (text : Text) (on : Constructs) (x : Prices) (budget : ℕ) where
+  -- what is to be paid before an item
+  abbrev pub whole : Remembered → List Seat → ℕ
+  whole r l = total x.potentials r l + x.fixed l
+
+  -- what the tries at a byte cost, if all are made
+  abbrev pub extra : List Seat → ℕ
+  extra l = tolls x.potentials (x.toll l)
+
+  -- After so many calls some constructs may still be tried: what is there of them is the item, and they are paid
+  abbrev pub Tries : List (Construct Found TextByte Unit Unit) → Remembered → ℕ → List Seat → Type 0
+  Tries cs r n l = (first_there (grammars_of cs) on (bytes_of l) (x.other (bytes_of l)) ≡ x.item (bytes_of l)) × (n + (to_try x.potentials (x.toll l) (length cs) r l + x.fixed l) ≤ budget + extra l)
+
+  -- none may
+  abbrev pub TriesNone : Remembered → ℕ → List Seat → Type 0
+  TriesNone r n l = (x.other (bytes_of l) ≡ x.item (bytes_of l)) × (n + (total x.potentials r (drop 1 l) + x.fixed l) ≤ budget + extra l + 1)
+
+  abbrev pub budgeted : Knowledge Found TextByte (Unit {0})
+  budgeted = record {
+    after_item = λ m item. m;
+    knows = λ m p local. x.sound p (remembered local) × (spent local + whole (remembered local) (drop p text.seats) ≤ budget);
+    tries = λ m cs p local. x.sound p (remembered local) × Tries cs (remembered local) (spent local) (drop p text.seats);
+    at_data = λ m p local. x.sound p (remembered local) × TriesNone (remembered local) (spent local) (drop p text.seats);
+  }
+
+  -- an item of so many bytes pays for so many calls, and for what was tried before
+  abbrev pub Pays : (calls size : ℕ) → List Seat → Type 0
+  Pays calls size l = (0 < size) × (calls + 1 + extra l + x.fixed (drop size l) ≤ x.fixed l)
+
+module _ (g : Given) (text : Text) (m : Plays g text) (names : Between) (x : Prices) (budget : ℕ) (down : GoDown x.potentials) where
+  abbrev on : Constructs
+  on = g.options.constructs
+
+  abbrev known : Knowledge Found TextByte (Unit {0})
+  known = budgeted text on x budget
+
+  pub budget-kept : IsKept g text known
+  budget-kept = record {
+    passes = λ m c cs p local s ss here none h.
+        let r = remembered local in
+        let bytes = bytes_of (s ∷ ss) in
+        let at = subst (Tries text on x budget (c ∷ cs) r (spent local)) here h.1 in
+        let rest : first_there (grammars_of cs) on bytes (x.other bytes) ≡ x.item bytes = sym (none (first_there (grammars_of cs) on bytes (x.other bytes))) ∙ at.0 in
+        (h.0, subst (Tries text on x budget cs r (spent local)) (sym here) (rest, omega (arith, at.1, try-fewer x.potentials down (x.toll (s ∷ ss)) (length cs) r s ss)));
+    to_data = λ m p local h. (h.0, (h.1.0, (let once = after-call local in omega (arith, h.1.1, once.calls))));
+  }
+
+  -- A construct before others in the list is decided, and paid: if it is there, by its bytes; if not, by its potential
+  abbrev pub DecidesPaid : (rest : List (Construct Found TextByte Unit Unit)) → (nok : Name) (p : ℕ) (ended : Bool) (events : List Event) → List Seat → Configuration Unit Unit → List Choice → State → Option Found → Type 0
+  DecidesPaid rest nok p ended events l k cs s None =
+      (after : Local Unit Unit) × x.sound p (remembered after)
+      × (spent after + 1 + to_try x.potentials (x.toll l) (length rest) (remembered after) l ≤ spent k.local + to_try x.potentials (x.toll l) (suc (length rest)) (remembered k.local) l)
+      × Leads g text m k cs s (between_items p Nothing ended events after) [] (Next nok)
+  DecidesPaid rest nok p ended events l k cs s (Some item) =
+      (ended_after : Bool) × (after : Local Unit Unit) × x.sound (p + item_length item) (remembered after)
+      × (spent after + 1 + extra text on x budget l + whole text on x budget (remembered after) (drop (item_length item) l) ≤ spent k.local + to_try x.potentials (x.toll l) (suc (length rest)) (remembered k.local) l + x.fixed l)
+      × Leads g text m k cs s (between_items (p + item_length item) Nothing ended_after (events ++ item_events g.bytes (item, take (item_length item) l)) after) [] (Next names.home)
+
+  abbrev pub ReadsPaid : Construct Found TextByte Unit Unit → List (Construct Found TextByte Unit Unit) → Type 0
+  ReadsPaid c rest =
+      (nok : Name) (p : ℕ) (ended : Bool) (events : List Event) (local : Local Unit Unit) (s : Seat) (ss : List Seat) → drop p text.seats ≡ s ∷ ss → c.grammar.first s.byte ≡ true → x.sound p (remembered local)
+      → DecidesPaid rest nok p ended events (s ∷ ss) (between_items p Byte ended events local) (outer names.home nok p ended events ∷ []) (Retry c.start) (c.grammar.front (bytes_of (s ∷ ss)))
+
+  -- behind an item
+  behind : (p n : ℕ) (s : Seat) (ss : List Seat) → drop p text.seats ≡ s ∷ ss → drop (p + n) text.seats ≡ drop n (s ∷ ss)
+  behind p n s ss here = sym (drop-drop n p text.seats) ∙ ap (drop n) here
+
+  -- so the frame of lists of constructs has its theorem
+  decided-paid : (c : Construct Found TextByte Unit Unit) (rest : List (Construct Found TextByte Unit Unit)) (nok : Name) (p : ℕ) (ended : Bool) (events : List Event) (local : Local Unit Unit) (s : Seat) (ss : List Seat) → drop p text.seats ≡ s ∷ ss
+      → known.tries tt (c ∷ rest) p local → (cs : List Choice) (state : State) (o : Option Found) → c.grammar.front (bytes_of (s ∷ ss)) ≡ o
+      → DecidesPaid rest nok p ended events (s ∷ ss) (between_items p Byte ended events (counts local)) cs state o
+      → DecidesTo g text m.step names text_byte item_length (item_events g.bytes) known tt rest nok p ended events (s ∷ ss) (between_items p Byte ended events (counts local)) cs state o
+  decided-paid c rest nok p ended events local s ss here knows cs state None is d =
+      let bytes = bytes_of (s ∷ ss) in
+      let after = d.0 in
+      let at = subst (Tries text on x budget (c ∷ rest) (remembered local) (spent local)) here knows.1 in
+      let once = after-call local in
+      let others : first_there (grammars_of rest) on bytes (x.other bytes) ≡ x.item bytes = sym (or-none (c.grammar.on on) (c.grammar.front bytes) (first_there (grammars_of rest) on bytes (x.other bytes)) is) ∙ at.0 in
+      (after, (d.1, subst (Tries text on x budget rest (remembered after) (spent after)) (sym here) (others, omega (arith, at.1, d.2, once.calls))), d.3)
+  decided-paid c rest nok p ended events local s ss here knows cs state (Some item) is d =
+      let after = d.1 in
+      let at = subst (Tries text on x budget (c ∷ rest) (remembered local) (spent local)) here knows.1 in
+      let once = after-call local in (
+        d.0,
+        after,
+        (d.2, subst (λ l. spent after + whole text on x budget (remembered after) l ≤ budget) (sym (behind p (item_length item) s ss here)) (omega (arith, at.1, d.3, once.calls))),
+        d.4,
+      )
+
+  pub reads-budgeted : (c : Construct Found TextByte Unit Unit) (rest : List (Construct Found TextByte Unit Unit)) → ReadsPaid c rest → Reads g text m.step names text_byte item_length (item_events g.bytes) known tt c rest
+  reads-budgeted c rest reads nok p ended events local s ss here first knows =
+      decided-paid c rest nok p ended events local s ss here knows (outer names.home nok p ended events ∷ []) (Retry c.start) (c.grammar.front (bytes_of (s ∷ ss))) refl
+      (reads nok p ended events (counts local) s ss here first knows.0)
+
+  module _ (later : (p q : ℕ) (r : Remembered) → p ≤ q → x.sound p r → x.sound q r) where
+    -- a construct without memory: its calls are paid by its potential, or by its bytes
+    within-paid : (c : Construct Found TextByte Unit Unit) (rest : List (Construct Found TextByte Unit Unit)) (n : ℕ) (nok : Name) (p : ℕ) (ended : Bool) (events : List Event) (local : Local Unit Unit) (s : Seat) (ss : List Seat)
+        → x.sound p (remembered local) → (cs : List Choice) (state : State) (o : Option Found)
+        → (o ≡ None → (r : Remembered) → n + 1 + at_index x.potentials (length rest) r ss ≤ x.toll (s ∷ ss) (length rest) + at_index x.potentials (length rest) r (s ∷ ss))
+        → ((item : Found) → o ≡ Some item → Pays text on x budget n (item_length item) (s ∷ ss))
+        → DecidesIn g text m names n nok p ended events (s ∷ ss) (between_items p Byte ended events local) cs state o
+        → DecidesPaid rest nok p ended events (s ∷ ss) (between_items p Byte ended events local) cs state o
+    within-paid c rest n nok p ended events local s ss sound cs state None missed found d =
+        let after = d.0 in
+        let r = remembered local in (
+          after,
+          subst (x.sound p) (sym d.1.same) sound,
+          subst (λ r'. spent after + 1 + to_try x.potentials (x.toll (s ∷ ss)) (length rest) r' (s ∷ ss) ≤ spent local + to_try x.potentials (x.toll (s ∷ ss)) (suc (length rest)) r (s ∷ ss)) (sym d.1.same)
+              (omega (arith, d.1.calls, missed refl r, try-one x.potentials (x.toll (s ∷ ss)) (length rest) r (s ∷ ss))),
+          d.2,
+        )
+    within-paid c rest n nok p ended events local s ss sound cs state (Some item) missed found d =
+        let after = d.1 in
+        let r = remembered local in
+        let size = item_length item in
+        let pays = found item refl in
+        let further : p ≤ p + size = omega arith in (
+          d.0,
+          after,
+          subst (x.sound (p + size)) (sym d.2.same) (later p (p + size) r further sound),
+          subst (λ r'. spent after + 1 + extra text on x budget (s ∷ ss) + whole text on x budget r' (drop size (s ∷ ss)) ≤ spent local + to_try x.potentials (x.toll (s ∷ ss)) (suc (length rest)) r (s ∷ ss) + x.fixed (s ∷ ss)) (sym d.2.same)
+              (omega (arith, d.2.calls, pays.1, total-behind x.potentials down size r s ss pays.0, try-none x.potentials down (x.toll (s ∷ ss)) (suc (length rest)) r s ss)),
+          d.3,
+        )
+
+    pub reads-within : (c : Construct Found TextByte Unit Unit) (rest : List (Construct Found TextByte Unit Unit)) (calls : List ℕ → ℕ) → ReadsIn g text m names calls c
+        → ((s : Seat) (ss : List Seat) → c.grammar.first s.byte ≡ true → c.grammar.front (bytes_of (s ∷ ss)) ≡ None → (r : Remembered)
+        → calls (bytes_of (s ∷ ss)) + 1 + at_index x.potentials (length rest) r ss ≤ x.toll (s ∷ ss) (length rest) + at_index x.potentials (length rest) r (s ∷ ss))
+        → ((s : Seat) (ss : List Seat) → c.grammar.first s.byte ≡ true → (item : Found) → c.grammar.front (bytes_of (s ∷ ss)) ≡ Some item → Pays text on x budget (calls (bytes_of (s ∷ ss))) (item_length item) (s ∷ ss))
+        → ReadsPaid c rest
+    reads-within c rest calls reads missed found nok p ended events local s ss here first sound =
+        within-paid c rest (calls (bytes_of (s ∷ ss))) nok p ended events local s ss sound (outer names.home nok p ended events ∷ []) (Retry c.start) (c.grammar.front (bytes_of (s ∷ ss)))
+        (missed s ss first) (found s ss first) (reads nok p ended events local s ss here first)
+
+    -- an item that is no construct is paid by its bytes
+    pub adds-paid : (n : ℕ) (name : Name) (p : ℕ) (ended : Bool) (events : List Event) (local : Local Unit Unit) (s : Seat) (ss : List Seat) (item : Found) → drop p text.seats ≡ s ∷ ss → x.sound p (remembered local)
+        → spent local + (total x.potentials (remembered local) ss + x.fixed (s ∷ ss)) ≤ budget + extra text on x budget (s ∷ ss) + 1 → Pays text on x budget n (item_length item) (s ∷ ss)
+        → AddsItemIn g text m names n (between_items p Byte ended events local) (Retry name) p events (s ∷ ss) item
+        → AddsFrom g text m.step names text_byte item_length (item_events g.bytes) known tt (between_items p Byte ended events local) (Retry name) p events (s ∷ ss) item
+    adds-paid n name p ended events local s ss item here sound paid pays d =
+        let after = d.1 in
+        let r = remembered local in
+        let size = item_length item in
+        let further : p ≤ p + size = omega arith in (
+          d.0,
+          after,
+          (
+            subst (x.sound (p + size)) (sym d.2.same) (later p (p + size) r further sound),
+            subst (λ r'. spent after + whole text on x budget r' (drop (p + size) text.seats) ≤ budget) (sym d.2.same)
+                (subst (λ l. spent after + whole text on x budget r l ≤ budget) (sym (behind p size s ss here)) (omega (arith, d.2.calls, pays.1, paid, total-behind x.potentials down size r s ss pays.0))),
+          ),
+          d.3,
+        )

@@ -1,0 +1,208 @@
+-- The machine of inline text is the list of its constructs, whatever is known while it reads: of that it needs how each construct, data, line endings
+-- and runs are read.
+use Rattle.std.proofs.Common.{◌≡◌, ℕ, ◌+◌, ◌≤◌, ◌&&◌, ◌||◌, List, [], ◌∷◌, ◌++◌, Bool, true, false, refl, sym, ap, ◌∙◌, subst, arith, drop, length, take}
+use Rattle.std.specs.List.{flat_map, prefix_len}
+use Rattle.std.proofs.lemmas.List.{length-drop}
+use Rattle.std.proofs.Math.Bool.{and-false}
+use Rattle.std.proofs.lemmas.Bool.{eqb-true}
+use Rattle.std.proofs.lemmas.Bool.Decides.{nat_tests}
+use Rattle.markdown_base.specs.declared.configuration.Constructs.{Constructs}
+use Rattle.markdown_base.specs.declared.event.Event.{Event}
+use Rattle.markdown_base.specs.declared.state.Name.{Name}
+use Rattle.markdown_base.specs.declared.event.Name.TheVariants.{SpaceOrTab}
+use Rattle.markdown_base.specs.declared.state.State.TheVariants.{Next, Retry}
+use Rattle.markdown_base.specs.declared.state.TheConstants.Name.{AutolinkSchemeOrEmailAtext, BlankLineStart, HtmlTextCdataEnd, TextBefore, TextBeforeData, TextBeforeHardBreakEscape, TextBeforeHtml}
+use Rattle.markdown_base.specs.Virtual.{Seat}
+use Rattle.markdown_tokenizer.specs.declared.waiting.Waits.TheVariants.{Byte, Nothing}
+use Rattle.markdown_tokenizer.specs.Configuration.{Configuration, Local}
+use Rattle.markdown_tokenizer.specs.Sight.{sight}
+use Rattle.markdown_tokenizer.specs.Text.{Given, Text}
+use Rattle.mdconstructs_tables.specs.Rows.{class_of}
+use Rattle.mdconstructs_machines.specs.Breaks.{is_white}
+use Rattle.mdconstructs_machines.specs.Tables.{counts}
+use Rattle.mdconstructs_machines.proofs.LineReads.Rows.{row_step}
+use Rattle.mdconstructs_text.specs.Autolink.{autolinks}
+use Rattle.mdconstructs_text.specs.Bytes.{is_line_feed}
+use Rattle.mdconstructs_phrasing.specs.RememberedCode.{remembered_code_spans}
+use Rattle.mdconstructs_text.specs.Construct.{Construct, Found, between_texts, first_there, grammars_of, some_first, tried_at}
+use Rattle.mdconstructs_text.specs.Escape.{escapes}
+use Rattle.mdconstructs_text.specs.Items.{item_length}
+use Rattle.mdconstructs_text.specs.Parts.{bytes_of, leaf}
+use Rattle.mdconstructs_text.specs.TextBytes.{TextByte, backslash, less, text_byte, white}
+use Rattle.mdconstructs_text.specs.TextEvents.{item_events}
+use Rattle.mdconstructs_text.proofs.Constructs.Apart.{AreApart, none-there}
+use Rattle.mdconstructs_text.proofs.Constructs.Listed.{AddsFrom, AreTried, IsKept, IsListed, IsTried, Knowledge, Reads, ReadsFrom, items-read, listed}
+use Rattle.mdconstructs_text.proofs.Texts.Cutting.{cut-same}
+use Rattle.mdconstructs_text.proofs.Texts.Leads.{spent}
+use Rattle.mdconstructs_text.proofs.Texts.Steps.{EndsWith, Plays, between_items}
+use Rattle.mdconstructs_phrasing.specs.Email.{emails}
+use Rattle.mdconstructs_phrasing.specs.HtmlMarked.{html_marks}
+use Rattle.mdconstructs_phrasing.specs.HtmlTag.{html_tags}
+use Rattle.mdconstructs_phrasing.specs.HardBreak.{break_escapes, trailing_breaks}
+use Rattle.mdconstructs_phrasing.specs.WhiteSpace.{white_spaces}
+use Rattle.mdconstructs_phrasing.specs.Reference.{references}
+use Rattle.mdconstructs_phrasing.proofs.WhiteSpaces.Classes.{white-class}
+use Rattle.mdconstructs_inlines.specs.InlineEvents.{begins_run, inline_grammars, inline_item_at, read_events, run_or_part}
+use Rattle.mdconstructs_inlines.specs.InlineTable.{behind_autolinks, behind_emails, behind_escapes, behind_marks, inline_before_rows, inline_constructs, white_constructs}
+use Rattle.mdconstructs_inlines.specs.RunRows.{is_delimiter}
+use Rattle.mdconstructs_inlines.proofs.InlineApart.{behind-autolinks-apart, behind-emails-apart, behind-escapes-apart, behind-marks-apart, inline-apart, or-parts, some-other, white-apart}
+use Rattle.mdconstructs_inlines.proofs.PartReads.{is_own}
+use Rattle.mdconstructs_inlines.proofs.Playing.{inlines_play, tried-between}
+
+-- at the byte of a construct no run begins
+no-delimiter : (b : ℕ) → some_first inline_grammars b ≡ true → is_delimiter b ≡ false
+no-delimiter b h = grind (arith, nat_tests)
+
+-- the constructs as they stand in the list, each with the name of the state that follows it
+abbrev pub then_data : Construct Found TextByte Unit Unit
+then_data = remembered_code_spans
+
+abbrev pub then_breaks : Construct Found TextByte Unit Unit
+then_breaks = record escapes { otherwise = TextBeforeHardBreakEscape }
+
+abbrev pub then_white : Construct Found TextByte Unit Unit
+then_white = record trailing_breaks { otherwise = BlankLineStart }
+
+abbrev pub then_tags : Construct Found TextByte Unit Unit
+then_tags = record html_marks { otherwise = HtmlTextCdataEnd }
+
+abbrev pub then_html : Construct Found TextByte Unit Unit
+then_html = record emails { otherwise = TextBeforeHtml }
+
+abbrev pub then_emails : Construct Found TextByte Unit Unit
+then_emails = record autolinks { otherwise = AutolinkSchemeOrEmailAtext }
+
+module _ (g : Given) (text : Text) (known : Knowledge Found TextByte (Unit {0})) where
+  -- a construct before others is read, with what is known
+  abbrev pub ReadsBefore : Construct Found TextByte Unit Unit → List (Construct Found TextByte Unit Unit) → Type 0
+  ReadsBefore c cs = Reads g text (inlines_play g text).step between_texts text_byte item_length (item_events g.bytes) known tt c cs
+
+  -- What is read, with what is known: before an item all constructs may be tried, and no more calls are counted than so many; each construct; data, and
+  -- where nothing of the constructs is there that may still be tried; line endings and runs
+  pub record ReadsParts (within : ℕ) : Type 0 where
+    pub begins : (p : ℕ) (local : Local Unit Unit) (s : Seat) (ss : List Seat) → drop p text.seats ≡ s ∷ ss → is_own g.options.constructs s.byte ≡ false → known.knows tt p local → known.tries tt inline_constructs p local
+    pub counted : (p : ℕ) (local : Local Unit Unit) → known.knows tt p local → spent (counts local) ≤ within
+    pub code_spans_are : ReadsBefore then_data (then_emails ∷ behind_autolinks)
+    pub autolinks_are : ReadsBefore then_emails behind_autolinks
+    pub emails_are : ReadsBefore then_html behind_emails
+    pub marks_are : ReadsBefore then_tags behind_marks
+    pub tags_are : ReadsBefore html_tags (then_breaks ∷ behind_escapes)
+    pub escapes_are : ReadsBefore then_breaks behind_escapes
+    pub break_escapes_are : ReadsBefore break_escapes (references ∷ white_constructs)
+    pub references_are : ReadsBefore references white_constructs
+    pub trailing_breaks_are : ReadsBefore then_white (white_spaces ∷ [])
+    pub white_spaces_are : ReadsBefore white_spaces []
+    pub data_is : ReadsFrom g text (inlines_play g text).step between_texts text_byte item_length (item_events g.bytes) known tt (known.at_data tt) TextBeforeData (λ b. is_own g.options.constructs b ≡ false) (run_or_part g.options.constructs)
+    pub skips : (cs : List (Construct Found TextByte Unit Unit)) (p : ℕ) (local : Local Unit Unit) (s : Seat) (ss : List Seat) → drop p text.seats ≡ s ∷ ss
+        → first_there (grammars_of cs) g.options.constructs (bytes_of (s ∷ ss)) (run_or_part g.options.constructs (bytes_of (s ∷ ss))) ≡ run_or_part g.options.constructs (bytes_of (s ∷ ss)) → known.tries tt cs p local → known.at_data tt p local
+    pub own_is : ReadsFrom g text (inlines_play g text).step between_texts text_byte item_length (item_events g.bytes) known tt (known.knows tt) TextBefore (λ b. is_own g.options.constructs b ≡ true) (run_or_part g.options.constructs)
+
+module _ (g : Given) (text : Text) (known : Knowledge Found TextByte (Unit {0})) (kept : IsKept g text known) (within : ℕ) (parts : ReadsParts g text known within) where
+  abbrev on : Constructs
+  on = g.options.constructs
+
+  abbrev m : Plays g text
+  m = inlines_play g text
+
+  own-alone : (b : ℕ) → is_own on b ≡ true → some_first inline_grammars b ≡ false
+  own-alone b h = elim (some_first inline_grammars b) as (λ t. some_first inline_grammars b ≡ t → t ≡ false) [
+    | true ↦ λ e.
+        let none : begins_run on b ≡ false = ap (λ t. on.attention && t) (no-delimiter b e) ∙ and-false on.attention in
+        let line : is_line_feed b ≡ false = grind (arith, nat_tests) in
+        absurd (let c : false ≡ true = sym (ap (λ t. t || begins_run on b) line ∙ none) ∙ h in cc)
+    | false ↦ λ e. refl
+  ] refl
+
+  -- ---- the list of constructs
+  abbrev Tried : Construct Found TextByte Unit Unit → List (Construct Found TextByte Unit Unit) → Type 0
+  Tried c cs = IsTried g text m.step between_texts text_byte item_length (item_events g.bytes) known (is_own on) (λ n. run_or_part on) tt c cs
+
+  abbrev AllTried : List (Construct Found TextByte Unit Unit) → Type 0
+  AllTried cs = AreTried g text m.step between_texts text_byte item_length (item_events g.bytes) known (is_own on) (λ n. run_or_part on) tt cs
+
+  abbrev Adds : (p : ℕ) (ended : Bool) (events : List Event) (local : Local Unit Unit) → List Seat → Name → Found → Type 0
+  Adds p ended events local l name item = AddsFrom g text m.step between_texts text_byte item_length (item_events g.bytes) known tt (between_items p Byte ended events local) (Retry name) p events l item
+
+  -- data follows a construct, if the others in the list begin at other bytes
+  then-data : (c : Construct Found TextByte Unit Unit) (cs : List (Construct Found TextByte Unit Unit)) → c.otherwise ≡ TextBeforeData → AreApart text_byte item_length cs
+      → ((b : ℕ) → c.grammar.first b ≡ true → some_first (grammars_of cs) b ≡ false) → ReadsBefore g text known c cs → Tried c cs
+  then-data c cs is apart alone reads = record {
+    reads = reads;
+    follows = λ p ended events local s ss here at knows.
+        let bytes = bytes_of (s ∷ ss) in
+        let none = none-there text_byte item_length cs apart on s.byte (bytes_of ss) (run_or_part on bytes) (alone s.byte at.1) in
+        subst (λ name. Adds p ended events local (s ∷ ss) name (first_there (grammars_of cs) on bytes (run_or_part on bytes))) (sym is)
+        (subst (Adds p ended events local (s ∷ ss) TextBeforeData) (sym none) (parts.data_is p ended events local s ss here at.0 (parts.skips cs p local s ss here none knows)));
+  }
+
+  -- or a state that tries the others
+  then-others : (c : Construct Found TextByte Unit Unit) (cs : List (Construct Found TextByte Unit Unit)) (w : TextByte) → ((b : ℕ) → c.grammar.first b ≡ true → text_byte b ≡ w) → AreApart text_byte item_length cs → AllTried cs
+      → ((k : Configuration Unit Unit) → m.step (sight g text k) k c.otherwise ≡ row_step g text k (tried_at between_texts cs w)) → ReadsBefore g text known c cs → Tried c cs
+  then-others c cs w class apart tried has reads = record {
+    reads = reads;
+    follows = λ p ended events local s ss here at knows.
+        listed g text m.step between_texts text_byte item_length (item_events g.bytes) known (is_own on) (λ n. run_or_part on) kept tt parts.data_is p ended events s ss here at.0 cs tried apart local knows c.otherwise
+        (has (between_items p Byte ended events local) ∙ ap (λ v. row_step g text (between_items p Byte ended events local) (tried_at between_texts cs v)) (sym (class s.byte at.1)));
+  }
+
+  white-tried : AllTried white_constructs
+  white-tried = (
+    then-others then_white (white_spaces ∷ []) white white-class white-apart.1 (then-data white_spaces [] refl tt (λ b h. refl) parts.white_spaces_are, tt) (λ k. refl) parts.trailing_breaks_are,
+    (then-data white_spaces [] refl tt (λ b h. refl) parts.white_spaces_are, tt),
+  )
+
+  behind-escapes-tried : AllTried behind_escapes
+  behind-escapes-tried = (
+    then-data break_escapes (references ∷ white_constructs) refl behind-escapes-apart.1 (λ b h. (let e : b ≡ 92 = eqb-true b 92 h in rw e refl)) parts.break_escapes_are,
+    (then-data references white_constructs refl white-apart (λ b h. (let e : b ≡ 38 = eqb-true b 38 h in rw e refl)) parts.references_are, white-tried),
+  )
+
+  behind-marks-tried : AllTried behind_marks
+  behind-marks-tried = (
+    then-data html_tags (then_breaks ∷ behind_escapes) refl behind-marks-apart.1 (λ b h. (let e : b ≡ 60 = eqb-true b 60 h in rw e refl)) parts.tags_are,
+    (then-others then_breaks behind_escapes backslash (λ b h. (let e : b ≡ 92 = eqb-true b 92 h in ap text_byte e)) behind-escapes-apart behind-escapes-tried (λ k. refl) parts.escapes_are, behind-escapes-tried),
+  )
+
+  behind-emails-tried : AllTried behind_emails
+  behind-emails-tried =
+      (then-others then_tags behind_marks less (λ b h. (let e : b ≡ 60 = eqb-true b 60 h in ap text_byte e)) behind-marks-apart behind-marks-tried (λ k. refl) parts.marks_are, behind-marks-tried)
+
+  behind-autolinks-tried : AllTried behind_autolinks
+  behind-autolinks-tried =
+      (then-others then_html behind_emails less (λ b h. (let e : b ≡ 60 = eqb-true b 60 h in ap text_byte e)) behind-emails-apart behind-emails-tried (λ k. refl) parts.emails_are, behind-emails-tried)
+
+  inline-tried : AllTried inline_constructs
+  inline-tried = (
+    then-data then_data (then_emails ∷ behind_autolinks) refl inline-apart.1 (λ b h. (let e : b ≡ 96 = eqb-true b 96 h in rw e refl)) parts.code_spans_are,
+    (
+      then-others then_emails behind_autolinks less (λ b h. (let e : b ≡ 60 = eqb-true b 60 h in ap text_byte e)) behind-autolinks-apart behind-autolinks-tried (λ k. refl) parts.autolinks_are,
+      behind-autolinks-tried,
+    ),
+  )
+
+  pub inlines-listed : IsListed g text m.step between_texts text_byte item_length (item_events g.bytes) known (is_own on) (λ n. run_or_part on) (λ n. inline_constructs) within
+  inlines-listed = record {
+    at_byte = λ n k b at plain. (let (other, none) = or-parts (is_line_feed b) (begins_run on b) plain in tried-between g text k b at other none);
+    at_end = λ k at. ap (λ o. row_step g text k (inline_before_rows (class_of text_byte (sight g text k).previous) (class_of text_byte o))) at;
+    begins = λ n. parts.begins;
+    counted = λ n. parts.counted;
+    lines_alone = λ n b h. own-alone b h;
+    apart = λ n. inline-apart;
+    tried = λ n. inline-tried;
+    reads_data = λ n. parts.data_is;
+    reads_lines = λ n. parts.own_is;
+    some = λ n b bs. some-other on b bs;
+  }
+
+  -- Behind the white space that the text begins with all items are to be read
+  pub inlines-from : (local : Local Unit Unit) → let n = prefix_len is_white (bytes_of text.seats) in known.knows tt (0 + n) local
+      → EndsWith g text m (between_items (0 + n) Nothing false (leaf g.bytes SpaceOrTab (take n text.seats)) local) [] (Next TextBefore) (record { events = read_events g text; spent = within })
+  inlines-from local knows =
+      let n = prefix_len is_white (bytes_of text.seats) in
+      let first = leaf g.bytes SpaceOrTab (take n text.seats) in
+      let same : 0 + n ≡ n = omega arith in
+      let few : length (drop n text.seats) ≤ length text.seats = omega (arith, length-drop n text.seats) in
+      subst (λ items. EndsWith g text m (between_items (0 + n) Nothing false first local) [] (Next TextBefore) (record { events = first ++ flat_map (item_events g.bytes) items; spent = within }))
+      (cut-same (inline_item_at on) item_length (length text.seats) tt (drop n text.seats))
+      (items-read g text m.step between_texts text_byte item_length (item_events g.bytes) known (is_own on) (λ n. run_or_part on) kept (λ n. inline_constructs) within inlines-listed
+      (length text.seats) (0 + n) tt false first local (drop n text.seats) (ap (λ k. drop k text.seats) same) few knows)

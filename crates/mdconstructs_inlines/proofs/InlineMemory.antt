@@ -1,0 +1,157 @@
+-- What the machine of inline text remembers of a text: the backtick strings that were seen, and up to where no mark of raw HTML ends. So each look to the
+-- end is made once, and inline text is read in so many calls.
+use Rattle.std.proofs.Common.{◌≡◌, ℕ, ◌+◌, ◌*◌, ◌<◌, ◌≤◌, ◌==◌, List, [], ◌∷◌, Bool, true, false, cond, Option, Some, None, refl, sym, ap, ◌∙◌, subst, arith, length, drop}
+use Rattle.std.specs.List.{prefix_len}
+use Rattle.std.proofs.lemmas.Bool.Decides.{nat_tests}
+use Rattle.markdown_base.specs.declared.event.Event.{Event}
+use Rattle.markdown_base.specs.declared.state.Name.{Name}
+use Rattle.markdown_base.specs.declared.state.State.{State}
+use Rattle.markdown_base.specs.declared.state.State.TheVariants.{Next, Retry}
+use Rattle.markdown_base.specs.declared.state.TheConstants.Name.{TextBefore, TextStart}
+use Rattle.markdown_base.specs.Virtual.{Seat}
+use Rattle.markdown_tokenizer.specs.declared.waiting.Waits.TheVariants.{Byte}
+use Rattle.markdown_tokenizer.specs.Configuration.{Local, start_configuration}
+use Rattle.markdown_tokenizer.specs.Text.{Given, IsText, Text}
+use Rattle.mdconstructs_machines.specs.Breaks.{is_white}
+use Rattle.mdconstructs_text.specs.Bytes.{is_backtick}
+use Rattle.mdconstructs_text.specs.Construct.{Found, between_texts}
+use Rattle.mdconstructs_text.specs.Items.{item_length}
+use Rattle.mdconstructs_text.specs.Parts.{bytes_of}
+use Rattle.mdconstructs_text.proofs.CodeSpans.Remembered.{knows-later as runs-later, others}
+use Rattle.mdconstructs_text.proofs.Constructs.Apart.{OfOption}
+use Rattle.mdconstructs_text.proofs.Constructs.Listed.{outer}
+use Rattle.mdconstructs_text.proofs.Texts.Counted.{Remembered, remembered}
+use Rattle.mdconstructs_text.proofs.Texts.Steps.{EndsWith, Plays, between_items}
+use Rattle.mdconstructs_phrasing.proofs.HtmlMarks.Ahead.{mark-missed, marks-ahead-later, marks-ahead-same, marks-ahead-within, marks-leave-runs, marks_ahead}
+use Rattle.mdconstructs_phrasing.proofs.HtmlMarks.Bytes.{html-marks-apart}
+use Rattle.mdconstructs_phrasing.proofs.HtmlMarks.Readings.{MarksDecided, html-marks-read, known_at, look_calls, looked_over, mark-paid, mark-within}
+use Rattle.mdconstructs_phrasing.proofs.HtmlMarks.Remembered.{KnowsMarks, knows-later as marks-later, knows-nothing as marks-nothing, knows-same as marks-same}
+use Rattle.mdconstructs_phrasing.proofs.HtmlMarks.Places.{Mark, of_cdata, of_comment, of_declaration, of_instruction}
+use Rattle.mdconstructs_phrasing.proofs.HtmlMarks.Rows.{known_upto}
+use Rattle.mdconstructs_phrasing.proofs.RememberedCode.Memory.{code_memory}
+use Rattle.mdconstructs_phrasing.proofs.RememberedCode.Readings.{CodeDecided, code-ahead-later, code-ahead-within, code_ahead, knows-code-later, knows-no-code, knows_code, remembered-code-read}
+use Rattle.mdconstructs_inlines.specs.InlineEvents.{read_events}
+use Rattle.mdconstructs_inlines.proofs.Budgets.{Potential, total-drop}
+use Rattle.mdconstructs_inlines.proofs.FrontRuns.{no-run}
+use Rattle.mdconstructs_inlines.proofs.InlineCalls.{DecidedSo, IsTextMemory, RemembersSo, TextMemory, code-so, code_toll, inline_budget, inlines-within, mark_toll, marks-so}
+use Rattle.mdconstructs_inlines.proofs.InlineListed.{then_data, then_tags}
+use Rattle.mdconstructs_inlines.proofs.Playing.{inlines_play, inlines_play_code_spans, inlines_play_marks}
+use Rattle.mdconstructs_inlines.proofs.Starts.{start_local}
+
+-- what is remembered of marks is as it was, if all beside backtick strings is
+same-marks : (local after : Local Unit Unit) → others after ≡ others local → (kind : Mark) → known_upto kind (remembered after) ≡ known_upto kind (remembered local)
+same-marks local after same of_comment = ap (λ (r : Remembered). r.comment) same
+same-marks local after same of_instruction = ap (λ (r : Remembered). r.instruction) same
+same-marks local after same of_declaration = ap (λ (r : Remembered). r.declaration) same
+same-marks local after same of_cdata = ap (λ (r : Remembered). r.cdata) same
+
+none-known : (flag : Bool) (kind : Mark) → known_upto kind (remembered (start_local flag)) ≡ 0
+none-known flag of_comment = refl
+none-known flag of_instruction = refl
+none-known flag of_declaration = refl
+none-known flag of_cdata = refl
+
+module _ (g : Given) (text : Text) (is-text : IsText g text) where
+  abbrev m : Plays g text
+  m = inlines_play g text
+
+  -- what is known of backtick strings holds of another memory that is alike in them
+  code-alike : (p : ℕ) (local : Local Unit Unit) (r : Remembered) → r.runs ≡ (remembered local).runs → r.all_seen ≡ (remembered local).all_seen → knows_code g text is-text m p (remembered local) → knows_code g text is-text m p r
+  code-alike p local r runs all knows after same =
+      runs-later g text is-text m code_memory p p local after (omega arith) (ap (λ (r : Remembered). r.runs) same ∙ runs) (ap (λ (r : Remembered). r.all_seen) same ∙ all) (knows local refl)
+
+  -- What is remembered, and what is known of it
+  abbrev pub inline_memory : TextMemory
+  inline_memory = record { sound = λ p r. knows_code g text is-text m p r × KnowsMarks text p r; code = code_ahead; marks = marks_ahead }
+
+  pub memory-is : IsTextMemory inline_memory
+  memory-is = record {
+    later = λ p q r further h. (knows-code-later g text is-text m p q r further h.0, marks-later text p q r further h.1);
+    begins = λ flag. (knows-no-code g text is-text m 0 (remembered (start_local flag)) refl refl, marks-nothing text (remembered (start_local flag)) (none-known flag));
+    code_down = code-ahead-later;
+    marks_down = marks-ahead-later;
+    code_within = λ r l. omega (arith, code-ahead-within r l);
+    marks_within = λ r l. omega (arith, marks-ahead-within r l);
+  }
+
+  module _ (budget : ℕ) where
+    abbrev Decided : (own other : Potential) (toll : List ℕ → ℕ) (nok : Name) (p : ℕ) (ended : Bool) (events : List Event) → Local Unit Unit → Seat → List Seat → State → Option Found → Type 0
+    Decided own other toll nok p ended events local s ss st o =
+        DecidedSo g text inline_memory memory-is budget own other toll nok p ended events local s ss (between_items p Byte ended events local) (outer TextBefore nok p ended events ∷ []) st o
+
+    -- ---- code spans
+    code-decided : (nok : Name) (p : ℕ) (ended : Bool) (events : List Event) (local : Local Unit Unit) (s : Seat) (ss : List Seat) → is_backtick s.byte ≡ true → KnowsMarks text p (remembered local) → (st : State) (o : Option Found)
+        → CodeDecided g text is-text m (inlines_play_code_spans g text) between_texts nok p ended events local s ss (between_items p Byte ended events local) (outer TextBefore nok p ended events ∷ []) st o
+        → Decided code_ahead marks_ahead code_toll nok p ended events local s ss st o
+    code-decided nok p ended events local s ss tick marks st None d =
+        let after = d.0 in
+        let kept = same-marks local after d.2 in
+        (after, (d.1, marks-same text p (remembered local) (remembered after) kept marks), (λ l. marks-ahead-same (remembered local) (remembered after) l kept), omega (arith, d.3), d.4)
+    code-decided nok p ended events local s ss tick marks st (Some item) d =
+        let after = d.1 in
+        let size = item_length item in
+        let kept = same-marks local after d.3 in
+        let further : p ≤ p + size = omega arith in
+        let white : is_white s.byte ≡ false = grind (arith, nat_tests) in
+        let none : prefix_len is_white (bytes_of (s ∷ ss)) ≡ 0 = ap (λ t. cond t (1 + prefix_len is_white (bytes_of ss)) 0) white in (
+          d.0,
+          after,
+          (d.2, marks-later text p (p + size) (remembered after) further (marks-same text p (remembered local) (remembered after) kept marks)),
+          (λ l. marks-ahead-same (remembered local) (remembered after) l kept),
+          omega (arith, d.4),
+          d.5,
+          d.6,
+          omega (arith, d.7, none),
+          d.8,
+        )
+
+    pub code-remembers : RemembersSo g text inline_memory memory-is budget code_ahead marks_ahead code_toll then_data
+    code-remembers nok p ended events local s ss here first sound =
+        code-decided nok p ended events local s ss first sound.1 (Retry then_data.start) (then_data.grammar.front (bytes_of (s ∷ ss)))
+        (remembered-code-read g text is-text m (inlines_play_code_spans g text) between_texts nok p ended events local s ss here first sound.0)
+
+    -- ---- raw HTML between marks
+    marks-decided : (nok : Name) (p : ℕ) (ended : Bool) (events : List Event) (local : Local Unit Unit) (s : Seat) (ss : List Seat) → (here : drop p text.seats ≡ s ∷ ss) → (s.byte == 60) ≡ true → inline_memory.sound p (remembered local)
+        → (st : State) (o : Option Found) → OfOption (λ (item : Found). 0 < item_length item) o → OfOption (λ (item : Found). look_calls text p (remembered local) ss ≤ 2 * item_length item) o
+        → OfOption (λ (item : Found). item_length item ≤ length (s ∷ ss)) o
+        → MarksDecided g text m between_texts nok p ended events local s ss (between_items p Byte ended events local) (outer TextBefore nok p ended events ∷ []) st o
+        → Decided marks_ahead code_ahead mark_toll nok p ended events local s ss st o
+    marks-decided nok p ended events local s ss here less sound st None some paid within d =
+        let after = d.0 in
+        let alike = marks-leave-runs g text p ss (known_at text p (remembered local)) (looked_over text p (remembered local) ss) local after d.3 in (
+          after,
+          (code-alike p local (remembered after) alike.1 alike.0 sound.0, d.1),
+          (λ l. ap (λ t. cond t 0 (7 * length l)) alike.0),
+          omega (arith, mark-missed g text is-text p s ss here local after d.2 d.3),
+          d.4,
+        )
+    marks-decided nok p ended events local s ss here less sound st (Some item) some paid within d =
+        let after = d.1 in
+        let size = item_length item in
+        let r = remembered local in
+        let further : p ≤ p + size = omega arith in
+        let white : is_white s.byte ≡ false = grind (arith, nat_tests) in
+        let tick : is_backtick s.byte ≡ false = grind (arith, nat_tests) in
+        let same : marks_ahead (remembered after) (drop size (s ∷ ss)) ≡ marks_ahead r (drop size (s ∷ ss)) = ap (λ r. marks_ahead r (drop size (s ∷ ss))) d.2.same in (
+          d.0,
+          after,
+          subst (inline_memory.sound (p + size)) (sym d.2.same) (memory-is.later p (p + size) r further sound),
+          (λ l. ap (λ (r : Remembered). code_ahead r l) d.2.same),
+          omega (arith, d.2.calls, paid, same, total-drop (marks_ahead ∷ []) (marks-ahead-later, tt) size r (s ∷ ss)),
+          some,
+          within,
+          omega (arith, no-run s.byte (bytes_of ss) white tick),
+          d.3,
+        )
+
+    pub marks-remember : RemembersSo g text inline_memory memory-is budget marks_ahead code_ahead mark_toll then_tags
+    marks-remember nok p ended events local s ss here first sound =
+        marks-decided nok p ended events local s ss here first sound (Retry then_tags.start) (then_tags.grammar.front (bytes_of (s ∷ ss))) (html-marks-apart.some s.byte (bytes_of ss))
+        (mark-paid g text m between_texts (inlines_play_marks g text) is-text nok p ended events local s ss here first sound.1) (mark-within g text m between_texts (inlines_play_marks g text) is-text nok p ended events local s ss here first sound.1)
+        (html-marks-read g text m between_texts (inlines_play_marks g text) is-text nok p ended events local s ss here first sound.1)
+
+  -- So inline text is read item by item from its start, in so many calls
+  pub inlines-read : (flag : Bool) → EndsWith g text m (start_configuration flag) [] (Next TextStart) (record { events = read_events g text; spent = inline_budget (length text.seats) + 1 })
+  inlines-read flag =
+      let budget = inline_budget (length text.seats) in
+      inlines-within g text inline_memory memory-is budget (code-so g text inline_memory memory-is budget (code-remembers budget)) (marks-so g text inline_memory memory-is budget (marks-remember budget)) is-text (omega arith) flag

@@ -1,0 +1,39 @@
+-- The machine of inline text counts each of its calls: where few were counted, few were made.
+use Rattle.std.proofs.Common.{◌≡◌, ◌<◌, ◌≤◌, [], Bool, Option, None, Some, refl, sym, subst, arith, rules}
+use Rattle.markdown_base.specs.declared.state.Name.{Name}
+use Rattle.markdown_base.specs.declared.state.State.TheVariants.{Next}
+use Rattle.markdown_tokenizer.specs.Configuration.{start_configuration}
+use Rattle.markdown_tokenizer.specs.Reading.{EndsIn, Reading}
+use Rattle.markdown_tokenizer.specs.Text.{Given, Text}
+use Rattle.markdown_tokenizer.proofs.Readings.Bounds.{one-end}
+use Rattle.mdconstructs_text.specs.TextBytes.{TextByte, backtick, digit, letter, line_feed, mark}
+use Rattle.mdconstructs_text.proofs.Texts.Leads.{Ending, EndsWith, most, spent}
+use Rattle.mdconstructs_inlines.specs.InlineRules.{inlines_rules}
+use Rattle.mdconstructs_inlines.specs.InlineTable.{inlines}
+use Rattle.mdconstructs_inlines.proofs.CallsCounted.{CountsCalls, KeepCount, calls-counted, table-counts}
+use Rattle.mdconstructs_inlines.proofs.Starts.{start_local}
+
+-- what its states write leaves the count of calls
+keep-count : (b w : Option TextByte) → KeepCount inlines.states b w
+keep-count b None = search rules
+keep-count b (Some line_feed) = search rules
+keep-count b (Some backtick) = search rules
+keep-count b (Some letter) = search rules
+keep-count b (Some digit) = search rules
+keep-count b (Some mark) = search rules
+keep-count b (Some _) = search rules
+
+pub inlines-count : (g : Given) → CountsCalls (inlines_rules g).step
+inlines-count g = table-counts inlines g (λ local. refl) keep-count
+
+module _ (g : Given) (text : Text) where
+  -- A reading from a start that is to end within so many calls that are counted makes no more, if they can all be counted
+  pub calls-within : (flag : Bool) (start : Name) (e : Ending) → EndsWith g text (inlines_rules g).step (start_configuration flag) [] (Next start) e → e.spent < most
+      → (r : Reading Unit Unit) → EndsIn g (inlines_rules g).step text 0 (start_configuration flag) [] (Next start) r → r.calls ≤ e.spent
+  calls-within flag start e h few r ends =
+      let there = h 0 in
+      let same : r ≡ there.0 = one-end g (inlines_rules g).step text 0 (start_configuration flag) [] (Next start) r there.0 ends there.1.0 in
+      let spent-so : spent r.configuration.local ≤ e.spent = subst (λ (q : Reading Unit Unit). spent q.configuration.local ≤ e.spent) (sym same) there.1.2.1 in
+      let all = calls-counted g (inlines_rules g).step text (inlines-count g) (start_configuration flag) (Next start) r ends in
+      let none : spent (start_local flag) ≡ 0 = refl in
+      omega (arith, all, spent-so, few, none)

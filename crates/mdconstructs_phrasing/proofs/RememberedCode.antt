@@ -1,0 +1,5 @@
+-- Code spans as a machine reads them that remembers backtick strings.
+pub mod Memory
+pub mod Readings
+pub mod Rows
+pub mod Runs
