@@ -34,6 +34,18 @@ const THREE_DATA: &[u8] =
 const FIRST_AND_REST: &[u8] =
     b"enter Data 1:1 (0+0)\nexit Data 2:1 (2+0)\nenter Data 2:1 (2+0)\nexit Data 3:2 (5+0)\n";
 
+/// A comment ends at the first `-->` behind its head, so hyphens may stand in it, two of them too.
+const COMMENT_WITH_HYPHENS: &[u8] =
+    b"enter Paragraph 1:1 (0+0)\nenter Data 1:1 (0+0)\nexit Data 1:5 (4+0)\nenter HtmlText 1:5 (4+0)\nenter HtmlTextData 1:5 (4+0)\nexit HtmlTextData 1:22 (21+0)\nenter LineEnding 1:22 (21+0)\nexit LineEnding 2:1 (22+0)\nenter HtmlTextData 2:1 (22+0)\nexit HtmlTextData 2:27 (48+0)\nexit HtmlText 2:27 (48+0)\nexit Paragraph 2:27 (48+0)\n";
+
+/// `<!-->` is a comment, and what is behind it is text.
+const SHORTEST_COMMENT: &[u8] =
+    b"enter Paragraph 1:1 (0+0)\nenter Data 1:1 (0+0)\nexit Data 1:5 (4+0)\nenter HtmlText 1:5 (4+0)\nenter HtmlTextData 1:5 (4+0)\nexit HtmlTextData 1:10 (9+0)\nexit HtmlText 1:10 (9+0)\nenter Data 1:10 (9+0)\nexit Data 1:18 (17+0)\nexit Paragraph 1:18 (17+0)\n";
+
+/// So is `<!--->`.
+const COMMENT_OF_THREE_HYPHENS: &[u8] =
+    b"enter Paragraph 1:1 (0+0)\nenter Data 1:1 (0+0)\nexit Data 1:5 (4+0)\nenter HtmlText 1:5 (4+0)\nenter HtmlTextData 1:5 (4+0)\nexit HtmlTextData 1:11 (10+0)\nexit HtmlText 1:11 (10+0)\nenter Data 1:11 (10+0)\nexit Data 1:19 (18+0)\nexit Paragraph 1:19 (18+0)\n";
+
 const LONG_PARAGRAPH: &[u8] =
     b"enter Paragraph 1:1 (0+0)\nenter Data 1:1 (0+0)\nexit Data 1:100002 (100001+0)\nexit Paragraph 1:100002 (100001+0)\n";
 
@@ -102,6 +114,21 @@ const WRITTEN: &[(&[u8], Which, bool, usize, &[u8])] = &[
     (b">a\r\n>b", Which::Paragraphs, true, 4, TWO_LINES_WITH_CRLF),
     (b">\ta\n>\tb", Which::Paragraphs, true, 3, TWO_LINES_OF_TABS),
     (b"`a\n>b`", Which::Text, true, 4, CODE_OVER_TWO_LINES),
+    (
+        b"foo <!-- this is a --\ncomment - with hyphens -->",
+        Which::Flow,
+        true,
+        4,
+        COMMENT_WITH_HYPHENS,
+    ),
+    (b"foo <!--> foo -->", Which::Flow, true, 4, SHORTEST_COMMENT),
+    (
+        b"foo <!---> foo -->",
+        Which::Flow,
+        true,
+        4,
+        COMMENT_OF_THREE_HYPHENS,
+    ),
 ];
 
 #[test]
