@@ -1,0 +1,148 @@
+"""Reads texts that make a parser of inline text look far ahead, or back, again and again: delimiter runs that fit badly, brackets of code
+and HTML that are never closed, references, spaces. Each is read at three lengths, each twice the one before. It prints a row for each
+text: processor seconds at each length (the least of three runs), and how many times as long the longest took as the middle one: some 2
+if the time is linear, some 4 if it is a square. A text whose reading takes longer than 20 seconds is read no further.
+
+With --count the rows have instructions (callgrind's counts, the same in each run, less those of a run over nothing), for texts of a
+twentieth of those lengths.
+
+usage: worst.py [--count] [--only NAME] MDEVENTS [CMARK]. CMARK is a program that makes HTML of standard input, timed beside it.
+"""
+
+import os
+import re
+import resource
+import subprocess
+import sys
+import tempfile
+
+LENGTHS = (100_000, 200_000, 400_000)
+OPTIONS = ["--machine", "flow", "--deep"]
+LONGEST = 20
+
+
+def growing(mark, between):
+    """Runs of a mark, each longer by one than the one before, none of them cut off: it would be as long as an earlier one."""
+
+    def made(size):
+        parts, length = [], 0
+        while length < size:
+            parts.append(between + mark * (len(parts) + 1))
+            length += len(parts[-1])
+        return "".join(parts)
+
+    return made
+
+
+def again(unit, first="a "):
+    """A text that begins so, and then repeats a unit. It begins with a word, as `<!--` would begin HTML and `***` a break."""
+    return lambda size: (first + unit * (size // len(unit) + 1))[:size]
+
+
+TEXTS = {
+    "openers, none closed": again("*a _b "),
+    "strong openers, none closed": again("a **b"),
+    "closers without openers": again("a* b_ "),
+    "one opener, closers by the rule of three": again("c* ", "a**b "),
+    "openers of each kind before closers": lambda size: again("*a **b _c __d ***e ")(size // 2) + again("x* y_ ")(size // 2),
+    "closers of all kinds, each in vain": again("*a _b__ c***d x__ y* "),
+    "both ways, between letters": again("a*b**c***"),
+    "both ways, between punctuation": again(".*._.**.__"),
+    "one run": again("*"),
+    "alternating marks": again("*_"),
+    "nested and closed": lambda size: "a " + "*a " * (size // 6) + " b*" * (size // 6),
+    "pairs beside pairs": again("*a* _b_ "),
+    "strings of backticks, no two alike": growing("`", "e"),
+    "one backtick, then two": again("a``", "`"),
+    "comments that do not end": again("<!--"),
+    "instructions that do not end": again("<?"),
+    "declarations that do not end": again("<!A "),
+    "CDATA that does not end": again("<![CDATA["),
+    "values of attributes that do not end": again("<a b='x"),
+    "values, of either quotes": again("<a b='x c=\"y "),
+    "tags that do not end": again("<a b "),
+    "autolinks that do not end": again("<ab:c"),
+    "emails that do not end": again("<a@b.c-"),
+    "references": again("&amp;"),
+    "references that do not end": again("&am"),
+    "escapes": again("\\*"),
+    "spaces within lines": again("a      "),
+    "spaces before line endings": again("a     \nb"),
+    "left angles": again("<"),
+}
+
+
+def run(command, document):
+    """The processor seconds that a run takes, or None if it takes too long."""
+    took = []
+    for _ in range(3):
+        with open(document) as text:
+            started = subprocess.Popen(command, stdin=text, stdout=subprocess.DEVNULL, preexec_fn=limit)
+            _, status, used = os.wait4(started.pid, 0)
+        started.returncode = os.waitstatus_to_exitcode(status)
+        if started.returncode < 0:
+            return None
+        if started.returncode > 0:
+            raise subprocess.CalledProcessError(started.returncode, command)
+        took.append(used.ru_utime + used.ru_stime)
+        if took[0] > 2:
+            break
+    return min(took)
+
+
+def limit():
+    """Ends a run that takes too long."""
+    resource.setrlimit(resource.RLIMIT_CPU, (LONGEST, LONGEST))
+
+
+def count(command, document):
+    """The instructions of a run."""
+    with tempfile.TemporaryDirectory() as scratch, open(document) as text:
+        tool = ["valgrind", "--tool=callgrind", f"--callgrind-out-file={scratch}/counts", *command]
+        done = subprocess.run(tool, stdin=text, stdout=subprocess.DEVNULL, stderr=subprocess.PIPE, text=True, check=True)
+    return int(re.search(r"Collected : (\d+)", done.stderr).group(1))
+
+
+def row(name, text, commands, counted, document):
+    """Prints the row of a text."""
+    cells = []
+    for command in commands:
+        took, none = [], 0
+        if counted:
+            open(document, "w").close()
+            none = count(command, document)
+        for length in LENGTHS:
+            with open(document, "w") as written:
+                written.write(text(length // 20 if counted else length))
+            one = count(command, document) - none if counted else run(command, document)
+            if one is None:
+                break
+            took.append(one)
+        shown = [f"{one:,}" if counted else f"{one:.3f}" for one in took]
+        cells += shown + [f"over {LONGEST}"] * (len(LENGTHS) - len(shown))
+        cells.append(f"{took[2] / took[1]:.1f}" if len(took) == 3 else "")
+    print(f"| {name} | {' | '.join(cells)} |", flush=True)
+
+
+def main(words):
+    counted = "--count" in words
+    words = [word for word in words if word != "--count"]
+    only = ""
+    if "--only" in words:
+        at = words.index("--only")
+        only = words[at + 1]
+        del words[at : at + 2]
+    commands = [[words[0], *OPTIONS], *[[other] for other in words[1:]]]
+    lengths = [f"{length // 20 if counted else length:,}" for length in LENGTHS]
+    heads = lengths + ["Times as much"]
+    print(f"| Text | {' | '.join(heads * len(commands))} |")
+    print("|" + "---|" * (1 + len(heads) * len(commands)))
+    with tempfile.TemporaryDirectory() as scratch:
+        document = os.path.join(scratch, "document")
+        for name, text in TEXTS.items():
+            if only in name:
+                row(name, text, commands, counted, document)
+
+
+if __name__ == "__main__":
+    main(sys.argv[1:])
