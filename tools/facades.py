@@ -14,7 +14,7 @@ import sys
 TOP = os.path.dirname(os.path.dirname(os.path.realpath(__file__)))
 PARTS = {
     "markdown": ["markdown_base", "markdown_edits", "markdown_tokenizer", "markdown_children"],
-    "mdconstructs": ["mdconstructs_tables", "mdconstructs_machines", "mdconstructs_text", "mdconstructs_attention", "mdconstructs_references", "mdconstructs_phrasing", "mdconstructs_inlines", "mdconstructs_flow", "mdconstructs_blocks", "mdconstructs_documents"],
+    "mdconstructs": ["mdconstructs_tables", "mdconstructs_machines", "mdconstructs_text", "mdconstructs_attention", "mdconstructs_references", "mdconstructs_inline_constructs", "mdconstructs_inlines", "mdconstructs_flow", "mdconstructs_flow_read", "mdconstructs_documents"],
 }
 NAMED = {
     ("markdown_children", "specs", "LawStatements"): "ChildrenLawStatements",
@@ -23,11 +23,11 @@ NAMED = {
     ("mdconstructs_attention", "specs", "LawStatements"): "EmphasisLawStatements",
     ("mdconstructs_attention", "specs", "Places"): "RunPlaces",
     ("mdconstructs_attention", "specs", "Runs"): "DelimiterRuns",
-    ("mdconstructs_blocks", "proofs", "Blocks"): "LeafReads",
-    ("mdconstructs_blocks", "proofs", "Html"): "HtmlReads",
-    ("mdconstructs_blocks", "proofs", "Lines"): "LineParts",
-    ("mdconstructs_blocks", "proofs", "Looks"): "LineLooks",
-    ("mdconstructs_blocks", "proofs", "Paragraphs"): "LeafParagraphs",
+    ("mdconstructs_flow_read", "proofs", "Blocks"): "LeafReads",
+    ("mdconstructs_flow_read", "proofs", "Html"): "HtmlReads",
+    ("mdconstructs_flow_read", "proofs", "Lines"): "LineParts",
+    ("mdconstructs_flow_read", "proofs", "Looks"): "LineLooks",
+    ("mdconstructs_flow_read", "proofs", "Paragraphs"): "LeafParagraphs",
     ("mdconstructs_flow", "specs", "Flow"): "FlowStates",
     ("mdconstructs_flow", "specs", "LawStatements"): "FlowLawStatements",
     ("mdconstructs_flow", "specs", "Laws"): "FlowLaws",
@@ -37,7 +37,7 @@ NAMED = {
     ("mdconstructs_inlines", "proofs", "Looks"): "InlineLooks",
     ("mdconstructs_inlines", "specs", "Laws"): "InlineLaws",
     ("mdconstructs_inlines", "specs", "LawStatements"): "InlineLawStatements",
-    ("mdconstructs_phrasing", "specs", "Laws"): "PhrasingLaws",
+    ("mdconstructs_inline_constructs", "specs", "Laws"): "PhrasingLaws",
     ("mdconstructs_references", "proofs", "Tables"): "ReferenceTables",
     ("mdconstructs_references", "proofs", "Parts"): "ReferenceParts",
     ("mdconstructs_references", "proofs", "Orders"): "ReferenceOrders",

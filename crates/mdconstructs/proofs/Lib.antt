@@ -42,14 +42,14 @@ pub use Rattle.mdconstructs_references.proofs.Orders as ReferenceOrders
 pub use Rattle.mdconstructs_references.proofs.Parts as ReferenceParts
 pub use Rattle.mdconstructs_references.proofs.Searches as ReferenceSearches
 pub use Rattle.mdconstructs_references.proofs.Tables as ReferenceTables
-pub use Rattle.mdconstructs_phrasing.proofs.Emails
-pub use Rattle.mdconstructs_phrasing.proofs.HardBreaks
-pub use Rattle.mdconstructs_phrasing.proofs.HtmlMarks
-pub use Rattle.mdconstructs_phrasing.proofs.HtmlTags
-pub use Rattle.mdconstructs_phrasing.proofs.HtmlTexts
-pub use Rattle.mdconstructs_phrasing.proofs.References
-pub use Rattle.mdconstructs_phrasing.proofs.RememberedCode
-pub use Rattle.mdconstructs_phrasing.proofs.WhiteSpaces
+pub use Rattle.mdconstructs_inline_constructs.proofs.Emails
+pub use Rattle.mdconstructs_inline_constructs.proofs.HardBreaks
+pub use Rattle.mdconstructs_inline_constructs.proofs.HtmlMarks
+pub use Rattle.mdconstructs_inline_constructs.proofs.HtmlTags
+pub use Rattle.mdconstructs_inline_constructs.proofs.HtmlTexts
+pub use Rattle.mdconstructs_inline_constructs.proofs.References
+pub use Rattle.mdconstructs_inline_constructs.proofs.RememberedCode
+pub use Rattle.mdconstructs_inline_constructs.proofs.WhiteSpaces
 pub use Rattle.mdconstructs_inlines.proofs.Budgets
 pub use Rattle.mdconstructs_inlines.proofs.CallsCounted
 pub use Rattle.mdconstructs_inlines.proofs.InlineApart
@@ -72,12 +72,12 @@ pub use Rattle.mdconstructs_flow.proofs.Dashes
 pub use Rattle.mdconstructs_flow.proofs.HeadingEdits
 pub use Rattle.mdconstructs_flow.proofs.NoRefusals as FlowNoRefusals
 pub use Rattle.mdconstructs_flow.proofs.TagNames
-pub use Rattle.mdconstructs_blocks.proofs.Blocks as LeafReads
-pub use Rattle.mdconstructs_blocks.proofs.Fenced
-pub use Rattle.mdconstructs_blocks.proofs.Html as HtmlReads
-pub use Rattle.mdconstructs_blocks.proofs.Lines as LineParts
-pub use Rattle.mdconstructs_blocks.proofs.Looks as LineLooks
-pub use Rattle.mdconstructs_blocks.proofs.Marks
-pub use Rattle.mdconstructs_blocks.proofs.Paragraphs as LeafParagraphs
-pub use Rattle.mdconstructs_blocks.proofs.Tags
-pub use Rattle.mdconstructs_blocks.proofs.Whole
+pub use Rattle.mdconstructs_flow_read.proofs.Blocks as LeafReads
+pub use Rattle.mdconstructs_flow_read.proofs.Fenced
+pub use Rattle.mdconstructs_flow_read.proofs.Html as HtmlReads
+pub use Rattle.mdconstructs_flow_read.proofs.Lines as LineParts
+pub use Rattle.mdconstructs_flow_read.proofs.Looks as LineLooks
+pub use Rattle.mdconstructs_flow_read.proofs.Marks
+pub use Rattle.mdconstructs_flow_read.proofs.Paragraphs as LeafParagraphs
+pub use Rattle.mdconstructs_flow_read.proofs.Tags
+pub use Rattle.mdconstructs_flow_read.proofs.Whole

@@ -4,7 +4,7 @@ pub use mdconstructs_attention::laws::{
     ascii_has_its_classes, characters_are_utf8, edits_make_emphasis, emphasis_can_be_made,
     emphasis_is_balanced, neighbours_of_pairs,
 };
-pub use mdconstructs_blocks::laws::{
+pub use mdconstructs_flow_read::laws::{
     flow_is_read, leaf_blocks_account_for_each_byte, leaf_blocks_are_well_formed, lines_are_seen,
     readings_end_as_blocks,
 };

@@ -1,6 +1,6 @@
 -- The innermost spans of the events of leaf blocks account for each virtual byte, also with the texts of their chains.
 use Rattle.mdconstructs_documents.proofs.Prelude.{false, true, subst, sym, virtual_bytes, Tile}
-use Rattle.mdconstructs_blocks.proofs.Marks.LeafSpans.{flow-accounts}
+use Rattle.mdconstructs_flow_read.proofs.Marks.LeafSpans.{flow-accounts}
 use Rattle.mdconstructs_documents.proofs.Emphasis.InlineAccounts.{inlines-account}
 use Rattle.mdconstructs_documents.proofs.Tiled.{tiled}
 use Rattle.mdconstructs_documents.specs.Documents.{document, AreEventsOf}

@@ -11,7 +11,7 @@ use Rattle.markdown_tokenizer.specs.Text.{Given, IsDocument}
 use Rattle.markdown_tokenizer.specs.Engine.{given_by}
 use Rattle.markdown_tokenizer.specs.Cuts.{cuts_every}
 use Rattle.markdown_children.specs.Ready.{IsReady}
-use Rattle.mdconstructs_blocks.specs.LeafEvents.{flow_events}
+use Rattle.mdconstructs_flow_read.specs.LeafEvents.{flow_events}
 use Rattle.mdconstructs_machines.specs.LineEvents.{line_events, data_events, back_events, save_events}
 use Rattle.mdconstructs_machines.specs.ParagraphEvents.{paragraph_events}
 use Rattle.mdconstructs_text.specs.ParagraphTexts.{paragraph_texts}

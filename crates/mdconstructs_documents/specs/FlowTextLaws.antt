@@ -5,7 +5,7 @@ use Rattle.markdown_base.specs.Virtual.{virtual}
 use Rattle.markdown_tokenizer.specs.Engine.{IsWellFormed}
 use Rattle.markdown_tokenizer.specs.Text.{Given, IsDocument}
 use Rattle.mdconstructs_machines.specs.Innermost.{AccountFor}
-use Rattle.mdconstructs_blocks.specs.LeafEvents.{flow_events}
+use Rattle.mdconstructs_flow_read.specs.LeafEvents.{flow_events}
 use Rattle.mdconstructs_inlines.specs.LawStatements.{with_inlines, with_strings}
 use Rattle.mdconstructs_documents.specs.Documents.{document, virtual_bytes}
 use Rattle.mdconstructs_documents.specs.FlowTexts.{flow_inlines}

@@ -6,8 +6,8 @@ use Rattle.markdown_base.specs.declared.event.Event.{Event}
 use Rattle.markdown_base.specs.Virtual.{Seat}
 use Rattle.mdconstructs_machines.specs.LineEvents.{lines_in}
 use Rattle.mdconstructs_attention.specs.Runs.{with_emphasis}
-use Rattle.mdconstructs_blocks.specs.LeafBlocks.{LeafBlock, leaf_blocks}
-use Rattle.mdconstructs_blocks.specs.LeafEvents.{Mark, block_around, body, linked_from}
+use Rattle.mdconstructs_flow_read.specs.LeafBlocks.{LeafBlock, leaf_blocks}
+use Rattle.mdconstructs_flow_read.specs.LeafEvents.{Mark, block_around, body, linked_from}
 use Rattle.mdconstructs_inlines.specs.InlineEvents.{inline_items}
 use Rattle.mdconstructs_inlines.specs.StringEvents.{string_seat_events}
 use Rattle.mdconstructs_text.specs.TextEvents.{item_events}

@@ -9,7 +9,7 @@ use Rattle.mdconstructs_machines.specs.Breaks.{is_white}
 use Rattle.mdconstructs_text.specs.Bytes.{backticks, is_backtick, is_line_feed}
 use Rattle.mdconstructs_text.specs.Items.{item_length}
 use Rattle.mdconstructs_text.specs.Parts.{first_plain}
-use Rattle.mdconstructs_phrasing.specs.WhiteSpace.{ends_line_at, is_white_left}
+use Rattle.mdconstructs_inline_constructs.specs.WhiteSpace.{ends_line_at, is_white_left}
 use Rattle.mdconstructs_inlines.specs.InlineEvents.{begins_run, data_length, data_run, delimiter_run, ends_data_at, line_break, run_length, run_or_part, up_to}
 use Rattle.mdconstructs_inlines.proofs.InlineApart.{white-plain}
 

@@ -37,10 +37,10 @@ use Rattle.mdconstructs_text.specs.Construct.{between_texts}
 use Rattle.mdconstructs_text.specs.Laws.Classes.{by-class}
 use Rattle.mdconstructs_text.specs.Parts.{bytes_of, event, first_plain, leaf}
 use Rattle.mdconstructs_text.specs.TextBytes.{TextByte, text_byte}
-use Rattle.mdconstructs_phrasing.proofs.WhiteSpaces.Classes.{white-class}
-use Rattle.mdconstructs_phrasing.proofs.WhiteSpaces.Bytes.{run-some}
-use Rattle.mdconstructs_phrasing.proofs.WhiteSpaces.Readings.{after_white, ends-white, fails-white, white-calls}
-use Rattle.mdconstructs_phrasing.specs.WhiteSpace.{is_white_left}
+use Rattle.mdconstructs_inline_constructs.proofs.WhiteSpaces.Classes.{white-class}
+use Rattle.mdconstructs_inline_constructs.proofs.WhiteSpaces.Bytes.{run-some}
+use Rattle.mdconstructs_inline_constructs.proofs.WhiteSpaces.Readings.{after_white, ends-white, fails-white, white-calls}
+use Rattle.mdconstructs_inline_constructs.specs.WhiteSpace.{is_white_left}
 use Rattle.mdconstructs_inlines.specs.InlineEvents.{data_length, data_run, ends_data, ends_data_at, up_to}
 use Rattle.mdconstructs_inlines.specs.InlineTable.{white_data_rows}
 use Rattle.mdconstructs_inlines.proofs.InlineApart.{white-plain}

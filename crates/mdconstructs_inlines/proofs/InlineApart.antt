@@ -14,12 +14,12 @@ use Rattle.mdconstructs_text.specs.Bytes.{is_line_feed}
 use Rattle.mdconstructs_text.specs.Construct.{some_begins, some_first}
 use Rattle.mdconstructs_text.specs.Items.{item_length}
 use Rattle.mdconstructs_text.specs.TextBytes.{is_line_feed_class, punctuation, text_byte}
-use Rattle.mdconstructs_phrasing.proofs.Emails.Bytes.{emails-apart}
-use Rattle.mdconstructs_phrasing.proofs.HtmlMarks.Bytes.{html-marks-apart}
-use Rattle.mdconstructs_phrasing.proofs.HtmlTags.Bytes.{html-tags-apart}
-use Rattle.mdconstructs_phrasing.proofs.HardBreaks.Bytes.{break-escapes-apart, trailing-breaks-apart}
-use Rattle.mdconstructs_phrasing.proofs.References.Bytes.{references-apart}
-use Rattle.mdconstructs_phrasing.proofs.WhiteSpaces.Bytes.{white-spaces-apart}
+use Rattle.mdconstructs_inline_constructs.proofs.Emails.Bytes.{emails-apart}
+use Rattle.mdconstructs_inline_constructs.proofs.HtmlMarks.Bytes.{html-marks-apart}
+use Rattle.mdconstructs_inline_constructs.proofs.HtmlTags.Bytes.{html-tags-apart}
+use Rattle.mdconstructs_inline_constructs.proofs.HardBreaks.Bytes.{break-escapes-apart, trailing-breaks-apart}
+use Rattle.mdconstructs_inline_constructs.proofs.References.Bytes.{references-apart}
+use Rattle.mdconstructs_inline_constructs.proofs.WhiteSpaces.Bytes.{white-spaces-apart}
 use Rattle.mdconstructs_inlines.specs.InlineEvents.{begins_run, data_length, data_run, delimiter_run, ends_data, inline_grammars, inline_item_at, line_break, marked_grammars, run_length, run_or_part}
 use Rattle.mdconstructs_inlines.specs.InlineTable.{behind_autolinks, behind_emails, behind_escapes, behind_marks, inline_constructs, white_constructs}
 use Rattle.mdconstructs_inlines.specs.RunRows.{is_delimiter}

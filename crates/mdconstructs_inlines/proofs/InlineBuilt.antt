@@ -22,12 +22,12 @@ use Rattle.mdconstructs_text.proofs.Constructs.Apart.{EachThere, there-holds}
 use Rattle.mdconstructs_text.proofs.Escapes.Cuts.{escape-built}
 use Rattle.mdconstructs_text.proofs.Texts.Built.{IsKeptBySpans, IsBuilt}
 use Rattle.mdconstructs_text.proofs.Texts.Tight.{links-kept}
-use Rattle.mdconstructs_phrasing.proofs.Emails.Cuts.{email-built}
-use Rattle.mdconstructs_phrasing.proofs.HtmlMarks.Bytes.{html-mark-built}
-use Rattle.mdconstructs_phrasing.proofs.HtmlTags.Bytes.{html-tag-built}
-use Rattle.mdconstructs_phrasing.proofs.HardBreaks.Cuts.{break-escape-built, trailing-break-built}
-use Rattle.mdconstructs_phrasing.proofs.References.Cuts.{reference-built}
-use Rattle.mdconstructs_phrasing.proofs.WhiteSpaces.Cuts.{white-space-built}
+use Rattle.mdconstructs_inline_constructs.proofs.Emails.Cuts.{email-built}
+use Rattle.mdconstructs_inline_constructs.proofs.HtmlMarks.Bytes.{html-mark-built}
+use Rattle.mdconstructs_inline_constructs.proofs.HtmlTags.Bytes.{html-tag-built}
+use Rattle.mdconstructs_inline_constructs.proofs.HardBreaks.Cuts.{break-escape-built, trailing-break-built}
+use Rattle.mdconstructs_inline_constructs.proofs.References.Cuts.{reference-built}
+use Rattle.mdconstructs_inline_constructs.proofs.WhiteSpaces.Cuts.{white-space-built}
 use Rattle.mdconstructs_inlines.specs.InlineEvents.{begins_run, data_length, data_run, delimiter_run, inline_grammars, inline_item_at, inline_items, line_break, read_events, run_length, run_or_part}
 
 module _ (bytes : List ℕ) (P : List Event → Type 0) (kept : IsKeptBySpans bytes P) (on : Constructs) where

@@ -34,26 +34,26 @@ use Rattle.mdconstructs_text.proofs.Plain.Stretches.{goes-next}
 use Rattle.mdconstructs_text.proofs.Texts.Counted.{IsAfter, Remembered, after-call, remembered}
 use Rattle.mdconstructs_text.proofs.Texts.Leads.{Ending, spent}
 use Rattle.mdconstructs_text.proofs.Texts.Steps.{EndsWith, Leads, Plays, between_items}
-use Rattle.mdconstructs_phrasing.specs.HardBreak.{break_escapes}
-use Rattle.mdconstructs_phrasing.specs.HtmlTag.{html_tags}
-use Rattle.mdconstructs_phrasing.specs.Reference.{references}
-use Rattle.mdconstructs_phrasing.specs.WhiteSpace.{white_spaces}
-use Rattle.mdconstructs_phrasing.proofs.Emails.Bytes.{emails-apart}
-use Rattle.mdconstructs_phrasing.proofs.Emails.Calls.{email-paid, email-within}
-use Rattle.mdconstructs_phrasing.proofs.Emails.Readings.{emails-reads-in}
-use Rattle.mdconstructs_phrasing.proofs.HardBreaks.Bytes.{break-escapes-apart, trailing-breaks-apart}
-use Rattle.mdconstructs_phrasing.proofs.HardBreaks.Calls.{break-escape-paid, break-escape-within, break_escape_calls, trailing-break-looked, trailing-break-paid, trailing-break-within, trailing_break_calls}
-use Rattle.mdconstructs_phrasing.proofs.HardBreaks.Escaped.{break-escapes-read-in}
-use Rattle.mdconstructs_phrasing.proofs.HardBreaks.Trailing.{trailing-breaks-read-in}
-use Rattle.mdconstructs_phrasing.proofs.HtmlTags.Bytes.{html-tags-apart, tag-paid, tag-within}
-use Rattle.mdconstructs_phrasing.proofs.HtmlTags.Calls.{tag-missed, tag_calls, tags-ahead-later, tags-ahead-within, tags_ahead}
-use Rattle.mdconstructs_phrasing.proofs.HtmlTags.Readings.{html-tags-read-in}
-use Rattle.mdconstructs_phrasing.proofs.References.Bytes.{references-apart}
-use Rattle.mdconstructs_phrasing.proofs.References.Calls.{reference-within, reference_calls}
-use Rattle.mdconstructs_phrasing.proofs.References.Readings.{references-read-in}
-use Rattle.mdconstructs_phrasing.proofs.WhiteSpaces.Bytes.{white-spaces-apart}
-use Rattle.mdconstructs_phrasing.proofs.WhiteSpaces.Calls.{white-space-paid, white-space-within, white_calls}
-use Rattle.mdconstructs_phrasing.proofs.WhiteSpaces.Readings.{white-spaces-read-in}
+use Rattle.mdconstructs_inline_constructs.specs.HardBreak.{break_escapes}
+use Rattle.mdconstructs_inline_constructs.specs.HtmlTag.{html_tags}
+use Rattle.mdconstructs_inline_constructs.specs.Reference.{references}
+use Rattle.mdconstructs_inline_constructs.specs.WhiteSpace.{white_spaces}
+use Rattle.mdconstructs_inline_constructs.proofs.Emails.Bytes.{emails-apart}
+use Rattle.mdconstructs_inline_constructs.proofs.Emails.Calls.{email-paid, email-within}
+use Rattle.mdconstructs_inline_constructs.proofs.Emails.Readings.{emails-reads-in}
+use Rattle.mdconstructs_inline_constructs.proofs.HardBreaks.Bytes.{break-escapes-apart, trailing-breaks-apart}
+use Rattle.mdconstructs_inline_constructs.proofs.HardBreaks.Calls.{break-escape-paid, break-escape-within, break_escape_calls, trailing-break-looked, trailing-break-paid, trailing-break-within, trailing_break_calls}
+use Rattle.mdconstructs_inline_constructs.proofs.HardBreaks.Escaped.{break-escapes-read-in}
+use Rattle.mdconstructs_inline_constructs.proofs.HardBreaks.Trailing.{trailing-breaks-read-in}
+use Rattle.mdconstructs_inline_constructs.proofs.HtmlTags.Bytes.{html-tags-apart, tag-paid, tag-within}
+use Rattle.mdconstructs_inline_constructs.proofs.HtmlTags.Calls.{tag-missed, tag_calls, tags-ahead-later, tags-ahead-within, tags_ahead}
+use Rattle.mdconstructs_inline_constructs.proofs.HtmlTags.Readings.{html-tags-read-in}
+use Rattle.mdconstructs_inline_constructs.proofs.References.Bytes.{references-apart}
+use Rattle.mdconstructs_inline_constructs.proofs.References.Calls.{reference-within, reference_calls}
+use Rattle.mdconstructs_inline_constructs.proofs.References.Readings.{references-read-in}
+use Rattle.mdconstructs_inline_constructs.proofs.WhiteSpaces.Bytes.{white-spaces-apart}
+use Rattle.mdconstructs_inline_constructs.proofs.WhiteSpaces.Calls.{white-space-paid, white-space-within, white_calls}
+use Rattle.mdconstructs_inline_constructs.proofs.WhiteSpaces.Readings.{white-spaces-read-in}
 use Rattle.mdconstructs_inlines.specs.InlineEvents.{inline_item_at, read_events, run_or_part}
 use Rattle.mdconstructs_inlines.specs.InlineTable.{behind_autolinks, behind_emails, behind_escapes, behind_marks, inline_constructs, white_constructs}
 use Rattle.mdconstructs_inlines.proofs.Budgets.{DecidesPaid, GoDown, Pays, Potential, Prices, ReadsPaid, Tries, TriesNone, adds-paid, budget-kept, budgeted, reads-budgeted, reads-within, total, total-behind, total-down, total-drop, try-all, try-none}

@@ -22,14 +22,14 @@ use Rattle.mdconstructs_text.proofs.Constructs.Apart.{OfOption}
 use Rattle.mdconstructs_text.proofs.Constructs.Listed.{outer}
 use Rattle.mdconstructs_text.proofs.Texts.Counted.{Remembered, remembered}
 use Rattle.mdconstructs_text.proofs.Texts.Steps.{EndsWith, Plays, between_items}
-use Rattle.mdconstructs_phrasing.proofs.HtmlMarks.Ahead.{mark-missed, marks-ahead-later, marks-ahead-same, marks-ahead-within, marks-leave-runs, marks_ahead}
-use Rattle.mdconstructs_phrasing.proofs.HtmlMarks.Bytes.{html-marks-apart}
-use Rattle.mdconstructs_phrasing.proofs.HtmlMarks.Readings.{MarksDecided, html-marks-read, known_at, look_calls, looked_over, mark-paid, mark-within}
-use Rattle.mdconstructs_phrasing.proofs.HtmlMarks.Remembered.{KnowsMarks, knows-later as marks-later, knows-nothing as marks-nothing, knows-same as marks-same}
-use Rattle.mdconstructs_phrasing.proofs.HtmlMarks.Places.{Mark, of_cdata, of_comment, of_declaration, of_instruction}
-use Rattle.mdconstructs_phrasing.proofs.HtmlMarks.Rows.{known_upto}
-use Rattle.mdconstructs_phrasing.proofs.RememberedCode.Memory.{code_memory}
-use Rattle.mdconstructs_phrasing.proofs.RememberedCode.Readings.{CodeDecided, code-ahead-later, code-ahead-within, code_ahead, knows-code-later, knows-no-code, knows_code, remembered-code-read}
+use Rattle.mdconstructs_inline_constructs.proofs.HtmlMarks.Ahead.{mark-missed, marks-ahead-later, marks-ahead-same, marks-ahead-within, marks-leave-runs, marks_ahead}
+use Rattle.mdconstructs_inline_constructs.proofs.HtmlMarks.Bytes.{html-marks-apart}
+use Rattle.mdconstructs_inline_constructs.proofs.HtmlMarks.Readings.{MarksDecided, html-marks-read, known_at, look_calls, looked_over, mark-paid, mark-within}
+use Rattle.mdconstructs_inline_constructs.proofs.HtmlMarks.Remembered.{KnowsMarks, knows-later as marks-later, knows-nothing as marks-nothing, knows-same as marks-same}
+use Rattle.mdconstructs_inline_constructs.proofs.HtmlMarks.Places.{Mark, of_cdata, of_comment, of_declaration, of_instruction}
+use Rattle.mdconstructs_inline_constructs.proofs.HtmlMarks.Rows.{known_upto}
+use Rattle.mdconstructs_inline_constructs.proofs.RememberedCode.Memory.{code_memory}
+use Rattle.mdconstructs_inline_constructs.proofs.RememberedCode.Readings.{CodeDecided, code-ahead-later, code-ahead-within, code_ahead, knows-code-later, knows-no-code, knows_code, remembered-code-read}
 use Rattle.mdconstructs_inlines.specs.InlineEvents.{read_events}
 use Rattle.mdconstructs_inlines.proofs.Budgets.{Potential, total-drop}
 use Rattle.mdconstructs_inlines.proofs.FrontRuns.{no-run}

@@ -32,8 +32,8 @@ use Rattle.mdconstructs_text.specs.Construct.{between_texts}
 use Rattle.mdconstructs_text.specs.Laws.Classes.{by-class}
 use Rattle.mdconstructs_text.specs.Parts.{bytes_of, event, leaf}
 use Rattle.mdconstructs_text.specs.TextBytes.{TextByte, text_byte}
-use Rattle.mdconstructs_phrasing.proofs.WhiteSpaces.Bytes.{run-some}
-use Rattle.mdconstructs_phrasing.proofs.WhiteSpaces.Classes.{white-class}
+use Rattle.mdconstructs_inline_constructs.proofs.WhiteSpaces.Bytes.{run-some}
+use Rattle.mdconstructs_inline_constructs.proofs.WhiteSpaces.Classes.{white-class}
 use Rattle.mdconstructs_inlines.specs.InlineEvents.{line_break}
 use Rattle.mdconstructs_inlines.specs.InlineTable.{line_start_rows, line_white_rows}
 use Rattle.mdconstructs_inlines.proofs.Playing.{inlines_play, line-row}

@@ -18,15 +18,15 @@ use Rattle.markdown_base.specs.declared.state.TheConstants.Name.{TextBeforeHardB
 use Rattle.markdown_tokenizer.proofs.Positions.Order.{every-back, every-front}
 use Rattle.mdconstructs_tables.specs.Rows.{StateRows}
 use Rattle.mdconstructs_text.specs.Construct.{states_of}
-use Rattle.mdconstructs_phrasing.proofs.HtmlTags.Looks.{html-on-alike, html-tags-alike}
-use Rattle.mdconstructs_phrasing.specs.Email.{emails}
-use Rattle.mdconstructs_phrasing.specs.HtmlMarked.{html_marks}
-use Rattle.mdconstructs_phrasing.specs.HtmlTag.{html_tags}
-use Rattle.mdconstructs_phrasing.specs.Laws.Email.{domain-ends-alike, hyphen-alike, label-alike, label-ends-alike, name-alike, name-ends-alike}
-use Rattle.mdconstructs_phrasing.specs.HardBreak.{break_escapes_are_on, space_waits, trailing_breaks_are_on}
-use Rattle.mdconstructs_phrasing.specs.Reference.{at_number_sign, at_semicolon, at_x, value_goes_on, value_is_whole}
-use Rattle.mdconstructs_phrasing.proofs.References.Alike.{goes-on-alike, number-sign-alike, on-alike, semicolon-alike, whole-alike, x-alike}
-use Rattle.mdconstructs_phrasing.specs.RememberedCode.{remembered_code_spans}
+use Rattle.mdconstructs_inline_constructs.proofs.HtmlTags.Looks.{html-on-alike, html-tags-alike}
+use Rattle.mdconstructs_inline_constructs.specs.Email.{emails}
+use Rattle.mdconstructs_inline_constructs.specs.HtmlMarked.{html_marks}
+use Rattle.mdconstructs_inline_constructs.specs.HtmlTag.{html_tags}
+use Rattle.mdconstructs_inline_constructs.specs.Laws.Email.{domain-ends-alike, hyphen-alike, label-alike, label-ends-alike, name-alike, name-ends-alike}
+use Rattle.mdconstructs_inline_constructs.specs.HardBreak.{break_escapes_are_on, space_waits, trailing_breaks_are_on}
+use Rattle.mdconstructs_inline_constructs.specs.Reference.{at_number_sign, at_semicolon, at_x, value_goes_on, value_is_whole}
+use Rattle.mdconstructs_inline_constructs.proofs.References.Alike.{goes-on-alike, number-sign-alike, on-alike, semicolon-alike, whole-alike, x-alike}
+use Rattle.mdconstructs_inline_constructs.specs.RememberedCode.{remembered_code_spans}
 use Rattle.mdconstructs_inlines.specs.InlineRules.{inlines_rules}
 use Rattle.mdconstructs_inlines.specs.InlineTable.{behind_escapes, inline_constructs, inline_start, inlines, own_states}
 use Rattle.mdconstructs_inlines.specs.RunRows.{is_delimiter, run_begins, run_goes_on, run_states}

@@ -21,20 +21,20 @@ use Rattle.mdconstructs_text.proofs.CodeSpans.Plays.{PlaysCodeSpans}
 use Rattle.mdconstructs_text.proofs.CodeSpans.Remembered.{remembering}
 use Rattle.mdconstructs_text.proofs.Texts.Apart.{line-classed}
 use Rattle.mdconstructs_text.proofs.Texts.Steps.{BeginsData, HasRow, HasRows, Plays, tested}
-use Rattle.mdconstructs_phrasing.proofs.Emails.Readings.{PlaysEmails}
-use Rattle.mdconstructs_phrasing.proofs.HtmlMarks.Places.{MarkPlace, at_cdata, at_comment, at_declaration, at_inside, at_open, mark_name}
-use Rattle.mdconstructs_phrasing.proofs.HtmlMarks.Rows.{PlaysMarks, mark_rows}
-use Rattle.mdconstructs_phrasing.proofs.HtmlTags.Places as place
-use Rattle.mdconstructs_phrasing.proofs.HtmlTags.Places.{Place}
-use Rattle.mdconstructs_phrasing.proofs.HtmlTags.Rows.{PlaysTags, rows_of, state_of}
-use Rattle.mdconstructs_phrasing.proofs.HardBreaks.Escaped.{PlaysBreakEscapes}
-use Rattle.mdconstructs_phrasing.proofs.HardBreaks.Trailing.{PlaysTrailingBreaks}
-use Rattle.mdconstructs_phrasing.proofs.References.Readings.{PlaysReferences}
-use Rattle.mdconstructs_phrasing.proofs.RememberedCode.Memory.{between-remembered, code_memory, opening-remembered}
-use Rattle.mdconstructs_phrasing.proofs.WhiteSpaces.Bytes.{white-classed}
-use Rattle.mdconstructs_phrasing.proofs.WhiteSpaces.Classes.{white-class}
-use Rattle.mdconstructs_phrasing.proofs.WhiteSpaces.Readings.{PlaysWhiteSpaces}
-use Rattle.mdconstructs_phrasing.specs.WhiteSpace.{is_white_class}
+use Rattle.mdconstructs_inline_constructs.proofs.Emails.Readings.{PlaysEmails}
+use Rattle.mdconstructs_inline_constructs.proofs.HtmlMarks.Places.{MarkPlace, at_cdata, at_comment, at_declaration, at_inside, at_open, mark_name}
+use Rattle.mdconstructs_inline_constructs.proofs.HtmlMarks.Rows.{PlaysMarks, mark_rows}
+use Rattle.mdconstructs_inline_constructs.proofs.HtmlTags.Places as place
+use Rattle.mdconstructs_inline_constructs.proofs.HtmlTags.Places.{Place}
+use Rattle.mdconstructs_inline_constructs.proofs.HtmlTags.Rows.{PlaysTags, rows_of, state_of}
+use Rattle.mdconstructs_inline_constructs.proofs.HardBreaks.Escaped.{PlaysBreakEscapes}
+use Rattle.mdconstructs_inline_constructs.proofs.HardBreaks.Trailing.{PlaysTrailingBreaks}
+use Rattle.mdconstructs_inline_constructs.proofs.References.Readings.{PlaysReferences}
+use Rattle.mdconstructs_inline_constructs.proofs.RememberedCode.Memory.{between-remembered, code_memory, opening-remembered}
+use Rattle.mdconstructs_inline_constructs.proofs.WhiteSpaces.Bytes.{white-classed}
+use Rattle.mdconstructs_inline_constructs.proofs.WhiteSpaces.Classes.{white-class}
+use Rattle.mdconstructs_inline_constructs.proofs.WhiteSpaces.Readings.{PlaysWhiteSpaces}
+use Rattle.mdconstructs_inline_constructs.specs.WhiteSpace.{is_white_class}
 use Rattle.mdconstructs_inlines.specs.InlineEvents.{begins_run, ends_data}
 use Rattle.mdconstructs_inlines.specs.InlineRules.{inlines_rules}
 use Rattle.mdconstructs_inlines.specs.InlineTable.{inline_before_rows, inline_constructs, inline_data_rows}

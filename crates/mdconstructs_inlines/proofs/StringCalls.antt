@@ -29,8 +29,8 @@ use Rattle.mdconstructs_text.proofs.Texts.Counted.{after-call}
 use Rattle.mdconstructs_text.proofs.Texts.Cutting.{cut-same, drop-less}
 use Rattle.mdconstructs_text.proofs.Texts.Leads.{spent}
 use Rattle.mdconstructs_text.proofs.Texts.Steps.{EndsWith, Plays, between_items}
-use Rattle.mdconstructs_phrasing.proofs.References.Calls.{reference_calls}
-use Rattle.mdconstructs_phrasing.proofs.References.Readings.{references-read-in}
+use Rattle.mdconstructs_inline_constructs.proofs.References.Calls.{reference_calls}
+use Rattle.mdconstructs_inline_constructs.proofs.References.Readings.{references-read-in}
 use Rattle.mdconstructs_inlines.specs.LawStatements.{RunsWithin}
 use Rattle.mdconstructs_inlines.specs.StringEvents.{is_string_special, string_data, string_events, string_item_at, string_part}
 use Rattle.mdconstructs_inlines.specs.StringTable.{between_strings, string_constructs}

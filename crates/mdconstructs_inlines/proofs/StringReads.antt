@@ -36,9 +36,9 @@ use Rattle.mdconstructs_text.proofs.Texts.LineEndings.{reads-line-in}
 use Rattle.mdconstructs_text.proofs.Texts.Leads.{counted-most, ending, most, spent}
 use Rattle.mdconstructs_text.proofs.Texts.Reads.{ReadsItems, nothing-kept, nothing_known, reads-before}
 use Rattle.mdconstructs_text.proofs.Texts.Steps.{EndsWith, HasRow, Plays, PlaysData, between_items, leads-row}
-use Rattle.mdconstructs_phrasing.specs.Reference.{references}
-use Rattle.mdconstructs_phrasing.proofs.References.Bytes.{references-apart}
-use Rattle.mdconstructs_phrasing.proofs.References.Readings.{references-read}
+use Rattle.mdconstructs_inline_constructs.specs.Reference.{references}
+use Rattle.mdconstructs_inline_constructs.proofs.References.Bytes.{references-apart}
+use Rattle.mdconstructs_inline_constructs.proofs.References.Readings.{references-read}
 use Rattle.mdconstructs_inlines.specs.StringEvents.{is_string_special, string_data, string_events, string_item_at, string_part}
 use Rattle.mdconstructs_inlines.specs.StringTable.{between_strings, string_before_rows, string_constructs, string_data_rows}
 use Rattle.mdconstructs_inlines.proofs.Playing.{inlines_play, inlines_play_references}

@@ -29,9 +29,9 @@ use Rattle.mdconstructs_text.proofs.Escapes.Cuts.{escape-built}
 use Rattle.mdconstructs_text.proofs.Texts.Built.{IsBuilt, IsKeptBySpans}
 use Rattle.mdconstructs_text.proofs.Texts.Tight.{links-kept}
 use Rattle.mdconstructs_inlines.specs.InlineRules.{emphasis_edits}
-use Rattle.mdconstructs_phrasing.specs.Reference.{Kind, decimal, hexadecimal, mark_events, marks, named, reference, reference_at}
-use Rattle.mdconstructs_phrasing.proofs.References.Bytes.{reference-holds}
-use Rattle.mdconstructs_phrasing.proofs.References.Cuts.{reference-built}
+use Rattle.mdconstructs_inline_constructs.specs.Reference.{Kind, decimal, hexadecimal, mark_events, marks, named, reference, reference_at}
+use Rattle.mdconstructs_inline_constructs.proofs.References.Bytes.{reference-holds}
+use Rattle.mdconstructs_inline_constructs.proofs.References.Cuts.{reference-built}
 use Rattle.mdconstructs_inlines.specs.StringEvents.{string_data, string_events, string_grammars, string_item_at, string_part}
 
 -- an event that is none of a delimiter run, and lists of them

@@ -17,12 +17,12 @@ use Rattle.mdconstructs_text.specs.Escape.{escape_grammar}
 use Rattle.mdconstructs_text.specs.Items.{item_length}
 use Rattle.mdconstructs_text.specs.Parts.{bytes_of, cut, first_plain, leaf}
 use Rattle.mdconstructs_text.specs.TextEvents.{item_events}
-use Rattle.mdconstructs_phrasing.specs.Email.{email_grammar}
-use Rattle.mdconstructs_phrasing.specs.HardBreak.{break_escape_grammar, trailing_break_grammar}
-use Rattle.mdconstructs_phrasing.specs.Reference.{reference_grammar}
-use Rattle.mdconstructs_phrasing.specs.HtmlMarked.{html_mark_grammar}
-use Rattle.mdconstructs_phrasing.specs.HtmlTag.{html_tag_grammar}
-use Rattle.mdconstructs_phrasing.specs.WhiteSpace.{is_white_left, white_space, white_space_grammar}
+use Rattle.mdconstructs_inline_constructs.specs.Email.{email_grammar}
+use Rattle.mdconstructs_inline_constructs.specs.HardBreak.{break_escape_grammar, trailing_break_grammar}
+use Rattle.mdconstructs_inline_constructs.specs.Reference.{reference_grammar}
+use Rattle.mdconstructs_inline_constructs.specs.HtmlMarked.{html_mark_grammar}
+use Rattle.mdconstructs_inline_constructs.specs.HtmlTag.{html_tag_grammar}
+use Rattle.mdconstructs_inline_constructs.specs.WhiteSpace.{is_white_left, white_space, white_space_grammar}
 use Rattle.mdconstructs_inlines.specs.RunRows.{is_delimiter}
 
 -- The constructs of inline text that begin with a mark: code spans, autolinks, email autolinks, raw HTML between marks, tags, backslash

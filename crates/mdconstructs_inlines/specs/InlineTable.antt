@@ -15,13 +15,13 @@ use Rattle.mdconstructs_text.specs.Escape.{escapes, escape_prices}
 use Rattle.mdconstructs_text.specs.TextBytes.{TextByte, backslash, less, line_feed, punctuation, white, text_byte, is_backslash_class, is_backtick_class, is_less_class, is_line_feed_class}
 use Rattle.mdconstructs_text.specs.TextCosts.{text_cost}
 use Rattle.mdconstructs_text.specs.TextTable.{text_before_data, data_at_break}
-use Rattle.mdconstructs_phrasing.specs.Email.{emails, email_prices}
-use Rattle.mdconstructs_phrasing.specs.HardBreak.{break_escapes, break_escape_prices, trailing_breaks, trailing_break_prices}
-use Rattle.mdconstructs_phrasing.specs.Reference.{references, reference_prices}
-use Rattle.mdconstructs_phrasing.specs.RememberedCode.{remembered_code_spans}
-use Rattle.mdconstructs_phrasing.specs.HtmlMarked.{html_marks, html_mark_prices}
-use Rattle.mdconstructs_phrasing.specs.HtmlTag.{html_tags, html_tag_prices}
-use Rattle.mdconstructs_phrasing.specs.WhiteSpace.{is_white_class, white_spaces, white_space_prices}
+use Rattle.mdconstructs_inline_constructs.specs.Email.{emails, email_prices}
+use Rattle.mdconstructs_inline_constructs.specs.HardBreak.{break_escapes, break_escape_prices, trailing_breaks, trailing_break_prices}
+use Rattle.mdconstructs_inline_constructs.specs.Reference.{references, reference_prices}
+use Rattle.mdconstructs_inline_constructs.specs.RememberedCode.{remembered_code_spans}
+use Rattle.mdconstructs_inline_constructs.specs.HtmlMarked.{html_marks, html_mark_prices}
+use Rattle.mdconstructs_inline_constructs.specs.HtmlTag.{html_tags, html_tag_prices}
+use Rattle.mdconstructs_inline_constructs.specs.WhiteSpace.{is_white_class, white_spaces, white_space_prices}
 use Rattle.mdconstructs_inlines.specs.RunRows.{run_begins, run_prices, run_states}
 use Rattle.mdconstructs_inlines.specs.StringTable.{registers, string_prices, string_states}
 

@@ -12,7 +12,7 @@ use Rattle.mdconstructs_text.specs.Escape.{escape_grammar}
 use Rattle.mdconstructs_text.specs.Items.{item_length}
 use Rattle.mdconstructs_text.specs.Parts.{cut, line_ending, part, plain_run}
 use Rattle.mdconstructs_text.specs.TextEvents.{item_events}
-use Rattle.mdconstructs_phrasing.specs.Reference.{reference_grammar}
+use Rattle.mdconstructs_inline_constructs.specs.Reference.{reference_grammar}
 
 -- The constructs of strings: backslash escapes and character references
 abbrev pub string_grammars : List (Grammar Found)

@@ -11,7 +11,7 @@ use Rattle.mdconstructs_text.specs.Construct.{Between, Construct, Found, before_
 use Rattle.mdconstructs_text.specs.Escape.{escapes}
 use Rattle.mdconstructs_text.specs.TextBytes.{TextByte, is_line_feed_class}
 use Rattle.mdconstructs_text.specs.TextCosts.{text_cost}
-use Rattle.mdconstructs_phrasing.specs.Reference.{references}
+use Rattle.mdconstructs_inline_constructs.specs.Reference.{references}
 
 -- the one resolver is registered
 abbrev pub registers : Configuration Unit Unit → Local Unit Unit

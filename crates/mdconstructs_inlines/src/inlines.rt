@@ -22,31 +22,31 @@ use markdown_tokenizer::tokenizer::{Fault, Tokenizer};
 use markdown_tokenizer::util::edit_map::EditMap;
 use mdconstructs_attention::emphasis::emphasize;
 use mdconstructs_machines::begin::begin;
-use mdconstructs_phrasing::email::{email_atext, email_label, email_start, email_value};
-use mdconstructs_phrasing::hard_break::{
+use mdconstructs_inline_constructs::email::{email_atext, email_label, email_start, email_value};
+use mdconstructs_inline_constructs::hard_break::{
     break_escape_after, break_escape_start, break_escapes_are_on, trailing_after_first,
     trailing_after_more, trailing_breaks_are_on, trailing_start,
 };
-use mdconstructs_phrasing::html_marked::{
+use mdconstructs_inline_constructs::html_marked::{
     cdata_open, comment_open, declaration_open, mark_inside, mark_line, mark_open, mark_start,
     mark_white,
 };
-use mdconstructs_phrasing::html_tag::{
+use mdconstructs_inline_constructs::html_tag::{
     html_text_attribute_name, html_text_attribute_name_after, html_text_end, html_text_open,
     html_text_start, html_text_tag_close, html_text_tag_close_between, html_text_tag_close_start,
     html_text_tag_open, html_text_tag_open_between, html_text_value_before, html_text_value_quoted,
     html_text_value_quoted_after, html_text_value_unquoted,
 };
-use mdconstructs_phrasing::html_text::{
+use mdconstructs_inline_constructs::html_text::{
     html_is_on, html_line_ending_after, html_line_ending_after_prefix,
 };
-use mdconstructs_phrasing::reference::{
+use mdconstructs_inline_constructs::reference::{
     reference_numeric, reference_open, reference_start, reference_value, references_are_on,
 };
-use mdconstructs_phrasing::remembered_code::{
+use mdconstructs_inline_constructs::remembered_code::{
     remembered_between, remembered_chunk, remembered_open,
 };
-use mdconstructs_phrasing::white_space::{white_inside, white_start};
+use mdconstructs_inline_constructs::white_space::{white_inside, white_start};
 use mdconstructs_tables::marker;
 use mdconstructs_text::autolink::{
     autolink_open, autolink_scheme, autolink_start, autolink_url, autolinks_are_on,

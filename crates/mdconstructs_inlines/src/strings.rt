@@ -8,7 +8,7 @@ ghost use Rattle.mdconstructs_inlines.specs.StringTable.{string_before, string_b
 use markdown_tokenizer::event;
 use markdown_tokenizer::state::{MachineTypes, Name, State};
 use markdown_tokenizer::tokenizer::Tokenizer;
-use mdconstructs_phrasing::reference::references_are_on;
+use mdconstructs_inline_constructs::reference::references_are_on;
 use mdconstructs_tables::marker;
 use mdconstructs_text::escape::escapes_are_on;
 use std::alloc::AllocError;

@@ -14,11 +14,11 @@ use Rattle.mdconstructs_machines.specs.LineEvents.{lines_in}
 use Rattle.mdconstructs_inlines.proofs.InlineBuilt.{read-alone, read-balanced}
 use Rattle.mdconstructs_inlines.specs.InlineEvents.{read_events}
 use Rattle.mdconstructs_inlines.specs.StringEvents.{string_seat_events}
-use Rattle.mdconstructs_blocks.proofs.Marks.MarkAccounts.{AreSpans, Begins, accounts-kept}
-use Rattle.mdconstructs_blocks.proofs.Marks.MarkForms.{Track, track-on, whole-track}
-use Rattle.mdconstructs_blocks.proofs.Marks.MarkSpans.{IsKeptBySpans}
-use Rattle.mdconstructs_blocks.specs.LeafBlocks.{leaf_blocks}
-use Rattle.mdconstructs_blocks.specs.LeafEvents.{Mark}
+use Rattle.mdconstructs_flow_read.proofs.Marks.MarkAccounts.{AreSpans, Begins, accounts-kept}
+use Rattle.mdconstructs_flow_read.proofs.Marks.MarkForms.{Track, track-on, whole-track}
+use Rattle.mdconstructs_flow_read.proofs.Marks.MarkSpans.{IsKeptBySpans}
+use Rattle.mdconstructs_flow_read.specs.LeafBlocks.{leaf_blocks}
+use Rattle.mdconstructs_flow_read.specs.LeafEvents.{Mark}
 use Rattle.mdconstructs_documents.specs.Documents.{document, options_with}
 use Rattle.mdconstructs_documents.specs.FlowTextLaws.{InlinesAccount}
 use Rattle.mdconstructs_documents.specs.FlowTexts.{block_texts, inline_seat_events, read_marks}

@@ -12,8 +12,8 @@ use Rattle.mdconstructs_text.specs.Bytes.{is_line_feed}
 use Rattle.mdconstructs_text.specs.Items.{item_length}
 use Rattle.mdconstructs_text.specs.Parts.{bytes_of, cut}
 use Rattle.mdconstructs_text.specs.TextEvents.{item_events}
-use Rattle.mdconstructs_phrasing.proofs.WhiteSpaces.Cuts.{white-run-cut}
-use Rattle.mdconstructs_phrasing.specs.WhiteSpace.{white_space}
+use Rattle.mdconstructs_inline_constructs.proofs.WhiteSpaces.Cuts.{white-run-cut}
+use Rattle.mdconstructs_inline_constructs.specs.WhiteSpace.{white_space}
 use Rattle.mdconstructs_inlines.proofs.InlineApart.{some-item}
 use Rattle.mdconstructs_inlines.specs.InlineEvents.{begins_run, data_length, data_run, delimiter_run, inline_grammars, inline_item_at, inline_items, line_break, run_length, run_or_part}
 use Rattle.mdconstructs_inlines.specs.RunRows.{is_delimiter}

@@ -11,7 +11,7 @@ use Rattle.mdconstructs_attention.specs.Emphasis.{later, same}
 use Rattle.mdconstructs_attention.specs.Runs.{is_star_byte}
 use Rattle.mdconstructs_text.proofs.DeepSpans.Atoms.{Atom, atom_seats, seats_of}
 use Rattle.mdconstructs_inlines.specs.RunRows.{is_delimiter}
-use Rattle.mdconstructs_blocks.proofs.Marks.MarkForms.{Track, track-on, track-place}
+use Rattle.mdconstructs_flow_read.proofs.Marks.MarkForms.{Track, track-on, track-place}
 use Rattle.mdconstructs_documents.proofs.Emphasis.Follow.{FollowFrom}
 use Rattle.mdconstructs_documents.proofs.Emphasis.RunAtoms.{AreWholeRuns, Differs, is_run}
 use Rattle.mdconstructs_documents.proofs.Emphasis.Runs.{AreRuns, HasOther}

@@ -12,7 +12,7 @@ use Rattle.markdown_base.specs.Places.{stands_before, IsPointOf, IsShown}
 use Rattle.markdown_edits.specs.Links.{AreMutual, IsChunk, IsLinkedEnter, content_at, content_of, next_of}
 use Rattle.markdown_children.specs.Ready.{IsReady, IsShownPlace, place_at}
 use Rattle.markdown_tokenizer.specs.AtPlaces.{AreAtPlaces}
-use Rattle.mdconstructs_blocks.specs.ChunksJoin.{ChunksJoin}
+use Rattle.mdconstructs_flow_read.specs.ChunksJoin.{ChunksJoin}
 use Rattle.mdconstructs_documents.proofs.FlowChains.Contents.{is-content}
 use Rattle.mdconstructs_text.proofs.Paragraphs.ChunkPairs.{place-at-event}
 use Rattle.mdconstructs_text.proofs.Paragraphs.ChunksReady.{between-none}

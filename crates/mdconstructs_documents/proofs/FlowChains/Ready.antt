@@ -6,11 +6,11 @@ use Rattle.markdown_base.specs.declared.event.Event.{Event}
 use Rattle.markdown_children.specs.Ready.{IsReady}
 use Rattle.markdown_tokenizer.specs.Engine.{IsWellFormed}
 use Rattle.markdown_tokenizer.specs.Text.{Given, IsDocument}
-use Rattle.mdconstructs_blocks.proofs.Marks.BlocksFormed.{blocks-are-formed}
-use Rattle.mdconstructs_blocks.proofs.Marks.ChunksJoin.{blocks-join}
+use Rattle.mdconstructs_flow_read.proofs.Marks.BlocksFormed.{blocks-are-formed}
+use Rattle.mdconstructs_flow_read.proofs.Marks.ChunksJoin.{blocks-join}
 use Rattle.markdown_base.specs.Virtual.{virtual}
 use Rattle.mdconstructs_documents.proofs.FlowChains.Adjoined.{AreAdjoined, adjoined-ready, joined-adjoined}
-use Rattle.mdconstructs_blocks.specs.LeafEvents.{flow_events}
+use Rattle.mdconstructs_flow_read.specs.LeafEvents.{flow_events}
 use Rattle.mdconstructs_documents.specs.Documents.{document, ChainsAreReadable, IsReadable}
 
 module _ (g : Given) (document : IsDocument g) where

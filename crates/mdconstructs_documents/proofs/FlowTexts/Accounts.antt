@@ -5,8 +5,8 @@ use Rattle.markdown_base.specs.declared.event.Event.{Event}
 use Rattle.markdown_base.specs.Virtual.{Seat}
 use Rattle.mdconstructs_machines.specs.Innermost.{AccountFor}
 use Rattle.mdconstructs_text.proofs.DeepSpans.Atoms.{Atom, IsCut, atoms-more, events_of, open-atoms}
-use Rattle.mdconstructs_blocks.proofs.Marks.MarkAccounts.{AreSpans, Begins, bare, linked-spans}
-use Rattle.mdconstructs_blocks.specs.LeafEvents.{Mark, linked_from}
+use Rattle.mdconstructs_flow_read.proofs.Marks.MarkAccounts.{AreSpans, Begins, bare, linked-spans}
+use Rattle.mdconstructs_flow_read.specs.LeafEvents.{Mark, linked_from}
 use Rattle.mdconstructs_documents.specs.FlowTexts.{read_marks}
 
 -- marks of events, which begin no chunk

@@ -15,15 +15,15 @@ use Rattle.mdconstructs_machines.proofs.BlockReads.Accounts.{lines-are-all}
 use Rattle.markdown_tokenizer.specs.Plain.{HaveNoLinks}
 use Rattle.mdconstructs_machines.specs.Breaks.{is_white}
 use Rattle.mdconstructs_machines.specs.LineEvents.{all_of, ending_of, line_text, lines_in}
-use Rattle.mdconstructs_blocks.proofs.Marks.FullBlocks.{IsFull, StartsText, leaf-blocks-full}
-use Rattle.mdconstructs_blocks.proofs.Marks.LeafSpans.{block_lines, leaf-blocks-lines, setext-body}
-use Rattle.mdconstructs_blocks.proofs.Marks.MarkChunks.{AreSingle, IsPlain, single-block-marks, single-both, single-data, single-end, single-fenced, single-last, single-leaf, single-sequence, single-span, single-underline}
-use Rattle.mdconstructs_blocks.proofs.Marks.MarkSpans.{line-on}
-use Rattle.mdconstructs_blocks.proofs.Lines.WholeLines.{IsWhole, body-and-last, part-behind, text-and-ending, three-parts, whole-lines}
-use Rattle.mdconstructs_blocks.specs.BlocksRead.{block_seats, last_ending}
-use Rattle.mdconstructs_blocks.specs.LeafBlocks.{Line, LeafBlock, blank_line, break_line, atx_heading, paragraph, setext_heading, indented_code, fenced_code, html_block, bytes_of, leaf_blocks}
-use Rattle.mdconstructs_blocks.specs.LeafEvents.{Mark, alone, block_around, block_span, body, chunk_span, code_fenced_around, fence_around, fenced_marks, heading_around, last_end, leaf_block_marks, leaf_blocks_marks, line_end, string_chunk, text_chunk, text_marks, underline_marks}
-use Rattle.mdconstructs_blocks.specs.LineKinds.{Fence, heading_text, indent, run, unindented}
+use Rattle.mdconstructs_flow_read.proofs.Marks.FullBlocks.{IsFull, StartsText, leaf-blocks-full}
+use Rattle.mdconstructs_flow_read.proofs.Marks.LeafSpans.{block_lines, leaf-blocks-lines, setext-body}
+use Rattle.mdconstructs_flow_read.proofs.Marks.MarkChunks.{AreSingle, IsPlain, single-block-marks, single-both, single-data, single-end, single-fenced, single-last, single-leaf, single-sequence, single-span, single-underline}
+use Rattle.mdconstructs_flow_read.proofs.Marks.MarkSpans.{line-on}
+use Rattle.mdconstructs_flow_read.proofs.Lines.WholeLines.{IsWhole, body-and-last, part-behind, text-and-ending, three-parts, whole-lines}
+use Rattle.mdconstructs_flow_read.specs.BlocksRead.{block_seats, last_ending}
+use Rattle.mdconstructs_flow_read.specs.LeafBlocks.{Line, LeafBlock, blank_line, break_line, atx_heading, paragraph, setext_heading, indented_code, fenced_code, html_block, bytes_of, leaf_blocks}
+use Rattle.mdconstructs_flow_read.specs.LeafEvents.{Mark, alone, block_around, block_span, body, chunk_span, code_fenced_around, fence_around, fenced_marks, heading_around, last_end, leaf_block_marks, leaf_blocks_marks, line_end, string_chunk, text_chunk, text_marks, underline_marks}
+use Rattle.mdconstructs_flow_read.specs.LineKinds.{Fence, heading_text, indent, run, unindented}
 use Rattle.mdconstructs_documents.specs.FlowTexts.{block_texts, read_marks}
 use Rattle.mdconstructs_documents.proofs.FlowTexts.Segments.{AreSegments, HasByte, IsOther, chain_marks, in_line, kept-events, no-segments, segments-around, segments-both, segments-chain, segments-kept}
 

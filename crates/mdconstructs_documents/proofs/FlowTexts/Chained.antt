@@ -8,8 +8,8 @@ use Rattle.markdown_base.specs.declared.event.Event.{Event}
 use Rattle.markdown_base.specs.Virtual.{Seat}
 use Rattle.markdown_children.proofs.Parts.Weaves.{get-dropped}
 use Rattle.markdown_children.specs.Chains.{begins}
-use Rattle.mdconstructs_blocks.proofs.Marks.ToldEdits.{first-linked, mark_at}
-use Rattle.mdconstructs_blocks.specs.LeafEvents.{Mark, linked_from}
+use Rattle.mdconstructs_flow_read.proofs.Marks.ToldEdits.{first-linked, mark_at}
+use Rattle.mdconstructs_flow_read.specs.LeafEvents.{Mark, linked_from}
 use Rattle.mdconstructs_documents.proofs.FlowTexts.Segments.{IsKept}
 
 -- two events for each chunk

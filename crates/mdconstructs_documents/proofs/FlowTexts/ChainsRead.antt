@@ -20,8 +20,8 @@ use Rattle.markdown_tokenizer.specs.Plain.{HaveNoLinks}
 use Rattle.markdown_tokenizer.specs.Text.{Given}
 use Rattle.mdconstructs_text.proofs.DeepSpans.Chunks.{chain-seats}
 use Rattle.mdconstructs_text.specs.ChainTexts.{chain_text}
-use Rattle.mdconstructs_blocks.proofs.Marks.ToldEdits.{first-linked, mark_at}
-use Rattle.mdconstructs_blocks.specs.LeafEvents.{Mark, linked_from}
+use Rattle.mdconstructs_flow_read.proofs.Marks.ToldEdits.{first-linked, mark_at}
+use Rattle.mdconstructs_flow_read.specs.LeafEvents.{Mark, linked_from}
 use Rattle.mdconstructs_documents.proofs.FlowTexts.Chained.{two_for, indices, IsAt, starts_in, kept-at}
 use Rattle.mdconstructs_documents.proofs.FlowTexts.Changes.{after-texts, changes-apart, changes_of, kept-room, marks_of, starts-are, starts_of, texts_of}
 use Rattle.mdconstructs_documents.proofs.FlowTexts.Chunks.{chain-is, chain-next, chain-room, chain-seats-are}

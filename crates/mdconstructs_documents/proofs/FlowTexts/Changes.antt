@@ -13,8 +13,8 @@ use Rattle.markdown_children.specs.Parts.{parts}
 use Rattle.markdown_children.specs.Ready.{place_at}
 use Rattle.markdown_edits.specs.Woven.{AreApart, Change}
 use Rattle.markdown_tokenizer.specs.Text.{Given}
-use Rattle.mdconstructs_blocks.proofs.Marks.ToldEdits.{first-linked, mark_at}
-use Rattle.mdconstructs_blocks.specs.LeafEvents.{Mark, linked_from}
+use Rattle.mdconstructs_flow_read.proofs.Marks.ToldEdits.{first-linked, mark_at}
+use Rattle.mdconstructs_flow_read.specs.LeafEvents.{Mark, linked_from}
 use Rattle.mdconstructs_documents.proofs.FlowTexts.Chained.{two_for, indices, IsAt, first-at, next-at, starts_in, kept-starts, kept-at}
 use Rattle.mdconstructs_documents.proofs.FlowTexts.Chunks.{chain-starts, chain-next, chain-room}
 use Rattle.mdconstructs_documents.proofs.FlowTexts.Segments.{Segment, kept, chain, IsKept, IsGood, deep_of, flat_of, in_line}

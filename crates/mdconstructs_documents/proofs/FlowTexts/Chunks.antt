@@ -18,8 +18,8 @@ use Rattle.mdconstructs_machines.specs.Spans.{event}
 use Rattle.mdconstructs_text.proofs.DeepSpans.Chunks.{chunk_seats}
 use Rattle.mdconstructs_text.proofs.DeepSpans.Places.{origin, chain-from, place-shown, range-of}
 use Rattle.mdconstructs_text.proofs.Paragraphs.ChunkPairs.{place-at-event}
-use Rattle.mdconstructs_blocks.proofs.Marks.ToldEdits.{mark_at}
-use Rattle.mdconstructs_blocks.specs.LeafEvents.{Mark}
+use Rattle.mdconstructs_flow_read.proofs.Marks.ToldEdits.{mark_at}
+use Rattle.mdconstructs_flow_read.specs.LeafEvents.{Mark}
 use Rattle.mdconstructs_documents.proofs.FlowTexts.Chained.{two_for, indices, IsAt, first-at, next-at, starts_in}
 use Rattle.mdconstructs_documents.proofs.FlowTexts.Segments.{HasByte, chain_marks, in_line}
 

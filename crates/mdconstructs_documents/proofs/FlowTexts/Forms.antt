@@ -19,7 +19,7 @@ use Rattle.mdconstructs_text.proofs.DeepSpans.Atoms.{Atom, IsCut, all_at, atom_e
 use Rattle.mdconstructs_text.proofs.Texts.Built.{IsKeptBySpans}
 use Rattle.mdconstructs_inlines.proofs.StringRuns.{string-built}
 use Rattle.mdconstructs_inlines.specs.StringEvents.{string_seat_events}
-use Rattle.mdconstructs_blocks.proofs.Marks.MarkForms.{AreTight, Formed, Forms, InOrder, Place, Track, name-closed, order-both, tight-both, track-on, track-place, track-upto}
+use Rattle.mdconstructs_flow_read.proofs.Marks.MarkForms.{AreTight, Formed, Forms, InOrder, Place, Track, name-closed, order-both, tight-both, track-on, track-place, track-upto}
 use Rattle.mdconstructs_documents.specs.FlowTexts.{read_marks}
 use Rattle.mdconstructs_documents.proofs.FlowTexts.Accounts.{bare-marks}
 use Rattle.mdconstructs_documents.proofs.FlowTexts.Strings.{string-cut}

@@ -18,13 +18,13 @@ use Rattle.mdconstructs_text.specs.Bytes.{backticks, is_backtick, is_line_feed}
 use Rattle.mdconstructs_text.specs.Items.{item_length}
 use Rattle.mdconstructs_text.specs.Parts.{bytes_of, first_plain, leaf}
 use Rattle.mdconstructs_text.specs.TextEvents.{item_events}
-use Rattle.mdconstructs_phrasing.proofs.Emails.Cuts.{email-cut}
-use Rattle.mdconstructs_phrasing.proofs.HtmlMarks.Bytes.{html-mark-cut}
-use Rattle.mdconstructs_phrasing.proofs.HtmlTags.Bytes.{html-tag-cut}
-use Rattle.mdconstructs_phrasing.proofs.HardBreaks.Cuts.{break-escape-cut, trailing-break-cut}
-use Rattle.mdconstructs_phrasing.proofs.References.Cuts.{reference-cut}
-use Rattle.mdconstructs_phrasing.proofs.WhiteSpaces.Cuts.{white-run-cut, white-space-cut}
-use Rattle.mdconstructs_phrasing.specs.WhiteSpace.{is_white_left}
+use Rattle.mdconstructs_inline_constructs.proofs.Emails.Cuts.{email-cut}
+use Rattle.mdconstructs_inline_constructs.proofs.HtmlMarks.Bytes.{html-mark-cut}
+use Rattle.mdconstructs_inline_constructs.proofs.HtmlTags.Bytes.{html-tag-cut}
+use Rattle.mdconstructs_inline_constructs.proofs.HardBreaks.Cuts.{break-escape-cut, trailing-break-cut}
+use Rattle.mdconstructs_inline_constructs.proofs.References.Cuts.{reference-cut}
+use Rattle.mdconstructs_inline_constructs.proofs.WhiteSpaces.Cuts.{white-run-cut, white-space-cut}
+use Rattle.mdconstructs_inline_constructs.specs.WhiteSpace.{is_white_left}
 use Rattle.mdconstructs_inlines.proofs.InlineApart.{or-parts, some-item}
 use Rattle.mdconstructs_inlines.specs.InlineEvents.{begins_run, data_length, data_run, delimiter_run, ends_data, ends_data_at, inline_grammars, inline_item_at, inline_items, line_break, run_length, run_or_part, up_to}
 use Rattle.mdconstructs_inlines.specs.RunRows.{is_delimiter}

@@ -20,7 +20,7 @@ use Rattle.mdconstructs_attention.specs.Emphasis.{Run, closings, data_of, events
 use Rattle.mdconstructs_attention.specs.Places.{Standing, markers, standing}
 use Rattle.mdconstructs_attention.specs.RunEdits.{HasRunsAt, in_place, index_of}
 use Rattle.mdconstructs_attention.specs.Runs.{depth_after, index_of_event, is_sequence, run_at, runs_from, runs_in, text_before, text_behind, with_emphasis}
-use Rattle.mdconstructs_blocks.proofs.Marks.MarkForms.{Place}
+use Rattle.mdconstructs_flow_read.proofs.Marks.MarkForms.{Place}
 use Rattle.mdconstructs_documents.proofs.FlowTexts.Forms.{Ordered, ordered-both}
 use Rattle.mdconstructs_documents.proofs.FlowTexts.InlineTight.{run-in-place}
 

@@ -33,20 +33,20 @@ use Rattle.mdconstructs_text.specs.Escape.{escape, escape_at}
 use Rattle.mdconstructs_text.specs.Items.{item_length}
 use Rattle.mdconstructs_text.specs.Parts.{Part, line_ending, plain_run, bytes_of, cut, part_events}
 use Rattle.mdconstructs_text.specs.TextEvents.{item_events}
-use Rattle.mdconstructs_phrasing.proofs.References.Bytes.{reference-holds}
-use Rattle.mdconstructs_phrasing.specs.Reference.{Kind, decimal, hexadecimal, mark_events, marks, named, reference_at}
-use Rattle.mdconstructs_phrasing.specs.Email.{email, email_at, email_with, is_at_sign, is_atext, is_domain, is_domain_byte}
-use Rattle.mdconstructs_phrasing.proofs.HtmlTexts.Cuts.{html-there}
-use Rattle.mdconstructs_phrasing.specs.HtmlMarked.{marked}
-use Rattle.mdconstructs_phrasing.specs.HtmlTag.{tag_length}
-use Rattle.mdconstructs_phrasing.specs.HtmlText as html
-use Rattle.mdconstructs_phrasing.specs.HtmlText.{Piece, html_of, piece_at, piece_events, piece_length}
-use Rattle.mdconstructs_phrasing.specs.HardBreak.{break_escape_at, hard_break_escape, hard_break_trailing, trailing_break_at}
-use Rattle.mdconstructs_phrasing.specs.WhiteSpace.{is_white_left, white_space, white_space_at}
+use Rattle.mdconstructs_inline_constructs.proofs.References.Bytes.{reference-holds}
+use Rattle.mdconstructs_inline_constructs.specs.Reference.{Kind, decimal, hexadecimal, mark_events, marks, named, reference_at}
+use Rattle.mdconstructs_inline_constructs.specs.Email.{email, email_at, email_with, is_at_sign, is_atext, is_domain, is_domain_byte}
+use Rattle.mdconstructs_inline_constructs.proofs.HtmlTexts.Cuts.{html-there}
+use Rattle.mdconstructs_inline_constructs.specs.HtmlMarked.{marked}
+use Rattle.mdconstructs_inline_constructs.specs.HtmlTag.{tag_length}
+use Rattle.mdconstructs_inline_constructs.specs.HtmlText as html
+use Rattle.mdconstructs_inline_constructs.specs.HtmlText.{Piece, html_of, piece_at, piece_events, piece_length}
+use Rattle.mdconstructs_inline_constructs.specs.HardBreak.{break_escape_at, hard_break_escape, hard_break_trailing, trailing_break_at}
+use Rattle.mdconstructs_inline_constructs.specs.WhiteSpace.{is_white_left, white_space, white_space_at}
 use Rattle.mdconstructs_inlines.proofs.InlineBuilt.{items-built}
 use Rattle.mdconstructs_inlines.specs.InlineEvents.{begins_run, data_length, data_run, delimiter_run, inline_grammars, inline_item_at, inline_items, line_break, run_length, run_or_part}
 use Rattle.mdconstructs_inlines.specs.RunRows.{is_delimiter}
-use Rattle.mdconstructs_blocks.proofs.Marks.MarkForms.{Place, Track, track-on, track-place}
+use Rattle.mdconstructs_flow_read.proofs.Marks.MarkForms.{Place, Track, track-on, track-place}
 use Rattle.mdconstructs_documents.proofs.FlowTexts.InlineOrder.{Next, RunSteps, RunsStep, Walk, get-drop, later-later, later-none}
 
 -- ---- delimiters among virtual bytes

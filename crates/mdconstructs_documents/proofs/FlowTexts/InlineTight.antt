@@ -21,11 +21,11 @@ use Rattle.mdconstructs_attention.specs.Runs.{runs_in, text_before, text_behind,
 use Rattle.std.proofs.lemmas.List.{map-append}
 use Rattle.mdconstructs_machines.specs.LineEvents.{lines_in}
 use Rattle.mdconstructs_machines.specs.Spans.{event}
-use Rattle.mdconstructs_blocks.proofs.Marks.MarkAccounts.{bare}
-use Rattle.mdconstructs_blocks.proofs.Marks.MarkSpans.{IsKeptBySpans, text-by-chunks}
-use Rattle.mdconstructs_blocks.specs.LeafBlocks.{leaf_blocks}
-use Rattle.mdconstructs_blocks.specs.LeafEvents.{Chunk, Mark, alone, chunk_span, span_marks}
-use Rattle.mdconstructs_blocks.proofs.Marks.MarkForms.{AreTight, tight-at, tight-both, tight-linked}
+use Rattle.mdconstructs_flow_read.proofs.Marks.MarkAccounts.{bare}
+use Rattle.mdconstructs_flow_read.proofs.Marks.MarkSpans.{IsKeptBySpans, text-by-chunks}
+use Rattle.mdconstructs_flow_read.specs.LeafBlocks.{leaf_blocks}
+use Rattle.mdconstructs_flow_read.specs.LeafEvents.{Chunk, Mark, alone, chunk_span, span_marks}
+use Rattle.mdconstructs_flow_read.proofs.Marks.MarkForms.{AreTight, tight-at, tight-both, tight-linked}
 use Rattle.mdconstructs_inlines.proofs.InlineBuilt.{all-built, read-balanced}
 use Rattle.mdconstructs_inlines.specs.InlineEvents.{read_events}
 use Rattle.mdconstructs_inlines.proofs.StringRuns.{string-built}

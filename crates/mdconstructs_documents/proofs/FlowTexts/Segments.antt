@@ -13,8 +13,8 @@ use Rattle.markdown_base.specs.Virtual.{Seat, end_after}
 use Rattle.markdown_children.specs.Chains.{lets_through}
 use Rattle.markdown_tokenizer.specs.Plain.{HaveNoLinks}
 use Rattle.mdconstructs_machines.specs.Spans.{event}
-use Rattle.mdconstructs_blocks.proofs.Marks.MarkChunks.{IsSingle}
-use Rattle.mdconstructs_blocks.specs.LeafEvents.{Mark, chunk_span, span_marks}
+use Rattle.mdconstructs_flow_read.proofs.Marks.MarkChunks.{IsSingle}
+use Rattle.mdconstructs_flow_read.specs.LeafEvents.{Mark, chunk_span, span_marks}
 use Rattle.mdconstructs_documents.specs.FlowTexts.{read_marks}
 
 -- A segment of marks: marks that are kept, with the virtual bytes that they are over; or a chain, by the virtual bytes of its chunks

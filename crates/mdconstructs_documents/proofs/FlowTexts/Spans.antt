@@ -7,12 +7,12 @@ use Rattle.markdown_base.specs.Virtual.{Seat}
 use Rattle.mdconstructs_machines.proofs.BlockReads.Accounts.{lines-are-all}
 use Rattle.mdconstructs_machines.specs.LineEvents.{lines_in}
 use Rattle.std.specs.Prelude.{length}
-use Rattle.mdconstructs_blocks.proofs.Marks.FullBlocks.{leaf-blocks-full}
-use Rattle.mdconstructs_blocks.proofs.Marks.LeafSpans.{spans-blocks, spans-of-around}
-use Rattle.mdconstructs_blocks.proofs.Marks.MarkSpans.{IsKeptBySpans, over}
-use Rattle.mdconstructs_blocks.proofs.Lines.WholeLines.{whole-lines}
-use Rattle.mdconstructs_blocks.specs.LeafBlocks.{leaf_blocks}
-use Rattle.mdconstructs_blocks.specs.LeafEvents.{Mark, body}
+use Rattle.mdconstructs_flow_read.proofs.Marks.FullBlocks.{leaf-blocks-full}
+use Rattle.mdconstructs_flow_read.proofs.Marks.LeafSpans.{spans-blocks, spans-of-around}
+use Rattle.mdconstructs_flow_read.proofs.Marks.MarkSpans.{IsKeptBySpans, over}
+use Rattle.mdconstructs_flow_read.proofs.Lines.WholeLines.{whole-lines}
+use Rattle.mdconstructs_flow_read.specs.LeafBlocks.{leaf_blocks}
+use Rattle.mdconstructs_flow_read.specs.LeafEvents.{Mark, body}
 use Rattle.mdconstructs_documents.specs.FlowTexts.{block_texts, read_marks}
 
 module _ (on : Constructs) (texts strings : List Seat → List Event) (bytes : List ℕ) (P : List Mark → List Seat → Type 0) (kept : IsKeptBySpans bytes P) (keeps : (seats : List Seat) → P (read_marks texts bytes seats) seats)

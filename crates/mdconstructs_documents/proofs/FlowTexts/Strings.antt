@@ -12,8 +12,8 @@ use Rattle.mdconstructs_text.proofs.Escapes.Cuts.{escape-cut}
 use Rattle.mdconstructs_text.specs.Items.{item_length}
 use Rattle.mdconstructs_text.specs.Parts.{bytes_of, cut, line_ending, part}
 use Rattle.mdconstructs_text.specs.TextEvents.{item_events}
-use Rattle.mdconstructs_phrasing.proofs.References.Bytes.{references-apart}
-use Rattle.mdconstructs_phrasing.proofs.References.Cuts.{reference-cut}
+use Rattle.mdconstructs_inline_constructs.proofs.References.Bytes.{references-apart}
+use Rattle.mdconstructs_inline_constructs.proofs.References.Cuts.{reference-cut}
 use Rattle.mdconstructs_inlines.specs.StringEvents.{is_string_special, string_data, string_grammars, string_item_at, string_part, string_seat_events}
 
 some-part : (b : ℕ) (bs : List ℕ) → 0 < item_length (string_part (b ∷ bs))

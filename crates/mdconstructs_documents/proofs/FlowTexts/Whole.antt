@@ -7,7 +7,7 @@ use Rattle.markdown_children.specs.Chains.{fitting_starts}
 use Rattle.markdown_children.specs.Children.{with_children}
 use Rattle.markdown_tokenizer.specs.Plain.{HaveNoLinks}
 use Rattle.markdown_tokenizer.specs.Text.{Text, empty_text}
-use Rattle.mdconstructs_blocks.specs.LeafEvents.{Mark, flow_events, linked_from}
+use Rattle.mdconstructs_flow_read.specs.LeafEvents.{Mark, flow_events, linked_from}
 use Rattle.mdconstructs_inlines.proofs.InlineChains.{inline-alone}
 use Rattle.mdconstructs_inlines.proofs.StringRuns.{string-alone}
 use Rattle.mdconstructs_inlines.specs.StringEvents.{string_seat_events}

@@ -1,5 +1,0 @@
-use Rattle.mdconstructs_blocks.proofs.Marks.ToldBlocks.{edits-make-blocks}
-use Rattle.mdconstructs_blocks.proofs.laws.edits_make_blocks.Goals as goal
-
-pub returns : goal.returns
-returns c = edits-make-blocks

@@ -1,5 +1,0 @@
-use Rattle.mdconstructs_blocks.proofs.Blocks.CodeReads.{indented-code-read}
-use Rattle.mdconstructs_blocks.proofs.laws.indented_code_is_read.Goals as goal
-
-pub returns : goal.returns
-returns c = indented-code-read

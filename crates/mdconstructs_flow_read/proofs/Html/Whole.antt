@@ -1,0 +1,203 @@
+-- HTML is read, from its first line on.
+use Rattle.std.proofs.Common.{◌≡◌, ℕ, suc, ◌||◌, List, [], ◌∷◌, ◌++◌, Bool, true, false, cond, not, Some, length, take, drop, refl, sym, ap, ◌∙◌, subst, nat_le, append_assoc}
+use Rattle.std.proofs.Math.Seq.{drop-append_seam}
+use Rattle.std.specs.List.{AllByRecursion}
+use Rattle.markdown_base.specs.declared.event.Event.{Event}
+use Rattle.markdown_base.specs.declared.event.Kind.TheVariants.{Enter, Exit}
+use Rattle.markdown_base.specs.declared.event.Name.TheVariants.{HtmlFlow, HtmlFlowData}
+use Rattle.markdown_base.specs.declared.event.Point.{Point}
+use Rattle.markdown_base.specs.declared.state.Name.{Name}
+use Rattle.markdown_base.specs.declared.state.State.TheVariants.{Retry}
+use Rattle.markdown_base.specs.declared.state.TheConstants.Name.{FlowAfter, FlowBlankLineAfter, HtmlFlowStart}
+use Rattle.markdown_base.specs.Virtual.{Seat, end_after}
+use Rattle.markdown_tokenizer.specs.Sight.{byte_of, end_place, seat_before}
+use Rattle.markdown_tokenizer.specs.Text.{Given, Text}
+use Rattle.mdconstructs_tables.specs.Stretches.{sight_before}
+use Rattle.mdconstructs_machines.specs.LineEvents.{all_of, ending_of}
+use Rattle.mdconstructs_machines.specs.Spans.{event}
+use Rattle.mdconstructs_flow.specs.FlowBytes.{flow_byte}
+use Rattle.mdconstructs_flow_read.specs.BlocksRead.{AreLines, HtmlIsRead, IsReadAs, KeepsEdits, behind_block, block_seats}
+use Rattle.mdconstructs_flow_read.specs.HtmlLines.{ends_html}
+use Rattle.mdconstructs_flow_read.specs.LeafBlocks.{Line, has_line, lines_through, lines_until, text_of}
+use Rattle.mdconstructs_flow_read.specs.LeafEvents.{Mark, body, html_marks, leaf_marks, lines_marks, span_marks}
+use Rattle.mdconstructs_flow_read.specs.LineKinds.{is_blank_line}
+use Rattle.mdconstructs_flow_read.proofs.Html.Blocks.{AreRead, count, enters, from-line, further-read, is_last, reads-as, seats-split, stays_open}
+use Rattle.mdconstructs_flow_read.proofs.Html.Counts.{count-through, count-until, open-is}
+use Rattle.mdconstructs_flow_read.proofs.Html.Ends.{ends-are, html-is}
+use Rattle.mdconstructs_flow_read.proofs.Html.First.{First, behind-is, first, last-same, line-is, rest, rest-are, rest-text, seats-are, take-front-is, white-read, white_events}
+use Rattle.mdconstructs_flow_read.proofs.Html.Halts.{line-begins, start-begins}
+use Rattle.mdconstructs_flow_read.proofs.Html.Reads.{BeginsAt, plain}
+use Rattle.mdconstructs_flow_read.proofs.Html.Steps.{Config, Kept, kept-on, kind_in}
+use Rattle.mdconstructs_flow_read.proofs.Lines.LineParts.{IsWhite}
+use Rattle.mdconstructs_flow_read.proofs.Lines.LineReads.{IsAt, reads-keeping, reads-on}
+use Rattle.markdown_base.proofs.Seats.{end-after-append}
+
+-- a first virtual byte
+pub record HasFront (s : Seat) (seats : List Seat) : Type 0 where
+  pub tail : List Seat
+  pub is : seats ≡ s ∷ tail
+
+module _ (g : Given) (line : Line) (more : List Line) (are : AreLines (line ∷ more)) (f : First line) where
+  abbrev behind : Line
+  behind = rest line more are f
+
+  abbrev inner : Bool → List Line → List Mark
+  inner is_open lines = lines_marks g.bytes (leaf_marks g.bytes HtmlFlowData) is_open lines
+
+  -- the marks of the first line, apart from its white space
+  marks-are : (is_open : Bool) (lines : List Line) → html_marks g.bytes is_open (line ∷ lines) ≡ leaf_marks g.bytes HtmlFlowData f.white ++ inner is_open (behind ∷ lines)
+  marks-are is_open lines =
+      let parts = λ (n : ℕ) (l : Line). leaf_marks g.bytes HtmlFlowData (take n l) ++ inner is_open (drop n l ∷ lines) in
+      let n = length f.white in
+      ap (λ n. parts n line) f.columns ∙ ap (parts n) (line-is line more are f)
+      ∙ ap (λ l. leaf_marks g.bytes HtmlFlowData l ++ inner is_open (drop n (f.white ++ behind) ∷ lines)) (take-front-is f.white behind)
+      ∙ ap (λ l. leaf_marks g.bytes HtmlFlowData f.white ++ inner is_open (l ∷ lines)) (drop-append_seam f.white behind)
+
+  -- the block begins with the sign
+  seats-begin : (is_open : Bool) (lines : List Line) → HasFront f.sign (block_seats is_open (behind ∷ lines))
+  seats-begin true lines = record { tail = (f.words ++ ending_of line) ++ all_of lines; is = refl }
+  seats-begin false [] = record { tail = f.words; is = rest-text line more are f }
+  seats-begin false (next ∷ lines) = record { tail = (f.words ++ ending_of line) ++ body (next ∷ lines); is = refl }
+
+  abbrev leaves : Point → List Mark
+  leaves p = plain (event g.bytes Exit HtmlFlow p ∷ [])
+
+  span-is : (p : Point) (s : Seat) (seats : List Seat) (inside : List Mark) → HasFront s seats
+      → span_marks g.bytes HtmlFlow seats inside ≡ plain (event g.bytes Enter HtmlFlow s.point ∷ []) ++ (inside ++ leaves (end_after p seats))
+  span-is p s seats inside front =
+      ap (λ l. span_marks g.bytes HtmlFlow l inside) front.is ∙ ap (λ l. plain (event g.bytes Enter HtmlFlow s.point ∷ []) ++ (inside ++ leaves (end_after p l))) (sym front.is)
+
+  -- as it is read: without white space in front, and with it
+  marks-bare : (p : Point) (is_open : Bool) (lines : List Line) → f.white ≡ []
+      → plain (event g.bytes Enter HtmlFlow f.sign.point ∷ []) ++ (inner is_open (behind ∷ lines) ++ leaves (end_after p (block_seats is_open (behind ∷ lines))))
+      ≡ span_marks g.bytes HtmlFlow (block_seats is_open (line ∷ lines)) (html_marks g.bytes is_open (line ∷ lines))
+  marks-bare p is_open lines none =
+      let seats = block_seats is_open (behind ∷ lines) in
+      sym (ap (λ m. span_marks g.bytes HtmlFlow (block_seats is_open (line ∷ lines)) m) (marks-are is_open lines ∙ ap (λ l. leaf_marks g.bytes HtmlFlowData l ++ inner is_open (behind ∷ lines)) none)
+      ∙ ap (λ l. span_marks g.bytes HtmlFlow l (inner is_open (behind ∷ lines))) (seats-are line more are f is_open lines ∙ ap (λ l. l ++ seats) none)
+      ∙ span-is p f.sign seats (inner is_open (behind ∷ lines)) (seats-begin is_open lines))
+
+  marks-white : (w : Seat) (ws : List Seat) (is_open : Bool) (lines : List Line) → f.white ≡ w ∷ ws
+      → let p = end_after w.end ws in
+      plain (white_events g w) ++ (plain (event g.bytes Exit HtmlFlowData p ∷ []) ++ (inner is_open (behind ∷ lines) ++ leaves (end_after p (block_seats is_open (behind ∷ lines)))))
+      ≡ span_marks g.bytes HtmlFlow (block_seats is_open (line ∷ lines)) (html_marks g.bytes is_open (line ∷ lines))
+  marks-white w ws is_open lines is =
+      let seats = block_seats is_open (behind ∷ lines) in
+      let p = end_after w.end ws in
+      ap (λ q. plain (white_events g w) ++ (plain (event g.bytes Exit HtmlFlowData p ∷ []) ++ (inner is_open (behind ∷ lines) ++ leaves q))) (sym (end-after-append w.end ws seats))
+      ∙ sym (ap (λ m. span_marks g.bytes HtmlFlow (block_seats is_open (line ∷ lines)) m) (marks-are is_open lines ∙ ap (λ l. leaf_marks g.bytes HtmlFlowData l ++ inner is_open (behind ∷ lines)) is)
+      ∙ ap (λ l. span_marks g.bytes HtmlFlow l (leaf_marks g.bytes HtmlFlowData (w ∷ ws) ++ inner is_open (behind ∷ lines))) (seats-are line more are f is_open lines ∙ ap (λ l. l ++ seats) is))
+
+module _ (g : Given) (t : Text) (kind : ℕ) (line : Line) (more : List Line) (are : AreLines (line ∷ more)) (f : First line) (k : Config) (p : Point) where
+  abbrev left : Line
+  left = rest line more are f
+
+  abbrev n : Bool → ℕ
+  n last = cond last 1 (suc (count kind more))
+
+  abbrev is_open : Bool → Bool
+  is_open last = cond last false (stays_open kind more)
+
+  abbrev last : Bool
+  last = is_last kind line more
+
+  -- the block
+  abbrev IsRead : (is_open : Bool) → (lines after : List Line) → Type 0
+  IsRead is_open lines after =
+      IsReadAs g t Kept k FlowBlankLineAfter (block_seats is_open lines) (behind_block is_open lines after) (span_marks g.bytes HtmlFlow (block_seats is_open lines) (html_marks g.bytes is_open lines)) (Retry FlowAfter)
+
+  -- from behind the white space on
+  rest-read : (k' : Config) (name : Name) (p' : Point) (pre : List Event) → IsAt t k' p' (all_of (left ∷ more)) → kind_in k' ≡ kind → BeginsAt g t k' p' name (pre ++ enters g t f.sign ∷ []) (all_of (left ∷ more))
+      → AreRead g t k' name p' pre (is_open last) (take (n last) (left ∷ more)) (drop (n last) (left ∷ more))
+  rest-read k' name p' pre at is begins =
+      subst (λ b. AreRead g t k' name p' pre (is_open b) (take (n b) (left ∷ more)) (drop (n b) (left ∷ more))) (last-same line more are f kind)
+      (from-line g t kind k' name p' pre left more f.sign f.words (rest-text line more are f) (rest-are line more are f) at is begins (further-read g t kind more))
+
+  -- without white space
+  turn-bare : f.white ≡ [] → (b : Bool) (lines after : List Line) → AreRead g t k FlowBlankLineAfter p (event g.bytes Enter HtmlFlow f.sign.point ∷ []) b (left ∷ lines) after → IsRead b (line ∷ lines) after
+  turn-bare none b lines after h =
+      reads-as g t k FlowBlankLineAfter (block_seats b (left ∷ lines)) (block_seats b (line ∷ lines)) (behind_block b (left ∷ lines) after) (behind_block b (line ∷ lines) after) _
+      (span_marks g.bytes HtmlFlow (block_seats b (line ∷ lines)) (html_marks g.bytes b (line ∷ lines))) (Retry FlowAfter)
+      (sym (seats-are line more are f b lines ∙ ap (λ l. l ++ block_seats b (left ∷ lines)) none)) (sym (behind-is line more are f b lines after)) (marks-bare g line more are f p b lines none) h
+
+  bare-read : f.white ≡ [] → IsAt t k p (all_of (line ∷ more)) → kind_in k ≡ kind → IsRead (is_open last) (take (n last) (line ∷ more)) (drop (n last) (line ∷ more))
+  bare-read none at is =
+      let same : all_of (line ∷ more) ≡ all_of (left ∷ more) = ap (λ l. l ++ all_of more) (line-is line more are f ∙ ap (λ w. w ++ left) none) in
+      let begins = line-begins g t.end (sight_before g t.end p (byte_of (seat_before t k.position)) (all_of (left ∷ more))) k (ap (λ n. Some (flow_byte n)) f.less) in
+      let pre : List Event = event g.bytes Enter HtmlFlow f.sign.point ∷ [] in
+      (elim last as (λ b. AreRead g t k FlowBlankLineAfter p pre (is_open b) (take (n b) (left ∷ more)) (drop (n b) (left ∷ more)) → IsRead (is_open b) (take (n b) (line ∷ more)) (drop (n b) (line ∷ more))) [
+        | true ↦ turn-bare none false [] more
+        | false ↦ turn-bare none (stays_open kind more) (take (count kind more) more) (drop (count kind more) more)
+      ]) (rest-read k FlowBlankLineAfter p pre (subst (IsAt t k p) same at) is begins)
+
+  -- with it
+  module _ (w : Seat) (ws : List Seat) (white_is : f.white ≡ w ∷ ws) where
+    abbrev q : Point
+    q = end_after w.end ws
+
+    abbrev pre_white : List Event
+    pre_white = event g.bytes Exit HtmlFlowData q ∷ []
+
+    abbrev IsReadBehind : (b : Bool) → (lines after : List Line) → Type 0
+    IsReadBehind b lines after =
+        IsReadAs g t Kept k FlowBlankLineAfter ((w ∷ ws) ++ block_seats b lines) (behind_block b lines after)
+        (plain (white_events g w) ++ (plain pre_white ++ (lines_marks g.bytes (leaf_marks g.bytes HtmlFlowData) b lines ++ plain (event g.bytes Exit HtmlFlow (end_after q (block_seats b lines)) ∷ [])))) (Retry FlowAfter)
+
+    turn-white : (b : Bool) (lines after : List Line) → IsReadBehind b (left ∷ lines) after → IsRead b (line ∷ lines) after
+    turn-white b lines after h =
+        reads-as g t k FlowBlankLineAfter ((w ∷ ws) ++ block_seats b (left ∷ lines)) (block_seats b (line ∷ lines)) (behind_block b (left ∷ lines) after) (behind_block b (line ∷ lines) after) _
+        (span_marks g.bytes HtmlFlow (block_seats b (line ∷ lines)) (html_marks g.bytes b (line ∷ lines))) (Retry FlowAfter)
+        (sym (seats-are line more are f b lines ∙ ap (λ l. l ++ block_seats b (left ∷ lines)) white_is)) (sym (behind-is line more are f b lines after)) (marks-white g line more are f w ws b lines white_is) h
+
+    white-space-read : IsAt t k p (all_of (line ∷ more)) → kind_in k ≡ kind → k.local.tokenize_state.token_1 ≡ HtmlFlow → IsRead (is_open last) (take (n last) (line ∷ more)) (drop (n last) (line ∷ more))
+    white-space-read at is token =
+        let seats = block_seats (is_open last) (take (n last) (left ∷ more)) in
+        let after = behind_block (is_open last) (take (n last) (left ∷ more)) (drop (n last) (left ∷ more)) in
+        let split : seats ++ after ≡ all_of (left ∷ more) = seats-split (is_open last) (n last) (left ∷ more) (rest-are line more are f) in
+        let same : all_of (line ∷ more) ≡ (w ∷ ws) ++ all_of (left ∷ more) =
+        ap (λ l. l ++ all_of more) (line-is line more are f ∙ ap (λ w. w ++ left) white_is) ∙ append_assoc (w ∷ ws) left (all_of more) in
+        let placed : IsAt t k p ((w ∷ ws) ++ (seats ++ after)) = subst (IsAt t k p) (same ∙ ap (λ l. (w ∷ ws) ++ l) (sym split)) at in
+        let all_white = subst (AllByRecursion IsWhite) white_is f.all_white in
+        (elim last as (λ b. IsReadBehind (is_open b) (take (n b) (left ∷ more)) (drop (n b) (left ∷ more)) → IsRead (is_open b) (take (n b) (line ∷ more)) (drop (n b) (line ∷ more))) [
+          | true ↦ turn-white false [] more
+          | false ↦ turn-white (stays_open kind more) (take (count kind more) more) (drop (count kind more) more)
+        ])
+        (reads-on g t Kept Kept Kept kept-on k p FlowBlankLineAfter HtmlFlowStart (w ∷ ws) seats after (plain (white_events g w)) _ (Retry FlowAfter) placed
+        (white-read g t k p w ws (seats ++ after) all_white token placed)
+        (λ k' at' kept.
+        rest-read k' HtmlFlowStart q pre_white (subst (IsAt t k' q) split at') (kept.kind ∙ is)
+        (start-begins g t.end (sight_before g t.end q (byte_of (seat_before t k'.position)) (all_of (left ∷ more))) k' (ap (λ n. Some (flow_byte n)) f.less))))
+
+  block-read : IsAt t k p (all_of (line ∷ more)) → kind_in k ≡ kind → k.local.tokenize_state.token_1 ≡ HtmlFlow
+      → IsRead (stays_open kind (line ∷ more)) (take (count kind (line ∷ more)) (line ∷ more)) (drop (count kind (line ∷ more)) (line ∷ more))
+  block-read at is token = elim f.white as (λ l. f.white ≡ l → IsRead (is_open last) (take (n last) (line ∷ more)) (drop (n last) (line ∷ more))) [
+    | [] ↦ λ none. bare-read none at is
+    | w ∷ ws ↦ λ white. white-space-read w ws white at is token
+  ] refl
+
+pub html-is-read : HtmlIsRead
+html-is-read g t k kind line more found =
+    let all = line ∷ more in
+    let are = found.here.are_lines in
+    let h = html-is g.options.constructs (text_of line) kind found.is_kind in
+    let f = first line (ap (nat_le 1) h.at ∙ h.some) in
+    let r = block-read g t kind line more are f k (end_place t k.position) (record { behind = refl; left = found.here.at; waits = found.here.waits }) found.found.2 found.found.1 in
+    let through = lines_through (ends_html kind) all in
+    let until = lines_until is_blank_line all in
+    let holds = has_line (ends_html kind) all in
+    let (count_is, open_is) = counts kind line more are h.solid h.some in
+    let long = nat_le 6 kind in
+    let Goal = λ (m : ℕ) (b : Bool). IsReadAs g t KeepsEdits k FlowBlankLineAfter (block_seats b (take m all)) (behind_block b (take m all) (drop m all))
+    (span_marks g.bytes HtmlFlow (block_seats b (take m all)) (html_marks g.bytes b (take m all))) (Retry FlowAfter) in
+    subst (λ m. Goal m (not (long || holds))) count_is (subst (λ b. Goal (count kind all) b) open_is
+    (reads-keeping g t Kept KeepsEdits (λ before after h. record { edits = h.edits; resolvers = h.resolvers }) k FlowBlankLineAfter _ _ _ (Retry FlowAfter) r))
+  where
+    counts : (kind : ℕ) (line : Line) (more : List Line) → AreLines (line ∷ more) → is_blank_line (text_of line) ≡ false → nat_le 1 kind ≡ true
+        → let all = line ∷ more in
+        (count kind all ≡ cond (nat_le 6 kind) (lines_until is_blank_line all) (lines_through (ends_html kind) all)) × (stays_open kind all ≡ not (nat_le 6 kind || has_line (ends_html kind) all))
+    counts kind line more are solid some =
+        let all = line ∷ more in
+        elim (nat_le 6 kind) as (λ l. nat_le 6 kind ≡ l → (count kind all ≡ cond l (lines_until is_blank_line all) (lines_through (ends_html kind) all)) × (stays_open kind all ≡ not (l || has_line (ends_html kind) all))) [
+          | true ↦ λ long. count-until kind long line more are solid
+          | false ↦ λ short. let ends = ends-are kind short some in (count-through kind short ends all, open-is kind short ends all)
+        ] refl

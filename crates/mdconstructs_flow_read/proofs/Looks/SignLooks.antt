@@ -1,0 +1,158 @@
+-- The look at the number signs of an ATX heading, and behind them.
+use Rattle.std.proofs.Common.{◌≡◌, ◌<◌, ◌≤◌, ℕ, suc, ◌+◌, ◌-◌, ◌^◌, ◌==◌, ◌&&◌, ◌∷◌, ◌++◌, List, [], Bool, true, false, cond, Option, Some, refl, sym, ap, ◌∙◌, subst, drop, take, length, nat_le, nat_lt, arith}
+use Rattle.std.proofs.Math.Bool.{and-false}
+use Rattle.std.proofs.lemmas.Bool.{eqb-true, le-leb, lt-leb, ltb-true, ltb-false}
+use Rattle.markdown_base.specs.declared.event.Event.{Event}
+use Rattle.markdown_base.specs.declared.event.Name.{Name as EventName}
+use Rattle.markdown_base.specs.declared.event.Name.TheVariants.{HeadingAtx}
+use Rattle.markdown_base.specs.declared.state.State.TheVariants.{Next, Ok, Nok}
+use Rattle.markdown_base.specs.declared.state.TheConstants.Name.{FlowBeforeHeadingAtx, StringStart, StringBeforeData, TextBefore}
+use Rattle.markdown_base.specs.Virtual.{Seat}
+use Rattle.markdown_tokenizer.specs.Configuration.{Local}
+use Rattle.markdown_tokenizer.specs.Text.{Given, Text}
+use Rattle.mdconstructs_tables.specs.Looks.{shows}
+use Rattle.mdconstructs_tables.specs.Rows.{Rows, consume, write, row, when}
+use Rattle.mdconstructs_machines.specs.Breaks.{is_white, one_more}
+use Rattle.mdconstructs_machines.specs.Tables.{counts}
+use Rattle.mdconstructs_flow.specs.FlowWrites.{count_becomes, count_grows, has_room, kind_becomes, size_becomes, size_grows, text_grows}
+use Rattle.mdconstructs_flow.specs.HeadingAtx.{flow_before_heading_atx_rows, string_start_rows}
+use Rattle.mdconstructs_flow_read.specs.LeafBlocks.{bytes_of}
+use Rattle.mdconstructs_flow_read.specs.LineKinds.{LineKind, heading, heading_text, is_blank_line, run, text, unindented}
+use Rattle.mdconstructs_flow_read.specs.LooksFind.{IsInLine, LeavesAll, LineEnds, text_behind_signs}
+use Rattle.mdconstructs_flow_read.proofs.Looks.ByteClasses.{feed-is, sign-is, blank-is}
+use Rattle.mdconstructs_flow_read.proofs.Looks.HeadingLooks.{Heads, count-on, text-found, three_tests}
+use Rattle.mdconstructs_flow_read.proofs.Looks.HeadingTexts.{Counted, goes, nothing-counted, other-read, sign-behind-white, stops, text_back, text-turned, turned}
+use Rattle.mdconstructs_flow_read.proofs.Looks.LineTests.{apart, heads_on, heading-other, heading-sign, run-ends}
+use Rattle.mdconstructs_flow_read.proofs.Looks.LookSteps.{Found, HasRows, at-line-byte, at-line-end, by-false, by-share, come, kept, look, look-is}
+
+-- the text from a byte on that is no white space
+first-word : (b : ℕ) (bs : List ℕ) → is_white b ≡ false → length (text_back (turned bs (b ∷ []))) ≡ length (heading_text (unindented (b ∷ bs)))
+first-word b bs w = sym (ap (λ r. length (heading_text r)) (stops is_white b bs w) ∙ text-turned (b ∷ bs))
+
+heads-end : (n : ℕ) → n ≤ 6 → heads_on n [] ≡ true
+heads-end n h = let none : n + 0 ≡ n = omega arith in ap (λ k. nat_le k 6 && true) none ∙ ap (λ v. v && true) (le-leb n 6 h)
+
+heads-white : (n b : ℕ) (bs : List ℕ) → n ≤ 6 → is_white b ≡ true → (b == 35) ≡ false → heads_on n (b ∷ bs) ≡ true
+heads-white n b bs h w e = heading-other n b bs e ∙ ap (λ v. v && is_blank_line (take 1 (b ∷ bs))) (le-leb n 6 h) ∙ ap (λ v. v && true) w
+
+heads-fail : (n b : ℕ) (bs : List ℕ) → is_white b ≡ false → (b == 35) ≡ false → heads_on n (b ∷ bs) ≡ false
+heads-fail n b bs w e = heading-other n b bs e ∙ ap (λ v. nat_le n 6 && (v && true)) w ∙ and-false (nat_le n 6)
+
+heads-many : (n b : ℕ) (bs : List ℕ) → 6 ≤ n → (b == 35) ≡ true → heads_on n (b ∷ bs) ≡ false
+heads-many n b bs h e = let many : 6 < suc n + run 35 bs = omega arith in heading-sign n b bs e ∙ ap (λ v. v && is_blank_line (take 1 (drop (run 35 bs) bs))) (lt-leb (suc n + run 35 bs) 6 many)
+
+module _ (g : Given) (t : Text) (stack : List EventName) (events : List Event) where
+  has-start : HasRows g t stack events StringStart string_start_rows
+  has-start = record { at_end = λ bound previous q mark local. refl; at_byte = λ bound s ss previous q mark local. refl }
+
+  has-signs : HasRows g t stack events FlowBeforeHeadingAtx flow_before_heading_atx_rows
+  has-signs = record { at_end = λ bound previous q mark local. refl; at_byte = λ bound s ss previous q mark local. refl }
+
+  module _ (before : Local Unit Unit) (more : List Seat) (over : LineEnds more) where
+    -- behind the signs, before the text
+    start-found : (line : List Seat) → IsInLine line → (previous : Option ℕ) (q : ℕ) (mark : Bool) (local : Local Unit Unit) → LeavesAll before local → local.tokenize_state.token_1 ≡ HeadingAtx
+        → local.tokenize_state.space_or_tab_size ≡ 0 → local.tokenize_state.size_b ≡ 0 → length line < 2 ^ 64 - 1
+        → Heads before (length (heading_text (unindented (bytes_of line)))) (look g t stack events (line ++ more) previous q mark local StringStart)
+    start-found [] in_line previous q mark local h named count size room =
+        subst (Heads before 0) (sym (look-is g t stack events more previous q mark local StringStart))
+        (at-line-end g t stack events (Heads before 0) StringStart string_start_rows (row [] Ok) has-start refl refl 1 more over previous q mark local (kept before local (counts local) h refl refl refl refl refl, (refl, named, size)))
+    start-found (s ∷ line) in_line previous q mark local h named count size room =
+        let b = s.byte in
+        let bs = bytes_of line in
+        let ss = line ++ more in
+        let name = StringStart in
+        let l = local.tokenize_state in
+        let P = Heads before (length (heading_text (unindented (b ∷ bs)))) in
+        let comes = λ (rows : Rows Unit Unit). P (come g t stack events 1 (s ∷ ss) previous q mark local name rows) in
+        let k = shows stack events (s ∷ ss) q mark (counts local) in
+        let go : Rows Unit Unit = row (consume ∷ []) (Next StringStart) in
+        let counts_on : Rows Unit Unit = row (write count_grows ∷ consume ∷ []) (Next TextBefore) in
+        let text_on : Rows Unit Unit = row (write text_grows ∷ consume ∷ []) (Next StringBeforeData) in
+        let room_on : 1 + length line < 2 ^ 64 - 1 = omega arith in
+        let less : length line < 2 ^ 64 - 1 = omega arith in
+        let room_all : 0 + suc (length line) < 2 ^ 64 - 1 = omega arith in
+        let counted = count-on [] b l.space_or_tab_size (length line) count room_all in
+        let on = look g t stack events ss (Some b) (q + 1) false in
+        at-line-byte g t stack events P name string_start_rows three_tests has-start (feed-is, (blank-is, (sign-is, tt))) 1 s ss previous q mark local
+        (by-false comes (b == 10) (row [] Ok) _ in_line.0
+        (elim (is_white b) as (λ v. is_white b ≡ v → comes (cond v go (cond (b == 35) counts_on text_on))) [
+          | true ↦ λ w. subst (λ r. Heads before (length (heading_text r)) (on (counts local) name)) (sym (goes is_white b bs w))
+              (start-found line in_line.1 (Some b) (q + 1) false (counts local) (kept before local (counts local) h refl refl refl refl refl) named count size less)
+          | false ↦ λ w. elim (b == 35) as (λ v. (b == 35) ≡ v → comes (cond v counts_on text_on)) [
+            | true ↦ λ e. subst (λ n. Heads before n (on (count_grows k) TextBefore)) (first-word b bs w)
+                (text-found g t stack events before more over line in_line.1 true true (b ∷ []) (Some b) (q + 1) false (count_grows k) (kept before local (count_grows k) h refl refl refl refl refl)
+                (record {
+                  named = named;
+                  count_is = counted;
+                  counted = subst (λ c. Counted true true (c ∷ []) l.size_b l.size_c) (sym (eqb-true b 35 e)) (sign-behind-white true [] 0 0 l.size_c l.size_b (nothing-counted 0 refl) size);
+                }) room_on)
+            | false ↦ λ e. subst (λ n. Heads before n (on (text_grows k) StringBeforeData)) (first-word b bs w)
+                (text-found g t stack events before more over line in_line.1 false true (b ∷ []) (Some b) (q + 1) false (text_grows k) (kept before local (text_grows k) h refl refl refl refl refl)
+                (record { named = named; count_is = counted; counted = subst (λ n. Counted false true (b ∷ []) n l.size_c) (sym counted) (other-read b [] l.size_c w e) }) room_on)
+          ] refl
+        ] refl))
+
+    module _ (word : List ℕ) where
+      -- a heading is found, or text
+      abbrev kind_by : Bool → LineKind
+      kind_by is = cond is heading text
+
+      -- the text of the whole line is that of the rest of it
+      abbrev IsText : List ℕ → Type 0
+      IsText bs = length (text_behind_signs word) ≡ length (heading_text (unindented (drop (run 35 bs) bs)))
+
+      -- the look at the rest of a line, behind number signs
+      pub heading-found : (line : List Seat) → IsInLine line → (previous : Option ℕ) (q : ℕ) (mark : Bool) (local : Local Unit Unit) → LeavesAll before local → local.tokenize_state.size_b ≤ 6
+          → IsText (bytes_of line) → length line < 2 ^ 64 - 1
+          → Found before (kind_by (heads_on local.tokenize_state.size_b (bytes_of line))) word (look g t stack events (line ++ more) previous q mark local FlowBeforeHeadingAtx)
+      heading-found [] in_line previous q mark local h few is room =
+          let P = Found before (kind_by (heads_on local.tokenize_state.size_b [])) word in
+          let ends : Rows Unit Unit = row (write (kind_becomes HeadingAtx) ∷ write (size_becomes 0) ∷ []) Ok in
+          subst P (sym (look-is g t stack events more previous q mark local FlowBeforeHeadingAtx))
+          (at-line-end g t stack events P FlowBeforeHeadingAtx flow_before_heading_atx_rows ends has-signs refl refl 1 more over previous q mark local
+          (subst (λ v. Found before (kind_by v) word (come g t stack events 1 more previous q mark local FlowBeforeHeadingAtx ends)) (sym (heads-end local.tokenize_state.size_b few))
+          (kept before local _ h refl refl refl refl refl, (refl, refl, sym is))))
+      heading-found (s ∷ line) in_line previous q mark local h few is room =
+          let b = s.byte in
+          let bs = bytes_of line in
+          let ss = line ++ more in
+          let n = local.tokenize_state.size_b in
+          let name = FlowBeforeHeadingAtx in
+          let P = Found before (kind_by (heads_on n (b ∷ bs))) word in
+          let comes = come g t stack events 1 (s ∷ ss) previous q mark local name in
+          let k = shows stack events (s ∷ ss) q mark (counts local) in
+          let less : length line < 2 ^ 64 - 1 = omega arith in
+          let on = look g t stack events ss (Some b) (q + 1) false in
+          let ends : Rows Unit Unit = row (write (kind_becomes HeadingAtx) ∷ write (size_becomes 0) ∷ []) Ok in
+          let starts : Rows Unit Unit = row (write (kind_becomes HeadingAtx) ∷ write (size_becomes 0) ∷ write (count_becomes 0) ∷ consume ∷ []) (Next StringStart) in
+          let grow : Rows Unit Unit = row (write size_grows ∷ consume ∷ []) (Next name) in
+          let none : Rows Unit Unit = row [] Nok in
+          let named = shows stack events (s ∷ ss) q mark (kind_becomes HeadingAtx k) in
+          let begun = count_becomes 0 (shows stack events (s ∷ ss) q mark (size_becomes 0 named)) in
+          let grown = size_grows k in
+          let fails : heads_on n (b ∷ bs) ≡ false → P (comes none) = λ e. subst (λ v. Found before (kind_by v) word (comes none)) (sym e) (kept before local _ h refl refl refl refl refl, refl) in
+          at-line-byte g t stack events P name flow_before_heading_atx_rows three_tests has-signs (feed-is, (blank-is, (sign-is, tt))) 1 s ss previous q mark local
+          (by-false (λ (rows : Rows Unit Unit). P (comes rows)) (b == 10) ends _ in_line.0
+          (elim (is_white b) as (λ v. is_white b ≡ v → P (comes (cond v starts (cond (b == 35) (when has_room grow none) none)))) [
+            | true ↦ λ w.
+                let no_sign : (b == 35) ≡ false = apart 35 b refl w in
+                let same : length (text_behind_signs word) ≡ length (heading_text (unindented bs)) =
+                is ∙ ap (λ m. length (heading_text (unindented (drop m (b ∷ bs))))) (run-ends 35 b bs no_sign) ∙ ap (λ r. length (heading_text r)) (goes is_white b bs w) in
+                subst (λ v. Found before (kind_by v) word (on begun StringStart)) (sym (heads-white n b bs few w no_sign))
+                (subst (λ m. Heads before m (on begun StringStart)) (sym same)
+                (start-found line in_line.1 (Some b) (q + 1) false begun (kept before local begun h refl refl refl refl refl) refl refl refl less))
+            | false ↦ λ w. elim (b == 35) as (λ v. (b == 35) ≡ v → P (comes (cond v (when has_room grow none) none))) [
+              | true ↦ λ e. by-share g t stack events 1 (s ∷ ss) previous q mark local name P has_room grow none
+                  (elim (nat_lt n 6) as (λ v. nat_lt n 6 ≡ v → P (comes (cond v grow none))) [
+                    | true ↦ λ room_left.
+                        let fewer : n < 6 = ltb-true n 6 room_left in
+                        let bigger : one_more n ≡ suc n = omega arith in
+                        let few_on : one_more n ≤ 6 = omega arith in
+                        let later = heading-found line in_line.1 (Some b) (q + 1) false grown (kept before local grown h refl refl refl refl refl) few_on
+                        (is ∙ ap (λ r. length (heading_text (unindented r))) (goes (λ c. c == 35) b bs e)) less in
+                        subst (λ v. Found before (kind_by v) word (on grown name)) (ap (λ m. heads_on m bs) bigger ∙ sym (heading-sign n b bs e)) later
+                    | false ↦ λ full. fails (heads-many n b bs (ltb-false n 6 full) e)
+                  ] refl)
+              | false ↦ λ e. fails (heads-fail n b bs w e)
+            ] refl
+          ] refl))

@@ -1,0 +1,118 @@
+-- Lines of paragraphs and of setext headings have text.
+use Rattle.std.proofs.Common.{◌≡◌, ℕ, zero, suc, ◌≤◌, List, [], ◌∷◌, Bool, true, false, cond, length, take, drop, refl, sym, ◌∙◌, arith}
+use Rattle.std.specs.Prelude.{◌==◌, ◌&&◌, ◌+◌, not}
+use Rattle.std.proofs.Math.Numerals.{one-add}
+use Rattle.std.specs.List.{AllByRecursion}
+use Rattle.markdown_base.specs.declared.configuration.Constructs.{Constructs}
+use Rattle.markdown_base.specs.Virtual.{Seat}
+use Rattle.mdconstructs_machines.specs.LineEvents.{joined, lines_in}
+use Rattle.mdconstructs_flow_read.specs.LeafBlocks.{Line, LeafBlock, break_line, paragraph, setext_heading, text_of, ends_paragraph, lines_until, underlined, content_at, block_of_kind, blocks_in, leaf_blocks}
+use Rattle.mdconstructs_flow_read.specs.LineKinds.{LineKind, blank, indented, heading, fence, html, underline, thematic_break, text, is_blank_line, is_thematic_break, is_far, kind_of_rest, indent, line_kind, unindented}
+
+-- a line that begins with a byte of text
+abbrev pub StartsText : Line → Type 0
+StartsText [] = ⊥
+StartsText (s ∷ ss) = (s.byte == 10) ≡ false
+
+-- the lines of a block that have chunks of text are such lines, and so is an below
+abbrev pub IsFull : LeafBlock → Type 0
+IsFull (paragraph lines) = AllByRecursion StartsText lines
+IsFull (setext_heading lines below) = AllByRecursion StartsText lines × (1 ≤ length lines) × StartsText below
+IsFull _ = Unit {0}
+
+-- a line is blank, or begins with a byte of text
+abbrev IsShaped : Line → Type 0
+IsShaped line = is_blank_line (text_of line) ≡ false → StartsText line
+
+shaped-joined : (s : Seat) (lines : List Line) → (s.byte == 10) ≡ false → AllByRecursion IsShaped lines → AllByRecursion IsShaped (joined s lines)
+shaped-joined s [] h k = ((λ _. h), tt)
+shaped-joined s (line ∷ lines) h k = ((λ _. h), k.1)
+
+shaped-ending : (s : Seat) → (s.byte == 10) ≡ true → IsShaped (s ∷ [])
+shaped-ending s h full = absurd (let both : true ≡ false = (let is : is_blank_line (text_of (s ∷ [])) ≡ true = rw h refl in sym is ∙ full) in cc)
+
+pub shaped-lines : (seats : List Seat) → AllByRecursion IsShaped (lines_in seats)
+shaped-lines [] = tt
+shaped-lines (s ∷ ss) = elim (s.byte == 10) as (λ b. (s.byte == 10) ≡ b → AllByRecursion IsShaped (cond b ((s ∷ []) ∷ lines_in ss) (joined s (lines_in ss)))) [
+  | true ↦ λ h. (shaped-ending s h, shaped-lines ss)
+  | false ↦ λ h. shaped-joined s (lines_in ss) h (shaped-lines ss)
+] refl
+
+shaped-drop : (n : ℕ) (lines : List Line) → AllByRecursion IsShaped lines → AllByRecursion IsShaped (drop n lines)
+shaped-drop zero lines h = h
+shaped-drop (suc n) [] h = tt
+shaped-drop (suc n) (line ∷ lines) h = shaped-drop n lines h.1
+
+-- a kind of lines that are not blank
+abbrev pub IsOfText : LineKind → Type 0
+IsOfText blank = ⊥
+IsOfText _ = Unit {0}
+
+module _ (on : Constructs) where
+  pub not-blank : (t : List ℕ) → IsOfText (line_kind on t) → is_blank_line t ≡ false
+  not-blank t = elim (is_blank_line t) as (λ b. IsOfText (cond b blank (cond (is_far on t) indented (kind_of_rest on (indent t) (unindented t)))) → b ≡ false) [
+    | true ↦ λ h. absurd h
+    | false ↦ λ h. refl
+  ]
+
+  goes-on : (k : LineKind) → ends_paragraph k ≡ false → IsOfText k
+  goes-on blank h = absurd (cc)
+  goes-on indented h = tt
+  goes-on heading h = tt
+  goes-on (fence f) h = tt
+  goes-on (html kind) h = tt
+  goes-on (underline mark) h = tt
+  goes-on thematic_break h = tt
+  goes-on text h = tt
+
+  abbrev ends : List ℕ → Bool
+  ends t = ends_paragraph (line_kind on t)
+
+  full-text : (lines : List Line) → AllByRecursion IsShaped lines → AllByRecursion StartsText (take (lines_until ends lines) lines)
+  full-text [] h = tt
+  full-text (line ∷ lines) h = elim (ends (text_of line)) as (λ b. ends (text_of line) ≡ b → AllByRecursion StartsText (take (cond (not b) (1 + lines_until ends lines) 0) (line ∷ lines))) [
+    | true ↦ λ e. tt
+    | false ↦ λ e. rw one-add (h.0 (not-blank (text_of line) (goes-on (line_kind on (text_of line)) e)), full-text lines h.1)
+  ] refl
+
+  full-underlined : (lines behind : List Line) → AllByRecursion StartsText lines → 1 ≤ length lines → AllByRecursion IsShaped behind → IsFull (underlined on lines behind).0
+  full-underlined lines [] h some shaped = h
+  full-underlined lines (next ∷ behind) h some shaped = by-kind (line_kind on (text_of next)) (λ e. shaped.0 (not-blank (text_of next) e))
+    where
+      by-kind : (k : LineKind) → (IsOfText k → StartsText next) → let u : LeafBlock × ℕ = elim k [ underline mark ↦ (setext_heading lines next, suc (length lines)) | _ ↦ (paragraph lines, length lines) ] in IsFull u.0
+      by-kind (underline mark) starts = (h, some, starts tt)
+      by-kind blank starts = h
+      by-kind indented starts = h
+      by-kind heading starts = h
+      by-kind (fence f) starts = h
+      by-kind (html kind) starts = h
+      by-kind thematic_break starts = h
+      by-kind text starts = h
+
+  full-content : (line : Line) (lines : List Line) → StartsText line → AllByRecursion IsShaped lines → IsFull (content_at on (line ∷ lines)).0
+  full-content line lines h shaped =
+      let n = lines_until ends lines in
+      full-underlined (line ∷ take n lines) (drop n lines) (h, full-text lines shaped) (omega arith) (shaped-drop n lines shaped)
+
+  full-block : (kind : LineKind) (line : Line) (lines : List Line) → (IsOfText kind → StartsText line) → AllByRecursion IsShaped lines → IsFull (block_of_kind on kind line lines).0
+  full-block blank line lines h shaped = tt
+  full-block indented line lines h shaped = tt
+  full-block heading line lines h shaped = tt
+  full-block (fence f) line lines h shaped = tt
+  full-block (html kind) line lines h shaped = tt
+  full-block (underline mark) line lines h shaped = elim (on.thematic_break && is_thematic_break (unindented (text_of line))) as (λ b. IsFull (cond b (break_line line, 1) (content_at on (line ∷ lines))).0) [
+    | true ↦ tt
+    | false ↦ full-content line lines (h tt) shaped
+  ]
+  full-block thematic_break line lines h shaped = tt
+  full-block text line lines h shaped = full-content line lines (h tt) shaped
+
+  full-blocks : (bound : ℕ) (lines : List Line) → AllByRecursion IsShaped lines → AllByRecursion IsFull (blocks_in on bound lines)
+  full-blocks zero lines h = tt
+  full-blocks (suc bound) [] h = tt
+  full-blocks (suc bound) (line ∷ lines) h =
+      let kind = line_kind on (text_of line) in
+      (full-block kind line lines (λ e. h.0 (not-blank (text_of line) e)) h.1, full-blocks bound (drop (block_of_kind on kind line lines).1 (line ∷ lines)) (shaped-drop (block_of_kind on kind line lines).1 (line ∷ lines) h))
+
+  pub leaf-blocks-full : (seats : List Seat) → AllByRecursion IsFull (leaf_blocks on (lines_in seats))
+  leaf-blocks-full seats = full-blocks (length (lines_in seats)) (lines_in seats) (shaped-lines seats)

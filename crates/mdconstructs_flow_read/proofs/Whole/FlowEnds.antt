@@ -1,0 +1,41 @@
+-- What a reading of leaf blocks ends in, and what is left where all is resolved.
+use Rattle.std.proofs.Common.{◌≡◌, [], true, false, Some, sym, ap, ◌∙◌, subst}
+use Rattle.markdown_base.specs.declared.state.State.TheVariants.{Next}
+use Rattle.markdown_base.specs.declared.state.TheConstants.Name.{FlowStart}
+use Rattle.markdown_edits.specs.Edited.{edited}
+use Rattle.markdown_tokenizer.proofs.Readings.Bounds.{one-end}
+use Rattle.markdown_tokenizer.specs.Calls.{with_resolvers}
+use Rattle.markdown_tokenizer.specs.Configuration.{Configuration, start_configuration}
+use Rattle.markdown_tokenizer.specs.declared.subtokenize.Subresult.{Subresult}
+use Rattle.markdown_tokenizer.specs.Reading.{Reading, EndsIn}
+use Rattle.markdown_tokenizer.specs.Resolving.{IsResolved, done, edits_made, found, resolved_by, taken}
+use Rattle.markdown_tokenizer.specs.Text.{Given, Text}
+use Rattle.mdconstructs_tables.specs.Rows.{table_step}
+use Rattle.mdconstructs_flow.specs.FlowKnows.{flow_rules}
+use Rattle.mdconstructs_flow.specs.FlowTable.{flow}
+use Rattle.mdconstructs_flow_read.proofs.Marks.ToldBlocks.{edits-make-blocks}
+use Rattle.mdconstructs_flow_read.specs.BlocksTold.{flow_told}
+use Rattle.mdconstructs_flow_read.specs.FlowEnds.{FlowEnds}
+use Rattle.mdconstructs_flow_read.specs.FlowRead.{FlowIsRead, IsToldAs}
+use Rattle.mdconstructs_flow_read.specs.LeafEvents.{flow_events}
+
+module _ (g : Given) (t : Text) (r : Reading Unit Unit) (ends : EndsIn g (table_step flow g) t 0 (start_configuration false) [] (Next FlowStart) r) (told : IsToldAs g t (flow_told g.options.constructs g.bytes t.seats)) where
+  same-reading : told.result ≡ r
+  same-reading = one-end g (table_step flow g) t 0 (start_configuration false) [] (Next FlowStart) told.result r told.ends ends
+
+  resolved-so : (final : Configuration Unit Unit) (sub : Subresult) → IsResolved (flow_rules g).resolver g t true told.result.configuration final sub → final.events ≡ flow_events g.options.constructs g.bytes t.seats
+  resolved-so final sub resolved =
+      let k = told.result.configuration in
+      let made : done (edits_made (with_resolvers (taken k) [])) (Some (found k)) ≡ done final (Some sub) = sym (ap (λ rs. resolved_by (flow_rules g).resolver g t rs (with_resolvers (taken k) []) (found k)) told.resolvers) ∙ resolved in
+      let last : edits_made (with_resolvers (taken k) []) ≡ final = cc in
+      sym (ap (λ (q : Configuration Unit Unit). q.events) last) ∙ ap (λ es. edited es k.events) told.edits ∙ ap (edited _) told.events_are
+      ∙ edits-make-blocks.events g.options.constructs g.bytes t.seats
+
+pub flow-ends : FlowIsRead → FlowEnds
+flow-ends read g t room r ends =
+    let told = read g t room in
+    let same = same-reading g t r ends told in
+    record {
+      well = ap (λ (q : Reading Unit Unit). q.answer) (sym same) ∙ told.well;
+      events_are = λ final sub resolved. resolved-so g t r ends told final sub (subst (λ (q : Reading Unit Unit). IsResolved (flow_rules g).resolver g t true q.configuration final sub) (sym same) resolved);
+    }

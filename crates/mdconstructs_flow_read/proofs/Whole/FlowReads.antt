@@ -1,0 +1,203 @@
+-- A text is read line by line and block by block, as its leaf blocks are told.
+use Rattle.std.proofs.Common.{◌≡◌, ℕ, zero, suc, ◌+◌, ◌^◌, ◌-◌, ◌<◌, ◌≤◌, ◌&&◌, List, [], ◌∷◌, ◌++◌, true, false, cond, inl, inr, length, map, take, drop, refl, sym, ap, ◌∙◌, subst, arith}
+use Rattle.std.proofs.lemmas.List.{append_assoc, append-nil, length-drop}
+use Rattle.std.specs.List.{AllByRecursion}
+use Rattle.markdown_base.specs.declared.configuration.Constructs.{Constructs}
+use Rattle.markdown_base.specs.declared.event.Name.TheVariants as name
+use Rattle.markdown_base.specs.declared.state.State.TheVariants.{Next, Retry, Ok}
+use Rattle.markdown_base.specs.declared.state.TheConstants.Name.{FlowBeforeContent, FlowBlankLineAfter, FlowStart}
+use Rattle.markdown_base.specs.Virtual.{Seat}
+use Rattle.markdown_edits.specs.Edits.{Edit}
+use Rattle.markdown_tokenizer.specs.Calls.{with_local}
+use Rattle.markdown_tokenizer.specs.Configuration.{Configuration, start_configuration}
+use Rattle.markdown_tokenizer.specs.Reading.{EndsIn}
+use Rattle.markdown_tokenizer.specs.Text.{Given, Text}
+use Rattle.mdconstructs_tables.specs.Rows.{table_step}
+use Rattle.mdconstructs_machines.specs.LineEvents.{all_of, ending_of, line_text, lines_in}
+use Rattle.mdconstructs_machines.proofs.BlockReads.Accounts.{lines-are-all}
+use Rattle.mdconstructs_flow.specs.FlowTable.{flow}
+use Rattle.mdconstructs_flow_read.specs.BlocksRead.{AreLines, IsAtLines}
+use Rattle.mdconstructs_flow_read.specs.BlocksTold.{block_told, blocks_told}
+use Rattle.mdconstructs_flow_read.specs.FlowRead.{FlowIsRead}
+use Rattle.mdconstructs_flow_read.specs.LeafBlocks.{Line, LeafBlock, break_line, paragraph, setext_heading, block_of_kind, blocks_in, bytes_of, content_at, ends_paragraph, lines_until, text_of, underlined}
+use Rattle.mdconstructs_flow_read.specs.LeafEvents.{leaf_marks, white}
+use Rattle.mdconstructs_flow_read.specs.LineKinds.{LineKind, blank, indented, heading, fence, html, underline, thematic_break, text, is_thematic_break, line_kind, unindented}
+use Rattle.mdconstructs_flow_read.specs.LooksFind.{Finds}
+use Rattle.mdconstructs_flow_read.specs.ToldMarks.{ToldMark, as_it_is}
+use Rattle.mdconstructs_flow_read.proofs.Whole.LineBlocks.{AllAreRead, BlockTold, blank-line-told, break-told, content-told, fenced-told, heading-told, html-some, html-told, indented-told, underline-told}
+use Rattle.mdconstructs_flow_read.proofs.Whole.LineBreaks.{blank-told}
+use Rattle.mdconstructs_flow_read.proofs.Whole.LineStarts.{IsSeen, at_byte, ends-told, line-seen, still-at-lines, told-fed}
+use Rattle.mdconstructs_flow_read.proofs.Lines.Lines.{cut-line, lines-dropped, lines-in-are}
+use Rattle.mdconstructs_flow_read.proofs.Whole.Told.{IsTold, ToldTo, then-told, told-on}
+use Rattle.mdconstructs_flow_read.proofs.Marks.MarkLists.{edits-within, told-length}
+use Rattle.mdconstructs_flow_read.proofs.Lines.KindsOfLines.{says}
+
+-- a block has a line at least
+abbrev HasLine : LeafBlock × ℕ → Type 0
+HasLine found = 1 ≤ found.1
+
+content-some : (on : Constructs) (lines behind : List Line) → 1 ≤ length lines → HasLine (underlined on lines behind)
+content-some on lines [] some = some
+content-some on lines (next ∷ behind) some = by-kind (line_kind on (text_of next))
+  where
+    by-kind : (kind : LineKind) → HasLine (elim kind [ underline mark ↦ (setext_heading lines next, suc (length lines)) | _ ↦ (paragraph lines, length lines) ])
+    by-kind blank = some
+    by-kind indented = some
+    by-kind heading = some
+    by-kind (fence f) = some
+    by-kind (html kind) = some
+    by-kind (underline mark) = omega arith
+    by-kind thematic_break = some
+    by-kind text = some
+
+content-lines : (on : Constructs) (line : Line) (more : List Line) → HasLine (content_at on (line ∷ more))
+content-lines on line more =
+    let n = lines_until (λ t. ends_paragraph (line_kind on t)) more in
+    content-some on (line ∷ take n more) (drop n more) (omega arith)
+
+some-lines : (on : Constructs) (line : Line) (more : List Line) (kind : LineKind) → line_kind on (text_of line) ≡ kind → 1 ≤ (block_of_kind on kind line more).1
+some-lines on line more blank is = omega arith
+some-lines on line more indented is = omega arith
+some-lines on line more heading is = omega arith
+some-lines on line more (fence f) is = omega arith
+some-lines on line more (html kind) is = html-some line more kind (says on (text_of line) is).0
+some-lines on line more (underline mark) is = elim (on.thematic_break && is_thematic_break (unindented (text_of line))) as (λ b. 1 ≤ (cond b (break_line line, 1) (content_at on (line ∷ more))).1) [
+  | true ↦ omega arith
+  | false ↦ content-lines on line more
+]
+some-lines on line more thematic_break is = omega arith
+some-lines on line more text is = content-lines on line more
+
+module _ (all : AllAreRead) (g : Given) (t : Text) (room : length t.seats < 2 ^ 64 - 1) where
+  abbrev on : Constructs
+  on = g.options.constructs
+
+  module _ (k : Configuration Unit Unit) (line : Line) (more : List Line) (are : AreLines (line ∷ more)) (at : drop k.position t.seats ≡ all_of (line ∷ more))
+      (edits : AllByRecursion (λ (e : Edit). e.index < length k.events) k.local.map) where
+    abbrev Begins : LeafBlock × ℕ → Type 0
+    Begins found = IsTold g t k (Next FlowStart) (block_told g.bytes found.0) (drop found.1 (line ∷ more))
+
+    module _ (s : Seat) (ss : List Seat) (text_is : line_text line ≡ s ∷ ss) where
+      abbrev seen : IsSeen line more are s ss text_is g t k
+      seen = line-seen line more are s ss text_is all.lines g t k room at
+
+      -- where the reading goes on, once the look said what the line is
+      abbrev there : Configuration Unit Unit
+      there = with_local (at_byte k) seen.local
+
+      here : IsAtLines t there (line ∷ more)
+      here = still-at-lines line more are s ss text_is all.lines g t k room at seen.local
+
+      some : 1 ≤ length (line_text line)
+      some = subst (λ l. 1 ≤ length l) (sym text_is) (omega arith)
+
+      edits-there : AllByRecursion (λ (e : Edit). e.index < length k.events) there.local.map
+      edits-there = subst (AllByRecursion (λ (e : Edit). e.index < length k.events)) (sym seen.keeps.edits) edits
+
+      after-look : (found : LeafBlock × ℕ) → seen.answer ≡ Ok → BlockTold all g t there line more here (Retry FlowBlankLineAfter) found → Begins found
+      after-look found well told = then-told g t k there (Next FlowStart) (Retry FlowBlankLineAfter) [] (block_told g.bytes found.0) (drop found.1 (line ∷ more)) (seen.well well) told
+
+      by-kind : (kind : LineKind) → line_kind on (text_of line) ≡ kind → Finds kind (unindented (text_of line)) seen.local seen.answer → Begins (block_of_kind on kind line more)
+      by-kind blank is (well, found) =
+          after-look (block_of_kind on blank line more) well (blank-line-told all g t there line more here some (record { here = here; is_kind = is; found = (refl, found) }))
+      by-kind indented is (well, found) =
+          after-look (block_of_kind on indented line more) well (indented-told all g t there line more here (record { here = here; is_kind = is; found = (refl, found) }))
+      by-kind heading is (well, found, size) =
+          after-look (block_of_kind on heading line more) well (heading-told all g t there line more here (record { here = here; is_kind = is; found = (refl, found, size) }))
+      by-kind (fence f) is (well, found, mark, size, columns) =
+          after-look (block_of_kind on (fence f) line more) well (fenced-told all g t there line more here f (record { here = here; is_kind = is; found = (refl, found, mark, size, columns) }))
+      by-kind (html kind) is (well, found, mark) =
+          after-look (block_of_kind on (html kind) line more) well
+          (html-told all g t there line more here kind (says on (text_of line) is).0 (record { here = here; is_kind = is; found = (refl, found, mark) }))
+      by-kind (underline mark) is (well, found, marks) =
+          after-look (block_of_kind on (underline mark) line more) well (underline-told all g t there line more here some mark is (refl, found, marks) edits-there)
+      by-kind thematic_break is (well, found) =
+          after-look (block_of_kind on thematic_break line more) well (break-told all g t there line more here (inl (record { here = here; is_kind = is; found = (refl, found) })))
+      by-kind text is badly =
+          then-told g t k there (Next FlowStart) (Retry FlowBeforeContent) [] _ _ (seen.badly badly) (content-told all g t there line more here some edits-there)
+
+      text-begins : Begins (block_of_kind on (line_kind on (text_of line)) line more)
+      text-begins = by-kind (line_kind on (text_of line)) refl seen.finds
+
+    -- a blank line that has no white space
+    blank-begins : line_text line ≡ [] → Begins (block_of_kind on (line_kind on (text_of line)) line more)
+    blank-begins none = elim (cut-line line more are).ends [
+      | inl with ↦
+          let kind : line_kind on (text_of line) ≡ blank = ap (λ l. line_kind on (bytes_of l)) none in
+          let first : drop k.position t.seats ≡ with.ending ∷ all_of more =
+          at ∙ ap (λ l. l ++ all_of more) (sym (cut-line line more are).whole ∙ ap (λ l. l ++ ending_of line) none ∙ with.is) in
+          let marks : leaf_marks g.bytes name.BlankLineEnding (with.ending ∷ []) ≡ white g.bytes (line_text line) ++ leaf_marks g.bytes name.BlankLineEnding (ending_of line) =
+          ap (λ e. leaf_marks g.bytes name.BlankLineEnding e) (sym with.is) ∙ ap (λ l. white g.bytes l ++ leaf_marks g.bytes name.BlankLineEnding (ending_of line)) (sym none) in
+          subst (λ kind. Begins (block_of_kind on kind line more)) (sym kind)
+          (subst (λ ms. IsTold g t k (Next FlowStart) (map as_it_is ms) more) marks
+          (then-told g t k (at_byte k) (Next FlowStart) (Retry FlowStart) [] _ more (told-fed g t k with.ending (all_of more) FlowStart first)
+          (blank-told g t (at_byte k) with.ending more with.feed first refl)))
+      | inr without ↦ absurd (without.some none)
+    ]
+
+    -- The block that the first line begins
+    block-begins : Begins (block_of_kind on (line_kind on (text_of line)) line more)
+    block-begins = elim (line_text line) as (λ l. line_text line ≡ l → Begins (block_of_kind on (line_kind on (text_of line)) line more)) [
+      | [] ↦ λ none. blank-begins none
+      | s ∷ ss ↦ λ text_is. text-begins s ss text_is
+    ] refl
+
+    -- has a line at least
+    block-some : 1 ≤ (block_of_kind on (line_kind on (text_of line)) line more).1
+    block-some = some-lines on line more (line_kind on (text_of line)) refl
+
+  -- what was told since the start
+  abbrev start : Configuration Unit Unit
+  start = start_configuration false
+
+  edits-so-far : (k : Configuration Unit Unit) (told : List ToldMark) → ToldTo g t start (Next FlowStart) told k (Next FlowStart) → AllByRecursion (λ (e : Edit). e.index < length k.events) k.local.map
+  edits-so-far k told h =
+      let many : 0 + length told ≡ length k.events = omega (arith, ap length h.events_are, told-length 0 told) in
+      subst (AllByRecursion (λ (e : Edit). e.index < length k.events)) (sym h.edits) (edits-within 0 (length k.events) told many)
+
+  -- the text is told up to its end
+  abbrev ToldToEnd : List ToldMark → Type 0
+  ToldToEnd told = (after : Configuration Unit Unit) × ToldTo g t start (Next FlowStart) told after Ok
+
+  no-blocks : (bound : ℕ) → blocks_in on bound [] ≡ []
+  no-blocks zero = refl
+  no-blocks (suc bound) = refl
+
+  -- line by line, and block by block
+  reads-on : (bound : ℕ) (lines : List Line) → length lines ≤ bound → AreLines lines → (k : Configuration Unit Unit) → drop k.position t.seats ≡ all_of lines
+      → (told : List ToldMark) → ToldTo g t start (Next FlowStart) told k (Next FlowStart) → ToldToEnd (told ++ blocks_told g.bytes (blocks_in on bound lines))
+  reads-on bound [] few are k at told so_far =
+      subst (λ bs. ToldToEnd (told ++ blocks_told g.bytes bs)) (sym (no-blocks bound)) (_, told-on g t start k _ (Next FlowStart) (Next FlowStart) Ok told [] so_far (ends-told g t k at))
+  reads-on zero (line ∷ more) few are k at told so_far = absurd (omega (arith, few))
+  reads-on (suc bound) (line ∷ more) few are k at told so_far =
+      let found = block_of_kind on (line_kind on (text_of line)) line more in
+      let block = block_told g.bytes found.0 in
+      let rest = drop found.1 (line ∷ more) in
+      let step = block-begins k line more are at (edits-so-far k told so_far) in
+      let fewer : length rest ≤ bound = omega (arith, few, length-drop found.1 (line ∷ more), block-some k line more are at (edits-so-far k told so_far)) in
+      let blocks = blocks_told g.bytes (blocks_in on bound rest) in
+      let both = told-on g t start k step.after (Next FlowStart) (Next FlowStart) step.to told block so_far step.told_to in
+      subst ToldToEnd (append_assoc told block blocks) (elim step.ends [
+        | inl (next, there) ↦
+            reads-on bound rest fewer (lines-dropped found.1 (line ∷ more) are) step.after there (told ++ block) (subst (ToldTo g t start (Next FlowStart) (told ++ block) step.after) next both)
+        | inr (well, none) ↦
+            let nothing : blocks ≡ [] = ap (λ l. blocks_told g.bytes (blocks_in on bound l)) none ∙ ap (blocks_told g.bytes) (no-blocks bound) in
+            (step.after, subst (λ ms. ToldTo g t start (Next FlowStart) ms step.after Ok) (sym (ap (λ bs. (told ++ block) ++ bs) nothing ∙ append-nil (told ++ block))) (subst (ToldTo g t start (Next FlowStart) (told ++ block) step.after) well both))
+      ])
+
+-- So is any text
+pub flow-is-read : AllAreRead → FlowIsRead
+flow-is-read all g t room =
+    let lines = lines_in t.seats in
+    let start = start_configuration {R = Unit {0}} {D = Unit {0}} false in
+    let nothing : ToldTo g t start (Next FlowStart) [] start (Next FlowStart) =
+    record { calls = 0; events_are = refl; edits = refl; resolvers = refl; leads = λ cs calls z h. let none : calls + 0 ≡ calls = omega arith in subst (λ n. EndsIn g (table_step flow g) t n start cs (Next FlowStart) z) none h } in
+    let (after, told) = reads-on all g t room (length lines) lines (omega arith) (lines-in-are t.seats) start (sym (lines-are-all t.seats)) [] nothing in
+    record {
+      result = record { configuration = after; answer = Ok; calls = 0 + told.calls + 0 };
+      ends = told.leads [] 0 (record { configuration = after; answer = Ok; calls = 0 + told.calls + 0 }) (record { bound = zero; is = refl });
+      well = refl;
+      events_are = told.events_are;
+      edits = told.edits;
+      resolvers = told.resolvers;
+    }

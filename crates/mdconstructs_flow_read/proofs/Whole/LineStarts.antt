@@ -1,0 +1,125 @@
+-- At the beginning of a line: the text ends there, or a blank line is read, or a look says what the line is.
+use Rattle.std.proofs.Common.{◌≡◌, ◌+◌, ◌-◌, ◌^◌, ◌<◌, List, [], ◌∷◌, ◌++◌, true, cond, Option, Some, inl, inr, length, drop, refl, sym, ap, ◌∙◌, subst, arith}
+use Rattle.std.proofs.lemmas.List.{append_assoc, length-append, length-drop}
+use Rattle.markdown_base.specs.declared.event.Name.TheVariants.{BlankLineEnding}
+use Rattle.markdown_base.specs.declared.state.Name.{Name}
+use Rattle.markdown_base.specs.declared.state.State.{State}
+use Rattle.markdown_base.specs.declared.state.State.TheVariants.{Next, Retry, Ok, Nok}
+use Rattle.markdown_base.specs.declared.state.TheConstants.Name.{FlowBeforeContent, FlowBlankLineAfter, FlowBlankLineBefore, FlowStart}
+use Rattle.markdown_base.specs.Virtual.{Seat}
+use Rattle.markdown_tokenizer.specs.declared.waiting.AttemptKind.TheVariants.{Check}
+use Rattle.markdown_tokenizer.specs.declared.waiting.Waits.TheVariants.{Byte, End}
+use Rattle.markdown_tokenizer.specs.Calls.{with_local}
+use Rattle.markdown_tokenizer.specs.Configuration.{Configuration, Local}
+use Rattle.markdown_tokenizer.specs.Reading.{EndsIn, fed}
+use Rattle.markdown_tokenizer.specs.Sight.{byte_of, seat_before}
+use Rattle.markdown_tokenizer.specs.Text.{Given, Text}
+use Rattle.markdown_tokenizer.proofs.Readings.Bounds.{fed-ends}
+use Rattle.mdconstructs_tables.proofs.Looks.Deep.{Leads}
+use Rattle.mdconstructs_tables.proofs.Looks.Scans.{feeds}
+use Rattle.mdconstructs_tables.specs.Looks.{waits_at}
+use Rattle.mdconstructs_tables.specs.Rows.{enter, exit, consume, choose, write, row, table_step}
+use Rattle.mdconstructs_machines.specs.LineEvents.{all_of, ending_of, line_text}
+use Rattle.mdconstructs_machines.specs.Tables.{counts}
+use Rattle.mdconstructs_flow.specs.Flow.{flow_start, flow_start_rows}
+use Rattle.mdconstructs_flow.specs.FlowBytes.{FlowByte, flow_byte}
+use Rattle.mdconstructs_flow.specs.FlowTable.{flow}
+use Rattle.mdconstructs_flow.specs.FlowWrites.{indent_becomes}
+use Rattle.mdconstructs_flow_read.specs.BlocksRead.{AreLines, IsAtLines, KeepsEdits}
+use Rattle.mdconstructs_flow_read.specs.LeafBlocks.{Line, bytes_of, text_of}
+use Rattle.mdconstructs_flow_read.specs.LineKinds.{line_kind, unindented}
+use Rattle.mdconstructs_flow_read.specs.LooksFind.{Finds, IsInLine, LineEnds, LinesAreSeen}
+use Rattle.mdconstructs_flow_read.proofs.Lines.Checks.{checks-nok, checks-ok, leads-on, looks}
+use Rattle.mdconstructs_flow_read.proofs.Whole.LineBreaks.{start-ends}
+use Rattle.mdconstructs_flow_read.proofs.Lines.Lines.{cut-line, text-in-line}
+use Rattle.mdconstructs_flow_read.proofs.Whole.Told.{ToldTo, told-none, told-on}
+use Rattle.mdconstructs_flow_read.proofs.Looks.ByteClasses.{no-line-feed}
+
+-- the byte waits, or the end
+abbrev pub at_byte : Configuration Unit Unit → Configuration Unit Unit
+at_byte k = record k { waiting = Byte }
+
+abbrev pub at_end : Configuration Unit Unit → Configuration Unit Unit
+at_end k = record k { waiting = End; ended = true }
+
+module _ (g : Given) (t : Text) (k : Configuration Unit Unit) where
+  leads-fed : (name : Name) (k1 : Configuration Unit Unit) → fed t k ≡ k1 → Leads g (table_step flow g) t 0 k (Next name) k1 (Retry name)
+  leads-fed name k1 is cs calls z h =
+      let none : calls + 0 ≡ calls = omega arith in
+      (fed-ends g (table_step flow g) t calls k cs name z).0
+      (subst (λ q. EndsIn g (table_step flow g) t calls q cs (Retry name) z) (sym is) (subst (λ n. EndsIn g (table_step flow g) t n k1 cs (Retry name) z) none h))
+
+  -- a state to come, once its byte is fed
+  pub told-fed : (s : Seat) (ss : List Seat) (name : Name) → drop k.position t.seats ≡ s ∷ ss → ToldTo g t k (Next name) [] (at_byte k) (Retry name)
+  told-fed s ss name at =
+      told-none g t k (at_byte k) (Next name) (Retry name) 0 refl (record { edits = refl; resolvers = refl }) (leads-fed name (at_byte k) (feeds k.stack k.events t (s ∷ ss) k.position k.ended k.local at))
+
+  pub told-fed-end : (name : Name) → drop k.position t.seats ≡ [] → ToldTo g t k (Next name) [] (at_end k) (Retry name)
+  told-fed-end name at =
+      told-none g t k (at_end k) (Next name) (Retry name) 0 refl (record { edits = refl; resolvers = refl }) (leads-fed name (at_end k) (feeds k.stack k.events t [] k.position k.ended k.local at))
+
+  -- the text ends before a line
+  pub ends-told : drop k.position t.seats ≡ [] → ToldTo g t k (Next FlowStart) [] (with_local (at_end k) (counts k.local)) Ok
+  ends-told at = told-on g t k (at_end k) _ (Next FlowStart) (Retry FlowStart) Ok [] [] (told-fed-end FlowStart at) (start-ends g t (at_end k) at refl)
+
+-- the bytes of a line that has text
+module _ (line : Line) (more : List Line) (are : AreLines (line ∷ more)) (s : Seat) (ss : List Seat) (text_is : line_text line ≡ s ∷ ss) where
+  pub first-byte : all_of (line ∷ more) ≡ s ∷ (ss ++ (ending_of line ++ all_of more))
+  first-byte =
+      ap (λ l. l ++ all_of more) (sym (cut-line line more are).whole) ∙ append_assoc (line_text line) (ending_of line) (all_of more) ∙ ap (λ l. l ++ (ending_of line ++ all_of more)) text_is
+
+  line-ends-there : LineEnds (ending_of line ++ all_of more)
+  line-ends-there = elim (cut-line line more are).ends [
+    | inl with ↦ subst (λ e. LineEnds (e ++ all_of more)) (sym with.is) with.feed
+    | inr without ↦ subst (λ e. LineEnds (e ++ all_of more)) (sym without.is) (subst (λ m. LineEnds (all_of m)) (sym without.last) tt)
+  ]
+
+  pub in-line-there : IsInLine (s ∷ ss)
+  in-line-there = subst IsInLine text_is (text-in-line line)
+
+  -- A look says what the line is, and the reading goes on by its answer
+  pub record IsSeen (g : Given) (t : Text) (k : Configuration Unit Unit) : Type 0 where
+    pub local : Local Unit Unit
+    pub answer : State
+    pub keeps : KeepsEdits k.local local
+    pub finds : Finds (line_kind g.options.constructs (text_of line)) (unindented (text_of line)) local answer
+    pub well : answer ≡ Ok → ToldTo g t k (Next FlowStart) [] (with_local (at_byte k) local) (Retry FlowBlankLineAfter)
+    pub badly : answer ≡ Nok → ToldTo g t k (Next FlowStart) [] (with_local (at_byte k) local) (Retry FlowBeforeContent)
+
+  module _ (seen : LinesAreSeen) (g : Given) (t : Text) (k : Configuration Unit Unit) (room : length t.seats < 2 ^ 64 - 1) (at : drop k.position t.seats ≡ all_of (line ∷ more)) where
+    abbrev rest : List Seat
+    rest = ending_of line ++ all_of more
+
+    start-row : (previous : Option FlowByte) → (flow_start {R = Unit {0}} {D = Unit {0}}).rows previous (Some (flow_byte s.byte)) ≡ row (choose Check (Next FlowBlankLineAfter) (Next FlowBeforeContent) ∷ write (indent_becomes 0) ∷ []) (Retry FlowBlankLineBefore)
+    start-row previous =
+        let rows = flow_start_rows {R = Unit {0}} {D = Unit {0}} in
+        ap (λ b. cond b (row (enter BlankLineEnding ∷ consume ∷ exit BlankLineEnding ∷ []) (Next FlowStart)) rows.rest) (no-line-feed s.byte in-line-there.0)
+
+    pub line-seen : IsSeen g t k
+    line-seen =
+        let k0 = at_byte k in
+        let here : drop k.position t.seats ≡ s ∷ (ss ++ rest) = at ∙ first-byte in
+        let r = looks g t k0 s (ss ++ rest) here refl FlowStart FlowBlankLineBefore FlowBlankLineAfter FlowBeforeContent flow_start refl (flow_byte s.byte) refl (indent_becomes 0 ∷ []) start-row in
+        let begun = indent_becomes 0 (with_local k0 (counts k.local)) in
+        let few : length (s ∷ ss) < 2 ^ 64 - 1 = omega (arith, room, length-drop k.position t.seats, ap length here, length-append (s ∷ ss) rest) in
+        let (leaves, finds) = seen g t k.stack k.events (s ∷ ss) rest (byte_of (seat_before t k.position)) k.position k.ended begun here in-line-there line-ends-there few refl in
+        let keeps : KeepsEdits k.local r.local = record { edits = leaves.edits; resolvers = leaves.resolvers } in
+        let fed_there = told-fed g t k s (ss ++ rest) FlowStart here in
+        record {
+          local = r.local;
+          answer = r.answer;
+          keeps = keeps;
+          finds = subst (λ l. Finds (line_kind g.options.constructs (bytes_of l)) (unindented (bytes_of l)) r.local r.answer) (sym text_is) finds;
+          well = λ e.
+              told-none g t k (with_local k0 r.local) (Next FlowStart) (Retry FlowBlankLineAfter) _ refl keeps
+              (leads-on g t fed_there.calls _ k k0 (with_local k0 r.local) (Next FlowStart) (Retry FlowStart) (Retry FlowBlankLineAfter) fed_there.leads
+              (checks-ok g t k0 s (ss ++ rest) here refl FlowStart FlowBlankLineBefore FlowBlankLineAfter FlowBeforeContent flow_start refl (flow_byte s.byte) refl (indent_becomes 0 ∷ []) start-row e));
+          badly = λ e.
+              told-none g t k (with_local k0 r.local) (Next FlowStart) (Retry FlowBeforeContent) _ refl keeps
+              (leads-on g t fed_there.calls _ k k0 (with_local k0 r.local) (Next FlowStart) (Retry FlowStart) (Retry FlowBeforeContent) fed_there.leads
+              (checks-nok g t k0 s (ss ++ rest) here refl FlowStart FlowBlankLineBefore FlowBlankLineAfter FlowBeforeContent flow_start refl (flow_byte s.byte) refl (indent_becomes 0 ∷ []) start-row e));
+        }
+
+    -- where it goes on
+    pub still-at-lines : (local : Local Unit Unit) → IsAtLines t (with_local (at_byte k) local) (line ∷ more)
+    still-at-lines local = record { are_lines = are; at = at; waits = ap waits_at (sym first-byte); room = room }

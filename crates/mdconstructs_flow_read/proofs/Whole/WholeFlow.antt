@@ -1,0 +1,30 @@
+-- Any text is read as its leaf blocks are told: each kind of line is seen, and each kind of block is read.
+use Rattle.mdconstructs_flow_read.specs.FlowRead.{FlowIsRead}
+use Rattle.mdconstructs_flow_read.proofs.Blocks.BlankReads.{blank-lines-read}
+use Rattle.mdconstructs_flow_read.proofs.Blocks.BreakReads.{breaks-read}
+use Rattle.mdconstructs_flow_read.proofs.Blocks.CodeReads.{indented-code-read}
+use Rattle.mdconstructs_flow_read.proofs.Fenced.Whole.{fenced-code-read}
+use Rattle.mdconstructs_flow_read.proofs.Whole.FlowReads.{flow-is-read}
+use Rattle.mdconstructs_flow_read.proofs.Blocks.HeadingReads.{headings-read}
+use Rattle.mdconstructs_flow_read.proofs.Tags.HtmlTagLooks.{html-is-seen}
+use Rattle.mdconstructs_flow_read.proofs.Html.Whole.{html-is-read}
+use Rattle.mdconstructs_flow_read.proofs.Looks.LineLooks.{lines-are-seen}
+use Rattle.mdconstructs_flow_read.proofs.Paragraphs.Reads.{paragraphs-read}
+use Rattle.mdconstructs_flow_read.proofs.Paragraphs.SetextReads.{setext-headings-read}
+use Rattle.mdconstructs_flow_read.specs.LooksFind.{LinesAreSeen}
+
+pub lines-seen : LinesAreSeen
+lines-seen = lines-are-seen html-is-seen
+
+pub whole-flow-is-read : FlowIsRead
+whole-flow-is-read = flow-is-read (record {
+  lines = lines-seen;
+  blanks = blank-lines-read;
+  breaks = breaks-read;
+  headings = headings-read;
+  paragraphs = paragraphs-read lines-seen;
+  setext = setext-headings-read lines-seen;
+  indented_code = indented-code-read;
+  fenced = fenced-code-read;
+  html = html-is-read;
+})

@@ -1,0 +1,44 @@
+-- Hard breaks by their bytes: they begin with a backslash, or with white space, and are a byte at least.
+use Rattle.std.proofs.Common.{◌≡◌, ℕ, ◌+◌, ◌<◌, ◌==◌, ◌&&◌, ◌∷◌, List, Bool, true, false, cond, Some, None, ap, refl, arith}
+use Rattle.std.specs.List.{prefix_len}
+use Rattle.std.specs.Prelude.{nat_le}
+use Rattle.std.proofs.lemmas.Bool.Decides.{nat_tests}
+use Rattle.mdconstructs_machines.specs.Breaks.{is_white}
+use Rattle.mdconstructs_text.proofs.Constructs.Apart.{IsApart, OfOption, only-there, when-there}
+use Rattle.mdconstructs_text.proofs.Escapes.Bytes.{escapes-apart}
+use Rattle.mdconstructs_text.specs.Bytes.{has_byte_at, is_line_feed, is_space}
+use Rattle.mdconstructs_text.specs.Construct.{Found}
+use Rattle.mdconstructs_text.specs.Items.{item_length}
+use Rattle.mdconstructs_text.specs.TextBytes.{text_byte}
+use Rattle.mdconstructs_inline_constructs.proofs.WhiteSpaces.Bytes.{white-classed}
+use Rattle.mdconstructs_inline_constructs.specs.HardBreak.{break_escapes, hard_break_escape, hard_break_trailing, trailing_break_at, trailing_breaks}
+
+abbrev IsSome : Found → Type 0
+IsSome item = 0 < item_length item
+
+pub break-escapes-apart : IsApart text_byte item_length break_escapes
+break-escapes-apart = record {
+  classed = escapes-apart.classed;
+  nowhere = λ b bs h. only-there ((b == 92) && has_byte_at (b ∷ bs) 1 is_line_feed) (Some hard_break_escape) (ap (λ t. t && has_byte_at (b ∷ bs) 1 is_line_feed) h);
+  some = λ b bs. when-there IsSome ((b == 92) && has_byte_at (b ∷ bs) 1 is_line_feed) (Some hard_break_escape) (omega arith);
+}
+
+-- of a run of a number of spaces
+two-some : (n : ℕ) (t : Bool) → OfOption IsSome (cond (nat_le 2 n && t) (Some (hard_break_trailing n)) None)
+two-some n t = elim (nat_le 2 n) as (λ b. nat_le 2 n ≡ b → OfOption IsSome (cond (b && t) (Some (hard_break_trailing n)) None)) [
+  | true ↦ λ e. when-there IsSome t (Some (hard_break_trailing n)) (grind (arith, nat_tests))
+  | false ↦ λ e. tt
+] refl
+
+-- at another byte than white space none is
+none-trailing : (b : ℕ) (bs : List ℕ) → is_white b ≡ false → trailing_break_at (b ∷ bs) ≡ None
+none-trailing b bs h =
+    let space : is_space b ≡ false = grind (arith, nat_tests) in
+    ap (λ t. let n = cond t (1 + prefix_len is_space bs) 0 in cond (nat_le 2 n && has_byte_at (b ∷ bs) n is_line_feed) (Some (hard_break_trailing n)) None) space
+
+pub trailing-breaks-apart : IsApart text_byte item_length trailing_breaks
+trailing-breaks-apart = record {
+  classed = white-classed;
+  nowhere = none-trailing;
+  some = λ b bs. (let n = prefix_len is_space (b ∷ bs) in two-some n (has_byte_at (b ∷ bs) n is_line_feed));
+}

@@ -1,0 +1,59 @@
+-- Raw HTML between marks by its bytes: it begins with `<`, and is a byte at least; its events can be cut into atoms, and what spans keep holds of
+-- them.
+use Rattle.markdown_base.specs.Virtual.{Seat}
+use Rattle.markdown_base.specs.declared.event.Event.{Event}
+use Rattle.mdconstructs_inline_constructs.proofs.HtmlMarks.Places.{at_open, mark_next}
+use Rattle.mdconstructs_inline_constructs.proofs.HtmlMarks.Readings.{mark-there}
+use Rattle.mdconstructs_inline_constructs.proofs.HtmlTexts.Walks.{one_further, walk}
+use Rattle.mdconstructs_inline_constructs.specs.HtmlMarked.{and_before, begins_with, either_there, html_mark_grammar, html_marks, marked, through}
+use Rattle.mdconstructs_inline_constructs.specs.HtmlText.{html_of}
+use Rattle.mdconstructs_text.proofs.Autolinks.Bytes.{autolinks-apart}
+use Rattle.mdconstructs_text.proofs.Constructs.Apart.{IsApart, OfOption}
+use Rattle.mdconstructs_text.proofs.DeepSpans.Stretches.{ItemCut}
+use Rattle.mdconstructs_text.proofs.Texts.Built.{IsBuilt, IsKeptBySpans}
+use Rattle.mdconstructs_text.specs.Bytes.{has_byte_at}
+use Rattle.mdconstructs_text.specs.Construct.{Found}
+use Rattle.mdconstructs_text.specs.Items.{item_length}
+use Rattle.mdconstructs_text.specs.Parts.{bytes_of}
+use Rattle.mdconstructs_text.specs.TextBytes.{text_byte}
+use Rattle.std.proofs.Common.{Bool, List, None, Option, Some, ap, arith, cond, drop, false, refl, subst, sym, true, ℕ, ◌&&◌, ◌<◌, ◌==◌, ◌∙◌, ◌∷◌, ◌≡◌}
+use Rattle.std.specs.Char.{is_ascii_alphabetic}
+use Rattle.std.specs.Prelude.{codes}
+use Rattle.mdconstructs_inline_constructs.proofs.HtmlTexts.Cuts.{html-cut, html-built}
+use Rattle.mdconstructs_inline_constructs.proofs.HtmlTexts.Through.{html_option}
+
+either-none : (t : Bool) → cond {A = Option ℕ} t None None ≡ None
+either-none true = refl
+either-none false = refl
+
+nowhere-else : (b : ℕ) (bs : List ℕ) → (b == 60) ≡ false → marked (b ∷ bs) ≡ None
+nowhere-else b bs h =
+    let T = λ (n : ℕ) (c : List ℕ). and_before n (through c (drop n (b ∷ bs))) in
+    (λ i. either_there (cond (h i && begins_with (codes "!-->") bs) (Some 5) (cond (h i && begins_with (codes "!--->") bs) (Some 6) (cond (h i && begins_with (codes "!--") bs) (T 4 (codes "-->")) None)))
+    (either_there (cond (h i && begins_with (codes "?") bs) (T 2 (codes "?>")) None)
+    (either_there (cond (has_byte_at (b ∷ bs) 2 is_ascii_alphabetic) (cond (h i && begins_with (codes "!") bs) (T 2 (codes ">")) None) None) (cond (h i && begins_with (codes "![CDATA[") bs) (T 9 (codes "]]>")) None))))
+    ∙ ap (λ o. either_there o None) (either-none (has_byte_at (b ∷ bs) 2 is_ascii_alphabetic))
+
+abbrev IsSome : Found → Type 0
+IsSome item = 0 < item_length item
+
+some-bytes : (o : Option ℕ) → OfOption IsSome (html_option (one_further o))
+some-bytes None = tt
+some-bytes (Some n) = omega arith
+
+pub html-marks-apart : IsApart text_byte item_length html_marks
+html-marks-apart = record {
+  classed = autolinks-apart.classed;
+  nowhere = λ b bs h. ap (html_of (b ∷ bs)) (nowhere-else b bs h);
+  some = λ b bs. elim (b == 60) as (λ t. (b == 60) ≡ t → OfOption IsSome (html_of (b ∷ bs) (marked (b ∷ bs)))) [
+    | true ↦ λ e. subst (OfOption IsSome) (sym (mark-there b bs e)) (some-bytes (walk mark_next bs false at_open))
+    | false ↦ λ e. subst (OfOption IsSome) (sym (ap (html_of (b ∷ bs)) (nowhere-else b bs e))) tt
+  ] refl;
+}
+
+-- cuts, and what spans keep
+pub html-mark-cut : (bytes : List ℕ) (seats : List Seat) → OfOption (ItemCut bytes seats) (html_mark_grammar.front (bytes_of seats))
+html-mark-cut bytes seats = html-cut bytes seats (marked (bytes_of seats))
+
+pub html-mark-built : (bytes : List ℕ) (P : List Event → Type 0) (kept : IsKeptBySpans bytes P) (text : List ℕ) → OfOption (IsBuilt bytes P kept) (html_mark_grammar.front text)
+html-mark-built bytes P kept text = html-built bytes P kept text (marked text)

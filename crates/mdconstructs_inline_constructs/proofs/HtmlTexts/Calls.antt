@@ -1,0 +1,44 @@
+-- What the code of states in data of raw HTML may do: read a line ending, and end.
+use Rattle.std.proofs.Common.{◌≡◌, ℕ, [], ◌∷◌, Option, Some, refl, ap}
+use Rattle.markdown_base.specs.declared.event.Name.TheVariants.{HtmlText, HtmlTextData}
+use Rattle.markdown_base.specs.declared.state.Name.{Name}
+use Rattle.markdown_tokenizer.specs.Calls.{exited}
+use Rattle.markdown_tokenizer.specs.Configuration.{TokenizerValue, at_configuration}
+use Rattle.markdown_tokenizer.specs.Sight.{current_of, sight_of}
+use Rattle.markdown_tokenizer.specs.Text.{Text}
+use Rattle.markdown_tokenizer.specs.declared.waiting.Waits.{Waits}
+use Rattle.markdown_tokenizer.specs.declared.waiting.Waits.TheVariants.{Byte, End, Nothing}
+use Rattle.mdconstructs_tables.proofs.Rows.Calls.{can-exit, can-mark}
+use Rattle.mdconstructs_tables.specs.RowInvariant.{IsCallable}
+use Rattle.mdconstructs_tables.specs.RowTest.{allows_all, start_shape}
+use Rattle.mdconstructs_tables.specs.Rows.{Rows, class_of, consume, exit}
+use Rattle.mdconstructs_text.specs.TextBytes.{TextByte, line_feed, text_byte}
+use Rattle.mdconstructs_inline_constructs.specs.HtmlText.{CanEndHtml, CanEndHtmlLine, html_state}
+
+-- a byte that is seen waits
+pub byte-waits : (text : Text) (p : ℕ) (waits : Waits) (b : ℕ) → current_of text p waits ≡ Some b → waits ≡ Byte
+byte-waits text p Nothing b h = absurd (cc)
+byte-waits text p Byte b h = refl
+byte-waits text p End b h = absurd (cc)
+
+module _ {M R D : Type 0} (name : Name) (rows : (previous current : Option TextByte) → Rows R D) (t : TokenizerValue M R D) (can : IsCallable text_byte (html_state name rows) t) where
+  pub waits-at : (b : ℕ) → (sight_of t).current ≡ Some b → t.configuration.waiting ≡ Byte
+  waits-at b is = byte-waits t.text t.configuration.position t.configuration.waiting b is
+
+  -- at a line feed data may end, and the line ending may be read
+  pub line-can-end : (sight_of t).current ≡ Some 10 → CanEndHtmlLine t
+  line-can-end is = record {
+    waits = waits-at 10 is;
+    ends = can-exit text_byte (html_state name rows) _ (Some line_feed) t can.called refl (ap (class_of text_byte) is) [] HtmlTextData t refl refl;
+    marks = can-mark text_byte (html_state name rows) _ (Some line_feed) t can.called refl (ap (class_of text_byte) is) (exit HtmlTextData ∷ [])
+        (at_configuration t (exited HtmlTextData (sight_of t).exit_place t.configuration)) refl refl (waits-at 10 is);
+  }
+
+  -- at `>` raw HTML may end
+  pub html-can-end : (sight_of t).current ≡ Some 62 → CanEndHtml t
+  html-can-end is = record {
+    waits = waits-at 62 is;
+    stands = can.stands (waits-at 62 is);
+    ends = can.ends_read
+        (ap (λ o. allows_all {R = R} {D = D} (consume ∷ exit HtmlTextData ∷ exit HtmlText ∷ []) (start_shape (class_of text_byte (sight_of t).previous) (class_of text_byte o) (html_state name rows))) is);
+  }

@@ -1,0 +1,18 @@
+-- Which state follows a line ending, for the code of the states behind it.
+use Rattle.std.proofs.Common.{◌≡◌, ◌==◌, List, [], ◌∷◌, ◌++◌, Bool, cond, ap}
+use Rattle.markdown_base.specs.declared.event.Name.TheVariants.{HtmlTextData}
+use Rattle.markdown_base.specs.declared.state.Name.{Name}
+use Rattle.markdown_base.specs.declared.state.State.TheVariants.{Retry}
+use Rattle.markdown_tokenizer.specs.Configuration.{TokenizerValue}
+use Rattle.markdown_tokenizer.specs.Sight.{sight_of}
+use Rattle.mdconstructs_tables.specs.Rows.{Act, row, enter, picked, step_of}
+use Rattle.mdconstructs_inline_constructs.specs.HtmlText.{html_line_begins}
+use Rattle.mdconstructs_inline_constructs.proofs.HtmlTexts.Picked.{stepped}
+
+module _ {M R D : Type 0} (t : TokenizerValue M R D) where
+  -- data begins with the state of this name, or one of the others follows
+  pub begun-by : (acts : List (Act R D)) (name : Name) (names : List Name) (v : Bool) → (t.configuration.local.tokenize_state.marker_b == name.number) ≡ v
+      → stepped t (html_line_begins acts (name ∷ names))
+      ≡ step_of (cond v (picked (row (acts ++ enter HtmlTextData ∷ []) (Retry name)) t.given (sight_of t) t.configuration) (picked (html_line_begins acts names) t.given (sight_of t) t.configuration)) (sight_of t) t.configuration
+  begun-by acts name names v h =
+      ap (λ v. step_of (cond v (picked (row (acts ++ enter HtmlTextData ∷ []) (Retry name)) t.given (sight_of t) t.configuration) (picked (html_line_begins acts names) t.given (sight_of t) t.configuration)) (sight_of t) t.configuration) h

@@ -1,0 +1,33 @@
+-- White space at the end of a line, by its bytes: it begins with a space or a tab, and is a byte at least.
+use Rattle.std.proofs.Common.{◌≡◌, ℕ, ◌+◌, ◌<◌, ◌&&◌, ◌∷◌, List, Bool, true, false, cond, Some, None, sym, ap, refl, arith}
+use Rattle.std.specs.List.{prefix_len}
+use Rattle.std.proofs.lemmas.Bool.Decides.{nat_tests}
+use Rattle.mdconstructs_machines.specs.Breaks.{is_white}
+use Rattle.mdconstructs_text.proofs.Constructs.Apart.{IsApart, OfOption, only-there, when-there}
+use Rattle.mdconstructs_text.specs.Construct.{Found}
+use Rattle.mdconstructs_text.specs.Items.{item_length}
+use Rattle.mdconstructs_text.specs.Laws.Classes.{by-class}
+use Rattle.mdconstructs_text.specs.TextBytes.{text_byte}
+use Rattle.mdconstructs_inline_constructs.specs.WhiteSpace.{is_white_class, is_white_left, white_space, white_spaces}
+
+pub white-classed : (b : ℕ) → is_white_class (text_byte b) ≡ is_white b
+white-classed b =
+    by-class (λ w. is_white_class w ≡ is_white b) b
+    (λ e. sym (grind (arith, nat_tests))) (λ e. sym (grind (arith, nat_tests))) (λ e. sym (grind (arith, nat_tests))) (λ e. sym (grind (arith, nat_tests)))
+    (λ e. sym (grind (arith, nat_tests))) (λ e. sym (grind (arith, nat_tests))) (λ e. sym (grind (arith, nat_tests))) (λ n e. sym (grind (arith, nat_tests)))
+    (λ e. sym (grind (arith, nat_tests))) (λ e. sym (grind (arith, nat_tests))) (λ e. sym e) (λ o e. sym o.10) (λ o e. sym o.10) (λ o n e. sym o.10)
+
+-- a run of white space has a byte
+pub run-some : (b : ℕ) (bs : List ℕ) → is_white b ≡ true → 0 < prefix_len is_white (b ∷ bs)
+run-some b bs h = let one : prefix_len is_white (b ∷ bs) ≡ 1 + prefix_len is_white bs = ap (λ t. cond t (1 + prefix_len is_white bs) 0) h in omega (arith, one)
+
+space-some : (b : ℕ) (bs : List ℕ) (t : Bool) → is_white b ≡ t → OfOption (λ (item : Found). 0 < item_length item) (cond (t && is_white_left (b ∷ bs)) (Some (white_space (prefix_len is_white (b ∷ bs)))) None)
+space-some b bs true h = when-there (λ (item : Found). 0 < item_length item) (is_white_left (b ∷ bs)) (Some (white_space (prefix_len is_white (b ∷ bs)))) (run-some b bs h)
+space-some b bs false h = tt
+
+pub white-spaces-apart : IsApart text_byte item_length white_spaces
+white-spaces-apart = record {
+  classed = white-classed;
+  nowhere = λ b bs h. only-there (is_white b && is_white_left (b ∷ bs)) (Some (white_space (prefix_len is_white (b ∷ bs)))) (ap (λ t. t && is_white_left (b ∷ bs)) h);
+  some = λ b bs. space-some b bs (is_white b) refl;
+}

@@ -1,0 +1,12 @@
+use Rattle.std.proofs.Common.{◌==◌, ◌≤◌, sym, ap, arith}
+use Rattle.std.proofs.lemmas.Option.{slice_get_past}
+use Rattle.std.specs.Prelude.{codes}
+use Rattle.markdown_tokenizer.specs.Sight.{sight_of}
+use Rattle.mdconstructs_text.specs.Bytes.{passes}
+use Rattle.mdconstructs_inline_constructs.proofs.html_marked.in_cdata_mark.Goals as goal
+
+pub returns-in-None-get : goal.returns-in-None-get
+returns-in-None-get g c =
+    let t = c.args.t.now in
+    let past : 5 ≤ t.configuration.local.tokenize_state.size_b = omega (arith, c.in-None-get.ensures.lookup.3, ap (λ v. v.configuration.local.tokenize_state.size_b) c.t.view_is) in
+    sym (ap (λ o. passes (λ byte. passes (λ b. b == byte) (sight_of t).current) o) (slice_get_past (codes "CDATA") t.configuration.local.tokenize_state.size_b past))

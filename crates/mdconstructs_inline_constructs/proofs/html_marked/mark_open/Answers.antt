@@ -1,0 +1,23 @@
+use Rattle.std.proofs.Common.{◌≡◌, ◌==◌, [], ◌∷◌, false, refl, sym, ◌∙◌, arith}
+use Rattle.std.proofs.lemmas.Bool.Decides.{nat_tests}
+use Rattle.markdown_base.specs.declared.state.State.TheVariants.{Next}
+use Rattle.markdown_base.specs.declared.state.TheConstants.Name.{HtmlTextComment, HtmlTextDeclarationOpen}
+use Rattle.mdconstructs_tables.specs.Rows.{row, write, consume, when}
+use Rattle.mdconstructs_inline_constructs.specs.HtmlMarked.{closed_by, no_instruction}
+use Rattle.mdconstructs_inline_constructs.specs.HtmlText.{html_goes_on, no_html, sees}
+use Rattle.mdconstructs_inline_constructs.proofs.HtmlTexts.Picked.{does-by, seen, tested-by}
+use Rattle.mdconstructs_inline_constructs.proofs.html_marked.mark_open.Goals as goal
+
+pub returns-in-Some : goal.returns-in-Some
+returns-in-Some g c =
+    let t = c.args.t.now in
+    let b = c.in-Some.field-0 in
+    let is = sym c.current.ensures ∙ c.in-Some.is in
+    let plain : (b == 10) ≡ false = grind (arith, nat_tests, c.in-Some.field-0-test) in
+    let e0 : (b == 63) ≡ false = grind (arith, nat_tests, c.in-Some.field-0-test) in
+    let e1 : (b == 33) ≡ false = grind (arith, nat_tests, c.in-Some.field-0-test) in
+    does-by
+    (seen t b is no_html (when (sees (λ b. b == 63)) (when no_instruction no_html (row (write (closed_by 63 1 0) ∷ consume ∷ []) (Next HtmlTextComment))) (when (sees (λ b. b == 33)) (html_goes_on HtmlTextDeclarationOpen) no_html)) plain
+    ∙ tested-by t b is (λ b. b == 63) (when no_instruction no_html (row (write (closed_by 63 1 0) ∷ consume ∷ []) (Next HtmlTextComment))) (when (sees (λ b. b == 33)) (html_goes_on HtmlTextDeclarationOpen) no_html) false e0
+    ∙ tested-by t b is (λ b. b == 33) (html_goes_on HtmlTextDeclarationOpen) no_html false e1)
+    (record { answered = refl; became = refl })
