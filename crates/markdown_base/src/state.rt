@@ -13,9 +13,14 @@ use std::alloc::{AllocError, Global};
 ///
 /// An enum can't have this many variants, so each name is a constant. It is used in expressions and patterns as a
 /// variant would be. The number is one machine word wide, so that a [`State`] that holds a name is moved by words.
+///
+/// A machine names states of its own in the same way, by constants with numbers from 1,000 on:
+/// `const TagTried: Name = Name { number: 1_000 };`. Two machines may use one number, since a name is only ever called on the machine
+/// that gave it.
 #[derive(Clone, Copy, Debug, PartialEq, Eq)]
 pub struct Name {
-    number: u64,
+    /// Which name it is. Numbers below 1,000 are those of the constants here.
+    pub number: u64,
 }
 
 #[allow(non_upper_case_globals)]
