@@ -6,6 +6,7 @@ pub mod Fields
 pub mod GoingOn
 pub mod Known
 pub mod Made
+pub mod Over
 pub mod Spans
 pub mod Steps
 pub mod Unwinding

@@ -72,6 +72,7 @@ pub use types.Kit.{ !, done, move, qed, raw, suffices, ‵, ◌$◌, ◌∵◌}
 pub use types.Logic.{Logic}
 pub use types.Part.{agg}
 pub use types.Run.{enter, no_more, returns}
+pub use Rattle.markdown_tokenizer.specs.Noted.{IsNoted, CanExitAt, with_enter_at, with_exit_at}
 pub use Rattle.markdown_tokenizer.specs.Calls.{CanExit, consumed, with_enter, with_exit, with_resolvers}
 pub use Rattle.markdown_tokenizer.specs.Configuration.{Choice, Configuration, Local, Saved, Step, TokenizerValue, at_configuration, start_configuration, start_seen}
 pub use Rattle.markdown_tokenizer.specs.Cursor.{Bounds, CanMove, IsNextByte, IsNextSeat, IsPlace, IsQuick, IsSeatAt, begins_pair, end_at, goes_on, is_after_pair, is_before_pair, moved, rest_at}
@@ -90,6 +91,7 @@ pub use Rattle.markdown_tokenizer.specs.Rules.{Rules}
 pub use Rattle.markdown_tokenizer.specs.Sight.{Sight, byte_of, current_of, end_or, end_place, point_of, point_or, seat_before, sight, sight_in, sight_of}
 pub use Rattle.markdown_tokenizer.specs.Text.{CanFollow, FitsAfter, Given, IsDocument, IsText, Piece, Text, empty_text, followed_by, followed_by_all, in_range, passed, pushed}
 pub use Rattle.markdown_tokenizer.specs.Turns.{AreCalledAlike, EndsFrom, Stand, Turns, no_turn, one_turn, stand, stand_of, turn}
+pub use Rattle.markdown_tokenizer.specs.Over.{step_over, over_one, ReadsOver, IsOver, HasReadOver}
 pub use Rattle.markdown_tokenizer.specs.Unwound.{Unwinding, continuation_of, ended_by, saved_for, unwinding, unwound}
 pub use Rattle.markdown_tokenizer.specs.View.{AreNested, ByteWaits, EndWaits, NextByteIsKnown, IsPlaced, IsProgress, IsReadTo, IsSound, IsWhatWaits, can_feed, choice_at, choice_of, end_point, events_of, position_from, reach, saved_at_place, saved_of, seats_between, seen, stack_of, standing, state_of, tab_of, text_within}
 pub use Rattle.markdown_tokenizer.specs.Work.{EndsClosed, HoldsAll, IsInText, LeadsAll, OnlyWorked, Stops, TakesUp, answer_in, answer_of, extended, resolved_in, settled_all, settled_to, ComesTo}

@@ -12,3 +12,4 @@ pub mod Working
 pub mod Later
 pub mod Pushes
 pub mod Outcomes
+pub mod Over

@@ -27,3 +27,5 @@ pub mod Lent
 pub mod Cuts
 pub mod Gaps
 pub mod Unwound
+pub mod Over
+pub mod Noted

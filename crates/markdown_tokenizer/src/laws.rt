@@ -4,6 +4,7 @@
 
 ghost use Rattle.std.specs.Prelude.{List};
 ghost use Rattle.markdown_base.specs.declared.event.Event.{Event};
+ghost use Rattle.markdown_tokenizer.specs.Noted.{StayNoted};
 ghost use Rattle.markdown_tokenizer.specs.Alike.{CallsAreAlike, GoesOnElsewhere, ReadingGoesOn};
 ghost use Rattle.markdown_tokenizer.specs.Engine.{HasOneEnd};
 ghost use Rattle.markdown_tokenizer.specs.LawStatements.{CutsLeaveNoTrace, PushesAreOne, ChoicesPutBack, PushesInOneWay};
@@ -104,4 +105,10 @@ pub fn renaming_keeps()
 /// what the same push of the other document leaves. Pushing the rest of the other document, and flushing, is a run of it.
 pub fn goes_on_elsewhere<M: Machine>()
     ensures { GoesOnElsewhere M.rules }
+{}
+
+/// A place that was noted stays noted when a byte is consumed. So a machine may note it where white space begins, and end a span there
+/// once it knows what follows.
+pub fn noted_places_stay<M, R, D>()
+    ensures { StayNoted M R D }
 {}

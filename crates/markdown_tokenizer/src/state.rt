@@ -22,6 +22,7 @@ pub trait MachineTypes {
 /// (`ends`): those that resolvers and edits leave. The machine proves six laws about them.
 pub trait Machine: MachineTypes + Sized {
     ghost use Rattle.std.specs.Prelude.{◌≡◌, ◌≢◌, [], IfOk, IfErr};
+    ghost use Rattle.std.specs.Bool.{OnTrue};
     ghost use Rattle.markdown_base.specs.declared.state.State.TheVariants.{Retry};
     ghost use Rattle.markdown_tokenizer.specs.declared.waiting.Waits.TheVariants.{Nothing};
     ghost use Rattle.markdown_tokenizer.specs.declared.waiting.Phase.TheVariants.{Reading, Resolving};
@@ -31,6 +32,7 @@ pub trait Machine: MachineTypes + Sized {
     ghost use Rattle.markdown_tokenizer.specs.Fault.{IfMessage};
     ghost use Rattle.markdown_tokenizer.specs.Rules.{Rules};
     ghost use Rattle.markdown_tokenizer.specs.Engine.{HoldsOf};
+    ghost use Rattle.markdown_tokenizer.specs.Over.{ReadsOver};
     ghost use Rattle.markdown_tokenizer.specs.Lawful.{DidStep, IsLawful, step_of, CanResolve, resolver_of};
 
     /// Its rules on a document.
@@ -54,6 +56,14 @@ pub trait Machine: MachineTypes + Sized {
         requires waits { t.old.configuration.waiting ≢ Nothing }
         requires invariant { HoldsOf (rules self.now t.old.given) t.old (Retry name) }
         ensures call_is_step { IfOk result (DidStep t.old t.new (step_of (rules self.now) t.old name)) };
+
+    /// Whether the state of this name reads over this byte: wherever the byte waits, the call consumes it, does nothing else, and
+    /// returns `Next` of the same name. The engine then need not call it. No state need answer `true`.
+    fn reads_over(&self, _name: Name, _byte: u8) -> bool
+        ensures { OnTrue result ((g : Given) → ReadsOver g (rules self.now g) _name _byte) }
+    {
+        false
+    }
 
     /// Runs the resolver of this name over the events. A flush that resolves calls it once all was read.
     ///

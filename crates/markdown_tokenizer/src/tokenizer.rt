@@ -23,6 +23,7 @@ use crate::skips::Skips;
 use crate::state::{MachineTypes, State};
 use crate::subtokenize;
 pub use crate::tokenizer::fault::Fault;
+use crate::tokenizer::paths::{put_enter, put_exit, with_room};
 pub use crate::tokenizer::running::run;
 pub use crate::tokenizer::state::{
     Container, ContainerState, Label, LabelKind, LabelStart, TokenizeState,
@@ -117,6 +118,7 @@ ghost use Rattle.markdown_tokenizer.specs.Configuration.{at_configuration, start
 ghost use Rattle.markdown_edits.specs.Links.{CanLink, linked_to};
 ghost use Rattle.markdown_tokenizer.specs.Calls.{consumed, linked, with_enter, with_exit, attempt_at, check_at, with_choice, CanExit, CanGoOn};
 ghost use Rattle.markdown_tokenizer.specs.Engine.{given_of};
+ghost use Rattle.markdown_tokenizer.specs.Noted.{IsNoted, CanExitAt, with_enter_at, with_exit_at};
 ghost use Rattle.markdown_tokenizer.specs.View.{state_of, choice_at};
 
 /// As `link_to`, on a `Vec`.
@@ -233,6 +235,32 @@ impl<'a, M: MachineTypes> Tokenizer<'a, M> {
             return Ok(());
         }
         self.exit_slow(name)
+    }
+
+    /// As `exit`, but the exit is at a place that was noted before (`exit_place`), and no event is after that. If it runs out of memory, events
+    /// and stack stay as they were.
+    pub fn exit_at(&mut self, name: Name, point: Point) -> Result<(), AllocError>
+        requires noted { IsNoted point self.old }
+        requires ends { CanExitAt name point self.old }
+        ensures ok { OnOk result (self.new ≡ with_exit_at name point self.old) }
+        ensures err { OnErr result (self.new ≡ self.old) }
+    {
+        with_room(&mut self.events)?;
+        put_exit(&mut self.events, &mut self.stack, name, point);
+        Ok(())
+    }
+
+    /// As `enter`, but the enter is at a place that was noted before (`exit_place`), and no event is after that. If it runs out of memory,
+    /// events and stack stay as they were.
+    pub fn enter_at(&mut self, name: Name, point: Point) -> Result<(), AllocError>
+        requires noted { IsNoted point self.old }
+        ensures ok { OnOk result (self.new ≡ with_enter_at name point self.old) }
+        ensures err { OnErr result (self.new ≡ self.old) }
+    {
+        with_room(&mut self.events)?;
+        self.stack.reserve(1)?;
+        put_enter(&mut self.events, &mut self.stack, name, point, None);
+        Ok(())
     }
 
     /// Links the event at `index`, an index into the events, to the one two places before it, as `link_to` does. Takes no memory.

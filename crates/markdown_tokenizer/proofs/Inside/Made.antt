@@ -101,7 +101,7 @@ module _ (bytes : List ℕ) (events : List Event) (stack : List Name) (after_pre
   }
 
   -- if the last open enter is before an exit's place, each event is at or before it
-  upto_left : IsMade bytes events stack after_previous bound → ((o : Event) → last_or None (open_events events) ≡ Some o → stands_before o.point after_previous ≡ true) → AreUpto after_previous events
+  pub upto_left : IsMade bytes events stack after_previous bound → ((o : Event) → last_or None (open_events events) ≡ Some o → stands_before o.point after_previous ≡ true) → AreUpto after_previous events
   upto_left m before = cases (last_kind Exit events) refl (last_view events)
     where
       cases : (k : Kind) → last_kind Exit events ≡ k → (events ≡ []) ⊎ ((ys : List Event) × (y : Event) × (events ≡ ys ++ y ∷ [])) → AreUpto after_previous events
@@ -131,6 +131,48 @@ module _ (bytes : List ℕ) (events : List Event) (stack : List Name) (after_pre
             ∙ ap (names_after Exit e.name) (ap reverse whole ∙ reverse-append rest (e.name ∷ [])) ∙ ap (λ (t : Bool). cond t (Some (reverse rest)) None) same;
         tight = void_exits-append is_void Exit events (e ∷ []) m.tight (follows, tt);
         in_order = in_order-push bytes events e m.in_order (subst (λ (p : Point). AreUpto p events) (sym at) upto) (subst (IsShown bytes) (sym at) m.left_shown);
+        behind = AreUpto-later after_previous bound (events ++ e ∷ []) m.left_bound here;
+        read = λ _. here;
+        left_bound = m.left_bound;
+        left_shown = m.left_shown;
+        bound_shown = m.bound_shown;
+      }
+
+  -- an enter, at a place up to that of an exit, which no event is after
+  pub made-enter-at : IsMade bytes events stack after_previous bound → (e : Event) → e.kind ≡ Enter → IsShown bytes e.point → stands_before after_previous e.point ≡ false → AreUpto e.point events
+      → IsMade bytes (events ++ e ∷ []) (stack ++ e.name ∷ []) after_previous bound
+  made-enter-at m e k is upto all = record {
+    names = ap (map (λ (e : Event). e.name)) (open_events-enter events e k) ∙ map-append (λ (e : Event). e.name) (open_events events) (e ∷ []) ∙ ap (λ (ns : List Name). ns ++ e.name ∷ []) m.names;
+    nested = names-push events e (reverse stack) m.nested ∙ ap (λ (k : Kind). names_after k e.name (reverse stack)) k ∙ ap Some (sym (reverse-append stack (e.name ∷ [])));
+    tight = void_exits-append is_void Exit events (e ∷ []) m.tight (λ x. enter-is-no-exit (sym k ∙ x), tt);
+    in_order = in_order-push bytes events e m.in_order all is;
+    behind = All-push (λ d. stands_before bound d.point ≡ false) events e m.behind (upto-upto e.point after_previous bound upto m.left_bound);
+    read = λ x. enter-is-no-exit (sym k ∙ sym (last_kind-append Exit events (e ∷ [])) ∙ x);
+    left_bound = m.left_bound;
+    left_shown = m.left_shown;
+    bound_shown = m.bound_shown;
+  }
+
+  -- an exit of the last open name, at such a place
+  pub made-exit-at : IsMade bytes events stack after_previous bound → (e : Event) → e.kind ≡ Exit → IsShown bytes e.point → stands_before after_previous e.point ≡ false → AreUpto e.point events
+      → last_or None stack ≡ Some e.name → (is_void e.name ≡ true → (o : Event) × (last_or None events ≡ Some o) × (o.kind ≡ Enter))
+      → IsMade bytes (events ++ e ∷ []) (take (length stack - 1) stack) after_previous bound
+  made-exit-at m e k is upto all top last =
+      let rest = take (length stack - 1) stack in
+      let whole : stack ≡ rest ++ e.name ∷ [] = push_from_last stack e.name top in
+      let same : same_name e.name e.name ≡ true = same_name-refl e.name in
+      let follows = λ (_ : e.kind ≡ Exit) (v : is_void e.name ≡ true).
+      ap (last_kind Exit) (push_from_last events (last v).0 (last v).1) ∙ last_kind-append Exit (take (length events - 1) events) ((last v).0 ∷ []) ∙ (last v).2 in
+      let here : AreUpto after_previous (events ++ e ∷ []) = All-push (λ d. stands_before after_previous d.point ≡ false) events e (AreUpto-later e.point after_previous events upto all) upto in
+      record {
+        names = ap (map (λ (e : Event). e.name)) (open_events_from-append [] events (e ∷ []) ∙ ap (λ (k : Kind). open_after k e (open_events events)) k)
+            ∙ sym (take-map (λ (e : Event). e.name) (length (open_events events) - 1) (open_events events))
+            ∙ ap (λ (n : ℕ). take (n - 1) (map (λ (e : Event). e.name) (open_events events))) (sym (length-map (open_events events) (λ (e : Event). e.name)))
+            ∙ ap (λ (ns : List Name). take (length ns - 1) ns) m.names;
+        nested = names-push events e (reverse stack) m.nested ∙ ap (λ (k : Kind). names_after k e.name (reverse stack)) k
+            ∙ ap (names_after Exit e.name) (ap reverse whole ∙ reverse-append rest (e.name ∷ [])) ∙ ap (λ (t : Bool). cond t (Some (reverse rest)) None) same;
+        tight = void_exits-append is_void Exit events (e ∷ []) m.tight (follows, tt);
+        in_order = in_order-push bytes events e m.in_order all is;
         behind = AreUpto-later after_previous bound (events ++ e ∷ []) m.left_bound here;
         read = λ _. here;
         left_bound = m.left_bound;

@@ -1,7 +1,7 @@
 -- A span begins or ends: the fields of a tokenizer keep what holds of them.
-use Rattle.markdown_tokenizer.proofs.Prelude.{◌≡◌, ℕ, suc, ◌-◌, ◌≤◌, ◌<◌, List, [], ◌∷◌, ◌++◌, Bool, Option, Some, None, length, refl, sym, ap, ◌∙◌, subst, arith, length-append, take, length-take, map, reverse, IfSome, All, All-push, IsPointOf, take-append-le, take-take, Point, Event, Link, Enter, Exit, shown, Waits, Nothing, Byte, End, KeptChoice, Progress, Inside, Choice, CanExit, resumed, seen, text_within, standing, choice_of, saved_of, IsProgress, AreNested, IsSound, Vec, with_enter, with_exit, stands-self, saved_at_place, Saved, state_of}
+use Rattle.markdown_tokenizer.proofs.Prelude.{◌≡◌, ℕ, suc, ◌-◌, ◌≤◌, ◌<◌, List, [], ◌∷◌, ◌++◌, Bool, Option, Some, None, length, refl, sym, ap, ◌∙◌, subst, arith, length-append, take, length-take, map, reverse, IfSome, All, All-push, IsPointOf, IsShown, take-append-le, take-take, Point, Event, Link, Enter, Exit, shown, Waits, Nothing, Byte, End, KeptChoice, Progress, Inside, Choice, CanExit, CanExitAt, IsNoted, true, false, last_or, open_events, stands_before, Reading, with_enter_at, with_exit_at, resumed, seen, text_within, standing, choice_of, saved_of, IsProgress, AreNested, IsSound, Vec, with_enter, with_exit, stands-self, saved_at_place, Saved, state_of}
 use Rattle.markdown_base.specs.declared.event.Name.{Name}
-use Rattle.markdown_tokenizer.proofs.Inside.Made.{made-enter, made-exit}
+use Rattle.markdown_tokenizer.proofs.Inside.Made.{made-enter, made-exit, made-enter-at, made-exit-at, upto_left, AreUpto}
 use Rattle.markdown_tokenizer.proofs.Inside.Fields.{nested-as, Saves, bytes_within, tab_within, position_within}
 use Rattle.markdown_tokenizer.proofs.Inside.Steps.{here-is, after_previous-is, enter-is-point, exit-is-point}
 
@@ -123,3 +123,79 @@ module _ {M R D : Type 0} {same : R → R → Bool} (t : Inside M R D) (sound : 
       let position = position_within t in
       let choices = same-choices position position stack.items t.stack.items (Saves t) (length t.events.items) (length t.stack.items - 1) (reverse t.kept_choices.items) (λ p le saved. rw (exited-front p.stack_len le) refl) exited-nested in
       rw (choices, put, top, is ∙ after_previous-is t sound) refl
+
+module _ {M R D : Type 0} {same : R → R → Bool} (t : Inside M R D) (sound : IsSound same t) (p : Point) (noted : IsNoted p (seen t)) where
+  -- a span begins at a place that was noted
+  module _ (name : Name) (events : Vec Event) (stack : Vec Name)
+      (put : events.items ≡ t.events.items ++ record { kind = Enter; name = name; point = p; link = None } ∷ []) (top : stack.items ≡ t.stack.items ++ name ∷ []) where
+    entered-at-front : (n : ℕ) → n ≤ length t.stack.items → take n stack.items ≡ take n t.stack.items
+    entered-at-front n le = rw top (take-append-le n t.stack.items (name ∷ []) le)
+
+    pub entered-at-sound : IsSound same (record t { events = events; stack = stack })
+    entered-at-sound = record {
+      placed = sound.placed;
+      made = λ reads. let l = after_previous-is t sound in
+          rw (put, top) (made-enter-at (bytes_within t) t.events.items t.stack.items (shown (bytes_within t) t.after_previous) (shown (bytes_within t) (standing t.skips t.after_previous t.waits)) (sound.made reads)
+          (record { kind = Enter; name = name; point = p; link = None }) refl noted.shown (rw l noted.upto) noted.behind);
+      at_places = λ reads. rw put (All-push (λ e. IsPointOf (tab_within t) (bytes_within t) e.point) t.events.items
+          (record { kind = Enter; name = name; point = p; link = None }) (sound.at_places reads) noted.place);
+      kept_choices = same-front t (length t.events.items) (length t.stack.items) events.items stack.items (reverse t.kept_choices.items)
+          (omega (arith, ap length put, length-append t.events.items (record { kind = Enter; name = name; point = p; link = None } ∷ [])))
+          (omega (arith, ap length top, length-append t.stack.items (name ∷ [])))
+          (λ n le. rw put (take-append-le n t.events.items (record { kind = Enter; name = name; point = p; link = None } ∷ []) le)) entered-at-front sound.kept_choices;
+      once = sound.once;
+      known = sound.known;
+    }
+
+    pub entered-at-seen : seen (record t { events = events; stack = stack }) ≡ with_enter_at name p (seen t)
+    entered-at-seen =
+        let position = position_within t in
+        let choices = same-choices position position stack.items t.stack.items (Saves t) (length t.events.items) (length t.stack.items) (reverse t.kept_choices.items) (λ p le saved. rw (entered-at-front p.stack_len le) refl) sound.kept_choices in
+        rw (choices, put, top) refl
+
+  -- the innermost span ends at a place that was noted
+  module _ (name : Name) (can : CanExitAt name p (seen t)) (events : Vec Event) (stack : Vec Name)
+      (put : events.items ≡ t.events.items ++ record { kind = Exit; name = name; point = p; link = None } ∷ []) (top : stack.items ≡ take (length t.stack.items - 1) t.stack.items) where
+    exited-at-front : (n : ℕ) → n ≤ length t.stack.items - 1 → take n stack.items ≡ take n t.stack.items
+    exited-at-front n le = rw top (take-take n (length t.stack.items - 1) t.stack.items le)
+
+    exited-at-nested : AreNested (Saves t) (length t.events.items) (length t.stack.items - 1) (reverse t.kept_choices.items)
+    exited-at-nested =
+        nested-below (position_within t) t.stack.items (Saves t) (length t.events.items) (reverse t.kept_choices.items) can.above sound.kept_choices
+
+    pub exited-at-sound : IsSound same (record t { events = events; stack = stack })
+    exited-at-sound = record {
+      placed = sound.placed;
+      made = λ reads. let l = after_previous-is t sound in
+          rw (put, top) (made-exit-at (bytes_within t) t.events.items t.stack.items (shown (bytes_within t) t.after_previous) (shown (bytes_within t) (standing t.skips t.after_previous t.waits)) (sound.made reads)
+          (record { kind = Exit; name = name; point = p; link = None }) refl noted.shown (rw l noted.upto) noted.behind can.top can.void);
+      at_places = λ reads. rw put (All-push (λ e. IsPointOf (tab_within t) (bytes_within t) e.point) t.events.items
+          (record { kind = Exit; name = name; point = p; link = None }) (sound.at_places reads) noted.place);
+      kept_choices = same-front t (length t.events.items) (length t.stack.items - 1) events.items stack.items (reverse t.kept_choices.items)
+          (omega (arith, ap length put, length-append t.events.items (record { kind = Exit; name = name; point = p; link = None } ∷ [])))
+          (omega (arith, ap length top, length-take (length t.stack.items - 1) t.stack.items))
+          (λ n le. rw put (take-append-le n t.events.items (record { kind = Exit; name = name; point = p; link = None } ∷ []) le)) exited-at-front exited-at-nested;
+      once = sound.once;
+      known = sound.known;
+    }
+
+    pub exited-at-seen : seen (record t { events = events; stack = stack }) ≡ with_exit_at name p (seen t)
+    exited-at-seen =
+        let position = position_within t in
+        let choices = same-choices position position stack.items t.stack.items (Saves t) (length t.events.items) (length t.stack.items - 1) (reverse t.kept_choices.items) (λ p le saved. rw (exited-at-front p.stack_len le) refl) exited-at-nested in
+        rw (choices, put, top) refl
+
+-- the place of an exit may be noted, if the innermost span began before it
+pub noted-here : {M R D : Type 0} {same : R → R → Bool} (t : Inside M R D) → IsSound same t → (p : Point) → p ≡ shown (bytes_within t) t.after_previous → t.phase ≡ Reading
+    → ((o : Event) → last_or None (open_events t.events.items) ≡ Some o → stands_before o.point p ≡ true) → IsNoted p (seen t)
+noted-here t sound p is reads before =
+    let m = sound.made reads in
+    let left = shown (bytes_within t) t.after_previous in
+    let upto = upto_left (bytes_within t) t.events.items t.stack.items left (shown (bytes_within t) (standing t.skips t.after_previous t.waits)) m
+        (λ o e. subst (λ (q : Point). stands_before o.point q ≡ true) is (before o e)) in
+    record {
+      place = subst (IsPointOf (tab_within t) (bytes_within t)) (sym is) (exit-is-point t sound);
+      shown = subst (λ (q : Point). IsShown (bytes_within t) q) (sym is) m.left_shown;
+      upto = subst (λ (q : Point). stands_before q p ≡ false) (is ∙ after_previous-is t sound) (stands-self p);
+      behind = subst (λ (q : Point). AreUpto q t.events.items) (sym is) upto;
+    }

@@ -1,5 +1,5 @@
 -- The virtual bytes of a text are in order: each begins before it ends, and none begins before the previous one ends.
-use Rattle.markdown_tokenizer.proofs.Prelude.{AllByRecursion, ◌≡◌, ℕ, zero, suc, ◌<◌, List, [], ◌∷◌, ◌++◌, true, false, Option, Some, None, length, refl, sym, ap, append_assoc, append_cancel_left, rest_at, IsPlace, ◌∙◌, subst, arith, inl, inr, slice_get, filter, slice_get_cases, Point, Seat, point, virtual, stands_before, shown, IsShown, is_upto, denotes_same, every-append, every-map, every-get, Byte, Given, Text, Piece, pushed, passed, IsText, empty_text, followed_by, followed_by_all, FitsAfter, CanFollow, in_range, sight_in, byte_of, seat_before, end_or, end_place}
+use Rattle.markdown_tokenizer.proofs.Prelude.{AllByRecursion, ◌≡◌, ℕ, zero, suc, ◌+◌, Nothing, ◌<◌, List, [], ◌∷◌, ◌++◌, true, false, Option, Some, None, length, refl, sym, ap, append_assoc, append_cancel_left, rest_at, IsPlace, ◌∙◌, subst, arith, inl, inr, slice_get, filter, slice_get_cases, Point, Seat, point, virtual, stands_before, shown, IsShown, is_upto, denotes_same, every-append, every-map, every-get, Byte, Given, Text, Piece, pushed, passed, IsText, empty_text, followed_by, followed_by_all, FitsAfter, CanFollow, in_range, sight_in, byte_of, seat_before, end_or, end_place}
 use Rattle.std.proofs.lemmas.Bool.{cond_both}
 use Rattle.markdown_tokenizer.proofs.Positions.Order.{after-before, before-upto, upto-before, later-later, every-front, every-back}
 use Rattle.markdown_tokenizer.proofs.Positions.Seats.{rest-later}
@@ -148,6 +148,17 @@ began-before_next g text p q is inside h =
     let e = (sight_in g text p Byte).exit_place in
     let n = (sight_in g text p Byte).next in
     before-upto q.index q.vs e.index e.vs n.index n.vs h (after-before e.index e.vs n.index n.vs (ends-before_next g text p is inside))
+
+-- what is not after the end of the byte before is not after the end of the byte that waits, which is the place of an exit once it is consumed
+pub noted-later : (g : Given) (text : Text) (p : ℕ) (q : Point) → IsText g text → p < length text.seats
+    → stands_before (sight_in g text p Byte).exit_place q ≡ false → stands_before (sight_in g text (p + 1) Nothing).exit_place q ≡ false
+noted-later g text p q is inside h =
+    let (s, at) = there text p inside in
+    let e = (sight_in g text p Byte).exit_place in
+    let n = (sight_in g text p Byte).next in
+    let next : p + 1 ≡ suc p = omega arith in
+    let step : stands_before n q ≡ false = later-later n.index n.vs e.index e.vs q.index q.vs (after-before e.index e.vs n.index n.vs (ends-before_next g text p is inside)) h in
+    rw next (rw at (rw at at step))
 
 -- the place after a byte that was read is shown at itself
 pub read-shown : (g : Given) (text : Text) → IsText g text → (p byte : ℕ) → byte_of (seat_before text p) ≡ Some byte → IsShown g.bytes (end_place text p)

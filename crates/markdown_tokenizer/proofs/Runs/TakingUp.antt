@@ -1,8 +1,9 @@
 -- The work from the start to a turn: what holds at a call, and after it.
-use Rattle.markdown_tokenizer.proofs.Prelude.{◌≡◌, ◌≢◌, ◌-◌, ◌<◌, List, [], Bool, false, inl, inr, refl, sym, ap, subst, ◌∙◌, arith, Name, State, Next, Retry, Ok, Nok, Error, Nothing, Byte, End, IsSome, lt-ltb, length, Given, IsText, followed_by_all, Configuration, Choice, TokenizerValue, at_configuration, fed, Sight, sight, Rules, stepped, DidStep, IsLawful, LeadsOn, budget, HoldsAll, Stops, settled_all, settled_to, EndsClosed, TakesUp, IsInText, answer_in, Waits, no_turn}
+use Rattle.markdown_tokenizer.proofs.Prelude.{◌≡◌, ◌≢◌, ◌-◌, ◌<◌, List, [], Bool, false, inl, inr, refl, sym, ap, subst, ◌∙◌, arith, Name, State, Next, Retry, Ok, Nok, Error, Nothing, Byte, End, IsSome, lt-ltb, length, Given, IsText, followed_by_all, Configuration, Choice, TokenizerValue, at_configuration, fed, Sight, sight, Rules, stepped, DidStep, IsLawful, LeadsOn, budget, HoldsAll, Stops, settled_all, settled_to, EndsClosed, TakesUp, IsInText, answer_in, Waits, no_turn, ℕ, zero, suc, ◌≤◌, step_over, over_one, IsOver, HasReadOver}
 use Rattle.std.specs.declared.result.Result.TheVariants as result
 use Rattle.markdown_tokenizer.proofs.Readings.Bounds.{fed-ends, called-ends}
 use Rattle.markdown_tokenizer.proofs.Readings.Turns.{turns-by-one, turns-on, turns-settled, turn-feeds, turn-calls, waits-seen}
+use Rattle.markdown_tokenizer.proofs.Runs.Over.{over-counts}
 use Rattle.markdown_tokenizer.proofs.Runs.Working.{Kept, fed-agrees, sight-agrees, leads-refl, leads-trans, leads-settled, settled-end, settled-ends, text-on, text-worked}
 
 -- what waits is a byte if it is neither nothing nor the end
@@ -70,9 +71,10 @@ module _ {M R D : Type 0} {rules : M → Given → Rules R D} (laws : (m : M) (g
   holds-there {flush} {t} {u} {a} {s} k = let machine = k.same.machine in let given = k.same.given in rw (machine, given) ((k.leads [] tt (λ _. refl)).kept)
 
   -- a state is called, and returned this
-  pub kept-answer : {flush : Bool} {t u v : TokenizerValue M R D} {a s answer : State} {n : Name} → IsText t.given t.text → KeptFrom flush t a u (Retry n) → IsInText u
+  kept-called : {flush : Bool} {t u v : TokenizerValue M R D} {a s answer : State} {n : Name} → IsText t.given t.text → KeptFrom flush t a u (Retry n)
+      → u.configuration.position ≤ length u.text.seats → (u.configuration.waiting ≡ Byte → u.configuration.position < length u.text.seats)
       → DidCall u v n answer → answer ≡ s → KeptFrom flush t a v s
-  kept-answer {flush} {t} {u} {v} {a} {s} {answer} {n} is k sound called e =
+  kept-called {flush} {t} {u} {v} {a} {s} {answer} {n} is k within there called e =
       let law = laws t.machine t.given in let is_here = text-worked t.given t u is k.same in
       let st = (rules t.machine t.given).step (sight t.given u.text u.configuration) u.configuration n in
       let did : DidStep u v st s = subst (λ (q : M). DidStep u v ((rules q t.given).step (sight t.given u.text u.configuration) u.configuration n) s) k.same.machine
@@ -88,20 +90,24 @@ module _ {M R D : Type 0} {rules : M → Given → Rules R D} (laws : (m : M) (g
             let byte = waits-byte u.configuration.waiting (law.invariant_kept.waits u.text u.configuration u.choices n is_here now) (k.waits f) in
             turns-by-one t.given (rules t.machine t.given).step u.text (k.comes f)
             (turn-calls t.given (rules t.machine t.given).step u.text u.configuration u.choices n u.calls
-            (waits-seen u.text u.configuration.position u.configuration.waiting byte (sound.byte byte)));
+            (waits-seen u.text u.configuration.position u.configuration.waiting byte (there byte)));
         leads = λ rest can only.
             let w = followed_by_all t.given u.text rest in
             let first = k.leads rest can only in let on = text-on t.given u.text rest is_here can in
             let pays = law.cost_pays.for_calls w u.configuration u.choices n on first.kept in
             leads-trans t.given (rules t.machine t.given) w t u (stepped u st) a (Retry n) st.answer first
             (subst (λ (q : Sight). let here = (rules t.machine t.given).step q u.configuration n in LeadsOn t.given (rules t.machine t.given) w u (Retry n) (stepped u here) here.answer)
-            (sight-agrees t.given u.text rest flush u.configuration.position u.configuration.waiting only sound.within sound.byte k.waits)
+            (sight-agrees t.given u.text rest flush u.configuration.position u.configuration.waiting only within there k.waits)
             (record {
               kept = law.invariant_kept.by_calls w u.configuration u.choices n on first.kept;
               same = λ r. called-ends t.given (rules t.machine t.given).step w u.calls u.configuration u.choices n r;
               paid = omega (arith, pays);
             }));
       })
+
+  pub kept-answer : {flush : Bool} {t u v : TokenizerValue M R D} {a s answer : State} {n : Name} → IsText t.given t.text → KeptFrom flush t a u (Retry n) → IsInText u
+      → DidCall u v n answer → answer ≡ s → KeptFrom flush t a v s
+  kept-answer is k sound called e = kept-called is k sound.within sound.byte called e
 
   module _ {flush : Bool} {t u : TokenizerValue M R D} {a s : State} (is : IsText t.given t.text) (k : KeptFrom flush t a u s) where
     is-text : IsText t.given u.text
@@ -154,3 +160,34 @@ module _ {M R D : Type 0} {rules : M → Given → Rules R D} (laws : (m : M) (g
         let text = last.same.text in let paid = rw text at ((last.leads [] tt (λ _. refl)).paid) in
         let calls = taken-calls flush (settled_to u e) w e.answer next takes ∙ ap (λ q. q.calls) called.became in
         omega (arith, paid, calls)
+
+  -- a byte is read over: the state would have been called, and done the same
+  kept-one : {flush : Bool} {t u : TokenizerValue M R D} {a : State} {n : Name} → IsText t.given t.text → KeptFrom flush t a u (Next n) → IsOver (rules u.machine) n u
+      → KeptFrom flush t a (over_one u) (Next n)
+  kept-one {flush} {t} {u} {a} {n} is k over =
+      let w = at_configuration u (fed u.text u.configuration) in
+      let at : KeptFrom flush t a w (Retry n) = kept-next is k w n (refl, refl, λ _. over.0) in
+      let given = k.same.given in
+      let here : IsText u.given u.text = rw given (text-worked t.given t u is k.same) in
+      let step = over.1.2 u.text w.configuration u.choices n here (holds-there at) refl over.1.1 in
+      let did : DidCall w (over_one u) n (Next n) = record { answered = ap (λ s. s.answer) (sym step); became = ap (λ s. stepped w s) (sym step) } in
+      let more = lt-ltb u.configuration.position (length u.text.seats) over.0 in
+      kept-called is at (rw more (omega (arith, over.0))) (λ _. rw more over.0) did refl
+
+  -- the work leads on over all that is read over
+  pub kept-over : {flush : Bool} {t u v : TokenizerValue M R D} {a : State} {n : Name} (m : ℕ) → IsText t.given t.text → KeptFrom flush t a u (Next n)
+      → HasReadOver (rules u.machine) n m u v → KeptFrom flush t a v (Next n)
+  kept-over zero is k h = rw h k
+  kept-over {flush} {t} {u} {v} {a} {n} (suc m) is k h = kept-over {u = over_one u} m is (kept-one is k h.0) h.1
+
+  -- a call, after which bytes are read over and a state is taken up, leaves fewer
+  pub fewer-over : {flush : Bool} {t before u : TokenizerValue M R D} {a answer : State} {n m : Name} (v : TokenizerValue M R D) (c : ℕ) → IsText t.given t.text → KeptFrom flush t a u (Next m)
+      → DidCall before u n answer → HasReadOver (rules u.machine) m c u v → (w : TokenizerValue M R D) (next : Name) → TakesUp flush v w (Next m) (result.Ok next)
+      → let all = budget (rules t.machine t.given) t.text t a in all - w.calls < all - before.calls
+  fewer-over {flush} {t} {before} {u} {a} {answer} {n} {m} v c is k called h w next takes =
+      let last = kept-next is (kept-over c is k h) w next takes in
+      let text = last.same.text in let paid = rw text at ((last.leads [] tt (λ _. refl)).paid) in
+      let calls = taken-calls flush v w (Next m) next takes in
+      let more = over-counts (rules u.machine) m c u v h in
+      let first = ap (λ q. q.calls) called.became in
+      omega (arith, paid, calls, more, first)

@@ -1,13 +1,16 @@
 //! The calls that only read a tokenizer.
 
-ghost use Rattle.std.specs.Prelude.{◌≡◌, map};
+ghost use Rattle.std.specs.Prelude.{◌≡◌, Some, true, map};
+ghost use Rattle.markdown_base.specs.Places.{stands_before};
+ghost use Rattle.markdown_tokenizer.specs.Calls.{innermost};
+ghost use Rattle.markdown_tokenizer.specs.Noted.{IsNoted};
 ghost use Rattle.std.specs.List.{IsDistinct};
 ghost use Rattle.markdown_base.specs.Events.{open_events};
 ghost use Rattle.markdown_tokenizer.specs.Sight.{sight_of};
 ghost use Rattle.markdown_tokenizer.specs.Engine.{given_of};
 
 use super::Tokenizer;
-use crate::cursor::{resumed, seat_at};
+use crate::cursor::{resumed, seat_at, shown_after};
 use crate::parser::ParseState;
 use crate::state::MachineTypes;
 use crate::waiting::{Phase, Waits};
@@ -48,6 +51,21 @@ impl<'a, M: MachineTypes> Tokenizer<'a, M> {
                 ..*resumed(&self.skips, &self.after_previous)
             },
         }
+    }
+
+    /// The place after the byte before, as an exit there shows it. A machine may note it, and later end or begin a span there (`exit_at`,
+    /// `enter_at`).
+    #[inline(always)]
+    pub fn exit_place(&self) -> Point
+        ensures place { result ≡ (sight_of self.now).exit_place }
+        ensures noted { let t = self.now in t.phase ≡ Phase.Reading
+            → ((enter : _) → innermost t.configuration.events ≡ Some enter → stands_before enter.point result ≡ true) → IsNoted result t }
+    {
+        shown_after(
+            self.parse_state.bytes,
+            self.previous.is_some(),
+            &self.after_previous,
+        )
     }
 
     /// The previous virtual byte, if one was read. It is never a byte in a gap.

@@ -41,9 +41,22 @@ fn make_room(events: &mut Vec<Event>) -> Result<(), AllocError>
     }
 }
 
+/// Makes room for an event, if there is none. If it runs out of memory, nothing changes.
+#[inline(always)]
+pub(crate) fn with_room(events: &mut Vec<Event>) -> Result<(), AllocError>
+    ensures items { events.new.items ≡ events.old.items }
+    ensures len { vec_len events.new ≡ vec_len events.old }
+    ensures room { OnOk result (vec_len events.new < vec_capacity events.new) }
+{
+    if events.len() < events.capacity() {
+        return Ok(());
+    }
+    make_room(events)
+}
+
 /// Puts an enter behind the events, and its name on the stack: there is room for both.
 #[inline(always)]
-fn put_enter(
+pub(crate) fn put_enter(
     events: &mut Vec<Event>,
     stack: &mut Vec<Name>,
     name: Name,
@@ -66,7 +79,7 @@ fn put_enter(
 
 /// Puts an exit behind the events, for which there is room, and takes the last name from the stack.
 #[inline(always)]
-fn put_exit(events: &mut Vec<Event>, stack: &mut Vec<Name>, name: Name, point: Point)
+pub(crate) fn put_exit(events: &mut Vec<Event>, stack: &mut Vec<Name>, name: Name, point: Point)
     requires { vec_len events.old < vec_capacity events.old }
     ensures events { events.new.items ≡ events.old.items ++ record { kind = Kind.Exit; name = name; point = point; link = None } ∷ [] }
     ensures stack { stack.new.items ≡ take (length stack.old.items - 1) stack.old.items }

@@ -1,6 +1,8 @@
 //! The work of a tokenizer: it calls states until a range is used up, or until the reading has ended.
 
-ghost use Rattle.std.specs.Prelude.{◌≡◌, ◌≢◌, ◌≤◌, Contains, length, [], Option, false, true, IfOk, IfErr, IsErrOf, IsTrue};
+ghost use Rattle.std.specs.Prelude.{◌≡◌, ◌≢◌, ◌≤◌, ℕ, Contains, length, [], Option, false, true, IfOk, IfErr, IsErrOf, IsTrue};
+ghost use Rattle.std.specs.Bool.{OnTrue};
+ghost use Rattle.markdown_tokenizer.specs.Over.{IsOver, HasReadOver};
 ghost use Rattle.markdown_base.specs.Virtual.{point};
 ghost use Rattle.markdown_tokenizer.specs.declared.waiting.Waits.TheVariants.{Nothing, End};
 ghost use Rattle.markdown_tokenizer.specs.Configuration.{at_configuration, start_seen};
@@ -14,7 +16,7 @@ ghost use Rattle.markdown_tokenizer.specs.View.{taken_continuation};
 ghost use Rattle.markdown_tokenizer.specs.Work.{IsInText, extended, answer_of, HoldsAll, LeadsAll, ComesTo, OnlyWorked, Stops, settled_all, EndsClosed, GoesOnTo, taken_up, taken_by_next};
 
 use super::{Fault, Tokenizer};
-use crate::cursor::{Moves, next_byte_from, plain_until};
+use crate::cursor::{Moves, next_byte_from, plain_until, quick_byte};
 use crate::parser::ParseState;
 use crate::state::{Machine, MachineTypes, Name, State};
 use crate::subtokenize::Subresult;
@@ -291,6 +293,41 @@ impl<'a, M: Machine> Tokenizer<'a, M> {
         self.parse_state().machine.call(alloc, self, name)
     }
 
+    /// Whether the next byte is one that the state of this name reads over, and the byte at its index is enough to tell it.
+    #[inline(always)]
+    fn is_over(&self, name: Name) -> bool
+        ensures { OnTrue result (IsOver (M.rules self.now.machine) name self.now) }
+    {
+        let next = quick_byte(
+            self.bytes,
+            &self.tab_size,
+            &self.after_previous,
+            self.plain_until,
+            self.end.0,
+        );
+        match next {
+            Some((byte, moves)) => match moves {
+                Moves::Plain => self.parse_state.machine.reads_over(name, byte),
+                _ => false,
+            },
+            None => false,
+        }
+    }
+
+    /// Reads over the bytes that come next, as long as the state of this name does: it is not called for them.
+    #[inline(always)]
+    fn read_over(&mut self, name: Name)
+        ensures { (n : ℕ) × HasReadOver (M.rules self.old.machine) name n self.old self.new }
+    {
+        while self.is_over(name) {
+            if !self.feed() {
+                return;
+            }
+            self.consume();
+            self.tick();
+        }
+    }
+
     /// Calls states until the text is used up, or until the reading has ended.
     fn run_states(&mut self, flush: bool, state: State) -> Result<State, AllocError>
         requires text { IsText self.old.given self.old.text }
@@ -321,6 +358,7 @@ impl<'a, M: Machine> Tokenizer<'a, M> {
             };
             name = match answer {
                 State::Next(next) => {
+                    self.read_over(next);
                     if self.feed_next(flush) {
                         next
                     } else {

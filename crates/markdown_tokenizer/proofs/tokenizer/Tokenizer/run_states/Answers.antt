@@ -1,5 +1,5 @@
-use Rattle.markdown_tokenizer.proofs.Prelude.{refl, Next}
-use Rattle.markdown_tokenizer.proofs.Runs.TakingUp.{kept-first, kept-next, kept-last, kept-answer, holds-there, closes-there, fewer-left}
+use Rattle.markdown_tokenizer.proofs.Prelude.{refl, Next, ◌∙◌}
+use Rattle.markdown_tokenizer.proofs.Runs.TakingUp.{kept-first, kept-next, kept-last, kept-answer, holds-there, closes-there, fewer-left, kept-over, fewer-over}
 use Rattle.markdown_tokenizer.proofs.tokenizer.Tokenizer.run_states.Goals as goal
 
 pub next_call-requires-clause-ends : goal.next_call-requires-clause-ends
@@ -33,10 +33,17 @@ pub go_on-requires-in-Nok-clause-ends : goal.go_on-requires-in-Nok-clause-ends
 go_on-requires-in-Nok-clause-ends g c =
     closes-there g.met.M.Machine.lawful c.requires.text (kept-answer g.met.M.Machine.lawful c.requires.text c.loop-answer.invariant c.shows_in_text.ensures c.in-Ok.ensures c.in-Nok.is)
 
+pub feed_next-requires : goal.feed_next-requires
+feed_next-requires g c =
+    let k = kept-answer g.met.M.Machine.lawful c.requires.text c.loop-answer.invariant c.shows_in_text.ensures c.in-Ok.ensures c.in-Next.is in
+    let o = kept-over g.met.M.Machine.lawful c.read_over.ensures.0 c.requires.text k c.read_over.ensures.1 in
+    record { closed = o.same.closed ∙ c.requires.closed }
+
 pub returns-else-feed_next : goal.returns-else-feed_next
 returns-else-feed_next g c =
     let k = kept-answer g.met.M.Machine.lawful c.requires.text c.loop-answer.invariant c.shows_in_text.ensures c.in-Ok.ensures c.in-Next.is in
-    let e = kept-last g.met.M.Machine.lawful c.requires.text k c.feed_next.new.self (Next c.in-Next.next) (c.if-feed_next.ensures c.in-Next.next) in
+    let o = kept-over g.met.M.Machine.lawful c.read_over.ensures.0 c.requires.text k c.read_over.ensures.1 in
+    let e = kept-last g.met.M.Machine.lawful c.requires.text o c.feed_next.new.self (Next c.in-Next.next) (c.if-feed_next.ensures c.in-Next.next) in
     record { same = e.0.same; leads = e.0.leads; comes = e.0.comes; stops = e.1; message = e.0.message }
 
 pub returns-in-Err-go_on : goal.returns-in-Err-go_on
@@ -62,12 +69,13 @@ returns-in-Error-clause-leads g c =
 pub loop-answer-smaller-then-feed_next : goal.loop-answer-smaller-then-feed_next
 loop-answer-smaller-then-feed_next g c =
     let k = kept-answer g.met.M.Machine.lawful c.requires.text c.loop-answer.invariant c.shows_in_text.ensures c.in-Ok.ensures c.in-Next.is in
-    fewer-left g.met.M.Machine.lawful c.requires.text k c.feed_next.new.self c.in-Next.next c.in-Ok.ensures (c.if-feed_next.ensures c.in-Next.next)
+    fewer-over g.met.M.Machine.lawful c.read_over.new.self c.read_over.ensures.0 c.requires.text k c.in-Ok.ensures c.read_over.ensures.1 c.feed_next.new.self c.in-Next.next (c.if-feed_next.ensures c.in-Next.next)
 
 pub loop-answer-preserved-then-feed_next : goal.loop-answer-preserved-then-feed_next
 loop-answer-preserved-then-feed_next g c =
     let k = kept-answer g.met.M.Machine.lawful c.requires.text c.loop-answer.invariant c.shows_in_text.ensures c.in-Ok.ensures c.in-Next.is in
-    kept-next g.met.M.Machine.lawful c.requires.text k c.feed_next.new.self c.in-Next.next (c.if-feed_next.ensures c.in-Next.next)
+    let o = kept-over g.met.M.Machine.lawful c.read_over.ensures.0 c.requires.text k c.read_over.ensures.1 in
+    kept-next g.met.M.Machine.lawful c.requires.text o c.feed_next.new.self c.in-Next.next (c.if-feed_next.ensures c.in-Next.next)
 
 pub loop-answer-smaller-in-Ok-go_on : goal.loop-answer-smaller-in-Ok-go_on
 loop-answer-smaller-in-Ok-go_on g c =
