@@ -14,6 +14,7 @@ pub mod Markers
 pub mod Misfits
 pub mod NoFurther
 pub mod Numbers
+pub mod Over
 pub mod RowInvariant
 pub mod RowTest
 pub mod Rows

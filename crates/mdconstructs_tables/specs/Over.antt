@@ -1,0 +1,28 @@
+-- Bytes that a state of a table reads over.
+use Rattle.std.specs.Prelude.{◌≡◌, ℕ, [], ◌∷◌, Option, Some}
+use Rattle.markdown_base.specs.declared.state.Name.{Name}
+use Rattle.markdown_base.specs.declared.state.State.TheVariants.{Next}
+use Rattle.markdown_tokenizer.specs.Text.{Given}
+use Rattle.markdown_tokenizer.specs.Configuration.{Configuration, Local}
+use Rattle.markdown_tokenizer.specs.Sight.{Sight}
+use Rattle.markdown_tokenizer.specs.Over.{ReadsOver, step_over}
+use Rattle.mdconstructs_tables.specs.RowInvariant.{table_rules}
+use Rattle.mdconstructs_tables.specs.Rows.{Table, StateRows, row, consume, named, table_step}
+
+-- the rows of a state at a class of bytes consume the byte and do nothing else, whatever the previous byte was
+abbrev pub IsOverAt : {W R D : Type 0} → StateRows W R D → Name → W → Type 0
+IsOverAt {W} state name w = (previous : Option W) → state.rows previous (Some w) ≡ row (consume ∷ []) (Next name)
+
+-- The law of all tables: wherever such a byte waits, the step of the table is the one that reads over it
+abbrev pub RowsReadOver : (W R D : Type 0) → Type 0
+RowsReadOver W R D =
+    (table : Table W R D) (state : StateRows W R D) (name : Name) (byte : ℕ)
+    → ((local : Local R D) → table.first local ≡ local) → named table.states name ≡ Some state → IsOverAt state name (table.class byte)
+    → (g : Given) (s : Sight) (k : Configuration R D) → s.current ≡ Some byte → table_step table g s k name ≡ step_over k name
+
+-- so the rules of a table read over it
+abbrev pub TableReadsOver : (W R D : Type 0) → Type 0
+TableReadsOver W R D =
+    (table : Table W R D) (state : StateRows W R D) (name : Name) (byte : ℕ)
+    → ((local : Local R D) → table.first local ≡ local) → named table.states name ≡ Some state → IsOverAt state name (table.class byte)
+    → (g : Given) → ReadsOver g (table_rules table g) name byte
