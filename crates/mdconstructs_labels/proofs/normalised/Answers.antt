@@ -1,0 +1,27 @@
+use Rattle.std.proofs.Common.{◌≡◌, IfOk, Ok, Err, map, ap, ◌∙◌, subst}
+use Rattle.std.specs.Prelude.{IsUtf8}
+use Rattle.std.specs.Char.{to_ascii_uppercase}
+use Rattle.std.specs.StrCase.Upper.{str_to_uppercase}
+use Rattle.mdconstructs_labels.specs.Labels.{collapsed, normalised}
+use Rattle.mdconstructs_labels.proofs.Folded.{of-text, of-bytes}
+use Rattle.mdconstructs_labels.proofs.normalised.Goals as goal
+
+pub returns-in-Ok : goal.returns-in-Ok
+returns-in-Ok c =
+    let a = c.in-Ok.ensures.cases in
+    let is = c.as_slice.ensures.value ∙ c.in_ok-together.ensures in
+    ap (λ v. v.items) c.into_bytes.ensures.value
+    ∙ c.in_ok-upper-in-Ok.ensures.value
+    ∙ ap str_to_uppercase (c.as_str.ensures.value ∙ c.in_ok-lower-in-Ok.ensures.value)
+    ∙ of-text (collapsed c.args.bytes.now) c.in-Ok.text.now (a.0 ∙ is) (subst IsUtf8 is a.1)
+
+pub returns : goal.returns
+returns c =
+    let a = c.in-Err.ensures.cases in
+    let is = c.as_slice.ensures.value ∙ c.in_ok-together.ensures in
+    let same = c.as_slice-in-Err.ensures.value ∙ c.in_ok-together.ensures in
+    let to = ap (map to_ascii_uppercase) same ∙ of-bytes (collapsed c.args.bytes.now) (subst (λ bs. IsUtf8 bs → ⊥) is a.0) in
+    elim c.to_ascii_uppercase.result as (λ r. IfOk r (λ out. out.items ≡ map to_ascii_uppercase c.as_slice-in-Err.result.now) → IfOk r (λ out. out.items ≡ normalised c.args.bytes.now)) [
+      | Ok out ↦ λ h. h ∙ to
+      | Err e ↦ λ h. h
+    ] c.to_ascii_uppercase.ensures.ok

@@ -1,0 +1,57 @@
+-- Labels of links (CommonMark, "Links"): what one is, and when two are the same.
+use Rattle.std.specs.Prelude.{ℕ, ◌+◌, ◌==◌, ◌&&◌, ◌||◌, not, nat_le, nat_lt, Bool, true, false, cond, List, [], ◌∷◌, map}
+use Rattle.std.specs.Char.{to_ascii_uppercase}
+use Rattle.std.specs.Str.{is_utf8}
+use Rattle.std.specs.StrCase.Lower.{str_to_lowercase}
+use Rattle.std.specs.StrCase.Upper.{str_to_uppercase}
+
+-- white space in a label: a space, a tab, or a part of a line ending
+abbrev pub is_white : ℕ → Bool
+is_white b = ((b == 32) || (b == 9)) || ((b == 10) || (b == 13))
+
+-- a byte begins a character: it does not go on with one
+abbrev pub begins_character : ℕ → Bool
+begins_character b = nat_lt b 128 || nat_le 192 b
+
+-- `[` or `]`
+abbrev pub is_bracket : ℕ → Bool
+is_bracket b = (b == 91) || (b == 93)
+
+-- a backslash that is not hidden itself hides the byte behind it
+abbrev pub hides : (hidden : Bool) → ℕ → Bool
+hides hidden b = (b == 92) && not hidden
+
+-- no bracket that is not hidden
+abbrev pub has_no_bracket : (hidden : Bool) → List ℕ → Bool
+has_no_bracket hidden [] = true
+has_no_bracket hidden (b ∷ bs) = not (is_bracket b && not hidden) && has_no_bracket (hides hidden b) bs
+
+-- how many characters begin
+abbrev pub characters : List ℕ → ℕ
+characters [] = 0
+characters (b ∷ bs) = cond (begins_character b) 1 0 + characters bs
+
+-- not all is white space
+abbrev pub is_filled : List ℕ → Bool
+is_filled [] = false
+is_filled (b ∷ bs) = not (is_white b) || is_filled bs
+
+-- What may stand between the brackets of a label
+abbrev pub is_label : List ℕ → Bool
+is_label bytes = has_no_bracket false bytes && (nat_le (characters bytes) 999 && is_filled bytes)
+
+-- white space collapsed: none at the ends, and one space for each stretch of it between. `begun`: a byte was written; `apart`: white space came
+-- behind the last one
+abbrev pub collapsed_behind : (begun apart : Bool) → List ℕ → List ℕ
+collapsed_behind begun apart [] = []
+collapsed_behind begun apart (b ∷ bs) =
+    cond (is_white b) (collapsed_behind begun true bs)
+    (cond (begun && apart) (32 ∷ b ∷ collapsed_behind true false bs) (b ∷ collapsed_behind true false bs))
+
+abbrev pub collapsed : List ℕ → List ℕ
+collapsed bytes = collapsed_behind false false bytes
+
+-- The form by which labels are compared: white space collapsed, then lower case and then upper case, as the Rust crate does in place of
+-- CommonMark's case folding. Of bytes that are no UTF-8 only ASCII letters change
+abbrev pub normalised : List ℕ → List ℕ
+normalised bytes = let together = collapsed bytes in cond (is_utf8 together) (str_to_uppercase (str_to_lowercase together)) (map to_ascii_uppercase together)
