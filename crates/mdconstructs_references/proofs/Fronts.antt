@@ -1,21 +1,5 @@
 -- The fronts of names in order: how they compare to other bytes, and the first that is these bytes.
-use Rattle.std.proofs.Common.{◌≡◌, ℕ, zero, suc, ◌<◌, ◌≤◌, ◌⊎◌, inl, inr, ◌++◌, List, [], ◌∷◌, Bool, true, false, cond, length, take, refl, sym, ap, subst, ◌∙◌, arith, get_or}
-use Rattle.std.proofs.lemmas.Bool.{cases_lt}
-use Rattle.std.proofs.Common.{Ordering, Less, Equal, Greater}
-use Rattle.std.proofs.lemmas.List.{length-map}
-use Rattle.std.proofs.lemmas.Map.Keys.{Less-from_sorted}
-use Rattle.std.proofs.lemmas.Map.Text.{is_eq-slice_cmp}
-use Rattle.std.proofs.lemmas.Option.{get_or_from_slice_get, same_Some, slice_get-map, slice_get_within}
-use Rattle.std.specs.Cmp.Lexicographic.{slice_cmp, nat_list_cmp_total}
-use Rattle.std.specs.FinMap.{nat_cmp-IsAntisymmetric, slice_cmp-IsAntisymmetric}
-use Rattle.std.specs.List.{find, slice_get, slice_index_or}
-use Rattle.std.specs.List.Sorted.{IsPartitionedBy, IsPartitionPoint, IsStrictlySortedBy}
-use Rattle.std.specs.Map.{keys_of}
-use Rattle.std.specs.Option.{option_map}
-use Rattle.std.specs.Ordering.{is_eq, is_lt, nat_cmp, ordering_then}
-use Rattle.std.specs.Prelude.{Option, None, Some, bytes_eq}
-use Rattle.mdconstructs_references.specs.CharacterReferences.{Reference}
-use Rattle.mdconstructs_references.specs.References.{begins_with, first_from, read}
+use Rattle.mdconstructs_references.proofs.Prelude.{◌≡◌, ℕ, zero, suc, ◌<◌, ◌≤◌, ◌⊎◌, inl, inr, ◌++◌, List, [], ◌∷◌, Bool, true, false, cond, length, take, refl, sym, ap, subst, ◌∙◌, arith, get_or, cases_lt, Ordering, Less, Equal, Greater, length-map, Less-from_sorted, is_eq-slice_cmp, get_or_from_slice_get, same_Some, slice_get-map, slice_get_within, slice_cmp, nat_list_cmp_total, nat_cmp-IsAntisymmetric, slice_cmp-IsAntisymmetric, find, slice_get, slice_index_or, IsPartitionedBy, IsPartitionPoint, IsStrictlySortedBy, keys_of, option_map, is_eq, is_lt, nat_cmp, ordering_then, Option, None, Some, bytes_eq, Reference, begins_with, first_from, read}
 use Rattle.mdconstructs_references.proofs.Searches.{Entry, entry, key_at}
 
 then_Equal : (o : Ordering) → ordering_then o Equal ≡ o

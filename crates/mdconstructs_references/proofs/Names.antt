@@ -1,13 +1,6 @@
 -- Names by the bytes that they begin with: one is found exactly if a name begins so.
-use Rattle.std.proofs.Common.{◌≡◌, ℕ, ◌++◌, ◌==◌, List, [], ◌∷◌, Bool, true, false, cond, ◌||◌, length, take, refl, sym, ap, ◌∙◌}
-use Rattle.std.proofs.lemmas.Slice.Eq.{bytes_eq-Decides}
-use Rattle.std.specs.List.{find, list_any}
-use Rattle.std.specs.Map.{keys_of, lookup}
-use Rattle.std.specs.Option.{option_or, is_some}
-use Rattle.std.specs.Prelude.{Option, None, Some, bytes_eq}
-use Rattle.std.proofs.Common.{eqb-true}
-use Rattle.mdconstructs_references.specs.CharacterReferences.{Reference, character_references}
-use Rattle.mdconstructs_references.specs.References.{begins_with, characters_of, first_from, lengths, name_among, name_from, of_length}
+use Rattle.mdconstructs_references.proofs.Prelude.{◌≡◌, ℕ, ◌++◌, ◌==◌, List, [], ◌∷◌, Bool, true, false, cond, ◌||◌, length, take, refl, sym, ap, ◌∙◌, bytes_eq-Decides, find, list_any, keys_of, lookup, option_or, is_some, Option, None, Some, bytes_eq, eqb-true, Reference, character_references, begins_with, characters_of, first_from, lengths, name_among, of_length}
+use Rattle.mdconstructs_references.specs.References.{name_from}
 use Rattle.mdconstructs_references.proofs.Parts.{characters_in_part, no_characters}
 use Rattle.mdconstructs_references.proofs.Tables.{all_are_listed}
 

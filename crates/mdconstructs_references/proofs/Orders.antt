@@ -1,13 +1,6 @@
 -- Names in order.
-use Rattle.std.proofs.Common.{◌≡◌, ℕ, List, [], ◌∷◌, Bool, true, ◌&&◌, refl}
-use Rattle.std.proofs.lemmas.Bool.{and_parts}
-use Rattle.std.specs.Cmp.Lexicographic.{slice_cmp, nat_list_cmp_total}
-use Rattle.std.specs.List.{AllByRecursion}
+use Rattle.mdconstructs_references.proofs.Prelude.{◌≡◌, ℕ, List, [], ◌∷◌, Bool, true, ◌&&◌, refl, and_parts, slice_cmp, nat_list_cmp_total, AllByRecursion, keys_of, is_lt, nat_cmp, Ordering, Less, Equal, Greater, Reference}
 use Rattle.std.specs.List.Sorted.{IsStrictlySortedBy}
-use Rattle.std.specs.Map.{keys_of}
-use Rattle.std.specs.Ordering.{is_lt, nat_cmp}
-use Rattle.std.proofs.Common.{Ordering, Less, Equal, Greater}
-use Rattle.mdconstructs_references.specs.CharacterReferences.{Reference}
 
 -- each name is below the next one, by its bytes
 abbrev pub are_in_order : List Reference → Bool

@@ -1,12 +1,6 @@
 -- The references whose names have one length.
-use Rattle.std.proofs.Common.{◌≡◌, ℕ, List, [], ◌∷◌, Bool, ◌||◌, true, false, ◌==◌, length, refl, sym, ap, ◌∙◌}
-use Rattle.std.proofs.lemmas.Map.Entries.{lookup-filter-keys}
-use Rattle.std.proofs.lemmas.Slice.Eq.{bytes_eq-Decides}
-use Rattle.std.specs.List.{AllByRecursion, filter, list_any}
-use Rattle.std.specs.Prelude.{None, bytes_eq}
-use Rattle.std.proofs.Common.{eq-eqb, eqb-true}
-use Rattle.mdconstructs_references.specs.CharacterReferences.{Reference, character_references}
-use Rattle.mdconstructs_references.specs.References.{characters_in, characters_of, of_length}
+use Rattle.mdconstructs_references.proofs.Prelude.{◌≡◌, ℕ, List, [], ◌∷◌, Bool, ◌||◌, true, false, ◌==◌, length, refl, sym, ap, ◌∙◌, lookup-filter-keys, bytes_eq-Decides, AllByRecursion, filter, list_any, None, bytes_eq, eq-eqb, eqb-true, Reference, character_references, characters_in, of_length}
+use Rattle.mdconstructs_references.specs.References.{characters_of}
 
 pub characters_in_part : (n : ℕ) (part : List Reference) (name : List ℕ) → length name ≡ n → part ≡ of_length n character_references → characters_in part name ≡ characters_of name
 unfolding characters_of

@@ -1,23 +1,5 @@
 -- What a search by halves finds among names in order.
-use Rattle.std.proofs.Common.{◌≡◌, ℕ, ◌+◌, List, Bool, length, refl, sym, ap, subst, ◌∙◌, arith}
-use Rattle.std.proofs.Common.{Less, Equal, Greater}
-use Rattle.std.proofs.Math.ListN.{get_or-map}
-use Rattle.std.proofs.lemmas.List.{length-map}
-use Rattle.std.proofs.lemmas.List.Sorted.{searchable_from_sorted}
-use Rattle.std.proofs.lemmas.Map.Entries.{lookup_at_gap, lookup_from_place}
-use Rattle.std.proofs.lemmas.Map.Keys.{IsDistinct-from_sorted, Less-from_sorted}
-use Rattle.std.proofs.lemmas.Map.Text.{is_eq-slice_cmp}
-use Rattle.std.proofs.lemmas.Option.{get_or_from_slice_get, same_Some, slice_get-map, slice_get_within}
-use Rattle.std.specs.Cmp.Lexicographic.{slice_cmp, nat_list_cmp_total, nat_list_eq_equiv}
-use Rattle.std.specs.FinMap.{nat_cmp-IsAntisymmetric, slice_cmp-IsAntisymmetric}
-use Rattle.std.specs.List.{HoldsAt, IsDistinct, slice_get, slice_index_or}
-use Rattle.std.specs.List.Sorted.{IsNonDecreasingBy, IsPartitionPoint, IsStrictlySortedBy}
-use Rattle.std.specs.Map.{keys_of, lookup}
-use Rattle.std.specs.Option.{option_map}
-use Rattle.std.specs.Ordering.{is_lt, nat_cmp, ordering_index, ordering_reverse}
-use Rattle.std.specs.Prelude.{Option, None, Some, bytes_eq}
-use Rattle.mdconstructs_references.specs.CharacterReferences.{Reference}
-use Rattle.mdconstructs_references.specs.References.{characters_in, code_points, read}
+use Rattle.mdconstructs_references.proofs.Prelude.{◌≡◌, ℕ, ◌+◌, List, Bool, length, refl, sym, ap, subst, ◌∙◌, arith, Less, Equal, Greater, get_or-map, length-map, searchable_from_sorted, lookup_at_gap, lookup_from_place, IsDistinct-from_sorted, Less-from_sorted, is_eq-slice_cmp, get_or_from_slice_get, same_Some, slice_get-map, slice_get_within, slice_cmp, nat_list_cmp_total, nat_list_eq_equiv, nat_cmp-IsAntisymmetric, slice_cmp-IsAntisymmetric, HoldsAt, IsDistinct, slice_get, slice_index_or, IsNonDecreasingBy, IsPartitionPoint, IsStrictlySortedBy, keys_of, lookup, option_map, is_lt, nat_cmp, ordering_index, ordering_reverse, Option, None, Some, bytes_eq, Reference, characters_in, code_points, read}
 
 abbrev pub Entry : Type 0
 Entry = List ℕ × ℕ × Option ℕ

@@ -1,10 +1,6 @@
 -- The lists of the code: each has the references whose names have its length, in order.
-use Rattle.std.proofs.Common.{◌≡◌, ◌==◌, length, nat_le, refl, true}
-use Rattle.std.specs.Char.{is_ascii_alphanumeric}
-use Rattle.std.specs.List.{filter, list_all, list_any}
+use Rattle.mdconstructs_references.proofs.Prelude.{◌≡◌, ◌==◌, length, nat_le, refl, true, is_ascii_alphanumeric, filter, list_all, list_any, lengths, of_length, read, NAMES_OF_2, NAMES_OF_3, NAMES_OF_4, NAMES_OF_5, NAMES_OF_6, NAMES_OF_7, NAMES_OF_8, NAMES_OF_9, NAMES_OF_10, NAMES_OF_11, NAMES_OF_12, NAMES_OF_13, NAMES_OF_14, NAMES_OF_15, NAMES_OF_16, NAMES_OF_17, NAMES_OF_18, NAMES_OF_19, NAMES_OF_20, NAMES_OF_21, NAMES_OF_22, NAMES_OF_23, NAMES_OF_24, NAMES_OF_31}
 use Rattle.mdconstructs_references.specs.CharacterReferences.{character_references}
-use Rattle.mdconstructs_references.specs.References.{lengths, of_length, read}
-use Rattle.mdconstructs_references.specs.declared.table.TheConstants.{NAMES_OF_2, NAMES_OF_3, NAMES_OF_4, NAMES_OF_5, NAMES_OF_6, NAMES_OF_7, NAMES_OF_8, NAMES_OF_9, NAMES_OF_10, NAMES_OF_11, NAMES_OF_12, NAMES_OF_13, NAMES_OF_14, NAMES_OF_15, NAMES_OF_16, NAMES_OF_17, NAMES_OF_18, NAMES_OF_19, NAMES_OF_20, NAMES_OF_21, NAMES_OF_22, NAMES_OF_23, NAMES_OF_24, NAMES_OF_31}
 use Rattle.mdconstructs_references.proofs.Orders.{are_in_order}
 
 pub in_order-2 : are_in_order (read NAMES_OF_2) ≡ true

@@ -1,10 +1,7 @@
-use Rattle.std.proofs.Common.{◌∙◌, ◌==◌, length, sym, arith}
+use Rattle.mdconstructs_references.proofs.Prelude.{◌∙◌, ◌==◌, length, sym, arith, list_any, lengths, read, NAMES_OF_2, NAMES_OF_3, NAMES_OF_4, NAMES_OF_5, NAMES_OF_6, NAMES_OF_7, NAMES_OF_8, NAMES_OF_9, NAMES_OF_10, NAMES_OF_11, NAMES_OF_12, NAMES_OF_13, NAMES_OF_14, NAMES_OF_15, NAMES_OF_16, NAMES_OF_17, NAMES_OF_18, NAMES_OF_19, NAMES_OF_20, NAMES_OF_21, NAMES_OF_22, NAMES_OF_23, NAMES_OF_24, NAMES_OF_31}
 use Rattle.mdconstructs_references.proofs.Orders.{strictly_sorted}
 use Rattle.mdconstructs_references.proofs.Parts.{characters_in_part, no_characters, unlisted}
 use Rattle.mdconstructs_references.proofs.Tables.{all_are_listed, in_order-2, are_of-2, in_order-3, are_of-3, in_order-4, are_of-4, in_order-5, are_of-5, in_order-6, are_of-6, in_order-7, are_of-7, in_order-8, are_of-8, in_order-9, are_of-9, in_order-10, are_of-10, in_order-11, are_of-11, in_order-12, are_of-12, in_order-13, are_of-13, in_order-14, are_of-14, in_order-15, are_of-15, in_order-16, are_of-16, in_order-17, are_of-17, in_order-18, are_of-18, in_order-19, are_of-19, in_order-20, are_of-20, in_order-21, are_of-21, in_order-22, are_of-22, in_order-23, are_of-23, in_order-24, are_of-24, in_order-31, are_of-31}
-use Rattle.std.specs.List.{list_any}
-use Rattle.mdconstructs_references.specs.References.{lengths, read}
-use Rattle.mdconstructs_references.specs.declared.table.TheConstants.{NAMES_OF_2, NAMES_OF_3, NAMES_OF_4, NAMES_OF_5, NAMES_OF_6, NAMES_OF_7, NAMES_OF_8, NAMES_OF_9, NAMES_OF_10, NAMES_OF_11, NAMES_OF_12, NAMES_OF_13, NAMES_OF_14, NAMES_OF_15, NAMES_OF_16, NAMES_OF_17, NAMES_OF_18, NAMES_OF_19, NAMES_OF_20, NAMES_OF_21, NAMES_OF_22, NAMES_OF_23, NAMES_OF_24, NAMES_OF_31}
 use Rattle.mdconstructs_references.proofs.find.Goals as goal
 
 pub returns-in-2 : goal.returns-in-2

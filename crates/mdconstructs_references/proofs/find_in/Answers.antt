@@ -1,8 +1,4 @@
-use Rattle.std.proofs.Common.{length, refl, sym}
-use Rattle.std.proofs.lemmas.Fn.{always_returns_same}
-use Rattle.std.proofs.lemmas.Option.{slice_get_read}
-use Rattle.std.specs.Cmp.Lexicographic.{slice_cmp}
-use Rattle.std.specs.Ordering.{nat_cmp}
+use Rattle.mdconstructs_references.proofs.Prelude.{length, refl, sym, always_returns_same, slice_get_read, slice_cmp, nat_cmp}
 use Rattle.mdconstructs_references.proofs.Searches.{found, missing, rises}
 use Rattle.mdconstructs_references.proofs.find_in.Goals as goal
 

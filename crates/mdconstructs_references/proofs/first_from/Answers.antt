@@ -1,12 +1,4 @@
-use Rattle.std.proofs.Common.{◌≡◌, ◌∙◌, refl, ap, length, ◌+◌, ◌++◌, [], ◌∷◌, take, sym, List, ℕ}
-use Rattle.std.proofs.Common.{Ordering, Less, Equal, Greater, Some, false}
-use Rattle.std.proofs.lemmas.Bool.{ltb-false, ltb-true}
-use Rattle.std.proofs.lemmas.Fn.{always_returns_same}
-use Rattle.std.proofs.lemmas.List.{length-append}
-use Rattle.std.proofs.lemmas.Option.{slice_get_read}
-use Rattle.std.specs.Cmp.Lexicographic.{slice_cmp}
-use Rattle.std.specs.Option.{option_copied}
-use Rattle.std.specs.Ordering.{is_eq, is_lt, nat_cmp}
+use Rattle.mdconstructs_references.proofs.Prelude.{◌≡◌, ◌∙◌, refl, ap, length, ◌+◌, ◌++◌, [], ◌∷◌, take, sym, List, ℕ, Ordering, Less, Equal, Greater, Some, false, ltb-false, ltb-true, always_returns_same, length-append, slice_get_read, slice_cmp, option_copied, is_eq, is_lt, nat_cmp}
 use Rattle.mdconstructs_references.proofs.Fronts.{parted, none-at-end, first-there, none-there}
 use Rattle.mdconstructs_references.proofs.first_from.Goals as goal
 

@@ -1,6 +1,4 @@
-use Rattle.std.proofs.Common.{◌∙◌, ap, sym, ◌+◌, ◌≡◌, ◌++◌, [], ◌∷◌, arith, length, suc, take, Less}
-use Rattle.std.specs.Cmp.Lexicographic.{slice_cmp}
-use Rattle.std.specs.Ordering.{nat_cmp, ordering_then}
+use Rattle.mdconstructs_references.proofs.Prelude.{◌∙◌, ap, sym, ◌+◌, ◌≡◌, ◌++◌, [], ◌∷◌, arith, length, suc, take, Less, slice_cmp, nat_cmp, ordering_then}
 use Rattle.mdconstructs_references.proofs.Fronts.{longer-front, shorter-front}
 use Rattle.mdconstructs_references.proofs.order_of_front.Goals as goal
 

@@ -1,4 +1,4 @@
-use Rattle.mdconstructs_references.specs.CharacterReferences.{character_references}
+use Rattle.mdconstructs_references.proofs.Prelude.{character_references}
 use Rattle.mdconstructs_references.proofs.Orders.{strictly_sorted}
 use Rattle.mdconstructs_references.proofs.Tables.{listed_in_order}
 use Rattle.mdconstructs_references.proofs.laws.names_are_in_order.Goals as goal

@@ -1,7 +1,4 @@
-use Rattle.std.proofs.Common.{length, nat_le}
-use Rattle.std.proofs.lemmas.Bool.{lt-leb}
-use Rattle.std.specs.Char.{is_ascii_alphanumeric}
-use Rattle.std.specs.List.{list_all}
+use Rattle.mdconstructs_references.proofs.Prelude.{length, nat_le, lt-leb, is_ascii_alphanumeric, list_all}
 use Rattle.mdconstructs_references.proofs.Parts.{no_characters}
 use Rattle.mdconstructs_references.proofs.Tables.{all_are_short, all_are_plain}
 use Rattle.mdconstructs_references.proofs.laws.names_are_short_and_plain.Goals as goal
