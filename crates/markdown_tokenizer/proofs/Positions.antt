@@ -8,6 +8,7 @@ pub mod Moving
 pub mod Order
 pub mod Points
 pub mod Prefixes
+pub mod Quick
 pub mod SeatLaws
 pub mod Seats
 pub mod Standing

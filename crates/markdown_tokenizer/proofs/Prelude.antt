@@ -1,7 +1,7 @@
 -- What the proofs of this crate cite from below them: words of std, of the crates below and of specs.
-pub use Rattle.std.proofs.Common.{Bool, Global, List, None, Option, Some, [], add-one, add-zero, add_assoc, ap, append_assoc, arith, cond, drop, drop-cons, false, get_or, inl, inr, length, length-append, length-take, ltb, refl, rules, subst, suc, suc-add, sum_by, sym, take, true, zero, zero-add, ℕ, ◌%◌, ◌*◌, ◌++◌, ◌+◌, ◌-◌, ◌<◌, ◌==◌, ◌↔◌, ◌∙◌, ◌∷◌, ◌≡◌, ◌≢◌, ◌≤◌, ◌⊎◌}
+pub use Rattle.std.proofs.Common.{Bool, Global, List, None, Option, Some, [], add-one, add-zero, add_assoc, ap, append_assoc, arith, cond, drop, drop-cons, false, get_or, inl, inr, length, length-append, length-take, ltb, refl, rules, subst, suc, suc-add, sum_by, sym, take, true, zero, zero-add, ℕ, ◌%◌, ◌^◌, ◌*◌, ◌++◌, ◌+◌, ◌-◌, ◌<◌, ◌==◌, ◌↔◌, ◌∙◌, ◌∷◌, ◌≡◌, ◌≢◌, ◌≤◌, ◌⊎◌}
 pub use Rattle.std.proofs.Math.ListN.{get_or-map}
-pub use Rattle.std.proofs.Math.Nat.{mod-eq_of_lt, mod-lt, mod_self, mul-le-mul_left, mul-le-mul_right, mul-suc, suc-mod}
+pub use Rattle.std.proofs.Math.Nat.{mod-eq_of_lt, mod-lt, mod_self, mul-add, mul-le-mul_left, mul-le-mul_right, mul-suc, suc-mod}
 pub use Rattle.std.proofs.Math.Seq.{take-length}
 pub use Rattle.std.proofs.lemmas.Bool.{and_parts, cases_lt, eqb-true, false_from_ne_true, false≢true, le-ltb, lt-ltb, ltb-false, ltb-true, not-true, or_parts}
 pub use Rattle.std.proofs.lemmas.Bool.Decides.{nat_tests}
@@ -75,7 +75,7 @@ pub use types.Run.{enter, no_more, returns}
 pub use Rattle.markdown_tokenizer.specs.Noted.{IsNoted, CanExitAt, with_enter_at, with_exit_at}
 pub use Rattle.markdown_tokenizer.specs.Calls.{CanExit, consumed, with_enter, with_exit, with_resolvers}
 pub use Rattle.markdown_tokenizer.specs.Configuration.{Choice, Configuration, Local, Saved, Step, TokenizerValue, at_configuration, start_configuration, start_seen}
-pub use Rattle.markdown_tokenizer.specs.Cursor.{Bounds, CanMove, IsNextByte, IsNextSeat, IsPlace, IsQuick, IsSeatAt, begins_pair, end_at, goes_on, is_after_pair, is_before_pair, moved, rest_at}
+pub use Rattle.markdown_tokenizer.specs.Cursor.{Bounds, CanMove, IsNextByte, IsNextSeat, IsPlace, IsQuick, IsSeatAt, begins_pair, end_at, goes_on, is_after_pair, is_before_pair, moved, moved_over, rest_at}
 pub use Rattle.markdown_tokenizer.specs.Cuts.{cuts_every, is_cut, place_of}
 pub use Rattle.markdown_tokenizer.specs.AtPlaces.{AreAtPlaces}
 pub use Rattle.markdown_tokenizer.specs.Engine.{AreCuts, CanPush, FollowInOrder, ForPoints, HoldsOf, IsFlushed, IsPushed, IsRefused, IsRun, IsRunRefused, IsWellFormed, KeepsOutcome, LeadsOn, budget, given_by, given_of, whole_text}
@@ -91,7 +91,7 @@ pub use Rattle.markdown_tokenizer.specs.Rules.{Rules}
 pub use Rattle.markdown_tokenizer.specs.Sight.{Sight, byte_of, current_of, end_or, end_place, point_of, point_or, seat_before, sight, sight_in, sight_of}
 pub use Rattle.markdown_tokenizer.specs.Text.{CanFollow, FitsAfter, Given, IsDocument, IsText, Piece, Text, empty_text, followed_by, followed_by_all, in_range, passed, pushed}
 pub use Rattle.markdown_tokenizer.specs.Turns.{AreCalledAlike, EndsFrom, Stand, Turns, no_turn, one_turn, stand, stand_of, turn}
-pub use Rattle.markdown_tokenizer.specs.Over.{step_over, over_one, ReadsOver, IsOver, HasReadOver}
+pub use Rattle.markdown_tokenizer.specs.Over.{step_over, over_one, ReadsOver, IsByteOver, IsOver, HasReadOver}
 pub use Rattle.markdown_tokenizer.specs.Unwound.{Unwinding, continuation_of, ended_by, saved_for, unwinding, unwound}
 pub use Rattle.markdown_tokenizer.specs.View.{AreNested, ByteWaits, EndWaits, NextByteIsKnown, IsPlaced, IsProgress, IsReadTo, IsSound, IsWhatWaits, can_feed, choice_at, choice_of, end_point, events_of, position_from, reach, saved_at_place, saved_of, seats_between, seen, stack_of, standing, state_of, tab_of, text_within}
 pub use Rattle.markdown_tokenizer.specs.Work.{EndsClosed, HoldsAll, IsInText, LeadsAll, OnlyWorked, Stops, TakesUp, answer_in, answer_of, extended, resolved_in, settled_all, settled_to, ComesTo}

@@ -92,6 +92,10 @@ moved Last p = point p.line (p.column + 1) (p.index + 1) 0
 moved Line p = point (p.line + 1) 1 (p.index + 1) 0
 moved Other p = point p.line (p.column + 1) (p.index + 1) 0
 
+-- where a place comes to when it moves over so many plain bytes
+abbrev pub moved_over : ℕ → Point → Point
+moved_over n p = point p.line (p.column + n) (p.index + n) 0
+
 -- a place moves so over the next virtual byte, and over a plain one only outside of tabs
 pub record MovesOver (t : ℕ) (bytes : List ℕ) (p : Point) (moves : Moves) : Type 0 where
   pub ends : (seat : Seat) → IsSeatAt t bytes p seat → seat.end ≡ moved moves p

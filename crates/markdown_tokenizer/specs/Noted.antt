@@ -1,5 +1,5 @@
 -- Spans that begin or end at a place that was noted before.
-use Rattle.std.specs.Prelude.{◌≡◌, ◌<◌, All, Bool, true, false, Option, Some, None, IfSome, length}
+use Rattle.std.specs.Prelude.{◌≡◌, ◌<◌, All, true, false, Some, None, IfSome, length}
 use Rattle.std.specs.List.{last_or}
 use Rattle.markdown_base.specs.declared.event.Event.{Event}
 use Rattle.markdown_base.specs.declared.event.Kind.TheVariants.{Enter}
@@ -11,7 +11,6 @@ use Rattle.markdown_tokenizer.specs.Configuration.{TokenizerValue, at_configurat
 use Rattle.markdown_tokenizer.specs.Calls.{consumed, entered, exited, innermost}
 use Rattle.markdown_tokenizer.specs.Sight.{sight_of}
 use Rattle.markdown_tokenizer.specs.Text.{IsText}
-use Rattle.markdown_tokenizer.specs.declared.waiting.Waits.TheVariants.{Byte}
 
 -- A place that was noted: a place of the document, as it is shown, up to where an exit would be; and no event is after it
 pub record IsNoted {M R D : Type 0} (p : Point) (t : TokenizerValue M R D) : Type 0 where

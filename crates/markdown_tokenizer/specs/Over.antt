@@ -19,6 +19,10 @@ abbrev pub ReadsOver : {R D : Type 0} → Given → Rules R D → Name → ℕ �
 ReadsOver g rules name byte =
     ForEachCall g rules (λ text k choices n s. n ≡ name → (sight g text k).current ≡ Some byte → s ≡ step_over k n)
 
+-- a byte is above CR, and a state reads over it on every document
+abbrev pub IsByteOver : {R D : Type 0} → (Given → Rules R D) → Name → ℕ → Type 0
+IsByteOver rules name byte = (13 < byte) × ((g : Given) → ReadsOver g (rules g) name byte)
+
 -- the tokenizer after it was fed and read over one byte
 abbrev pub over_one : {M R D : Type 0} → TokenizerValue M R D → TokenizerValue M R D
 over_one t = record t { configuration = consumed (fed t.text t.configuration); calls = t.calls + 1 }

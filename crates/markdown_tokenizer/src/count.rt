@@ -30,6 +30,14 @@ impl Calls {
         Calls {}
     }
 
+    /// So many calls more were made.
+    pub(crate) fn more(&self, n: usize) -> Calls
+        ensures { result.made ≡ self.now.made + n }
+    {
+        let _ = n;
+        Calls {}
+    }
+
     /// As many calls were made.
     pub(crate) fn same(&self) -> Calls
         ensures { result.made ≡ self.now.made }

@@ -1,6 +1,6 @@
 //! The cursor: the place of a reader in the virtual text of a document.
 
-ghost use Rattle.markdown_tokenizer.specs.Cursor.{goes_on, begins_pair, IsPlace, IsSeatAt, IsNextSeat, IsNextByte, is_before_pair, is_after_pair, moved, IsQuick, CanMove};
+ghost use Rattle.markdown_tokenizer.specs.Cursor.{goes_on, begins_pair, IsPlace, IsSeatAt, IsNextSeat, IsNextByte, is_before_pair, is_after_pair, moved, moved_over, IsQuick, CanMove};
 ghost use Rattle.markdown_tokenizer.specs.Gaps.{skip_of, resumed, IsPlainUntil, HasMoved};
 ghost use Rattle.markdown_base.specs.Places;
 ghost use Rattle.markdown_base.specs.Virtual.{IsWithinLimit, Seat};
@@ -243,6 +243,18 @@ pub(crate) fn pass_plain(point: &mut Point)
 {
     point.index += 1;
     point.column += 1;
+}
+
+/// Moves a place over so many bytes that are no line endings and in no tab.
+#[inline(always)]
+pub(crate) fn pass_over(point: &mut Point, n: usize)
+    requires index { point.old.index + n < 2 ^ 64 }
+    requires column { point.old.column + n < 2 ^ 64 }
+    requires flat { point.old.vs ≡ 0 }
+    ensures { point.new ≡ moved_over n point.old }
+{
+    point.index += n;
+    point.column += n;
 }
 
 /// Moves a place as `moves` says, if it says how. Returns up to which index bytes are then known to be before the end of the text, at

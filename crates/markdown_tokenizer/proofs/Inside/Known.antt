@@ -1,5 +1,5 @@
 -- What is known of the next byte, call by call.
-use Rattle.markdown_tokenizer.proofs.Prelude.{◌≡◌, ◌≢◌, ℕ, suc, ◌+◌, ◌*◌, ◌≤◌, ◌<◌, ◌==◌, List, length, false, refl, arith, nat_lt, ◌&&◌, ◌||◌, mul-le-mul_left, mul-le-mul_right, mul-suc, nat_tests, Point, IsWithinLimit, Waits, Plain, Other, IsPlace, CanMove, moved, resumed, IsPlainUntil, NextByteIsKnown}
+use Rattle.markdown_tokenizer.proofs.Prelude.{◌≡◌, ◌≢◌, ℕ, suc, ◌+◌, ◌*◌, ◌≤◌, ◌<◌, ◌==◌, List, length, false, refl, arith, ◌^◌, nat_lt, ◌&&◌, ◌||◌, mul-add, mul-le-mul_left, mul-le-mul_right, mul-suc, nat_tests, Point, IsWithinLimit, Waits, Plain, Other, IsPlace, CanMove, moved, resumed, IsPlainUntil, NextByteIsKnown}
 use Rattle.markdown_tokenizer.proofs.Positions.Order.{not-number}
 
 -- a gap begins only at the beginning of a line
@@ -39,3 +39,12 @@ place-fits t bytes p some limit place inside =
 
 pub not-before-index : (i v j u : ℕ) → (nat_lt i j || ((i == j) && nat_lt v u)) ≡ false → j ≤ i
 not-before-index i v j u h = grind (arith, nat_tests)
+
+-- and so it can over bytes that are in no tab, up to the end of the document
+pub run-fits : (t : ℕ) (bytes : List ℕ) (p : Point) (n : ℕ) → 0 < t → IsWithinLimit t bytes → IsPlace t bytes p → p.vs ≡ 0 → p.index + n ≤ length bytes → p.column + n < 2 ^ 64
+run-fits t bytes p n some limit place flat inside =
+    let all : t * (p.index + n) ≤ t * length bytes = mul-le-mul_left t inside in
+    let split : t * (p.index + n) ≡ t * p.index + t * n = mul-add t p.index n in
+    let each : 1 * n ≤ t * n = mul-le-mul_right n (omega (arith, some)) in
+    let columns = place.bounds.columns in
+    omega (arith, columns, limit, flat, all, split, each)

@@ -192,7 +192,7 @@ noted-here t sound p is reads before =
     let m = sound.made reads in
     let left = shown (bytes_within t) t.after_previous in
     let upto = upto_left (bytes_within t) t.events.items t.stack.items left (shown (bytes_within t) (standing t.skips t.after_previous t.waits)) m
-        (λ o e. subst (λ (q : Point). stands_before o.point q ≡ true) is (before o e)) in
+    (λ o e. subst (λ (q : Point). stands_before o.point q ≡ true) is (before o e)) in
     record {
       place = subst (IsPointOf (tab_within t) (bytes_within t)) (sym is) (exit-is-point t sound);
       shown = subst (λ (q : Point). IsShown (bytes_within t) q) (sym is) m.left_shown;

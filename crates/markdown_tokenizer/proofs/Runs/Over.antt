@@ -1,12 +1,7 @@
 -- Bytes that a state reads over, one after another.
-use Rattle.markdown_tokenizer.proofs.Prelude.{◌≡◌, ◌+◌, ℕ, zero, suc, ap, subst, arith, Name, Given, TokenizerValue, Rules, over_one, IsOver, HasReadOver}
+use Rattle.markdown_tokenizer.proofs.Prelude.{◌≡◌, ◌+◌, ℕ, zero, suc, ap, arith, Name, Given, TokenizerValue, Rules, over_one, HasReadOver}
 
 module _ {M R D : Type 0} (rules : Given → Rules R D) (name : Name) where
-  -- one byte more is read over
-  pub over-more : (n : ℕ) (t u : TokenizerValue M R D) → HasReadOver rules name n t u → IsOver rules name u → HasReadOver rules name (suc n) t (over_one u)
-  over-more zero t u h over = (subst (λ (q : TokenizerValue M R D). IsOver rules name q) h over, ap over_one h)
-  over-more (suc n) t u h over = (h.0, over-more n (over_one t) u h.1 over)
-
   -- each is counted
   pub over-counts : (n : ℕ) (t u : TokenizerValue M R D) → HasReadOver rules name n t u → u.calls ≡ t.calls + n
   over-counts zero t u h = let e = ap (λ q. q.calls) h in omega (arith, e)

@@ -1,8 +1,7 @@
 //! The work of a tokenizer: it calls states until a range is used up, or until the reading has ended.
 
-ghost use Rattle.std.specs.Prelude.{◌≡◌, ◌≢◌, ◌≤◌, ℕ, Contains, length, [], Option, false, true, IfOk, IfErr, IsErrOf, IsTrue};
-ghost use Rattle.std.specs.Bool.{OnTrue};
-ghost use Rattle.markdown_tokenizer.specs.Over.{IsOver, HasReadOver};
+ghost use Rattle.std.specs.Prelude.{◌≡◌, ◌≢◌, ◌≤◌, ◌<◌, ℕ, slice_index, Contains, length, [], Option, false, true, IfOk, IfErr, IsErrOf, IsTrue};
+ghost use Rattle.markdown_tokenizer.specs.Over.{IsByteOver, HasReadOver};
 ghost use Rattle.markdown_base.specs.Virtual.{point};
 ghost use Rattle.markdown_tokenizer.specs.declared.waiting.Waits.TheVariants.{Nothing, End};
 ghost use Rattle.markdown_tokenizer.specs.Configuration.{at_configuration, start_seen};
@@ -16,7 +15,7 @@ ghost use Rattle.markdown_tokenizer.specs.View.{taken_continuation};
 ghost use Rattle.markdown_tokenizer.specs.Work.{IsInText, extended, answer_of, HoldsAll, LeadsAll, ComesTo, OnlyWorked, Stops, settled_all, EndsClosed, GoesOnTo, taken_up, taken_by_next};
 
 use super::{Fault, Tokenizer};
-use crate::cursor::{Moves, next_byte_from, plain_until, quick_byte};
+use crate::cursor::{Moves, next_byte_from, pass_over, plain_until};
 use crate::parser::ParseState;
 use crate::state::{Machine, MachineTypes, Name, State};
 use crate::subtokenize::Subresult;
@@ -81,6 +80,26 @@ fn read_cut<M: Machine>(
     let end = (parse_state.bytes.len(), 0);
     let state = tokenizer.push(from, end, state)?;
     tokenizer.flush(state, resolve)
+}
+
+/// Up to which index a state reads over the bytes from one index on. It is at most `until`, if that is not before `from`; else it is
+/// `from`. Only bytes above CR are read over: each is one virtual byte, and in no tab.
+#[inline(always)]
+fn over_until<M: Machine>(machine: &M, name: Name, bytes: &[u8], from: usize, until: usize) -> usize
+    requires inside { until ≤ length bytes.now }
+    ensures from { from ≤ result }
+    ensures until { from < result → result ≤ until }
+    ensures over { (k : ℕ) → from ≤ k → k < result → IsByteOver (M.rules machine.now) name (slice_index bytes.now k) }
+{
+    let mut at = from;
+    while at < until {
+        let byte = bytes[at];
+        if byte <= b'\r' || !machine.reads_over(name, byte) {
+            return at;
+        }
+        at += 1;
+    }
+    at
 }
 
 impl<'a, M: MachineTypes> Tokenizer<'a, M> {
@@ -293,38 +312,30 @@ impl<'a, M: Machine> Tokenizer<'a, M> {
         self.parse_state().machine.call(alloc, self, name)
     }
 
-    /// Whether the next byte is one that the state of this name reads over, and the byte at its index is enough to tell it.
-    #[inline(always)]
-    fn is_over(&self, name: Name) -> bool
-        ensures { OnTrue result (IsOver (M.rules self.now.machine) name self.now) }
-    {
-        let next = quick_byte(
-            self.bytes,
-            &self.tab_size,
-            &self.after_previous,
-            self.plain_until,
-            self.end.0,
-        );
-        match next {
-            Some((byte, moves)) => match moves {
-                Moves::Plain => self.parse_state.machine.reads_over(name, byte),
-                _ => false,
-            },
-            None => false,
-        }
-    }
-
     /// Reads over the bytes that come next, as long as the state of this name does: it is not called for them.
+    ///
+    /// It looks at the bytes first, and then moves once over all of them.
     #[inline(always)]
     fn read_over(&mut self, name: Name)
         ensures { (n : ℕ) × HasReadOver (M.rules self.old.machine) name n self.old self.new }
     {
-        while self.is_over(name) {
-            if !self.feed() {
-                return;
-            }
-            self.consume();
-            self.tick();
+        let from = self.after_previous.index;
+        let to = over_until(
+            self.parse_state.machine,
+            name,
+            self.bytes,
+            from,
+            self.plain_until,
+        );
+        if from < to {
+            let byte = self.bytes[to - 1];
+            pass_over(&mut self.after_previous, to - from);
+            self.byte = byte;
+            self.previous = Some(byte);
+            self.ended = false;
+            self.waits = Waits::Nothing;
+            self.moves = Moves::Other;
+            self.calls = self.calls.more(to - from);
         }
     }
 

@@ -1,15 +1,37 @@
-use Rattle.markdown_tokenizer.proofs.Prelude.{◌≡◌, refl, subst, suc, over_one, IsOver}
-use Rattle.markdown_tokenizer.proofs.Runs.Over.{over-more}
+use Rattle.markdown_tokenizer.proofs.Prelude.{◌-◌, ◌≤◌, length, arith, seen}
+use Rattle.markdown_tokenizer.proofs.Inside.Over.{passed-fits, passed-sound, passed-over}
+use Rattle.markdown_tokenizer.proofs.Inside.Steps.{end-inside}
 use Rattle.markdown_tokenizer.proofs.tokenizer.Tokenizer.read_over.Goals as goal
 
-pub loop-name-preserved : goal.loop-name-preserved
-loop-name-preserved g c =
-    let i = c.loop-name.invariant in
-    let made : c.tick.new.self ≡ over_one c.loop-name.self = rw (c.tick.ensures, c.consume.ensures, c.if-not-feed.ensures.fed) refl in
-    let over = subst (λ m. IsOver (g.M.Machine.rules m) c.args.name c.loop-name.self) i.machine c.loop-name-test.ensures in
-    record {
-      name = refl;
-      machine = rw made i.machine;
-      count = suc i.count;
-      over = rw made (over-more (g.M.Machine.rules c.args.self.now.machine) c.args.name i.count c.args.self.now c.loop-name.self i.over over);
-    }
+pub over_until-to-requires : goal.over_until-to-requires
+over_until-to-requires g c =
+    let t = c.self.inside in let sound = c.self.invariant in
+    let inside : t.end.0 ≤ length t.bytes.now = rw sound.known.own_bytes (end-inside t sound) in let before = sound.known.is_plain_until.before in
+    record { inside = omega (arith, inside, before) }
+
+pub bounds-self-inside-to : goal.bounds-self-inside-to
+bounds-self-inside-to g c =
+    let t = c.self.inside in let sound = c.self.invariant in
+    let inside : t.end.0 ≤ length t.bytes.now = rw sound.known.own_bytes (end-inside t sound) in let before = sound.known.is_plain_until.before in
+    let more = c.if-from-to.true in let upto = c.over_until-to.ensures.until more in
+    omega (arith, inside, before, more, upto)
+
+pub pass_over-requires-clause-column : goal.pass_over-requires-clause-column
+pass_over-requires-clause-column g c =
+    let t = c.self.inside in let h = c.over_until-to in let more = c.if-from-to.true in
+    passed-fits (g.M.Machine.rules (seen t).machine) c.args.name t c.self.invariant h.result more (h.ensures.until more) h.ensures.over
+
+pub invariant_of-self : goal.invariant_of-self
+invariant_of-self g c =
+    let t = c.self.inside in let h = c.over_until-to in let more = c.if-from-to.true in
+    passed-sound (g.M.Machine.rules (seen t).machine) c.args.name t c.self.invariant h.result more (h.ensures.until more) h.ensures.over
+    c.pass_over.new.point c.pass_over.ensures c.more-self-inside.result c.more-self-inside.ensures
+
+pub returns-then-from-to : goal.returns-then-from-to
+returns-then-from-to g c =
+    let t = c.self.inside in let h = c.over_until-to in let more = c.if-from-to.true in
+    rw (← c.self.view_is) (
+      h.result - t.after_previous.index,
+      passed-over (g.M.Machine.rules (seen t).machine) c.args.name t c.self.invariant h.result more (h.ensures.until more) h.ensures.over
+          c.pass_over.new.point c.pass_over.ensures c.more-self-inside.result c.more-self-inside.ensures,
+    )
