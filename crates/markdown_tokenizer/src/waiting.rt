@@ -1,6 +1,6 @@
 //! What waits in a tokenizer: a byte, the end, or choices.
 
-use markdown_base::event::Point;
+use markdown_base::event::{self, Event, Point};
 use markdown_base::state::{Name, State};
 
 /// What waits to be read.
@@ -128,31 +128,50 @@ impl KeptChoice {
     }
 }
 
-ghost use Rattle.std.specs.Prelude.{◌≡◌, reverse};
-ghost use Rattle.markdown_tokenizer.specs.Unwound.{unwound, ended_by, unwinding};
+ghost use Rattle.std.specs.Prelude.{◌≡◌, length, reverse, take};
+ghost use Rattle.markdown_tokenizer.specs.Unwound.{unwound, ended_by, unwinding, progress_at, AreWithin};
 
-/// Ends choices, the last first, until one goes on with a state, or none is left. A choice that goes back restores what
-/// it saved. Returns what to go on with, and from where.
+/// Ends choices, the last first, until one goes on with a state, or none is left. Returns what to go on with.
+///
+/// A choice that goes back puts back what it saved, in place: the place, the byte before it, whether the end was fed, and how many
+/// events and open spans there were.
+#[inline(always)]
 pub(crate) fn unwind(
     kept_choices: &mut Vec<KeptChoice>,
     ok: bool,
-    from: Progress,
-) -> (GoesOn, Progress)
-    ensures { unwinding (reverse kept_choices.new.items) result.0 result.1 ≡ unwound (reverse kept_choices.old.items) (ended_by ok) from }
+    after_previous: &mut Point,
+    previous: &mut Option<u8>,
+    ended: &mut bool,
+    events: &mut Vec<Event>,
+    stack: &mut Vec<event::Name>,
+) -> GoesOn
+    requires within { AreWithin events.old.items stack.old.items (reverse kept_choices.old.items) }
+    ensures ends { unwinding (reverse kept_choices.new.items) result (progress_at after_previous.new previous.new ended.new events.new.items stack.new.items)
+        ≡ unwound (reverse kept_choices.old.items) (ended_by ok) (progress_at after_previous.old previous.old ended.old events.old.items stack.old.items) }
+    ensures events { events.new.items ≡ take (length events.new.items) events.old.items }
+    ensures stack { stack.new.items ≡ take (length stack.new.items) stack.old.items }
 {
     let mut continuation = if ok { GoesOn::Ok } else { GoesOn::Nok };
-    let mut from = from;
     loop {
         let ok = match continuation {
-            GoesOn::Next(_) => return (continuation, from),
+            GoesOn::Next(_) => return continuation,
             GoesOn::Ok => true,
             GoesOn::Nok => false,
         };
         match kept_choices.pop() {
-            None => return (continuation, from),
+            None => return continuation,
             Some(choice) => {
                 continuation = choice.continuation(ok);
-                from = choice.saved_for(ok).unwrap_or(from);
+                match choice.saved_for(ok) {
+                    None => {}
+                    Some(saved) => {
+                        *after_previous = saved.after_previous;
+                        *previous = saved.previous;
+                        *ended = saved.ended;
+                        events.truncate(saved.events_len);
+                        stack.truncate(saved.stack_len);
+                    }
+                }
             }
         }
     }

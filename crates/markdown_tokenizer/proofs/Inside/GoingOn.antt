@@ -1,53 +1,19 @@
 -- Choices end, and what they go on with is fed: what that does to the fields of a tokenizer, and what it means.
-use Rattle.markdown_tokenizer.proofs.Prelude.{eqb-true, ◌≡◌, ◌==◌, ℕ, ◌≤◌, ◌<◌, List, [], ◌∷◌, ◌++◌, Bool, true, false, Option, Some, None, length, refl, sym, ap, ◌∙◌, subst, arith, take, length-take, ◌⊎◌, inl, inr, map, reverse, IfSome, IsSome, All-take, IsPointOf, unwrap_or, Result, Vec, take-take, take-length, length-map, length_push, lt-ltb, le-ltb, Event, Kind, Enter, Exit, Point, State, Next, Ok, Nok, open_events, shown, stands-self, AttemptKind, Attempt, Check, GoesOn, KeptChoice, Other, Progress, Waits, Nothing, Byte, End, Reading, Inside, Configuration, Choice, Saved, Step, Local, TokenizerValue, unfed, restored, settled_at, settled_all, settled_to, answer_of, answer_in, EndsClosed, TakesUp, continuation_of, saved_for, ended_by, Unwinding, unwinding, unwound, resumed, IsPlainUntil, IsMade, last_kind, IsNextByte, seen, text_within, state_of, choice_of, saved_of, standing, reach, can_feed, IsWhatWaits, AreNested, events_of, stack_of, IsSound}
+use Rattle.markdown_tokenizer.proofs.Prelude.{eqb-true, ◌≡◌, ◌==◌, ℕ, ◌≤◌, ◌<◌, List, [], ◌∷◌, ◌++◌, Bool, true, false, Option, Some, None, length, refl, sym, ap, ◌∙◌, subst, arith, take, length-take, ◌⊎◌, inl, inr, map, reverse, IfSome, IsSome, All-take, IsPointOf, unwrap_or, Result, Vec, take-take, take-length, length-map, length_push, lt-ltb, le-ltb, Event, Kind, Enter, Exit, Point, State, Next, Ok, Nok, open_events, shown, stands-self, AttemptKind, Attempt, Check, GoesOn, KeptChoice, Other, Progress, Waits, Nothing, Byte, End, Reading, Inside, Configuration, Choice, Saved, Step, Local, TokenizerValue, unfed, restored, settled_at, settled_all, settled_to, answer_of, answer_in, EndsClosed, TakesUp, continuation_of, saved_for, ended_by, Unwinding, unwinding, unwound, resumed, IsPlainUntil, IsMade, last_kind, IsNextByte, seen, text_within, state_of, choice_of, saved_of, standing, reach, can_feed, IsWhatWaits, AreNested, AreWithin, progress_at, IsSound}
 use Rattle.std.proofs.lemmas.Bool.{or_from, or_left, or_right}
 use Rattle.std.proofs.lemmas.List.{length-reverse}
 use Rattle.std.specs.declared.result.Result.TheVariants as result
 use Rattle.markdown_base.specs.declared.event.Name.{Name}
 use Rattle.markdown_base.specs.declared.state.Name.{Name as StateName}
 use Rattle.markdown_tokenizer.specs.declared.waiting.GoesOn.TheVariants as goes_on
-use Rattle.markdown_tokenizer.proofs.Inside.Fields.{Saves, MadeUpto, wide_of, placed-there, looks, next-more, next-past, next-none-left, nested-as, bytes_within, tab_within, position_within, size_within}
+use Rattle.markdown_tokenizer.proofs.Inside.Fields.{Saves, MadeUpto, wide_of, placed-there, looks, next-more, next-past, next-none-left, nested-map, bytes_within, tab_within, position_within, size_within}
 use Rattle.markdown_tokenizer.proofs.Inside.Steps.{before-end}
 use Rattle.markdown_tokenizer.proofs.Inside.Spans.{same-front, same-choices}
 use Rattle.markdown_tokenizer.proofs.Inside.Known.{known-other}
 use Rattle.markdown_tokenizer.proofs.Inside.Choices.{progress_of, saves-here}
+use Rattle.markdown_tokenizer.proofs.Inside.Unwinding.{GoesFrom, from-one, from-all}
 use Rattle.markdown_tokenizer.proofs.Inside.Made.{last_view, last_kind-append, open_events-enter}
 use Rattle.markdown_tokenizer.proofs.Positions.Order.{is-not}
-
--- what choices saved
-module _ (P : Progress → Type 0) where
-  abbrev pub GoesFrom : Progress → List KeptChoice → Progress → Type 0
-  GoesFrom from kept_choices p = P p × AreNested P p.events_len p.stack_len kept_choices × ((p.events_len ≤ from.events_len) × (p.stack_len ≤ from.stack_len))
-
-  from-saved : (from : Progress) (saved : Option Progress) (kept_choices : List KeptChoice) → P from → IfSome saved (λ p. (p.events_len ≤ from.events_len) × (p.stack_len ≤ from.stack_len) × P p)
-      → AreNested P (events_of from.events_len saved) (stack_of from.stack_len saved) kept_choices → GoesFrom from kept_choices (unwrap_or saved from)
-  from-saved from None kept_choices now h k = (now, k, (omega arith, omega arith))
-  from-saved from (Some p) kept_choices now h k = (h.2, k, (h.0, h.1))
-
-  from-one : (kind : AttemptKind) (ok nok : GoesOn) (saved : Option Progress) (kept_choices : List KeptChoice) (from : Progress) (b : Bool)
-      → let choice : KeptChoice = record { kind = kind; ok = ok; nok = nok; saved = saved } in
-      P from → AreNested P from.events_len from.stack_len (choice ∷ kept_choices) → GoesFrom from kept_choices (unwrap_or (saved_for choice b) from)
-  from-one Attempt ok nok saved kept_choices from true now h =
-      let front = elim saved as (λ (saved : Option Progress). AreNested P from.events_len from.stack_len (record { kind = Attempt; ok = ok; nok = nok; saved = saved } ∷ kept_choices)
-      → AreNested P from.events_len from.stack_len kept_choices) [
-        | None ↦ λ k. k.1
-        | Some p ↦ λ k. nested-as P P p.events_len p.stack_len from.events_len from.stack_len kept_choices (λ q x y l. (omega arith, omega arith, l)) k.1
-      ] in
-      (now, front h, (omega arith, omega arith))
-  from-one Check ok nok saved kept_choices from true now h = from-saved from saved kept_choices now h.0 h.1
-  from-one _ ok nok saved kept_choices from false now h = from-saved from saved kept_choices now h.0 h.1
-
-  pub from-all : (kept_choices : List KeptChoice) (continuation : GoesOn) (from : Progress) → P from → AreNested P from.events_len from.stack_len kept_choices
-      → let u = unwound kept_choices continuation from in GoesFrom from u.kept_choices u.from
-  from-all (choice ∷ kept_choices) goes_on.Ok from now h =
-      let one = from-one choice.kind choice.ok choice.nok choice.saved kept_choices from true now h in
-      let all = from-all kept_choices (continuation_of choice true) (unwrap_or (saved_for choice true) from) one.0 one.1 in
-      (all.0, all.1, (omega (arith, all.2.0, one.2.0), omega (arith, all.2.1, one.2.1)))
-  from-all (choice ∷ kept_choices) goes_on.Nok from now h =
-      let one = from-one choice.kind choice.ok choice.nok choice.saved kept_choices from false now h in
-      let all = from-all kept_choices (continuation_of choice false) (unwrap_or (saved_for choice false) from) one.0 one.1 in
-      (all.0, all.1, (omega (arith, all.2.0, one.2.0), omega (arith, all.2.1, one.2.1)))
-  from-all _ _ from now h = (now, h, (omega arith, omega arith))
 
 -- what one goes on from
 module _ {R D : Type 0} (position : Point → ℕ) (events : List Event) (stack : List Name) (local : Local R D) where
@@ -129,13 +95,18 @@ pub record IsUnwound {M R D : Type 0} (t : Inside M R D) (ok : Bool) (kept_choic
   pub top : stack.items ≡ take from.stack_len t.stack.items
   pub near : IsPlainUntil t.skips from.after_previous t.end.0 plain_until
 
+-- what choices saved is no more than there is
+pub kept-within : {M R D : Type 0} {same : R → R → Bool} (t : Inside M R D) → IsSound same t → AreWithin t.events.items t.stack.items (reverse t.kept_choices.items)
+kept-within t sound = nested-map (Saves t) (λ p. Unit {0}) (length t.events.items) (length t.stack.items) (reverse t.kept_choices.items) (λ p a b k. tt) sound.kept_choices
+
 -- from what the calls of the code return
-pub unwound-by : {M R D : Type 0} (t : Inside M R D) (ok : Bool) (kept_choices : Vec KeptChoice) (continuation : GoesOn) (from : Progress) (events : Vec Event) (stack : Vec Name) (plain_until events_len stack_len choices_len : ℕ) (none : Bool)
-    → none ≡ (choices_len == 0) → none ≡ false → choices_len ≡ length t.kept_choices.items → events_len ≡ length t.events.items → stack_len ≡ length t.stack.items
-    → unwinding (reverse kept_choices.items) continuation from ≡ unwound (reverse t.kept_choices.items) (ended_by ok) (record { after_previous = t.after_previous; previous = t.previous; ended = t.ended; events_len = events_len; stack_len = stack_len })
-    → events.items ≡ take from.events_len t.events.items → stack.items ≡ take from.stack_len t.stack.items → IsPlainUntil t.skips from.after_previous t.end.0 plain_until → IsUnwound t ok kept_choices continuation from events stack plain_until
-unwound-by t ok kept_choices continuation from events stack plain_until events_len stack_len choices_len none is some count a b ends cut top near =
-    let nonzero = is-not choices_len 0 (sym is ∙ some) in record { some = omega (arith, nonzero, count); ends = rw (a, b) at ends; cut = cut; top = top; near = near }
+pub unwound-by : {M R D : Type 0} (t : Inside M R D) (ok : Bool) (kept_choices : Vec KeptChoice) (continuation : GoesOn) (after_previous : Point) (previous : Option ℕ) (ended : Bool) (events : Vec Event) (stack : Vec Name) (plain_until choices_len : ℕ) (none : Bool)
+    → none ≡ (choices_len == 0) → none ≡ false → choices_len ≡ length t.kept_choices.items
+    → let from = progress_at after_previous previous ended events.items stack.items in
+    unwinding (reverse kept_choices.items) continuation from ≡ unwound (reverse t.kept_choices.items) (ended_by ok) (progress_of t)
+    → events.items ≡ take from.events_len t.events.items → stack.items ≡ take from.stack_len t.stack.items → IsPlainUntil t.skips after_previous t.end.0 plain_until → IsUnwound t ok kept_choices continuation from events stack plain_until
+unwound-by t ok kept_choices continuation after_previous previous ended events stack plain_until choices_len none is some count ends cut top near =
+    let nonzero = is-not choices_len 0 (sym is ∙ some) in record { some = omega (arith, nonzero, count); ends = ends; cut = cut; top = top; near = near }
 
 -- a tokenizer whose choices end
 module _ {M R D : Type 0} {same : R → R → Bool} (t : Inside M R D) (sound : IsSound same t) {ok : Bool} {kept_choices : Vec KeptChoice} {continuation : GoesOn} {from : Progress} {events : Vec Event} {stack : Vec Name} {plain_until : ℕ}

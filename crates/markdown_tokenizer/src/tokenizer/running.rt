@@ -19,7 +19,7 @@ use crate::cursor::{Moves, next_byte_from, pass_over, plain_until};
 use crate::parser::ParseState;
 use crate::state::{Machine, MachineTypes, Name, State};
 use crate::subtokenize::Subresult;
-use crate::waiting::{GoesOn, Phase, Progress, Waits, unwind};
+use crate::waiting::{GoesOn, Phase, Waits, unwind};
 use markdown_base::event::{Event, Point};
 use markdown_base::owned::Items;
 use std::alloc::{AllocError, Global};
@@ -142,21 +142,17 @@ impl<'a, M: MachineTypes> Tokenizer<'a, M> {
             let last = if ok { GoesOn::Ok } else { GoesOn::Nok };
             return Err(last);
         }
-        let from = Progress {
-            after_previous: self.after_previous,
-            previous: self.previous,
-            ended: self.ended,
-            events_len: self.events.len(),
-            stack_len: self.stack.len(),
-        };
-        let (continuation, from) = unwind(&mut self.kept_choices, ok, from);
-        self.after_previous = from.after_previous;
-        self.previous = from.previous;
-        self.ended = from.ended;
-        self.events.truncate(from.events_len);
-        self.stack.truncate(from.stack_len);
+        let continuation = unwind(
+            &mut self.kept_choices,
+            ok,
+            &mut self.after_previous,
+            &mut self.previous,
+            &mut self.ended,
+            &mut self.events,
+            &mut self.stack,
+        );
         self.waits = Waits::Nothing;
-        self.plain_until = plain_until(&self.skips, &from.after_previous, self.end.0);
+        self.plain_until = plain_until(&self.skips, &self.after_previous, self.end.0);
         self.moves = Moves::Other;
         let name = match continuation {
             GoesOn::Next(name) => name,
@@ -164,7 +160,7 @@ impl<'a, M: MachineTypes> Tokenizer<'a, M> {
             GoesOn::Nok => return Err(GoesOn::Nok),
         };
         let bytes = self.parse_state.bytes;
-        match next_byte_from(bytes, &self.skips, &from.after_previous, self.end) {
+        match next_byte_from(bytes, &self.skips, &self.after_previous, self.end) {
             Some(byte) => {
                 self.waits = Waits::Byte;
                 self.byte = byte;

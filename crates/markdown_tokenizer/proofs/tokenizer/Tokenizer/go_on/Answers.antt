@@ -1,17 +1,20 @@
-use Rattle.markdown_tokenizer.proofs.Prelude.{◌≡◌, ◌∙◌, refl, ap, inl, inr, Some, None, state_of, answer_of}
-use Rattle.markdown_tokenizer.proofs.Inside.GoingOn.{IsUnwound, none-by, takes-ended, unwound-by, next-there, within-there, byte-sound, end-sound, none-sound, ended-sound, closes, takes-byte, takes-end, takes-none, takes-ok, takes-nok}
+use Rattle.markdown_tokenizer.proofs.Prelude.{◌≡◌, ◌∙◌, refl, ap, inl, inr, Some, None, state_of, answer_of, progress_at}
+use Rattle.markdown_tokenizer.proofs.Inside.GoingOn.{IsUnwound, kept-within, none-by, takes-ended, unwound-by, next-there, within-there, byte-sound, end-sound, none-sound, ended-sound, closes, takes-byte, takes-end, takes-none, takes-ok, takes-nok}
 use Rattle.markdown_tokenizer.proofs.tokenizer.Tokenizer.go_on.Given.{Over}
 use Rattle.markdown_tokenizer.proofs.tokenizer.Tokenizer.go_on.Goals.{After-plain_until-self-inside, then-ok, else-ok}
 use Rattle.markdown_tokenizer.proofs.tokenizer.Tokenizer.go_on.Goals as goal
 
 -- the choices that ended
 ended : (g : Over) (c : After-plain_until-self-inside g)
-    → IsUnwound c.self.inside c.args.ok c.unwind-continuation.new.kept_choices c.unwind-continuation.result.0 c.unwind-continuation.result.1 c.truncate.new.self c.truncate-2.new.self c.plain_until-self-inside.result
+    → let u = c.unwind-continuation.new in
+    IsUnwound c.self.inside c.args.ok u.kept_choices c.unwind-continuation.result (progress_at u.after_previous u.previous u.ended u.events.items u.stack.items) u.events u.stack c.plain_until-self-inside.result
 ended g c =
-    let t = c.self.inside in
-    unwound-by t c.args.ok c.unwind-continuation.new.kept_choices c.unwind-continuation.result.0 c.unwind-continuation.result.1 c.truncate.new.self c.truncate-2.new.self c.plain_until-self-inside.result
-    _ _ _ _ c.is_empty.ensures c.if-is_empty.false t.kept_choices.ok.0 (c.len.ensures ∙ t.events.ok.0) (c.len-2.ensures ∙ t.stack.ok.0)
-    c.unwind-continuation.ensures c.truncate.ensures.items c.truncate-2.ensures.items c.plain_until-self-inside.ensures
+    let t = c.self.inside in let u = c.unwind-continuation in
+    unwound-by t c.args.ok u.new.kept_choices u.result u.new.after_previous u.new.previous u.new.ended u.new.events u.new.stack c.plain_until-self-inside.result
+    _ _ c.is_empty.ensures c.if-is_empty.false t.kept_choices.ok.0 u.ensures.ends u.ensures.events u.ensures.stack c.plain_until-self-inside.ensures
+
+pub unwind-continuation-requires : goal.unwind-continuation-requires
+unwind-continuation-requires g c = record { within = kept-within c.self.inside c.self.invariant }
 
 pub returns-then-is_empty : goal.returns-then-is_empty
 returns-then-is_empty g c =
