@@ -1,5 +1,5 @@
 -- Choices end, and what they go on with is fed: what that does to the fields of a tokenizer, and what it means.
-use Rattle.markdown_tokenizer.proofs.Prelude.{eqb-true, ◌≡◌, ◌==◌, ℕ, ◌≤◌, ◌<◌, List, [], ◌∷◌, ◌++◌, Bool, true, false, Option, Some, None, length, refl, sym, ap, ◌∙◌, subst, arith, take, length-take, ◌⊎◌, inl, inr, map, reverse, IfSome, IsSome, All-take, IsPointOf, unwrap_or, Result, Vec, take-take, take-length, length-map, length_push, lt-ltb, le-ltb, Event, Kind, Enter, Exit, Point, State, Next, Ok, Nok, open_events, shown, stands-self, AttemptKind, Attempt, Check, GoesOn, KeptChoice, Other, Progress, Waits, Nothing, Byte, End, Reading, Inside, Configuration, Choice, Saved, Step, Local, TokenizerValue, unfed, restored, settled_at, settled_all, settled_to, answer_of, answer_in, EndsClosed, TakesUp, continuation_of, saved_for, ended_by, Unwinding, unwinding, unwound, resumed, IsPlainUntil, IsMade, last_kind, IsNextByte, seen, text_within, state_of, choice_of, saved_of, standing, reach, can_feed, IsWhatWaits, AreNested, AreWithin, progress_at, IsSound}
+use Rattle.markdown_tokenizer.proofs.Prelude.{eqb-true, ◌≡◌, ◌==◌, ℕ, ◌≤◌, ◌<◌, List, [], ◌∷◌, ◌++◌, Bool, true, false, Option, Some, None, length, refl, sym, ap, ◌∙◌, subst, arith, take, length-take, ◌⊎◌, inl, inr, map, reverse, IfSome, IsSome, All-take, IsPointOf, unwrap_or, Result, Vec, take-take, take-length, length-map, length_push, lt-ltb, le-ltb, Event, Kind, Enter, Exit, Point, State, Next, Ok, Nok, open_events, shown, stands-self, AttemptKind, Attempt, Check, GoesOn, KeptChoice, Moves, Other, NextByteIsKnown, IsPlace, IsQuick, IsSeatAt, Progress, Waits, Nothing, Byte, End, Reading, Inside, Configuration, Choice, Saved, Step, Local, TokenizerValue, unfed, restored, settled_at, settled_all, settled_to, answer_of, answer_in, EndsClosed, TakesUp, continuation_of, saved_for, ended_by, Unwinding, unwinding, unwound, resumed, IsPlainUntil, IsMade, last_kind, IsNextByte, seen, text_within, state_of, choice_of, saved_of, standing, reach, can_feed, IsWhatWaits, AreNested, AreWithin, progress_at, IsSound}
 use Rattle.std.proofs.lemmas.Bool.{or_from, or_left, or_right}
 use Rattle.std.proofs.lemmas.List.{length-reverse}
 use Rattle.std.specs.declared.result.Result.TheVariants as result
@@ -9,7 +9,7 @@ use Rattle.markdown_tokenizer.specs.declared.waiting.GoesOn.TheVariants as goes_
 use Rattle.markdown_tokenizer.proofs.Inside.Fields.{Saves, MadeUpto, wide_of, placed-there, looks, next-more, next-past, next-none-left, nested-map, bytes_within, tab_within, position_within, size_within}
 use Rattle.markdown_tokenizer.proofs.Inside.Steps.{before-end}
 use Rattle.markdown_tokenizer.proofs.Inside.Spans.{same-front, same-choices}
-use Rattle.markdown_tokenizer.proofs.Inside.Known.{known-other}
+use Rattle.markdown_tokenizer.proofs.Inside.Known.{known-other, resumed-in-line}
 use Rattle.markdown_tokenizer.proofs.Inside.Choices.{progress_of, saves-here}
 use Rattle.markdown_tokenizer.proofs.Inside.Unwinding.{GoesFrom, from-one, from-all}
 use Rattle.markdown_tokenizer.proofs.Inside.Made.{last_view, last_kind-append, open_events-enter}
@@ -158,12 +158,18 @@ module _ {M R D : Type 0} {same : R → R → Bool} (t : Inside M R D) (sound : 
   none-left (inr m) = next-past t sound goes-from.0.read m.0 m.1 (before-end t sound m.0.point ∙ m.2)
 
   -- the fields once the choices have ended
-  abbrev after : Waits → Bool → ℕ → Inside M R D
-  after waits ended byte = record t { kept_choices = kept_choices; after_previous = from.after_previous; previous = from.previous; events = events; stack = stack; waits = waits; ended = ended; byte = byte; plain_until = plain_until; moves = Other }
+  abbrev after : Waits → Bool → ℕ → Moves → Inside M R D
+  after waits ended byte moves = record t { kept_choices = kept_choices; after_previous = from.after_previous; previous = from.previous; events = events; stack = stack; waits = waits; ended = ended; byte = byte; plain_until = plain_until; moves = moves }
 
-  sound-by : (waits : Waits) (ended : Bool) (byte : ℕ) → IsWhatWaits (tab_within t) (bytes_within t) t.skips (text_within t) from.after_previous byte t.closed waits → (ended ≡ true → t.closed ≡ true)
-      → (t.phase ≡ Reading → MadeUpto t events.items stack.items from.after_previous (standing t.skips from.after_previous waits)) → IsSound same (after waits ended byte)
-  sound-by waits ended byte w e m = record {
+  abbrev KnownThere : Waits → Moves → Type 0
+  KnownThere = NextByteIsKnown t.bytes.now (tab_within t) (bytes_within t) t.skips from.after_previous t.end.0 plain_until
+
+  unknown : (waits : Waits) → KnownThere waits Other
+  unknown = known-other t.skips from.after_previous t.end.0 t.bytes.now (tab_within t) (bytes_within t) sound.known.own_bytes plain_until h.near
+
+  sound-by : (waits : Waits) (ended : Bool) (byte : ℕ) (moves : Moves) → KnownThere waits moves → IsWhatWaits (tab_within t) (bytes_within t) t.skips (text_within t) from.after_previous byte t.closed waits → (ended ≡ true → t.closed ≡ true)
+      → (t.phase ≡ Reading → MadeUpto t events.items stack.items from.after_previous (standing t.skips from.after_previous waits)) → IsSound same (after waits ended byte moves)
+  sound-by waits ended byte moves known w e m = record {
     placed = placed-there sound.placed goes-from.0.read w e sound.placed.reads;
     made = m;
     at_places = λ reads. let cut = h.cut in rw cut (All-take (λ e. IsPointOf (tab_within t) (bytes_within t) e.point) from.events_len t.events.items (sound.at_places reads));
@@ -172,32 +178,55 @@ module _ {M R D : Type 0} {same : R → R → Bool} (t : Inside M R D) (sound : 
         (omega (arith, goes-from.2.1, ap length h.top, length-take from.stack_len t.stack.items))
         (λ n le. let cut = h.cut in rw cut (take-take n from.events_len t.events.items le)) front-stack goes-from.1;
     once = sound.once;
-    known = known-other t.skips from.after_previous t.end.0 t.bytes.now (tab_within t) (bytes_within t) sound.known.own_bytes plain_until h.near waits;
+    known = known;
   }
 
   -- a byte
-  pub byte-sound : (byte : ℕ) → NextThere (Some byte) → IsSound same (after Byte from.ended byte)
-  byte-sound byte n = sound-by Byte from.ended byte (record { seat = n.0; at = n.1; before = before-end t sound n.0.point ∙ n.2; is = sym n.3 }) goes-from.0.ended
+  sound-at : (byte : ℕ) (moves : Moves) → KnownThere Byte moves → NextThere (Some byte) → IsSound same (after Byte from.ended byte moves)
+  sound-at byte moves known n = sound-by Byte from.ended byte moves known (record { seat = n.0; at = n.1; before = before-end t sound n.0.point ∙ n.2; is = sym n.3 }) goes-from.0.ended
       (reach-is true (or_left _ t.closed (lt-ltb position_there (size_within t) (byte-left byte n))))
 
+  pub byte-sound : (byte : ℕ) → NextThere (Some byte) → IsSound same (after Byte from.ended byte Other)
+  byte-sound byte n = sound-at byte Other (unknown Byte) n
+
+  -- a byte that is told by the one at its index
+  pub quick-place : IsPlace t.tab_size t.bytes.now from.after_previous
+  quick-place = let tab = sound.placed.tab in let own = sound.known.own_bytes in rw (tab, own) goes-from.0.read.place
+
+  module _ (byte : ℕ) (moves : Moves) (q : IsQuick t.tab_size t.bytes.now from.after_previous plain_until t.end.0 byte moves) where
+    quick-in : IsQuick (tab_within t) (bytes_within t) from.after_previous plain_until t.end.0 byte moves
+    quick-in = subst (λ (n : ℕ). IsQuick n (bytes_within t) from.after_previous plain_until t.end.0 byte moves) sound.placed.tab
+        (subst (λ (b : List ℕ). IsQuick t.tab_size b from.after_previous plain_until t.end.0 byte moves) sound.known.own_bytes q)
+
+    quick-is-there : resumed t.skips from.after_previous ≡ from.after_previous
+    quick-is-there = elim quick-in.there [ inl k ↦ h.near.there k | inr k ↦ resumed-in-line t.skips from.after_previous k ]
+
+    pub quick-next : NextThere (Some byte)
+    quick-next =
+        let e = quick-in.here in let f = lt-ltb from.after_previous.index t.end.0 quick-in.before in
+        (quick-in.seat, subst (λ (p : Point). IsSeatAt (tab_within t) (bytes_within t) p quick-in.seat) (sym quick-is-there) quick-in.at, rw (e, f) refl, quick-in.is)
+
+    pub quick-sound : IsSound same (after Byte from.ended byte moves)
+    quick-sound = sound-at byte moves (record { own_bytes = sound.known.own_bytes; is_plain_until = h.near; there = λ w o. quick-is-there; over = λ w o. quick-in.over }) quick-next
+
   -- the end
-  pub end-sound : NextThere None → t.closed ≡ true → IsSound same (after End true t.byte)
-  end-sound n closed = sound-by End true t.byte (record { closed_too = closed; all = none-left n }) (λ _. closed) (reach-is true (or_right _ t.closed closed))
+  pub end-sound : NextThere None → t.closed ≡ true → IsSound same (after End true t.byte Other)
+  end-sound n closed = sound-by End true t.byte Other (unknown End) (record { closed_too = closed; all = none-left n }) (λ _. closed) (reach-is true (or_right _ t.closed closed))
 
   -- nothing
-  pub none-sound : NextThere None → t.closed ≡ false → IsSound same (after Nothing from.ended t.byte)
-  none-sound n still = sound-by Nothing from.ended t.byte tt goes-from.0.ended (reach-is false (or_from _ t.closed (le-ltb position_there (size_within t) (none-left n)) still))
+  pub none-sound : NextThere None → t.closed ≡ false → IsSound same (after Nothing from.ended t.byte Other)
+  none-sound n still = sound-by Nothing from.ended t.byte Other (unknown Nothing) tt goes-from.0.ended (reach-is false (or_from _ t.closed (le-ltb position_there (size_within t) (none-left n)) still))
 
   -- the reading has ended
-  pub ended-sound : stack.items ≡ [] → IsSound same (after Nothing from.ended t.byte)
-  ended-sound e = sound-by Nothing from.ended t.byte tt goes-from.0.ended
+  pub ended-sound : stack.items ≡ [] → IsSound same (after Nothing from.ended t.byte Other)
+  ended-sound e = sound-by Nothing from.ended t.byte Other (unknown Nothing) tt goes-from.0.ended
       (λ reads. made-closed (bytes_within t) events.items stack.items (shown (bytes_within t) from.after_previous) (shown (bytes_within t) (reach t.skips from.after_previous (can_feed position_there (size_within t) t.closed))) (reach-is _ refl reads) e)
 
   abbrev waiting_there : Waits → Bool → TokenizerValue M R D
   waiting_there waits ended = record (seen t) { configuration = record step_there.configuration { waiting = waits; ended = ended }; choices = step_there.choices }
 
-  seen-there : (waits : Waits) (ended : Bool) (byte : ℕ) → seen (after waits ended byte) ≡ waiting_there waits ended
-  seen-there waits ended byte =
+  seen-there : (waits : Waits) (ended : Bool) (byte : ℕ) (moves : Moves) → seen (after waits ended byte moves) ≡ waiting_there waits ended
+  seen-there waits ended byte moves =
       let choices = same-choices (position_within t) (position_within t) stack.items t.stack.items (Saves t) from.events_len from.stack_len (reverse kept_choices.items)
       (λ p le saved. rw (front-stack p.stack_len le) refl) goes-from.1 in
       rw (choices, h.cut, h.top) refl
@@ -216,20 +245,20 @@ module _ {M R D : Type 0} {same : R → R → Bool} (t : Inside M R D) (sound : 
     by-step new answer takes = subst (λ (s : Step R D). TakesUp flush (settled_to (seen t) s) new s.answer answer) (sym settled-is) takes
 
     -- what waits, and for which state
-    pub takes-byte : (name : StateName) (byte : ℕ) → continuation ≡ goes_on.Next name → NextThere (Some byte) → TakesThere (seen (after Byte from.ended byte)) (result.Ok name)
-    takes-byte name byte e n =
+    pub takes-byte : (name : StateName) (byte : ℕ) (moves : Moves) → continuation ≡ goes_on.Next name → NextThere (Some byte) → TakesThere (seen (after Byte from.ended byte moves)) (result.Ok name)
+    takes-byte name byte moves e n =
         let lt = byte-left byte n in
-        by-step _ _ (rw e (refl, rw (lt-ltb position_there (size_within t) lt) (seen-there Byte from.ended byte), λ f. lt))
+        by-step _ _ (rw e (refl, rw (lt-ltb position_there (size_within t) lt) (seen-there Byte from.ended byte moves), λ f. lt))
 
-    pub takes-end : (name : StateName) → continuation ≡ goes_on.Next name → flush ≡ true → NextThere None → TakesThere (seen (after End true t.byte)) (result.Ok name)
+    pub takes-end : (name : StateName) → continuation ≡ goes_on.Next name → flush ≡ true → NextThere None → TakesThere (seen (after End true t.byte Other)) (result.Ok name)
     takes-end name e f n =
-        by-step _ _ (rw e (refl, rw (le-ltb position_there (size_within t) (none-left n)) (seen-there End true t.byte), λ g. absurd (let c : true ≡ false = sym f ∙ g in cc)))
+        by-step _ _ (rw e (refl, rw (le-ltb position_there (size_within t) (none-left n)) (seen-there End true t.byte Other), λ g. absurd (let c : true ≡ false = sym f ∙ g in cc)))
 
-    pub takes-none : (name : StateName) → continuation ≡ goes_on.Next name → flush ≡ false → NextThere None → TakesThere (seen (after Nothing from.ended t.byte)) (result.Err (Next name))
-    takes-none name e f n = by-step _ _ (rw e (seen-there Nothing from.ended t.byte, refl, f, none-left n))
+    pub takes-none : (name : StateName) → continuation ≡ goes_on.Next name → flush ≡ false → NextThere None → TakesThere (seen (after Nothing from.ended t.byte Other)) (result.Err (Next name))
+    takes-none name e f n = by-step _ _ (rw e (seen-there Nothing from.ended t.byte Other, refl, f, none-left n))
 
-    pub takes-ok : continuation ≡ goes_on.Ok → TakesThere (seen (after Nothing from.ended t.byte)) (result.Err Ok)
-    takes-ok e = by-step _ _ (rw e (seen-there Nothing from.ended t.byte, refl))
+    pub takes-ok : continuation ≡ goes_on.Ok → TakesThere (seen (after Nothing from.ended t.byte Other)) (result.Err Ok)
+    takes-ok e = by-step _ _ (rw e (seen-there Nothing from.ended t.byte Other, refl))
 
-    pub takes-nok : continuation ≡ goes_on.Nok → TakesThere (seen (after Nothing from.ended t.byte)) (result.Err Nok)
-    takes-nok e = by-step _ _ (rw e (seen-there Nothing from.ended t.byte, refl))
+    pub takes-nok : continuation ≡ goes_on.Nok → TakesThere (seen (after Nothing from.ended t.byte Other)) (result.Err Nok)
+    takes-nok e = by-step _ _ (rw e (seen-there Nothing from.ended t.byte Other, refl))

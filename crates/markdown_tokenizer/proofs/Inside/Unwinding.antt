@@ -1,5 +1,5 @@
 -- Laws of choices that end.
-use Rattle.markdown_tokenizer.proofs.Prelude.{◌≡◌, ◌∙◌, ◌≤◌, List, [], ◌∷◌, ◌++◌, Bool, true, false, Option, Some, None, ap, sym, subst, refl, arith, reverse, reverse-append, length, point, IfSome, unwrap_or, Name, Event, AttemptKind, Attempt, Check, GoesOn, KeptChoice, Progress, AreNested, AreWithin, events_of, stack_of, continuation_of, ended_by, saved_for, progress_at, unwinding, unwound}
+use Rattle.markdown_tokenizer.proofs.Prelude.{◌≡◌, ◌∙◌, ◌≤◌, List, [], ◌∷◌, ◌++◌, Bool, true, false, Option, Some, None, ap, subst, refl, arith, reverse, reverse-append, point, IfSome, unwrap_or, Name, Event, AttemptKind, Attempt, Check, GoesOn, KeptChoice, Progress, AreNested, AreWithin, events_of, stack_of, continuation_of, ended_by, saved_for, progress_at, unwinding, unwound}
 use Rattle.markdown_base.specs.declared.event.Name.{Name as SpanName}
 use Rattle.markdown_tokenizer.specs.declared.waiting.GoesOn.TheVariants as goes_on
 use Rattle.markdown_tokenizer.proofs.Inside.Fields.{nested-as}

@@ -15,7 +15,7 @@ ghost use Rattle.markdown_tokenizer.specs.View.{taken_continuation};
 ghost use Rattle.markdown_tokenizer.specs.Work.{IsInText, extended, answer_of, HoldsAll, LeadsAll, ComesTo, OnlyWorked, Stops, settled_all, EndsClosed, GoesOnTo, taken_up, taken_by_next};
 
 use super::{Fault, Tokenizer};
-use crate::cursor::{Moves, next_byte_from, pass_over, plain_until};
+use crate::cursor::{Moves, next_byte_from, pass_over, plain_until, quick_byte};
 use crate::parser::ParseState;
 use crate::state::{Machine, MachineTypes, Name, State};
 use crate::subtokenize::Subresult;
@@ -159,6 +159,22 @@ impl<'a, M: MachineTypes> Tokenizer<'a, M> {
             GoesOn::Ok => return Err(GoesOn::Ok),
             GoesOn::Nok => return Err(GoesOn::Nok),
         };
+        let next = quick_byte(
+            self.bytes,
+            &self.tab_size,
+            &self.after_previous,
+            self.plain_until,
+            self.end.0,
+        );
+        match next {
+            Some((byte, moves)) => {
+                self.waits = Waits::Byte;
+                self.byte = byte;
+                self.moves = moves;
+                return Ok(name);
+            }
+            None => {}
+        }
         let bytes = self.parse_state.bytes;
         match next_byte_from(bytes, &self.skips, &self.after_previous, self.end) {
             Some(byte) => {

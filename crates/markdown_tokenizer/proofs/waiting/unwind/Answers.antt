@@ -1,4 +1,4 @@
-use Rattle.markdown_tokenizer.proofs.Prelude.{◌≡◌, ◌∙◌, Bool, GoesOn, ap, sym, reverse, ended_by, progress_at}
+use Rattle.markdown_tokenizer.proofs.Prelude.{◌≡◌, ◌∙◌, ap, sym, reverse, ended_by, progress_at}
 use Rattle.markdown_tokenizer.proofs.Inside.Unwinding.{unwound-next, unwound-none, within-none}
 use Rattle.markdown_tokenizer.proofs.waiting.unwind.Goals.{in-Ok, in-Nok}
 use Rattle.markdown_tokenizer.proofs.waiting.unwind.Goals as goal
