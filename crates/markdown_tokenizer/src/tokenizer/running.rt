@@ -332,13 +332,8 @@ impl<'a, M: Machine> Tokenizer<'a, M> {
         ensures { (n : ℕ) × HasReadOver (M.rules self.old.machine) name n self.old self.new }
     {
         let from = self.after_previous.index;
-        let to = over_until(
-            self.parse_state.machine,
-            name,
-            self.bytes,
-            from,
-            self.plain_until,
-        );
+        let until = self.plain_until;
+        let to = over_until(self.parse_state.machine, name, self.bytes, from, until);
         if from < to {
             let byte = self.bytes[to - 1];
             pass_over(&mut self.after_previous, to - from);
