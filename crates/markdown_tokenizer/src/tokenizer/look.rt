@@ -61,11 +61,9 @@ impl<'a, M: MachineTypes> Tokenizer<'a, M> {
         ensures noted { let t = self.now in t.phase ≡ Phase.Reading
             → ((enter : _) → innermost t.configuration.events ≡ Some enter → stands_before enter.point result ≡ true) → IsNoted result t }
     {
-        shown_after(
-            self.parse_state.bytes,
-            self.previous.is_some(),
-            &self.after_previous,
-        )
+        let bytes = self.parse_state.bytes;
+        let read = self.previous.is_some();
+        shown_after(bytes, read, &self.after_previous)
     }
 
     /// The previous virtual byte, if one was read. It is never a byte in a gap.

@@ -4,7 +4,7 @@ use Rattle.markdown_tokenizer.proofs.Inside.Steps.{after-byte, after_previous-is
 use Rattle.markdown_tokenizer.proofs.tokenizer.Tokenizer.exit_place.Goals as goal
 
 pub shown_after-requires : goal.shown_after-requires
-shown_after-requires g c = record { after = after-byte c.self.inside c.self.invariant c.is_some.result c.is_some.ensures }
+shown_after-requires g c = record { after = after-byte c.self.inside c.self.invariant c.is_some-read.result c.is_some-read.ensures }
 
 pub returns-clause-place : goal.returns-clause-place
 returns-clause-place g c = rw (← c.self.view_is) (c.shown_after.ensures ∙ after_previous-is c.self.inside c.self.invariant)
