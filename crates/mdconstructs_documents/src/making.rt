@@ -116,13 +116,14 @@ pub(crate) fn read_deep_by<M: Machine>(
     with_children(alloc, machine, bytes, options, events, Content::Text)
 }
 
-/// The events with the children of their chains of a content in place of the chunks. The machine reads each child.
+/// The events with the children of their chains of a content in place of the chunks. The machine reads each child. The events are looked
+/// over first, whether they are ready.
 pub(crate) fn with_children<M: Machine>(
     alloc: Global,
     machine: &M,
     bytes: &[u8],
     options: &ParseOptions,
-    mut events: Vec<Event>,
+    events: Vec<Event>,
     content: Content,
 ) -> Result<Vec<Event>, Unmade>
     requires limit { IsWithinLimit options.now.tab_size bytes.now }
@@ -136,6 +137,27 @@ pub(crate) fn with_children<M: Machine>(
     if !ready(alloc, events.as_slice(), bytes, options.tab_size, wanted)? {
         return Err(Unmade::NotReady);
     }
+    with_ready_children(alloc, machine, bytes, options, events, content)
+}
+
+/// As [`with_children`], of events that are ready: it does not look.
+pub(crate) fn with_ready_children<M: Machine>(
+    alloc: Global,
+    machine: &M,
+    bytes: &[u8],
+    options: &ParseOptions,
+    mut events: Vec<Event>,
+    content: Content,
+) -> Result<Vec<Event>, Unmade>
+    requires limit { IsWithinLimit options.now.tab_size bytes.now }
+    requires start { MayRead (M.rules machine.now) options.now bytes.now content }
+    requires ready { IsReady options.now.tab_size bytes.now (Some content) events.items }
+    ensures events { IfOk result (λ new. HasChildren (M.rules machine.now) options.now bytes.now content events.items new.items) }
+    ensures message { (m : _) → IsErrOf result (Unmade.Fault (Fault.Message m)) → HasRefusedChild (M.rules machine.now) options.now bytes.now content events.items m }
+    ensures ready { ¬ IsErrOf result Unmade.NotReady }
+    ensures cause { ¬ IsErrOf result (Unmade.Fault Fault.Failed) }
+{
+    let wanted = Some(&content);
     let Some(parse_state) = ParseState::new(bytes, options, machine) else {
         unreachable!();
     };

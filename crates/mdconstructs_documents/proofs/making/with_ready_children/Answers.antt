@@ -1,5 +1,5 @@
 use Rattle.mdconstructs_documents.proofs.FlowChains.Contents.{may-start}
-use Rattle.mdconstructs_documents.proofs.making.with_children.Goals as goal
+use Rattle.mdconstructs_documents.proofs.making.with_ready_children.Goals as goal
 
 pub subtokenize-requires-clause-starts : goal.subtokenize-requires-clause-starts
 subtokenize-requires-clause-starts g c =
