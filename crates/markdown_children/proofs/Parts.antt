@@ -4,10 +4,13 @@ pub mod Edits
 pub mod InShape
 pub mod Kept
 pub mod Placed
+pub mod Rewritten
 pub mod Staying
+pub mod Tabled
 pub mod Tight
 pub mod Once
 pub mod Weaves
+pub mod Written
 pub mod Untorn
 pub mod GoingOn
 pub mod Example

@@ -7,6 +7,7 @@ pub mod Reads
 pub mod NextContent
 pub mod Tables
 pub mod SoFar
+pub mod Written
 pub mod StartTests
 pub mod ByteStarts
 pub mod ReadyTests

@@ -1,6 +1,6 @@
 //! The children of chains: each is read from the text of its chain's chunks.
 
-ghost use Rattle.std.specs.Prelude.{◌≡◌, ◌+◌, ◌<◌, ◌++◌, [], true, length, Some, IfOk, IfErr, OnOk};
+ghost use Rattle.std.specs.Prelude.{◌≡◌, ◌+◌, ◌<◌, ◌++◌, [], true, length, Some, None, IfOk, IfErr, OnOk};
 ghost use Rattle.std.specs.List.{AllByRecursion};
 ghost use Rattle.markdown_edits.specs.Edits.{removed_by, added_by};
 ghost use Rattle.markdown_tokenizer.specs.Text.{IsDocument, empty_text};
@@ -12,10 +12,12 @@ ghost use Rattle.markdown_children.specs.LawStatements.{HasEndsWithin};
 ghost use Rattle.markdown_children.specs.Parts.{edits_of_chain, CountsOn, IsForward, StandBefore};
 ghost use Rattle.markdown_children.specs.Reads.{start_at, MayStart, GivesChild, GivesNoChild, GivesNoChildren};
 ghost use Rattle.markdown_children.specs.SoFar.{HasGathered, with_flag};
+ghost use Rattle.markdown_children.specs.Written.{HasWoven};
 
 use crate::chains::{begins_at, next_of, place_at};
 use crate::division::divide_events;
 use crate::first_paragraph::at_first_paragraph_of_list_item;
+use crate::weaving::{push_between, push_child};
 use markdown_base::event::{Content, Event};
 use markdown_base::owned::Items;
 use markdown_tokenizer::parser::ParseState;
@@ -55,6 +57,42 @@ pub(crate) fn gather<M: Machine>(
         }
     }
     Ok(found)
+}
+
+/// Reads all chains. Returns the list with their children in place of the chunks, written once: no two chains of a list that is ready
+/// interleave, and each event with a link begins a chunk, so no link of the list is left. Returns `Message` if a chain ends in one, and
+/// `Memory` if it runs out of memory.
+pub(crate) fn weave<M: Machine>(
+    alloc: Global,
+    events: &[Event],
+    parse_state: &ParseState<M>,
+) -> Result<(Vec<Event>, Subresult), Fault>
+    requires ready { IsReady parse_state.now.options.now.tab_size parse_state.now.bytes.now None events.now }
+    requires starts { MayStart M.rules parse_state.now None events.now }
+    ensures ok { let p = parse_state.now in IfOk result (λ r. HasWoven (given_of p) (M.rules p.machine.now) events.now r.0.items r.1) }
+    ensures err { IfErr result (GivesNoChildren M.rules parse_state.now None events.now) }
+{
+    let mut woven = Vec::with_capacity(alloc, events.len())?;
+    let mut from = 0;
+    let mut acc = (0, 0);
+    let mut found = Subresult {
+        done: true,
+        gfm_footnote_definitions: Items::new(alloc),
+        definitions: Items::new(alloc),
+    };
+    for index in 0..events.len() {
+        if begins_at(events, index, None) {
+            let (child, more) = read_child(alloc, events, index, parse_state, None)?;
+            let child = child.as_slice();
+            let (end, sums) = push_child(alloc, &mut woven, events, index, child, from, acc)?;
+            from = end;
+            acc = sums;
+            found = joined(found, more)?;
+            found.done = false;
+        }
+    }
+    push_between(&mut woven, events, from, events.len())?;
+    Ok((woven, found))
 }
 
 /// The state with which the chain of the event at an index is read.

@@ -155,7 +155,7 @@ fn place_link(chunks: &[Chunk], acc: (usize, usize), event: &mut Event)
 }
 
 /// Changes the link ends of these child events to indices into the final list.
-fn place_links(chunks: &[Chunk], acc: (usize, usize), events: &mut [Event])
+pub(crate) fn place_links(chunks: &[Chunk], acc: (usize, usize), events: &mut [Event])
     requires apart { AreAbove acc.0 chunks.now }
     requires ends { IsNonDecreasingBy (λ c. c.end) chunks.now }
     requires fits { All (λ e. IfSome e.link (EachEnd (λ n. All (λ c. c.index + 2 + acc.1 + n < 2 ^ 64) chunks.now))) events.old }

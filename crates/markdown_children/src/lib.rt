@@ -10,3 +10,4 @@ mod first_paragraph;
 pub mod laws;
 mod readiness;
 pub mod subtokenize;
+mod weaving;

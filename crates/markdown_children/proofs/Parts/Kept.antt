@@ -2,7 +2,7 @@
 --
 -- Between two chunks of a chain is a balanced list, which leaves each stack of open names as it is. So the parts of a child act on the
 -- stack one directly after another, as the child itself would, and that is balanced.
-use Rattle.markdown_children.proofs.Prelude.{◌≡◌, ℕ, zero, suc, true, ◌+◌, ◌-◌, ◌≤◌, List, [], ◌∷◌, ◌++◌, length, map, drop, take, Option, Some, None, refl, sym, ◌∙◌, ap, subst, arith, append-nil, take-append-drop, flat_map, slice_get, AllByRecursion, between, range_with_len, map-append, drop-drop, Content, Event, Point, IsBalanced, drop-at, names_after, names_after_all, Tagged, Change, woven, placed_in, olds, pass, woven-pass, names_after_all-append, names_after_balanced, balanced_from_open, IsBalanced-pair, names-none, chain_of, fits, fitting_starts, IsReady, place_at, LeadOnFrom, IsWholeFrom, AreSpaced, front_until, parts, Divided, divided_over, first_chunk, tagged_child, part_changes, chain_changes, child_changes, with_children, every-all, zero-add}
+use Rattle.markdown_children.proofs.Prelude.{◌≡◌, ℕ, zero, suc, ◌+◌, ◌-◌, ◌≤◌, List, [], ◌∷◌, ◌++◌, length, map, drop, take, Option, Some, None, refl, sym, ◌∙◌, ap, subst, arith, append-nil, take-append-drop, flat_map, slice_get, AllByRecursion, between, range_with_len, map-append, drop-drop, Content, Event, Point, IsBalanced, drop-at, names_after, names_after_all, Tagged, Change, woven, placed_in, olds, pass, woven-pass, names_after_all-append, names_after_balanced, balanced_from_open, IsBalanced-pair, names-none, chain_of, fitting_starts, IsReady, place_at, LeadOnFrom, IsWholeFrom, AreSpaced, front_until, parts, Divided, divided_over, first_chunk, tagged_child, part_changes, chain_changes, child_changes, with_children, every-all, zero-add}
 use Rattle.markdown_base.specs.declared.event.Name.{Name}
 use Rattle.markdown_children.proofs.ChainOrder.Following.{Fits, chunk, starts_fit, follow_one_another}
 use Rattle.markdown_children.proofs.ChainOrder.Spaced.{length-parts, length-map_ends, changes_are_apart}

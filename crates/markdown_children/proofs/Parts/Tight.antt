@@ -3,7 +3,7 @@
 -- An event of the list is followed by the same event as before, or by a part in place of a chunk, whose enter follows no void enter. An
 -- event of a child is followed by the next one of its part. The last one of a part is followed by the next one of its child, if nothing is
 -- between.
-use Rattle.markdown_children.proofs.Prelude.{◌≡◌, ℕ, zero, suc, ◌+◌, ◌-◌, ◌≤◌, true, List, [], ◌∷◌, ◌++◌, length, drop, Option, Some, refl, sym, ◌∙◌, ap, subst, arith, zero-add, slice_get, AllByRecursion, every-map, between, none-some, same_Some, Content, Event, Enter, Exit, is_void, relinked, IsVoidTight, drop-at, Tagged, Change, placed_end, placed_in, woven, pass, woven-pass, fits, IsReady, LeadOnFrom, AreSpaced, EndsInVoidEnter, StandSideBySide, IsTornNowhere, NoneTorn, part_changes, child_changes, with_children}
+use Rattle.markdown_children.proofs.Prelude.{◌≡◌, ℕ, zero, suc, ◌+◌, ◌≤◌, true, List, [], ◌∷◌, ◌++◌, length, drop, Option, Some, refl, sym, ◌∙◌, ap, subst, arith, zero-add, slice_get, AllByRecursion, every-map, between, none-some, same_Some, Content, Event, Enter, Exit, is_void, relinked, IsVoidTight, drop-at, Tagged, Change, placed_end, placed_in, woven, pass, woven-pass, IsReady, LeadOnFrom, AreSpaced, EndsInVoidEnter, StandSideBySide, IsTornNowhere, NoneTorn, part_changes, child_changes, with_children}
 use Rattle.markdown_children.proofs.ChainOrder.Following.{Fits, chunk, fits_next}
 use Rattle.markdown_children.proofs.ChainOrder.Spaced.{changes_are_apart}
 use Rattle.markdown_children.proofs.Parts.Kept.{joined, untagged, untagged-olds, after_changes, between-none, part_after, split-at, with_children_holds}
