@@ -71,6 +71,7 @@ pub use Rattle.mdconstructs_attention.specs.Places as RunPlaces
 pub use Rattle.mdconstructs_attention.specs.RunEdits
 pub use Rattle.mdconstructs_attention.specs.Runs as DelimiterRuns
 pub use Rattle.mdconstructs_attention.specs.Searches
+pub use Rattle.mdconstructs_attention.specs.Unicode
 pub use Rattle.mdconstructs_references.specs.CharacterReferences
 pub use Rattle.mdconstructs_references.specs.References
 pub use Rattle.mdconstructs_inline_constructs.specs.Email

@@ -1,18 +1,30 @@
--- The classes of ASCII are those of std: compared one by one.
-use Rattle.std.proofs.Common.{◌≡◌, true, cond, ap, ◌∙◌, refl}
+-- The classes of ASCII are those of std, but for U+0000: compared one by one.
+use Rattle.std.proofs.Common.{◌≡◌, ℕ, Bool, true, cond, ap, ◌∙◌, refl}
+use Rattle.std.specs.Prelude.{◌==◌, ◌||◌}
 use Rattle.std.specs.Char.{is_ascii_whitespace, is_ascii_punctuation}
 use Rattle.std.proofs.lemmas.Bool.{agree_below, agree_below_at}
 use Rattle.markdown_base.specs.declared.util.char.Kind.TheVariants.{Whitespace, Punctuation, Other}
-use Rattle.mdconstructs_attention.specs.declared.unicode.TheConstants.{WHITE_SPACE, PUNCTUATION}
-use Rattle.mdconstructs_attention.specs.Classes.{in_ranges, AsciiHasItsClasses}
+use Rattle.mdconstructs_attention.specs.Unicode.{white_space, punctuation}
+use Rattle.mdconstructs_attention.specs.Classes.{in_ranges, shown_char, AsciiHasItsClasses}
 
-white-space : agree_below (in_ranges WHITE_SPACE) is_ascii_whitespace 128 ≡ true
+abbrev is_white : ℕ → Bool
+is_white char = in_ranges white_space (shown_char char)
+
+abbrev is_mark : ℕ → Bool
+is_mark char = in_ranges punctuation (shown_char char)
+
+abbrev ascii_mark : ℕ → Bool
+ascii_mark char = (char == 0) || is_ascii_punctuation char
+
+white-space : agree_below is_white is_ascii_whitespace 128 ≡ true
+unfolding white_space
 white-space = refl
 
-punctuation : agree_below (in_ranges PUNCTUATION) is_ascii_punctuation 128 ≡ true
-punctuation = refl
+marks : agree_below is_mark ascii_mark 128 ≡ true
+unfolding punctuation
+marks = refl
 
 pub ascii-has-its-classes : AsciiHasItsClasses
 ascii-has-its-classes c h =
-    ap (λ b. cond b Whitespace (cond (in_ranges PUNCTUATION c) Punctuation Other)) (agree_below_at (in_ranges WHITE_SPACE) is_ascii_whitespace 128 c white-space h)
-    ∙ ap (λ b. cond (is_ascii_whitespace c) Whitespace (cond b Punctuation Other)) (agree_below_at (in_ranges PUNCTUATION) is_ascii_punctuation 128 c punctuation h)
+    ap (λ b. cond b Whitespace (cond (is_mark c) Punctuation Other)) (agree_below_at is_white is_ascii_whitespace 128 c white-space h)
+    ∙ ap (λ b. cond (is_ascii_whitespace c) Whitespace (cond b Punctuation Other)) (agree_below_at is_mark ascii_mark 128 c marks h)

@@ -4,6 +4,7 @@ pub mod Beside
 mod Bottoms
 mod Chars
 mod CharsFound
+mod CodeTables
 mod Costs
 pub mod PairsKeep
 mod Ranges

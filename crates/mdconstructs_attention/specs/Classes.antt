@@ -1,12 +1,12 @@
 -- Classes of characters, and the characters beside a place. The classes are those that emphasis asks for (CommonMark, "Unicode whitespace
 -- character" and "Unicode punctuation character"); the bytes of a document need be no UTF-8.
-use Rattle.std.specs.Prelude.{ℕ, ◌≡◌, ◌++◌, ◌↔◌, ◌+◌, ◌<◌, ◌-◌, ◌&&◌, ◌||◌, Bool, true, false, cond, nat_le, List, [], ◌∷◌, length, take, drop, Option, Some, None, chars}
+use Rattle.std.specs.Prelude.{ℕ, ◌≡◌, ◌++◌, ◌↔◌, ◌+◌, ◌<◌, ◌-◌, ◌==◌, ◌&&◌, ◌||◌, Bool, true, false, cond, nat_le, List, [], ◌∷◌, length, take, drop, Option, Some, None, chars}
 use Rattle.std.specs.Char.{encode_utf8, IsScalar, is_ascii_whitespace, is_ascii_punctuation}
 use Rattle.std.specs.Option.{option_or}
 use Rattle.std.specs.Str.{is_utf8}
 use Rattle.markdown_base.specs.declared.util.char.Kind.{Kind}
 use Rattle.markdown_base.specs.declared.util.char.Kind.TheVariants.{Whitespace, Punctuation, Other}
-use Rattle.mdconstructs_attention.specs.declared.unicode.TheConstants.{WHITE_SPACE, PUNCTUATION}
+use Rattle.mdconstructs_attention.specs.Unicode.{white_space, punctuation}
 
 -- a code point is in one of the ranges, which have a first and a last code point
 abbrev pub in_ranges : List (ℕ × ℕ) → ℕ → Bool
@@ -18,9 +18,13 @@ abbrev pub are_sorted : ℕ → List (ℕ × ℕ) → Bool
 are_sorted from [] = true
 are_sorted from (r ∷ rs) = (nat_le from r.0 && nat_le r.0 r.1) && are_sorted (r.1 + 1) rs
 
--- the class of a character, by the tables of Unicode's white space and punctuation
+-- the character that CommonMark sees: U+FFFD in place of U+0000 (2.3, "Insecure characters")
+abbrev pub shown_char : ℕ → ℕ
+shown_char char = cond (char == 0) 0xFFFD char
+
+-- the class of a character: Unicode's white space and punctuation, by lists of its database
 abbrev pub class_of : ℕ → Kind
-class_of char = cond (in_ranges WHITE_SPACE char) Whitespace (cond (in_ranges PUNCTUATION char) Punctuation Other)
+class_of char = let shown = shown_char char in cond (in_ranges white_space shown) Whitespace (cond (in_ranges punctuation shown) Punctuation Other)
 
 -- the one character of a list
 abbrev pub only : List ℕ → Option ℕ
@@ -67,6 +71,6 @@ EndWith bytes char = IsScalar char × (front : List ℕ) × (bytes ≡ front ++ 
 abbrev pub CharsAreUtf8 : Type 0
 CharsAreUtf8 = (bytes : List ℕ) (char : ℕ) → ((first_char bytes ≡ Some char) ↔ BeginWith bytes char) × ((last_char bytes ≡ Some char) ↔ EndWith bytes char)
 
--- the characters of ASCII have the classes that std gives them
+-- the characters of ASCII have the classes that std gives them; but U+0000 is punctuation, as U+FFFD is
 abbrev pub AsciiHasItsClasses : Type 0
-AsciiHasItsClasses = (char : ℕ) → char < 128 → class_of char ≡ cond (is_ascii_whitespace char) Whitespace (cond (is_ascii_punctuation char) Punctuation Other)
+AsciiHasItsClasses = (char : ℕ) → char < 128 → class_of char ≡ cond (is_ascii_whitespace char) Whitespace (cond ((char == 0) || is_ascii_punctuation char) Punctuation Other)

@@ -7,3 +7,4 @@ pub mod Places
 pub mod RunEdits
 pub mod Runs
 pub mod Searches
+pub mod Unicode

@@ -1,7 +1,7 @@
 //! The classes of the characters beside a place of a document, as CommonMark's rules of emphasis ask for them.
 
 ghost use Rattle.std.specs.Prelude.{◌≡◌, length, take, drop, true};
-ghost use Rattle.mdconstructs_attention.specs.Classes.{in_ranges, are_sorted, class_of, char_of, first_char, last_bytes, last_char, class_at_end, class_before, class_after};
+ghost use Rattle.mdconstructs_attention.specs.Classes.{in_ranges, are_sorted, shown_char, class_of, char_of, first_char, last_bytes, last_char, class_at_end, class_before, class_after};
 
 use crate::unicode::{PUNCTUATION, WHITE_SPACE};
 use markdown_base::util::char::Kind;
@@ -28,14 +28,26 @@ fn is_in(ranges: &[(u32, u32)], code: u32) -> bool
     false
 }
 
+/// The character that CommonMark sees: U+FFFD in place of U+0000.
+fn shown_char(char: char) -> char
+    ensures { result ≡ shown_char char }
+{
+    if char == '\0' {
+        char::REPLACEMENT_CHARACTER
+    } else {
+        char
+    }
+}
+
 /// The class of a character: white space is Unicode's category Zs, tab, line feed, form feed and carriage return, and punctuation the
-/// categories P and S.
+/// categories P and S. U+0000 has the class of U+FFFD, which CommonMark sees in its place.
 pub fn class_of(char: char) -> Kind
     ensures { result ≡ class_of char }
 {
-    if is_in(&WHITE_SPACE, char as u32) {
+    let code = shown_char(char) as u32;
+    if is_in(&WHITE_SPACE, code) {
         Kind::Whitespace
-    } else if is_in(&PUNCTUATION, char as u32) {
+    } else if is_in(&PUNCTUATION, code) {
         Kind::Punctuation
     } else {
         Kind::Other

@@ -32,7 +32,7 @@ pub fn characters_are_utf8()
     ensures { CharsAreUtf8 }
 {}
 
-/// The characters of ASCII have the classes that std gives them.
+/// The characters of ASCII have the classes that std gives them; but U+0000 is punctuation, as U+FFFD is.
 pub fn ascii_has_its_classes()
     ensures { AsciiHasItsClasses }
 {}

@@ -1,7 +1,8 @@
 //! Unicode's white space and punctuation, as CommonMark speaks of them: ranges of code points.
 //!
 //! They are of Unicode 18.0.0, the general categories of its character database (`DerivedGeneralCategory.txt`), as the kit's table of
-//! that property has them: its runs with one of the categories were joined where they adjoin. So they can be made again.
+//! that property has them: its runs with one of the categories were joined where they adjoin. `tools/tables.py` makes them again, and so it
+//! made the lists of `specs`, which decide.
 
 /// The ranges of white space, sorted, each with its first and its last code point: the category Zs, tab, line feed, form feed and
 /// carriage return.
