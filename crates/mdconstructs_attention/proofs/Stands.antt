@@ -7,7 +7,7 @@ use Rattle.std.proofs.lemmas.Bool.{cases_lt}
 use Rattle.std.proofs.lemmas.Option.{slice_get_within}
 use Rattle.markdown_edits.proofs.Edits.Survivors.{slice_get-behind}
 use Rattle.mdconstructs_attention.specs.Emphasis.{Run, Waiting, SoFar, Found, may_pair, is_strong, opening, closing, put, put_behind, put_back, close, last_fitting, all_waiting, all_runs}
-use Rattle.mdconstructs_attention.specs.Searches.{last_of, may_pair_there, run_there, with_pair, with_pair_of, positions, Stands, StandsAt, can_close}
+use Rattle.mdconstructs_attention.specs.Searches.{last_of, may_pair_there, run_there, with_pair, with_pair_of, positions, Stands, StandsAt, closes_yet}
 
 -- the element after a list
 seam : {X : Type 0} → (xs : List X) (y : X) (ys : List X) → slice_get (xs ++ y ∷ ys) (length xs) ≡ Some y
@@ -195,15 +195,15 @@ close-by : (b : Bool) (x y : SoFar) → x ≡ y → cond b x y ≡ y
 close-by true x y e = e
 close-by false x y e = refl
 
-pub close-unable : (n : ℕ) (r : Run) (z : SoFar) → can_close r ≡ false → close n r z ≡ put r z
+pub close-unable : (n : ℕ) (r : Run) (z : SoFar) → closes_yet r ≡ false → close n r z ≡ put r z
 close-unable zero r z e = refl
 close-unable (suc n) r z e = ap (λ b. cond b (closed-with n r z (last_fitting r [] z.waiting)) (put r z)) e
 
 pub close-unfound : (n : ℕ) (r : Run) (z : SoFar) → last_fitting r [] z.waiting ≡ None → close n r z ≡ put r z
 close-unfound zero r z e = refl
-close-unfound (suc n) r z e = close-by (can_close r) (closed-with n r z (last_fitting r [] z.waiting)) (put r z) (ap (closed-with n r z) e)
+close-unfound (suc n) r z e = close-by (closes_yet r) (closed-with n r z (last_fitting r [] z.waiting)) (put r z) (ap (closed-with n r z) e)
 
-pub close-found : (n : ℕ) (r : Run) (z : SoFar) (f : Found) → can_close r ≡ true → last_fitting r [] z.waiting ≡ Some f
+pub close-found : (n : ℕ) (r : Run) (z : SoFar) (f : Found) → closes_yet r ≡ true → last_fitting r [] z.waiting ≡ Some f
     → let s = is_strong f.last.opener r in close (suc n) r z ≡ close n (closing s r) (put_back (record f.last { opener = opening s f.last.opener }) z.base f.before)
 close-found n r z f able found =
     ap (λ b. cond b (closed-with n r z (last_fitting r [] z.waiting)) (put r z)) able ∙ ap (closed-with n r z) found

@@ -19,14 +19,23 @@ abbrev pub is_other : Kind → Bool
 is_other Other = true
 is_other _ = false
 
--- A run is left-flanking: white space does not follow; and if punctuation does, white space or punctuation comes before. It is right-flanking
--- if the same holds the other way round
+-- A run is left-flanking (CommonMark 0.31, 6.2): white space does not follow; and if punctuation does, white space or punctuation comes before
 abbrev pub is_left_flanking : (before after : Kind) → Bool
 is_left_flanking before after = is_other after || is_punctuation after && not (is_other before)
 
--- A star opens emphasis if it is left-flanking; an underscore only if it is in no word
-abbrev pub can_begin : (is_star : Bool) → (before after : Kind) → Bool
-can_begin is_star before after = is_left_flanking before after && (is_star || (not (is_left_flanking after before) || is_punctuation before))
+-- It is right-flanking if it is left-flanking from its other end
+abbrev pub is_right_flanking : (before after : Kind) → Bool
+is_right_flanking before after = is_left_flanking after before
+
+-- A run of stars can open emphasis (rule 1 of 6.2) and strong emphasis (rule 5) if it is left-flanking; a run of underscores (rules 2 and 6) if
+-- it is left-flanking, and not right-flanking or behind punctuation
+abbrev pub can_open : (is_star : Bool) → (before after : Kind) → Bool
+can_open is_star before after = is_left_flanking before after && (is_star || (not (is_right_flanking before after) || is_punctuation before))
+
+-- A run of stars can close emphasis (rule 3 of 6.2) and strong emphasis (rule 7) if it is right-flanking; a run of underscores (rules 4 and 8) if
+-- it is right-flanking, and not left-flanking or before punctuation
+abbrev pub can_close : (is_star : Bool) → (before after : Kind) → Bool
+can_close is_star before after = is_right_flanking before after && (is_star || (not (is_left_flanking before after) || is_punctuation after))
 
 -- The class of the character at an end of a run: that of the document there, if the text goes on there; else white space. The text goes on if the
 -- event beside the run stands at the same index
@@ -56,8 +65,8 @@ run_at bytes index e f before behind =
       start = e.point;
       is_star = is_star;
       rest = length % 3;
-      opens = can_begin is_star before_it after_it;
-      closes = can_begin is_star after_it before_it;
+      opens = can_open is_star before_it after_it;
+      closes = can_close is_star before_it after_it;
       closed = [];
       left = length;
       opened = [];

@@ -66,12 +66,12 @@ pub record StandsAt (rs : List Run) (openers : List ℕ) (closer : ℕ) (z : SoF
   pub next : closer ≡ length (all_runs z)
 
 -- a run can close a pair more, if it finds an opener
-abbrev pub can_close : Run → Bool
-can_close r = r.closes && nat_lt 0 r.left
+abbrev pub closes_yet : Run → Bool
+closes_yet r = r.closes && nat_lt 0 r.left
 
 -- a run can open a pair more
-abbrev pub can_open : Run → Bool
-can_open r = r.opens && nat_lt 0 r.left
+abbrev pub opens_yet : Run → Bool
+opens_yet r = r.opens && nat_lt 0 r.left
 
 -- how many markers the run at an index has left
 abbrev pub left_of : Option Run → ℕ

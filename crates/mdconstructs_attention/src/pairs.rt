@@ -2,7 +2,7 @@
 
 ghost use Rattle.std.specs.Prelude.{ℕ, slice_index, nat_lt, slice_get, Ok, true, false, cond, IfOk, ◌≡◌, ◌+◌, ◌-◌, ◌*◌, ◌<◌, ◌≤◌, ◌^◌, length, map, None, All, IfSome, OnOk, ◌++◌};
 ghost use Rattle.mdconstructs_attention.specs.Emphasis.{paired, rule_of_three, same, may_pair, opening, closing, is_strong};
-ghost use Rattle.mdconstructs_attention.specs.Searches.{as_run, last_of, with_pair, left_of, can_close, can_open, third, kind, AreBottoms, IsNext, HasClosed, ClosesNothing, IsTaken};
+ghost use Rattle.mdconstructs_attention.specs.Searches.{as_run, last_of, with_pair, left_of, closes_yet, opens_yet, third, kind, AreBottoms, IsNext, HasClosed, ClosesNothing, IsTaken};
 ghost use Rattle.mdconstructs_attention.specs.Costs.{markers_left, end_of, to_pay};
 
 use crate::turns::Turns;
@@ -158,15 +158,15 @@ fn join(runs: &mut [Delimiters], opener: usize, closer: usize) -> Result<bool, A
 }
 
 /// Whether a run can close a pair more, if it finds an opener.
-fn can_close(run: &Delimiters) -> bool
-    ensures { result ≡ can_close (as_run run.now) }
+fn closes_yet(run: &Delimiters) -> bool
+    ensures { result ≡ closes_yet (as_run run.now) }
 {
     run.closes && run.left > 0
 }
 
 /// Whether a run can open a pair more.
-fn can_open(run: &Delimiters) -> bool
-    ensures { result ≡ can_open (as_run run.now) }
+fn opens_yet(run: &Delimiters) -> bool
+    ensures { result ≡ opens_yet (as_run run.now) }
 {
     run.opens && run.left > 0
 }
@@ -191,7 +191,7 @@ fn closes_more<L: Ledger>(
     ensures turns { turns.new ≤ turns.old + to_pay (map as_run runs.old) openers.old.items bottoms.old + 1 }
 {
     turns.add_one();
-    if !can_close(&runs[closer]) {
+    if !closes_yet(&runs[closer]) {
         return Ok(false);
     }
     let kind = kind_of(&runs[closer]);
@@ -226,7 +226,7 @@ fn take_up<L: Ledger>(
     ensures turns { turns.new ≤ turns.old + to_pay (map as_run runs.old) openers.old.items bottoms.old + 1 }
 {
     'closing: while closes_more(runs, openers, bottoms, closer, turns)? {}
-    if can_open(&runs[closer]) {
+    if opens_yet(&runs[closer]) {
         openers.push(closer)?;
     }
     Ok(())

@@ -1,7 +1,7 @@
 //! The delimiter runs of a text: its attention sequences, each with the characters beside it.
 
 ghost use Rattle.std.specs.Prelude.{◌≡◌, ◌-◌, ◌<◌, ◌^◌, map, slice_get, IfOk};
-ghost use Rattle.mdconstructs_attention.specs.Runs.{is_punctuation, is_other, is_left_flanking, can_begin, class_beside, is_star_byte, run_at, is_sequence, index_of_event, depth_after, runs_in};
+ghost use Rattle.mdconstructs_attention.specs.Runs.{is_punctuation, is_other, is_left_flanking, is_right_flanking, can_open, can_close, class_beside, is_star_byte, run_at, is_sequence, index_of_event, depth_after, runs_in};
 ghost use Rattle.mdconstructs_attention.specs.Searches.{as_run};
 
 use crate::classes::{class_after, class_before};
@@ -24,20 +24,34 @@ fn is_other(class: &Class) -> bool
     matches!(class, Class::Other)
 }
 
-/// Whether a run between characters of these classes is left-flanking. It is right-flanking if it is left-flanking the other way
-/// round.
+/// Whether a run between characters of these classes is left-flanking.
 fn is_left_flanking(before: &Class, after: &Class) -> bool
     ensures { result ≡ is_left_flanking before.now after.now }
 {
     is_other(after) || is_punctuation(after) && !is_other(before)
 }
 
-/// Whether a run can open emphasis. It can close emphasis if it can open it the other way round.
-fn can_begin(is_star: bool, before: &Class, after: &Class) -> bool
-    ensures { result ≡ can_begin is_star before.now after.now }
+/// Whether a run between characters of these classes is right-flanking.
+fn is_right_flanking(before: &Class, after: &Class) -> bool
+    ensures { result ≡ is_right_flanking before.now after.now }
+{
+    is_other(before) || is_punctuation(before) && !is_other(after)
+}
+
+/// Whether a run can open emphasis.
+fn can_open(is_star: bool, before: &Class, after: &Class) -> bool
+    ensures { result ≡ can_open is_star before.now after.now }
 {
     is_left_flanking(before, after)
-        && (is_star || !is_left_flanking(after, before) || is_punctuation(before))
+        && (is_star || !is_right_flanking(before, after) || is_punctuation(before))
+}
+
+/// Whether a run can close emphasis.
+fn can_close(is_star: bool, before: &Class, after: &Class) -> bool
+    ensures { result ≡ can_close is_star before.now after.now }
+{
+    is_right_flanking(before, after)
+        && (is_star || !is_left_flanking(before, after) || is_punctuation(after))
 }
 
 /// The class of the character at an end of a run: that of the document there, if the event beside the run stands at the same index.
@@ -104,8 +118,8 @@ fn run_at(
         start: enter.point,
         is_star,
         rest: left % 3,
-        opens: can_begin(is_star, &before_it, &after_it),
-        closes: can_begin(is_star, &after_it, &before_it),
+        opens: can_open(is_star, &before_it, &after_it),
+        closes: can_close(is_star, &before_it, &after_it),
         closed: Vec::new(alloc),
         left,
         opened: Vec::new(alloc),

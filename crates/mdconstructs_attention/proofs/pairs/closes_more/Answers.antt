@@ -2,7 +2,7 @@ use Rattle.std.proofs.Common.{◌≡◌, ℕ, ◌+◌, ◌*◌, ◌<◌, ◌≤�
 use Rattle.std.specs.Prelude.{slice_get, slice_index, nat_lt}
 use Rattle.std.proofs.lemmas.Option.{slice_get_within, get_or_from_slice_get}
 use Rattle.mdconstructs_attention.specs.Emphasis.{Run, SoFar, is_strong, opening, closing, put_back}
-use Rattle.mdconstructs_attention.specs.Searches.{as_run, can_close, left_of, with_pair, last_of, kind, AreBottoms, StandsAt}
+use Rattle.mdconstructs_attention.specs.Searches.{as_run, closes_yet, left_of, with_pair, last_of, kind, AreBottoms, StandsAt}
 use Rattle.std.proofs.lemmas.List.{length-take-le}
 use Rattle.mdconstructs_attention.specs.Costs.{markers_left, end_of, above}
 use Rattle.mdconstructs_attention.proofs.Costs.{pair-takes, above-set, above-lower}
@@ -12,10 +12,10 @@ use Rattle.mdconstructs_attention.proofs.Steps.{next-inside, run-at, search-is, 
 use Rattle.mdconstructs_attention.proofs.pairs.closes_more.Goals as goal
 use Rattle.mdconstructs_attention.proofs.pairs.closes_more.Goals.{then-waits, else-waits}
 
-pub returns-then-not-can_close-clause-end : goal.returns-then-not-can_close-clause-end
-returns-then-not-can_close-clause-end g c same z r rest h n =
+pub returns-then-not-closes_yet-clause-end : goal.returns-then-not-closes_yet-clause-end
+returns-then-not-closes_yet-clause-end g c same z r rest h n =
     let is = run-at c.args.runs.now c.args.openers.now.items c.args.closer c.index-runs-closer.result z r rest h in
-    close-unable n r z (sym (ap can_close is) ∙ sym c.can_close.ensures ∙ c.if-not-can_close.true)
+    close-unable n r z (sym (ap closes_yet is) ∙ sym c.closes_yet.ensures ∙ c.if-not-closes_yet.true)
 
 pub opener_for-requires-clause-inside : goal.opener_for-requires-clause-inside
 opener_for-requires-clause-inside g c k d lt =
@@ -61,7 +61,7 @@ returns-clause-pair g c same z r rest h =
     let found = search-is c.args.runs.now c.args.openers.now.items c.as_slice.result.now c.args.closer c.index-all-closer.result c.opener_for.result z r rest h c.index-all-closer.is c.as_slice.ensures.value c.opener_for.ensures.found in
     let next = some-next (map as_run c.args.runs.now) c.args.openers.now.items c.args.closer z r rest h c.in-Some.at (found ∙ c.in-Some.is) in
     let f = next.0 in
-    let able : can_close r ≡ true = sym (ap can_close (run-at c.args.runs.now c.args.openers.now.items c.args.closer c.index-runs-closer.result z r rest h)) ∙ sym c.can_close.ensures ∙ c.if-not-can_close.false in
+    let able : closes_yet r ≡ true = sym (ap closes_yet (run-at c.args.runs.now c.args.openers.now.items c.args.closer c.index-runs-closer.result z r rest h)) ∙ sym c.closes_yet.ensures ∙ c.if-not-closes_yet.false in
     let i-is : c.index-opener.result.now ≡ next.2 = c.index-opener.ensures ∙ get_or_from_slice_get c.args.openers.now.items c.in-Some.at next.2 c.index-opener.result.now next.3 in
     let s = is_strong f.last.opener r in
     let w = record f.last { opener = opening s f.last.opener } in
@@ -165,7 +165,7 @@ returns-clause-paid g c =
     let h = c.if-waits.height in
     let found = search-is c.args.runs.now ops c.as_slice.result.now c.args.closer c.index-all-closer.result c.opener_for.result w.0 w.1 w.2 w.3 c.index-all-closer.is c.as_slice.ensures.value c.opener_for.ensures.found in
     let next = some-next rs ops c.args.closer w.0 w.1 w.2 w.3 c.in-Some.at (found ∙ c.in-Some.is) in
-    let able : can_close w.1 ≡ true = sym (ap can_close (run-at c.args.runs.now ops c.args.closer c.index-runs-closer.result w.0 w.1 w.2 w.3)) ∙ sym c.can_close.ensures ∙ c.if-not-can_close.false in
+    let able : closes_yet w.1 ≡ true = sym (ap closes_yet (run-at c.args.runs.now ops c.args.closer c.index-runs-closer.result w.0 w.1 w.2 w.3)) ∙ sym c.closes_yet.ensures ∙ c.if-not-closes_yet.false in
     let i-is : c.index-opener.result.now ≡ next.2 = c.index-opener.ensures ∙ get_or_from_slice_get ops c.in-Some.at next.2 c.index-opener.result.now next.3 in
     let runs = c.in_ok-waits.ensures.pair ∙ ap (λ i. with_pair rs i c.args.closer) i-is in
     let left = ap markers_left runs in

@@ -1,6 +1,6 @@
 use Rattle.std.proofs.Common.{◌≡◌, ℕ, suc, ◌+◌, ◌-◌, ◌*◌, ◌≤◌, cond, length, length-append, [], ◌∷◌, true, false, List, Ok, map, sym, ap, ◌∙◌, subst, arith}
 use Rattle.mdconstructs_attention.specs.Emphasis.{Run, SoFar, close, put}
-use Rattle.mdconstructs_attention.specs.Searches.{AreBottoms, as_run, can_open, Stands, StandsAt}
+use Rattle.mdconstructs_attention.specs.Searches.{AreBottoms, as_run, opens_yet, Stands, StandsAt}
 use Rattle.mdconstructs_attention.specs.Costs.{markers_left, above, to_pay}
 use Rattle.mdconstructs_attention.proofs.Costs.{above-more}
 use Rattle.mdconstructs_attention.proofs.Stands.{stands-waiting, stands-behind}
@@ -36,21 +36,21 @@ returns-in_ok-push-clause-taken g c z r rest h =
     let rs = map as_run c.closes_more.new.runs in
     let ops = c.closes_more.new.openers.items in
     let now = moved (map as_run c.closing.runs) rs c.closing.openers.items ops c.args.closer i.0 i.1 rest i.2 same.0 same.1 in
-    let can : can_open i.1 ≡ true =
-    sym (ap can_open (run-at c.closes_more.new.runs ops c.args.closer c.index-runs-closer.result i.0 i.1 rest now)) ∙ sym c.can_open.ensures ∙ c.if-can_open.true in
+    let can : opens_yet i.1 ≡ true =
+    sym (ap opens_yet (run-at c.closes_more.new.runs ops c.args.closer c.index-runs-closer.result i.0 i.1 rest now)) ∙ sym c.opens_yet.ensures ∙ c.if-opens_yet.true in
     let there = stands-waiting rs ops c.args.closer i.0 i.1 rest now can in
     subst (λ y. Stands rs c.push.new.self.items y rest) (sym end ∙ i.5) (subst (λ xs. Stands rs xs (put i.1 i.0) rest) (sym c.in_ok-push.ensures.items) there)
 
-pub returns-else-can_open-clause-taken : goal.returns-else-can_open-clause-taken
-returns-else-can_open-clause-taken g c z r rest h =
+pub returns-else-opens_yet-clause-taken : goal.returns-else-opens_yet-clause-taken
+returns-else-opens_yet-clause-taken g c z r rest h =
     let i = c.closing.invariant.2 z r rest h in
     let same = c.in_ok-closes_more.ensures.same (ap Ok c.if-branch.false) in
     let end = c.in_ok-closes_more.ensures.end (ap Ok c.if-branch.false) i.0 i.1 rest i.2 i.3 in
     let rs = map as_run c.closes_more.new.runs in
     let ops = c.closes_more.new.openers.items in
     let now = moved (map as_run c.closing.runs) rs c.closing.openers.items ops c.args.closer i.0 i.1 rest i.2 same.0 same.1 in
-    let cannot : can_open i.1 ≡ false =
-    sym (ap can_open (run-at c.closes_more.new.runs ops c.args.closer c.index-runs-closer.result i.0 i.1 rest now)) ∙ sym c.can_open.ensures ∙ c.if-can_open.false in
+    let cannot : opens_yet i.1 ≡ false =
+    sym (ap opens_yet (run-at c.closes_more.new.runs ops c.args.closer c.index-runs-closer.result i.0 i.1 rest now)) ∙ sym c.opens_yet.ensures ∙ c.if-opens_yet.false in
     subst (λ y. Stands rs ops y rest) (sym end ∙ i.5) (stands-behind rs ops c.args.closer i.0 i.1 rest now cannot)
 
 pub returns-in_ok-push-clause-bottoms : goal.returns-in_ok-push-clause-bottoms
