@@ -66,6 +66,7 @@ pub use Rattle.mdconstructs_attention.specs.Beside
 pub use Rattle.mdconstructs_attention.specs.Classes
 pub use Rattle.mdconstructs_attention.specs.Costs as PairCosts
 pub use Rattle.mdconstructs_attention.specs.Emphasis as EmphasisEvents
+pub use Rattle.mdconstructs_attention.specs.InTurn
 pub use Rattle.mdconstructs_attention.specs.LawStatements as EmphasisLawStatements
 pub use Rattle.mdconstructs_attention.specs.Places as RunPlaces
 pub use Rattle.mdconstructs_attention.specs.RunEdits

@@ -11,8 +11,10 @@ use Rattle.markdown_base.specs.declared.event.Point.{Point}
 use Rattle.markdown_base.specs.Events.{IsBalanced}
 use Rattle.markdown_edits.specs.OpenNames.{names_after, names_after_all}
 use Rattle.markdown_edits.proofs.Balanced.{names_after_all-append, names_after_balanced, balanced_from_open, same_name-refl}
-use Rattle.mdconstructs_attention.specs.Emphasis.{Run, Waiting, SoFar, Found, may_pair, is_strong, markers_of, opening, closing, put_behind, put, put_back, last_fitting, close, paired_from, all_waiting, none_read, paired, later, closings, openings, data_of, markers_of_all, head_events, tail_events, run_events, events_of_runs}
+use Rattle.mdconstructs_attention.specs.Emphasis.{Run, may_pair, is_strong, markers_of, later, closings, openings, data_of, markers_of_all, head_events, tail_events, run_events, events_of_runs}
+use Rattle.mdconstructs_attention.specs.InTurn.{Waiting, SoFar, Found, opening, closing, put_behind, put, put_back, last_fitting, close, in_turn_from, all_waiting, none_read, paired_in_turn}
 use Rattle.mdconstructs_attention.specs.LawStatements.{AreFresh, LeavesBalanced}
+use Rattle.mdconstructs_attention.proofs.InTurn.{paired-in-turn}
 
 -- ---- lists that leave what is open
 
@@ -223,7 +225,7 @@ module _ (texts : ℕ → List Event) where
   leaves-head : (r : Run) → r.closed ≡ [] → IsBalanced (texts r.index) → Leaves ((head_events texts) r)
   leaves-head r none balanced = leaves-append (texts r.index) (closings r.start r.closed) (names_after_balanced balanced) (subst (λ ss. Leaves (closings r.start ss)) (sym none) (λ st. refl))
 
-  read-good : (rs : List Run) (z : SoFar) → AreFresh texts rs → IsGood z [] → IsGood (paired_from z rs) []
+  read-good : (rs : List Run) (z : SoFar) → AreFresh texts rs → IsGood z [] → IsGood (in_turn_from z rs) []
   read-good [] z fresh h = h
   read-good (r ∷ rs) z fresh h =
       read-good rs (close r.left r z) fresh.3
@@ -240,8 +242,8 @@ module _ (texts : ℕ → List Event) where
 
 pub leaves-balanced : LeavesBalanced
 leaves-balanced texts rs rest fresh balanced =
-    let z = paired_from none_read rs in
+    let z = in_turn_from none_read rs in
     let good = read-good texts rs none_read fresh (λ st. refl) in
-    let list = events_of_runs texts (paired rs) in
+    let list = events_of_runs texts (paired_in_turn rs) in
     let leaves = subst Leaves (append-nil list) (all-leave texts z.base z.waiting [] good) in
-    balanced_from_open (list ++ rest) (leaves-append list rest leaves (names_after_balanced balanced) [])
+    subst (λ (ps : List Run). IsBalanced (events_of_runs texts ps ++ rest)) (sym (paired-in-turn rs)) (balanced_from_open (list ++ rest) (leaves-append list rest leaves (names_after_balanced balanced) []))

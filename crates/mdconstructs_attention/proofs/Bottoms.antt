@@ -5,7 +5,8 @@ use Rattle.std.proofs.lemmas.Bool.{cases_lt}
 use Rattle.std.proofs.lemmas.Option.{slice_get_within}
 use Rattle.std.specs.Prelude.{slice_get, slice_index, ◌&&◌, ◌||◌, not, ◌⊎◌}
 use Rattle.std.proofs.lemmas.Bool.Decides.{nat_tests}
-use Rattle.mdconstructs_attention.specs.Emphasis.{Run, same, may_pair, is_strong, opening, closing}
+use Rattle.mdconstructs_attention.specs.Emphasis.{Run, same, may_pair, is_strong}
+use Rattle.mdconstructs_attention.specs.InTurn.{opening, closing}
 use Rattle.mdconstructs_attention.specs.Searches.{last_of, may_pair_there, run_there, with_pair, with_pair_of, third, kind, AreBottoms}
 
 -- ---- the kind of a run

@@ -6,6 +6,7 @@ mod Chars
 mod CharsFound
 mod CodeTables
 mod Costs
+mod InTurn
 pub mod PairsKeep
 mod Ranges
 pub mod RunEdits

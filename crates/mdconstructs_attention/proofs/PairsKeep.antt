@@ -1,14 +1,16 @@
 -- Pairs keep the runs in their order, each with its index, its place, its marker, and its number of markers.
-use Rattle.std.proofs.Common.{◌≡◌, ℕ, zero, suc, ◌+◌, ◌<◌, ◌≤◌, Bool, true, false, cond, List, [], ◌∷◌, ◌++◌, Option, Some, None, inl, inr, map, take, drop, length, refl, sym, ap, ◌∙◌, subst, arith, append_assoc, append-nil}
+use Rattle.std.proofs.Common.{◌≡◌, ℕ, zero, suc, ◌<◌, ◌≤◌, Bool, true, false, cond, List, [], ◌∷◌, ◌++◌, Option, Some, None, inl, inr, map, take, drop, length, refl, sym, ap, ◌∙◌, subst, arith, append_assoc, append-nil}
 use Rattle.std.specs.Prelude.{◌&&◌, nat_lt, nat_le}
 use Rattle.std.proofs.lemmas.Bool.{cases_Bool}
 use Rattle.std.proofs.lemmas.List.{length-map, map-append}
 use Rattle.std.proofs.Math.Seq.{drop-length, take-length}
 use Rattle.markdown_base.proofs.Common.{and-right}
-use Rattle.mdconstructs_attention.specs.Emphasis.{Run, Waiting, SoFar, Found, may_pair, is_strong, markers_of, markers_of_all, opening, closing, put_behind, put, put_back, last_fitting, close, paired_from, all_waiting, all_runs, none_read, paired}
+use Rattle.mdconstructs_attention.specs.Emphasis.{Run, may_pair, is_strong, markers_of, paired}
+use Rattle.mdconstructs_attention.specs.InTurn.{Waiting, SoFar, Found, opening, closing, put_behind, put, put_back, last_fitting, close, in_turn_from, all_waiting, all_runs, none_read}
 use Rattle.mdconstructs_attention.specs.declared.pairs.Delimiters.{Delimiters}
 use Rattle.mdconstructs_attention.specs.Searches.{as_run}
 use Rattle.mdconstructs_attention.specs.Places.{Standing, standing, markers}
+use Rattle.mdconstructs_attention.proofs.InTurn.{all-put_behind, markers-more, paired-in-turn}
 use Rattle.mdconstructs_attention.proofs.RunTexts.{and-left}
 
 abbrev all_standing : List Run → List Standing
@@ -19,16 +21,12 @@ standing-append xs ys = map-append standing xs ys
 
 -- ---- a pair takes markers that are there
 
-closed-more : (ss : List Bool) (s : Bool) → markers_of_all (ss ++ s ∷ []) ≡ markers_of_all ss + markers_of s
-closed-more [] s = omega arith
-closed-more (t ∷ ss) s = let more = closed-more ss s in omega (arith, more)
-
 opened-standing : (s : Bool) (o : Run) → markers_of s ≤ o.left → standing (opening s o) ≡ standing o
 opened-standing s o h = ap (λ n. record { index = o.index; start = o.start; is_star = o.is_star; markers = n }) (let same : markers (opening s o) ≡ markers o = omega (arith, h) in same)
 
 closed-standing : (s : Bool) (r : Run) → markers_of s ≤ r.left → standing (closing s r) ≡ standing r
 closed-standing s r h =
-    let more = closed-more r.closed s in
+    let more = markers-more r.closed s in
     ap (λ n. record { index = r.index; start = r.start; is_star = r.is_star; markers = n }) (let same : markers (closing s r) ≡ markers r = omega (arith, more, h) in same)
 
 -- each run that waits has markers left
@@ -57,11 +55,6 @@ second-has o r h =
     ]
 
 -- ---- runs come behind all others
-
-all-put_behind : (rs base : List Run) (ws : List Waiting) → all_runs (put_behind rs base ws) ≡ (base ++ all_waiting ws) ++ rs
-all-put_behind rs base [] = append-nil (base ++ rs) ∙ ap (λ xs. xs ++ rs) (sym (append-nil base))
-all-put_behind rs base (w ∷ ws) =
-    ap (λ xs. base ++ xs) (sym (append_assoc (all_waiting ws) (w.opener ∷ w.behind) rs)) ∙ sym (append_assoc base (all_waiting ws ++ w.opener ∷ w.behind) rs)
 
 left-put_behind : (rs base : List Run) (ws : List Waiting) → HaveLeft ws → HaveLeft (put_behind rs base ws).waiting
 left-put_behind rs base [] h = tt
@@ -167,7 +160,7 @@ close-keeps (suc n) r z h =
       | inr b ↦ subst (λ c. Keeps z r (cond c goes_on (put r z))) (sym b) (put-keeps r z h)
     ]
 
-read-keeps : (rs : List Run) (z : SoFar) → HaveLeft z.waiting → all_standing (all_runs (paired_from z rs)) ≡ all_standing (all_runs z) ++ all_standing rs
+read-keeps : (rs : List Run) (z : SoFar) → HaveLeft z.waiting → all_standing (all_runs (in_turn_from z rs)) ≡ all_standing (all_runs z) ++ all_standing rs
 read-keeps [] z h = sym (append-nil (all_standing (all_runs z)))
 read-keeps (r ∷ rs) z h =
     let first = close-keeps r.left r z h in
@@ -175,7 +168,7 @@ read-keeps (r ∷ rs) z h =
 
 -- the pairs leave each run where it stands, with its markers
 pub pairs-keep : (rs : List Run) → map standing (paired rs) ≡ map standing rs
-pairs-keep rs = read-keeps rs none_read tt
+pairs-keep rs = ap all_standing (paired-in-turn rs) ∙ read-keeps rs none_read tt
 
 -- so they keep the indices
 pub pairs-keep-indices : (rs : List Run) → map (λ r. r.index) (paired rs) ≡ map (λ r. r.index) rs

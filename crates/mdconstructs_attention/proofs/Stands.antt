@@ -6,8 +6,10 @@ use Rattle.std.proofs.lemmas.List.{get_or_append_left}
 use Rattle.std.proofs.lemmas.Bool.{cases_lt}
 use Rattle.std.proofs.lemmas.Option.{slice_get_within}
 use Rattle.markdown_edits.proofs.Edits.Survivors.{slice_get-behind}
-use Rattle.mdconstructs_attention.specs.Emphasis.{Run, Waiting, SoFar, Found, may_pair, is_strong, opening, closing, put, put_behind, put_back, close, last_fitting, all_waiting, all_runs}
-use Rattle.mdconstructs_attention.specs.Searches.{last_of, may_pair_there, run_there, with_pair, with_pair_of, positions, Stands, StandsAt, closes_yet}
+use Rattle.mdconstructs_attention.specs.Emphasis.{Run, may_pair, is_strong, closes_yet}
+use Rattle.mdconstructs_attention.specs.InTurn.{Waiting, SoFar, Found, opening, closing, put, put_behind, put_back, close, last_fitting, all_waiting, all_runs}
+use Rattle.mdconstructs_attention.specs.Searches.{last_of, may_pair_there, run_there, with_pair, with_pair_of, positions, Stands, StandsAt}
+use Rattle.mdconstructs_attention.proofs.InTurn.{all-put_back, all-put_behind}
 
 -- the element after a list
 seam : {X : Type 0} → (xs : List X) (y : X) (ys : List X) → slice_get (xs ++ y ∷ ys) (length xs) ≡ Some y
@@ -55,15 +57,6 @@ module _ (rs : List Run) (openers : List ℕ) (r : Run) (base rest : List Run) w
       let later = outcome (w.opener ∷ (w.behind ++ behind)) ws (p ∷ more) runs' waiting' in
       subst (Outcome (cond (may_pair w.opener r) (Some (record { last = there; before = ws })) (last_fitting r (w.opener ∷ (w.behind ++ behind)) ws))) (sym step)
       (choose (may_pair w.opener r) there ws (last_fitting r (w.opener ∷ (w.behind ++ behind)) ws) (last_of rs openers r (length ws)) (record { runs = runs'; more = more; waiting = waiting' }) later)
-
--- the runs of what waits, and those behind it, after it was put back
-all-put_back : (b : Bool) (base : List Run) (w : Waiting) (ws : List Waiting)
-    → all_runs (cond b (record { base = base; waiting = w ∷ ws }) (put_behind (w.opener ∷ w.behind) base ws)) ≡ (base ++ all_waiting ws) ++ w.opener ∷ w.behind
-all-put_back true base w ws = sym (append_assoc base (all_waiting ws) (w.opener ∷ w.behind))
-all-put_back false base w [] = append-nil (base ++ w.opener ∷ w.behind) ∙ ap (λ xs. xs ++ w.opener ∷ w.behind) (sym (append-nil base))
-all-put_back false base w (v ∷ vs) =
-    let more = w.opener ∷ w.behind in
-    ap (λ xs. base ++ xs) (sym (append_assoc (all_waiting vs) (v.opener ∷ v.behind) more)) ∙ sym (append_assoc base (all_waiting vs ++ v.opener ∷ v.behind) more)
 
 positions-put_back : (b : Bool) (base : List Run) (w : Waiting) (ws : List Waiting) (p : ℕ) (more : List ℕ) → p ≡ length (base ++ all_waiting ws)
     → let z = cond b (record { base = base; waiting = w ∷ ws }) (put_behind (w.opener ∷ w.behind) base ws) in
@@ -210,11 +203,6 @@ close-found n r z f able found =
 
 -- ---- a run is put behind all others
 
-all-behind : (base : List Run) (ws : List Waiting) (r : Run) → all_runs (put_behind (r ∷ []) base ws) ≡ (base ++ all_waiting ws) ++ r ∷ []
-all-behind base [] r = append-nil (base ++ r ∷ []) ∙ ap (λ xs. xs ++ r ∷ []) (sym (append-nil base))
-all-behind base (w ∷ ws) r =
-    ap (λ xs. base ++ xs) (sym (append_assoc (all_waiting ws) (w.opener ∷ w.behind) (r ∷ []))) ∙ sym (append_assoc base (all_waiting ws ++ w.opener ∷ w.behind) (r ∷ []))
-
 positions-behind : (base : List Run) (ws : List Waiting) (r : Run) → let z = put_behind (r ∷ []) base ws in positions z.base z.waiting ≡ positions base ws
 positions-behind base [] r = refl
 positions-behind base (w ∷ ws) r = refl
@@ -234,7 +222,7 @@ pub stands-behind : (rs : List Run) (openers : List ℕ) (closer : ℕ) (z : SoF
 stands-behind rs openers closer z r rest h cannot =
     let z' : SoFar = record z { waiting = record { opener = r; behind = [] } ∷ z.waiting } in
     let there : Stands rs openers (put_behind (r ∷ []) z.base z.waiting) rest = record {
-      runs = h.so_far.runs ∙ sym (append_assoc (all_runs z) (r ∷ []) rest) ∙ ap (λ xs. xs ++ rest) (sym (all-behind z.base z.waiting r));
+      runs = h.so_far.runs ∙ sym (append_assoc (all_runs z) (r ∷ []) rest) ∙ ap (λ xs. xs ++ rest) (sym (all-put_behind (r ∷ []) z.base z.waiting));
       waiting = h.so_far.waiting ∙ sym (positions-behind z.base z.waiting r);
     } in
     subst (λ b. Stands rs openers (cond b z' (put_behind (r ∷ []) z.base z.waiting)) rest) (sym cannot) there

@@ -5,7 +5,8 @@ use Rattle.std.proofs.lemmas.Bool.Decides.{nat_tests}
 use Rattle.std.proofs.lemmas.List.{length-map}
 use Rattle.std.proofs.lemmas.Option.{slice_get-map, slice_get-get_or}
 use Rattle.mdconstructs_attention.specs.declared.pairs.Delimiters.{Delimiters}
-use Rattle.mdconstructs_attention.specs.Emphasis.{Run, SoFar, markers_of}
+use Rattle.mdconstructs_attention.specs.Emphasis.{Run, markers_of}
+use Rattle.mdconstructs_attention.specs.InTurn.{SoFar}
 use Rattle.mdconstructs_attention.specs.Searches.{as_run, last_of, StandsAt, IsNext}
 use Rattle.mdconstructs_attention.proofs.Stands.{closer-run, closer-inside}
 

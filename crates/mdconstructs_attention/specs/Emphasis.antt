@@ -1,9 +1,11 @@
--- Emphasis: which delimiter runs of a text open and close it (CommonMark, "Emphasis and strong emphasis"), and the events of it.
+-- Emphasis: which delimiter runs of a text open and close it, and the events of it.
 --
--- The runs are read from the front. Some wait: they have markers left and may still open emphasis. A run closes what it can, each time with
--- the last one that waits and fits; those behind that one wait no more. Then it waits itself, if it can open.
-use Rattle.std.specs.Prelude.{ℕ, zero, suc, ◌+◌, ◌-◌, ◌==◌, ◌&&◌, ◌||◌, not, nat_le, nat_lt, Bool, true, false, cond, List, [], ◌∷◌, ◌++◌, Option, Some, None}
-use Rattle.std.specs.List.{flat_map}
+-- The runs are paired by CommonMark's procedure "process emphasis" (0.31, appendix "A parsing strategy"), from the front. A run that can close
+-- looks back in the delimiter stack for the first opener that matches. What is above that one leaves the stack. Opener and closer give one marker
+-- each, or two if both have two; an opener without markers leaves the stack. So it goes on until the run has no markers, or finds no opener.
+-- Then it comes onto the stack itself, if it can open. The procedure keeps runs on its stack that can only close; none of them is an opener.
+use Rattle.std.specs.Prelude.{ℕ, zero, suc, ◌+◌, ◌-◌, ◌==◌, ◌&&◌, ◌||◌, not, nat_le, nat_lt, Bool, true, false, cond, List, [], ◌∷◌, ◌++◌, map, reverse, None}
+use Rattle.std.specs.List.{filter, flat_map}
 use Rattle.markdown_base.specs.declared.event.Event.{Event}
 use Rattle.markdown_base.specs.declared.event.Kind.{Kind}
 use Rattle.markdown_base.specs.declared.event.Kind.TheVariants.{Enter, Exit}
@@ -25,25 +27,17 @@ pub record Run : Type 0 where
   pub left : ℕ
   pub opened : List Bool
 
--- A run that waits, and the runs behind it that do not, up to the next one that does
-pub record Waiting : Type 0 where
-  pub opener : Run
-  pub behind : List Run
-
--- What was read: the runs before the first one that waits, and those that wait, the last one first
-pub record SoFar : Type 0 where
-  pub base : List Run
-  pub waiting : List Waiting
-
--- The rule of three: if one of two runs can both open and close, the sum of their lengths is no multiple of 3, unless both lengths are
+-- The rule of three (rules 9 and 10 of 6.2): if one of two runs can both open and close, the sum of their lengths is no multiple of 3, unless
+-- both lengths are
 abbrev pub rule_of_three : (a b : ℕ) → Bool
 rule_of_three a b = not (((a == 1) && (b == 2)) || ((a == 2) && (b == 1)))
 
--- a run fits one that closes: it has the same marker, and the rule of three allows it
+-- two markers are the same: both stars, or both underscores
 abbrev pub same : Bool → Bool → Bool
 same true b = b
 same false b = not b
 
+-- an opener matches a run that closes: it has the same marker, and the rule of three allows it
 abbrev pub may_pair : (opener closer : Run) → Bool
 may_pair o r = same o.is_star r.is_star && ((not (o.closes || r.opens)) || rule_of_three o.rest r.rest)
 
@@ -55,68 +49,88 @@ is_strong o r = nat_le 2 o.left && nat_le 2 r.left
 abbrev pub markers_of : Bool → ℕ
 markers_of s = cond s 2 1
 
-abbrev pub opening : Bool → Run → Run
-opening s o = record o { left = o.left - markers_of s; opened = s ∷ o.opened }
+-- a run can open, or close, a pair more: it has markers left
+abbrev pub opens_yet : Run → Bool
+opens_yet r = r.opens && nat_lt 0 r.left
 
-abbrev pub closing : Bool → Run → Run
-closing s r = record r { left = r.left - markers_of s; closed = r.closed ++ s ∷ [] }
+abbrev pub closes_yet : Run → Bool
+closes_yet r = r.closes && nat_lt 0 r.left
 
--- runs that do not wait come behind all others
-abbrev pub put_behind : List Run → List Run → List Waiting → SoFar
-put_behind rs base [] = record { base = base ++ rs; waiting = [] }
-put_behind rs base (w ∷ ws) = record { base = base; waiting = record w { behind = w.behind ++ rs } ∷ ws }
+-- A pair: the numbers of the runs that open and close it, the first run of the text being 0, and whether it is strong
+pub record Pair : Type 0 where
+  pub opener : ℕ
+  pub closer : ℕ
+  pub strong : Bool
 
--- a run comes behind all others; it waits if it can open and has markers left
-abbrev pub put : Run → SoFar → SoFar
-put r z = cond (r.opens && nat_lt 0 r.left) (record z { waiting = record { opener = r; behind = [] } ∷ z.waiting }) (put_behind (r ∷ []) z.base z.waiting)
+-- A delimiter of the stack: the number of a run, and the run with the markers that it has left
+pub record Delimiter : Type 0 where
+  pub number : ℕ
+  pub run : Run
 
--- a run that opened a pair, and those behind it: it waits on if it has markers left
-abbrev pub put_back : Waiting → List Run → List Waiting → SoFar
-put_back w base ws = cond (nat_lt 0 w.opener.left) (record { base = base; waiting = w ∷ ws }) (put_behind (w.opener ∷ w.behind) base ws)
+-- a delimiter that gave the markers of a pair
+abbrev pub gave : Bool → Delimiter → Delimiter
+gave s d = record d { run = record d.run { left = d.run.left - markers_of s } }
 
--- the last run that waits and fits, with all runs behind it, and those that wait before it
-pub record Found : Type 0 where
-  pub last : Waiting
-  pub before : List Waiting
+-- a delimiter comes onto the stack, or stays there, if it can open a pair more
+abbrev pub on_stack : Delimiter → List Delimiter → List Delimiter
+on_stack d stack = cond (opens_yet d.run) (d ∷ stack) stack
 
-abbrev pub last_fitting : Run → List Run → List Waiting → Option Found
-last_fitting r behind [] = None
-last_fitting r behind (w ∷ ws) =
-    cond (may_pair w.opener r) (Some (record { last = record w { behind = w.behind ++ behind }; before = ws }))
-    (last_fitting r (w.opener ∷ (w.behind ++ behind)) ws)
+-- looking back in the stack: its part from the first opener down that matches
+abbrev pub look_back : Run → List Delimiter → List Delimiter
+look_back closer [] = []
+look_back closer (d ∷ stack) = cond (may_pair d.run closer) (d ∷ stack) (look_back closer stack)
 
--- a run closes what it can, and is put behind; the number is at least how many markers it has left
-abbrev pub close : ℕ → Run → SoFar → SoFar
-close zero r z = put r z
-close (suc n) r z =
-    cond (r.closes && nat_lt 0 r.left)
-    (elim (last_fitting r [] z.waiting) [
-      | None ↦ put r z
-      | Some f ↦
-          let s = is_strong f.last.opener r in
-          close n (closing s r) (put_back (record f.last { opener = opening s f.last.opener }) z.base f.before)
+-- The stack after a run, and the pairs that it closes, the inner ones first. The number is at least how many markers it has left
+abbrev pub close_pairs : ℕ → Delimiter → List Delimiter → List Delimiter × List Pair
+close_pairs zero d stack = (on_stack d stack, [])
+close_pairs (suc n) d stack =
+    cond (closes_yet d.run)
+    (elim (look_back d.run stack) [
+      | [] ↦ (on_stack d stack, [])
+      | o ∷ below ↦
+          let s = is_strong o.run d.run in
+          let more = close_pairs n (gave s d) (on_stack (gave s o) below) in
+          (more.0, record { opener = o.number; closer = d.number; strong = s } ∷ more.1)
     ])
-    (put r z)
+    (on_stack d stack, [])
 
--- all runs, from the front
-abbrev pub paired_from : SoFar → List Run → SoFar
-paired_from z [] = z
-paired_from z (r ∷ rs) = paired_from (close r.left r z) rs
+-- the pairs of the runs from a number on, with the stack before them
+abbrev pub pairs_from : ℕ → List Delimiter → List Run → List Pair
+pairs_from n stack [] = []
+pairs_from n stack (r ∷ rs) = let closed = close_pairs r.left (record { number = n; run = r }) stack in closed.1 ++ pairs_from (n + 1) closed.0 rs
 
--- the runs that were read, in their order
-abbrev pub all_waiting : List Waiting → List Run
-all_waiting [] = []
-all_waiting (w ∷ ws) = all_waiting ws ++ w.opener ∷ w.behind
+-- the pairs of the runs of a text
+abbrev pub pairs : List Run → List Pair
+pairs rs = pairs_from 0 [] rs
 
-abbrev pub all_runs : SoFar → List Run
-all_runs z = z.base ++ all_waiting z.waiting
+-- how many markers some pairs have at one end
+abbrev pub markers_of_all : List Bool → ℕ
+markers_of_all [] = 0
+markers_of_all (s ∷ ss) = markers_of s + markers_of_all ss
 
-abbrev pub none_read : SoFar
-none_read = record { base = []; waiting = [] }
+-- of the pairs that a test takes: whether each is strong
+abbrev pub strengths : (Pair → Bool) → List Pair → List Bool
+strengths takes ps = map (λ p. p.strong) (filter takes ps)
+
+-- a run with pairs that it closes, and opens, the inner ones first
+abbrev pub in_lists : Run → (closed opened : List Bool) → Run
+in_lists r closed opened = record r {
+  closed = r.closed ++ closed;
+  left = r.left - (markers_of_all closed + markers_of_all opened);
+  opened = reverse opened ++ r.opened;
+}
+
+-- the run with this number, with its pairs
+abbrev pub in_pairs : List Pair → ℕ → Run → Run
+in_pairs ps n r = in_lists r (strengths (λ p. p.closer == n) ps) (strengths (λ p. p.opener == n) ps)
+
+abbrev pub all_in_pairs : List Pair → ℕ → List Run → List Run
+all_in_pairs ps n [] = []
+all_in_pairs ps n (r ∷ rs) = in_pairs ps n r ∷ all_in_pairs ps (n + 1) rs
 
 -- the runs of a text with their pairs
 abbrev pub paired : List Run → List Run
-paired rs = all_runs (paired_from none_read rs)
+paired rs = all_in_pairs (pairs rs) 0 rs
 
 -- a place some bytes later in the same line
 abbrev pub later : ℕ → Point → Point
@@ -145,10 +159,6 @@ openings p (s ∷ ss) = unlinked_event Enter (outer_name s) p ∷ unlinked_event
 abbrev pub data_of : Point → ℕ → List Event
 data_of p zero = []
 data_of p (suc n) = unlinked_event Enter Data p ∷ unlinked_event Exit Data (later (suc n) p) ∷ []
-
-abbrev pub markers_of_all : List Bool → ℕ
-markers_of_all [] = 0
-markers_of_all (s ∷ ss) = markers_of s + markers_of_all ss
 
 -- what is left of a run, and what it opens
 abbrev pub tail_events : Run → List Event

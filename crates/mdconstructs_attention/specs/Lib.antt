@@ -2,6 +2,7 @@ pub mod Beside
 pub mod Classes
 pub mod Costs
 pub mod Emphasis
+pub mod InTurn
 pub mod LawStatements
 pub mod Places
 pub mod RunEdits

@@ -1,7 +1,8 @@
 -- Pairs, as the code makes them: the runs stay in their places, and those that wait are known by their indices.
-use Rattle.std.specs.Prelude.{◌≡◌, ◌+◌, ◌==◌, ◌≤◌, slice_index, ℕ, zero, suc, Bool, ◌&&◌, false, cond, List, [], ◌∷◌, ◌++◌, Option, Some, None, slice_get, slice_set, ◌<◌, length, reverse, nat_lt}
+use Rattle.std.specs.Prelude.{◌≡◌, ◌+◌, ◌==◌, ◌≤◌, slice_index, ℕ, zero, suc, Bool, false, cond, List, [], ◌∷◌, ◌++◌, Option, Some, None, slice_get, slice_set, ◌<◌, length, reverse}
 use Rattle.mdconstructs_attention.specs.declared.pairs.Delimiters.{Delimiters}
-use Rattle.mdconstructs_attention.specs.Emphasis.{Run, Waiting, SoFar, may_pair, all_runs, all_waiting, is_strong, opening, closing, put, close}
+use Rattle.mdconstructs_attention.specs.Emphasis.{Run, may_pair, is_strong}
+use Rattle.mdconstructs_attention.specs.InTurn.{Waiting, SoFar, all_runs, all_waiting, opening, closing, put, close}
 
 -- the run that a value of the code stands for: it lists the pairs that it opens the other way round
 abbrev pub as_run : Delimiters → Run
@@ -64,14 +65,6 @@ pub record Stands (rs : List Run) (openers : List ℕ) (z : SoFar) (rest : List 
 pub record StandsAt (rs : List Run) (openers : List ℕ) (closer : ℕ) (z : SoFar) (r : Run) (rest : List Run) : Type 0 where
   pub so_far : Stands rs openers z (r ∷ rest)
   pub next : closer ≡ length (all_runs z)
-
--- a run can close a pair more, if it finds an opener
-abbrev pub closes_yet : Run → Bool
-closes_yet r = r.closes && nat_lt 0 r.left
-
--- a run can open a pair more
-abbrev pub opens_yet : Run → Bool
-opens_yet r = r.opens && nat_lt 0 r.left
 
 -- how many markers the run at an index has left
 abbrev pub left_of : Option Run → ℕ

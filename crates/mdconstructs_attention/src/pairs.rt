@@ -1,8 +1,9 @@
 //! Pairs of delimiter runs, in linear time, and the events in place of a run.
 
 ghost use Rattle.std.specs.Prelude.{ℕ, slice_index, nat_lt, slice_get, Ok, true, false, cond, IfOk, ◌≡◌, ◌+◌, ◌-◌, ◌*◌, ◌<◌, ◌≤◌, ◌^◌, length, map, None, All, IfSome, OnOk, ◌++◌};
-ghost use Rattle.mdconstructs_attention.specs.Emphasis.{paired, rule_of_three, same, may_pair, opening, closing, is_strong};
-ghost use Rattle.mdconstructs_attention.specs.Searches.{as_run, last_of, with_pair, left_of, closes_yet, opens_yet, third, kind, AreBottoms, IsNext, HasClosed, ClosesNothing, IsTaken};
+ghost use Rattle.mdconstructs_attention.specs.Emphasis.{paired, rule_of_three, same, may_pair, is_strong, closes_yet, opens_yet};
+ghost use Rattle.mdconstructs_attention.specs.InTurn.{opening, closing};
+ghost use Rattle.mdconstructs_attention.specs.Searches.{as_run, last_of, with_pair, left_of, third, kind, AreBottoms, IsNext, HasClosed, ClosesNothing, IsTaken};
 ghost use Rattle.mdconstructs_attention.specs.Costs.{markers_left, end_of, to_pay};
 
 use crate::turns::Turns;

@@ -4,8 +4,10 @@
 -- has opened nothing; if none is, the two have one marker.
 use Rattle.std.proofs.Common.{◌≡◌, ℕ, zero, suc, Bool, true, false, cond, List, [], ◌∷◌, ◌++◌, Option, Some, None, inl, inr, refl, sym, ap, ◌∙◌, subst, append_assoc, append-nil}
 use Rattle.std.specs.Prelude.{◌⊎◌, ◌&&◌, nat_lt}
-use Rattle.mdconstructs_attention.specs.Emphasis.{Run, Waiting, SoFar, Found, same, may_pair, is_strong, opening, closing, put_behind, put, put_back, last_fitting, close, paired_from, all_waiting, all_runs, none_read, paired}
+use Rattle.mdconstructs_attention.specs.Emphasis.{Run, same, may_pair, is_strong}
+use Rattle.mdconstructs_attention.specs.InTurn.{Waiting, SoFar, Found, opening, closing, put_behind, put, put_back, last_fitting, close, in_turn_from, all_waiting, all_runs, none_read, paired_in_turn}
 use Rattle.mdconstructs_attention.specs.Beside.{AreBeside, AreUnpaired, PairsBeside}
+use Rattle.mdconstructs_attention.proofs.InTurn.{paired-in-turn}
 use Rattle.mdconstructs_attention.proofs.PairsKeep.{HaveLeft, found-all, back, put-is}
 use Rattle.mdconstructs_attention.proofs.RunTexts.{and-left}
 
@@ -222,7 +224,7 @@ next-good r base (w ∷ ws) none h = (first w.behind h.0, besides-more w.behind 
     first [] k = inl none
     first (x ∷ xs) k = k
 
-read-all : (rs : List Run) (z : SoFar) → AreUnpaired rs → IsRead z → IsRead (paired_from z rs)
+read-all : (rs : List Run) (z : SoFar) → AreUnpaired rs → IsRead z → IsRead (in_turn_from z rs)
 read-all [] z fresh h = h
 read-all (r ∷ rs) z fresh h =
     read-all rs (close r.left r z) fresh.1
@@ -238,6 +240,6 @@ all-beside base (w ∷ ws) tail h =
 
 pub pairs-beside : PairsBeside
 pairs-beside rs fresh =
-    let z = paired_from none_read rs in
+    let z = in_turn_from none_read rs in
     let read = read-all rs none_read fresh (record { good = tt; free = λ r. tt; left = tt }) in
-    subst AreBeside (append-nil (paired rs)) (all-beside z.base z.waiting [] read.good)
+    subst AreBeside (sym (paired-in-turn rs)) (subst AreBeside (append-nil (paired_in_turn rs)) (all-beside z.base z.waiting [] read.good))

@@ -3,7 +3,8 @@ use Rattle.std.specs.Prelude.{slice_get, option_map, nat_lt}
 use Rattle.std.proofs.lemmas.List.{map-set, get_or-set_other, get_or_default, length-set}
 use Rattle.std.proofs.lemmas.Option.{slice_get-map, slice_get_read, slice_get-get_or}
 use Rattle.mdconstructs_attention.specs.declared.pairs.Delimiters.{Delimiters}
-use Rattle.mdconstructs_attention.specs.Emphasis.{is_strong, opening, closing}
+use Rattle.mdconstructs_attention.specs.Emphasis.{is_strong}
+use Rattle.mdconstructs_attention.specs.InTurn.{opening, closing}
 use Rattle.mdconstructs_attention.specs.Searches.{as_run, with_pair, with_pair_of, left_of}
 use Rattle.mdconstructs_attention.proofs.pairs.join.Goals as goal
 

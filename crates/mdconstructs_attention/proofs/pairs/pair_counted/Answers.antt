@@ -1,10 +1,12 @@
-use Rattle.std.proofs.Common.{◌≡◌, ℕ, zero, suc, ◌+◌, ◌*◌, ◌≤◌, replicate, ◌<◌, List, [], ◌∷◌, map, length, refl, sym, ap, ◌∙◌, subst, arith, append-nil, length-append}
+use Rattle.std.proofs.Common.{◌≡◌, ℕ, zero, suc, ◌+◌, ◌*◌, ◌≤◌, replicate, ◌<◌, List, [], ◌∷◌, ◌++◌, map, length, refl, sym, ap, ◌∙◌, subst, arith, append-nil, length-append}
 use Rattle.std.specs.Prelude.{slice_index}
 use Rattle.std.proofs.lemmas.List.{length-map}
-use Rattle.mdconstructs_attention.specs.Emphasis.{Run, SoFar, all_runs, paired_from, none_read, close}
+use Rattle.mdconstructs_attention.specs.Emphasis.{Run}
+use Rattle.mdconstructs_attention.specs.InTurn.{SoFar, all_runs, in_turn_from, none_read, close}
 use Rattle.mdconstructs_attention.specs.Searches.{AreBottoms, as_run, Stands}
 use Rattle.mdconstructs_attention.specs.Costs.{markers_left, to_pay}
 use Rattle.mdconstructs_attention.proofs.Bottoms.{bottoms-at-first}
+use Rattle.mdconstructs_attention.proofs.InTurn.{paired-in-turn}
 use Rattle.mdconstructs_attention.proofs.pairs.pair_counted.Goals as goal
 
 -- if some runs are not read yet, there is a next one
@@ -57,4 +59,16 @@ loop-closer-preserved g c =
     let two = ap length there.runs ∙ length-append (all_runs z') f.1 in
     let new = length-map c.take_up.new.runs as_run in
     let same : length c.take_up.new.runs ≡ length c.loop-closer.runs = c.take_up.auto.runs in
-    (c.take_up.ensures.kinds, c.in_ok-take_up.ensures.bottoms, (z', f.1, there, omega (arith, one, two, long, new, i.3, same), ap (paired_from i.0) (sym f.2) ∙ i.4), omega (arith, c.in_ok-take_up.ensures.paid, c.loop-closer.invariant.3), omega (arith, same, c.loop-closer-test.true))
+    (c.take_up.ensures.kinds, c.in_ok-take_up.ensures.bottoms, (z', f.1, there, omega (arith, one, two, long, new, i.3, same), ap (in_turn_from i.0) (sym f.2) ∙ i.4), omega (arith, c.in_ok-take_up.ensures.paid, c.loop-closer.invariant.3), omega (arith, same, c.loop-closer-test.true))
+
+none-left : (rs : List Run) (z : SoFar) (rest : List Run) → rs ≡ all_runs z ++ rest → length rs ≤ length (all_runs z) → rest ≡ []
+none-left rs z [] is le = refl
+none-left rs z (r ∷ rest) is le = absurd (let long = ap length is ∙ length-append (all_runs z) (r ∷ rest) in omega (arith, long, le))
+
+pub returns-clause-pairs : goal.returns-clause-pairs
+returns-clause-pairs g c =
+    let i = c.loop-closer.invariant.2 in
+    let long = length-map c.loop-closer.runs as_run in
+    let end : i.1 ≡ [] = none-left (map as_run c.loop-closer.runs) i.0 i.1 i.2.runs (omega (arith, long, i.3, c.loop-closer-test.false)) in
+    i.2.runs ∙ ap (λ xs. all_runs i.0 ++ xs) end ∙ append-nil (all_runs i.0) ∙ ap (λ rest. all_runs (in_turn_from i.0 rest)) (sym end) ∙ ap all_runs i.4
+    ∙ sym (paired-in-turn (map as_run c.args.runs.now))

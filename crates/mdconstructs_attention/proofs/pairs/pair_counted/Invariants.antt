@@ -1,5 +1,6 @@
 use Rattle.std.proofs.Common.{◌≡◌, ◌+◌, ◌-◌, ◌*◌, ◌≤◌, List, map, length}
-use Rattle.mdconstructs_attention.specs.Emphasis.{Run, SoFar, all_runs, paired_from, none_read}
+use Rattle.mdconstructs_attention.specs.Emphasis.{Run}
+use Rattle.mdconstructs_attention.specs.InTurn.{SoFar, all_runs, in_turn_from, none_read}
 use Rattle.mdconstructs_attention.specs.Searches.{as_run, AreBottoms, Stands}
 use Rattle.mdconstructs_attention.specs.Costs.{markers_left, to_pay}
 use Rattle.mdconstructs_attention.proofs.pairs.pair_counted.Given as goal
@@ -8,7 +9,7 @@ use Rattle.mdconstructs_attention.proofs.pairs.pair_counted.Given as goal
 abbrev pub invariant-loop-closer : goal.invariant-loop-closer
 invariant-loop-closer g l =
     (length l.bottoms ≡ 12) × AreBottoms (map as_run l.runs) l.openers.items l.bottoms
-    × ((z : SoFar) × (rest : List Run) × Stands (map as_run l.runs) l.openers.items z rest × (l.closer ≡ length (all_runs z)) × (paired_from z rest ≡ paired_from none_read (map as_run l.fn.runs)))
+    × ((z : SoFar) × (rest : List Run) × Stands (map as_run l.runs) l.openers.items z rest × (l.closer ≡ length (all_runs z)) × (in_turn_from z rest ≡ in_turn_from none_read (map as_run l.fn.runs)))
     × (l.turns + to_pay (map as_run l.runs) l.openers.items l.bottoms ≤ l.fn.turns + 2 * markers_left (map as_run l.fn.runs) + 14 * l.closer) × (l.closer ≤ length l.runs)
 
 abbrev pub decreases-loop-closer : goal.decreases-loop-closer
