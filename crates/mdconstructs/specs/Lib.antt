@@ -14,6 +14,7 @@ pub use Rattle.mdconstructs_tables.specs.Markers
 pub use Rattle.mdconstructs_tables.specs.Misfits
 pub use Rattle.mdconstructs_tables.specs.NoFurther
 pub use Rattle.mdconstructs_tables.specs.Numbers
+pub use Rattle.mdconstructs_tables.specs.Over
 pub use Rattle.mdconstructs_tables.specs.RowInvariant
 pub use Rattle.mdconstructs_tables.specs.RowTest
 pub use Rattle.mdconstructs_tables.specs.Rows
@@ -118,6 +119,7 @@ pub use Rattle.mdconstructs_flow.specs.QuietLooks
 pub use Rattle.mdconstructs_flow.specs.Renamings
 pub use Rattle.mdconstructs_flow.specs.Steps as FlowSteps
 pub use Rattle.mdconstructs_flow.specs.ThematicBreak
+pub use Rattle.mdconstructs_flow_read.specs.BlockLines
 pub use Rattle.mdconstructs_flow_read.specs.BlocksFormed
 pub use Rattle.mdconstructs_flow_read.specs.BlocksRead
 pub use Rattle.mdconstructs_flow_read.specs.BlocksTold
@@ -129,7 +131,9 @@ pub use Rattle.mdconstructs_flow_read.specs.HtmlLines
 pub use Rattle.mdconstructs_flow_read.specs.LeafBlocks
 pub use Rattle.mdconstructs_flow_read.specs.LeafEvents
 pub use Rattle.mdconstructs_flow_read.specs.LineKinds
+pub use Rattle.mdconstructs_flow_read.specs.LineWords
 pub use Rattle.mdconstructs_flow_read.specs.LooksFind
+pub use Rattle.mdconstructs_flow_read.specs.SeenKinds
 pub use Rattle.mdconstructs_flow_read.specs.ToldChunks
 pub use Rattle.mdconstructs_flow_read.specs.ToldMarks
 pub use Rattle.mdconstructs_documents.specs.ByteRanges

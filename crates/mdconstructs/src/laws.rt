@@ -4,10 +4,6 @@ pub use mdconstructs_attention::laws::{
     ascii_has_its_classes, characters_are_utf8, edits_make_emphasis, emphasis_can_be_made,
     emphasis_is_balanced, neighbours_of_pairs,
 };
-pub use mdconstructs_flow_read::laws::{
-    flow_is_read, leaf_blocks_account_for_each_byte, leaf_blocks_are_well_formed, lines_are_seen,
-    readings_end_as_blocks,
-};
 pub use mdconstructs_documents::laws::{
     chains_of_leaf_blocks_can_be_read, inline_texts_in_their_blocks_account_for_each_byte,
     inline_texts_in_their_blocks_are_well_formed, inline_texts_stand_in_their_blocks,
@@ -15,6 +11,10 @@ pub use mdconstructs_documents::laws::{
 };
 pub use mdconstructs_flow::laws::{
     cost_at_the_start as flow_cost_at_the_start, no_document_is_refused as flow_refuses_no_document,
+};
+pub use mdconstructs_flow_read::laws::{
+    flow_is_read, leaf_blocks_account_for_each_byte, leaf_blocks_are_well_formed,
+    lines_are_in_blocks, lines_are_seen, readings_end_as_blocks,
 };
 pub use mdconstructs_inlines::laws::{
     chains_are_read_as_inline_text, chains_are_read_as_strings,

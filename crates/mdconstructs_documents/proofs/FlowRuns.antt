@@ -1,5 +1,5 @@
 -- A run over a document returns the events of its leaf blocks, and these are well formed.
-use Rattle.mdconstructs_documents.proofs.Prelude.{◌≡◌, ◌∙◌, ℕ, List, true, subst, sym, Event, FlowStart, Given, IsDocument, virtual, flow_rules, AreFlowEvents, ParseOptions, document}
+use Rattle.mdconstructs_documents.proofs.Prelude.{◌≡◌, ◌∙◌, ℕ, List, true, false, subst, sym, Event, FlowStart, Given, IsDocument, virtual, flow_rules, AreFlowEvents, ParseOptions, document}
 use Rattle.markdown_tokenizer.specs.Engine.{IsRun, IsWellFormed, whole_text}
 use Rattle.markdown_tokenizer.specs.declared.subtokenize.Subresult.{Subresult}
 use Rattle.mdconstructs_flow_read.proofs.Marks.BlocksFormed.{blocks-are-formed}
@@ -14,7 +14,7 @@ module _ (read : FlowIsRead) (g : Given) (is : IsDocument g) where
 
   -- what a run returns
   pub run-is-flow : (events : List Event) (sub : Subresult) → IsRun g flow_rules true FlowStart events sub → events ≡ blocks_events
-  run-is-flow events sub run = run.events ∙ (flow-ends read g (whole_text g) (has-room g is) run.result run.ends).events_are run.final sub run.resolved
+  run-is-flow events sub run = run.events ∙ (flow-ends read g (whole_text g) false (has-room g is) run.result run.ends).events_are run.final sub run.resolved
 
 -- the events of leaf blocks of a document are well formed
 pub flow-formed : (options : ParseOptions) (bytes : List ℕ) → IsDocument (document options bytes) → (events : List Event) → AreFlowEvents options bytes events → IsWellFormed (document options bytes) events

@@ -10,4 +10,5 @@ pub mod Lines
 pub mod Rooms
 pub mod RowReads
 pub mod RunReads
+pub mod TestedKinds
 pub mod WholeLines

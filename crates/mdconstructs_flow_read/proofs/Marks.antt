@@ -1,6 +1,7 @@
 -- What holds of the marks of leaf blocks.
 pub mod BlocksFormed
 pub mod ChunksJoin
+pub mod Cuts
 pub mod FullBlocks
 pub mod LeafSpans
 pub mod MarkAccounts

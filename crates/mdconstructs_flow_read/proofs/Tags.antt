@@ -2,6 +2,7 @@
 pub mod Attributes
 pub mod HtmlKinds
 pub mod HtmlLooks
+pub mod HtmlNumbers
 pub mod HtmlOpenings
 pub mod HtmlTagLooks
 pub mod TagNumbers

@@ -1,5 +1,5 @@
 -- What laws say of the reading of blocks, once a look found the kind of the first line.
-use Rattle.std.specs.Prelude.{◌≡◌, ◌<◌, ◌≤◌, ◌^◌, ◌⊎◌, ℕ, suc, ◌+◌, ◌-◌, not, nat_le, ◌||◌, List, [], ◌∷◌, ◌++◌, length, take, drop, Bool, true, false, cond, map, None}
+use Rattle.std.specs.Prelude.{◌≡◌, ◌<◌, ◌≤◌, ◌^◌, ◌⊎◌, ℕ, suc, ◌+◌, ◌-◌, not, ◌||◌, List, [], ◌∷◌, ◌++◌, length, take, drop, Bool, true, false, cond, map, None}
 use Rattle.std.specs.List.{AllByRecursion}
 use Rattle.markdown_base.specs.declared.event.Kind.TheVariants.{Enter, Exit}
 use Rattle.markdown_base.specs.declared.event.Name.{Name as EventName}
@@ -20,10 +20,11 @@ use Rattle.mdconstructs_tables.specs.Rows.{table_step}
 use Rattle.mdconstructs_machines.specs.LineEvents.{all_of, ending_of, line_text}
 use Rattle.mdconstructs_machines.specs.Spans.{event}
 use Rattle.mdconstructs_flow.specs.FlowTable.{flow}
-use Rattle.mdconstructs_flow_read.specs.HtmlLines.{ends_html}
-use Rattle.mdconstructs_flow_read.specs.LeafBlocks.{Line, ends_paragraph, further_code, has_line, lines_through, lines_until, text_of}
+use Rattle.mdconstructs_flow_read.specs.HtmlLines.{HtmlKind, ends, waits_for_blank}
+use Rattle.mdconstructs_flow_read.specs.LeafBlocks.{Line, ends_text, further_code, has_line, lines_through, lines_until, text_of}
+use Rattle.mdconstructs_flow_read.specs.LineKinds.{Fence, closes, is_blank_line, is_thematic_break, unindented}
+use Rattle.mdconstructs_flow_read.specs.SeenKinds.{SeenKind, number, blank, indented, heading, fence, html, underline, thematic_break, is_underline, seen_kind}
 use Rattle.mdconstructs_flow_read.specs.LeafEvents.{Mark, body, break_marks, code_fenced_marks, code_marks, heading_marks, html_marks, last_end, leaf_marks, lines_marks, linked_from, span_marks, text_marks, underline_inside, white}
-use Rattle.mdconstructs_flow_read.specs.LineKinds.{Fence, LineKind, blank, indented, heading, fence, html, underline, thematic_break, closes, is_blank_line, is_thematic_break, line_kind, unindented}
 use Rattle.mdconstructs_flow_read.specs.LooksFind.{Finds, IsInLine}
 use Rattle.mdconstructs_flow_read.specs.ToldMarks.{ToldMark, as_it_is, under_names, before_edits, told_edits}
 
@@ -94,9 +95,9 @@ IsBlockRead g t k from lines more n is_open inside =
     IsReadAs g t KeepsEdits k from (block_seats is_open lines) (behind_block is_open lines more) (span_marks g.bytes n (block_seats is_open lines) inside) (Retry FlowAfter)
 
 -- a look found that the first of these lines is of this kind
-pub record IsFound (g : Given) (t : Text) (k : Configuration Unit Unit) (kind : LineKind) (line : Line) (more : List Line) : Type 0 where
+pub record IsFound (g : Given) (t : Text) (k : Configuration Unit Unit) (kind : SeenKind) (line : Line) (more : List Line) : Type 0 where
   pub here : IsAtLines t k (line ∷ more)
-  pub is_kind : line_kind g.options.constructs (text_of line) ≡ kind
+  pub is_kind : seen_kind g.options.constructs (text_of line) ≡ kind
   pub found : Finds kind (unindented (text_of line)) k.local Ok
 
 -- ATX headings are read
@@ -107,7 +108,7 @@ HeadingsAreRead = (g : Given) (t : Text) (k : Configuration Unit Unit) (line : L
 -- so are thematic breaks, also where the line could be an underline
 abbrev pub BreaksAreRead : Type 0
 BreaksAreRead = (g : Given) (t : Text) (k : Configuration Unit Unit) (line : Line) (more : List Line) → IsFound g t k thematic_break line more
-    ⊎ ((mark : ℕ) × IsFound g t k (underline mark) line more × (g.options.constructs.thematic_break ≡ true) × (is_thematic_break (unindented (text_of line)) ≡ true))
+    ⊎ (IsFound g t k underline line more × (g.options.constructs.thematic_break ≡ true) × (is_thematic_break (unindented (text_of line)) ≡ true))
     → IsBlockRead g t k FlowBlankLineAfter (line ∷ []) more name.ThematicBreak false (break_marks g.bytes (length line) (line_text line))
 
 -- indented code
@@ -125,13 +126,12 @@ FencedCodeIsRead = (g : Given) (t : Text) (k : Configuration Unit Unit) (f : Fen
     let lines = take n (line ∷ more) in
     IsBlockRead g t k FlowBlankLineAfter lines (drop n (line ∷ more)) name.CodeFenced (not is_closed) (code_fenced_marks g.bytes f is_closed lines)
 
--- HTML of kinds 1 to 5, closed or open; and of kinds 6 and 7
+-- HTML of each kind, closed or open
 abbrev pub HtmlIsRead : Type 0
-HtmlIsRead = (g : Given) (t : Text) (k : Configuration Unit Unit) (kind : ℕ) (line : Line) (more : List Line) → IsFound g t k (html kind) line more
-    → let long = nat_le 6 kind in
-    let all = line ∷ more in
-    let n = cond long (lines_until is_blank_line all) (lines_through (ends_html kind) all) in
-    let is_closed = long || has_line (ends_html kind) all in
+HtmlIsRead = (g : Given) (t : Text) (k : Configuration Unit Unit) (kind : HtmlKind) (line : Line) (more : List Line) → IsFound g t k (html (number kind)) line more
+    → let all = line ∷ more in
+    let n = cond (waits_for_blank kind) (lines_until (λ line. is_blank_line (text_of line)) all) (lines_through (ends kind) all) in
+    let is_closed = waits_for_blank kind || has_line (ends kind) all in
     IsBlockRead g t k FlowBlankLineAfter (take n all) (drop n all) name.HtmlFlow (not is_closed) (html_marks g.bytes (not is_closed) (take n all))
 
 -- A blank line that has white space, with its line ending or at the end of the text
@@ -144,16 +144,12 @@ pub record BlankLinesAreRead : Type 0 where
 -- the lines of a paragraph that begins with the first of these
 abbrev pub text_lines : Given → List Line → ℕ
 text_lines g [] = 0
-text_lines g (line ∷ more) = suc (lines_until (λ t. ends_paragraph (line_kind g.options.constructs t)) more)
+text_lines g (line ∷ more) = suc (lines_until (ends_text g.options.constructs) more)
 
 -- the line behind a paragraph is an underline
-abbrev pub is_underline : LineKind → Bool
-is_underline (underline mark) = true
-is_underline _ = false
-
 abbrev pub is_underlined : Given → List Line → Bool
 is_underlined g [] = false
-is_underlined g (next ∷ behind) = is_underline (line_kind g.options.constructs (text_of next))
+is_underlined g (next ∷ behind) = is_underline (seen_kind g.options.constructs (text_of next))
 
 -- a setext heading as it is read: a paragraph, a line ending, and the underline; three events get other names
 module _ (bytes : List ℕ) where

@@ -13,7 +13,7 @@ use Rattle.mdconstructs_flow_read.specs.ToldMarks.{ToldMark, as_it_is, before_ed
 
 module _ (bytes : List ℕ) where
   abbrev pub block_told : LeafBlock → List ToldMark
-  block_told (setext_heading lines underline) = heading_told bytes lines underline ++ map as_it_is (last_end bytes (underline ∷ []))
+  block_told (setext_heading rank lines underline) = heading_told bytes lines underline ++ map as_it_is (last_end bytes (underline ∷ []))
   block_told block = map as_it_is (leaf_block_marks bytes block)
 
   abbrev pub blocks_told : List LeafBlock → List ToldMark

@@ -2,7 +2,7 @@
 -- table of states. The definition knows no states: a text is cut into lines (LineEvents), each line is of a kind (LineKinds), lines are cut into
 -- blocks by their kinds (LeafBlocks), and each block has its events (LeafEvents, `flow_events`). Whatever the text, whatever constructs are on,
 -- both give the same events. So who uses the events need not know the machine.
-use Rattle.std.specs.Prelude.{◌≡◌, ◌<◌, ◌^◌, ◌-◌, [], true, false, length}
+use Rattle.std.specs.Prelude.{◌≡◌, ◌<◌, ◌^◌, ◌-◌, [], Bool, true, length}
 use Rattle.markdown_base.specs.declared.state.State.TheVariants.{Next, Ok}
 use Rattle.markdown_base.specs.declared.state.TheConstants.Name.{FlowStart}
 use Rattle.markdown_tokenizer.specs.Configuration.{Configuration, start_configuration}
@@ -19,6 +19,6 @@ pub record EndsAsBlocks (g : Given) (t : Text) (r : Reading Unit Unit) : Type 0 
   pub events_are : (final : Configuration Unit Unit) (sub : Subresult) → IsResolved (flow_rules g).resolver g t true r.configuration final sub
       → final.events ≡ flow_events g.options.constructs g.bytes t.seats
 
--- Each reading of a text from its start ends so. Counts have room for every byte
+-- Each reading of a text from its start ends so, also of a text in the first paragraph of a list item (the flag). Counts have room for every byte
 abbrev pub FlowEnds : Type 0
-FlowEnds = (g : Given) (t : Text) → length t.seats < 2 ^ 64 - 1 → (r : Reading Unit Unit) → EndsIn g (flow_rules g).step t 0 (start_configuration false) [] (Next FlowStart) r → EndsAsBlocks g t r
+FlowEnds = (g : Given) (t : Text) (flag : Bool) → length t.seats < 2 ^ 64 - 1 → (r : Reading Unit Unit) → EndsIn g (flow_rules g).step t 0 (start_configuration flag) [] (Next FlowStart) r → EndsAsBlocks g t r

@@ -1,6 +1,6 @@
 -- How any text is read as a whole: as its leaf blocks, before the edits of setext headings. A paragraph's lines are read before its underline,
 -- so a setext heading is read as a paragraph and an underline, and edits, which wait for the end, make it a heading (BlocksTold).
-use Rattle.std.specs.Prelude.{◌≡◌, ◌<◌, ◌^◌, ◌-◌, [], List, false, length}
+use Rattle.std.specs.Prelude.{◌≡◌, ◌<◌, ◌^◌, ◌-◌, [], Bool, List, length}
 use Rattle.markdown_base.specs.declared.state.State.TheVariants.{Next, Ok}
 use Rattle.markdown_base.specs.declared.state.TheConstants.Name.{FlowStart}
 use Rattle.markdown_tokenizer.specs.Configuration.{start_configuration}
@@ -12,10 +12,11 @@ use Rattle.mdconstructs_flow_read.specs.BlocksTold.{flow_told}
 use Rattle.mdconstructs_flow_read.specs.LeafEvents.{linked_from}
 use Rattle.mdconstructs_flow_read.specs.ToldMarks.{ToldMark, before_edits, told_edits}
 
--- The reading of a text from its start ends well, with the events of these marks and the edits that they tell
-pub record IsToldAs (g : Given) (t : Text) (told : List ToldMark) : Type 0 where
+-- The reading of a text from its start ends well, with the events of these marks and the edits that they tell. The flag says whether the text is
+-- in the first paragraph of a list item
+pub record IsToldAs (g : Given) (t : Text) (flag : Bool) (told : List ToldMark) : Type 0 where
   pub result : Reading Unit Unit
-  pub ends : EndsIn g (table_step flow g) t 0 (start_configuration false) [] (Next FlowStart) result
+  pub ends : EndsIn g (table_step flow g) t 0 (start_configuration flag) [] (Next FlowStart) result
   pub well : result.answer ≡ Ok
   pub events_are : result.configuration.events ≡ linked_from 0 (before_edits told)
   pub edits : result.configuration.local.map ≡ told_edits 0 told
@@ -24,4 +25,4 @@ pub record IsToldAs (g : Given) (t : Text) (told : List ToldMark) : Type 0 where
 -- Any text is read as its leaf blocks are told, whatever constructs are on, and also with gaps between its virtual bytes, as places come from
 -- these alone. Counts have room for every byte
 abbrev pub FlowIsRead : Type 0
-FlowIsRead = (g : Given) (t : Text) → length t.seats < 2 ^ 64 - 1 → IsToldAs g t (flow_told g.options.constructs g.bytes t.seats)
+FlowIsRead = (g : Given) (t : Text) (flag : Bool) → length t.seats < 2 ^ 64 - 1 → IsToldAs g t flag (flow_told g.options.constructs g.bytes t.seats)

@@ -173,12 +173,12 @@ module _ (bytes : List ℕ) where
   block_around text lines_of_text string (break_line line) = block_span name.ThematicBreak false (line ∷ []) (break_marks (length line) (line_text line))
   block_around text lines_of_text string (atx_heading line) = block_span name.HeadingAtx false (line ∷ []) (heading_around text (line_text line))
   block_around text lines_of_text string (paragraph lines) = block_span name.Paragraph false lines (lines_of_text lines)
-  block_around text lines_of_text string (setext_heading lines underline) =
+  block_around text lines_of_text string (setext_heading rank lines underline) =
       block_span name.HeadingSetext false (lines ++ underline ∷ [])
       (span_marks name.HeadingSetextText (body lines) (lines_of_text lines) ++ (last_end lines ++ underline_marks (line_text underline)))
   block_around text lines_of_text string (indented_code lines) = block_span name.CodeIndented false lines (lines_marks (code_marks 4) false lines)
   block_around text lines_of_text string (fenced_code f is_closed lines) = block_span name.CodeFenced (not is_closed) lines (code_fenced_around string f is_closed lines)
-  block_around text lines_of_text string (html_block is_closed lines) = block_span name.HtmlFlow (not is_closed) lines (html_marks (not is_closed) lines)
+  block_around text lines_of_text string (html_block kind is_closed lines) = block_span name.HtmlFlow (not is_closed) lines (html_marks (not is_closed) lines)
 
   -- The events of a leaf block, with its chunks
   abbrev pub leaf_block_marks : LeafBlock → List Mark

@@ -1,3 +1,4 @@
+pub mod BlockLines
 pub mod BlocksFormed
 pub mod BlocksRead
 pub mod BlocksTold
@@ -9,6 +10,8 @@ pub mod HtmlLines
 pub mod LeafBlocks
 pub mod LeafEvents
 pub mod LineKinds
+pub mod LineWords
 pub mod LooksFind
+pub mod SeenKinds
 pub mod ToldChunks
 pub mod ToldMarks

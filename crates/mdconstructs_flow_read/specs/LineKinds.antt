@@ -1,30 +1,11 @@
--- What a line is, by its bytes without its line ending (CommonMark, 4). The definitions have no states. A tab is as many bytes as it has
+-- What a line is, by its bytes without its line ending (CommonMark 0.31, 4). The definitions have no states. A tab is as many bytes as it has
 -- columns.
-use Rattle.std.specs.Prelude.{ℕ, ◌==◌, ◌&&◌, ◌||◌, not, nat_le, Bool, false, cond, List, [], ◌∷◌, filter, take, drop, length, reverse}
+use Rattle.std.specs.Prelude.{ℕ, ◌==◌, ◌&&◌, ◌||◌, not, nat_le, Bool, cond, List, filter, take, drop, length, reverse, Option, None, Some}
 use Rattle.std.specs.List.{list_all, prefix_len}
 use Rattle.markdown_base.specs.declared.configuration.Constructs.{Constructs}
 use Rattle.mdconstructs_machines.specs.Breaks.{is_white}
-use Rattle.mdconstructs_flow_read.specs.HtmlLines.{html_at}
-
--- a byte comes first, and it is this one
-abbrev pub begins_with : (byte : ℕ) → List ℕ → Bool
-begins_with byte [] = false
-begins_with byte (b ∷ bs) = b == byte
-
--- the columns of white space that a line begins with, and the line behind them
-abbrev pub indent : List ℕ → ℕ
-indent t = prefix_len is_white t
-
-abbrev pub unindented : List ℕ → List ℕ
-unindented t = drop (indent t) t
-
--- how many of this byte come first
-abbrev pub run : (byte : ℕ) → List ℕ → ℕ
-run byte t = prefix_len (λ b. b == byte) t
-
--- Blank line (CommonMark, 4.9): it has nothing, or only spaces and tabs
-abbrev pub is_blank_line : List ℕ → Bool
-is_blank_line t = list_all is_white t
+pub use Rattle.mdconstructs_flow_read.specs.LineWords.{begins_with, indent, is_blank_line, run, unindented}
+use Rattle.mdconstructs_flow_read.specs.HtmlLines.{HtmlKind, html_kind}
 
 -- Thematic break (CommonMark, 4.1): three marks or more of one kind, and white space between and behind them
 abbrev pub is_break_of_marks : (mark : ℕ) → List ℕ → Bool
@@ -51,14 +32,13 @@ pub record Fence : Type 0 where
 abbrev pub is_fence_of : (byte : ℕ) → List ℕ → Bool
 is_fence_of byte r = let n = run byte r in nat_le 3 n && ((byte == 126) || list_all (λ b. not (b == 96)) (drop n r))
 
--- What a line is. HTML has its kind, from 1 to 7; an underline has its mark
+-- What a line is, if it is asked alone
 pub data LineKind : Type 0 where
   blank : LineKind
   indented : LineKind
   heading : LineKind
   fence : Fence → LineKind
-  html : (kind : ℕ) → LineKind
-  underline : (mark : ℕ) → LineKind
+  html : HtmlKind → LineKind
   thematic_break : LineKind
   text : LineKind
 
@@ -73,21 +53,28 @@ module _ (on : Constructs) where
   abbrev pub closes : Fence → List ℕ → Bool
   closes f t = let n = run f.byte (unindented t) in not (is_far t) && (nat_le f.size n && is_blank_line (drop n (unindented t)))
 
-  -- what a line is, from its first byte that is not white space on, and by the columns before it. A line that may be an underline and a
-  -- thematic break is an underline here: who asks knows whether there is a paragraph before it
+  -- what a line is, from its first byte that is not white space on, and by the columns before it
   abbrev pub kind_of_rest : (columns : ℕ) → List ℕ → LineKind
   kind_of_rest columns r =
       cond (on.heading_atx && is_atx_heading r) heading
       (cond (on.code_fenced && is_fence_of 96 r) (fence (record { byte = 96; size = run 96 r; indent = columns }))
       (cond (on.code_fenced && is_fence_of 126 r) (fence (record { byte = 126; size = run 126 r; indent = columns }))
-      (cond (on.html_flow && nat_le 1 (html_at r)) (html (html_at r))
-      (cond (on.heading_setext && is_underline_of_marks 61 r) (underline 61)
-      (cond (on.heading_setext && is_underline_of_marks 45 r) (underline 45)
-      (cond (on.thematic_break && is_thematic_break r) thematic_break text))))))
+      (elim (cond on.html_flow (html_kind r) None) [
+        | Some kind ↦ html kind
+        | None ↦ cond (on.thematic_break && is_thematic_break r) thematic_break text
+      ])))
 
   -- What a line is
   abbrev pub line_kind : List ℕ → LineKind
   line_kind t = cond (is_blank_line t) blank (cond (is_far t) indented (kind_of_rest (indent t) (unindented t)))
+
+  -- A line may be a setext heading underline. It is one behind lines of a paragraph, which it makes a heading of this rank: "The heading is a level 1
+  -- heading if = characters are used in the setext heading underline, and a level 2 heading if - characters are used" (CommonMark, 4.3)
+  abbrev pub underline_rank : List ℕ → Option ℕ
+  underline_rank t =
+      cond (is_far t || not on.heading_setext) None
+      (cond (is_underline_of_marks 61 (unindented t)) (Some 1)
+      (cond (is_underline_of_marks 45 (unindented t)) (Some 2) None))
 
 -- bytes without those at their end that pass a test
 abbrev pub trimmed : (ℕ → Bool) → List ℕ → List ℕ

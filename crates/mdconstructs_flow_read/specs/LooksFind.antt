@@ -12,9 +12,9 @@ use Rattle.markdown_tokenizer.specs.Configuration.{Local}
 use Rattle.markdown_tokenizer.specs.Text.{Given, Text}
 use Rattle.mdconstructs_tables.specs.Looks.{scan}
 use Rattle.mdconstructs_flow.specs.FlowTable.{flow}
-use Rattle.mdconstructs_flow_read.specs.HtmlLines.{html_at}
 use Rattle.mdconstructs_flow_read.specs.LeafBlocks.{bytes_of}
-use Rattle.mdconstructs_flow_read.specs.LineKinds.{LineKind, blank, indented, heading, fence, html, underline, thematic_break, text, heading_text, is_thematic_break, line_kind, run, unindented}
+use Rattle.mdconstructs_flow_read.specs.LineKinds.{heading_text, is_thematic_break, run, unindented}
+use Rattle.mdconstructs_flow_read.specs.SeenKinds.{SeenKind, html_number, blank, indented, heading, fence, html, underline, thematic_break, text, seen_kind}
 
 -- virtual bytes of a line, without a line ending
 abbrev pub IsInLine : List Seat → Type 0
@@ -38,13 +38,13 @@ pub record LeavesAll (before after : Local Unit Unit) : Type 0 where
   pub connect : after.tokenize_state.connect ≡ before.tokenize_state.connect
 
 -- A look at a line found what it is: the answer, and what is written of it. A line of text fails
-abbrev pub Finds : LineKind → (rest : List ℕ) → Local Unit Unit → State → Type 0
+abbrev pub Finds : SeenKind → (rest : List ℕ) → Local Unit Unit → State → Type 0
 Finds blank r l answer = (answer ≡ Ok) × (l.tokenize_state.token_1 ≡ BlankLineEnding)
 Finds indented r l answer = (answer ≡ Ok) × (l.tokenize_state.token_1 ≡ CodeIndented)
 Finds heading r l answer = (answer ≡ Ok) × (l.tokenize_state.token_1 ≡ HeadingAtx) × (l.tokenize_state.size_b ≡ length (text_behind_signs r))
 Finds (fence f) r l answer = (answer ≡ Ok) × (l.tokenize_state.token_1 ≡ CodeFenced) × (l.tokenize_state.marker ≡ f.byte) × (l.tokenize_state.size_b ≡ f.size) × (l.tokenize_state.size_c ≡ f.indent)
-Finds (html kind) r l answer = (answer ≡ Ok) × (l.tokenize_state.token_1 ≡ HtmlFlow) × (l.tokenize_state.marker_b ≡ kind)
-Finds (underline mark) r l answer =
+Finds (html number) r l answer = (answer ≡ Ok) × (l.tokenize_state.token_1 ≡ HtmlFlow) × (l.tokenize_state.marker_b ≡ number)
+Finds underline r l answer =
     (answer ≡ Ok) × (l.tokenize_state.token_1 ≡ HeadingSetextUnderline) × (((l.tokenize_state.marker == 45) && nat_le 3 l.tokenize_state.size_b) ≡ is_thematic_break r)
 Finds thematic_break r l answer = (answer ≡ Ok) × (l.tokenize_state.token_1 ≡ ThematicBreak)
 Finds text r l answer = answer ≡ Nok
@@ -54,7 +54,7 @@ abbrev pub LinesAreSeen : Type 0
 LinesAreSeen = (g : Given) (t : Text) (stack : List EventName) (events : List Event) (line rest : List Seat) (previous : Option ℕ) (position : ℕ) (mark : Bool) (local : Local Unit Unit)
     → drop position t.seats ≡ line ++ rest → IsInLine line → LineEnds rest → length line < 2 ^ 64 - 1 → local.tokenize_state.size_c ≡ 0
     → let r = scan flow g t stack events 2 (line ++ rest) previous position mark local FlowBlankLineBefore in
-    LeavesAll local r.local × Finds (line_kind g.options.constructs (bytes_of line)) (unindented (bytes_of line)) r.local r.answer
+    LeavesAll local r.local × Finds (seen_kind g.options.constructs (bytes_of line)) (unindented (bytes_of line)) r.local r.answer
 
 -- the look at HTML found this kind, behind a less-than sign; 0 is none
 abbrev pub FindsHtml : (kind : ℕ) → Local Unit Unit → State → Type 0
@@ -66,4 +66,4 @@ abbrev pub HtmlIsSeen : Type 0
 HtmlIsSeen = (g : Given) (t : Text) (stack : List EventName) (events : List Event) (line rest : List Seat) (previous : Option ℕ) (position : ℕ) (mark : Bool) (local : Local Unit Unit)
     → drop position t.seats ≡ line ++ rest → IsInLine line → LineEnds rest
     → let r = scan flow g t stack events 2 (line ++ rest) previous position mark local HtmlFlowOpen in
-    LeavesAll local r.local × FindsHtml (html_at (60 ∷ bytes_of line)) r.local r.answer
+    LeavesAll local r.local × FindsHtml (html_number (60 ∷ bytes_of line)) r.local r.answer

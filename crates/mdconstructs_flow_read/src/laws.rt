@@ -1,5 +1,6 @@
 //! Laws about leaf blocks, which have no states. Each is a function that does nothing; its contract is the law.
 
+ghost use Rattle.mdconstructs_flow_read.specs.BlockLines.{LinesAreInBlocks};
 ghost use Rattle.mdconstructs_flow_read.specs.BlocksFormed.{BlocksAreFormed};
 ghost use Rattle.mdconstructs_flow_read.specs.BlocksRead.{AreLines, BlankLinesAreRead, BreaksAreRead, FencedCodeIsRead, HeadingsAreRead, HtmlIsRead, IndentedCodeIsRead, ParagraphsAreRead, SetextHeadingsAreRead};
 ghost use Rattle.mdconstructs_flow_read.specs.BlocksTold.{EditsMakeBlocks};
@@ -26,6 +27,11 @@ pub fn lines_are_seen()
 /// The lines of a text are lines: each ends in its line ending, but for the last.
 pub fn lines_are_lines()
     ensures { (seats : List Seat) → AreLines (lines_in seats) }
+{}
+
+/// Each line is in exactly one leaf block, in order.
+pub fn lines_are_in_blocks()
+    ensures { LinesAreInBlocks }
 {}
 
 /// A blank line with white space is read as its definition says, with its line ending, or at the end of the text.

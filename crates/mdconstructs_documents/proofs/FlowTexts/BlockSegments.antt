@@ -16,7 +16,9 @@ use Rattle.markdown_tokenizer.specs.Plain.{HaveNoLinks}
 use Rattle.mdconstructs_machines.specs.Breaks.{is_white}
 use Rattle.mdconstructs_machines.specs.LineEvents.{all_of, ending_of, line_text, lines_in}
 use Rattle.mdconstructs_flow_read.proofs.Marks.FullBlocks.{IsFull, StartsText, leaf-blocks-full}
-use Rattle.mdconstructs_flow_read.proofs.Marks.LeafSpans.{block_lines, leaf-blocks-lines, setext-body}
+use Rattle.mdconstructs_flow_read.proofs.Marks.Cuts.{leaf-blocks-lines}
+use Rattle.mdconstructs_flow_read.proofs.Marks.LeafSpans.{setext-body}
+use Rattle.mdconstructs_flow_read.specs.BlockLines.{block_lines}
 use Rattle.mdconstructs_flow_read.proofs.Marks.MarkChunks.{AreSingle, IsPlain, single-block-marks, single-both, single-data, single-end, single-fenced, single-last, single-leaf, single-sequence, single-span, single-underline}
 use Rattle.mdconstructs_flow_read.proofs.Marks.MarkSpans.{line-on}
 use Rattle.mdconstructs_flow_read.proofs.Lines.WholeLines.{IsWhole, body-and-last, part-behind, text-and-ending, three-parts, whole-lines}
@@ -107,9 +109,9 @@ module _ (wanted : Content) (bytes : List ℕ) (reads : List Seat → List Event
         (segments-both wanted bytes reads (segments-around wanted bytes reads name.HeadingAtxText part (texts part))
         (segments-single _ (drop end seats) (single-sequence Other bytes name.HeadingAtxSequence (run 35 (unindented (drop end t))) (drop end seats)))))
 
-    segments-setext : (lines : List Line) (below : Line) → AllByRecursion StartsText lines → AllByRecursion IsWhole (lines ++ below ∷ [])
-        → Are (block_around bytes text rows string (setext_heading lines below)) (block_around bytes text2 rows2 string2 (setext_heading lines below)) (all_of (lines ++ below ∷ []))
-    segments-setext lines below full whole =
+    segments-setext : (rank : ℕ) (lines : List Line) (below : Line) → AllByRecursion StartsText lines → AllByRecursion IsWhole (lines ++ below ∷ [])
+        → Are (block_around bytes text rows string (setext_heading rank lines below)) (block_around bytes text2 rows2 string2 (setext_heading rank lines below)) (all_of (lines ++ below ∷ []))
+    segments-setext rank lines below full whole =
         let t = line_text below in
         let is = setext-body lines below whole in
         let under = single-span Other bytes name.HeadingSetextUnderline t _ (single-underline Other bytes t) in
@@ -160,10 +162,10 @@ module _ (wanted : Content) (bytes : List ℕ) (reads : List Seat → List Event
     segments-of (break_line line) full whole = segments-plain (break_line line) tt
     segments-of (atx_heading line) full whole = segments-block name.HeadingAtx false (line ∷ []) whole (segments-heading (line_text line))
     segments-of (paragraph lines) full whole = segments-block name.Paragraph false lines whole (lines_of_text lines full)
-    segments-of (setext_heading lines below) full whole = segments-setext lines below full.0 whole
+    segments-of (setext_heading rank lines below) full whole = segments-setext rank lines below full.0 whole
     segments-of (indented_code lines) full whole = segments-plain (indented_code lines) tt
     segments-of (fenced_code f is_closed lines) full whole = segments-block name.CodeFenced (not is_closed) lines whole (segments-code-fenced f is_closed lines whole)
-    segments-of (html_block is_closed lines) full whole = segments-plain (html_block is_closed lines) tt
+    segments-of (html_block kind is_closed lines) full whole = segments-plain (html_block kind is_closed lines) tt
 
     segments-blocks : (blocks : List LeafBlock) → AllByRecursion IsFull blocks → AllByRecursion IsWhole (flat_map block_lines blocks)
         → Are (flat_map (block_around bytes text rows string) blocks) (flat_map (block_around bytes text2 rows2 string2) blocks) (all_of (flat_map block_lines blocks))

@@ -321,4 +321,4 @@ module _ (g : Given) (t : Text) (k : Configuration Unit Unit) where
 
 pub breaks-read : BreaksAreRead
 breaks-read g t k line more (inl found) = break-read g t k line more found.here (says g.options.constructs (text_of line) found.is_kind).1 (inl found.found.1)
-breaks-read g t k line more (inr (mark, found, on, is)) = break-read g t k line more found.here is (inr (found.found.1, on, found.found.2 ∙ is))
+breaks-read g t k line more (inr (found, on, is)) = break-read g t k line more found.here is (inr (found.found.1, on, found.found.2 ∙ is))

@@ -1,5 +1,5 @@
 -- The look for one more line of indented code: over blank lines, it finds whether the code goes on.
-use Rattle.std.proofs.Common.{◌≡◌, ℕ, suc, ◌+◌, ◌-◌, ◌^◌, ◌<◌, ◌==◌, ◌&&◌, nat_le, min, List, [], ◌∷◌, ◌++◌, Bool, true, false, cond, Option, Some, length, refl, sym, ap, ◌∙◌, subst, arith, append_assoc, lt-ltb, le-ltb, ◌⊎◌, inl, inr}
+use Rattle.std.proofs.Common.{◌≡◌, ℕ, suc, ◌+◌, ◌-◌, ◌^◌, ◌<◌, ◌==◌, ◌&&◌, nat_le, min, List, [], ◌∷◌, ◌++◌, Bool, true, false, cond, Option, Some, None, length, refl, sym, ap, ◌∙◌, subst, arith, append_assoc, lt-ltb, le-ltb, ◌⊎◌, inl, inr}
 use Rattle.std.proofs.lemmas.Bool.{le-leb, leb-true, leb-false}
 use Rattle.markdown_base.specs.declared.configuration.Constructs.{Constructs}
 use Rattle.markdown_base.specs.declared.event.Event.{Event}
@@ -18,14 +18,14 @@ use Rattle.mdconstructs_flow.specs.FlowBytes.{flow_byte, is_blank as is_blank_cl
 use Rattle.mdconstructs_flow.specs.FlowTable.{flow}
 use Rattle.mdconstructs_flow.specs.FlowWrites.{count_becomes, count_grows, counts_to_four}
 use Rattle.mdconstructs_flow_read.specs.BlocksRead.{AreLines, KeepsEdits}
+use Rattle.mdconstructs_flow_read.specs.HtmlLines.{HtmlKind, html_kind}
 use Rattle.mdconstructs_flow_read.specs.LeafBlocks.{Line, bytes_of, further_code, is_blank, is_indented, text_of}
-use Rattle.mdconstructs_flow_read.specs.LineKinds.{LineKind, blank, indented, indent, is_blank_line, kind_of_rest, unindented}
+use Rattle.mdconstructs_flow_read.specs.LineKinds.{LineKind, blank, indented, indent, is_blank_line, kind_of_rest, unindented, Fence, heading, fence, html, thematic_break, text, is_atx_heading, is_fence_of, is_thematic_break, run}
 use Rattle.mdconstructs_flow_read.specs.LooksFind.{IsInLine}
 use Rattle.mdconstructs_flow_read.proofs.Looks.ByteClasses.{blank-is, feed-is}
 use Rattle.mdconstructs_flow_read.proofs.Lines.Fronts.{prefix-grows}
 use Rattle.mdconstructs_flow_read.proofs.Lines.Lines.{EndsWithIt, EndsWithout, cut-line, lines-behind}
 use Rattle.mdconstructs_flow_read.proofs.Lines.LineParts.{first-parts}
-use Rattle.mdconstructs_flow_read.proofs.Lines.KindsOfLines.{of-rest}
 
 -- Behind so many columns of a line: white space and line endings come, and then another byte behind four columns
 abbrev pub code_ahead : ℕ → List Seat → Bool
@@ -114,6 +114,16 @@ module _ (on : Constructs) (is_on : on.code_indented ≡ true) where
   abbrev further_of : LineKind → ℕ → ℕ
   further_of kind further = cond (is_indented on kind) (suc further) (cond (is_blank on kind && nat_le 1 further) (suc further) 0)
 
+  -- other lines are none
+  none-further : (a b c : Bool) (found : Option HtmlKind) (i : Bool) (tick tilde : Fence) (further : ℕ)
+      → (let kind : LineKind = cond a heading (cond b (fence tick) (cond c (fence tilde) (elim found [ None ↦ cond i thematic_break text | Some kind ↦ html kind ]))) in further_of kind further) ≡ 0
+  none-further true b c found i tick tilde further = refl
+  none-further false true c found i tick tilde further = refl
+  none-further false false true found i tick tilde further = refl
+  none-further false false false (Some kind) i tick tilde further = refl
+  none-further false false false None true tick tilde further = refl
+  none-further false false false None false tick tilde further = refl
+
   pub further-is : (line : Line) (lines : List Line) → further_code on (line ∷ lines) ≡ further_by (is_blank_line (text_of line)) (nat_le 4 (indent (text_of line))) (further_code on lines)
   further-is line lines =
       let further = further_code on lines in
@@ -125,7 +135,8 @@ module _ (on : Constructs) (is_on : on.code_indented ≡ true) where
         | true ↦ refl
         | false ↦ elim far as (λ f. further_of (cond f indented rest) further ≡ further_by false f further) [
           | true ↦ refl
-          | false ↦ of-rest (λ kind. further_of kind further ≡ 0) on (indent t) (unindented t) (λ _. refl) (λ _. refl) (λ _. refl) (λ _. refl) (λ _. refl) (λ _. refl) (λ _. refl) refl
+          | false ↦ let r = unindented t in none-further (on.heading_atx && is_atx_heading r) (on.code_fenced && is_fence_of 96 r) (on.code_fenced && is_fence_of 126 r) (cond on.html_flow (html_kind r) None)
+              (on.thematic_break && is_thematic_break r) (record { byte = 96; size = run 96 r; indent = indent t }) (record { byte = 126; size = run 126 r; indent = indent t }) further
         ]
       ])
 

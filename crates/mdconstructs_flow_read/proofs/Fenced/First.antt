@@ -14,8 +14,9 @@ use Rattle.markdown_tokenizer.specs.Configuration.{Configuration}
 use Rattle.markdown_tokenizer.specs.Text.{Given, Text}
 use Rattle.mdconstructs_machines.specs.Breaks.{is_white}
 use Rattle.mdconstructs_flow_read.specs.LeafBlocks.{bytes_of}
+use Rattle.mdconstructs_flow_read.specs.LineKinds.{Fence, indent, is_fence_of, run, unindented}
+use Rattle.mdconstructs_flow_read.specs.SeenKinds.{fence, seen_kind}
 use Rattle.mdconstructs_flow_read.specs.LeafEvents.{Mark, alone, chunk_span, fence_marks, leaf_marks, sequence_marks, span_marks, white}
-use Rattle.mdconstructs_flow_read.specs.LineKinds.{Fence, fence, indent, is_fence_of, line_kind, run, unindented}
 use Rattle.mdconstructs_flow_read.specs.LooksFind.{IsInLine, LineEnds}
 use Rattle.mdconstructs_flow_read.proofs.Fenced.Info.{info_marks, meta_marks}
 use Rattle.mdconstructs_flow_read.proofs.Fenced.Lines.{some-of}
@@ -226,7 +227,7 @@ of-byte b f t mark is same =
     let three = (and_parts (nat_le 3 (run b (unindented t))) _ is).0 in
     subst (λ f. IsFence f t) (sym same) (record { mark = mark; size = refl; three = leb-true 3 (run b (unindented t)) three; indent_is = refl })
 
-pub kind-is-fence : (on : Constructs) (t : List ℕ) (f : Fence) → line_kind on t ≡ fence f → IsFence f t
+pub kind-is-fence : (on : Constructs) (t : List ℕ) (f : Fence) → seen_kind on t ≡ fence f → IsFence f t
 kind-is-fence on t f h = elim (says on t h).1 [
   | inl e ↦ of-byte 96 f t (inl refl) e.1 e.0
   | inr e ↦ of-byte 126 f t (inr refl) e.1 e.0

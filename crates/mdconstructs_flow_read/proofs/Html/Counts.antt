@@ -5,7 +5,7 @@ use Rattle.mdconstructs_machines.specs.Breaks.{is_white}
 use Rattle.mdconstructs_machines.specs.LineEvents.{all_of, ending_of, line_text}
 use Rattle.mdconstructs_flow.specs.FlowBytes.{flow_byte, is_blank, is_line_feed}
 use Rattle.mdconstructs_flow_read.specs.BlocksRead.{AreLines}
-use Rattle.mdconstructs_flow_read.specs.HtmlLines.{ends_html}
+use Rattle.mdconstructs_flow_read.proofs.Tags.HtmlNumbers.{ends_html}
 use Rattle.mdconstructs_flow_read.specs.LeafBlocks.{Line, bytes_of, has_line, lines_through, lines_until, text_of}
 use Rattle.mdconstructs_flow_read.specs.LineKinds.{is_blank_line}
 use Rattle.mdconstructs_flow_read.specs.LooksFind.{IsInLine, LineEnds}
@@ -69,7 +69,7 @@ module _ (kind : ℕ) (long : nat_le 6 kind ≡ true) where
   last-before line more = ap (λ b. cond b (blank_ahead (all_of more)) (is_closed (through kind inside (text_of line)))) long
 
   abbrev until_blank : List Line → ℕ
-  until_blank lines = lines_until is_blank_line lines
+  until_blank lines = lines_until (λ l. is_blank_line (text_of l)) lines
 
   counts-one : (line : Line) (n : ℕ) → is_blank_line (text_of line) ≡ false → cond (not (is_blank_line (text_of line))) (1 + n) 0 ≡ suc n
   counts-one line n solid = ap (λ b. cond (not b) (1 + n) 0) solid ∙ (let e : 1 + n ≡ suc n = omega arith in e)

@@ -1,10 +1,12 @@
 -- HTML of kinds 1 to 5 is behind its end exactly if its line holds it; and what the kind of a line says of its bytes.
-use Rattle.std.proofs.Common.{◌≡◌, ℕ, zero, suc, ◌==◌, List, [], ◌∷◌, Bool, true, false, cond, nat_le, not, arith, refl, ap}
+use Rattle.std.proofs.Common.{◌≡◌, ℕ, zero, suc, ◌==◌, List, [], ◌∷◌, Bool, true, false, cond, nat_le, not, arith, refl, sym, ◌∙◌, ap}
 use Rattle.std.proofs.lemmas.Bool.{eqb-true}
 use Rattle.std.proofs.lemmas.Bool.Decides.{nat_tests}
 use Rattle.markdown_base.specs.declared.configuration.Constructs.{Constructs}
-use Rattle.mdconstructs_flow_read.specs.HtmlLines.{ends_html, first_passes, html_at}
-use Rattle.mdconstructs_flow_read.specs.LineKinds.{html, is_blank_line, line_kind, unindented}
+use Rattle.mdconstructs_flow_read.specs.HtmlLines.{first_passes}
+use Rattle.mdconstructs_flow_read.proofs.Tags.HtmlNumbers.{ends_html, html_at, number-is}
+use Rattle.mdconstructs_flow_read.specs.LineKinds.{is_blank_line, unindented}
+use Rattle.mdconstructs_flow_read.specs.SeenKinds.{html, seen_kind}
 use Rattle.mdconstructs_flow_read.proofs.Html.Places.{bracket-ends, dash-ends, greater-ends, inside, is_closed, question-ends, through}
 use Rattle.mdconstructs_flow_read.proofs.Html.Raw.{raw-ends}
 use Rattle.mdconstructs_flow_read.proofs.Lines.KindsOfLines.{says}
@@ -24,8 +26,8 @@ pub record IsHtml (kind : ℕ) (t : List ℕ) : Type 0 where
   pub at : html_at (unindented t) ≡ kind
   pub some : nat_le 1 kind ≡ true
 
-pub html-is : (on : Constructs) (t : List ℕ) (kind : ℕ) → line_kind on t ≡ html kind → IsHtml kind t
-html-is on t kind is = let (solid, at) = says on t is in record { solid = solid; at = at.0; some = at.1 }
+pub html-is : (on : Constructs) (t : List ℕ) (kind : ℕ) → seen_kind on t ≡ html kind → IsHtml kind t
+html-is on t kind is = let (solid, at) = says on t is in record { solid = solid; at = sym (number-is (unindented t)) ∙ at.0; some = at.1 }
 
 -- HTML begins with a less-than sign
 pub record BeginsLess (r : List ℕ) : Type 0 where

@@ -16,7 +16,7 @@ use Rattle.mdconstructs_machines.specs.LineEvents.{all_of, ending_of, line_text}
 use Rattle.mdconstructs_machines.specs.Spans.{event}
 use Rattle.mdconstructs_flow.specs.FlowBytes.{blank}
 use Rattle.mdconstructs_flow_read.specs.BlocksRead.{AreLines, IsLine, IsReadAs, behind_block, block_seats}
-use Rattle.mdconstructs_flow_read.specs.HtmlLines.{html_at}
+use Rattle.mdconstructs_flow_read.proofs.Tags.HtmlNumbers.{html_at}
 use Rattle.mdconstructs_flow_read.specs.LeafBlocks.{Line, bytes_of, text_of}
 use Rattle.mdconstructs_flow_read.specs.LeafEvents.{body}
 use Rattle.mdconstructs_flow_read.specs.LineKinds.{indent, unindented}

@@ -9,7 +9,8 @@ use Rattle.markdown_base.specs.Texts.{html_raw_names}
 use Rattle.mdconstructs_flow.specs.FlowBytes.{FlowByte, flow_byte, is_less, less}
 use Rattle.mdconstructs_flow.specs.HtmlNames.{IsListed, is_number_in, is_tag_name, no_name, number_behind, number_of, one_byte_more}
 use Rattle.mdconstructs_flow.proofs.TagNames.{raw-told}
-use Rattle.mdconstructs_flow_read.specs.HtmlLines.{ends_html, holds, lower, starts_with}
+use Rattle.mdconstructs_flow_read.specs.HtmlLines.{holds, lower, starts_with}
+use Rattle.mdconstructs_flow_read.proofs.Tags.HtmlNumbers.{ends_html}
 use Rattle.mdconstructs_flow_read.proofs.Looks.ByteClasses.{greater-is, less-is, name-byte-is, slash-is}
 use Rattle.mdconstructs_flow_read.proofs.Html.Places.{Place, inside, opened, named, closed, differ, from_inside, from_name, is_closed, moved, raw_more, stays-closed, through}
 use Rattle.mdconstructs_flow_read.proofs.Tags.TagNumbers.{agree, all-lowered, lower-alphanumeric, lowered, none-more}

@@ -16,11 +16,13 @@ use Rattle.mdconstructs_tables.specs.Stretches.{sight_before}
 use Rattle.mdconstructs_machines.specs.LineEvents.{all_of, ending_of}
 use Rattle.mdconstructs_machines.specs.Spans.{event}
 use Rattle.mdconstructs_flow.specs.FlowBytes.{flow_byte}
-use Rattle.mdconstructs_flow_read.specs.BlocksRead.{AreLines, HtmlIsRead, IsReadAs, KeepsEdits, behind_block, block_seats}
-use Rattle.mdconstructs_flow_read.specs.HtmlLines.{ends_html}
+use Rattle.mdconstructs_flow_read.specs.BlocksRead.{AreLines, HtmlIsRead, IsBlockRead, IsFound, IsReadAs, KeepsEdits, behind_block, block_seats}
+use Rattle.mdconstructs_flow_read.specs.HtmlLines.{raw, comment, instruction, declaration, cdata, block_tag, any_tag}
+use Rattle.mdconstructs_flow_read.proofs.Tags.HtmlNumbers.{ends_html}
 use Rattle.mdconstructs_flow_read.specs.LeafBlocks.{Line, has_line, lines_through, lines_until, text_of}
 use Rattle.mdconstructs_flow_read.specs.LeafEvents.{Mark, body, html_marks, leaf_marks, lines_marks, span_marks}
 use Rattle.mdconstructs_flow_read.specs.LineKinds.{is_blank_line}
+use Rattle.mdconstructs_flow_read.specs.SeenKinds.{html}
 use Rattle.mdconstructs_flow_read.proofs.Html.Blocks.{AreRead, count, enters, from-line, further-read, is_last, reads-as, seats-split, stays_open}
 use Rattle.mdconstructs_flow_read.proofs.Html.Counts.{count-through, count-until, open-is}
 use Rattle.mdconstructs_flow_read.proofs.Html.Ends.{ends-are, html-is}
@@ -175,15 +177,20 @@ module _ (g : Given) (t : Text) (kind : ℕ) (line : Line) (more : List Line) (a
     | w ∷ ws ↦ λ white. white-space-read w ws white at is token
   ] refl
 
-pub html-is-read : HtmlIsRead
-html-is-read g t k kind line more found =
+-- by the number that was written down
+html-read : (g : Given) (t : Text) (k : Config) (kind : ℕ) (line : Line) (more : List Line) → IsFound g t k (html kind) line more
+    → let all = line ∷ more in
+    let n = cond (nat_le 6 kind) (lines_until (λ l. is_blank_line (text_of l)) all) (lines_through (ends_html kind) all) in
+    let is_open = not (nat_le 6 kind || has_line (ends_html kind) all) in
+    IsBlockRead g t k FlowBlankLineAfter (take n all) (drop n all) HtmlFlow is_open (html_marks g.bytes is_open (take n all))
+html-read g t k kind line more found =
     let all = line ∷ more in
     let are = found.here.are_lines in
     let h = html-is g.options.constructs (text_of line) kind found.is_kind in
     let f = first line (ap (nat_le 1) h.at ∙ h.some) in
     let r = block-read g t kind line more are f k (end_place t k.position) (record { behind = refl; left = found.here.at; waits = found.here.waits }) found.found.2 found.found.1 in
     let through = lines_through (ends_html kind) all in
-    let until = lines_until is_blank_line all in
+    let until = lines_until (λ l. is_blank_line (text_of l)) all in
     let holds = has_line (ends_html kind) all in
     let (count_is, open_is) = counts kind line more are h.solid h.some in
     let long = nat_le 6 kind in
@@ -194,10 +201,20 @@ html-is-read g t k kind line more found =
   where
     counts : (kind : ℕ) (line : Line) (more : List Line) → AreLines (line ∷ more) → is_blank_line (text_of line) ≡ false → nat_le 1 kind ≡ true
         → let all = line ∷ more in
-        (count kind all ≡ cond (nat_le 6 kind) (lines_until is_blank_line all) (lines_through (ends_html kind) all)) × (stays_open kind all ≡ not (nat_le 6 kind || has_line (ends_html kind) all))
+        (count kind all ≡ cond (nat_le 6 kind) (lines_until (λ l. is_blank_line (text_of l)) all) (lines_through (ends_html kind) all)) × (stays_open kind all ≡ not (nat_le 6 kind || has_line (ends_html kind) all))
     counts kind line more are solid some =
         let all = line ∷ more in
-        elim (nat_le 6 kind) as (λ l. nat_le 6 kind ≡ l → (count kind all ≡ cond l (lines_until is_blank_line all) (lines_through (ends_html kind) all)) × (stays_open kind all ≡ not (l || has_line (ends_html kind) all))) [
+        elim (nat_le 6 kind) as (λ l. nat_le 6 kind ≡ l → (count kind all ≡ cond l (lines_until (λ l. is_blank_line (text_of l)) all) (lines_through (ends_html kind) all)) × (stays_open kind all ≡ not (l || has_line (ends_html kind) all))) [
           | true ↦ λ long. count-until kind long line more are solid
           | false ↦ λ short. let ends = ends-are kind short some in (count-through kind short ends all, open-is kind short ends all)
         ] refl
+
+-- HTML of each kind is read
+pub html-is-read : HtmlIsRead
+html-is-read g t k raw line more found = html-read g t k 1 line more found
+html-is-read g t k comment line more found = html-read g t k 2 line more found
+html-is-read g t k instruction line more found = html-read g t k 3 line more found
+html-is-read g t k declaration line more found = html-read g t k 4 line more found
+html-is-read g t k cdata line more found = html-read g t k 5 line more found
+html-is-read g t k block_tag line more found = html-read g t k 6 line more found
+html-is-read g t k any_tag line more found = html-read g t k 7 line more found

@@ -1,18 +1,16 @@
 -- What the kind of a line says of its bytes.
-use Rattle.std.proofs.Common.{◌≡◌, ℕ, ◌≤◌, ◌==◌, ◌&&◌, ◌||◌, not, nat_le, List, [], ◌∷◌, Bool, true, false, cond, take, drop, refl, subst, ◌⊎◌, inl, inr, arith}
+use Rattle.std.proofs.Common.{◌≡◌, ℕ, ◌≤◌, ◌&&◌, nat_le, List, Bool, true, false, cond, refl, sym, subst, ◌⊎◌, inl, inr}
 use Rattle.std.proofs.lemmas.Bool.{and_parts}
-use Rattle.std.specs.Prelude.{codes}
-use Rattle.std.specs.Char.{is_ascii_alphabetic}
-use Rattle.markdown_base.specs.Texts.{html_block_names, html_raw_names}
 use Rattle.markdown_base.specs.declared.configuration.Constructs.{Constructs}
-use Rattle.mdconstructs_flow_read.specs.BlocksRead.{is_underline}
-use Rattle.mdconstructs_flow_read.specs.HtmlLines.{first_passes, html_at, is_all_white, is_closing_tag, is_named, is_open_tag, named_kind, starts_with, tag_name}
-use Rattle.mdconstructs_flow_read.specs.LineKinds.{Fence, LineKind, blank, indented, heading, fence, html, underline, thematic_break, text, indent, is_atx_heading, is_blank_line, is_far, is_fence_of, is_thematic_break, is_underline_of_marks, line_kind, run, unindented, kind_of_rest}
+use Rattle.mdconstructs_flow_read.proofs.Lines.TestedKinds.{seen-is-tested, tested_rest}
+use Rattle.mdconstructs_flow_read.proofs.Tags.HtmlNumbers.{number-bound}
+use Rattle.mdconstructs_flow_read.specs.LineKinds.{Fence, indent, is_atx_heading, is_blank_line, is_far, is_fence_of, is_thematic_break, is_underline_of_marks, run, unindented}
+use Rattle.mdconstructs_flow_read.specs.SeenKinds.{is_underline, SeenKind, blank, indented, heading, fence, html, underline, thematic_break, text, seen_kind, html_number}
 
 -- ---- the tests of kinds, one after another
-by-tests : (P : LineKind → Type 0) (a b c d e f i : Bool) (tick tilde : Fence) (kind : ℕ) → (a ≡ true → P heading) → (b ≡ true → P (fence tick)) → (c ≡ true → P (fence tilde)) → (d ≡ true → P (html kind)) → (e ≡ true → P (underline 61))
-    → (f ≡ true → P (underline 45)) → (i ≡ true → P thematic_break) → P text
-    → P (cond a heading (cond b (fence tick) (cond c (fence tilde) (cond d (html kind) (cond e (underline 61) (cond f (underline 45) (cond i thematic_break text)))))))
+by-tests : (P : SeenKind → Type 0) (a b c d e f i : Bool) (tick tilde : Fence) (kind : ℕ) → (a ≡ true → P heading) → (b ≡ true → P (fence tick)) → (c ≡ true → P (fence tilde)) → (d ≡ true → P (html kind)) → (e ≡ true → P underline)
+    → (f ≡ true → P underline) → (i ≡ true → P thematic_break) → P text
+    → P (cond a heading (cond b (fence tick) (cond c (fence tilde) (cond d (html kind) (cond e underline (cond f underline (cond i thematic_break text)))))))
 by-tests P true b c d e f i tick tilde kind h k1 k2 k3 k4 k5 k6 k7 = h refl
 by-tests P false true c d e f i tick tilde kind h k1 k2 k3 k4 k5 k6 k7 = k1 refl
 by-tests P false false true d e f i tick tilde kind h k1 k2 k3 k4 k5 k6 k7 = k2 refl
@@ -27,105 +25,68 @@ abbrev pub fence_of : (byte columns : ℕ) (r : List ℕ) → Fence
 fence_of byte columns r = record { byte = byte; size = run byte r; indent = columns }
 
 -- what holds of each kind where its test passes holds of the kind of a line; first without its white space
-pub of-rest : (P : LineKind → Type 0) (on : Constructs) (columns : ℕ) (r : List ℕ) → (is_atx_heading r ≡ true → P heading) → (is_fence_of 96 r ≡ true → P (fence (fence_of 96 columns r))) → (is_fence_of 126 r ≡ true → P (fence (fence_of 126 columns r)))
-    → (nat_le 1 (html_at r) ≡ true → P (html (html_at r))) → (is_underline_of_marks 61 r ≡ true → P (underline 61)) → (is_underline_of_marks 45 r ≡ true → P (underline 45)) → (is_thematic_break r ≡ true → P thematic_break) → P text
-    → P (kind_of_rest on columns r)
+pub of-rest : (P : SeenKind → Type 0) (on : Constructs) (columns : ℕ) (r : List ℕ) → (is_atx_heading r ≡ true → P heading) → (is_fence_of 96 r ≡ true → P (fence (fence_of 96 columns r))) → (is_fence_of 126 r ≡ true → P (fence (fence_of 126 columns r)))
+    → (nat_le 1 (html_number r) ≡ true → P (html (html_number r))) → (is_underline_of_marks 61 r ≡ true → P underline) → (is_underline_of_marks 45 r ≡ true → P underline) → (is_thematic_break r ≡ true → P thematic_break) → P text
+    → P (tested_rest on columns r)
 of-rest P on columns r of_heading of_tick of_tilde of_html of_equals of_dash of_break of_text =
-    by-tests P (on.heading_atx && is_atx_heading r) (on.code_fenced && is_fence_of 96 r) (on.code_fenced && is_fence_of 126 r) (on.html_flow && nat_le 1 (html_at r))
-    (on.heading_setext && is_underline_of_marks 61 r) (on.heading_setext && is_underline_of_marks 45 r) (on.thematic_break && is_thematic_break r) (fence_of 96 columns r) (fence_of 126 columns r) (html_at r)
+    by-tests P (on.heading_atx && is_atx_heading r) (on.code_fenced && is_fence_of 96 r) (on.code_fenced && is_fence_of 126 r) (on.html_flow && nat_le 1 (html_number r))
+    (on.heading_setext && is_underline_of_marks 61 r) (on.heading_setext && is_underline_of_marks 45 r) (on.thematic_break && is_thematic_break r) (fence_of 96 columns r) (fence_of 126 columns r) (html_number r)
     (λ h. of_heading (and_parts _ _ h).1) (λ h. of_tick (and_parts _ _ h).1) (λ h. of_tilde (and_parts _ _ h).1) (λ h. of_html (and_parts _ _ h).1) (λ h. of_equals (and_parts _ _ h).1) (λ h. of_dash (and_parts _ _ h).1)
     (λ h. of_break (and_parts _ _ h).1) of_text
 
-pub of-line : (P : LineKind → Type 0) (on : Constructs) (t : List ℕ) → (is_blank_line t ≡ true → P blank) → (is_blank_line t ≡ false → is_far on t ≡ true → P indented)
-    → (is_blank_line t ≡ false → P (kind_of_rest on (indent t) (unindented t))) → P (line_kind on t)
+pub of-line : (P : SeenKind → Type 0) (on : Constructs) (t : List ℕ) → (is_blank_line t ≡ true → P blank) → (is_blank_line t ≡ false → is_far on t ≡ true → P indented)
+    → (is_blank_line t ≡ false → P (tested_rest on (indent t) (unindented t))) → P (seen_kind on t)
 of-line P on t of_blank of_far of_rest =
-    elim (is_blank_line t) as (λ b. is_blank_line t ≡ b → P (cond b blank (cond (is_far on t) indented (kind_of_rest on (indent t) (unindented t))))) [
+    subst P (sym (seen-is-tested on t)) (elim (is_blank_line t) as (λ b. is_blank_line t ≡ b → P (cond b blank (cond (is_far on t) indented (tested_rest on (indent t) (unindented t))))) [
       | true ↦ of_blank
-      | false ↦ λ solid. elim (is_far on t) as (λ b. is_far on t ≡ b → P (cond b indented (kind_of_rest on (indent t) (unindented t)))) [
+      | false ↦ λ solid. elim (is_far on t) as (λ b. is_far on t ≡ b → P (cond b indented (tested_rest on (indent t) (unindented t)))) [
         | true ↦ of_far solid
         | false ↦ λ near. of_rest solid
       ] refl
-    ] refl
+    ] refl)
 
 -- ---- what a kind says
 module _ (columns : ℕ) (r : List ℕ) where
-  abbrev pub SaysOfRest : LineKind → Type 0
+  abbrev pub SaysOfRest : SeenKind → Type 0
   SaysOfRest blank = ⊥
   SaysOfRest indented = ⊥
   SaysOfRest heading = is_atx_heading r ≡ true
   SaysOfRest (fence f) = ((f ≡ fence_of 96 columns r) × (is_fence_of 96 r ≡ true)) ⊎ ((f ≡ fence_of 126 columns r) × (is_fence_of 126 r ≡ true))
-  SaysOfRest (html kind) = (html_at r ≡ kind) × (nat_le 1 kind ≡ true)
-  SaysOfRest (underline mark) = (is_underline_of_marks 61 r ≡ true) ⊎ (is_underline_of_marks 45 r ≡ true)
+  SaysOfRest (html kind) = (html_number r ≡ kind) × (nat_le 1 kind ≡ true)
+  SaysOfRest underline = (is_underline_of_marks 61 r ≡ true) ⊎ (is_underline_of_marks 45 r ≡ true)
   SaysOfRest thematic_break = is_thematic_break r ≡ true
   SaysOfRest text = Unit {0}
 
 module _ (on : Constructs) (t : List ℕ) where
-  abbrev pub Says : LineKind → Type 0
+  abbrev pub Says : SeenKind → Type 0
   Says blank = is_blank_line t ≡ true
   Says indented = (is_blank_line t ≡ false) × (is_far on t ≡ true)
   Says kind = (is_blank_line t ≡ false) × SaysOfRest (indent t) (unindented t) kind
 
-  line-says : Says (line_kind on t)
+  line-says : Says (seen_kind on t)
   line-says =
       of-line Says on t (λ h. h) (λ solid far. (solid, far))
       (λ solid. of-rest Says on (indent t) (unindented t) (λ h. (solid, h)) (λ h. (solid, inl (refl, h))) (λ h. (solid, inr (refl, h))) (λ h. (solid, (refl, h))) (λ h. (solid, inl h)) (λ h. (solid, inr h)) (λ h. (solid, h)) (solid, tt))
 
-  pub says : {kind : LineKind} → line_kind on t ≡ kind → Says kind
+  pub says : {kind : SeenKind} → seen_kind on t ≡ kind → Says kind
   says is = subst Says is line-says
 
 -- ---- the kinds of HTML are up to seven
--- what holds of both holds of one of them
-either : {A : Type 0} (P : A → Type 0) (t : Bool) (x y : A) → P x → P y → P (cond t x y)
-either P true x y h k = h
-either P false x y h k = k
-
-abbrev UpToSeven : ℕ → Type 0
-UpToSeven n = n ≤ 7
-
-by-name : (one six : Bool) → cond one 1 (cond six 6 0) ≤ 7
-by-name true six = omega arith
-by-name false true = omega arith
-by-name false false = omega arith
-
-named-kind-bound : (is_closing : Bool) (name after : List ℕ) → UpToSeven (named_kind is_closing name after)
-named-kind-bound is_closing name after =
-    let ends = is_all_white (take 1 after) || first_passes (λ b. b == 62) after in
-    by-name (not is_closing && (is_named html_raw_names name && ends)) (is_named html_block_names name && (ends || starts_with (codes "/>") after))
-
-by-openings : (a b c d e f h : Bool) (named : ℕ) → named ≤ 7 → cond (not a) 0 (cond b named (cond c 2 (cond d 3 (cond e 4 (cond f 5 (cond h 7 0)))))) ≤ 7
-by-openings false b c d e f h named less = omega arith
-by-openings true true c d e f h named less = less
-by-openings true false true d e f h named less = omega arith
-by-openings true false false true e f h named less = omega arith
-by-openings true false false false true f h named less = omega arith
-by-openings true false false false false true h named less = omega arith
-by-openings true false false false false false true named less = omega arith
-by-openings true false false false false false false named less = omega arith
-
-html-bound : (r : List ℕ) → UpToSeven (html_at r)
-html-bound r =
-    let is_closing = starts_with (60 ∷ 47 ∷ []) r in
-    let tag = drop (cond is_closing 2 1) r in
-    let n = tag_name tag in
-    let named = cond (nat_le 1 n) (named_kind is_closing (take n tag) (drop n tag)) 0 in
-    by-openings (first_passes (λ b. b == 60) r) (nat_le 1 named) (starts_with (codes "<!--") r) (starts_with (codes "<?") r) (starts_with (codes "<!") r && first_passes is_ascii_alphabetic (drop 2 r))
-    (starts_with (codes "<![CDATA[") r) (is_open_tag r || is_closing_tag r) named
-    (either UpToSeven (nat_le 1 n) (named_kind is_closing (take n tag) (drop n tag)) 0 (named-kind-bound is_closing (take n tag) (drop n tag)) (omega arith))
 
 -- a kind of lines that may be
-abbrev pub IsPossible : LineKind → Type 0
+abbrev pub IsPossible : SeenKind → Type 0
 IsPossible (html kind) = kind ≤ 7
 IsPossible _ = Unit {0}
 
-pub possible : (on : Constructs) (t : List ℕ) → IsPossible (line_kind on t)
+pub possible : (on : Constructs) (t : List ℕ) → IsPossible (seen_kind on t)
 possible on t =
     let r = unindented t in
-    of-line IsPossible on t (λ _. tt) (λ _ _. tt) (λ _. of-rest IsPossible on (indent t) r (λ _. tt) (λ _. tt) (λ _. tt) (λ _. html-bound r) (λ _. tt) (λ _. tt) (λ _. tt) tt)
+    of-line IsPossible on t (λ _. tt) (λ _ _. tt) (λ _. of-rest IsPossible on (indent t) r (λ _. tt) (λ _. tt) (λ _. tt) (λ _. number-bound r) (λ _. tt) (λ _. tt) (λ _. tt) tt)
 
 -- a line of the kind of underlines is one
-pub underlined-is : (on : Constructs) (t : List ℕ) → is_underline (line_kind on t) ≡ true → (is_underline_of_marks 61 (unindented t) ≡ true) ⊎ (is_underline_of_marks 45 (unindented t) ≡ true)
+pub underlined-is : (on : Constructs) (t : List ℕ) → is_underline (seen_kind on t) ≡ true → (is_underline_of_marks 61 (unindented t) ≡ true) ⊎ (is_underline_of_marks 45 (unindented t) ≡ true)
 underlined-is on t =
     let r = unindented t in
-    let P : LineKind → Type 0 = λ kind. is_underline kind ≡ true → (is_underline_of_marks 61 r ≡ true) ⊎ (is_underline_of_marks 45 r ≡ true) in
+    let P : SeenKind → Type 0 = λ kind. is_underline kind ≡ true → (is_underline_of_marks 61 r ≡ true) ⊎ (is_underline_of_marks 45 r ≡ true) in
     of-line P on t (λ _ h. absurd (cc)) (λ _ _ h. absurd (cc))
     (λ _. of-rest P on (indent t) r (λ _ h. absurd (cc)) (λ _ h. absurd (cc)) (λ _ h. absurd (cc)) (λ _ h. absurd (cc)) (λ e h. inl e) (λ e h. inr e) (λ _ h. absurd (cc)) (λ h. absurd (cc)))

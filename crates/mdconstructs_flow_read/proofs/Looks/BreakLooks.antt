@@ -19,7 +19,7 @@ use Rattle.mdconstructs_flow.specs.FlowBytes.{flow_byte}
 use Rattle.mdconstructs_flow.specs.FlowWrites.{kind_becomes, size_grows, has_three, at_mark}
 use Rattle.mdconstructs_flow.specs.ThematicBreak.{flow_before_thematic_break_rows}
 use Rattle.mdconstructs_flow_read.specs.LeafBlocks.{bytes_of}
-use Rattle.mdconstructs_flow_read.specs.LineKinds.{thematic_break, text}
+use Rattle.mdconstructs_flow_read.specs.SeenKinds.{thematic_break, text}
 use Rattle.mdconstructs_flow_read.specs.LooksFind.{IsInLine, LeavesAll, LineEnds}
 use Rattle.mdconstructs_flow_read.proofs.Looks.ByteClasses.{feed-is, rule-is, blank-is}
 use Rattle.mdconstructs_flow_read.proofs.Looks.CountRoom.{grows, room-on, room-less}

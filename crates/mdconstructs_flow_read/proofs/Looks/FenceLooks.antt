@@ -22,7 +22,8 @@ use Rattle.mdconstructs_flow.specs.FlowBytes.{flow_byte}
 use Rattle.mdconstructs_flow.specs.FlowTable.{flow}
 use Rattle.mdconstructs_flow.specs.FlowWrites.{kind_becomes, size_grows, at_mark, has_three, is_tilde_fence}
 use Rattle.mdconstructs_flow_read.specs.LeafBlocks.{bytes_of}
-use Rattle.mdconstructs_flow_read.specs.LineKinds.{LineKind, Fence, fence, run, text}
+use Rattle.mdconstructs_flow_read.specs.LineKinds.{Fence, run}
+use Rattle.mdconstructs_flow_read.specs.SeenKinds.{SeenKind, fence, text}
 use Rattle.mdconstructs_flow_read.specs.LooksFind.{IsInLine, LeavesAll, LineEnds}
 use Rattle.mdconstructs_flow_read.proofs.Looks.ByteClasses.{feed-is, fence-is, tick-is}
 use Rattle.mdconstructs_flow_read.proofs.Looks.CountRoom.{grows, room-on}
@@ -64,11 +65,11 @@ module _ (g : Given) (t : Text) (stack : List EventName) (events : List Event) w
 
   module _ (f : Fence) (word : List ℕ) (before : Local Unit Unit) where
     -- a fence is found, or text
-    abbrev kind_by : Bool → LineKind
+    abbrev kind_by : Bool → SeenKind
     kind_by is = cond is (fence f) text
 
     -- one call more at a place finds the same
-    once-more : (kind : LineKind) (rest : Local Unit Unit → Name → Look Unit Unit) (l : List Seat) (mark : Bool) (o : Glance Unit Unit)
+    once-more : (kind : SeenKind) (rest : Local Unit Unit → Name → Look Unit Unit) (l : List Seat) (mark : Bool) (o : Glance Unit Unit)
         → Found before kind word (looked_on flow g t stack events rest l mark o) → Found before kind word (looked_on flow g t stack events rest l mark (one_call o))
     once-more kind rest l mark (goes_on local name calls) h = h
     once-more kind rest l mark (is_over true local answer calls) h = h

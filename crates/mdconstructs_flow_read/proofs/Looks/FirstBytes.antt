@@ -4,16 +4,18 @@ use Rattle.std.specs.List.{list_all}
 use Rattle.std.proofs.Math.Bool.{and-false, or-false}
 use Rattle.std.proofs.lemmas.Bool.{le-leb}
 use Rattle.markdown_base.specs.declared.configuration.Constructs.{Constructs}
-use Rattle.mdconstructs_flow_read.specs.HtmlLines.{html_at}
-use Rattle.mdconstructs_flow_read.specs.LineKinds.{heading, fence, html, underline, thematic_break, text, is_blank_line, is_atx_heading, is_break_of_marks, is_thematic_break, is_underline_of_marks, is_fence_of, kind_of_rest, run}
+use Rattle.mdconstructs_flow_read.proofs.Lines.TestedKinds.{tested_rest}
+use Rattle.mdconstructs_flow_read.specs.LineKinds.{is_blank_line, is_atx_heading, is_break_of_marks, is_thematic_break, is_underline_of_marks, is_fence_of, run}
+use Rattle.mdconstructs_flow_read.proofs.Tags.HtmlNumbers.{number-is}
+use Rattle.mdconstructs_flow_read.specs.SeenKinds.{underline, heading, fence, html, thematic_break, text, html_number}
 use Rattle.mdconstructs_flow_read.proofs.Looks.LineTests.{breaks_on, underlines_on, fences_on, heads_on, underline-mark, run-on}
 
 one-more : (n : ℕ) → 1 + n ≡ suc n
 one-more n = omega arith
 
 -- a byte that is no mark begins a line of text
-kinds-none : (on : Constructs) (columns : ℕ) (r : List ℕ) → is_atx_heading r ≡ false → is_fence_of 96 r ≡ false → is_fence_of 126 r ≡ false → html_at r ≡ 0
-    → is_underline_of_marks 61 r ≡ false → is_underline_of_marks 45 r ≡ false → is_thematic_break r ≡ false → kind_of_rest on columns r ≡ text
+kinds-none : (on : Constructs) (columns : ℕ) (r : List ℕ) → is_atx_heading r ≡ false → is_fence_of 96 r ≡ false → is_fence_of 126 r ≡ false → html_number r ≡ 0
+    → is_underline_of_marks 61 r ≡ false → is_underline_of_marks 45 r ≡ false → is_thematic_break r ≡ false → tested_rest on columns r ≡ text
 kinds-none on columns r h a t m u v b = rw (h, a, t, m, u, v, b, and-false on.heading_atx, and-false on.code_fenced, and-false on.html_flow, and-false on.heading_setext, and-false on.thematic_break) refl
 
 some-sign : (n : ℕ) → nat_le 1 (suc n) ≡ true
@@ -45,37 +47,37 @@ dash-breaks bs = or-false (is_break_of_marks 45 (45 ∷ bs)) ∙ break-at 45 bs 
 
 -- a line by its first byte
 module _ (on : Constructs) (columns : ℕ) (bs : List ℕ) where
-  pub kind-sign : kind_of_rest on columns (35 ∷ bs) ≡ cond (on.heading_atx && heads_on 1 bs) heading text
+  pub kind-sign : tested_rest on columns (35 ∷ bs) ≡ cond (on.heading_atx && heads_on 1 bs) heading text
   kind-sign = rw (and-false on.code_fenced, and-false on.html_flow, and-false on.heading_setext, and-false on.thematic_break) (ap (λ t. cond (on.heading_atx && t) heading text) (heading-at bs))
 
-  pub kind-star : kind_of_rest on columns (42 ∷ bs) ≡ cond (on.thematic_break && breaks_on 42 1 bs) thematic_break text
+  pub kind-star : tested_rest on columns (42 ∷ bs) ≡ cond (on.thematic_break && breaks_on 42 1 bs) thematic_break text
   kind-star = rw (and-false on.heading_atx, and-false on.code_fenced, and-false on.html_flow, and-false on.heading_setext) (ap (λ t. cond (on.thematic_break && t) thematic_break text) (star-breaks bs))
 
-  pub kind-underscore : kind_of_rest on columns (95 ∷ bs) ≡ cond (on.thematic_break && breaks_on 95 1 bs) thematic_break text
+  pub kind-underscore : tested_rest on columns (95 ∷ bs) ≡ cond (on.thematic_break && breaks_on 95 1 bs) thematic_break text
   kind-underscore = rw (and-false on.heading_atx, and-false on.code_fenced, and-false on.html_flow, and-false on.heading_setext) (ap (λ t. cond (on.thematic_break && t) thematic_break text) (underscore-breaks bs))
 
-  pub kind-dash : kind_of_rest on columns (45 ∷ bs) ≡ cond (on.heading_setext && underlines_on 45 bs) (underline 45) (cond (on.thematic_break && breaks_on 45 1 bs) thematic_break text)
+  pub kind-dash : tested_rest on columns (45 ∷ bs) ≡ cond (on.heading_setext && underlines_on 45 bs) underline (cond (on.thematic_break && breaks_on 45 1 bs) thematic_break text)
   kind-dash = rw (and-false on.heading_atx, and-false on.code_fenced, and-false on.html_flow, and-false on.heading_setext)
-      (ap (λ t. cond (on.heading_setext && is_underline_of_marks 45 (45 ∷ bs)) (underline 45) (cond (on.thematic_break && t) thematic_break text)) (dash-breaks bs)
-      ∙ ap (λ t. cond (on.heading_setext && t) (underline 45) (cond (on.thematic_break && breaks_on 45 1 bs) thematic_break text)) (underline-at 45 bs refl))
+      (ap (λ t. cond (on.heading_setext && is_underline_of_marks 45 (45 ∷ bs)) underline (cond (on.thematic_break && t) thematic_break text)) (dash-breaks bs)
+      ∙ ap (λ t. cond (on.heading_setext && t) underline (cond (on.thematic_break && breaks_on 45 1 bs) thematic_break text)) (underline-at 45 bs refl))
 
-  pub kind-equals : kind_of_rest on columns (61 ∷ bs) ≡ cond (on.heading_setext && underlines_on 61 bs) (underline 61) text
-  kind-equals = rw (and-false on.heading_atx, and-false on.code_fenced, and-false on.html_flow, and-false on.heading_setext, and-false on.thematic_break) (ap (λ t. cond (on.heading_setext && t) (underline 61) text) (underline-at 61 bs refl))
+  pub kind-equals : tested_rest on columns (61 ∷ bs) ≡ cond (on.heading_setext && underlines_on 61 bs) underline text
+  kind-equals = rw (and-false on.heading_atx, and-false on.code_fenced, and-false on.html_flow, and-false on.heading_setext, and-false on.thematic_break) (ap (λ t. cond (on.heading_setext && t) underline text) (underline-at 61 bs refl))
 
-  pub kind-tick : kind_of_rest on columns (96 ∷ bs) ≡ cond (on.code_fenced && fences_on 96 1 bs) (fence (record { byte = 96; size = suc (run 96 bs); indent = columns })) text
+  pub kind-tick : tested_rest on columns (96 ∷ bs) ≡ cond (on.code_fenced && fences_on 96 1 bs) (fence (record { byte = 96; size = suc (run 96 bs); indent = columns })) text
   kind-tick = rw (and-false on.heading_atx, and-false on.code_fenced, and-false on.html_flow, and-false on.heading_setext, and-false on.thematic_break)
       (ap (λ t. cond (on.code_fenced && t) (fence (record { byte = 96; size = run 96 (96 ∷ bs); indent = columns })) text) (fence-at 96 bs refl)
       ∙ ap (λ n. cond (on.code_fenced && fences_on 96 1 bs) (fence (record { byte = 96; size = n; indent = columns })) text) (run-on 96 96 bs refl))
 
-  pub kind-tilde : kind_of_rest on columns (126 ∷ bs) ≡ cond (on.code_fenced && fences_on 126 1 bs) (fence (record { byte = 126; size = suc (run 126 bs); indent = columns })) text
+  pub kind-tilde : tested_rest on columns (126 ∷ bs) ≡ cond (on.code_fenced && fences_on 126 1 bs) (fence (record { byte = 126; size = suc (run 126 bs); indent = columns })) text
   kind-tilde = rw (and-false on.heading_atx, and-false on.code_fenced, and-false on.html_flow, and-false on.heading_setext, and-false on.thematic_break)
       (ap (λ t. cond (on.code_fenced && t) (fence (record { byte = 126; size = run 126 (126 ∷ bs); indent = columns })) text) (fence-at 126 bs refl)
       ∙ ap (λ n. cond (on.code_fenced && fences_on 126 1 bs) (fence (record { byte = 126; size = n; indent = columns })) text) (run-on 126 126 bs refl))
 
-  pub kind-less : kind_of_rest on columns (60 ∷ bs) ≡ cond (on.html_flow && nat_le 1 (html_at (60 ∷ bs))) (html (html_at (60 ∷ bs))) text
+  pub kind-less : tested_rest on columns (60 ∷ bs) ≡ cond (on.html_flow && nat_le 1 (html_number (60 ∷ bs))) (html (html_number (60 ∷ bs))) text
   kind-less = rw (and-false on.heading_atx, and-false on.code_fenced, and-false on.heading_setext, and-false on.thematic_break) refl
 
   pub kind-other : (b : ℕ) → (b == 35) ≡ false → (b == 42) ≡ false → (b == 95) ≡ false → (b == 45) ≡ false → (b == 61) ≡ false → (b == 96) ≡ false → (b == 126) ≡ false → (b == 60) ≡ false
-      → kind_of_rest on columns (b ∷ bs) ≡ text
+      → tested_rest on columns (b ∷ bs) ≡ text
   kind-other b sign star underscore dash equals tick tilde less =
-      kinds-none on columns (b ∷ bs) (rw sign refl) (rw tick refl) (rw tilde refl) (rw less refl) (rw equals refl) (rw dash refl) (rw (star, dash, underscore) refl)
+      kinds-none on columns (b ∷ bs) (rw sign refl) (rw tick refl) (rw tilde refl) (number-is (b ∷ bs) ∙ rw less refl) (rw equals refl) (rw dash refl) (rw (star, dash, underscore) refl)

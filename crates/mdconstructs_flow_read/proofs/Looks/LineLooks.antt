@@ -22,9 +22,10 @@ use Rattle.mdconstructs_flow.specs.FlowBytes.{flow_byte}
 use Rattle.mdconstructs_flow.specs.FlowWrites.{breaks_are_on, fences_are_on, headings_are_on, indent_grows, is_indented, kind_becomes, mark_becomes, size_becomes, underlines_are_on}
 use Rattle.mdconstructs_flow.specs.HtmlWrites.{html_is_on}
 use Rattle.mdconstructs_flow.specs.Look.{break_may_begin, dash_may_begin, equals_may_begin, fence_may_begin, flow_blank_line_before_rows, heading_may_begin, html_may_begin, text_may_begin, underline_may_begin}
-use Rattle.mdconstructs_flow_read.specs.HtmlLines.{html_at}
+use Rattle.mdconstructs_flow_read.proofs.Lines.TestedKinds.{seen-is-tested, tested_rest}
 use Rattle.mdconstructs_flow_read.specs.LeafBlocks.{bytes_of}
-use Rattle.mdconstructs_flow_read.specs.LineKinds.{Fence, LineKind, blank, indented, heading, heading_text, fence, html, underline, thematic_break, text, indent, is_blank_line, is_thematic_break, kind_of_rest, line_kind, run, unindented}
+use Rattle.mdconstructs_flow_read.specs.LineKinds.{Fence, heading_text, indent, is_blank_line, is_thematic_break, run, unindented}
+use Rattle.mdconstructs_flow_read.specs.SeenKinds.{SeenKind, blank, indented, heading, fence, html, underline, thematic_break, text, seen_kind, html_number}
 use Rattle.mdconstructs_flow_read.specs.LooksFind.{FindsHtml, HtmlIsSeen, IsInLine, LeavesAll, LineEnds, LinesAreSeen}
 use Rattle.mdconstructs_flow_read.proofs.Looks.BreakLooks.{break-found, is_break_mark}
 use Rattle.mdconstructs_flow_read.proofs.Looks.ByteClasses.{blank-is, dash-is, equals-is, feed-is, less-is, sign-is, star-is, tick-is, tilde-is, underscore-is}
@@ -38,26 +39,26 @@ use Rattle.mdconstructs_flow_read.proofs.Looks.SignLooks.{heading-found}
 use Rattle.mdconstructs_flow_read.proofs.Looks.UnderlineLooks.{is_line_mark, underline-found}
 
 -- what the rest of a line is, behind so many columns
-abbrev kind_from : Constructs → (columns : ℕ) → List ℕ → LineKind
-kind_from on columns t = cond (is_blank_line t) blank (cond (on.code_indented && nat_le 4 (columns + indent t)) indented (kind_of_rest on (columns + indent t) (unindented t)))
+abbrev kind_from : Constructs → (columns : ℕ) → List ℕ → SeenKind
+kind_from on columns t = cond (is_blank_line t) blank (cond (on.code_indented && nat_le 4 (columns + indent t)) indented (tested_rest on (columns + indent t) (unindented t)))
 
 -- a column of white space more
 kind-white : (on : Constructs) (columns b : ℕ) (bs : List ℕ) → is_white b ≡ true → kind_from on columns (b ∷ bs) ≡ kind_from on (suc columns) bs
 kind-white on columns b bs w =
     let one : columns + (1 + indent bs) ≡ suc columns + indent bs = omega arith in
     let moved : columns + indent (b ∷ bs) ≡ suc columns + indent bs = ap (λ v. columns + cond v (1 + indent bs) 0) w ∙ one in
-    ap (λ v. cond (v && is_blank_line bs) blank (cond (on.code_indented && nat_le 4 (columns + indent (b ∷ bs))) indented (kind_of_rest on (columns + indent (b ∷ bs)) (unindented (b ∷ bs))))) w
-    ∙ ap (λ n. cond (is_blank_line bs) blank (cond (on.code_indented && nat_le 4 n) indented (kind_of_rest on n (unindented (b ∷ bs))))) moved
-    ∙ ap (λ r. cond (is_blank_line bs) blank (cond (on.code_indented && nat_le 4 (suc columns + indent bs)) indented (kind_of_rest on (suc columns + indent bs) r))) (goes is_white b bs w)
+    ap (λ v. cond (v && is_blank_line bs) blank (cond (on.code_indented && nat_le 4 (columns + indent (b ∷ bs))) indented (tested_rest on (columns + indent (b ∷ bs)) (unindented (b ∷ bs))))) w
+    ∙ ap (λ n. cond (is_blank_line bs) blank (cond (on.code_indented && nat_le 4 n) indented (tested_rest on n (unindented (b ∷ bs))))) moved
+    ∙ ap (λ r. cond (is_blank_line bs) blank (cond (on.code_indented && nat_le 4 (suc columns + indent bs)) indented (tested_rest on (suc columns + indent bs) r))) (goes is_white b bs w)
 
 -- the first other byte
-kind-word : (on : Constructs) (columns b : ℕ) (bs : List ℕ) → is_white b ≡ false → kind_from on columns (b ∷ bs) ≡ cond (on.code_indented && nat_le 4 columns) indented (kind_of_rest on columns (b ∷ bs))
+kind-word : (on : Constructs) (columns b : ℕ) (bs : List ℕ) → is_white b ≡ false → kind_from on columns (b ∷ bs) ≡ cond (on.code_indented && nat_le 4 columns) indented (tested_rest on columns (b ∷ bs))
 kind-word on columns b bs w =
     let none : columns + 0 ≡ columns = omega arith in
     let here : columns + indent (b ∷ bs) ≡ columns = ap (λ v. columns + cond v (1 + indent bs) 0) w ∙ none in
-    ap (λ v. cond (v && is_blank_line bs) blank (cond (on.code_indented && nat_le 4 (columns + indent (b ∷ bs))) indented (kind_of_rest on (columns + indent (b ∷ bs)) (unindented (b ∷ bs))))) w
-    ∙ ap (λ n. cond (on.code_indented && nat_le 4 n) indented (kind_of_rest on n (unindented (b ∷ bs)))) here
-    ∙ ap (λ r. cond (on.code_indented && nat_le 4 columns) indented (kind_of_rest on columns r)) (stops is_white b bs w)
+    ap (λ v. cond (v && is_blank_line bs) blank (cond (on.code_indented && nat_le 4 (columns + indent (b ∷ bs))) indented (tested_rest on (columns + indent (b ∷ bs)) (unindented (b ∷ bs))))) w
+    ∙ ap (λ n. cond (on.code_indented && nat_le 4 n) indented (tested_rest on n (unindented (b ∷ bs)))) here
+    ∙ ap (λ r. cond (on.code_indented && nat_le 4 columns) indented (tested_rest on columns r)) (stops is_white b bs w)
 
 abbrev tests : List (ℕ → Bool)
 tests =
@@ -111,7 +112,7 @@ module _ (html_seen : HtmlIsSeen) (g : Given) (t : Text) (stack : List EventName
     room-first = omega arith
 
     -- it is too far to the right, or goes on
-    far-or : (kind : LineKind) (rows : Rows Unit Unit) → Found before kind word (comes rows)
+    far-or : (kind : SeenKind) (rows : Rows Unit Unit) → Found before kind word (comes rows)
         → Found before (cond (g.options.constructs.code_indented && nat_le 4 local.tokenize_state.size_c) indented kind) word (comes (when is_indented code rows))
     far-or kind rows found =
         let far = g.options.constructs.code_indented && nat_le 4 local.tokenize_state.size_c in
@@ -122,7 +123,7 @@ module _ (html_seen : HtmlIsSeen) (g : Given) (t : Text) (stack : List EventName
         ])
 
     -- a construct that is off fails
-    if-on : (test : Given → Sight → Configuration Unit Unit → Bool) (is_on found : Bool) (kind : LineKind) (rows : Rows Unit Unit) → test g (sight g t (shows {R = Unit {0}} {D = Unit {0}} stack events (s ∷ (line ++ more)) q mark local)) k ≡ is_on
+    if-on : (test : Given → Sight → Configuration Unit Unit → Bool) (is_on found : Bool) (kind : SeenKind) (rows : Rows Unit Unit) → test g (sight g t (shows {R = Unit {0}} {D = Unit {0}} stack events (s ∷ (line ++ more)) q mark local)) k ≡ is_on
         → Found before (cond found kind text) word (comes rows) → Found before (cond (is_on && found) kind text) word (comes (when test rows none))
     if-on test is_on found kind rows e seen =
         by-known g t stack events 1 (s ∷ (line ++ more)) previous q mark local FlowBlankLineBefore (Found before (cond (is_on && found) kind text) word) test rows none is_on e
@@ -134,16 +135,16 @@ module _ (html_seen : HtmlIsSeen) (g : Given) (t : Text) (stack : List EventName
     abbrev on : Constructs
     on = g.options.constructs
 
-    abbrev far_or : LineKind → LineKind
+    abbrev far_or : SeenKind → SeenKind
     far_or kind = cond (on.code_indented && nat_le 4 local.tokenize_state.size_c) indented kind
 
     -- the rows find what the rest of the line is
     abbrev Here : Rows Unit Unit → Type 0
-    Here rows = Found before (far_or (kind_of_rest on local.tokenize_state.size_c word)) word (comes rows)
+    Here rows = Found before (far_or (tested_rest on local.tokenize_state.size_c word)) word (comes rows)
 
     -- by another name of its kind
-    as-kind : (byte : ℕ) (kind : LineKind) (rows : Rows Unit Unit) → s.byte ≡ byte → kind_of_rest on local.tokenize_state.size_c (byte ∷ bs) ≡ kind → Found before (far_or kind) word (comes rows) → Here rows
-    as-kind byte kind rows e is found = subst (λ c. Found before (far_or c) word (comes rows)) (sym (ap (λ c. kind_of_rest on local.tokenize_state.size_c (c ∷ bs)) e ∙ is)) found
+    as-kind : (byte : ℕ) (kind : SeenKind) (rows : Rows Unit Unit) → s.byte ≡ byte → tested_rest on local.tokenize_state.size_c (byte ∷ bs) ≡ kind → Found before (far_or kind) word (comes rows) → Here rows
+    as-kind byte kind rows e is found = subst (λ c. Found before (far_or c) word (comes rows)) (sym (ap (λ c. tested_rest on local.tokenize_state.size_c (c ∷ bs)) e ∙ is)) found
 
     sign-here : s.byte ≡ 35 → Here heading_may_begin
     sign-here e =
@@ -172,9 +173,9 @@ module _ (html_seen : HtmlIsSeen) (g : Given) (t : Text) (stack : List EventName
 
     -- a mark of underlines
     underline-begins : (m : ℕ) → is_line_mark m ≡ true → is_thematic_break word ≡ ((m == 45) && breaks_on m 1 bs)
-        → Found before (far_or (cond (underlines_on m bs) (underline m) (cond (on.thematic_break && is_thematic_break word) thematic_break text))) word (comes (underline_may_begin m))
+        → Found before (far_or (cond (underlines_on m bs) underline (cond (on.thematic_break && is_thematic_break word) thematic_break text))) word (comes (underline_may_begin m))
     underline-begins m is whole =
-        far-or (cond (underlines_on m bs) (underline m) (cond (on.thematic_break && is_thematic_break word) thematic_break text)) (row (write (mark_becomes m) ∷ write (size_becomes 1) ∷ consume ∷ []) (Next FlowBeforeHeadingSetext))
+        far-or (cond (underlines_on m bs) underline (cond (on.thematic_break && is_thematic_break word) thematic_break text)) (row (write (mark_becomes m) ∷ write (size_becomes 1) ∷ consume ∷ []) (Next FlowBeforeHeadingSetext))
         (underline-found g t stack events m is word before more over line in_line (Some s.byte) (q + 1) false (begun m) there (kept before local (begun m) h refl refl refl refl refl) refl room-first whole)
 
     dash-here : s.byte ≡ 45 → Here dash_may_begin
@@ -182,10 +183,10 @@ module _ (html_seen : HtmlIsSeen) (g : Given) (t : Text) (stack : List EventName
         let found = underlines_on 45 bs in
         let whole : is_thematic_break word ≡ breaks_on 45 1 bs = ap (λ c. is_thematic_break (c ∷ bs)) e ∙ dash-breaks bs in
         let behind = cond (on.thematic_break && breaks_on 45 1 bs) thematic_break text in
-        as-kind 45 (cond (on.heading_setext && found) (underline 45) behind) dash_may_begin e (kind-dash on local.tokenize_state.size_c bs)
-        (by-known g t stack events 1 (s ∷ (line ++ more)) previous q mark local FlowBlankLineBefore (Found before (far_or (cond (on.heading_setext && found) (underline 45) behind)) word) underlines_are_on (underline_may_begin 45) (break_may_begin 45) on.heading_setext refl
-        (elim on.heading_setext as (λ v. Found before (far_or (cond (v && found) (underline 45) behind)) word (comes (cond v (underline_may_begin 45) (break_may_begin 45)))) [
-          | true ↦ subst (λ v. Found before (far_or (cond found (underline 45) (cond (on.thematic_break && v) thematic_break text))) word (comes (underline_may_begin 45))) whole (underline-begins 45 refl whole)
+        as-kind 45 (cond (on.heading_setext && found) underline behind) dash_may_begin e (kind-dash on local.tokenize_state.size_c bs)
+        (by-known g t stack events 1 (s ∷ (line ++ more)) previous q mark local FlowBlankLineBefore (Found before (far_or (cond (on.heading_setext && found) underline behind)) word) underlines_are_on (underline_may_begin 45) (break_may_begin 45) on.heading_setext refl
+        (elim on.heading_setext as (λ v. Found before (far_or (cond (v && found) underline behind)) word (comes (cond v (underline_may_begin 45) (break_may_begin 45)))) [
+          | true ↦ subst (λ v. Found before (far_or (cond found underline (cond (on.thematic_break && v) thematic_break text))) word (comes (underline_may_begin 45))) whole (underline-begins 45 refl whole)
           | false ↦ break-begins 45 refl
         ]))
 
@@ -196,10 +197,10 @@ module _ (html_seen : HtmlIsSeen) (g : Given) (t : Text) (stack : List EventName
     equals-here e =
         let found = underlines_on 61 bs in
         let whole : is_thematic_break word ≡ false = ap (λ c. is_thematic_break (c ∷ bs)) e in
-        as-kind 61 (cond (on.heading_setext && found) (underline 61) text) equals_may_begin e (kind-equals on local.tokenize_state.size_c bs)
-        (by-known g t stack events 1 (s ∷ (line ++ more)) previous q mark local FlowBlankLineBefore (Found before (far_or (cond (on.heading_setext && found) (underline 61) text)) word) underlines_are_on (underline_may_begin 61) text_may_begin on.heading_setext refl
-        (elim on.heading_setext as (λ v. Found before (far_or (cond (v && found) (underline 61) text)) word (comes (cond v (underline_may_begin 61) text_may_begin))) [
-          | true ↦ subst (λ v. Found before (far_or (cond found (underline 61) (cond v thematic_break text))) word (comes (underline_may_begin 61))) (ap (λ v. on.thematic_break && v) whole ∙ and-false on.thematic_break) (underline-begins 61 refl whole)
+        as-kind 61 (cond (on.heading_setext && found) underline text) equals_may_begin e (kind-equals on local.tokenize_state.size_c bs)
+        (by-known g t stack events 1 (s ∷ (line ++ more)) previous q mark local FlowBlankLineBefore (Found before (far_or (cond (on.heading_setext && found) underline text)) word) underlines_are_on (underline_may_begin 61) text_may_begin on.heading_setext refl
+        (elim on.heading_setext as (λ v. Found before (far_or (cond (v && found) underline text)) word (comes (cond v (underline_may_begin 61) text_may_begin))) [
+          | true ↦ subst (λ v. Found before (far_or (cond found underline (cond v thematic_break text))) word (comes (underline_may_begin 61))) (ap (λ v. on.thematic_break && v) whole ∙ and-false on.thematic_break) (underline-begins 61 refl whole)
           | false ↦ text-begins
         ]))
 
@@ -222,7 +223,7 @@ module _ (html_seen : HtmlIsSeen) (g : Given) (t : Text) (stack : List EventName
 
     less-here : s.byte ≡ 60 → Here html_may_begin
     less-here e =
-        let kind = html_at (60 ∷ bs) in
+        let kind = html_number (60 ∷ bs) in
         let rows : Rows Unit Unit = row (consume ∷ []) (Next HtmlFlowOpen) in
         as-kind 60 (cond (on.html_flow && nat_le 1 kind) (html kind) text) html_may_begin e (kind-less on local.tokenize_state.size_c bs)
         (far-or (cond (on.html_flow && nat_le 1 kind) (html kind) text) (when html_is_on rows none) (if-on html_is_on on.html_flow (nat_le 1 kind) (html kind) rows refl
@@ -276,13 +277,13 @@ module _ (html_seen : HtmlIsSeen) (g : Given) (t : Text) (stack : List EventName
             cond (b == 35) heading_may_begin (cond (b == 42) (break_may_begin 42) (cond (b == 95) (break_may_begin 95) (cond (b == 45) dash_may_begin (cond (b == 61) equals_may_begin
             (cond (b == 96) (fence_may_begin 96) (cond (b == 126) (fence_may_begin 126) (cond (b == 60) html_may_begin text_may_begin))))))) in
             subst (λ kind. Found before kind (unindented (b ∷ bs)) (comes rows)) (sym (kind-word on columns b bs w))
-            (subst (λ word. Found before (cond (on.code_indented && nat_le 4 columns) indented (kind_of_rest on columns (b ∷ bs))) word (comes rows)) (sym (stops is_white b bs w))
+            (subst (λ word. Found before (cond (on.code_indented && nat_le 4 columns) indented (tested_rest on columns (b ∷ bs))) word (comes rows)) (sym (stops is_white b bs w))
             (first-here before more over s line in_line.1 previous q mark local there h room))
       ] refl))
 
 -- no columns were counted yet
-kind-of-line : (on : Constructs) (t : List ℕ) → kind_from on 0 t ≡ line_kind on t
-kind-of-line on t = let zero_more : 0 + indent t ≡ indent t = omega arith in ap (λ n. cond (is_blank_line t) blank (cond (on.code_indented && nat_le 4 n) indented (kind_of_rest on n (unindented t)))) zero_more
+kind-of-line : (on : Constructs) (t : List ℕ) → kind_from on 0 t ≡ seen_kind on t
+kind-of-line on t = let zero_more : 0 + indent t ≡ indent t = omega arith in ap (λ n. cond (is_blank_line t) blank (cond (on.code_indented && nat_le 4 n) indented (tested_rest on n (unindented t)))) zero_more ∙ sym (seen-is-tested on t)
 
 pub lines-are-seen : HtmlIsSeen → LinesAreSeen
 lines-are-seen html_seen g t stack events line rest previous position mark local here in_line over room columns =

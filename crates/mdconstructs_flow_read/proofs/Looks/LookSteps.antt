@@ -17,7 +17,7 @@ use Rattle.mdconstructs_machines.specs.Tables.{counts}
 use Rattle.mdconstructs_flow.specs.FlowBytes.{Cased, flow_byte, line_feed}
 use Rattle.mdconstructs_flow.specs.FlowTable.{flow}
 use Rattle.mdconstructs_flow.specs.FlowWrites.{at_mark, is_byte}
-use Rattle.mdconstructs_flow_read.specs.LineKinds.{LineKind}
+use Rattle.mdconstructs_flow_read.specs.SeenKinds.{SeenKind}
 use Rattle.mdconstructs_flow_read.specs.LooksFind.{Finds, LeavesAll, LineEnds}
 
 -- one of two, by a test that is known
@@ -28,7 +28,7 @@ pub by-false : {X : Type 0} (P : X → Type 0) (t : Bool) (x y : X) → t ≡ fa
 by-false P t x y e h = subst (λ b. P (cond b x y)) (sym e) h
 
 -- what a look found, and what it left as it was
-abbrev pub Found : Local Unit Unit → LineKind → (rest : List ℕ) → Look Unit Unit → Type 0
+abbrev pub Found : Local Unit Unit → SeenKind → (rest : List ℕ) → Look Unit Unit → Type 0
 Found before kind rest r = LeavesAll before r.local × Finds kind rest r.local r.answer
 
 -- a write that touches none of this leaves it

@@ -17,7 +17,8 @@ use Rattle.mdconstructs_machines.specs.Tables.{counts}
 use Rattle.mdconstructs_flow.specs.FlowWrites.{count_becomes, count_grows, has_room, kind_becomes, size_becomes, size_grows, text_grows}
 use Rattle.mdconstructs_flow.specs.HeadingAtx.{flow_before_heading_atx_rows, string_start_rows}
 use Rattle.mdconstructs_flow_read.specs.LeafBlocks.{bytes_of}
-use Rattle.mdconstructs_flow_read.specs.LineKinds.{LineKind, heading, heading_text, is_blank_line, run, text, unindented}
+use Rattle.mdconstructs_flow_read.specs.LineKinds.{heading_text, is_blank_line, run, unindented}
+use Rattle.mdconstructs_flow_read.specs.SeenKinds.{SeenKind, heading, text}
 use Rattle.mdconstructs_flow_read.specs.LooksFind.{IsInLine, LeavesAll, LineEnds, text_behind_signs}
 use Rattle.mdconstructs_flow_read.proofs.Looks.ByteClasses.{feed-is, sign-is, blank-is}
 use Rattle.mdconstructs_flow_read.proofs.Looks.HeadingLooks.{Heads, count-on, text-found, three_tests}
@@ -94,7 +95,7 @@ module _ (g : Given) (t : Text) (stack : List EventName) (events : List Event) w
 
     module _ (word : List ℕ) where
       -- a heading is found, or text
-      abbrev kind_by : Bool → LineKind
+      abbrev kind_by : Bool → SeenKind
       kind_by is = cond is heading text
 
       -- the text of the whole line is that of the rest of it

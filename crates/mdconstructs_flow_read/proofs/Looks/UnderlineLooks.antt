@@ -20,7 +20,8 @@ use Rattle.mdconstructs_flow.specs.FlowBytes.{flow_byte}
 use Rattle.mdconstructs_flow.specs.FlowWrites.{kind_becomes, size_grows, at_mark, breaks_are_on}
 use Rattle.mdconstructs_flow.specs.HeadingSetext.{flow_before_heading_setext_rows, flow_before_gfm_table_rows, further_dash}
 use Rattle.mdconstructs_flow_read.specs.LeafBlocks.{bytes_of}
-use Rattle.mdconstructs_flow_read.specs.LineKinds.{LineKind, thematic_break, text, underline, is_blank_line, is_thematic_break}
+use Rattle.mdconstructs_flow_read.specs.LineKinds.{is_blank_line, is_thematic_break}
+use Rattle.mdconstructs_flow_read.specs.SeenKinds.{SeenKind, thematic_break, text, underline}
 use Rattle.mdconstructs_flow_read.specs.LooksFind.{IsInLine, LeavesAll, LineEnds}
 use Rattle.mdconstructs_flow_read.proofs.Looks.BreakLooks.{break-found}
 use Rattle.mdconstructs_flow_read.proofs.Looks.ByteClasses.{feed-is, dash-is, underline-is, blank-is}
@@ -94,8 +95,8 @@ module _ (g : Given) (t : Text) (stack : List EventName) (events : List Event) w
   ends = row (write (kind_becomes HeadingSetextUnderline) ∷ []) Ok
 
   -- what is found, by whether it is an underline
-  abbrev kind_by : (m : ℕ) → (word : List ℕ) → (is_underline : Bool) → LineKind
-  kind_by m word is = cond is (underline m) (cond (g.options.constructs.thematic_break && is_thematic_break word) thematic_break text)
+  abbrev kind_by : (m : ℕ) → (word : List ℕ) → (is_underline : Bool) → SeenKind
+  kind_by m word is = cond is underline (cond (g.options.constructs.thematic_break && is_thematic_break word) thematic_break text)
 
   module _ (m : ℕ) (is : is_line_mark m ≡ true) (word : List ℕ) (before : Local Unit Unit) (more : List Seat) (over : LineEnds more) where
     -- the line ends
@@ -115,7 +116,7 @@ module _ (g : Given) (t : Text) (stack : List EventName) (events : List Event) w
         → local.tokenize_state.size_b + length line < 2 ^ 64 - 1 → IsWhole word m local.tokenize_state.size_b (bytes_of line)
         → Found before (kind_by m word (is_blank_line (bytes_of line))) word (look g t stack events (line ++ more) previous q mark local FlowBeforeGfmTable)
     behind-found [] in_line previous q mark local here h marks room whole =
-        let P = Found before (underline m) word in
+        let P = Found before underline word in
         subst P (sym (look-is g t stack events more previous q mark local FlowBeforeGfmTable))
         (at-line-end g t stack events P FlowBeforeGfmTable flow_before_gfm_table_rows ends has-behind refl refl 1 more over previous q mark local
         (kept before local _ h refl refl refl refl refl, (refl, refl, ends-found local h marks whole)))
@@ -179,7 +180,7 @@ module _ (g : Given) (t : Text) (stack : List EventName) (events : List Event) w
         → local.tokenize_state.size_b + length line < 2 ^ 64 - 1 → IsWhole word m local.tokenize_state.size_b (bytes_of line)
         → Found before (kind_by m word (underlines_on m (bytes_of line))) word (look g t stack events (line ++ more) previous q mark local FlowBeforeHeadingSetext)
     underline-found [] in_line previous q mark local here h marks room whole =
-        let P = Found before (underline m) word in
+        let P = Found before underline word in
         subst P (sym (look-is g t stack events more previous q mark local FlowBeforeHeadingSetext))
         (at-line-end g t stack events P FlowBeforeHeadingSetext flow_before_heading_setext_rows ends has-setext refl refl 1 more over previous q mark local
         (kept before local _ h refl refl refl refl refl, (refl, refl, ends-found local h marks whole)))

@@ -1,13 +1,14 @@
 -- Lines of paragraphs and of setext headings have text.
-use Rattle.std.proofs.Common.{◌≡◌, ℕ, zero, suc, ◌≤◌, List, [], ◌∷◌, Bool, true, false, cond, length, take, drop, refl, sym, ◌∙◌, arith}
-use Rattle.std.specs.Prelude.{◌==◌, ◌&&◌, ◌+◌, not}
+use Rattle.std.proofs.Common.{◌≡◌, ℕ, zero, suc, ◌≤◌, List, [], ◌∷◌, true, false, cond, length, take, drop, Option, Some, None, refl, sym, ◌∙◌, subst, arith}
+use Rattle.std.specs.Prelude.{◌==◌, ◌&&◌, ◌||◌, ◌+◌, is_some, not}
 use Rattle.std.proofs.Math.Numerals.{one-add}
 use Rattle.std.specs.List.{AllByRecursion}
 use Rattle.markdown_base.specs.declared.configuration.Constructs.{Constructs}
 use Rattle.markdown_base.specs.Virtual.{Seat}
 use Rattle.mdconstructs_machines.specs.LineEvents.{joined, lines_in}
-use Rattle.mdconstructs_flow_read.specs.LeafBlocks.{Line, LeafBlock, break_line, paragraph, setext_heading, text_of, ends_paragraph, lines_until, underlined, content_at, block_of_kind, blocks_in, leaf_blocks}
-use Rattle.mdconstructs_flow_read.specs.LineKinds.{LineKind, blank, indented, heading, fence, html, underline, thematic_break, text, is_blank_line, is_thematic_break, is_far, kind_of_rest, indent, line_kind, unindented}
+use Rattle.mdconstructs_flow_read.specs.LeafBlocks.{Line, LeafBlock, paragraph, setext_heading, text_of, ends_text, interrupts, lines_until, underlined, content_at, block_of_kind, blocks_in, leaf_blocks}
+use Rattle.mdconstructs_flow_read.specs.LineKinds.{LineKind, blank, indented, heading, fence, html, thematic_break, text, is_blank_line, is_thematic_break, is_far, kind_of_rest, indent, line_kind, underline_rank, unindented}
+use Rattle.mdconstructs_flow_read.proofs.Lines.TestedKinds.{underline-kind}
 
 -- a line that begins with a byte of text
 abbrev pub StartsText : Line → Type 0
@@ -17,7 +18,7 @@ StartsText (s ∷ ss) = (s.byte == 10) ≡ false
 -- the lines of a block that have chunks of text are such lines, and so is an below
 abbrev pub IsFull : LeafBlock → Type 0
 IsFull (paragraph lines) = AllByRecursion StartsText lines
-IsFull (setext_heading lines below) = AllByRecursion StartsText lines × (1 ≤ length lines) × StartsText below
+IsFull (setext_heading rank lines below) = AllByRecursion StartsText lines × (1 ≤ length lines) × StartsText below
 IsFull _ = Unit {0}
 
 -- a line is blank, or begins with a byte of text
@@ -55,43 +56,39 @@ module _ (on : Constructs) where
     | false ↦ λ h. refl
   ]
 
-  goes-on : (k : LineKind) → ends_paragraph k ≡ false → IsOfText k
-  goes-on blank h = absurd (cc)
-  goes-on indented h = tt
-  goes-on heading h = tt
-  goes-on (fence f) h = tt
-  goes-on (html kind) h = tt
-  goes-on (underline mark) h = tt
-  goes-on thematic_break h = tt
-  goes-on text h = tt
+  goes-on : (rank : Option ℕ) (k : LineKind) → (is_some rank || interrupts k) ≡ false → IsOfText k
+  goes-on (Some rank) k h = absurd (cc)
+  goes-on None blank h = absurd (cc)
+  goes-on None indented h = tt
+  goes-on None heading h = tt
+  goes-on None (fence f) h = tt
+  goes-on None (html kind) h = tt
+  goes-on None thematic_break h = tt
+  goes-on None text h = tt
 
-  abbrev ends : List ℕ → Bool
-  ends t = ends_paragraph (line_kind on t)
+  -- an underline is not blank
+  ranked : (t : List ℕ) (rank : ℕ) → underline_rank on t ≡ Some rank → IsOfText (line_kind on t)
+  ranked t rank is = subst IsOfText (sym (underline-kind on t rank is)) (elim (on.thematic_break && is_thematic_break (unindented t)) as (λ b. IsOfText (cond b thematic_break text)) [ true ↦ tt | false ↦ tt ])
 
-  full-text : (lines : List Line) → AllByRecursion IsShaped lines → AllByRecursion StartsText (take (lines_until ends lines) lines)
+  full-text : (lines : List Line) → AllByRecursion IsShaped lines → AllByRecursion StartsText (take (lines_until (ends_text on) lines) lines)
   full-text [] h = tt
-  full-text (line ∷ lines) h = elim (ends (text_of line)) as (λ b. ends (text_of line) ≡ b → AllByRecursion StartsText (take (cond (not b) (1 + lines_until ends lines) 0) (line ∷ lines))) [
+  full-text (line ∷ lines) h = elim (ends_text on line) as (λ b. ends_text on line ≡ b → AllByRecursion StartsText (take (cond (not b) (1 + lines_until (ends_text on) lines) 0) (line ∷ lines))) [
     | true ↦ λ e. tt
-    | false ↦ λ e. rw one-add (h.0 (not-blank (text_of line) (goes-on (line_kind on (text_of line)) e)), full-text lines h.1)
+    | false ↦ λ e. rw one-add (h.0 (not-blank (text_of line) (goes-on (underline_rank on (text_of line)) (line_kind on (text_of line)) e)), full-text lines h.1)
   ] refl
 
   full-underlined : (lines behind : List Line) → AllByRecursion StartsText lines → 1 ≤ length lines → AllByRecursion IsShaped behind → IsFull (underlined on lines behind).0
   full-underlined lines [] h some shaped = h
-  full-underlined lines (next ∷ behind) h some shaped = by-kind (line_kind on (text_of next)) (λ e. shaped.0 (not-blank (text_of next) e))
+  full-underlined lines (next ∷ behind) h some shaped = by-rank (underline_rank on (text_of next)) refl
     where
-      by-kind : (k : LineKind) → (IsOfText k → StartsText next) → let u : LeafBlock × ℕ = elim k [ underline mark ↦ (setext_heading lines next, suc (length lines)) | _ ↦ (paragraph lines, length lines) ] in IsFull u.0
-      by-kind (underline mark) starts = (h, some, starts tt)
-      by-kind blank starts = h
-      by-kind indented starts = h
-      by-kind heading starts = h
-      by-kind (fence f) starts = h
-      by-kind (html kind) starts = h
-      by-kind thematic_break starts = h
-      by-kind text starts = h
+      by-rank : (rank : Option ℕ) → underline_rank on (text_of next) ≡ rank
+          → let u : LeafBlock × ℕ = elim rank [ None ↦ (paragraph lines, length lines) | Some rank ↦ (setext_heading rank lines next, suc (length lines)) ] in IsFull u.0
+      by-rank None is = h
+      by-rank (Some rank) is = (h, some, shaped.0 (not-blank (text_of next) (ranked (text_of next) rank is)))
 
   full-content : (line : Line) (lines : List Line) → StartsText line → AllByRecursion IsShaped lines → IsFull (content_at on (line ∷ lines)).0
   full-content line lines h shaped =
-      let n = lines_until ends lines in
+      let n = lines_until (ends_text on) lines in
       full-underlined (line ∷ take n lines) (drop n lines) (h, full-text lines shaped) (omega arith) (shaped-drop n lines shaped)
 
   full-block : (kind : LineKind) (line : Line) (lines : List Line) → (IsOfText kind → StartsText line) → AllByRecursion IsShaped lines → IsFull (block_of_kind on kind line lines).0
@@ -100,10 +97,6 @@ module _ (on : Constructs) where
   full-block heading line lines h shaped = tt
   full-block (fence f) line lines h shaped = tt
   full-block (html kind) line lines h shaped = tt
-  full-block (underline mark) line lines h shaped = elim (on.thematic_break && is_thematic_break (unindented (text_of line))) as (λ b. IsFull (cond b (break_line line, 1) (content_at on (line ∷ lines))).0) [
-    | true ↦ tt
-    | false ↦ full-content line lines (h tt) shaped
-  ]
   full-block thematic_break line lines h shaped = tt
   full-block text line lines h shaped = full-content line lines (h tt) shaped
 

@@ -1,22 +1,24 @@
 -- Leaf blocks are all their lines, and their marks account for each virtual byte.
-use Rattle.std.proofs.Common.{◌≡◌, ℕ, zero, suc, ◌≤◌, List, [], ◌∷◌, ◌++◌, Bool, true, false, cond, not, append_assoc, length, take, drop, length-append, length-take, length-drop, refl, sym, ap, ◌∙◌, subst, arith}
-use Rattle.std.specs.Prelude.{◌&&◌, nat_le}
+use Rattle.std.proofs.Common.{◌≡◌, ℕ, zero, suc, ◌≤◌, List, [], ◌∷◌, ◌++◌, false, not, append_assoc, length, take, drop, length-append, length-drop, refl, sym, ap, ◌∙◌, subst, arith}
 use Rattle.std.specs.List.{AllByRecursion}
-use Rattle.std.proofs.lemmas.List.{append-nil, take-append-drop}
-use Rattle.std.proofs.lemmas.List.Sums.{prefix_len-le-length}
+use Rattle.std.proofs.lemmas.List.{append-nil}
 use Rattle.markdown_base.specs.declared.configuration.Constructs.{Constructs}
 use Rattle.markdown_base.specs.declared.event.Content.TheVariants as content
 use Rattle.markdown_base.specs.declared.event.Name.TheVariants as name
 use Rattle.mdconstructs_machines.proofs.BlockReads.Accounts.{lines-are-all}
 use Rattle.mdconstructs_machines.specs.Innermost.{AccountFor}
 use Rattle.mdconstructs_machines.specs.LineEvents.{all_of, ending_of, line_text, lines_in}
-use Rattle.mdconstructs_flow_read.proofs.Marks.FullBlocks.{IsFull, IsOfText, StartsText, leaf-blocks-full, not-blank}
+use Rattle.mdconstructs_flow_read.proofs.Marks.Cuts.{IsLong, cut}
+use Rattle.mdconstructs_flow_read.proofs.Marks.FullBlocks.{IsFull, StartsText, leaf-blocks-full}
 use Rattle.mdconstructs_flow_read.proofs.Marks.MarkAccounts.{AreSpans, accounts-kept, bare, linked-spans}
 use Rattle.mdconstructs_flow_read.proofs.Lines.Lines.{all-of-split, body-and-text}
 use Rattle.mdconstructs_flow_read.proofs.Marks.MarkLists.{kept-before}
 use Rattle.mdconstructs_flow_read.proofs.Marks.MarkSpans.{IsKeptBySpans, no-spans, over, spans-around, spans-block, spans-both, spans-break, spans-code, spans-code-fenced-around, spans-data, spans-heading-around, spans-html, spans-last, spans-leaf, spans-lines, spans-text, spans-underline}
 use Rattle.mdconstructs_flow_read.proofs.Lines.WholeLines.{IsWhole, body-and-last, text-and-ending, whole-lines}
+use Rattle.mdconstructs_flow_read.specs.BlockLines.{block_lines}
 use Rattle.mdconstructs_flow_read.specs.BlocksRead.{last_ending, paragraph_told, underline_told}
+use Rattle.mdconstructs_flow_read.specs.LeafBlocks.{Line, LeafBlock, blank_line, break_line, atx_heading, paragraph, setext_heading, indented_code, fenced_code, html_block, block_of_kind, blocks_in, leaf_blocks, text_of}
+use Rattle.mdconstructs_flow_read.specs.LineKinds.{line_kind}
 use Rattle.mdconstructs_flow_read.specs.BlocksTold.{block_told, blocks_told, flow_told}
 use Rattle.mdconstructs_flow_read.specs.ToldMarks.{as_it_is, before_edits, mark_before}
 use Rattle.std.specs.List.{flat_map}
@@ -27,26 +29,6 @@ use Rattle.markdown_base.specs.Virtual.{Seat, end_after}
 use Rattle.mdconstructs_machines.specs.Spans.{event}
 use Rattle.mdconstructs_flow_read.specs.LeafEvents.{Mark, block_around, block_span, body, code_marks, last_end, leaf_block_marks, leaf_blocks_marks, span_marks, string_chunk, text_chunk, text_marks, underline_inside, underline_marks}
 use Rattle.mdconstructs_flow_read.specs.FlowAccounts.{FlowAccounts}
-use Rattle.mdconstructs_flow_read.specs.HtmlLines.{ends_html}
-use Rattle.mdconstructs_flow_read.specs.LeafBlocks.{Line, LeafBlock, blank_line, break_line, atx_heading, paragraph, setext_heading, indented_code, fenced_code, html_block, block_of_kind, blocks_in, content_at, ends_paragraph, has_line, html_block_at, leaf_blocks, lines_through, lines_until, text_of, underlined}
-use Rattle.mdconstructs_flow_read.specs.LineKinds.{LineKind, blank, indented, heading, fence, html, underline, thematic_break, text, closes, is_blank_line, is_thematic_break, line_kind, unindented}
-use Rattle.mdconstructs_flow_read.proofs.Lines.LineCounts.{some-through}
-
--- the lines of a block
-abbrev pub block_lines : LeafBlock → List Line
-block_lines (blank_line line) = line ∷ []
-block_lines (break_line line) = line ∷ []
-block_lines (atx_heading line) = line ∷ []
-block_lines (paragraph lines) = lines
-block_lines (setext_heading lines below) = lines ++ below ∷ []
-block_lines (indented_code lines) = lines
-block_lines (fenced_code f is_closed lines) = lines
-block_lines (html_block is_closed lines) = lines
-
--- fenced code that is closed has two lines
-abbrev pub IsLong : LeafBlock → Type 0
-IsLong (fenced_code f is_closed lines) = is_closed ≡ true → 2 ≤ length lines
-IsLong _ = Unit {0}
 
 last-is : (lines : List Line) (below : Line) → last_ending (lines ++ below ∷ []) ≡ ending_of below
 last-is [] below = refl
@@ -95,102 +77,16 @@ module _ (bytes : List ℕ) (P : List Mark → List Seat → Type 0) (kept : IsK
   spans-of-around read texts ls lines_read string strings (break_line line) full whole long = spans-block bytes P kept name.ThematicBreak false (line ∷ []) _ refl whole (spans-break bytes P kept (length line) (line_text line) (text-shorter line whole.0))
   spans-of-around read texts ls lines_read string strings (atx_heading line) full whole long = spans-block bytes P kept name.HeadingAtx false (line ∷ []) _ refl whole (spans-heading-around bytes P kept read texts (line_text line))
   spans-of-around read texts ls lines_read string strings (paragraph lines) full whole long = spans-block bytes P kept name.Paragraph false lines _ refl whole (lines_read lines full)
-  spans-of-around read texts ls lines_read string strings (setext_heading lines below) full whole long = spans-setext-around lines below (ls lines) (lines_read lines full.0) whole
+  spans-of-around read texts ls lines_read string strings (setext_heading rank lines below) full whole long = spans-setext-around lines below (ls lines) (lines_read lines full.0) whole
   spans-of-around read texts ls lines_read string strings (indented_code lines) full whole long = spans-block bytes P kept name.CodeIndented false lines _ refl whole (spans-lines bytes P kept (code_marks bytes 4) (spans-code bytes P kept 4) false lines whole)
   spans-of-around read texts ls lines_read string strings (fenced_code f is_closed lines) full whole long = spans-block bytes P kept name.CodeFenced (not is_closed) lines _ refl whole (spans-code-fenced-around bytes P kept string strings f is_closed lines long whole)
-  spans-of-around read texts ls lines_read string strings (html_block is_closed lines) full whole long = spans-block bytes P kept name.HtmlFlow (not is_closed) lines _ refl whole (spans-html bytes P kept (not is_closed) lines whole)
+  spans-of-around read texts ls lines_read string strings (html_block kind is_closed lines) full whole long = spans-block bytes P kept name.HtmlFlow (not is_closed) lines _ refl whole (spans-html bytes P kept (not is_closed) lines whole)
 
   pub spans-of : (block : LeafBlock) → IsFull block → AllByRecursion IsWhole (block_lines block) → IsLong block → P (leaf_block_marks bytes block) (all_of (block_lines block))
   spans-of block full whole long =
       spans-of-around (text_chunk bytes) (spans-data bytes P kept content.Text) (text_marks bytes false) (spans-text bytes P kept) (string_chunk bytes) (spans-data bytes P kept content.String) block full whole long
 
--- ---- lines are cut into blocks
-
--- a block is so many lines from the front, and one at least
-record IsCut (block : LeafBlock) (n : ℕ) (all : List Line) : Type 0 where
-  lines : block_lines block ≡ take n all
-  some : 1 ≤ n
-  long : IsLong block
-
-one-more : (n : ℕ) (all : List Line) (next : Line) (behind : List Line) → drop n all ≡ next ∷ behind → take n all ++ next ∷ [] ≡ take (suc n) all
-one-more zero [] next behind e = absurd (cc)
-one-more zero (line ∷ all) next behind e = let same : line ≡ next = cc in ap (λ l. l ∷ []) (sym same)
-one-more (suc n) [] next behind e = absurd (cc)
-one-more (suc n) (line ∷ all) next behind e = ap (λ l. line ∷ l) (one-more n all next behind e)
-
 module _ (on : Constructs) where
-  cut-underlined : (n : ℕ) (all : List Line) → 1 ≤ n → n ≤ length all → (behind : List Line) → drop n all ≡ behind → let u = underlined on (take n all) behind in IsCut u.0 u.1 all
-  cut-underlined n all some within behind e =
-      let long : length (take n all) ≡ n = omega (arith, within, length-take n all) in
-      let as_paragraph : IsCut (paragraph (take n all)) (length (take n all)) all = rw long (record { lines = refl; some = some; long = tt }) in
-      by-next long as_paragraph behind e
-    where
-      by-kind : length (take n all) ≡ n → IsCut (paragraph (take n all)) (length (take n all)) all → (next : Line) (more : List Line) → drop n all ≡ next ∷ more → (k : LineKind)
-          → let u : LeafBlock × ℕ = elim k [ underline mark ↦ (setext_heading (take n all) next, suc (length (take n all))) | _ ↦ (paragraph (take n all), length (take n all)) ] in IsCut u.0 u.1 all
-      by-kind long as_paragraph next more e (underline mark) = record { lines = one-more n all next more e ∙ ap (λ m. take (suc m) all) (sym long); some = omega arith; long = tt }
-      by-kind long as_paragraph next more e blank = as_paragraph
-      by-kind long as_paragraph next more e indented = as_paragraph
-      by-kind long as_paragraph next more e heading = as_paragraph
-      by-kind long as_paragraph next more e (fence f) = as_paragraph
-      by-kind long as_paragraph next more e (html kind) = as_paragraph
-      by-kind long as_paragraph next more e thematic_break = as_paragraph
-      by-kind long as_paragraph next more e text = as_paragraph
-
-      by-next : length (take n all) ≡ n → IsCut (paragraph (take n all)) (length (take n all)) all → (behind : List Line) → drop n all ≡ behind → let u = underlined on (take n all) behind in IsCut u.0 u.1 all
-      by-next long as_paragraph [] e = as_paragraph
-      by-next long as_paragraph (next ∷ more) e = by-kind long as_paragraph next more e (line_kind on (text_of next))
-
-  cut-content : (line : Line) (lines : List Line) → let c = content_at on (line ∷ lines) in IsCut c.0 c.1 (line ∷ lines)
-  cut-content line lines =
-      let test = λ (l : Line). not (ends_paragraph (line_kind on (text_of l))) in
-      let few = prefix_len-le-length test lines in
-      let n = suc (lines_until (λ t. ends_paragraph (line_kind on t)) lines) in
-      cut-underlined n (line ∷ lines) (omega arith) (omega (arith, few)) (drop n (line ∷ lines)) refl
-
-  closed-long : (test : List ℕ → Bool) (line : Line) (lines : List Line) → has_line test lines ≡ true → 2 ≤ length (take (suc (lines_through test lines)) (line ∷ lines))
-  closed-long test line lines h = let some = some-through test lines h in omega (arith, some)
-
-  cut-html : (kind : ℕ) (line : Line) (lines : List Line) → is_blank_line (text_of line) ≡ false → let c = html_block_at on kind (line ∷ lines) in IsCut c.0 c.1 (line ∷ lines)
-  cut-html kind line lines full = record {
-    lines = refl;
-    some = elim (nat_le 6 kind) as (λ b. 1 ≤ cond b (lines_until is_blank_line (line ∷ lines)) (lines_through (ends_html kind) (line ∷ lines))) [
-      | true ↦ rw full (omega arith)
-      | false ↦ omega arith
-    ];
-    long = tt;
-  }
-
-  cut-block : (kind : LineKind) (line : Line) (lines : List Line) → (IsOfText kind → is_blank_line (text_of line) ≡ false) → let c = block_of_kind on kind line lines in IsCut c.0 c.1 (line ∷ lines)
-  cut-block blank line lines full = record { lines = refl; some = omega arith; long = tt }
-  cut-block indented line lines full = record { lines = refl; some = omega arith; long = tt }
-  cut-block heading line lines full = record { lines = refl; some = omega arith; long = tt }
-  cut-block (fence f) line lines full = record { lines = refl; some = omega arith; long = closed-long (closes on f) line lines }
-  cut-block (html kind) line lines full = cut-html kind line lines (full tt)
-  cut-block (underline mark) line lines full =
-      elim (on.thematic_break && is_thematic_break (unindented (text_of line))) as (λ b. let c : LeafBlock × ℕ = cond b (break_line line, 1) (content_at on (line ∷ lines)) in IsCut c.0 c.1 (line ∷ lines)) [
-        | true ↦ record { lines = refl; some = omega arith; long = tt }
-        | false ↦ cut-content line lines
-      ]
-  cut-block thematic_break line lines full = record { lines = refl; some = omega arith; long = tt }
-  cut-block text line lines full = cut-content line lines
-
-  -- lines are the lines of the blocks that they are cut into
-  blocks-lines : (bound : ℕ) (lines : List Line) → length lines ≤ bound → flat_map block_lines (blocks_in on bound lines) ≡ lines
-  blocks-lines zero [] l = refl
-  blocks-lines zero (line ∷ lines) l = absurd (omega (arith, l))
-  blocks-lines (suc bound) [] l = refl
-  blocks-lines (suc bound) (line ∷ lines) l =
-      let all = line ∷ lines in
-      let kind = line_kind on (text_of line) in
-      let n = (block_of_kind on kind line lines).1 in
-      let cut = cut-block kind line lines (λ e. not-blank on (text_of line) e) in
-      let some = cut.some in
-      let shorter : length (drop n all) ≤ bound = omega (arith, length-drop n all, some, l) in
-      (λ i. cut.lines i ++ blocks-lines bound (drop n all) shorter i) ∙ take-append-drop n all
-
-  pub leaf-blocks-lines : (lines : List Line) → flat_map block_lines (leaf_blocks on lines) ≡ lines
-  leaf-blocks-lines lines = blocks-lines (length lines) lines (omega arith)
-
   -- what each block's marks keep over its lines, the marks of all blocks keep over all lines
   pub spans-blocks : (bytes : List ℕ) (P : List Mark → List Seat → Type 0) (kept : IsKeptBySpans bytes P) (marks_of : LeafBlock → List Mark)
       → ((block : LeafBlock) → IsFull block → AllByRecursion IsWhole (block_lines block) → IsLong block → P (marks_of block) (all_of (block_lines block)))
@@ -202,12 +98,12 @@ module _ (on : Constructs) where
       let all = line ∷ lines in
       let kind = line_kind on (text_of line) in
       let n = (block_of_kind on kind line lines).1 in
-      let cut = cut-block kind line lines (λ e. not-blank on (text_of line) e) in
-      let some = cut.some in
+      let first = cut on line lines in
+      let some = first.some in
       let shorter : length (drop n all) ≤ bound = omega (arith, length-drop n all, some, l) in
       let block = (block_of_kind on kind line lines).0 in
-      let one = each block full.0 (subst (AllByRecursion IsWhole) (sym cut.lines) (whole-taken n all whole)) cut.long in
-      over bytes P kept (all_of all) (ap (λ ls. all_of ls ++ all_of (drop n all)) cut.lines ∙ all-of-split n all)
+      let one = each block full.0 (subst (AllByRecursion IsWhole) (sym first.lines) (whole-taken n all whole)) first.long in
+      over bytes P kept (all_of all) (ap (λ ls. all_of ls ++ all_of (drop n all)) first.lines ∙ all-of-split n all)
       (spans-both bytes P kept one (spans-blocks bytes P kept marks_of each bound (drop n all) shorter full.1 (whole-dropped n all whole)))
 
 -- What spans keep, the marks of leaf blocks keep over all virtual bytes
@@ -227,9 +123,9 @@ module _ (bytes : List ℕ) (P : List Mark → List Seat → Type 0) (kept : IsK
   before-underline (s ∷ ss) inside =
       ap (λ l. (event bytes Enter name.HeadingSetextUnderline s.point, None) ∷ l) (map-append mark_before (map as_it_is inside) _ ∙ ap (λ l. l ++ (event bytes Exit name.HeadingSetextUnderline (end_after s.end ss), None) ∷ []) (kept-before inside))
 
-  before-heading : (lines : List Line) (below : Line)
-      → before_edits (block_told bytes (setext_heading lines below)) ≡ ((span_marks bytes name.Paragraph (body lines) (text_marks bytes false lines) ++ (last_end bytes lines ++ underline_marks bytes (line_text below))) ++ last_end bytes (below ∷ []))
-  before-heading lines below =
+  before-heading : (rank : ℕ) (lines : List Line) (below : Line)
+      → before_edits (block_told bytes (setext_heading rank lines below)) ≡ ((span_marks bytes name.Paragraph (body lines) (text_marks bytes false lines) ++ (last_end bytes lines ++ underline_marks bytes (line_text below))) ++ last_end bytes (below ∷ []))
+  before-heading rank lines below =
       let p = paragraph_told bytes (body lines) (map as_it_is (text_marks bytes false lines)) in
       let e = map as_it_is (last_end bytes lines) in
       let u = underline_told bytes (line_text below) (underline_inside bytes (line_text below)) in
@@ -239,13 +135,13 @@ module _ (bytes : List ℕ) (P : List Mark → List Seat → Type 0) (kept : IsK
       map-append mark_before (p ++ (e ++ u)) z ∙ ap (λ l. l ++ before_edits z) (first ∙ ap (λ l. before_edits p ++ l) second)
       ∙ rw (before-paragraph (body lines) (text_marks bytes false lines), before-underline (line_text below) (underline_inside bytes (line_text below)), kept-before (last_end bytes lines), kept-before (last_end bytes (below ∷ []))) refl
 
-  told-heading : (lines : List Line) (below : Line) → AllByRecursion StartsText lines → AllByRecursion IsWhole (lines ++ below ∷ []) → P (before_edits (block_told bytes (setext_heading lines below))) (all_of (lines ++ below ∷ []))
-  told-heading lines below full whole =
+  told-heading : (rank : ℕ) (lines : List Line) (below : Line) → AllByRecursion StartsText lines → AllByRecursion IsWhole (lines ++ below ∷ []) → P (before_edits (block_told bytes (setext_heading rank lines below))) (all_of (lines ++ below ∷ []))
+  told-heading rank lines below full whole =
       let t = line_text below in
       let all = lines ++ below ∷ [] in
       let joined = setext-body lines below whole in
       let is = ap (λ l. l ++ ending_of below) joined ∙ ap (λ l. body all ++ l) (sym (last-is lines below)) ∙ body-and-last all whole in
-      subst (λ ms. P ms (all_of all)) (sym (before-heading lines below))
+      subst (λ ms. P ms (all_of all)) (sym (before-heading rank lines below))
       (over bytes P kept (all_of all) is
       (spans-both bytes P kept
       (spans-both bytes P kept (spans-around bytes P kept name.Paragraph (body lines) _ refl (spans-text bytes P kept lines full)) (spans-both bytes P kept (spans-last bytes P kept lines) (spans-underline bytes P kept t)))
@@ -255,14 +151,14 @@ module _ (bytes : List ℕ) (P : List Mark → List Seat → Type 0) (kept : IsK
   as-kept block full whole long = subst (λ ms. P ms (all_of (block_lines block))) (sym (kept-before (leaf_block_marks bytes block))) (spans-of bytes P kept block full whole long)
 
   told-block : (block : LeafBlock) → IsFull block → AllByRecursion IsWhole (block_lines block) → IsLong block → P (before_edits (block_told bytes block)) (all_of (block_lines block))
-  told-block (setext_heading lines below) full whole long = told-heading lines below full.0 whole
+  told-block (setext_heading rank lines below) full whole long = told-heading rank lines below full.0 whole
   told-block (blank_line line) full whole long = as-kept (blank_line line) full whole long
   told-block (break_line line) full whole long = as-kept (break_line line) full whole long
   told-block (atx_heading line) full whole long = as-kept (atx_heading line) full whole long
   told-block (paragraph lines) full whole long = as-kept (paragraph lines) full whole long
   told-block (indented_code lines) full whole long = as-kept (indented_code lines) full whole long
   told-block (fenced_code f is_closed lines) full whole long = as-kept (fenced_code f is_closed lines) full whole long
-  told-block (html_block is_closed lines) full whole long = as-kept (html_block is_closed lines) full whole long
+  told-block (html_block kind is_closed lines) full whole long = as-kept (html_block kind is_closed lines) full whole long
 
   told-blocks : (blocks : List LeafBlock) → before_edits (blocks_told bytes blocks) ≡ flat_map (λ block. before_edits (block_told bytes block)) blocks
   told-blocks [] = refl

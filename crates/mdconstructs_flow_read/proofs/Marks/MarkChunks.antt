@@ -22,7 +22,7 @@ IsSingle Fits (e, Some chunk) = Fits chunk.content × (chunk.has_previous ≡ fa
 -- a block without lines of text; the text of an ATX heading is one chunk, and so are the strings of fenced code
 abbrev pub IsPlain : (Content → Type 0) → LeafBlock → Type 0
 IsPlain Fits (paragraph lines) = ⊥
-IsPlain Fits (setext_heading lines below) = ⊥
+IsPlain Fits (setext_heading rank lines below) = ⊥
 IsPlain Fits (atx_heading line) = Fits content.Text
 IsPlain Fits (fenced_code f is_closed lines) = Fits content.String
 IsPlain Fits _ = Unit {0}
@@ -125,10 +125,10 @@ module _ (Fits : Content → Type 0) where
 
     pub single-block-marks : (block : LeafBlock) → IsPlain Fits block → Single (leaf_block_marks bytes block)
     single-block-marks (paragraph lines) h = absurd h
-    single-block-marks (setext_heading lines below) h = absurd h
+    single-block-marks (setext_heading rank lines below) h = absurd h
     single-block-marks (blank_line line) h = search (single-both, single-leaf)
     single-block-marks (break_line line) h = single-block name.ThematicBreak false (line ∷ []) _ (single-break (length line) (line_text line))
     single-block-marks (atx_heading line) h = single-block name.HeadingAtx false (line ∷ []) _ (single-heading h (line_text line))
     single-block-marks (indented_code lines) h = single-block name.CodeIndented false lines _ (single-lines (code_marks bytes 4) (single-code 4) false lines)
     single-block-marks (fenced_code f is_closed lines) h = single-block name.CodeFenced (not is_closed) lines _ (single-code-fenced h f is_closed lines)
-    single-block-marks (html_block is_closed lines) h = single-block name.HtmlFlow (not is_closed) lines _ (single-html (not is_closed) lines)
+    single-block-marks (html_block kind is_closed lines) h = single-block name.HtmlFlow (not is_closed) lines _ (single-html (not is_closed) lines)

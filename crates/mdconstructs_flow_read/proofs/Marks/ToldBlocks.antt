@@ -96,8 +96,8 @@ module _ (bytes : List ℕ) where
       let last = under_names (event bytes Exit name.HeadingSetextUnderline (end_after s.end ss)) (name.HeadingSetextUnderline ∷ name.HeadingSetext ∷ []) in
       (refl, more-kept 0 (0 + 1) (map as_it_is inside ++ last ∷ []) (omega arith) (stand-both 0 (map as_it_is inside) (last ∷ []) (stand-one inside h) tt))
 
-  stand-heading : (lines : List Line) (below : Line) → AllByRecursion StartsText lines → ChunksStand 0 (block_told bytes (setext_heading lines below))
-  stand-heading lines below h =
+  stand-heading : (rank : ℕ) (lines : List Line) (below : Line) → AllByRecursion StartsText lines → ChunksStand 0 (block_told bytes (setext_heading rank lines below))
+  stand-heading rank lines below h =
       let paragraph = paragraph_told bytes (body lines) (map as_it_is (text_marks bytes false lines)) in
       let ends = map as_it_is (last_end bytes lines) in
       let under = underline_told bytes (line_text below) (underline_inside bytes (line_text below)) in
@@ -108,13 +108,13 @@ module _ (bytes : List ℕ) where
 
   stand-block : (block : LeafBlock) → IsFull block → ChunksStand 0 (block_told bytes block)
   stand-block (paragraph lines) h = stand-paragraph lines h
-  stand-block (setext_heading lines below) h = stand-heading lines below h.0
+  stand-block (setext_heading rank lines below) h = stand-heading rank lines below h.0
   stand-block (blank_line line) h = stand-one _ (single-block-marks AnyContent bytes (blank_line line) tt)
   stand-block (break_line line) h = stand-one _ (single-block-marks AnyContent bytes (break_line line) tt)
   stand-block (atx_heading line) h = stand-one _ (single-block-marks AnyContent bytes (atx_heading line) tt)
   stand-block (indented_code lines) h = stand-one _ (single-block-marks AnyContent bytes (indented_code lines) tt)
   stand-block (fenced_code f is_closed lines) h = stand-one _ (single-block-marks AnyContent bytes (fenced_code f is_closed lines) tt)
-  stand-block (html_block is_closed lines) h = stand-one _ (single-block-marks AnyContent bytes (html_block is_closed lines) tt)
+  stand-block (html_block kind is_closed lines) h = stand-one _ (single-block-marks AnyContent bytes (html_block kind is_closed lines) tt)
 
   pub stand-blocks : (blocks : List LeafBlock) → AllByRecursion IsFull blocks → ChunksStand 0 (blocks_told bytes blocks)
   stand-blocks [] h = tt
@@ -177,10 +177,10 @@ module _ (bytes : List ℕ) where
   text-first : (s : Seat) (ss : List Seat) → (s.byte == 10) ≡ false → line_text (s ∷ ss) ≡ s ∷ line_text ss
   text-first s ss h = rw h refl
 
-  behind-setext : (lines : List Line) (below : Line) → IsFull (setext_heading lines below) → behind_edits (block_told bytes (setext_heading lines below)) ≡ leaf_block_marks bytes (setext_heading lines below)
-  behind-setext [] below h = absurd (let some = h.1 in omega (arith, some))
-  behind-setext (line ∷ lines) [] h = absurd h.2
-  behind-setext (line ∷ lines) (u ∷ us) h =
+  behind-setext : (rank : ℕ) (lines : List Line) (below : Line) → IsFull (setext_heading rank lines below) → behind_edits (block_told bytes (setext_heading rank lines below)) ≡ leaf_block_marks bytes (setext_heading rank lines below)
+  behind-setext rank [] below h = absurd (let some = h.1 in omega (arith, some))
+  behind-setext rank (line ∷ lines) [] h = absurd h.2
+  behind-setext rank (line ∷ lines) (u ∷ us) h =
       let (s, ss, rest, short, long) = body-longer line lines (u ∷ us) h.0.0 in
       let all = body ((line ∷ lines) ++ (u ∷ us) ∷ []) in
       let texts = text_marks bytes false (line ∷ lines) in
@@ -194,13 +194,13 @@ module _ (bytes : List ℕ) where
 
   behind-block : (block : LeafBlock) → IsFull block → behind_edits (block_told bytes block) ≡ leaf_block_marks bytes block
   behind-block (paragraph lines) h = kept-behind _
-  behind-block (setext_heading lines below) h = behind-setext lines below h
+  behind-block (setext_heading rank lines below) h = behind-setext rank lines below h
   behind-block (blank_line line) h = kept-behind _
   behind-block (break_line line) h = kept-behind _
   behind-block (atx_heading line) h = kept-behind _
   behind-block (indented_code lines) h = kept-behind _
   behind-block (fenced_code f is_closed lines) h = kept-behind _
-  behind-block (html_block is_closed lines) h = kept-behind _
+  behind-block (html_block kind is_closed lines) h = kept-behind _
 
   pub behind-blocks : (blocks : List LeafBlock) → AllByRecursion IsFull blocks → behind_edits (blocks_told bytes blocks) ≡ leaf_blocks_marks bytes blocks
   behind-blocks [] h = refl

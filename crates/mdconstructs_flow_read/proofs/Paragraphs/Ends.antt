@@ -21,9 +21,9 @@ use Rattle.mdconstructs_flow.specs.FlowBytes.{cased, flow_byte, line_feed}
 use Rattle.mdconstructs_flow.specs.FlowTable.{flow}
 use Rattle.mdconstructs_flow.specs.HeadingEdits.{paragraph_ends}
 use Rattle.mdconstructs_flow.specs.Paragraph.{paragraph_inside, paragraph_line_start_rows}
-use Rattle.mdconstructs_flow_read.specs.BlocksRead.{is_underline}
-use Rattle.mdconstructs_flow_read.specs.LeafBlocks.{bytes_of, ends_paragraph}
-use Rattle.mdconstructs_flow_read.specs.LineKinds.{LineKind, line_kind, unindented}
+use Rattle.mdconstructs_flow_read.specs.LeafBlocks.{bytes_of}
+use Rattle.mdconstructs_flow_read.specs.LineKinds.{unindented}
+use Rattle.mdconstructs_flow_read.specs.SeenKinds.{is_underline, seen_ends, SeenKind, seen_kind}
 use Rattle.mdconstructs_flow_read.specs.LooksFind.{Finds, IsInLine, LeavesAll, LineEnds, LinesAreSeen}
 use Rattle.mdconstructs_flow_read.proofs.Lines.Checks.{checks-nok, checks-ok, looks}
 use Rattle.mdconstructs_flow_read.proofs.Lines.KindsOfLines.{IsPossible, possible}
@@ -85,13 +85,13 @@ module _ (g : Given) (t : Text) where
   ended k local = let place = shown g.bytes (end_place t k.position) in exited Paragraph place (exited Data place (with_local k local))
 
   -- From a line ending in a paragraph, by the kind of the next line: the chunk goes on; the paragraph is over; or it is a heading's
-  pub record EndsSo (k : Configuration Unit Unit) (kind : LineKind) : Type 0 where
-    pub on : ends_paragraph kind ≡ false → (l : Local Unit Unit) × LeavesAll k.local l × Leads g t k (Retry ParagraphInside) (with_local k l) (Retry ContentChunkInside)
-    pub over : ends_paragraph kind ≡ true → is_underline kind ≡ false → (l : Local Unit Unit) × LeavesAll k.local l × Leads g t k (Retry ParagraphInside) (ended k l) (Retry FlowAfter)
-    pub under : ends_paragraph kind ≡ true → is_underline kind ≡ true
+  pub record EndsSo (k : Configuration Unit Unit) (kind : SeenKind) : Type 0 where
+    pub on : seen_ends kind ≡ false → (l : Local Unit Unit) × LeavesAll k.local l × Leads g t k (Retry ParagraphInside) (with_local k l) (Retry ContentChunkInside)
+    pub over : seen_ends kind ≡ true → is_underline kind ≡ false → (l : Local Unit Unit) × LeavesAll k.local l × Leads g t k (Retry ParagraphInside) (ended k l) (Retry FlowAfter)
+    pub under : seen_ends kind ≡ true → is_underline kind ≡ true
         → (l : Local Unit Unit) × LeavesAll k.local l × Leads g t k (Retry ParagraphInside) (with_local (ended k l) (paragraph_ends (ended k l))) (Retry ContentDefinitionAfter)
 
-  module _ (k : Configuration Unit Unit) (s : Seat) (ss : List Seat) (at : drop k.position t.seats ≡ s ∷ ss) (waits : k.waiting ≡ Byte) (feed : s.byte ≡ 10) (kind : LineKind) (r : List ℕ) (can : IsPossible kind) where
+  module _ (k : Configuration Unit Unit) (s : Seat) (ss : List Seat) (at : drop k.position t.seats ≡ s ∷ ss) (waits : k.waiting ≡ Byte) (feed : s.byte ≡ 10) (kind : SeenKind) (r : List ℕ) (can : IsPossible kind) where
     abbrev class_is : flow_byte s.byte ≡ line_feed
     class_is = ap flow_byte feed
 
@@ -135,7 +135,7 @@ module _ (g : Given) (t : Text) where
             }
         | inr badly ↦
             let is_text = badly.1 in
-            let differs : ends_paragraph kind ≡ false = ap ends_paragraph is_text in record {
+            let differs : seen_ends kind ≡ false = ap seen_ends is_text in record {
               on = λ e. (
                 look.local,
                 leaves,
@@ -149,9 +149,9 @@ module _ (g : Given) (t : Text) where
 
 -- by the look at the next line
 pub line-ends-so : LinesAreSeen → (g : Given) (t : Text) (k : Configuration Unit Unit) (s : Seat) (line rest : List Seat) → drop k.position t.seats ≡ s ∷ (line ++ rest) → k.waiting ≡ Byte → s.byte ≡ 10
-    → IsInLine line → LineEnds rest → length t.seats < 2 ^ 64 - 1 → EndsSo g t k (line_kind g.options.constructs (bytes_of line))
+    → IsInLine line → LineEnds rest → length t.seats < 2 ^ 64 - 1 → EndsSo g t k (seen_kind g.options.constructs (bytes_of line))
 line-ends-so lines g t k s line rest at waits feed in_line rest_ends room =
     let found = next-line-seen g t k.stack k.events lines s line rest (byte_of (seat_before t k.position)) k.position k.ended (counts k.local) at feed in_line rest_ends room in
-    let kind = line_kind g.options.constructs (bytes_of line) in
+    let kind = seen_kind g.options.constructs (bytes_of line) in
     ends-so g t k s (line ++ rest) at waits feed kind (unindented (bytes_of line)) (possible g.options.constructs (bytes_of line))
     (leaves-on k.local (counts k.local) _ (record { edits = refl; resolvers = refl; start = refl; end = refl; connect = refl }) found.0) found.1

@@ -20,10 +20,10 @@ use Rattle.mdconstructs_machines.specs.Tables.{counts}
 use Rattle.mdconstructs_flow.specs.FlowBytes.{cased, flow_byte, line_feed}
 use Rattle.mdconstructs_flow.specs.FlowTable.{flow}
 use Rattle.mdconstructs_flow.specs.Look.{non_lazy_continuation_start_rows}
-use Rattle.mdconstructs_flow_read.specs.LeafBlocks.{bytes_of, ends_paragraph}
-use Rattle.mdconstructs_flow_read.specs.LineKinds.{LineKind, blank, indented, heading, fence, html, underline, thematic_break, text, line_kind, unindented}
+use Rattle.mdconstructs_flow_read.specs.LeafBlocks.{bytes_of}
+use Rattle.mdconstructs_flow_read.specs.LineKinds.{unindented}
+use Rattle.mdconstructs_flow_read.specs.SeenKinds.{seen_ends, SeenKind, blank, indented, heading, fence, html, underline, thematic_break, text, seen_kind, is_underline}
 use Rattle.mdconstructs_flow_read.specs.LooksFind.{Finds, IsInLine, LeavesAll, LineEnds, LinesAreSeen}
-use Rattle.mdconstructs_flow_read.specs.BlocksRead.{is_underline}
 use Rattle.mdconstructs_flow_read.proofs.Lines.KindsOfLines.{IsPossible}
 use Rattle.mdconstructs_flow_read.proofs.Looks.LookSteps.{leaves-on}
 
@@ -47,14 +47,14 @@ module _ (g : Given) (t : Text) (stack : List EventName) (events : List Event) w
   pub next-line-seen : LinesAreSeen → (s : Seat) (line rest : List Seat) (previous : Option ℕ) (q : ℕ) (mark : Bool) (local : Local Unit Unit) → drop q t.seats ≡ s ∷ (line ++ rest) → s.byte ≡ 10
       → IsInLine line → LineEnds rest → length t.seats < 2 ^ 64 - 1
       → let r = scan flow g t stack events 2 (s ∷ (line ++ rest)) previous q mark local NonLazyContinuationStart in
-      LeavesAll local r.local × Finds (line_kind g.options.constructs (bytes_of line)) (unindented (bytes_of line)) r.local r.answer
+      LeavesAll local r.local × Finds (seen_kind g.options.constructs (bytes_of line)) (unindented (bytes_of line)) r.local r.answer
   next-line-seen seen s line rest previous q mark local at feed in_line ends room =
       let next = drop-next t.seats q s (line ++ rest) at in
       let count : length t.seats - (q + 1) ≡ length line + length rest = sym (length-drop (q + 1) t.seats) ∙ ap length next ∙ length-append line rest in
       let fits : length line < 2 ^ 64 - 1 = omega (arith, count, room) in
       let found = seen g t stack events line rest (Some s.byte) (q + 1) false (uncounted local) next in_line ends fits refl in
       let same = over-feed s (line ++ rest) previous q mark local (ap flow_byte feed) in
-      subst (λ (r : Look Unit Unit). LeavesAll local r.local × Finds (line_kind g.options.constructs (bytes_of line)) (unindented (bytes_of line)) r.local r.answer) (sym same)
+      subst (λ (r : Look Unit Unit). LeavesAll local r.local × Finds (seen_kind g.options.constructs (bytes_of line)) (unindented (bytes_of line)) r.local r.answer) (sym same)
       (leaves-on local (uncounted local) _ (record { edits = refl; resolvers = refl; start = refl; end = refl; connect = refl }) found.0, found.1)
 
 -- what the tests of a line's end say
@@ -70,35 +70,35 @@ by_name n l = same_name n CodeIndented || (same_name n HtmlFlow && (l.tokenize_s
 seven : (kind : ℕ) → kind ≤ 7 → (kind == 7) ≡ not (nat_le kind 6)
 seven kind h = grind (arith, nat_tests, h)
 
-pub text-fails : (kind : LineKind) (r : List ℕ) (l : Local Unit Unit) (a : State) → Finds kind r l a → (a ≡ Ok) ⊎ ((a ≡ Nok) × (kind ≡ text))
+pub text-fails : (kind : SeenKind) (r : List ℕ) (l : Local Unit Unit) (a : State) → Finds kind r l a → (a ≡ Ok) ⊎ ((a ≡ Nok) × (kind ≡ text))
 text-fails blank r l a h = inl h.0
 text-fails indented r l a h = inl h.0
 text-fails heading r l a h = inl h.0
 text-fails (fence f) r l a h = inl h.0
 text-fails (html kind) r l a h = inl h.0
-text-fails (underline mark) r l a h = inl h.0
+text-fails underline r l a h = inl h.0
 text-fails thematic_break r l a h = inl h.0
 text-fails text r l a h = inr (h, refl)
 
-pub passed : (kind : LineKind) (r : List ℕ) (l : Local Unit Unit) (a : State) → IsPossible kind → Finds kind r l a → a ≡ Ok → passes_over l ≡ not (ends_paragraph kind)
+pub passed : (kind : SeenKind) (r : List ℕ) (l : Local Unit Unit) (a : State) → IsPossible kind → Finds kind r l a → a ≡ Ok → passes_over l ≡ not (seen_ends kind)
 passed blank r l a can h ok = ap (λ n. by_name n l) h.1
 passed indented r l a can h ok = ap (λ n. by_name n l) h.1
 passed heading r l a can h ok = ap (λ n. by_name n l) h.1
 passed (fence f) r l a can h ok = ap (λ n. by_name n l) h.1
 passed (html kind) r l a can h ok = ap (λ n. by_name n l) h.1 ∙ ap (λ n. n == 7) h.2 ∙ seven kind can
-passed (underline mark) r l a can h ok = ap (λ n. by_name n l) h.1
+passed underline r l a can h ok = ap (λ n. by_name n l) h.1
 passed thematic_break r l a can h ok = ap (λ n. by_name n l) h.1
 passed text r l a can h ok = absurd (let wrong : Ok ≡ Nok = sym ok ∙ h in cc)
 
 abbrev is_it : EventName → Bool
 is_it n = same_name n HeadingSetextUnderline
 
-pub underlined : (kind : LineKind) (r : List ℕ) (l : Local Unit Unit) (a : State) → Finds kind r l a → a ≡ Ok → finds_underline l ≡ is_underline kind
+pub underlined : (kind : SeenKind) (r : List ℕ) (l : Local Unit Unit) (a : State) → Finds kind r l a → a ≡ Ok → finds_underline l ≡ is_underline kind
 underlined blank r l a h ok = ap is_it h.1
 underlined indented r l a h ok = ap is_it h.1
 underlined heading r l a h ok = ap is_it h.1
 underlined (fence f) r l a h ok = ap is_it h.1
 underlined (html kind) r l a h ok = ap is_it h.1
-underlined (underline mark) r l a h ok = ap is_it h.1
+underlined underline r l a h ok = ap is_it h.1
 underlined thematic_break r l a h ok = ap is_it h.1
 underlined text r l a h ok = absurd (let wrong : Ok ≡ Nok = sym ok ∙ h in cc)

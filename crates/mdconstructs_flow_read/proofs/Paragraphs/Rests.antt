@@ -1,5 +1,5 @@
 -- From a line ending in a paragraph: how many lines more it has, and how it ends.
-use Rattle.std.proofs.Common.{◌≡◌, ℕ, suc, ◌+◌, ◌-◌, ◌<◌, ◌^◌, List, [], ◌∷◌, ◌++◌, inl, inr, Bool, true, false, Some, None, drop, take, length, refl, sym, ap, ◌∙◌, subst, append-nil, append_assoc}
+use Rattle.std.proofs.Common.{◌≡◌, ℕ, suc, ◌+◌, ◌-◌, ◌<◌, ◌^◌, List, [], ◌∷◌, ◌++◌, inl, inr, Bool, true, false, ◌||◌, Some, None, drop, take, length, refl, sym, ap, ◌∙◌, subst, append-nil, append_assoc}
 use Rattle.markdown_base.specs.declared.event.Event.{Event}
 use Rattle.markdown_base.specs.declared.event.Content.TheVariants.{Text as TextContent}
 use Rattle.markdown_base.specs.declared.event.Kind.TheVariants.{Exit}
@@ -16,10 +16,13 @@ use Rattle.mdconstructs_tables.specs.Looks.{waits_at}
 use Rattle.mdconstructs_machines.specs.LineEvents.{all_of, ending_of, line_text}
 use Rattle.mdconstructs_machines.specs.Spans.{event}
 use Rattle.mdconstructs_flow.specs.HeadingEdits.{paragraph_ends}
-use Rattle.mdconstructs_flow_read.specs.BlocksRead.{AreLines, is_underline, is_underlined}
-use Rattle.mdconstructs_flow_read.specs.LeafBlocks.{Line, bytes_of, ends_paragraph, lines_until, text_of}
+use Rattle.std.specs.Prelude.{is_some}
+use Rattle.mdconstructs_flow_read.specs.BlocksRead.{AreLines, is_underlined}
+use Rattle.mdconstructs_flow_read.specs.LeafBlocks.{Line, bytes_of, ends_text, interrupts, lines_until, text_of}
+use Rattle.mdconstructs_flow_read.specs.LineKinds.{line_kind, underline_rank}
+use Rattle.mdconstructs_flow_read.specs.SeenKinds.{is_underline, seen_ends, SeenKind, seen_kind}
+use Rattle.mdconstructs_flow_read.proofs.Lines.TestedKinds.{ends-as-seen, seen-is-tested}
 use Rattle.mdconstructs_flow_read.specs.LeafEvents.{chunk_span, linked_from}
-use Rattle.mdconstructs_flow_read.specs.LineKinds.{LineKind, line_kind}
 use Rattle.mdconstructs_flow_read.specs.LooksFind.{IsInLine, LeavesAll, LineEnds, LinesAreSeen}
 use Rattle.mdconstructs_flow_read.proofs.Lines.Leading.{Leads}
 use Rattle.mdconstructs_flow_read.proofs.Lines.LineReads.{behind-line}
@@ -30,7 +33,7 @@ use Rattle.mdconstructs_flow_read.proofs.Lines.LineCounts.{until-one-more, until
 
 -- the lines of a paragraph, behind its first
 abbrev pub goes_on_over : Given → List Line → ℕ
-goes_on_over g lines = lines_until (λ t. ends_paragraph (line_kind g.options.constructs t)) lines
+goes_on_over g lines = lines_until (ends_text g.options.constructs) lines
 
 module _ (g : Given) (t : Text) (has_previous : Bool) (done : List Event) (s : Seat) (ss : List Seat) (feed : Seat) (rest : List Seat) (q : ℕ) (k : Configuration Unit Unit) (here : IsAtFeed g t has_previous done s ss feed rest q k) (all : IsInLine (s ∷ ss)) where
   abbrev pub line : Line
@@ -96,11 +99,11 @@ module _ (g : Given) (t : Text) (has_previous : Bool) (done : List Event) (s : S
 
 -- so the rest of a paragraph is read
 module _ (seen : LinesAreSeen) (g : Given) (t : Text) (room : length t.seats < 2 ^ 64 - 1) where
-  abbrev on : LineKind → Bool
-  on kind = ends_paragraph kind
+  abbrev on : SeenKind → Bool
+  on kind = seen_ends kind
 
-  abbrev kind_of : Line → LineKind
-  kind_of line = line_kind g.options.constructs (text_of line)
+  abbrev kind_of : Line → SeenKind
+  kind_of line = seen_kind g.options.constructs (text_of line)
 
   -- what is read from there
   abbrev Rest : (has_previous : Bool) (done : List Event) (s : Seat) (ss : List Seat) (feed : Seat) (q : ℕ) (k : Configuration Unit Unit) (n : ℕ) (more : List Line) → Type 0
@@ -109,7 +112,7 @@ module _ (seen : LinesAreSeen) (g : Given) (t : Text) (room : length t.seats < 2
 
   -- the next line ends the paragraph
   ends-here : (has_previous : Bool) (done : List Event) (s : Seat) (ss : List Seat) (feed : Seat) (q : ℕ) (k : Configuration Unit Unit) (next : Line) (more : List Line)
-      → IsAtFeed g t has_previous done s ss feed (all_of (next ∷ more)) q k → IsInLine (s ∷ ss) → EndsSo g t k (kind_of next) → ends_paragraph (kind_of next) ≡ true → Rest has_previous done s ss feed q k 0 (next ∷ more)
+      → IsAtFeed g t has_previous done s ss feed (all_of (next ∷ more)) q k → IsInLine (s ∷ ss) → EndsSo g t k (kind_of next) → seen_ends (kind_of next) ≡ true → Rest has_previous done s ss feed q k 0 (next ∷ more)
   ends-here has_previous done s ss feed q k next more here all so stops =
       let rest = all_of (next ∷ more) in
       let line = (s ∷ ss) ++ feed ∷ [] in
@@ -131,15 +134,15 @@ module _ (seen : LinesAreSeen) (g : Given) (t : Text) (room : length t.seats < 2
       line-ends-so seen g t k feed (line_text next) (ending_of next ++ all_of more) (at-feed g t has_previous done s ss feed (all_of (next ∷ more)) q k here all ∙ ap (λ l. feed ∷ l) split) here.waits here.feeds (text-in-line next) ends room
 
   -- a line that is not blank has a byte
-  first-of : (next : Line) → ends_paragraph (kind_of next) ≡ false → (s : Seat) × (ss : List Seat) × (line_text next ≡ s ∷ ss)
-  first-of next differs = elim (line_text next) as (λ l. ends_paragraph (line_kind g.options.constructs (bytes_of l)) ≡ false → (s : Seat) × (ss : List Seat) × (l ≡ s ∷ ss)) [
-    | [] ↦ λ e. absurd (cc)
+  first-of : (next : Line) → seen_ends (kind_of next) ≡ false → (s : Seat) × (ss : List Seat) × (line_text next ≡ s ∷ ss)
+  first-of next differs = elim (line_text next) as (λ l. seen_ends (seen_kind g.options.constructs (bytes_of l)) ≡ false → (s : Seat) × (ss : List Seat) × (l ≡ s ∷ ss)) [
+    | [] ↦ λ e. absurd (let wrong : true ≡ false = ap seen_ends (sym (seen-is-tested g.options.constructs [])) ∙ e in cc)
     | s ∷ ss ↦ λ e. (s, ss, refl)
   ] differs
 
   -- the next line is one of the paragraph
   goes-over-next : (has_previous : Bool) (done : List Event) (s : Seat) (ss : List Seat) (feed : Seat) (q : ℕ) (k : Configuration Unit Unit) (next : Line) (more : List Line)
-      → IsAtFeed g t has_previous done s ss feed (all_of (next ∷ more)) q k → AreLines (next ∷ more) → EndsSo g t k (kind_of next) → ends_paragraph (kind_of next) ≡ false
+      → IsAtFeed g t has_previous done s ss feed (all_of (next ∷ more)) q k → AreLines (next ∷ more) → EndsSo g t k (kind_of next) → seen_ends (kind_of next) ≡ false
       → ((done : List Event) (s : Seat) (ss : List Seat) (feed : Seat) (q : ℕ) (k : Configuration Unit Unit) → IsAtFeed g t true done s ss feed (all_of more) q k → IsInLine (s ∷ ss) → Rest true done s ss feed q k (goes_on_over g more) more)
       → Rest has_previous done s ss feed q k (suc (goes_on_over g more)) (next ∷ more)
   goes-over-next has_previous done s ss feed q k next more here are so differs further =
@@ -171,12 +174,13 @@ module _ (seen : LinesAreSeen) (g : Given) (t : Text) (room : length t.seats < 2
       → IsAtFeed g t has_previous done s ss feed (all_of more) q k → IsInLine (s ∷ ss) → Rest has_previous done s ss feed q k (goes_on_over g more) more
   rest-read [] are has_previous done s ss feed q k here all =
       let so = line-ends-so seen g t k feed [] [] (at-feed g t has_previous done s ss feed [] q k here all) here.waits here.feeds tt tt room in
-      let (l, leaves, leads) = so.over refl refl in last-line g t has_previous done s ss feed [] q k here all l leaves leads
+      let blank = seen-is-tested g.options.constructs [] in let (l, leaves, leads) = so.over (ap seen_ends blank) (ap is_underline blank) in last-line g t has_previous done s ss feed [] q k here all l leaves leads
   rest-read (next ∷ more) are has_previous done s ss feed q k here all =
       let so = looks-at has_previous done s ss feed q k next more here all are in
-      let test = λ (t : List ℕ). ends_paragraph (line_kind g.options.constructs t) in
-      elim (ends_paragraph (kind_of next)) as (λ b. ends_paragraph (kind_of next) ≡ b → Rest has_previous done s ss feed q k (goes_on_over g (next ∷ more)) (next ∷ more)) [
-        | true ↦ λ stops. subst (λ n. Rest has_previous done s ss feed q k n (next ∷ more)) (sym (until-there test next more stops)) (ends-here has_previous done s ss feed q k next more here all so stops)
+      let test = λ (t : List ℕ). is_some (underline_rank g.options.constructs t) || interrupts (line_kind g.options.constructs t) in
+      let same = sym (ends-as-seen g.options.constructs next) in
+      elim (test (text_of next)) as (λ b. test (text_of next) ≡ b → Rest has_previous done s ss feed q k (goes_on_over g (next ∷ more)) (next ∷ more)) [
+        | true ↦ λ stops. subst (λ n. Rest has_previous done s ss feed q k n (next ∷ more)) (sym (until-there test next more stops)) (ends-here has_previous done s ss feed q k next more here all so (same ∙ stops))
         | false ↦ λ differs. subst (λ n. Rest has_previous done s ss feed q k n (next ∷ more)) (sym (until-one-more test next more differs))
-            (goes-over-next has_previous done s ss feed q k next more here are so differs (λ done s ss feed q k here all. rest-read more (lines-behind next more are) true done s ss feed q k here all))
+            (goes-over-next has_previous done s ss feed q k next more here are so (same ∙ differs) (λ done s ss feed q k here all. rest-read more (lines-behind next more are) true done s ss feed q k here all))
       ] refl

@@ -25,10 +25,10 @@ use Rattle.mdconstructs_machines.specs.Spans.{event}
 use Rattle.mdconstructs_flow.specs.FlowBytes.{flow_byte, line_feed}
 use Rattle.mdconstructs_flow.specs.FlowTable.{flow}
 use Rattle.mdconstructs_flow.specs.HeadingEdits.{heading_ends, renaming}
-use Rattle.mdconstructs_flow_read.specs.BlocksRead.{AddsEdits, AreLines, IsAtLines, IsLine, IsReadAs, SetextHeadingsAreRead, heading_told, is_underline, is_underlined, last_ending, paragraph_told, underline_told}
+use Rattle.mdconstructs_flow_read.specs.BlocksRead.{AddsEdits, AreLines, IsAtLines, IsLine, IsReadAs, SetextHeadingsAreRead, heading_told, is_underlined, last_ending, paragraph_told, underline_told}
 use Rattle.mdconstructs_flow_read.specs.LeafBlocks.{Line, text_of}
+use Rattle.mdconstructs_flow_read.specs.SeenKinds.{is_underline, seen_kind}
 use Rattle.mdconstructs_flow_read.specs.LeafEvents.{Mark, body, last_end, leaf_marks, linked_from, span_marks, text_marks, underline_inside}
-use Rattle.mdconstructs_flow_read.specs.LineKinds.{line_kind}
 use Rattle.mdconstructs_flow_read.specs.LooksFind.{LineEnds, LinesAreSeen}
 use Rattle.mdconstructs_flow_read.specs.ToldMarks.{ToldMark, as_it_is, before_edits, told_edits, under_names}
 use Rattle.mdconstructs_flow_read.proofs.Paragraphs.HeadingMarks.{heading, heading_marks, heading-added, heading-before, last-is}
@@ -125,7 +125,7 @@ module _ (lines_seen : LinesAreSeen) (g : Given) (t : Text) (k : Configuration U
     next_are : AreLines (next ∷ more)
     next_are = subst AreLines split (lines-dropped (suc n) (line ∷ behind) here.are_lines)
 
-    of_kind : is_underline (line_kind g.options.constructs (text_of next)) ≡ true
+    of_kind : is_underline (seen_kind g.options.constructs (text_of next)) ≡ true
     of_kind = ap (is_underlined g) (sym split) ∙ under
 
     underlined : is_underlined g (drop n behind) ≡ true → IsParagraph g t k ours (all_of (drop n behind)) true

@@ -5,7 +5,7 @@ use Rattle.std.proofs.lemmas.Bool.{eqb-true}
 use Rattle.std.proofs.lemmas.List.{length-drop}
 use Rattle.mdconstructs_machines.specs.Breaks.{is_white}
 use Rattle.mdconstructs_flow_read.proofs.Looks.ByteClasses.{apart, no_bare, no_value, begins-goes-on}
-use Rattle.mdconstructs_flow_read.specs.HtmlLines.{first_passes, is_all_white, behind_white, begins_attribute, goes_on_attribute, is_bare, behind_quote, behind_value, behind_attribute, ends_tag, ends_open_tag}
+use Rattle.mdconstructs_flow_read.specs.HtmlLines.{first_passes, is_blank_line, unindented, begins_attribute, goes_on_attribute, is_bare, behind_quote, behind_value, behind_attribute, ends_tag, ends_open_tag}
 
 -- Where the look is: behind a tag; behind its slash; behind the name of a closing tag; before an attribute, in its name, behind it; before a
 -- value, in a quoted one, behind that; in a value without quotes
@@ -72,18 +72,18 @@ run-skipped p place h (b ∷ bs) =
     ∙ sym (ap (λ l. goes l place) (drop-run p b bs))
 
 -- the end of a tag
-pub after-is : (t : List ℕ) → goes t after ≡ is_all_white t
+pub after-is : (t : List ℕ) → goes t after ≡ is_blank_line t
 after-is [] = refl
-after-is (b ∷ bs) = and-cond (is_white b) (goes bs after) (is_all_white bs) (after-is bs)
+after-is (b ∷ bs) = and-cond (is_white b) (goes bs after) (is_blank_line bs) (after-is bs)
 
 pub slashed-is : (t : List ℕ) → goes t slashed ≡ ends_tag t
 slashed-is [] = refl
-slashed-is (b ∷ bs) = and-cond (b == 62) (goes bs after) (is_all_white bs) (after-is bs)
+slashed-is (b ∷ bs) = and-cond (b == 62) (goes bs after) (is_blank_line bs) (after-is bs)
 
-pub closing-is : (t : List ℕ) → goes t closing ≡ ends_tag (behind_white t)
+pub closing-is : (t : List ℕ) → goes t closing ≡ ends_tag (unindented t)
 closing-is [] = refl
 closing-is (b ∷ bs) =
-    elim (is_white b) as (λ w. cond w (goes bs closing) (cond (b == 62) (goes bs after) false) ≡ ends_tag (cond w (behind_white bs) (b ∷ bs))) [
+    elim (is_white b) as (λ w. cond w (goes bs closing) (cond (b == 62) (goes bs after) false) ≡ ends_tag (cond w (unindented bs) (b ∷ bs))) [
       | true ↦ closing-is bs
       | false ↦ slashed-is (b ∷ bs)
     ]
@@ -181,8 +181,8 @@ value-at (b ∷ bs) h =
           ] refl
     ] refl
 
-value-is : (t : List ℕ) → goes t value ≡ then_on (behind_value (behind_white t))
-value-is t = run-skipped is_white value (λ b bs e. rw e refl) t ∙ value-at (behind_white t) (first-not is_white t)
+value-is : (t : List ℕ) → goes t value ≡ then_on (behind_value (unindented t))
+value-is t = run-skipped is_white value (λ b bs e. rw e refl) t ∙ value-at (unindented t) (first-not is_white t)
 
 -- an attribute's name, and what is behind it
 abbrev is_equals_sign : ℕ → Bool
@@ -191,21 +191,21 @@ is_equals_sign b = b == 61
 abbrev with_value : (more : List ℕ) → (without : Bool) → Bool
 with_value more without = cond (first_passes is_equals_sign more) (goes (drop 1 more) value) without
 
-named-is : (t : List ℕ) → goes t named ≡ with_value (behind_white t) (goes t before)
+named-is : (t : List ℕ) → goes t named ≡ with_value (unindented t) (goes t before)
 named-is [] = refl
 named-is (b ∷ bs) =
-    elim (is_white b) as (λ w. is_white b ≡ w → goes (b ∷ bs) named ≡ with_value (cond w (behind_white bs) (b ∷ bs)) (goes (b ∷ bs) before)) [
+    elim (is_white b) as (λ w. is_white b ≡ w → goes (b ∷ bs) named ≡ with_value (cond w (unindented bs) (b ∷ bs)) (goes (b ∷ bs) before)) [
       | true ↦ λ e. rw e (named-is bs)
       | false ↦ λ e. rw e refl
     ] refl
     ∙ sym (ap (λ l. with_value l (goes (b ∷ bs) before)) (drop-run is_white b bs))
 
-name-ends : (t : List ℕ) → first_passes goes_on_attribute t ≡ false → goes t name ≡ with_value (behind_white t) (goes t behind)
+name-ends : (t : List ℕ) → first_passes goes_on_attribute t ≡ false → goes t name ≡ with_value (unindented t) (goes t behind)
 name-ends [] h = refl
 name-ends (b ∷ bs) h =
     ap (λ go. cond go (goes bs name) (cond (is_white b) (goes bs named) (cond (b == 61) (goes bs value) (cond (b == 47) (goes bs slashed) (cond (b == 62) (goes bs after) false))))) h
     ∙ elim (is_white b) as (λ w. cond w (goes bs named) (cond (b == 61) (goes bs value) (cond (b == 47) (goes bs slashed) (cond (b == 62) (goes bs after) false)))
-    ≡ with_value (cond w (behind_white bs) (b ∷ bs)) (cond w (goes bs before) (cond (b == 47) (goes bs slashed) (cond (b == 62) (goes bs after) false)))) [
+    ≡ with_value (cond w (unindented bs) (b ∷ bs)) (cond w (goes bs before) (cond (b == 47) (goes bs slashed) (cond (b == 62) (goes bs after) false)))) [
       | true ↦ named-is bs
       | false ↦ refl
     ]
@@ -218,18 +218,18 @@ name-goes-on b bs e = rw e refl
 abbrev behind_name : Bool → List ℕ → Option (List ℕ)
 behind_name begins t =
     let rest = drop (prefix_len goes_on_attribute t) t in
-    let more = behind_white rest in
-    cond begins (cond (first_passes is_equals_sign more) (behind_value (behind_white (drop 1 more))) (Some rest)) None
+    let more = unindented rest in
+    cond begins (cond (first_passes is_equals_sign more) (behind_value (unindented (drop 1 more))) (Some rest)) None
 
 attribute-is : (b : ℕ) (bs : List ℕ) → begins_attribute b ≡ true → goes bs name ≡ then_on (behind_attribute (b ∷ bs))
 attribute-is b bs e =
     let all = b ∷ bs in
     let rest = drop (prefix_len goes_on_attribute all) all in
-    let more = behind_white rest in
+    let more = unindented rest in
     sym (name-goes-on b bs (begins-goes-on b e))
     ∙ run-skipped goes_on_attribute name name-goes-on all
     ∙ name-ends rest (first-not goes_on_attribute all)
-    ∙ elim (first_passes is_equals_sign more) as (λ t. cond t (goes (drop 1 more) value) (goes rest behind) ≡ then_on (cond t (behind_value (behind_white (drop 1 more))) (Some rest))) [
+    ∙ elim (first_passes is_equals_sign more) as (λ t. cond t (goes (drop 1 more) value) (goes rest behind) ≡ then_on (cond t (behind_value (unindented (drop 1 more))) (Some rest))) [
       | true ↦ value-is (drop 1 more)
       | false ↦ refl
     ]
@@ -255,14 +255,14 @@ before-at (b ∷ bs) h =
       | true ↦ λ e. rw (apart begins_attribute 47 refl b e, apart begins_attribute 62 refl b e) (attribute-is b bs e)
       | false ↦ λ e.
           ap (λ r. cond (b == 47) r (cond (b == 62) (goes bs after) false)) (slashed-is bs)
-          ∙ ap (λ r. cond (b == 47) (ends_tag bs) r) (elim (b == 62) as (λ t. cond t (goes bs after) false ≡ cond t (t && is_all_white bs) (then_on (behind_attribute (b ∷ bs)))) [
+          ∙ ap (λ r. cond (b == 47) (ends_tag bs) r) (elim (b == 62) as (λ t. cond t (goes bs after) false ≡ cond t (t && is_blank_line bs) (then_on (behind_attribute (b ∷ bs)))) [
             | true ↦ after-is bs
             | false ↦ sym (no-attribute b bs e)
           ])
     ] refl
 
-before-is : (t : List ℕ) → let more = behind_white t in goes t before ≡ cond (at_slash more) (ends_tag (drop 1 more)) (cond (at_greater more) (ends_tag more) (then_on (behind_attribute more)))
-before-is t = run-skipped is_white before (λ b bs e. rw e refl) t ∙ before-at (behind_white t) (first-not is_white t)
+before-is : (t : List ℕ) → let more = unindented t in goes t before ≡ cond (at_slash more) (ends_tag (drop 1 more)) (cond (at_greater more) (ends_tag more) (then_on (behind_attribute more)))
+before-is t = run-skipped is_white before (λ b bs e. rw e refl) t ∙ before-at (unindented t) (first-not is_white t)
 
 -- what is behind something is no longer
 abbrev Fits : ℕ → Option (List ℕ) → Type 0
@@ -297,8 +297,8 @@ value-fits t =
 attribute-fits : (t : List ℕ) → Fits (length t) (behind_attribute t)
 attribute-fits t =
     let rest = drop (prefix_len goes_on_attribute t) t in
-    let more = behind_white rest in
-    let at = behind_white (drop 1 more) in
+    let more = unindented rest in
+    let at = unindented (drop 1 more) in
     let shorter : length at ≤ length t = le_trans (drop-fits (prefix_len is_white (drop 1 more)) (drop 1 more)) (le_trans (drop-fits 1 more) (le_trans (drop-fits (prefix_len is_white rest) rest) (drop-fits (prefix_len goes_on_attribute t) t))) in
     let with = cond (first_passes is_equals_sign more) (behind_value at) (Some rest) in
     either-fits (first_passes begins_attribute t) (length t) with None
@@ -313,20 +313,20 @@ pub open-is : (n : ℕ) (t : List ℕ) → length t < n → ends_open_tag n t �
 open-is zero t low = absurd (omega arith)
 open-is (suc n) [] low = refl
 open-is (suc n) (b ∷ bs) low =
-    let more = behind_white bs in
+    let more = unindented bs in
     let on : open_on n (behind_attribute more) ≡ then_on (behind_attribute more) =
     elim (behind_attribute more) as (λ o. Fits (length bs) o → open_on n o ≡ then_on o) [
       | None ↦ λ fits. refl
       | Some rest ↦ λ fits. open-is n rest (omega (arith, fits, low))
     ] (fits-more (behind_attribute more) (length more) (length bs) (drop-fits (prefix_len is_white bs) bs) (attribute-fits more)) in
     let at = λ (l : List ℕ) (w : Bool). cond (at_slash l) (ends_tag (drop 1 l)) (cond (at_greater l) (ends_tag l) (cond w (open_on n (behind_attribute l)) false)) in
-    let start : ends_open_tag (suc n) (b ∷ bs) ≡ at (behind_white (b ∷ bs)) (is_white b) = refl in
+    let start : ends_open_tag (suc n) (b ∷ bs) ≡ at (unindented (b ∷ bs)) (is_white b) = refl in
     start ∙ ap (λ l. at l (is_white b)) (drop-run is_white b bs)
     ∙ elim (is_white b) as (λ w. at (cond w more (b ∷ bs)) w ≡ cond w (goes bs before) (cond (b == 47) (goes bs slashed) (cond (b == 62) (goes bs after) false))) [
       | true ↦ ap (λ r. cond (at_slash more) (ends_tag (drop 1 more)) (cond (at_greater more) (ends_tag more) r)) on ∙ sym (before-is bs)
       | false ↦
           ap (λ r. cond (b == 47) r (cond (b == 62) (ends_tag (b ∷ bs)) false)) (sym (slashed-is bs))
-          ∙ ap (λ r. cond (b == 47) (goes bs slashed) r) (elim (b == 62) as (λ t. cond t (t && is_all_white bs) false ≡ cond t (goes bs after) false) [
+          ∙ ap (λ r. cond (b == 47) (goes bs slashed) r) (elim (b == 62) as (λ t. cond t (t && is_blank_line bs) false ≡ cond t (goes bs after) false) [
             | true ↦ sym (after-is bs)
             | false ↦ refl
           ])

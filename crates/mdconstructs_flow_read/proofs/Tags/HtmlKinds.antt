@@ -9,7 +9,8 @@ use Rattle.std.proofs.lemmas.Bool.Decides.{nat_tests}
 use Rattle.markdown_base.specs.Texts.{html_block_names, html_raw_names}
 use Rattle.mdconstructs_machines.specs.Breaks.{is_white}
 use Rattle.mdconstructs_flow.specs.HtmlNames.{no_name, one_byte_more, is_number_in}
-use Rattle.mdconstructs_flow_read.specs.HtmlLines.{behind_white, ends_open_tag, ends_tag, first_passes, is_all_white, is_named, named_kind, starts_with, tag_name}
+use Rattle.mdconstructs_flow_read.specs.HtmlLines.{unindented, ends_open_tag, ends_tag, first_passes, is_blank_line, is_named, starts_with, tag_name}
+use Rattle.mdconstructs_flow_read.proofs.Tags.HtmlNumbers.{named_kind}
 use Rattle.mdconstructs_flow_read.proofs.Tags.Attributes.{after, before, behind, closing, slashed, goes, closing-is, open-is, drop-run}
 use Rattle.mdconstructs_flow_read.proofs.Tags.TagNumbers.{number_with, block-names, raw-names}
 
@@ -87,7 +88,7 @@ abbrev by_name : ℕ → Bool → ℕ
 by_name kind is_whole = cond (nat_le 1 kind) kind (whole is_whole)
 
 abbrev ends : List ℕ → Bool
-ends t = is_all_white (take 1 t) || first_passes (λ b. b == 62) t
+ends t = is_blank_line (take 1 t) || first_passes (λ b. b == 62) t
 
 abbrev kind_by : (closes raw block : Bool) → List ℕ → ℕ
 kind_by closes raw block t = cond (not closes && (raw && ends t)) 1 (cond (block && (ends t || starts_with (codes "/>") t)) 6 0)
@@ -190,7 +191,7 @@ opened tag n some rest =
 abbrev pub closed : (tag : List ℕ) → (n : ℕ) → (some : Bool) → (rest : List ℕ) → ℕ
 closed tag n some rest =
     let named = cond some (named_kind true (take n tag) (drop n tag)) 0 in
-    cond (nat_le 1 named) named (cond (some && ends_tag (behind_white rest)) 7 0)
+    cond (nat_le 1 named) named (cond (some && ends_tag (unindented rest)) 7 0)
 
 -- a tag, from its name on
 module _ (b : ℕ) (bs : List ℕ) (is : is_ascii_alphabetic b ≡ true) where

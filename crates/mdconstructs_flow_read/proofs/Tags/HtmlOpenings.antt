@@ -6,7 +6,8 @@ use Rattle.std.specs.Prelude.{codes}
 use Rattle.std.proofs.lemmas.Bool.{eqb-true}
 use Rattle.mdconstructs_machines.specs.Breaks.{one_more}
 use Rattle.mdconstructs_flow.specs.HtmlWrites.{cdata_byte}
-use Rattle.mdconstructs_flow_read.specs.HtmlLines.{behind_white, ends_tag, first_passes, html_at, is_open_tag, named_kind, starts_with, tag_name}
+use Rattle.mdconstructs_flow_read.specs.HtmlLines.{unindented, ends_tag, first_passes, is_open_tag, starts_with, tag_name}
+use Rattle.mdconstructs_flow_read.proofs.Tags.HtmlNumbers.{html_at, named_kind}
 use Rattle.mdconstructs_flow_read.proofs.Looks.ByteClasses.{apart}
 use Rattle.mdconstructs_flow_read.proofs.Tags.HtmlKinds.{closed, closed-is, first-is, flip, opened, opened-is, tagged}
 
@@ -120,7 +121,7 @@ by_first b bs slash bang question =
     (cond (question && true) 3
     (cond ((bang && true) && first_passes is_ascii_alphabetic bs) 4
     (cond (bang && starts_with (codes "[CDATA[") bs) 5
-    (cond (is_open_tag all || (is_closing && (nat_le 1 (tag_name bs) && ends_tag (behind_white (drop (2 + tag_name bs) all))))) 7 0)))))
+    (cond (is_open_tag all || (is_closing && (nat_le 1 (tag_name bs) && ends_tag (unindented (drop (2 + tag_name bs) all))))) 7 0)))))
 
 by-first : (b : ℕ) (bs : List ℕ) → html_at (60 ∷ b ∷ bs) ≡ by_first b bs (47 == b) (33 == b) (63 == b)
 by-first b bs = refl

@@ -25,6 +25,7 @@ use Rattle.mdconstructs_flow.specs.HtmlNames.{no_name, one_byte_more}
 use Rattle.mdconstructs_flow.specs.HtmlTags.{html_flow_basic_self_closing_rows, html_flow_cdata_open_inside_rows, html_flow_comment_open_inside_rows, html_flow_declaration_open_rows, html_flow_open_rows, html_flow_tag_close_start_rows, html_flow_tag_name_goes_on, html_flow_tag_name_rows}
 use Rattle.mdconstructs_flow.specs.HtmlWrites.{at_cdata, cdata_byte, closes_tag, html_becomes, is_block_tag, name_grows, opens_raw, tag_closes}
 use Rattle.mdconstructs_flow_read.specs.HtmlLines.{first_passes}
+use Rattle.mdconstructs_flow_read.proofs.Tags.HtmlNumbers.{number-is}
 use Rattle.mdconstructs_flow_read.specs.LeafBlocks.{bytes_of}
 use Rattle.mdconstructs_flow_read.specs.LooksFind.{FindsHtml, HtmlIsSeen, IsInLine, LineEnds}
 use Rattle.mdconstructs_flow_read.proofs.Tags.Attributes.{Place, after, slashed, closing, before, goes}
@@ -335,4 +336,4 @@ pub html-is-seen : HtmlIsSeen
 html-is-seen g t stack events line rest previous q mark local here in_line ends =
     let (edits, resolvers, start, end, connect, finds) = html-looks g t stack events line rest q here in_line ends previous mark local in
     let r = scan flow g t stack events 2 (line ++ rest) previous q mark local HtmlFlowOpen in
-    (record { edits = edits; resolvers = resolvers; start = start; end = end; connect = connect }, subst (λ kind. FindsHtml kind r.local r.answer) (sym (begun-is (bytes_of line))) finds)
+    (record { edits = edits; resolvers = resolvers; start = start; end = end; connect = connect }, subst (λ kind. FindsHtml kind r.local r.answer) (sym (number-is (60 ∷ bytes_of line) ∙ begun-is (bytes_of line))) finds)

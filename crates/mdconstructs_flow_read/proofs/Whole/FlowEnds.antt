@@ -1,5 +1,5 @@
 -- What a reading of leaf blocks ends in, and what is left where all is resolved.
-use Rattle.std.proofs.Common.{◌≡◌, [], true, false, Some, sym, ap, ◌∙◌, subst}
+use Rattle.std.proofs.Common.{◌≡◌, [], Bool, true, Some, sym, ap, ◌∙◌, subst}
 use Rattle.markdown_base.specs.declared.state.State.TheVariants.{Next}
 use Rattle.markdown_base.specs.declared.state.TheConstants.Name.{FlowStart}
 use Rattle.markdown_edits.specs.Edited.{edited}
@@ -19,9 +19,9 @@ use Rattle.mdconstructs_flow_read.specs.FlowEnds.{FlowEnds}
 use Rattle.mdconstructs_flow_read.specs.FlowRead.{FlowIsRead, IsToldAs}
 use Rattle.mdconstructs_flow_read.specs.LeafEvents.{flow_events}
 
-module _ (g : Given) (t : Text) (r : Reading Unit Unit) (ends : EndsIn g (table_step flow g) t 0 (start_configuration false) [] (Next FlowStart) r) (told : IsToldAs g t (flow_told g.options.constructs g.bytes t.seats)) where
+module _ (g : Given) (t : Text) (flag : Bool) (r : Reading Unit Unit) (ends : EndsIn g (table_step flow g) t 0 (start_configuration flag) [] (Next FlowStart) r) (told : IsToldAs g t flag (flow_told g.options.constructs g.bytes t.seats)) where
   same-reading : told.result ≡ r
-  same-reading = one-end g (table_step flow g) t 0 (start_configuration false) [] (Next FlowStart) told.result r told.ends ends
+  same-reading = one-end g (table_step flow g) t 0 (start_configuration flag) [] (Next FlowStart) told.result r told.ends ends
 
   resolved-so : (final : Configuration Unit Unit) (sub : Subresult) → IsResolved (flow_rules g).resolver g t true told.result.configuration final sub → final.events ≡ flow_events g.options.constructs g.bytes t.seats
   resolved-so final sub resolved =
@@ -32,10 +32,10 @@ module _ (g : Given) (t : Text) (r : Reading Unit Unit) (ends : EndsIn g (table_
       ∙ edits-make-blocks.events g.options.constructs g.bytes t.seats
 
 pub flow-ends : FlowIsRead → FlowEnds
-flow-ends read g t room r ends =
-    let told = read g t room in
-    let same = same-reading g t r ends told in
+flow-ends read g t flag room r ends =
+    let told = read g t flag room in
+    let same = same-reading g t flag r ends told in
     record {
       well = ap (λ (q : Reading Unit Unit). q.answer) (sym same) ∙ told.well;
-      events_are = λ final sub resolved. resolved-so g t r ends told final sub (subst (λ (q : Reading Unit Unit). IsResolved (flow_rules g).resolver g t true q.configuration final sub) (sym same) resolved);
+      events_are = λ final sub resolved. resolved-so g t flag r ends told final sub (subst (λ (q : Reading Unit Unit). IsResolved (flow_rules g).resolver g t true q.configuration final sub) (sym same) resolved);
     }

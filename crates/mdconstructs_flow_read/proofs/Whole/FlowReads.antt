@@ -1,6 +1,7 @@
 -- A text is read line by line and block by block, as its leaf blocks are told.
-use Rattle.std.proofs.Common.{◌≡◌, ℕ, zero, suc, ◌+◌, ◌^◌, ◌-◌, ◌<◌, ◌≤◌, ◌&&◌, List, [], ◌∷◌, ◌++◌, true, false, cond, inl, inr, length, map, take, drop, refl, sym, ap, ◌∙◌, subst, arith}
+use Rattle.std.proofs.Common.{◌≡◌, ℕ, zero, suc, ◌+◌, ◌^◌, ◌-◌, ◌<◌, ◌≤◌, ◌&&◌, List, [], ◌∷◌, ◌++◌, Bool, cond, inl, inr, length, map, drop, refl, sym, ap, ◌∙◌, subst, arith}
 use Rattle.std.proofs.lemmas.List.{append_assoc, append-nil, length-drop}
+use Rattle.std.specs.Prelude.{None, Option, Some}
 use Rattle.std.specs.List.{AllByRecursion}
 use Rattle.markdown_base.specs.declared.configuration.Constructs.{Constructs}
 use Rattle.markdown_base.specs.declared.event.Name.TheVariants as name
@@ -17,14 +18,17 @@ use Rattle.mdconstructs_machines.specs.LineEvents.{all_of, ending_of, line_text,
 use Rattle.mdconstructs_machines.proofs.BlockReads.Accounts.{lines-are-all}
 use Rattle.mdconstructs_flow.specs.FlowTable.{flow}
 use Rattle.mdconstructs_flow_read.specs.BlocksRead.{AreLines, IsAtLines}
+use Rattle.mdconstructs_flow_read.specs.LeafBlocks.{Line, LeafBlock, block_of_kind, blocks_in, bytes_of, text_of}
+use Rattle.mdconstructs_flow_read.specs.LineKinds.{LineKind, blank, indented, heading, fence, html, thematic_break, text, is_thematic_break, line_kind, underline_rank, unindented}
+use Rattle.mdconstructs_flow_read.specs.SeenKinds.{SeenKind, as_seen, seen_kind, underline}
+use Rattle.mdconstructs_flow_read.proofs.Lines.TestedKinds.{underline-kind}
+use Rattle.mdconstructs_flow_read.proofs.Marks.Cuts.{cut}
 use Rattle.mdconstructs_flow_read.specs.BlocksTold.{block_told, blocks_told}
 use Rattle.mdconstructs_flow_read.specs.FlowRead.{FlowIsRead}
-use Rattle.mdconstructs_flow_read.specs.LeafBlocks.{Line, LeafBlock, break_line, paragraph, setext_heading, block_of_kind, blocks_in, bytes_of, content_at, ends_paragraph, lines_until, text_of, underlined}
 use Rattle.mdconstructs_flow_read.specs.LeafEvents.{leaf_marks, white}
-use Rattle.mdconstructs_flow_read.specs.LineKinds.{LineKind, blank, indented, heading, fence, html, underline, thematic_break, text, is_thematic_break, line_kind, unindented}
 use Rattle.mdconstructs_flow_read.specs.LooksFind.{Finds}
 use Rattle.mdconstructs_flow_read.specs.ToldMarks.{ToldMark, as_it_is}
-use Rattle.mdconstructs_flow_read.proofs.Whole.LineBlocks.{AllAreRead, BlockTold, blank-line-told, break-told, content-told, fenced-told, heading-told, html-some, html-told, indented-told, underline-told}
+use Rattle.mdconstructs_flow_read.proofs.Whole.LineBlocks.{AllAreRead, BlockTold, blank-line-told, break-told, content-told, fenced-told, heading-told, html-told, indented-told, underline-told}
 use Rattle.mdconstructs_flow_read.proofs.Whole.LineBreaks.{blank-told}
 use Rattle.mdconstructs_flow_read.proofs.Whole.LineStarts.{IsSeen, at_byte, ends-told, line-seen, still-at-lines, told-fed}
 use Rattle.mdconstructs_flow_read.proofs.Lines.Lines.{cut-line, lines-dropped, lines-in-are}
@@ -32,43 +36,7 @@ use Rattle.mdconstructs_flow_read.proofs.Whole.Told.{IsTold, ToldTo, then-told, 
 use Rattle.mdconstructs_flow_read.proofs.Marks.MarkLists.{edits-within, told-length}
 use Rattle.mdconstructs_flow_read.proofs.Lines.KindsOfLines.{says}
 
--- a block has a line at least
-abbrev HasLine : LeafBlock × ℕ → Type 0
-HasLine found = 1 ≤ found.1
-
-content-some : (on : Constructs) (lines behind : List Line) → 1 ≤ length lines → HasLine (underlined on lines behind)
-content-some on lines [] some = some
-content-some on lines (next ∷ behind) some = by-kind (line_kind on (text_of next))
-  where
-    by-kind : (kind : LineKind) → HasLine (elim kind [ underline mark ↦ (setext_heading lines next, suc (length lines)) | _ ↦ (paragraph lines, length lines) ])
-    by-kind blank = some
-    by-kind indented = some
-    by-kind heading = some
-    by-kind (fence f) = some
-    by-kind (html kind) = some
-    by-kind (underline mark) = omega arith
-    by-kind thematic_break = some
-    by-kind text = some
-
-content-lines : (on : Constructs) (line : Line) (more : List Line) → HasLine (content_at on (line ∷ more))
-content-lines on line more =
-    let n = lines_until (λ t. ends_paragraph (line_kind on t)) more in
-    content-some on (line ∷ take n more) (drop n more) (omega arith)
-
-some-lines : (on : Constructs) (line : Line) (more : List Line) (kind : LineKind) → line_kind on (text_of line) ≡ kind → 1 ≤ (block_of_kind on kind line more).1
-some-lines on line more blank is = omega arith
-some-lines on line more indented is = omega arith
-some-lines on line more heading is = omega arith
-some-lines on line more (fence f) is = omega arith
-some-lines on line more (html kind) is = html-some line more kind (says on (text_of line) is).0
-some-lines on line more (underline mark) is = elim (on.thematic_break && is_thematic_break (unindented (text_of line))) as (λ b. 1 ≤ (cond b (break_line line, 1) (content_at on (line ∷ more))).1) [
-  | true ↦ omega arith
-  | false ↦ content-lines on line more
-]
-some-lines on line more thematic_break is = omega arith
-some-lines on line more text is = content-lines on line more
-
-module _ (all : AllAreRead) (g : Given) (t : Text) (room : length t.seats < 2 ^ 64 - 1) where
+module _ (all : AllAreRead) (g : Given) (t : Text) (flag : Bool) (room : length t.seats < 2 ^ 64 - 1) where
   abbrev on : Constructs
   on = g.options.constructs
 
@@ -97,7 +65,7 @@ module _ (all : AllAreRead) (g : Given) (t : Text) (room : length t.seats < 2 ^ 
       after-look : (found : LeafBlock × ℕ) → seen.answer ≡ Ok → BlockTold all g t there line more here (Retry FlowBlankLineAfter) found → Begins found
       after-look found well told = then-told g t k there (Next FlowStart) (Retry FlowBlankLineAfter) [] (block_told g.bytes found.0) (drop found.1 (line ∷ more)) (seen.well well) told
 
-      by-kind : (kind : LineKind) → line_kind on (text_of line) ≡ kind → Finds kind (unindented (text_of line)) seen.local seen.answer → Begins (block_of_kind on kind line more)
+      by-kind : (kind : LineKind) → seen_kind on (text_of line) ≡ as_seen kind → Finds (as_seen kind) (unindented (text_of line)) seen.local seen.answer → Begins (block_of_kind on kind line more)
       by-kind blank is (well, found) =
           after-look (block_of_kind on blank line more) well (blank-line-told all g t there line more here some (record { here = here; is_kind = is; found = (refl, found) }))
       by-kind indented is (well, found) =
@@ -109,15 +77,23 @@ module _ (all : AllAreRead) (g : Given) (t : Text) (room : length t.seats < 2 ^ 
       by-kind (html kind) is (well, found, mark) =
           after-look (block_of_kind on (html kind) line more) well
           (html-told all g t there line more here kind (says on (text_of line) is).0 (record { here = here; is_kind = is; found = (refl, found, mark) }))
-      by-kind (underline mark) is (well, found, marks) =
-          after-look (block_of_kind on (underline mark) line more) well (underline-told all g t there line more here some mark is (refl, found, marks) edits-there)
       by-kind thematic_break is (well, found) =
           after-look (block_of_kind on thematic_break line more) well (break-told all g t there line more here (inl (record { here = here; is_kind = is; found = (refl, found) })))
       by-kind text is badly =
           then-told g t k there (Next FlowStart) (Retry FlowBeforeContent) [] _ _ (seen.badly badly) (content-told all g t there line more here some edits-there)
 
+      -- by whether the line may be an underline
+      by-rank : (rank : Option ℕ) → underline_rank on (text_of line) ≡ rank → Finds (elim rank [ None ↦ as_seen (line_kind on (text_of line)) | Some rank ↦ underline ]) (unindented (text_of line)) seen.local seen.answer
+          → Begins (block_of_kind on (line_kind on (text_of line)) line more)
+      by-rank None is finds = by-kind (line_kind on (text_of line)) (ap (λ rank. let kind : SeenKind = elim rank [ None ↦ as_seen (line_kind on (text_of line)) | Some rank ↦ underline ] in kind) is) finds
+      by-rank (Some rank) is (well, found, marks) =
+          let kind : LineKind = cond (on.thematic_break && is_thematic_break (unindented (text_of line))) thematic_break text in
+          let under : seen_kind on (text_of line) ≡ underline = ap (λ rank. let kind : SeenKind = elim rank [ None ↦ as_seen (line_kind on (text_of line)) | Some rank ↦ underline ] in kind) is in
+          subst (λ kind. Begins (block_of_kind on kind line more)) (sym (underline-kind on (text_of line) rank is))
+          (after-look (block_of_kind on kind line more) well (underline-told all g t there line more here some under (refl, found, marks) edits-there))
+
       text-begins : Begins (block_of_kind on (line_kind on (text_of line)) line more)
-      text-begins = by-kind (line_kind on (text_of line)) refl seen.finds
+      text-begins = by-rank (underline_rank on (text_of line)) refl seen.finds
 
     -- a blank line that has no white space
     blank-begins : line_text line ≡ [] → Begins (block_of_kind on (line_kind on (text_of line)) line more)
@@ -144,11 +120,11 @@ module _ (all : AllAreRead) (g : Given) (t : Text) (room : length t.seats < 2 ^ 
 
     -- has a line at least
     block-some : 1 ≤ (block_of_kind on (line_kind on (text_of line)) line more).1
-    block-some = some-lines on line more (line_kind on (text_of line)) refl
+    block-some = (cut on line more).some
 
   -- what was told since the start
   abbrev start : Configuration Unit Unit
-  start = start_configuration false
+  start = start_configuration flag
 
   edits-so-far : (k : Configuration Unit Unit) (told : List ToldMark) → ToldTo g t start (Next FlowStart) told k (Next FlowStart) → AllByRecursion (λ (e : Edit). e.index < length k.events) k.local.map
   edits-so-far k told h =
@@ -187,12 +163,12 @@ module _ (all : AllAreRead) (g : Given) (t : Text) (room : length t.seats < 2 ^ 
 
 -- So is any text
 pub flow-is-read : AllAreRead → FlowIsRead
-flow-is-read all g t room =
+flow-is-read all g t flag room =
     let lines = lines_in t.seats in
-    let start = start_configuration {R = Unit {0}} {D = Unit {0}} false in
+    let start = start_configuration {R = Unit {0}} {D = Unit {0}} flag in
     let nothing : ToldTo g t start (Next FlowStart) [] start (Next FlowStart) =
     record { calls = 0; events_are = refl; edits = refl; resolvers = refl; leads = λ cs calls z h. let none : calls + 0 ≡ calls = omega arith in subst (λ n. EndsIn g (table_step flow g) t n start cs (Next FlowStart) z) none h } in
-    let (after, told) = reads-on all g t room (length lines) lines (omega arith) (lines-in-are t.seats) start (sym (lines-are-all t.seats)) [] nothing in
+    let (after, told) = reads-on all g t flag room (length lines) lines (omega arith) (lines-in-are t.seats) start (sym (lines-are-all t.seats)) [] nothing in
     record {
       result = record { configuration = after; answer = Ok; calls = 0 + told.calls + 0 };
       ends = told.leads [] 0 (record { configuration = after; answer = Ok; calls = 0 + told.calls + 0 }) (record { bound = zero; is = refl });

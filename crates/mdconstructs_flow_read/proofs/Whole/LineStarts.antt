@@ -27,7 +27,8 @@ use Rattle.mdconstructs_flow.specs.FlowTable.{flow}
 use Rattle.mdconstructs_flow.specs.FlowWrites.{indent_becomes}
 use Rattle.mdconstructs_flow_read.specs.BlocksRead.{AreLines, IsAtLines, KeepsEdits}
 use Rattle.mdconstructs_flow_read.specs.LeafBlocks.{Line, bytes_of, text_of}
-use Rattle.mdconstructs_flow_read.specs.LineKinds.{line_kind, unindented}
+use Rattle.mdconstructs_flow_read.specs.LineKinds.{unindented}
+use Rattle.mdconstructs_flow_read.specs.SeenKinds.{seen_kind}
 use Rattle.mdconstructs_flow_read.specs.LooksFind.{Finds, IsInLine, LineEnds, LinesAreSeen}
 use Rattle.mdconstructs_flow_read.proofs.Lines.Checks.{checks-nok, checks-ok, leads-on, looks}
 use Rattle.mdconstructs_flow_read.proofs.Whole.LineBreaks.{start-ends}
@@ -82,7 +83,7 @@ module _ (line : Line) (more : List Line) (are : AreLines (line ∷ more)) (s : 
     pub local : Local Unit Unit
     pub answer : State
     pub keeps : KeepsEdits k.local local
-    pub finds : Finds (line_kind g.options.constructs (text_of line)) (unindented (text_of line)) local answer
+    pub finds : Finds (seen_kind g.options.constructs (text_of line)) (unindented (text_of line)) local answer
     pub well : answer ≡ Ok → ToldTo g t k (Next FlowStart) [] (with_local (at_byte k) local) (Retry FlowBlankLineAfter)
     pub badly : answer ≡ Nok → ToldTo g t k (Next FlowStart) [] (with_local (at_byte k) local) (Retry FlowBeforeContent)
 
@@ -109,7 +110,7 @@ module _ (line : Line) (more : List Line) (are : AreLines (line ∷ more)) (s : 
           local = r.local;
           answer = r.answer;
           keeps = keeps;
-          finds = subst (λ l. Finds (line_kind g.options.constructs (bytes_of l)) (unindented (bytes_of l)) r.local r.answer) (sym text_is) finds;
+          finds = subst (λ l. Finds (seen_kind g.options.constructs (bytes_of l)) (unindented (bytes_of l)) r.local r.answer) (sym text_is) finds;
           well = λ e.
               told-none g t k (with_local k0 r.local) (Next FlowStart) (Retry FlowBlankLineAfter) _ refl keeps
               (leads-on g t fed_there.calls _ k k0 (with_local k0 r.local) (Next FlowStart) (Retry FlowStart) (Retry FlowBlankLineAfter) fed_there.leads

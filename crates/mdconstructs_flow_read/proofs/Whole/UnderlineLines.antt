@@ -18,14 +18,15 @@ use Rattle.mdconstructs_machines.specs.Tables.{counts}
 use Rattle.mdconstructs_flow.specs.Flow.{blank_begins_line, flow_blank_line_after, mark_begins_line}
 use Rattle.mdconstructs_flow.specs.FlowBytes.{FlowByte, blank, dash, equals, flow_byte, word_byte, line_feed}
 use Rattle.mdconstructs_flow.specs.FlowTable.{flow}
-use Rattle.mdconstructs_flow_read.specs.LineKinds.{underline, begins_with, line_kind, unindented}
+use Rattle.mdconstructs_flow_read.specs.LineKinds.{begins_with, unindented}
+use Rattle.mdconstructs_flow_read.specs.SeenKinds.{underline, seen_kind}
 use Rattle.mdconstructs_flow_read.proofs.Lines.Checks.{called-row, class-here}
 use Rattle.mdconstructs_flow_read.proofs.Whole.Told.{ToldTo, told-none}
 use Rattle.mdconstructs_flow_read.proofs.Lines.KindsOfLines.{says}
 
 -- the class of the first byte of such a line
-underline-class : (on : Constructs) (b : ℕ) (bs : List ℕ) (mark : ℕ) → (b == 10) ≡ false → line_kind on (b ∷ bs) ≡ underline mark → (flow_byte b ≡ blank) ⊎ ((flow_byte b ≡ equals) ⊎ (flow_byte b ≡ dash))
-underline-class on b bs mark other is =
+underline-class : (on : Constructs) (b : ℕ) (bs : List ℕ) → (b == 10) ≡ false → seen_kind on (b ∷ bs) ≡ underline → (flow_byte b ≡ blank) ⊎ ((flow_byte b ≡ equals) ⊎ (flow_byte b ≡ dash))
+underline-class on b bs other is =
     elim (is_white b) as (λ w. is_white b ≡ w → (flow_byte b ≡ blank) ⊎ ((flow_byte b ≡ equals) ⊎ (flow_byte b ≡ dash))) [
       | true ↦ λ white. inl (ap (λ f. cond f line_feed (cond (is_white b) blank (word_byte b))) other ∙ ap (λ w. cond w blank (word_byte b)) white)
       | false ↦ λ plain.
@@ -52,9 +53,9 @@ module _ (g : Given) (t : Text) (k : Configuration Unit Unit) (s : Seat) (ss : L
       told-none g t k after (Retry FlowBlankLineAfter) (Retry FlowBeforeContent) 1 refl (record { edits = refl; resolvers = refl })
       (λ cs calls z h. (goes-called g (table_step flow g) t k FlowBlankLineAfter after (Retry FlowBeforeContent) (step ∙ ap (λ r. step_of r (sight g t k) after) is)).leads cs calls z h)
 
-  pub underline-goes : (mark : ℕ) → (s.byte == 10) ≡ false → (bs : List ℕ) → line_kind g.options.constructs (s.byte ∷ bs) ≡ underline mark
+  pub underline-goes : (s.byte == 10) ≡ false → (bs : List ℕ) → seen_kind g.options.constructs (s.byte ∷ bs) ≡ underline
       → ToldTo g t k (Retry FlowBlankLineAfter) [] after (Retry FlowBeforeContent)
-  underline-goes mark other bs is = elim (underline-class g.options.constructs s.byte bs mark other is) [
+  underline-goes other bs is = elim (underline-class g.options.constructs s.byte bs other is) [
     | inl white ↦ goes-by blank white blank_begins_line (λ previous. refl) (rw (kind, no_break) refl)
     | inr marks ↦ elim marks [
       | inl e61 ↦ goes-by equals e61 (row [] (Retry FlowBeforeContent)) (λ previous. refl) refl
