@@ -14,7 +14,7 @@ import sys
 TOP = os.path.dirname(os.path.dirname(os.path.realpath(__file__)))
 PARTS = {
     "markdown": ["markdown_base", "markdown_edits", "markdown_tokenizer", "markdown_children"],
-    "mdconstructs": ["mdconstructs_tables", "mdconstructs_machines", "mdconstructs_text", "mdconstructs_attention", "mdconstructs_references", "mdconstructs_inline_constructs", "mdconstructs_inlines", "mdconstructs_flow", "mdconstructs_flow_read", "mdconstructs_documents"],
+    "mdconstructs": ["mdconstructs_tables", "mdconstructs_machines", "mdconstructs_text", "mdconstructs_attention", "mdconstructs_references", "mdconstructs_inline_constructs", "mdconstructs_inlines", "mdconstructs_flow", "mdconstructs_flow_read", "mdconstructs_documents", "mdconstructs_rests"],
 }
 NAMED = {
     ("markdown_children", "specs", "LawStatements"): "ChildrenLawStatements",

@@ -81,3 +81,15 @@ pub use Rattle.mdconstructs_flow_read.proofs.Marks
 pub use Rattle.mdconstructs_flow_read.proofs.Paragraphs as LeafParagraphs
 pub use Rattle.mdconstructs_flow_read.proofs.Tags
 pub use Rattle.mdconstructs_flow_read.proofs.Whole
+pub use Rattle.mdconstructs_rests.proofs.Both
+pub use Rattle.mdconstructs_rests.proofs.Events
+pub use Rattle.mdconstructs_rests.proofs.Fuel
+pub use Rattle.mdconstructs_rests.proofs.Links
+pub use Rattle.mdconstructs_rests.proofs.Longer
+pub use Rattle.mdconstructs_rests.proofs.MovedBlocks
+pub use Rattle.mdconstructs_rests.proofs.MovedMarks
+pub use Rattle.mdconstructs_rests.proofs.ReadTexts
+pub use Rattle.mdconstructs_rests.proofs.Rests
+pub use Rattle.mdconstructs_rests.proofs.Sections
+pub use Rattle.mdconstructs_rests.proofs.Shown
+pub use Rattle.mdconstructs_rests.proofs.Virtual

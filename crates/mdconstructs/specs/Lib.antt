@@ -143,3 +143,7 @@ pub use Rattle.mdconstructs_documents.specs.FlowTextLaws
 pub use Rattle.mdconstructs_documents.specs.FlowTexts
 pub use Rattle.mdconstructs_documents.specs.Runs
 pub use Rattle.mdconstructs_documents.specs.Tiles
+pub use Rattle.mdconstructs_rests.specs.Moved
+pub use Rattle.mdconstructs_rests.specs.ReadTexts
+pub use Rattle.mdconstructs_rests.specs.Rests
+pub use Rattle.mdconstructs_rests.specs.Sections

@@ -32,6 +32,11 @@ pub use mdconstructs_machines::laws::{
 pub use mdconstructs_references::laws::{
     names_are_found_by_their_beginnings, names_are_in_order, names_are_short_and_plain,
 };
+pub use mdconstructs_rests::laws::{
+    blocks_move, blocks_of_both, events_of_both, first_line_tells, lines_are_counted,
+    lines_of_both, read_events_of_both, rests_cut_blocks, rests_forget, rests_of_both,
+    sections_give_events, virtual_of_both, wide_rests_cut_blocks,
+};
 pub use mdconstructs_tables::laws::{
     Calm, Knowledge, Planned, calm_rows_keep_what_is_known, fitting_tables_are_lawful,
     knowing_tables_are_lawful, knowing_tables_look_no_further, numbers_are_enough,

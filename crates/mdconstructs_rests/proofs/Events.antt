@@ -1,0 +1,149 @@
+-- The events of leaf blocks of a document are those of its parts.
+use Rattle.std.proofs.Common.{◌≡◌, ℕ, ◌+◌, ◌≤◌, List, [], ◌∷◌, ◌++◌, Bool, true, false, cond, length, refl, sym, ap, ◌∙◌, subst, arith}
+use Rattle.std.specs.Prelude.{map}
+use Rattle.std.specs.List.{AllByRecursion, flat_map}
+use Rattle.std.proofs.lemmas.Grind.{flat_map-append}
+use Rattle.markdown_base.specs.declared.configuration.Constructs.{Constructs}
+use Rattle.mdconstructs_flow_read.specs.LeafBlocks.{Line, LeafBlock, blank_line, break_line, atx_heading, paragraph, setext_heading, indented_code, fenced_code, html_block, leaf_blocks}
+use Rattle.mdconstructs_flow_read.specs.LeafEvents.{leaf_block_marks, leaf_blocks_marks, linked_from}
+use Rattle.mdconstructs_machines.specs.LineEvents.{is_line_ending, joined, lines_in}
+use Rattle.mdconstructs_rests.specs.Moved.{EventsOfBoth, begins_line, first_at_rest, line_endings, moved_block, moved_event, moved_link, moved_point}
+use Rattle.mdconstructs_flow_read.specs.BlockLines.{block_lines}
+use Rattle.markdown_base.specs.Virtual.{Seat, virtual}
+use Rattle.mdconstructs_rests.proofs.Both.{blocks-of-both, left-true}
+use Rattle.mdconstructs_flow_read.proofs.Marks.Cuts.{leaf-blocks-lines}
+use Rattle.mdconstructs_rests.proofs.Links.{HasSeat, blocks-link-back, linked-both, linked-length, linked-moved}
+use Rattle.mdconstructs_rests.proofs.MovedMarks.{blocks-marks-moved, mb}
+use Rattle.mdconstructs_rests.proofs.Shown.{shown-behind, shown-front, within}
+
+pub map-same : {X : Type 0} (f : X → X) → ((x : X) → f x ≡ x) → (xs : List X) → map f xs ≡ xs
+map-same f h [] = refl
+map-same f h (x ∷ xs) = let e = h x in let r = map-same f h xs in (λ i. e i ∷ r i)
+
+-- ---- what holds of each line, or each virtual byte, of a document
+
+module _ (P : Line → Type 0) where
+  front : (xs ys : List Line) → AllByRecursion P (xs ++ ys) → AllByRecursion P xs
+  front [] ys h = tt
+  front (x ∷ xs) ys h = (h.0, front xs ys h.1)
+
+  back : (xs ys : List Line) → AllByRecursion P (xs ++ ys) → AllByRecursion P ys
+  back [] ys h = h
+  back (x ∷ xs) ys h = back xs ys h.1
+
+  of-blocks : (blocks : List LeafBlock) → AllByRecursion P (flat_map block_lines blocks) → AllByRecursion (λ b. AllByRecursion P (block_lines b)) blocks
+  of-blocks [] h = tt
+  of-blocks (b ∷ blocks) h = (front (block_lines b) (flat_map block_lines blocks) h, of-blocks blocks (back (block_lines b) (flat_map block_lines blocks) h))
+
+  pub in-blocks : (on : Constructs) (lines : List Line) → AllByRecursion P lines → AllByRecursion (λ b. AllByRecursion P (block_lines b)) (leaf_blocks on lines)
+  in-blocks on lines h = of-blocks (leaf_blocks on lines) (subst (AllByRecursion P) (sym (leaf-blocks-lines on lines)) h)
+
+module _ (Q : Seat → Type 0) where
+  abbrev OfSeats : List Seat → Type 0
+  OfSeats seats = AllByRecursion Q seats
+
+  in-joined : (s : Seat) (lines : List Line) → Q s → AllByRecursion OfSeats lines → AllByRecursion OfSeats (joined s lines)
+  in-joined s [] h k = ((h, tt), tt)
+  in-joined s (line ∷ lines) h k = ((h, k.0), k.1)
+
+  pub in-lines : (seats : List Seat) → AllByRecursion Q seats → AllByRecursion OfSeats (lines_in seats)
+  in-lines [] h = tt
+  in-lines (s ∷ ss) h = by (is_line_ending s) (in-lines ss h.1)
+    where
+      by : (c : Bool) → AllByRecursion OfSeats (lines_in ss) → AllByRecursion OfSeats (cond c ((s ∷ []) ∷ lines_in ss) (joined s (lines_in ss)))
+      by true k = ((h.0, tt), k)
+      by false k = in-joined s (lines_in ss) h.0 k
+
+full-joined : (s : Seat) (lines : List Line) → AllByRecursion HasSeat lines → AllByRecursion HasSeat (joined s lines)
+full-joined s [] k = (tt, tt)
+full-joined s (line ∷ lines) k = (tt, k.1)
+
+pub full-lines : (seats : List Seat) → AllByRecursion HasSeat (lines_in seats)
+full-lines [] = tt
+full-lines (s ∷ ss) = by (is_line_ending s) (full-lines ss)
+  where
+    by : (c : Bool) → AllByRecursion HasSeat (lines_in ss) → AllByRecursion HasSeat (cond c ((s ∷ []) ∷ lines_in ss) (joined s (lines_in ss)))
+    by true k = (tt, k)
+    by false k = full-joined s (lines_in ss) k
+
+-- no place is unknown
+pub all-known : (seats : List Seat) → AllByRecursion (λ s. Unit {0} × Unit {0}) seats
+all-known [] = tt
+all-known (s ∷ ss) = ((tt, tt), all-known ss)
+
+-- ---- marks of both
+
+pub same-line : (line : Line) → map (λ (s : Seat). s) line ≡ line
+same-line line = map-same (λ s. s) (λ s. refl) line
+
+same-lines : (lines : List Line) → map (λ (line : Line). map (λ (s : Seat). s) line) lines ≡ lines
+same-lines lines = map-same (λ line. map (λ s. s) line) same-line lines
+
+pub map-ext : {X Y : Type 0} (f g : X → Y) → ((x : X) → f x ≡ g x) → (xs : List X) → map f xs ≡ map g xs
+map-ext f g h [] = refl
+map-ext f g h (x ∷ xs) = let e = h x in let r = map-ext f g h xs in (λ i. e i ∷ r i)
+
+module _ (a b : List ℕ) (h : begins_line b a ≡ true) where
+  -- the first part, as it is
+  abbrev pub stays : LeafBlock → LeafBlock
+  stays block = mb a (a ++ b) (λ p. p) (λ l. l) refl (λ p. p.index ≤ length a) (λ p l. shown-front a b h p l) block
+
+  pub block-stays : (block : LeafBlock) → stays block ≡ block
+  block-stays (blank_line line) = ap blank_line (same-line line)
+  block-stays (break_line line) = ap break_line (same-line line)
+  block-stays (atx_heading line) = ap atx_heading (same-line line)
+  block-stays (paragraph lines) = ap paragraph (same-lines lines)
+  block-stays (setext_heading rank lines below) = let l = same-lines lines in let u = same-line below in (λ i. setext_heading rank (l i) (u i))
+  block-stays (indented_code lines) = ap indented_code (same-lines lines)
+  block-stays (fenced_code f is_closed lines) = ap (fenced_code f is_closed) (same-lines lines)
+  block-stays (html_block kind is_closed lines) = ap (html_block kind is_closed) (same-lines lines)
+
+  -- the second part, moved
+  module _ (k : ℕ) where
+    abbrev pub goes : LeafBlock → LeafBlock
+    goes block = mb b (a ++ b) (moved_point (line_endings a) (length a)) (moved_link k) refl (λ p. Unit {0}) (λ p l. shown-behind a b h (line_endings a) p) block
+
+    pub block-goes : (block : LeafBlock) → moved_block (line_endings a) (length a) block ≡ goes block
+    block-goes (blank_line line) = refl
+    block-goes (break_line line) = refl
+    block-goes (atx_heading line) = refl
+    block-goes (paragraph lines) = refl
+    block-goes (setext_heading rank lines below) = refl
+    block-goes (indented_code lines) = refl
+    block-goes (fenced_code f is_closed lines) = refl
+    block-goes (html_block kind is_closed lines) = refl
+
+  module _ (on : Constructs) (t : ℕ) where
+    front-marks : leaf_blocks_marks (a ++ b) (leaf_blocks on (lines_in (virtual t a))) ≡ leaf_blocks_marks a (leaf_blocks on (lines_in (virtual t a)))
+    front-marks =
+        let blocks = leaf_blocks on (lines_in (virtual t a)) in
+        let known = in-blocks _ on (lines_in (virtual t a)) (in-lines _ (virtual t a) (within t (length a) a 1 1 0 (omega arith))) in
+        sym (ap (leaf_blocks_marks (a ++ b)) (map-same stays block-stays blocks))
+        ∙ blocks-marks-moved a (a ++ b) (λ p. p) (λ l. l) refl (λ p. p.index ≤ length a) (λ p l. shown-front a b h p l) blocks known
+        ∙ map-same (λ m. m) (λ m. refl) (leaf_blocks_marks a blocks)
+
+    behind-marks : (k : ℕ) → leaf_blocks_marks (a ++ b) (map (moved_block (line_endings a) (length a)) (leaf_blocks on (lines_in (virtual t b))))
+        ≡ map (λ m. (moved_event (line_endings a) (length a) k m.0, m.1)) (leaf_blocks_marks b (leaf_blocks on (lines_in (virtual t b))))
+    behind-marks k =
+        let blocks = leaf_blocks on (lines_in (virtual t b)) in
+        let known = in-blocks _ on (lines_in (virtual t b)) (in-lines _ (virtual t b) (all-known (virtual t b))) in
+        ap (leaf_blocks_marks (a ++ b)) (map-ext (moved_block (line_endings a) (length a)) (goes k) (block-goes k) blocks)
+        ∙ blocks-marks-moved b (a ++ b) (moved_point (line_endings a) (length a)) (moved_link k) refl (λ p. Unit {0}) (λ p l. shown-behind a b h (line_endings a) p) blocks known
+
+pub events-of-both : EventsOfBoth
+events-of-both on t a b h =
+    let l = line_endings a in
+    let n = length a in
+    let torn : begins_line b a ≡ true = left-true (begins_line b a) (first_at_rest on (lines_in (virtual t a)) (lines_in (virtual t b))) h in
+    let first_blocks = leaf_blocks on (lines_in (virtual t a)) in
+    let blocks = leaf_blocks on (lines_in (virtual t b)) in
+    let first = leaf_blocks_marks a first_blocks in
+    let marks = leaf_blocks_marks b blocks in
+    let k = length (linked_from 0 first) in
+    let same : 0 + length first ≡ 0 + k = omega (arith, linked-length 0 first) in
+    let back = (blocks-link-back b blocks (in-blocks HasSeat on (lines_in (virtual t b)) (full-lines (virtual t b)))).links in
+    ap (λ bs. linked_from 0 (leaf_blocks_marks (a ++ b) bs)) (blocks-of-both on t a b h)
+    ∙ ap (linked_from 0) (flat_map-append (leaf_block_marks (a ++ b)) first_blocks (map (moved_block l n) blocks))
+    ∙ (let f = front-marks a b torn on t in let g = behind-marks a b torn on t k in (λ i. linked_from 0 (f i ++ g i)))
+    ∙ linked-both 0 first (map (λ m. (moved_event l n k m.0, m.1)) marks)
+    ∙ ap (λ r. linked_from 0 first ++ r) (linked-moved l n k marks 0 (0 + length first) same back)

@@ -1,0 +1,131 @@
+-- A document as sections, each of which is read by itself.
+use Rattle.std.proofs.Common.{◌≡◌, ℕ, suc, ◌≤◌, ◌==◌, ◌&&◌, ◌||◌, List, [], ◌∷◌, ◌++◌, Bool, true, false, cond, not, length, refl, sym, ap, ◌∙◌, arith, leb-true, nat_le}
+use Rattle.std.specs.Prelude.{map}
+use Rattle.std.proofs.lemmas.List.{append-nil}
+use Rattle.markdown_base.specs.declared.configuration.Constructs.{Constructs}
+use Rattle.mdconstructs_flow_read.specs.LeafBlocks.{Line, LeafBlock, blank_line, break_line, atx_heading, paragraph, setext_heading, indented_code, fenced_code, html_block, leaf_blocks}
+use Rattle.mdconstructs_flow_read.specs.LeafEvents.{flow_events}
+use Rattle.mdconstructs_machines.specs.LineEvents.{lines_in}
+use Rattle.mdconstructs_rests.specs.Moved.{begins_at_rest, begins_line, first_at_rest, line_endings, moved_block, moved_event, moved_lines}
+use Rattle.mdconstructs_rests.specs.Rests.{begins_near, is_open, is_open_behind, kind_of_line, last_passes}
+use Rattle.mdconstructs_rests.specs.Sections.{FirstLineTells, RestsOfBoth, SectionsGiveEvents, are_sections, document_of, events_of_sections}
+use Rattle.markdown_base.specs.Virtual.{begins_with_lf, virtual}
+use Rattle.mdconstructs_rests.proofs.Both.{blocks-of-both, left-true, right-true}
+use Rattle.mdconstructs_rests.proofs.Events.{events-of-both}
+use Rattle.mdconstructs_rests.proofs.Rests.{last-append}
+use Rattle.mdconstructs_rests.proofs.Virtual.{lines-are-counted, lines-of-both}
+
+-- ---- where bytes begin a line
+
+-- bytes that end a line have a line
+some-endings : (c : List ℕ) (x : ℕ) (b : List ℕ) → begins_line c (x ∷ b) ≡ true → 1 ≤ line_endings (x ∷ b)
+some-endings c x [] h = by (x == 10) (x == 13) (begins_with_lf c) h
+  where
+    by : (is_lf is_cr lf_comes : Bool) → (is_lf || (is_cr && not lf_comes)) ≡ true → 1 ≤ cond is_lf 1 (cond is_cr 1 0)
+    by true is_cr lf_comes h = omega arith
+    by false true lf_comes h = omega arith
+    by false false lf_comes h = absurd (cc)
+some-endings c x (y ∷ b) h = by (x == 10) (x == 13) (y == 10) (line_endings (y ∷ b)) (some-endings c y b h)
+  where
+    by : (is_lf is_cr lf_comes : Bool) (more : ℕ) → 1 ≤ more → 1 ≤ cond is_lf (suc more) (cond is_cr (cond lf_comes more (suc more)) more)
+    by true is_cr lf_comes more h = omega arith
+    by false true true more h = h
+    by false true false more h = omega arith
+    by false false lf_comes more h = h
+
+some-line : (t : ℕ) (b c : List ℕ) → 1 ≤ length b → begins_line c b ≡ true → 1 ≤ length (lines_in (virtual t b))
+some-line t [] c some h = absurd (omega (arith, some))
+some-line t (x ∷ b) c some h = let count = lines-are-counted t (x ∷ b) c h in let many = some-endings c x b h in omega (arith, count, many)
+
+-- it is told by the first byte
+line-ahead : (a b c : List ℕ) → 1 ≤ length b → begins_line (b ++ c) a ≡ begins_line b a
+line-ahead a [] c some = absurd (omega (arith, some))
+line-ahead [] (x ∷ b) c some = refl
+line-ahead (y ∷ []) (x ∷ b) c some = refl
+line-ahead (y ∷ z ∷ a) (x ∷ b) c some = line-ahead (z ∷ a) (x ∷ b) c some
+
+-- and by the last bytes before
+line-behind : (a b c : List ℕ) → 1 ≤ length b → begins_line c (a ++ b) ≡ begins_line c b
+line-behind [] b c some = refl
+line-behind (x ∷ []) [] c some = absurd (omega (arith, some))
+line-behind (x ∷ []) (y ∷ b) c some = refl
+line-behind (x ∷ z ∷ a) b c some = line-behind (z ∷ a) b c some
+
+-- ---- what comes behind does not matter
+
+first-same : (on : Constructs) (before lines more : List Line) → 1 ≤ length lines → first_at_rest on before (lines ++ more) ≡ first_at_rest on before lines
+first-same on before [] more some = absurd (omega (arith, some))
+first-same on before (line ∷ lines) more some = refl
+
+pub first-line-tells : FirstLineTells
+first-line-tells on t a b c some ends begins =
+    let before = lines_in (virtual t a) in
+    let more = moved_lines (line_endings b) (length b) (lines_in (virtual t c)) in
+    let first = ap (first_at_rest on before) (lines-of-both t b c ends) ∙ first-same on before (lines_in (virtual t b)) more (some-line t b c some ends) in
+    let line = line-ahead a b c some in
+    (λ i. line i && first i)
+
+-- ---- what comes before is forgotten
+
+module _ (on : Constructs) (l n : ℕ) where
+  open-moved : (block : LeafBlock) → is_open on (moved_block l n block) ≡ is_open on block
+  open-moved (blank_line line) = refl
+  open-moved (break_line line) = refl
+  open-moved (atx_heading line) = refl
+  open-moved (paragraph lines) = refl
+  open-moved (setext_heading rank lines below) = refl
+  open-moved (indented_code lines) = refl
+  open-moved (fenced_code f is_closed lines) = refl
+  open-moved (html_block kind is_closed lines) = refl
+
+  last-moved : (blocks : List LeafBlock) → last_passes on (is_open on) (map (moved_block l n) blocks) ≡ last_passes on (is_open on) blocks
+  last-moved [] = refl
+  last-moved (block ∷ []) = open-moved block
+  last-moved (block ∷ next ∷ blocks) = last-moved (next ∷ blocks)
+
+  -- blocks of some lines behind others
+  last-behind : (before : List LeafBlock) (lines : List Line) → 1 ≤ length lines → last_passes on (is_open on) (before ++ map (moved_block l n) (leaf_blocks on lines)) ≡ is_open_behind on lines
+  last-behind before [] some = absurd (omega (arith, some))
+  last-behind before (line ∷ lines) some = last-append on (is_open on) before _ _ ∙ last-moved (leaf_blocks on (line ∷ lines))
+
+first-behind : (on : Constructs) (one two lines : List Line) → is_open_behind on one ≡ is_open_behind on two → first_at_rest on one lines ≡ first_at_rest on two lines
+first-behind on one two [] e = refl
+first-behind on one two (line ∷ lines) e = ap (λ b. begins_near (kind_of_line on line) && not b) e
+
+pub rests-of-both : RestsOfBoth
+rests-of-both on t a b c rest some ends =
+    let same = ap (last_passes on (is_open on)) (blocks-of-both on t a b rest) ∙ last-behind on (line_endings a) (length a) (leaf_blocks on (lines_in (virtual t a))) (lines_in (virtual t b)) (some-line t b c some ends) in
+    let first = first-behind on (lines_in (virtual t (a ++ b))) (lines_in (virtual t b)) (lines_in (virtual t c)) same in
+    let line = line-behind a b c some in
+    (λ i. line i && first i)
+
+-- ---- sections
+
+module _ (on : Constructs) (t : ℕ) where
+  some-document : (s : List ℕ) (more : List (List ℕ)) → are_sections on t (s ∷ more) ≡ true → 1 ≤ length s
+  some-document s [] h = leb-true 1 (length s) h
+  some-document s (next ∷ more) h = leb-true 1 (length s) (left-true (nat_le 1 (length s)) (begins_at_rest on t s next && are_sections on t (next ∷ more)) h)
+
+  -- a section begins at a rest, whatever sections come behind it
+  rest-ahead : (s next : List ℕ) (more : List (List ℕ)) → begins_at_rest on t s next ≡ true → are_sections on t (next ∷ more) ≡ true → begins_at_rest on t s (next ++ document_of more) ≡ true
+  rest-ahead s next [] h sections = ap (begins_at_rest on t s) (append-nil next) ∙ h
+  rest-ahead s next (third ∷ more) h sections =
+      let behind = right-true (nat_le 1 (length next)) (begins_at_rest on t next third && are_sections on t (third ∷ more)) sections in
+      let rest = left-true (begins_at_rest on t next third) (are_sections on t (third ∷ more)) behind in
+      let some = some-document third more (right-true (begins_at_rest on t next third) (are_sections on t (third ∷ more)) behind) in
+      let ends = line-ahead next third (document_of more) some ∙ left-true (begins_line third next) _ rest in
+      first-line-tells on t s next (third ++ document_of more) (some-document next (third ∷ more) sections) ends (left-true (begins_line next s) _ h) ∙ h
+
+  give : (sections : List (List ℕ)) → are_sections on t sections ≡ true → flow_events on (document_of sections) (virtual t (document_of sections)) ≡ events_of_sections on t sections
+  give [] h = refl
+  give (s ∷ []) h = ap (λ d. flow_events on d (virtual t d)) (append-nil s) ∙ sym (append-nil (flow_events on s (virtual t s)))
+  give (s ∷ next ∷ more) h =
+      let behind = right-true (nat_le 1 (length s)) (begins_at_rest on t s next && are_sections on t (next ∷ more)) h in
+      let rest = left-true (begins_at_rest on t s next) (are_sections on t (next ∷ more)) behind in
+      let sections = right-true (begins_at_rest on t s next) (are_sections on t (next ∷ more)) behind in
+      let first = flow_events on s (virtual t s) in
+      events-of-both on t s (next ++ document_of more) (rest-ahead s next more rest sections)
+      ∙ ap (λ es. first ++ map (moved_event (line_endings s) (length s) (length first)) es) (give (next ∷ more) sections)
+
+pub sections-give-events : SectionsGiveEvents
+sections-give-events on t sections h = give on t sections h

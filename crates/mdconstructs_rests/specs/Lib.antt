@@ -1,0 +1,4 @@
+pub mod Moved
+pub mod ReadTexts
+pub mod Rests
+pub mod Sections

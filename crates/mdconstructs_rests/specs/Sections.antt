@@ -1,0 +1,36 @@
+-- A document as sections, each of which is read by itself.
+use Rattle.std.specs.Prelude.{◌≡◌, ℕ, ◌≤◌, ◌&&◌, nat_le, Bool, true, List, [], ◌∷◌, ◌++◌, length, map}
+use Rattle.std.specs.List.{flat_map}
+use Rattle.markdown_base.specs.declared.configuration.Constructs.{Constructs}
+use Rattle.markdown_base.specs.declared.event.Event.{Event}
+use Rattle.mdconstructs_flow_read.specs.LeafEvents.{flow_events}
+use Rattle.mdconstructs_rests.specs.Moved.{begins_at_rest, begins_line, line_endings, moved_event}
+use Rattle.markdown_base.specs.Virtual.{virtual}
+
+-- What comes behind bytes that end a line does not matter for whether they begin at a rest
+abbrev pub FirstLineTells : Type 0
+FirstLineTells = (on : Constructs) (t : ℕ) (a b c : List ℕ) → 1 ≤ length b → begins_line c b ≡ true → begins_line b a ≡ true → begins_at_rest on t a (b ++ c) ≡ begins_at_rest on t a b
+
+-- Behind a rest what comes before it is forgotten: later bytes begin at a rest, or not, whatever it was
+abbrev pub RestsOfBoth : Type 0
+RestsOfBoth = (on : Constructs) (t : ℕ) (a b c : List ℕ) → begins_at_rest on t a b ≡ true → 1 ≤ length b → begins_line c b ≡ true → begins_at_rest on t (a ++ b) c ≡ begins_at_rest on t b c
+
+-- Sections: none is empty, and each begins at a rest behind the one before it, which is looked at alone
+abbrev pub are_sections : Constructs → (t : ℕ) → List (List ℕ) → Bool
+are_sections on t [] = true
+are_sections on t (s ∷ []) = nat_le 1 (length s)
+are_sections on t (s ∷ next ∷ more) = nat_le 1 (length s) && (begins_at_rest on t s next && are_sections on t (next ∷ more))
+
+abbrev pub document_of : List (List ℕ) → List ℕ
+document_of sections = flat_map (λ s. s) sections
+
+-- the events of sections, each read by itself, one behind the other
+abbrev pub events_of_sections : Constructs → (t : ℕ) → List (List ℕ) → List Event
+events_of_sections on t [] = []
+events_of_sections on t (s ∷ more) =
+    let first = flow_events on s (virtual t s) in
+    first ++ map (moved_event (line_endings s) (length s) (length first)) (events_of_sections on t more)
+
+-- are the events of the document
+abbrev pub SectionsGiveEvents : Type 0
+SectionsGiveEvents = (on : Constructs) (t : ℕ) (sections : List (List ℕ)) → are_sections on t sections ≡ true → flow_events on (document_of sections) (virtual t (document_of sections)) ≡ events_of_sections on t sections

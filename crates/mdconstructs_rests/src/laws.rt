@@ -1,0 +1,71 @@
+//! Laws about leaf blocks. Each is a function that does nothing; its contract is the law.
+
+ghost use Rattle.mdconstructs_rests.specs.Moved.{BlocksMove, BlocksOfBoth, EventsOfBoth, LinesAreCounted, LinesOfBoth, VirtualOfBoth};
+ghost use Rattle.mdconstructs_rests.specs.ReadTexts.{ReadEventsOfBoth};
+ghost use Rattle.mdconstructs_rests.specs.Rests.{RestsCutBlocks, RestsForget, WideRestsCutBlocks};
+ghost use Rattle.mdconstructs_rests.specs.Sections.{FirstLineTells, RestsOfBoth, SectionsGiveEvents};
+
+/// At a rest leaf blocks are cut apart.
+pub fn rests_cut_blocks()
+    ensures { RestsCutBlocks }
+{}
+
+/// At a wider rest leaf blocks are cut apart.
+pub fn wide_rests_cut_blocks()
+    ensures { WideRestsCutBlocks }
+{}
+
+/// Behind a rest what comes before it is forgotten.
+pub fn rests_forget()
+    ensures { RestsForget }
+{}
+
+/// Virtual bytes of a document are those of its parts, moved, if the second begins a line.
+pub fn virtual_of_both()
+    ensures { VirtualOfBoth }
+{}
+
+/// Lines of a document are those of its parts, moved, if the second begins a line.
+pub fn lines_of_both()
+    ensures { LinesOfBoth }
+{}
+
+/// The first part has as many lines as line endings.
+pub fn lines_are_counted()
+    ensures { LinesAreCounted }
+{}
+
+/// Moved lines are cut into the same leaf blocks, moved.
+pub fn blocks_move()
+    ensures { BlocksMove }
+{}
+
+/// Leaf blocks of a document are those of its parts, moved, if the second begins at a rest.
+pub fn blocks_of_both()
+    ensures { BlocksOfBoth }
+{}
+
+/// Events of leaf blocks of a document are those of its parts, moved, if the second begins at a rest.
+pub fn events_of_both()
+    ensures { EventsOfBoth }
+{}
+
+/// What comes behind bytes that end a line does not matter for whether they begin at a rest.
+pub fn first_line_tells()
+    ensures { FirstLineTells }
+{}
+
+/// Behind a rest what comes before it is forgotten, as bytes.
+pub fn rests_of_both()
+    ensures { RestsOfBoth }
+{}
+
+/// The events of sections, each read by itself and moved, are the events of the document.
+pub fn sections_give_events()
+    ensures { SectionsGiveEvents }
+{}
+
+/// Events of leaf blocks with texts read by any reading that moves are those of the parts, moved.
+pub fn read_events_of_both()
+    ensures { ReadEventsOfBoth }
+{}
