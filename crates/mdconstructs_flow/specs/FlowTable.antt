@@ -1,8 +1,8 @@
 -- The table of the machine of leaf blocks, as its constructs give it.
 use Rattle.std.specs.Prelude.{[], ◌∷◌}
 use Rattle.markdown_base.specs.declared.state.TheConstants.Name.{FlowStart}
+use Rattle.markdown_tokenizer.specs.Configuration.{Local}
 use Rattle.mdconstructs_tables.specs.Rows.{Table}
-use Rattle.mdconstructs_machines.specs.Tables.{counts}
 use Rattle.mdconstructs_flow.specs.FlowBytes.{FlowByte, flow_byte}
 use Rattle.mdconstructs_flow.specs.Flow.{flow_start, flow_blank_line_after, flow_after}
 use Rattle.mdconstructs_flow.specs.Look.{flow_blank_line_before, non_lazy_continuation_start}
@@ -16,11 +16,15 @@ use Rattle.mdconstructs_flow.specs.HtmlTags.{html_flow_open, html_flow_declarati
 use Rattle.mdconstructs_flow.specs.HtmlFlow.{html_flow_start, html_flow_continuation, html_flow_continuation_comment_inside, html_flow_continuation_cdata_inside, html_flow_continuation_declaration_inside, html_flow_continuation_raw_tag_open, html_flow_continuation_raw_end_tag, html_flow_continuation_close, html_flow_continuation_before, html_flow_blank_line_before, blank_line_after, html_flow_continuation_after, html_flow_continuation_start}
 use Rattle.mdconstructs_flow.specs.Paragraph.{flow_before_content, paragraph_start, paragraph_inside, paragraph_line_start, content_chunk_inside}
 
+-- a call writes nothing before its rows do
+abbrev pub unchanged : {R D : Type 0} → Local R D → Local R D
+unchanged local = local
+
 -- Leaf blocks: its states, construct by construct
 abbrev pub flow : Table FlowByte Unit Unit
 flow = record {
   class = flow_byte;
-  first = counts;
+  first = unchanged;
   states =
       flow_start ∷ flow_blank_line_after ∷ flow_after
       ∷ flow_blank_line_before ∷ non_lazy_continuation_start

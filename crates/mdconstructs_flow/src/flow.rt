@@ -4,6 +4,10 @@
 //! It looks first, and then reads: before a line a check, which makes no event, says what kind of line it is. So no choice ever
 //! holds an event.
 
+ghost use Rattle.std.specs.Prelude.{◌≡◌};
+ghost use Rattle.mdconstructs_tables.specs.RowInvariant.{begun};
+ghost use Rattle.mdconstructs_flow.specs.FlowTable.{unchanged};
+
 use crate::blank_line::blank_line_start;
 use crate::code_fenced::raw_flow_after;
 use crate::code_fenced::raw_flow_after_sequence_close;
@@ -106,7 +110,6 @@ use markdown_tokenizer::state::State;
 use markdown_tokenizer::subtokenize::Subresult;
 use markdown_tokenizer::tokenizer::Fault;
 use markdown_tokenizer::tokenizer::Tokenizer;
-use mdconstructs_machines::begin::begin;
 use std::alloc::AllocError;
 use std::alloc::Global;
 
@@ -259,4 +262,12 @@ impl Machine for Flow {
     }
 
     ghost lawful = { λ _ g. flow-lawful g };
+}
+
+/// Begins a call: counts it, and does nothing else.
+#[inline(always)]
+fn begin<'a, M: MachineTypes>(t: &mut Tokenizer<'a, M>)
+    ensures { t.new ≡ begun unchanged t.old }
+{
+    t.tick();
 }

@@ -19,9 +19,8 @@ use Rattle.mdconstructs_tables.specs.LinkShapes.{AreInShape}
 use Rattle.mdconstructs_tables.specs.Rows.{Act, enters, exit, consume, links, writes, choose, Rows, row, when, Row, done, does, chooses, step_of, past, shown_sight}
 use Rattle.mdconstructs_tables.specs.RowTest.{all_rows}
 use Rattle.mdconstructs_tables.proofs.LinkShapes.{more-shape}
-use Rattle.mdconstructs_machines.specs.Tables.{counts}
 use Rattle.mdconstructs_flow.specs.FlowBytes.{FlowByte, name_byte, Cased, cased, by_byte, spelled}
-use Rattle.mdconstructs_flow.specs.FlowTable.{flow}
+use Rattle.mdconstructs_flow.specs.FlowTable.{flow, unchanged}
 use Rattle.mdconstructs_flow.specs.FlowKnows.{Place, in_chunk, before_chunk, in_underline, elsewhere, place_of, is_looking, KnowsChunk, KnowsEdits, RenameSpans, Knows, IsLook, knows_flow}
 use Rattle.mdconstructs_flow.specs.Laws.Headings.{spans-more, paragraph-left, underline-left}
 use Rattle.std.proofs.lemmas.Bool.{and_parts}
@@ -339,23 +338,23 @@ module _ (test : Row Unit Unit → Bool) (g : Given) (s : Sight) (k : Configurat
 abbrev pub Keeps : Name → ((previous current : Option FlowByte) → Rows Unit Unit) → Type 0
 Keeps name rows =
     (g : Given) (s : Sight) (k : Configuration Unit Unit) (choices : List Choice) (previous current : Option FlowByte) → knows_flow k.events k.local choices (Retry name)
-    → let k1 = with_local k (counts k.local) in EachRow (λ r. KnownAfter flow knows_flow (step_of r s k1) choices) g s k1 (rows previous current)
+    → let k1 = with_local k (unchanged k.local) in EachRow (λ r. KnownAfter flow knows_flow (step_of r s k1) choices) g s k1 (rows previous current)
 
 -- a call is counted, and nothing else
-counted : (local : Local Unit Unit) → Stays local (counts local)
+counted : (local : Local Unit Unit) → Stays local (unchanged local)
 counted local = record { resolvers = refl; map = refl; start = refl; end = refl; connect = refl }
 
-counted-known : (k : Configuration Unit Unit) (choices : List Choice) (name : Name) → knows_flow k.events k.local choices (Retry name) → knows_flow k.events (counts k.local) choices (Retry name)
-counted-known k [] name h = knows-stays (place_of (Retry name)) k.events k.events k.local (counts k.local) refl (counted k.local) h
-counted-known k (c ∷ []) name h = (h.0, h.1, knows-stays (place_of c.ok) k.events k.events k.local (counts k.local) refl (counted k.local) h.2)
+counted-known : (k : Configuration Unit Unit) (choices : List Choice) (name : Name) → knows_flow k.events k.local choices (Retry name) → knows_flow k.events (unchanged k.local) choices (Retry name)
+counted-known k [] name h = knows-stays (place_of (Retry name)) k.events k.events k.local (unchanged k.local) refl (counted k.local) h
+counted-known k (c ∷ []) name h = (h.0, h.1, knows-stays (place_of c.ok) k.events k.events k.local (unchanged k.local) refl (counted k.local) h.2)
 counted-known k (c ∷ d ∷ cs) name h = absurd h
 
 -- A state that reads keeps what is known: no look waits when it is called
 pub reading-keeps : (name : Name) (c : Cased Unit Unit) → is_looking (Retry name) ≡ false → all_cased (keeps (place_of (Retry name))) c ≡ true → AreHarmless c → Keeps name (cased c)
 reading-keeps name c reads is h g s k [] previous current known =
     let place = place_of (Retry name) in
-    let k1 = with_local k (counts k.local) in
-    let there = knows-stays place k.events k.events k.local (counts k.local) refl (counted k.local) known in
+    let k1 = with_local k (unchanged k.local) in
+    let there = knows-stays place k.events k.events k.local (unchanged k.local) refl (counted k.local) known in
     each-case (keeps place) g s k1 [] (λ acts answer P passes harmless. row-keeps place acts answer P passes harmless s k1 there) c is h previous current
 reading-keeps name c reads is h g s k (d ∷ []) previous current known = absurd (let e : false ≡ true = sym reads ∙ known.0 in cc)
 reading-keeps name c reads is h g s k (d ∷ e ∷ ds) previous current known = absurd known
@@ -363,7 +362,7 @@ reading-keeps name c reads is h g s k (d ∷ e ∷ ds) previous current known = 
 -- A state of a look does
 pub look-state-keeps : (name : Name) (c : Cased Unit Unit) → place_of (Retry name) ≡ elsewhere → all_cased looks_on c ≡ true → AreHarmless c → Keeps name (cased c)
 look-state-keeps name c out is h g s k choices previous current known =
-    let k1 = with_local k (counts k.local) in
+    let k1 = with_local k (unchanged k.local) in
     each-case looks_on g s k1 choices (λ acts answer P passes harmless. look-keeps elsewhere acts answer P passes harmless s k1 choices name out (counted-known k choices name known)) c is h previous current
 
 -- The same of states in a name
@@ -371,8 +370,8 @@ pub reading-keeps-spelled : (name : Name) (by : ℕ → Rows Unit Unit) (c : Cas
     → ((byte : ℕ) → HarmlessRows (by byte) (Unit {0})) → all_cased (keeps (place_of (Retry name))) c ≡ true → AreHarmless c → Keeps name (spelled by c)
 reading-keeps-spelled name by c reads named calm is h g s k [] previous current known =
     let place = place_of (Retry name) in
-    let k1 = with_local k (counts k.local) in
-    let there = knows-stays place k.events k.events k.local (counts k.local) refl (counted k.local) known in
+    let k1 = with_local k (unchanged k.local) in
+    let there = knows-stays place k.events k.events k.local (unchanged k.local) refl (counted k.local) known in
     each-spelled (keeps place) g s k1 [] (λ acts answer P passes harmless. row-keeps place acts answer P passes harmless s k1 there) by c named calm is h previous current
 reading-keeps-spelled name by c reads named calm is h g s k (d ∷ []) previous current known = absurd (let e : false ≡ true = sym reads ∙ known.0 in cc)
 reading-keeps-spelled name by c reads named calm is h g s k (d ∷ e ∷ ds) previous current known = absurd known
@@ -380,5 +379,5 @@ reading-keeps-spelled name by c reads named calm is h g s k (d ∷ e ∷ ds) pre
 pub look-state-keeps-spelled : (name : Name) (by : ℕ → Rows Unit Unit) (c : Cased Unit Unit) → place_of (Retry name) ≡ elsewhere → ((byte : ℕ) → all_rows looks_on (by byte) ≡ true)
     → ((byte : ℕ) → HarmlessRows (by byte) (Unit {0})) → all_cased looks_on c ≡ true → AreHarmless c → Keeps name (spelled by c)
 look-state-keeps-spelled name by c out named calm is h g s k choices previous current known =
-    let k1 = with_local k (counts k.local) in
+    let k1 = with_local k (unchanged k.local) in
     each-spelled looks_on g s k1 choices (λ acts answer P passes harmless. look-keeps elsewhere acts answer P passes harmless s k1 choices name out (counted-known k choices name known)) by c named calm is h previous current

@@ -32,7 +32,6 @@ use Rattle.mdconstructs_tables.specs.Rows.{Act, enter, enter_link, exit, consume
 use Rattle.mdconstructs_tables.proofs.LinkShapes.{more-shape}
 use Rattle.mdconstructs_machines.specs.Paragraphs.{text_link}
 use Rattle.mdconstructs_machines.specs.Laws.Paragraphs.{chunk_enter, begins-chunk, ended-chunk, ends-with, ends-linked, last-index, linked-in-shape}
-use Rattle.mdconstructs_machines.specs.Tables.{counts}
 use Rattle.mdconstructs_flow.specs.FlowBytes.{FlowByte, Cased, cased}
 use Rattle.mdconstructs_flow.specs.BlankLine.{blank_line_start_rows, blank_line_start}
 use Rattle.mdconstructs_flow.specs.CodeFenced.{flow_before_raw_rows, flow_before_raw, flow_before_code_indented_rows, flow_before_code_indented, raw_flow_start_rows, raw_flow_start, raw_flow_sequence_open_rows, raw_flow_sequence_open, raw_flow_info_before_rows, raw_flow_info_before, raw_flow_before_sequence_open_rows, raw_flow_before_sequence_open, raw_flow_info_rows, raw_flow_info, raw_text_start_rows, raw_text_start, raw_flow_meta_before_rows, raw_flow_meta_before, raw_flow_meta_rows, raw_flow_meta, raw_flow_at_non_lazy_break_rows, raw_flow_at_non_lazy_break, raw_flow_close_start_rows, raw_flow_close_start, raw_flow_before_sequence_close_rows, raw_flow_before_sequence_close, raw_flow_sequence_close_rows, raw_flow_sequence_close, raw_flow_after_sequence_close_rows, raw_flow_after_sequence_close, raw_flow_content_before_rows, raw_flow_content_before, raw_flow_content_start_rows, raw_flow_content_start, raw_flow_before_content_chunk_rows, raw_flow_before_content_chunk, raw_flow_content_chunk_rows, raw_flow_content_chunk, raw_flow_after_rows, raw_flow_after, raw_text_sequence_open_rows, raw_text_sequence_open, raw_text_between_rows, raw_text_between, raw_text_sequence_close_rows, raw_text_sequence_close, raw_text_data_rows, raw_text_data}
@@ -46,7 +45,7 @@ use Rattle.mdconstructs_flow.specs.HtmlTags.{html_flow_open_rows, html_flow_open
 use Rattle.mdconstructs_flow.specs.Look.{flow_blank_line_before_rows, flow_blank_line_before, non_lazy_continuation_start_rows, non_lazy_continuation_start}
 use Rattle.mdconstructs_flow.specs.Paragraph.{flow_before_content_rows, flow_before_content, paragraph_start_rows, paragraph_start, paragraph_inside_rows, paragraph_inside, paragraph_line_start_rows, paragraph_line_start, content_chunk_inside_rows, content_chunk_inside}
 use Rattle.mdconstructs_flow.specs.ThematicBreak.{flow_before_thematic_break_rows, flow_before_thematic_break, thematic_break_before_rows, thematic_break_before, thematic_break_at_break_rows, thematic_break_at_break, thematic_break_sequence_rows, thematic_break_sequence}
-use Rattle.mdconstructs_flow.specs.FlowTable.{flow}
+use Rattle.mdconstructs_flow.specs.FlowTable.{flow, unchanged}
 use Rattle.mdconstructs_flow.specs.FlowKnows.{Place, in_chunk, before_chunk, in_underline, elsewhere, place_of, is_looking, RenameSpans, Knows, knows_flow}
 use Rattle.mdconstructs_flow.specs.Laws.Calm.{Keeps, edits-left, reading-keeps, reading-keeps-spelled, look-state-keeps, look-state-keeps-spelled}
 use Rattle.mdconstructs_flow.specs.Laws.Fit.{none}
@@ -318,11 +317,11 @@ chunk_begins =
     when is_connected (row (enter_link Data text_link ∷ links chunk_before last_event ∷ write connected ∷ []) (Retry ParagraphInside))
     (row (enter_link Data text_link ∷ write connected ∷ []) (Retry ParagraphInside))
 
--- what each call counts changes nothing that is known
+-- what is known when a call begins is known where its rows begin
 module _ (s : Sight) (k : Configuration Unit Unit) where
   -- after a row that no choice follows
   abbrev After : List (Act Unit Unit) → State → Type 0
-  After acts answer = KnownAfter flow knows_flow (step_of (record { acts = acts; answer = answer }) s (with_local k (counts k.local))) []
+  After acts answer = KnownAfter flow knows_flow (step_of (record { acts = acts; answer = answer }) s (with_local k (unchanged k.local))) []
 
   before-first : Knows elsewhere k.events k.local → After (enter Paragraph ∷ write alone ∷ write paragraph_begins ∷ []) (Retry ParagraphStart)
   before-first h =
@@ -401,7 +400,7 @@ module _ (s : Sight) (k : Configuration Unit Unit) where
       }
 
   -- the underline is read on, and at its end the paragraph is a heading
-  underlined : (names : List EventName) → Knows (in_underline names) k.events k.local → Knows (in_underline names) k.events (counts k.local)
+  underlined : (names : List EventName) → Knows (in_underline names) k.events k.local → Knows (in_underline names) k.events (unchanged k.local)
   underlined names h = record { chunk = tt; shape = h.shape; resolvers = h.resolvers; edits = h.edits }
 
   leaves : (place : Place) → Knows place k.events k.local → After [] (Retry FlowAfter)
@@ -434,7 +433,7 @@ grows-twice names names' names'' events local e f alone lone step next h = grows
 
 -- Each row of a state keeps what is known, where no look waits
 abbrev Each : Given → Sight → Configuration Unit Unit → Rows Unit Unit → Type 0
-Each g s k rows = let k1 = with_local k (counts k.local) in EachRow (λ r. KnownAfter flow knows_flow (step_of r s k1) []) g s k1 rows
+Each g s k rows = let k1 = with_local k (unchanged k.local) in EachRow (λ r. KnownAfter flow knows_flow (step_of r s k1) []) g s k1 rows
 
 abbrev EachCase : Given → Sight → Configuration Unit Unit → List (Case FlowByte Unit Unit) → Rows Unit Unit → Type 0
 EachCase g s k [] rest = Each g s k rest
@@ -478,7 +477,7 @@ paragraph_line_start-keeps = state-keeps ParagraphLineStart paragraph_line_start
 content_definition_after-keeps : KeepsKnowing flow knows_flow content_definition_after
 content_definition_after-keeps = state-keeps ContentDefinitionAfter content_definition_after_rows refl (λ g s k h. (
   stops s k (in_underline []) h,
-  (grows-twice [] (LineEnding ∷ []) [] k.events (counts k.local) _ _ refl refl (λ before. refl) (λ before. refl) (underlined s k [] h), stops s k (in_underline []) h),
+  (grows-twice [] (LineEnding ∷ []) [] k.events (unchanged k.local) _ _ refl refl (λ before. refl) (λ before. refl) (underlined s k [] h), stops s k (in_underline []) h),
 ))
 
 abbrev in_blank : List EventName
@@ -496,20 +495,20 @@ heading_setext_start-keeps = state-keeps HeadingSetextStart heading_setext_start
   (
     leaves s k (in_underline []) h,
     (
-      grows-twice [] between in_blank k.events (counts k.local) _ _ refl refl (λ before. refl) (λ before. refl) (underlined s k [] h),
-      grows-twice [] between in_marks k.events (counts k.local) _ _ refl refl (λ before. refl) (λ before. refl) (underlined s k [] h),
+      grows-twice [] between in_blank k.events (unchanged k.local) _ _ refl refl (λ before. refl) (λ before. refl) (underlined s k [] h),
+      grows-twice [] between in_marks k.events (unchanged k.local) _ _ refl refl (λ before. refl) (λ before. refl) (underlined s k [] h),
     ),
   ),
 ))
 
 heading_setext_before-keeps : KeepsKnowing flow knows_flow heading_setext_before
 heading_setext_before-keeps = state-keeps HeadingSetextBefore heading_setext_before_rows refl (λ g s k h.
-    let left = grows in_blank between k.events (counts k.local) _ refl (λ before. refl) (underlined s k in_blank h) in
+    let left = grows in_blank between k.events (unchanged k.local) _ refl (λ before. refl) (underlined s k in_blank h) in
     (left, (underlined s k in_blank h, left)))
 
 heading_setext_inside-keeps : KeepsKnowing flow knows_flow heading_setext_inside
 heading_setext_inside-keeps = state-keeps HeadingSetextInside heading_setext_inside_rows refl (λ g s k h.
-    let left = grows in_marks between k.events (counts k.local) _ refl (λ before. refl) (underlined s k in_marks h) in
+    let left = grows in_marks between k.events (unchanged k.local) _ refl (λ before. refl) (underlined s k in_marks h) in
     (left, (underlined s k in_marks h, left)))
 
 heading_setext_after-keeps : KeepsKnowing flow knows_flow heading_setext_after
@@ -518,8 +517,8 @@ heading_setext_after-keeps = state-keeps HeadingSetextAfter heading_setext_after
   (
     heading-is-made s k h,
     (
-      grows between in_blank k.events (counts k.local) _ refl (λ before. refl) (underlined s k between h),
-      grows between in_marks k.events (counts k.local) _ refl (λ before. refl) (underlined s k between h),
+      grows between in_blank k.events (unchanged k.local) _ refl (λ before. refl) (underlined s k between h),
+      grows between in_marks k.events (unchanged k.local) _ refl (λ before. refl) (underlined s k between h),
     ),
   ),
 ))

@@ -16,7 +16,7 @@ use Rattle.markdown_tokenizer.specs.Sight.{byte_of, end_place, seat_before}
 use Rattle.markdown_tokenizer.specs.Text.{Given, Text}
 use Rattle.mdconstructs_machines.specs.Breaks.{is_white}
 use Rattle.mdconstructs_machines.specs.LineEvents.{all_of, ending_of, line_text}
-use Rattle.mdconstructs_machines.specs.Tables.{counts}
+use Rattle.mdconstructs_flow.specs.FlowTable.{unchanged}
 use Rattle.mdconstructs_flow.specs.CodeIndented.{code_indented_inside}
 use Rattle.mdconstructs_flow.specs.FlowBytes.{line_feed, flow_byte}
 use Rattle.mdconstructs_flow_read.specs.BlocksRead.{AreLines, IndentedCodeIsRead, IsLine, IsReadAs, KeepsEdits, last_ending}
@@ -174,14 +174,14 @@ module _ (g : Given) (t : Text) where
 
     further : code_ahead 0 rest ≡ true → Reads g t k CodeIndentedInside (e ∷ []) rest (goes g t CodeFlowChunk p ++ feeds g t e) CodeIndentedFurtherBegin
     further ahead =
-        let h = look-from-feed g t k.stack k.events e rest feed (byte_of (seat_before t k.position)) k.position k.ended (counts k.local) less in
+        let h = look-from-feed g t k.stack k.events e rest feed (byte_of (seat_before t k.position)) k.position k.ended (unchanged k.local) less in
         read-if-ok g t k e rest at.left at.waits CodeIndentedInside CodeIndentedFurtherStart SpaceOrTabEolAfterFirst CodeIndentedAfter code_indented_inside refl line_feed (ap flow_byte feed) [] (λ previous. refl)
         KeepsEdits (λ after kept. record { edits = kept.edits ∙ h.keeps.edits; resolvers = kept.resolvers ∙ h.keeps.resolvers }) (e ∷ []) rest (goes g t CodeFlowChunk p ++ feeds g t e) (Retry CodeIndentedFurtherBegin)
         (h.answer ∙ ap (λ b. cond b Ok Nok) ahead) (line-on g t _ p e rest feed (there _))
 
     last : code_ahead 0 rest ≡ false → Reads g t k CodeIndentedInside [] (e ∷ rest) (goes g t CodeFlowChunk p ++ goes g t CodeIndented p) FlowAfter
     last ahead =
-        let h = look-from-feed g t k.stack k.events e rest feed (byte_of (seat_before t k.position)) k.position k.ended (counts k.local) less in
+        let h = look-from-feed g t k.stack k.events e rest feed (byte_of (seat_before t k.position)) k.position k.ended (unchanged k.local) less in
         read-if-nok g t k e rest at.left at.waits CodeIndentedInside CodeIndentedFurtherStart SpaceOrTabEolAfterFirst CodeIndentedAfter code_indented_inside refl line_feed (ap flow_byte feed) [] (λ previous. refl)
         KeepsEdits (λ after kept. record { edits = kept.edits ∙ h.keeps.edits; resolvers = kept.resolvers ∙ h.keeps.resolvers }) [] (e ∷ rest) (goes g t CodeFlowChunk p ++ goes g t CodeIndented p) (Retry FlowAfter)
         (h.answer ∙ ap (λ b. cond b Ok Nok) ahead) (line-last g t _ p e rest feed (there _))

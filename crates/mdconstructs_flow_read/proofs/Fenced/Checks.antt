@@ -12,10 +12,9 @@ use Rattle.markdown_tokenizer.specs.Text.{Given, Text}
 use Rattle.mdconstructs_tables.proofs.Looks.Deep.{Leads}
 use Rattle.mdconstructs_tables.specs.Looks.{Look}
 use Rattle.mdconstructs_tables.specs.Rows.{table_step}
-use Rattle.mdconstructs_machines.specs.Tables.{counts}
 use Rattle.mdconstructs_flow.specs.CodeFenced.{raw_flow_at_non_lazy_break}
 use Rattle.mdconstructs_flow.specs.FlowBytes.{line_feed}
-use Rattle.mdconstructs_flow.specs.FlowTable.{flow}
+use Rattle.mdconstructs_flow.specs.FlowTable.{flow, unchanged}
 use Rattle.mdconstructs_flow_read.specs.LeafBlocks.{bytes_of}
 use Rattle.mdconstructs_flow_read.specs.LineKinds.{Fence, closes}
 use Rattle.mdconstructs_flow_read.specs.LooksFind.{IsInLine, LineEnds}
@@ -53,4 +52,4 @@ module _ (g : Given) (t : Text) (f : Fence) (of : IsMark f.byte) (size : 1 ≤ f
     next-seen all ends room =
         by-answer (closes g.options.constructs f (bytes_of l))
         (subst (λ v. Saw v k.local look) (closes-is g f (bytes_of l) size of)
-        (close-seen g t k.stack k.events f s l rest of feed all ends (byte_of (seat_before t k.position)) k.position k.ended (counts k.local) here.at here.fenced room))
+        (close-seen g t k.stack k.events f s l rest of feed all ends (byte_of (seat_before t k.position)) k.position k.ended (unchanged k.local) here.at here.fenced room))

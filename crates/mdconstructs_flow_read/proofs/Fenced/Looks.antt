@@ -17,10 +17,9 @@ use Rattle.mdconstructs_tables.specs.Cases.{rows_in}
 use Rattle.mdconstructs_tables.specs.Looks.{Look, scan, shows, unfed_look}
 use Rattle.mdconstructs_tables.specs.Rows.{consume, write, Rows, row, when, picked}
 use Rattle.mdconstructs_machines.specs.Breaks.{is_white, one_more}
-use Rattle.mdconstructs_machines.specs.Tables.{counts}
 use Rattle.mdconstructs_flow.specs.CodeFenced.{raw_flow_close_start_rows, raw_flow_before_sequence_close_rows, raw_flow_sequence_close_rows, raw_flow_after_sequence_close_rows}
 use Rattle.mdconstructs_flow.specs.FlowBytes.{flow_byte, is_line_feed, is_blank, is_fence}
-use Rattle.mdconstructs_flow.specs.FlowTable.{flow}
+use Rattle.mdconstructs_flow.specs.FlowTable.{flow, unchanged}
 use Rattle.mdconstructs_flow.specs.FlowWrites.{is_byte, at_mark, count_becomes, count_grows, is_as_long, may_be_indented}
 use Rattle.mdconstructs_flow_read.specs.LeafBlocks.{bytes_of}
 use Rattle.mdconstructs_flow_read.specs.LineKinds.{Fence, closes, indent, is_blank_line, run, unindented}
@@ -100,7 +99,7 @@ module _ (g : Given) (t : Text) (stack : List EventName) (events : List Event) w
     by rows = told flow (λ r. r) g t stack events 1 behind l previous q mark local name rows
 
     abbrev here : Configuration Unit Unit
-    here = shows stack events l q mark (counts local)
+    here = shows stack events l q mark (unchanged local)
 
     abbrev seen : Sight
     seen = sight g t (shows stack events l q mark local)
@@ -135,7 +134,7 @@ module _ (g : Given) (t : Text) (stack : List EventName) (events : List Event) w
       let go : Rows Unit Unit = row (consume ∷ []) (Next name) in
       saw-as (cond (is_line_feed w) true (cond (is_blank w) on false)) (is_white s.byte && on) local (looks ((s ∷ ss) ++ rest) previous q mark local name) (sorts s.byte on all.0)
       (test (is_line_feed w) (row [] Ok) (cond (is_blank w) go (row [] Nok)) true (cond (is_blank w) on false) (refl, (refl, refl, refl, refl, refl))
-      (test (is_blank w) go (row [] Nok) on false (white-left ss rest all.1 ends (Some s.byte) (q + 1) false (counts local)) (refl, (refl, refl, refl, refl, refl))))
+      (test (is_blank w) go (row [] Nok) on false (white-left ss rest all.1 ends (Some s.byte) (q + 1) false (unchanged local)) (refl, (refl, refl, refl, refl, refl))))
     where
       sorts : (b : ℕ) (on : Bool) → (b == 10) ≡ false → cond (is_line_feed (flow_byte b)) true (cond (is_blank (flow_byte b)) on false) ≡ (is_white b && on)
       sorts b on feed = elim (is_white b) as (λ t. is_white b ≡ t → cond (is_line_feed (flow_byte b)) true (cond (is_blank (flow_byte b)) on false) ≡ (t && on)) [
@@ -186,7 +185,7 @@ module _ (g : Given) (t : Text) (stack : List EventName) (events : List Event) w
       (test (is_line_feed w) over (cond (is_blank w) white (cond (is_fence w) grow no)) (cond long true false) (cond (is_blank w) (cond long on false) (cond (is_fence w) (cond is_mark more false) false))
       (tested is_as_long (row [] Ok) no true false (refl, (refl, refl, refl, refl, refl)) fails)
       (test (is_blank w) white (cond (is_fence w) grow no) (cond long on false) (cond (is_fence w) (cond is_mark more false) false)
-      (tested is_as_long (row (consume ∷ []) (Next RawFlowAfterSequenceClose)) no on false (white-left ss rest all.1 ends (Some s.byte) (q + 1) false (counts local)) fails)
+      (tested is_as_long (row (consume ∷ []) (Next RawFlowAfterSequenceClose)) no on false (white-left ss rest all.1 ends (Some s.byte) (q + 1) false (unchanged local)) fails)
       (test (is_fence w) grow no (cond is_mark more false) false
       (tested at_mark (row (write count_grows ∷ consume ∷ []) (Next name)) no more false
       (marks-left f ss rest of all.1 ends (Some s.byte) (q + 1) false (count_grows k) (m + 1) next fence grown (let r = room in omega (arith, r))) fails)

@@ -16,9 +16,8 @@ use Rattle.mdconstructs_tables.proofs.Looks.Tests.{told}
 use Rattle.mdconstructs_tables.specs.Cases.{rows_in}
 use Rattle.mdconstructs_tables.specs.Looks.{Look, scan}
 use Rattle.mdconstructs_tables.specs.Rows.{Rows, consume, row, table_step}
-use Rattle.mdconstructs_machines.specs.Tables.{counts}
 use Rattle.mdconstructs_flow.specs.FlowBytes.{FlowByte, flow_byte, is_blank, is_line_feed, line_feed}
-use Rattle.mdconstructs_flow.specs.FlowTable.{flow}
+use Rattle.mdconstructs_flow.specs.FlowTable.{flow, unchanged}
 use Rattle.mdconstructs_flow.specs.HtmlFlow.{html_flow_blank_line_before_rows, html_flow_continuation, html_flow_continuation_rows}
 use Rattle.mdconstructs_flow_read.specs.BlocksRead.{IsReadAs}
 use Rattle.mdconstructs_flow_read.specs.LeafEvents.{Mark}
@@ -35,15 +34,15 @@ pub record Says (local : Local Unit Unit) (r : Look Unit Unit) (yes : Bool) : Ty
   pub answer : r.answer ≡ cond yes Ok Nok
   pub kept : Kept local r.local
 
-counts-kept : (local : Local Unit Unit) → Kept local (counts local)
-counts-kept local = record { edits = refl; resolvers = refl; kind = refl }
+unchanged-kept : (local : Local Unit Unit) → Kept local (unchanged local)
+unchanged-kept local = record { edits = refl; resolvers = refl; kind = refl }
 
 module _ (g : Given) (t : Text) (stack : List EventName) (events : List Event) where
   abbrev scans : List Seat → Option ℕ → ℕ → Bool → Local Unit Unit → Name → Look Unit Unit
   scans l previous q mark local name = scan flow g t stack events 2 l previous q mark local name
 
   looks-over : (l : List Seat) (previous : Option ℕ) (q : ℕ) (mark : Bool) (local : Local Unit Unit) → Says local (scans l previous q mark local BlankLineAfter) (blank_ahead l)
-  looks-over [] previous q mark local = record { answer = refl; kept = counts-kept local }
+  looks-over [] previous q mark local = record { answer = refl; kept = unchanged-kept local }
   looks-over (s ∷ ss) previous q mark local =
       let c = flow_byte s.byte in
       let tells : Rows Unit Unit → Look Unit Unit = told flow (λ r. r) g t stack events 1 (scans ss (Some s.byte) (q + 1) false) (s ∷ ss) previous q mark local BlankLineAfter in
@@ -51,11 +50,11 @@ module _ (g : Given) (t : Text) (stack : List EventName) (events : List Event) w
       let on : Rows Unit Unit = row (consume ∷ []) (Next BlankLineAfter) in
       let no_more : Rows Unit Unit = row [] Nok in
       elim (is_line_feed c) as (λ f. Says local (tells (cond f over (cond (is_blank c) on no_more))) (cond f true (cond (is_blank c) (blank_ahead ss) false))) [
-        | true ↦ record { answer = refl; kept = counts-kept local }
+        | true ↦ record { answer = refl; kept = unchanged-kept local }
         | false ↦ elim (is_blank c) as (λ w. Says local (tells (cond w on no_more)) (cond w (blank_ahead ss) false)) [
           | true ↦
-              let h = looks-over ss (Some s.byte) (q + 1) false (counts local) in record { answer = h.answer; kept = kept-on local (counts local) _ (counts-kept local) h.kept }
-          | false ↦ record { answer = refl; kept = counts-kept local }
+              let h = looks-over ss (Some s.byte) (q + 1) false (unchanged local) in record { answer = h.answer; kept = kept-on local (unchanged local) _ (unchanged-kept local) h.kept }
+          | false ↦ record { answer = refl; kept = unchanged-kept local }
         ]
       ]
 
@@ -65,20 +64,20 @@ module _ (g : Given) (t : Text) (stack : List EventName) (events : List Event) w
   looks-behind s ss previous q mark local feed =
       let tells : FlowByte → Look Unit Unit = λ c. told flow (λ r. r) g t stack events 1 (scans ss (Some s.byte) (q + 1) false) (s ∷ ss) previous q mark local HtmlFlowBlankLineBefore
       (rows_in (html_flow_blank_line_before_rows {R = Unit {0}} {D = Unit {0}}).cases (html_flow_blank_line_before_rows {R = Unit {0}} {D = Unit {0}}).rest c) in
-      let h = looks-over ss (Some s.byte) (q + 1) false (counts local) in
+      let h = looks-over ss (Some s.byte) (q + 1) false (unchanged local) in
       subst (λ c. Says local (tells c) (blank_ahead ss)) (sym (ap flow_byte feed))
-      (record { answer = h.answer; kept = kept-on local (counts local) _ (counts-kept local) h.kept })
+      (record { answer = h.answer; kept = kept-on local (unchanged local) _ (unchanged-kept local) h.kept })
 
 -- so the line ends the block, or goes on
 module _ (g : Given) (t : Text) (k : Config) (s : Seat) (ss : List Seat) (at : drop k.position t.seats ≡ s ∷ ss) (waits : k.waiting ≡ Byte) (feed : s.byte ≡ 10) (long : nat_le 6 (kind_in k) ≡ true) where
   abbrev looked : Look Unit Unit
-  looked = look_here g t k s ss at waits (counts k.local) HtmlFlowBlankLineBefore
+  looked = look_here g t k s ss at waits (unchanged k.local) HtmlFlowBlankLineBefore
 
-  says : Says (counts k.local) looked (blank_ahead ss)
-  says = looks-behind g t k.stack k.events s ss (byte_of (seat_before t k.position)) k.position k.ended (counts k.local) feed
+  says : Says (unchanged k.local) looked (blank_ahead ss)
+  says = looks-behind g t k.stack k.events s ss (byte_of (seat_before t k.position)) k.position k.ended (unchanged k.local) feed
 
   checks : table_step flow g (sight g t k) k HtmlFlowContinuation
-      ≡ record { configuration = with_local k (counts k.local); choices = check_at (Next HtmlFlowContinuationAfter) (Next HtmlFlowContinuationStart) k ∷ []; answer = Retry HtmlFlowBlankLineBefore }
+      ≡ record { configuration = with_local k (unchanged k.local); choices = check_at (Next HtmlFlowContinuationAfter) (Next HtmlFlowContinuationStart) k ∷ []; answer = Retry HtmlFlowBlankLineBefore }
   checks =
       let rows : Rows Unit Unit = rows_in (html_flow_continuation_rows {R = Unit {0}} {D = Unit {0}}).cases (html_flow_continuation_rows {R = Unit {0}} {D = Unit {0}}).rest line_feed in
       called-row g t k HtmlFlowContinuation html_flow_continuation refl (Some line_feed) (class-here g t k (s ∷ ss) at waits ∙ ap (λ n. Some (flow_byte n)) feed) rows (λ previous. refl) ∙ rw long refl
@@ -88,16 +87,16 @@ module _ (g : Given) (t : Text) (k : Config) (s : Seat) (ss : List Seat) (at : d
         → IsReadAs g t Kept k HtmlFlowContinuation line rest marks to
     read-if-blank ahead h =
         let r = looked in
-        let kept = kept-on k.local (counts k.local) r.local (counts-kept k.local) says.kept in
+        let kept = kept-on k.local (unchanged k.local) r.local (unchanged-kept k.local) says.kept in
         read-behind g t Kept k HtmlFlowContinuation HtmlFlowContinuationAfter r.local (suc r.calls)
-        (step-checks-ok g t k s ss at waits HtmlFlowContinuation HtmlFlowBlankLineBefore HtmlFlowContinuationAfter HtmlFlowContinuationStart (counts k.local) checks (says.answer ∙ rw ahead refl))
+        (step-checks-ok g t k s ss at waits HtmlFlowContinuation HtmlFlowBlankLineBefore HtmlFlowContinuationAfter HtmlFlowContinuationStart (unchanged k.local) checks (says.answer ∙ rw ahead refl))
         (λ after more. kept-on k.local r.local after kept more) line rest marks to (h r.local kept)
 
     pub read-if-not : blank_ahead ss ≡ false → ((local : Local Unit Unit) → Kept k.local local → IsReadAs g t Kept (with_local k local) HtmlFlowContinuationStart line rest marks to)
         → IsReadAs g t Kept k HtmlFlowContinuation line rest marks to
     read-if-not ahead h =
         let r = looked in
-        let kept = kept-on k.local (counts k.local) r.local (counts-kept k.local) says.kept in
+        let kept = kept-on k.local (unchanged k.local) r.local (unchanged-kept k.local) says.kept in
         read-behind g t Kept k HtmlFlowContinuation HtmlFlowContinuationStart r.local (suc r.calls)
-        (step-checks-nok g t k s ss at waits HtmlFlowContinuation HtmlFlowBlankLineBefore HtmlFlowContinuationAfter HtmlFlowContinuationStart (counts k.local) checks (says.answer ∙ rw ahead refl))
+        (step-checks-nok g t k s ss at waits HtmlFlowContinuation HtmlFlowBlankLineBefore HtmlFlowContinuationAfter HtmlFlowContinuationStart (unchanged k.local) checks (says.answer ∙ rw ahead refl))
         (λ after more. kept-on k.local r.local after kept more) line rest marks to (h r.local kept)

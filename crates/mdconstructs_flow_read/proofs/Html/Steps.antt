@@ -12,9 +12,8 @@ use Rattle.markdown_tokenizer.specs.Text.{Given}
 use Rattle.mdconstructs_tables.specs.Cases.{rows_in}
 use Rattle.mdconstructs_tables.specs.Rows.{Row, Rows, class_of, consume, does, picked, row, when, write}
 use Rattle.mdconstructs_tables.specs.Stretches.{Halt, halt, one_call_more, over, reads_byte, row_comes_to, to_come}
-use Rattle.mdconstructs_machines.specs.Tables.{counts}
 use Rattle.mdconstructs_flow.specs.FlowBytes.{FlowByte, by_byte, cased, flow_byte, is_closing, is_dash, is_greater, is_less, is_line_feed, is_question, is_slash, name_byte, spelled}
-use Rattle.mdconstructs_flow.specs.FlowTable.{flow}
+use Rattle.mdconstructs_flow.specs.FlowTable.{flow, unchanged}
 use Rattle.mdconstructs_flow.specs.FlowWrites.{size_becomes}
 use Rattle.mdconstructs_flow.specs.HtmlFlow.{html_flow_continuation_cdata_inside_rows, html_flow_continuation_close_rows, html_flow_continuation_comment_inside_rows, html_flow_continuation_declaration_inside_rows, html_flow_continuation_raw_end_tag_goes_on, html_flow_continuation_raw_end_tag_rows, html_flow_continuation_raw_tag_open_rows, html_flow_continuation_rows}
 use Rattle.mdconstructs_flow.specs.HtmlNames.{is_number_in}
@@ -51,9 +50,9 @@ kept-on a b c h k = record { edits = k.edits ∙ h.edits; resolvers = k.resolver
 abbrev pub kind_in : Config → ℕ
 kind_in k = k.local.tokenize_state.marker_b
 
--- what each call counts
+-- where the rows of a call begin
 abbrev pub counted : Config → Config
-counted k = with_local k (counts k.local)
+counted k = with_local k (unchanged k.local)
 
 -- where a line of HTML or the block ends
 abbrev pub until : Name → Bool

@@ -17,9 +17,8 @@ use Rattle.mdconstructs_tables.proofs.Looks.Deep.{Leads}
 use Rattle.mdconstructs_tables.proofs.Looks.Scans.{feeds, scan-goes, sees}
 use Rattle.mdconstructs_tables.specs.Looks.{Look, first_byte, held, looked, scan, waits_at}
 use Rattle.mdconstructs_tables.specs.Rows.{Act, choose, write, Rows, row, StateRows, chooses, class_of, does, named, picked, step_at, step_of, table_step}
-use Rattle.mdconstructs_machines.specs.Tables.{counts}
 use Rattle.mdconstructs_flow.specs.FlowBytes.{FlowByte, flow_byte}
-use Rattle.mdconstructs_flow.specs.FlowTable.{flow}
+use Rattle.mdconstructs_flow.specs.FlowTable.{flow, unchanged}
 use Rattle.mdconstructs_flow_read.specs.BlocksRead.{IsReadAs}
 use Rattle.mdconstructs_flow_read.specs.LeafEvents.{Mark}
 
@@ -129,10 +128,10 @@ class-here g t k l at waits = ap (λ q. class_of flow_byte (current_of t k.posit
 -- a call makes the step of the row that its state has for what waits
 pub called-row : (g : Given) (t : Text) (k : Configuration Unit Unit) (name : Name) (state : StateRows FlowByte Unit Unit) → named flow.states name ≡ Some state
     → (c : Option FlowByte) → class_of flow_byte (sight g t k).current ≡ c → (rows : Rows Unit Unit) → ((previous : Option FlowByte) → state.rows previous c ≡ rows)
-    → table_step flow g (sight g t k) k name ≡ step_of (picked rows g (sight g t k) (with_local k (counts k.local))) (sight g t k) (with_local k (counts k.local))
+    → table_step flow g (sight g t k) k name ≡ step_of (picked rows g (sight g t k) (with_local k (unchanged k.local))) (sight g t k) (with_local k (unchanged k.local))
 called-row g t k name state is c here rows row_is =
     let seen = sight g t k in
-    let k1 = with_local k (counts k.local) in
+    let k1 = with_local k (unchanged k.local) in
     ap (λ o. step_at flow g o seen k1) is
     ∙ ap (λ c. step_of (picked (state.rows (class_of flow_byte seen.previous) c) g seen k1) seen k1) here
     ∙ ap (λ rows. step_of (picked rows g seen k1) seen k1) (row_is (class_of flow_byte seen.previous))
@@ -143,7 +142,7 @@ module _ (g : Given) (t : Text) (k : Configuration Unit Unit) (s : Seat) (ss : L
     (fs : List (Configuration Unit Unit → Local Unit Unit)) (row_is : (previous : Option FlowByte) → state.rows previous (Some w) ≡ row (choose Check (Next ok) (Next nok) ∷ write_all fs) (Retry look)) where
   -- what states share when the look begins, and the look
   abbrev pub begun : Local Unit Unit
-  begun = written fs (with_local k (counts k.local))
+  begun = written fs (with_local k (unchanged k.local))
 
   abbrev pub looks : Look Unit Unit
   looks = look_here g t k s ss at waits begun look
@@ -151,7 +150,7 @@ module _ (g : Given) (t : Text) (k : Configuration Unit Unit) (s : Seat) (ss : L
   checks : table_step flow g (sight g t k) k name ≡ record { configuration = with_local k begun; choices = check_at (Next ok) (Next nok) k ∷ []; answer = Retry look }
   checks =
       let seen = sight g t k in
-      let k1 = with_local k (counts k.local) in
+      let k1 = with_local k (unchanged k.local) in
       let here : class_of flow_byte seen.current ≡ Some w = class-here g t k (s ∷ ss) at waits ∙ ap Some of_class in
       let did = writes-do fs seen k1 (check_at (Next ok) (Next nok) k ∷ []) in
       called-row g t k name state is_state (Some w) here (row (choose Check (Next ok) (Next nok) ∷ write_all fs) (Retry look)) row_is

@@ -22,16 +22,15 @@ use Rattle.mdconstructs_tables.specs.Looks.{first_byte, waits_at}
 use Rattle.mdconstructs_tables.specs.Rows.{Act, enters, exit, consume, links, writes, choose, Rows, row, StateRows, Table, class_of, does, done, chooses, named, past, picked, step_at, step_of, table_step}
 use Rattle.mdconstructs_tables.specs.Stretches.{sight_before}
 use Rattle.mdconstructs_machines.specs.Breaks.{is_white}
-use Rattle.mdconstructs_machines.specs.Tables.{counts}
 use Rattle.mdconstructs_flow.specs.FlowBytes.{FlowByte, blank, flow_byte}
-use Rattle.mdconstructs_flow.specs.FlowTable.{flow}
+use Rattle.mdconstructs_flow.specs.FlowTable.{flow, unchanged}
 use Rattle.mdconstructs_flow_read.specs.BlocksRead.{IsReadAs, waits_then}
 use Rattle.mdconstructs_flow_read.specs.LeafEvents.{Chunk, Mark, alone, linked_from}
 use Rattle.mdconstructs_flow_read.proofs.Lines.LineReads.{IsAt, reads-feeding}
 
--- what each call counts
+-- where the rows of a call begin
 abbrev pub counted : Configuration Unit Unit → Configuration Unit Unit
-counted k = with_local k (counts k.local)
+counted k = with_local k (unchanged k.local)
 
 -- ---- acts
 -- the marks that acts make, where this is seen

@@ -14,7 +14,7 @@ use Rattle.mdconstructs_tables.specs.Cases.{AreTestsOf}
 use Rattle.mdconstructs_tables.specs.Looks.{shows}
 use Rattle.mdconstructs_tables.specs.Rows.{Rows, consume, write, row, when}
 use Rattle.mdconstructs_machines.specs.Breaks.{is_white, one_more}
-use Rattle.mdconstructs_machines.specs.Tables.{counts}
+use Rattle.mdconstructs_flow.specs.FlowTable.{unchanged}
 use Rattle.mdconstructs_flow.specs.FlowBytes.{flow_byte}
 use Rattle.mdconstructs_flow.specs.FlowWrites.{kind_becomes, size_grows, has_three, at_mark}
 use Rattle.mdconstructs_flow.specs.ThematicBreak.{flow_before_thematic_break_rows}
@@ -94,7 +94,7 @@ module _ (g : Given) (t : Text) (stack : List EventName) (events : List Event) w
         let there : drop (q + 1) t.seats ≡ ss = drop-next t.seats q s ss here in
         let grow : Rows Unit Unit = row (write size_grows ∷ consume ∷ []) (Next name) in
         let go : Rows Unit Unit = row (consume ∷ []) (Next name) in
-        let grown = size_grows (shows stack events (s ∷ ss) q mark (counts local)) in
+        let grown = size_grows (shows stack events (s ∷ ss) q mark (unchanged local)) in
         let marked = mark-is g t stack events s ss q mark local m here marks in
         let by = by-known g t stack events 1 (s ∷ ss) previous q mark local name P at_mark grow no in
         let nothing : breaks_on m size (b ∷ bs) ≡ false → at no = λ e. subst (λ c. Found before (cond c thematic_break text) word (come g t stack events 1 (s ∷ ss) previous q mark local name no)) (sym e) (kept before local _ h refl refl refl refl refl, refl) in
@@ -109,9 +109,9 @@ module _ (g : Given) (t : Text) (stack : List EventName) (events : List Event) w
               (subst (λ c. Found before (cond c thematic_break text) word (on grown name)) (ap (λ n. breaks_on m n bs) bigger ∙ sym (break-mark m size b bs e)) later))
           | false ↦ λ e. elim (is_white b) as (λ v. is_white b ≡ v → at (cond (is_break_mark b) (when at_mark grow no) (cond v go no))) [
             | true ↦ λ w.
-                let later = break-found line in_line.1 (Some b) (q + 1) false (counts local) there (kept before local (counts local) h refl refl refl refl refl) marks (room-less size (length line) room) in
+                let later = break-found line in_line.1 (Some b) (q + 1) false (unchanged local) there (kept before local (unchanged local) h refl refl refl refl refl) marks (room-less size (length line) room) in
                 by-false at (is_break_mark b) (when at_mark grow no) go (white-no-mark b w)
-                (subst (λ c. Found before (cond c thematic_break text) word (on (counts local) name)) (sym (break-white m size b bs e w)) later)
+                (subst (λ c. Found before (cond c thematic_break text) word (on (unchanged local) name)) (sym (break-white m size b bs e w)) later)
             | false ↦ λ w. elim (is_break_mark b) as (λ v. at (cond v (when at_mark grow no) no)) [
               | true ↦ by false (marked ∙ e) (nothing (break-fails m size b bs e w))
               | false ↦ nothing (break-fails m size b bs e w)

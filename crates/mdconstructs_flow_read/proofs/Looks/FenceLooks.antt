@@ -16,10 +16,9 @@ use Rattle.mdconstructs_tables.specs.Cases.{AreTestsOf}
 use Rattle.mdconstructs_tables.specs.Looks.{Glance, goes_on, is_over, Look, glance, looked_on, one_more as one_call, shows}
 use Rattle.mdconstructs_tables.specs.Rows.{Rows, consume, write, row, when}
 use Rattle.mdconstructs_machines.specs.Breaks.{one_more}
-use Rattle.mdconstructs_machines.specs.Tables.{counts}
 use Rattle.mdconstructs_flow.specs.CodeFenced.{fence_ends, flow_before_raw_rows, flow_before_code_indented_rows}
 use Rattle.mdconstructs_flow.specs.FlowBytes.{flow_byte}
-use Rattle.mdconstructs_flow.specs.FlowTable.{flow}
+use Rattle.mdconstructs_flow.specs.FlowTable.{flow, unchanged}
 use Rattle.mdconstructs_flow.specs.FlowWrites.{kind_becomes, size_grows, at_mark, has_three, is_tilde_fence}
 use Rattle.mdconstructs_flow_read.specs.LeafBlocks.{bytes_of}
 use Rattle.mdconstructs_flow_read.specs.LineKinds.{Fence, run}
@@ -99,8 +98,8 @@ module _ (g : Given) (t : Text) (stack : List EventName) (events : List Event) w
           (elim (b == 96) as (λ v. (Found before (kind_by (not v && no_ticks bs)) word (come g t stack events bound (s ∷ ss) previous q mark local name (cond v no go)))) [
             | true ↦ (kept before local _ h refl refl refl refl refl, refl)
             | false ↦
-                let later = info-found 1 line in_line.1 (Some b) (q + 1) false (counts local) (kept before local (counts local) h refl refl refl refl refl) noted in
-                subst (Found before (kind_by (no_ticks bs)) word) (sym (look-is g t stack events ss (Some b) (q + 1) false (counts local) name)) later
+                let later = info-found 1 line in_line.1 (Some b) (q + 1) false (unchanged local) (kept before local (unchanged local) h refl refl refl refl refl) noted in
+                subst (Found before (kind_by (no_ticks bs)) word) (sym (look-is g t stack events ss (Some b) (q + 1) false (unchanged local) name)) later
           ]))
 
       -- the marks end
@@ -119,8 +118,8 @@ module _ (g : Given) (t : Text) (stack : List EventName) (events : List Event) w
             | true ↦ by (Found before (kind_by ((f.byte == 126) || ticks)) word) is_tilde_fence ends info (f.byte == 126) (ap (λ n. n == 126) noted.0)
                 (elim (f.byte == 126) as (λ v. Found before (kind_by (v || ticks)) word (comes (cond v ends info))) [
                   | true ↦ (kept before local _ h refl refl refl refl refl, (refl, refl, noted.0, noted.1, noted.2))
-                  | false ↦ once-more (kind_by ticks) (rest_of g t stack events l q) l mark (glance flow g t stack events 1 previous l q mark (counts local) FlowBeforeCodeIndented)
-                      (info-found 0 line in_line previous q mark (counts local) (kept before local (counts local) h refl refl refl refl refl) noted)
+                  | false ↦ once-more (kind_by ticks) (rest_of g t stack events l q) l mark (glance flow g t stack events 1 previous l q mark (unchanged local) FlowBeforeCodeIndented)
+                      (info-found 0 line in_line previous q mark (unchanged local) (kept before local (unchanged local) h refl refl refl refl refl) noted)
                 ])
             | false ↦ (kept before local _ h refl refl refl refl refl, refl)
           ])
@@ -149,7 +148,7 @@ module _ (g : Given) (t : Text) (stack : List EventName) (events : List Event) w
           let at = λ (rows : Rows Unit Unit). P (come g t stack events 1 (s ∷ ss) previous q mark local name rows) in
           let there : drop (q + 1) t.seats ≡ ss = drop-next t.seats q s ss here in
           let grow : Rows Unit Unit = row (write size_grows ∷ consume ∷ []) (Next name) in
-          let grown = size_grows (shows stack events (s ∷ ss) q mark (counts local)) in
+          let grown = size_grows (shows stack events (s ∷ ss) q mark (unchanged local)) in
           let marked = mark-is g t stack events s ss q mark local m here marks in
           let by = by-known g t stack events 1 (s ∷ ss) previous q mark local name P at_mark grow fence_ends in
           let none : n + 0 ≡ n = omega arith in

@@ -13,7 +13,7 @@ use Rattle.markdown_tokenizer.specs.Text.{Given, Text}
 use Rattle.mdconstructs_tables.specs.Looks.{Look, shows}
 use Rattle.mdconstructs_tables.specs.Rows.{Rows, consume, write, row}
 use Rattle.mdconstructs_machines.specs.Breaks.{is_white, one_more}
-use Rattle.mdconstructs_machines.specs.Tables.{counts}
+use Rattle.mdconstructs_flow.specs.FlowTable.{unchanged}
 use Rattle.mdconstructs_flow.specs.FlowWrites.{count_grows, text_grows, signs_end, signs_were_text}
 use Rattle.mdconstructs_flow.specs.HeadingAtx.{string_before_data_rows, string_before_rows, text_before_rows, text_before_data_rows}
 use Rattle.mdconstructs_flow_read.specs.LeafBlocks.{bytes_of}
@@ -82,19 +82,19 @@ module _ (g : Given) (t : Text) (stack : List EventName) (events : List Event) w
     text-ends false true back previous q mark local h at room =
         subst (Heads before (length (text_back back))) (sym (look-is g t stack events more previous q mark local StringBeforeData))
         (at-line-end g t stack events (Heads before (length (text_back back))) StringBeforeData string_before_data_rows ends has-data refl refl 1 more over previous q mark local
-        (kept before local (counts local) h refl refl refl refl refl, (refl, at.named, at.counted.size_is)))
+        (kept before local (unchanged local) h refl refl refl refl refl, (refl, at.named, at.counted.size_is)))
     text-ends false false back previous q mark local h at room =
         subst (Heads before (length (text_back back))) (sym (look-is g t stack events more previous q mark local StringBefore))
         (at-line-end g t stack events (Heads before (length (text_back back))) StringBefore string_before_rows ends has-white refl refl 1 more over previous q mark local
-        (kept before local (counts local) h refl refl refl refl refl, (refl, at.named, at.counted.size_is)))
+        (kept before local (unchanged local) h refl refl refl refl refl, (refl, at.named, at.counted.size_is)))
     text-ends true true back previous q mark local h at room =
         subst (Heads before (length (text_back back))) (sym (look-is g t stack events more previous q mark local TextBefore))
         (at-line-end g t stack events (Heads before (length (text_back back))) TextBefore text_before_rows ends has-signs refl refl 1 more over previous q mark local
-        (kept before local (counts local) h refl refl refl refl refl, (refl, at.named, at.counted.size_is)))
+        (kept before local (unchanged local) h refl refl refl refl refl, (refl, at.named, at.counted.size_is)))
     text-ends true false back previous q mark local h at room =
         subst (Heads before (length (text_back back))) (sym (look-is g t stack events more previous q mark local TextBeforeData))
         (at-line-end g t stack events (Heads before (length (text_back back))) TextBeforeData text_before_data_rows ends has-behind refl refl 1 more over previous q mark local
-        (kept before local (counts local) h refl refl refl refl refl, (refl, at.named, at.counted.size_is)))
+        (kept before local (unchanged local) h refl refl refl refl refl, (refl, at.named, at.counted.size_is)))
 
     -- a byte of the line, if the look goes on behind it in each case
     module _ (s : Seat) (line : List Seat) (back : List ℕ) (in_line : (s.byte == 10) ≡ false) (on : (closing word : Bool) → Goes line closing word (s.byte ∷ back)) where
@@ -109,7 +109,7 @@ module _ (g : Given) (t : Text) (stack : List EventName) (events : List Event) w
       word-comes : (closing word : Bool) (previous : Option ℕ) (q : ℕ) (mark : Bool) (local : Local Unit Unit) (name : Name) → LeavesAll before local → IsAt closing word back local → length back + suc (length line) < 2 ^ 64 - 1
           → Counted false true (s.byte ∷ back) (suc (length back)) local.tokenize_state.size_c → Comes previous q mark local name text_on
       word-comes closing word previous q mark local name h at room counted =
-          let k = shows stack events (s ∷ (line ++ more)) q mark (counts local) in
+          let k = shows stack events (s ∷ (line ++ more)) q mark (unchanged local) in
           let count = count-on back s.byte local.tokenize_state.space_or_tab_size (length line) at.count_is room in
           on false true (Some s.byte) (q + 1) false (text_grows k) (kept before local (text_grows k) h refl refl refl refl refl)
           (record { named = at.named; count_is = count; counted = subst (λ n. Counted false true (s.byte ∷ back) n local.tokenize_state.size_c) (sym count) counted }) (room-on (length back) (length line) room)
@@ -119,7 +119,7 @@ module _ (g : Given) (t : Text) (stack : List EventName) (events : List Event) w
           → (next_closing next_word : Bool) → Counted next_closing next_word (s.byte ∷ back) local.tokenize_state.size_b local.tokenize_state.size_c
           → Comes previous q mark local name (counts_on (state_of next_closing next_word))
       count-comes closing word previous q mark local name h at room next_closing next_word counted =
-          let k = shows stack events (s ∷ (line ++ more)) q mark (counts local) in
+          let k = shows stack events (s ∷ (line ++ more)) q mark (unchanged local) in
           on next_closing next_word (Some s.byte) (q + 1) false (count_grows k) (kept before local (count_grows k) h refl refl refl refl refl)
           (record { named = at.named; count_is = count-on back s.byte local.tokenize_state.space_or_tab_size (length line) at.count_is room; counted = counted }) (room-on (length back) (length line) room)
 
@@ -166,7 +166,7 @@ module _ (g : Given) (t : Text) (stack : List EventName) (events : List Event) w
           let name = TextBefore in
           let l = local.tokenize_state in
           let comes = Comes previous q mark local name in
-          let k = shows stack events (s ∷ (line ++ more)) q mark (counts local) in
+          let k = shows stack events (s ∷ (line ++ more)) q mark (unchanged local) in
           let signs_over : Rows Unit Unit = row (write signs_end ∷ consume ∷ []) (Next TextBeforeData) in
           at-line-byte g t stack events Behind name text_before_rows three_tests has-signs (feed-is, (blank-is, (sign-is, tt))) 1 s (line ++ more) previous q mark local
           (by-false comes (b == 10) ends _ in_line
@@ -191,7 +191,7 @@ module _ (g : Given) (t : Text) (stack : List EventName) (events : List Event) w
           let name = TextBeforeData in
           let l = local.tokenize_state in
           let comes = Comes previous q mark local name in
-          let k = shows stack events (s ∷ (line ++ more)) q mark (counts local) in
+          let k = shows stack events (s ∷ (line ++ more)) q mark (unchanged local) in
           let signs_again : Rows Unit Unit = row (write signs_were_text ∷ consume ∷ []) (Next TextBefore) in
           let saved = at.counted.saved_is refl refl in
           at-line-byte g t stack events Behind name text_before_data_rows three_tests has-behind (feed-is, (blank-is, (sign-is, tt))) 1 s (line ++ more) previous q mark local

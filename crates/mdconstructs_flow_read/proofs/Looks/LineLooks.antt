@@ -17,7 +17,7 @@ use Rattle.mdconstructs_tables.specs.Cases.{AreTestsOf}
 use Rattle.mdconstructs_tables.specs.Looks.{Look, shows}
 use Rattle.mdconstructs_tables.specs.Rows.{Rows, consume, write, row, when}
 use Rattle.mdconstructs_machines.specs.Breaks.{is_white, one_more}
-use Rattle.mdconstructs_machines.specs.Tables.{counts}
+use Rattle.mdconstructs_flow.specs.FlowTable.{unchanged}
 use Rattle.mdconstructs_flow.specs.FlowBytes.{flow_byte}
 use Rattle.mdconstructs_flow.specs.FlowWrites.{breaks_are_on, fences_are_on, headings_are_on, indent_grows, is_indented, kind_becomes, mark_becomes, size_becomes, underlines_are_on}
 use Rattle.mdconstructs_flow.specs.HtmlWrites.{html_is_on}
@@ -102,7 +102,7 @@ module _ (html_seen : HtmlIsSeen) (g : Given) (t : Text) (stack : List EventName
     comes rows = come g t stack events 1 (s ∷ (line ++ more)) previous q mark local FlowBlankLineBefore rows
 
     abbrev k : Configuration Unit Unit
-    k = shows stack events (s ∷ (line ++ more)) q mark (counts local)
+    k = shows stack events (s ∷ (line ++ more)) q mark (unchanged local)
 
     -- the mark is noted, and counted
     abbrev begun : ℕ → Local Unit Unit
@@ -227,8 +227,8 @@ module _ (html_seen : HtmlIsSeen) (g : Given) (t : Text) (stack : List EventName
         let rows : Rows Unit Unit = row (consume ∷ []) (Next HtmlFlowOpen) in
         as-kind 60 (cond (on.html_flow && nat_le 1 kind) (html kind) text) html_may_begin e (kind-less on local.tokenize_state.size_c bs)
         (far-or (cond (on.html_flow && nat_le 1 kind) (html kind) text) (when html_is_on rows none) (if-on html_is_on on.html_flow (nat_le 1 kind) (html kind) rows refl
-        (html-found before (counts local) word kind (look g t stack events (line ++ more) (Some s.byte) (q + 1) false (counts local) HtmlFlowOpen) (kept before local (counts local) h refl refl refl refl refl)
-        (html_seen g t stack events line more (Some s.byte) (q + 1) false (counts local) there in_line over))))
+        (html-found before (unchanged local) word kind (look g t stack events (line ++ more) (Some s.byte) (q + 1) false (unchanged local) HtmlFlowOpen) (kept before local (unchanged local) h refl refl refl refl refl)
+        (html_seen g t stack events line more (Some s.byte) (q + 1) false (unchanged local) there in_line over))))
 
     other-here : (s.byte == 35) ≡ false → (s.byte == 42) ≡ false → (s.byte == 95) ≡ false → (s.byte == 45) ≡ false → (s.byte == 61) ≡ false → (s.byte == 96) ≡ false → (s.byte == 126) ≡ false → (s.byte == 60) ≡ false
         → Here text_may_begin
@@ -261,7 +261,7 @@ module _ (html_seen : HtmlIsSeen) (g : Given) (t : Text) (stack : List EventName
       let there : drop (q + 1) t.seats ≡ ss = drop-next t.seats q s ss here in
       let P = Found before (kind_from on columns (b ∷ bs)) (unindented (b ∷ bs)) in
       let comes = come g t stack events 1 (s ∷ ss) previous q mark local name in
-      let grown = indent_grows (shows stack events (s ∷ ss) q mark (counts local)) in
+      let grown = indent_grows (shows stack events (s ∷ ss) q mark (unchanged local)) in
       let go : Rows Unit Unit = row (write indent_grows ∷ consume ∷ []) (Next name) in
       at-line-byte g t stack events P name flow_blank_line_before_rows tests has-rows are-tests 1 s ss previous q mark local
       (by-false (λ (rows : Rows Unit Unit). P (comes rows)) (b == 10) (row (write (kind_becomes BlankLineEnding) ∷ []) Ok) _ in_line.0

@@ -13,9 +13,8 @@ use Rattle.mdconstructs_tables.proofs.Looks.Tests.{told, told_by}
 use Rattle.mdconstructs_tables.specs.Cases.{AreTestsOf, rows_at_byte, rows_in}
 use Rattle.mdconstructs_tables.specs.Looks.{Look, glance, looked_on, scan, shows, unfed_look}
 use Rattle.mdconstructs_tables.specs.Rows.{Rows, when, picked}
-use Rattle.mdconstructs_machines.specs.Tables.{counts}
 use Rattle.mdconstructs_flow.specs.FlowBytes.{Cased, flow_byte, line_feed}
-use Rattle.mdconstructs_flow.specs.FlowTable.{flow}
+use Rattle.mdconstructs_flow.specs.FlowTable.{flow, unchanged}
 use Rattle.mdconstructs_flow.specs.FlowWrites.{at_mark, is_byte}
 use Rattle.mdconstructs_flow_read.specs.SeenKinds.{SeenKind}
 use Rattle.mdconstructs_flow_read.specs.LooksFind.{Finds, LeavesAll, LineEnds}
@@ -70,7 +69,7 @@ module _ (g : Given) (t : Text) (stack : List EventName) (events : List Event) w
     seen_here = sight g t (shows {R = Unit {0}} {D = Unit {0}} stack events l q mark local)
 
     abbrev made_here : Configuration Unit Unit
-    made_here = shows stack events l q mark (counts local)
+    made_here = shows stack events l q mark (unchanged local)
 
     -- rows by a test of what states share
     come-when : (f : Given → Sight → Configuration Unit Unit → Bool) (x y : Rows Unit Unit) → come (when f x y) ≡ come (cond (f g seen_here made_here) x y)
@@ -116,7 +115,7 @@ module _ (g : Given) (t : Text) (stack : List EventName) (events : List Event) w
 
   -- the mark of the line waits
   pub mark-is : (s : Seat) (ss : List Seat) (q : ℕ) (mark : Bool) (local : Local Unit Unit) (m : ℕ) → drop q t.seats ≡ s ∷ ss → local.tokenize_state.marker ≡ m
-      → at_mark g (sight g t (shows {R = Unit {0}} {D = Unit {0}} stack events (s ∷ ss) q mark local)) (shows stack events (s ∷ ss) q mark (counts local)) ≡ (s.byte == m)
+      → at_mark g (sight g t (shows {R = Unit {0}} {D = Unit {0}} stack events (s ∷ ss) q mark local)) (shows stack events (s ∷ ss) q mark (unchanged local)) ≡ (s.byte == m)
   mark-is s ss q mark local m here e =
       let there : slice_get t.seats q ≡ Some s = at-front t.seats q s ss here in
       ap (λ o. is_byte local.tokenize_state.marker (byte_of o)) there ∙ ap (λ n. s.byte == n) e

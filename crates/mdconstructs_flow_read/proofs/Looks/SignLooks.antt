@@ -13,7 +13,7 @@ use Rattle.markdown_tokenizer.specs.Text.{Given, Text}
 use Rattle.mdconstructs_tables.specs.Looks.{shows}
 use Rattle.mdconstructs_tables.specs.Rows.{Rows, consume, write, row, when}
 use Rattle.mdconstructs_machines.specs.Breaks.{is_white, one_more}
-use Rattle.mdconstructs_machines.specs.Tables.{counts}
+use Rattle.mdconstructs_flow.specs.FlowTable.{unchanged}
 use Rattle.mdconstructs_flow.specs.FlowWrites.{count_becomes, count_grows, has_room, kind_becomes, size_becomes, size_grows, text_grows}
 use Rattle.mdconstructs_flow.specs.HeadingAtx.{flow_before_heading_atx_rows, string_start_rows}
 use Rattle.mdconstructs_flow_read.specs.LeafBlocks.{bytes_of}
@@ -56,7 +56,7 @@ module _ (g : Given) (t : Text) (stack : List EventName) (events : List Event) w
         → Heads before (length (heading_text (unindented (bytes_of line)))) (look g t stack events (line ++ more) previous q mark local StringStart)
     start-found [] in_line previous q mark local h named count size room =
         subst (Heads before 0) (sym (look-is g t stack events more previous q mark local StringStart))
-        (at-line-end g t stack events (Heads before 0) StringStart string_start_rows (row [] Ok) has-start refl refl 1 more over previous q mark local (kept before local (counts local) h refl refl refl refl refl, (refl, named, size)))
+        (at-line-end g t stack events (Heads before 0) StringStart string_start_rows (row [] Ok) has-start refl refl 1 more over previous q mark local (kept before local (unchanged local) h refl refl refl refl refl, (refl, named, size)))
     start-found (s ∷ line) in_line previous q mark local h named count size room =
         let b = s.byte in
         let bs = bytes_of line in
@@ -65,7 +65,7 @@ module _ (g : Given) (t : Text) (stack : List EventName) (events : List Event) w
         let l = local.tokenize_state in
         let P = Heads before (length (heading_text (unindented (b ∷ bs)))) in
         let comes = λ (rows : Rows Unit Unit). P (come g t stack events 1 (s ∷ ss) previous q mark local name rows) in
-        let k = shows stack events (s ∷ ss) q mark (counts local) in
+        let k = shows stack events (s ∷ ss) q mark (unchanged local) in
         let go : Rows Unit Unit = row (consume ∷ []) (Next StringStart) in
         let counts_on : Rows Unit Unit = row (write count_grows ∷ consume ∷ []) (Next TextBefore) in
         let text_on : Rows Unit Unit = row (write text_grows ∷ consume ∷ []) (Next StringBeforeData) in
@@ -77,8 +77,8 @@ module _ (g : Given) (t : Text) (stack : List EventName) (events : List Event) w
         at-line-byte g t stack events P name string_start_rows three_tests has-start (feed-is, (blank-is, (sign-is, tt))) 1 s ss previous q mark local
         (by-false comes (b == 10) (row [] Ok) _ in_line.0
         (elim (is_white b) as (λ v. is_white b ≡ v → comes (cond v go (cond (b == 35) counts_on text_on))) [
-          | true ↦ λ w. subst (λ r. Heads before (length (heading_text r)) (on (counts local) name)) (sym (goes is_white b bs w))
-              (start-found line in_line.1 (Some b) (q + 1) false (counts local) (kept before local (counts local) h refl refl refl refl refl) named count size less)
+          | true ↦ λ w. subst (λ r. Heads before (length (heading_text r)) (on (unchanged local) name)) (sym (goes is_white b bs w))
+              (start-found line in_line.1 (Some b) (q + 1) false (unchanged local) (kept before local (unchanged local) h refl refl refl refl refl) named count size less)
           | false ↦ λ w. elim (b == 35) as (λ v. (b == 35) ≡ v → comes (cond v counts_on text_on)) [
             | true ↦ λ e. subst (λ n. Heads before n (on (count_grows k) TextBefore)) (first-word b bs w)
                 (text-found g t stack events before more over line in_line.1 true true (b ∷ []) (Some b) (q + 1) false (count_grows k) (kept before local (count_grows k) h refl refl refl refl refl)
@@ -121,7 +121,7 @@ module _ (g : Given) (t : Text) (stack : List EventName) (events : List Event) w
           let name = FlowBeforeHeadingAtx in
           let P = Found before (kind_by (heads_on n (b ∷ bs))) word in
           let comes = come g t stack events 1 (s ∷ ss) previous q mark local name in
-          let k = shows stack events (s ∷ ss) q mark (counts local) in
+          let k = shows stack events (s ∷ ss) q mark (unchanged local) in
           let less : length line < 2 ^ 64 - 1 = omega arith in
           let on = look g t stack events ss (Some b) (q + 1) false in
           let ends : Rows Unit Unit = row (write (kind_becomes HeadingAtx) ∷ write (size_becomes 0) ∷ []) Ok in

@@ -15,7 +15,7 @@ use Rattle.mdconstructs_tables.specs.Cases.{AreTestsOf}
 use Rattle.mdconstructs_tables.specs.Looks.{Look, shows}
 use Rattle.mdconstructs_tables.specs.Rows.{Rows, consume, write, row, when}
 use Rattle.mdconstructs_machines.specs.Breaks.{is_white, one_more}
-use Rattle.mdconstructs_machines.specs.Tables.{counts}
+use Rattle.mdconstructs_flow.specs.FlowTable.{unchanged}
 use Rattle.mdconstructs_flow.specs.FlowBytes.{flow_byte}
 use Rattle.mdconstructs_flow.specs.FlowWrites.{kind_becomes, size_grows, at_mark, breaks_are_on}
 use Rattle.mdconstructs_flow.specs.HeadingSetext.{flow_before_heading_setext_rows, flow_before_gfm_table_rows, further_dash}
@@ -132,7 +132,7 @@ module _ (g : Given) (t : Text) (stack : List EventName) (events : List Event) w
         let there : drop (q + 1) t.seats ≡ ss = drop-next t.seats q s ss here in
         let grow : Rows Unit Unit = row (write size_grows ∷ consume ∷ []) (Next FlowBeforeThematicBreak) in
         let go : Rows Unit Unit = row (consume ∷ []) (Next name) in
-        let grown = size_grows (shows stack events (s ∷ ss) q mark (counts local)) in
+        let grown = size_grows (shows stack events (s ∷ ss) q mark (unchanged local)) in
         let marked = mark-is g t stack events s ss q mark local m here marks in
         let breaks = g.options.constructs.thematic_break in
         let fails : is_white b ≡ false → is_thematic_break word ≡ false → at no = λ w none. nothing local h (is_blank_line (b ∷ bs)) (word-one b bs w) none (come g t stack events 1 (s ∷ ss) previous q mark local name no) (kept before local _ h refl refl refl refl refl) refl in
@@ -165,9 +165,9 @@ module _ (g : Given) (t : Text) (stack : List EventName) (events : List Event) w
           | false ↦ λ e. elim (is_white b) as (λ v. is_white b ≡ v → at (cond v go no)) [
             | true ↦ λ w.
                 let apart_from : (b == m) ≡ false = apart m b (mark-no-white m is) w in
-                let later = behind-found line in_line.1 (Some b) (q + 1) false (counts local) there (kept before local (counts local) h refl refl refl refl refl) marks (room-less size (length line) room)
+                let later = behind-found line in_line.1 (Some b) (q + 1) false (unchanged local) there (kept before local (unchanged local) h refl refl refl refl refl) marks (room-less size (length line) room)
                 (whole ∙ ap (λ v. (m == 45) && v) (break-white m size b bs apart_from w)) in
-                subst (λ c. Found before (kind_by m word c) word (on (counts local) name)) (sym (white-one b bs w)) later
+                subst (λ c. Found before (kind_by m word c) word (on (unchanged local) name)) (sym (white-one b bs w)) later
             | false ↦ λ w. fails w (elim (b == m) as (λ v. (b == m) ≡ v → is_thematic_break word ≡ false) [
               | true ↦ λ same. none-of word m size (b ∷ bs) whole (ap (λ n. n == 45) (sym (eqb-true b m same)) ∙ e)
               | false ↦ λ other. none-at word m size b bs whole other w
@@ -196,7 +196,7 @@ module _ (g : Given) (t : Text) (stack : List EventName) (events : List Event) w
         let there : drop (q + 1) t.seats ≡ ss = drop-next t.seats q s ss here in
         let grow : Rows Unit Unit = row (write size_grows ∷ consume ∷ []) (Next name) in
         let go : Rows Unit Unit = row (consume ∷ []) (Next FlowBeforeGfmTable) in
-        let grown = size_grows (shows stack events (s ∷ ss) q mark (counts local)) in
+        let grown = size_grows (shows stack events (s ∷ ss) q mark (unchanged local)) in
         let marked = mark-is g t stack events s ss q mark local m here marks in
         let by = by-known g t stack events 1 (s ∷ ss) previous q mark local name P at_mark grow no in
         at-line-byte g t stack events P name flow_before_heading_setext_rows setext_tests has-setext are-setext 1 s ss previous q mark local
@@ -211,10 +211,10 @@ module _ (g : Given) (t : Text) (stack : List EventName) (events : List Event) w
               (subst (λ c. Found before (kind_by m word c) word (on grown name)) (sym (underline-mark m b bs e)) later))
           | false ↦ λ e. elim (is_white b) as (λ v. is_white b ≡ v → at (cond (is_line_mark b) (when at_mark grow no) (cond v go no))) [
             | true ↦ λ w.
-                let later = behind-found line in_line.1 (Some b) (q + 1) false (counts local) there (kept before local (counts local) h refl refl refl refl refl) marks (room-less size (length line) room)
+                let later = behind-found line in_line.1 (Some b) (q + 1) false (unchanged local) there (kept before local (unchanged local) h refl refl refl refl refl) marks (room-less size (length line) room)
                 (whole ∙ ap (λ v. (m == 45) && v) (break-white m size b bs e w)) in
                 by-false at (is_line_mark b) (when at_mark grow no) go (white-no-mark b w)
-                (subst (λ c. Found before (kind_by m word c) word (on (counts local) FlowBeforeGfmTable)) (sym (underline-other m b bs e ∙ white-one b bs w)) later)
+                (subst (λ c. Found before (kind_by m word c) word (on (unchanged local) FlowBeforeGfmTable)) (sym (underline-other m b bs e ∙ white-one b bs w)) later)
             | false ↦ λ w.
                 let fails : at no = nothing local h (underlines_on m (b ∷ bs)) (underline-other m b bs e ∙ word-one b bs w) (none-at word m size b bs whole e w)
                 (come g t stack events 1 (s ∷ ss) previous q mark local name no) (kept before local _ h refl refl refl refl refl) refl in

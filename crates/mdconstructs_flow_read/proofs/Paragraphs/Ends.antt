@@ -16,9 +16,8 @@ use Rattle.markdown_tokenizer.specs.Text.{Given, Text}
 use Rattle.mdconstructs_tables.specs.Looks.{Look}
 use Rattle.mdconstructs_tables.specs.Rows.{Row, class_of, does, exit, picked, write}
 use Rattle.mdconstructs_tables.specs.Stretches.{Halt, ahead, fed_before, halt, over, reads_byte, row_comes_to, sight_before, stretch}
-use Rattle.mdconstructs_machines.specs.Tables.{counts}
 use Rattle.mdconstructs_flow.specs.FlowBytes.{cased, flow_byte, line_feed}
-use Rattle.mdconstructs_flow.specs.FlowTable.{flow}
+use Rattle.mdconstructs_flow.specs.FlowTable.{flow, unchanged}
 use Rattle.mdconstructs_flow.specs.HeadingEdits.{paragraph_ends}
 use Rattle.mdconstructs_flow.specs.Paragraph.{paragraph_inside, paragraph_line_start_rows}
 use Rattle.mdconstructs_flow_read.specs.LeafBlocks.{bytes_of}
@@ -102,8 +101,8 @@ module _ (g : Given) (t : Text) where
       abbrev behind : Configuration Unit Unit
       behind = with_local k look.local
 
-      abbrev left : LeavesAll k.local (counts look.local)
-      left = leaves-on k.local look.local (counts look.local) leaves (record { edits = refl; resolvers = refl; start = refl; end = refl; connect = refl })
+      abbrev left : LeavesAll k.local (unchanged look.local)
+      left = leaves-on k.local look.local (unchanged look.local) leaves (record { edits = refl; resolvers = refl; start = refl; end = refl; connect = refl })
 
       -- the look answers Ok, and its call at the line ending is this
       by-kind : (ok : look.answer ≡ Ok) (after : Configuration Unit Unit) (to : State)
@@ -124,12 +123,12 @@ module _ (g : Given) (t : Text) where
             let passes = passed kind r look.local look.answer can finds ok in
             let under = underlined kind r look.local look.answer finds ok in
             let here : class_of flow_byte (Some s.byte) ≡ Some line_feed = ap Some class_is in record {
-              on = λ differs. (counts look.local, left, by-kind ok (counted behind) (Retry ContentChunkInside) (goes-on g t.end seen behind here (passes ∙ ap not differs)));
-              over = λ stops none. (counts look.local, left, by-kind ok (ended k (counts look.local)) (Retry FlowAfter) (ends g t.end seen behind here (passes ∙ ap not stops) (under ∙ none)));
+              on = λ differs. (unchanged look.local, left, by-kind ok (counted behind) (Retry ContentChunkInside) (goes-on g t.end seen behind here (passes ∙ ap not differs)));
+              over = λ stops none. (unchanged look.local, left, by-kind ok (ended k (unchanged look.local)) (Retry FlowAfter) (ends g t.end seen behind here (passes ∙ ap not stops) (under ∙ none)));
               under = λ stops one. (
-                counts look.local,
+                unchanged look.local,
                 left,
-                by-kind ok (with_local (ended k (counts look.local)) (paragraph_ends (ended k (counts look.local)))) (Retry ContentDefinitionAfter)
+                by-kind ok (with_local (ended k (unchanged look.local)) (paragraph_ends (ended k (unchanged look.local)))) (Retry ContentDefinitionAfter)
                     (begins-heading g t.end seen behind here (passes ∙ ap not stops) (under ∙ one)),
               );
             }
@@ -151,7 +150,7 @@ module _ (g : Given) (t : Text) where
 pub line-ends-so : LinesAreSeen → (g : Given) (t : Text) (k : Configuration Unit Unit) (s : Seat) (line rest : List Seat) → drop k.position t.seats ≡ s ∷ (line ++ rest) → k.waiting ≡ Byte → s.byte ≡ 10
     → IsInLine line → LineEnds rest → length t.seats < 2 ^ 64 - 1 → EndsSo g t k (seen_kind g.options.constructs (bytes_of line))
 line-ends-so lines g t k s line rest at waits feed in_line rest_ends room =
-    let found = next-line-seen g t k.stack k.events lines s line rest (byte_of (seat_before t k.position)) k.position k.ended (counts k.local) at feed in_line rest_ends room in
+    let found = next-line-seen g t k.stack k.events lines s line rest (byte_of (seat_before t k.position)) k.position k.ended (unchanged k.local) at feed in_line rest_ends room in
     let kind = seen_kind g.options.constructs (bytes_of line) in
     ends-so g t k s (line ++ rest) at waits feed kind (unindented (bytes_of line)) (possible g.options.constructs (bytes_of line))
-    (leaves-on k.local (counts k.local) _ (record { edits = refl; resolvers = refl; start = refl; end = refl; connect = refl }) found.0) found.1
+    (leaves-on k.local (unchanged k.local) _ (record { edits = refl; resolvers = refl; start = refl; end = refl; connect = refl }) found.0) found.1

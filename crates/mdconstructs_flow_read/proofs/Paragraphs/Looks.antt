@@ -16,9 +16,8 @@ use Rattle.markdown_tokenizer.specs.Sight.{sight}
 use Rattle.markdown_tokenizer.specs.Text.{Given, Text}
 use Rattle.mdconstructs_tables.specs.Looks.{Look, behind_byte, by_row, glance, looked_on, scan, shows, uncalled}
 use Rattle.mdconstructs_tables.specs.Rows.{class_of, picked}
-use Rattle.mdconstructs_machines.specs.Tables.{counts}
 use Rattle.mdconstructs_flow.specs.FlowBytes.{cased, flow_byte, line_feed}
-use Rattle.mdconstructs_flow.specs.FlowTable.{flow}
+use Rattle.mdconstructs_flow.specs.FlowTable.{flow, unchanged}
 use Rattle.mdconstructs_flow.specs.Look.{non_lazy_continuation_start_rows}
 use Rattle.mdconstructs_flow_read.specs.LeafBlocks.{bytes_of}
 use Rattle.mdconstructs_flow_read.specs.LineKinds.{unindented}
@@ -29,7 +28,7 @@ use Rattle.mdconstructs_flow_read.proofs.Looks.LookSteps.{leaves-on}
 
 -- over the line ending, the columns are counted from zero
 abbrev uncounted : Local Unit Unit → Local Unit Unit
-uncounted l = let m = counts l in record m { tokenize_state = record m.tokenize_state { size_c = 0 } }
+uncounted l = let m = unchanged l in record m { tokenize_state = record m.tokenize_state { size_c = 0 } }
 
 module _ (g : Given) (t : Text) (stack : List EventName) (events : List Event) where
   abbrev looks_on : List Seat → Option ℕ → ℕ → Local Unit Unit → Look Unit Unit
@@ -40,8 +39,8 @@ module _ (g : Given) (t : Text) (stack : List EventName) (events : List Event) w
   over-feed s ss previous q mark local feeds =
       let l = s ∷ ss in
       ap (λ c. looked_on flow g t stack events (λ local name. scan flow g t stack events 2 ss (Some s.byte) (q + 1) false local name) l mark
-      (by_row stack events (glance flow g t stack events 1 previous l q mark) (uncalled local NonLazyContinuationStart) (sight g t (shows stack events l q mark local)) l q mark (counts local)
-      (picked (cased non_lazy_continuation_start_rows (class_of flow_byte previous) (Some c)) g (sight g t (shows stack events l q mark local)) (shows stack events l q mark (counts local))))) feeds
+      (by_row stack events (glance flow g t stack events 1 previous l q mark) (uncalled local NonLazyContinuationStart) (sight g t (shows stack events l q mark local)) l q mark (unchanged local)
+      (picked (cased non_lazy_continuation_start_rows (class_of flow_byte previous) (Some c)) g (sight g t (shows stack events l q mark local)) (shows stack events l q mark (unchanged local))))) feeds
 
   -- so the look finds the kind of the next line
   pub next-line-seen : LinesAreSeen → (s : Seat) (line rest : List Seat) (previous : Option ℕ) (q : ℕ) (mark : Bool) (local : Local Unit Unit) → drop q t.seats ≡ s ∷ (line ++ rest) → s.byte ≡ 10

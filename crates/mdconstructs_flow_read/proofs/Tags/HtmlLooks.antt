@@ -15,9 +15,8 @@ use Rattle.mdconstructs_tables.specs.Cases.{rows_in}
 use Rattle.mdconstructs_tables.specs.Looks.{Look, scan, shows}
 use Rattle.mdconstructs_tables.specs.Rows.{consume, write, Rows, picked, row, when}
 use Rattle.mdconstructs_machines.specs.Breaks.{is_white}
-use Rattle.mdconstructs_machines.specs.Tables.{counts}
 use Rattle.mdconstructs_flow.specs.FlowBytes.{FlowByte, Cased, line_feed, flow_byte, is_line_feed, is_blank, is_greater, is_slash, is_equals, is_double, is_single, is_quote, begins_name, is_in_name, begins_no_value, is_in_no_value}
-use Rattle.mdconstructs_flow.specs.FlowTable.{flow}
+use Rattle.mdconstructs_flow.specs.FlowTable.{flow, unchanged}
 use Rattle.mdconstructs_flow.specs.FlowWrites.{at_mark, mark_becomes}
 use Rattle.mdconstructs_flow.specs.HtmlTags.{html_flow_complete_after_rows, html_flow_complete_attribute_name_after_rows, html_flow_complete_attribute_name_before_rows, html_flow_complete_attribute_name_rows, html_flow_complete_attribute_value_before_rows, html_flow_complete_attribute_value_quoted_after_rows, html_flow_complete_attribute_value_quoted_rows, html_flow_complete_attribute_value_unquoted_rows, html_flow_complete_closing_tag_after_rows, html_flow_complete_end_rows}
 use Rattle.mdconstructs_flow_read.specs.LeafBlocks.{bytes_of}
@@ -93,18 +92,18 @@ module _ (g : Given) (t : Text) (stack : List EventName) (events : List Event) w
     past_by n false e k a b h = h
 
     -- by a test of what states share
-    pub depends : (n : Name) (f : Given → Sight → Configuration Unit Unit → Bool) (y : Bool) → f g (sight g t (shows stack events l q mark local)) (shows stack events l q mark (counts local)) ≡ y
+    pub depends : (n : Name) (f : Given → Sight → Configuration Unit Unit → Bool) (y : Bool) → f g (sight g t (shows stack events l q mark local)) (shows stack events l q mark (unchanged local)) ≡ y
         → (k m : ℕ) (a b : Rows Unit Unit) → At n k a → At n m b → At n (cond y k m) (when f a b)
     depends n f y e k m a b h j =
         let seen = sight g t (shows stack events l q mark local) in
-        let c = shows stack events l q mark (counts local) in
+        let c = shows stack events l q mark (unchanged local) in
         subst (λ x. Is (cond y k m) local (told_by flow (λ r. r) g t stack events bound rest l previous q mark local n (cond x (picked a g seen c) (picked b g seen c)))) (sym e)
         (elim y as (λ x. Is (cond x k m) local (told_by flow (λ r. r) g t stack events bound rest l previous q mark local n (cond x (picked a g seen c) (picked b g seen c)))) [
           | true ↦ h
           | false ↦ j
         ])
 
-    pub depends-whole : (n : Name) (f : Given → Sight → Configuration Unit Unit → Bool) (y : Bool) → f g (sight g t (shows stack events l q mark local)) (shows stack events l q mark (counts local)) ≡ y
+    pub depends-whole : (n : Name) (f : Given → Sight → Configuration Unit Unit → Bool) (y : Bool) → f g (sight g t (shows stack events l q mark local)) (shows stack events l q mark (unchanged local)) ≡ y
         → (k m : Bool) (a b : Rows Unit Unit) → At n (whole k) a → At n (whole m) b → At n (whole (cond y k m)) (when f a b)
     depends-whole n f y e k m a b h j =
         subst (λ i. At n i (when f a b)) (sym (whole-cond y k m)) (depends n f y e (whole k) (whole m) a b h j)
@@ -188,8 +187,8 @@ module _ (g : Given) (t : Text) (stack : List EventName) (events : List Event) w
     no-feed : (place : Place) (k : Bool) (a b : Rows Unit Unit) → Here place k b → Here place k (cond (is_line_feed (flow_byte s.byte)) a b)
     no-feed place k a b h = past_by 1 more (s ∷ (ss ++ rest)) previous q mark local (state_of place) (is_line_feed (flow_byte s.byte)) (feed-is s.byte ∙ in_line) (whole k) a b h
 
-    goes-to : (from place : Place) → Marks place (counts local) → Here from (goes bs place) (to place)
-    goes-to from place marks = on (counts local) place marks
+    goes-to : (from place : Place) → Marks place (unchanged local) → Here from (goes bs place) (to place)
+    goes-to from place marks = on (unchanged local) place marks
 
     fails : (place : Place) → Here place false no
     fails place = (refl, refl, refl, refl, refl, refl)
@@ -233,7 +232,7 @@ module _ (g : Given) (t : Text) (stack : List EventName) (events : List Event) w
 
     -- a quotation mark is noted
     quote-goes : (m : ℕ) → Here value (goes bs (quoted m)) (row (write (mark_becomes m) ∷ consume ∷ []) (Next HtmlFlowCompleteAttributeValueQuoted))
-    quote-goes m = on (mark_becomes m (shows stack events (s ∷ (ss ++ rest)) q mark (counts local))) (quoted m) refl
+    quote-goes m = on (mark_becomes m (shows stack events (s ∷ (ss ++ rest)) q mark (unchanged local))) (quoted m) refl
 
     value-steps : Steps value
     value-steps =

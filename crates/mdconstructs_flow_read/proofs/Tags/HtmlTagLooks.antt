@@ -17,9 +17,8 @@ use Rattle.mdconstructs_tables.specs.Cases.{rows_in}
 use Rattle.mdconstructs_tables.specs.Looks.{Glance, glance, goes_on, is_over, Look, looked_on, one_more as one_call_more, scan, shows, unfed_look}
 use Rattle.mdconstructs_tables.specs.Rows.{consume, write, Rows, row, when}
 use Rattle.mdconstructs_machines.specs.Breaks.{is_white, one_more}
-use Rattle.mdconstructs_machines.specs.Tables.{counts}
 use Rattle.mdconstructs_flow.specs.FlowBytes.{FlowByte, Cased, by_byte, line_feed, flow_byte, name_byte, is_line_feed, is_blank, is_greater, is_slash, is_dash, is_letter, is_opening, is_bang, is_question}
-use Rattle.mdconstructs_flow.specs.FlowTable.{flow}
+use Rattle.mdconstructs_flow.specs.FlowTable.{flow, unchanged}
 use Rattle.mdconstructs_flow.specs.FlowWrites.{size_becomes, size_grows, is_byte}
 use Rattle.mdconstructs_flow.specs.HtmlNames.{no_name, one_byte_more}
 use Rattle.mdconstructs_flow.specs.HtmlTags.{html_flow_basic_self_closing_rows, html_flow_cdata_open_inside_rows, html_flow_comment_open_inside_rows, html_flow_declaration_open_rows, html_flow_open_rows, html_flow_tag_close_start_rows, html_flow_tag_name_goes_on, html_flow_tag_name_rows}
@@ -148,24 +147,24 @@ module _ (g : Given) (t : Text) (stack : List EventName) (events : List Event) w
     at-white : Here (listed its_closes (is_raw its_number) (is_block its_number) (cond its_closes (whole (goes bs closing)) (whole (goes bs before)))) (when opens_raw (kind_of 1) (when is_block_tag (kind_of 6) attributes))
     at-white =
         by-list bound more l previous q mark local _ attributes
-        (by-closes bound more l previous q mark local (whole (goes bs closing)) (whole (goes bs before)) (to (state_of closing)) (to (state_of before)) (on (counts local) closing tt) (on (counts local) before tt))
+        (by-closes bound more l previous q mark local (whole (goes bs closing)) (whole (goes bs before)) (to (state_of closing)) (to (state_of before)) (on (unchanged local) closing tt) (on (unchanged local) before tt))
 
     at-slash : Here (cond (is_block its_number) (cond (first_passes (λ c. c == 62) bs) 6 0) (cond its_closes 0 (whole (goes bs slashed)))) (when is_block_tag (to HtmlFlowBasicSelfClosing) slash_end)
     at-slash =
-        by-block bound more l previous q mark local _ _ (to HtmlFlowBasicSelfClosing) slash_end (on_end (counts local))
-        (by-closes bound more l previous q mark local 0 (whole (goes bs slashed)) (row [] Nok) (to (state_of slashed)) (none bound more l previous q mark local) (on (counts local) slashed tt))
+        by-block bound more l previous q mark local _ _ (to HtmlFlowBasicSelfClosing) slash_end (on_end (unchanged local))
+        (by-closes bound more l previous q mark local 0 (whole (goes bs slashed)) (row [] Nok) (to (state_of slashed)) (none bound more l previous q mark local) (on (unchanged local) slashed tt))
 
     at-dash : Here (cond (b == 45) (tagged its_closes no_name bs) 0) (cond (is_dash (flow_byte b)) (row (write (size_becomes no_name) ∷ consume ∷ []) (Next HtmlFlowTagName)) (row [] Nok))
     at-dash =
         by-test bound more l previous q mark local (is_dash (flow_byte b)) (b == 45) (dash-is b) (tagged its_closes no_name bs) 0 (row (write (size_becomes no_name) ∷ consume ∷ []) (Next HtmlFlowTagName)) (row [] Nok)
-        (on_name (size_becomes no_name (shows stack events l q mark (counts local)))) (none bound more l previous q mark local)
+        (on_name (size_becomes no_name (shows stack events l q mark (unchanged local)))) (none bound more l previous q mark local)
 
     name-ends : Here behind_name (rows_in html_flow_tag_name_rows.cases html_flow_tag_name_rows.rest (flow_byte b))
     name-ends =
         past_by g t stack events bound more l previous q mark local HtmlFlowTagName (is_line_feed (flow_byte b)) (feed-is b ∙ in_line) behind_name _ _
         (by-test bound more l previous q mark local (is_blank (flow_byte b)) (is_white b) (blank-is b) _ _ _ _ at-white
         (by-test bound more l previous q mark local (is_greater (flow_byte b)) (b == 62) (greater-is b) _ _ _ _
-        (by-list bound more l previous q mark local (whole (goes bs after)) (to (state_of after)) (on (counts local) after tt))
+        (by-list bound more l previous q mark local (whole (goes bs after)) (to (state_of after)) (on (unchanged local) after tt))
         (by-test bound more l previous q mark local (is_slash (flow_byte b)) (b == 47) (slash-is b) _ _ _ _ at-slash at-dash)))
 
     name-goes : Here (tagged its_closes its_number (b ∷ bs)) (name_rows (flow_byte b))
@@ -173,7 +172,7 @@ module _ (g : Given) (t : Text) (stack : List EventName) (events : List Event) w
         let others = rows_in html_flow_tag_name_rows.cases html_flow_tag_name_rows.rest (flow_byte b) in
         subst (λ o. Here (tagged its_closes its_number (b ∷ bs)) (by_byte o html_flow_tag_name_goes_on others)) (sym (name-byte-is b))
         (elim (is_ascii_alphanumeric b) as (λ x. Here (cond x (tagged its_closes (one_byte_more its_number b) bs) behind_name) (by_byte (cond x (Some b) None) html_flow_tag_name_goes_on others)) [
-          | true ↦ on_name (name_grows b (shows stack events l q mark (counts local)))
+          | true ↦ on_name (name_grows b (shows stack events l q mark (unchanged local)))
           | false ↦ name-ends
         ])
 
@@ -258,7 +257,7 @@ module _ (g : Given) (t : Text) (stack : List EventName) (events : List Event) w
       let done : Rows Unit Unit = kind_of 5 in
       let no : Rows Unit Unit = row [] Nok in
       let is = ap (λ o. is_byte (cdata_byte n) (byte_of o)) (at-front t.seats q s (ss ++ rest) here) in
-      let on = cdata-looks ss rest (q + 1) (drop-next t.seats q s (ss ++ rest) here) ends (Some s.byte) false (size_grows (shows stack events l q mark (counts local))) in
+      let on = cdata-looks ss rest (q + 1) (drop-next t.seats q s (ss ++ rest) here) ends (Some s.byte) false (size_grows (shows stack events l q mark (unchanged local))) in
       let asks = depends g t stack events 1 more l previous q mark local HtmlFlowCdataOpenInside at_cdata (s.byte == cdata_byte n) is in
       spot-test s ss rest previous q mark local character_data (is_letter (flow_byte s.byte)) (is_ascii_alphabetic s.byte) (letter-is s.byte) _ _ (when at_cdata grow no) (cond (is_opening (flow_byte s.byte)) (when at_cdata done no) no)
       (asks (in_cdata (one_more n) (bytes_of ss)) 0 grow no on (refl, refl, refl, refl, refl, refl))
@@ -277,9 +276,9 @@ module _ (g : Given) (t : Text) (stack : List EventName) (events : List Event) w
       let test = spot-test s ss rest previous q mark local less_bang in
       test (is_letter (flow_byte s.byte)) (is_ascii_alphabetic s.byte) (letter-is s.byte) 4 _ letters (cond (is_dash (flow_byte s.byte)) dashes (cond (is_opening (flow_byte s.byte)) brackets no))
       (refl, refl, refl, refl, refl, (refl, refl, refl))
-      (test (is_dash (flow_byte s.byte)) (s.byte == 45) (dash-is s.byte) _ _ dashes (cond (is_opening (flow_byte s.byte)) brackets no) (dash-looks ss rest ends (Some s.byte) (q + 1) false (counts local))
+      (test (is_dash (flow_byte s.byte)) (s.byte == 45) (dash-is s.byte) _ _ dashes (cond (is_opening (flow_byte s.byte)) brackets no) (dash-looks ss rest ends (Some s.byte) (q + 1) false (unchanged local))
       (test (is_opening (flow_byte s.byte)) (s.byte == 91) (opening-is s.byte) _ 0 brackets no
-      (cdata-looks ss rest (q + 1) (drop-next t.seats q s (ss ++ rest) here) ends (Some s.byte) false (size_becomes 0 (shows stack events l q mark (counts local)))) (refl, refl, refl, refl, refl, refl)))
+      (cdata-looks ss rest (q + 1) (drop-next t.seats q s (ss ++ rest) here) ends (Some s.byte) false (size_becomes 0 (shows stack events l q mark (unchanged local)))) (refl, refl, refl, refl, refl, refl)))
 
   name-looks : (line rest : List Seat) (q : ℕ) → drop q t.seats ≡ line ++ rest → IsInLine line → LineEnds rest → (previous : Option ℕ) (mark : Bool) (local : Local Unit Unit)
       → Is (tagged local.tokenize_state.seen local.tokenize_state.size_b (bytes_of line)) local (scan flow g t stack events 2 (line ++ rest) previous q mark local HtmlFlowTagName)
@@ -298,7 +297,7 @@ module _ (g : Given) (t : Text) (stack : List EventName) (events : List Event) w
       let more = scan flow g t stack events 2 (ss ++ rest) (Some s.byte) (q + 1) false in
       let l = s ∷ (ss ++ rest) in
       let there = drop-next t.seats q s (ss ++ rest) here in
-      let closing_set = tag_closes closes (shows stack events l q mark (counts local)) in
+      let closing_set = tag_closes closes (shows stack events l q mark (unchanged local)) in
       let local' = size_becomes 0 (shows stack events l q mark closing_set) in
       one-call-more g t stack events more l mark (tagged closes 0 (bytes_of (s ∷ ss))) local (glance flow g t stack events 1 previous l q mark local' HtmlFlowTagName)
       (name-goes 0 s ss rest previous q mark local' in_line.0
@@ -328,8 +327,8 @@ module _ (g : Given) (t : Text) (stack : List EventName) (events : List Event) w
       let test = spot-test s ss rest previous q mark local less in
       test (is_letter c) (is_ascii_alphabetic s.byte) (letter-is s.byte) _ _ letters (cond (is_slash c) slashes (cond (is_bang c) bangs (cond (is_question c) questions no)))
       (name-begins s ss rest q here in_line ends previous mark local less false)
-      (test (is_slash c) (s.byte == 47) (slash-is s.byte) _ _ slashes (cond (is_bang c) bangs (cond (is_question c) questions no)) (close-looks ss rest (q + 1) there in_line.1 ends (Some s.byte) false (counts local))
-      (test (is_bang c) (s.byte == 33) (bang-is s.byte) _ _ bangs (cond (is_question c) questions no) (bang-looks ss rest (q + 1) there ends (Some s.byte) false (counts local))
+      (test (is_slash c) (s.byte == 47) (slash-is s.byte) _ _ slashes (cond (is_bang c) bangs (cond (is_question c) questions no)) (close-looks ss rest (q + 1) there in_line.1 ends (Some s.byte) false (unchanged local))
+      (test (is_bang c) (s.byte == 33) (bang-is s.byte) _ _ bangs (cond (is_question c) questions no) (bang-looks ss rest (q + 1) there ends (Some s.byte) false (unchanged local))
       (test (is_question c) (s.byte == 63) (question-is s.byte) 3 0 questions no (refl, refl, refl, refl, refl, (refl, refl, refl)) (refl, refl, refl, refl, refl, refl))))
 
 pub html-is-seen : HtmlIsSeen

@@ -21,10 +21,9 @@ use Rattle.mdconstructs_tables.specs.Looks.{waits_at}
 use Rattle.mdconstructs_tables.specs.Rows.{enter, exit, consume, row, StateRows, named, table_step}
 use Rattle.mdconstructs_machines.specs.LineEvents.{all_of}
 use Rattle.mdconstructs_machines.specs.Spans.{event}
-use Rattle.mdconstructs_machines.specs.Tables.{counts}
 use Rattle.mdconstructs_flow.specs.Flow.{flow_after, flow_start}
 use Rattle.mdconstructs_flow.specs.FlowBytes.{FlowByte, line_feed, flow_byte}
-use Rattle.mdconstructs_flow.specs.FlowTable.{flow}
+use Rattle.mdconstructs_flow.specs.FlowTable.{flow, unchanged}
 use Rattle.mdconstructs_flow_read.specs.LeafBlocks.{Line}
 use Rattle.mdconstructs_flow_read.specs.LeafEvents.{leaf_marks}
 use Rattle.mdconstructs_flow_read.specs.ToldMarks.{as_it_is}
@@ -48,7 +47,7 @@ module _ (g : Given) (t : Text) (k : Configuration Unit Unit) where
       → IsTold g t k (Retry name) (map as_it_is (leaf_marks g.bytes n (s ∷ []))) more
   ending-told n name state is row_is s more feed at waits =
       let seen = sight g t k in
-      let k1 = with_local k (counts k.local) in
+      let k1 = with_local k (unchanged k.local) in
       let after = exited n seen.next (consumed (entered n None seen.enter_place k1)) in
       let step = called-row g t k name state is (Some line_feed) (class-here g t k (s ∷ all_of more) at waits ∙ ap (λ b. Some (flow_byte b)) feed) (row (enter n ∷ consume ∷ exit n ∷ []) (Next FlowStart)) row_is in
       let here = at-front t.seats k.position s (all_of more) at in
@@ -72,9 +71,9 @@ module _ (g : Given) (t : Text) (k : Configuration Unit Unit) where
 
   -- a state with which the text ends
   pub end-told : (name : Name) (state : StateRows FlowByte Unit Unit) → named flow.states name ≡ Some state → ((previous : Option FlowByte) → state.rows previous None ≡ row [] Ok)
-      → drop k.position t.seats ≡ [] → k.waiting ≡ End → ToldTo g t k (Retry name) [] (with_local k (counts k.local)) Ok
+      → drop k.position t.seats ≡ [] → k.waiting ≡ End → ToldTo g t k (Retry name) [] (with_local k (unchanged k.local)) Ok
   end-told name state is row_is at waits =
-      let after = with_local k (counts k.local) in
+      let after = with_local k (unchanged k.local) in
       let step = called-row g t k name state is None (class-here g t k [] at waits) (row [] Ok) row_is in
       told-none g t k after (Retry name) Ok 1 refl (record { edits = refl; resolvers = refl }) (λ cs calls z h. (goes-called g (table_step flow g) t k name after Ok step).leads cs calls z h)
 
@@ -88,7 +87,7 @@ module _ (g : Given) (t : Text) (k : Configuration Unit Unit) where
       let nothing : ending ++ all_of more ≡ [] = ap (λ e. e ++ all_of more) none.0 ∙ ap all_of none.1 in
       subst (λ e. IsTold g t k (Retry FlowAfter) (map as_it_is (leaf_marks g.bytes LineEnding e)) more) (sym none.0)
       (record {
-        after = with_local k (counts k.local);
+        after = with_local k (unchanged k.local);
         to = Ok;
         told_to = end-told FlowAfter flow_after refl (λ previous. refl) (at ∙ nothing) (waits ∙ ap waits_at nothing);
         ends = inr (refl, none.1);
@@ -99,5 +98,5 @@ module _ (g : Given) (t : Text) (k : Configuration Unit Unit) where
       → IsTold g t k (Retry FlowStart) (map as_it_is (leaf_marks g.bytes BlankLineEnding (s ∷ []))) more
   blank-told s more feed at waits = ending-told BlankLineEnding FlowStart flow_start refl (λ previous. refl) s more feed at waits
 
-  pub start-ends : drop k.position t.seats ≡ [] → k.waiting ≡ End → ToldTo g t k (Retry FlowStart) [] (with_local k (counts k.local)) Ok
+  pub start-ends : drop k.position t.seats ≡ [] → k.waiting ≡ End → ToldTo g t k (Retry FlowStart) [] (with_local k (unchanged k.local)) Ok
   start-ends at waits = end-told FlowStart flow_start refl (λ previous. refl) at waits

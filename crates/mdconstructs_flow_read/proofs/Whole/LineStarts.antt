@@ -20,10 +20,9 @@ use Rattle.mdconstructs_tables.proofs.Looks.Scans.{feeds}
 use Rattle.mdconstructs_tables.specs.Looks.{waits_at}
 use Rattle.mdconstructs_tables.specs.Rows.{enter, exit, consume, choose, write, row, table_step}
 use Rattle.mdconstructs_machines.specs.LineEvents.{all_of, ending_of, line_text}
-use Rattle.mdconstructs_machines.specs.Tables.{counts}
 use Rattle.mdconstructs_flow.specs.Flow.{flow_start, flow_start_rows}
 use Rattle.mdconstructs_flow.specs.FlowBytes.{FlowByte, flow_byte}
-use Rattle.mdconstructs_flow.specs.FlowTable.{flow}
+use Rattle.mdconstructs_flow.specs.FlowTable.{flow, unchanged}
 use Rattle.mdconstructs_flow.specs.FlowWrites.{indent_becomes}
 use Rattle.mdconstructs_flow_read.specs.BlocksRead.{AreLines, IsAtLines, KeepsEdits}
 use Rattle.mdconstructs_flow_read.specs.LeafBlocks.{Line, bytes_of, text_of}
@@ -60,7 +59,7 @@ module _ (g : Given) (t : Text) (k : Configuration Unit Unit) where
       told-none g t k (at_end k) (Next name) (Retry name) 0 refl (record { edits = refl; resolvers = refl }) (leads-fed name (at_end k) (feeds k.stack k.events t [] k.position k.ended k.local at))
 
   -- the text ends before a line
-  pub ends-told : drop k.position t.seats ≡ [] → ToldTo g t k (Next FlowStart) [] (with_local (at_end k) (counts k.local)) Ok
+  pub ends-told : drop k.position t.seats ≡ [] → ToldTo g t k (Next FlowStart) [] (with_local (at_end k) (unchanged k.local)) Ok
   ends-told at = told-on g t k (at_end k) _ (Next FlowStart) (Retry FlowStart) Ok [] [] (told-fed-end FlowStart at) (start-ends g t (at_end k) at refl)
 
 -- the bytes of a line that has text
@@ -101,7 +100,7 @@ module _ (line : Line) (more : List Line) (are : AreLines (line ∷ more)) (s : 
         let k0 = at_byte k in
         let here : drop k.position t.seats ≡ s ∷ (ss ++ rest) = at ∙ first-byte in
         let r = looks g t k0 s (ss ++ rest) here refl FlowStart FlowBlankLineBefore FlowBlankLineAfter FlowBeforeContent flow_start refl (flow_byte s.byte) refl (indent_becomes 0 ∷ []) start-row in
-        let begun = indent_becomes 0 (with_local k0 (counts k.local)) in
+        let begun = indent_becomes 0 (with_local k0 (unchanged k.local)) in
         let few : length (s ∷ ss) < 2 ^ 64 - 1 = omega (arith, room, length-drop k.position t.seats, ap length here, length-append (s ∷ ss) rest) in
         let (leaves, finds) = seen g t k.stack k.events (s ∷ ss) rest (byte_of (seat_before t k.position)) k.position k.ended begun here in-line-there line-ends-there few refl in
         let keeps : KeepsEdits k.local r.local = record { edits = leaves.edits; resolvers = leaves.resolvers } in

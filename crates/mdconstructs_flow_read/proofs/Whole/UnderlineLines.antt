@@ -14,10 +14,9 @@ use Rattle.markdown_tokenizer.specs.Text.{Given, Text}
 use Rattle.mdconstructs_tables.proofs.Looks.Scans.{goes-called}
 use Rattle.mdconstructs_tables.specs.Rows.{Row, Rows, row, picked, step_of, table_step}
 use Rattle.mdconstructs_machines.specs.Breaks.{is_white}
-use Rattle.mdconstructs_machines.specs.Tables.{counts}
 use Rattle.mdconstructs_flow.specs.Flow.{blank_begins_line, flow_blank_line_after, mark_begins_line}
 use Rattle.mdconstructs_flow.specs.FlowBytes.{FlowByte, blank, dash, equals, flow_byte, word_byte, line_feed}
-use Rattle.mdconstructs_flow.specs.FlowTable.{flow}
+use Rattle.mdconstructs_flow.specs.FlowTable.{flow, unchanged}
 use Rattle.mdconstructs_flow_read.specs.LineKinds.{begins_with, unindented}
 use Rattle.mdconstructs_flow_read.specs.SeenKinds.{underline, seen_kind}
 use Rattle.mdconstructs_flow_read.proofs.Lines.Checks.{called-row, class-here}
@@ -41,7 +40,7 @@ underline-class on b bs other is =
 module _ (g : Given) (t : Text) (k : Configuration Unit Unit) (s : Seat) (ss : List Seat) (at : drop k.position t.seats ≡ s ∷ ss) (waits : k.waiting ≡ Byte)
     (kind : k.local.tokenize_state.token_1 ≡ HeadingSetextUnderline) (no_break : (g.options.constructs.thematic_break && ((k.local.tokenize_state.marker == 45) && nat_le 3 k.local.tokenize_state.size_b)) ≡ false) where
   abbrev pub after : Configuration Unit Unit
-  after = with_local k (counts k.local)
+  after = with_local k (unchanged k.local)
 
   abbrev nothing : Row Unit Unit
   nothing = record { acts = []; answer = Retry FlowBeforeContent }

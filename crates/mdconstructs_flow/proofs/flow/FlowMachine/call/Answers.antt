@@ -3,7 +3,6 @@ use Rattle.mdconstructs_tables.specs.RowInvariant.{begun}
 use Rattle.mdconstructs_tables.proofs.Rows.Calls.{callable, never-called}
 use Rattle.mdconstructs_machines.specs.Paragraphs.{CanLinkChunk}
 use Rattle.mdconstructs_machines.specs.Laws.Paragraphs.{can-follow}
-use Rattle.mdconstructs_machines.specs.Tables.{counts}
 use Rattle.mdconstructs_flow.specs.BlankLine.{blank_line_start}
 use Rattle.mdconstructs_flow.specs.CodeFenced.{flow_before_raw, flow_before_code_indented, raw_flow_start, raw_flow_sequence_open, raw_flow_info_before, raw_flow_before_sequence_open, raw_flow_info, raw_text_start, raw_flow_meta_before, raw_flow_meta, raw_flow_at_non_lazy_break, raw_flow_close_start, raw_flow_before_sequence_close, raw_flow_sequence_close, raw_flow_after_sequence_close, raw_flow_content_before, raw_flow_content_start, raw_flow_before_content_chunk, raw_flow_content_chunk, raw_flow_after, raw_text_sequence_open, raw_text_between, raw_text_sequence_close, raw_text_data}
 use Rattle.mdconstructs_flow.specs.CodeIndented.{code_indented_start, code_indented_at_break, code_indented_further_after, code_indented_inside, space_or_tab_eol_after_first, code_indented_after, code_indented_further_begin, code_indented_further_start}
@@ -16,306 +15,306 @@ use Rattle.mdconstructs_flow.specs.HtmlTags.{html_flow_open, html_flow_declarati
 use Rattle.mdconstructs_flow.specs.Look.{non_lazy_continuation_start, flow_blank_line_before}
 use Rattle.mdconstructs_flow.specs.Paragraph.{flow_before_content, paragraph_start, paragraph_inside, paragraph_line_start, content_chunk_inside}
 use Rattle.mdconstructs_flow.specs.ThematicBreak.{flow_before_thematic_break, thematic_break_before, thematic_break_at_break, thematic_break_sequence}
-use Rattle.mdconstructs_flow.specs.FlowTable.{flow}
+use Rattle.mdconstructs_flow.specs.FlowTable.{flow, unchanged}
 use Rattle.mdconstructs_flow.proofs.Called.{known-before, known-underline, can-end}
 use Rattle.mdconstructs_flow.proofs.flow.FlowMachine.call.Goals as goal
 
 pub flow_start-requires : goal.flow_start-requires
-flow_start-requires c = callable flow counts c.args.name flow_start _ _ (search rules) refl c.requires.invariant.holds c.begin.ensures
+flow_start-requires c = callable flow unchanged c.args.name flow_start _ _ (search rules) refl c.requires.invariant.holds c.begin.ensures
 
 pub flow_blank_line_after-requires : goal.flow_blank_line_after-requires
-flow_blank_line_after-requires c = callable flow counts c.args.name flow_blank_line_after _ _ (search rules) refl c.requires.invariant.holds c.begin.ensures
+flow_blank_line_after-requires c = callable flow unchanged c.args.name flow_blank_line_after _ _ (search rules) refl c.requires.invariant.holds c.begin.ensures
 
 pub flow_after-requires : goal.flow_after-requires
-flow_after-requires c = callable flow counts c.args.name flow_after _ _ (search rules) refl c.requires.invariant.holds c.begin.ensures
+flow_after-requires c = callable flow unchanged c.args.name flow_after _ _ (search rules) refl c.requires.invariant.holds c.begin.ensures
 
 pub non_lazy_continuation_start-requires : goal.non_lazy_continuation_start-requires
-non_lazy_continuation_start-requires c = callable flow counts c.args.name non_lazy_continuation_start _ _ (search rules) refl c.requires.invariant.holds c.begin.ensures
+non_lazy_continuation_start-requires c = callable flow unchanged c.args.name non_lazy_continuation_start _ _ (search rules) refl c.requires.invariant.holds c.begin.ensures
 
 pub flow_blank_line_before-requires : goal.flow_blank_line_before-requires
-flow_blank_line_before-requires c = callable flow counts c.args.name flow_blank_line_before _ _ (search rules) refl c.requires.invariant.holds c.begin.ensures
+flow_blank_line_before-requires c = callable flow unchanged c.args.name flow_blank_line_before _ _ (search rules) refl c.requires.invariant.holds c.begin.ensures
 
 pub blank_line_start-requires : goal.blank_line_start-requires
-blank_line_start-requires c = callable flow counts c.args.name blank_line_start _ _ (search rules) refl c.requires.invariant.holds c.begin.ensures
+blank_line_start-requires c = callable flow unchanged c.args.name blank_line_start _ _ (search rules) refl c.requires.invariant.holds c.begin.ensures
 
 pub flow_before_thematic_break-requires : goal.flow_before_thematic_break-requires
-flow_before_thematic_break-requires c = callable flow counts c.args.name flow_before_thematic_break _ _ (search rules) refl c.requires.invariant.holds c.begin.ensures
+flow_before_thematic_break-requires c = callable flow unchanged c.args.name flow_before_thematic_break _ _ (search rules) refl c.requires.invariant.holds c.begin.ensures
 
 pub thematic_break_before-requires : goal.thematic_break_before-requires
-thematic_break_before-requires c = callable flow counts c.args.name thematic_break_before _ _ (search rules) refl c.requires.invariant.holds c.begin.ensures
+thematic_break_before-requires c = callable flow unchanged c.args.name thematic_break_before _ _ (search rules) refl c.requires.invariant.holds c.begin.ensures
 
 pub thematic_break_at_break-requires : goal.thematic_break_at_break-requires
-thematic_break_at_break-requires c = callable flow counts c.args.name thematic_break_at_break _ _ (search rules) refl c.requires.invariant.holds c.begin.ensures
+thematic_break_at_break-requires c = callable flow unchanged c.args.name thematic_break_at_break _ _ (search rules) refl c.requires.invariant.holds c.begin.ensures
 
 pub thematic_break_sequence-requires : goal.thematic_break_sequence-requires
-thematic_break_sequence-requires c = callable flow counts c.args.name thematic_break_sequence _ _ (search rules) refl c.requires.invariant.holds c.begin.ensures
+thematic_break_sequence-requires c = callable flow unchanged c.args.name thematic_break_sequence _ _ (search rules) refl c.requires.invariant.holds c.begin.ensures
 
 pub flow_before_heading_atx-requires : goal.flow_before_heading_atx-requires
-flow_before_heading_atx-requires c = callable flow counts c.args.name flow_before_heading_atx _ _ (search rules) refl c.requires.invariant.holds c.begin.ensures
+flow_before_heading_atx-requires c = callable flow unchanged c.args.name flow_before_heading_atx _ _ (search rules) refl c.requires.invariant.holds c.begin.ensures
 
 pub string_start-requires : goal.string_start-requires
-string_start-requires c = callable flow counts c.args.name string_start _ _ (search rules) refl c.requires.invariant.holds c.begin.ensures
+string_start-requires c = callable flow unchanged c.args.name string_start _ _ (search rules) refl c.requires.invariant.holds c.begin.ensures
 
 pub string_before_data-requires : goal.string_before_data-requires
-string_before_data-requires c = callable flow counts c.args.name string_before_data _ _ (search rules) refl c.requires.invariant.holds c.begin.ensures
+string_before_data-requires c = callable flow unchanged c.args.name string_before_data _ _ (search rules) refl c.requires.invariant.holds c.begin.ensures
 
 pub string_before-requires : goal.string_before-requires
-string_before-requires c = callable flow counts c.args.name string_before _ _ (search rules) refl c.requires.invariant.holds c.begin.ensures
+string_before-requires c = callable flow unchanged c.args.name string_before _ _ (search rules) refl c.requires.invariant.holds c.begin.ensures
 
 pub text_before-requires : goal.text_before-requires
-text_before-requires c = callable flow counts c.args.name text_before _ _ (search rules) refl c.requires.invariant.holds c.begin.ensures
+text_before-requires c = callable flow unchanged c.args.name text_before _ _ (search rules) refl c.requires.invariant.holds c.begin.ensures
 
 pub text_before_data-requires : goal.text_before_data-requires
-text_before_data-requires c = callable flow counts c.args.name text_before_data _ _ (search rules) refl c.requires.invariant.holds c.begin.ensures
+text_before_data-requires c = callable flow unchanged c.args.name text_before_data _ _ (search rules) refl c.requires.invariant.holds c.begin.ensures
 
 pub heading_atx_start-requires : goal.heading_atx_start-requires
-heading_atx_start-requires c = callable flow counts c.args.name heading_atx_start _ _ (search rules) refl c.requires.invariant.holds c.begin.ensures
+heading_atx_start-requires c = callable flow unchanged c.args.name heading_atx_start _ _ (search rules) refl c.requires.invariant.holds c.begin.ensures
 
 pub heading_atx_sequence_open-requires : goal.heading_atx_sequence_open-requires
-heading_atx_sequence_open-requires c = callable flow counts c.args.name heading_atx_sequence_open _ _ (search rules) refl c.requires.invariant.holds c.begin.ensures
+heading_atx_sequence_open-requires c = callable flow unchanged c.args.name heading_atx_sequence_open _ _ (search rules) refl c.requires.invariant.holds c.begin.ensures
 
 pub heading_atx_at_break-requires : goal.heading_atx_at_break-requires
-heading_atx_at_break-requires c = callable flow counts c.args.name heading_atx_at_break _ _ (search rules) refl c.requires.invariant.holds c.begin.ensures
+heading_atx_at_break-requires c = callable flow unchanged c.args.name heading_atx_at_break _ _ (search rules) refl c.requires.invariant.holds c.begin.ensures
 
 pub heading_atx_before-requires : goal.heading_atx_before-requires
-heading_atx_before-requires c = callable flow counts c.args.name heading_atx_before _ _ (search rules) refl c.requires.invariant.holds c.begin.ensures
+heading_atx_before-requires c = callable flow unchanged c.args.name heading_atx_before _ _ (search rules) refl c.requires.invariant.holds c.begin.ensures
 
 pub heading_atx_data-requires : goal.heading_atx_data-requires
-heading_atx_data-requires c = callable flow counts c.args.name heading_atx_data _ _ (search rules) refl c.requires.invariant.holds c.begin.ensures
+heading_atx_data-requires c = callable flow unchanged c.args.name heading_atx_data _ _ (search rules) refl c.requires.invariant.holds c.begin.ensures
 
 pub code_indented_start-requires : goal.code_indented_start-requires
-code_indented_start-requires c = callable flow counts c.args.name code_indented_start _ _ (search rules) refl c.requires.invariant.holds c.begin.ensures
+code_indented_start-requires c = callable flow unchanged c.args.name code_indented_start _ _ (search rules) refl c.requires.invariant.holds c.begin.ensures
 
 pub code_indented_at_break-requires : goal.code_indented_at_break-requires
-code_indented_at_break-requires c = callable flow counts c.args.name code_indented_at_break _ _ (search rules) refl c.requires.invariant.holds c.begin.ensures
+code_indented_at_break-requires c = callable flow unchanged c.args.name code_indented_at_break _ _ (search rules) refl c.requires.invariant.holds c.begin.ensures
 
 pub code_indented_further_after-requires : goal.code_indented_further_after-requires
-code_indented_further_after-requires c = callable flow counts c.args.name code_indented_further_after _ _ (search rules) refl c.requires.invariant.holds c.begin.ensures
+code_indented_further_after-requires c = callable flow unchanged c.args.name code_indented_further_after _ _ (search rules) refl c.requires.invariant.holds c.begin.ensures
 
 pub code_indented_inside-requires : goal.code_indented_inside-requires
-code_indented_inside-requires c = callable flow counts c.args.name code_indented_inside _ _ (search rules) refl c.requires.invariant.holds c.begin.ensures
+code_indented_inside-requires c = callable flow unchanged c.args.name code_indented_inside _ _ (search rules) refl c.requires.invariant.holds c.begin.ensures
 
 pub space_or_tab_eol_after_first-requires : goal.space_or_tab_eol_after_first-requires
-space_or_tab_eol_after_first-requires c = callable flow counts c.args.name space_or_tab_eol_after_first _ _ (search rules) refl c.requires.invariant.holds c.begin.ensures
+space_or_tab_eol_after_first-requires c = callable flow unchanged c.args.name space_or_tab_eol_after_first _ _ (search rules) refl c.requires.invariant.holds c.begin.ensures
 
 pub code_indented_after-requires : goal.code_indented_after-requires
-code_indented_after-requires c = callable flow counts c.args.name code_indented_after _ _ (search rules) refl c.requires.invariant.holds c.begin.ensures
+code_indented_after-requires c = callable flow unchanged c.args.name code_indented_after _ _ (search rules) refl c.requires.invariant.holds c.begin.ensures
 
 pub code_indented_further_begin-requires : goal.code_indented_further_begin-requires
-code_indented_further_begin-requires c = callable flow counts c.args.name code_indented_further_begin _ _ (search rules) refl c.requires.invariant.holds c.begin.ensures
+code_indented_further_begin-requires c = callable flow unchanged c.args.name code_indented_further_begin _ _ (search rules) refl c.requires.invariant.holds c.begin.ensures
 
 pub code_indented_further_start-requires : goal.code_indented_further_start-requires
-code_indented_further_start-requires c = callable flow counts c.args.name code_indented_further_start _ _ (search rules) refl c.requires.invariant.holds c.begin.ensures
+code_indented_further_start-requires c = callable flow unchanged c.args.name code_indented_further_start _ _ (search rules) refl c.requires.invariant.holds c.begin.ensures
 
 pub flow_before_raw-requires : goal.flow_before_raw-requires
-flow_before_raw-requires c = callable flow counts c.args.name flow_before_raw _ _ (search rules) refl c.requires.invariant.holds c.begin.ensures
+flow_before_raw-requires c = callable flow unchanged c.args.name flow_before_raw _ _ (search rules) refl c.requires.invariant.holds c.begin.ensures
 
 pub flow_before_code_indented-requires : goal.flow_before_code_indented-requires
-flow_before_code_indented-requires c = callable flow counts c.args.name flow_before_code_indented _ _ (search rules) refl c.requires.invariant.holds c.begin.ensures
+flow_before_code_indented-requires c = callable flow unchanged c.args.name flow_before_code_indented _ _ (search rules) refl c.requires.invariant.holds c.begin.ensures
 
 pub raw_flow_start-requires : goal.raw_flow_start-requires
-raw_flow_start-requires c = callable flow counts c.args.name raw_flow_start _ _ (search rules) refl c.requires.invariant.holds c.begin.ensures
+raw_flow_start-requires c = callable flow unchanged c.args.name raw_flow_start _ _ (search rules) refl c.requires.invariant.holds c.begin.ensures
 
 pub raw_flow_sequence_open-requires : goal.raw_flow_sequence_open-requires
-raw_flow_sequence_open-requires c = callable flow counts c.args.name raw_flow_sequence_open _ _ (search rules) refl c.requires.invariant.holds c.begin.ensures
+raw_flow_sequence_open-requires c = callable flow unchanged c.args.name raw_flow_sequence_open _ _ (search rules) refl c.requires.invariant.holds c.begin.ensures
 
 pub raw_flow_info_before-requires : goal.raw_flow_info_before-requires
-raw_flow_info_before-requires c = callable flow counts c.args.name raw_flow_info_before _ _ (search rules) refl c.requires.invariant.holds c.begin.ensures
+raw_flow_info_before-requires c = callable flow unchanged c.args.name raw_flow_info_before _ _ (search rules) refl c.requires.invariant.holds c.begin.ensures
 
 pub raw_flow_before_sequence_open-requires : goal.raw_flow_before_sequence_open-requires
-raw_flow_before_sequence_open-requires c = callable flow counts c.args.name raw_flow_before_sequence_open _ _ (search rules) refl c.requires.invariant.holds c.begin.ensures
+raw_flow_before_sequence_open-requires c = callable flow unchanged c.args.name raw_flow_before_sequence_open _ _ (search rules) refl c.requires.invariant.holds c.begin.ensures
 
 pub raw_flow_info-requires : goal.raw_flow_info-requires
-raw_flow_info-requires c = callable flow counts c.args.name raw_flow_info _ _ (search rules) refl c.requires.invariant.holds c.begin.ensures
+raw_flow_info-requires c = callable flow unchanged c.args.name raw_flow_info _ _ (search rules) refl c.requires.invariant.holds c.begin.ensures
 
 pub raw_text_start-requires : goal.raw_text_start-requires
-raw_text_start-requires c = callable flow counts c.args.name raw_text_start _ _ (search rules) refl c.requires.invariant.holds c.begin.ensures
+raw_text_start-requires c = callable flow unchanged c.args.name raw_text_start _ _ (search rules) refl c.requires.invariant.holds c.begin.ensures
 
 pub raw_flow_meta_before-requires : goal.raw_flow_meta_before-requires
-raw_flow_meta_before-requires c = callable flow counts c.args.name raw_flow_meta_before _ _ (search rules) refl c.requires.invariant.holds c.begin.ensures
+raw_flow_meta_before-requires c = callable flow unchanged c.args.name raw_flow_meta_before _ _ (search rules) refl c.requires.invariant.holds c.begin.ensures
 
 pub raw_flow_meta-requires : goal.raw_flow_meta-requires
-raw_flow_meta-requires c = callable flow counts c.args.name raw_flow_meta _ _ (search rules) refl c.requires.invariant.holds c.begin.ensures
+raw_flow_meta-requires c = callable flow unchanged c.args.name raw_flow_meta _ _ (search rules) refl c.requires.invariant.holds c.begin.ensures
 
 pub raw_flow_at_non_lazy_break-requires : goal.raw_flow_at_non_lazy_break-requires
-raw_flow_at_non_lazy_break-requires c = callable flow counts c.args.name raw_flow_at_non_lazy_break _ _ (search rules) refl c.requires.invariant.holds c.begin.ensures
+raw_flow_at_non_lazy_break-requires c = callable flow unchanged c.args.name raw_flow_at_non_lazy_break _ _ (search rules) refl c.requires.invariant.holds c.begin.ensures
 
 pub raw_flow_close_start-requires : goal.raw_flow_close_start-requires
-raw_flow_close_start-requires c = callable flow counts c.args.name raw_flow_close_start _ _ (search rules) refl c.requires.invariant.holds c.begin.ensures
+raw_flow_close_start-requires c = callable flow unchanged c.args.name raw_flow_close_start _ _ (search rules) refl c.requires.invariant.holds c.begin.ensures
 
 pub raw_flow_before_sequence_close-requires : goal.raw_flow_before_sequence_close-requires
-raw_flow_before_sequence_close-requires c = callable flow counts c.args.name raw_flow_before_sequence_close _ _ (search rules) refl c.requires.invariant.holds c.begin.ensures
+raw_flow_before_sequence_close-requires c = callable flow unchanged c.args.name raw_flow_before_sequence_close _ _ (search rules) refl c.requires.invariant.holds c.begin.ensures
 
 pub raw_flow_sequence_close-requires : goal.raw_flow_sequence_close-requires
-raw_flow_sequence_close-requires c = callable flow counts c.args.name raw_flow_sequence_close _ _ (search rules) refl c.requires.invariant.holds c.begin.ensures
+raw_flow_sequence_close-requires c = callable flow unchanged c.args.name raw_flow_sequence_close _ _ (search rules) refl c.requires.invariant.holds c.begin.ensures
 
 pub raw_flow_after_sequence_close-requires : goal.raw_flow_after_sequence_close-requires
-raw_flow_after_sequence_close-requires c = callable flow counts c.args.name raw_flow_after_sequence_close _ _ (search rules) refl c.requires.invariant.holds c.begin.ensures
+raw_flow_after_sequence_close-requires c = callable flow unchanged c.args.name raw_flow_after_sequence_close _ _ (search rules) refl c.requires.invariant.holds c.begin.ensures
 
 pub raw_flow_content_before-requires : goal.raw_flow_content_before-requires
-raw_flow_content_before-requires c = callable flow counts c.args.name raw_flow_content_before _ _ (search rules) refl c.requires.invariant.holds c.begin.ensures
+raw_flow_content_before-requires c = callable flow unchanged c.args.name raw_flow_content_before _ _ (search rules) refl c.requires.invariant.holds c.begin.ensures
 
 pub raw_flow_content_start-requires : goal.raw_flow_content_start-requires
-raw_flow_content_start-requires c = callable flow counts c.args.name raw_flow_content_start _ _ (search rules) refl c.requires.invariant.holds c.begin.ensures
+raw_flow_content_start-requires c = callable flow unchanged c.args.name raw_flow_content_start _ _ (search rules) refl c.requires.invariant.holds c.begin.ensures
 
 pub raw_flow_before_content_chunk-requires : goal.raw_flow_before_content_chunk-requires
-raw_flow_before_content_chunk-requires c = callable flow counts c.args.name raw_flow_before_content_chunk _ _ (search rules) refl c.requires.invariant.holds c.begin.ensures
+raw_flow_before_content_chunk-requires c = callable flow unchanged c.args.name raw_flow_before_content_chunk _ _ (search rules) refl c.requires.invariant.holds c.begin.ensures
 
 pub raw_flow_content_chunk-requires : goal.raw_flow_content_chunk-requires
-raw_flow_content_chunk-requires c = callable flow counts c.args.name raw_flow_content_chunk _ _ (search rules) refl c.requires.invariant.holds c.begin.ensures
+raw_flow_content_chunk-requires c = callable flow unchanged c.args.name raw_flow_content_chunk _ _ (search rules) refl c.requires.invariant.holds c.begin.ensures
 
 pub raw_flow_after-requires : goal.raw_flow_after-requires
-raw_flow_after-requires c = callable flow counts c.args.name raw_flow_after _ _ (search rules) refl c.requires.invariant.holds c.begin.ensures
+raw_flow_after-requires c = callable flow unchanged c.args.name raw_flow_after _ _ (search rules) refl c.requires.invariant.holds c.begin.ensures
 
 pub raw_text_sequence_open-requires : goal.raw_text_sequence_open-requires
-raw_text_sequence_open-requires c = callable flow counts c.args.name raw_text_sequence_open _ _ (search rules) refl c.requires.invariant.holds c.begin.ensures
+raw_text_sequence_open-requires c = callable flow unchanged c.args.name raw_text_sequence_open _ _ (search rules) refl c.requires.invariant.holds c.begin.ensures
 
 pub raw_text_between-requires : goal.raw_text_between-requires
-raw_text_between-requires c = callable flow counts c.args.name raw_text_between _ _ (search rules) refl c.requires.invariant.holds c.begin.ensures
+raw_text_between-requires c = callable flow unchanged c.args.name raw_text_between _ _ (search rules) refl c.requires.invariant.holds c.begin.ensures
 
 pub raw_text_sequence_close-requires : goal.raw_text_sequence_close-requires
-raw_text_sequence_close-requires c = callable flow counts c.args.name raw_text_sequence_close _ _ (search rules) refl c.requires.invariant.holds c.begin.ensures
+raw_text_sequence_close-requires c = callable flow unchanged c.args.name raw_text_sequence_close _ _ (search rules) refl c.requires.invariant.holds c.begin.ensures
 
 pub raw_text_data-requires : goal.raw_text_data-requires
-raw_text_data-requires c = callable flow counts c.args.name raw_text_data _ _ (search rules) refl c.requires.invariant.holds c.begin.ensures
+raw_text_data-requires c = callable flow unchanged c.args.name raw_text_data _ _ (search rules) refl c.requires.invariant.holds c.begin.ensures
 
 pub flow_before_heading_setext-requires : goal.flow_before_heading_setext-requires
-flow_before_heading_setext-requires c = callable flow counts c.args.name flow_before_heading_setext _ _ (search rules) refl c.requires.invariant.holds c.begin.ensures
+flow_before_heading_setext-requires c = callable flow unchanged c.args.name flow_before_heading_setext _ _ (search rules) refl c.requires.invariant.holds c.begin.ensures
 
 pub flow_before_gfm_table-requires : goal.flow_before_gfm_table-requires
-flow_before_gfm_table-requires c = callable flow counts c.args.name flow_before_gfm_table _ _ (search rules) refl c.requires.invariant.holds c.begin.ensures
+flow_before_gfm_table-requires c = callable flow unchanged c.args.name flow_before_gfm_table _ _ (search rules) refl c.requires.invariant.holds c.begin.ensures
 
 pub content_definition_after-requires : goal.content_definition_after-requires
-content_definition_after-requires c = callable flow counts c.args.name content_definition_after _ _ (search rules) refl c.requires.invariant.holds c.begin.ensures
+content_definition_after-requires c = callable flow unchanged c.args.name content_definition_after _ _ (search rules) refl c.requires.invariant.holds c.begin.ensures
 
 pub heading_setext_start-requires : goal.heading_setext_start-requires
-heading_setext_start-requires c = callable flow counts c.args.name heading_setext_start _ _ (search rules) refl c.requires.invariant.holds c.begin.ensures
+heading_setext_start-requires c = callable flow unchanged c.args.name heading_setext_start _ _ (search rules) refl c.requires.invariant.holds c.begin.ensures
 
 pub heading_setext_before-requires : goal.heading_setext_before-requires
-heading_setext_before-requires c = callable flow counts c.args.name heading_setext_before _ _ (search rules) refl c.requires.invariant.holds c.begin.ensures
+heading_setext_before-requires c = callable flow unchanged c.args.name heading_setext_before _ _ (search rules) refl c.requires.invariant.holds c.begin.ensures
 
 pub heading_setext_inside-requires : goal.heading_setext_inside-requires
-heading_setext_inside-requires c = callable flow counts c.args.name heading_setext_inside _ _ (search rules) refl c.requires.invariant.holds c.begin.ensures
+heading_setext_inside-requires c = callable flow unchanged c.args.name heading_setext_inside _ _ (search rules) refl c.requires.invariant.holds c.begin.ensures
 
 pub heading_setext_after-requires : goal.heading_setext_after-requires
 heading_setext_after-requires c =
     let t = c.args.t.now in
     record {
-      called = callable flow counts c.args.name heading_setext_after _ _ (search rules) refl c.requires.invariant.holds c.begin.ensures;
+      called = callable flow unchanged c.args.name heading_setext_after _ _ (search rules) refl c.requires.invariant.holds c.begin.ensures;
       heading = subst (λ u. CanEndHeading u.configuration) (sym c.begin.ensures)
-          (can-end (begun counts t).configuration (known-underline t.configuration.events t.configuration.local t.choices c.args.name.number (search rules) c.requires.invariant.known));
+          (can-end (begun unchanged t).configuration (known-underline t.configuration.events t.configuration.local t.choices c.args.name.number (search rules) c.requires.invariant.known));
     }
 
 pub html_flow_open-requires : goal.html_flow_open-requires
-html_flow_open-requires c = callable flow counts c.args.name html_flow_open _ _ (search rules) refl c.requires.invariant.holds c.begin.ensures
+html_flow_open-requires c = callable flow unchanged c.args.name html_flow_open _ _ (search rules) refl c.requires.invariant.holds c.begin.ensures
 
 pub html_flow_declaration_open-requires : goal.html_flow_declaration_open-requires
-html_flow_declaration_open-requires c = callable flow counts c.args.name html_flow_declaration_open _ _ (search rules) refl c.requires.invariant.holds c.begin.ensures
+html_flow_declaration_open-requires c = callable flow unchanged c.args.name html_flow_declaration_open _ _ (search rules) refl c.requires.invariant.holds c.begin.ensures
 
 pub html_flow_comment_open_inside-requires : goal.html_flow_comment_open_inside-requires
-html_flow_comment_open_inside-requires c = callable flow counts c.args.name html_flow_comment_open_inside _ _ (search rules) refl c.requires.invariant.holds c.begin.ensures
+html_flow_comment_open_inside-requires c = callable flow unchanged c.args.name html_flow_comment_open_inside _ _ (search rules) refl c.requires.invariant.holds c.begin.ensures
 
 pub html_flow_cdata_open_inside-requires : goal.html_flow_cdata_open_inside-requires
-html_flow_cdata_open_inside-requires c = callable flow counts c.args.name html_flow_cdata_open_inside _ _ (search rules) refl c.requires.invariant.holds c.begin.ensures
+html_flow_cdata_open_inside-requires c = callable flow unchanged c.args.name html_flow_cdata_open_inside _ _ (search rules) refl c.requires.invariant.holds c.begin.ensures
 
 pub html_flow_tag_close_start-requires : goal.html_flow_tag_close_start-requires
-html_flow_tag_close_start-requires c = callable flow counts c.args.name html_flow_tag_close_start _ _ (search rules) refl c.requires.invariant.holds c.begin.ensures
+html_flow_tag_close_start-requires c = callable flow unchanged c.args.name html_flow_tag_close_start _ _ (search rules) refl c.requires.invariant.holds c.begin.ensures
 
 pub html_flow_tag_name-requires : goal.html_flow_tag_name-requires
-html_flow_tag_name-requires c = callable flow counts c.args.name html_flow_tag_name _ _ (search rules) refl c.requires.invariant.holds c.begin.ensures
+html_flow_tag_name-requires c = callable flow unchanged c.args.name html_flow_tag_name _ _ (search rules) refl c.requires.invariant.holds c.begin.ensures
 
 pub html_flow_basic_self_closing-requires : goal.html_flow_basic_self_closing-requires
-html_flow_basic_self_closing-requires c = callable flow counts c.args.name html_flow_basic_self_closing _ _ (search rules) refl c.requires.invariant.holds c.begin.ensures
+html_flow_basic_self_closing-requires c = callable flow unchanged c.args.name html_flow_basic_self_closing _ _ (search rules) refl c.requires.invariant.holds c.begin.ensures
 
 pub html_flow_complete_closing_tag_after-requires : goal.html_flow_complete_closing_tag_after-requires
-html_flow_complete_closing_tag_after-requires c = callable flow counts c.args.name html_flow_complete_closing_tag_after _ _ (search rules) refl c.requires.invariant.holds c.begin.ensures
+html_flow_complete_closing_tag_after-requires c = callable flow unchanged c.args.name html_flow_complete_closing_tag_after _ _ (search rules) refl c.requires.invariant.holds c.begin.ensures
 
 pub html_flow_complete_end-requires : goal.html_flow_complete_end-requires
-html_flow_complete_end-requires c = callable flow counts c.args.name html_flow_complete_end _ _ (search rules) refl c.requires.invariant.holds c.begin.ensures
+html_flow_complete_end-requires c = callable flow unchanged c.args.name html_flow_complete_end _ _ (search rules) refl c.requires.invariant.holds c.begin.ensures
 
 pub html_flow_complete_attribute_name_before-requires : goal.html_flow_complete_attribute_name_before-requires
-html_flow_complete_attribute_name_before-requires c = callable flow counts c.args.name html_flow_complete_attribute_name_before _ _ (search rules) refl c.requires.invariant.holds c.begin.ensures
+html_flow_complete_attribute_name_before-requires c = callable flow unchanged c.args.name html_flow_complete_attribute_name_before _ _ (search rules) refl c.requires.invariant.holds c.begin.ensures
 
 pub html_flow_complete_attribute_name-requires : goal.html_flow_complete_attribute_name-requires
-html_flow_complete_attribute_name-requires c = callable flow counts c.args.name html_flow_complete_attribute_name _ _ (search rules) refl c.requires.invariant.holds c.begin.ensures
+html_flow_complete_attribute_name-requires c = callable flow unchanged c.args.name html_flow_complete_attribute_name _ _ (search rules) refl c.requires.invariant.holds c.begin.ensures
 
 pub html_flow_complete_attribute_name_after-requires : goal.html_flow_complete_attribute_name_after-requires
-html_flow_complete_attribute_name_after-requires c = callable flow counts c.args.name html_flow_complete_attribute_name_after _ _ (search rules) refl c.requires.invariant.holds c.begin.ensures
+html_flow_complete_attribute_name_after-requires c = callable flow unchanged c.args.name html_flow_complete_attribute_name_after _ _ (search rules) refl c.requires.invariant.holds c.begin.ensures
 
 pub html_flow_complete_attribute_value_before-requires : goal.html_flow_complete_attribute_value_before-requires
-html_flow_complete_attribute_value_before-requires c = callable flow counts c.args.name html_flow_complete_attribute_value_before _ _ (search rules) refl c.requires.invariant.holds c.begin.ensures
+html_flow_complete_attribute_value_before-requires c = callable flow unchanged c.args.name html_flow_complete_attribute_value_before _ _ (search rules) refl c.requires.invariant.holds c.begin.ensures
 
 pub html_flow_complete_attribute_value_quoted-requires : goal.html_flow_complete_attribute_value_quoted-requires
-html_flow_complete_attribute_value_quoted-requires c = callable flow counts c.args.name html_flow_complete_attribute_value_quoted _ _ (search rules) refl c.requires.invariant.holds c.begin.ensures
+html_flow_complete_attribute_value_quoted-requires c = callable flow unchanged c.args.name html_flow_complete_attribute_value_quoted _ _ (search rules) refl c.requires.invariant.holds c.begin.ensures
 
 pub html_flow_complete_attribute_value_quoted_after-requires : goal.html_flow_complete_attribute_value_quoted_after-requires
-html_flow_complete_attribute_value_quoted_after-requires c = callable flow counts c.args.name html_flow_complete_attribute_value_quoted_after _ _ (search rules) refl c.requires.invariant.holds c.begin.ensures
+html_flow_complete_attribute_value_quoted_after-requires c = callable flow unchanged c.args.name html_flow_complete_attribute_value_quoted_after _ _ (search rules) refl c.requires.invariant.holds c.begin.ensures
 
 pub html_flow_complete_attribute_value_unquoted-requires : goal.html_flow_complete_attribute_value_unquoted-requires
-html_flow_complete_attribute_value_unquoted-requires c = callable flow counts c.args.name html_flow_complete_attribute_value_unquoted _ _ (search rules) refl c.requires.invariant.holds c.begin.ensures
+html_flow_complete_attribute_value_unquoted-requires c = callable flow unchanged c.args.name html_flow_complete_attribute_value_unquoted _ _ (search rules) refl c.requires.invariant.holds c.begin.ensures
 
 pub html_flow_complete_after-requires : goal.html_flow_complete_after-requires
-html_flow_complete_after-requires c = callable flow counts c.args.name html_flow_complete_after _ _ (search rules) refl c.requires.invariant.holds c.begin.ensures
+html_flow_complete_after-requires c = callable flow unchanged c.args.name html_flow_complete_after _ _ (search rules) refl c.requires.invariant.holds c.begin.ensures
 
 pub html_flow_start-requires : goal.html_flow_start-requires
-html_flow_start-requires c = callable flow counts c.args.name html_flow_start _ _ (search rules) refl c.requires.invariant.holds c.begin.ensures
+html_flow_start-requires c = callable flow unchanged c.args.name html_flow_start _ _ (search rules) refl c.requires.invariant.holds c.begin.ensures
 
 pub html_flow_continuation-requires : goal.html_flow_continuation-requires
-html_flow_continuation-requires c = callable flow counts c.args.name html_flow_continuation _ _ (search rules) refl c.requires.invariant.holds c.begin.ensures
+html_flow_continuation-requires c = callable flow unchanged c.args.name html_flow_continuation _ _ (search rules) refl c.requires.invariant.holds c.begin.ensures
 
 pub html_flow_continuation_comment_inside-requires : goal.html_flow_continuation_comment_inside-requires
-html_flow_continuation_comment_inside-requires c = callable flow counts c.args.name html_flow_continuation_comment_inside _ _ (search rules) refl c.requires.invariant.holds c.begin.ensures
+html_flow_continuation_comment_inside-requires c = callable flow unchanged c.args.name html_flow_continuation_comment_inside _ _ (search rules) refl c.requires.invariant.holds c.begin.ensures
 
 pub html_flow_continuation_cdata_inside-requires : goal.html_flow_continuation_cdata_inside-requires
-html_flow_continuation_cdata_inside-requires c = callable flow counts c.args.name html_flow_continuation_cdata_inside _ _ (search rules) refl c.requires.invariant.holds c.begin.ensures
+html_flow_continuation_cdata_inside-requires c = callable flow unchanged c.args.name html_flow_continuation_cdata_inside _ _ (search rules) refl c.requires.invariant.holds c.begin.ensures
 
 pub html_flow_continuation_declaration_inside-requires : goal.html_flow_continuation_declaration_inside-requires
-html_flow_continuation_declaration_inside-requires c = callable flow counts c.args.name html_flow_continuation_declaration_inside _ _ (search rules) refl c.requires.invariant.holds c.begin.ensures
+html_flow_continuation_declaration_inside-requires c = callable flow unchanged c.args.name html_flow_continuation_declaration_inside _ _ (search rules) refl c.requires.invariant.holds c.begin.ensures
 
 pub html_flow_continuation_raw_tag_open-requires : goal.html_flow_continuation_raw_tag_open-requires
-html_flow_continuation_raw_tag_open-requires c = callable flow counts c.args.name html_flow_continuation_raw_tag_open _ _ (search rules) refl c.requires.invariant.holds c.begin.ensures
+html_flow_continuation_raw_tag_open-requires c = callable flow unchanged c.args.name html_flow_continuation_raw_tag_open _ _ (search rules) refl c.requires.invariant.holds c.begin.ensures
 
 pub html_flow_continuation_raw_end_tag-requires : goal.html_flow_continuation_raw_end_tag-requires
-html_flow_continuation_raw_end_tag-requires c = callable flow counts c.args.name html_flow_continuation_raw_end_tag _ _ (search rules) refl c.requires.invariant.holds c.begin.ensures
+html_flow_continuation_raw_end_tag-requires c = callable flow unchanged c.args.name html_flow_continuation_raw_end_tag _ _ (search rules) refl c.requires.invariant.holds c.begin.ensures
 
 pub html_flow_continuation_close-requires : goal.html_flow_continuation_close-requires
-html_flow_continuation_close-requires c = callable flow counts c.args.name html_flow_continuation_close _ _ (search rules) refl c.requires.invariant.holds c.begin.ensures
+html_flow_continuation_close-requires c = callable flow unchanged c.args.name html_flow_continuation_close _ _ (search rules) refl c.requires.invariant.holds c.begin.ensures
 
 pub html_flow_continuation_before-requires : goal.html_flow_continuation_before-requires
-html_flow_continuation_before-requires c = callable flow counts c.args.name html_flow_continuation_before _ _ (search rules) refl c.requires.invariant.holds c.begin.ensures
+html_flow_continuation_before-requires c = callable flow unchanged c.args.name html_flow_continuation_before _ _ (search rules) refl c.requires.invariant.holds c.begin.ensures
 
 pub html_flow_blank_line_before-requires : goal.html_flow_blank_line_before-requires
-html_flow_blank_line_before-requires c = callable flow counts c.args.name html_flow_blank_line_before _ _ (search rules) refl c.requires.invariant.holds c.begin.ensures
+html_flow_blank_line_before-requires c = callable flow unchanged c.args.name html_flow_blank_line_before _ _ (search rules) refl c.requires.invariant.holds c.begin.ensures
 
 pub blank_line_after-requires : goal.blank_line_after-requires
-blank_line_after-requires c = callable flow counts c.args.name blank_line_after _ _ (search rules) refl c.requires.invariant.holds c.begin.ensures
+blank_line_after-requires c = callable flow unchanged c.args.name blank_line_after _ _ (search rules) refl c.requires.invariant.holds c.begin.ensures
 
 pub html_flow_continuation_after-requires : goal.html_flow_continuation_after-requires
-html_flow_continuation_after-requires c = callable flow counts c.args.name html_flow_continuation_after _ _ (search rules) refl c.requires.invariant.holds c.begin.ensures
+html_flow_continuation_after-requires c = callable flow unchanged c.args.name html_flow_continuation_after _ _ (search rules) refl c.requires.invariant.holds c.begin.ensures
 
 pub html_flow_continuation_start-requires : goal.html_flow_continuation_start-requires
-html_flow_continuation_start-requires c = callable flow counts c.args.name html_flow_continuation_start _ _ (search rules) refl c.requires.invariant.holds c.begin.ensures
+html_flow_continuation_start-requires c = callable flow unchanged c.args.name html_flow_continuation_start _ _ (search rules) refl c.requires.invariant.holds c.begin.ensures
 
 pub flow_before_content-requires : goal.flow_before_content-requires
-flow_before_content-requires c = callable flow counts c.args.name flow_before_content _ _ (search rules) refl c.requires.invariant.holds c.begin.ensures
+flow_before_content-requires c = callable flow unchanged c.args.name flow_before_content _ _ (search rules) refl c.requires.invariant.holds c.begin.ensures
 
 pub paragraph_start-requires : goal.paragraph_start-requires
 paragraph_start-requires c =
     let t = c.args.t.now in
     record {
-      called = callable flow counts c.args.name paragraph_start _ _ (search rules) refl c.requires.invariant.holds c.begin.ensures;
+      called = callable flow unchanged c.args.name paragraph_start _ _ (search rules) refl c.requires.invariant.holds c.begin.ensures;
       chunk = subst CanLinkChunk (sym c.begin.ensures)
-          (can-follow (begun counts t) (known-before t.configuration.events t.configuration.local t.choices c.args.name.number (search rules) c.requires.invariant.known));
+          (can-follow (begun unchanged t) (known-before t.configuration.events t.configuration.local t.choices c.args.name.number (search rules) c.requires.invariant.known));
     }
 
 pub paragraph_inside-requires : goal.paragraph_inside-requires
-paragraph_inside-requires c = callable flow counts c.args.name paragraph_inside _ _ (search rules) refl c.requires.invariant.holds c.begin.ensures
+paragraph_inside-requires c = callable flow unchanged c.args.name paragraph_inside _ _ (search rules) refl c.requires.invariant.holds c.begin.ensures
 
 pub paragraph_line_start-requires : goal.paragraph_line_start-requires
-paragraph_line_start-requires c = callable flow counts c.args.name paragraph_line_start _ _ (search rules) refl c.requires.invariant.holds c.begin.ensures
+paragraph_line_start-requires c = callable flow unchanged c.args.name paragraph_line_start _ _ (search rules) refl c.requires.invariant.holds c.begin.ensures
 
 pub content_chunk_inside-requires : goal.content_chunk_inside-requires
-content_chunk_inside-requires c = callable flow counts c.args.name content_chunk_inside _ _ (search rules) refl c.requires.invariant.holds c.begin.ensures
+content_chunk_inside-requires c = callable flow unchanged c.args.name content_chunk_inside _ _ (search rules) refl c.requires.invariant.holds c.begin.ensures
 
 pub unreachable-requires : goal.unreachable-requires
 unreachable-requires c = never-called flow c.args.name c.args.t.now (search rules) c.requires.invariant.holds
