@@ -31,6 +31,7 @@ NAMED = {
     ("mdconstructs_flow", "specs", "Flow"): "FlowStates",
     ("mdconstructs_flow", "specs", "LawStatements"): "FlowLawStatements",
     ("mdconstructs_flow", "specs", "Laws"): "FlowLaws",
+    ("mdconstructs_flow", "specs", "Over"): "FlowOver",
     ("mdconstructs_flow", "specs", "Steps"): "FlowSteps",
     ("mdconstructs_flow", "proofs", "Called"): "FlowCalled",
     ("mdconstructs_flow", "proofs", "NoRefusals"): "FlowNoRefusals",

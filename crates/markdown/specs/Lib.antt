@@ -54,6 +54,8 @@ pub use Rattle.markdown_tokenizer.specs.Lent
 pub use Rattle.markdown_tokenizer.specs.Cuts
 pub use Rattle.markdown_tokenizer.specs.Gaps
 pub use Rattle.markdown_tokenizer.specs.Unwound
+pub use Rattle.markdown_tokenizer.specs.Over
+pub use Rattle.markdown_tokenizer.specs.Noted
 pub use Rattle.markdown_children.specs.Chains
 pub use Rattle.markdown_children.specs.Ready
 pub use Rattle.markdown_children.specs.LawStatements as ChildrenLawStatements

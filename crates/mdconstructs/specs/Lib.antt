@@ -114,6 +114,7 @@ pub use Rattle.mdconstructs_flow.specs.HtmlWrites
 pub use Rattle.mdconstructs_flow.specs.LawStatements as FlowLawStatements
 pub use Rattle.mdconstructs_flow.specs.Laws as FlowLaws
 pub use Rattle.mdconstructs_flow.specs.Look
+pub use Rattle.mdconstructs_flow.specs.Over as FlowOver
 pub use Rattle.mdconstructs_flow.specs.Paragraph
 pub use Rattle.mdconstructs_flow.specs.QuietLooks
 pub use Rattle.mdconstructs_flow.specs.Renamings

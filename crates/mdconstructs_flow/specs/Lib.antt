@@ -18,6 +18,7 @@ pub mod HtmlWrites
 pub mod LawStatements
 pub mod Laws
 pub mod Look
+pub mod Over
 pub mod Paragraph
 pub mod QuietLooks
 pub mod Renamings

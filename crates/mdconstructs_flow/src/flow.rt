@@ -94,6 +94,10 @@ use crate::lines::flow_blank_line_after;
 use crate::lines::flow_start;
 use crate::look::flow_blank_line_before;
 use crate::look::non_lazy_continuation_start;
+use crate::over::is_in_html;
+use crate::over::is_in_info;
+use crate::over::is_in_line;
+use crate::over::is_in_word;
 use crate::paragraph::content_chunk_inside;
 use crate::paragraph::flow_before_content;
 use crate::paragraph::paragraph_inside;
@@ -131,6 +135,22 @@ impl Machine for Flow {
     ghost use Rattle.mdconstructs_flow.specs.Laws.Lawful.{flow-lawful};
 
     ghost rules = { λ _. flow_rules };
+
+    /// States that read lines of text or code, info strings and HTML read over all bytes but those that may end what they read.
+    #[inline(always)]
+    fn reads_over(&self, name: Name, byte: u8) -> bool {
+        match name {
+            Name::ParagraphInside => is_in_line(byte),
+            Name::RawFlowContentChunk => is_in_line(byte),
+            Name::CodeIndentedInside => is_in_line(byte),
+            Name::HtmlFlowContinuation => is_in_html(byte),
+            Name::HtmlFlowContinuationClose => is_in_line(byte),
+            Name::RawFlowInfo => is_in_word(byte),
+            Name::RawFlowMeta => is_in_line(byte),
+            Name::FlowBeforeCodeIndented => is_in_info(byte),
+            _ => false,
+        }
+    }
 
     /// Counts the call, and runs the state of this name.
     fn call<'a>(

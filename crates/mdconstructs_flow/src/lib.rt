@@ -15,6 +15,7 @@ mod html_tags;
 pub mod laws;
 mod lines;
 mod look;
+mod over;
 mod paragraph;
 mod sizes;
 mod thematic_break;
