@@ -1,9 +1,9 @@
--- Fenced code (CommonMark, 4.5). It has a look at the opening fence, and one at the end of each line for the closing one. Some states have no
--- name of their own among the Rust crate's: `FlowBeforeCodeIndented` and those of `RawText` are borrowed.
+-- Fenced code (CommonMark, 4.5). It has a look at the opening fence, and one at the end of each line for the closing one.
 use Rattle.std.specs.Prelude.{[], ◌∷◌}
 use Rattle.markdown_base.specs.declared.event.Name.TheVariants.{CodeFenced, CodeFencedFence, CodeFencedFenceInfo, CodeFencedFenceMeta, CodeFencedFenceSequence, CodeFlowChunk, Data, LineEnding, SpaceOrTab}
 use Rattle.markdown_base.specs.declared.state.State.TheVariants.{Next, Retry, Ok, Nok}
-use Rattle.markdown_base.specs.declared.state.TheConstants.Name.{FlowAfter, FlowBeforeRaw, FlowBeforeCodeIndented, RawFlowStart, RawFlowSequenceOpen, RawFlowInfoBefore, RawFlowBeforeSequenceOpen, RawFlowInfo, RawTextStart, RawFlowMetaBefore, RawFlowMeta, RawFlowAtNonLazyBreak, RawFlowCloseStart, RawFlowBeforeSequenceClose, RawFlowSequenceClose, RawFlowAfterSequenceClose, RawFlowContentBefore, RawFlowContentStart, RawFlowBeforeContentChunk, RawFlowContentChunk, RawFlowAfter, RawTextSequenceOpen, RawTextBetween, RawTextSequenceClose, RawTextData}
+use Rattle.markdown_base.specs.declared.state.TheConstants.Name.{FlowAfter, FlowBeforeRaw, RawFlowStart, RawFlowSequenceOpen, RawFlowInfoBefore, RawFlowBeforeSequenceOpen, RawFlowInfo, RawFlowMetaBefore, RawFlowMeta, RawFlowAtNonLazyBreak, RawFlowCloseStart, RawFlowBeforeSequenceClose, RawFlowSequenceClose, RawFlowAfterSequenceClose, RawFlowContentBefore, RawFlowContentStart, RawFlowBeforeContentChunk, RawFlowContentChunk, RawFlowAfter}
+use Rattle.mdconstructs_flow.specs.declared.names.TheConstants.{RawFlowLookInfo, RawFlowInfoAfter, RawFlowCloseBefore, RawFlowCloseBlank, RawFlowCloseSequence, RawFlowCloseBetween}
 use Rattle.markdown_tokenizer.specs.declared.waiting.AttemptKind.TheVariants.{Check}
 use Rattle.mdconstructs_tables.specs.Cases.{at}
 use Rattle.mdconstructs_tables.specs.Rows.{enter, enter_link, exit, consume, write, choose, Rows, row, when, at_byte, at_bytes, at_bytes_or_end, a_choice, StateRows, costs, state}
@@ -13,7 +13,7 @@ use Rattle.mdconstructs_flow.specs.FlowWrites.{string_link, kind_becomes, size_g
 
 -- the marks end: a fence of tildes has any info string
 abbrev pub fence_ends : {R D : Type 0} → Rows R D
-fence_ends = when has_three (when is_tilde_fence (row (write (kind_becomes CodeFenced) ∷ []) Ok) (row [] (Retry FlowBeforeCodeIndented))) (row [] Nok)
+fence_ends = when has_three (when is_tilde_fence (row (write (kind_becomes CodeFenced) ∷ []) Ok) (row [] (Retry RawFlowLookInfo))) (row [] Nok)
 
 -- a look at the marks of an opening fence
 abbrev pub flow_before_raw_rows : {R D : Type 0} → Cased R D
@@ -27,15 +27,15 @@ abbrev pub flow_before_raw : {R D : Type 0} → StateRows FlowByte R D
 flow_before_raw = record (state FlowBeforeRaw (cased flow_before_raw_rows) [] (costs (looking 2))) { needs = a_choice }
 
 -- a look over the info string of a fence of grave accents, which has no other
-abbrev pub flow_before_code_indented_rows : {R D : Type 0} → Cased R D
-flow_before_code_indented_rows = record {
+abbrev pub raw_flow_look_info_rows : {R D : Type 0} → Cased R D
+raw_flow_look_info_rows = record {
   at_end = row (write (kind_becomes CodeFenced) ∷ []) Ok;
   cases = at is_line_feed (row (write (kind_becomes CodeFenced) ∷ []) Ok) ∷ at is_tick (row [] Nok) ∷ [];
-  rest = row (consume ∷ []) (Next FlowBeforeCodeIndented);
+  rest = row (consume ∷ []) (Next RawFlowLookInfo);
 }
 
-abbrev pub flow_before_code_indented : {R D : Type 0} → StateRows FlowByte R D
-flow_before_code_indented = record (state FlowBeforeCodeIndented (cased flow_before_code_indented_rows) [] (costs (looking 1))) { needs = a_choice }
+abbrev pub raw_flow_look_info : {R D : Type 0} → StateRows FlowByte R D
+raw_flow_look_info = record (state RawFlowLookInfo (cased raw_flow_look_info_rows) [] (costs (looking 1))) { needs = a_choice }
 
 -- in white space before a fence
 abbrev pub raw_flow_start_rows : {R D : Type 0} → Cased R D
@@ -91,7 +91,7 @@ raw_flow_info_rows = record {
   at_end = row (exit Data ∷ exit CodeFencedFenceInfo ∷ exit CodeFencedFence ∷ []) (Retry RawFlowAtNonLazyBreak);
   cases =
       at is_line_feed (row (exit Data ∷ exit CodeFencedFenceInfo ∷ exit CodeFencedFence ∷ []) (Retry RawFlowAtNonLazyBreak))
-      ∷ at is_blank (row (exit Data ∷ exit CodeFencedFenceInfo ∷ enter SpaceOrTab ∷ consume ∷ []) (Next RawTextStart)) ∷ [];
+      ∷ at is_blank (row (exit Data ∷ exit CodeFencedFenceInfo ∷ enter SpaceOrTab ∷ consume ∷ []) (Next RawFlowInfoAfter)) ∷ [];
   rest = row (consume ∷ []) (Next RawFlowInfo);
 }
 
@@ -99,15 +99,15 @@ abbrev pub raw_flow_info : {R D : Type 0} → StateRows FlowByte R D
 raw_flow_info = record (state RawFlowInfo (cased raw_flow_info_rows) (CodeFenced ∷ CodeFencedFence ∷ CodeFencedFenceInfo ∷ Data ∷ []) (costs (reading 6))) { begun = at_byte is_word }
 
 -- in white space behind the first word
-abbrev pub raw_text_start_rows : {R D : Type 0} → Cased R D
-raw_text_start_rows = record {
+abbrev pub raw_flow_info_after_rows : {R D : Type 0} → Cased R D
+raw_flow_info_after_rows = record {
   at_end = row (exit SpaceOrTab ∷ []) (Retry RawFlowMetaBefore);
-  cases = at is_blank (row (consume ∷ []) (Next RawTextStart)) ∷ [];
+  cases = at is_blank (row (consume ∷ []) (Next RawFlowInfoAfter)) ∷ [];
   rest = row (exit SpaceOrTab ∷ []) (Retry RawFlowMetaBefore);
 }
 
-abbrev pub raw_text_start : {R D : Type 0} → StateRows FlowByte R D
-raw_text_start = state RawTextStart (cased raw_text_start_rows) (CodeFenced ∷ CodeFencedFence ∷ SpaceOrTab ∷ []) (costs (reading 7))
+abbrev pub raw_flow_info_after : {R D : Type 0} → StateRows FlowByte R D
+raw_flow_info_after = state RawFlowInfoAfter (cased raw_flow_info_after_rows) (CodeFenced ∷ CodeFencedFence ∷ SpaceOrTab ∷ []) (costs (reading 7))
 
 -- before the further words of the info string, or at the end of the line
 abbrev pub raw_flow_meta_before_rows : {R D : Type 0} → Cased R D
@@ -243,7 +243,7 @@ raw_flow_content_chunk = state RawFlowContentChunk (cased raw_flow_content_chunk
 abbrev pub raw_flow_after_rows : {R D : Type 0} → Cased R D
 raw_flow_after_rows = record {
   at_end = row [] Ok;
-  cases = at is_line_feed (row (enter LineEnding ∷ consume ∷ exit LineEnding ∷ []) (Next RawTextSequenceOpen)) ∷ [];
+  cases = at is_line_feed (row (enter LineEnding ∷ consume ∷ exit LineEnding ∷ []) (Next RawFlowCloseBefore)) ∷ [];
   rest = row [] Ok;
 }
 
@@ -251,49 +251,49 @@ abbrev pub raw_flow_after : {R D : Type 0} → StateRows FlowByte R D
 raw_flow_after = record (state RawFlowAfter (cased raw_flow_after_rows) (CodeFenced ∷ []) (costs (looked 1))) { called = at_bytes is_line_feed }
 
 -- before the closing fence
-abbrev pub raw_text_sequence_open_rows : {R D : Type 0} → Cased R D
-raw_text_sequence_open_rows = record {
+abbrev pub raw_flow_close_before_rows : {R D : Type 0} → Cased R D
+raw_flow_close_before_rows = record {
   at_end = row (exit CodeFenced ∷ []) (Retry FlowAfter);
   cases =
       at is_line_feed (row (exit CodeFenced ∷ []) (Retry FlowAfter))
-      ∷ at is_blank (row (enter CodeFencedFence ∷ enter SpaceOrTab ∷ consume ∷ []) (Next RawTextBetween)) ∷ [];
-  rest = row (enter CodeFencedFence ∷ enter CodeFencedFenceSequence ∷ consume ∷ []) (Next RawTextSequenceClose);
+      ∷ at is_blank (row (enter CodeFencedFence ∷ enter SpaceOrTab ∷ consume ∷ []) (Next RawFlowCloseBlank)) ∷ [];
+  rest = row (enter CodeFencedFence ∷ enter CodeFencedFenceSequence ∷ consume ∷ []) (Next RawFlowCloseSequence);
 }
 
-abbrev pub raw_text_sequence_open : {R D : Type 0} → StateRows FlowByte R D
-raw_text_sequence_open = state RawTextSequenceOpen (cased raw_text_sequence_open_rows) (CodeFenced ∷ []) (costs (reading 2))
+abbrev pub raw_flow_close_before : {R D : Type 0} → StateRows FlowByte R D
+raw_flow_close_before = state RawFlowCloseBefore (cased raw_flow_close_before_rows) (CodeFenced ∷ []) (costs (reading 2))
 
 -- in white space of the closing fence
-abbrev pub raw_text_between_rows : {R D : Type 0} → Cased R D
-raw_text_between_rows = record {
-  at_end = row (exit SpaceOrTab ∷ []) (Retry RawTextData);
-  cases = at is_blank (row (consume ∷ []) (Next RawTextBetween)) ∷ [];
-  rest = row (exit SpaceOrTab ∷ []) (Retry RawTextData);
+abbrev pub raw_flow_close_blank_rows : {R D : Type 0} → Cased R D
+raw_flow_close_blank_rows = record {
+  at_end = row (exit SpaceOrTab ∷ []) (Retry RawFlowCloseBetween);
+  cases = at is_blank (row (consume ∷ []) (Next RawFlowCloseBlank)) ∷ [];
+  rest = row (exit SpaceOrTab ∷ []) (Retry RawFlowCloseBetween);
 }
 
-abbrev pub raw_text_between : {R D : Type 0} → StateRows FlowByte R D
-raw_text_between = state RawTextBetween (cased raw_text_between_rows) (CodeFenced ∷ CodeFencedFence ∷ SpaceOrTab ∷ []) (costs (reading 3))
+abbrev pub raw_flow_close_blank : {R D : Type 0} → StateRows FlowByte R D
+raw_flow_close_blank = state RawFlowCloseBlank (cased raw_flow_close_blank_rows) (CodeFenced ∷ CodeFencedFence ∷ SpaceOrTab ∷ []) (costs (reading 3))
 
 -- in the marks of the closing fence
-abbrev pub raw_text_sequence_close_rows : {R D : Type 0} → Cased R D
-raw_text_sequence_close_rows = record {
-  at_end = row (exit CodeFencedFenceSequence ∷ []) (Retry RawTextData);
-  cases = at is_fence (row (consume ∷ []) (Next RawTextSequenceClose)) ∷ [];
-  rest = row (exit CodeFencedFenceSequence ∷ []) (Retry RawTextData);
+abbrev pub raw_flow_close_sequence_rows : {R D : Type 0} → Cased R D
+raw_flow_close_sequence_rows = record {
+  at_end = row (exit CodeFencedFenceSequence ∷ []) (Retry RawFlowCloseBetween);
+  cases = at is_fence (row (consume ∷ []) (Next RawFlowCloseSequence)) ∷ [];
+  rest = row (exit CodeFencedFenceSequence ∷ []) (Retry RawFlowCloseBetween);
 }
 
-abbrev pub raw_text_sequence_close : {R D : Type 0} → StateRows FlowByte R D
-raw_text_sequence_close = state RawTextSequenceClose (cased raw_text_sequence_close_rows) (CodeFenced ∷ CodeFencedFence ∷ CodeFencedFenceSequence ∷ []) (costs (reading 3))
+abbrev pub raw_flow_close_sequence : {R D : Type 0} → StateRows FlowByte R D
+raw_flow_close_sequence = state RawFlowCloseSequence (cased raw_flow_close_sequence_rows) (CodeFenced ∷ CodeFencedFence ∷ CodeFencedFenceSequence ∷ []) (costs (reading 3))
 
 -- before white space or marks of the closing fence, or at its end
-abbrev pub raw_text_data_rows : {R D : Type 0} → Cased R D
-raw_text_data_rows = record {
+abbrev pub raw_flow_close_between_rows : {R D : Type 0} → Cased R D
+raw_flow_close_between_rows = record {
   at_end = row (exit CodeFencedFence ∷ exit CodeFenced ∷ []) (Retry FlowAfter);
   cases =
       at is_line_feed (row (exit CodeFencedFence ∷ exit CodeFenced ∷ []) (Retry FlowAfter))
-      ∷ at is_blank (row (enter SpaceOrTab ∷ consume ∷ []) (Next RawTextBetween)) ∷ [];
-  rest = row (enter CodeFencedFenceSequence ∷ consume ∷ []) (Next RawTextSequenceClose);
+      ∷ at is_blank (row (enter SpaceOrTab ∷ consume ∷ []) (Next RawFlowCloseBlank)) ∷ [];
+  rest = row (enter CodeFencedFenceSequence ∷ consume ∷ []) (Next RawFlowCloseSequence);
 }
 
-abbrev pub raw_text_data : {R D : Type 0} → StateRows FlowByte R D
-raw_text_data = state RawTextData (cased raw_text_data_rows) (CodeFenced ∷ CodeFencedFence ∷ []) (costs (reading 2))
+abbrev pub raw_flow_close_between : {R D : Type 0} → StateRows FlowByte R D
+raw_flow_close_between = state RawFlowCloseBetween (cased raw_flow_close_between_rows) (CodeFenced ∷ CodeFencedFence ∷ []) (costs (reading 2))

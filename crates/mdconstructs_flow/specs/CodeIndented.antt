@@ -1,9 +1,10 @@
 -- Indented code (CommonMark, 4.4). At the end of each line a look over blank lines says whether the code goes on; then blank lines are read
--- without a look. `SpaceOrTabEolAfterFirst` is a borrowed name.
+-- without a look.
 use Rattle.std.specs.Prelude.{[], ◌∷◌}
 use Rattle.markdown_base.specs.declared.event.Name.TheVariants.{CodeFlowChunk, CodeIndented, LineEnding, SpaceOrTab}
 use Rattle.markdown_base.specs.declared.state.State.TheVariants.{Next, Retry, Ok, Nok}
-use Rattle.markdown_base.specs.declared.state.TheConstants.Name.{FlowAfter, CodeIndentedStart, CodeIndentedAtBreak, CodeIndentedFurtherAfter, CodeIndentedInside, CodeIndentedFurtherStart, SpaceOrTabEolAfterFirst, CodeIndentedAfter, CodeIndentedFurtherBegin}
+use Rattle.markdown_base.specs.declared.state.TheConstants.Name.{FlowAfter, CodeIndentedStart, CodeIndentedAtBreak, CodeIndentedFurtherAfter, CodeIndentedInside, CodeIndentedFurtherStart, CodeIndentedAfter, CodeIndentedFurtherBegin}
+use Rattle.mdconstructs_flow.specs.declared.names.TheConstants.{CodeIndentedLineAfter}
 use Rattle.markdown_tokenizer.specs.declared.waiting.AttemptKind.TheVariants.{Check}
 use Rattle.mdconstructs_tables.specs.Cases.{at}
 use Rattle.mdconstructs_tables.specs.Rows.{enter, exit, consume, write, choose, row, when, at_byte, at_bytes, a_choice, StateRows, costs, state}
@@ -51,7 +52,7 @@ code_indented_further_after = record (state CodeIndentedFurtherAfter (cased code
 abbrev pub code_indented_inside_rows : {R D : Type 0} → Cased R D
 code_indented_inside_rows = record {
   at_end = row (exit CodeFlowChunk ∷ exit CodeIndented ∷ []) (Retry FlowAfter);
-  cases = at is_line_feed (row (choose Check (Next SpaceOrTabEolAfterFirst) (Next CodeIndentedAfter) ∷ []) (Retry CodeIndentedFurtherStart)) ∷ [];
+  cases = at is_line_feed (row (choose Check (Next CodeIndentedLineAfter) (Next CodeIndentedAfter) ∷ []) (Retry CodeIndentedFurtherStart)) ∷ [];
   rest = row (consume ∷ []) (Next CodeIndentedInside);
 }
 
@@ -72,15 +73,15 @@ abbrev pub code_indented_further_start : {R D : Type 0} → StateRows FlowByte R
 code_indented_further_start = record (state CodeIndentedFurtherStart (cased code_indented_further_start_rows) [] (costs (in_run 1))) { needs = a_choice }
 
 -- at the end of a line of code that goes on
-abbrev pub space_or_tab_eol_after_first_rows : {R D : Type 0} → Cased R D
-space_or_tab_eol_after_first_rows = record {
+abbrev pub code_indented_line_after_rows : {R D : Type 0} → Cased R D
+code_indented_line_after_rows = record {
   at_end = row [] Ok;
   cases = at is_line_feed (row (exit CodeFlowChunk ∷ enter LineEnding ∷ consume ∷ exit LineEnding ∷ []) (Next CodeIndentedFurtherBegin)) ∷ [];
   rest = row [] Ok;
 }
 
-abbrev pub space_or_tab_eol_after_first : {R D : Type 0} → StateRows FlowByte R D
-space_or_tab_eol_after_first = record (state SpaceOrTabEolAfterFirst (cased space_or_tab_eol_after_first_rows) (CodeIndented ∷ CodeFlowChunk ∷ []) (costs (reading 1))) { called = at_bytes is_line_feed }
+abbrev pub code_indented_line_after : {R D : Type 0} → StateRows FlowByte R D
+code_indented_line_after = record (state CodeIndentedLineAfter (cased code_indented_line_after_rows) (CodeIndented ∷ CodeFlowChunk ∷ []) (costs (reading 1))) { called = at_bytes is_line_feed }
 
 -- at the end of the last line of code
 abbrev pub code_indented_after_rows : {R D : Type 0} → Cased R D

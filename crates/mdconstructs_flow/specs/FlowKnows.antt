@@ -9,7 +9,8 @@ use Rattle.markdown_base.specs.declared.event.Name.TheVariants.{Data, HeadingSet
 use Rattle.markdown_base.specs.declared.state.Name.{Name}
 use Rattle.markdown_base.specs.declared.state.State.{State}
 use Rattle.markdown_base.specs.declared.state.State.TheVariants.{Next, Retry}
-use Rattle.markdown_base.specs.declared.state.TheConstants.Name.{FlowBlankLineBefore, NonLazyContinuationStart, FlowBeforeThematicBreak, FlowBeforeHeadingSetext, FlowBeforeGfmTable, FlowBeforeHeadingAtx, StringStart, StringBeforeData, StringBefore, TextBefore, TextBeforeData, CodeIndentedFurtherStart, FlowBeforeRaw, FlowBeforeCodeIndented, RawFlowCloseStart, RawFlowBeforeSequenceClose, RawFlowSequenceClose, RawFlowAfterSequenceClose, HtmlFlowOpen, HtmlFlowDeclarationOpen, HtmlFlowCommentOpenInside, HtmlFlowCdataOpenInside, HtmlFlowTagCloseStart, HtmlFlowTagName, HtmlFlowBasicSelfClosing, HtmlFlowCompleteClosingTagAfter, HtmlFlowCompleteEnd, HtmlFlowCompleteAttributeNameBefore, HtmlFlowCompleteAttributeName, HtmlFlowCompleteAttributeNameAfter, HtmlFlowCompleteAttributeValueBefore, HtmlFlowCompleteAttributeValueQuoted, HtmlFlowCompleteAttributeValueQuotedAfter, HtmlFlowCompleteAttributeValueUnquoted, HtmlFlowCompleteAfter, HtmlFlowBlankLineBefore, BlankLineAfter, ParagraphStart, ParagraphInside, ParagraphLineStart, ContentChunkInside, ContentDefinitionAfter, HeadingSetextStart, HeadingSetextBefore, HeadingSetextInside, HeadingSetextAfter}
+use Rattle.markdown_base.specs.declared.state.TheConstants.Name.{FlowBlankLineBefore, FlowBeforeThematicBreak, FlowBeforeHeadingSetext, FlowBeforeHeadingAtx, CodeIndentedFurtherStart, FlowBeforeRaw, RawFlowCloseStart, RawFlowBeforeSequenceClose, RawFlowSequenceClose, RawFlowAfterSequenceClose, HtmlFlowOpen, HtmlFlowDeclarationOpen, HtmlFlowCommentOpenInside, HtmlFlowCdataOpenInside, HtmlFlowTagCloseStart, HtmlFlowTagName, HtmlFlowBasicSelfClosing, HtmlFlowCompleteClosingTagAfter, HtmlFlowCompleteEnd, HtmlFlowCompleteAttributeNameBefore, HtmlFlowCompleteAttributeName, HtmlFlowCompleteAttributeNameAfter, HtmlFlowCompleteAttributeValueBefore, HtmlFlowCompleteAttributeValueQuoted, HtmlFlowCompleteAttributeValueQuotedAfter, HtmlFlowCompleteAttributeValueUnquoted, HtmlFlowCompleteAfter, HtmlFlowBlankLineBefore, ParagraphStart, ParagraphInside, ParagraphLineStart, HeadingSetextStart, HeadingSetextBefore, HeadingSetextInside, HeadingSetextAfter}
+use Rattle.mdconstructs_flow.specs.declared.names.TheConstants.{ParagraphLookStart, HeadingSetextLookAfter, HeadingAtxLookStart, HeadingAtxLookText, HeadingAtxLookBlank, HeadingAtxLookSigns, HeadingAtxLookAfter, RawFlowLookInfo, HtmlFlowBlankLineInside, ParagraphLineAfter, HeadingSetextTextAfter}
 use Rattle.markdown_edits.specs.Edits.{Edit}
 use Rattle.markdown_edits.specs.OpenNames.{names_after_all}
 use Rattle.markdown_tokenizer.specs.declared.waiting.AttemptKind.TheVariants.{Check}
@@ -27,17 +28,17 @@ use Rattle.mdconstructs_flow.specs.Renamings.{Told, kept, AreTold, SameOpen}
 -- the states of looks
 abbrev pub looks : List Name
 looks =
-    FlowBlankLineBefore ∷ NonLazyContinuationStart ∷ FlowBeforeThematicBreak ∷ FlowBeforeHeadingSetext ∷ FlowBeforeGfmTable
-    ∷ FlowBeforeHeadingAtx ∷ StringStart ∷ StringBeforeData ∷ StringBefore ∷ TextBefore ∷ TextBeforeData
+    FlowBlankLineBefore ∷ ParagraphLookStart ∷ FlowBeforeThematicBreak ∷ FlowBeforeHeadingSetext ∷ HeadingSetextLookAfter
+    ∷ FlowBeforeHeadingAtx ∷ HeadingAtxLookStart ∷ HeadingAtxLookText ∷ HeadingAtxLookBlank ∷ HeadingAtxLookSigns ∷ HeadingAtxLookAfter
     ∷ CodeIndentedFurtherStart
-    ∷ FlowBeforeRaw ∷ FlowBeforeCodeIndented ∷ RawFlowCloseStart ∷ RawFlowBeforeSequenceClose ∷ RawFlowSequenceClose ∷ RawFlowAfterSequenceClose
+    ∷ FlowBeforeRaw ∷ RawFlowLookInfo ∷ RawFlowCloseStart ∷ RawFlowBeforeSequenceClose ∷ RawFlowSequenceClose ∷ RawFlowAfterSequenceClose
     ∷ HtmlFlowOpen ∷ HtmlFlowDeclarationOpen ∷ HtmlFlowCommentOpenInside ∷ HtmlFlowCdataOpenInside ∷ HtmlFlowTagCloseStart ∷ HtmlFlowTagName ∷ HtmlFlowBasicSelfClosing ∷ HtmlFlowCompleteClosingTagAfter
     ∷ HtmlFlowCompleteEnd ∷ HtmlFlowCompleteAttributeNameBefore ∷ HtmlFlowCompleteAttributeName ∷ HtmlFlowCompleteAttributeNameAfter ∷ HtmlFlowCompleteAttributeValueBefore ∷ HtmlFlowCompleteAttributeValueQuoted ∷ HtmlFlowCompleteAttributeValueQuotedAfter ∷ HtmlFlowCompleteAttributeValueUnquoted
-    ∷ HtmlFlowCompleteAfter ∷ HtmlFlowBlankLineBefore ∷ BlankLineAfter ∷ []
+    ∷ HtmlFlowCompleteAfter ∷ HtmlFlowBlankLineBefore ∷ HtmlFlowBlankLineInside ∷ []
 
 -- the states in a chunk of a paragraph
 abbrev pub chunks : List Name
-chunks = ParagraphInside ∷ ParagraphLineStart ∷ ContentChunkInside ∷ []
+chunks = ParagraphInside ∷ ParagraphLineStart ∷ ParagraphLineAfter ∷ []
 
 -- Where a reading is: in a chunk of a paragraph; before one; behind a paragraph that will be a heading, where these names of its underline are
 -- open, the innermost first; or elsewhere
@@ -49,7 +50,7 @@ pub data Place : Type 0 where
 
 abbrev pub underline_at : Name → Place
 underline_at name =
-    cond (is_one_of (ContentDefinitionAfter ∷ HeadingSetextStart ∷ []) name) (in_underline [])
+    cond (is_one_of (HeadingSetextTextAfter ∷ HeadingSetextStart ∷ []) name) (in_underline [])
     (cond (is_one_of (HeadingSetextBefore ∷ []) name) (in_underline (SpaceOrTab ∷ HeadingSetextUnderline ∷ []))
     (cond (is_one_of (HeadingSetextInside ∷ []) name) (in_underline (Sequence ∷ HeadingSetextUnderline ∷ []))
     (cond (is_one_of (HeadingSetextAfter ∷ []) name) (in_underline (HeadingSetextUnderline ∷ [])) elsewhere)))

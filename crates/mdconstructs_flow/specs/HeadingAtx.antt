@@ -1,9 +1,10 @@
 -- ATX headings (CommonMark, 4.2). The look at a line, and its reading. The look counts how many bytes the text has, so that reading needs no
--- look for the closing number signs. Some states have no name of their own among the Rust crate's: those of `String` and `Text` are borrowed.
+-- look for the closing number signs.
 use Rattle.std.specs.Prelude.{[], ◌∷◌}
 use Rattle.markdown_base.specs.declared.event.Name.TheVariants.{Data, HeadingAtx, HeadingAtxSequence, HeadingAtxText, SpaceOrTab}
 use Rattle.markdown_base.specs.declared.state.State.TheVariants.{Next, Retry, Ok, Nok}
-use Rattle.markdown_base.specs.declared.state.TheConstants.Name.{FlowAfter, FlowBeforeHeadingAtx, StringStart, StringBeforeData, StringBefore, TextBefore, TextBeforeData, HeadingAtxStart, HeadingAtxSequenceOpen, HeadingAtxAtBreak, HeadingAtxBefore, HeadingAtxData}
+use Rattle.markdown_base.specs.declared.state.TheConstants.Name.{FlowAfter, FlowBeforeHeadingAtx, HeadingAtxStart, HeadingAtxSequenceOpen, HeadingAtxAtBreak, HeadingAtxBefore, HeadingAtxData}
+use Rattle.mdconstructs_flow.specs.declared.names.TheConstants.{HeadingAtxLookStart, HeadingAtxLookText, HeadingAtxLookBlank, HeadingAtxLookSigns, HeadingAtxLookAfter}
 use Rattle.mdconstructs_tables.specs.Cases.{at}
 use Rattle.mdconstructs_tables.specs.Rows.{enter, enter_link, exit, consume, write, Rows, row, when, a_choice, StateRows, costs, state}
 use Rattle.mdconstructs_machines.specs.Paragraphs.{text_link}
@@ -25,7 +26,7 @@ flow_before_heading_atx_rows = record {
   at_end = row (write (kind_becomes HeadingAtx) ∷ write (size_becomes 0) ∷ []) Ok;
   cases =
       at is_line_feed (row (write (kind_becomes HeadingAtx) ∷ write (size_becomes 0) ∷ []) Ok)
-      ∷ at is_blank (row (write (kind_becomes HeadingAtx) ∷ write (size_becomes 0) ∷ write (count_becomes 0) ∷ consume ∷ []) (Next StringStart))
+      ∷ at is_blank (row (write (kind_becomes HeadingAtx) ∷ write (size_becomes 0) ∷ write (count_becomes 0) ∷ consume ∷ []) (Next HeadingAtxLookStart))
       ∷ at is_sign (when has_room (row (write size_grows ∷ consume ∷ []) (Next FlowBeforeHeadingAtx)) (row [] Nok)) ∷ [];
   rest = row [] Nok;
 }
@@ -34,71 +35,71 @@ abbrev pub flow_before_heading_atx : {R D : Type 0} → StateRows FlowByte R D
 flow_before_heading_atx = record (state FlowBeforeHeadingAtx (cased flow_before_heading_atx_rows) [] (costs (looking 1))) { needs = a_choice }
 
 -- a look over the white space before the text
-abbrev pub string_start_rows : {R D : Type 0} → Cased R D
-string_start_rows = record {
+abbrev pub heading_atx_look_start_rows : {R D : Type 0} → Cased R D
+heading_atx_look_start_rows = record {
   at_end = row [] Ok;
   cases =
       at is_line_feed (row [] Ok)
-      ∷ at is_blank (row (consume ∷ []) (Next StringStart))
-      ∷ at is_sign (row (write count_grows ∷ consume ∷ []) (Next TextBefore)) ∷ [];
-  rest = row (write text_grows ∷ consume ∷ []) (Next StringBeforeData);
+      ∷ at is_blank (row (consume ∷ []) (Next HeadingAtxLookStart))
+      ∷ at is_sign (row (write count_grows ∷ consume ∷ []) (Next HeadingAtxLookSigns)) ∷ [];
+  rest = row (write text_grows ∷ consume ∷ []) (Next HeadingAtxLookText);
 }
 
-abbrev pub string_start : {R D : Type 0} → StateRows FlowByte R D
-string_start = record (state StringStart (cased string_start_rows) [] (costs (looking 1))) { needs = a_choice }
+abbrev pub heading_atx_look_start : {R D : Type 0} → StateRows FlowByte R D
+heading_atx_look_start = record (state HeadingAtxLookStart (cased heading_atx_look_start_rows) [] (costs (looking 1))) { needs = a_choice }
 
 -- a look in the text
-abbrev pub string_before_data_rows : {R D : Type 0} → Cased R D
-string_before_data_rows = record {
+abbrev pub heading_atx_look_text_rows : {R D : Type 0} → Cased R D
+heading_atx_look_text_rows = record {
   at_end = row [] Ok;
-  cases = at is_line_feed (row [] Ok) ∷ at is_blank (row (write count_grows ∷ consume ∷ []) (Next StringBefore)) ∷ [];
-  rest = row (write text_grows ∷ consume ∷ []) (Next StringBeforeData);
+  cases = at is_line_feed (row [] Ok) ∷ at is_blank (row (write count_grows ∷ consume ∷ []) (Next HeadingAtxLookBlank)) ∷ [];
+  rest = row (write text_grows ∷ consume ∷ []) (Next HeadingAtxLookText);
 }
 
-abbrev pub string_before_data : {R D : Type 0} → StateRows FlowByte R D
-string_before_data = record (state StringBeforeData (cased string_before_data_rows) [] (costs (looking 1))) { needs = a_choice }
+abbrev pub heading_atx_look_text : {R D : Type 0} → StateRows FlowByte R D
+heading_atx_look_text = record (state HeadingAtxLookText (cased heading_atx_look_text_rows) [] (costs (looking 1))) { needs = a_choice }
 
 -- a look at white space in or behind the text
-abbrev pub string_before_rows : {R D : Type 0} → Cased R D
-string_before_rows = record {
+abbrev pub heading_atx_look_blank_rows : {R D : Type 0} → Cased R D
+heading_atx_look_blank_rows = record {
   at_end = row [] Ok;
   cases =
       at is_line_feed (row [] Ok)
-      ∷ at is_blank (row (write count_grows ∷ consume ∷ []) (Next StringBefore))
-      ∷ at is_sign (row (write count_grows ∷ consume ∷ []) (Next TextBefore)) ∷ [];
-  rest = row (write text_grows ∷ consume ∷ []) (Next StringBeforeData);
+      ∷ at is_blank (row (write count_grows ∷ consume ∷ []) (Next HeadingAtxLookBlank))
+      ∷ at is_sign (row (write count_grows ∷ consume ∷ []) (Next HeadingAtxLookSigns)) ∷ [];
+  rest = row (write text_grows ∷ consume ∷ []) (Next HeadingAtxLookText);
 }
 
-abbrev pub string_before : {R D : Type 0} → StateRows FlowByte R D
-string_before = record (state StringBefore (cased string_before_rows) [] (costs (looking 1))) { needs = a_choice }
+abbrev pub heading_atx_look_blank : {R D : Type 0} → StateRows FlowByte R D
+heading_atx_look_blank = record (state HeadingAtxLookBlank (cased heading_atx_look_blank_rows) [] (costs (looking 1))) { needs = a_choice }
 
 -- a look at number signs behind white space: they end the heading, if nothing follows
-abbrev pub text_before_rows : {R D : Type 0} → Cased R D
-text_before_rows = record {
+abbrev pub heading_atx_look_signs_rows : {R D : Type 0} → Cased R D
+heading_atx_look_signs_rows = record {
   at_end = row [] Ok;
   cases =
       at is_line_feed (row [] Ok)
-      ∷ at is_blank (row (write signs_end ∷ consume ∷ []) (Next TextBeforeData))
-      ∷ at is_sign (row (write count_grows ∷ consume ∷ []) (Next TextBefore)) ∷ [];
-  rest = row (write text_grows ∷ consume ∷ []) (Next StringBeforeData);
+      ∷ at is_blank (row (write signs_end ∷ consume ∷ []) (Next HeadingAtxLookAfter))
+      ∷ at is_sign (row (write count_grows ∷ consume ∷ []) (Next HeadingAtxLookSigns)) ∷ [];
+  rest = row (write text_grows ∷ consume ∷ []) (Next HeadingAtxLookText);
 }
 
-abbrev pub text_before : {R D : Type 0} → StateRows FlowByte R D
-text_before = record (state TextBefore (cased text_before_rows) [] (costs (looking 1))) { needs = a_choice }
+abbrev pub heading_atx_look_signs : {R D : Type 0} → StateRows FlowByte R D
+heading_atx_look_signs = record (state HeadingAtxLookSigns (cased heading_atx_look_signs_rows) [] (costs (looking 1))) { needs = a_choice }
 
 -- a look at white space behind such number signs
-abbrev pub text_before_data_rows : {R D : Type 0} → Cased R D
-text_before_data_rows = record {
+abbrev pub heading_atx_look_after_rows : {R D : Type 0} → Cased R D
+heading_atx_look_after_rows = record {
   at_end = row [] Ok;
   cases =
       at is_line_feed (row [] Ok)
-      ∷ at is_blank (row (write count_grows ∷ consume ∷ []) (Next TextBeforeData))
-      ∷ at is_sign (row (write signs_were_text ∷ consume ∷ []) (Next TextBefore)) ∷ [];
-  rest = row (write text_grows ∷ consume ∷ []) (Next StringBeforeData);
+      ∷ at is_blank (row (write count_grows ∷ consume ∷ []) (Next HeadingAtxLookAfter))
+      ∷ at is_sign (row (write signs_were_text ∷ consume ∷ []) (Next HeadingAtxLookSigns)) ∷ [];
+  rest = row (write text_grows ∷ consume ∷ []) (Next HeadingAtxLookText);
 }
 
-abbrev pub text_before_data : {R D : Type 0} → StateRows FlowByte R D
-text_before_data = record (state TextBeforeData (cased text_before_data_rows) [] (costs (looking 1))) { needs = a_choice }
+abbrev pub heading_atx_look_after : {R D : Type 0} → StateRows FlowByte R D
+heading_atx_look_after = record (state HeadingAtxLookAfter (cased heading_atx_look_after_rows) [] (costs (looking 1))) { needs = a_choice }
 
 -- in white space before a heading
 abbrev pub heading_atx_start_rows : {R D : Type 0} → Cased R D

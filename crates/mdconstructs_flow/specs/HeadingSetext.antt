@@ -2,7 +2,8 @@
 use Rattle.std.specs.Prelude.{[], ◌∷◌}
 use Rattle.markdown_base.specs.declared.event.Name.TheVariants.{HeadingSetextUnderline, HeadingSetextUnderlineSequence, LineEnding, SpaceOrTab}
 use Rattle.markdown_base.specs.declared.state.State.TheVariants.{Next, Retry, Ok, Nok}
-use Rattle.markdown_base.specs.declared.state.TheConstants.Name.{FlowAfter, FlowBeforeThematicBreak, FlowBeforeHeadingSetext, FlowBeforeGfmTable, ContentDefinitionAfter, HeadingSetextStart, HeadingSetextBefore, HeadingSetextInside, HeadingSetextAfter}
+use Rattle.markdown_base.specs.declared.state.TheConstants.Name.{FlowAfter, FlowBeforeThematicBreak, FlowBeforeHeadingSetext, HeadingSetextStart, HeadingSetextBefore, HeadingSetextInside, HeadingSetextAfter}
+use Rattle.mdconstructs_flow.specs.declared.names.TheConstants.{HeadingSetextLookAfter, HeadingSetextTextAfter}
 use Rattle.mdconstructs_tables.specs.Cases.{at}
 use Rattle.mdconstructs_tables.specs.Rows.{enter, exit, consume, write, Rows, row, when, at_bytes, a_choice, StateRows, costs, state}
 use Rattle.mdconstructs_flow.specs.FlowBytes.{FlowByte, is_line_feed, is_blank, is_dash, is_underline, Cased, cased}
@@ -17,7 +18,7 @@ flow_before_heading_setext_rows = record {
   cases =
       at is_line_feed (row (write (kind_becomes HeadingSetextUnderline) ∷ []) Ok)
       ∷ at is_underline (when at_mark (row (write size_grows ∷ consume ∷ []) (Next FlowBeforeHeadingSetext)) (row [] Nok))
-      ∷ at is_blank (row (consume ∷ []) (Next FlowBeforeGfmTable)) ∷ [];
+      ∷ at is_blank (row (consume ∷ []) (Next HeadingSetextLookAfter)) ∷ [];
   rest = row [] Nok;
 }
 
@@ -29,29 +30,29 @@ abbrev pub further_dash : {R D : Type 0} → Rows R D
 further_dash = when breaks_are_on (when at_mark (row (write size_grows ∷ consume ∷ []) (Next FlowBeforeThematicBreak)) (row [] Nok)) (row [] Nok)
 
 -- a look behind the marks
-abbrev pub flow_before_gfm_table_rows : {R D : Type 0} → Cased R D
-flow_before_gfm_table_rows = record {
+abbrev pub heading_setext_look_after_rows : {R D : Type 0} → Cased R D
+heading_setext_look_after_rows = record {
   at_end = row (write (kind_becomes HeadingSetextUnderline) ∷ []) Ok;
   cases =
       at is_line_feed (row (write (kind_becomes HeadingSetextUnderline) ∷ []) Ok)
       ∷ at is_dash further_dash
-      ∷ at is_blank (row (consume ∷ []) (Next FlowBeforeGfmTable)) ∷ [];
+      ∷ at is_blank (row (consume ∷ []) (Next HeadingSetextLookAfter)) ∷ [];
   rest = row [] Nok;
 }
 
-abbrev pub flow_before_gfm_table : {R D : Type 0} → StateRows FlowByte R D
-flow_before_gfm_table = record (state FlowBeforeGfmTable (cased flow_before_gfm_table_rows) [] (costs (looking 1))) { needs = a_choice }
+abbrev pub heading_setext_look_after : {R D : Type 0} → StateRows FlowByte R D
+heading_setext_look_after = record (state HeadingSetextLookAfter (cased heading_setext_look_after_rows) [] (costs (looking 1))) { needs = a_choice }
 
 -- behind a paragraph whose next line is an underline
-abbrev pub content_definition_after_rows : {R D : Type 0} → Cased R D
-content_definition_after_rows = record {
+abbrev pub heading_setext_text_after_rows : {R D : Type 0} → Cased R D
+heading_setext_text_after_rows = record {
   at_end = row [] Ok;
   cases = at is_line_feed (row (enter LineEnding ∷ consume ∷ exit LineEnding ∷ []) (Next HeadingSetextStart)) ∷ [];
   rest = row [] Ok;
 }
 
-abbrev pub content_definition_after : {R D : Type 0} → StateRows FlowByte R D
-content_definition_after = record (state ContentDefinitionAfter (cased content_definition_after_rows) [] (costs (looked 1))) { called = at_bytes is_line_feed }
+abbrev pub heading_setext_text_after : {R D : Type 0} → StateRows FlowByte R D
+heading_setext_text_after = record (state HeadingSetextTextAfter (cased heading_setext_text_after_rows) [] (costs (looked 1))) { called = at_bytes is_line_feed }
 
 -- before an underline
 abbrev pub heading_setext_start_rows : {R D : Type 0} → Cased R D

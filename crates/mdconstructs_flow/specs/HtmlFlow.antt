@@ -3,7 +3,8 @@
 use Rattle.std.specs.Prelude.{ℕ, [], ◌∷◌}
 use Rattle.markdown_base.specs.declared.event.Name.TheVariants.{HtmlFlow, HtmlFlowData, LineEnding}
 use Rattle.markdown_base.specs.declared.state.State.TheVariants.{Next, Retry, Ok, Nok}
-use Rattle.markdown_base.specs.declared.state.TheConstants.Name.{BlankLineAfter, FlowAfter, HtmlFlowBlankLineBefore, HtmlFlowContinuation, HtmlFlowContinuationAfter, HtmlFlowContinuationBefore, HtmlFlowContinuationCdataInside, HtmlFlowContinuationClose, HtmlFlowContinuationCommentInside, HtmlFlowContinuationDeclarationInside, HtmlFlowContinuationRawEndTag, HtmlFlowContinuationRawTagOpen, HtmlFlowContinuationStart, HtmlFlowStart}
+use Rattle.markdown_base.specs.declared.state.TheConstants.Name.{FlowAfter, HtmlFlowBlankLineBefore, HtmlFlowContinuation, HtmlFlowContinuationAfter, HtmlFlowContinuationBefore, HtmlFlowContinuationCdataInside, HtmlFlowContinuationClose, HtmlFlowContinuationCommentInside, HtmlFlowContinuationDeclarationInside, HtmlFlowContinuationRawEndTag, HtmlFlowContinuationRawTagOpen, HtmlFlowContinuationStart, HtmlFlowStart}
+use Rattle.mdconstructs_flow.specs.declared.names.TheConstants.{HtmlFlowBlankLineInside}
 use Rattle.markdown_tokenizer.specs.declared.waiting.AttemptKind.TheVariants.{Check}
 use Rattle.mdconstructs_tables.specs.Cases.{at}
 use Rattle.mdconstructs_tables.specs.Rows.{enter, exit, consume, write, choose, Rows, row, when, at_byte, at_bytes, a_choice, StateRows, costs, state}
@@ -131,7 +132,7 @@ html_flow_continuation_before = state HtmlFlowContinuationBefore (cased html_flo
 abbrev pub html_flow_blank_line_before_rows : {R D : Type 0} → Cased R D
 html_flow_blank_line_before_rows = record {
   at_end = row [] Ok;
-  cases = at is_line_feed (row (consume ∷ []) (Next BlankLineAfter)) ∷ [];
+  cases = at is_line_feed (row (consume ∷ []) (Next HtmlFlowBlankLineInside)) ∷ [];
   rest = row [] Ok;
 }
 
@@ -139,17 +140,17 @@ abbrev pub html_flow_blank_line_before : {R D : Type 0} → StateRows FlowByte R
 html_flow_blank_line_before = record (state HtmlFlowBlankLineBefore (cased html_flow_blank_line_before_rows) [] (costs (at_next_line 2))) { needs = a_choice; called = at_bytes is_line_feed }
 
 -- a look over white space
-abbrev pub blank_line_after_rows : {R D : Type 0} → Cased R D
-blank_line_after_rows = record {
+abbrev pub html_flow_blank_line_inside_rows : {R D : Type 0} → Cased R D
+html_flow_blank_line_inside_rows = record {
   at_end = row [] Ok;
   cases =
       at is_line_feed (row [] Ok)
-      ∷ at is_blank (row (consume ∷ []) (Next BlankLineAfter)) ∷ [];
+      ∷ at is_blank (row (consume ∷ []) (Next HtmlFlowBlankLineInside)) ∷ [];
   rest = row [] Nok;
 }
 
-abbrev pub blank_line_after : {R D : Type 0} → StateRows FlowByte R D
-blank_line_after = record (state BlankLineAfter (cased blank_line_after_rows) [] (costs (looking 1))) { needs = a_choice }
+abbrev pub html_flow_blank_line_inside : {R D : Type 0} → StateRows FlowByte R D
+html_flow_blank_line_inside = record (state HtmlFlowBlankLineInside (cased html_flow_blank_line_inside_rows) [] (costs (looking 1))) { needs = a_choice }
 
 -- at the end of a line before a blank one
 abbrev pub html_flow_continuation_after_rows : {R D : Type 0} → Cased R D

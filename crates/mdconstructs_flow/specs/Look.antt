@@ -3,7 +3,8 @@
 use Rattle.std.specs.Prelude.{ℕ, [], ◌∷◌}
 use Rattle.markdown_base.specs.declared.event.Name.TheVariants.{BlankLineEnding, CodeIndented}
 use Rattle.markdown_base.specs.declared.state.State.TheVariants.{Next, Ok, Nok}
-use Rattle.markdown_base.specs.declared.state.TheConstants.Name.{FlowBlankLineBefore, NonLazyContinuationStart, FlowBeforeThematicBreak, FlowBeforeHeadingSetext, FlowBeforeHeadingAtx, FlowBeforeRaw, HtmlFlowOpen}
+use Rattle.markdown_base.specs.declared.state.TheConstants.Name.{FlowBlankLineBefore, FlowBeforeThematicBreak, FlowBeforeHeadingSetext, FlowBeforeHeadingAtx, FlowBeforeRaw, HtmlFlowOpen}
+use Rattle.mdconstructs_flow.specs.declared.names.TheConstants.{ParagraphLookStart}
 use Rattle.mdconstructs_tables.specs.Cases.{at}
 use Rattle.mdconstructs_tables.specs.Rows.{consume, write, Rows, row, when, at_bytes, a_choice, StateRows, costs, state}
 use Rattle.mdconstructs_flow.specs.FlowBytes.{FlowByte, is_line_feed, is_blank, is_sign, is_star, is_underscore, is_dash, is_equals, is_tick, is_tilde, is_less, Cased, cased}
@@ -64,12 +65,12 @@ abbrev pub flow_blank_line_before : {R D : Type 0} → StateRows FlowByte R D
 flow_blank_line_before = record (state FlowBlankLineBefore (cased flow_blank_line_before_rows) [] (costs (looking 2))) { needs = a_choice }
 
 -- a look at the next line, from the line ending in a paragraph
-abbrev pub non_lazy_continuation_start_rows : {R D : Type 0} → Cased R D
-non_lazy_continuation_start_rows = record {
+abbrev pub paragraph_look_start_rows : {R D : Type 0} → Cased R D
+paragraph_look_start_rows = record {
   at_end = row [] Ok;
   cases = at is_line_feed (row (write (indent_becomes 0) ∷ consume ∷ []) (Next FlowBlankLineBefore)) ∷ [];
   rest = row [] Ok;
 }
 
-abbrev pub non_lazy_continuation_start : {R D : Type 0} → StateRows FlowByte R D
-non_lazy_continuation_start = record (state NonLazyContinuationStart (cased non_lazy_continuation_start_rows) [] (costs (at_next_line 3))) { needs = a_choice; called = at_bytes is_line_feed }
+abbrev pub paragraph_look_start : {R D : Type 0} → StateRows FlowByte R D
+paragraph_look_start = record (state ParagraphLookStart (cased paragraph_look_start_rows) [] (costs (at_next_line 3))) { needs = a_choice; called = at_bytes is_line_feed }

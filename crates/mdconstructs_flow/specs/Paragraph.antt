@@ -2,7 +2,8 @@
 use Rattle.std.specs.Prelude.{[], ◌∷◌}
 use Rattle.markdown_base.specs.declared.event.Name.TheVariants.{Data, HeadingSetextUnderline, Paragraph}
 use Rattle.markdown_base.specs.declared.state.State.TheVariants.{Next, Retry, Ok}
-use Rattle.markdown_base.specs.declared.state.TheConstants.Name.{FlowAfter, NonLazyContinuationStart, ContentDefinitionAfter, FlowBeforeContent, ParagraphStart, ParagraphInside, ParagraphLineStart, ContentChunkInside}
+use Rattle.markdown_base.specs.declared.state.TheConstants.Name.{FlowAfter, FlowBeforeContent, ParagraphStart, ParagraphInside, ParagraphLineStart}
+use Rattle.mdconstructs_flow.specs.declared.names.TheConstants.{ParagraphLookStart, HeadingSetextTextAfter, ParagraphLineAfter}
 use Rattle.markdown_tokenizer.specs.declared.waiting.AttemptKind.TheVariants.{Check}
 use Rattle.mdconstructs_tables.specs.Cases.{at}
 use Rattle.mdconstructs_tables.specs.Chunks.{alone, chunk_before, connected, is_connected, last_event}
@@ -40,7 +41,7 @@ paragraph_start = record (state ParagraphStart (cased paragraph_start_rows) (Par
 abbrev pub paragraph_inside_rows : {R D : Type 0} → Cased R D
 paragraph_inside_rows = record {
   at_end = row (exit Data ∷ exit Paragraph ∷ []) (Retry FlowAfter);
-  cases = at is_line_feed (row (choose Check (Next ParagraphLineStart) (Next ContentChunkInside) ∷ []) (Retry NonLazyContinuationStart)) ∷ [];
+  cases = at is_line_feed (row (choose Check (Next ParagraphLineStart) (Next ParagraphLineAfter) ∷ []) (Retry ParagraphLookStart)) ∷ [];
   rest = row (consume ∷ []) (Next ParagraphInside);
 }
 
@@ -52,7 +53,7 @@ paragraph_inside = record (state ParagraphInside (cased paragraph_inside_rows) (
 abbrev pub paragraph_line_start_rows : {R D : Type 0} → Cased R D
 paragraph_line_start_rows = record {
   at_end = row [] Ok;
-  cases = at is_line_feed (when is_passed_over (row [] (Retry ContentChunkInside)) (when (kind_is HeadingSetextUnderline) (row (exit Data ∷ exit Paragraph ∷ write paragraph_ends ∷ []) (Retry ContentDefinitionAfter)) (row (exit Data ∷ exit Paragraph ∷ []) (Retry FlowAfter)))) ∷ [];
+  cases = at is_line_feed (when is_passed_over (row [] (Retry ParagraphLineAfter)) (when (kind_is HeadingSetextUnderline) (row (exit Data ∷ exit Paragraph ∷ write paragraph_ends ∷ []) (Retry HeadingSetextTextAfter)) (row (exit Data ∷ exit Paragraph ∷ []) (Retry FlowAfter)))) ∷ [];
   rest = row [] Ok;
 }
 
@@ -60,12 +61,12 @@ abbrev pub paragraph_line_start : {R D : Type 0} → StateRows FlowByte R D
 paragraph_line_start = record (state ParagraphLineStart (cased paragraph_line_start_rows) (Paragraph ∷ Data ∷ []) (costs (looked 2))) { called = at_bytes is_line_feed }
 
 -- at the end of a line of a paragraph that goes on
-abbrev pub content_chunk_inside_rows : {R D : Type 0} → Cased R D
-content_chunk_inside_rows = record {
+abbrev pub paragraph_line_after_rows : {R D : Type 0} → Cased R D
+paragraph_line_after_rows = record {
   at_end = row [] Ok;
   cases = at is_line_feed (row (consume ∷ exit Data ∷ []) (Next ParagraphStart)) ∷ [];
   rest = row [] Ok;
 }
 
-abbrev pub content_chunk_inside : {R D : Type 0} → StateRows FlowByte R D
-content_chunk_inside = record (state ContentChunkInside (cased content_chunk_inside_rows) (Paragraph ∷ Data ∷ []) (costs (looked 1))) { called = at_bytes is_line_feed }
+abbrev pub paragraph_line_after : {R D : Type 0} → StateRows FlowByte R D
+paragraph_line_after = record (state ParagraphLineAfter (cased paragraph_line_after_rows) (Paragraph ∷ Data ∷ []) (costs (looked 1))) { called = at_bytes is_line_feed }

@@ -3,8 +3,9 @@
 ghost use Rattle.std.specs.Prelude.{IfOk};
 ghost use Rattle.mdconstructs_tables.specs.RowInvariant.{DoesAll, IsCallable, step_in};
 ghost use Rattle.mdconstructs_flow.specs.FlowBytes.{flow_byte};
-ghost use Rattle.mdconstructs_flow.specs.CodeFenced.{raw_flow_at_non_lazy_break, raw_flow_close_start, raw_flow_before_sequence_close, raw_flow_sequence_close, raw_flow_after_sequence_close, raw_flow_content_before, raw_flow_content_start, raw_flow_before_content_chunk, raw_flow_content_chunk, raw_flow_after, raw_text_sequence_open, raw_text_between, raw_text_sequence_close, raw_text_data};
+ghost use Rattle.mdconstructs_flow.specs.CodeFenced.{raw_flow_at_non_lazy_break, raw_flow_close_start, raw_flow_before_sequence_close, raw_flow_sequence_close, raw_flow_after_sequence_close, raw_flow_content_before, raw_flow_content_start, raw_flow_before_content_chunk, raw_flow_content_chunk, raw_flow_after, raw_flow_close_before, raw_flow_close_blank, raw_flow_close_sequence, raw_flow_close_between};
 
+use crate::names;
 use crate::sizes::{
     add_to_count, at_mark, counts_to_indent, is_as_long, is_stripped, may_be_indented, set_count,
 };
@@ -225,15 +226,15 @@ pub(crate) fn raw_flow_after<'a, M: MachineTypes>(
     ensures { IfOk result (DoesAll (step_in flow_byte raw_flow_after t.old) t.old t.new) }
 {
     marker(t, event::Name::LineEnding)?;
-    Ok(State::Next(Name::RawTextSequenceOpen))
+    Ok(State::Next(names::RawFlowCloseBefore))
 }
 
 /// Before a closing fence.
-pub(crate) fn raw_text_sequence_open<'a, M: MachineTypes>(
+pub(crate) fn raw_flow_close_before<'a, M: MachineTypes>(
     t: &mut Tokenizer<'a, M>,
 ) -> Result<State, AllocError>
-    requires { IsCallable flow_byte raw_text_sequence_open t.old }
-    ensures { IfOk result (DoesAll (step_in flow_byte raw_text_sequence_open t.old) t.old t.new) }
+    requires { IsCallable flow_byte raw_flow_close_before t.old }
+    ensures { IfOk result (DoesAll (step_in flow_byte raw_flow_close_before t.old) t.old t.new) }
 {
     match t.current() {
         None | Some(b'\n') => {
@@ -244,61 +245,61 @@ pub(crate) fn raw_text_sequence_open<'a, M: MachineTypes>(
             t.enter(event::Name::CodeFencedFence)?;
             t.enter(event::Name::SpaceOrTab)?;
             t.consume();
-            Ok(State::Next(Name::RawTextBetween))
+            Ok(State::Next(names::RawFlowCloseBlank))
         }
         Some(_) => {
             t.enter(event::Name::CodeFencedFence)?;
             t.enter(event::Name::CodeFencedFenceSequence)?;
             t.consume();
-            Ok(State::Next(Name::RawTextSequenceClose))
+            Ok(State::Next(names::RawFlowCloseSequence))
         }
     }
 }
 
 /// In white space of a closing fence.
-pub(crate) fn raw_text_between<'a, M: MachineTypes>(
+pub(crate) fn raw_flow_close_blank<'a, M: MachineTypes>(
     t: &mut Tokenizer<'a, M>,
 ) -> Result<State, AllocError>
-    requires { IsCallable flow_byte raw_text_between t.old }
-    ensures { IfOk result (DoesAll (step_in flow_byte raw_text_between t.old) t.old t.new) }
+    requires { IsCallable flow_byte raw_flow_close_blank t.old }
+    ensures { IfOk result (DoesAll (step_in flow_byte raw_flow_close_blank t.old) t.old t.new) }
 {
     match t.current() {
         Some(b'\t' | b' ') => {
             t.consume();
-            Ok(State::Next(Name::RawTextBetween))
+            Ok(State::Next(names::RawFlowCloseBlank))
         }
         _ => {
             t.exit(event::Name::SpaceOrTab)?;
-            Ok(State::Retry(Name::RawTextData))
+            Ok(State::Retry(names::RawFlowCloseBetween))
         }
     }
 }
 
 /// In the sequence of a closing fence.
-pub(crate) fn raw_text_sequence_close<'a, M: MachineTypes>(
+pub(crate) fn raw_flow_close_sequence<'a, M: MachineTypes>(
     t: &mut Tokenizer<'a, M>,
 ) -> Result<State, AllocError>
-    requires { IsCallable flow_byte raw_text_sequence_close t.old }
-    ensures { IfOk result (DoesAll (step_in flow_byte raw_text_sequence_close t.old) t.old t.new) }
+    requires { IsCallable flow_byte raw_flow_close_sequence t.old }
+    ensures { IfOk result (DoesAll (step_in flow_byte raw_flow_close_sequence t.old) t.old t.new) }
 {
     match t.current() {
         Some(b'`' | b'~') => {
             t.consume();
-            Ok(State::Next(Name::RawTextSequenceClose))
+            Ok(State::Next(names::RawFlowCloseSequence))
         }
         _ => {
             t.exit(event::Name::CodeFencedFenceSequence)?;
-            Ok(State::Retry(Name::RawTextData))
+            Ok(State::Retry(names::RawFlowCloseBetween))
         }
     }
 }
 
 /// In a closing fence, between its sequence and its white space.
-pub(crate) fn raw_text_data<'a, M: MachineTypes>(
+pub(crate) fn raw_flow_close_between<'a, M: MachineTypes>(
     t: &mut Tokenizer<'a, M>,
 ) -> Result<State, AllocError>
-    requires { IsCallable flow_byte raw_text_data t.old }
-    ensures { IfOk result (DoesAll (step_in flow_byte raw_text_data t.old) t.old t.new) }
+    requires { IsCallable flow_byte raw_flow_close_between t.old }
+    ensures { IfOk result (DoesAll (step_in flow_byte raw_flow_close_between t.old) t.old t.new) }
 {
     match t.current() {
         None | Some(b'\n') => {
@@ -309,12 +310,12 @@ pub(crate) fn raw_text_data<'a, M: MachineTypes>(
         Some(b'\t' | b' ') => {
             t.enter(event::Name::SpaceOrTab)?;
             t.consume();
-            Ok(State::Next(Name::RawTextBetween))
+            Ok(State::Next(names::RawFlowCloseBlank))
         }
         Some(_) => {
             t.enter(event::Name::CodeFencedFenceSequence)?;
             t.consume();
-            Ok(State::Next(Name::RawTextSequenceClose))
+            Ok(State::Next(names::RawFlowCloseSequence))
         }
     }
 }

@@ -3,8 +3,9 @@
 ghost use Rattle.std.specs.Prelude.{IfOk};
 ghost use Rattle.mdconstructs_tables.specs.RowInvariant.{DoesAll, IsCallable, step_in};
 ghost use Rattle.mdconstructs_flow.specs.FlowBytes.{flow_byte};
-ghost use Rattle.mdconstructs_flow.specs.CodeIndented.{code_indented_start, code_indented_at_break, code_indented_further_after, code_indented_inside, space_or_tab_eol_after_first, code_indented_after, code_indented_further_begin, code_indented_further_start};
+ghost use Rattle.mdconstructs_flow.specs.CodeIndented.{code_indented_start, code_indented_at_break, code_indented_further_after, code_indented_inside, code_indented_line_after, code_indented_after, code_indented_further_begin, code_indented_further_start};
 
+use crate::names;
 use crate::sizes::{add_to_count, counts_to_four, set_count};
 use markdown_tokenizer::event;
 use markdown_tokenizer::state::{MachineTypes, Name, State};
@@ -103,7 +104,7 @@ pub(crate) fn code_indented_inside<'a, M: MachineTypes>(
         }
         Some(b'\n') => {
             t.check(
-                State::Next(Name::SpaceOrTabEolAfterFirst),
+                State::Next(names::CodeIndentedLineAfter),
                 State::Next(Name::CodeIndentedAfter),
             )?;
             Ok(State::Retry(Name::CodeIndentedFurtherStart))
@@ -116,11 +117,11 @@ pub(crate) fn code_indented_inside<'a, M: MachineTypes>(
 }
 
 /// At the end of a line of indented code that goes on.
-pub(crate) fn space_or_tab_eol_after_first<'a, M: MachineTypes>(
+pub(crate) fn code_indented_line_after<'a, M: MachineTypes>(
     t: &mut Tokenizer<'a, M>,
 ) -> Result<State, AllocError>
-    requires { IsCallable flow_byte space_or_tab_eol_after_first t.old }
-    ensures { IfOk result (DoesAll (step_in flow_byte space_or_tab_eol_after_first t.old) t.old t.new) }
+    requires { IsCallable flow_byte code_indented_line_after t.old }
+    ensures { IfOk result (DoesAll (step_in flow_byte code_indented_line_after t.old) t.old t.new) }
 {
     t.exit(event::Name::CodeFlowChunk)?;
     marker(t, event::Name::LineEnding)?;

@@ -5,8 +5,9 @@ ghost use Rattle.markdown_tokenizer.specs.declared.waiting.Waits.TheVariants.{By
 ghost use Rattle.mdconstructs_flow.specs.Steps.{rows_step};
 ghost use Rattle.mdconstructs_tables.specs.RowInvariant.{DoesAll, IsCallable, step_in};
 ghost use Rattle.mdconstructs_flow.specs.FlowBytes.{flow_byte};
-ghost use Rattle.mdconstructs_flow.specs.CodeFenced.{flow_before_raw, flow_before_code_indented, raw_flow_start, raw_flow_sequence_open, raw_flow_info_before, raw_flow_before_sequence_open, raw_flow_info, raw_text_start, raw_flow_meta_before, raw_flow_meta, fence_ends};
+ghost use Rattle.mdconstructs_flow.specs.CodeFenced.{flow_before_raw, raw_flow_look_info, raw_flow_start, raw_flow_sequence_open, raw_flow_info_before, raw_flow_before_sequence_open, raw_flow_info, raw_flow_info_after, raw_flow_meta_before, raw_flow_meta, fence_ends};
 
+use crate::names;
 use crate::sizes::{STRING, add_to_size, at_mark, has_three, is_tilde_fence, set_kind};
 use markdown_tokenizer::event;
 use markdown_tokenizer::state::{MachineTypes, Name, State};
@@ -34,11 +35,11 @@ pub(crate) fn flow_before_raw<'a, M: MachineTypes>(
 }
 
 /// A look: behind backticks that open a fence no further backtick may come in the line.
-pub(crate) fn flow_before_code_indented<'a, M: MachineTypes>(
+pub(crate) fn raw_flow_look_info<'a, M: MachineTypes>(
     t: &mut Tokenizer<'a, M>,
 ) -> Result<State, AllocError>
-    requires { IsCallable flow_byte flow_before_code_indented t.old }
-    ensures { IfOk result (DoesAll (step_in flow_byte flow_before_code_indented t.old) t.old t.new) }
+    requires { IsCallable flow_byte raw_flow_look_info t.old }
+    ensures { IfOk result (DoesAll (step_in flow_byte raw_flow_look_info t.old) t.old t.new) }
 {
     match t.current() {
         None | Some(b'\n') => {
@@ -48,7 +49,7 @@ pub(crate) fn flow_before_code_indented<'a, M: MachineTypes>(
         Some(b'`') => Ok(State::Nok),
         Some(_) => {
             t.consume();
-            Ok(State::Next(Name::FlowBeforeCodeIndented))
+            Ok(State::Next(names::RawFlowLookInfo))
         }
     }
 }
@@ -164,7 +165,7 @@ pub(crate) fn raw_flow_info<'a, M: MachineTypes>(
             t.exit(event::Name::CodeFencedFenceInfo)?;
             t.enter(event::Name::SpaceOrTab)?;
             t.consume();
-            Ok(State::Next(Name::RawTextStart))
+            Ok(State::Next(names::RawFlowInfoAfter))
         }
         Some(_) => {
             t.consume();
@@ -174,16 +175,16 @@ pub(crate) fn raw_flow_info<'a, M: MachineTypes>(
 }
 
 /// In the white space behind an info string.
-pub(crate) fn raw_text_start<'a, M: MachineTypes>(
+pub(crate) fn raw_flow_info_after<'a, M: MachineTypes>(
     t: &mut Tokenizer<'a, M>,
 ) -> Result<State, AllocError>
-    requires { IsCallable flow_byte raw_text_start t.old }
-    ensures { IfOk result (DoesAll (step_in flow_byte raw_text_start t.old) t.old t.new) }
+    requires { IsCallable flow_byte raw_flow_info_after t.old }
+    ensures { IfOk result (DoesAll (step_in flow_byte raw_flow_info_after t.old) t.old t.new) }
 {
     match t.current() {
         Some(b'\t' | b' ') => {
             t.consume();
-            Ok(State::Next(Name::RawTextStart))
+            Ok(State::Next(names::RawFlowInfoAfter))
         }
         _ => {
             t.exit(event::Name::SpaceOrTab)?;
@@ -244,5 +245,5 @@ fn fence_ends<'a, M: MachineTypes>(t: &mut Tokenizer<'a, M>) -> State
         set_kind(t, event::Name::CodeFenced);
         return State::Ok;
     }
-    State::Retry(Name::FlowBeforeCodeIndented)
+    State::Retry(names::RawFlowLookInfo)
 }

@@ -14,53 +14,53 @@ use crate::code_fenced::raw_flow_after_sequence_close;
 use crate::code_fenced::raw_flow_at_non_lazy_break;
 use crate::code_fenced::raw_flow_before_content_chunk;
 use crate::code_fenced::raw_flow_before_sequence_close;
+use crate::code_fenced::raw_flow_close_before;
+use crate::code_fenced::raw_flow_close_between;
+use crate::code_fenced::raw_flow_close_blank;
+use crate::code_fenced::raw_flow_close_sequence;
 use crate::code_fenced::raw_flow_close_start;
 use crate::code_fenced::raw_flow_content_before;
 use crate::code_fenced::raw_flow_content_chunk;
 use crate::code_fenced::raw_flow_content_start;
 use crate::code_fenced::raw_flow_sequence_close;
-use crate::code_fenced::raw_text_between;
-use crate::code_fenced::raw_text_data;
-use crate::code_fenced::raw_text_sequence_close;
-use crate::code_fenced::raw_text_sequence_open;
 use crate::code_indented::code_indented_after;
 use crate::code_indented::code_indented_at_break;
 use crate::code_indented::code_indented_further_after;
 use crate::code_indented::code_indented_further_begin;
 use crate::code_indented::code_indented_further_start;
 use crate::code_indented::code_indented_inside;
+use crate::code_indented::code_indented_line_after;
 use crate::code_indented::code_indented_start;
-use crate::code_indented::space_or_tab_eol_after_first;
-use crate::fence::flow_before_code_indented;
 use crate::fence::flow_before_raw;
 use crate::fence::raw_flow_before_sequence_open;
 use crate::fence::raw_flow_info;
+use crate::fence::raw_flow_info_after;
 use crate::fence::raw_flow_info_before;
+use crate::fence::raw_flow_look_info;
 use crate::fence::raw_flow_meta;
 use crate::fence::raw_flow_meta_before;
 use crate::fence::raw_flow_sequence_open;
 use crate::fence::raw_flow_start;
-use crate::fence::raw_text_start;
 use crate::heading_atx::flow_before_heading_atx;
 use crate::heading_atx::heading_atx_at_break;
 use crate::heading_atx::heading_atx_before;
 use crate::heading_atx::heading_atx_data;
+use crate::heading_atx::heading_atx_look_after;
+use crate::heading_atx::heading_atx_look_blank;
+use crate::heading_atx::heading_atx_look_signs;
+use crate::heading_atx::heading_atx_look_start;
+use crate::heading_atx::heading_atx_look_text;
 use crate::heading_atx::heading_atx_sequence_open;
 use crate::heading_atx::heading_atx_start;
-use crate::heading_atx::string_before;
-use crate::heading_atx::string_before_data;
-use crate::heading_atx::string_start;
-use crate::heading_atx::text_before;
-use crate::heading_atx::text_before_data;
-use crate::heading_setext::content_definition_after;
-use crate::heading_setext::flow_before_gfm_table;
 use crate::heading_setext::flow_before_heading_setext;
 use crate::heading_setext::heading_setext_after;
 use crate::heading_setext::heading_setext_before;
 use crate::heading_setext::heading_setext_inside;
+use crate::heading_setext::heading_setext_look_after;
 use crate::heading_setext::heading_setext_start;
-use crate::html_flow::blank_line_after;
+use crate::heading_setext::heading_setext_text_after;
 use crate::html_flow::html_flow_blank_line_before;
+use crate::html_flow::html_flow_blank_line_inside;
 use crate::html_flow::html_flow_continuation;
 use crate::html_flow::html_flow_continuation_after;
 use crate::html_flow::html_flow_continuation_before;
@@ -93,14 +93,15 @@ use crate::lines::flow_after;
 use crate::lines::flow_blank_line_after;
 use crate::lines::flow_start;
 use crate::look::flow_blank_line_before;
-use crate::look::non_lazy_continuation_start;
+use crate::look::paragraph_look_start;
+use crate::names;
 use crate::over::is_in_html;
 use crate::over::is_in_info;
 use crate::over::is_in_line;
 use crate::over::is_in_word;
-use crate::paragraph::content_chunk_inside;
 use crate::paragraph::flow_before_content;
 use crate::paragraph::paragraph_inside;
+use crate::paragraph::paragraph_line_after;
 use crate::paragraph::paragraph_line_start;
 use crate::paragraph::paragraph_start;
 use crate::thematic_break::flow_before_thematic_break;
@@ -147,7 +148,7 @@ impl Machine for Flow {
             Name::HtmlFlowContinuationClose => is_in_line(byte),
             Name::RawFlowInfo => is_in_word(byte),
             Name::RawFlowMeta => is_in_line(byte),
-            Name::FlowBeforeCodeIndented => is_in_info(byte),
+            names::RawFlowLookInfo => is_in_info(byte),
             _ => false,
         }
     }
@@ -160,13 +161,12 @@ impl Machine for Flow {
         name: Name,
     ) -> Result<State, AllocError> {
         begin(t);
-        // The names are the Rust crate's. It has none for looks: `FlowBeforeHeadingAtx` and the like, and six names of strings and
-        // texts. `RawText..` are states of fences.
+        // The names are the Rust crate's, but for those of `names`.
         match name {
             Name::FlowStart => flow_start(t),
             Name::FlowBlankLineAfter => flow_blank_line_after(t),
             Name::FlowAfter => flow_after(t),
-            Name::NonLazyContinuationStart => non_lazy_continuation_start(t),
+            names::ParagraphLookStart => paragraph_look_start(t),
             Name::FlowBlankLineBefore => flow_blank_line_before(t),
             Name::BlankLineStart => blank_line_start(t),
             Name::FlowBeforeThematicBreak => flow_before_thematic_break(t),
@@ -174,19 +174,19 @@ impl Machine for Flow {
             Name::ThematicBreakAtBreak => thematic_break_at_break(t),
             Name::ThematicBreakSequence => thematic_break_sequence(t),
             Name::FlowBeforeHeadingAtx => flow_before_heading_atx(t),
-            Name::StringStart => string_start(t),
-            Name::StringBeforeData => string_before_data(t),
-            Name::StringBefore => string_before(t),
-            Name::TextBefore => text_before(t),
-            Name::TextBeforeData => text_before_data(t),
+            names::HeadingAtxLookStart => heading_atx_look_start(t),
+            names::HeadingAtxLookText => heading_atx_look_text(t),
+            names::HeadingAtxLookBlank => heading_atx_look_blank(t),
+            names::HeadingAtxLookSigns => heading_atx_look_signs(t),
+            names::HeadingAtxLookAfter => heading_atx_look_after(t),
             Name::HeadingAtxStart => heading_atx_start(t),
             Name::HeadingAtxSequenceOpen => heading_atx_sequence_open(t),
             Name::HeadingAtxAtBreak => heading_atx_at_break(t),
             Name::HeadingAtxBefore => heading_atx_before(t),
             Name::HeadingAtxData => heading_atx_data(t),
             Name::FlowBeforeHeadingSetext => flow_before_heading_setext(t),
-            Name::FlowBeforeGfmTable => flow_before_gfm_table(t),
-            Name::ContentDefinitionAfter => content_definition_after(t),
+            names::HeadingSetextLookAfter => heading_setext_look_after(t),
+            names::HeadingSetextTextAfter => heading_setext_text_after(t),
             Name::HeadingSetextStart => heading_setext_start(t),
             Name::HeadingSetextBefore => heading_setext_before(t),
             Name::HeadingSetextInside => heading_setext_inside(t),
@@ -195,18 +195,18 @@ impl Machine for Flow {
             Name::CodeIndentedAtBreak => code_indented_at_break(t),
             Name::CodeIndentedFurtherAfter => code_indented_further_after(t),
             Name::CodeIndentedInside => code_indented_inside(t),
-            Name::SpaceOrTabEolAfterFirst => space_or_tab_eol_after_first(t),
+            names::CodeIndentedLineAfter => code_indented_line_after(t),
             Name::CodeIndentedAfter => code_indented_after(t),
             Name::CodeIndentedFurtherBegin => code_indented_further_begin(t),
             Name::CodeIndentedFurtherStart => code_indented_further_start(t),
             Name::FlowBeforeRaw => flow_before_raw(t),
-            Name::FlowBeforeCodeIndented => flow_before_code_indented(t),
+            names::RawFlowLookInfo => raw_flow_look_info(t),
             Name::RawFlowStart => raw_flow_start(t),
             Name::RawFlowSequenceOpen => raw_flow_sequence_open(t),
             Name::RawFlowInfoBefore => raw_flow_info_before(t),
             Name::RawFlowBeforeSequenceOpen => raw_flow_before_sequence_open(t),
             Name::RawFlowInfo => raw_flow_info(t),
-            Name::RawTextStart => raw_text_start(t),
+            names::RawFlowInfoAfter => raw_flow_info_after(t),
             Name::RawFlowMetaBefore => raw_flow_meta_before(t),
             Name::RawFlowMeta => raw_flow_meta(t),
             Name::RawFlowAtNonLazyBreak => raw_flow_at_non_lazy_break(t),
@@ -219,10 +219,10 @@ impl Machine for Flow {
             Name::RawFlowBeforeContentChunk => raw_flow_before_content_chunk(t),
             Name::RawFlowContentChunk => raw_flow_content_chunk(t),
             Name::RawFlowAfter => raw_flow_after(t),
-            Name::RawTextSequenceOpen => raw_text_sequence_open(t),
-            Name::RawTextBetween => raw_text_between(t),
-            Name::RawTextSequenceClose => raw_text_sequence_close(t),
-            Name::RawTextData => raw_text_data(t),
+            names::RawFlowCloseBefore => raw_flow_close_before(t),
+            names::RawFlowCloseBlank => raw_flow_close_blank(t),
+            names::RawFlowCloseSequence => raw_flow_close_sequence(t),
+            names::RawFlowCloseBetween => raw_flow_close_between(t),
             Name::HtmlFlowOpen => html_flow_open(t),
             Name::HtmlFlowDeclarationOpen => html_flow_declaration_open(t),
             Name::HtmlFlowCommentOpenInside => html_flow_comment_open_inside(t),
@@ -259,14 +259,14 @@ impl Machine for Flow {
             Name::HtmlFlowContinuationClose => html_flow_continuation_close(t),
             Name::HtmlFlowContinuationBefore => html_flow_continuation_before(t),
             Name::HtmlFlowBlankLineBefore => html_flow_blank_line_before(t),
-            Name::BlankLineAfter => blank_line_after(t),
+            names::HtmlFlowBlankLineInside => html_flow_blank_line_inside(t),
             Name::HtmlFlowContinuationAfter => html_flow_continuation_after(t),
             Name::HtmlFlowContinuationStart => html_flow_continuation_start(t),
             Name::FlowBeforeContent => flow_before_content(t),
             Name::ParagraphStart => paragraph_start(t),
             Name::ParagraphInside => paragraph_inside(t),
             Name::ParagraphLineStart => paragraph_line_start(t),
-            Name::ContentChunkInside => content_chunk_inside(t),
+            names::ParagraphLineAfter => paragraph_line_after(t),
             _ => unreachable!(),
         }
     }

@@ -7,8 +7,9 @@ ghost use Rattle.markdown_tokenizer.specs.declared.waiting.Waits.TheVariants.{By
 ghost use Rattle.mdconstructs_flow.specs.Steps.{rows_step};
 ghost use Rattle.mdconstructs_tables.specs.RowInvariant.{DoesAll, IsCallable, step_in};
 ghost use Rattle.mdconstructs_flow.specs.FlowBytes.{flow_byte};
-ghost use Rattle.mdconstructs_flow.specs.HeadingAtx.{flow_before_heading_atx, string_start, string_before_data, string_before, text_before, text_before_data, heading_atx_start, heading_atx_sequence_open, heading_atx_at_break, heading_atx_before, heading_atx_data, text_or_signs, text_goes_on};
+ghost use Rattle.mdconstructs_flow.specs.HeadingAtx.{flow_before_heading_atx, heading_atx_look_start, heading_atx_look_text, heading_atx_look_blank, heading_atx_look_signs, heading_atx_look_after, heading_atx_start, heading_atx_sequence_open, heading_atx_at_break, heading_atx_before, heading_atx_data, text_or_signs, text_goes_on};
 
+use crate::names;
 use crate::sizes::{
     TEXT, add_to_count, add_to_size, count_text, end_signs, has_room, has_text, is_in_text,
     set_count, set_kind, set_size, take_signs_as_text,
@@ -36,7 +37,7 @@ pub(crate) fn flow_before_heading_atx<'a, M: MachineTypes>(
             set_size(t, 0);
             set_count(t, 0);
             t.consume();
-            Ok(State::Next(Name::StringStart))
+            Ok(State::Next(names::HeadingAtxLookStart))
         }
         Some(b'#') => {
             if has_room(t) {
@@ -51,130 +52,130 @@ pub(crate) fn flow_before_heading_atx<'a, M: MachineTypes>(
 }
 
 /// A look: in the white space before the text of a heading.
-pub(crate) fn string_start<'a, M: MachineTypes>(
+pub(crate) fn heading_atx_look_start<'a, M: MachineTypes>(
     t: &mut Tokenizer<'a, M>,
 ) -> Result<State, AllocError>
-    requires { IsCallable flow_byte string_start t.old }
-    ensures { IfOk result (DoesAll (step_in flow_byte string_start t.old) t.old t.new) }
+    requires { IsCallable flow_byte heading_atx_look_start t.old }
+    ensures { IfOk result (DoesAll (step_in flow_byte heading_atx_look_start t.old) t.old t.new) }
 {
     match t.current() {
         None | Some(b'\n') => Ok(State::Ok),
         Some(b'\t' | b' ') => {
             t.consume();
-            Ok(State::Next(Name::StringStart))
+            Ok(State::Next(names::HeadingAtxLookStart))
         }
         Some(b'#') => {
             add_to_count(t);
             t.consume();
-            Ok(State::Next(Name::TextBefore))
+            Ok(State::Next(names::HeadingAtxLookSigns))
         }
         Some(_) => {
             count_text(t);
             t.consume();
-            Ok(State::Next(Name::StringBeforeData))
+            Ok(State::Next(names::HeadingAtxLookText))
         }
     }
 }
 
 /// A look: in the text of a heading.
-pub(crate) fn string_before_data<'a, M: MachineTypes>(
+pub(crate) fn heading_atx_look_text<'a, M: MachineTypes>(
     t: &mut Tokenizer<'a, M>,
 ) -> Result<State, AllocError>
-    requires { IsCallable flow_byte string_before_data t.old }
-    ensures { IfOk result (DoesAll (step_in flow_byte string_before_data t.old) t.old t.new) }
+    requires { IsCallable flow_byte heading_atx_look_text t.old }
+    ensures { IfOk result (DoesAll (step_in flow_byte heading_atx_look_text t.old) t.old t.new) }
 {
     match t.current() {
         None | Some(b'\n') => Ok(State::Ok),
         Some(b'\t' | b' ') => {
             add_to_count(t);
             t.consume();
-            Ok(State::Next(Name::StringBefore))
+            Ok(State::Next(names::HeadingAtxLookBlank))
         }
         Some(_) => {
             count_text(t);
             t.consume();
-            Ok(State::Next(Name::StringBeforeData))
+            Ok(State::Next(names::HeadingAtxLookText))
         }
     }
 }
 
 /// A look: in white space behind the text of a heading, or inside it.
-pub(crate) fn string_before<'a, M: MachineTypes>(
+pub(crate) fn heading_atx_look_blank<'a, M: MachineTypes>(
     t: &mut Tokenizer<'a, M>,
 ) -> Result<State, AllocError>
-    requires { IsCallable flow_byte string_before t.old }
-    ensures { IfOk result (DoesAll (step_in flow_byte string_before t.old) t.old t.new) }
+    requires { IsCallable flow_byte heading_atx_look_blank t.old }
+    ensures { IfOk result (DoesAll (step_in flow_byte heading_atx_look_blank t.old) t.old t.new) }
 {
     match t.current() {
         None | Some(b'\n') => Ok(State::Ok),
         Some(b'\t' | b' ') => {
             add_to_count(t);
             t.consume();
-            Ok(State::Next(Name::StringBefore))
+            Ok(State::Next(names::HeadingAtxLookBlank))
         }
         Some(b'#') => {
             add_to_count(t);
             t.consume();
-            Ok(State::Next(Name::TextBefore))
+            Ok(State::Next(names::HeadingAtxLookSigns))
         }
         Some(_) => {
             count_text(t);
             t.consume();
-            Ok(State::Next(Name::StringBeforeData))
+            Ok(State::Next(names::HeadingAtxLookText))
         }
     }
 }
 
 /// A look: in number signs that may close a heading.
-pub(crate) fn text_before<'a, M: MachineTypes>(
+pub(crate) fn heading_atx_look_signs<'a, M: MachineTypes>(
     t: &mut Tokenizer<'a, M>,
 ) -> Result<State, AllocError>
-    requires { IsCallable flow_byte text_before t.old }
-    ensures { IfOk result (DoesAll (step_in flow_byte text_before t.old) t.old t.new) }
+    requires { IsCallable flow_byte heading_atx_look_signs t.old }
+    ensures { IfOk result (DoesAll (step_in flow_byte heading_atx_look_signs t.old) t.old t.new) }
 {
     match t.current() {
         None | Some(b'\n') => Ok(State::Ok),
         Some(b'\t' | b' ') => {
             end_signs(t);
             t.consume();
-            Ok(State::Next(Name::TextBeforeData))
+            Ok(State::Next(names::HeadingAtxLookAfter))
         }
         Some(b'#') => {
             add_to_count(t);
             t.consume();
-            Ok(State::Next(Name::TextBefore))
+            Ok(State::Next(names::HeadingAtxLookSigns))
         }
         Some(_) => {
             count_text(t);
             t.consume();
-            Ok(State::Next(Name::StringBeforeData))
+            Ok(State::Next(names::HeadingAtxLookText))
         }
     }
 }
 
 /// A look: in white space behind number signs that may close a heading.
-pub(crate) fn text_before_data<'a, M: MachineTypes>(
+pub(crate) fn heading_atx_look_after<'a, M: MachineTypes>(
     t: &mut Tokenizer<'a, M>,
 ) -> Result<State, AllocError>
-    requires { IsCallable flow_byte text_before_data t.old }
-    ensures { IfOk result (DoesAll (step_in flow_byte text_before_data t.old) t.old t.new) }
+    requires { IsCallable flow_byte heading_atx_look_after t.old }
+    ensures { IfOk result (DoesAll (step_in flow_byte heading_atx_look_after t.old) t.old t.new) }
 {
     match t.current() {
         None | Some(b'\n') => Ok(State::Ok),
         Some(b'\t' | b' ') => {
             add_to_count(t);
             t.consume();
-            Ok(State::Next(Name::TextBeforeData))
+            Ok(State::Next(names::HeadingAtxLookAfter))
         }
         Some(b'#') => {
             take_signs_as_text(t);
             t.consume();
-            Ok(State::Next(Name::TextBefore))
+            Ok(State::Next(names::HeadingAtxLookSigns))
         }
         Some(_) => {
             count_text(t);
             t.consume();
-            Ok(State::Next(Name::StringBeforeData))
+            Ok(State::Next(names::HeadingAtxLookText))
         }
     }
 }

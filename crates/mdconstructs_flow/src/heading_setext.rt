@@ -6,9 +6,10 @@ ghost use Rattle.mdconstructs_tables.specs.RowInvariant.{DoesAll, IsCallable, st
 ghost use Rattle.mdconstructs_flow.specs.FlowBytes.{flow_byte};
 ghost use Rattle.mdconstructs_flow.specs.Steps.{rows_step};
 ghost use Rattle.mdconstructs_flow.specs.HeadingEdits.{CanEndHeading};
-ghost use Rattle.mdconstructs_flow.specs.HeadingSetext.{flow_before_heading_setext, flow_before_gfm_table, further_dash, content_definition_after, heading_setext_start, heading_setext_before, heading_setext_inside, heading_setext_after};
+ghost use Rattle.mdconstructs_flow.specs.HeadingSetext.{flow_before_heading_setext, heading_setext_look_after, further_dash, heading_setext_text_after, heading_setext_start, heading_setext_before, heading_setext_inside, heading_setext_after};
 
 use crate::heading_edits::end_heading;
+use crate::names;
 use crate::sizes::{add_to_size, at_mark, breaks_are_on, set_kind};
 use markdown_tokenizer::event;
 use markdown_tokenizer::state::{MachineTypes, Name, State};
@@ -38,18 +39,18 @@ pub(crate) fn flow_before_heading_setext<'a, M: MachineTypes>(
         }
         Some(b'\t' | b' ') => {
             t.consume();
-            Ok(State::Next(Name::FlowBeforeGfmTable))
+            Ok(State::Next(names::HeadingSetextLookAfter))
         }
         Some(_) => Ok(State::Nok),
     }
 }
 
 /// A look: behind the markers of an underline. Further dashes may make a thematic break.
-pub(crate) fn flow_before_gfm_table<'a, M: MachineTypes>(
+pub(crate) fn heading_setext_look_after<'a, M: MachineTypes>(
     t: &mut Tokenizer<'a, M>,
 ) -> Result<State, AllocError>
-    requires { IsCallable flow_byte flow_before_gfm_table t.old }
-    ensures { IfOk result (DoesAll (step_in flow_byte flow_before_gfm_table t.old) t.old t.new) }
+    requires { IsCallable flow_byte heading_setext_look_after t.old }
+    ensures { IfOk result (DoesAll (step_in flow_byte heading_setext_look_after t.old) t.old t.new) }
 {
     match t.current() {
         None | Some(b'\n') => {
@@ -59,7 +60,7 @@ pub(crate) fn flow_before_gfm_table<'a, M: MachineTypes>(
         Some(b'-') => Ok(further_dash(t)),
         Some(b'\t' | b' ') => {
             t.consume();
-            Ok(State::Next(Name::FlowBeforeGfmTable))
+            Ok(State::Next(names::HeadingSetextLookAfter))
         }
         Some(_) => Ok(State::Nok),
     }
@@ -82,11 +83,11 @@ fn further_dash<'a, M: MachineTypes>(t: &mut Tokenizer<'a, M>) -> State
 }
 
 /// Behind a paragraph whose next line is an underline.
-pub(crate) fn content_definition_after<'a, M: MachineTypes>(
+pub(crate) fn heading_setext_text_after<'a, M: MachineTypes>(
     t: &mut Tokenizer<'a, M>,
 ) -> Result<State, AllocError>
-    requires { IsCallable flow_byte content_definition_after t.old }
-    ensures { IfOk result (DoesAll (step_in flow_byte content_definition_after t.old) t.old t.new) }
+    requires { IsCallable flow_byte heading_setext_text_after t.old }
+    ensures { IfOk result (DoesAll (step_in flow_byte heading_setext_text_after t.old) t.old t.new) }
 {
     marker(t, event::Name::LineEnding)?;
     Ok(State::Next(Name::HeadingSetextStart))

@@ -5,9 +5,10 @@ ghost use Rattle.markdown_tokenizer.specs.declared.waiting.Waits.TheVariants.{By
 ghost use Rattle.mdconstructs_flow.specs.Steps.{rows_step};
 ghost use Rattle.mdconstructs_tables.specs.RowInvariant.{DoesAll, IsCallable, step_in};
 ghost use Rattle.mdconstructs_flow.specs.FlowBytes.{flow_byte};
-ghost use Rattle.mdconstructs_flow.specs.HtmlFlow.{html_flow_start, html_flow_continuation, html_flow_continuation_comment_inside, html_flow_continuation_cdata_inside, html_flow_continuation_declaration_inside, html_flow_continuation_raw_tag_open, html_flow_continuation_raw_end_tag_goes_on, html_flow_continuation_raw_end_tag, html_flow_continuation_close, html_flow_continuation_before, html_flow_blank_line_before, blank_line_after, html_flow_continuation_after, html_flow_continuation_start};
+ghost use Rattle.mdconstructs_flow.specs.HtmlFlow.{html_flow_start, html_flow_continuation, html_flow_continuation_comment_inside, html_flow_continuation_cdata_inside, html_flow_continuation_declaration_inside, html_flow_continuation_raw_tag_open, html_flow_continuation_raw_end_tag_goes_on, html_flow_continuation_raw_end_tag, html_flow_continuation_close, html_flow_continuation_before, html_flow_blank_line_before, html_flow_blank_line_inside, html_flow_continuation_after, html_flow_continuation_start};
 
 use crate::html_names::{add_to_raw_name, ends_at_blank_line, html_is, is_raw_tag};
+use crate::names;
 use crate::sizes::set_size;
 use markdown_tokenizer::event;
 use markdown_tokenizer::state::{MachineTypes, Name, State};
@@ -271,21 +272,21 @@ pub(crate) fn html_flow_blank_line_before<'a, M: MachineTypes>(
     ensures { IfOk result (DoesAll (step_in flow_byte html_flow_blank_line_before t.old) t.old t.new) }
 {
     t.consume();
-    Ok(State::Next(Name::BlankLineAfter))
+    Ok(State::Next(names::HtmlFlowBlankLineInside))
 }
 
 /// A look over white space.
-pub(crate) fn blank_line_after<'a, M: MachineTypes>(
+pub(crate) fn html_flow_blank_line_inside<'a, M: MachineTypes>(
     t: &mut Tokenizer<'a, M>,
 ) -> Result<State, AllocError>
-    requires { IsCallable flow_byte blank_line_after t.old }
-    ensures { IfOk result (DoesAll (step_in flow_byte blank_line_after t.old) t.old t.new) }
+    requires { IsCallable flow_byte html_flow_blank_line_inside t.old }
+    ensures { IfOk result (DoesAll (step_in flow_byte html_flow_blank_line_inside t.old) t.old t.new) }
 {
     match t.current() {
         None | Some(b'\n') => { Ok(State::Ok) }
         Some(b'\t' | b' ') => {
             t.consume();
-            Ok(State::Next(Name::BlankLineAfter))
+            Ok(State::Next(names::HtmlFlowBlankLineInside))
         }
         Some(_) => { Ok(State::Nok) }
     }

@@ -15,6 +15,7 @@ mod html_tags;
 pub mod laws;
 mod lines;
 mod look;
+pub mod names;
 mod over;
 mod paragraph;
 mod sizes;

@@ -5,9 +5,10 @@ ghost use Rattle.markdown_tokenizer.specs.declared.waiting.Waits.TheVariants.{By
 ghost use Rattle.mdconstructs_flow.specs.Steps.{rows_step};
 ghost use Rattle.mdconstructs_tables.specs.RowInvariant.{DoesAll, IsCallable, step_in};
 ghost use Rattle.mdconstructs_flow.specs.FlowBytes.{flow_byte};
-ghost use Rattle.mdconstructs_flow.specs.Look.{non_lazy_continuation_start, flow_blank_line_before, heading_may_begin, break_may_begin, underline_may_begin, dash_may_begin, equals_may_begin, fence_may_begin, html_may_begin, text_may_begin};
+ghost use Rattle.mdconstructs_flow.specs.Look.{paragraph_look_start, flow_blank_line_before, heading_may_begin, break_may_begin, underline_may_begin, dash_may_begin, equals_may_begin, fence_may_begin, html_may_begin, text_may_begin};
 
 use crate::html_names::html_is_on;
+use crate::names;
 use crate::sizes::{
     add_to_indent, breaks_are_on, fences_are_on, headings_are_on, is_indented, set_indent,
     set_kind, set_marker, set_size, underlines_are_on,
@@ -18,11 +19,11 @@ use markdown_tokenizer::tokenizer::Tokenizer;
 use std::alloc::AllocError;
 
 /// At a line ending in a paragraph: looks at the next line.
-pub(crate) fn non_lazy_continuation_start<'a, M: MachineTypes>(
+pub(crate) fn paragraph_look_start<'a, M: MachineTypes>(
     t: &mut Tokenizer<'a, M>,
 ) -> Result<State, AllocError>
-    requires { IsCallable flow_byte non_lazy_continuation_start t.old }
-    ensures { IfOk result (DoesAll (step_in flow_byte non_lazy_continuation_start t.old) t.old t.new) }
+    requires { IsCallable flow_byte paragraph_look_start t.old }
+    ensures { IfOk result (DoesAll (step_in flow_byte paragraph_look_start t.old) t.old t.new) }
 {
     set_indent(t, 0);
     t.consume();

@@ -5,11 +5,12 @@ ghost use Rattle.mdconstructs_tables.specs.RowInvariant.{DoesAll, IsCallable, st
 ghost use Rattle.mdconstructs_flow.specs.FlowBytes.{flow_byte};
 ghost use Rattle.mdconstructs_flow.specs.ChunkRows.{chunk_begins};
 ghost use Rattle.mdconstructs_flow.specs.Steps.{rows_step};
-ghost use Rattle.mdconstructs_flow.specs.Paragraph.{flow_before_content, paragraph_start, paragraph_inside, paragraph_line_start, content_chunk_inside};
+ghost use Rattle.mdconstructs_flow.specs.Paragraph.{flow_before_content, paragraph_start, paragraph_inside, paragraph_line_start, paragraph_line_after};
 ghost use Rattle.mdconstructs_machines.specs.Paragraphs.{CanLinkChunk};
 
 use crate::heading_edits::{begin_paragraph, end_paragraph};
 use crate::html_names::is_passed_over;
+use crate::names;
 use crate::sizes::{TEXT, kind_is};
 use markdown_tokenizer::event;
 use markdown_tokenizer::state::{MachineTypes, Name, State};
@@ -63,9 +64,9 @@ pub(crate) fn paragraph_inside<'a, M: MachineTypes>(
         Some(b'\n') => {
             t.check(
                 State::Next(Name::ParagraphLineStart),
-                State::Next(Name::ContentChunkInside),
+                State::Next(names::ParagraphLineAfter),
             )?;
-            Ok(State::Retry(Name::NonLazyContinuationStart))
+            Ok(State::Retry(names::ParagraphLookStart))
         }
         Some(_) => {
             t.consume();
@@ -83,13 +84,13 @@ pub(crate) fn paragraph_line_start<'a, M: MachineTypes>(
     ensures { IfOk result (DoesAll (step_in flow_byte paragraph_line_start t.old) t.old t.new) }
 {
     if is_passed_over(t) {
-        return Ok(State::Retry(Name::ContentChunkInside));
+        return Ok(State::Retry(names::ParagraphLineAfter));
     }
     if kind_is(t, event::Name::HeadingSetextUnderline) {
         t.exit(event::Name::Data)?;
         t.exit(event::Name::Paragraph)?;
         end_paragraph(t);
-        return Ok(State::Retry(Name::ContentDefinitionAfter));
+        return Ok(State::Retry(names::HeadingSetextTextAfter));
     }
     t.exit(event::Name::Data)?;
     t.exit(event::Name::Paragraph)?;
@@ -97,11 +98,11 @@ pub(crate) fn paragraph_line_start<'a, M: MachineTypes>(
 }
 
 /// At the end of a line of a paragraph that goes on: the line ending is in the chunk.
-pub(crate) fn content_chunk_inside<'a, M: MachineTypes>(
+pub(crate) fn paragraph_line_after<'a, M: MachineTypes>(
     t: &mut Tokenizer<'a, M>,
 ) -> Result<State, AllocError>
-    requires { IsCallable flow_byte content_chunk_inside t.old }
-    ensures { IfOk result (DoesAll (step_in flow_byte content_chunk_inside t.old) t.old t.new) }
+    requires { IsCallable flow_byte paragraph_line_after t.old }
+    ensures { IfOk result (DoesAll (step_in flow_byte paragraph_line_after t.old) t.old t.new) }
 {
     t.consume();
     t.exit(event::Name::Data)?;

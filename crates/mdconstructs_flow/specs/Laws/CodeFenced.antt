@@ -3,7 +3,7 @@ use Rattle.std.proofs.Common.{arith}
 use Rattle.mdconstructs_tables.specs.RowTest.{never}
 use Rattle.mdconstructs_tables.specs.RowInvariant.{PaysRows}
 use Rattle.mdconstructs_flow.specs.FlowCosts.{looking, at_next_line, reading, looked}
-use Rattle.mdconstructs_flow.specs.CodeFenced.{flow_before_raw_rows, flow_before_raw, flow_before_code_indented_rows, flow_before_code_indented, raw_flow_start_rows, raw_flow_start, raw_flow_sequence_open_rows, raw_flow_sequence_open, raw_flow_info_before_rows, raw_flow_info_before, raw_flow_before_sequence_open_rows, raw_flow_before_sequence_open, raw_flow_info_rows, raw_flow_info, raw_text_start_rows, raw_text_start, raw_flow_meta_before_rows, raw_flow_meta_before, raw_flow_meta_rows, raw_flow_meta, raw_flow_at_non_lazy_break_rows, raw_flow_at_non_lazy_break, raw_flow_close_start_rows, raw_flow_close_start, raw_flow_before_sequence_close_rows, raw_flow_before_sequence_close, raw_flow_sequence_close_rows, raw_flow_sequence_close, raw_flow_after_sequence_close_rows, raw_flow_after_sequence_close, raw_flow_content_before_rows, raw_flow_content_before, raw_flow_content_start_rows, raw_flow_content_start, raw_flow_before_content_chunk_rows, raw_flow_before_content_chunk, raw_flow_content_chunk_rows, raw_flow_content_chunk, raw_flow_after_rows, raw_flow_after, raw_text_sequence_open_rows, raw_text_sequence_open, raw_text_between_rows, raw_text_between, raw_text_sequence_close_rows, raw_text_sequence_close, raw_text_data_rows, raw_text_data}
+use Rattle.mdconstructs_flow.specs.CodeFenced.{flow_before_raw_rows, flow_before_raw, raw_flow_look_info_rows, raw_flow_look_info, raw_flow_start_rows, raw_flow_start, raw_flow_sequence_open_rows, raw_flow_sequence_open, raw_flow_info_before_rows, raw_flow_info_before, raw_flow_before_sequence_open_rows, raw_flow_before_sequence_open, raw_flow_info_rows, raw_flow_info, raw_flow_info_after_rows, raw_flow_info_after, raw_flow_meta_before_rows, raw_flow_meta_before, raw_flow_meta_rows, raw_flow_meta, raw_flow_at_non_lazy_break_rows, raw_flow_at_non_lazy_break, raw_flow_close_start_rows, raw_flow_close_start, raw_flow_before_sequence_close_rows, raw_flow_before_sequence_close, raw_flow_sequence_close_rows, raw_flow_sequence_close, raw_flow_after_sequence_close_rows, raw_flow_after_sequence_close, raw_flow_content_before_rows, raw_flow_content_before, raw_flow_content_start_rows, raw_flow_content_start, raw_flow_before_content_chunk_rows, raw_flow_before_content_chunk, raw_flow_content_chunk_rows, raw_flow_content_chunk, raw_flow_after_rows, raw_flow_after, raw_flow_close_before_rows, raw_flow_close_before, raw_flow_close_blank_rows, raw_flow_close_blank, raw_flow_close_sequence_rows, raw_flow_close_sequence, raw_flow_close_between_rows, raw_flow_close_between}
 use Rattle.mdconstructs_flow.specs.FlowTable.{flow}
 use Rattle.mdconstructs_flow.specs.Laws.Measures.{tick-word, fence-word, at-feed, at-blank, at-word, at-other, at-in-line}
 use Rattle.mdconstructs_flow.specs.Laws.Paying.{pays}
@@ -16,9 +16,9 @@ flow_before_raw-pays b w text p read at seen called =
     )
     w b b text p at seen
 
-pub flow_before_code_indented-pays : PaysRows flow never flow_before_code_indented
-flow_before_code_indented-pays b w text p read at seen called =
-    pays (looking 1) flow_before_code_indented_rows (omega arith) (
+pub raw_flow_look_info-pays : PaysRows flow never raw_flow_look_info
+raw_flow_look_info-pays b w text p read at seen called =
+    pays (looking 1) raw_flow_look_info_rows (omega arith) (
       λ w is b text p m. let q = at-feed text p w m is in omega arith,
       (
         λ w is b text p m. let q = at-word text p w m (tick-word w is) in omega arith,
@@ -76,9 +76,9 @@ raw_flow_info-pays b w text p read at seen called =
     )
     w b b text p at seen
 
-pub raw_text_start-pays : PaysRows flow never raw_text_start
-raw_text_start-pays b w text p read at seen called =
-    pays (reading 7) raw_text_start_rows (omega arith) (
+pub raw_flow_info_after-pays : PaysRows flow never raw_flow_info_after
+raw_flow_info_after-pays b w text p read at seen called =
+    pays (reading 7) raw_flow_info_after_rows (omega arith) (
       λ w is b text p m. let q = at-blank text p w m is in omega arith,
       omega arith,
     )
@@ -198,9 +198,9 @@ raw_flow_after-pays b w text p read at seen called =
     )
     w b b text p at seen
 
-pub raw_text_sequence_open-pays : PaysRows flow never raw_text_sequence_open
-raw_text_sequence_open-pays b w text p read at seen called =
-    pays (reading 2) raw_text_sequence_open_rows (omega arith) (
+pub raw_flow_close_before-pays : PaysRows flow never raw_flow_close_before
+raw_flow_close_before-pays b w text p read at seen called =
+    pays (reading 2) raw_flow_close_before_rows (omega arith) (
       λ w is b text p m. let q = at-feed text p w m is in omega arith,
       (
         λ w is b text p m. let q = at-blank text p w m is in omega arith,
@@ -209,25 +209,25 @@ raw_text_sequence_open-pays b w text p read at seen called =
     )
     w b b text p at seen
 
-pub raw_text_between-pays : PaysRows flow never raw_text_between
-raw_text_between-pays b w text p read at seen called =
-    pays (reading 3) raw_text_between_rows (omega arith) (
+pub raw_flow_close_blank-pays : PaysRows flow never raw_flow_close_blank
+raw_flow_close_blank-pays b w text p read at seen called =
+    pays (reading 3) raw_flow_close_blank_rows (omega arith) (
       λ w is b text p m. let q = at-blank text p w m is in omega arith,
       omega arith,
     )
     w b b text p at seen
 
-pub raw_text_sequence_close-pays : PaysRows flow never raw_text_sequence_close
-raw_text_sequence_close-pays b w text p read at seen called =
-    pays (reading 3) raw_text_sequence_close_rows (omega arith) (
+pub raw_flow_close_sequence-pays : PaysRows flow never raw_flow_close_sequence
+raw_flow_close_sequence-pays b w text p read at seen called =
+    pays (reading 3) raw_flow_close_sequence_rows (omega arith) (
       λ w is b text p m. let q = at-word text p w m (fence-word w is) in omega arith,
       omega arith,
     )
     w b b text p at seen
 
-pub raw_text_data-pays : PaysRows flow never raw_text_data
-raw_text_data-pays b w text p read at seen called =
-    pays (reading 2) raw_text_data_rows (omega arith) (
+pub raw_flow_close_between-pays : PaysRows flow never raw_flow_close_between
+raw_flow_close_between-pays b w text p read at seen called =
+    pays (reading 2) raw_flow_close_between_rows (omega arith) (
       λ w is b text p m. let q = at-feed text p w m is in omega arith,
       (
         λ w is b text p m. let q = at-blank text p w m is in omega arith,

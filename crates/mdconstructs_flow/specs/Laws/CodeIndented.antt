@@ -3,7 +3,7 @@ use Rattle.std.proofs.Common.{arith}
 use Rattle.mdconstructs_tables.specs.RowTest.{never}
 use Rattle.mdconstructs_tables.specs.RowInvariant.{PaysRows}
 use Rattle.mdconstructs_flow.specs.FlowCosts.{in_run, reading, in_code}
-use Rattle.mdconstructs_flow.specs.CodeIndented.{code_indented_start_rows, code_indented_start, code_indented_at_break_rows, code_indented_at_break, code_indented_further_after_rows, code_indented_further_after, code_indented_inside_rows, code_indented_inside, code_indented_further_start_rows, code_indented_further_start, space_or_tab_eol_after_first_rows, space_or_tab_eol_after_first, code_indented_after_rows, code_indented_after, code_indented_further_begin_rows, code_indented_further_begin}
+use Rattle.mdconstructs_flow.specs.CodeIndented.{code_indented_start_rows, code_indented_start, code_indented_at_break_rows, code_indented_at_break, code_indented_further_after_rows, code_indented_further_after, code_indented_inside_rows, code_indented_inside, code_indented_further_start_rows, code_indented_further_start, code_indented_line_after_rows, code_indented_line_after, code_indented_after_rows, code_indented_after, code_indented_further_begin_rows, code_indented_further_begin}
 use Rattle.mdconstructs_flow.specs.FlowTable.{flow}
 use Rattle.mdconstructs_flow.specs.Laws.Measures.{at-feed, at-blank, at-other, at-in-line}
 use Rattle.mdconstructs_flow.specs.Laws.Paying.{pays}
@@ -54,9 +54,9 @@ code_indented_further_start-pays b w text p read at seen called =
     )
     w b b text p at seen
 
-pub space_or_tab_eol_after_first-pays : PaysRows flow never space_or_tab_eol_after_first
-space_or_tab_eol_after_first-pays b w text p read at seen called =
-    pays (reading 1) space_or_tab_eol_after_first_rows (omega arith) (
+pub code_indented_line_after-pays : PaysRows flow never code_indented_line_after
+code_indented_line_after-pays b w text p read at seen called =
+    pays (reading 1) code_indented_line_after_rows (omega arith) (
       λ w is b text p m. let q = at-feed text p w m is in omega arith,
       λ w others b text p m. let q = at-in-line text p w m others.0 in omega arith,
     )

@@ -3,7 +3,7 @@ use Rattle.std.proofs.Common.{arith}
 use Rattle.mdconstructs_tables.specs.RowTest.{never}
 use Rattle.mdconstructs_tables.specs.RowInvariant.{PaysRows}
 use Rattle.mdconstructs_flow.specs.FlowCosts.{looking, reading}
-use Rattle.mdconstructs_flow.specs.HeadingAtx.{flow_before_heading_atx_rows, flow_before_heading_atx, string_start_rows, string_start, string_before_data_rows, string_before_data, string_before_rows, string_before, text_before_rows, text_before, text_before_data_rows, text_before_data, heading_atx_start_rows, heading_atx_start, heading_atx_sequence_open_rows, heading_atx_sequence_open, heading_atx_at_break_rows, heading_atx_at_break, heading_atx_before_rows, heading_atx_before, heading_atx_data_rows, heading_atx_data}
+use Rattle.mdconstructs_flow.specs.HeadingAtx.{flow_before_heading_atx_rows, flow_before_heading_atx, heading_atx_look_start_rows, heading_atx_look_start, heading_atx_look_text_rows, heading_atx_look_text, heading_atx_look_blank_rows, heading_atx_look_blank, heading_atx_look_signs_rows, heading_atx_look_signs, heading_atx_look_after_rows, heading_atx_look_after, heading_atx_start_rows, heading_atx_start, heading_atx_sequence_open_rows, heading_atx_sequence_open, heading_atx_at_break_rows, heading_atx_at_break, heading_atx_before_rows, heading_atx_before, heading_atx_data_rows, heading_atx_data}
 use Rattle.mdconstructs_flow.specs.FlowTable.{flow}
 use Rattle.mdconstructs_flow.specs.Laws.Measures.{sign-word, at-feed, at-blank, at-word, at-other, at-in-line}
 use Rattle.mdconstructs_flow.specs.Laws.Paying.{pays}
@@ -22,9 +22,9 @@ flow_before_heading_atx-pays b w text p read at seen called =
     )
     w b b text p at seen
 
-pub string_start-pays : PaysRows flow never string_start
-string_start-pays b w text p read at seen called =
-    pays (looking 1) string_start_rows (omega arith) (
+pub heading_atx_look_start-pays : PaysRows flow never heading_atx_look_start
+heading_atx_look_start-pays b w text p read at seen called =
+    pays (looking 1) heading_atx_look_start_rows (omega arith) (
       λ w is b text p m. let q = at-feed text p w m is in omega arith,
       (
         λ w is b text p m. let q = at-blank text p w m is in omega arith,
@@ -36,9 +36,9 @@ string_start-pays b w text p read at seen called =
     )
     w b b text p at seen
 
-pub string_before_data-pays : PaysRows flow never string_before_data
-string_before_data-pays b w text p read at seen called =
-    pays (looking 1) string_before_data_rows (omega arith) (
+pub heading_atx_look_text-pays : PaysRows flow never heading_atx_look_text
+heading_atx_look_text-pays b w text p read at seen called =
+    pays (looking 1) heading_atx_look_text_rows (omega arith) (
       λ w is b text p m. let q = at-feed text p w m is in omega arith,
       (
         λ w is b text p m. let q = at-blank text p w m is in omega arith,
@@ -47,9 +47,9 @@ string_before_data-pays b w text p read at seen called =
     )
     w b b text p at seen
 
-pub string_before-pays : PaysRows flow never string_before
-string_before-pays b w text p read at seen called =
-    pays (looking 1) string_before_rows (omega arith) (
+pub heading_atx_look_blank-pays : PaysRows flow never heading_atx_look_blank
+heading_atx_look_blank-pays b w text p read at seen called =
+    pays (looking 1) heading_atx_look_blank_rows (omega arith) (
       λ w is b text p m. let q = at-feed text p w m is in omega arith,
       (
         λ w is b text p m. let q = at-blank text p w m is in omega arith,
@@ -61,9 +61,9 @@ string_before-pays b w text p read at seen called =
     )
     w b b text p at seen
 
-pub text_before-pays : PaysRows flow never text_before
-text_before-pays b w text p read at seen called =
-    pays (looking 1) text_before_rows (omega arith) (
+pub heading_atx_look_signs-pays : PaysRows flow never heading_atx_look_signs
+heading_atx_look_signs-pays b w text p read at seen called =
+    pays (looking 1) heading_atx_look_signs_rows (omega arith) (
       λ w is b text p m. let q = at-feed text p w m is in omega arith,
       (
         λ w is b text p m. let q = at-blank text p w m is in omega arith,
@@ -75,9 +75,9 @@ text_before-pays b w text p read at seen called =
     )
     w b b text p at seen
 
-pub text_before_data-pays : PaysRows flow never text_before_data
-text_before_data-pays b w text p read at seen called =
-    pays (looking 1) text_before_data_rows (omega arith) (
+pub heading_atx_look_after-pays : PaysRows flow never heading_atx_look_after
+heading_atx_look_after-pays b w text p read at seen called =
+    pays (looking 1) heading_atx_look_after_rows (omega arith) (
       λ w is b text p m. let q = at-feed text p w m is in omega arith,
       (
         λ w is b text p m. let q = at-blank text p w m is in omega arith,

@@ -3,7 +3,7 @@ use Rattle.std.proofs.Common.{arith}
 use Rattle.mdconstructs_tables.specs.RowTest.{never}
 use Rattle.mdconstructs_tables.specs.RowInvariant.{PaysRows}
 use Rattle.mdconstructs_flow.specs.FlowCosts.{looking, reading, looked}
-use Rattle.mdconstructs_flow.specs.HeadingSetext.{flow_before_heading_setext_rows, flow_before_heading_setext, flow_before_gfm_table_rows, flow_before_gfm_table, content_definition_after_rows, content_definition_after, heading_setext_start_rows, heading_setext_start, heading_setext_before_rows, heading_setext_before, heading_setext_inside_rows, heading_setext_inside, heading_setext_after_rows, heading_setext_after}
+use Rattle.mdconstructs_flow.specs.HeadingSetext.{flow_before_heading_setext_rows, flow_before_heading_setext, heading_setext_look_after_rows, heading_setext_look_after, heading_setext_text_after_rows, heading_setext_text_after, heading_setext_start_rows, heading_setext_start, heading_setext_before_rows, heading_setext_before, heading_setext_inside_rows, heading_setext_inside, heading_setext_after_rows, heading_setext_after}
 use Rattle.mdconstructs_flow.specs.FlowTable.{flow}
 use Rattle.mdconstructs_flow.specs.Laws.Measures.{dash-word, underline-word, at-feed, at-blank, at-word, at-other, at-in-line}
 use Rattle.mdconstructs_flow.specs.Laws.Paying.{pays}
@@ -22,9 +22,9 @@ flow_before_heading_setext-pays b w text p read at seen called =
     )
     w b b text p at seen
 
-pub flow_before_gfm_table-pays : PaysRows flow never flow_before_gfm_table
-flow_before_gfm_table-pays b w text p read at seen called =
-    pays (looking 1) flow_before_gfm_table_rows (omega arith) (
+pub heading_setext_look_after-pays : PaysRows flow never heading_setext_look_after
+heading_setext_look_after-pays b w text p read at seen called =
+    pays (looking 1) heading_setext_look_after_rows (omega arith) (
       λ w is b text p m. let q = at-feed text p w m is in omega arith,
       (
         λ w is b text p m. let q = at-word text p w m (dash-word w is) in omega arith,
@@ -36,9 +36,9 @@ flow_before_gfm_table-pays b w text p read at seen called =
     )
     w b b text p at seen
 
-pub content_definition_after-pays : PaysRows flow never content_definition_after
-content_definition_after-pays b w text p read at seen called =
-    pays (looked 1) content_definition_after_rows (omega arith) (
+pub heading_setext_text_after-pays : PaysRows flow never heading_setext_text_after
+heading_setext_text_after-pays b w text p read at seen called =
+    pays (looked 1) heading_setext_text_after_rows (omega arith) (
       λ w is b text p m. let q = at-feed text p w m is in omega arith,
       λ w others b text p m. let q = at-in-line text p w m others.0 in omega arith,
     )

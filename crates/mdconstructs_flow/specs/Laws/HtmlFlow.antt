@@ -4,7 +4,7 @@ use Rattle.mdconstructs_tables.specs.RowTest.{never}
 use Rattle.mdconstructs_tables.specs.RowInvariant.{PaysRows}
 use Rattle.mdconstructs_flow.specs.FlowBytes.{is_closing, is_dash, is_greater, is_less, is_question, is_slash}
 use Rattle.mdconstructs_flow.specs.FlowCosts.{at_next_line, looked, looking, reading}
-use Rattle.mdconstructs_flow.specs.HtmlFlow.{html_flow_start_rows, html_flow_start, html_flow_continuation_rows, html_flow_continuation, html_flow_continuation_comment_inside_rows, html_flow_continuation_comment_inside, html_flow_continuation_cdata_inside_rows, html_flow_continuation_cdata_inside, html_flow_continuation_declaration_inside_rows, html_flow_continuation_declaration_inside, html_flow_continuation_raw_tag_open_rows, html_flow_continuation_raw_tag_open, html_flow_continuation_raw_end_tag_goes_on, html_flow_continuation_raw_end_tag_rows, html_flow_continuation_raw_end_tag, html_flow_continuation_close_rows, html_flow_continuation_close, html_flow_continuation_before_rows, html_flow_continuation_before, html_flow_blank_line_before_rows, html_flow_blank_line_before, blank_line_after_rows, blank_line_after, html_flow_continuation_after_rows, html_flow_continuation_after, html_flow_continuation_start_rows, html_flow_continuation_start}
+use Rattle.mdconstructs_flow.specs.HtmlFlow.{html_flow_start_rows, html_flow_start, html_flow_continuation_rows, html_flow_continuation, html_flow_continuation_comment_inside_rows, html_flow_continuation_comment_inside, html_flow_continuation_cdata_inside_rows, html_flow_continuation_cdata_inside, html_flow_continuation_declaration_inside_rows, html_flow_continuation_declaration_inside, html_flow_continuation_raw_tag_open_rows, html_flow_continuation_raw_tag_open, html_flow_continuation_raw_end_tag_goes_on, html_flow_continuation_raw_end_tag_rows, html_flow_continuation_raw_end_tag, html_flow_continuation_close_rows, html_flow_continuation_close, html_flow_continuation_before_rows, html_flow_continuation_before, html_flow_blank_line_before_rows, html_flow_blank_line_before, html_flow_blank_line_inside_rows, html_flow_blank_line_inside, html_flow_continuation_after_rows, html_flow_continuation_after, html_flow_continuation_start_rows, html_flow_continuation_start}
 use Rattle.mdconstructs_flow.specs.FlowTable.{flow}
 use Rattle.mdconstructs_flow.specs.Laws.Measures.{word-of, name-word, at-feed, at-blank, at-word, at-in-line}
 use Rattle.mdconstructs_flow.specs.Laws.Paying.{pays, pays-spelled}
@@ -116,9 +116,9 @@ html_flow_blank_line_before-pays b w text p read at seen called =
     )
     w b b text p at seen
 
-pub blank_line_after-pays : PaysRows flow never blank_line_after
-blank_line_after-pays b w text p read at seen called =
-    pays (looking 1) blank_line_after_rows (omega arith) (
+pub html_flow_blank_line_inside-pays : PaysRows flow never html_flow_blank_line_inside
+html_flow_blank_line_inside-pays b w text p read at seen called =
+    pays (looking 1) html_flow_blank_line_inside_rows (omega arith) (
       λ w is b text p m. let q = at-feed text p w m is in omega arith,
       (
         λ w is b text p m. let q = at-blank text p w m is in omega arith,

@@ -9,7 +9,8 @@ use Rattle.markdown_base.specs.declared.event.Name.TheVariants.{Data, HeadingSet
 use Rattle.markdown_base.specs.declared.state.Name.{Name}
 use Rattle.markdown_base.specs.declared.state.State.{State}
 use Rattle.markdown_base.specs.declared.state.State.TheVariants.{Next, Retry, Ok, Nok}
-use Rattle.markdown_base.specs.declared.state.TheConstants.Name.{FlowStart, FlowBlankLineAfter, FlowAfter, FlowBlankLineBefore, NonLazyContinuationStart, BlankLineStart, FlowBeforeThematicBreak, ThematicBreakBefore, ThematicBreakAtBreak, ThematicBreakSequence, FlowBeforeHeadingAtx, StringStart, StringBeforeData, StringBefore, TextBefore, TextBeforeData, HeadingAtxStart, HeadingAtxSequenceOpen, HeadingAtxAtBreak, HeadingAtxBefore, HeadingAtxData, CodeIndentedStart, CodeIndentedAtBreak, CodeIndentedFurtherAfter, CodeIndentedInside, CodeIndentedFurtherStart, SpaceOrTabEolAfterFirst, CodeIndentedAfter, CodeIndentedFurtherBegin, FlowBeforeRaw, FlowBeforeCodeIndented, RawFlowStart, RawFlowSequenceOpen, RawFlowInfoBefore, RawFlowBeforeSequenceOpen, RawFlowInfo, RawTextStart, RawFlowMetaBefore, RawFlowMeta, RawFlowAtNonLazyBreak, RawFlowCloseStart, RawFlowBeforeSequenceClose, RawFlowSequenceClose, RawFlowAfterSequenceClose, RawFlowContentBefore, RawFlowContentStart, RawFlowBeforeContentChunk, RawFlowContentChunk, RawFlowAfter, RawTextSequenceOpen, RawTextBetween, RawTextSequenceClose, RawTextData, HtmlFlowOpen, HtmlFlowDeclarationOpen, HtmlFlowCommentOpenInside, HtmlFlowCdataOpenInside, HtmlFlowTagCloseStart, HtmlFlowTagName, HtmlFlowBasicSelfClosing, HtmlFlowCompleteClosingTagAfter, HtmlFlowCompleteEnd, HtmlFlowCompleteAttributeNameBefore, HtmlFlowCompleteAttributeName, HtmlFlowCompleteAttributeNameAfter, HtmlFlowCompleteAttributeValueBefore, HtmlFlowCompleteAttributeValueQuoted, HtmlFlowCompleteAttributeValueQuotedAfter, HtmlFlowCompleteAttributeValueUnquoted, HtmlFlowCompleteAfter, HtmlFlowStart, HtmlFlowContinuation, HtmlFlowContinuationCommentInside, HtmlFlowContinuationCdataInside, HtmlFlowContinuationDeclarationInside, HtmlFlowContinuationRawTagOpen, HtmlFlowContinuationRawEndTag, HtmlFlowContinuationClose, HtmlFlowContinuationBefore, HtmlFlowBlankLineBefore, BlankLineAfter, HtmlFlowContinuationAfter, HtmlFlowContinuationStart, FlowBeforeContent, ParagraphStart, ParagraphInside, ParagraphLineStart, ContentChunkInside, FlowBeforeHeadingSetext, FlowBeforeGfmTable, ContentDefinitionAfter, HeadingSetextStart, HeadingSetextBefore, HeadingSetextInside, HeadingSetextAfter}
+use Rattle.markdown_base.specs.declared.state.TheConstants.Name.{FlowStart, FlowBlankLineAfter, FlowAfter, FlowBlankLineBefore, BlankLineStart, FlowBeforeThematicBreak, ThematicBreakBefore, ThematicBreakAtBreak, ThematicBreakSequence, FlowBeforeHeadingAtx, HeadingAtxStart, HeadingAtxSequenceOpen, HeadingAtxAtBreak, HeadingAtxBefore, HeadingAtxData, CodeIndentedStart, CodeIndentedAtBreak, CodeIndentedFurtherAfter, CodeIndentedInside, CodeIndentedFurtherStart, CodeIndentedAfter, CodeIndentedFurtherBegin, FlowBeforeRaw, RawFlowStart, RawFlowSequenceOpen, RawFlowInfoBefore, RawFlowBeforeSequenceOpen, RawFlowInfo, RawFlowMetaBefore, RawFlowMeta, RawFlowAtNonLazyBreak, RawFlowCloseStart, RawFlowBeforeSequenceClose, RawFlowSequenceClose, RawFlowAfterSequenceClose, RawFlowContentBefore, RawFlowContentStart, RawFlowBeforeContentChunk, RawFlowContentChunk, RawFlowAfter, HtmlFlowOpen, HtmlFlowDeclarationOpen, HtmlFlowCommentOpenInside, HtmlFlowCdataOpenInside, HtmlFlowTagCloseStart, HtmlFlowTagName, HtmlFlowBasicSelfClosing, HtmlFlowCompleteClosingTagAfter, HtmlFlowCompleteEnd, HtmlFlowCompleteAttributeNameBefore, HtmlFlowCompleteAttributeName, HtmlFlowCompleteAttributeNameAfter, HtmlFlowCompleteAttributeValueBefore, HtmlFlowCompleteAttributeValueQuoted, HtmlFlowCompleteAttributeValueQuotedAfter, HtmlFlowCompleteAttributeValueUnquoted, HtmlFlowCompleteAfter, HtmlFlowStart, HtmlFlowContinuation, HtmlFlowContinuationCommentInside, HtmlFlowContinuationCdataInside, HtmlFlowContinuationDeclarationInside, HtmlFlowContinuationRawTagOpen, HtmlFlowContinuationRawEndTag, HtmlFlowContinuationClose, HtmlFlowContinuationBefore, HtmlFlowBlankLineBefore, HtmlFlowContinuationAfter, HtmlFlowContinuationStart, FlowBeforeContent, ParagraphStart, ParagraphInside, ParagraphLineStart, FlowBeforeHeadingSetext, HeadingSetextStart, HeadingSetextBefore, HeadingSetextInside, HeadingSetextAfter}
+use Rattle.mdconstructs_flow.specs.declared.names.TheConstants.{ParagraphLookStart, HeadingAtxLookStart, HeadingAtxLookText, HeadingAtxLookBlank, HeadingAtxLookSigns, HeadingAtxLookAfter, CodeIndentedLineAfter, RawFlowLookInfo, RawFlowInfoAfter, RawFlowCloseBefore, RawFlowCloseBlank, RawFlowCloseSequence, RawFlowCloseBetween, HtmlFlowBlankLineInside, ParagraphLineAfter, HeadingSetextLookAfter, HeadingSetextTextAfter}
 use Rattle.markdown_base.specs.Events.{EndsBelow, IsBalanced}
 use Rattle.markdown_edits.specs.Edited.{edited}
 use Rattle.markdown_edits.specs.Links.{linked_to}
@@ -34,16 +35,16 @@ use Rattle.mdconstructs_machines.specs.Paragraphs.{text_link}
 use Rattle.mdconstructs_machines.specs.Laws.Paragraphs.{chunk_enter, begins-chunk, ended-chunk, ends-with, ends-linked, last-index, linked-in-shape}
 use Rattle.mdconstructs_flow.specs.FlowBytes.{FlowByte, Cased, cased}
 use Rattle.mdconstructs_flow.specs.BlankLine.{blank_line_start_rows, blank_line_start}
-use Rattle.mdconstructs_flow.specs.CodeFenced.{flow_before_raw_rows, flow_before_raw, flow_before_code_indented_rows, flow_before_code_indented, raw_flow_start_rows, raw_flow_start, raw_flow_sequence_open_rows, raw_flow_sequence_open, raw_flow_info_before_rows, raw_flow_info_before, raw_flow_before_sequence_open_rows, raw_flow_before_sequence_open, raw_flow_info_rows, raw_flow_info, raw_text_start_rows, raw_text_start, raw_flow_meta_before_rows, raw_flow_meta_before, raw_flow_meta_rows, raw_flow_meta, raw_flow_at_non_lazy_break_rows, raw_flow_at_non_lazy_break, raw_flow_close_start_rows, raw_flow_close_start, raw_flow_before_sequence_close_rows, raw_flow_before_sequence_close, raw_flow_sequence_close_rows, raw_flow_sequence_close, raw_flow_after_sequence_close_rows, raw_flow_after_sequence_close, raw_flow_content_before_rows, raw_flow_content_before, raw_flow_content_start_rows, raw_flow_content_start, raw_flow_before_content_chunk_rows, raw_flow_before_content_chunk, raw_flow_content_chunk_rows, raw_flow_content_chunk, raw_flow_after_rows, raw_flow_after, raw_text_sequence_open_rows, raw_text_sequence_open, raw_text_between_rows, raw_text_between, raw_text_sequence_close_rows, raw_text_sequence_close, raw_text_data_rows, raw_text_data}
-use Rattle.mdconstructs_flow.specs.CodeIndented.{code_indented_start_rows, code_indented_start, code_indented_at_break_rows, code_indented_at_break, code_indented_further_after_rows, code_indented_further_after, code_indented_inside_rows, code_indented_inside, code_indented_further_start_rows, code_indented_further_start, space_or_tab_eol_after_first_rows, space_or_tab_eol_after_first, code_indented_after_rows, code_indented_after, code_indented_further_begin_rows, code_indented_further_begin}
+use Rattle.mdconstructs_flow.specs.CodeFenced.{flow_before_raw_rows, flow_before_raw, raw_flow_look_info_rows, raw_flow_look_info, raw_flow_start_rows, raw_flow_start, raw_flow_sequence_open_rows, raw_flow_sequence_open, raw_flow_info_before_rows, raw_flow_info_before, raw_flow_before_sequence_open_rows, raw_flow_before_sequence_open, raw_flow_info_rows, raw_flow_info, raw_flow_info_after_rows, raw_flow_info_after, raw_flow_meta_before_rows, raw_flow_meta_before, raw_flow_meta_rows, raw_flow_meta, raw_flow_at_non_lazy_break_rows, raw_flow_at_non_lazy_break, raw_flow_close_start_rows, raw_flow_close_start, raw_flow_before_sequence_close_rows, raw_flow_before_sequence_close, raw_flow_sequence_close_rows, raw_flow_sequence_close, raw_flow_after_sequence_close_rows, raw_flow_after_sequence_close, raw_flow_content_before_rows, raw_flow_content_before, raw_flow_content_start_rows, raw_flow_content_start, raw_flow_before_content_chunk_rows, raw_flow_before_content_chunk, raw_flow_content_chunk_rows, raw_flow_content_chunk, raw_flow_after_rows, raw_flow_after, raw_flow_close_before_rows, raw_flow_close_before, raw_flow_close_blank_rows, raw_flow_close_blank, raw_flow_close_sequence_rows, raw_flow_close_sequence, raw_flow_close_between_rows, raw_flow_close_between}
+use Rattle.mdconstructs_flow.specs.CodeIndented.{code_indented_start_rows, code_indented_start, code_indented_at_break_rows, code_indented_at_break, code_indented_further_after_rows, code_indented_further_after, code_indented_inside_rows, code_indented_inside, code_indented_further_start_rows, code_indented_further_start, code_indented_line_after_rows, code_indented_line_after, code_indented_after_rows, code_indented_after, code_indented_further_begin_rows, code_indented_further_begin}
 use Rattle.mdconstructs_flow.specs.Flow.{flow_start_rows, flow_start, flow_blank_line_after_rows, flow_blank_line_after, flow_after_rows, flow_after}
-use Rattle.mdconstructs_flow.specs.HeadingAtx.{flow_before_heading_atx_rows, flow_before_heading_atx, string_start_rows, string_start, string_before_data_rows, string_before_data, string_before_rows, string_before, text_before_rows, text_before, text_before_data_rows, text_before_data, heading_atx_start_rows, heading_atx_start, heading_atx_sequence_open_rows, heading_atx_sequence_open, heading_atx_at_break_rows, heading_atx_at_break, heading_atx_before_rows, heading_atx_before, heading_atx_data_rows, heading_atx_data}
+use Rattle.mdconstructs_flow.specs.HeadingAtx.{flow_before_heading_atx_rows, flow_before_heading_atx, heading_atx_look_start_rows, heading_atx_look_start, heading_atx_look_text_rows, heading_atx_look_text, heading_atx_look_blank_rows, heading_atx_look_blank, heading_atx_look_signs_rows, heading_atx_look_signs, heading_atx_look_after_rows, heading_atx_look_after, heading_atx_start_rows, heading_atx_start, heading_atx_sequence_open_rows, heading_atx_sequence_open, heading_atx_at_break_rows, heading_atx_at_break, heading_atx_before_rows, heading_atx_before, heading_atx_data_rows, heading_atx_data}
 use Rattle.mdconstructs_flow.specs.HeadingEdits.{paragraph_begins, paragraph_ends, heading_ends}
-use Rattle.mdconstructs_flow.specs.HeadingSetext.{flow_before_heading_setext_rows, flow_before_heading_setext, flow_before_gfm_table_rows, flow_before_gfm_table, content_definition_after_rows, content_definition_after, heading_setext_start_rows, heading_setext_start, heading_setext_before_rows, heading_setext_before, heading_setext_inside_rows, heading_setext_inside, heading_setext_after_rows, heading_setext_after}
-use Rattle.mdconstructs_flow.specs.HtmlFlow.{html_flow_start_rows, html_flow_start, html_flow_continuation_rows, html_flow_continuation, html_flow_continuation_comment_inside_rows, html_flow_continuation_comment_inside, html_flow_continuation_cdata_inside_rows, html_flow_continuation_cdata_inside, html_flow_continuation_declaration_inside_rows, html_flow_continuation_declaration_inside, html_flow_continuation_raw_tag_open_rows, html_flow_continuation_raw_tag_open, html_flow_continuation_raw_end_tag_goes_on, html_flow_continuation_raw_end_tag_rows, html_flow_continuation_raw_end_tag, html_flow_continuation_close_rows, html_flow_continuation_close, html_flow_continuation_before_rows, html_flow_continuation_before, html_flow_blank_line_before_rows, html_flow_blank_line_before, blank_line_after_rows, blank_line_after, html_flow_continuation_after_rows, html_flow_continuation_after, html_flow_continuation_start_rows, html_flow_continuation_start}
+use Rattle.mdconstructs_flow.specs.HeadingSetext.{flow_before_heading_setext_rows, flow_before_heading_setext, heading_setext_look_after_rows, heading_setext_look_after, heading_setext_text_after_rows, heading_setext_text_after, heading_setext_start_rows, heading_setext_start, heading_setext_before_rows, heading_setext_before, heading_setext_inside_rows, heading_setext_inside, heading_setext_after_rows, heading_setext_after}
+use Rattle.mdconstructs_flow.specs.HtmlFlow.{html_flow_start_rows, html_flow_start, html_flow_continuation_rows, html_flow_continuation, html_flow_continuation_comment_inside_rows, html_flow_continuation_comment_inside, html_flow_continuation_cdata_inside_rows, html_flow_continuation_cdata_inside, html_flow_continuation_declaration_inside_rows, html_flow_continuation_declaration_inside, html_flow_continuation_raw_tag_open_rows, html_flow_continuation_raw_tag_open, html_flow_continuation_raw_end_tag_goes_on, html_flow_continuation_raw_end_tag_rows, html_flow_continuation_raw_end_tag, html_flow_continuation_close_rows, html_flow_continuation_close, html_flow_continuation_before_rows, html_flow_continuation_before, html_flow_blank_line_before_rows, html_flow_blank_line_before, html_flow_blank_line_inside_rows, html_flow_blank_line_inside, html_flow_continuation_after_rows, html_flow_continuation_after, html_flow_continuation_start_rows, html_flow_continuation_start}
 use Rattle.mdconstructs_flow.specs.HtmlTags.{html_flow_open_rows, html_flow_open, html_flow_declaration_open_rows, html_flow_declaration_open, html_flow_comment_open_inside_rows, html_flow_comment_open_inside, html_flow_cdata_open_inside_rows, html_flow_cdata_open_inside, html_flow_tag_close_start_rows, html_flow_tag_close_start, html_flow_tag_name_goes_on, html_flow_tag_name_rows, html_flow_tag_name, html_flow_basic_self_closing_rows, html_flow_basic_self_closing, html_flow_complete_closing_tag_after_rows, html_flow_complete_closing_tag_after, html_flow_complete_end_rows, html_flow_complete_end, html_flow_complete_attribute_name_before_rows, html_flow_complete_attribute_name_before, html_flow_complete_attribute_name_rows, html_flow_complete_attribute_name, html_flow_complete_attribute_name_after_rows, html_flow_complete_attribute_name_after, html_flow_complete_attribute_value_before_rows, html_flow_complete_attribute_value_before, html_flow_complete_attribute_value_quoted_rows, html_flow_complete_attribute_value_quoted, html_flow_complete_attribute_value_quoted_after_rows, html_flow_complete_attribute_value_quoted_after, html_flow_complete_attribute_value_unquoted_rows, html_flow_complete_attribute_value_unquoted, html_flow_complete_after_rows, html_flow_complete_after}
-use Rattle.mdconstructs_flow.specs.Look.{flow_blank_line_before_rows, flow_blank_line_before, non_lazy_continuation_start_rows, non_lazy_continuation_start}
-use Rattle.mdconstructs_flow.specs.Paragraph.{flow_before_content_rows, flow_before_content, paragraph_start_rows, paragraph_start, paragraph_inside_rows, paragraph_inside, paragraph_line_start_rows, paragraph_line_start, content_chunk_inside_rows, content_chunk_inside}
+use Rattle.mdconstructs_flow.specs.Look.{flow_blank_line_before_rows, flow_blank_line_before, paragraph_look_start_rows, paragraph_look_start}
+use Rattle.mdconstructs_flow.specs.Paragraph.{flow_before_content_rows, flow_before_content, paragraph_start_rows, paragraph_start, paragraph_inside_rows, paragraph_inside, paragraph_line_start_rows, paragraph_line_start, paragraph_line_after_rows, paragraph_line_after}
 use Rattle.mdconstructs_flow.specs.ThematicBreak.{flow_before_thematic_break_rows, flow_before_thematic_break, thematic_break_before_rows, thematic_break_before, thematic_break_at_break_rows, thematic_break_at_break, thematic_break_sequence_rows, thematic_break_sequence}
 use Rattle.mdconstructs_flow.specs.FlowTable.{flow, unchanged}
 use Rattle.mdconstructs_flow.specs.FlowKnows.{Place, in_chunk, before_chunk, in_underline, elsewhere, place_of, is_looking, RenameSpans, Knows, knows_flow}
@@ -65,8 +66,8 @@ flow_after-keeps = reading-keeps FlowAfter flow_after_rows refl refl tt
 flow_blank_line_before-keeps : KeepsKnowing flow knows_flow flow_blank_line_before
 flow_blank_line_before-keeps = look-state-keeps FlowBlankLineBefore flow_blank_line_before_rows refl refl (λ k. refl, (λ k. refl, (λ k. refl, (λ k. refl, (λ k. refl, (λ k. refl, (λ k. refl, (λ k. refl, (λ k. refl, (λ k. refl, (λ k. refl, (λ k. refl, (λ k. refl, (λ k. refl, (λ k. refl, (λ k. refl, (λ k. refl, (λ k. refl, (λ k. refl, (λ k. refl, (λ k. refl, (λ k. refl, (λ k. refl, (λ k. refl, (λ k. refl, (λ k. refl, (λ k. refl, (λ k. refl, (λ k. refl, tt)))))))))))))))))))))))))))))
 
-non_lazy_continuation_start-keeps : KeepsKnowing flow knows_flow non_lazy_continuation_start
-non_lazy_continuation_start-keeps = look-state-keeps NonLazyContinuationStart non_lazy_continuation_start_rows refl refl (λ k. refl, tt)
+paragraph_look_start-keeps : KeepsKnowing flow knows_flow paragraph_look_start
+paragraph_look_start-keeps = look-state-keeps ParagraphLookStart paragraph_look_start_rows refl refl (λ k. refl, tt)
 
 blank_line_start-keeps : KeepsKnowing flow knows_flow blank_line_start
 blank_line_start-keeps = reading-keeps BlankLineStart blank_line_start_rows refl refl tt
@@ -86,20 +87,20 @@ thematic_break_sequence-keeps = reading-keeps ThematicBreakSequence thematic_bre
 flow_before_heading_atx-keeps : KeepsKnowing flow knows_flow flow_before_heading_atx
 flow_before_heading_atx-keeps = look-state-keeps FlowBeforeHeadingAtx flow_before_heading_atx_rows refl refl (λ k. refl, (λ k. refl, (λ k. refl, (λ k. refl, (λ k. refl, (λ k. refl, (λ k. refl, (λ k. refl, tt))))))))
 
-string_start-keeps : KeepsKnowing flow knows_flow string_start
-string_start-keeps = look-state-keeps StringStart string_start_rows refl refl (λ k. refl, (λ k. refl, tt))
+heading_atx_look_start-keeps : KeepsKnowing flow knows_flow heading_atx_look_start
+heading_atx_look_start-keeps = look-state-keeps HeadingAtxLookStart heading_atx_look_start_rows refl refl (λ k. refl, (λ k. refl, tt))
 
-string_before_data-keeps : KeepsKnowing flow knows_flow string_before_data
-string_before_data-keeps = look-state-keeps StringBeforeData string_before_data_rows refl refl (λ k. refl, (λ k. refl, tt))
+heading_atx_look_text-keeps : KeepsKnowing flow knows_flow heading_atx_look_text
+heading_atx_look_text-keeps = look-state-keeps HeadingAtxLookText heading_atx_look_text_rows refl refl (λ k. refl, (λ k. refl, tt))
 
-string_before-keeps : KeepsKnowing flow knows_flow string_before
-string_before-keeps = look-state-keeps StringBefore string_before_rows refl refl (λ k. refl, (λ k. refl, (λ k. refl, tt)))
+heading_atx_look_blank-keeps : KeepsKnowing flow knows_flow heading_atx_look_blank
+heading_atx_look_blank-keeps = look-state-keeps HeadingAtxLookBlank heading_atx_look_blank_rows refl refl (λ k. refl, (λ k. refl, (λ k. refl, tt)))
 
-text_before-keeps : KeepsKnowing flow knows_flow text_before
-text_before-keeps = look-state-keeps TextBefore text_before_rows refl refl (λ k. refl, (λ k. refl, (λ k. refl, tt)))
+heading_atx_look_signs-keeps : KeepsKnowing flow knows_flow heading_atx_look_signs
+heading_atx_look_signs-keeps = look-state-keeps HeadingAtxLookSigns heading_atx_look_signs_rows refl refl (λ k. refl, (λ k. refl, (λ k. refl, tt)))
 
-text_before_data-keeps : KeepsKnowing flow knows_flow text_before_data
-text_before_data-keeps = look-state-keeps TextBeforeData text_before_data_rows refl refl (λ k. refl, (λ k. refl, (λ k. refl, tt)))
+heading_atx_look_after-keeps : KeepsKnowing flow knows_flow heading_atx_look_after
+heading_atx_look_after-keeps = look-state-keeps HeadingAtxLookAfter heading_atx_look_after_rows refl refl (λ k. refl, (λ k. refl, (λ k. refl, tt)))
 
 heading_atx_start-keeps : KeepsKnowing flow knows_flow heading_atx_start
 heading_atx_start-keeps = reading-keeps HeadingAtxStart heading_atx_start_rows refl refl tt
@@ -131,8 +132,8 @@ code_indented_inside-keeps = reading-keeps CodeIndentedInside code_indented_insi
 code_indented_further_start-keeps : KeepsKnowing flow knows_flow code_indented_further_start
 code_indented_further_start-keeps = look-state-keeps CodeIndentedFurtherStart code_indented_further_start_rows refl refl (λ k. refl, (λ k. refl, tt))
 
-space_or_tab_eol_after_first-keeps : KeepsKnowing flow knows_flow space_or_tab_eol_after_first
-space_or_tab_eol_after_first-keeps = reading-keeps SpaceOrTabEolAfterFirst space_or_tab_eol_after_first_rows refl refl tt
+code_indented_line_after-keeps : KeepsKnowing flow knows_flow code_indented_line_after
+code_indented_line_after-keeps = reading-keeps CodeIndentedLineAfter code_indented_line_after_rows refl refl tt
 
 code_indented_after-keeps : KeepsKnowing flow knows_flow code_indented_after
 code_indented_after-keeps = reading-keeps CodeIndentedAfter code_indented_after_rows refl refl tt
@@ -143,8 +144,8 @@ code_indented_further_begin-keeps = reading-keeps CodeIndentedFurtherBegin code_
 flow_before_raw-keeps : KeepsKnowing flow knows_flow flow_before_raw
 flow_before_raw-keeps = look-state-keeps FlowBeforeRaw flow_before_raw_rows refl refl (λ k. refl, (λ k. refl, (λ k. refl, (λ k. refl, tt))))
 
-flow_before_code_indented-keeps : KeepsKnowing flow knows_flow flow_before_code_indented
-flow_before_code_indented-keeps = look-state-keeps FlowBeforeCodeIndented flow_before_code_indented_rows refl refl (λ k. refl, (λ k. refl, tt))
+raw_flow_look_info-keeps : KeepsKnowing flow knows_flow raw_flow_look_info
+raw_flow_look_info-keeps = look-state-keeps RawFlowLookInfo raw_flow_look_info_rows refl refl (λ k. refl, (λ k. refl, tt))
 
 raw_flow_start-keeps : KeepsKnowing flow knows_flow raw_flow_start
 raw_flow_start-keeps = reading-keeps RawFlowStart raw_flow_start_rows refl refl tt
@@ -161,8 +162,8 @@ raw_flow_before_sequence_open-keeps = reading-keeps RawFlowBeforeSequenceOpen ra
 raw_flow_info-keeps : KeepsKnowing flow knows_flow raw_flow_info
 raw_flow_info-keeps = reading-keeps RawFlowInfo raw_flow_info_rows refl refl tt
 
-raw_text_start-keeps : KeepsKnowing flow knows_flow raw_text_start
-raw_text_start-keeps = reading-keeps RawTextStart raw_text_start_rows refl refl tt
+raw_flow_info_after-keeps : KeepsKnowing flow knows_flow raw_flow_info_after
+raw_flow_info_after-keeps = reading-keeps RawFlowInfoAfter raw_flow_info_after_rows refl refl tt
 
 raw_flow_meta_before-keeps : KeepsKnowing flow knows_flow raw_flow_meta_before
 raw_flow_meta_before-keeps = reading-keeps RawFlowMetaBefore raw_flow_meta_before_rows refl refl tt
@@ -200,17 +201,17 @@ raw_flow_content_chunk-keeps = reading-keeps RawFlowContentChunk raw_flow_conten
 raw_flow_after-keeps : KeepsKnowing flow knows_flow raw_flow_after
 raw_flow_after-keeps = reading-keeps RawFlowAfter raw_flow_after_rows refl refl tt
 
-raw_text_sequence_open-keeps : KeepsKnowing flow knows_flow raw_text_sequence_open
-raw_text_sequence_open-keeps = reading-keeps RawTextSequenceOpen raw_text_sequence_open_rows refl refl tt
+raw_flow_close_before-keeps : KeepsKnowing flow knows_flow raw_flow_close_before
+raw_flow_close_before-keeps = reading-keeps RawFlowCloseBefore raw_flow_close_before_rows refl refl tt
 
-raw_text_between-keeps : KeepsKnowing flow knows_flow raw_text_between
-raw_text_between-keeps = reading-keeps RawTextBetween raw_text_between_rows refl refl tt
+raw_flow_close_blank-keeps : KeepsKnowing flow knows_flow raw_flow_close_blank
+raw_flow_close_blank-keeps = reading-keeps RawFlowCloseBlank raw_flow_close_blank_rows refl refl tt
 
-raw_text_sequence_close-keeps : KeepsKnowing flow knows_flow raw_text_sequence_close
-raw_text_sequence_close-keeps = reading-keeps RawTextSequenceClose raw_text_sequence_close_rows refl refl tt
+raw_flow_close_sequence-keeps : KeepsKnowing flow knows_flow raw_flow_close_sequence
+raw_flow_close_sequence-keeps = reading-keeps RawFlowCloseSequence raw_flow_close_sequence_rows refl refl tt
 
-raw_text_data-keeps : KeepsKnowing flow knows_flow raw_text_data
-raw_text_data-keeps = reading-keeps RawTextData raw_text_data_rows refl refl tt
+raw_flow_close_between-keeps : KeepsKnowing flow knows_flow raw_flow_close_between
+raw_flow_close_between-keeps = reading-keeps RawFlowCloseBetween raw_flow_close_between_rows refl refl tt
 
 html_flow_open-keeps : KeepsKnowing flow knows_flow html_flow_open
 html_flow_open-keeps = look-state-keeps HtmlFlowOpen html_flow_open_rows refl refl (λ k. refl, (λ k. refl, (λ k. refl, tt)))
@@ -293,8 +294,8 @@ html_flow_continuation_before-keeps = reading-keeps HtmlFlowContinuationBefore h
 html_flow_blank_line_before-keeps : KeepsKnowing flow knows_flow html_flow_blank_line_before
 html_flow_blank_line_before-keeps = look-state-keeps HtmlFlowBlankLineBefore html_flow_blank_line_before_rows refl refl tt
 
-blank_line_after-keeps : KeepsKnowing flow knows_flow blank_line_after
-blank_line_after-keeps = look-state-keeps BlankLineAfter blank_line_after_rows refl refl tt
+html_flow_blank_line_inside-keeps : KeepsKnowing flow knows_flow html_flow_blank_line_inside
+html_flow_blank_line_inside-keeps = look-state-keeps HtmlFlowBlankLineInside html_flow_blank_line_inside_rows refl refl tt
 
 html_flow_continuation_after-keeps : KeepsKnowing flow knows_flow html_flow_continuation_after
 html_flow_continuation_after-keeps = reading-keeps HtmlFlowContinuationAfter html_flow_continuation_after_rows refl refl tt
@@ -308,8 +309,8 @@ paragraph_inside-keeps = reading-keeps ParagraphInside paragraph_inside_rows ref
 flow_before_heading_setext-keeps : KeepsKnowing flow knows_flow flow_before_heading_setext
 flow_before_heading_setext-keeps = look-state-keeps FlowBeforeHeadingSetext flow_before_heading_setext_rows refl refl (λ k. refl, (λ k. refl, (λ k. refl, tt)))
 
-flow_before_gfm_table-keeps : KeepsKnowing flow knows_flow flow_before_gfm_table
-flow_before_gfm_table-keeps = look-state-keeps FlowBeforeGfmTable flow_before_gfm_table_rows refl refl (λ k. refl, (λ k. refl, (λ k. refl, tt)))
+heading_setext_look_after-keeps : KeepsKnowing flow knows_flow heading_setext_look_after
+heading_setext_look_after-keeps = look-state-keeps HeadingSetextLookAfter heading_setext_look_after_rows refl refl (λ k. refl, (λ k. refl, (λ k. refl, tt)))
 
 -- the rows of a chunk that begins
 abbrev chunk_begins : Rows Unit Unit
@@ -344,7 +345,7 @@ module _ (s : Sight) (k : Configuration Unit Unit) where
   stops : (place : Place) → Knows place k.events k.local → After [] Ok
   stops place h = record { chunk = tt; shape = h.shape; resolvers = h.resolvers; edits = edits-left place k.events k.local h.edits }
 
-  goes-on : Knows in_chunk k.events k.local → After [] (Retry ContentChunkInside)
+  goes-on : Knows in_chunk k.events k.local → After [] (Retry ParagraphLineAfter)
   goes-on h = record { chunk = h.chunk; shape = h.shape; resolvers = h.resolvers; edits = h.edits }
 
   chunk-ends : Knows in_chunk k.events k.local → After (consume ∷ exit Data ∷ []) (Next ParagraphStart)
@@ -387,7 +388,7 @@ module _ (s : Sight) (k : Configuration Unit Unit) where
     edits = spans-more _ k.local.map _ (spans-more k.events k.local.map _ (edits-left in_chunk k.events k.local h.edits));
   }
 
-  before-underline : Knows in_chunk k.events k.local → After (exit Data ∷ exit Paragraph ∷ write paragraph_ends ∷ []) (Retry ContentDefinitionAfter)
+  before-underline : Knows in_chunk k.events k.local → After (exit Data ∷ exit Paragraph ∷ write paragraph_ends ∷ []) (Retry HeadingSetextTextAfter)
   before-underline h =
       let end_of_chunk : Event = record { kind = Exit; name = Data; point = s.exit_place; link = None } in
       let e : Event = record { kind = Exit; name = Paragraph; point = s.exit_place; link = None } in
@@ -465,8 +466,8 @@ paragraph_start-keeps : KeepsKnowing flow knows_flow paragraph_start
 paragraph_start-keeps = state-keeps ParagraphStart paragraph_start_rows refl (λ g s k h. (paragraph-ends s k h, (paragraph-ends s k h, chunk-begins g s k h)))
 
 -- a chunk ends with its line ending
-content_chunk_inside-keeps : KeepsKnowing flow knows_flow content_chunk_inside
-content_chunk_inside-keeps = state-keeps ContentChunkInside content_chunk_inside_rows refl (λ g s k h. (stops s k in_chunk h, (chunk-ends s k h, stops s k in_chunk h)))
+paragraph_line_after-keeps : KeepsKnowing flow knows_flow paragraph_line_after
+paragraph_line_after-keeps = state-keeps ParagraphLineAfter paragraph_line_after_rows refl (λ g s k h. (stops s k in_chunk h, (chunk-ends s k h, stops s k in_chunk h)))
 
 -- at the end of a line before one of some kind
 paragraph_line_start-keeps : KeepsKnowing flow knows_flow paragraph_line_start
@@ -474,8 +475,8 @@ paragraph_line_start-keeps = state-keeps ParagraphLineStart paragraph_line_start
     (λ g s k h. (stops s k in_chunk h, (((λ c. goes-on s k h), (λ c. ((λ u. before-underline s k h), (λ u. both-exits s k h)))), stops s k in_chunk h)))
 
 -- the states of an underline
-content_definition_after-keeps : KeepsKnowing flow knows_flow content_definition_after
-content_definition_after-keeps = state-keeps ContentDefinitionAfter content_definition_after_rows refl (λ g s k h. (
+heading_setext_text_after-keeps : KeepsKnowing flow knows_flow heading_setext_text_after
+heading_setext_text_after-keeps = state-keeps HeadingSetextTextAfter heading_setext_text_after_rows refl (λ g s k h. (
   stops s k (in_underline []) h,
   (grows-twice [] (LineEnding ∷ []) [] k.events (unchanged k.local) _ _ refl refl (λ before. refl) (λ before. refl) (underlined s k [] h), stops s k (in_underline []) h),
 ))
@@ -570,7 +571,7 @@ pub flow-known : IsKnownThroughout flow knows_flow EndsWellFormed
 flow-known = record {
   at_starts = at-starts;
   by_feeding = by-feeding;
-  by_rows = (flow_start-keeps, (flow_blank_line_after-keeps, (flow_after-keeps, (flow_blank_line_before-keeps, (non_lazy_continuation_start-keeps, (blank_line_start-keeps, (flow_before_thematic_break-keeps, (thematic_break_before-keeps, (thematic_break_at_break-keeps, (thematic_break_sequence-keeps, (flow_before_heading_atx-keeps, (string_start-keeps, (string_before_data-keeps, (string_before-keeps, (text_before-keeps, (text_before_data-keeps, (heading_atx_start-keeps, (heading_atx_sequence_open-keeps, (heading_atx_at_break-keeps, (heading_atx_before-keeps, (heading_atx_data-keeps, (code_indented_start-keeps, (code_indented_at_break-keeps, (code_indented_further_after-keeps, (code_indented_inside-keeps, (code_indented_further_start-keeps, (space_or_tab_eol_after_first-keeps, (code_indented_after-keeps, (code_indented_further_begin-keeps, (flow_before_raw-keeps, (flow_before_code_indented-keeps, (raw_flow_start-keeps, (raw_flow_sequence_open-keeps, (raw_flow_info_before-keeps, (raw_flow_before_sequence_open-keeps, (raw_flow_info-keeps, (raw_text_start-keeps, (raw_flow_meta_before-keeps, (raw_flow_meta-keeps, (raw_flow_at_non_lazy_break-keeps, (raw_flow_close_start-keeps, (raw_flow_before_sequence_close-keeps, (raw_flow_sequence_close-keeps, (raw_flow_after_sequence_close-keeps, (raw_flow_content_before-keeps, (raw_flow_content_start-keeps, (raw_flow_before_content_chunk-keeps, (raw_flow_content_chunk-keeps, (raw_flow_after-keeps, (raw_text_sequence_open-keeps, (raw_text_between-keeps, (raw_text_sequence_close-keeps, (raw_text_data-keeps, (flow_before_heading_setext-keeps, (flow_before_gfm_table-keeps, (content_definition_after-keeps, (heading_setext_start-keeps, (heading_setext_before-keeps, (heading_setext_inside-keeps, (heading_setext_after-keeps, (html_flow_open-keeps, (html_flow_declaration_open-keeps, (html_flow_comment_open_inside-keeps, (html_flow_cdata_open_inside-keeps, (html_flow_tag_close_start-keeps, (html_flow_tag_name-keeps, (html_flow_basic_self_closing-keeps, (html_flow_complete_closing_tag_after-keeps, (html_flow_complete_end-keeps, (html_flow_complete_attribute_name_before-keeps, (html_flow_complete_attribute_name-keeps, (html_flow_complete_attribute_name_after-keeps, (html_flow_complete_attribute_value_before-keeps, (html_flow_complete_attribute_value_quoted-keeps, (html_flow_complete_attribute_value_quoted_after-keeps, (html_flow_complete_attribute_value_unquoted-keeps, (html_flow_complete_after-keeps, (html_flow_start-keeps, (html_flow_continuation-keeps, (html_flow_continuation_comment_inside-keeps, (html_flow_continuation_cdata_inside-keeps, (html_flow_continuation_declaration_inside-keeps, (html_flow_continuation_raw_tag_open-keeps, (html_flow_continuation_raw_end_tag-keeps, (html_flow_continuation_close-keeps, (html_flow_continuation_before-keeps, (html_flow_blank_line_before-keeps, (blank_line_after-keeps, (html_flow_continuation_after-keeps, (html_flow_continuation_start-keeps, (flow_before_content-keeps, (paragraph_start-keeps, (paragraph_inside-keeps, (paragraph_line_start-keeps, (content_chunk_inside-keeps, tt)))))))))))))))))))))))))))))))))))))))))))))))))))))))))))))))))))))))))))))))))))))))))))))));
+  by_rows = (flow_start-keeps, (flow_blank_line_after-keeps, (flow_after-keeps, (flow_blank_line_before-keeps, (paragraph_look_start-keeps, (blank_line_start-keeps, (flow_before_thematic_break-keeps, (thematic_break_before-keeps, (thematic_break_at_break-keeps, (thematic_break_sequence-keeps, (flow_before_heading_atx-keeps, (heading_atx_look_start-keeps, (heading_atx_look_text-keeps, (heading_atx_look_blank-keeps, (heading_atx_look_signs-keeps, (heading_atx_look_after-keeps, (heading_atx_start-keeps, (heading_atx_sequence_open-keeps, (heading_atx_at_break-keeps, (heading_atx_before-keeps, (heading_atx_data-keeps, (code_indented_start-keeps, (code_indented_at_break-keeps, (code_indented_further_after-keeps, (code_indented_inside-keeps, (code_indented_further_start-keeps, (code_indented_line_after-keeps, (code_indented_after-keeps, (code_indented_further_begin-keeps, (flow_before_raw-keeps, (raw_flow_look_info-keeps, (raw_flow_start-keeps, (raw_flow_sequence_open-keeps, (raw_flow_info_before-keeps, (raw_flow_before_sequence_open-keeps, (raw_flow_info-keeps, (raw_flow_info_after-keeps, (raw_flow_meta_before-keeps, (raw_flow_meta-keeps, (raw_flow_at_non_lazy_break-keeps, (raw_flow_close_start-keeps, (raw_flow_before_sequence_close-keeps, (raw_flow_sequence_close-keeps, (raw_flow_after_sequence_close-keeps, (raw_flow_content_before-keeps, (raw_flow_content_start-keeps, (raw_flow_before_content_chunk-keeps, (raw_flow_content_chunk-keeps, (raw_flow_after-keeps, (raw_flow_close_before-keeps, (raw_flow_close_blank-keeps, (raw_flow_close_sequence-keeps, (raw_flow_close_between-keeps, (flow_before_heading_setext-keeps, (heading_setext_look_after-keeps, (heading_setext_text_after-keeps, (heading_setext_start-keeps, (heading_setext_before-keeps, (heading_setext_inside-keeps, (heading_setext_after-keeps, (html_flow_open-keeps, (html_flow_declaration_open-keeps, (html_flow_comment_open_inside-keeps, (html_flow_cdata_open_inside-keeps, (html_flow_tag_close_start-keeps, (html_flow_tag_name-keeps, (html_flow_basic_self_closing-keeps, (html_flow_complete_closing_tag_after-keeps, (html_flow_complete_end-keeps, (html_flow_complete_attribute_name_before-keeps, (html_flow_complete_attribute_name-keeps, (html_flow_complete_attribute_name_after-keeps, (html_flow_complete_attribute_value_before-keeps, (html_flow_complete_attribute_value_quoted-keeps, (html_flow_complete_attribute_value_quoted_after-keeps, (html_flow_complete_attribute_value_unquoted-keeps, (html_flow_complete_after-keeps, (html_flow_start-keeps, (html_flow_continuation-keeps, (html_flow_continuation_comment_inside-keeps, (html_flow_continuation_cdata_inside-keeps, (html_flow_continuation_declaration_inside-keeps, (html_flow_continuation_raw_tag_open-keeps, (html_flow_continuation_raw_end_tag-keeps, (html_flow_continuation_close-keeps, (html_flow_continuation_before-keeps, (html_flow_blank_line_before-keeps, (html_flow_blank_line_inside-keeps, (html_flow_continuation_after-keeps, (html_flow_continuation_start-keeps, (flow_before_content-keeps, (paragraph_start-keeps, (paragraph_inside-keeps, (paragraph_line_start-keeps, (paragraph_line_after-keeps, tt)))))))))))))))))))))))))))))))))))))))))))))))))))))))))))))))))))))))))))))))))))))))))))))));
   by_ok = by-ok;
   by_nok = by-nok;
   at_end = at-end;

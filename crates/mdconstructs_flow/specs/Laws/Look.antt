@@ -4,7 +4,7 @@ use Rattle.mdconstructs_tables.specs.RowTest.{never}
 use Rattle.mdconstructs_tables.specs.RowInvariant.{PaysRows}
 use Rattle.mdconstructs_flow.specs.FlowBytes.{is_less}
 use Rattle.mdconstructs_flow.specs.FlowCosts.{looking, at_next_line}
-use Rattle.mdconstructs_flow.specs.Look.{flow_blank_line_before_rows, flow_blank_line_before, non_lazy_continuation_start_rows, non_lazy_continuation_start}
+use Rattle.mdconstructs_flow.specs.Look.{flow_blank_line_before_rows, flow_blank_line_before, paragraph_look_start_rows, paragraph_look_start}
 use Rattle.mdconstructs_flow.specs.FlowTable.{flow}
 use Rattle.mdconstructs_flow.specs.Laws.Measures.{word-of, sign-word, star-word, underscore-word, dash-word, equals-word, tick-word, tilde-word, at-feed, at-blank, at-word, at-other, at-in-line}
 use Rattle.mdconstructs_flow.specs.Laws.Paying.{pays}
@@ -44,9 +44,9 @@ flow_blank_line_before-pays b w text p read at seen called =
     )
     w b b text p at seen
 
-pub non_lazy_continuation_start-pays : PaysRows flow never non_lazy_continuation_start
-non_lazy_continuation_start-pays b w text p read at seen called =
-    pays (at_next_line 3) non_lazy_continuation_start_rows (omega arith) (
+pub paragraph_look_start-pays : PaysRows flow never paragraph_look_start
+paragraph_look_start-pays b w text p read at seen called =
+    pays (at_next_line 3) paragraph_look_start_rows (omega arith) (
       λ w is b text p m. let q = at-feed text p w m is in omega arith,
       λ w others b text p m. let q = at-in-line text p w m others.0 in omega arith,
     )

@@ -3,7 +3,7 @@ use Rattle.std.proofs.Common.{arith}
 use Rattle.mdconstructs_tables.specs.RowTest.{never}
 use Rattle.mdconstructs_tables.specs.RowInvariant.{PaysRows}
 use Rattle.mdconstructs_flow.specs.FlowCosts.{reading, looked}
-use Rattle.mdconstructs_flow.specs.Paragraph.{flow_before_content_rows, flow_before_content, paragraph_start_rows, paragraph_start, paragraph_inside_rows, paragraph_inside, paragraph_line_start_rows, paragraph_line_start, content_chunk_inside_rows, content_chunk_inside}
+use Rattle.mdconstructs_flow.specs.Paragraph.{flow_before_content_rows, flow_before_content, paragraph_start_rows, paragraph_start, paragraph_inside_rows, paragraph_inside, paragraph_line_start_rows, paragraph_line_start, paragraph_line_after_rows, paragraph_line_after}
 use Rattle.mdconstructs_flow.specs.FlowTable.{flow}
 use Rattle.mdconstructs_flow.specs.Laws.Measures.{at-feed, at-in-line}
 use Rattle.mdconstructs_flow.specs.Laws.Paying.{pays}
@@ -38,9 +38,9 @@ paragraph_line_start-pays b w text p read at seen called =
     )
     w b b text p at seen
 
-pub content_chunk_inside-pays : PaysRows flow never content_chunk_inside
-content_chunk_inside-pays b w text p read at seen called =
-    pays (looked 1) content_chunk_inside_rows (omega arith) (
+pub paragraph_line_after-pays : PaysRows flow never paragraph_line_after
+paragraph_line_after-pays b w text p read at seen called =
+    pays (looked 1) paragraph_line_after_rows (omega arith) (
       λ w is b text p m. let q = at-feed text p w m is in omega arith,
       λ w others b text p m. let q = at-in-line text p w m others.0 in omega arith,
     )

@@ -4,7 +4,8 @@ use Rattle.markdown_base.specs.declared.event.Name.TheVariants.{CodeFlowChunk, C
 use Rattle.markdown_base.specs.declared.event.Point.{Point}
 use Rattle.markdown_base.specs.declared.state.Name.{Name}
 use Rattle.markdown_base.specs.declared.state.State.TheVariants.{Next, Retry}
-use Rattle.markdown_base.specs.declared.state.TheConstants.Name.{CodeIndentedAfter, CodeIndentedAtBreak, CodeIndentedFurtherAfter, CodeIndentedFurtherBegin, CodeIndentedFurtherStart, CodeIndentedInside, CodeIndentedStart, FlowAfter, FlowBlankLineAfter, SpaceOrTabEolAfterFirst}
+use Rattle.markdown_base.specs.declared.state.TheConstants.Name.{CodeIndentedAfter, CodeIndentedAtBreak, CodeIndentedFurtherAfter, CodeIndentedFurtherBegin, CodeIndentedFurtherStart, CodeIndentedInside, CodeIndentedStart, FlowAfter, FlowBlankLineAfter}
+use Rattle.mdconstructs_flow.specs.declared.names.TheConstants.{CodeIndentedLineAfter}
 use Rattle.markdown_base.specs.Virtual.{Seat}
 use Rattle.markdown_tokenizer.specs.declared.waiting.AttemptKind.TheVariants.{Check}
 use Rattle.markdown_tokenizer.specs.Configuration.{Configuration, Local}
@@ -113,7 +114,7 @@ module _ (g : Given) (t : Text) where
     -- the others
     pub inside-on : (s : Seat) (rest : List Seat) → (s.byte == 10) ≡ false → IsAt t k p (s ∷ rest) → Reads k CodeIndentedInside (s ∷ []) rest [] CodeIndentedInside
     inside-on s rest in_line at =
-        let checks : Rows Unit Unit = row (choose Check (Next SpaceOrTabEolAfterFirst) (Next CodeIndentedAfter) ∷ []) (Retry CodeIndentedFurtherStart) in
+        let checks : Rows Unit Unit = row (choose Check (Next CodeIndentedLineAfter) (Next CodeIndentedAfter) ∷ []) (Retry CodeIndentedFurtherStart) in
         row-takes-on g t KeepsEdits k CodeIndentedInside p s rest (flow_byte s.byte) (consume ∷ []) CodeIndentedInside at refl
         (ap (λ b. picked (cond b checks (row (consume ∷ []) (Next CodeIndentedInside))) g (sees CodeIndentedInside (s ∷ rest)) (counted k)) (feed-is s.byte ∙ in_line)) tt refl once
 
@@ -122,9 +123,9 @@ module _ (g : Given) (t : Text) where
     inside-end at = row-stays g t KeepsEdits k CodeIndentedInside p [] None (exit CodeFlowChunk ∷ exit CodeIndented ∷ []) (Retry FlowAfter) at refl refl tt refl refl once
 
     -- at a line ending: code goes g t on, or not
-    pub line-on : (e : Seat) (rest : List Seat) → e.byte ≡ 10 → IsAt t k p (e ∷ rest) → Reads k SpaceOrTabEolAfterFirst (e ∷ []) rest (goes g t CodeFlowChunk p ++ feeds e) CodeIndentedFurtherBegin
+    pub line-on : (e : Seat) (rest : List Seat) → e.byte ≡ 10 → IsAt t k p (e ∷ rest) → Reads k CodeIndentedLineAfter (e ∷ []) rest (goes g t CodeFlowChunk p ++ feeds e) CodeIndentedFurtherBegin
     line-on e rest feed at =
-        row-takes-on g t KeepsEdits k SpaceOrTabEolAfterFirst p e rest line_feed (exit CodeFlowChunk ∷ enter LineEnding ∷ consume ∷ exit LineEnding ∷ []) CodeIndentedFurtherBegin at (ap flow_byte feed) refl tt refl once
+        row-takes-on g t KeepsEdits k CodeIndentedLineAfter p e rest line_feed (exit CodeFlowChunk ∷ enter LineEnding ∷ consume ∷ exit LineEnding ∷ []) CodeIndentedFurtherBegin at (ap flow_byte feed) refl tt refl once
 
     pub line-last : (e : Seat) (rest : List Seat) → e.byte ≡ 10 → IsAt t k p (e ∷ rest) → Reads k CodeIndentedAfter [] (e ∷ rest) (goes g t CodeFlowChunk p ++ goes g t CodeIndented p) FlowAfter
     line-last e rest feed at =

@@ -8,7 +8,8 @@ use Rattle.markdown_base.specs.declared.event.Name.TheVariants.{CodeFlowChunk, C
 use Rattle.markdown_base.specs.declared.event.Point.{Point}
 use Rattle.markdown_base.specs.declared.state.Name.{Name}
 use Rattle.markdown_base.specs.declared.state.State.TheVariants.{Retry, Ok, Nok}
-use Rattle.markdown_base.specs.declared.state.TheConstants.Name.{CodeIndentedAfter, CodeIndentedAtBreak, CodeIndentedFurtherAfter, CodeIndentedFurtherBegin, CodeIndentedFurtherStart, CodeIndentedInside, CodeIndentedStart, FlowAfter, FlowBlankLineAfter, SpaceOrTabEolAfterFirst}
+use Rattle.markdown_base.specs.declared.state.TheConstants.Name.{CodeIndentedAfter, CodeIndentedAtBreak, CodeIndentedFurtherAfter, CodeIndentedFurtherBegin, CodeIndentedFurtherStart, CodeIndentedInside, CodeIndentedStart, FlowAfter, FlowBlankLineAfter}
+use Rattle.mdconstructs_flow.specs.declared.names.TheConstants.{CodeIndentedLineAfter}
 use Rattle.markdown_base.specs.Virtual.{Seat, end_after}
 use Rattle.markdown_tokenizer.specs.Calls.{with_local}
 use Rattle.markdown_tokenizer.specs.Configuration.{Configuration, Local}
@@ -175,14 +176,14 @@ module _ (g : Given) (t : Text) where
     further : code_ahead 0 rest ≡ true → Reads g t k CodeIndentedInside (e ∷ []) rest (goes g t CodeFlowChunk p ++ feeds g t e) CodeIndentedFurtherBegin
     further ahead =
         let h = look-from-feed g t k.stack k.events e rest feed (byte_of (seat_before t k.position)) k.position k.ended (unchanged k.local) less in
-        read-if-ok g t k e rest at.left at.waits CodeIndentedInside CodeIndentedFurtherStart SpaceOrTabEolAfterFirst CodeIndentedAfter code_indented_inside refl line_feed (ap flow_byte feed) [] (λ previous. refl)
+        read-if-ok g t k e rest at.left at.waits CodeIndentedInside CodeIndentedFurtherStart CodeIndentedLineAfter CodeIndentedAfter code_indented_inside refl line_feed (ap flow_byte feed) [] (λ previous. refl)
         KeepsEdits (λ after kept. record { edits = kept.edits ∙ h.keeps.edits; resolvers = kept.resolvers ∙ h.keeps.resolvers }) (e ∷ []) rest (goes g t CodeFlowChunk p ++ feeds g t e) (Retry CodeIndentedFurtherBegin)
         (h.answer ∙ ap (λ b. cond b Ok Nok) ahead) (line-on g t _ p e rest feed (there _))
 
     last : code_ahead 0 rest ≡ false → Reads g t k CodeIndentedInside [] (e ∷ rest) (goes g t CodeFlowChunk p ++ goes g t CodeIndented p) FlowAfter
     last ahead =
         let h = look-from-feed g t k.stack k.events e rest feed (byte_of (seat_before t k.position)) k.position k.ended (unchanged k.local) less in
-        read-if-nok g t k e rest at.left at.waits CodeIndentedInside CodeIndentedFurtherStart SpaceOrTabEolAfterFirst CodeIndentedAfter code_indented_inside refl line_feed (ap flow_byte feed) [] (λ previous. refl)
+        read-if-nok g t k e rest at.left at.waits CodeIndentedInside CodeIndentedFurtherStart CodeIndentedLineAfter CodeIndentedAfter code_indented_inside refl line_feed (ap flow_byte feed) [] (λ previous. refl)
         KeepsEdits (λ after kept. record { edits = kept.edits ∙ h.keeps.edits; resolvers = kept.resolvers ∙ h.keeps.resolvers }) [] (e ∷ rest) (goes g t CodeFlowChunk p ++ goes g t CodeIndented p) (Retry FlowAfter)
         (h.answer ∙ ap (λ b. cond b Ok Nok) ahead) (line-last g t _ p e rest feed (there _))
 

@@ -4,7 +4,8 @@ use Rattle.markdown_base.proofs.Seats.{end-after-append}
 use Rattle.markdown_base.specs.declared.event.Name.TheVariants.{CodeFenced, CodeFencedFence, CodeFencedFenceSequence, CodeFlowChunk, LineEnding}
 use Rattle.markdown_base.specs.declared.event.Point.{Point}
 use Rattle.markdown_base.specs.declared.state.State.TheVariants.{Next, Retry}
-use Rattle.markdown_base.specs.declared.state.TheConstants.Name.{FlowAfter, RawFlowAfter, RawFlowAtNonLazyBreak, RawFlowContentBefore, RawFlowContentStart, RawTextSequenceOpen}
+use Rattle.markdown_base.specs.declared.state.TheConstants.Name.{FlowAfter, RawFlowAfter, RawFlowAtNonLazyBreak, RawFlowContentBefore, RawFlowContentStart}
+use Rattle.mdconstructs_flow.specs.declared.names.TheConstants.{RawFlowCloseBefore}
 use Rattle.markdown_base.specs.Virtual.{Seat, end_after}
 use Rattle.markdown_tokenizer.specs.Configuration.{Configuration}
 use Rattle.markdown_tokenizer.specs.Text.{Given, Text}
@@ -92,8 +93,8 @@ module _ (g : Given) (t : Text) (f : Fence) (of : IsMark f.byte) (size : 1 ≤ f
       let last = close_marks l ++ out g CodeFenced (end_after e.end l) ∷ [] in
       reads-then g t f k (Retry RawFlowAtNonLazyBreak) (Retry RawFlowAfter) (Retry FlowAfter) p [] (e ∷ l) rest [] (ending_marks g t f e ++ last) here
       (subst (λ v. Reads g t f k (Retry RawFlowAtNonLazyBreak) [] (e ∷ (l ++ rest)) [] (Retry (behind_look g t f of size v))) close (next-seen g t f of size k p e l rest feed here all ends (has-room k.position e l rest here.at)))
-      (λ k' there. reads-then g t f k' (Retry RawFlowAfter) (Next RawTextSequenceOpen) (Retry FlowAfter) p (e ∷ []) l rest (ending_marks g t f e) last there (closing-ending g t f k' p e (l ++ rest) feed there)
-      (λ k'' there'. reads-fed g t f k'' RawTextSequenceOpen e.end l rest last (Retry FlowAfter) there' (λ k3 there3. closing-line g t f of size l rest all ends close k3 e.end there3)))
+      (λ k' there. reads-then g t f k' (Retry RawFlowAfter) (Next RawFlowCloseBefore) (Retry FlowAfter) p (e ∷ []) l rest (ending_marks g t f e) last there (closing-ending g t f k' p e (l ++ rest) feed there)
+      (λ k'' there'. reads-fed g t f k'' RawFlowCloseBefore e.end l rest last (Retry FlowAfter) there' (λ k3 there3. closing-line g t f of size l rest all ends close k3 e.end there3)))
 
   -- ---- the lines behind a line ending
   abbrev pub behind_marks : Seat → (closed : Bool) → List Line → List Mark

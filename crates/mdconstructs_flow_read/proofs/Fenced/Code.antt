@@ -3,7 +3,8 @@ use Rattle.std.proofs.Common.{◌≡◌, ℕ, suc, ◌+◌, ◌-◌, ◌^◌, �
 use Rattle.markdown_base.specs.declared.event.Name.TheVariants.{CodeFlowChunk, LineEnding, SpaceOrTab}
 use Rattle.markdown_base.specs.declared.event.Point.{Point}
 use Rattle.markdown_base.specs.declared.state.State.TheVariants.{Next, Retry}
-use Rattle.markdown_base.specs.declared.state.TheConstants.Name.{RawFlowAfter, RawFlowAtNonLazyBreak, RawFlowBeforeContentChunk, RawFlowContentBefore, RawFlowContentChunk, RawFlowContentStart, RawTextSequenceOpen}
+use Rattle.markdown_base.specs.declared.state.TheConstants.Name.{RawFlowAfter, RawFlowAtNonLazyBreak, RawFlowBeforeContentChunk, RawFlowContentBefore, RawFlowContentChunk, RawFlowContentStart}
+use Rattle.mdconstructs_flow.specs.declared.names.TheConstants.{RawFlowCloseBefore}
 use Rattle.markdown_base.specs.Virtual.{Seat, end_after}
 use Rattle.markdown_tokenizer.specs.Configuration.{Configuration, Local}
 use Rattle.markdown_tokenizer.specs.Text.{Given, Text}
@@ -32,9 +33,9 @@ module _ (g : Given) (t : Text) (f : Fence) where
       reads-byte g t f k RawFlowContentBefore p s rest here (enter LineEnding ∷ consume ∷ exit LineEnding ∷ []) RawFlowContentStart (ending_marks s)
       (at-class g t f RawFlowContentBefore raw_flow_content_before_rows (λ k p l. refl) k p s rest line_feed (feed-class s.byte feed)) refl (two k.events _ _) refl refl (refl, refl, refl, refl, refl)
 
-  pub closing-ending : (k : Configuration Unit Unit) (p : Point) (s : Seat) (rest : List Seat) → (s.byte == 10) ≡ true → IsAt g t f k (Retry RawFlowAfter) p (s ∷ rest) → Reads g t f k (Retry RawFlowAfter) (s ∷ []) rest (ending_marks s) (Next RawTextSequenceOpen)
+  pub closing-ending : (k : Configuration Unit Unit) (p : Point) (s : Seat) (rest : List Seat) → (s.byte == 10) ≡ true → IsAt g t f k (Retry RawFlowAfter) p (s ∷ rest) → Reads g t f k (Retry RawFlowAfter) (s ∷ []) rest (ending_marks s) (Next RawFlowCloseBefore)
   closing-ending k p s rest feed here =
-      reads-byte g t f k RawFlowAfter p s rest here (enter LineEnding ∷ consume ∷ exit LineEnding ∷ []) RawTextSequenceOpen (ending_marks s)
+      reads-byte g t f k RawFlowAfter p s rest here (enter LineEnding ∷ consume ∷ exit LineEnding ∷ []) RawFlowCloseBefore (ending_marks s)
       (at-class g t f RawFlowAfter raw_flow_after_rows (λ k p l. refl) k p s rest line_feed (feed-class s.byte feed)) refl (two k.events _ _) refl refl (refl, refl, refl, refl, refl)
 
   -- behind so many columns: nothing, or a byte that is no white space, or any, if the columns are those of the fence

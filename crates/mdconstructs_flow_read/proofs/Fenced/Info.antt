@@ -6,7 +6,8 @@ use Rattle.markdown_base.specs.declared.event.Kind.TheVariants.{Enter}
 use Rattle.markdown_base.specs.declared.event.Name.TheVariants.{CodeFencedFence, CodeFencedFenceInfo, CodeFencedFenceMeta, Data, SpaceOrTab}
 use Rattle.markdown_base.specs.declared.event.Point.{Point}
 use Rattle.markdown_base.specs.declared.state.State.TheVariants.{Next, Retry}
-use Rattle.markdown_base.specs.declared.state.TheConstants.Name.{RawFlowInfoBefore, RawFlowInfo, RawTextStart, RawFlowMetaBefore, RawFlowMeta, RawFlowAtNonLazyBreak}
+use Rattle.markdown_base.specs.declared.state.TheConstants.Name.{RawFlowInfoBefore, RawFlowInfo, RawFlowMetaBefore, RawFlowMeta, RawFlowAtNonLazyBreak}
+use Rattle.mdconstructs_flow.specs.declared.names.TheConstants.{RawFlowInfoAfter}
 use Rattle.markdown_base.specs.Virtual.{Seat, end_after}
 use Rattle.markdown_tokenizer.specs.Configuration.{Configuration}
 use Rattle.markdown_tokenizer.specs.Text.{Given, Text}
@@ -75,14 +76,14 @@ module _ (g : Given) (t : Text) (f : Fence) where
       let first = out g Data p ∷ out g CodeFencedFenceInfo p ∷ into g SpaceOrTab s.point ∷ [] in
       let last = λ (q : Point). meta_marks m ++ out g CodeFencedFence q ∷ [] in
       let second = out g SpaceOrTab (end_after s.end w) ∷ last (end_after s.end l) in
-      reads-then g t f k (Retry RawFlowInfo) (Next RawTextStart) (Retry RawFlowAtNonLazyBreak) p (s ∷ []) l rest first second here
-      (reads-byte g t f k RawFlowInfo p s (l ++ rest) here (exit Data ∷ exit CodeFencedFenceInfo ∷ enter SpaceOrTab ∷ consume ∷ []) RawTextStart first
+      reads-then g t f k (Retry RawFlowInfo) (Next RawFlowInfoAfter) (Retry RawFlowAtNonLazyBreak) p (s ∷ []) l rest first second here
+      (reads-byte g t f k RawFlowInfo p s (l ++ rest) here (exit Data ∷ exit CodeFencedFenceInfo ∷ enter SpaceOrTab ∷ consume ∷ []) RawFlowInfoAfter first
       (at-class g t f RawFlowInfo raw_flow_info_rows (λ k p l. refl) k p s (l ++ rest) blank (white-is-blank s.byte all.1)) refl (three k.events _ _ _) refl refl (refl, refl, refl, refl, refl))
-      (λ k' there. reads-fed g t f k' RawTextStart s.end l rest second (Retry RawFlowAtNonLazyBreak) there (λ k'' there'.
-      subst (λ q. Reads g t f k'' (Retry RawTextStart) l rest (out g SpaceOrTab (end_after s.end w) ∷ last q) (Retry RawFlowAtNonLazyBreak)) (sym (end-after-append s.end w m))
-      (reads-then g t f k'' (Retry RawTextStart) (Retry RawFlowMetaBefore) (Retry RawFlowAtNonLazyBreak) s.end w m rest (out g SpaceOrTab (end_after s.end w) ∷ []) (last (end_after (end_after s.end w) m))
-      (at-assoc g t f k'' (Retry RawTextStart) s.end w m rest there')
-      (white-goes g t f RawTextStart RawFlowMetaBefore (λ k p l. refl) w (m ++ rest) all.2 stops k'' s.end (at-assoc g t f k'' (Retry RawTextStart) s.end w m rest there'))
+      (λ k' there. reads-fed g t f k' RawFlowInfoAfter s.end l rest second (Retry RawFlowAtNonLazyBreak) there (λ k'' there'.
+      subst (λ q. Reads g t f k'' (Retry RawFlowInfoAfter) l rest (out g SpaceOrTab (end_after s.end w) ∷ last q) (Retry RawFlowAtNonLazyBreak)) (sym (end-after-append s.end w m))
+      (reads-then g t f k'' (Retry RawFlowInfoAfter) (Retry RawFlowMetaBefore) (Retry RawFlowAtNonLazyBreak) s.end w m rest (out g SpaceOrTab (end_after s.end w) ∷ []) (last (end_after (end_after s.end w) m))
+      (at-assoc g t f k'' (Retry RawFlowInfoAfter) s.end w m rest there')
+      (white-goes g t f RawFlowInfoAfter RawFlowMetaBefore (λ k p l. refl) w (m ++ rest) all.2 stops k'' s.end (at-assoc g t f k'' (Retry RawFlowInfoAfter) s.end w m rest there'))
       (λ k3 there3. meta-reads m rest in_line ends k3 (end_after s.end w) there3))))
 
   -- the first word, and what is behind it

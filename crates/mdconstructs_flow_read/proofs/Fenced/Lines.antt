@@ -4,7 +4,8 @@ use Rattle.std.proofs.lemmas.List.{drop-map}
 use Rattle.markdown_base.specs.declared.event.Name.TheVariants.{CodeFenced, CodeFencedFence, CodeFencedFenceSequence, CodeFlowChunk}
 use Rattle.markdown_base.specs.declared.event.Point.{Point}
 use Rattle.markdown_base.specs.declared.state.State.TheVariants.{Retry}
-use Rattle.markdown_base.specs.declared.state.TheConstants.Name.{FlowAfter, RawFlowAtNonLazyBreak, RawFlowContentStart, RawTextSequenceOpen}
+use Rattle.markdown_base.specs.declared.state.TheConstants.Name.{FlowAfter, RawFlowAtNonLazyBreak, RawFlowContentStart}
+use Rattle.mdconstructs_flow.specs.declared.names.TheConstants.{RawFlowCloseBefore}
 use Rattle.markdown_base.specs.Virtual.{Seat, end_after}
 use Rattle.markdown_tokenizer.specs.Configuration.{Configuration}
 use Rattle.markdown_tokenizer.specs.Text.{Given, Text}
@@ -139,8 +140,8 @@ module _ (g : Given) (t : Text) (f : Fence) (of : IsMark f.byte) (size : 1 ≤ f
         blank-all (back mark b) (back-in-line mark b (back-in-line is_white l all)) (ap is_blank_line (sym left) ∙ blank),
       )
 
-  pub closing-line : (l rest : List Seat) → IsInLine l → LineEnds rest → closes g.options.constructs f (bytes_of l) ≡ true → (k : Configuration Unit Unit) (p : Point) → IsAt g t f k (Retry RawTextSequenceOpen) p (l ++ rest)
-      → Reads g t f k (Retry RawTextSequenceOpen) l rest (span_marks g.bytes CodeFencedFence l (sequence_marks g.bytes CodeFencedFenceSequence (run_of l) l) ++ out g CodeFenced (end_after p l) ∷ []) (Retry FlowAfter)
+  pub closing-line : (l rest : List Seat) → IsInLine l → LineEnds rest → closes g.options.constructs f (bytes_of l) ≡ true → (k : Configuration Unit Unit) (p : Point) → IsAt g t f k (Retry RawFlowCloseBefore) p (l ++ rest)
+      → Reads g t f k (Retry RawFlowCloseBefore) l rest (span_marks g.bytes CodeFencedFence l (sequence_marks g.bytes CodeFencedFenceSequence (run_of l) l) ++ out g CodeFenced (end_after p l) ∷ []) (Retry FlowAfter)
   closing-line l rest all ends close k p here =
       let u = front is_white l in
       let b = back is_white l in
@@ -155,7 +156,7 @@ module _ (g : Given) (t : Text) (f : Fence) (of : IsMark f.byte) (size : 1 ≤ f
       ap (λ q. white g.bytes u ++ (leaf_marks g.bytes CodeFencedFenceSequence q ++ white g.bytes v)) (sym some.is)
       ∙ sym (sequence-is g.bytes CodeFencedFenceSequence f.byte (run_of l) l (ap (run f.byte) (bytes-behind g.bytes CodeFencedFenceSequence f.byte l))) in
       let marks = λ (l : List Seat) (inside : List Mark). span_marks g.bytes CodeFencedFence l inside ++ out g CodeFenced (end_after p l) ∷ [] in
-      subst (λ l'. Reads g t f k (Retry RawTextSequenceOpen) l' rest (marks l' (sequence_marks g.bytes CodeFencedFenceSequence (run_of l) l)) (Retry FlowAfter)) whole
-      (subst (λ inside. Reads g t f k (Retry RawTextSequenceOpen) line rest (marks line inside) (Retry FlowAfter)) inside_is
+      subst (λ l'. Reads g t f k (Retry RawFlowCloseBefore) l' rest (marks l' (sequence_marks g.bytes CodeFencedFenceSequence (run_of l) l)) (Retry FlowAfter)) whole
+      (subst (λ inside. Reads g t f k (Retry RawFlowCloseBefore) line rest (marks line inside) (Retry FlowAfter)) inside_is
       (closing-reads g t f of u s sq v rest (front-all is_white l all) (subst (AllOf mark) some.is (front-all mark b (back-in-line is_white l all))) blank ends k p
-      (subst (λ l. IsAt g t f k (Retry RawTextSequenceOpen) p (l ++ rest)) (sym whole) here)))
+      (subst (λ l. IsAt g t f k (Retry RawFlowCloseBefore) p (l ++ rest)) (sym whole) here)))

@@ -5,7 +5,8 @@ use Rattle.markdown_base.specs.declared.event.Name.{Name as EventName}
 use Rattle.markdown_base.specs.declared.state.Name.{Name}
 use Rattle.markdown_base.specs.declared.state.State.{State}
 use Rattle.markdown_base.specs.declared.state.State.TheVariants.{Next, Nok, Ok, Retry}
-use Rattle.markdown_base.specs.declared.state.TheConstants.Name.{BlankLineAfter, HtmlFlowBlankLineBefore, HtmlFlowContinuation, HtmlFlowContinuationAfter, HtmlFlowContinuationStart}
+use Rattle.markdown_base.specs.declared.state.TheConstants.Name.{HtmlFlowBlankLineBefore, HtmlFlowContinuation, HtmlFlowContinuationAfter, HtmlFlowContinuationStart}
+use Rattle.mdconstructs_flow.specs.declared.names.TheConstants.{HtmlFlowBlankLineInside}
 use Rattle.markdown_base.specs.Virtual.{Seat}
 use Rattle.markdown_tokenizer.specs.declared.waiting.Waits.TheVariants.{Byte}
 use Rattle.markdown_tokenizer.specs.Calls.{check_at, with_local}
@@ -41,13 +42,13 @@ module _ (g : Given) (t : Text) (stack : List EventName) (events : List Event) w
   abbrev scans : List Seat → Option ℕ → ℕ → Bool → Local Unit Unit → Name → Look Unit Unit
   scans l previous q mark local name = scan flow g t stack events 2 l previous q mark local name
 
-  looks-over : (l : List Seat) (previous : Option ℕ) (q : ℕ) (mark : Bool) (local : Local Unit Unit) → Says local (scans l previous q mark local BlankLineAfter) (blank_ahead l)
+  looks-over : (l : List Seat) (previous : Option ℕ) (q : ℕ) (mark : Bool) (local : Local Unit Unit) → Says local (scans l previous q mark local HtmlFlowBlankLineInside) (blank_ahead l)
   looks-over [] previous q mark local = record { answer = refl; kept = unchanged-kept local }
   looks-over (s ∷ ss) previous q mark local =
       let c = flow_byte s.byte in
-      let tells : Rows Unit Unit → Look Unit Unit = told flow (λ r. r) g t stack events 1 (scans ss (Some s.byte) (q + 1) false) (s ∷ ss) previous q mark local BlankLineAfter in
+      let tells : Rows Unit Unit → Look Unit Unit = told flow (λ r. r) g t stack events 1 (scans ss (Some s.byte) (q + 1) false) (s ∷ ss) previous q mark local HtmlFlowBlankLineInside in
       let over : Rows Unit Unit = row [] Ok in
-      let on : Rows Unit Unit = row (consume ∷ []) (Next BlankLineAfter) in
+      let on : Rows Unit Unit = row (consume ∷ []) (Next HtmlFlowBlankLineInside) in
       let no_more : Rows Unit Unit = row [] Nok in
       elim (is_line_feed c) as (λ f. Says local (tells (cond f over (cond (is_blank c) on no_more))) (cond f true (cond (is_blank c) (blank_ahead ss) false))) [
         | true ↦ record { answer = refl; kept = unchanged-kept local }

@@ -7,7 +7,8 @@ use Rattle.markdown_base.specs.declared.event.Name.{Name as EventName}
 use Rattle.markdown_base.specs.declared.event.Name.TheVariants.{CodeFenced}
 use Rattle.markdown_base.specs.declared.state.Name.{Name}
 use Rattle.markdown_base.specs.declared.state.State.TheVariants.{Next, Retry, Ok, Nok}
-use Rattle.markdown_base.specs.declared.state.TheConstants.Name.{FlowBeforeRaw, FlowBeforeCodeIndented}
+use Rattle.markdown_base.specs.declared.state.TheConstants.Name.{FlowBeforeRaw}
+use Rattle.mdconstructs_flow.specs.declared.names.TheConstants.{RawFlowLookInfo}
 use Rattle.markdown_base.specs.Virtual.{Seat}
 use Rattle.markdown_base.proofs.Common.{drop-next}
 use Rattle.markdown_tokenizer.specs.Configuration.{Local}
@@ -16,7 +17,7 @@ use Rattle.mdconstructs_tables.specs.Cases.{AreTestsOf}
 use Rattle.mdconstructs_tables.specs.Looks.{Glance, goes_on, is_over, Look, glance, looked_on, one_more as one_call, shows}
 use Rattle.mdconstructs_tables.specs.Rows.{Rows, consume, write, row, when}
 use Rattle.mdconstructs_machines.specs.Breaks.{one_more}
-use Rattle.mdconstructs_flow.specs.CodeFenced.{fence_ends, flow_before_raw_rows, flow_before_code_indented_rows}
+use Rattle.mdconstructs_flow.specs.CodeFenced.{fence_ends, flow_before_raw_rows, raw_flow_look_info_rows}
 use Rattle.mdconstructs_flow.specs.FlowBytes.{flow_byte}
 use Rattle.mdconstructs_flow.specs.FlowTable.{flow, unchanged}
 use Rattle.mdconstructs_flow.specs.FlowWrites.{kind_becomes, size_grows, at_mark, has_three, is_tilde_fence}
@@ -38,7 +39,7 @@ are-marks = (fence-is, tt)
 abbrev info_tests : List (ℕ → Bool)
 info_tests = (λ b. b == 10) ∷ (λ b. b == 96) ∷ []
 
-are-info : AreTestsOf flow_byte (flow_before_code_indented_rows {R = Unit {0}} {D = Unit {0}}).cases info_tests
+are-info : AreTestsOf flow_byte (raw_flow_look_info_rows {R = Unit {0}} {D = Unit {0}}).cases info_tests
 are-info = (feed-is, (tick-is, tt))
 
 -- a mark of fences
@@ -53,7 +54,7 @@ module _ (g : Given) (t : Text) (stack : List EventName) (events : List Event) w
   has-marks : HasRows g t stack events FlowBeforeRaw flow_before_raw_rows
   has-marks = record { at_end = λ bound previous q mark local. refl; at_byte = λ bound s ss previous q mark local. refl }
 
-  has-info : HasRows g t stack events FlowBeforeCodeIndented flow_before_code_indented_rows
+  has-info : HasRows g t stack events RawFlowLookInfo raw_flow_look_info_rows
   has-info = record { at_end = λ bound previous q mark local. refl; at_byte = λ bound s ss previous q mark local. refl }
 
   abbrev no : Rows Unit Unit
@@ -81,19 +82,19 @@ module _ (g : Given) (t : Text) (stack : List EventName) (events : List Event) w
     module _ (more : List Seat) (over : LineEnds more) where
       -- the info string
       info-found : (bound : ℕ) (line : List Seat) → IsInLine line → (previous : Option ℕ) (q : ℕ) (mark : Bool) (local : Local Unit Unit) → LeavesAll before local → IsNoted local
-          → Found before (kind_by (no_ticks (bytes_of line))) word (look_by g t stack events bound (line ++ more) previous q mark local FlowBeforeCodeIndented)
+          → Found before (kind_by (no_ticks (bytes_of line))) word (look_by g t stack events bound (line ++ more) previous q mark local RawFlowLookInfo)
       info-found bound [] in_line previous q mark local h noted =
-          at-line-end g t stack events (Found before (fence f) word) FlowBeforeCodeIndented flow_before_code_indented_rows ends has-info refl refl bound more over previous q mark local
+          at-line-end g t stack events (Found before (fence f) word) RawFlowLookInfo raw_flow_look_info_rows ends has-info refl refl bound more over previous q mark local
           (kept before local _ h refl refl refl refl refl, (refl, refl, noted.0, noted.1, noted.2))
       info-found bound (s ∷ line) in_line previous q mark local h noted =
           let b = s.byte in
           let bs = bytes_of line in
           let ss = line ++ more in
-          let name = FlowBeforeCodeIndented in
+          let name = RawFlowLookInfo in
           let P = Found before (kind_by (no_ticks (b ∷ bs))) word in
           let at = λ (rows : Rows Unit Unit). P (come g t stack events bound (s ∷ ss) previous q mark local name rows) in
           let go : Rows Unit Unit = row (consume ∷ []) (Next name) in
-          at-line-byte g t stack events P name flow_before_code_indented_rows info_tests has-info are-info bound s ss previous q mark local
+          at-line-byte g t stack events P name raw_flow_look_info_rows info_tests has-info are-info bound s ss previous q mark local
           (by-false at (b == 10) ends _ in_line.0
           (elim (b == 96) as (λ v. (Found before (kind_by (not v && no_ticks bs)) word (come g t stack events bound (s ∷ ss) previous q mark local name (cond v no go)))) [
             | true ↦ (kept before local _ h refl refl refl refl refl, refl)
@@ -109,7 +110,7 @@ module _ (g : Given) (t : Text) (stack : List EventName) (events : List Event) w
           let l = line ++ more in
           let name = FlowBeforeRaw in
           let ticks = no_ticks (bytes_of line) in
-          let info : Rows Unit Unit = row [] (Retry FlowBeforeCodeIndented) in
+          let info : Rows Unit Unit = row [] (Retry RawFlowLookInfo) in
           let by = λ (P : Look Unit Unit → Type 0). by-known g t stack events 1 l previous q mark local name P in
           let comes = come g t stack events 1 l previous q mark local name in
           let P = Found before (kind_by (nat_le 3 f.size && ((f.byte == 126) || ticks))) word in
@@ -118,7 +119,7 @@ module _ (g : Given) (t : Text) (stack : List EventName) (events : List Event) w
             | true ↦ by (Found before (kind_by ((f.byte == 126) || ticks)) word) is_tilde_fence ends info (f.byte == 126) (ap (λ n. n == 126) noted.0)
                 (elim (f.byte == 126) as (λ v. Found before (kind_by (v || ticks)) word (comes (cond v ends info))) [
                   | true ↦ (kept before local _ h refl refl refl refl refl, (refl, refl, noted.0, noted.1, noted.2))
-                  | false ↦ once-more (kind_by ticks) (rest_of g t stack events l q) l mark (glance flow g t stack events 1 previous l q mark (unchanged local) FlowBeforeCodeIndented)
+                  | false ↦ once-more (kind_by ticks) (rest_of g t stack events l q) l mark (glance flow g t stack events 1 previous l q mark (unchanged local) RawFlowLookInfo)
                       (info-found 0 line in_line previous q mark (unchanged local) (kept before local (unchanged local) h refl refl refl refl refl) noted)
                 ])
             | false ↦ (kept before local _ h refl refl refl refl refl, refl)

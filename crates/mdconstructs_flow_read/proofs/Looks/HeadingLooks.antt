@@ -6,7 +6,7 @@ use Rattle.markdown_base.specs.declared.event.Name.{Name as EventName}
 use Rattle.markdown_base.specs.declared.event.Name.TheVariants.{HeadingAtx}
 use Rattle.markdown_base.specs.declared.state.Name.{Name}
 use Rattle.markdown_base.specs.declared.state.State.TheVariants.{Next, Ok}
-use Rattle.markdown_base.specs.declared.state.TheConstants.Name.{StringBeforeData, StringBefore, TextBefore, TextBeforeData}
+use Rattle.mdconstructs_flow.specs.declared.names.TheConstants.{HeadingAtxLookText, HeadingAtxLookBlank, HeadingAtxLookSigns, HeadingAtxLookAfter}
 use Rattle.markdown_base.specs.Virtual.{Seat}
 use Rattle.markdown_tokenizer.specs.Configuration.{Local}
 use Rattle.markdown_tokenizer.specs.Text.{Given, Text}
@@ -15,7 +15,7 @@ use Rattle.mdconstructs_tables.specs.Rows.{Rows, consume, write, row}
 use Rattle.mdconstructs_machines.specs.Breaks.{is_white, one_more}
 use Rattle.mdconstructs_flow.specs.FlowTable.{unchanged}
 use Rattle.mdconstructs_flow.specs.FlowWrites.{count_grows, text_grows, signs_end, signs_were_text}
-use Rattle.mdconstructs_flow.specs.HeadingAtx.{string_before_data_rows, string_before_rows, text_before_rows, text_before_data_rows}
+use Rattle.mdconstructs_flow.specs.HeadingAtx.{heading_atx_look_text_rows, heading_atx_look_blank_rows, heading_atx_look_signs_rows, heading_atx_look_after_rows}
 use Rattle.mdconstructs_flow_read.specs.LeafBlocks.{bytes_of}
 use Rattle.mdconstructs_flow_read.specs.LooksFind.{IsInLine, LeavesAll, LineEnds}
 use Rattle.mdconstructs_flow_read.proofs.Looks.ByteClasses.{feed-is, sign-is, blank-is}
@@ -41,33 +41,33 @@ pub record IsAt (closing word : Bool) (q : List ℕ) (l : Local Unit Unit) : Typ
 
 -- the state there
 abbrev pub state_of : (closing word : Bool) → Name
-state_of false true = StringBeforeData
-state_of false false = StringBefore
-state_of true true = TextBefore
-state_of true false = TextBeforeData
+state_of false true = HeadingAtxLookText
+state_of false false = HeadingAtxLookBlank
+state_of true true = HeadingAtxLookSigns
+state_of true false = HeadingAtxLookAfter
 
 -- one byte more is counted
 pub count-on : (q : List ℕ) (b n more : ℕ) → n ≡ length q → length q + suc more < 2 ^ 64 - 1 → one_more n ≡ length (b ∷ q)
 count-on q b n more e room = ap one_more e ∙ grows (length q) more room
 
 module _ (g : Given) (t : Text) (stack : List EventName) (events : List Event) where
-  has-data : HasRows g t stack events StringBeforeData string_before_data_rows
+  has-data : HasRows g t stack events HeadingAtxLookText heading_atx_look_text_rows
   has-data = record { at_end = λ bound previous q mark local. refl; at_byte = λ bound s ss previous q mark local. refl }
 
-  has-white : HasRows g t stack events StringBefore string_before_rows
+  has-white : HasRows g t stack events HeadingAtxLookBlank heading_atx_look_blank_rows
   has-white = record { at_end = λ bound previous q mark local. refl; at_byte = λ bound s ss previous q mark local. refl }
 
-  has-signs : HasRows g t stack events TextBefore text_before_rows
+  has-signs : HasRows g t stack events HeadingAtxLookSigns heading_atx_look_signs_rows
   has-signs = record { at_end = λ bound previous q mark local. refl; at_byte = λ bound s ss previous q mark local. refl }
 
-  has-behind : HasRows g t stack events TextBeforeData text_before_data_rows
+  has-behind : HasRows g t stack events HeadingAtxLookAfter heading_atx_look_after_rows
   has-behind = record { at_end = λ bound previous q mark local. refl; at_byte = λ bound s ss previous q mark local. refl }
 
   abbrev ends : Rows Unit Unit
   ends = row [] Ok
 
   abbrev text_on : Rows Unit Unit
-  text_on = row (write text_grows ∷ consume ∷ []) (Next StringBeforeData)
+  text_on = row (write text_grows ∷ consume ∷ []) (Next HeadingAtxLookText)
 
   abbrev counts_on : Name → Rows Unit Unit
   counts_on name = row (write count_grows ∷ consume ∷ []) (Next name)
@@ -80,20 +80,20 @@ module _ (g : Given) (t : Text) (stack : List EventName) (events : List Event) w
 
     text-ends : (closing word : Bool) (back : List ℕ) → Goes [] closing word back
     text-ends false true back previous q mark local h at room =
-        subst (Heads before (length (text_back back))) (sym (look-is g t stack events more previous q mark local StringBeforeData))
-        (at-line-end g t stack events (Heads before (length (text_back back))) StringBeforeData string_before_data_rows ends has-data refl refl 1 more over previous q mark local
+        subst (Heads before (length (text_back back))) (sym (look-is g t stack events more previous q mark local HeadingAtxLookText))
+        (at-line-end g t stack events (Heads before (length (text_back back))) HeadingAtxLookText heading_atx_look_text_rows ends has-data refl refl 1 more over previous q mark local
         (kept before local (unchanged local) h refl refl refl refl refl, (refl, at.named, at.counted.size_is)))
     text-ends false false back previous q mark local h at room =
-        subst (Heads before (length (text_back back))) (sym (look-is g t stack events more previous q mark local StringBefore))
-        (at-line-end g t stack events (Heads before (length (text_back back))) StringBefore string_before_rows ends has-white refl refl 1 more over previous q mark local
+        subst (Heads before (length (text_back back))) (sym (look-is g t stack events more previous q mark local HeadingAtxLookBlank))
+        (at-line-end g t stack events (Heads before (length (text_back back))) HeadingAtxLookBlank heading_atx_look_blank_rows ends has-white refl refl 1 more over previous q mark local
         (kept before local (unchanged local) h refl refl refl refl refl, (refl, at.named, at.counted.size_is)))
     text-ends true true back previous q mark local h at room =
-        subst (Heads before (length (text_back back))) (sym (look-is g t stack events more previous q mark local TextBefore))
-        (at-line-end g t stack events (Heads before (length (text_back back))) TextBefore text_before_rows ends has-signs refl refl 1 more over previous q mark local
+        subst (Heads before (length (text_back back))) (sym (look-is g t stack events more previous q mark local HeadingAtxLookSigns))
+        (at-line-end g t stack events (Heads before (length (text_back back))) HeadingAtxLookSigns heading_atx_look_signs_rows ends has-signs refl refl 1 more over previous q mark local
         (kept before local (unchanged local) h refl refl refl refl refl, (refl, at.named, at.counted.size_is)))
     text-ends true false back previous q mark local h at room =
-        subst (Heads before (length (text_back back))) (sym (look-is g t stack events more previous q mark local TextBeforeData))
-        (at-line-end g t stack events (Heads before (length (text_back back))) TextBeforeData text_before_data_rows ends has-behind refl refl 1 more over previous q mark local
+        subst (Heads before (length (text_back back))) (sym (look-is g t stack events more previous q mark local HeadingAtxLookAfter))
+        (at-line-end g t stack events (Heads before (length (text_back back))) HeadingAtxLookAfter heading_atx_look_after_rows ends has-behind refl refl 1 more over previous q mark local
         (kept before local (unchanged local) h refl refl refl refl refl, (refl, at.named, at.counted.size_is)))
 
     -- a byte of the line, if the look goes on behind it in each case
@@ -127,12 +127,12 @@ module _ (g : Given) (t : Text) (stack : List EventName) (events : List Event) w
       text-at : Goes (s ∷ line) false true back
       text-at previous q mark local h at room =
           let b = s.byte in
-          let name = StringBeforeData in
+          let name = HeadingAtxLookText in
           let l = local.tokenize_state in
           let comes = Comes previous q mark local name in
-          at-line-byte g t stack events Behind name string_before_data_rows two_tests has-data (feed-is, (blank-is, tt)) 1 s (line ++ more) previous q mark local
+          at-line-byte g t stack events Behind name heading_atx_look_text_rows two_tests has-data (feed-is, (blank-is, tt)) 1 s (line ++ more) previous q mark local
           (by-false comes (b == 10) ends _ in_line
-          (elim (is_white b) as (λ v. is_white b ≡ v → comes (cond v (counts_on StringBefore) text_on)) [
+          (elim (is_white b) as (λ v. is_white b ≡ v → comes (cond v (counts_on HeadingAtxLookBlank) text_on)) [
             | true ↦ λ w. count-comes false true previous q mark local name h at room false false (white-read false true b back l.size_b l.size_c l.size_c w at.counted (λ none. absurd (cc)))
             | false ↦ λ w. word-comes false true previous q mark local name h at room
                 (elim (b == 35) as (λ v. (b == 35) ≡ v → Counted false true (b ∷ back) (suc (length back)) l.size_c) [
@@ -145,14 +145,14 @@ module _ (g : Given) (t : Text) (stack : List EventName) (events : List Event) w
       white-at : Goes (s ∷ line) false false back
       white-at previous q mark local h at room =
           let b = s.byte in
-          let name = StringBefore in
+          let name = HeadingAtxLookBlank in
           let l = local.tokenize_state in
           let comes = Comes previous q mark local name in
-          at-line-byte g t stack events Behind name string_before_rows three_tests has-white (feed-is, (blank-is, (sign-is, tt))) 1 s (line ++ more) previous q mark local
+          at-line-byte g t stack events Behind name heading_atx_look_blank_rows three_tests has-white (feed-is, (blank-is, (sign-is, tt))) 1 s (line ++ more) previous q mark local
           (by-false comes (b == 10) ends _ in_line
-          (elim (is_white b) as (λ v. is_white b ≡ v → comes (cond v (counts_on StringBefore) (cond (b == 35) (counts_on TextBefore) text_on))) [
+          (elim (is_white b) as (λ v. is_white b ≡ v → comes (cond v (counts_on HeadingAtxLookBlank) (cond (b == 35) (counts_on HeadingAtxLookSigns) text_on))) [
             | true ↦ λ w. count-comes false false previous q mark local name h at room false false (white-read false false b back l.size_b l.size_c l.size_c w at.counted (λ none. absurd (cc)))
-            | false ↦ λ w. elim (b == 35) as (λ v. (b == 35) ≡ v → comes (cond v (counts_on TextBefore) text_on)) [
+            | false ↦ λ w. elim (b == 35) as (λ v. (b == 35) ≡ v → comes (cond v (counts_on HeadingAtxLookSigns) text_on)) [
               | true ↦ λ e. count-comes false false previous q mark local name h at room true true
                   (subst (λ c. Counted true true (c ∷ back) l.size_b l.size_c) (sym (eqb-true b 35 e)) (sign-behind-white false back l.size_b l.size_c l.size_c l.size_b at.counted (text-before-white false back l.size_b l.size_c at.counted)))
               | false ↦ λ e. word-comes false false previous q mark local name h at room (other-read b back l.size_c w e)
@@ -163,21 +163,21 @@ module _ (g : Given) (t : Text) (stack : List EventName) (events : List Event) w
       signs-at : Goes (s ∷ line) true true back
       signs-at previous q mark local h at room =
           let b = s.byte in
-          let name = TextBefore in
+          let name = HeadingAtxLookSigns in
           let l = local.tokenize_state in
           let comes = Comes previous q mark local name in
           let k = shows stack events (s ∷ (line ++ more)) q mark (unchanged local) in
-          let signs_over : Rows Unit Unit = row (write signs_end ∷ consume ∷ []) (Next TextBeforeData) in
-          at-line-byte g t stack events Behind name text_before_rows three_tests has-signs (feed-is, (blank-is, (sign-is, tt))) 1 s (line ++ more) previous q mark local
+          let signs_over : Rows Unit Unit = row (write signs_end ∷ consume ∷ []) (Next HeadingAtxLookAfter) in
+          at-line-byte g t stack events Behind name heading_atx_look_signs_rows three_tests has-signs (feed-is, (blank-is, (sign-is, tt))) 1 s (line ++ more) previous q mark local
           (by-false comes (b == 10) ends _ in_line
-          (elim (is_white b) as (λ v. is_white b ≡ v → comes (cond v signs_over (cond (b == 35) (counts_on TextBefore) text_on))) [
+          (elim (is_white b) as (λ v. is_white b ≡ v → comes (cond v signs_over (cond (b == 35) (counts_on HeadingAtxLookSigns) text_on))) [
             | true ↦ λ w. on true false (Some b) (q + 1) false (signs_end k) (kept before local (signs_end k) h refl refl refl refl refl)
                 (record {
                   named = at.named;
                   count_is = count-on back b l.space_or_tab_size (length line) at.count_is room;
                   counted = white-read true true b back l.size_b l.size_c l.space_or_tab_size w at.counted (λ yes. at.count_is ∙ sym (ap length (at.counted.is_word refl)));
                 }) (room-on (length back) (length line) room)
-            | false ↦ λ w. elim (b == 35) as (λ v. (b == 35) ≡ v → comes (cond v (counts_on TextBefore) text_on)) [
+            | false ↦ λ w. elim (b == 35) as (λ v. (b == 35) ≡ v → comes (cond v (counts_on HeadingAtxLookSigns) text_on)) [
               | true ↦ λ e. count-comes true true previous q mark local name h at room true true
                   (subst (λ c. Counted true true (c ∷ back) l.size_b l.size_c) (sym (eqb-true b 35 e)) (sign-in-closing back l.size_b l.size_c l.size_c at.counted))
               | false ↦ λ e. word-comes true true previous q mark local name h at room (other-read b back l.size_c w e)
@@ -188,15 +188,15 @@ module _ (g : Given) (t : Text) (stack : List EventName) (events : List Event) w
       behind-at : Goes (s ∷ line) true false back
       behind-at previous q mark local h at room =
           let b = s.byte in
-          let name = TextBeforeData in
+          let name = HeadingAtxLookAfter in
           let l = local.tokenize_state in
           let comes = Comes previous q mark local name in
           let k = shows stack events (s ∷ (line ++ more)) q mark (unchanged local) in
-          let signs_again : Rows Unit Unit = row (write signs_were_text ∷ consume ∷ []) (Next TextBefore) in
+          let signs_again : Rows Unit Unit = row (write signs_were_text ∷ consume ∷ []) (Next HeadingAtxLookSigns) in
           let saved = at.counted.saved_is refl refl in
-          at-line-byte g t stack events Behind name text_before_data_rows three_tests has-behind (feed-is, (blank-is, (sign-is, tt))) 1 s (line ++ more) previous q mark local
+          at-line-byte g t stack events Behind name heading_atx_look_after_rows three_tests has-behind (feed-is, (blank-is, (sign-is, tt))) 1 s (line ++ more) previous q mark local
           (by-false comes (b == 10) ends _ in_line
-          (elim (is_white b) as (λ v. is_white b ≡ v → comes (cond v (counts_on TextBeforeData) (cond (b == 35) signs_again text_on))) [
+          (elim (is_white b) as (λ v. is_white b ≡ v → comes (cond v (counts_on HeadingAtxLookAfter) (cond (b == 35) signs_again text_on))) [
             | true ↦ λ w. count-comes true false previous q mark local name h at room true false (white-read true false b back l.size_b l.size_c l.size_c w at.counted (λ yes. saved))
             | false ↦ λ w. elim (b == 35) as (λ v. (b == 35) ≡ v → comes (cond v signs_again text_on)) [
               | true ↦ λ e. on true true (Some b) (q + 1) false (signs_were_text k) (kept before local (signs_were_text k) h refl refl refl refl refl)

@@ -6,7 +6,8 @@ use Rattle.markdown_base.specs.declared.event.Event.{Event}
 use Rattle.markdown_base.specs.declared.event.Name.{Name as EventName}
 use Rattle.markdown_base.specs.declared.event.Name.TheVariants.{HeadingAtx}
 use Rattle.markdown_base.specs.declared.state.State.TheVariants.{Next, Ok, Nok}
-use Rattle.markdown_base.specs.declared.state.TheConstants.Name.{FlowBeforeHeadingAtx, StringStart, StringBeforeData, TextBefore}
+use Rattle.markdown_base.specs.declared.state.TheConstants.Name.{FlowBeforeHeadingAtx}
+use Rattle.mdconstructs_flow.specs.declared.names.TheConstants.{HeadingAtxLookStart, HeadingAtxLookText, HeadingAtxLookSigns}
 use Rattle.markdown_base.specs.Virtual.{Seat}
 use Rattle.markdown_tokenizer.specs.Configuration.{Local}
 use Rattle.markdown_tokenizer.specs.Text.{Given, Text}
@@ -15,7 +16,7 @@ use Rattle.mdconstructs_tables.specs.Rows.{Rows, consume, write, row, when}
 use Rattle.mdconstructs_machines.specs.Breaks.{is_white, one_more}
 use Rattle.mdconstructs_flow.specs.FlowTable.{unchanged}
 use Rattle.mdconstructs_flow.specs.FlowWrites.{count_becomes, count_grows, has_room, kind_becomes, size_becomes, size_grows, text_grows}
-use Rattle.mdconstructs_flow.specs.HeadingAtx.{flow_before_heading_atx_rows, string_start_rows}
+use Rattle.mdconstructs_flow.specs.HeadingAtx.{flow_before_heading_atx_rows, heading_atx_look_start_rows}
 use Rattle.mdconstructs_flow_read.specs.LeafBlocks.{bytes_of}
 use Rattle.mdconstructs_flow_read.specs.LineKinds.{heading_text, is_blank_line, run, unindented}
 use Rattle.mdconstructs_flow_read.specs.SeenKinds.{SeenKind, heading, text}
@@ -43,7 +44,7 @@ heads-many : (n b : ℕ) (bs : List ℕ) → 6 ≤ n → (b == 35) ≡ true → 
 heads-many n b bs h e = let many : 6 < suc n + run 35 bs = omega arith in heading-sign n b bs e ∙ ap (λ v. v && is_blank_line (take 1 (drop (run 35 bs) bs))) (lt-leb (suc n + run 35 bs) 6 many)
 
 module _ (g : Given) (t : Text) (stack : List EventName) (events : List Event) where
-  has-start : HasRows g t stack events StringStart string_start_rows
+  has-start : HasRows g t stack events HeadingAtxLookStart heading_atx_look_start_rows
   has-start = record { at_end = λ bound previous q mark local. refl; at_byte = λ bound s ss previous q mark local. refl }
 
   has-signs : HasRows g t stack events FlowBeforeHeadingAtx flow_before_heading_atx_rows
@@ -53,41 +54,41 @@ module _ (g : Given) (t : Text) (stack : List EventName) (events : List Event) w
     -- behind the signs, before the text
     start-found : (line : List Seat) → IsInLine line → (previous : Option ℕ) (q : ℕ) (mark : Bool) (local : Local Unit Unit) → LeavesAll before local → local.tokenize_state.token_1 ≡ HeadingAtx
         → local.tokenize_state.space_or_tab_size ≡ 0 → local.tokenize_state.size_b ≡ 0 → length line < 2 ^ 64 - 1
-        → Heads before (length (heading_text (unindented (bytes_of line)))) (look g t stack events (line ++ more) previous q mark local StringStart)
+        → Heads before (length (heading_text (unindented (bytes_of line)))) (look g t stack events (line ++ more) previous q mark local HeadingAtxLookStart)
     start-found [] in_line previous q mark local h named count size room =
-        subst (Heads before 0) (sym (look-is g t stack events more previous q mark local StringStart))
-        (at-line-end g t stack events (Heads before 0) StringStart string_start_rows (row [] Ok) has-start refl refl 1 more over previous q mark local (kept before local (unchanged local) h refl refl refl refl refl, (refl, named, size)))
+        subst (Heads before 0) (sym (look-is g t stack events more previous q mark local HeadingAtxLookStart))
+        (at-line-end g t stack events (Heads before 0) HeadingAtxLookStart heading_atx_look_start_rows (row [] Ok) has-start refl refl 1 more over previous q mark local (kept before local (unchanged local) h refl refl refl refl refl, (refl, named, size)))
     start-found (s ∷ line) in_line previous q mark local h named count size room =
         let b = s.byte in
         let bs = bytes_of line in
         let ss = line ++ more in
-        let name = StringStart in
+        let name = HeadingAtxLookStart in
         let l = local.tokenize_state in
         let P = Heads before (length (heading_text (unindented (b ∷ bs)))) in
         let comes = λ (rows : Rows Unit Unit). P (come g t stack events 1 (s ∷ ss) previous q mark local name rows) in
         let k = shows stack events (s ∷ ss) q mark (unchanged local) in
-        let go : Rows Unit Unit = row (consume ∷ []) (Next StringStart) in
-        let counts_on : Rows Unit Unit = row (write count_grows ∷ consume ∷ []) (Next TextBefore) in
-        let text_on : Rows Unit Unit = row (write text_grows ∷ consume ∷ []) (Next StringBeforeData) in
+        let go : Rows Unit Unit = row (consume ∷ []) (Next HeadingAtxLookStart) in
+        let counts_on : Rows Unit Unit = row (write count_grows ∷ consume ∷ []) (Next HeadingAtxLookSigns) in
+        let text_on : Rows Unit Unit = row (write text_grows ∷ consume ∷ []) (Next HeadingAtxLookText) in
         let room_on : 1 + length line < 2 ^ 64 - 1 = omega arith in
         let less : length line < 2 ^ 64 - 1 = omega arith in
         let room_all : 0 + suc (length line) < 2 ^ 64 - 1 = omega arith in
         let counted = count-on [] b l.space_or_tab_size (length line) count room_all in
         let on = look g t stack events ss (Some b) (q + 1) false in
-        at-line-byte g t stack events P name string_start_rows three_tests has-start (feed-is, (blank-is, (sign-is, tt))) 1 s ss previous q mark local
+        at-line-byte g t stack events P name heading_atx_look_start_rows three_tests has-start (feed-is, (blank-is, (sign-is, tt))) 1 s ss previous q mark local
         (by-false comes (b == 10) (row [] Ok) _ in_line.0
         (elim (is_white b) as (λ v. is_white b ≡ v → comes (cond v go (cond (b == 35) counts_on text_on))) [
           | true ↦ λ w. subst (λ r. Heads before (length (heading_text r)) (on (unchanged local) name)) (sym (goes is_white b bs w))
               (start-found line in_line.1 (Some b) (q + 1) false (unchanged local) (kept before local (unchanged local) h refl refl refl refl refl) named count size less)
           | false ↦ λ w. elim (b == 35) as (λ v. (b == 35) ≡ v → comes (cond v counts_on text_on)) [
-            | true ↦ λ e. subst (λ n. Heads before n (on (count_grows k) TextBefore)) (first-word b bs w)
+            | true ↦ λ e. subst (λ n. Heads before n (on (count_grows k) HeadingAtxLookSigns)) (first-word b bs w)
                 (text-found g t stack events before more over line in_line.1 true true (b ∷ []) (Some b) (q + 1) false (count_grows k) (kept before local (count_grows k) h refl refl refl refl refl)
                 (record {
                   named = named;
                   count_is = counted;
                   counted = subst (λ c. Counted true true (c ∷ []) l.size_b l.size_c) (sym (eqb-true b 35 e)) (sign-behind-white true [] 0 0 l.size_c l.size_b (nothing-counted 0 refl) size);
                 }) room_on)
-            | false ↦ λ e. subst (λ n. Heads before n (on (text_grows k) StringBeforeData)) (first-word b bs w)
+            | false ↦ λ e. subst (λ n. Heads before n (on (text_grows k) HeadingAtxLookText)) (first-word b bs w)
                 (text-found g t stack events before more over line in_line.1 false true (b ∷ []) (Some b) (q + 1) false (text_grows k) (kept before local (text_grows k) h refl refl refl refl refl)
                 (record { named = named; count_is = counted; counted = subst (λ n. Counted false true (b ∷ []) n l.size_c) (sym counted) (other-read b [] l.size_c w e) }) room_on)
           ] refl
@@ -125,7 +126,7 @@ module _ (g : Given) (t : Text) (stack : List EventName) (events : List Event) w
           let less : length line < 2 ^ 64 - 1 = omega arith in
           let on = look g t stack events ss (Some b) (q + 1) false in
           let ends : Rows Unit Unit = row (write (kind_becomes HeadingAtx) ∷ write (size_becomes 0) ∷ []) Ok in
-          let starts : Rows Unit Unit = row (write (kind_becomes HeadingAtx) ∷ write (size_becomes 0) ∷ write (count_becomes 0) ∷ consume ∷ []) (Next StringStart) in
+          let starts : Rows Unit Unit = row (write (kind_becomes HeadingAtx) ∷ write (size_becomes 0) ∷ write (count_becomes 0) ∷ consume ∷ []) (Next HeadingAtxLookStart) in
           let grow : Rows Unit Unit = row (write size_grows ∷ consume ∷ []) (Next name) in
           let none : Rows Unit Unit = row [] Nok in
           let named = shows stack events (s ∷ ss) q mark (kind_becomes HeadingAtx k) in
@@ -139,8 +140,8 @@ module _ (g : Given) (t : Text) (stack : List EventName) (events : List Event) w
                 let no_sign : (b == 35) ≡ false = apart 35 b refl w in
                 let same : length (text_behind_signs word) ≡ length (heading_text (unindented bs)) =
                 is ∙ ap (λ m. length (heading_text (unindented (drop m (b ∷ bs))))) (run-ends 35 b bs no_sign) ∙ ap (λ r. length (heading_text r)) (goes is_white b bs w) in
-                subst (λ v. Found before (kind_by v) word (on begun StringStart)) (sym (heads-white n b bs few w no_sign))
-                (subst (λ m. Heads before m (on begun StringStart)) (sym same)
+                subst (λ v. Found before (kind_by v) word (on begun HeadingAtxLookStart)) (sym (heads-white n b bs few w no_sign))
+                (subst (λ m. Heads before m (on begun HeadingAtxLookStart)) (sym same)
                 (start-found line in_line.1 (Some b) (q + 1) false begun (kept before local begun h refl refl refl refl refl) refl refl refl less))
             | false ↦ λ w. elim (b == 35) as (λ v. (b == 35) ≡ v → P (comes (cond v (when has_room grow none) none))) [
               | true ↦ λ e. by-share g t stack events 1 (s ∷ ss) previous q mark local name P has_room grow none

@@ -6,7 +6,8 @@ use Rattle.markdown_base.specs.declared.event.Event.{Event}
 use Rattle.markdown_base.specs.declared.event.Name.{Name as EventName}
 use Rattle.markdown_base.specs.declared.event.Name.TheVariants.{HeadingSetextUnderline}
 use Rattle.markdown_base.specs.declared.state.State.TheVariants.{Next, Ok, Nok}
-use Rattle.markdown_base.specs.declared.state.TheConstants.Name.{FlowBeforeThematicBreak, FlowBeforeHeadingSetext, FlowBeforeGfmTable}
+use Rattle.markdown_base.specs.declared.state.TheConstants.Name.{FlowBeforeThematicBreak, FlowBeforeHeadingSetext}
+use Rattle.mdconstructs_flow.specs.declared.names.TheConstants.{HeadingSetextLookAfter}
 use Rattle.markdown_base.specs.Virtual.{Seat}
 use Rattle.markdown_base.proofs.Common.{drop-next}
 use Rattle.markdown_tokenizer.specs.Configuration.{Local}
@@ -18,7 +19,7 @@ use Rattle.mdconstructs_machines.specs.Breaks.{is_white, one_more}
 use Rattle.mdconstructs_flow.specs.FlowTable.{unchanged}
 use Rattle.mdconstructs_flow.specs.FlowBytes.{flow_byte}
 use Rattle.mdconstructs_flow.specs.FlowWrites.{kind_becomes, size_grows, at_mark, breaks_are_on}
-use Rattle.mdconstructs_flow.specs.HeadingSetext.{flow_before_heading_setext_rows, flow_before_gfm_table_rows, further_dash}
+use Rattle.mdconstructs_flow.specs.HeadingSetext.{flow_before_heading_setext_rows, heading_setext_look_after_rows, further_dash}
 use Rattle.mdconstructs_flow_read.specs.LeafBlocks.{bytes_of}
 use Rattle.mdconstructs_flow_read.specs.LineKinds.{is_blank_line, is_thematic_break}
 use Rattle.mdconstructs_flow_read.specs.SeenKinds.{SeenKind, thematic_break, text, underline}
@@ -38,7 +39,7 @@ are-setext = (feed-is, (underline-is, (blank-is, tt)))
 abbrev behind_tests : List (ℕ → Bool)
 behind_tests = (λ b. b == 10) ∷ (λ b. b == 45) ∷ is_white ∷ []
 
-are-behind : AreTestsOf flow_byte (flow_before_gfm_table_rows {R = Unit {0}} {D = Unit {0}}).cases behind_tests
+are-behind : AreTestsOf flow_byte (heading_setext_look_after_rows {R = Unit {0}} {D = Unit {0}}).cases behind_tests
 are-behind = (feed-is, (dash-is, (blank-is, tt)))
 
 -- a mark of underlines
@@ -85,7 +86,7 @@ module _ (g : Given) (t : Text) (stack : List EventName) (events : List Event) w
   has-setext : HasRows g t stack events FlowBeforeHeadingSetext flow_before_heading_setext_rows
   has-setext = record { at_end = λ bound previous q mark local. refl; at_byte = λ bound s ss previous q mark local. refl }
 
-  has-behind : HasRows g t stack events FlowBeforeGfmTable flow_before_gfm_table_rows
+  has-behind : HasRows g t stack events HeadingSetextLookAfter heading_setext_look_after_rows
   has-behind = record { at_end = λ bound previous q mark local. refl; at_byte = λ bound s ss previous q mark local. refl }
 
   abbrev no : Rows Unit Unit
@@ -114,18 +115,18 @@ module _ (g : Given) (t : Text) (stack : List EventName) (events : List Event) w
     -- behind the marks and white space
     behind-found : (line : List Seat) → IsInLine line → (previous : Option ℕ) (q : ℕ) (mark : Bool) (local : Local Unit Unit) → drop q t.seats ≡ line ++ more → LeavesAll before local → local.tokenize_state.marker ≡ m
         → local.tokenize_state.size_b + length line < 2 ^ 64 - 1 → IsWhole word m local.tokenize_state.size_b (bytes_of line)
-        → Found before (kind_by m word (is_blank_line (bytes_of line))) word (look g t stack events (line ++ more) previous q mark local FlowBeforeGfmTable)
+        → Found before (kind_by m word (is_blank_line (bytes_of line))) word (look g t stack events (line ++ more) previous q mark local HeadingSetextLookAfter)
     behind-found [] in_line previous q mark local here h marks room whole =
         let P = Found before underline word in
-        subst P (sym (look-is g t stack events more previous q mark local FlowBeforeGfmTable))
-        (at-line-end g t stack events P FlowBeforeGfmTable flow_before_gfm_table_rows ends has-behind refl refl 1 more over previous q mark local
+        subst P (sym (look-is g t stack events more previous q mark local HeadingSetextLookAfter))
+        (at-line-end g t stack events P HeadingSetextLookAfter heading_setext_look_after_rows ends has-behind refl refl 1 more over previous q mark local
         (kept before local _ h refl refl refl refl refl, (refl, refl, ends-found local h marks whole)))
     behind-found (s ∷ line) in_line previous q mark local here h marks room whole =
         let b = s.byte in
         let bs = bytes_of line in
         let size = local.tokenize_state.size_b in
         let ss = line ++ more in
-        let name = FlowBeforeGfmTable in
+        let name = HeadingSetextLookAfter in
         let P = Found before (kind_by m word (is_blank_line (b ∷ bs))) word in
         let on = look g t stack events ss (Some b) (q + 1) false in
         let at = λ (rows : Rows Unit Unit). P (come g t stack events 1 (s ∷ ss) previous q mark local name rows) in
@@ -136,7 +137,7 @@ module _ (g : Given) (t : Text) (stack : List EventName) (events : List Event) w
         let marked = mark-is g t stack events s ss q mark local m here marks in
         let breaks = g.options.constructs.thematic_break in
         let fails : is_white b ≡ false → is_thematic_break word ≡ false → at no = λ w none. nothing local h (is_blank_line (b ∷ bs)) (word-one b bs w) none (come g t stack events 1 (s ∷ ss) previous q mark local name no) (kept before local _ h refl refl refl refl refl) refl in
-        at-line-byte g t stack events P name flow_before_gfm_table_rows behind_tests has-behind are-behind 1 s ss previous q mark local
+        at-line-byte g t stack events P name heading_setext_look_after_rows behind_tests has-behind are-behind 1 s ss previous q mark local
         (by-false at (b == 10) ends _ in_line.0
         (elim (b == 45) as (λ v. (b == 45) ≡ v → at (cond v further_dash (cond (is_white b) go no))) [
           | true ↦ λ e.
@@ -195,7 +196,7 @@ module _ (g : Given) (t : Text) (stack : List EventName) (events : List Event) w
         let at = λ (rows : Rows Unit Unit). P (come g t stack events 1 (s ∷ ss) previous q mark local name rows) in
         let there : drop (q + 1) t.seats ≡ ss = drop-next t.seats q s ss here in
         let grow : Rows Unit Unit = row (write size_grows ∷ consume ∷ []) (Next name) in
-        let go : Rows Unit Unit = row (consume ∷ []) (Next FlowBeforeGfmTable) in
+        let go : Rows Unit Unit = row (consume ∷ []) (Next HeadingSetextLookAfter) in
         let grown = size_grows (shows stack events (s ∷ ss) q mark (unchanged local)) in
         let marked = mark-is g t stack events s ss q mark local m here marks in
         let by = by-known g t stack events 1 (s ∷ ss) previous q mark local name P at_mark grow no in
@@ -214,7 +215,7 @@ module _ (g : Given) (t : Text) (stack : List EventName) (events : List Event) w
                 let later = behind-found line in_line.1 (Some b) (q + 1) false (unchanged local) there (kept before local (unchanged local) h refl refl refl refl refl) marks (room-less size (length line) room)
                 (whole ∙ ap (λ v. (m == 45) && v) (break-white m size b bs e w)) in
                 by-false at (is_line_mark b) (when at_mark grow no) go (white-no-mark b w)
-                (subst (λ c. Found before (kind_by m word c) word (on (unchanged local) FlowBeforeGfmTable)) (sym (underline-other m b bs e ∙ white-one b bs w)) later)
+                (subst (λ c. Found before (kind_by m word c) word (on (unchanged local) HeadingSetextLookAfter)) (sym (underline-other m b bs e ∙ white-one b bs w)) later)
             | false ↦ λ w.
                 let fails : at no = nothing local h (underlines_on m (b ∷ bs)) (underline-other m b bs e ∙ word-one b bs w) (none-at word m size b bs whole e w)
                 (come g t stack events 1 (s ∷ ss) previous q mark local name no) (kept before local _ h refl refl refl refl refl) refl in

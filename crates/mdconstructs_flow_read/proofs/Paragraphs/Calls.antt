@@ -4,7 +4,8 @@ use Rattle.markdown_base.specs.declared.event.Name.TheVariants.{Data, Paragraph}
 use Rattle.markdown_base.specs.declared.event.Point.{Point}
 use Rattle.markdown_base.specs.declared.state.Name.{Name}
 use Rattle.markdown_base.specs.declared.state.State.TheVariants.{Next, Retry}
-use Rattle.markdown_base.specs.declared.state.TheConstants.Name.{ContentChunkInside, FlowAfter, FlowBeforeContent, NonLazyContinuationStart, ParagraphInside, ParagraphLineStart, ParagraphStart}
+use Rattle.markdown_base.specs.declared.state.TheConstants.Name.{FlowAfter, FlowBeforeContent, ParagraphInside, ParagraphLineStart, ParagraphStart}
+use Rattle.mdconstructs_flow.specs.declared.names.TheConstants.{ParagraphLineAfter, ParagraphLookStart}
 use Rattle.markdown_tokenizer.specs.declared.waiting.AttemptKind.TheVariants.{Check}
 use Rattle.markdown_tokenizer.specs.Calls.{consumed, entered, exited, linked, with_local}
 use Rattle.markdown_tokenizer.specs.Configuration.{Configuration}
@@ -18,7 +19,7 @@ use Rattle.mdconstructs_flow.specs.FlowBytes.{FlowByte, cased, flow_byte, is_lin
 use Rattle.mdconstructs_flow.specs.FlowTable.{flow}
 use Rattle.mdconstructs_flow.specs.HeadingEdits.{paragraph_begins}
 use Rattle.mdconstructs_flow_read.proofs.Lines.RowReads.{counted}
-use Rattle.mdconstructs_flow.specs.Paragraph.{content_chunk_inside_rows, flow_before_content_rows, paragraph_inside_rows, paragraph_start_rows}
+use Rattle.mdconstructs_flow.specs.Paragraph.{paragraph_line_after_rows, flow_before_content_rows, paragraph_inside_rows, paragraph_start_rows}
 
 -- the state behind a block
 abbrev pub until : Name → Bool
@@ -68,7 +69,7 @@ module _ (g : Given) (end : Point) (seen : Sight) where
   pub inside-on : (n : ℕ) (k : Configuration Unit Unit) (c : FlowByte) → is_line_feed c ≡ false → now ≡ Some c → halt flow g end until (suc n) seen k ParagraphInside ≡ to_come (consumed (counted k)) ParagraphInside 1
   inside-on n k c differs is =
       at-inside n k (Some c) is
-      ∙ ap (λ t. told n k ParagraphInside (cond t (row (choose Check (Next ParagraphLineStart) (Next ContentChunkInside) ∷ []) (Retry NonLazyContinuationStart)) (row (consume ∷ []) (Next ParagraphInside)))) differs
+      ∙ ap (λ t. told n k ParagraphInside (cond t (row (choose Check (Next ParagraphLineStart) (Next ParagraphLineAfter) ∷ []) (Retry ParagraphLookStart)) (row (consume ∷ []) (Next ParagraphInside)))) differs
 
   -- before its line ending, and at the end of the text
   pub inside-feed : (n : ℕ) (k : Configuration Unit Unit) → now ≡ Some line_feed → halt flow g end until (suc n) seen k ParagraphInside ≡ over k (Retry ParagraphInside) 0
@@ -112,5 +113,5 @@ module _ (g : Given) (end : Point) (seen : Sight) where
 
   -- at the end of a line of a paragraph that goes on
   pub line-ends : (n : ℕ) (k : Configuration Unit Unit) → now ≡ Some line_feed
-      → halt flow g end until (suc n) seen k ContentChunkInside ≡ to_come (exited Data seen.next (consumed (counted k))) ParagraphStart 1
-  line-ends n k is = ap (λ c. told n k ContentChunkInside (cased content_chunk_inside_rows previous c)) is
+      → halt flow g end until (suc n) seen k ParagraphLineAfter ≡ to_come (exited Data seen.next (consumed (counted k))) ParagraphStart 1
+  line-ends n k is = ap (λ c. told n k ParagraphLineAfter (cased paragraph_line_after_rows previous c)) is

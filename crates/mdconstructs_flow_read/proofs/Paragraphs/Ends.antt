@@ -5,7 +5,8 @@ use Rattle.markdown_base.specs.declared.event.Point.{Point}
 use Rattle.markdown_base.specs.declared.state.Name.{Name}
 use Rattle.markdown_base.specs.declared.state.State.{State}
 use Rattle.markdown_base.specs.declared.state.State.TheVariants.{Ok, Retry}
-use Rattle.markdown_base.specs.declared.state.TheConstants.Name.{ContentChunkInside, ContentDefinitionAfter, FlowAfter, NonLazyContinuationStart, ParagraphInside, ParagraphLineStart}
+use Rattle.markdown_base.specs.declared.state.TheConstants.Name.{FlowAfter, ParagraphInside, ParagraphLineStart}
+use Rattle.mdconstructs_flow.specs.declared.names.TheConstants.{ParagraphLineAfter, HeadingSetextTextAfter, ParagraphLookStart}
 use Rattle.markdown_base.specs.Places.{shown}
 use Rattle.markdown_base.specs.Virtual.{Seat}
 use Rattle.markdown_tokenizer.specs.declared.waiting.Waits.TheVariants.{Byte}
@@ -43,10 +44,10 @@ module _ (g : Given) (end : Point) (seen : Sight) (k : Configuration Unit Unit) 
   noted = with_local closed (paragraph_ends closed)
 
   abbrev goes_on_row : Row Unit Unit
-  goes_on_row = record { acts = []; answer = Retry ContentChunkInside }
+  goes_on_row = record { acts = []; answer = Retry ParagraphLineAfter }
 
   abbrev heading_row : Row Unit Unit
-  heading_row = record { acts = exit Data ∷ exit Paragraph ∷ write paragraph_ends ∷ []; answer = Retry ContentDefinitionAfter }
+  heading_row = record { acts = exit Data ∷ exit Paragraph ∷ write paragraph_ends ∷ []; answer = Retry HeadingSetextTextAfter }
 
   abbrev ends_row : Row Unit Unit
   ends_row = record { acts = exit Data ∷ exit Paragraph ∷ []; answer = Retry FlowAfter }
@@ -58,11 +59,11 @@ module _ (g : Given) (end : Point) (seen : Sight) (k : Configuration Unit Unit) 
       → halt flow g end each 3 seen k ParagraphLineStart ≡ told_row (cond (passes_over k.local) goes_on_row (cond (finds_underline k.local) heading_row ends_row))
   at-line-end is = ap (λ c. told_row (picked (cased paragraph_line_start_rows (class_of flow_byte seen.previous) c) g seen (counted k))) is
 
-  goes-on : class_of flow_byte seen.current ≡ Some line_feed → passes_over k.local ≡ true → halt flow g end each 3 seen k ParagraphLineStart ≡ over (counted k) (Retry ContentChunkInside) 1
+  goes-on : class_of flow_byte seen.current ≡ Some line_feed → passes_over k.local ≡ true → halt flow g end each 3 seen k ParagraphLineStart ≡ over (counted k) (Retry ParagraphLineAfter) 1
   goes-on is passes = at-line-end is ∙ ap (λ t. told_row (cond t goes_on_row (cond (finds_underline k.local) heading_row ends_row))) passes
 
   begins-heading : class_of flow_byte seen.current ≡ Some line_feed → passes_over k.local ≡ false → finds_underline k.local ≡ true
-      → halt flow g end each 3 seen k ParagraphLineStart ≡ over noted (Retry ContentDefinitionAfter) 1
+      → halt flow g end each 3 seen k ParagraphLineStart ≡ over noted (Retry HeadingSetextTextAfter) 1
   begins-heading is passes under =
       at-line-end is ∙ ap (λ t. told_row (cond t goes_on_row (cond (finds_underline k.local) heading_row ends_row))) passes ∙ ap (λ t. told_row (cond t heading_row ends_row)) under
 
@@ -85,17 +86,17 @@ module _ (g : Given) (t : Text) where
 
   -- From a line ending in a paragraph, by the kind of the next line: the chunk goes on; the paragraph is over; or it is a heading's
   pub record EndsSo (k : Configuration Unit Unit) (kind : SeenKind) : Type 0 where
-    pub on : seen_ends kind ≡ false → (l : Local Unit Unit) × LeavesAll k.local l × Leads g t k (Retry ParagraphInside) (with_local k l) (Retry ContentChunkInside)
+    pub on : seen_ends kind ≡ false → (l : Local Unit Unit) × LeavesAll k.local l × Leads g t k (Retry ParagraphInside) (with_local k l) (Retry ParagraphLineAfter)
     pub over : seen_ends kind ≡ true → is_underline kind ≡ false → (l : Local Unit Unit) × LeavesAll k.local l × Leads g t k (Retry ParagraphInside) (ended k l) (Retry FlowAfter)
     pub under : seen_ends kind ≡ true → is_underline kind ≡ true
-        → (l : Local Unit Unit) × LeavesAll k.local l × Leads g t k (Retry ParagraphInside) (with_local (ended k l) (paragraph_ends (ended k l))) (Retry ContentDefinitionAfter)
+        → (l : Local Unit Unit) × LeavesAll k.local l × Leads g t k (Retry ParagraphInside) (with_local (ended k l) (paragraph_ends (ended k l))) (Retry HeadingSetextTextAfter)
 
   module _ (k : Configuration Unit Unit) (s : Seat) (ss : List Seat) (at : drop k.position t.seats ≡ s ∷ ss) (waits : k.waiting ≡ Byte) (feed : s.byte ≡ 10) (kind : SeenKind) (r : List ℕ) (can : IsPossible kind) where
     abbrev class_is : flow_byte s.byte ≡ line_feed
     class_is = ap flow_byte feed
 
     abbrev look : Look Unit Unit
-    look = looks g t k s ss at waits ParagraphInside NonLazyContinuationStart ParagraphLineStart ContentChunkInside paragraph_inside refl line_feed class_is [] (λ previous. refl)
+    look = looks g t k s ss at waits ParagraphInside ParagraphLookStart ParagraphLineStart ParagraphLineAfter paragraph_inside refl line_feed class_is [] (λ previous. refl)
 
     module _ (leaves : LeavesAll k.local look.local) (finds : Finds kind r look.local look.answer) where
       abbrev behind : Configuration Unit Unit
@@ -111,7 +112,7 @@ module _ (g : Given) (t : Text) where
       by-kind ok after to is =
           leads-on g t k (Retry ParagraphInside) behind (Retry ParagraphLineStart) after to
           (from-leads g t (suc look.calls) k (Retry ParagraphInside) behind (Retry ParagraphLineStart)
-          (checks-ok g t k s ss at waits ParagraphInside NonLazyContinuationStart ParagraphLineStart ContentChunkInside paragraph_inside refl line_feed class_is [] (λ previous. refl) ok))
+          (checks-ok g t k s ss at waits ParagraphInside ParagraphLookStart ParagraphLineStart ParagraphLineAfter paragraph_inside refl line_feed class_is [] (λ previous. refl) ok))
           (one-call behind ParagraphLineStart s ss after to at waits is)
 
       abbrev seen : Sight
@@ -123,12 +124,12 @@ module _ (g : Given) (t : Text) where
             let passes = passed kind r look.local look.answer can finds ok in
             let under = underlined kind r look.local look.answer finds ok in
             let here : class_of flow_byte (Some s.byte) ≡ Some line_feed = ap Some class_is in record {
-              on = λ differs. (unchanged look.local, left, by-kind ok (counted behind) (Retry ContentChunkInside) (goes-on g t.end seen behind here (passes ∙ ap not differs)));
+              on = λ differs. (unchanged look.local, left, by-kind ok (counted behind) (Retry ParagraphLineAfter) (goes-on g t.end seen behind here (passes ∙ ap not differs)));
               over = λ stops none. (unchanged look.local, left, by-kind ok (ended k (unchanged look.local)) (Retry FlowAfter) (ends g t.end seen behind here (passes ∙ ap not stops) (under ∙ none)));
               under = λ stops one. (
                 unchanged look.local,
                 left,
-                by-kind ok (with_local (ended k (unchanged look.local)) (paragraph_ends (ended k (unchanged look.local)))) (Retry ContentDefinitionAfter)
+                by-kind ok (with_local (ended k (unchanged look.local)) (paragraph_ends (ended k (unchanged look.local)))) (Retry HeadingSetextTextAfter)
                     (begins-heading g t.end seen behind here (passes ∙ ap not stops) (under ∙ one)),
               );
             }
@@ -138,8 +139,8 @@ module _ (g : Given) (t : Text) where
               on = λ e. (
                 look.local,
                 leaves,
-                from-leads g t (suc look.calls) k (Retry ParagraphInside) behind (Retry ContentChunkInside)
-                    (checks-nok g t k s ss at waits ParagraphInside NonLazyContinuationStart ParagraphLineStart ContentChunkInside paragraph_inside refl line_feed class_is [] (λ previous. refl) badly.0),
+                from-leads g t (suc look.calls) k (Retry ParagraphInside) behind (Retry ParagraphLineAfter)
+                    (checks-nok g t k s ss at waits ParagraphInside ParagraphLookStart ParagraphLineStart ParagraphLineAfter paragraph_inside refl line_feed class_is [] (λ previous. refl) badly.0),
               );
               over = λ stops none. absurd (let wrong : true ≡ false = sym stops ∙ differs in cc);
               under = λ stops one. absurd (let wrong : true ≡ false = sym stops ∙ differs in cc);

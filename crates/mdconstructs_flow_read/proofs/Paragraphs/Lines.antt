@@ -7,7 +7,8 @@ use Rattle.markdown_base.specs.declared.event.Name.TheVariants.{Data, Paragraph}
 use Rattle.markdown_base.specs.declared.event.Point.{Point}
 use Rattle.markdown_base.specs.declared.state.State.{State}
 use Rattle.markdown_base.specs.declared.state.State.TheVariants.{Retry}
-use Rattle.markdown_base.specs.declared.state.TheConstants.Name.{ContentChunkInside, ContentDefinitionAfter, FlowAfter, ParagraphInside, ParagraphStart}
+use Rattle.markdown_base.specs.declared.state.TheConstants.Name.{FlowAfter, ParagraphInside, ParagraphStart}
+use Rattle.mdconstructs_flow.specs.declared.names.TheConstants.{ParagraphLineAfter, HeadingSetextTextAfter}
 use Rattle.markdown_base.specs.Virtual.{Seat, end_after}
 use Rattle.markdown_edits.specs.Links.{linked_to}
 use Rattle.markdown_tokenizer.specs.declared.waiting.Waits.TheVariants.{Byte}
@@ -64,7 +65,7 @@ pub record IsAtFeed (g : Given) (t : Text) (has_previous : Bool) (done : List Ev
 -- What comes of it: the lines from this one on are chunks, and the paragraph ends behind them
 pub record IsReadOn (g : Given) (t : Text) (has_previous : Bool) (done : List Event) (lines : List Line) (behind : List Seat) (underlined : Bool) (q : ℕ) (k : Configuration Unit Unit) (from : State) : Type 0 where
   pub after : Configuration Unit Unit
-  pub leads : Leads g t k from after (Retry (cond underlined ContentDefinitionAfter FlowAfter))
+  pub leads : Leads g t k from after (Retry (cond underlined HeadingSetextTextAfter FlowAfter))
   pub events_are : after.events ≡ done ++ linked_from (length done) (text_marks g.bytes has_previous lines ++ (event g.bytes Exit Paragraph (end_place t after.position), None) ∷ [])
   pub position_is : after.position ≡ q + length (body lines)
   pub waiting : after.waiting ≡ waits_at (last_ending lines ++ behind)
@@ -87,7 +88,7 @@ module _ (g : Given) (t : Text) (has_previous : Bool) (done : List Event) (s : S
       let more = text_marks g.bytes true (line ∷ lines) ++ last in
       let count : length done_before ≡ length done + 1 + 1 = omega (arith, length-append done (c ∷ event g.bytes Exit Data feed.end ∷ [])) in record {
         after = h.after;
-        leads = leads-on g t k from mid then h.after (Retry (cond underlined ContentDefinitionAfter FlowAfter)) leads h.leads;
+        leads = leads-on g t k from mid then h.after (Retry (cond underlined HeadingSetextTextAfter FlowAfter)) leads h.leads;
         events_are =
             h.events_are ∙ ap (λ n. done_before ++ linked_from n more) count
             ∙ append_assoc done (c ∷ event g.bytes Exit Data feed.end ∷ []) (linked_from (length done + 1 + 1) more)
@@ -120,7 +121,7 @@ module _ (g : Given) (t : Text) (has_previous : Bool) (done : List Event) (s : S
 
     -- a stretch from there
     pub goes-over : (events : List Event) (n : ℕ) (left : List Seat) (to : State) → Stops linked_on.local events n left to (more_behind g t.end linked_on.local next behind linked_on ParagraphInside)
-        → Stops linked_on.local events n left to (reads g t.end linked_on.local place before (feed ∷ next ∷ behind) (with_local k l) ContentChunkInside)
+        → Stops linked_on.local events n left to (reads g t.end linked_on.local place before (feed ∷ next ∷ behind) (with_local k l) ParagraphLineAfter)
     goes-over events n left to h =
         stops-on linked_on.local events n left to (more_behind g t.end linked_on.local feed (next ∷ behind)) _ ParagraphStart 1 _
         (line-ends g t.end (sight_before g t.end place before (feed ∷ next ∷ behind)) 2 (with_local k l) (ap Some (ap flow_byte here.feeds)))
@@ -162,21 +163,21 @@ module _ (g : Given) (t : Text) (has_previous : Bool) (done : List Event) (s : S
     begins-there : (more : List Seat) → Begins linked_on.local linked_on.events linked_on.position more (fed_before more linked_on)
     begins-there more = begins-fed linked_on.local linked_on.events more linked_on (record { edits = refl; resolvers = refl; start = refl; end = refl; connect = refl }) refl
 
-    module _ (goes : Leads g t k (Retry ParagraphInside) (with_local k l) (Retry ContentChunkInside)) where
+    module _ (goes : Leads g t k (Retry ParagraphInside) (with_local k l) (Retry ParagraphLineAfter)) where
       -- the next line has a line ending
       pub further-feed : (ss2 : List Seat) (feed2 : Seat) (rest2 : List Seat) → behind ≡ ss2 ++ feed2 ∷ rest2 → IsInLine ss2 → feed2.byte ≡ 10
           → (k2 : Configuration Unit Unit) × Leads g t k (Retry ParagraphInside) k2 (Retry ParagraphInside) × Keeps k.local k2.local
           × IsAtFeed g t true done_before next ss2 feed2 rest2 (q + length ((s ∷ ss) ++ feed ∷ [])) k2
       further-feed ss2 feed2 rest2 are all feeds =
           let n = linked_on.position + length ss2 in
-          let r = reads g t.end linked_on.local place before (feed ∷ next ∷ behind) (with_local k l) ContentChunkInside in
+          let r = reads g t.end linked_on.local place before (feed ∷ next ∷ behind) (with_local k l) ParagraphLineAfter in
           let stops : Stops linked_on.local linked_on.events n (feed2 ∷ rest2) (Retry ParagraphInside) r =
           goes-over linked_on.events n (feed2 ∷ rest2) (Retry ParagraphInside)
           (subst (λ b. Stops linked_on.local linked_on.events n (feed2 ∷ rest2) (Retry ParagraphInside) (reads g t.end linked_on.local next.end (Some next.byte) b (fed_before b linked_on) ParagraphInside)) (sym are)
           (to-feed g t.end linked_on.local linked_on.events ss2 feed2 rest2 next.end (Some next.byte) linked_on.position (fed_before (ss2 ++ feed2 ∷ rest2) linked_on) all feeds (begins-there (ss2 ++ feed2 ∷ rest2)))) in
-          let led = stretch-leads g t until (with_local k l) ContentChunkInside (feed ∷ next ∷ behind) left here.waits in (
+          let led = stretch-leads g t until (with_local k l) ParagraphLineAfter (feed ∷ next ∷ behind) left here.waits in (
             r.configuration,
-            leads-on g t k (Retry ParagraphInside) (with_local k l) (Retry ContentChunkInside) r.configuration (Retry ParagraphInside) goes (subst (λ a. Leads g t (with_local k l) (Retry ContentChunkInside) r.configuration a) stops.answer led),
+            leads-on g t k (Retry ParagraphInside) (with_local k l) (Retry ParagraphLineAfter) r.configuration (Retry ParagraphInside) goes (subst (λ a. Leads g t (with_local k l) (Retry ParagraphLineAfter) r.configuration a) stops.answer led),
             keeps-on k.local linked_on.local r.configuration.local linked-keeps (left-keeps linked_on.local r.configuration.local stops.local),
             record {
               events_are = stops.events_are ∙ linked-events;
@@ -193,7 +194,7 @@ module _ (g : Given) (t : Text) (has_previous : Bool) (done : List Event) (s : S
       pub further-end : IsInLine behind → IsReadOn g t has_previous done (((s ∷ ss) ++ feed ∷ []) ∷ (next ∷ behind) ∷ []) [] false q k (Retry ParagraphInside)
       further-end all =
           let n = linked_on.position + length behind in
-          let r = reads g t.end linked_on.local place before (feed ∷ next ∷ behind) (with_local k l) ContentChunkInside in
+          let r = reads g t.end linked_on.local place before (feed ∷ next ∷ behind) (with_local k l) ParagraphLineAfter in
           let p = end_after next.end behind in
           let outs = event g.bytes Exit Data p ∷ event g.bytes Exit Paragraph p ∷ [] in
           let line = next ∷ behind in
@@ -204,15 +205,15 @@ module _ (g : Given) (t : Text) (has_previous : Bool) (done : List Event) (s : S
           goes-over (linked_on.events ++ outs) n [] (Retry FlowAfter)
           (subst (λ b. Stops linked_on.local (linked_on.events ++ outs) n [] (Retry FlowAfter) (reads g t.end linked_on.local next.end (Some next.byte) b (fed_before b linked_on) ParagraphInside)) (append-nil behind)
           (to-end g t.end linked_on.local linked_on.events behind next.end (Some next.byte) linked_on.position (fed_before (behind ++ []) linked_on) all (begins-there (behind ++ [])))) in
-          let led = stretch-leads g t until (with_local k l) ContentChunkInside (feed ∷ next ∷ behind) left here.waits in
+          let led = stretch-leads g t until (with_local k l) ParagraphLineAfter (feed ∷ next ∷ behind) left here.waits in
           let far : r.configuration.position ≡ q + length ((s ∷ ss) ++ feed ∷ []) + length line = let at = stops.position_is in let from = linked-position in omega (arith, at, from) in
           let ends : end_place t r.configuration.position ≡ p =
           let from = q + length ((s ∷ ss) ++ feed ∷ []) in
           ap (end_place t) far ∙ (behind-line t line [] from (end_place t from) (record { place = refl; left = there ∙ sym (append-nil line) })).place in
-          one-line-more k (Retry ParagraphInside) (with_local k l) (Retry ContentChunkInside) line [] [] false goes (left-keeps k.local l leaves)
+          one-line-more k (Retry ParagraphInside) (with_local k l) (Retry ParagraphLineAfter) line [] [] false goes (left-keeps k.local l leaves)
           (record {
             after = r.configuration;
-            leads = subst (λ a. Leads g t (with_local k l) (Retry ContentChunkInside) r.configuration a) stops.answer led;
+            leads = subst (λ a. Leads g t (with_local k l) (Retry ParagraphLineAfter) r.configuration a) stops.answer led;
             events_are =
                 stops.events_are ∙ ap (λ es. es ++ outs) linked-events ∙ append_assoc done_before (c ∷ []) outs
                 ∙ ap (λ e. done_before ++ c ∷ event g.bytes Exit Data p ∷ event g.bytes Exit Paragraph e ∷ []) (sym ends)

@@ -9,7 +9,8 @@ use Rattle.markdown_base.specs.declared.event.Name.{Name as EventName}
 use Rattle.markdown_base.specs.declared.event.Name.TheVariants.{CodeIndented, HeadingSetextUnderline, HtmlFlow}
 use Rattle.markdown_base.specs.declared.state.State.{State}
 use Rattle.markdown_base.specs.declared.state.State.TheVariants.{Ok, Nok}
-use Rattle.markdown_base.specs.declared.state.TheConstants.Name.{FlowBlankLineBefore, NonLazyContinuationStart}
+use Rattle.markdown_base.specs.declared.state.TheConstants.Name.{FlowBlankLineBefore}
+use Rattle.mdconstructs_flow.specs.declared.names.TheConstants.{ParagraphLookStart}
 use Rattle.markdown_base.specs.Virtual.{Seat}
 use Rattle.markdown_tokenizer.specs.Configuration.{Local}
 use Rattle.markdown_tokenizer.specs.Sight.{sight}
@@ -18,7 +19,7 @@ use Rattle.mdconstructs_tables.specs.Looks.{Look, behind_byte, by_row, glance, l
 use Rattle.mdconstructs_tables.specs.Rows.{class_of, picked}
 use Rattle.mdconstructs_flow.specs.FlowBytes.{cased, flow_byte, line_feed}
 use Rattle.mdconstructs_flow.specs.FlowTable.{flow, unchanged}
-use Rattle.mdconstructs_flow.specs.Look.{non_lazy_continuation_start_rows}
+use Rattle.mdconstructs_flow.specs.Look.{paragraph_look_start_rows}
 use Rattle.mdconstructs_flow_read.specs.LeafBlocks.{bytes_of}
 use Rattle.mdconstructs_flow_read.specs.LineKinds.{unindented}
 use Rattle.mdconstructs_flow_read.specs.SeenKinds.{seen_ends, SeenKind, blank, indented, heading, fence, html, underline, thematic_break, text, seen_kind, is_underline}
@@ -35,17 +36,17 @@ module _ (g : Given) (t : Text) (stack : List EventName) (events : List Event) w
   looks_on l previous q local = scan flow g t stack events 2 l previous q false local FlowBlankLineBefore
 
   over-feed : (s : Seat) (ss : List Seat) (previous : Option ℕ) (q : ℕ) (mark : Bool) (local : Local Unit Unit) → flow_byte s.byte ≡ line_feed
-      → scan flow g t stack events 2 (s ∷ ss) previous q mark local NonLazyContinuationStart ≡ behind_byte 1 (looks_on ss (Some s.byte) (q + 1) (uncounted local))
+      → scan flow g t stack events 2 (s ∷ ss) previous q mark local ParagraphLookStart ≡ behind_byte 1 (looks_on ss (Some s.byte) (q + 1) (uncounted local))
   over-feed s ss previous q mark local feeds =
       let l = s ∷ ss in
       ap (λ c. looked_on flow g t stack events (λ local name. scan flow g t stack events 2 ss (Some s.byte) (q + 1) false local name) l mark
-      (by_row stack events (glance flow g t stack events 1 previous l q mark) (uncalled local NonLazyContinuationStart) (sight g t (shows stack events l q mark local)) l q mark (unchanged local)
-      (picked (cased non_lazy_continuation_start_rows (class_of flow_byte previous) (Some c)) g (sight g t (shows stack events l q mark local)) (shows stack events l q mark (unchanged local))))) feeds
+      (by_row stack events (glance flow g t stack events 1 previous l q mark) (uncalled local ParagraphLookStart) (sight g t (shows stack events l q mark local)) l q mark (unchanged local)
+      (picked (cased paragraph_look_start_rows (class_of flow_byte previous) (Some c)) g (sight g t (shows stack events l q mark local)) (shows stack events l q mark (unchanged local))))) feeds
 
   -- so the look finds the kind of the next line
   pub next-line-seen : LinesAreSeen → (s : Seat) (line rest : List Seat) (previous : Option ℕ) (q : ℕ) (mark : Bool) (local : Local Unit Unit) → drop q t.seats ≡ s ∷ (line ++ rest) → s.byte ≡ 10
       → IsInLine line → LineEnds rest → length t.seats < 2 ^ 64 - 1
-      → let r = scan flow g t stack events 2 (s ∷ (line ++ rest)) previous q mark local NonLazyContinuationStart in
+      → let r = scan flow g t stack events 2 (s ∷ (line ++ rest)) previous q mark local ParagraphLookStart in
       LeavesAll local r.local × Finds (seen_kind g.options.constructs (bytes_of line)) (unindented (bytes_of line)) r.local r.answer
   next-line-seen seen s line rest previous q mark local at feed in_line ends room =
       let next = drop-next t.seats q s (line ++ rest) at in

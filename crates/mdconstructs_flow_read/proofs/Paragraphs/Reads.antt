@@ -7,7 +7,8 @@ use Rattle.markdown_base.specs.declared.event.Name.TheVariants.{Data, Paragraph}
 use Rattle.markdown_base.specs.declared.event.Point.{Point}
 use Rattle.markdown_base.specs.declared.state.State.{State}
 use Rattle.markdown_base.specs.declared.state.State.TheVariants.{Retry}
-use Rattle.markdown_base.specs.declared.state.TheConstants.Name.{ContentDefinitionAfter, FlowAfter, FlowBeforeContent, ParagraphInside}
+use Rattle.markdown_base.specs.declared.state.TheConstants.Name.{FlowAfter, FlowBeforeContent, ParagraphInside}
+use Rattle.mdconstructs_flow.specs.declared.names.TheConstants.{HeadingSetextTextAfter}
 use Rattle.markdown_base.specs.Virtual.{Seat, end_after}
 use Rattle.markdown_tokenizer.specs.Calls.{consumed}
 use Rattle.markdown_tokenizer.specs.Configuration.{Configuration}
@@ -38,7 +39,7 @@ use Rattle.mdconstructs_flow_read.proofs.Paragraphs.Texts.{Begins, Stops, begins
 -- A paragraph is read: the marks of its lines, how far it reaches, and what is noted of it
 pub record IsParagraph (g : Given) (t : Text) (k : Configuration Unit Unit) (lines : List Line) (behind : List Seat) (underlined : Bool) : Type 0 where
   pub after : Configuration Unit Unit
-  pub leads : Leads g t k (Retry FlowBeforeContent) after (Retry (cond underlined ContentDefinitionAfter FlowAfter))
+  pub leads : Leads g t k (Retry FlowBeforeContent) after (Retry (cond underlined HeadingSetextTextAfter FlowAfter))
   pub events_are : after.events ≡ k.events ++ linked_from (length k.events) (span_marks g.bytes Paragraph (body lines) (text_marks g.bytes false lines))
   pub position_is : after.position ≡ k.position + length (body lines)
   pub waiting : after.waiting ≡ waits_at (last_ending lines ++ behind)
@@ -159,7 +160,7 @@ from-first-line : (g : Given) (t : Text) (k mid : Configuration Unit Unit) (line
     → IsReadOn g t false (k.events ++ event g.bytes Enter Paragraph s.point ∷ []) lines behind is_heading k.position mid (Retry ParagraphInside) → IsParagraph g t k lines behind is_heading
 from-first-line g t k mid lines behind is_heading s rest at is leads edits resolvers begins r = record {
   after = r.after;
-  leads = leads-on g t k (Retry FlowBeforeContent) mid (Retry ParagraphInside) r.after (Retry (cond is_heading ContentDefinitionAfter FlowAfter)) leads r.leads;
+  leads = leads-on g t k (Retry FlowBeforeContent) mid (Retry ParagraphInside) r.after (Retry (cond is_heading HeadingSetextTextAfter FlowAfter)) leads r.leads;
   events_are = r.events_are ∙ around g t k lines (text_marks g.bytes false lines) s rest (last_ending lines ++ behind) r.after.position at is r.position_is;
   position_is = r.position_is;
   waiting = r.waiting;
@@ -222,5 +223,5 @@ paragraphs-read seen g t k line more here some not_underlined =
       local = record { edits = r.edits; resolvers = r.resolvers };
       leads = λ choices before z h.
           r.leads.leads choices before z
-          (subst (λ b. EndsIn g (table_step flow g) t (before + r.leads.calls) r.after choices (Retry (cond b ContentDefinitionAfter FlowAfter)) z) (sym not_underlined) h);
+          (subst (λ b. EndsIn g (table_step flow g) t (before + r.leads.calls) r.after choices (Retry (cond b HeadingSetextTextAfter FlowAfter)) z) (sym not_underlined) h);
     }

@@ -6,7 +6,8 @@ use Rattle.markdown_base.specs.declared.event.Kind.TheVariants.{Exit}
 use Rattle.markdown_base.specs.declared.event.Name.TheVariants.{Data, Paragraph}
 use Rattle.markdown_base.specs.declared.event.Point.{Point}
 use Rattle.markdown_base.specs.declared.state.State.TheVariants.{Retry}
-use Rattle.markdown_base.specs.declared.state.TheConstants.Name.{ContentDefinitionAfter, FlowAfter, ParagraphInside}
+use Rattle.markdown_base.specs.declared.state.TheConstants.Name.{FlowAfter, ParagraphInside}
+use Rattle.mdconstructs_flow.specs.declared.names.TheConstants.{HeadingSetextTextAfter}
 use Rattle.markdown_base.specs.Virtual.{Seat, end_after}
 use Rattle.markdown_tokenizer.specs.Calls.{with_local}
 use Rattle.markdown_tokenizer.specs.Configuration.{Configuration, Local}
@@ -82,7 +83,7 @@ module _ (g : Given) (t : Text) (has_previous : Bool) (done : List Event) (s : S
     noted = λ e. absurd (cc);
   }
 
-  pub last-before-underline : (l : Local Unit Unit) → LeavesAll k.local l → Leads g t k (Retry ParagraphInside) (with_local (ended g t k l) (paragraph_ends (ended g t k l))) (Retry ContentDefinitionAfter)
+  pub last-before-underline : (l : Local Unit Unit) → LeavesAll k.local l → Leads g t k (Retry ParagraphInside) (with_local (ended g t k l) (paragraph_ends (ended g t k l))) (Retry HeadingSetextTextAfter)
       → IsReadOn g t has_previous done (line ∷ []) rest true q k (Retry ParagraphInside)
   last-before-underline l leaves leads = record {
     after = with_local (ended g t k l) (paragraph_ends (ended g t k l));

@@ -8,7 +8,8 @@ use Rattle.markdown_base.specs.declared.event.Name.{Name as EventName}
 use Rattle.markdown_base.specs.declared.event.Name.TheVariants.{HeadingSetext, HeadingSetextText, HeadingSetextUnderline, LineEnding, Paragraph}
 use Rattle.markdown_base.specs.declared.event.Point.{Point}
 use Rattle.markdown_base.specs.declared.state.State.TheVariants.{Retry}
-use Rattle.markdown_base.specs.declared.state.TheConstants.Name.{ContentDefinitionAfter, FlowAfter, FlowBeforeContent, HeadingSetextAfter, HeadingSetextStart}
+use Rattle.markdown_base.specs.declared.state.TheConstants.Name.{FlowAfter, FlowBeforeContent, HeadingSetextAfter, HeadingSetextStart}
+use Rattle.mdconstructs_flow.specs.declared.names.TheConstants.{HeadingSetextTextAfter}
 use Rattle.markdown_base.proofs.Seats.{end-after-append}
 use Rattle.markdown_base.specs.Places.{shown}
 use Rattle.markdown_base.specs.Virtual.{Seat, end_after}
@@ -154,7 +155,7 @@ module _ (lines_seen : LinesAreSeen) (g : Given) (t : Text) (k : Configuration U
     Noted = IsNoted i (length p.after.events - 1)
 
     -- the paragraph
-    paragraph : IsReadAs g t Noted k FlowBeforeContent (body ours) (e ∷ (l ++ rest)) (span_marks g.bytes Paragraph (body ours) tm) (Retry ContentDefinitionAfter)
+    paragraph : IsReadAs g t Noted k FlowBeforeContent (body ours) (e ∷ (l ++ rest)) (span_marks g.bytes Paragraph (body ours) tm) (Retry HeadingSetextTextAfter)
     paragraph = record {
       after = p.after;
       calls = p.leads.calls;
@@ -166,9 +167,9 @@ module _ (lines_seen : LinesAreSeen) (g : Given) (t : Text) (k : Configuration U
     }
 
     -- its line ending
-    over-feed : (k : Configuration Unit Unit) (q : Point) → IsAt t k q (e ∷ (l ++ rest)) → IsReadAs g t IsUnwritten k ContentDefinitionAfter (e ∷ []) (l ++ rest) (leaf_marks g.bytes LineEnding (e ∷ [])) (Retry HeadingSetextStart)
+    over-feed : (k : Configuration Unit Unit) (q : Point) → IsAt t k q (e ∷ (l ++ rest)) → IsReadAs g t IsUnwritten k HeadingSetextTextAfter (e ∷ []) (l ++ rest) (leaf_marks g.bytes LineEnding (e ∷ [])) (Retry HeadingSetextStart)
     over-feed k q at =
-        row-takes-on g t IsUnwritten k ContentDefinitionAfter q e (l ++ rest) line_feed (enter LineEnding ∷ consume ∷ exit LineEnding ∷ []) HeadingSetextStart at (ap flow_byte last_feed.feed) refl tt refl
+        row-takes-on g t IsUnwritten k HeadingSetextTextAfter q e (l ++ rest) line_feed (enter LineEnding ∷ consume ∷ exit LineEnding ∷ []) HeadingSetextStart at (ap flow_byte last_feed.feed) refl tt refl
         (record { calls = (counted k).local.tokenize_state.size; is = refl })
 
     -- all up to the underline's end
@@ -187,11 +188,11 @@ module _ (lines_seen : LinesAreSeen) (g : Given) (t : Text) (k : Configuration U
     up-to-end : (u : Seat) (us : List Seat) → l ≡ u ∷ us
         → IsReadAs g t Noted k FlowBeforeContent (body ours ++ (e ∷ l)) rest (span_marks g.bytes Paragraph (body ours) tm ++ (le ++ (into u ∷ underline_inside g.bytes l))) (Retry HeadingSetextAfter)
     up-to-end u us is =
-        reads-on g t Noted IsUnwritten Noted (noted-on i (length p.after.events - 1)) k (end_place t k.position) FlowBeforeContent ContentDefinitionAfter (body ours) (e ∷ l) rest
+        reads-on g t Noted IsUnwritten Noted (noted-on i (length p.after.events - 1)) k (end_place t k.position) FlowBeforeContent HeadingSetextTextAfter (body ours) (e ∷ l) rest
         (span_marks g.bytes Paragraph (body ours) tm) (le ++ (into u ∷ underline_inside g.bytes l)) (Retry HeadingSetextAfter) at-start paragraph
         (λ k' at' kept.
         let q = end_after (end_place t k.position) (body ours) in
-        reads-on g t IsUnwritten IsUnwritten IsUnwritten unwritten-on k' q ContentDefinitionAfter HeadingSetextStart (e ∷ []) l rest le (into u ∷ underline_inside g.bytes l) (Retry HeadingSetextAfter) at' (over-feed k' q at')
+        reads-on g t IsUnwritten IsUnwritten IsUnwritten unwritten-on k' q HeadingSetextTextAfter HeadingSetextStart (e ∷ []) l rest le (into u ∷ underline_inside g.bytes l) (Retry HeadingSetextAfter) at' (over-feed k' q at')
         (λ k'' at'' kept'. underline-read-from g t l u us is of_underline k'' e.end rest ends at''))
 
     -- the first byte of the paragraph

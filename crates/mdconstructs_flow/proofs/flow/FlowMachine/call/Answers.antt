@@ -4,16 +4,16 @@ use Rattle.mdconstructs_tables.proofs.Rows.Calls.{callable, never-called}
 use Rattle.mdconstructs_machines.specs.Paragraphs.{CanLinkChunk}
 use Rattle.mdconstructs_machines.specs.Laws.Paragraphs.{can-follow}
 use Rattle.mdconstructs_flow.specs.BlankLine.{blank_line_start}
-use Rattle.mdconstructs_flow.specs.CodeFenced.{flow_before_raw, flow_before_code_indented, raw_flow_start, raw_flow_sequence_open, raw_flow_info_before, raw_flow_before_sequence_open, raw_flow_info, raw_text_start, raw_flow_meta_before, raw_flow_meta, raw_flow_at_non_lazy_break, raw_flow_close_start, raw_flow_before_sequence_close, raw_flow_sequence_close, raw_flow_after_sequence_close, raw_flow_content_before, raw_flow_content_start, raw_flow_before_content_chunk, raw_flow_content_chunk, raw_flow_after, raw_text_sequence_open, raw_text_between, raw_text_sequence_close, raw_text_data}
-use Rattle.mdconstructs_flow.specs.CodeIndented.{code_indented_start, code_indented_at_break, code_indented_further_after, code_indented_inside, space_or_tab_eol_after_first, code_indented_after, code_indented_further_begin, code_indented_further_start}
+use Rattle.mdconstructs_flow.specs.CodeFenced.{flow_before_raw, raw_flow_look_info, raw_flow_start, raw_flow_sequence_open, raw_flow_info_before, raw_flow_before_sequence_open, raw_flow_info, raw_flow_info_after, raw_flow_meta_before, raw_flow_meta, raw_flow_at_non_lazy_break, raw_flow_close_start, raw_flow_before_sequence_close, raw_flow_sequence_close, raw_flow_after_sequence_close, raw_flow_content_before, raw_flow_content_start, raw_flow_before_content_chunk, raw_flow_content_chunk, raw_flow_after, raw_flow_close_before, raw_flow_close_blank, raw_flow_close_sequence, raw_flow_close_between}
+use Rattle.mdconstructs_flow.specs.CodeIndented.{code_indented_start, code_indented_at_break, code_indented_further_after, code_indented_inside, code_indented_line_after, code_indented_after, code_indented_further_begin, code_indented_further_start}
 use Rattle.mdconstructs_flow.specs.Flow.{flow_start, flow_blank_line_after, flow_after}
-use Rattle.mdconstructs_flow.specs.HeadingAtx.{flow_before_heading_atx, string_start, string_before_data, string_before, text_before, text_before_data, heading_atx_start, heading_atx_sequence_open, heading_atx_at_break, heading_atx_before, heading_atx_data}
+use Rattle.mdconstructs_flow.specs.HeadingAtx.{flow_before_heading_atx, heading_atx_look_start, heading_atx_look_text, heading_atx_look_blank, heading_atx_look_signs, heading_atx_look_after, heading_atx_start, heading_atx_sequence_open, heading_atx_at_break, heading_atx_before, heading_atx_data}
 use Rattle.mdconstructs_flow.specs.HeadingEdits.{CanEndHeading}
-use Rattle.mdconstructs_flow.specs.HeadingSetext.{flow_before_heading_setext, flow_before_gfm_table, content_definition_after, heading_setext_start, heading_setext_before, heading_setext_inside, heading_setext_after}
-use Rattle.mdconstructs_flow.specs.HtmlFlow.{html_flow_start, html_flow_continuation, html_flow_continuation_comment_inside, html_flow_continuation_cdata_inside, html_flow_continuation_declaration_inside, html_flow_continuation_raw_tag_open, html_flow_continuation_raw_end_tag, html_flow_continuation_close, html_flow_continuation_before, html_flow_blank_line_before, blank_line_after, html_flow_continuation_after, html_flow_continuation_start}
+use Rattle.mdconstructs_flow.specs.HeadingSetext.{flow_before_heading_setext, heading_setext_look_after, heading_setext_text_after, heading_setext_start, heading_setext_before, heading_setext_inside, heading_setext_after}
+use Rattle.mdconstructs_flow.specs.HtmlFlow.{html_flow_start, html_flow_continuation, html_flow_continuation_comment_inside, html_flow_continuation_cdata_inside, html_flow_continuation_declaration_inside, html_flow_continuation_raw_tag_open, html_flow_continuation_raw_end_tag, html_flow_continuation_close, html_flow_continuation_before, html_flow_blank_line_before, html_flow_blank_line_inside, html_flow_continuation_after, html_flow_continuation_start}
 use Rattle.mdconstructs_flow.specs.HtmlTags.{html_flow_open, html_flow_declaration_open, html_flow_comment_open_inside, html_flow_cdata_open_inside, html_flow_tag_close_start, html_flow_tag_name, html_flow_basic_self_closing, html_flow_complete_closing_tag_after, html_flow_complete_end, html_flow_complete_attribute_name_before, html_flow_complete_attribute_name, html_flow_complete_attribute_name_after, html_flow_complete_attribute_value_before, html_flow_complete_attribute_value_quoted, html_flow_complete_attribute_value_quoted_after, html_flow_complete_attribute_value_unquoted, html_flow_complete_after}
-use Rattle.mdconstructs_flow.specs.Look.{non_lazy_continuation_start, flow_blank_line_before}
-use Rattle.mdconstructs_flow.specs.Paragraph.{flow_before_content, paragraph_start, paragraph_inside, paragraph_line_start, content_chunk_inside}
+use Rattle.mdconstructs_flow.specs.Look.{paragraph_look_start, flow_blank_line_before}
+use Rattle.mdconstructs_flow.specs.Paragraph.{flow_before_content, paragraph_start, paragraph_inside, paragraph_line_start, paragraph_line_after}
 use Rattle.mdconstructs_flow.specs.ThematicBreak.{flow_before_thematic_break, thematic_break_before, thematic_break_at_break, thematic_break_sequence}
 use Rattle.mdconstructs_flow.specs.FlowTable.{flow, unchanged}
 use Rattle.mdconstructs_flow.proofs.Called.{known-before, known-underline, can-end}
@@ -28,8 +28,8 @@ flow_blank_line_after-requires c = callable flow unchanged c.args.name flow_blan
 pub flow_after-requires : goal.flow_after-requires
 flow_after-requires c = callable flow unchanged c.args.name flow_after _ _ (search rules) refl c.requires.invariant.holds c.begin.ensures
 
-pub non_lazy_continuation_start-requires : goal.non_lazy_continuation_start-requires
-non_lazy_continuation_start-requires c = callable flow unchanged c.args.name non_lazy_continuation_start _ _ (search rules) refl c.requires.invariant.holds c.begin.ensures
+pub paragraph_look_start-requires : goal.paragraph_look_start-requires
+paragraph_look_start-requires c = callable flow unchanged c.args.name paragraph_look_start _ _ (search rules) refl c.requires.invariant.holds c.begin.ensures
 
 pub flow_blank_line_before-requires : goal.flow_blank_line_before-requires
 flow_blank_line_before-requires c = callable flow unchanged c.args.name flow_blank_line_before _ _ (search rules) refl c.requires.invariant.holds c.begin.ensures
@@ -52,20 +52,20 @@ thematic_break_sequence-requires c = callable flow unchanged c.args.name themati
 pub flow_before_heading_atx-requires : goal.flow_before_heading_atx-requires
 flow_before_heading_atx-requires c = callable flow unchanged c.args.name flow_before_heading_atx _ _ (search rules) refl c.requires.invariant.holds c.begin.ensures
 
-pub string_start-requires : goal.string_start-requires
-string_start-requires c = callable flow unchanged c.args.name string_start _ _ (search rules) refl c.requires.invariant.holds c.begin.ensures
+pub heading_atx_look_start-requires : goal.heading_atx_look_start-requires
+heading_atx_look_start-requires c = callable flow unchanged c.args.name heading_atx_look_start _ _ (search rules) refl c.requires.invariant.holds c.begin.ensures
 
-pub string_before_data-requires : goal.string_before_data-requires
-string_before_data-requires c = callable flow unchanged c.args.name string_before_data _ _ (search rules) refl c.requires.invariant.holds c.begin.ensures
+pub heading_atx_look_text-requires : goal.heading_atx_look_text-requires
+heading_atx_look_text-requires c = callable flow unchanged c.args.name heading_atx_look_text _ _ (search rules) refl c.requires.invariant.holds c.begin.ensures
 
-pub string_before-requires : goal.string_before-requires
-string_before-requires c = callable flow unchanged c.args.name string_before _ _ (search rules) refl c.requires.invariant.holds c.begin.ensures
+pub heading_atx_look_blank-requires : goal.heading_atx_look_blank-requires
+heading_atx_look_blank-requires c = callable flow unchanged c.args.name heading_atx_look_blank _ _ (search rules) refl c.requires.invariant.holds c.begin.ensures
 
-pub text_before-requires : goal.text_before-requires
-text_before-requires c = callable flow unchanged c.args.name text_before _ _ (search rules) refl c.requires.invariant.holds c.begin.ensures
+pub heading_atx_look_signs-requires : goal.heading_atx_look_signs-requires
+heading_atx_look_signs-requires c = callable flow unchanged c.args.name heading_atx_look_signs _ _ (search rules) refl c.requires.invariant.holds c.begin.ensures
 
-pub text_before_data-requires : goal.text_before_data-requires
-text_before_data-requires c = callable flow unchanged c.args.name text_before_data _ _ (search rules) refl c.requires.invariant.holds c.begin.ensures
+pub heading_atx_look_after-requires : goal.heading_atx_look_after-requires
+heading_atx_look_after-requires c = callable flow unchanged c.args.name heading_atx_look_after _ _ (search rules) refl c.requires.invariant.holds c.begin.ensures
 
 pub heading_atx_start-requires : goal.heading_atx_start-requires
 heading_atx_start-requires c = callable flow unchanged c.args.name heading_atx_start _ _ (search rules) refl c.requires.invariant.holds c.begin.ensures
@@ -94,8 +94,8 @@ code_indented_further_after-requires c = callable flow unchanged c.args.name cod
 pub code_indented_inside-requires : goal.code_indented_inside-requires
 code_indented_inside-requires c = callable flow unchanged c.args.name code_indented_inside _ _ (search rules) refl c.requires.invariant.holds c.begin.ensures
 
-pub space_or_tab_eol_after_first-requires : goal.space_or_tab_eol_after_first-requires
-space_or_tab_eol_after_first-requires c = callable flow unchanged c.args.name space_or_tab_eol_after_first _ _ (search rules) refl c.requires.invariant.holds c.begin.ensures
+pub code_indented_line_after-requires : goal.code_indented_line_after-requires
+code_indented_line_after-requires c = callable flow unchanged c.args.name code_indented_line_after _ _ (search rules) refl c.requires.invariant.holds c.begin.ensures
 
 pub code_indented_after-requires : goal.code_indented_after-requires
 code_indented_after-requires c = callable flow unchanged c.args.name code_indented_after _ _ (search rules) refl c.requires.invariant.holds c.begin.ensures
@@ -109,8 +109,8 @@ code_indented_further_start-requires c = callable flow unchanged c.args.name cod
 pub flow_before_raw-requires : goal.flow_before_raw-requires
 flow_before_raw-requires c = callable flow unchanged c.args.name flow_before_raw _ _ (search rules) refl c.requires.invariant.holds c.begin.ensures
 
-pub flow_before_code_indented-requires : goal.flow_before_code_indented-requires
-flow_before_code_indented-requires c = callable flow unchanged c.args.name flow_before_code_indented _ _ (search rules) refl c.requires.invariant.holds c.begin.ensures
+pub raw_flow_look_info-requires : goal.raw_flow_look_info-requires
+raw_flow_look_info-requires c = callable flow unchanged c.args.name raw_flow_look_info _ _ (search rules) refl c.requires.invariant.holds c.begin.ensures
 
 pub raw_flow_start-requires : goal.raw_flow_start-requires
 raw_flow_start-requires c = callable flow unchanged c.args.name raw_flow_start _ _ (search rules) refl c.requires.invariant.holds c.begin.ensures
@@ -127,8 +127,8 @@ raw_flow_before_sequence_open-requires c = callable flow unchanged c.args.name r
 pub raw_flow_info-requires : goal.raw_flow_info-requires
 raw_flow_info-requires c = callable flow unchanged c.args.name raw_flow_info _ _ (search rules) refl c.requires.invariant.holds c.begin.ensures
 
-pub raw_text_start-requires : goal.raw_text_start-requires
-raw_text_start-requires c = callable flow unchanged c.args.name raw_text_start _ _ (search rules) refl c.requires.invariant.holds c.begin.ensures
+pub raw_flow_info_after-requires : goal.raw_flow_info_after-requires
+raw_flow_info_after-requires c = callable flow unchanged c.args.name raw_flow_info_after _ _ (search rules) refl c.requires.invariant.holds c.begin.ensures
 
 pub raw_flow_meta_before-requires : goal.raw_flow_meta_before-requires
 raw_flow_meta_before-requires c = callable flow unchanged c.args.name raw_flow_meta_before _ _ (search rules) refl c.requires.invariant.holds c.begin.ensures
@@ -166,26 +166,26 @@ raw_flow_content_chunk-requires c = callable flow unchanged c.args.name raw_flow
 pub raw_flow_after-requires : goal.raw_flow_after-requires
 raw_flow_after-requires c = callable flow unchanged c.args.name raw_flow_after _ _ (search rules) refl c.requires.invariant.holds c.begin.ensures
 
-pub raw_text_sequence_open-requires : goal.raw_text_sequence_open-requires
-raw_text_sequence_open-requires c = callable flow unchanged c.args.name raw_text_sequence_open _ _ (search rules) refl c.requires.invariant.holds c.begin.ensures
+pub raw_flow_close_before-requires : goal.raw_flow_close_before-requires
+raw_flow_close_before-requires c = callable flow unchanged c.args.name raw_flow_close_before _ _ (search rules) refl c.requires.invariant.holds c.begin.ensures
 
-pub raw_text_between-requires : goal.raw_text_between-requires
-raw_text_between-requires c = callable flow unchanged c.args.name raw_text_between _ _ (search rules) refl c.requires.invariant.holds c.begin.ensures
+pub raw_flow_close_blank-requires : goal.raw_flow_close_blank-requires
+raw_flow_close_blank-requires c = callable flow unchanged c.args.name raw_flow_close_blank _ _ (search rules) refl c.requires.invariant.holds c.begin.ensures
 
-pub raw_text_sequence_close-requires : goal.raw_text_sequence_close-requires
-raw_text_sequence_close-requires c = callable flow unchanged c.args.name raw_text_sequence_close _ _ (search rules) refl c.requires.invariant.holds c.begin.ensures
+pub raw_flow_close_sequence-requires : goal.raw_flow_close_sequence-requires
+raw_flow_close_sequence-requires c = callable flow unchanged c.args.name raw_flow_close_sequence _ _ (search rules) refl c.requires.invariant.holds c.begin.ensures
 
-pub raw_text_data-requires : goal.raw_text_data-requires
-raw_text_data-requires c = callable flow unchanged c.args.name raw_text_data _ _ (search rules) refl c.requires.invariant.holds c.begin.ensures
+pub raw_flow_close_between-requires : goal.raw_flow_close_between-requires
+raw_flow_close_between-requires c = callable flow unchanged c.args.name raw_flow_close_between _ _ (search rules) refl c.requires.invariant.holds c.begin.ensures
 
 pub flow_before_heading_setext-requires : goal.flow_before_heading_setext-requires
 flow_before_heading_setext-requires c = callable flow unchanged c.args.name flow_before_heading_setext _ _ (search rules) refl c.requires.invariant.holds c.begin.ensures
 
-pub flow_before_gfm_table-requires : goal.flow_before_gfm_table-requires
-flow_before_gfm_table-requires c = callable flow unchanged c.args.name flow_before_gfm_table _ _ (search rules) refl c.requires.invariant.holds c.begin.ensures
+pub heading_setext_look_after-requires : goal.heading_setext_look_after-requires
+heading_setext_look_after-requires c = callable flow unchanged c.args.name heading_setext_look_after _ _ (search rules) refl c.requires.invariant.holds c.begin.ensures
 
-pub content_definition_after-requires : goal.content_definition_after-requires
-content_definition_after-requires c = callable flow unchanged c.args.name content_definition_after _ _ (search rules) refl c.requires.invariant.holds c.begin.ensures
+pub heading_setext_text_after-requires : goal.heading_setext_text_after-requires
+heading_setext_text_after-requires c = callable flow unchanged c.args.name heading_setext_text_after _ _ (search rules) refl c.requires.invariant.holds c.begin.ensures
 
 pub heading_setext_start-requires : goal.heading_setext_start-requires
 heading_setext_start-requires c = callable flow unchanged c.args.name heading_setext_start _ _ (search rules) refl c.requires.invariant.holds c.begin.ensures
@@ -286,8 +286,8 @@ html_flow_continuation_before-requires c = callable flow unchanged c.args.name h
 pub html_flow_blank_line_before-requires : goal.html_flow_blank_line_before-requires
 html_flow_blank_line_before-requires c = callable flow unchanged c.args.name html_flow_blank_line_before _ _ (search rules) refl c.requires.invariant.holds c.begin.ensures
 
-pub blank_line_after-requires : goal.blank_line_after-requires
-blank_line_after-requires c = callable flow unchanged c.args.name blank_line_after _ _ (search rules) refl c.requires.invariant.holds c.begin.ensures
+pub html_flow_blank_line_inside-requires : goal.html_flow_blank_line_inside-requires
+html_flow_blank_line_inside-requires c = callable flow unchanged c.args.name html_flow_blank_line_inside _ _ (search rules) refl c.requires.invariant.holds c.begin.ensures
 
 pub html_flow_continuation_after-requires : goal.html_flow_continuation_after-requires
 html_flow_continuation_after-requires c = callable flow unchanged c.args.name html_flow_continuation_after _ _ (search rules) refl c.requires.invariant.holds c.begin.ensures
@@ -313,8 +313,8 @@ paragraph_inside-requires c = callable flow unchanged c.args.name paragraph_insi
 pub paragraph_line_start-requires : goal.paragraph_line_start-requires
 paragraph_line_start-requires c = callable flow unchanged c.args.name paragraph_line_start _ _ (search rules) refl c.requires.invariant.holds c.begin.ensures
 
-pub content_chunk_inside-requires : goal.content_chunk_inside-requires
-content_chunk_inside-requires c = callable flow unchanged c.args.name content_chunk_inside _ _ (search rules) refl c.requires.invariant.holds c.begin.ensures
+pub paragraph_line_after-requires : goal.paragraph_line_after-requires
+paragraph_line_after-requires c = callable flow unchanged c.args.name paragraph_line_after _ _ (search rules) refl c.requires.invariant.holds c.begin.ensures
 
 pub unreachable-requires : goal.unreachable-requires
 unreachable-requires c = never-called flow c.args.name c.args.t.now (search rules) c.requires.invariant.holds
