@@ -3,7 +3,8 @@ use Rattle.std.specs.Prelude.{ℕ, ◌==◌, ◌&&◌, nat_le, Bool, cond, false
 use Rattle.std.specs.List.{prefix_len}
 use Rattle.markdown_base.specs.declared.event.Name.TheVariants.{HardBreakEscape, HardBreakTrailing}
 use Rattle.markdown_base.specs.declared.state.State.TheVariants.{Next, Ok, Nok}
-use Rattle.markdown_base.specs.declared.state.TheConstants.Name.{TextBeforeData, HardBreakEscapeStart, HardBreakEscapeAfter, SpaceOrTabEolStart, SpaceOrTabEolAfterFirst, SpaceOrTabEolAfterMore}
+use Rattle.markdown_base.specs.declared.state.TheConstants.Name.{TextBeforeData, HardBreakEscapeStart, HardBreakEscapeAfter}
+use Rattle.mdconstructs_inline_constructs.specs.declared.names.TheConstants.{HardBreakTrailingAfterFirst, HardBreakTrailingAfterMore, HardBreakTrailingStart}
 use Rattle.markdown_tokenizer.specs.Text.{Given}
 use Rattle.markdown_tokenizer.specs.Configuration.{Configuration}
 use Rattle.markdown_tokenizer.specs.Sight.{Sight}
@@ -98,34 +99,34 @@ space_waits g s k = passes is_space s.current
 
 -- It begins with a space
 abbrev pub trailing_start_rows : {R D : Type 0} → (previous current : Option TextByte) → Rows R D
-trailing_start_rows _ (Some white) = when space_waits (row (enter HardBreakTrailing ∷ consume ∷ []) (Next SpaceOrTabEolAfterFirst)) (row [] Nok)
+trailing_start_rows _ (Some white) = when space_waits (row (enter HardBreakTrailing ∷ consume ∷ []) (Next HardBreakTrailingAfterFirst)) (row [] Nok)
 trailing_start_rows _ _ = row [] Nok
 
 -- its state: it is called only at white space, and no span is open yet
 abbrev pub trailing_start : {R D : Type 0} → StateRows TextByte R D
 trailing_start =
-    tried (record (state SpaceOrTabEolStart trailing_start_rows [] (text_cost (by_left 0 1 1))) { called = at_bytes is_white_class })
+    tried (record (state HardBreakTrailingStart trailing_start_rows [] (text_cost (by_left 0 1 1))) { called = at_bytes is_white_class })
 
 -- a second space follows
 abbrev pub trailing_after_first_rows : {R D : Type 0} → (previous current : Option TextByte) → Rows R D
-trailing_after_first_rows _ (Some white) = when space_waits (row (consume ∷ []) (Next SpaceOrTabEolAfterMore)) (row [] Nok)
+trailing_after_first_rows _ (Some white) = when space_waits (row (consume ∷ []) (Next HardBreakTrailingAfterMore)) (row [] Nok)
 trailing_after_first_rows _ _ = row [] Nok
 
 -- its state: the hard break is open
 abbrev pub trailing_after_first : {R D : Type 0} → StateRows TextByte R D
 trailing_after_first =
-    tried (state SpaceOrTabEolAfterFirst trailing_after_first_rows (HardBreakTrailing ∷ []) (text_cost (by_left 0 1 1)))
+    tried (state HardBreakTrailingAfterFirst trailing_after_first_rows (HardBreakTrailing ∷ []) (text_cost (by_left 0 1 1)))
 
 -- further spaces follow, up to a line ending
 abbrev pub trailing_after_more_rows : {R D : Type 0} → (previous current : Option TextByte) → Rows R D
-trailing_after_more_rows _ (Some white) = when space_waits (row (consume ∷ []) (Next SpaceOrTabEolAfterMore)) (row [] Nok)
+trailing_after_more_rows _ (Some white) = when space_waits (row (consume ∷ []) (Next HardBreakTrailingAfterMore)) (row [] Nok)
 trailing_after_more_rows _ (Some line_feed) = row (exit HardBreakTrailing ∷ []) Ok
 trailing_after_more_rows _ _ = row [] Nok
 
 -- its state: the hard break is open
 abbrev pub trailing_after_more : {R D : Type 0} → StateRows TextByte R D
 trailing_after_more =
-    tried (state SpaceOrTabEolAfterMore trailing_after_more_rows (HardBreakTrailing ∷ []) (text_cost (by_left 0 1 1)))
+    tried (state HardBreakTrailingAfterMore trailing_after_more_rows (HardBreakTrailing ∷ []) (text_cost (by_left 0 1 1)))
 
 -- What its states cost: each reads a byte or ends
 abbrev pub trailing_break_prices : List (Price TextByte)
@@ -136,9 +137,9 @@ abbrev pub trailing_breaks : {R D : Type 0} → Construct Found TextByte R D
 trailing_breaks = record {
   grammar = trailing_break_grammar;
   begins = is_white_class;
-  start = SpaceOrTabEolStart;
+  start = HardBreakTrailingStart;
   otherwise = TextBeforeData;
   states = trailing_start ∷ trailing_after_first ∷ trailing_after_more ∷ [];
-  begun = λ name w. name.number == SpaceOrTabEolStart.number;
+  begun = λ name w. name.number == HardBreakTrailingStart.number;
   follows = λ name. false;
 }

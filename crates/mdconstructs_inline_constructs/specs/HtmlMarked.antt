@@ -4,7 +4,8 @@ use Rattle.std.specs.Prelude.{ℕ, ◌+◌, ◌-◌, ◌^◌, ◌==◌, ◌&&◌
 use Rattle.std.specs.Char.{is_ascii_alphabetic}
 use Rattle.markdown_base.specs.declared.event.Name.TheVariants.{HtmlText, HtmlTextData, LineEnding, SpaceOrTab}
 use Rattle.markdown_base.specs.declared.state.State.TheVariants.{Next, Retry, Nok}
-use Rattle.markdown_base.specs.declared.state.TheConstants.Name.{TextBeforeData, HtmlTextDeclaration, HtmlTextDeclarationOpen, HtmlTextInstruction, HtmlTextCdataOpenInside, HtmlTextCommentOpenInside, HtmlTextComment, HtmlTextCommentClose, HtmlTextCommentEnd}
+use Rattle.markdown_base.specs.declared.state.TheConstants.Name.{TextBeforeData, HtmlTextDeclarationOpen, HtmlTextCdataOpenInside, HtmlTextCommentOpenInside}
+use Rattle.mdconstructs_inline_constructs.specs.declared.names.TheConstants.{HtmlTextMarkInside, HtmlTextMarkLine, HtmlTextMarkOpen, HtmlTextMarkStart, HtmlTextMarkWhite}
 use Rattle.markdown_tokenizer.specs.Text.{Given}
 use Rattle.markdown_tokenizer.specs.Configuration.{Configuration, Local}
 use Rattle.markdown_tokenizer.specs.Sight.{Sight}
@@ -138,28 +139,28 @@ module _ {R D : Type 0} where
 
   -- Raw HTML between marks: it begins with `<`
   abbrev pub mark_start_rows : (previous current : Option TextByte) → Rows R D
-  mark_start_rows _ _ = row (enter HtmlText ∷ enter HtmlTextData ∷ consume ∷ []) (Next HtmlTextInstruction)
+  mark_start_rows _ _ = row (enter HtmlText ∷ enter HtmlTextData ∷ consume ∷ []) (Next HtmlTextMarkOpen)
 
   -- its state: it is called only at `<`, and no span is open yet
   abbrev pub mark_start : StateRows TextByte R D
   mark_start =
-      tried (record (state HtmlTextDeclaration mark_start_rows [] (text_cost (by_left 0 2 1))) { called = at_bytes is_less_class })
+      tried (record (state HtmlTextMarkStart mark_start_rows [] (text_cost (by_left 0 2 1))) { called = at_bytes is_less_class })
 
   -- behind `<`: an instruction, if one may end, or one of the others
   abbrev pub mark_open_rows : (previous current : Option TextByte) → Rows R D
   mark_open_rows =
       html_rows no_html
-      (when (sees (λ b. b == 63)) (when no_instruction no_html (row (write (closed_by 63 1 0) ∷ consume ∷ []) (Next HtmlTextComment)))
+      (when (sees (λ b. b == 63)) (when no_instruction no_html (row (write (closed_by 63 1 0) ∷ consume ∷ []) (Next HtmlTextMarkInside)))
       (when (sees (λ b. b == 33)) (html_goes_on HtmlTextDeclarationOpen) no_html))
 
   abbrev pub mark_open : StateRows TextByte R D
-  mark_open = html_state HtmlTextInstruction mark_open_rows
+  mark_open = html_state HtmlTextMarkOpen mark_open_rows
 
   -- behind `<!`: a declaration, or the mark of a comment or of CDATA
   abbrev pub declaration_open_rows : (previous current : Option TextByte) → Rows R D
   declaration_open_rows =
       html_rows no_html
-      (when (sees is_ascii_alphabetic) (when no_declaration no_html (row (write (closed_by 0 0 0) ∷ consume ∷ []) (Next HtmlTextComment)))
+      (when (sees is_ascii_alphabetic) (when no_declaration no_html (row (write (closed_by 0 0 0) ∷ consume ∷ []) (Next HtmlTextMarkInside)))
       (when (sees (λ b. b == 45)) (html_goes_on HtmlTextCommentOpenInside)
       (when (sees (λ b. b == 91)) (row (write (size_b_is 0) ∷ consume ∷ []) (Next HtmlTextCdataOpenInside)) no_html)))
 
@@ -168,7 +169,7 @@ module _ {R D : Type 0} where
 
   -- behind `<!-`: the mark of a comment. Its two `-` may be those of the closing mark
   abbrev pub comment_open_rows : (previous current : Option TextByte) → Rows R D
-  comment_open_rows = html_rows no_html (when (sees (λ b. b == 45)) (when no_comment no_html (row (write (closed_by 45 2 2) ∷ consume ∷ []) (Next HtmlTextComment))) no_html)
+  comment_open_rows = html_rows no_html (when (sees (λ b. b == 45)) (when no_comment no_html (row (write (closed_by 45 2 2) ∷ consume ∷ []) (Next HtmlTextMarkInside))) no_html)
 
   abbrev pub comment_open : StateRows TextByte R D
   comment_open = html_state HtmlTextCommentOpenInside comment_open_rows
@@ -178,41 +179,41 @@ module _ {R D : Type 0} where
   cdata_open_rows =
       html_rows no_html
       (when in_cdata_mark (row (write size_b_grows ∷ consume ∷ []) (Next HtmlTextCdataOpenInside))
-      (when ends_cdata_mark (when no_cdata no_html (row (write (closed_by 93 2 0) ∷ consume ∷ []) (Next HtmlTextComment))) no_html))
+      (when ends_cdata_mark (when no_cdata no_html (row (write (closed_by 93 2 0) ∷ consume ∷ []) (Next HtmlTextMarkInside))) no_html))
 
   abbrev pub cdata_open : StateRows TextByte R D
   cdata_open = html_state HtmlTextCdataOpenInside cdata_open_rows
 
   -- a line ending is read, and its closing mark is counted anew
   abbrev pub mark_line_ends : Rows R D
-  mark_line_ends = row (exit HtmlTextData ∷ enter LineEnding ∷ consume ∷ exit LineEnding ∷ write (size_b_is 0) ∷ []) (Next HtmlTextCommentClose)
+  mark_line_ends = row (exit HtmlTextData ∷ enter LineEnding ∷ consume ∷ exit LineEnding ∷ write (size_b_is 0) ∷ []) (Next HtmlTextMarkLine)
 
   -- behind the opening mark: the end, a byte of the closing mark, or any other; and at a line feed data ends
   abbrev pub mark_inside_rows : (previous current : Option TextByte) → Rows R D
   mark_inside_rows =
       look_rows mark_line_ends
       (when mark_ends html_ends
-      (when in_mark (row (write size_b_grows ∷ consume ∷ []) (Next HtmlTextComment))
-      (when mark_begun (row (write (size_b_is 0) ∷ consume ∷ []) (Next HtmlTextComment)) (html_goes_on HtmlTextComment))))
+      (when in_mark (row (write size_b_grows ∷ consume ∷ []) (Next HtmlTextMarkInside))
+      (when mark_begun (row (write (size_b_is 0) ∷ consume ∷ []) (Next HtmlTextMarkInside)) (html_goes_on HtmlTextMarkInside))))
 
   abbrev pub mark_inside : StateRows TextByte R D
-  mark_inside = html_state HtmlTextComment mark_inside_rows
+  mark_inside = html_state HtmlTextMarkInside mark_inside_rows
 
   -- behind a line feed white space or data begins. A line feed would make a blank line
   abbrev pub mark_line_rows : (previous current : Option TextByte) → Rows R D
-  mark_line_rows = look_rows mark_fails (when (sees is_white) (row (enter SpaceOrTab ∷ consume ∷ []) (Next HtmlTextCommentEnd)) (row (enter HtmlTextData ∷ []) (Retry HtmlTextComment)))
+  mark_line_rows = look_rows mark_fails (when (sees is_white) (row (enter SpaceOrTab ∷ consume ∷ []) (Next HtmlTextMarkWhite)) (row (enter HtmlTextData ∷ []) (Retry HtmlTextMarkInside)))
 
   -- its state: raw HTML is open
   abbrev pub mark_line : StateRows TextByte R D
-  mark_line = tried (state HtmlTextCommentClose mark_line_rows (HtmlText ∷ []) (text_cost (by_left 0 2 2)))
+  mark_line = tried (state HtmlTextMarkLine mark_line_rows (HtmlText ∷ []) (text_cost (by_left 0 2 2)))
 
   -- white space at the start of a line ends where data begins
   abbrev pub mark_white_rows : (previous current : Option TextByte) → Rows R D
-  mark_white_rows = look_rows mark_fails (when (sees is_white) (html_goes_on HtmlTextCommentEnd) (row (exit SpaceOrTab ∷ enter HtmlTextData ∷ []) (Retry HtmlTextComment)))
+  mark_white_rows = look_rows mark_fails (when (sees is_white) (html_goes_on HtmlTextMarkWhite) (row (exit SpaceOrTab ∷ enter HtmlTextData ∷ []) (Retry HtmlTextMarkInside)))
 
   -- its state: raw HTML and white space are open
   abbrev pub mark_white : StateRows TextByte R D
-  mark_white = tried (state HtmlTextCommentEnd mark_white_rows (HtmlText ∷ SpaceOrTab ∷ []) (text_cost (by_left 0 2 2)))
+  mark_white = tried (state HtmlTextMarkWhite mark_white_rows (HtmlText ∷ SpaceOrTab ∷ []) (text_cost (by_left 0 2 2)))
 
 -- What its states cost: each reads a byte or ends, or begins data behind a line ending
 abbrev pub html_mark_prices : List (Price TextByte)
@@ -223,9 +224,9 @@ abbrev pub html_marks : {R D : Type 0} → Construct Found TextByte R D
 html_marks = record {
   grammar = html_mark_grammar;
   begins = is_less_class;
-  start = HtmlTextDeclaration;
+  start = HtmlTextMarkStart;
   otherwise = TextBeforeData;
   states = mark_start ∷ mark_open ∷ declaration_open ∷ comment_open ∷ cdata_open ∷ mark_inside ∷ mark_line ∷ mark_white ∷ [];
-  begun = λ name w. name.number == HtmlTextDeclaration.number;
+  begun = λ name w. name.number == HtmlTextMarkStart.number;
   follows = λ name. false;
 }

@@ -5,14 +5,15 @@ use Rattle.std.specs.List.{last_or}
 use Rattle.markdown_base.specs.declared.event.Event.{Event}
 use Rattle.markdown_base.specs.declared.event.Name.TheVariants.{CodeTextData, CodeTextSequence}
 use Rattle.markdown_base.specs.declared.state.State.TheVariants.{Next, Retry, Nok}
-use Rattle.markdown_base.specs.declared.state.TheConstants.Name.{RawFlowContentChunk, RawTextBetween, RawTextSequenceOpen}
+use Rattle.markdown_base.specs.declared.state.TheConstants.Name.{RawTextBetween, RawTextSequenceOpen}
+use Rattle.mdconstructs_text.specs.declared.names.TheConstants.{RawTextBackticksInside}
 use Rattle.markdown_tokenizer.specs.Configuration.{Configuration, Local}
 use Rattle.markdown_tokenizer.specs.Sight.{Sight}
 use Rattle.markdown_tokenizer.specs.Text.{Given}
 use Rattle.markdown_tokenizer.specs.declared.tokenizer.state.Container.TheVariants.{BlockQuote}
 use Rattle.markdown_tokenizer.specs.declared.tokenizer.state.ContainerState.{ContainerState}
 use Rattle.mdconstructs_tables.specs.Rows.{enter, exit, consume, write, Rows, row, when, StateRows}
-use Rattle.mdconstructs_text.specs.CodeSpan.{code_spans, raw_flow_after, raw_flow_before_content_chunk, raw_flow_content_chunk, raw_text_between, raw_text_between_rows, raw_text_data, raw_text_sequence_close, raw_text_sequence_open, raw_text_start}
+use Rattle.mdconstructs_text.specs.CodeSpan.{code_spans, raw_text_after, raw_text_backticks_start, raw_text_backticks_inside, raw_text_between, raw_text_between_rows, raw_text_data, raw_text_sequence_close, raw_text_sequence_open, raw_text_start}
 use Rattle.mdconstructs_text.specs.Construct.{Construct, Found}
 use Rattle.mdconstructs_text.specs.TextBytes.{TextByte, backtick}
 use Rattle.mdconstructs_text.specs.TextSizes.{size_b_grows}
@@ -104,14 +105,14 @@ remembered_between = record raw_text_between { rows = remembered_between_rows }
 
 -- a backtick string of another length is data, and is noted
 abbrev pub remembered_chunk_rows : {R D : Type 0} → (previous current : Option TextByte) → Rows R D
-remembered_chunk_rows _ _ = row (enter CodeTextData ∷ write run_is_noted ∷ []) (Retry RawFlowContentChunk)
+remembered_chunk_rows _ _ = row (enter CodeTextData ∷ write run_is_noted ∷ []) (Retry RawTextBackticksInside)
 
 -- its state
 abbrev pub remembered_chunk : {R D : Type 0} → StateRows TextByte R D
-remembered_chunk = record raw_flow_before_content_chunk { rows = remembered_chunk_rows }
+remembered_chunk = record raw_text_backticks_start { rows = remembered_chunk_rows }
 
 -- How code spans are read by a machine that remembers
 abbrev pub remembered_code_spans : {R D : Type 0} → Construct Found TextByte R D
 remembered_code_spans = record code_spans {
-  states = raw_text_start ∷ remembered_open ∷ remembered_between ∷ raw_text_data ∷ raw_text_sequence_close ∷ raw_flow_after ∷ remembered_chunk ∷ raw_flow_content_chunk ∷ [];
+  states = raw_text_start ∷ remembered_open ∷ remembered_between ∷ raw_text_data ∷ raw_text_sequence_close ∷ raw_text_after ∷ remembered_chunk ∷ raw_text_backticks_inside ∷ [];
 }

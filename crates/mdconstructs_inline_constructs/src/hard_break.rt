@@ -13,6 +13,7 @@ ghost use Rattle.mdconstructs_tables.specs.RowInvariant.{DoesAll, IsCallable, st
 ghost use Rattle.mdconstructs_text.specs.TextBytes.{text_byte};
 ghost use Rattle.mdconstructs_inline_constructs.specs.HardBreak.{break_escapes_are_on, break_escape_start, break_escape_after, trailing_breaks_are_on, space_waits, trailing_start, trailing_after_first, trailing_after_more};
 
+use crate::names;
 use markdown_tokenizer::event;
 use markdown_tokenizer::state::{MachineTypes, Name, State};
 use markdown_tokenizer::tokenizer::Tokenizer;
@@ -65,7 +66,7 @@ pub fn trailing_start<'a, M: MachineTypes>(t: &mut Tokenizer<'a, M>) -> Result<S
             }
             t.enter(event::Name::HardBreakTrailing)?;
             t.consume();
-            Ok(State::Next(Name::SpaceOrTabEolAfterFirst))
+            Ok(State::Next(names::HardBreakTrailingAfterFirst))
         }
         _ => Ok(State::Nok),
     }
@@ -84,7 +85,7 @@ pub fn trailing_after_first<'a, M: MachineTypes>(
                 return Ok(State::Nok);
             }
             t.consume();
-            Ok(State::Next(Name::SpaceOrTabEolAfterMore))
+            Ok(State::Next(names::HardBreakTrailingAfterMore))
         }
         _ => Ok(State::Nok),
     }
@@ -103,7 +104,7 @@ pub fn trailing_after_more<'a, M: MachineTypes>(
                 return Ok(State::Nok);
             }
             t.consume();
-            Ok(State::Next(Name::SpaceOrTabEolAfterMore))
+            Ok(State::Next(names::HardBreakTrailingAfterMore))
         }
         Some(b'\n') => {
             t.exit(event::Name::HardBreakTrailing)?;

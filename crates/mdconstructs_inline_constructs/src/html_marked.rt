@@ -25,6 +25,7 @@ ghost use Rattle.mdconstructs_inline_constructs.specs.HtmlText.{CanEndHtmlLine};
 ghost use Rattle.mdconstructs_inline_constructs.specs.HtmlMarked.{cdata_open, closed_by, comment_open, declaration_open, ends_cdata_mark, in_cdata_mark, in_mark, mark_begun, mark_ends, mark_fails, mark_inside, mark_line, mark_line_ends, mark_open, mark_start, mark_white, no_cdata, no_comment, no_declaration, no_instruction, none_upto, stopped_at};
 
 use crate::html_text::html_ends;
+use crate::names;
 use markdown_tokenizer::event::{self, Point};
 use markdown_tokenizer::state::{MachineTypes, Name, State};
 use markdown_tokenizer::tokenizer::Tokenizer;
@@ -40,7 +41,7 @@ pub fn mark_start<'a, M: MachineTypes>(t: &mut Tokenizer<'a, M>) -> Result<State
     t.enter(event::Name::HtmlText)?;
     t.enter(event::Name::HtmlTextData)?;
     t.consume();
-    Ok(State::Next(Name::HtmlTextInstruction))
+    Ok(State::Next(names::HtmlTextMarkOpen))
 }
 
 /// Behind `<`.
@@ -57,7 +58,7 @@ pub fn mark_open<'a, M: MachineTypes>(t: &mut Tokenizer<'a, M>) -> Result<State,
             }
             set_closing(t, b'?', 1, 0);
             t.consume();
-            Ok(State::Next(Name::HtmlTextComment))
+            Ok(State::Next(names::HtmlTextMarkInside))
         }
         Some(b'!') => {
             t.consume();
@@ -79,7 +80,7 @@ pub fn declaration_open<'a, M: MachineTypes>(t: &mut Tokenizer<'a, M>) -> Result
             }
             set_closing(t, 0, 0, 0);
             t.consume();
-            Ok(State::Next(Name::HtmlTextComment))
+            Ok(State::Next(names::HtmlTextMarkInside))
         }
         Some(b'-') => {
             t.consume();
@@ -106,7 +107,7 @@ pub fn comment_open<'a, M: MachineTypes>(t: &mut Tokenizer<'a, M>) -> Result<Sta
             }
             set_closing(t, b'-', 2, 2);
             t.consume();
-            Ok(State::Next(Name::HtmlTextComment))
+            Ok(State::Next(names::HtmlTextMarkInside))
         }
         _ => Ok(State::Nok),
     }
@@ -131,7 +132,7 @@ pub fn cdata_open<'a, M: MachineTypes>(t: &mut Tokenizer<'a, M>) -> Result<State
                 }
                 set_closing(t, b']', 2, 0);
                 t.consume();
-                Ok(State::Next(Name::HtmlTextComment))
+                Ok(State::Next(names::HtmlTextMarkInside))
             } else {
                 Ok(State::Nok)
             }
@@ -153,14 +154,14 @@ pub fn mark_inside<'a, M: MachineTypes>(t: &mut Tokenizer<'a, M>) -> Result<Stat
             } else if in_mark(t) {
                 add_to_size_b(t);
                 t.consume();
-                Ok(State::Next(Name::HtmlTextComment))
+                Ok(State::Next(names::HtmlTextMarkInside))
             } else if mark_begun(t) {
                 set_size_b(t, 0);
                 t.consume();
-                Ok(State::Next(Name::HtmlTextComment))
+                Ok(State::Next(names::HtmlTextMarkInside))
             } else {
                 t.consume();
-                Ok(State::Next(Name::HtmlTextComment))
+                Ok(State::Next(names::HtmlTextMarkInside))
             }
         }
     }
@@ -176,11 +177,11 @@ pub fn mark_line<'a, M: MachineTypes>(t: &mut Tokenizer<'a, M>) -> Result<State,
         Some(b' ' | b'\t') => {
             t.enter(event::Name::SpaceOrTab)?;
             t.consume();
-            Ok(State::Next(Name::HtmlTextCommentEnd))
+            Ok(State::Next(names::HtmlTextMarkWhite))
         }
         Some(_) => {
             t.enter(event::Name::HtmlTextData)?;
-            Ok(State::Retry(Name::HtmlTextComment))
+            Ok(State::Retry(names::HtmlTextMarkInside))
         }
     }
 }
@@ -194,12 +195,12 @@ pub fn mark_white<'a, M: MachineTypes>(t: &mut Tokenizer<'a, M>) -> Result<State
         None | Some(b'\n') => mark_fails(t),
         Some(b' ' | b'\t') => {
             t.consume();
-            Ok(State::Next(Name::HtmlTextCommentEnd))
+            Ok(State::Next(names::HtmlTextMarkWhite))
         }
         Some(_) => {
             t.exit(event::Name::SpaceOrTab)?;
             t.enter(event::Name::HtmlTextData)?;
-            Ok(State::Retry(Name::HtmlTextComment))
+            Ok(State::Retry(names::HtmlTextMarkInside))
         }
     }
 }
@@ -212,7 +213,7 @@ fn mark_line_ends<'a, M: MachineTypes>(t: &mut Tokenizer<'a, M>) -> Result<State
     t.exit(event::Name::HtmlTextData)?;
     marker(t, event::Name::LineEnding)?;
     set_size_b(t, 0);
-    Ok(State::Next(Name::HtmlTextCommentClose))
+    Ok(State::Next(names::HtmlTextMarkLine))
 }
 
 /// Whether the mark ends here.

@@ -6,6 +6,7 @@ pub mod hard_break;
 pub mod html_marked;
 pub mod html_tag;
 pub mod html_text;
+pub mod names;
 pub mod reference;
 pub mod remembered_code;
 pub mod white_space;

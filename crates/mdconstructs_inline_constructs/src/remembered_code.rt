@@ -20,6 +20,7 @@ use markdown_tokenizer::owned::Items;
 use markdown_tokenizer::state::{MachineTypes, Name, State};
 use markdown_tokenizer::tokenizer::{Container, ContainerState, Tokenizer};
 use mdconstructs_tables::marker;
+use mdconstructs_text::names;
 use mdconstructs_text::sizes::{add_to_size_b, set_size_c};
 use std::alloc::{AllocError, Global};
 use std::mem::replace;
@@ -67,8 +68,8 @@ pub fn remembered_between<'a, M: MachineTypes>(
         }
         Some(b'`') => {
             t.attempt(
-                State::Next(Name::RawFlowAfter),
-                State::Next(Name::RawFlowBeforeContentChunk),
+                State::Next(names::RawTextAfter),
+                State::Next(names::RawTextBackticksStart),
             )?;
             t.enter(event::Name::CodeTextSequence)?;
             set_size_c(t, 0);
@@ -92,7 +93,7 @@ pub fn remembered_chunk<'a, M: MachineTypes>(
     t.enter(event::Name::CodeTextData)?;
     let index = last_index(t);
     note_run(alloc, t, index)?;
-    Ok(State::Retry(Name::RawFlowContentChunk))
+    Ok(State::Retry(names::RawTextBackticksInside))
 }
 
 /// Whether it is known that nothing ahead closes the code span.

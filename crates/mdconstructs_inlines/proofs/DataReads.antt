@@ -14,7 +14,8 @@ use Rattle.markdown_base.specs.declared.event.Name.{Name as EventName}
 use Rattle.markdown_base.specs.declared.event.Name.TheVariants.{Data}
 use Rattle.markdown_base.specs.declared.state.Name.{Name}
 use Rattle.markdown_base.specs.declared.state.State.TheVariants.{Next, Retry}
-use Rattle.markdown_base.specs.declared.state.TheConstants.Name.{BlankLineAfter, DataInside, SpaceOrTabAfter, SpaceOrTabStart, TextBefore, TextBeforeData}
+use Rattle.markdown_base.specs.declared.state.TheConstants.Name.{DataInside, SpaceOrTabStart, TextBefore, TextBeforeData}
+use Rattle.mdconstructs_inlines.specs.declared.names.TheConstants.{DataOver, DataWhite}
 use Rattle.markdown_base.specs.Virtual.{Seat}
 use Rattle.markdown_tokenizer.specs.declared.waiting.AttemptKind.TheVariants.{Check}
 use Rattle.markdown_tokenizer.specs.declared.waiting.Waits.TheVariants.{Byte, Nothing}
@@ -91,7 +92,7 @@ module _ (g : Given) (text : Text) where
 
   -- From white space that its line does not end with the look has been: four calls less for each of its bytes
   abbrev WhiteReadFrom : List Seat → ℕ → List Event → Local Unit Unit → Type 0
-  WhiteReadFrom l q events local = (calls : ℕ) × (calls + 4 * next_white l ≤ calls_in_data l + 1) × ReadFrom l q events local SpaceOrTabAfter (next_data l) calls
+  WhiteReadFrom l q events local = (calls : ℕ) × (calls + 4 * next_white l ≤ calls_in_data l + 1) × ReadFrom l q events local DataWhite (next_data l) calls
 
   abbrev WhiteRead : List Seat → Type 0
   WhiteRead l = (q : ℕ) (events : List Event) (local : Local Unit Unit) → drop q text.seats ≡ l → is_white_left (bytes_of l) ≡ false → WhiteReadFrom l q events local
@@ -168,14 +169,14 @@ module _ (g : Given) (text : Text) where
         let read : WhiteReadFrom ss (q + 1) events (counts local) = white_more (q + 1) events (counts local) next (sym (left-behind s.byte (bytes_of ss) is) ∙ left) in (
           1 + read.0,
           omega (arith, read.1, ends-so false there, behind-so false there, white-so true is),
-          subst (λ n. ReadFrom l q events local SpaceOrTabAfter n (1 + read.0)) (sym (ends-so false there))
-              (one-more SpaceOrTabAfter SpaceOrTabAfter local read.0 (ap (λ o. row_step g text (shows l in_data q events local) (white_data_rows (before_class g text q) (class_of text_byte o))) waits ∙ ap (λ w. row_step g text (shows l in_data q events local) (white_data_rows (before_class g text q) (Some w))) (white-class s.byte is))
+          subst (λ n. ReadFrom l q events local DataWhite n (1 + read.0)) (sym (ends-so false there))
+              (one-more DataWhite DataWhite local read.0 (ap (λ o. row_step g text (shows l in_data q events local) (white_data_rows (before_class g text q) (class_of text_byte o))) waits ∙ ap (λ w. row_step g text (shows l in_data q events local) (white_data_rows (before_class g text q) (Some w))) (white-class s.byte is))
               read.2),
         )
 
     -- what the look leads to
     abbrev look : Choice
-    look = record { kind = Check; ok = Next BlankLineAfter; nok = Next SpaceOrTabAfter; saved = Some (record { position = q; ended = false; events = length events; stack = in_data }) }
+    look = record { kind = Check; ok = Next DataOver; nok = Next DataWhite; saved = Some (record { position = q; ended = false; events = length events; stack = in_data }) }
 
     looks : (read : List Event) (after : Local Unit Unit) (name : Name) (es : Ending) → EndsWith g text m (shows l in_data q events after) [] (Retry name) es
         → EndsWith g text m (held in_data q Nothing false (take (length events) (events ++ read)) after) [] (Next name) es
@@ -189,16 +190,16 @@ module _ (g : Given) (text : Text) where
         let w = inlines_play_white_spaces g text in
         let there : ends_data_at on (bytes_of l) ≡ true = (λ i. white-plain on s.byte is i || (is i && left i)) in
         let after = after_white g text m w in_data (look ∷ []) q false events (counts local) s ss at is in
-        let read = ends-here l q events after BlankLineAfter at refl in
+        let read = ends-here l q events after DataOver at refl in
         let looked : IsAfter (1 + (1 + next_white l)) local after = after-more 1 (1 + next_white l) local (counts local) after (after-call local) (white-calls g text m w in_data (look ∷ []) q false events (counts local) s ss at is) in
         let within : 1 + (1 + next_white l) + 1 ≤ calls_in_data l = omega (arith, behind-so true there) in
         subst (λ n. ReadFrom l q events local DataInside n (calls_in_data l)) (sym (ends-so true there)) (
           read.0,
           after-within (1 + (1 + next_white l) + 1) (calls_in_data l) local read.0 within (after-more (1 + (1 + next_white l)) 1 local after read.0 looked read.1),
           λ es h.
-              leads-row g text m (row (choose Check (Next BlankLineAfter) (Next SpaceOrTabAfter) ∷ []) (Retry SpaceOrTabStart)) (shows l in_data q events local) [] DataInside es (data-looks g text (shows l in_data q events local) s.byte waits is)
+              leads-row g text m (row (choose Check (Next DataOver) (Next DataWhite) ∷ []) (Retry SpaceOrTabStart)) (shows l in_data q events local) [] DataInside es (data-looks g text (shows l in_data q events local) s.byte waits is)
               (ends-white g text m w in_data (look ∷ []) q false events (counts local) s ss at is left es
-              (leads-ok g text m _ look [] es (looks _ after BlankLineAfter es (read.2 es h)))),
+              (leads-ok g text m _ look [] es (looks _ after DataOver es (read.2 es h)))),
         )
     at-white false is left =
         let w = inlines_play_white_spaces g text in
@@ -209,9 +210,9 @@ module _ (g : Given) (text : Text) where
           read.2.0,
           after-within (1 + (1 + next_white l) + read.0) (calls_in_data l) local read.2.0 within (after-more (1 + (1 + next_white l)) read.0 local after read.2.0 looked read.2.1),
           λ es h.
-              leads-row g text m (row (choose Check (Next BlankLineAfter) (Next SpaceOrTabAfter) ∷ []) (Retry SpaceOrTabStart)) (shows l in_data q events local) [] DataInside es (data-looks g text (shows l in_data q events local) s.byte waits is)
+              leads-row g text m (row (choose Check (Next DataOver) (Next DataWhite) ∷ []) (Retry SpaceOrTabStart)) (shows l in_data q events local) [] DataInside es (data-looks g text (shows l in_data q events local) s.byte waits is)
               (fails-white g text m w in_data (look ∷ []) q false events (counts local) s ss at is left es
-              (leads-nok g text m _ look [] es (looks _ after SpaceOrTabAfter es (read.2.2 es h)))),
+              (leads-nok g text m _ look [] es (looks _ after DataWhite es (read.2.2 es h)))),
         )
 
     -- from any byte of data
@@ -230,7 +231,7 @@ module _ (g : Given) (text : Text) where
             read.0,
             after-more 1 (calls_in_data l) local (counts local) read.0 (after-call local) read.1,
             λ es h.
-                leads-seen g text m white_data_rows (shows l in_data q events local) [] SpaceOrTabAfter es waits (goes-on-other (before_class g text q) s.byte other) refl (read.2 es h),
+                leads-seen g text m white_data_rows (shows l in_data q events local) [] DataWhite es waits (goes-on-other (before_class g text q) s.byte other) refl (read.2 es h),
           ),
         )
 

@@ -10,7 +10,8 @@ use Rattle.markdown_base.specs.declared.event.Event.{Event}
 use Rattle.markdown_base.specs.declared.state.Name.{Name}
 use Rattle.markdown_base.specs.declared.state.State.{State}
 use Rattle.markdown_base.specs.declared.state.State.TheVariants.{Next, Retry}
-use Rattle.markdown_base.specs.declared.state.TheConstants.Name.{SpaceOrTabEolAtEol, TextBefore, TextBeforeData, TextStart}
+use Rattle.markdown_base.specs.declared.state.TheConstants.Name.{TextBefore, TextBeforeData, TextStart}
+use Rattle.mdconstructs_inlines.specs.declared.names.TheConstants.{TextLineStart}
 use Rattle.markdown_base.specs.Virtual.{Seat}
 use Rattle.markdown_tokenizer.specs.declared.waiting.Waits.TheVariants.{Byte, Nothing}
 use Rattle.markdown_tokenizer.specs.Configuration.{Choice, Configuration, Local, start_configuration}
@@ -400,7 +401,7 @@ module _ (g : Given) (text : Text) (memory : TextMemory) (is : IsTextMemory memo
 
     -- behind the first call
     from-line : inline_budget (length text.seats) ≤ budget → (flag : Bool) (local : Local Unit Unit) → IsAfter 1 (start_local flag) local
-        → EndsWith g text m (between_items 0 Nothing false [] local) [] (Next SpaceOrTabEolAtEol) (record { events = read_events g text; spent = budget + 1 })
+        → EndsWith g text m (between_items 0 Nothing false [] local) [] (Next TextLineStart) (record { events = read_events g text; spent = budget + 1 })
     from-line enough flag local once =
         let e : Ending = record { events = read_events g text; spent = budget + 1 } in
         let n = prefix_len is_white (bytes_of text.seats) in
@@ -422,8 +423,8 @@ module _ (g : Given) (text : Text) (memory : TextMemory) (is : IsTextMemory memo
           subst (λ r'. spent after + (total x.potentials r' (drop (0 + n) text.seats) + x.fixed (drop (0 + n) text.seats)) ≤ budget) (sym alike)
               (subst (λ l. spent after + (total x.potentials r l + x.fixed l) ≤ budget) place paid),
         ) in
-        goes-next g text m text.seats [] 0 [] local [] SpaceOrTabEolAtEol refl e (read.2 e (inlines-from g text known (budget-kept g text m between_texts x budget inline-down) (budget + 1) parts-are after knows))
+        goes-next g text m text.seats [] 0 [] local [] TextLineStart refl e (read.2 e (inlines-from g text known (budget-kept g text m between_texts x budget inline-down) (budget + 1) parts-are after knows))
 
     -- So inline text is read item by item from its start, in so many calls
     pub inlines-within : inline_budget (length text.seats) ≤ budget → (flag : Bool) → EndsWith g text m (start_configuration flag) [] (Next TextStart) (record { events = read_events g text; spent = budget + 1 })
-    inlines-within enough flag = from-registering-in g text m TextStart SpaceOrTabEolAtEol (λ k. refl) (record { events = read_events g text; spent = budget + 1 }) flag (from-line enough flag)
+    inlines-within enough flag = from-registering-in g text m TextStart TextLineStart (λ k. refl) (record { events = read_events g text; spent = budget + 1 }) flag (from-line enough flag)

@@ -11,7 +11,8 @@ use Rattle.markdown_base.specs.declared.event.Event.{Event}
 use Rattle.markdown_base.specs.declared.state.Name.{Name}
 use Rattle.markdown_base.specs.declared.event.Name.TheVariants.{SpaceOrTab}
 use Rattle.markdown_base.specs.declared.state.State.TheVariants.{Next, Retry}
-use Rattle.markdown_base.specs.declared.state.TheConstants.Name.{AutolinkSchemeOrEmailAtext, BlankLineStart, HtmlTextCdataEnd, TextBefore, TextBeforeData, TextBeforeHardBreakEscape, TextBeforeHtml}
+use Rattle.markdown_base.specs.declared.state.TheConstants.Name.{TextBefore, TextBeforeData, TextBeforeHardBreakEscape, TextBeforeHtml}
+use Rattle.mdconstructs_inlines.specs.declared.names.TheConstants.{TextBeforeEmail, TextBeforeTag, TextBeforeWhiteSpace}
 use Rattle.markdown_base.specs.Virtual.{Seat}
 use Rattle.markdown_tokenizer.specs.declared.waiting.Waits.TheVariants.{Byte, Nothing}
 use Rattle.markdown_tokenizer.specs.Configuration.{Configuration, Local}
@@ -61,16 +62,16 @@ abbrev pub then_breaks : Construct Found TextByte Unit Unit
 then_breaks = record escapes { otherwise = TextBeforeHardBreakEscape }
 
 abbrev pub then_white : Construct Found TextByte Unit Unit
-then_white = record trailing_breaks { otherwise = BlankLineStart }
+then_white = record trailing_breaks { otherwise = TextBeforeWhiteSpace }
 
 abbrev pub then_tags : Construct Found TextByte Unit Unit
-then_tags = record html_marks { otherwise = HtmlTextCdataEnd }
+then_tags = record html_marks { otherwise = TextBeforeTag }
 
 abbrev pub then_html : Construct Found TextByte Unit Unit
 then_html = record emails { otherwise = TextBeforeHtml }
 
 abbrev pub then_emails : Construct Found TextByte Unit Unit
-then_emails = record autolinks { otherwise = AutolinkSchemeOrEmailAtext }
+then_emails = record autolinks { otherwise = TextBeforeEmail }
 
 module _ (g : Given) (text : Text) (known : Knowledge Found TextByte (Unit {0})) where
   -- a construct before others is read, with what is known

@@ -10,7 +10,8 @@ use Rattle.markdown_base.specs.declared.event.Event.{Event}
 use Rattle.markdown_base.specs.declared.event.Kind.TheVariants.{Enter, Exit}
 use Rattle.markdown_base.specs.declared.event.Name.TheVariants.{LineEnding, SpaceOrTab}
 use Rattle.markdown_base.specs.declared.state.State.TheVariants.{Next, Retry}
-use Rattle.markdown_base.specs.declared.state.TheConstants.Name.{SpaceOrTabEolAfterEol, SpaceOrTabEolAtEol, TextBefore}
+use Rattle.markdown_base.specs.declared.state.TheConstants.Name.{TextBefore}
+use Rattle.mdconstructs_inlines.specs.declared.names.TheConstants.{TextLineStart, TextLineWhite}
 use Rattle.markdown_base.specs.Virtual.{Seat}
 use Rattle.markdown_tokenizer.specs.declared.waiting.Waits.TheVariants.{Byte, Nothing}
 use Rattle.markdown_tokenizer.specs.Configuration.{Local}
@@ -59,13 +60,13 @@ module _ (g : Given) (text : Text) where
   -- From the beginning of a line its white space is read, if there is any
   abbrev pub StartRead : List Seat → ℕ → List Event → Local Unit Unit → ℕ → Type 0
   StartRead l q events local n =
-      (after : Local Unit Unit) × Leads g text m (shows l [] q events local) [] (Retry SpaceOrTabEolAtEol) (between_items (q + n) Nothing false (events ++ leaf g.bytes SpaceOrTab (take n l)) after) [] (Next TextBefore)
+      (after : Local Unit Unit) × Leads g text m (shows l [] q events local) [] (Retry TextLineStart) (between_items (q + n) Nothing false (events ++ leaf g.bytes SpaceOrTab (take n l)) after) [] (Next TextBefore)
 
   -- in a call more than it has bytes
   abbrev pub StartReadIn : List Seat → ℕ → List Event → Local Unit Unit → ℕ → Type 0
   StartReadIn l q events local n =
       (after : Local Unit Unit) × IsAfter (n + 1) local after
-      × Leads g text m (shows l [] q events local) [] (Retry SpaceOrTabEolAtEol) (between_items (q + n) Nothing false (events ++ leaf g.bytes SpaceOrTab (take n l)) after) [] (Next TextBefore)
+      × Leads g text m (shows l [] q events local) [] (Retry TextLineStart) (between_items (q + n) Nothing false (events ++ leaf g.bytes SpaceOrTab (take n l)) after) [] (Next TextBefore)
 
   -- there is none
   no-white : (l : List Seat) (q : ℕ) (events : List Event) (local : Local Unit Unit) → drop q text.seats ≡ l → passes is_white (first_byte l) ≡ false → StartReadIn l q events local 0
@@ -74,7 +75,7 @@ module _ (g : Given) (text : Text) where
         counts local,
         after-call local,
         λ es h.
-            leads-seen g text m line_start_rows (shows l [] q events local) [] SpaceOrTabEolAtEol es (sees g text m l q at) (start-other (before_class g text q) (first_byte l) none) refl
+            leads-seen g text m line_start_rows (shows l [] q events local) [] TextLineStart es (sees g text m l q at) (start-other (before_class g text q) (first_byte l) none) refl
             (goes-back g text m l [] q events (counts local) [] TextBefore at es
             (subst (λ n. EndsWith g text m (between_items n Nothing false events (counts local)) [] (Next TextBefore) es) (sym same)
             (subst (λ xs. EndsWith g text m (between_items (q + 0) Nothing false xs (counts local)) [] (Next TextBefore) es) (append-nil events) h))),
@@ -100,14 +101,14 @@ module _ (g : Given) (text : Text) where
         counts read,
         after-within (1 + k + 1) (n + 1) local (counts read) (omega (arith, length-is)) (after-more (1 + k) 1 local read (counts read) white (after-call read)),
         λ es h.
-            leads-seen g text m line_start_rows (shows l [] q events local) [] SpaceOrTabEolAtEol es (ap byte_of (at-front text.seats q s ss at))
+            leads-seen g text m line_start_rows (shows l [] q events local) [] TextLineStart es (ap byte_of (at-front text.seats q s ss at))
             (ap (λ w. line_start_rows (before_class g text q) (Some w)) (white-class s.byte is)) refl
-            (goes-next g text m ss st (q + 1) begun (counts local) [] SpaceOrTabEolAfterEol next es
-            (loops g text m st [] SpaceOrTabEolAfterEol is_white counts
+            (goes-next g text m ss st (q + 1) begun (counts local) [] TextLineWhite next es
+            (loops g text m st [] TextLineWhite is_white counts
             (λ q ended events local s at is es.
-            leads-seen g text m line_white_rows (held st q Byte ended events local) [] SpaceOrTabEolAfterEol es (ap byte_of at) (ap (λ w. line_white_rows (before_class g text q) (Some w)) (white-class s.byte is)) refl)
+            leads-seen g text m line_white_rows (held st q Byte ended events local) [] TextLineWhite es (ap byte_of at) (ap (λ w. line_white_rows (before_class g text q) (Some w)) (white-class s.byte is)) refl)
             ss (q + 1) (q + n) begun (counts local) next place es
-            (leads-seen g text m line_white_rows (shows rest st (q + n) begun read) [] SpaceOrTabEolAfterEol es (sees g text m rest (q + n) there)
+            (leads-seen g text m line_white_rows (shows rest st (q + n) begun read) [] TextLineWhite es (sees g text m rest (q + n) there)
             (white-ends (before_class g text (q + n)) (first_byte rest) (past-stops is_white ss)) refl
             (goes-back g text m rest [] (q + n) (begun ++ event g.bytes Exit SpaceOrTab (end_place text (q + n)) ∷ []) (counts read) [] TextBefore there es
             (subst (λ xs. EndsWith g text m (between_items (q + n) Nothing false xs (counts read)) [] (Next TextBefore) es) (sym made) h))))),
@@ -144,9 +145,9 @@ module _ (g : Given) (text : Text) where
         read.0,
         after-within (1 + (n + 1)) (n + 2) local read.0 (omega arith) (after-more 1 (n + 1) local (counts local) read.0 (after-call local) read.1),
         λ es h.
-            leads-row g text m (row (enter LineEnding ∷ consume ∷ exit LineEnding ∷ []) (Next SpaceOrTabEolAtEol)) (between_items p Byte ended events local) [] TextBefore es (line-row g text (between_items p Byte ended events local) (ap byte_of at ∙ ap Some is))
-            (subst (λ l. EndsWith g text m (held [] (p + 1) Nothing false l (counts local)) [] (Next SpaceOrTabEolAtEol) es) (sym (line-ending-read g text events p s at))
-            (goes-next g text m ss [] (p + 1) ending (counts local) [] SpaceOrTabEolAtEol next es
+            leads-row g text m (row (enter LineEnding ∷ consume ∷ exit LineEnding ∷ []) (Next TextLineStart)) (between_items p Byte ended events local) [] TextBefore es (line-row g text (between_items p Byte ended events local) (ap byte_of at ∙ ap Some is))
+            (subst (λ l. EndsWith g text m (held [] (p + 1) Nothing false l (counts local)) [] (Next TextLineStart) es) (sym (line-ending-read g text events p s at))
+            (goes-next g text m ss [] (p + 1) ending (counts local) [] TextLineStart next es
             (read.2 es
             (subst (λ q. EndsWith g text m (between_items q Nothing false (ending ++ leaf g.bytes SpaceOrTab (take n ss)) read.0) [] (Next TextBefore) es) (sym place)
             (subst (λ l. EndsWith g text m (between_items (p + (1 + n)) Nothing false l read.0) [] (Next TextBefore) es) (sym made) h))))),

@@ -4,7 +4,8 @@ use Rattle.std.proofs.lemmas.Bool.Decides.{nat_tests}
 use Rattle.markdown_base.specs.declared.configuration.Constructs.{Constructs}
 use Rattle.markdown_base.specs.declared.event.Name.TheVariants.{Data, LineEnding}
 use Rattle.markdown_base.specs.declared.state.State.TheVariants.{Next, Retry}
-use Rattle.markdown_base.specs.declared.state.TheConstants.Name.{AttentionStart, BlankLineAfter, DataInside, SpaceOrTabAfter, SpaceOrTabEolAtEol, SpaceOrTabStart, TextBefore, TextBeforeData}
+use Rattle.markdown_base.specs.declared.state.TheConstants.Name.{AttentionStart, DataInside, SpaceOrTabStart, TextBefore, TextBeforeData}
+use Rattle.mdconstructs_inlines.specs.declared.names.TheConstants.{DataOver, DataWhite, TextLineStart}
 use Rattle.markdown_tokenizer.specs.declared.waiting.AttemptKind.TheVariants.{Check}
 use Rattle.markdown_tokenizer.specs.Calls.{with_local}
 use Rattle.markdown_tokenizer.specs.Configuration.{Configuration}
@@ -88,7 +89,7 @@ module _ (g : Given) (text : Text) where
   ] refl
 
   -- between constructs a line ending is read, a run begins, or constructs are tried
-  pub line-row : (k : Configuration Unit Unit) → (sight g text k).current ≡ Some 10 → HasRow g text (inlines_rules g).step k TextBefore (row (enter LineEnding ∷ consume ∷ exit LineEnding ∷ []) (Next SpaceOrTabEolAtEol))
+  pub line-row : (k : Configuration Unit Unit) → (sight g text k).current ≡ Some 10 → HasRow g text (inlines_rules g).step k TextBefore (row (enter LineEnding ∷ consume ∷ exit LineEnding ∷ []) (Next TextLineStart))
   line-row k at = ap (λ o. row_step g text k (inline_before_rows (behind k) (class_of text_byte o))) at
 
   pub runs-begin : (k : Configuration Unit Unit) (b : ℕ) → (sight g text k).current ≡ Some b → begins_run on b ≡ true → HasRow g text (inlines_rules g).step k TextBefore (row [] (Retry AttentionStart))
@@ -130,7 +131,7 @@ module _ (g : Given) (text : Text) where
   data-ends-last k at = ap (λ o. row_step g text k (inline_data_rows (behind k) (class_of text_byte o))) at
 
   pub data-looks : (k : Configuration Unit Unit) (b : ℕ) → (sight g text k).current ≡ Some b → is_white b ≡ true
-      → HasRow g text (inlines_rules g).step k DataInside (row (choose Check (Next BlankLineAfter) (Next SpaceOrTabAfter) ∷ []) (Retry SpaceOrTabStart))
+      → HasRow g text (inlines_rules g).step k DataInside (row (choose Check (Next DataOver) (Next DataWhite) ∷ []) (Retry SpaceOrTabStart))
   data-looks k b at is =
       ap (λ o. row_step g text k (inline_data_rows (behind k) (class_of text_byte o))) at ∙ ap (λ w. row_step g text k (inline_data_rows (behind k) (Some w))) (white-class b is)
 
@@ -153,9 +154,9 @@ module _ (g : Given) (text : Text) where
     raw_text_between = λ k. ap (row_step g text k) (between-remembered (behind k) (class_of text_byte (sight g text k).current));
     raw_text_data = λ k. refl;
     raw_text_sequence_close = λ k. refl;
-    raw_flow_after = λ k. refl;
-    raw_flow_before_content_chunk = λ k. refl;
-    raw_flow_content_chunk = λ k. refl;
+    raw_text_after = λ k. refl;
+    raw_text_backticks_start = λ k. refl;
+    raw_text_backticks_inside = λ k. refl;
     keeps = λ events local. refl;
   }
 

@@ -3,7 +3,8 @@ use Rattle.std.specs.Prelude.{◌||◌, ◌==◌, Bool, cond, List, [], ◌∷�
 use Rattle.markdown_base.specs.declared.event.Name.TheVariants.{Data, LineEnding, SpaceOrTab}
 use Rattle.markdown_base.specs.declared.state.Name.{Name}
 use Rattle.markdown_base.specs.declared.state.State.TheVariants.{Next, Retry, Ok}
-use Rattle.markdown_base.specs.declared.state.TheConstants.Name.{AttentionStart, AutolinkSchemeOrEmailAtext, BlankLineAfter, BlankLineStart, DataInside, HtmlTextCdataEnd, SpaceOrTabAfter, SpaceOrTabEolAfterEol, SpaceOrTabEolAtEol, SpaceOrTabStart, StringBefore, StringStart, TextBefore, TextBeforeData, TextBeforeHardBreakEscape, TextBeforeHtml, TextStart}
+use Rattle.markdown_base.specs.declared.state.TheConstants.Name.{AttentionStart, DataInside, SpaceOrTabStart, StringBefore, StringStart, TextBefore, TextBeforeData, TextBeforeHardBreakEscape, TextBeforeHtml, TextStart}
+use Rattle.mdconstructs_inlines.specs.declared.names.TheConstants.{DataOver, DataWhite, TextBeforeEmail, TextBeforeTag, TextBeforeWhiteSpace, TextLineStart, TextLineWhite}
 use Rattle.markdown_tokenizer.specs.declared.waiting.AttemptKind.TheVariants.{Check}
 use Rattle.mdconstructs_tables.specs.Rows.{enter, exit, consume, write, choose, Rows, row, when, at_bytes, StateRows, state, Table}
 use Rattle.mdconstructs_tables.specs.Numbers.{Price, by_left, by_class, numbers}
@@ -28,7 +29,7 @@ use Rattle.mdconstructs_inlines.specs.StringTable.{registers, string_prices, str
 -- ---- the constructs
 -- The constructs that begin with white space, as they are read
 abbrev pub white_constructs : List (Construct Found TextByte Unit Unit)
-white_constructs = record trailing_breaks { otherwise = BlankLineStart } ∷ white_spaces ∷ []
+white_constructs = record trailing_breaks { otherwise = TextBeforeWhiteSpace } ∷ white_spaces ∷ []
 
 -- those that follow backslash escapes
 abbrev pub behind_escapes : List (Construct Found TextByte Unit Unit)
@@ -40,7 +41,7 @@ behind_marks = html_tags ∷ record escapes { otherwise = TextBeforeHardBreakEsc
 
 -- those that follow email autolinks
 abbrev pub behind_emails : List (Construct Found TextByte Unit Unit)
-behind_emails = record html_marks { otherwise = HtmlTextCdataEnd } ∷ behind_marks
+behind_emails = record html_marks { otherwise = TextBeforeTag } ∷ behind_marks
 
 -- those that follow autolinks
 abbrev pub behind_autolinks : List (Construct Found TextByte Unit Unit)
@@ -48,7 +49,7 @@ behind_autolinks = record emails { otherwise = TextBeforeHtml } ∷ behind_email
 
 -- The constructs of inline text: what is tried at which byte
 abbrev pub inline_constructs : List (Construct Found TextByte Unit Unit)
-inline_constructs = remembered_code_spans ∷ record autolinks { otherwise = AutolinkSchemeOrEmailAtext } ∷ behind_autolinks
+inline_constructs = remembered_code_spans ∷ record autolinks { otherwise = TextBeforeEmail } ∷ behind_autolinks
 
 -- If a construct is not there, the others are tried that begin with bytes of its class
 abbrev pub others_rows : List (Construct Found TextByte Unit Unit) → TextByte → (previous current : Option TextByte) → Rows Unit Unit
@@ -65,11 +66,11 @@ before_hard_break_escape = others_state TextBeforeHardBreakEscape behind_escapes
 
 -- behind a hard break by spaces that is none
 abbrev pub before_white_space : StateRows TextByte Unit Unit
-before_white_space = others_state BlankLineStart (white_spaces ∷ []) white is_white_class (by_left 4 18 0)
+before_white_space = others_state TextBeforeWhiteSpace (white_spaces ∷ []) white is_white_class (by_left 4 18 0)
 
 -- behind an autolink that is none
 abbrev pub before_email : StateRows TextByte Unit Unit
-before_email = others_state AutolinkSchemeOrEmailAtext behind_autolinks less is_less_class (by_left 4 18 6)
+before_email = others_state TextBeforeEmail behind_autolinks less is_less_class (by_left 4 18 6)
 
 -- behind an email autolink that is none
 abbrev pub before_html : StateRows TextByte Unit Unit
@@ -77,12 +78,12 @@ before_html = others_state TextBeforeHtml behind_emails less is_less_class (by_l
 
 -- behind raw HTML between marks that is none
 abbrev pub before_tag : StateRows TextByte Unit Unit
-before_tag = others_state HtmlTextCdataEnd behind_marks less is_less_class (by_left 4 15 2)
+before_tag = others_state TextBeforeTag behind_marks less is_less_class (by_left 4 15 2)
 
 -- ---- between constructs
 -- Before a text
 abbrev pub inline_start_rows : (previous current : Option TextByte) → Rows Unit Unit
-inline_start_rows _ _ = row (write registers ∷ []) (Retry SpaceOrTabEolAtEol)
+inline_start_rows _ _ = row (write registers ∷ []) (Retry TextLineStart)
 
 -- its state: no span is open
 abbrev pub inline_start : StateRows TextByte Unit Unit
@@ -91,28 +92,28 @@ inline_start =
 
 -- White space at the beginning of a line
 abbrev pub line_start_rows : (previous current : Option TextByte) → Rows Unit Unit
-line_start_rows _ (Some white) = row (enter SpaceOrTab ∷ consume ∷ []) (Next SpaceOrTabEolAfterEol)
+line_start_rows _ (Some white) = row (enter SpaceOrTab ∷ consume ∷ []) (Next TextLineWhite)
 line_start_rows _ _ = row [] (Retry TextBefore)
 
 -- its state: no span is open
 abbrev pub line_start : StateRows TextByte Unit Unit
 line_start =
-    state SpaceOrTabEolAtEol line_start_rows [] (text_cost (by_left 4 20 8))
+    state TextLineStart line_start_rows [] (text_cost (by_left 4 20 8))
 
 -- all of it is read
 abbrev pub line_white_rows : (previous current : Option TextByte) → Rows Unit Unit
-line_white_rows _ (Some white) = row (consume ∷ []) (Next SpaceOrTabEolAfterEol)
+line_white_rows _ (Some white) = row (consume ∷ []) (Next TextLineWhite)
 line_white_rows _ _ = row (exit SpaceOrTab ∷ []) (Retry TextBefore)
 
 -- its state: white space is open
 abbrev pub line_white : StateRows TextByte Unit Unit
 line_white =
-    state SpaceOrTabEolAfterEol line_white_rows (SpaceOrTab ∷ []) (text_cost (by_left 4 20 8))
+    state TextLineWhite line_white_rows (SpaceOrTab ∷ []) (text_cost (by_left 4 20 8))
 
 -- Between constructs: a line ending is read, a run begins, a construct is tried, or data is read
 abbrev pub inline_before_rows : (previous current : Option TextByte) → Rows Unit Unit
 inline_before_rows _ None = row [] Ok
-inline_before_rows _ (Some line_feed) = row (enter LineEnding ∷ consume ∷ exit LineEnding ∷ []) (Next SpaceOrTabEolAtEol)
+inline_before_rows _ (Some line_feed) = row (enter LineEnding ∷ consume ∷ exit LineEnding ∷ []) (Next TextLineStart)
 inline_before_rows _ (Some punctuation) = when run_begins (row [] (Retry AttentionStart)) (row [] (Retry TextBeforeData))
 inline_before_rows _ (Some w) = tried_at between_texts inline_constructs w
 
@@ -125,7 +126,7 @@ inline_before =
 -- In data. At white space there is a look whether anything else is left of the line
 abbrev pub inline_data_rows : (previous current : Option TextByte) → Rows Unit Unit
 inline_data_rows _ (Some punctuation) = when run_begins (row (exit Data ∷ []) (Retry TextBefore)) (row (consume ∷ []) (Next DataInside))
-inline_data_rows _ (Some white) = row (choose Check (Next BlankLineAfter) (Next SpaceOrTabAfter) ∷ []) (Retry SpaceOrTabStart)
+inline_data_rows _ (Some white) = row (choose Check (Next DataOver) (Next DataWhite) ∷ []) (Retry SpaceOrTabStart)
 inline_data_rows previous current = data_rows between_texts is_line_feed_class inline_constructs previous current
 
 -- its state: a data span is open
@@ -140,11 +141,11 @@ data_over_rows _ _ = row (exit Data ∷ []) (Retry TextBefore)
 -- its state: a data span is open
 abbrev pub data_over : StateRows TextByte Unit Unit
 data_over =
-    state BlankLineAfter data_over_rows (Data ∷ []) (text_cost (by_left 4 20 8))
+    state DataOver data_over_rows (Data ∷ []) (text_cost (by_left 4 20 8))
 
 -- Something is left: the white space is data
 abbrev pub white_data_rows : (previous current : Option TextByte) → Rows Unit Unit
-white_data_rows _ (Some white) = row (consume ∷ []) (Next SpaceOrTabAfter)
+white_data_rows _ (Some white) = row (consume ∷ []) (Next DataWhite)
 white_data_rows _ _ = row [] (Retry DataInside)
 
 -- what it costs: less at white space, which it reads, than where that ends
@@ -154,7 +155,7 @@ at_white_data = by_class (numbers 4 21 21 11) (λ w. cond (is_white_class w) (nu
 -- its state: a data span is open
 abbrev pub white_data : StateRows TextByte Unit Unit
 white_data =
-    state SpaceOrTabAfter white_data_rows (Data ∷ []) (text_cost at_white_data)
+    state DataWhite white_data_rows (Data ∷ []) (text_cost at_white_data)
 
 -- a backtick string that begins data costs less at a backtick, too
 abbrev pub at_data_break : Price TextByte

@@ -14,6 +14,7 @@ ghost use Rattle.mdconstructs_inlines.specs.InlineTable.{inline_start, line_star
 ghost use Rattle.mdconstructs_inlines.specs.StringTable.{string_start};
 
 use crate::attention::{attention_inside, attention_start, run_begins};
+use crate::names;
 use crate::strings::{string_before, string_before_data, string_data};
 use markdown_tokenizer::event::{self, Event};
 use markdown_tokenizer::state::{Machine, MachineTypes, Name, State};
@@ -21,7 +22,6 @@ use markdown_tokenizer::subtokenize::Subresult;
 use markdown_tokenizer::tokenizer::{Fault, Tokenizer};
 use markdown_tokenizer::util::edit_map::EditMap;
 use mdconstructs_attention::emphasis::emphasize;
-use mdconstructs_machines::begin::begin;
 use mdconstructs_inline_constructs::email::{email_atext, email_label, email_start, email_value};
 use mdconstructs_inline_constructs::hard_break::{
     break_escape_after, break_escape_start, break_escapes_are_on, trailing_after_first,
@@ -40,6 +40,7 @@ use mdconstructs_inline_constructs::html_tag::{
 use mdconstructs_inline_constructs::html_text::{
     html_is_on, html_line_ending_after, html_line_ending_after_prefix,
 };
+use mdconstructs_inline_constructs::names as construct_names;
 use mdconstructs_inline_constructs::reference::{
     reference_numeric, reference_open, reference_start, reference_value, references_are_on,
 };
@@ -47,15 +48,17 @@ use mdconstructs_inline_constructs::remembered_code::{
     remembered_between, remembered_chunk, remembered_open,
 };
 use mdconstructs_inline_constructs::white_space::{white_inside, white_start};
+use mdconstructs_machines::begin::begin;
 use mdconstructs_tables::marker;
 use mdconstructs_text::autolink::{
     autolink_open, autolink_scheme, autolink_start, autolink_url, autolinks_are_on,
 };
 use mdconstructs_text::code_span::{
-    code_spans_are_on, raw_flow_after, raw_flow_content_chunk, raw_text_data,
+    code_spans_are_on, raw_text_after, raw_text_backticks_inside, raw_text_data,
     raw_text_sequence_close, raw_text_start,
 };
 use mdconstructs_text::escape::{escape_inside, escape_start, escapes_are_on};
+use mdconstructs_text::names as text_names;
 use mdconstructs_text::text::{data_at_break, text_before_data};
 use std::alloc::{AllocError, Global};
 
@@ -81,8 +84,7 @@ impl Machine for Inlines {
 
     ghost rules = { λ _. inlines_rules };
 
-    /// Calls the state of this name. Names are used as `Text` uses them. The Rust crate has none for the states that end data before
-    /// white space, or go on behind a hard break that is none: two names of blank lines are used.
+    /// Calls the state of this name. Where the Rust crate has no name for a state, `names` has it, here and in the crates whose state it is.
     fn call<'a>(
         &self,
         alloc: Global,
@@ -96,19 +98,19 @@ impl Machine for Inlines {
             Name::StringBeforeData => string_before_data(t),
             Name::DataStart => string_data(t),
             Name::TextStart => inline_start(t),
-            Name::SpaceOrTabEolAtEol => line_start(t),
-            Name::SpaceOrTabEolAfterEol => line_white(t),
+            names::TextLineStart => line_start(t),
+            names::TextLineWhite => line_white(t),
             Name::TextBefore => inline_before(t),
             Name::TextBeforeHardBreakEscape => before_hard_break_escape(t),
-            Name::BlankLineStart => before_white_space(t),
-            Name::AutolinkSchemeOrEmailAtext => before_email(t),
+            names::TextBeforeWhiteSpace => before_white_space(t),
+            names::TextBeforeEmail => before_email(t),
             Name::TextBeforeHtml => before_html(t),
-            Name::HtmlTextCdataEnd => before_tag(t),
+            names::TextBeforeTag => before_tag(t),
             Name::TextBeforeData => text_before_data(t),
             Name::DataAtBreak => data_at_break(t),
             Name::DataInside => inline_data(t),
-            Name::BlankLineAfter => data_over(t),
-            Name::SpaceOrTabAfter => white_data(t),
+            names::DataOver => data_over(t),
+            names::DataWhite => white_data(t),
             Name::AttentionStart => attention_start(t),
             Name::AttentionInside => attention_inside(t),
             Name::RawTextStart => raw_text_start(t),
@@ -116,9 +118,9 @@ impl Machine for Inlines {
             Name::RawTextBetween => remembered_between(t),
             Name::RawTextData => raw_text_data(t),
             Name::RawTextSequenceClose => raw_text_sequence_close(t),
-            Name::RawFlowAfter => raw_flow_after(t),
-            Name::RawFlowBeforeContentChunk => remembered_chunk(alloc, t),
-            Name::RawFlowContentChunk => raw_flow_content_chunk(t),
+            text_names::RawTextAfter => raw_text_after(t),
+            text_names::RawTextBackticksStart => remembered_chunk(alloc, t),
+            text_names::RawTextBackticksInside => raw_text_backticks_inside(t),
             Name::AutolinkStart => autolink_start(t),
             Name::AutolinkOpen => autolink_open(t),
             Name::AutolinkSchemeInsideOrEmailAtext => autolink_scheme(t),
@@ -127,14 +129,14 @@ impl Machine for Inlines {
             Name::AutolinkEmailAtext => email_atext(t),
             Name::AutolinkEmailLabel => email_label(t),
             Name::AutolinkEmailValue => email_value(t),
-            Name::HtmlTextDeclaration => mark_start(t),
-            Name::HtmlTextInstruction => mark_open(t),
+            construct_names::HtmlTextMarkStart => mark_start(t),
+            construct_names::HtmlTextMarkOpen => mark_open(t),
             Name::HtmlTextDeclarationOpen => declaration_open(t),
             Name::HtmlTextCommentOpenInside => comment_open(t),
             Name::HtmlTextCdataOpenInside => cdata_open(t),
-            Name::HtmlTextComment => mark_inside(t),
-            Name::HtmlTextCommentClose => mark_line(t),
-            Name::HtmlTextCommentEnd => mark_white(t),
+            construct_names::HtmlTextMarkInside => mark_inside(t),
+            construct_names::HtmlTextMarkLine => mark_line(t),
+            construct_names::HtmlTextMarkWhite => mark_white(t),
             Name::HtmlTextStart => html_text_start(t),
             Name::HtmlTextOpen => html_text_open(t),
             Name::HtmlTextTagCloseStart => html_text_tag_close_start(t),
@@ -159,9 +161,9 @@ impl Machine for Inlines {
             Name::CharacterReferenceValue => reference_value(t),
             Name::HardBreakEscapeStart => break_escape_start(t),
             Name::HardBreakEscapeAfter => break_escape_after(t),
-            Name::SpaceOrTabEolStart => trailing_start(t),
-            Name::SpaceOrTabEolAfterFirst => trailing_after_first(t),
-            Name::SpaceOrTabEolAfterMore => trailing_after_more(t),
+            construct_names::HardBreakTrailingStart => trailing_start(t),
+            construct_names::HardBreakTrailingAfterFirst => trailing_after_first(t),
+            construct_names::HardBreakTrailingAfterMore => trailing_after_more(t),
             Name::SpaceOrTabStart => white_start(t),
             Name::SpaceOrTabInside => white_inside(t),
             _ => unreachable!(),
@@ -207,7 +209,7 @@ fn inline_start<'a>(t: &mut Tokenizer<'a, Inlines>) -> Result<State, AllocError>
     ensures { IfOk result (DoesAll (step_in text_byte inline_start t.old) t.old t.new) }
 {
     t.register_resolver(())?;
-    Ok(State::Retry(Name::SpaceOrTabEolAtEol))
+    Ok(State::Retry(names::TextLineStart))
 }
 
 /// Before a string: registers the resolver, which changes nothing, as a string has no delimiter run.
@@ -229,7 +231,7 @@ fn line_start<'a>(t: &mut Tokenizer<'a, Inlines>) -> Result<State, AllocError>
         Some(b' ' | b'\t') => {
             t.enter(event::Name::SpaceOrTab)?;
             t.consume();
-            Ok(State::Next(Name::SpaceOrTabEolAfterEol))
+            Ok(State::Next(names::TextLineWhite))
         }
         _ => Ok(State::Retry(Name::TextBefore)),
     }
@@ -243,7 +245,7 @@ fn line_white<'a>(t: &mut Tokenizer<'a, Inlines>) -> Result<State, AllocError>
     match t.current() {
         Some(b' ' | b'\t') => {
             t.consume();
-            Ok(State::Next(Name::SpaceOrTabEolAfterEol))
+            Ok(State::Next(names::TextLineWhite))
         }
         _ => {
             t.exit(event::Name::SpaceOrTab)?;
@@ -261,7 +263,7 @@ fn inline_before<'a>(t: &mut Tokenizer<'a, Inlines>) -> Result<State, AllocError
         None => Ok(State::Ok),
         Some(b'\n') => {
             marker(t, event::Name::LineEnding)?;
-            Ok(State::Next(Name::SpaceOrTabEolAtEol))
+            Ok(State::Next(names::TextLineStart))
         }
         Some(b'`') => {
             if !code_spans_are_on(t) {
@@ -277,7 +279,7 @@ fn inline_before<'a>(t: &mut Tokenizer<'a, Inlines>) -> Result<State, AllocError
             if autolinks_are_on(t) {
                 t.attempt(
                     State::Next(Name::TextBefore),
-                    State::Next(Name::AutolinkSchemeOrEmailAtext),
+                    State::Next(names::TextBeforeEmail),
                 )?;
                 return Ok(State::Retry(Name::AutolinkStart));
             }
@@ -286,9 +288,9 @@ fn inline_before<'a>(t: &mut Tokenizer<'a, Inlines>) -> Result<State, AllocError
             }
             t.attempt(
                 State::Next(Name::TextBefore),
-                State::Next(Name::HtmlTextCdataEnd),
+                State::Next(names::TextBeforeTag),
             )?;
-            Ok(State::Retry(Name::HtmlTextDeclaration))
+            Ok(State::Retry(construct_names::HtmlTextMarkStart))
         }
         Some(b'\\') => {
             if escapes_are_on(t) {
@@ -321,9 +323,9 @@ fn inline_before<'a>(t: &mut Tokenizer<'a, Inlines>) -> Result<State, AllocError
             if trailing_breaks_are_on(t) {
                 t.attempt(
                     State::Next(Name::TextBefore),
-                    State::Next(Name::BlankLineStart),
+                    State::Next(names::TextBeforeWhiteSpace),
                 )?;
-                return Ok(State::Retry(Name::SpaceOrTabEolStart));
+                return Ok(State::Retry(construct_names::HardBreakTrailingStart));
             }
             t.attempt(
                 State::Next(Name::TextBefore),
@@ -385,9 +387,9 @@ fn before_email<'a>(t: &mut Tokenizer<'a, Inlines>) -> Result<State, AllocError>
     }
     t.attempt(
         State::Next(Name::TextBefore),
-        State::Next(Name::HtmlTextCdataEnd),
+        State::Next(names::TextBeforeTag),
     )?;
-    Ok(State::Retry(Name::HtmlTextDeclaration))
+    Ok(State::Retry(construct_names::HtmlTextMarkStart))
 }
 
 /// At `<` that begins no email autolink: raw HTML between marks is tried if raw HTML is on, or data is read.
@@ -400,9 +402,9 @@ fn before_html<'a>(t: &mut Tokenizer<'a, Inlines>) -> Result<State, AllocError>
     }
     t.attempt(
         State::Next(Name::TextBefore),
-        State::Next(Name::HtmlTextCdataEnd),
+        State::Next(names::TextBeforeTag),
     )?;
-    Ok(State::Retry(Name::HtmlTextDeclaration))
+    Ok(State::Retry(construct_names::HtmlTextMarkStart))
 }
 
 /// At `<` that begins no raw HTML between marks: a tag is tried if raw HTML is on, or data is read.
@@ -431,10 +433,7 @@ fn inline_data<'a>(t: &mut Tokenizer<'a, Inlines>) -> Result<State, AllocError>
             Ok(State::Retry(Name::TextBefore))
         }
         Some(b' ' | b'\t') => {
-            t.check(
-                State::Next(Name::BlankLineAfter),
-                State::Next(Name::SpaceOrTabAfter),
-            )?;
+            t.check(State::Next(names::DataOver), State::Next(names::DataWhite))?;
             Ok(State::Retry(Name::SpaceOrTabStart))
         }
         Some(b'*' | b'_') => {
@@ -469,7 +468,7 @@ fn white_data<'a>(t: &mut Tokenizer<'a, Inlines>) -> Result<State, AllocError>
     match t.current() {
         Some(b' ' | b'\t') => {
             t.consume();
-            Ok(State::Next(Name::SpaceOrTabAfter))
+            Ok(State::Next(names::DataWhite))
         }
         _ => Ok(State::Retry(Name::DataInside)),
     }

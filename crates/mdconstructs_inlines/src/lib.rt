@@ -4,5 +4,6 @@
 mod attention;
 pub mod inlines;
 pub mod laws;
+pub mod names;
 pub mod read;
 mod strings;

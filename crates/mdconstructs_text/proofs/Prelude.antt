@@ -34,7 +34,8 @@ pub use Rattle.markdown_base.specs.declared.event.Point.{Point}
 pub use Rattle.markdown_base.specs.declared.state.Name.{Name}
 pub use Rattle.markdown_base.specs.declared.state.State.{State}
 pub use Rattle.markdown_base.specs.declared.state.State.TheVariants.{Error, Next, Nok, Ok, Retry}
-pub use Rattle.markdown_base.specs.declared.state.TheConstants.Name.{AutolinkOpen, AutolinkSchemeInsideOrEmailAtext, AutolinkStart, AutolinkUrlInside, CharacterEscapeInside, CharacterEscapeStart, DataAtBreak, DataInside, DataStart, FlowStart, ParagraphInside, ParagraphLineStart, ParagraphStart, RawFlowAfter, RawFlowBeforeContentChunk, RawFlowContentChunk, RawTextBetween, RawTextData, RawTextSequenceClose, RawTextSequenceOpen, RawTextStart, TextBefore, TextBeforeData, TextStart}
+pub use Rattle.markdown_base.specs.declared.state.TheConstants.Name.{AutolinkOpen, AutolinkSchemeInsideOrEmailAtext, AutolinkStart, AutolinkUrlInside, CharacterEscapeInside, CharacterEscapeStart, DataAtBreak, DataInside, DataStart, FlowStart, ParagraphInside, ParagraphLineStart, ParagraphStart, RawTextBetween, RawTextData, RawTextSequenceClose, RawTextSequenceOpen, RawTextStart, TextBefore, TextBeforeData, TextStart}
+pub use Rattle.mdconstructs_text.specs.declared.names.TheConstants.{RawTextAfter, RawTextBackticksInside, RawTextBackticksStart}
 pub use Rattle.markdown_children.proofs.ChainOrder.Following.{chunk, fits_next, follow_one_another, starts_fit, whole-from}
 pub use Rattle.markdown_children.proofs.ChainOrder.Forward.{begins-fits}
 pub use Rattle.markdown_children.proofs.ChainOrder.Spaced.{changes_are_apart}
@@ -112,7 +113,7 @@ pub use Rattle.mdconstructs_tables.specs.Rows.{Rows, choose, class_of, consume, 
 pub use Rattle.mdconstructs_text.specs.Autolink.{autolink, autolink_at, autolink_open, autolink_open_rows, autolink_scheme, autolink_scheme_rows, autolink_start, autolink_to, autolink_url, autolink_url_rows, autolinks, autolinks_are_on, has_room, has_scheme, is_allowed, is_scheme, is_scheme_byte, scheme_goes_on, uri}
 pub use Rattle.mdconstructs_text.specs.Bytes.{backticks, ends_with, has_byte_at, is_backslash, is_backtick, is_colon, is_greater_than, is_less_than, is_line_feed, passes}
 pub use Rattle.mdconstructs_text.specs.ChainTexts.{AreReadAtPlaces, AreReadBy, HasReadableChains, chain_data, chain_events, chain_text, with_data, with_read, with_texts}
-pub use Rattle.mdconstructs_text.specs.CodeSpan.{before_backtick_string, code_span, code_span_at, code_spans, code_spans_are_on, is_backtick_or_line_feed, is_backtick_string, pieces, raw_flow_after, raw_flow_before_content_chunk, raw_flow_content_chunk, raw_flow_content_chunk_rows, raw_text_between, raw_text_between_rows, raw_text_data, raw_text_data_rows, raw_text_sequence_close, raw_text_sequence_close_rows, raw_text_sequence_open, raw_text_sequence_open_rows, raw_text_start, raw_text_start_rows, sizes_are_equal}
+pub use Rattle.mdconstructs_text.specs.CodeSpan.{before_backtick_string, code_span, code_span_at, code_spans, code_spans_are_on, is_backtick_or_line_feed, is_backtick_string, pieces, raw_text_after, raw_text_backticks_start, raw_text_backticks_inside, raw_text_backticks_inside_rows, raw_text_between, raw_text_between_rows, raw_text_data, raw_text_data_rows, raw_text_sequence_close, raw_text_sequence_close_rows, raw_text_sequence_open, raw_text_sequence_open_rows, raw_text_start, raw_text_start_rows, sizes_are_equal}
 pub use Rattle.mdconstructs_text.specs.Construct.{Between, Construct, Found, Grammar, before_rows, between_texts, first_there, grammars_of, if_on, or_else, some_begins, some_first, tried_at}
 pub use Rattle.mdconstructs_text.specs.Escape.{escape, escape_at, escape_inside, escape_inside_rows, escape_start, escape_start_rows, escaped, escapes, escapes_are_on}
 pub use Rattle.mdconstructs_text.specs.Items.{is_special, item_at, item_length, text_grammars}

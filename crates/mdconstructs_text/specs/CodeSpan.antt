@@ -4,7 +4,8 @@ use Rattle.std.specs.List.{between, flat_map, range_with_len}
 use Rattle.markdown_base.specs.declared.event.Name.TheVariants.{LineEnding, CodeText, CodeTextSequence, CodeTextData}
 use Rattle.markdown_base.specs.declared.state.Name.{Name}
 use Rattle.markdown_base.specs.declared.state.State.TheVariants.{Next, Retry, Ok, Nok}
-use Rattle.markdown_base.specs.declared.state.TheConstants.Name.{TextBeforeData, RawTextStart, RawTextSequenceOpen, RawTextBetween, RawTextData, RawTextSequenceClose, RawFlowAfter, RawFlowBeforeContentChunk, RawFlowContentChunk}
+use Rattle.markdown_base.specs.declared.state.TheConstants.Name.{TextBeforeData, RawTextStart, RawTextSequenceOpen, RawTextBetween, RawTextData, RawTextSequenceClose}
+use Rattle.mdconstructs_text.specs.declared.names.TheConstants.{RawTextAfter, RawTextBackticksInside, RawTextBackticksStart}
 use Rattle.markdown_base.specs.Virtual.{Seat}
 use Rattle.markdown_tokenizer.specs.declared.waiting.AttemptKind.TheVariants.{Attempt}
 use Rattle.markdown_tokenizer.specs.Text.{Given}
@@ -94,7 +95,7 @@ abbrev pub raw_text_between_rows : {R D : Type 0} → (previous current : Option
 raw_text_between_rows _ None = row [] Nok
 raw_text_between_rows _ (Some line_feed) = line_ending_then RawTextBetween
 raw_text_between_rows _ (Some backtick) =
-    row (choose Attempt (Next RawFlowAfter) (Next RawFlowBeforeContentChunk) ∷ enter CodeTextSequence ∷ write (size_c_is 0) ∷ []) (Retry RawTextSequenceClose)
+    row (choose Attempt (Next RawTextAfter) (Next RawTextBackticksStart) ∷ enter CodeTextSequence ∷ write (size_c_is 0) ∷ []) (Retry RawTextSequenceClose)
 raw_text_between_rows _ (Some _) = row (enter CodeTextData ∷ []) (Retry RawTextData)
 
 -- its state: a code span is open
@@ -135,33 +136,33 @@ raw_text_sequence_close =
     (text_cost (by_run (numbers 0 1 0 1)))) { begun = at_byte is_backtick_class })
 
 -- after that backtick string the code span ends
-abbrev pub raw_flow_after_rows : {R D : Type 0} → (previous current : Option TextByte) → Rows R D
-raw_flow_after_rows _ _ = row (exit CodeText ∷ []) Ok
+abbrev pub raw_text_after_rows : {R D : Type 0} → (previous current : Option TextByte) → Rows R D
+raw_text_after_rows _ _ = row (exit CodeText ∷ []) Ok
 
 -- its state: a code span is open
-abbrev pub raw_flow_after : {R D : Type 0} → StateRows TextByte R D
-raw_flow_after =
-    tried (state RawFlowAfter raw_flow_after_rows (CodeText ∷ []) (text_cost (by_left 0 0 1)))
+abbrev pub raw_text_after : {R D : Type 0} → StateRows TextByte R D
+raw_text_after =
+    tried (state RawTextAfter raw_text_after_rows (CodeText ∷ []) (text_cost (by_left 0 0 1)))
 
 -- a backtick string of another length is data
-abbrev pub raw_flow_before_content_chunk_rows : {R D : Type 0} → (previous current : Option TextByte) → Rows R D
-raw_flow_before_content_chunk_rows _ _ = row (enter CodeTextData ∷ []) (Retry RawFlowContentChunk)
+abbrev pub raw_text_backticks_start_rows : {R D : Type 0} → (previous current : Option TextByte) → Rows R D
+raw_text_backticks_start_rows _ _ = row (enter CodeTextData ∷ []) (Retry RawTextBackticksInside)
 
 -- its state: it is called only at a backtick, and a code span is open
-abbrev pub raw_flow_before_content_chunk : {R D : Type 0} → StateRows TextByte R D
-raw_flow_before_content_chunk =
-    tried (record (state RawFlowBeforeContentChunk raw_flow_before_content_chunk_rows (CodeText ∷ [])
+abbrev pub raw_text_backticks_start : {R D : Type 0} → StateRows TextByte R D
+raw_text_backticks_start =
+    tried (record (state RawTextBackticksStart raw_text_backticks_start_rows (CodeText ∷ [])
     (text_cost (by_run (numbers 0 1 7 4)))) { called = at_bytes is_backtick_class })
 
 -- that backtick string is read whole
-abbrev pub raw_flow_content_chunk_rows : {R D : Type 0} → (previous current : Option TextByte) → Rows R D
-raw_flow_content_chunk_rows _ (Some backtick) = row (consume ∷ []) (Next RawFlowContentChunk)
-raw_flow_content_chunk_rows _ _ = row [] (Retry RawTextData)
+abbrev pub raw_text_backticks_inside_rows : {R D : Type 0} → (previous current : Option TextByte) → Rows R D
+raw_text_backticks_inside_rows _ (Some backtick) = row (consume ∷ []) (Next RawTextBackticksInside)
+raw_text_backticks_inside_rows _ _ = row [] (Retry RawTextData)
 
 -- its state: a code span and its data are open
-abbrev pub raw_flow_content_chunk : {R D : Type 0} → StateRows TextByte R D
-raw_flow_content_chunk =
-    tried (record (state RawFlowContentChunk raw_flow_content_chunk_rows (CodeText ∷ CodeTextData ∷ [])
+abbrev pub raw_text_backticks_inside : {R D : Type 0} → StateRows TextByte R D
+raw_text_backticks_inside =
+    tried (record (state RawTextBackticksInside raw_text_backticks_inside_rows (CodeText ∷ CodeTextData ∷ [])
     (text_cost (by_run (numbers 0 1 7 3)))) { begun = at_byte is_backtick_class })
 
 -- its states that are called only if it is tried: at a backtick
@@ -183,8 +184,8 @@ code_spans = record {
   start = RawTextStart;
   otherwise = TextBeforeData;
   states =
-      raw_text_start ∷ raw_text_sequence_open ∷ raw_text_between ∷ raw_text_data ∷ raw_text_sequence_close ∷ raw_flow_after
-      ∷ raw_flow_before_content_chunk ∷ raw_flow_content_chunk ∷ [];
+      raw_text_start ∷ raw_text_sequence_open ∷ raw_text_between ∷ raw_text_data ∷ raw_text_sequence_close ∷ raw_text_after
+      ∷ raw_text_backticks_start ∷ raw_text_backticks_inside ∷ [];
   begun = code_span_begun;
-  follows = λ name. name.number == RawFlowAfter.number;
+  follows = λ name. name.number == RawTextAfter.number;
 }

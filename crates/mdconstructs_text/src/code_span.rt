@@ -12,9 +12,10 @@ ghost use Rattle.std.specs.Prelude.{◌≡◌, false, IfOk};
 ghost use Rattle.markdown_tokenizer.specs.Sight.{sight_of};
 ghost use Rattle.mdconstructs_tables.specs.Rows.{class_of};
 ghost use Rattle.mdconstructs_tables.specs.RowInvariant.{DoesAll, IsCallable, step_in};
-ghost use Rattle.mdconstructs_text.specs.CodeSpan.{sizes_are_equal, code_spans_are_on, raw_text_start, raw_text_sequence_open, raw_text_between, raw_text_data, raw_text_sequence_close, raw_flow_after, raw_flow_before_content_chunk, raw_flow_content_chunk};
+ghost use Rattle.mdconstructs_text.specs.CodeSpan.{sizes_are_equal, code_spans_are_on, raw_text_start, raw_text_sequence_open, raw_text_between, raw_text_data, raw_text_sequence_close, raw_text_after, raw_text_backticks_start, raw_text_backticks_inside};
 ghost use Rattle.mdconstructs_text.specs.TextBytes.{text_byte, is_tick};
 
+use crate::names;
 use crate::sizes::{add_to_size_b, add_to_size_c, set_size_b, set_size_c};
 use markdown_tokenizer::event;
 use markdown_tokenizer::state::{MachineTypes, Name, State};
@@ -63,8 +64,8 @@ pub fn raw_text_between<'a, M: MachineTypes>(t: &mut Tokenizer<'a, M>) -> Result
         }
         Some(b'`') => {
             t.attempt(
-                State::Next(Name::RawFlowAfter),
-                State::Next(Name::RawFlowBeforeContentChunk),
+                State::Next(names::RawTextAfter),
+                State::Next(names::RawTextBackticksStart),
             )?;
             t.enter(event::Name::CodeTextSequence)?;
             set_size_c(t, 0);
@@ -112,36 +113,36 @@ pub fn raw_text_sequence_close<'a, M: MachineTypes>(
 }
 
 /// After the backtick string that closed a code span.
-pub fn raw_flow_after<'a, M: MachineTypes>(t: &mut Tokenizer<'a, M>) -> Result<State, AllocError>
-    requires { IsCallable text_byte raw_flow_after t.old }
-    ensures { IfOk result (DoesAll (step_in text_byte raw_flow_after t.old) t.old t.new) }
+pub fn raw_text_after<'a, M: MachineTypes>(t: &mut Tokenizer<'a, M>) -> Result<State, AllocError>
+    requires { IsCallable text_byte raw_text_after t.old }
+    ensures { IfOk result (DoesAll (step_in text_byte raw_text_after t.old) t.old t.new) }
 {
     t.exit(event::Name::CodeText)?;
     Ok(State::Ok)
 }
 
 /// At a backtick string that closes nothing: it begins data of the code span.
-pub fn raw_flow_before_content_chunk<'a, M: MachineTypes>(
+pub fn raw_text_backticks_start<'a, M: MachineTypes>(
     t: &mut Tokenizer<'a, M>,
 ) -> Result<State, AllocError>
-    requires { IsCallable text_byte raw_flow_before_content_chunk t.old }
-    ensures { IfOk result (DoesAll (step_in text_byte raw_flow_before_content_chunk t.old) t.old t.new) }
+    requires { IsCallable text_byte raw_text_backticks_start t.old }
+    ensures { IfOk result (DoesAll (step_in text_byte raw_text_backticks_start t.old) t.old t.new) }
 {
     t.enter(event::Name::CodeTextData)?;
-    Ok(State::Retry(Name::RawFlowContentChunk))
+    Ok(State::Retry(names::RawTextBackticksInside))
 }
 
 /// In a backtick string that begins data of a code span.
-pub fn raw_flow_content_chunk<'a, M: MachineTypes>(
+pub fn raw_text_backticks_inside<'a, M: MachineTypes>(
     t: &mut Tokenizer<'a, M>,
 ) -> Result<State, AllocError>
-    requires { IsCallable text_byte raw_flow_content_chunk t.old }
-    ensures { IfOk result (DoesAll (step_in text_byte raw_flow_content_chunk t.old) t.old t.new) }
+    requires { IsCallable text_byte raw_text_backticks_inside t.old }
+    ensures { IfOk result (DoesAll (step_in text_byte raw_text_backticks_inside t.old) t.old t.new) }
 {
     match t.current() {
         Some(b'`') => {
             t.consume();
-            Ok(State::Next(Name::RawFlowContentChunk))
+            Ok(State::Next(names::RawTextBackticksInside))
         }
         _ => Ok(State::Retry(Name::RawTextData)),
     }

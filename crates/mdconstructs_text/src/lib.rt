@@ -6,6 +6,7 @@ pub mod autolink;
 pub mod code_span;
 pub mod escape;
 pub mod laws;
+pub mod names;
 pub mod read;
 pub mod sizes;
 pub mod text;

@@ -11,11 +11,12 @@ use crate::autolink::{
     autolink_open, autolink_scheme, autolink_start, autolink_url, autolinks_are_on,
 };
 use crate::code_span::{
-    code_spans_are_on, raw_flow_after, raw_flow_before_content_chunk, raw_flow_content_chunk,
+    code_spans_are_on, raw_text_after, raw_text_backticks_inside, raw_text_backticks_start,
     raw_text_between, raw_text_data, raw_text_sequence_close, raw_text_sequence_open,
     raw_text_start,
 };
 use crate::escape::{escape_inside, escape_start, escapes_are_on};
+use crate::names;
 use markdown_tokenizer::event;
 use markdown_tokenizer::state::{Machine, MachineTypes, Name, State};
 use markdown_tokenizer::subtokenize::Subresult;
@@ -53,9 +54,7 @@ impl Machine for Text {
         name: Name,
     ) -> Result<State, AllocError> {
         begin(t);
-        // The names are the Rust crate's. It has none for the states of a code span after a backtick string that may close it.
-        // Three names of fenced code, which is not read here, are used: `RawFlowAfter`, `RawFlowBeforeContentChunk` and
-        // `RawFlowContentChunk`.
+        // The names are the Rust crate's and those of `names`.
         match name {
             Name::FlowStart => flow_start(t),
             Name::ParagraphLineStart => paragraph_line_start(t),
@@ -71,9 +70,9 @@ impl Machine for Text {
             Name::RawTextBetween => raw_text_between(t),
             Name::RawTextData => raw_text_data(t),
             Name::RawTextSequenceClose => raw_text_sequence_close(t),
-            Name::RawFlowAfter => raw_flow_after(t),
-            Name::RawFlowBeforeContentChunk => raw_flow_before_content_chunk(t),
-            Name::RawFlowContentChunk => raw_flow_content_chunk(t),
+            names::RawTextAfter => raw_text_after(t),
+            names::RawTextBackticksStart => raw_text_backticks_start(t),
+            names::RawTextBackticksInside => raw_text_backticks_inside(t),
             Name::AutolinkStart => autolink_start(t),
             Name::AutolinkOpen => autolink_open(t),
             Name::AutolinkSchemeInsideOrEmailAtext => autolink_scheme(t),

@@ -15,7 +15,7 @@ use Rattle.markdown_base.specs.declared.event.Name.{Name as EventName}
 use Rattle.markdown_base.specs.declared.event.Name.TheVariants.{HardBreakTrailing}
 use Rattle.markdown_base.specs.declared.state.Name.{Name}
 use Rattle.markdown_base.specs.declared.state.State.TheVariants.{Next, Nok, Ok, Retry}
-use Rattle.markdown_base.specs.declared.state.TheConstants.Name.{SpaceOrTabEolAfterFirst, SpaceOrTabEolAfterMore, SpaceOrTabEolStart}
+use Rattle.mdconstructs_inline_constructs.specs.declared.names.TheConstants.{HardBreakTrailingAfterFirst, HardBreakTrailingAfterMore, HardBreakTrailingStart}
 use Rattle.markdown_base.specs.Virtual.{Seat}
 use Rattle.markdown_tokenizer.specs.declared.waiting.Waits.TheVariants.{Byte, Nothing}
 use Rattle.markdown_tokenizer.specs.Configuration.{Choice, Configuration, Local, Step}
@@ -44,9 +44,9 @@ use Rattle.mdconstructs_inline_constructs.specs.HardBreak.{hard_break_trailing, 
 
 -- A machine that reads hard breaks by spaces: at the names of their states it does what their rows say
 pub record PlaysTrailingBreaks (g : Given) (text : Text) (step : Sight → Configuration Unit Unit → Name → Step Unit Unit) : Type 0 where
-  pub start : HasRows g text step SpaceOrTabEolStart trailing_start_rows
-  pub after_first : HasRows g text step SpaceOrTabEolAfterFirst trailing_after_first_rows
-  pub after_more : HasRows g text step SpaceOrTabEolAfterMore trailing_after_more_rows
+  pub start : HasRows g text step HardBreakTrailingStart trailing_start_rows
+  pub after_first : HasRows g text step HardBreakTrailingAfterFirst trailing_after_first_rows
+  pub after_more : HasRows g text step HardBreakTrailingAfterMore trailing_after_more_rows
 
 -- ---- rows at bytes
 abbrev or_fails : Rows Unit Unit → Rows Unit Unit
@@ -104,7 +104,7 @@ module _ (g : Given) (text : Text) (m : Plays g text) (w : PlaysTrailingBreaks g
       (puts-back g text m names nok p ended events (shows l in_break q begun (counts read)) (take_at events enter_here (length events) refl) es h)
 
   abbrev IsDecided : (n : ℕ) (t : Bool) → Type 0
-  IsDecided n t = TriedIn g text m names (1 + n) SpaceOrTabEolStart nok p ended events local (s ∷ ss) (cond (nat_le 2 n && t) (Some (hard_break_trailing n)) None)
+  IsDecided n t = TriedIn g text m names (1 + n) HardBreakTrailingStart nok p ended events local (s ∷ ss) (cond (nat_le 2 n && t) (Some (hard_break_trailing n)) None)
 
   -- a tab begins no hard break
   at-tab : is_space s.byte ≡ false → (t : Bool) → IsDecided 0 t
@@ -113,19 +113,19 @@ module _ (g : Given) (text : Text) (m : Plays g text) (w : PlaysTrailingBreaks g
     after-call local,
     λ es h.
         let front = ap byte_of (at-front text.seats p s ss here) in
-        leads-tested g text m {t = false} space_waits trailing_start_rows (between_items p Byte ended events local) cs SpaceOrTabEolStart es front
+        leads-tested g text m {t = false} space_waits trailing_start_rows (between_items p Byte ended events local) cs HardBreakTrailingStart es front
         (ap (λ c. trailing_start_rows {R = Unit} {D = Unit} (before_class g text p) (Some c)) (white-class s.byte is)) (ap (passes is_space) front ∙ tab) (w.start _)
         (puts-back g text m names nok p ended events (between_items p Byte ended events (counts local)) (take-length events) es h),
   )
 
   module _ (space : is_space s.byte ≡ true) where
     -- the first space is read
-    begins : Leads g text m (between_items p Byte ended events local) cs (Retry SpaceOrTabEolStart) (shows ss in_break (p + 1) begun (counts local)) cs (Retry SpaceOrTabEolAfterFirst)
+    begins : Leads g text m (between_items p Byte ended events local) cs (Retry HardBreakTrailingStart) (shows ss in_break (p + 1) begun (counts local)) cs (Retry HardBreakTrailingAfterFirst)
     begins es h =
         let front = ap byte_of (at-front text.seats p s ss here) in
-        leads-tested g text m {t = true} space_waits trailing_start_rows (between_items p Byte ended events local) cs SpaceOrTabEolStart es front
+        leads-tested g text m {t = true} space_waits trailing_start_rows (between_items p Byte ended events local) cs HardBreakTrailingStart es front
         (ap (λ c. trailing_start_rows {R = Unit} {D = Unit} (before_class g text p) (Some c)) (white-class s.byte is)) (ap (passes is_space) front ∙ space) (w.start _)
-        (goes-next g text m ss in_break (p + 1) begun (counts local) cs SpaceOrTabEolAfterFirst (drop-next text.seats p s ss here) es h)
+        (goes-next g text m ss in_break (p + 1) begun (counts local) cs HardBreakTrailingAfterFirst (drop-next text.seats p s ss here) es h)
 
     -- one alone is none
     at-one : passes is_space (first_byte ss) ≡ false → (t : Bool) → IsDecided 1 t
@@ -134,7 +134,7 @@ module _ (g : Given) (text : Text) (m : Plays g text) (w : PlaysTrailingBreaks g
       after-two local,
       λ es h.
           begins es
-          (fails trailing_after_first_rows SpaceOrTabEolAfterFirst w.after_first ss (p + 1) (counts local) (drop-next text.seats p s ss here) none (first-fails (before_class g text (p + 1)) (first_byte ss)) es h),
+          (fails trailing_after_first_rows HardBreakTrailingAfterFirst w.after_first ss (p + 1) (counts local) (drop-next text.seats p s ss here) none (first-fails (before_class g text (p + 1)) (first_byte ss)) es h),
     )
 
 module _ (g : Given) (text : Text) (m : Plays g text) (w : PlaysTrailingBreaks g text m.step) (names : Between) (nok : Name) (p : ℕ) (ended : Bool) (events : List Event) (local : Local Unit Unit) (s r : Seat) (rs : List Seat)
@@ -176,19 +176,19 @@ module _ (g : Given) (text : Text) (m : Plays g text) (w : PlaysTrailingBreaks g
   rest-at = past-at g text m is_space rs (p + 1 + 1) (p + spaces) third place
 
   -- they are read up to their end
-  reads-on : Leads g text m (between_items p Byte ended events local) (outer names.home nok p ended events ∷ []) (Retry SpaceOrTabEolStart) (shows rest (HardBreakTrailing ∷ []) (p + spaces) entered read) (outer names.home nok p ended events ∷ [])
-      (Retry SpaceOrTabEolAfterMore)
+  reads-on : Leads g text m (between_items p Byte ended events local) (outer names.home nok p ended events ∷ []) (Retry HardBreakTrailingStart) (shows rest (HardBreakTrailing ∷ []) (p + spaces) entered read) (outer names.home nok p ended events ∷ [])
+      (Retry HardBreakTrailingAfterMore)
   reads-on es h =
       let cs = outer names.home nok p ended events ∷ [] in
       let st = HardBreakTrailing ∷ [] in
       let front = ap byte_of (at-front text.seats (p + 1) r rs behind) in
       begins g text m w names nok p ended events local s (r ∷ rs) here is space es
-      (leads-tested g text m {t = true} space_waits trailing_after_first_rows (shows (r ∷ rs) st (p + 1) entered (counts local)) cs SpaceOrTabEolAfterFirst es front
+      (leads-tested g text m {t = true} space_waits trailing_after_first_rows (shows (r ∷ rs) st (p + 1) entered (counts local)) cs HardBreakTrailingAfterFirst es front
       (ap (λ c. trailing_after_first_rows {R = Unit} {D = Unit} (before_class g text (p + 1)) (Some c)) (space-class r.byte second)) (ap (passes is_space) front ∙ second) (w.after_first _)
-      (goes-next g text m rs st (p + 1 + 1) entered (counts (counts local)) cs SpaceOrTabEolAfterMore third es
-      (loops g text m st cs SpaceOrTabEolAfterMore is_space counts
+      (goes-next g text m rs st (p + 1 + 1) entered (counts (counts local)) cs HardBreakTrailingAfterMore third es
+      (loops g text m st cs HardBreakTrailingAfterMore is_space counts
       (λ q ended events local s at is es.
-      leads-tested g text m {t = true} space_waits trailing_after_more_rows (held st q Byte ended events local) cs SpaceOrTabEolAfterMore es (ap byte_of at)
+      leads-tested g text m {t = true} space_waits trailing_after_more_rows (held st q Byte ended events local) cs HardBreakTrailingAfterMore es (ap byte_of at)
       (ap (λ c. trailing_after_more_rows {R = Unit} {D = Unit} (before_class g text q) (Some c)) (space-class s.byte is)) (ap (passes is_space) (ap byte_of at) ∙ is) (w.after_more _))
       rs (p + 1 + 1) (p + spaces) entered (counts (counts local)) third place es h)))
 
@@ -201,15 +201,15 @@ module _ (g : Given) (text : Text) (m : Plays g text) (w : PlaysTrailingBreaks g
       let inside : spaces ≤ suc (length (r ∷ rs)) = omega (arith, prefix_len-le-length is_space (bytes_of rs), length-map rs (λ x. x.byte)) in
       let made : entered ++ event g.bytes Exit HardBreakTrailing (end_place text (p + spaces)) ∷ [] ≡ events ++ leaf g.bytes HardBreakTrailing (take spaces l) =
       append_assoc events _ _ ∙ ap (λ es. events ++ es) (leaf-read text g.bytes HardBreakTrailing spaces p s (r ∷ rs) here (omega arith) inside) in
-      subst (λ b. TriedIn g text m names (1 + spaces) SpaceOrTabEolStart nok p ended events local l (cond (b && t) (Some (hard_break_trailing spaces)) None)) (sym enough)
-      (elim t as (λ t. passes is_line_feed (first_byte rest) ≡ t → TriedIn g text m names (1 + spaces) SpaceOrTabEolStart nok p ended events local l (cond t (Some (hard_break_trailing spaces)) None)) [
+      subst (λ b. TriedIn g text m names (1 + spaces) HardBreakTrailingStart nok p ended events local l (cond (b && t) (Some (hard_break_trailing spaces)) None)) (sym enough)
+      (elim t as (λ t. passes is_line_feed (first_byte rest) ≡ t → TriedIn g text m names (1 + spaces) HardBreakTrailingStart nok p ended events local l (cond t (Some (hard_break_trailing spaces)) None)) [
         | true ↦ λ line. (
           is_end rest,
           counts read,
           calls,
           λ es h.
               reads-on es
-              (leads-seen g text m trailing_after_more_rows (shows rest st (p + spaces) entered read) cs SpaceOrTabEolAfterMore es (sees g text m rest (p + spaces) rest-at)
+              (leads-seen g text m trailing_after_more_rows (shows rest st (p + spaces) entered read) cs HardBreakTrailingAfterMore es (sees g text m rest (p + spaces) rest-at)
               (more-ends (before_class g text (p + spaces)) (first_byte rest) line) (w.after_more _)
               (leads-ok g text m (shows rest [] (p + spaces) (entered ++ event g.bytes Exit HardBreakTrailing (end_place text (p + spaces)) ∷ []) (counts read)) (outer names.home nok p ended events) [] es (rw made h))),
         )
@@ -218,14 +218,14 @@ module _ (g : Given) (text : Text) (m : Plays g text) (w : PlaysTrailingBreaks g
           calls,
           λ es h.
               reads-on es
-              (fails g text m w names nok p ended events local s (r ∷ rs) here is trailing_after_more_rows SpaceOrTabEolAfterMore w.after_more rest (p + spaces) read rest-at (past-stops is_space rs)
+              (fails g text m w names nok p ended events local s (r ∷ rs) here is trailing_after_more_rows HardBreakTrailingAfterMore w.after_more rest (p + spaces) read rest-at (past-stops is_space rs)
               (more-fails (before_class g text (p + spaces)) (first_byte rest) other) es h),
         )
       ] follows)
 
 module _ (g : Given) (text : Text) (m : Plays g text) (w : PlaysTrailingBreaks g text m.step) (names : Between) (nok : Name) (p : ℕ) (ended : Bool) (events : List Event) (local : Local Unit Unit) (s : Seat) where
   abbrev DecidedAt : List Seat → ℕ → Type 0
-  DecidedAt ss n = TriedIn g text m names (1 + n) SpaceOrTabEolStart nok p ended events local (s ∷ ss) (cond (nat_le 2 n && has_byte_at (bytes_of (s ∷ ss)) n is_line_feed) (Some (hard_break_trailing n)) None)
+  DecidedAt ss n = TriedIn g text m names (1 + n) HardBreakTrailingStart nok p ended events local (s ∷ ss) (cond (nat_le 2 n && has_byte_at (bytes_of (s ∷ ss)) n is_line_feed) (Some (hard_break_trailing n)) None)
 
   -- behind the first space
   from-first : (ss : List Seat) → drop p text.seats ≡ s ∷ ss → is_white s.byte ≡ true → is_space s.byte ≡ true → DecidedAt ss (1 + prefix_len is_space (bytes_of ss))
@@ -241,7 +241,7 @@ module _ (g : Given) (text : Text) (m : Plays g text) (w : PlaysTrailingBreaks g
       ] refl
 
   -- At white space a hard break is read, or what was tried leaves nothing
-  tries-trailing : (ss : List Seat) → drop p text.seats ≡ s ∷ ss → is_white s.byte ≡ true → TriedIn g text m names (trailing_break_calls (bytes_of (s ∷ ss))) SpaceOrTabEolStart nok p ended events local (s ∷ ss) (trailing_break_at (bytes_of (s ∷ ss)))
+  tries-trailing : (ss : List Seat) → drop p text.seats ≡ s ∷ ss → is_white s.byte ≡ true → TriedIn g text m names (trailing_break_calls (bytes_of (s ∷ ss))) HardBreakTrailingStart nok p ended events local (s ∷ ss) (trailing_break_at (bytes_of (s ∷ ss)))
   tries-trailing ss here is =
       elim (is_space s.byte) as (λ t. is_space s.byte ≡ t → DecidedAt ss (cond t (1 + prefix_len is_space (bytes_of ss)) 0)) [
         | true ↦ λ space. from-first ss here is space

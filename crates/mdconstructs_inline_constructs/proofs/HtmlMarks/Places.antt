@@ -1,6 +1,7 @@
 -- Places in raw HTML between marks, from byte to byte; and how many bytes there are from each on.
 use Rattle.markdown_base.specs.declared.state.Name.{Name}
-use Rattle.markdown_base.specs.declared.state.TheConstants.Name.{HtmlTextCdataOpenInside, HtmlTextComment, HtmlTextCommentOpenInside, HtmlTextDeclarationOpen, HtmlTextInstruction}
+use Rattle.markdown_base.specs.declared.state.TheConstants.Name.{HtmlTextCdataOpenInside, HtmlTextCommentOpenInside, HtmlTextDeclarationOpen}
+use Rattle.mdconstructs_inline_constructs.specs.declared.names.TheConstants.{HtmlTextMarkInside, HtmlTextMarkOpen}
 use Rattle.markdown_tokenizer.specs.Configuration.{Configuration, Local}
 use Rattle.markdown_tokenizer.specs.Sight.{Sight}
 use Rattle.mdconstructs_machines.specs.Breaks.{is_white}
@@ -81,11 +82,11 @@ mark_next = mark_move nothing_known
 
 -- the state of a place
 abbrev pub mark_name : MarkPlace → Name
-mark_name at_open = HtmlTextInstruction
+mark_name at_open = HtmlTextMarkOpen
 mark_name at_declaration = HtmlTextDeclarationOpen
 mark_name at_comment = HtmlTextCommentOpenInside
 mark_name (at_cdata n) = HtmlTextCdataOpenInside
-mark_name (at_inside kind n) = HtmlTextComment
+mark_name (at_inside kind n) = HtmlTextMarkInside
 
 -- what is written where the end or a blank line stops a look: its kind does not end up to there. An opening mark is just not there
 abbrev pub kind_fails : Mark → Sight → Configuration Unit Unit → Local Unit Unit

@@ -8,7 +8,7 @@ use Rattle.markdown_base.specs.declared.event.Name.TheVariants.{HtmlText, HtmlTe
 use Rattle.markdown_base.specs.declared.state.Name.{Name}
 use Rattle.markdown_base.specs.declared.state.State.{State}
 use Rattle.markdown_base.specs.declared.state.State.TheVariants.{Next, Retry}
-use Rattle.markdown_base.specs.declared.state.TheConstants.Name.{HtmlTextCommentClose, HtmlTextCommentEnd, HtmlTextDeclaration, HtmlTextInstruction}
+use Rattle.mdconstructs_inline_constructs.specs.declared.names.TheConstants.{HtmlTextMarkLine, HtmlTextMarkOpen, HtmlTextMarkStart, HtmlTextMarkWhite}
 use Rattle.markdown_tokenizer.specs.Configuration.{Choice, Configuration, Local}
 use Rattle.markdown_tokenizer.specs.Sight.{point_or}
 use Rattle.markdown_tokenizer.specs.Text.{Given, IsText, Text}
@@ -116,7 +116,7 @@ module _ (g : Given) (text : Text) (m : Plays g text) (names : Between) where
     right = known-opens g text is p r knows s ss here less
 
     -- from `<` on
-    tries-mark : GivesUp g text m names (look_calls text p r ss) nok p ended events (s ∷ ss) k waits (Retry HtmlTextDeclaration) (drop over ss) (p + 1 + over) stop (html_option (one_further there))
+    tries-mark : GivesUp g text m names (look_calls text p r ss) nok p ended events (s ∷ ss) k waits (Retry HtmlTextMarkStart) (drop over ss) (p + 1 + over) stop (html_option (one_further there))
     tries-mark =
         let front = at-front text.seats p s ss here in
         let next_at = drop-next text.seats p s ss here in
@@ -126,24 +126,24 @@ module _ (g : Given) (text : Text) (m : Plays g text) (names : Between) where
         let same : made ≡ begun = ap (λ o. (events ++ event g.bytes Enter HtmlText (point_or text.end o) ∷ []) ++ event g.bytes Enter HtmlTextData (point_or text.end o) ∷ []) front in
         let k' = shows ss in_html_data (p + 1) begun (counts local) in
         let plain : (s.byte == 10) ≡ false = ap (λ c. c == 10) (eqb-true s.byte 60 less) in
-        gives-up-before 1 (1 + 2 * over) nok p ended events (s ∷ ss) k k' waits waits (Retry HtmlTextDeclaration) (Retry HtmlTextInstruction) (drop over ss) (p + 1 + over) stop (html_option (one_further there)) (after-call local)
+        gives-up-before 1 (1 + 2 * over) nok p ended events (s ∷ ss) k k' waits waits (Retry HtmlTextMarkStart) (Retry HtmlTextMarkOpen) (drop over ss) (p + 1 + over) stop (html_option (one_further there)) (after-call local)
         (λ es h.
-        leads-row g text m (row (enter HtmlText ∷ enter HtmlTextData ∷ consume ∷ []) (Next HtmlTextInstruction)) k waits HtmlTextDeclaration es (marks.start _)
-        (goes-next g text m ss in_html_data (p + 1) made (counts local) waits HtmlTextInstruction next_at es
-        (subst (λ e. EndsWith g text m.step (shows ss in_html_data (p + 1) e (counts local)) waits (Retry HtmlTextInstruction) es) (sym same) h)))
-        (html-decided g text m names 1 nok p ended events s ss k' (Retry HtmlTextInstruction) over stop there here (walk-within (mark_move known) (bytes_of ss) false at_open)
-        ((reads g text m.step (mark_move known) mark_name mark_returns mark_gives_up HtmlTextCommentClose HtmlTextCommentEnd (KnowsMark text p known) FollowsMark (plays-marks g text m.step marks p known) waits ss).0 at_open (p + 1)
+        leads-row g text m (row (enter HtmlText ∷ enter HtmlTextData ∷ consume ∷ []) (Next HtmlTextMarkOpen)) k waits HtmlTextMarkStart es (marks.start _)
+        (goes-next g text m ss in_html_data (p + 1) made (counts local) waits HtmlTextMarkOpen next_at es
+        (subst (λ e. EndsWith g text m.step (shows ss in_html_data (p + 1) e (counts local)) waits (Retry HtmlTextMarkOpen) es) (sym same) h)))
+        (html-decided g text m names 1 nok p ended events s ss k' (Retry HtmlTextMarkOpen) over stop there here (walk-within (mark_move known) (bytes_of ss) false at_open)
+        ((reads g text m.step (mark_move known) mark_name mark_returns mark_gives_up HtmlTextMarkLine HtmlTextMarkWhite (KnowsMark text p known) FollowsMark (plays-marks g text m.step marks p known) waits ss).0 at_open (p + 1)
         (counts local) (events ++ enters ∷ []) s [] next_at (refl, λ kind. refl) (ap not plain, tt) (place-behind text p s front)))
 
     -- what is not there leaves what is remembered right
     not-there : there ≡ None → (w : Stop) → Ended known 8 (bytes_of ss) over w
-        → GivesUp g text m names (look_calls text p r ss) nok p ended events (s ∷ ss) k waits (Retry HtmlTextDeclaration) (drop over ss) (p + 1 + over) w None
-        → MarksDecided nok p ended events local s ss k waits (Retry HtmlTextDeclaration) None
+        → GivesUp g text m names (look_calls text p r ss) nok p ended events (s ∷ ss) k waits (Retry HtmlTextMarkStart) (drop over ss) (p + 1 + over) w None
+        → MarksDecided nok p ended events local s ss k waits (Retry HtmlTextMarkStart) None
     not-there none w (inl (silent, few)) given =
-        let d = subst (λ w. GivesUp g text m names (look_calls text p r ss) nok p ended events (s ∷ ss) k waits (Retry HtmlTextDeclaration) (drop over ss) (p + 1 + over) w None) silent given in
+        let d = subst (λ w. GivesUp g text m names (look_calls text p r ss) nok p ended events (s ∷ ss) k waits (Retry HtmlTextMarkStart) (drop over ss) (p + 1 + over) w None) silent given in
         (counts d.2, subst (KnowsMarks text p) (sym d.3.same) knows, d.3.calls, inl (d.3.same, few), d.4)
     not-there none w (inr (kind, unknown, (among, lines, writes))) given =
-        let d = subst (λ w. GivesUp g text m names (look_calls text p r ss) nok p ended events (s ∷ ss) k waits (Retry HtmlTextDeclaration) (drop over ss) (p + 1 + over) w None) writes given in
+        let d = subst (λ w. GivesUp g text m names (look_calls text p r ss) nok p ended events (s ∷ ss) k waits (Retry HtmlTextMarkStart) (drop over ss) (p + 1 + over) w None) writes given in
         let k1 = called (shows (drop over ss) d.0 (p + 1 + over) d.1 d.2) in
         let i = stop_index g text (drop over ss) (p + 1 + over) in
         let gone : of_kind kind (bytes_of ss) ≡ None = less-none known (bytes_of ss) none right kind in (
@@ -175,13 +175,13 @@ module _ (g : Given) (text : Text) (m : Plays g text) (names : Between) where
     mark-within = subst (OfOption (λ item. item_length item ≤ length (s ∷ ss))) front-is (there-within there (walk-within (mark_move known) (bytes_of ss) false at_open))
 
     decided : (o : Option ℕ) → there ≡ o
-        → GivesUp g text m names (look_calls text p r ss) nok p ended events (s ∷ ss) k waits (Retry HtmlTextDeclaration) (drop over ss) (p + 1 + over) stop (html_option (one_further o))
-        → MarksDecided nok p ended events local s ss k waits (Retry HtmlTextDeclaration) (html_option (one_further o))
+        → GivesUp g text m names (look_calls text p r ss) nok p ended events (s ∷ ss) k waits (Retry HtmlTextMarkStart) (drop over ss) (p + 1 + over) stop (html_option (one_further o))
+        → MarksDecided nok p ended events local s ss k waits (Retry HtmlTextMarkStart) (html_option (one_further o))
     decided None e given = not-there e stop (opening-fails known (bytes_of ss) at_open tt e) given
     decided (Some n) e given = given
 
     -- The theorem of raw HTML between marks, by what is remembered
-    pub html-marks-read : MarksDecided nok p ended events local s ss k waits (Retry HtmlTextDeclaration) (html_mark_grammar.front (bytes_of (s ∷ ss)))
+    pub html-marks-read : MarksDecided nok p ended events local s ss k waits (Retry HtmlTextMarkStart) (html_mark_grammar.front (bytes_of (s ∷ ss)))
     html-marks-read =
-        subst (MarksDecided nok p ended events local s ss k waits (Retry HtmlTextDeclaration))
+        subst (MarksDecided nok p ended events local s ss k waits (Retry HtmlTextMarkStart))
         front-is (decided there refl tries-mark)

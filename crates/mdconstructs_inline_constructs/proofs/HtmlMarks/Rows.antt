@@ -2,7 +2,8 @@
 use Rattle.markdown_base.specs.declared.event.Name.TheVariants.{HtmlTextData, SpaceOrTab}
 use Rattle.markdown_base.specs.declared.state.Name.{Name}
 use Rattle.markdown_base.specs.declared.state.State.TheVariants.{Next, Nok, Retry}
-use Rattle.markdown_base.specs.declared.state.TheConstants.Name.{HtmlTextComment, HtmlTextCommentClose, HtmlTextCommentEnd, HtmlTextCommentOpenInside, HtmlTextDeclaration, HtmlTextDeclarationOpen}
+use Rattle.markdown_base.specs.declared.state.TheConstants.Name.{HtmlTextCommentOpenInside, HtmlTextDeclarationOpen}
+use Rattle.mdconstructs_inline_constructs.specs.declared.names.TheConstants.{HtmlTextMarkInside, HtmlTextMarkLine, HtmlTextMarkStart, HtmlTextMarkWhite}
 use Rattle.markdown_base.specs.Virtual.{Seat}
 use Rattle.markdown_tokenizer.specs.Calls.{with_local}
 use Rattle.markdown_tokenizer.specs.Configuration.{Configuration, Local, Step}
@@ -42,10 +43,10 @@ mark_rows (at_inside kind n) = mark_inside_rows
 
 -- A machine that reads raw HTML between marks: its states have these rows
 pub record PlaysMarks (g : Given) (text : Text) (step : Sight → Configuration Unit Unit → Name → Step Unit Unit) : Type 0 where
-  pub start : HasRows g text step HtmlTextDeclaration mark_start_rows
+  pub start : HasRows g text step HtmlTextMarkStart mark_start_rows
   pub places : (s : MarkPlace) → HasRows g text step (mark_name s) (mark_rows s)
-  pub after_line : HasRows g text step HtmlTextCommentClose mark_line_rows
-  pub in_white : HasRows g text step HtmlTextCommentEnd mark_white_rows
+  pub after_line : HasRows g text step HtmlTextMarkLine mark_line_rows
+  pub in_white : HasRows g text step HtmlTextMarkWhite mark_white_rows
 
 -- up to which index of the document no mark of a kind ends, as is remembered
 abbrev pub known_upto : Mark → Remembered → ℕ
@@ -189,7 +190,7 @@ look-stopped others before (Some b) h = elim (b == 10) as (λ t. (b == 10) ≡ t
 ] refl h
 
 abbrev line_row : Move MarkPlace → Rows Unit Unit
-line_row move = line_row_of mark_name mark_returns HtmlTextCommentClose move
+line_row move = line_row_of mark_name mark_returns HtmlTextMarkLine move
 
 nothing-line : (kind : Mark) (n : ℕ) (previous : Option TextByte) → mark_inside_rows previous (Some line_feed) ≡ line_row (nothing_before kind n)
 nothing-line kind zero previous = refl
@@ -218,12 +219,12 @@ module _ (g : Given) (text : Text) (step : Sight → Configuration Unit Unit →
         ∙ elim t as (λ t. row_step g text k (cond t (row_of mark_name one) others) ≡ row_step g text k (row_of mark_name (cond t one other))) [ true ↦ refl | false ↦ rest ]
 
     abbrev nothing_rows : Rows Unit Unit
-    nothing_rows = when mark_begun (row (write (size_b_is 0) ∷ consume ∷ []) (Next HtmlTextComment)) (row (consume ∷ []) (Next HtmlTextComment))
+    nothing_rows = when mark_begun (row (write (size_b_is 0) ∷ consume ∷ []) (Next HtmlTextMarkInside)) (row (consume ∷ []) (Next HtmlTextMarkInside))
 
     nothing-rows : (kind : Mark) (n : ℕ) → k.local.tokenize_state.size_b ≡ n → row_step g text k nothing_rows ≡ row_step g text k (row_of mark_name (nothing_before kind n))
-    nothing-rows kind zero is = tested g text mark_begun (row (write (size_b_is 0) ∷ consume ∷ []) (Next HtmlTextComment)) (row (consume ∷ []) (Next HtmlTextComment)) k false (ap (nat_lt 0) is)
+    nothing-rows kind zero is = tested g text mark_begun (row (write (size_b_is 0) ∷ consume ∷ []) (Next HtmlTextMarkInside)) (row (consume ∷ []) (Next HtmlTextMarkInside)) k false (ap (nat_lt 0) is)
     nothing-rows kind (suc n) is =
-        tested g text mark_begun (row (write (size_b_is 0) ∷ consume ∷ []) (Next HtmlTextComment)) (row (consume ∷ []) (Next HtmlTextComment)) k true (ap (nat_lt 0) is ∙ lt-ltb 0 (suc n) (omega arith))
+        tested g text mark_begun (row (write (size_b_is 0) ∷ consume ∷ []) (Next HtmlTextMarkInside)) (row (consume ∷ []) (Next HtmlTextMarkInside)) k true (ap (nat_lt 0) is ∙ lt-ltb 0 (suc n) (omega arith))
 
     -- one of two rows by the byte that waits, each that of a move
     by-byte-move : (test : ℕ → Bool) (x y : Rows Unit Unit) (one other : Move MarkPlace) → row_step g text k x ≡ row_step g text k (row_of mark_name one) → row_step g text k y ≡ row_step g text k (row_of mark_name other)
@@ -319,10 +320,10 @@ module _ (g : Given) (text : Text) (step : Sight → Configuration Unit Unit →
   end-step from known (at_cdata n) k knows = refl
   end-step from known (at_inside kind n) k knows = stop-step kind k knows.0
 
-  module _ (n : Name) (white : Rows Unit Unit) (acts : List (Act Unit Unit)) (has : HasRows g text step n (look_rows mark_fails (when (sees is_white) white (row acts (Retry HtmlTextComment))))) where
+  module _ (n : Name) (white : Rows Unit Unit) (acts : List (Act Unit Unit)) (has : HasRows g text step n (look_rows mark_fails (when (sees is_white) white (row acts (Retry HtmlTextMarkInside))))) where
     -- behind a line ending: nothing more, white space, or data
     abbrev others : Rows Unit Unit
-    others = when (sees is_white) white (row acts (Retry HtmlTextComment))
+    others = when (sees is_white) white (row acts (Retry HtmlTextMarkInside))
 
     stops : (s : MarkPlace) (k : Configuration Unit Unit) → passes is_no_line_feed (sight g text k).current ≡ false → FollowsMark s k.local → Has k n (row (stop_acts (mark_gives_up s)) Nok)
     stops at_open k h follows = absurd follows
@@ -335,7 +336,7 @@ module _ (g : Given) (text : Text) (step : Sight → Configuration Unit Unit →
     whites : (k : Configuration Unit Unit) (b : ℕ) → (sight g text k).current ≡ Some b → is_white b ≡ true → Has k n white
     whites k b waits w =
         at-seen g text step n (look_rows mark_fails others) others k (Some b) has waits (look-others mark_fails others (class_of text_byte (sight g text k).previous) b (white-plain b w))
-        ∙ by-byte g text k is_white white (row acts (Retry HtmlTextComment)) b true waits w
+        ∙ by-byte g text k is_white white (row acts (Retry HtmlTextMarkInside)) b true waits w
 
     begins : (s : MarkPlace) (k : Configuration Unit Unit) (b : ℕ) → (sight g text k).current ≡ Some b → (b == 10) ≡ false → is_white b ≡ false → FollowsMark s k.local → Has k n (row acts (Retry (mark_name s)))
     begins at_open k b waits plain w follows = absurd follows
@@ -344,11 +345,11 @@ module _ (g : Given) (text : Text) (step : Sight → Configuration Unit Unit →
     begins (at_cdata i) k b waits plain w follows = absurd follows
     begins (at_inside kind i) k b waits plain w follows =
         at-seen g text step n (look_rows mark_fails others) others k (Some b) has waits (look-others mark_fails others (class_of text_byte (sight g text k).previous) b plain)
-        ∙ by-byte g text k is_white white (row acts (Retry HtmlTextComment)) b false waits w
+        ∙ by-byte g text k is_white white (row acts (Retry HtmlTextMarkInside)) b false waits w
 
   -- So it reads raw HTML
   pub plays-marks : (from : ℕ) (known : Mark → Bool)
-      → PlaysHtml g text step (mark_move known) mark_name mark_returns mark_gives_up HtmlTextCommentClose HtmlTextCommentEnd (KnowsMark text from known) FollowsMark
+      → PlaysHtml g text step (mark_move known) mark_name mark_returns mark_gives_up HtmlTextMarkLine HtmlTextMarkWhite (KnowsMark text from known) FollowsMark
   plays-marks from known = record {
     through = marks-go-through-lines known;
     kept = λ s s' b w is k. let it = subst (Keeps text from known s) is (keeps text from known s b) k in it.1;
@@ -361,10 +362,10 @@ module _ (g : Given) (text : Text) (step : Sight → Configuration Unit Unit →
     at_line = λ s k waits. at-seen g text step (mark_name s) (mark_rows s) (line_row (mark_move known s 10)) k (Some 10) (m.places s) waits (line-rows known s (class_of text_byte (sight g text k).previous));
     at_byte = λ s b k waits plain knows. at-seen g text step (mark_name s) (mark_rows s) (mark_rows s (class_of text_byte (sight g text k).previous) (Some (text_byte b))) k (Some b) (m.places s) waits refl
         ∙ byte-rows k b waits from known s (class_of text_byte (sight g text k).previous) plain knows;
-    after_stops = stops HtmlTextCommentClose (row (enter SpaceOrTab ∷ consume ∷ []) (Next HtmlTextCommentEnd)) (enter HtmlTextData ∷ []) m.after_line;
-    after_white = whites HtmlTextCommentClose (row (enter SpaceOrTab ∷ consume ∷ []) (Next HtmlTextCommentEnd)) (enter HtmlTextData ∷ []) m.after_line;
-    after_begins = begins HtmlTextCommentClose (row (enter SpaceOrTab ∷ consume ∷ []) (Next HtmlTextCommentEnd)) (enter HtmlTextData ∷ []) m.after_line;
-    prefix_stops = stops HtmlTextCommentEnd (row (consume ∷ []) (Next HtmlTextCommentEnd)) (exit SpaceOrTab ∷ enter HtmlTextData ∷ []) m.in_white;
-    prefix_white = whites HtmlTextCommentEnd (row (consume ∷ []) (Next HtmlTextCommentEnd)) (exit SpaceOrTab ∷ enter HtmlTextData ∷ []) m.in_white;
-    prefix_begins = begins HtmlTextCommentEnd (row (consume ∷ []) (Next HtmlTextCommentEnd)) (exit SpaceOrTab ∷ enter HtmlTextData ∷ []) m.in_white;
+    after_stops = stops HtmlTextMarkLine (row (enter SpaceOrTab ∷ consume ∷ []) (Next HtmlTextMarkWhite)) (enter HtmlTextData ∷ []) m.after_line;
+    after_white = whites HtmlTextMarkLine (row (enter SpaceOrTab ∷ consume ∷ []) (Next HtmlTextMarkWhite)) (enter HtmlTextData ∷ []) m.after_line;
+    after_begins = begins HtmlTextMarkLine (row (enter SpaceOrTab ∷ consume ∷ []) (Next HtmlTextMarkWhite)) (enter HtmlTextData ∷ []) m.after_line;
+    prefix_stops = stops HtmlTextMarkWhite (row (consume ∷ []) (Next HtmlTextMarkWhite)) (exit SpaceOrTab ∷ enter HtmlTextData ∷ []) m.in_white;
+    prefix_white = whites HtmlTextMarkWhite (row (consume ∷ []) (Next HtmlTextMarkWhite)) (exit SpaceOrTab ∷ enter HtmlTextData ∷ []) m.in_white;
+    prefix_begins = begins HtmlTextMarkWhite (row (consume ∷ []) (Next HtmlTextMarkWhite)) (exit SpaceOrTab ∷ enter HtmlTextData ∷ []) m.in_white;
   }

@@ -3,7 +3,8 @@ use Rattle.std.proofs.Common.{◌≡◌, [], ◌∷◌, inl, inr, Option, None, 
 use Rattle.std.proofs.lemmas.List.Elements.{All-from_recursion}
 use Rattle.markdown_base.specs.declared.state.Name.{Name}
 use Rattle.markdown_base.specs.declared.state.State.TheVariants.{Next, Retry}
-use Rattle.markdown_base.specs.declared.state.TheConstants.Name.{SpaceOrTabEolAtEol, StringBefore, StringStart, TextStart}
+use Rattle.markdown_base.specs.declared.state.TheConstants.Name.{StringBefore, StringStart, TextStart}
+use Rattle.mdconstructs_inlines.specs.declared.names.TheConstants.{TextLineStart}
 use Rattle.markdown_base.specs.Events.{IsBalanced}
 use Rattle.markdown_tokenizer.specs.Lawful.{IsLawful}
 use Rattle.markdown_tokenizer.specs.Plain.{HaveNoLinks}
@@ -75,7 +76,7 @@ rows-keep =
     let early = states-keep inlines begins_inline follows_inline inline_starts tt emphasis_edits EndsEmphasised (λ s k. (refl, refl)) run_states refl linkless-early in
     let later = states-keep inlines begins_inline follows_inline inline_starts tt emphasis_edits EndsEmphasised (λ s k. (refl, refl)) later_states refl linkless in (
       starts-keep StringStart StringBefore (text_cost (by_left 4 9 2)),
-      (strings.0, (strings.1.0, (strings.1.1.0, (early.0, (early.1.0, (starts-keep TextStart SpaceOrTabEolAtEol (text_cost (by_left 4 20 9)), later)))))),
+      (strings.0, (strings.1.0, (strings.1.1.0, (early.0, (early.1.0, (starts-keep TextStart TextLineStart (text_cost (by_left 4 20 9)), later)))))),
     )
 
 -- ---- the resolver

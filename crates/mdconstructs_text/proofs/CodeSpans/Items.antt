@@ -1,5 +1,5 @@
 -- Code spans as items: if one is there, it is read with its events; if not, data is read from its first backtick.
-use Rattle.mdconstructs_text.proofs.Prelude.{Configuration, Ending, Found, Next, State, item_length, passes, point_or, text_byte, tick-classed, Between, row, exit, eqb-true, IsText, Name, code_spans, at-front, ◌≡◌, ℕ, suc, ◌+◌, ◌-◌, ◌^◌, ◌<◌, ◌≤◌, ◌∷◌, ◌++◌, [], List, Bool, true, false, cond, refl, sym, ◌∙◌, ap, subst, Option, Some, None, arith, length, take, drop, option_map, append_assoc, take_at, drop-drop, drop-take, take-take, length-take, length-drop, flat_map, between, Event, CodeText, CodeTextSequence, CodeTextData, Retry, Ok, Nok, RawTextStart, RawTextSequenceOpen, RawTextSequenceClose, RawTextBetween, RawFlowAfter, Seat, Nothing, Byte, Given, Text, Local, Choice, byte_of, counts, code_span, is_backtick, is_backtick_or_line_feed, backticks, part_length, part_at, code_span_at, bytes_of, leaf, part_events, pieces, item_events, drop-map, held, backtick, sizes_are_equal, raw_text_start_rows, raw_text_sequence_close_rows}
+use Rattle.mdconstructs_text.proofs.Prelude.{Configuration, Ending, Found, Next, State, item_length, passes, point_or, text_byte, tick-classed, Between, row, exit, eqb-true, IsText, Name, code_spans, at-front, ◌≡◌, ℕ, suc, ◌+◌, ◌-◌, ◌^◌, ◌<◌, ◌≤◌, ◌∷◌, ◌++◌, [], List, Bool, true, false, cond, refl, sym, ◌∙◌, ap, subst, Option, Some, None, arith, length, take, drop, option_map, append_assoc, take_at, drop-drop, drop-take, take-take, length-take, length-drop, flat_map, between, Event, CodeText, CodeTextSequence, CodeTextData, Retry, Ok, Nok, RawTextStart, RawTextSequenceOpen, RawTextSequenceClose, RawTextBetween, RawTextAfter, Seat, Nothing, Byte, Given, Text, Local, Choice, byte_of, counts, code_span, is_backtick, is_backtick_or_line_feed, backticks, part_length, part_at, code_span_at, bytes_of, leaf, part_events, pieces, item_events, drop-map, held, backtick, sizes_are_equal, raw_text_start_rows, raw_text_sequence_close_rows}
 use Rattle.std.proofs.lemmas.Bool.{eq-eqb}
 use Rattle.mdconstructs_text.proofs.Texts.Cutting.{cut-enough}
 use Rattle.mdconstructs_text.proofs.Texts.Steps.{Plays, WithRows, leads-row, EndsWith, Leads, between_items, leads-fed, leads-seen, leads-tested, leads-ok, before_class}
@@ -80,9 +80,9 @@ module _ (g : Given) (text : Text) (m : Plays g text) (r : Remembering) (c : Pla
             (leads-tested g text m sizes_are_equal raw_text_sequence_close_rows (shows l1 in_run q1 opened read) (inner g text m q events ∷ cs) RawTextSequenceClose es (sees g text m l1 q1 at1)
             (run-ended (before_class g text q1) (first_byte l1) (past-stops is_backtick l)).1 equal (c.raw_text_sequence_close _)
             (leads-ok g text m (shows l1 in_code q1 sequence (counts read)) (inner g text m q events) cs es
-            (leads-fed g text m (held in_code q1 Nothing (is_end l1) sequence (counts read)) cs RawFlowAfter es
-            (subst (λ k. EndsWith g text m k cs (Retry RawFlowAfter) es) (sym (shown-fed g text m l1 in_code q1 sequence (counts read) at1))
-            (leads-row g text m (row (exit CodeText ∷ []) Ok) (shows l1 in_code q1 sequence (counts read)) cs RawFlowAfter es (c.raw_flow_after _)
+            (leads-fed g text m (held in_code q1 Nothing (is_end l1) sequence (counts read)) cs RawTextAfter es
+            (subst (λ k. EndsWith g text m k cs (Retry RawTextAfter) es) (sym (shown-fed g text m l1 in_code q1 sequence (counts read) at1))
+            (leads-row g text m (row (exit CodeText ∷ []) Ok) (shows l1 in_code q1 sequence (counts read)) cs RawTextAfter es (c.raw_text_after _)
             (subst (λ c. EndsWith g text m (shows l1 [] q1 c (counts (counts read))) cs Ok es) (sym made) h)))))),
       )
 

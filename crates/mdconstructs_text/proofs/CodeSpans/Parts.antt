@@ -1,5 +1,5 @@
 -- The pieces of a code span, as the machine of texts reads them: line endings, data, and runs that do not close it.
-use Rattle.mdconstructs_text.proofs.Prelude.{by-class, at-front, ◌≡◌, ℕ, suc, ◌+◌, ◌^◌, ◌<◌, ◌≤◌, ◌∷◌, ◌++◌, [], List, Bool, true, false, cond, not, ◌==◌, ◌||◌, refl, sym, ◌∙◌, ap, subst, Option, Some, None, arith, nat_tests, not-true, not-false, max, length, take, drop, slice_get, append_assoc, take_at, drop-drop, drop-map, drop-next, length-drop, length-map, prefix_len-le-length, prefix_len, position_or_len, Event, Enter, Exit, CodeText, CodeTextSequence, CodeTextData, LineEnding, Next, Retry, RawTextBetween, RawTextData, RawTextSequenceClose, RawFlowAfter, RawFlowBeforeContentChunk, RawFlowContentChunk, Seat, Nothing, Byte, Attempt, Given, Text, Local, Choice, byte_of, point_or, end_or, end_place, class_of, counts, passes, Part, line_ending, plain_run, is_line_feed, is_backtick, is_backtick_or_line_feed, backticks, part_length, plain_length, bytes_of, row, enter, exit, consume, event, leaf, part_events, held, TextByte, backtick, line_feed, text_byte, more_than, sizes_are_equal, raw_text_between_rows, raw_text_data_rows, raw_text_sequence_close_rows, raw_flow_content_chunk_rows, line-ending-read}
+use Rattle.mdconstructs_text.proofs.Prelude.{by-class, at-front, ◌≡◌, ℕ, suc, ◌+◌, ◌^◌, ◌<◌, ◌≤◌, ◌∷◌, ◌++◌, [], List, Bool, true, false, cond, not, ◌==◌, ◌||◌, refl, sym, ◌∙◌, ap, subst, Option, Some, None, arith, nat_tests, not-true, not-false, max, length, take, drop, slice_get, append_assoc, take_at, drop-drop, drop-map, drop-next, length-drop, length-map, prefix_len-le-length, prefix_len, position_or_len, Event, Enter, Exit, CodeText, CodeTextSequence, CodeTextData, LineEnding, Next, Retry, RawTextBetween, RawTextData, RawTextSequenceClose, RawTextAfter, RawTextBackticksStart, RawTextBackticksInside, Seat, Nothing, Byte, Attempt, Given, Text, Local, Choice, byte_of, point_or, end_or, end_place, class_of, counts, passes, Part, line_ending, plain_run, is_line_feed, is_backtick, is_backtick_or_line_feed, backticks, part_length, plain_length, bytes_of, row, enter, exit, consume, event, leaf, part_events, held, TextByte, backtick, line_feed, text_byte, more_than, sizes_are_equal, raw_text_between_rows, raw_text_data_rows, raw_text_sequence_close_rows, raw_text_backticks_inside_rows, line-ending-read}
 use Rattle.markdown_base.specs.declared.event.Name.{Name as EventName}
 use Rattle.mdconstructs_text.proofs.Texts.Steps.{Plays, EndsWith, Leads, leads-seen, leads-tested, leads-nok, before_class}
 use Rattle.mdconstructs_text.proofs.Plain.Classes.{tick-class, run-ended}
@@ -119,8 +119,8 @@ module _ (g : Given) (text : Text) (m : Plays g text) where
   abbrev pub inner : ℕ → List Event → Choice
   inner q events = record {
     kind = Attempt;
-    ok = Next RawFlowAfter;
-    nok = Next RawFlowBeforeContentChunk;
+    ok = Next RawTextAfter;
+    nok = Next RawTextBackticksStart;
     saved = Some (record { position = q; ended = false; events = length events; stack = in_code });
   }
 
@@ -238,16 +238,16 @@ module _ (g : Given) (text : Text) (m : Plays g text) (r : Remembering) (c : Pla
             (sees g text m l1 q1 at1)
             ended.1 (sizes-read g text m l local short ∙ other) (c.raw_text_sequence_close _)
             (leads-nok g text m (shows l1 in_run q1 (events ++ enter_at g text m CodeTextSequence q ∷ []) (counts read)) (inner g text m q events) cs es
-            (subst (λ l. EndsWith g text m (held in_code q Nothing false l (counts read)) cs (Next RawFlowBeforeContentChunk) es)
+            (subst (λ l. EndsWith g text m (held in_code q Nothing false l (counts read)) cs (Next RawTextBackticksStart) es)
             (sym (take_at events (enter_at g text m CodeTextSequence q ∷ []) (length events) refl))
-            (goes-next g text m l in_code q events (counts read) cs RawFlowBeforeContentChunk at es
-            (leads-seen g text m (before_chunk_rows r) (held in_code q Byte false events (counts read)) cs RawFlowBeforeContentChunk es (ap byte_of (at-front text.seats q s ss at)) refl (c.raw_flow_before_content_chunk _)
-            (loops g text m in_code_data cs RawFlowContentChunk is_backtick counts
+            (goes-next g text m l in_code q events (counts read) cs RawTextBackticksStart at es
+            (leads-seen g text m (before_chunk_rows r) (held in_code q Byte false events (counts read)) cs RawTextBackticksStart es (ap byte_of (at-front text.seats q s ss at)) refl (c.raw_text_backticks_start _)
+            (loops g text m in_code_data cs RawTextBackticksInside is_backtick counts
             (λ q ended events local s at tick es.
-            leads-seen g text m raw_flow_content_chunk_rows (held in_code_data q Byte ended events local) cs RawFlowContentChunk es (ap byte_of at)
-            (class-rows g text m raw_flow_content_chunk_rows q s backtick (tick-class s.byte tick)) (c.raw_flow_content_chunk _))
+            leads-seen g text m raw_text_backticks_inside_rows (held in_code_data q Byte ended events local) cs RawTextBackticksInside es (ap byte_of at)
+            (class-rows g text m raw_text_backticks_inside_rows q s backtick (tick-class s.byte tick)) (c.raw_text_backticks_inside _))
             l q q1 begun noted at refl es
-            (leads-seen g text m raw_flow_content_chunk_rows (shows l1 in_code_data q1 begun again) cs RawFlowContentChunk es (sees g text m l1 q1 at1) ended.4 (c.raw_flow_content_chunk _)
+            (leads-seen g text m raw_text_backticks_inside_rows (shows l1 in_code_data q1 begun again) cs RawTextBackticksInside es (sees g text m l1 q1 at1) ended.4 (c.raw_text_backticks_inside _)
             (data-read g text m r c l1 q1 (q + (j + d)) begun (counts again) cs at1 place es
             (rw (behind, same) h))))))))),
       )

@@ -1,7 +1,7 @@
 -- What a machine that reads code spans does at the names of their states: as their rows say, and beside that it may remember backtick strings.
-use Rattle.mdconstructs_text.proofs.Prelude.{◌≡◌, ◌∷◌, [], List, Bool, false, Option, Some, None, refl, Event, CodeTextSequence, CodeTextData, Next, Retry, Nok, RawTextStart, RawTextSequenceOpen, RawTextBetween, RawTextData, RawTextSequenceClose, RawFlowAfter, RawFlowBeforeContentChunk, RawFlowContentChunk, Point, Given, Text, Configuration, Local, Rows, TextByte, backtick, is_tick, row, when, enter, exit, consume, row_step, raw_text_start_rows, raw_text_sequence_open_rows, raw_text_between_rows, raw_text_data_rows, raw_text_sequence_close_rows, raw_flow_content_chunk_rows}
+use Rattle.mdconstructs_text.proofs.Prelude.{◌≡◌, ◌∷◌, [], List, Bool, false, Option, Some, None, refl, Event, CodeTextSequence, CodeTextData, Next, Retry, Nok, RawTextStart, RawTextSequenceOpen, RawTextBetween, RawTextData, RawTextSequenceClose, RawTextAfter, RawTextBackticksStart, RawTextBackticksInside, Point, Given, Text, Configuration, Local, Rows, TextByte, backtick, is_tick, row, when, enter, exit, consume, row_step, raw_text_start_rows, raw_text_sequence_open_rows, raw_text_between_rows, raw_text_data_rows, raw_text_sequence_close_rows, raw_text_backticks_inside_rows}
 use Rattle.mdconstructs_tables.specs.Rows.{write}
-use Rattle.mdconstructs_text.specs.CodeSpan.{raw_flow_after_rows, raw_flow_before_content_chunk_rows}
+use Rattle.mdconstructs_text.specs.CodeSpan.{raw_text_after_rows, raw_text_backticks_start_rows}
 use Rattle.mdconstructs_text.specs.TextSizes.{size_b_grows}
 use Rattle.mdconstructs_text.proofs.Texts.Steps.{HasRows, Plays}
 
@@ -30,7 +30,7 @@ module _ (r : Remembering) where
 
   -- a backtick string that is data is noted
   abbrev pub before_chunk_rows : (previous current : Option TextByte) → Rows Unit Unit
-  before_chunk_rows _ _ = row (enter CodeTextData ∷ write (λ k. r.noted k.events k.local) ∷ []) (Retry RawFlowContentChunk)
+  before_chunk_rows _ _ = row (enter CodeTextData ∷ write (λ k. r.noted k.events k.local) ∷ []) (Retry RawTextBackticksInside)
 
   -- where no backtick waits
   pub opening-ended : (before : Option TextByte) (w : TextByte) → is_tick (Some w) ≡ false
@@ -45,9 +45,9 @@ pub record PlaysCodeSpans (g : Given) (text : Text) (m : Plays g text) (r : Reme
   pub raw_text_between : HasRows g text m.step RawTextBetween (between_rows r)
   pub raw_text_data : HasRows g text m.step RawTextData raw_text_data_rows
   pub raw_text_sequence_close : HasRows g text m.step RawTextSequenceClose raw_text_sequence_close_rows
-  pub raw_flow_after : HasRows g text m.step RawFlowAfter raw_flow_after_rows
-  pub raw_flow_before_content_chunk : HasRows g text m.step RawFlowBeforeContentChunk (before_chunk_rows r)
-  pub raw_flow_content_chunk : HasRows g text m.step RawFlowContentChunk raw_flow_content_chunk_rows
+  pub raw_text_after : HasRows g text m.step RawTextAfter raw_text_after_rows
+  pub raw_text_backticks_start : HasRows g text m.step RawTextBackticksStart (before_chunk_rows r)
+  pub raw_text_backticks_inside : HasRows g text m.step RawTextBackticksInside raw_text_backticks_inside_rows
   pub keeps : (events : List Event) (local : Local Unit Unit) → (r.noted events local).tokenize_state.size_b ≡ local.tokenize_state.size_b
 
 -- the rows of code spans are those of a machine that remembers nothing
@@ -61,5 +61,5 @@ module _ (g : Given) (text : Text) (k : Configuration Unit Unit) where
   between-plain before None = refl
   between-plain before (Some w) = refl
 
-  pub chunk-plain : (before waits : Option TextByte) → row_step g text k (raw_flow_before_content_chunk_rows before waits) ≡ row_step g text k (before_chunk_rows forgetful before waits)
+  pub chunk-plain : (before waits : Option TextByte) → row_step g text k (raw_text_backticks_start_rows before waits) ≡ row_step g text k (before_chunk_rows forgetful before waits)
   chunk-plain before waits = refl

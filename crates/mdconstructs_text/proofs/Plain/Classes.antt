@@ -1,6 +1,6 @@
 -- What has ended where no backtick waits.
 use Rattle.markdown_tokenizer.specs.Configuration.{TokenizerValue}
-use Rattle.mdconstructs_text.proofs.Prelude.{◌∙◌, tick-classed, ◌≡◌, ℕ, ◌∷◌, [], true, false, refl, Option, Some, None, arith, nat_tests, CodeText, CodeTextSequence, Data, Next, Retry, Ok, Nok, DataInside, RawTextBetween, RawTextData, row, when, enter, exit, consume, allows_all, start_shape, class_of, passes, is_backtick, TextByte, backtick, text_byte, is_tick, sight_of, sizes_are_equal, text_before_data_rows, data_at_break_rows, raw_text_sequence_open, raw_text_sequence_open_rows, raw_text_sequence_close, raw_text_sequence_close_rows, raw_flow_content_chunk_rows, ap}
+use Rattle.mdconstructs_text.proofs.Prelude.{◌∙◌, tick-classed, ◌≡◌, ℕ, ◌∷◌, [], true, false, refl, Option, Some, None, arith, nat_tests, CodeText, CodeTextSequence, Data, Next, Retry, Ok, Nok, DataInside, RawTextBetween, RawTextData, row, when, enter, exit, consume, allows_all, start_shape, class_of, passes, is_backtick, TextByte, backtick, text_byte, is_tick, sight_of, sizes_are_equal, text_before_data_rows, data_at_break_rows, raw_text_sequence_open, raw_text_sequence_open_rows, raw_text_sequence_close, raw_text_sequence_close_rows, raw_text_backticks_inside_rows, ap}
 
 -- a backtick is of the class of backticks
 pub tick-class : (b : ℕ) → is_backtick b ≡ true → text_byte b ≡ backtick
@@ -13,7 +13,7 @@ HasEnded R D b w =
     × (raw_text_sequence_close_rows {R = R} {D = D} b w ≡ when sizes_are_equal (row (exit CodeTextSequence ∷ []) Ok) (row [] Nok))
     × (allows_all {R = R} {D = D} (exit CodeTextSequence ∷ exit CodeText ∷ []) (start_shape b w (raw_text_sequence_open {R = R} {D = D})) ≡ true)
     × (allows_all {R = R} {D = D} (exit CodeTextSequence ∷ []) (start_shape b w (raw_text_sequence_close {R = R} {D = D})) ≡ true)
-    × (raw_flow_content_chunk_rows {R = R} {D = D} b w ≡ row [] (Retry RawTextData))
+    × (raw_text_backticks_inside_rows {R = R} {D = D} b w ≡ row [] (Retry RawTextData))
     × (data_at_break_rows {R = R} {D = D} b w ≡ row [] (Retry DataInside))
     × (text_before_data_rows {R = R} {D = D} b w ≡ row (enter Data ∷ consume ∷ []) (Next DataInside))
 

@@ -104,9 +104,9 @@ module _ (g : Given) (text : Text) where
     raw_text_between = λ k. between-plain g text k (class_of text_byte (sight g text k).previous) (class_of text_byte (sight g text k).current);
     raw_text_data = λ k. refl;
     raw_text_sequence_close = λ k. refl;
-    raw_flow_after = λ k. refl;
-    raw_flow_before_content_chunk = λ k. refl;
-    raw_flow_content_chunk = λ k. refl;
+    raw_text_after = λ k. refl;
+    raw_text_backticks_start = λ k. refl;
+    raw_text_backticks_inside = λ k. refl;
     keeps = λ events local. refl;
   }
 

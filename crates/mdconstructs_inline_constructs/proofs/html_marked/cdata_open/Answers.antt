@@ -1,7 +1,8 @@
 use Rattle.std.proofs.Common.{◌≡◌, ◌==◌, [], ◌∷◌, true, false, refl, sym, ◌∙◌, arith, rules}
 use Rattle.std.proofs.lemmas.Bool.Decides.{nat_tests}
 use Rattle.markdown_base.specs.declared.state.State.TheVariants.{Next}
-use Rattle.markdown_base.specs.declared.state.TheConstants.Name.{HtmlTextCdataOpenInside, HtmlTextComment}
+use Rattle.markdown_base.specs.declared.state.TheConstants.Name.{HtmlTextCdataOpenInside}
+use Rattle.mdconstructs_inline_constructs.specs.declared.names.TheConstants.{HtmlTextMarkInside}
 use Rattle.markdown_tokenizer.specs.Sight.{sight_of}
 use Rattle.mdconstructs_tables.specs.Rows.{row, write, consume, when}
 use Rattle.mdconstructs_text.specs.TextSizes.{size_b_grows}
@@ -19,8 +20,8 @@ returns-then-in_cdata_mark g c =
     let plain : (b == 10) ≡ false = grind (arith, nat_tests, c.in-Some.field-0-test) in
     let e0 : in_cdata_mark t.given (sight_of t) t.configuration ≡ true = sym c.in_cdata_mark.ensures ∙ c.if-in_cdata_mark.true in
     does-by
-    (seen t b is no_html (when in_cdata_mark (row (write size_b_grows ∷ consume ∷ []) (Next HtmlTextCdataOpenInside)) (when ends_cdata_mark (when no_cdata no_html (row (write (closed_by 93 2 0) ∷ consume ∷ []) (Next HtmlTextComment))) no_html)) plain
-    ∙ known-by t in_cdata_mark (row (write size_b_grows ∷ consume ∷ []) (Next HtmlTextCdataOpenInside)) (when ends_cdata_mark (when no_cdata no_html (row (write (closed_by 93 2 0) ∷ consume ∷ []) (Next HtmlTextComment))) no_html) true e0)
+    (seen t b is no_html (when in_cdata_mark (row (write size_b_grows ∷ consume ∷ []) (Next HtmlTextCdataOpenInside)) (when ends_cdata_mark (when no_cdata no_html (row (write (closed_by 93 2 0) ∷ consume ∷ []) (Next HtmlTextMarkInside))) no_html)) plain
+    ∙ known-by t in_cdata_mark (row (write size_b_grows ∷ consume ∷ []) (Next HtmlTextCdataOpenInside)) (when ends_cdata_mark (when no_cdata no_html (row (write (closed_by 93 2 0) ∷ consume ∷ []) (Next HtmlTextMarkInside))) no_html) true e0)
     (search rules)
 
 pub returns-then-no_cdata : goal.returns-then-no_cdata
@@ -33,10 +34,10 @@ returns-then-no_cdata g c =
     let e1 : ends_cdata_mark t.given (sight_of t) t.configuration ≡ true = sym c.ends_cdata_mark.ensures ∙ c.if-ends_cdata_mark.true in
     let e2 : no_cdata t.given (sight_of t) t.configuration ≡ true = sym c.no_cdata.ensures ∙ c.if-no_cdata.true in
     does-by
-    (seen t b is no_html (when in_cdata_mark (row (write size_b_grows ∷ consume ∷ []) (Next HtmlTextCdataOpenInside)) (when ends_cdata_mark (when no_cdata no_html (row (write (closed_by 93 2 0) ∷ consume ∷ []) (Next HtmlTextComment))) no_html)) plain
-    ∙ known-by t in_cdata_mark (row (write size_b_grows ∷ consume ∷ []) (Next HtmlTextCdataOpenInside)) (when ends_cdata_mark (when no_cdata no_html (row (write (closed_by 93 2 0) ∷ consume ∷ []) (Next HtmlTextComment))) no_html) false e0
-    ∙ known-by t ends_cdata_mark (when no_cdata no_html (row (write (closed_by 93 2 0) ∷ consume ∷ []) (Next HtmlTextComment))) no_html true e1
-    ∙ known-by t no_cdata no_html (row (write (closed_by 93 2 0) ∷ consume ∷ []) (Next HtmlTextComment)) true e2)
+    (seen t b is no_html (when in_cdata_mark (row (write size_b_grows ∷ consume ∷ []) (Next HtmlTextCdataOpenInside)) (when ends_cdata_mark (when no_cdata no_html (row (write (closed_by 93 2 0) ∷ consume ∷ []) (Next HtmlTextMarkInside))) no_html)) plain
+    ∙ known-by t in_cdata_mark (row (write size_b_grows ∷ consume ∷ []) (Next HtmlTextCdataOpenInside)) (when ends_cdata_mark (when no_cdata no_html (row (write (closed_by 93 2 0) ∷ consume ∷ []) (Next HtmlTextMarkInside))) no_html) false e0
+    ∙ known-by t ends_cdata_mark (when no_cdata no_html (row (write (closed_by 93 2 0) ∷ consume ∷ []) (Next HtmlTextMarkInside))) no_html true e1
+    ∙ known-by t no_cdata no_html (row (write (closed_by 93 2 0) ∷ consume ∷ []) (Next HtmlTextMarkInside)) true e2)
     (record { answered = refl; became = refl })
 
 pub returns-else-no_cdata : goal.returns-else-no_cdata
@@ -49,10 +50,10 @@ returns-else-no_cdata g c =
     let e1 : ends_cdata_mark t.given (sight_of t) t.configuration ≡ true = sym c.ends_cdata_mark.ensures ∙ c.if-ends_cdata_mark.true in
     let e2 : no_cdata t.given (sight_of t) t.configuration ≡ false = sym c.no_cdata.ensures ∙ c.if-no_cdata.false in
     does-by
-    (seen t b is no_html (when in_cdata_mark (row (write size_b_grows ∷ consume ∷ []) (Next HtmlTextCdataOpenInside)) (when ends_cdata_mark (when no_cdata no_html (row (write (closed_by 93 2 0) ∷ consume ∷ []) (Next HtmlTextComment))) no_html)) plain
-    ∙ known-by t in_cdata_mark (row (write size_b_grows ∷ consume ∷ []) (Next HtmlTextCdataOpenInside)) (when ends_cdata_mark (when no_cdata no_html (row (write (closed_by 93 2 0) ∷ consume ∷ []) (Next HtmlTextComment))) no_html) false e0
-    ∙ known-by t ends_cdata_mark (when no_cdata no_html (row (write (closed_by 93 2 0) ∷ consume ∷ []) (Next HtmlTextComment))) no_html true e1
-    ∙ known-by t no_cdata no_html (row (write (closed_by 93 2 0) ∷ consume ∷ []) (Next HtmlTextComment)) false e2)
+    (seen t b is no_html (when in_cdata_mark (row (write size_b_grows ∷ consume ∷ []) (Next HtmlTextCdataOpenInside)) (when ends_cdata_mark (when no_cdata no_html (row (write (closed_by 93 2 0) ∷ consume ∷ []) (Next HtmlTextMarkInside))) no_html)) plain
+    ∙ known-by t in_cdata_mark (row (write size_b_grows ∷ consume ∷ []) (Next HtmlTextCdataOpenInside)) (when ends_cdata_mark (when no_cdata no_html (row (write (closed_by 93 2 0) ∷ consume ∷ []) (Next HtmlTextMarkInside))) no_html) false e0
+    ∙ known-by t ends_cdata_mark (when no_cdata no_html (row (write (closed_by 93 2 0) ∷ consume ∷ []) (Next HtmlTextMarkInside))) no_html true e1
+    ∙ known-by t no_cdata no_html (row (write (closed_by 93 2 0) ∷ consume ∷ []) (Next HtmlTextMarkInside)) false e2)
     (search rules)
 
 pub returns-else-ends_cdata_mark : goal.returns-else-ends_cdata_mark
@@ -64,7 +65,7 @@ returns-else-ends_cdata_mark g c =
     let e0 : in_cdata_mark t.given (sight_of t) t.configuration ≡ false = sym c.in_cdata_mark.ensures ∙ c.if-in_cdata_mark.false in
     let e1 : ends_cdata_mark t.given (sight_of t) t.configuration ≡ false = sym c.ends_cdata_mark.ensures ∙ c.if-ends_cdata_mark.false in
     does-by
-    (seen t b is no_html (when in_cdata_mark (row (write size_b_grows ∷ consume ∷ []) (Next HtmlTextCdataOpenInside)) (when ends_cdata_mark (when no_cdata no_html (row (write (closed_by 93 2 0) ∷ consume ∷ []) (Next HtmlTextComment))) no_html)) plain
-    ∙ known-by t in_cdata_mark (row (write size_b_grows ∷ consume ∷ []) (Next HtmlTextCdataOpenInside)) (when ends_cdata_mark (when no_cdata no_html (row (write (closed_by 93 2 0) ∷ consume ∷ []) (Next HtmlTextComment))) no_html) false e0
-    ∙ known-by t ends_cdata_mark (when no_cdata no_html (row (write (closed_by 93 2 0) ∷ consume ∷ []) (Next HtmlTextComment))) no_html false e1)
+    (seen t b is no_html (when in_cdata_mark (row (write size_b_grows ∷ consume ∷ []) (Next HtmlTextCdataOpenInside)) (when ends_cdata_mark (when no_cdata no_html (row (write (closed_by 93 2 0) ∷ consume ∷ []) (Next HtmlTextMarkInside))) no_html)) plain
+    ∙ known-by t in_cdata_mark (row (write size_b_grows ∷ consume ∷ []) (Next HtmlTextCdataOpenInside)) (when ends_cdata_mark (when no_cdata no_html (row (write (closed_by 93 2 0) ∷ consume ∷ []) (Next HtmlTextMarkInside))) no_html) false e0
+    ∙ known-by t ends_cdata_mark (when no_cdata no_html (row (write (closed_by 93 2 0) ∷ consume ∷ []) (Next HtmlTextMarkInside))) no_html false e1)
     (record { answered = refl; became = refl })

@@ -1,7 +1,7 @@
 use Rattle.std.proofs.Common.{◌≡◌, ◌==◌, [], ◌∷◌, true, false, IfOk, Some, subst, sym, ap, ◌∙◌, arith, rules}
 use Rattle.std.proofs.lemmas.Bool.Decides.{nat_tests}
 use Rattle.markdown_base.specs.declared.state.State.TheVariants.{Next}
-use Rattle.markdown_base.specs.declared.state.TheConstants.Name.{HtmlTextComment}
+use Rattle.mdconstructs_inline_constructs.specs.declared.names.TheConstants.{HtmlTextMarkInside}
 use Rattle.markdown_tokenizer.specs.Sight.{sight_of}
 use Rattle.mdconstructs_tables.specs.RowInvariant.{DoesAll}
 use Rattle.mdconstructs_tables.specs.Rows.{row, write, consume, when}
@@ -17,10 +17,10 @@ pub mark_line_ends-requires : goal.mark_line_ends-requires
 mark_line_ends-requires g c =
     let t = c.args.t.now in
     let e : (sight_of t).current ≡ Some 10 = sym c.current.ensures ∙ c.in-Some-eq10.is ∙ ap Some (grind (arith, nat_tests, c.in-Some-eq10.field-0-test)) in
-    line-can-end HtmlTextComment mark_inside_rows t c.requires e
+    line-can-end HtmlTextMarkInside mark_inside_rows t c.requires e
 
 pub html_ends-requires : goal.html_ends-requires
-html_ends-requires g c = html-can-end HtmlTextComment mark_inside_rows c.args.t.now c.requires (ends-at _ _ (sym c.mark_ends.ensures ∙ c.if-mark_ends.true))
+html_ends-requires g c = html-can-end HtmlTextMarkInside mark_inside_rows c.args.t.now c.requires (ends-at _ _ (sym c.mark_ends.ensures ∙ c.if-mark_ends.true))
 
 pub returns-then-mark_ends : goal.returns-then-mark_ends
 returns-then-mark_ends g c =
@@ -29,8 +29,8 @@ returns-then-mark_ends g c =
     let is = sym c.current.ensures ∙ c.in-Some.is in
     let plain : (b == 10) ≡ false = grind (arith, nat_tests, c.in-Some.field-0-test) in
     let e0 : mark_ends t.given (sight_of t) t.configuration ≡ true = sym c.mark_ends.ensures ∙ c.if-mark_ends.true in
-    subst (λ s. IfOk c.html_ends.result (DoesAll s t c.html_ends.new.t)) (sym (look-seen t b is mark_line_ends (when mark_ends html_ends (when in_mark (row (write size_b_grows ∷ consume ∷ []) (Next HtmlTextComment)) (when mark_begun (row (write (size_b_is 0) ∷ consume ∷ []) (Next HtmlTextComment)) (html_goes_on HtmlTextComment)))) plain
-    ∙ known-by t mark_ends html_ends (when in_mark (row (write size_b_grows ∷ consume ∷ []) (Next HtmlTextComment)) (when mark_begun (row (write (size_b_is 0) ∷ consume ∷ []) (Next HtmlTextComment)) (html_goes_on HtmlTextComment))) true e0)) c.html_ends.ensures
+    subst (λ s. IfOk c.html_ends.result (DoesAll s t c.html_ends.new.t)) (sym (look-seen t b is mark_line_ends (when mark_ends html_ends (when in_mark (row (write size_b_grows ∷ consume ∷ []) (Next HtmlTextMarkInside)) (when mark_begun (row (write (size_b_is 0) ∷ consume ∷ []) (Next HtmlTextMarkInside)) (html_goes_on HtmlTextMarkInside)))) plain
+    ∙ known-by t mark_ends html_ends (when in_mark (row (write size_b_grows ∷ consume ∷ []) (Next HtmlTextMarkInside)) (when mark_begun (row (write (size_b_is 0) ∷ consume ∷ []) (Next HtmlTextMarkInside)) (html_goes_on HtmlTextMarkInside))) true e0)) c.html_ends.ensures
 
 pub returns-then-in_mark : goal.returns-then-in_mark
 returns-then-in_mark g c =
@@ -41,9 +41,9 @@ returns-then-in_mark g c =
     let e0 : mark_ends t.given (sight_of t) t.configuration ≡ false = sym c.mark_ends.ensures ∙ c.if-mark_ends.false in
     let e1 : in_mark t.given (sight_of t) t.configuration ≡ true = sym c.in_mark.ensures ∙ c.if-in_mark.true in
     does-by
-    (look-seen t b is mark_line_ends (when mark_ends html_ends (when in_mark (row (write size_b_grows ∷ consume ∷ []) (Next HtmlTextComment)) (when mark_begun (row (write (size_b_is 0) ∷ consume ∷ []) (Next HtmlTextComment)) (html_goes_on HtmlTextComment)))) plain
-    ∙ known-by t mark_ends html_ends (when in_mark (row (write size_b_grows ∷ consume ∷ []) (Next HtmlTextComment)) (when mark_begun (row (write (size_b_is 0) ∷ consume ∷ []) (Next HtmlTextComment)) (html_goes_on HtmlTextComment))) false e0
-    ∙ known-by t in_mark (row (write size_b_grows ∷ consume ∷ []) (Next HtmlTextComment)) (when mark_begun (row (write (size_b_is 0) ∷ consume ∷ []) (Next HtmlTextComment)) (html_goes_on HtmlTextComment)) true e1)
+    (look-seen t b is mark_line_ends (when mark_ends html_ends (when in_mark (row (write size_b_grows ∷ consume ∷ []) (Next HtmlTextMarkInside)) (when mark_begun (row (write (size_b_is 0) ∷ consume ∷ []) (Next HtmlTextMarkInside)) (html_goes_on HtmlTextMarkInside)))) plain
+    ∙ known-by t mark_ends html_ends (when in_mark (row (write size_b_grows ∷ consume ∷ []) (Next HtmlTextMarkInside)) (when mark_begun (row (write (size_b_is 0) ∷ consume ∷ []) (Next HtmlTextMarkInside)) (html_goes_on HtmlTextMarkInside))) false e0
+    ∙ known-by t in_mark (row (write size_b_grows ∷ consume ∷ []) (Next HtmlTextMarkInside)) (when mark_begun (row (write (size_b_is 0) ∷ consume ∷ []) (Next HtmlTextMarkInside)) (html_goes_on HtmlTextMarkInside)) true e1)
     (search rules)
 
 pub returns-then-mark_begun : goal.returns-then-mark_begun
@@ -56,10 +56,10 @@ returns-then-mark_begun g c =
     let e1 : in_mark t.given (sight_of t) t.configuration ≡ false = sym c.in_mark.ensures ∙ c.if-in_mark.false in
     let e2 : mark_begun t.given (sight_of t) t.configuration ≡ true = sym c.mark_begun.ensures ∙ c.if-mark_begun.true in
     does-by
-    (look-seen t b is mark_line_ends (when mark_ends html_ends (when in_mark (row (write size_b_grows ∷ consume ∷ []) (Next HtmlTextComment)) (when mark_begun (row (write (size_b_is 0) ∷ consume ∷ []) (Next HtmlTextComment)) (html_goes_on HtmlTextComment)))) plain
-    ∙ known-by t mark_ends html_ends (when in_mark (row (write size_b_grows ∷ consume ∷ []) (Next HtmlTextComment)) (when mark_begun (row (write (size_b_is 0) ∷ consume ∷ []) (Next HtmlTextComment)) (html_goes_on HtmlTextComment))) false e0
-    ∙ known-by t in_mark (row (write size_b_grows ∷ consume ∷ []) (Next HtmlTextComment)) (when mark_begun (row (write (size_b_is 0) ∷ consume ∷ []) (Next HtmlTextComment)) (html_goes_on HtmlTextComment)) false e1
-    ∙ known-by t mark_begun (row (write (size_b_is 0) ∷ consume ∷ []) (Next HtmlTextComment)) (html_goes_on HtmlTextComment) true e2)
+    (look-seen t b is mark_line_ends (when mark_ends html_ends (when in_mark (row (write size_b_grows ∷ consume ∷ []) (Next HtmlTextMarkInside)) (when mark_begun (row (write (size_b_is 0) ∷ consume ∷ []) (Next HtmlTextMarkInside)) (html_goes_on HtmlTextMarkInside)))) plain
+    ∙ known-by t mark_ends html_ends (when in_mark (row (write size_b_grows ∷ consume ∷ []) (Next HtmlTextMarkInside)) (when mark_begun (row (write (size_b_is 0) ∷ consume ∷ []) (Next HtmlTextMarkInside)) (html_goes_on HtmlTextMarkInside))) false e0
+    ∙ known-by t in_mark (row (write size_b_grows ∷ consume ∷ []) (Next HtmlTextMarkInside)) (when mark_begun (row (write (size_b_is 0) ∷ consume ∷ []) (Next HtmlTextMarkInside)) (html_goes_on HtmlTextMarkInside)) false e1
+    ∙ known-by t mark_begun (row (write (size_b_is 0) ∷ consume ∷ []) (Next HtmlTextMarkInside)) (html_goes_on HtmlTextMarkInside) true e2)
     (search rules)
 
 pub returns-else-mark_begun : goal.returns-else-mark_begun
@@ -72,8 +72,8 @@ returns-else-mark_begun g c =
     let e1 : in_mark t.given (sight_of t) t.configuration ≡ false = sym c.in_mark.ensures ∙ c.if-in_mark.false in
     let e2 : mark_begun t.given (sight_of t) t.configuration ≡ false = sym c.mark_begun.ensures ∙ c.if-mark_begun.false in
     does-by
-    (look-seen t b is mark_line_ends (when mark_ends html_ends (when in_mark (row (write size_b_grows ∷ consume ∷ []) (Next HtmlTextComment)) (when mark_begun (row (write (size_b_is 0) ∷ consume ∷ []) (Next HtmlTextComment)) (html_goes_on HtmlTextComment)))) plain
-    ∙ known-by t mark_ends html_ends (when in_mark (row (write size_b_grows ∷ consume ∷ []) (Next HtmlTextComment)) (when mark_begun (row (write (size_b_is 0) ∷ consume ∷ []) (Next HtmlTextComment)) (html_goes_on HtmlTextComment))) false e0
-    ∙ known-by t in_mark (row (write size_b_grows ∷ consume ∷ []) (Next HtmlTextComment)) (when mark_begun (row (write (size_b_is 0) ∷ consume ∷ []) (Next HtmlTextComment)) (html_goes_on HtmlTextComment)) false e1
-    ∙ known-by t mark_begun (row (write (size_b_is 0) ∷ consume ∷ []) (Next HtmlTextComment)) (html_goes_on HtmlTextComment) false e2)
+    (look-seen t b is mark_line_ends (when mark_ends html_ends (when in_mark (row (write size_b_grows ∷ consume ∷ []) (Next HtmlTextMarkInside)) (when mark_begun (row (write (size_b_is 0) ∷ consume ∷ []) (Next HtmlTextMarkInside)) (html_goes_on HtmlTextMarkInside)))) plain
+    ∙ known-by t mark_ends html_ends (when in_mark (row (write size_b_grows ∷ consume ∷ []) (Next HtmlTextMarkInside)) (when mark_begun (row (write (size_b_is 0) ∷ consume ∷ []) (Next HtmlTextMarkInside)) (html_goes_on HtmlTextMarkInside))) false e0
+    ∙ known-by t in_mark (row (write size_b_grows ∷ consume ∷ []) (Next HtmlTextMarkInside)) (when mark_begun (row (write (size_b_is 0) ∷ consume ∷ []) (Next HtmlTextMarkInside)) (html_goes_on HtmlTextMarkInside)) false e1
+    ∙ known-by t mark_begun (row (write (size_b_is 0) ∷ consume ∷ []) (Next HtmlTextMarkInside)) (html_goes_on HtmlTextMarkInside) false e2)
     (search rules)

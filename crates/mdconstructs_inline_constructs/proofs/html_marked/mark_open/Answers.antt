@@ -1,7 +1,8 @@
 use Rattle.std.proofs.Common.{◌≡◌, ◌==◌, [], ◌∷◌, false, refl, sym, ◌∙◌, arith}
 use Rattle.std.proofs.lemmas.Bool.Decides.{nat_tests}
 use Rattle.markdown_base.specs.declared.state.State.TheVariants.{Next}
-use Rattle.markdown_base.specs.declared.state.TheConstants.Name.{HtmlTextComment, HtmlTextDeclarationOpen}
+use Rattle.markdown_base.specs.declared.state.TheConstants.Name.{HtmlTextDeclarationOpen}
+use Rattle.mdconstructs_inline_constructs.specs.declared.names.TheConstants.{HtmlTextMarkInside}
 use Rattle.mdconstructs_tables.specs.Rows.{row, write, consume, when}
 use Rattle.mdconstructs_inline_constructs.specs.HtmlMarked.{closed_by, no_instruction}
 use Rattle.mdconstructs_inline_constructs.specs.HtmlText.{html_goes_on, no_html, sees}
@@ -17,7 +18,7 @@ returns-in-Some g c =
     let e0 : (b == 63) ≡ false = grind (arith, nat_tests, c.in-Some.field-0-test) in
     let e1 : (b == 33) ≡ false = grind (arith, nat_tests, c.in-Some.field-0-test) in
     does-by
-    (seen t b is no_html (when (sees (λ b. b == 63)) (when no_instruction no_html (row (write (closed_by 63 1 0) ∷ consume ∷ []) (Next HtmlTextComment))) (when (sees (λ b. b == 33)) (html_goes_on HtmlTextDeclarationOpen) no_html)) plain
-    ∙ tested-by t b is (λ b. b == 63) (when no_instruction no_html (row (write (closed_by 63 1 0) ∷ consume ∷ []) (Next HtmlTextComment))) (when (sees (λ b. b == 33)) (html_goes_on HtmlTextDeclarationOpen) no_html) false e0
+    (seen t b is no_html (when (sees (λ b. b == 63)) (when no_instruction no_html (row (write (closed_by 63 1 0) ∷ consume ∷ []) (Next HtmlTextMarkInside))) (when (sees (λ b. b == 33)) (html_goes_on HtmlTextDeclarationOpen) no_html)) plain
+    ∙ tested-by t b is (λ b. b == 63) (when no_instruction no_html (row (write (closed_by 63 1 0) ∷ consume ∷ []) (Next HtmlTextMarkInside))) (when (sees (λ b. b == 33)) (html_goes_on HtmlTextDeclarationOpen) no_html) false e0
     ∙ tested-by t b is (λ b. b == 33) (html_goes_on HtmlTextDeclarationOpen) no_html false e1)
     (record { answered = refl; became = refl })

@@ -2,7 +2,7 @@ use Rattle.std.proofs.Common.{refl, rules}
 use Rattle.mdconstructs_machines.specs.Tables.{counts}
 use Rattle.mdconstructs_tables.proofs.Rows.Calls.{callable, never-called}
 use Rattle.mdconstructs_text.specs.Autolink.{autolink_start, autolink_open, autolink_scheme, autolink_url}
-use Rattle.mdconstructs_text.specs.CodeSpan.{raw_text_start, raw_text_data, raw_text_sequence_close, raw_flow_after, raw_flow_content_chunk}
+use Rattle.mdconstructs_text.specs.CodeSpan.{raw_text_start, raw_text_data, raw_text_sequence_close, raw_text_after, raw_text_backticks_inside}
 use Rattle.mdconstructs_text.specs.Escape.{escape_start, escape_inside}
 use Rattle.mdconstructs_tables.specs.Numbers.{by_left}
 use Rattle.mdconstructs_text.specs.TextBytes.{text_byte}
@@ -58,14 +58,14 @@ raw_text_data-requires c = callable inlines counts c.args.name raw_text_data _ _
 pub raw_text_sequence_close-requires : goal.raw_text_sequence_close-requires
 raw_text_sequence_close-requires c = callable inlines counts c.args.name raw_text_sequence_close _ _ (search rules) refl c.requires.invariant.holds c.begin.ensures
 
-pub raw_flow_after-requires : goal.raw_flow_after-requires
-raw_flow_after-requires c = callable inlines counts c.args.name raw_flow_after _ _ (search rules) refl c.requires.invariant.holds c.begin.ensures
+pub raw_text_after-requires : goal.raw_text_after-requires
+raw_text_after-requires c = callable inlines counts c.args.name raw_text_after _ _ (search rules) refl c.requires.invariant.holds c.begin.ensures
 
 pub remembered_chunk-requires : goal.remembered_chunk-requires
 remembered_chunk-requires c = callable inlines counts c.args.name remembered_chunk _ _ (search rules) refl c.requires.invariant.holds c.begin.ensures
 
-pub raw_flow_content_chunk-requires : goal.raw_flow_content_chunk-requires
-raw_flow_content_chunk-requires c = callable inlines counts c.args.name raw_flow_content_chunk _ _ (search rules) refl c.requires.invariant.holds c.begin.ensures
+pub raw_text_backticks_inside-requires : goal.raw_text_backticks_inside-requires
+raw_text_backticks_inside-requires c = callable inlines counts c.args.name raw_text_backticks_inside _ _ (search rules) refl c.requires.invariant.holds c.begin.ensures
 
 pub autolink_start-requires : goal.autolink_start-requires
 autolink_start-requires c = callable inlines counts c.args.name autolink_start _ _ (search rules) refl c.requires.invariant.holds c.begin.ensures

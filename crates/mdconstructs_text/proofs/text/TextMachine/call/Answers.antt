@@ -1,4 +1,4 @@
-use Rattle.mdconstructs_text.proofs.Prelude.{inl, inr, refl, rules, sym, subst, FlowStart, ParagraphLineStart, ParagraphStart, ParagraphInside, TextStart, TextBefore, TextBeforeData, DataAtBreak, DataInside, RawTextStart, RawTextSequenceOpen, RawTextBetween, RawTextData, RawTextSequenceClose, RawFlowAfter, RawFlowBeforeContentChunk, RawFlowContentChunk, AutolinkStart, AutolinkOpen, AutolinkSchemeInsideOrEmailAtext, AutolinkUrlInside, CharacterEscapeStart, CharacterEscapeInside, begun, callable, never-called, counts, flow_start, paragraph_line_start, paragraph_start, paragraph_inside, CanLinkChunk, known-before, can-follow, texts, text_start, text_before, text_before_data, data_at_break, data_inside, raw_text_start, raw_text_sequence_open, raw_text_between, raw_text_data, raw_text_sequence_close, raw_flow_after, raw_flow_before_content_chunk, raw_flow_content_chunk, autolink_start, autolink_open, autolink_scheme, autolink_url, escape_start, escape_inside, flow, in-paragraphs, in-text}
+use Rattle.mdconstructs_text.proofs.Prelude.{inl, inr, refl, rules, sym, subst, FlowStart, ParagraphLineStart, ParagraphStart, ParagraphInside, TextStart, TextBefore, TextBeforeData, DataAtBreak, DataInside, RawTextStart, RawTextSequenceOpen, RawTextBetween, RawTextData, RawTextSequenceClose, RawTextAfter, RawTextBackticksStart, RawTextBackticksInside, AutolinkStart, AutolinkOpen, AutolinkSchemeInsideOrEmailAtext, AutolinkUrlInside, CharacterEscapeStart, CharacterEscapeInside, begun, callable, never-called, counts, flow_start, paragraph_line_start, paragraph_start, paragraph_inside, CanLinkChunk, known-before, can-follow, texts, text_start, text_before, text_before_data, data_at_break, data_inside, raw_text_start, raw_text_sequence_open, raw_text_between, raw_text_data, raw_text_sequence_close, raw_text_after, raw_text_backticks_start, raw_text_backticks_inside, autolink_start, autolink_open, autolink_scheme, autolink_url, escape_start, escape_inside, flow, in-paragraphs, in-text}
 use Rattle.mdconstructs_text.proofs.text.TextMachine.call.Goals as goal
 
 pub flow_start-requires : goal.flow_start-requires
@@ -49,14 +49,14 @@ raw_text_data-requires c = callable texts counts c.args.name raw_text_data _ _ (
 pub raw_text_sequence_close-requires : goal.raw_text_sequence_close-requires
 raw_text_sequence_close-requires c = callable texts counts c.args.name raw_text_sequence_close _ _ (search rules) refl (in-text c.args.t.now c.args.name RawTextSequenceClose.number (search rules) refl c.requires.invariant) c.begin.ensures
 
-pub raw_flow_after-requires : goal.raw_flow_after-requires
-raw_flow_after-requires c = callable texts counts c.args.name raw_flow_after _ _ (search rules) refl (in-text c.args.t.now c.args.name RawFlowAfter.number (search rules) refl c.requires.invariant) c.begin.ensures
+pub raw_text_after-requires : goal.raw_text_after-requires
+raw_text_after-requires c = callable texts counts c.args.name raw_text_after _ _ (search rules) refl (in-text c.args.t.now c.args.name RawTextAfter.number (search rules) refl c.requires.invariant) c.begin.ensures
 
-pub raw_flow_before_content_chunk-requires : goal.raw_flow_before_content_chunk-requires
-raw_flow_before_content_chunk-requires c = callable texts counts c.args.name raw_flow_before_content_chunk _ _ (search rules) refl (in-text c.args.t.now c.args.name RawFlowBeforeContentChunk.number (search rules) refl c.requires.invariant) c.begin.ensures
+pub raw_text_backticks_start-requires : goal.raw_text_backticks_start-requires
+raw_text_backticks_start-requires c = callable texts counts c.args.name raw_text_backticks_start _ _ (search rules) refl (in-text c.args.t.now c.args.name RawTextBackticksStart.number (search rules) refl c.requires.invariant) c.begin.ensures
 
-pub raw_flow_content_chunk-requires : goal.raw_flow_content_chunk-requires
-raw_flow_content_chunk-requires c = callable texts counts c.args.name raw_flow_content_chunk _ _ (search rules) refl (in-text c.args.t.now c.args.name RawFlowContentChunk.number (search rules) refl c.requires.invariant) c.begin.ensures
+pub raw_text_backticks_inside-requires : goal.raw_text_backticks_inside-requires
+raw_text_backticks_inside-requires c = callable texts counts c.args.name raw_text_backticks_inside _ _ (search rules) refl (in-text c.args.t.now c.args.name RawTextBackticksInside.number (search rules) refl c.requires.invariant) c.begin.ensures
 
 pub autolink_start-requires : goal.autolink_start-requires
 autolink_start-requires c = callable texts counts c.args.name autolink_start _ _ (search rules) refl (in-text c.args.t.now c.args.name AutolinkStart.number (search rules) refl c.requires.invariant) c.begin.ensures

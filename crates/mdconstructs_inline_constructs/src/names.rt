@@ -1,0 +1,28 @@
+//! The names of states of raw HTML and of hard breaks that the Rust crate has none for, with numbers from 1,100 on.
+#![allow(non_upper_case_globals)]
+
+use markdown_tokenizer::state::Name;
+
+/// Raw HTML between marks: start.
+pub const HtmlTextMarkStart: Name = Name { number: 1_100 };
+
+/// Raw HTML between marks: after `<`.
+pub const HtmlTextMarkOpen: Name = Name { number: 1_101 };
+
+/// Raw HTML between marks: after the opening mark, up to the closing mark.
+pub const HtmlTextMarkInside: Name = Name { number: 1_102 };
+
+/// Raw HTML between marks: after a line ending.
+pub const HtmlTextMarkLine: Name = Name { number: 1_103 };
+
+/// Raw HTML between marks: in white space after a line ending.
+pub const HtmlTextMarkWhite: Name = Name { number: 1_104 };
+
+/// Hard break by spaces: start.
+pub const HardBreakTrailingStart: Name = Name { number: 1_105 };
+
+/// Hard break by spaces: after the first space.
+pub const HardBreakTrailingAfterFirst: Name = Name { number: 1_106 };
+
+/// Hard break by spaces: after two spaces or more.
+pub const HardBreakTrailingAfterMore: Name = Name { number: 1_107 };
