@@ -1,5 +1,5 @@
--- Email autolinks (CommonMark, 6.5): what they are, with no states; and the part of a table that reads them.
-use Rattle.std.specs.Prelude.{ℕ, ◌+◌, ◌==◌, ◌&&◌, ◌||◌, nat_le, nat_lt, Bool, cond, false, List, [], ◌∷◌, ◌++◌, take, drop, length, Option, Some, None}
+-- Email autolinks (CommonMark 0.31, 6.5): what they are, with no states; and the part of a table that reads them.
+use Rattle.std.specs.Prelude.{ℕ, ◌+◌, ◌==◌, ◌&&◌, ◌||◌, nat_le, nat_lt, Bool, cond, false, List, [], ◌∷◌, ◌++◌, take, drop, length, Option, Some, None, codes}
 use Rattle.std.specs.List.{between, list_all, prefix_len}
 use Rattle.std.specs.Char.{is_ascii_alphanumeric}
 use Rattle.markdown_base.specs.declared.event.Name.TheVariants.{Autolink, AutolinkMarker, AutolinkEmail}
@@ -10,7 +10,7 @@ use Rattle.markdown_tokenizer.specs.Configuration.{Configuration}
 use Rattle.markdown_tokenizer.specs.Sight.{Sight}
 use Rattle.mdconstructs_tables.specs.Rows.{enter, exit, consume, write, Rows, row, when, here, at_bytes, StateRows, state}
 use Rattle.mdconstructs_tables.specs.Numbers.{Price, by_left}
-use Rattle.mdconstructs_text.specs.Bytes.{is_less_than, is_greater_than, has_byte_at, ends_with, passes}
+use Rattle.mdconstructs_text.specs.Bytes.{is_less_than, is_greater_than, is_one_of, has_byte_at, ends_with, passes}
 use Rattle.mdconstructs_text.specs.Construct.{Found, Grammar, Construct, tried}
 use Rattle.mdconstructs_text.specs.Parts.{span, leaf}
 use Rattle.mdconstructs_text.specs.TextBytes.{TextByte, is_less_class}
@@ -39,13 +39,9 @@ is_dot byte = byte == 46
 abbrev pub is_hyphen : ℕ → Bool
 is_hyphen byte = byte == 45
 
--- one of `!#$%&'*+-./`, which are from `!` to `/` but for `"`, `(`, `)` and `,`
-abbrev pub is_atext_mark : ℕ → Bool
-is_atext_mark byte = (byte == 33) || ((nat_le 35 byte && nat_le byte 39) || ((byte == 42) || ((byte == 43) || (nat_le 45 byte && nat_le byte 47))))
-
 -- the characters before `@`: ASCII letters and digits, and any of ``.!#$%&'*+/=?^_`{|}~-``
 abbrev pub is_atext : ℕ → Bool
-is_atext byte = is_ascii_alphanumeric byte || (is_atext_mark byte || ((byte == 61) || ((byte == 63) || ((nat_le 94 byte && nat_le byte 96) || (nat_le 123 byte && nat_le byte 126)))))
+is_atext byte = is_ascii_alphanumeric byte || is_one_of (codes ".!#$%&'*+/=?^_`{|}~-") byte
 
 -- the characters of labels: ASCII letters, digits and `-`
 abbrev pub is_label_byte : ℕ → Bool

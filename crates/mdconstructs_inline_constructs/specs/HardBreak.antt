@@ -1,4 +1,4 @@
--- Hard breaks (CommonMark, 6.7): what they are, with no states; and the part of a table that reads them.
+-- Hard breaks (CommonMark 0.31, 6.7): what they are, with no states; and the part of a table that reads them.
 use Rattle.std.specs.Prelude.{ℕ, ◌==◌, ◌&&◌, nat_le, Bool, cond, false, List, [], ◌∷◌, Option, Some, None}
 use Rattle.std.specs.List.{prefix_len}
 use Rattle.markdown_base.specs.declared.event.Name.TheVariants.{HardBreakEscape, HardBreakTrailing}

@@ -1,5 +1,5 @@
 -- Tags (CommonMark 0.31, 6.6): what they are, with no states; and the part of a table that reads them.
-use Rattle.std.specs.Prelude.{ℕ, zero, suc, ◌-◌, ◌==◌, ◌||◌, not, Bool, cond, false, List, [], ◌∷◌, drop, length, Option, Some, None, option_map, option_and_then}
+use Rattle.std.specs.Prelude.{ℕ, zero, suc, ◌-◌, ◌==◌, ◌||◌, not, Bool, cond, false, List, [], ◌∷◌, drop, length, Option, Some, None, option_map, option_and_then, codes}
 use Rattle.std.specs.List.{prefix_len}
 use Rattle.std.specs.Char.{is_ascii_alphabetic, is_ascii_alphanumeric}
 use Rattle.markdown_base.specs.declared.event.Name.TheVariants.{HtmlText, HtmlTextData}
@@ -11,7 +11,7 @@ use Rattle.markdown_tokenizer.specs.Sight.{Sight}
 use Rattle.mdconstructs_machines.specs.Breaks.{is_white}
 use Rattle.mdconstructs_tables.specs.Rows.{enter, consume, write, Rows, row, when, at_bytes, StateRows, state}
 use Rattle.mdconstructs_tables.specs.Numbers.{Price, by_left}
-use Rattle.mdconstructs_text.specs.Bytes.{has_byte_at, passes, is_line_feed, is_less_than, is_greater_than}
+use Rattle.mdconstructs_text.specs.Bytes.{has_byte_at, passes, is_line_feed, is_less_than, is_greater_than, is_one_of}
 use Rattle.mdconstructs_text.specs.Construct.{Found, Grammar, Construct, tried}
 use Rattle.mdconstructs_text.specs.TextBytes.{TextByte, is_less_class}
 use Rattle.mdconstructs_text.specs.TextCosts.{text_cost}
@@ -38,19 +38,19 @@ is_tag_white b = is_white b || is_line_feed b
 
 -- the bytes of a tag name: ASCII letters, digits and `-`
 abbrev pub is_tag_name_byte : ℕ → Bool
-is_tag_name_byte b = is_ascii_alphanumeric b || (b == 45)
+is_tag_name_byte b = is_ascii_alphanumeric b || is_one_of (codes "-") b
 
 -- the bytes that an attribute name begins with: ASCII letters, `_` and `:`
 abbrev pub begins_attribute_name : ℕ → Bool
-begins_attribute_name b = is_ascii_alphabetic b || ((b == 95) || (b == 58))
+begins_attribute_name b = is_ascii_alphabetic b || is_one_of (codes "_:") b
 
 -- its bytes: ASCII letters, digits, `_`, `.`, `:` and `-`
 abbrev pub is_attribute_name_byte : ℕ → Bool
-is_attribute_name_byte b = is_ascii_alphanumeric b || ((b == 95) || ((b == 46) || ((b == 58) || (b == 45))))
+is_attribute_name_byte b = is_ascii_alphanumeric b || is_one_of (codes "_.:-") b
 
 -- the bytes of a value with no quotes: all but white space, `"`, `'`, `=`, `<`, `>` and backticks
 abbrev pub is_unquoted : ℕ → Bool
-is_unquoted b = not (is_tag_white b || (is_double_quote b || (is_single_quote b || (is_equals_sign b || (is_less_than b || (is_greater_than b || (b == 96)))))))
+is_unquoted b = not (is_tag_white b || is_one_of (codes "\"'=<>`") b)
 
 -- what is behind the bytes at the front that pass a test
 abbrev pub behind : (test : ℕ → Bool) → List ℕ → List ℕ

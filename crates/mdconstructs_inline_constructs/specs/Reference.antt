@@ -2,7 +2,7 @@
 use Rattle.std.specs.Char.{is_ascii_alphanumeric, is_ascii_digit, is_ascii_hexdigit}
 use Rattle.std.specs.List.{between, prefix_len}
 use Rattle.std.specs.Option.{is_some, unwrap_or}
-use Rattle.std.specs.Prelude.{ℕ, ◌+◌, ◌==◌, ◌&&◌, ◌||◌, nat_le, nat_lt, Bool, true, false, cond, List, [], ◌∷◌, ◌++◌, take, drop, length, Option, Some, None}
+use Rattle.std.specs.Prelude.{ℕ, ◌+◌, ◌==◌, ◌&&◌, ◌||◌, nat_le, nat_lt, Bool, true, false, cond, List, [], ◌∷◌, ◌++◌, take, drop, length, Option, Some, None, codes}
 use Rattle.markdown_base.specs.declared.event.Event.{Event}
 use Rattle.markdown_base.specs.declared.event.Name.TheVariants.{CharacterReference, CharacterReferenceMarker, CharacterReferenceMarkerNumeric, CharacterReferenceMarkerHexadecimal, CharacterReferenceMarkerSemi, CharacterReferenceValue}
 use Rattle.markdown_base.specs.declared.state.State.TheVariants.{Next, Ok, Nok}
@@ -14,7 +14,7 @@ use Rattle.markdown_tokenizer.specs.Sight.{Sight}
 use Rattle.mdconstructs_tables.specs.Rows.{enter, exit, consume, write, writes, Rows, row, when, at_bytes, StateRows, state}
 use Rattle.mdconstructs_tables.specs.Numbers.{Price, by_left}
 use Rattle.mdconstructs_references.specs.References.{characters_of, name_from}
-use Rattle.mdconstructs_text.specs.Bytes.{has_byte_at, is_ampersand, passes}
+use Rattle.mdconstructs_text.specs.Bytes.{has_byte_at, is_ampersand, is_one_of, passes}
 use Rattle.mdconstructs_text.specs.Construct.{Found, Grammar, Construct, tried}
 use Rattle.mdconstructs_text.specs.Parts.{span, leaf}
 use Rattle.mdconstructs_text.specs.TextBytes.{TextByte, ampersand}
@@ -27,7 +27,7 @@ is_number_sign byte = byte == 35
 
 -- `x` or `X`
 abbrev pub is_x : ℕ → Bool
-is_x byte = (byte == 120) || (byte == 88)
+is_x byte = is_one_of (codes "xX") byte
 
 -- `;`
 abbrev pub is_semicolon : ℕ → Bool

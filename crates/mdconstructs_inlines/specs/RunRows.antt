@@ -1,6 +1,6 @@
 -- Delimiter runs (CommonMark, "Emphasis and strong emphasis"): the part of a table that reads them. A run is one or more bytes `*`, or one or
 -- more bytes `_`.
-use Rattle.std.specs.Prelude.{ℕ, ◌==◌, ◌&&◌, ◌||◌, Bool, true, false, List, [], ◌∷◌, Option, Some, None}
+use Rattle.std.specs.Prelude.{ℕ, ◌==◌, ◌&&◌, Bool, true, false, List, [], ◌∷◌, Option, Some, None, codes}
 use Rattle.markdown_base.specs.declared.event.Name.TheVariants.{AttentionSequence}
 use Rattle.markdown_base.specs.declared.state.State.TheVariants.{Next, Retry}
 use Rattle.markdown_base.specs.declared.state.TheConstants.Name.{AttentionStart, AttentionInside, TextBefore}
@@ -9,13 +9,13 @@ use Rattle.markdown_tokenizer.specs.Configuration.{Configuration}
 use Rattle.markdown_tokenizer.specs.Sight.{Sight}
 use Rattle.mdconstructs_tables.specs.Rows.{enter, exit, consume, Rows, row, when, at_bytes, StateRows, state}
 use Rattle.mdconstructs_tables.specs.Numbers.{Price, by_left}
-use Rattle.mdconstructs_text.specs.Bytes.{passes}
+use Rattle.mdconstructs_text.specs.Bytes.{is_one_of, passes}
 use Rattle.mdconstructs_text.specs.TextBytes.{TextByte, punctuation}
 use Rattle.mdconstructs_text.specs.TextCosts.{text_cost}
 
 -- `*` or `_`
 abbrev pub is_delimiter : ℕ → Bool
-is_delimiter byte = (byte == 42) || (byte == 95)
+is_delimiter byte = is_one_of (codes "*_") byte
 
 -- the class of both
 abbrev pub is_punctuation_class : TextByte → Bool

@@ -1,5 +1,5 @@
 -- The names of character references that end in a semicolon, each with the code points of its characters (HTML's living standard, WHATWG,
--- "Named character references"; CommonMark 0.31, 6.2), in the order of the names' bytes.
+-- "Named character references"; CommonMark 0.31, 2.5), in the order of the names' bytes.
 use Rattle.std.specs.Prelude.{ℕ, List, [], ◌∷◌, codes}
 
 -- a name's bytes, and the code points of its characters

@@ -23,7 +23,7 @@ code_points (first, Some second) = first ∷ second ∷ []
 abbrev pub read : List (List ℕ × ℕ × Option ℕ) → List Reference
 read references = map (λ reference. (reference.0, code_points (reference.1, reference.2))) references
 
--- the character of a number: the one with this code point, or U+FFFD where the number is zero or no character's (CommonMark, 6.2)
+-- the character of a number: the one with this code point, or U+FFFD where the number is zero or no character's (CommonMark 0.31, 2.5)
 pub record IsCharacterAt (number : ℕ) (character : ℕ) : Type 0 where
   pub there : IsScalar number → number ≢ 0 → character ≡ number
   pub none : ¬ IsScalar number → character ≡ 0xFFFD

@@ -1,5 +1,5 @@
 -- Autolinks: what they are, with no states; and the part of a table that reads them.
-use Rattle.std.specs.Prelude.{ℕ, ◌+◌, ◌==◌, ◌&&◌, ◌||◌, not, nat_le, nat_lt, Bool, cond, false, List, [], ◌∷◌, ◌++◌, take, drop, length, Option, Some, None}
+use Rattle.std.specs.Prelude.{ℕ, ◌+◌, ◌==◌, ◌&&◌, ◌||◌, not, nat_le, nat_lt, Bool, cond, false, List, [], ◌∷◌, ◌++◌, take, drop, length, Option, Some, None, codes}
 use Rattle.std.specs.List.{between, list_all, prefix_len}
 use Rattle.std.specs.Char.{is_ascii_alphabetic, is_ascii_alphanumeric, is_ascii_control}
 use Rattle.markdown_base.specs.declared.event.Name.TheVariants.{Autolink, AutolinkMarker, AutolinkProtocol}
@@ -10,7 +10,7 @@ use Rattle.markdown_tokenizer.specs.Configuration.{Configuration}
 use Rattle.markdown_tokenizer.specs.Sight.{Sight}
 use Rattle.mdconstructs_tables.specs.Rows.{enter, exit, consume, write, Rows, row, when, here, at_bytes, StateRows, state}
 use Rattle.mdconstructs_tables.specs.Numbers.{Price, by_left}
-use Rattle.mdconstructs_text.specs.Bytes.{is_less_than, is_greater_than, is_colon, is_scheme_mark, is_space, has_byte_at}
+use Rattle.mdconstructs_text.specs.Bytes.{is_less_than, is_greater_than, is_colon, is_one_of, is_scheme_mark, has_byte_at}
 use Rattle.mdconstructs_text.specs.Construct.{Found, Grammar, Construct, tried}
 use Rattle.mdconstructs_text.specs.Parts.{span, leaf}
 use Rattle.mdconstructs_text.specs.TextBytes.{TextByte, line_feed, less, greater, colon, letter, digit, mark, white, blank, is_less_class}
@@ -42,7 +42,7 @@ is_scheme name = nat_le 2 (length name) && (nat_le (length name) scheme_size_max
 -- the characters of an absolute URI after its scheme and colon: all but ASCII control characters, space, `<` and `>`. Bytes from 128 on are
 -- no ASCII control characters, so each character beyond ASCII is allowed.
 abbrev pub is_allowed : ℕ → Bool
-is_allowed byte = not (is_ascii_control byte || (is_space byte || (is_less_than byte || is_greater_than byte)))
+is_allowed byte = not (is_ascii_control byte || is_one_of (codes " <>") byte)
 
 -- Absolute URI: a scheme, a colon, and zero or more such characters; how many bytes it has
 abbrev pub uri : List ℕ → Option ℕ

@@ -1,6 +1,6 @@
 -- Tests of bytes that constructs and classes have in common.
-use Rattle.std.specs.Prelude.{ℕ, ◌==◌, ◌||◌, Bool, false, List, Option, Some, None, slice_get}
-use Rattle.std.specs.List.{last_or, prefix_len}
+use Rattle.std.specs.Prelude.{ℕ, ◌==◌, Bool, false, List, Option, Some, None, codes, slice_get}
+use Rattle.std.specs.List.{last_or, list_any, prefix_len}
 
 -- there is a byte, and it passes the test
 abbrev pub passes : (ℕ → Bool) → Option ℕ → Bool
@@ -14,6 +14,10 @@ has_byte_at text p test = passes test (slice_get text p)
 -- the last byte of a text passes the test
 abbrev pub ends_with : (text : List ℕ) → (test : ℕ → Bool) → Bool
 ends_with text test = passes test (last_or None text)
+
+-- a byte is one of these
+abbrev pub is_one_of : (bytes : List ℕ) → (byte : ℕ) → Bool
+is_one_of bytes byte = list_any (λ b. byte == b) bytes
 
 -- a line feed
 abbrev pub is_line_feed : ℕ → Bool
@@ -45,7 +49,7 @@ is_colon byte = byte == 58
 
 -- `+`, `.` or `-`: schemes may have these, letters and digits
 abbrev pub is_scheme_mark : ℕ → Bool
-is_scheme_mark byte = (byte == 43) || ((byte == 46) || (byte == 45))
+is_scheme_mark byte = is_one_of (codes "+.-") byte
 
 -- a space
 abbrev pub is_space : ℕ → Bool
