@@ -48,11 +48,14 @@ pub use Rattle.mdconstructs_machines.specs.Words
 pub use Rattle.mdconstructs_machines.specs.Wrap
 pub use Rattle.mdconstructs_machines.specs.Laws
 pub use Rattle.mdconstructs_text.specs.Autolink
+pub use Rattle.mdconstructs_text.specs.AutolinkRows
 pub use Rattle.mdconstructs_text.specs.Bytes
 pub use Rattle.mdconstructs_text.specs.ChainTexts
 pub use Rattle.mdconstructs_text.specs.CodeSpan
+pub use Rattle.mdconstructs_text.specs.CodeSpanRows
 pub use Rattle.mdconstructs_text.specs.Construct
 pub use Rattle.mdconstructs_text.specs.Escape
+pub use Rattle.mdconstructs_text.specs.EscapeRows
 pub use Rattle.mdconstructs_text.specs.Items
 pub use Rattle.mdconstructs_text.specs.ParagraphTexts
 pub use Rattle.mdconstructs_text.specs.Parts
@@ -77,13 +80,20 @@ pub use Rattle.mdconstructs_attention.specs.Unicode
 pub use Rattle.mdconstructs_references.specs.CharacterReferences
 pub use Rattle.mdconstructs_references.specs.References
 pub use Rattle.mdconstructs_inline_constructs.specs.Email
+pub use Rattle.mdconstructs_inline_constructs.specs.EmailRows
 pub use Rattle.mdconstructs_inline_constructs.specs.HardBreak
+pub use Rattle.mdconstructs_inline_constructs.specs.HardBreakRows
 pub use Rattle.mdconstructs_inline_constructs.specs.HtmlMarked
+pub use Rattle.mdconstructs_inline_constructs.specs.HtmlMarkedRows
 pub use Rattle.mdconstructs_inline_constructs.specs.HtmlTag
+pub use Rattle.mdconstructs_inline_constructs.specs.HtmlTagRows
 pub use Rattle.mdconstructs_inline_constructs.specs.HtmlText
+pub use Rattle.mdconstructs_inline_constructs.specs.HtmlTextRows
 pub use Rattle.mdconstructs_inline_constructs.specs.Reference
+pub use Rattle.mdconstructs_inline_constructs.specs.ReferenceRows
 pub use Rattle.mdconstructs_inline_constructs.specs.RememberedCode
 pub use Rattle.mdconstructs_inline_constructs.specs.WhiteSpace
+pub use Rattle.mdconstructs_inline_constructs.specs.WhiteSpaceRows
 pub use Rattle.mdconstructs_inline_constructs.specs.Laws as PhrasingLaws
 pub use Rattle.mdconstructs_inlines.specs.InlineEvents
 pub use Rattle.mdconstructs_inlines.specs.InlineRules

@@ -1,21 +1,11 @@
--- Email autolinks (CommonMark 0.31, 6.5): what they are, with no states; and the part of a table that reads them.
-use Rattle.std.specs.Prelude.{ℕ, ◌+◌, ◌==◌, ◌&&◌, ◌||◌, nat_le, nat_lt, Bool, cond, false, List, [], ◌∷◌, ◌++◌, take, drop, length, Option, Some, None, codes}
+-- Email autolinks (CommonMark 0.31, 6.5), with no states.
+use Rattle.std.specs.Prelude.{ℕ, ◌+◌, ◌==◌, ◌&&◌, ◌||◌, nat_le, nat_lt, Bool, cond, List, [], ◌∷◌, ◌++◌, take, drop, length, Option, Some, None, codes}
 use Rattle.std.specs.List.{between, list_all, prefix_len}
 use Rattle.std.specs.Char.{is_ascii_alphanumeric}
 use Rattle.markdown_base.specs.declared.event.Name.TheVariants.{Autolink, AutolinkMarker, AutolinkEmail}
-use Rattle.markdown_base.specs.declared.state.State.TheVariants.{Next, Ok, Nok}
-use Rattle.markdown_base.specs.declared.state.TheConstants.Name.{TextBeforeData, AutolinkEmailAtSignOrDot, AutolinkEmailAtext, AutolinkEmailLabel, AutolinkEmailValue}
-use Rattle.markdown_tokenizer.specs.Text.{Given}
-use Rattle.markdown_tokenizer.specs.Configuration.{Configuration}
-use Rattle.markdown_tokenizer.specs.Sight.{Sight}
-use Rattle.mdconstructs_tables.specs.Rows.{enter, exit, consume, write, Rows, row, when, here, at_bytes, StateRows, state}
-use Rattle.mdconstructs_tables.specs.Numbers.{Price, by_left}
-use Rattle.mdconstructs_text.specs.Bytes.{is_less_than, is_greater_than, is_one_of, has_byte_at, ends_with, passes}
-use Rattle.mdconstructs_text.specs.Construct.{Found, Grammar, Construct, tried}
+use Rattle.mdconstructs_text.specs.Bytes.{is_less_than, is_greater_than, is_one_of, has_byte_at, ends_with}
+use Rattle.mdconstructs_text.specs.Construct.{Found, Grammar}
 use Rattle.mdconstructs_text.specs.Parts.{span, leaf}
-use Rattle.mdconstructs_text.specs.TextBytes.{TextByte, is_less_class}
-use Rattle.mdconstructs_text.specs.TextCosts.{text_cost}
-use Rattle.mdconstructs_text.specs.TextSizes.{size_b_is, size_b_grows}
 
 -- An email autolink, with the number of bytes between `<` and `>`. Its events: its markers, and its address
 abbrev pub email : (inside : ℕ) → Found
@@ -88,98 +78,3 @@ email_at text = cond (has_byte_at text 0 is_less_than) (email_with text (prefix_
 -- what email autolinks are
 abbrev pub email_grammar : Grammar Found
 email_grammar = record { first = is_less_than; on = λ on. on.autolink; front = email_at }
-
-module _ {R D : Type 0} where
-  -- `@` waits, and a character was before it
-  abbrev pub name_ends : Given → Sight → Configuration R D → Bool
-  name_ends g s k = passes is_at_sign s.current && nat_lt 0 k.local.tokenize_state.size_b
-
-  -- a character waits that may be before `@`
-  abbrev pub name_goes_on : Given → Sight → Configuration R D → Bool
-  name_goes_on g s k = passes is_atext s.current
-
-  -- a letter or digit waits, and the label has room for it
-  abbrev pub label_goes_on : Given → Sight → Configuration R D → Bool
-  label_goes_on g s k = passes is_ascii_alphanumeric s.current && nat_lt k.local.tokenize_state.size_b label_size_max
-
-  -- `-` waits, the label has begun, and has room for it
-  abbrev pub label_has_hyphen : Given → Sight → Configuration R D → Bool
-  label_has_hyphen g s k = passes is_hyphen s.current && (nat_lt 0 k.local.tokenize_state.size_b && nat_lt k.local.tokenize_state.size_b label_size_max)
-
-  -- `.` waits behind a label
-  abbrev pub label_ends : Given → Sight → Configuration R D → Bool
-  label_ends g s k = passes is_dot s.current && nat_lt 0 k.local.tokenize_state.size_b
-
-  -- `>` waits behind a label
-  abbrev pub domain_ends : Given → Sight → Configuration R D → Bool
-  domain_ends g s k = passes is_greater_than s.current && nat_lt 0 k.local.tokenize_state.size_b
-
-  -- Email autolink: it begins with `<`
-  abbrev pub email_start_rows : (previous current : Option TextByte) → Rows R D
-  email_start_rows _ _ =
-      row (enter Autolink ∷ enter AutolinkMarker ∷ consume ∷ exit AutolinkMarker ∷ enter AutolinkEmail ∷ write (size_b_is 0) ∷ []) (Next AutolinkEmailAtext)
-
-  -- its state: it is called only at `<`, and no span is open yet
-  abbrev pub email_start : StateRows TextByte R D
-  email_start =
-      tried (record (state AutolinkEmailAtSignOrDot email_start_rows [] (text_cost (by_left 0 1 1))) { called = at_bytes is_less_class })
-
-  -- what is before `@` is read
-  abbrev pub email_atext_rows : (previous current : Option TextByte) → Rows R D
-  email_atext_rows _ None = row [] Nok
-  email_atext_rows _ (Some _) =
-      when name_ends (row (write (size_b_is 0) ∷ consume ∷ []) (Next AutolinkEmailLabel))
-      (when name_goes_on (row (write (size_b_is 1) ∷ consume ∷ []) (Next AutolinkEmailAtext)) (row [] Nok))
-
-  -- its state: an autolink and its address are open
-  abbrev pub email_atext : StateRows TextByte R D
-  email_atext =
-      tried (record (state AutolinkEmailAtext email_atext_rows (Autolink ∷ AutolinkEmail ∷ []) (text_cost (by_left 0 1 1))) { begun = here })
-
-  -- a label goes on
-  abbrev pub label_rows : (others : Rows R D) → Rows R D
-  label_rows others =
-      when label_goes_on (row (write size_b_grows ∷ consume ∷ []) (Next AutolinkEmailLabel))
-      (when label_has_hyphen (row (write size_b_grows ∷ consume ∷ []) (Next AutolinkEmailValue)) others)
-
-  -- or ends: behind a dot there is another, and `>` ends all
-  abbrev pub label_end_rows : Rows R D
-  label_end_rows =
-      when label_ends (row (write (size_b_is 0) ∷ consume ∷ []) (Next AutolinkEmailLabel))
-      (when domain_ends (row (exit AutolinkEmail ∷ enter AutolinkMarker ∷ consume ∷ exit AutolinkMarker ∷ exit Autolink ∷ []) Ok) (row [] Nok))
-
-  -- a label begins, or goes on behind a letter or digit
-  abbrev pub email_label_rows : (previous current : Option TextByte) → Rows R D
-  email_label_rows _ None = row [] Nok
-  email_label_rows _ (Some _) = label_rows label_end_rows
-
-  -- its state: an autolink and its address are open
-  abbrev pub email_label : StateRows TextByte R D
-  email_label =
-      tried (state AutolinkEmailLabel email_label_rows (Autolink ∷ AutolinkEmail ∷ []) (text_cost (by_left 0 1 1)))
-
-  -- a label goes on behind `-`
-  abbrev pub email_value_rows : (previous current : Option TextByte) → Rows R D
-  email_value_rows _ None = row [] Nok
-  email_value_rows _ (Some _) = label_rows (row [] Nok)
-
-  -- its state: an autolink and its address are open
-  abbrev pub email_value : StateRows TextByte R D
-  email_value =
-      tried (state AutolinkEmailValue email_value_rows (Autolink ∷ AutolinkEmail ∷ []) (text_cost (by_left 0 1 1)))
-
--- What its states cost: each reads a byte or ends
-abbrev pub email_prices : List (Price TextByte)
-email_prices = by_left 0 1 1 ∷ by_left 0 1 1 ∷ by_left 0 1 1 ∷ by_left 0 1 1 ∷ []
-
--- How email autolinks are read
-abbrev pub emails : {R D : Type 0} → Construct Found TextByte R D
-emails = record {
-  grammar = email_grammar;
-  begins = is_less_class;
-  start = AutolinkEmailAtSignOrDot;
-  otherwise = TextBeforeData;
-  states = email_start ∷ email_atext ∷ email_label ∷ email_value ∷ [];
-  begun = λ name w. name.number == AutolinkEmailAtSignOrDot.number;
-  follows = λ name. false;
-}

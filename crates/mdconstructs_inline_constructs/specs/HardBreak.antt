@@ -1,22 +1,11 @@
--- Hard breaks (CommonMark 0.31, 6.7): what they are, with no states; and the part of a table that reads them.
-use Rattle.std.specs.Prelude.{ℕ, ◌==◌, ◌&&◌, nat_le, Bool, cond, false, List, [], ◌∷◌, Option, Some, None}
+-- Hard breaks (CommonMark 0.31, 6.7), with no states.
+use Rattle.std.specs.Prelude.{ℕ, ◌&&◌, nat_le, cond, List, Option, Some, None}
 use Rattle.std.specs.List.{prefix_len}
 use Rattle.markdown_base.specs.declared.event.Name.TheVariants.{HardBreakEscape, HardBreakTrailing}
-use Rattle.markdown_base.specs.declared.state.State.TheVariants.{Next, Ok, Nok}
-use Rattle.markdown_base.specs.declared.state.TheConstants.Name.{TextBeforeData, HardBreakEscapeStart, HardBreakEscapeAfter}
-use Rattle.mdconstructs_inline_constructs.specs.declared.names.TheConstants.{HardBreakTrailingAfterFirst, HardBreakTrailingAfterMore, HardBreakTrailingStart}
-use Rattle.markdown_tokenizer.specs.Text.{Given}
-use Rattle.markdown_tokenizer.specs.Configuration.{Configuration}
-use Rattle.markdown_tokenizer.specs.Sight.{Sight}
-use Rattle.mdconstructs_tables.specs.Rows.{enter, exit, consume, Rows, row, when, at_bytes, StateRows, state}
-use Rattle.mdconstructs_tables.specs.Numbers.{Price, by_left}
 use Rattle.mdconstructs_machines.specs.Breaks.{is_white}
-use Rattle.mdconstructs_text.specs.Bytes.{has_byte_at, is_backslash, is_line_feed, is_space, passes}
-use Rattle.mdconstructs_text.specs.Construct.{Found, Grammar, Construct, tried}
+use Rattle.mdconstructs_text.specs.Bytes.{has_byte_at, is_backslash, is_line_feed, is_space}
+use Rattle.mdconstructs_text.specs.Construct.{Found, Grammar}
 use Rattle.mdconstructs_text.specs.Parts.{leaf}
-use Rattle.mdconstructs_text.specs.TextBytes.{TextByte, line_feed, white, is_backslash_class}
-use Rattle.mdconstructs_text.specs.TextCosts.{text_cost}
-use Rattle.mdconstructs_inline_constructs.specs.WhiteSpace.{is_white_class}
 
 -- ---- a backslash
 -- A hard break that is a backslash. Its event is the backslash
@@ -30,45 +19,6 @@ break_escape_at text = cond (has_byte_at text 0 is_backslash && has_byte_at text
 -- what hard breaks by a backslash are
 abbrev pub break_escape_grammar : Grammar Found
 break_escape_grammar = record { first = is_backslash; on = λ on. on.hard_break_escape; front = break_escape_at }
-
--- the options have them on
-abbrev pub break_escapes_are_on : {R D : Type 0} → Given → Sight → Configuration R D → Bool
-break_escapes_are_on g s k = g.options.constructs.hard_break_escape
-
--- It begins with a backslash
-abbrev pub break_escape_start_rows : {R D : Type 0} → (previous current : Option TextByte) → Rows R D
-break_escape_start_rows _ _ = row (enter HardBreakEscape ∷ consume ∷ []) (Next HardBreakEscapeAfter)
-
--- its state: it is called only at a backslash, and no span is open yet
-abbrev pub break_escape_start : {R D : Type 0} → StateRows TextByte R D
-break_escape_start =
-    tried (record (state HardBreakEscapeStart break_escape_start_rows [] (text_cost (by_left 0 1 1))) { called = at_bytes is_backslash_class })
-
--- a line ending follows it
-abbrev pub break_escape_after_rows : {R D : Type 0} → (previous current : Option TextByte) → Rows R D
-break_escape_after_rows _ (Some line_feed) = row (exit HardBreakEscape ∷ []) Ok
-break_escape_after_rows _ _ = row [] Nok
-
--- its state: the hard break is open
-abbrev pub break_escape_after : {R D : Type 0} → StateRows TextByte R D
-break_escape_after =
-    tried (state HardBreakEscapeAfter break_escape_after_rows (HardBreakEscape ∷ []) (text_cost (by_left 0 1 1)))
-
--- What its states cost: each reads a byte or ends
-abbrev pub break_escape_prices : List (Price TextByte)
-break_escape_prices = by_left 0 1 1 ∷ by_left 0 1 1 ∷ []
-
--- How hard breaks by a backslash are read
-abbrev pub break_escapes : {R D : Type 0} → Construct Found TextByte R D
-break_escapes = record {
-  grammar = break_escape_grammar;
-  begins = is_backslash_class;
-  start = HardBreakEscapeStart;
-  otherwise = TextBeforeData;
-  states = break_escape_start ∷ break_escape_after ∷ [];
-  begun = λ name w. name.number == HardBreakEscapeStart.number;
-  follows = λ name. false;
-}
 
 -- ---- spaces
 -- the fewest spaces of a hard break: the constant HARD_BREAK_PREFIX_SIZE_MIN
@@ -88,58 +38,3 @@ trailing_break_at text =
 -- what hard breaks by spaces are
 abbrev pub trailing_break_grammar : Grammar Found
 trailing_break_grammar = record { first = is_white; on = λ on. on.hard_break_trailing; front = trailing_break_at }
-
--- the options have them on
-abbrev pub trailing_breaks_are_on : {R D : Type 0} → Given → Sight → Configuration R D → Bool
-trailing_breaks_are_on g s k = g.options.constructs.hard_break_trailing
-
--- a space waits, and no tab
-abbrev pub space_waits : {R D : Type 0} → Given → Sight → Configuration R D → Bool
-space_waits g s k = passes is_space s.current
-
--- It begins with a space
-abbrev pub trailing_start_rows : {R D : Type 0} → (previous current : Option TextByte) → Rows R D
-trailing_start_rows _ (Some white) = when space_waits (row (enter HardBreakTrailing ∷ consume ∷ []) (Next HardBreakTrailingAfterFirst)) (row [] Nok)
-trailing_start_rows _ _ = row [] Nok
-
--- its state: it is called only at white space, and no span is open yet
-abbrev pub trailing_start : {R D : Type 0} → StateRows TextByte R D
-trailing_start =
-    tried (record (state HardBreakTrailingStart trailing_start_rows [] (text_cost (by_left 0 1 1))) { called = at_bytes is_white_class })
-
--- a second space follows
-abbrev pub trailing_after_first_rows : {R D : Type 0} → (previous current : Option TextByte) → Rows R D
-trailing_after_first_rows _ (Some white) = when space_waits (row (consume ∷ []) (Next HardBreakTrailingAfterMore)) (row [] Nok)
-trailing_after_first_rows _ _ = row [] Nok
-
--- its state: the hard break is open
-abbrev pub trailing_after_first : {R D : Type 0} → StateRows TextByte R D
-trailing_after_first =
-    tried (state HardBreakTrailingAfterFirst trailing_after_first_rows (HardBreakTrailing ∷ []) (text_cost (by_left 0 1 1)))
-
--- further spaces follow, up to a line ending
-abbrev pub trailing_after_more_rows : {R D : Type 0} → (previous current : Option TextByte) → Rows R D
-trailing_after_more_rows _ (Some white) = when space_waits (row (consume ∷ []) (Next HardBreakTrailingAfterMore)) (row [] Nok)
-trailing_after_more_rows _ (Some line_feed) = row (exit HardBreakTrailing ∷ []) Ok
-trailing_after_more_rows _ _ = row [] Nok
-
--- its state: the hard break is open
-abbrev pub trailing_after_more : {R D : Type 0} → StateRows TextByte R D
-trailing_after_more =
-    tried (state HardBreakTrailingAfterMore trailing_after_more_rows (HardBreakTrailing ∷ []) (text_cost (by_left 0 1 1)))
-
--- What its states cost: each reads a byte or ends
-abbrev pub trailing_break_prices : List (Price TextByte)
-trailing_break_prices = by_left 0 1 1 ∷ by_left 0 1 1 ∷ by_left 0 1 1 ∷ []
-
--- How hard breaks by spaces are read
-abbrev pub trailing_breaks : {R D : Type 0} → Construct Found TextByte R D
-trailing_breaks = record {
-  grammar = trailing_break_grammar;
-  begins = is_white_class;
-  start = HardBreakTrailingStart;
-  otherwise = TextBeforeData;
-  states = trailing_start ∷ trailing_after_first ∷ trailing_after_more ∷ [];
-  begun = λ name w. name.number == HardBreakTrailingStart.number;
-  follows = λ name. false;
-}

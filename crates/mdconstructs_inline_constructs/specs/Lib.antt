@@ -1,9 +1,16 @@
 pub mod Email
+pub mod EmailRows
 pub mod HardBreak
+pub mod HardBreakRows
 pub mod HtmlMarked
+pub mod HtmlMarkedRows
 pub mod HtmlTag
+pub mod HtmlTagRows
 pub mod HtmlText
+pub mod HtmlTextRows
 pub mod Reference
+pub mod ReferenceRows
 pub mod RememberedCode
 pub mod WhiteSpace
+pub mod WhiteSpaceRows
 pub mod Laws

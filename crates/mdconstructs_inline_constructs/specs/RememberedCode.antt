@@ -13,7 +13,7 @@ use Rattle.markdown_tokenizer.specs.Text.{Given}
 use Rattle.markdown_tokenizer.specs.declared.tokenizer.state.Container.TheVariants.{BlockQuote}
 use Rattle.markdown_tokenizer.specs.declared.tokenizer.state.ContainerState.{ContainerState}
 use Rattle.mdconstructs_tables.specs.Rows.{enter, exit, consume, write, Rows, row, when, StateRows}
-use Rattle.mdconstructs_text.specs.CodeSpan.{code_spans, raw_text_after, raw_text_backticks_start, raw_text_backticks_inside, raw_text_between, raw_text_between_rows, raw_text_data, raw_text_sequence_close, raw_text_sequence_open, raw_text_start}
+use Rattle.mdconstructs_text.specs.CodeSpanRows.{code_spans, raw_text_after, raw_text_backticks_start, raw_text_backticks_inside, raw_text_between, raw_text_between_rows, raw_text_data, raw_text_sequence_close, raw_text_sequence_open, raw_text_start}
 use Rattle.mdconstructs_text.specs.Construct.{Construct, Found}
 use Rattle.mdconstructs_text.specs.TextBytes.{TextByte, backtick}
 use Rattle.mdconstructs_text.specs.TextSizes.{size_b_grows}

@@ -14,7 +14,8 @@ ghost use Rattle.std.specs.Prelude.{◌≡◌, IfOk};
 ghost use Rattle.markdown_tokenizer.specs.Sight.{sight_of};
 ghost use Rattle.mdconstructs_tables.specs.RowInvariant.{DoesAll, IsCallable, step_in};
 ghost use Rattle.mdconstructs_text.specs.TextBytes.{text_byte};
-ghost use Rattle.mdconstructs_inline_constructs.specs.Email.{is_atext, name_ends, name_goes_on, label_goes_on, label_has_hyphen, label_ends, domain_ends, email_start, email_atext, email_label, email_value};
+ghost use Rattle.mdconstructs_inline_constructs.specs.Email.{is_atext};
+ghost use Rattle.mdconstructs_inline_constructs.specs.EmailRows.{name_ends, name_goes_on, label_goes_on, label_has_hyphen, label_ends, domain_ends, email_start, email_atext, email_label, email_value};
 
 use markdown_tokenizer::event;
 use markdown_tokenizer::state::{MachineTypes, Name, State};

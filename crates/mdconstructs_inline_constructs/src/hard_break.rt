@@ -11,7 +11,7 @@ ghost use Rattle.std.specs.Prelude.{◌≡◌, IfOk};
 ghost use Rattle.markdown_tokenizer.specs.Sight.{sight_of};
 ghost use Rattle.mdconstructs_tables.specs.RowInvariant.{DoesAll, IsCallable, step_in};
 ghost use Rattle.mdconstructs_text.specs.TextBytes.{text_byte};
-ghost use Rattle.mdconstructs_inline_constructs.specs.HardBreak.{break_escapes_are_on, break_escape_start, break_escape_after, trailing_breaks_are_on, space_waits, trailing_start, trailing_after_first, trailing_after_more};
+ghost use Rattle.mdconstructs_inline_constructs.specs.HardBreakRows.{break_escapes_are_on, break_escape_start, break_escape_after, trailing_breaks_are_on, space_waits, trailing_start, trailing_after_first, trailing_after_more};
 
 use crate::names;
 use markdown_tokenizer::event;

@@ -21,8 +21,8 @@ ghost use Rattle.markdown_tokenizer.specs.Sight.{sight_of};
 ghost use Rattle.mdconstructs_tables.specs.RowInvariant.{DoesAll, IsCallable, step_in};
 ghost use Rattle.mdconstructs_tables.specs.Rows.{picked, step_of};
 ghost use Rattle.mdconstructs_text.specs.TextBytes.{text_byte};
-ghost use Rattle.mdconstructs_inline_constructs.specs.HtmlText.{CanEndHtmlLine};
-ghost use Rattle.mdconstructs_inline_constructs.specs.HtmlMarked.{cdata_open, closed_by, comment_open, declaration_open, ends_cdata_mark, in_cdata_mark, in_mark, mark_begun, mark_ends, mark_fails, mark_inside, mark_line, mark_line_ends, mark_open, mark_start, mark_white, no_cdata, no_comment, no_declaration, no_instruction, none_upto, stopped_at};
+ghost use Rattle.mdconstructs_inline_constructs.specs.HtmlTextRows.{CanEndHtmlLine};
+ghost use Rattle.mdconstructs_inline_constructs.specs.HtmlMarkedRows.{cdata_open, closed_by, comment_open, declaration_open, ends_cdata_mark, in_cdata_mark, in_mark, mark_begun, mark_ends, mark_fails, mark_inside, mark_line, mark_line_ends, mark_open, mark_start, mark_white, no_cdata, no_comment, no_declaration, no_instruction, none_upto, stopped_at};
 
 use crate::html_text::html_ends;
 use crate::names;

@@ -16,7 +16,8 @@ ghost use Rattle.markdown_tokenizer.specs.Configuration.{at_configuration};
 ghost use Rattle.markdown_tokenizer.specs.Sight.{sight_of};
 ghost use Rattle.mdconstructs_tables.specs.RowInvariant.{DoesAll, IsCallable, step_in};
 ghost use Rattle.mdconstructs_text.specs.TextBytes.{text_byte};
-ghost use Rattle.mdconstructs_inline_constructs.specs.HtmlTag.{begins_attribute_name, is_unquoted, quote_is, quote_waits, html_text_start, html_text_value_quoted, html_text_open, html_text_tag_close_start, html_text_tag_close, html_text_tag_close_between, html_text_tag_open, html_text_tag_open_between, html_text_attribute_name, html_text_attribute_name_after, html_text_value_before, html_text_value_quoted_after, html_text_value_unquoted, html_text_end};
+ghost use Rattle.mdconstructs_inline_constructs.specs.HtmlTag.{begins_attribute_name, is_unquoted};
+ghost use Rattle.mdconstructs_inline_constructs.specs.HtmlTagRows.{quote_is, quote_waits, html_text_start, html_text_value_quoted, html_text_open, html_text_tag_close_start, html_text_tag_close, html_text_tag_close_between, html_text_tag_open, html_text_tag_open_between, html_text_attribute_name, html_text_attribute_name_after, html_text_value_before, html_text_value_quoted_after, html_text_value_unquoted, html_text_end};
 
 use crate::html_text::{html_ends, html_line_ends};
 use markdown_tokenizer::event;

@@ -15,7 +15,7 @@ ghost use Rattle.markdown_tokenizer.specs.Sight.{sight_of};
 ghost use Rattle.mdconstructs_tables.specs.RowInvariant.{DoesAll, IsCallable, step_in};
 ghost use Rattle.mdconstructs_tables.specs.Rows.{picked, step_of};
 ghost use Rattle.mdconstructs_text.specs.TextBytes.{text_byte};
-ghost use Rattle.mdconstructs_inline_constructs.specs.HtmlText.{CanEndHtml, CanEndHtmlLine, follows_line_ending, html_ends, html_is_on, html_line_ends, html_line_ending_after, html_line_ending_after_prefix};
+ghost use Rattle.mdconstructs_inline_constructs.specs.HtmlTextRows.{CanEndHtml, CanEndHtmlLine, follows_line_ending, html_ends, html_is_on, html_line_ends, html_line_ending_after, html_line_ending_after_prefix};
 
 use markdown_tokenizer::event;
 use markdown_tokenizer::state::{MachineTypes, Name, State};

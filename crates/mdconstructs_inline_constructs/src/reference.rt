@@ -16,7 +16,7 @@ ghost use Rattle.markdown_tokenizer.specs.Sight.{sight_of};
 ghost use Rattle.markdown_tokenizer.specs.declared.waiting.Waits.TheVariants.{Byte};
 ghost use Rattle.mdconstructs_tables.specs.RowInvariant.{DoesAll, IsCallable, step_in};
 ghost use Rattle.mdconstructs_text.specs.TextBytes.{text_byte};
-ghost use Rattle.mdconstructs_inline_constructs.specs.Reference.{going_on, name_behind, references_are_on, at_x, value_goes_on, value_is_whole, value_grows, reference_begins, marker_is, reference_start, reference_open, reference_numeric, reference_value};
+ghost use Rattle.mdconstructs_inline_constructs.specs.ReferenceRows.{going_on, name_behind, references_are_on, at_x, value_goes_on, value_is_whole, value_grows, reference_begins, marker_is, reference_start, reference_open, reference_numeric, reference_value};
 
 use markdown_base::owned::StaticBytes;
 use markdown_tokenizer::event;

@@ -9,7 +9,7 @@
 ghost use Rattle.std.specs.Prelude.{IfOk};
 ghost use Rattle.mdconstructs_tables.specs.RowInvariant.{DoesAll, IsCallable, step_in};
 ghost use Rattle.mdconstructs_text.specs.TextBytes.{text_byte};
-ghost use Rattle.mdconstructs_inline_constructs.specs.WhiteSpace.{white_start, white_inside};
+ghost use Rattle.mdconstructs_inline_constructs.specs.WhiteSpaceRows.{white_start, white_inside};
 
 use markdown_tokenizer::event;
 use markdown_tokenizer::state::{MachineTypes, Name, State};

@@ -14,9 +14,9 @@ use Rattle.mdconstructs_text.specs.TextBytes.{TextByte, text_byte}
 use Rattle.mdconstructs_text.proofs.Constructs.Apart.{AreApart, OfOption, or-none, when-so}
 use Rattle.mdconstructs_inline_constructs.specs.HardBreak.{hard_break_trailing, trailing_break_at, trailing_size_min}
 use Rattle.mdconstructs_inline_constructs.specs.WhiteSpace.{is_white_left, white_space, white_space_at}
-use Rattle.mdconstructs_inline_constructs.specs.HardBreak.{break_escapes}
-use Rattle.mdconstructs_inline_constructs.specs.HtmlTag.{html_tags}
-use Rattle.mdconstructs_inline_constructs.specs.Reference.{references}
+use Rattle.mdconstructs_inline_constructs.specs.HardBreakRows.{break_escapes}
+use Rattle.mdconstructs_inline_constructs.specs.HtmlTagRows.{html_tags}
+use Rattle.mdconstructs_inline_constructs.specs.ReferenceRows.{references}
 use Rattle.mdconstructs_inlines.specs.InlineEvents.{begins_run, data_length, data_run, delimiter_run, inline_item_at, line_break, run_length, run_or_part}
 use Rattle.mdconstructs_inlines.specs.InlineTable.{white_constructs}
 use Rattle.mdconstructs_inlines.specs.RunRows.{is_delimiter}

@@ -35,10 +35,10 @@ use Rattle.mdconstructs_text.proofs.Plain.Stretches.{goes-next}
 use Rattle.mdconstructs_text.proofs.Texts.Counted.{IsAfter, Remembered, after-call, remembered}
 use Rattle.mdconstructs_text.proofs.Texts.Leads.{Ending, spent}
 use Rattle.mdconstructs_text.proofs.Texts.Steps.{EndsWith, Leads, Plays, between_items}
-use Rattle.mdconstructs_inline_constructs.specs.HardBreak.{break_escapes}
-use Rattle.mdconstructs_inline_constructs.specs.HtmlTag.{html_tags}
-use Rattle.mdconstructs_inline_constructs.specs.Reference.{references}
-use Rattle.mdconstructs_inline_constructs.specs.WhiteSpace.{white_spaces}
+use Rattle.mdconstructs_inline_constructs.specs.HardBreakRows.{break_escapes}
+use Rattle.mdconstructs_inline_constructs.specs.HtmlTagRows.{html_tags}
+use Rattle.mdconstructs_inline_constructs.specs.ReferenceRows.{references}
+use Rattle.mdconstructs_inline_constructs.specs.WhiteSpaceRows.{white_spaces}
 use Rattle.mdconstructs_inline_constructs.proofs.Emails.Bytes.{emails-apart}
 use Rattle.mdconstructs_inline_constructs.proofs.Emails.Calls.{email-paid, email-within}
 use Rattle.mdconstructs_inline_constructs.proofs.Emails.Readings.{emails-reads-in}

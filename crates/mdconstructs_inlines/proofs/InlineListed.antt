@@ -22,11 +22,11 @@ use Rattle.mdconstructs_tables.specs.Rows.{class_of}
 use Rattle.mdconstructs_machines.specs.Breaks.{is_white}
 use Rattle.mdconstructs_machines.specs.Tables.{counts}
 use Rattle.mdconstructs_machines.proofs.LineReads.Rows.{row_step}
-use Rattle.mdconstructs_text.specs.Autolink.{autolinks}
+use Rattle.mdconstructs_text.specs.AutolinkRows.{autolinks}
 use Rattle.mdconstructs_text.specs.Bytes.{is_line_feed}
 use Rattle.mdconstructs_inline_constructs.specs.RememberedCode.{remembered_code_spans}
 use Rattle.mdconstructs_text.specs.Construct.{Construct, Found, between_texts, first_there, grammars_of, some_first, tried_at}
-use Rattle.mdconstructs_text.specs.Escape.{escapes}
+use Rattle.mdconstructs_text.specs.EscapeRows.{escapes}
 use Rattle.mdconstructs_text.specs.Items.{item_length}
 use Rattle.mdconstructs_text.specs.Parts.{bytes_of, leaf}
 use Rattle.mdconstructs_text.specs.TextBytes.{TextByte, backslash, less, text_byte, white}
@@ -36,12 +36,12 @@ use Rattle.mdconstructs_text.proofs.Constructs.Listed.{AddsFrom, AreTried, IsKep
 use Rattle.mdconstructs_text.proofs.Texts.Cutting.{cut-same}
 use Rattle.mdconstructs_text.proofs.Texts.Leads.{spent}
 use Rattle.mdconstructs_text.proofs.Texts.Steps.{EndsWith, Plays, between_items}
-use Rattle.mdconstructs_inline_constructs.specs.Email.{emails}
-use Rattle.mdconstructs_inline_constructs.specs.HtmlMarked.{html_marks}
-use Rattle.mdconstructs_inline_constructs.specs.HtmlTag.{html_tags}
-use Rattle.mdconstructs_inline_constructs.specs.HardBreak.{break_escapes, trailing_breaks}
-use Rattle.mdconstructs_inline_constructs.specs.WhiteSpace.{white_spaces}
-use Rattle.mdconstructs_inline_constructs.specs.Reference.{references}
+use Rattle.mdconstructs_inline_constructs.specs.EmailRows.{emails}
+use Rattle.mdconstructs_inline_constructs.specs.HtmlMarkedRows.{html_marks}
+use Rattle.mdconstructs_inline_constructs.specs.HtmlTagRows.{html_tags}
+use Rattle.mdconstructs_inline_constructs.specs.HardBreakRows.{break_escapes, trailing_breaks}
+use Rattle.mdconstructs_inline_constructs.specs.WhiteSpaceRows.{white_spaces}
+use Rattle.mdconstructs_inline_constructs.specs.ReferenceRows.{references}
 use Rattle.mdconstructs_inline_constructs.proofs.WhiteSpaces.Classes.{white-class}
 use Rattle.mdconstructs_inlines.specs.InlineEvents.{begins_run, inline_grammars, inline_item_at, read_events, run_or_part}
 use Rattle.mdconstructs_inlines.specs.InlineTable.{behind_autolinks, behind_emails, behind_escapes, behind_marks, inline_before_rows, inline_constructs, white_constructs}

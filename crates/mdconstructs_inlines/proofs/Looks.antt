@@ -8,10 +8,10 @@ use Rattle.mdconstructs_tables.specs.NoFurther.{IsAnsweredAlike, tests, tests_of
 use Rattle.mdconstructs_tables.specs.Refusals.{refusing, RulesRefuseNothing}
 use Rattle.mdconstructs_tables.proofs.Tables.NoFurther.{steps-alike}
 use Rattle.mdconstructs_tables.proofs.Tables.Refusals.{table-steps, refuse-nothing}
-use Rattle.mdconstructs_text.specs.Autolink.{autolinks, autolinks_are_on, has_room, has_scheme}
+use Rattle.mdconstructs_text.specs.AutolinkRows.{autolinks, autolinks_are_on, has_room, has_scheme}
 use Rattle.mdconstructs_text.specs.Bytes.{passes}
-use Rattle.mdconstructs_text.specs.CodeSpan.{code_spans_are_on, sizes_are_equal}
-use Rattle.mdconstructs_text.specs.Escape.{escapes, escapes_are_on}
+use Rattle.mdconstructs_text.specs.CodeSpanRows.{code_spans_are_on, sizes_are_equal}
+use Rattle.mdconstructs_text.specs.EscapeRows.{escapes, escapes_are_on}
 use Rattle.mdconstructs_text.specs.TextBytes.{TextByte, line_feed, backtick, less, greater, backslash, colon, letter, digit, mark, ampersand, white, punctuation, blank, other}
 use Rattle.markdown_base.proofs.Common.{every-append}
 use Rattle.markdown_base.specs.declared.state.TheConstants.Name.{TextBeforeHardBreakEscape}
@@ -19,12 +19,12 @@ use Rattle.markdown_tokenizer.proofs.Positions.Order.{every-back, every-front}
 use Rattle.mdconstructs_tables.specs.Rows.{StateRows}
 use Rattle.mdconstructs_text.specs.Construct.{states_of}
 use Rattle.mdconstructs_inline_constructs.proofs.HtmlTags.Looks.{html-on-alike, html-tags-alike}
-use Rattle.mdconstructs_inline_constructs.specs.Email.{emails}
-use Rattle.mdconstructs_inline_constructs.specs.HtmlMarked.{html_marks}
-use Rattle.mdconstructs_inline_constructs.specs.HtmlTag.{html_tags}
+use Rattle.mdconstructs_inline_constructs.specs.EmailRows.{emails}
+use Rattle.mdconstructs_inline_constructs.specs.HtmlMarkedRows.{html_marks}
+use Rattle.mdconstructs_inline_constructs.specs.HtmlTagRows.{html_tags}
 use Rattle.mdconstructs_inline_constructs.specs.Laws.Email.{domain-ends-alike, hyphen-alike, label-alike, label-ends-alike, name-alike, name-ends-alike}
-use Rattle.mdconstructs_inline_constructs.specs.HardBreak.{break_escapes_are_on, space_waits, trailing_breaks_are_on}
-use Rattle.mdconstructs_inline_constructs.specs.Reference.{at_number_sign, at_semicolon, at_x, value_goes_on, value_is_whole}
+use Rattle.mdconstructs_inline_constructs.specs.HardBreakRows.{break_escapes_are_on, space_waits, trailing_breaks_are_on}
+use Rattle.mdconstructs_inline_constructs.specs.ReferenceRows.{at_number_sign, at_semicolon, at_x, value_goes_on, value_is_whole}
 use Rattle.mdconstructs_inline_constructs.proofs.References.Alike.{goes-on-alike, number-sign-alike, on-alike, semicolon-alike, whole-alike, x-alike}
 use Rattle.mdconstructs_inline_constructs.specs.RememberedCode.{remembered_code_spans}
 use Rattle.mdconstructs_inlines.specs.InlineRules.{inlines_rules}

@@ -35,7 +35,7 @@ use Rattle.mdconstructs_inline_constructs.proofs.RememberedCode.Memory.{between-
 use Rattle.mdconstructs_inline_constructs.proofs.WhiteSpaces.Bytes.{white-classed}
 use Rattle.mdconstructs_inline_constructs.proofs.WhiteSpaces.Classes.{white-class}
 use Rattle.mdconstructs_inline_constructs.proofs.WhiteSpaces.Readings.{PlaysWhiteSpaces}
-use Rattle.mdconstructs_inline_constructs.specs.WhiteSpace.{is_white_class}
+use Rattle.mdconstructs_inline_constructs.specs.WhiteSpaceRows.{is_white_class}
 use Rattle.mdconstructs_inlines.specs.InlineEvents.{begins_run, ends_data}
 use Rattle.mdconstructs_inlines.specs.InlineRules.{inlines_rules}
 use Rattle.mdconstructs_inlines.specs.InlineTable.{inline_before_rows, inline_constructs, inline_data_rows}

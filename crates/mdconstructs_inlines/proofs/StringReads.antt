@@ -18,7 +18,7 @@ use Rattle.mdconstructs_machines.specs.Tables.{counts}
 use Rattle.mdconstructs_machines.proofs.LineReads.Rows.{row_step}
 use Rattle.mdconstructs_text.specs.Bytes.{is_line_feed, passes}
 use Rattle.mdconstructs_text.specs.Construct.{Construct, Found, first_there, grammars_of, some_begins, some_first, tried_at}
-use Rattle.mdconstructs_text.specs.Escape.{escapes}
+use Rattle.mdconstructs_text.specs.EscapeRows.{escapes}
 use Rattle.mdconstructs_text.specs.Items.{item_length}
 use Rattle.mdconstructs_text.specs.Parts.{bytes_of, line_ending, part}
 use Rattle.mdconstructs_text.specs.TextBytes.{TextByte, is_line_feed_class, text_byte}
@@ -36,7 +36,7 @@ use Rattle.mdconstructs_text.proofs.Texts.LineEndings.{reads-line-in}
 use Rattle.mdconstructs_text.proofs.Texts.Leads.{counted-most, ending, most, spent}
 use Rattle.mdconstructs_text.proofs.Texts.Reads.{ReadsItems, nothing-kept, nothing_known, reads-before}
 use Rattle.mdconstructs_text.proofs.Texts.Steps.{EndsWith, HasRow, Plays, PlaysData, between_items, leads-row}
-use Rattle.mdconstructs_inline_constructs.specs.Reference.{references}
+use Rattle.mdconstructs_inline_constructs.specs.ReferenceRows.{references}
 use Rattle.mdconstructs_inline_constructs.proofs.References.Bytes.{references-apart}
 use Rattle.mdconstructs_inline_constructs.proofs.References.Readings.{references-read}
 use Rattle.mdconstructs_inlines.specs.StringEvents.{is_string_special, string_data, string_events, string_item_at, string_part}

@@ -9,20 +9,20 @@ use Rattle.markdown_tokenizer.specs.declared.waiting.AttemptKind.TheVariants.{Ch
 use Rattle.mdconstructs_tables.specs.Rows.{enter, exit, consume, write, choose, Rows, row, when, at_bytes, StateRows, state, Table}
 use Rattle.mdconstructs_tables.specs.Numbers.{Price, by_left, by_class, numbers}
 use Rattle.mdconstructs_machines.specs.Tables.{counts}
-use Rattle.mdconstructs_text.specs.Autolink.{autolinks, autolink_prices}
-use Rattle.mdconstructs_text.specs.CodeSpan.{code_span_prices}
+use Rattle.mdconstructs_text.specs.AutolinkRows.{autolinks, autolink_prices}
+use Rattle.mdconstructs_text.specs.CodeSpanRows.{code_span_prices}
 use Rattle.mdconstructs_text.specs.Construct.{Construct, Found, between_texts, data_rows, some_begun, some_follows, states_of, tried_at}
-use Rattle.mdconstructs_text.specs.Escape.{escapes, escape_prices}
+use Rattle.mdconstructs_text.specs.EscapeRows.{escapes, escape_prices}
 use Rattle.mdconstructs_text.specs.TextBytes.{TextByte, backslash, less, line_feed, punctuation, white, text_byte, is_backslash_class, is_backtick_class, is_less_class, is_line_feed_class}
 use Rattle.mdconstructs_text.specs.TextCosts.{text_cost}
 use Rattle.mdconstructs_text.specs.TextTable.{text_before_data, data_at_break}
-use Rattle.mdconstructs_inline_constructs.specs.Email.{emails, email_prices}
-use Rattle.mdconstructs_inline_constructs.specs.HardBreak.{break_escapes, break_escape_prices, trailing_breaks, trailing_break_prices}
-use Rattle.mdconstructs_inline_constructs.specs.Reference.{references, reference_prices}
+use Rattle.mdconstructs_inline_constructs.specs.EmailRows.{emails, email_prices}
+use Rattle.mdconstructs_inline_constructs.specs.HardBreakRows.{break_escapes, break_escape_prices, trailing_breaks, trailing_break_prices}
+use Rattle.mdconstructs_inline_constructs.specs.ReferenceRows.{references, reference_prices}
 use Rattle.mdconstructs_inline_constructs.specs.RememberedCode.{remembered_code_spans}
-use Rattle.mdconstructs_inline_constructs.specs.HtmlMarked.{html_marks, html_mark_prices}
-use Rattle.mdconstructs_inline_constructs.specs.HtmlTag.{html_tags, html_tag_prices}
-use Rattle.mdconstructs_inline_constructs.specs.WhiteSpace.{is_white_class, white_spaces, white_space_prices}
+use Rattle.mdconstructs_inline_constructs.specs.HtmlMarkedRows.{html_marks, html_mark_prices}
+use Rattle.mdconstructs_inline_constructs.specs.HtmlTagRows.{html_tags, html_tag_prices}
+use Rattle.mdconstructs_inline_constructs.specs.WhiteSpaceRows.{is_white_class, white_spaces, white_space_prices}
 use Rattle.mdconstructs_inlines.specs.RunRows.{run_begins, run_prices, run_states}
 use Rattle.mdconstructs_inlines.specs.StringTable.{registers, string_prices, string_states}
 

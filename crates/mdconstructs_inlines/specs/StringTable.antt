@@ -8,10 +8,10 @@ use Rattle.markdown_tokenizer.specs.Configuration.{Configuration, Local}
 use Rattle.mdconstructs_tables.specs.Rows.{enter, consume, write, Rows, row, at_a_byte, StateRows, state}
 use Rattle.mdconstructs_tables.specs.Numbers.{Price, by_left}
 use Rattle.mdconstructs_text.specs.Construct.{Between, Construct, Found, before_rows, data_rows}
-use Rattle.mdconstructs_text.specs.Escape.{escapes}
+use Rattle.mdconstructs_text.specs.EscapeRows.{escapes}
 use Rattle.mdconstructs_text.specs.TextBytes.{TextByte, is_line_feed_class}
 use Rattle.mdconstructs_text.specs.TextCosts.{text_cost}
-use Rattle.mdconstructs_inline_constructs.specs.Reference.{references}
+use Rattle.mdconstructs_inline_constructs.specs.ReferenceRows.{references}
 
 -- the one resolver is registered
 abbrev pub registers : Configuration Unit Unit → Local Unit Unit

@@ -110,12 +110,15 @@ pub use Rattle.mdconstructs_tables.specs.Refusals.{RulesRefuseNothing, refusing}
 pub use Rattle.mdconstructs_tables.specs.RowInvariant.{begun}
 pub use Rattle.mdconstructs_tables.specs.RowTest.{allows_all, start_shape}
 pub use Rattle.mdconstructs_tables.specs.Rows.{Rows, choose, class_of, consume, enter, exit, picked, row, step_of, table_step, when}
-pub use Rattle.mdconstructs_text.specs.Autolink.{autolink, autolink_at, autolink_open, autolink_open_rows, autolink_scheme, autolink_scheme_rows, autolink_start, autolink_to, autolink_url, autolink_url_rows, autolinks, autolinks_are_on, has_room, has_scheme, is_allowed, is_scheme, is_scheme_byte, scheme_goes_on, uri}
+pub use Rattle.mdconstructs_text.specs.Autolink.{autolink, autolink_at, autolink_to, is_allowed, is_scheme, is_scheme_byte, uri}
+pub use Rattle.mdconstructs_text.specs.AutolinkRows.{autolink_open, autolink_open_rows, autolink_scheme, autolink_scheme_rows, autolink_start, autolink_url, autolink_url_rows, autolinks, autolinks_are_on, has_room, has_scheme, scheme_goes_on}
 pub use Rattle.mdconstructs_text.specs.Bytes.{backticks, ends_with, has_byte_at, is_backslash, is_backtick, is_colon, is_greater_than, is_less_than, is_line_feed, passes}
 pub use Rattle.mdconstructs_text.specs.ChainTexts.{AreReadAtPlaces, AreReadBy, HasReadableChains, chain_data, chain_events, chain_text, with_data, with_read, with_texts}
-pub use Rattle.mdconstructs_text.specs.CodeSpan.{before_backtick_string, code_span, code_span_at, code_spans, code_spans_are_on, is_backtick_or_line_feed, is_backtick_string, pieces, raw_text_after, raw_text_backticks_start, raw_text_backticks_inside, raw_text_backticks_inside_rows, raw_text_between, raw_text_between_rows, raw_text_data, raw_text_data_rows, raw_text_sequence_close, raw_text_sequence_close_rows, raw_text_sequence_open, raw_text_sequence_open_rows, raw_text_start, raw_text_start_rows, sizes_are_equal}
+pub use Rattle.mdconstructs_text.specs.CodeSpan.{before_backtick_string, code_span, code_span_at, is_backtick_or_line_feed, is_backtick_string, pieces}
+pub use Rattle.mdconstructs_text.specs.CodeSpanRows.{code_spans, code_spans_are_on, raw_text_after, raw_text_backticks_start, raw_text_backticks_inside, raw_text_backticks_inside_rows, raw_text_between, raw_text_between_rows, raw_text_data, raw_text_data_rows, raw_text_sequence_close, raw_text_sequence_close_rows, raw_text_sequence_open, raw_text_sequence_open_rows, raw_text_start, raw_text_start_rows, sizes_are_equal}
 pub use Rattle.mdconstructs_text.specs.Construct.{Between, Construct, Found, Grammar, before_rows, between_texts, first_there, grammars_of, if_on, or_else, some_begins, some_first, tried_at}
-pub use Rattle.mdconstructs_text.specs.Escape.{escape, escape_at, escape_inside, escape_inside_rows, escape_start, escape_start_rows, escaped, escapes, escapes_are_on}
+pub use Rattle.mdconstructs_text.specs.Escape.{escape, escape_at}
+pub use Rattle.mdconstructs_text.specs.EscapeRows.{escape_inside, escape_inside_rows, escape_start, escape_start_rows, escaped, escapes, escapes_are_on}
 pub use Rattle.mdconstructs_text.specs.Items.{is_special, item_at, item_length, text_grammars}
 pub use Rattle.mdconstructs_text.specs.Laws.Classes.{by-class, tick-classed}
 pub use Rattle.mdconstructs_text.specs.Laws.Rules.{in-paragraphs, in-text, text-lawful}

@@ -1,9 +1,12 @@
 pub mod Autolink
+pub mod AutolinkRows
 pub mod Bytes
 pub mod ChainTexts
 pub mod CodeSpan
+pub mod CodeSpanRows
 pub mod Construct
 pub mod Escape
+pub mod EscapeRows
 pub mod Items
 pub mod ParagraphTexts
 pub mod Parts

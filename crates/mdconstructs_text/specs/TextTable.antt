@@ -7,10 +7,10 @@ use Rattle.markdown_base.specs.declared.state.TheConstants.Name.{TextStart, Text
 use Rattle.mdconstructs_tables.specs.Rows.{enter, consume, Rows, row, at_byte, at_a_byte, StateRows, state, Table}
 use Rattle.mdconstructs_tables.specs.Numbers.{Price, by_left, by_class, numbers}
 use Rattle.mdconstructs_machines.specs.Tables.{counts}
-use Rattle.mdconstructs_text.specs.Autolink.{autolinks, autolink_prices}
-use Rattle.mdconstructs_text.specs.CodeSpan.{code_spans, code_span_prices}
+use Rattle.mdconstructs_text.specs.AutolinkRows.{autolinks, autolink_prices}
+use Rattle.mdconstructs_text.specs.CodeSpanRows.{code_spans, code_span_prices}
 use Rattle.mdconstructs_text.specs.Construct.{Found, Construct, between_texts, before_rows, data_rows, states_of, some_begun, some_follows}
-use Rattle.mdconstructs_text.specs.Escape.{escapes, escape_prices}
+use Rattle.mdconstructs_text.specs.EscapeRows.{escapes, escape_prices}
 use Rattle.mdconstructs_text.specs.TextBytes.{TextByte, backtick, text_byte, is_line_feed_class, is_backtick_class}
 use Rattle.mdconstructs_text.specs.TextCosts.{text_cost}
 

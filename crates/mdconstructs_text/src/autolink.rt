@@ -13,7 +13,7 @@ ghost use Rattle.markdown_tokenizer.specs.Sight.{sight_of};
 ghost use Rattle.markdown_tokenizer.specs.declared.waiting.Waits.TheVariants.{Byte};
 ghost use Rattle.mdconstructs_tables.specs.Rows.{picked, step_of};
 ghost use Rattle.mdconstructs_tables.specs.RowInvariant.{DoesAll, IsCallable, step_in};
-ghost use Rattle.mdconstructs_text.specs.Autolink.{has_scheme, has_room, scheme_goes_on, autolinks_are_on, autolink_start, autolink_open, autolink_scheme, autolink_url};
+ghost use Rattle.mdconstructs_text.specs.AutolinkRows.{has_scheme, has_room, scheme_goes_on, autolinks_are_on, autolink_start, autolink_open, autolink_scheme, autolink_url};
 ghost use Rattle.mdconstructs_text.specs.TextBytes.{text_byte};
 
 use crate::sizes::{add_to_size_b, set_size_b};

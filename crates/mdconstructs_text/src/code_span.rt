@@ -12,7 +12,7 @@ ghost use Rattle.std.specs.Prelude.{◌≡◌, false, IfOk};
 ghost use Rattle.markdown_tokenizer.specs.Sight.{sight_of};
 ghost use Rattle.mdconstructs_tables.specs.Rows.{class_of};
 ghost use Rattle.mdconstructs_tables.specs.RowInvariant.{DoesAll, IsCallable, step_in};
-ghost use Rattle.mdconstructs_text.specs.CodeSpan.{sizes_are_equal, code_spans_are_on, raw_text_start, raw_text_sequence_open, raw_text_between, raw_text_data, raw_text_sequence_close, raw_text_after, raw_text_backticks_start, raw_text_backticks_inside};
+ghost use Rattle.mdconstructs_text.specs.CodeSpanRows.{sizes_are_equal, code_spans_are_on, raw_text_start, raw_text_sequence_open, raw_text_between, raw_text_data, raw_text_sequence_close, raw_text_after, raw_text_backticks_start, raw_text_backticks_inside};
 ghost use Rattle.mdconstructs_text.specs.TextBytes.{text_byte, is_tick};
 
 use crate::names;

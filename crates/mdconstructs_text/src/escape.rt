@@ -9,7 +9,7 @@
 ghost use Rattle.std.specs.Prelude.{◌≡◌, IfOk};
 ghost use Rattle.markdown_tokenizer.specs.Sight.{sight_of};
 ghost use Rattle.mdconstructs_tables.specs.RowInvariant.{DoesAll, IsCallable, step_in};
-ghost use Rattle.mdconstructs_text.specs.Escape.{escapes_are_on, escape_start, escape_inside};
+ghost use Rattle.mdconstructs_text.specs.EscapeRows.{escapes_are_on, escape_start, escape_inside};
 ghost use Rattle.mdconstructs_text.specs.TextBytes.{text_byte};
 
 use markdown_tokenizer::event;

@@ -1,5 +1,6 @@
 -- Email autolinks by their bytes: they begin with `<`, and are a byte at least.
-use Rattle.mdconstructs_inline_constructs.specs.Email.{email, email_with, emails, is_at_sign, is_atext, is_domain, is_domain_byte}
+use Rattle.mdconstructs_inline_constructs.specs.Email.{email, email_with, is_at_sign, is_atext, is_domain, is_domain_byte}
+use Rattle.mdconstructs_inline_constructs.specs.EmailRows.{emails}
 use Rattle.mdconstructs_text.proofs.Autolinks.Bytes.{autolinks-apart}
 use Rattle.mdconstructs_text.proofs.Constructs.Apart.{IsApart, OfOption, only-there, when-there}
 use Rattle.mdconstructs_text.specs.Bytes.{has_byte_at, is_greater_than, is_less_than}

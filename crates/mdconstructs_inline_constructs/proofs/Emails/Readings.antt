@@ -17,7 +17,8 @@ use Rattle.mdconstructs_machines.specs.Tables.{counts}
 use Rattle.mdconstructs_inline_constructs.proofs.Emails.Calls.{alphanumeric-allowed, at-sign-allowed, atext-allowed, dot-allowed, hyphen-allowed}
 use Rattle.mdconstructs_inline_constructs.proofs.Emails.Domains.{domain-left, left_of_domain, more, none-begun, pieces-some}
 use Rattle.mdconstructs_inline_constructs.proofs.Emails.Events.{begun-kept, begun_email, email-events, ended_email}
-use Rattle.mdconstructs_inline_constructs.specs.Email.{domain_ends, email, email_at, email_atext_rows, email_label_rows, email_start_rows, email_value_rows, email_with, emails, is_at_sign, is_atext, is_domain, is_domain_byte, is_dot, is_hyphen, is_label, label_end_rows, label_ends, label_goes_on, label_has_hyphen, label_rows, name_ends, name_goes_on}
+use Rattle.mdconstructs_inline_constructs.specs.Email.{email, email_at, email_with, is_at_sign, is_atext, is_domain, is_domain_byte, is_dot, is_hyphen, is_label}
+use Rattle.mdconstructs_inline_constructs.specs.EmailRows.{domain_ends, email_atext_rows, email_label_rows, email_start_rows, email_value_rows, emails, label_end_rows, label_ends, label_goes_on, label_has_hyphen, label_rows, name_ends, name_goes_on}
 use Rattle.mdconstructs_tables.specs.Rows.{Rows, class_of, consume, enter, exit, row, when, write}
 use Rattle.mdconstructs_text.proofs.Autolinks.Calls.{after-sized, link_calls, looked-once}
 use Rattle.mdconstructs_text.proofs.Autolinks.Events.{IsJoined}

@@ -11,7 +11,8 @@ use Rattle.mdconstructs_text.specs.Construct.{Found}
 use Rattle.mdconstructs_text.specs.Items.{item_length}
 use Rattle.mdconstructs_text.specs.TextBytes.{text_byte}
 use Rattle.mdconstructs_inline_constructs.proofs.WhiteSpaces.Bytes.{white-classed}
-use Rattle.mdconstructs_inline_constructs.specs.HardBreak.{break_escapes, hard_break_escape, hard_break_trailing, trailing_break_at, trailing_breaks}
+use Rattle.mdconstructs_inline_constructs.specs.HardBreak.{hard_break_escape, hard_break_trailing, trailing_break_at}
+use Rattle.mdconstructs_inline_constructs.specs.HardBreakRows.{break_escapes, trailing_breaks}
 
 abbrev IsSome : Found → Type 0
 IsSome item = 0 < item_length item

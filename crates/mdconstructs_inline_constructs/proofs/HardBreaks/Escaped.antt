@@ -31,7 +31,8 @@ use Rattle.mdconstructs_text.specs.Parts.{bytes_of, event}
 use Rattle.mdconstructs_text.specs.TextBytes.{TextByte, text_byte}
 use Rattle.mdconstructs_text.specs.TextEvents.{item_events}
 use Rattle.mdconstructs_inline_constructs.proofs.HardBreaks.Calls.{break_escape_calls}
-use Rattle.mdconstructs_inline_constructs.specs.HardBreak.{break_escape_after_rows, break_escape_at, break_escape_start_rows, break_escapes, hard_break_escape}
+use Rattle.mdconstructs_inline_constructs.specs.HardBreak.{break_escape_at, hard_break_escape}
+use Rattle.mdconstructs_inline_constructs.specs.HardBreakRows.{break_escape_after_rows, break_escape_start_rows, break_escapes}
 
 -- A machine that reads hard breaks by a backslash: at the names of their states it does what their rows say
 pub record PlaysBreakEscapes (g : Given) (text : Text) (step : Sight → Configuration Unit Unit → Name → Step Unit Unit) : Type 0 where

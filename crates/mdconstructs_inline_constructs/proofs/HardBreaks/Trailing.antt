@@ -40,7 +40,8 @@ use Rattle.mdconstructs_text.specs.Parts.{bytes_of, event, leaf}
 use Rattle.mdconstructs_text.specs.TextBytes.{TextByte, text_byte, white}
 use Rattle.mdconstructs_inline_constructs.proofs.HardBreaks.Calls.{trailing_break_calls}
 use Rattle.mdconstructs_inline_constructs.proofs.WhiteSpaces.Classes.{white-class}
-use Rattle.mdconstructs_inline_constructs.specs.HardBreak.{hard_break_trailing, space_waits, trailing_after_first_rows, trailing_after_more_rows, trailing_break_at, trailing_breaks, trailing_start_rows}
+use Rattle.mdconstructs_inline_constructs.specs.HardBreak.{hard_break_trailing, trailing_break_at}
+use Rattle.mdconstructs_inline_constructs.specs.HardBreakRows.{space_waits, trailing_after_first_rows, trailing_after_more_rows, trailing_breaks, trailing_start_rows}
 
 -- A machine that reads hard breaks by spaces: at the names of their states it does what their rows say
 pub record PlaysTrailingBreaks (g : Given) (text : Text) (step : Sight → Configuration Unit Unit → Name → Step Unit Unit) : Type 0 where

@@ -17,7 +17,7 @@ use Rattle.mdconstructs_inline_constructs.proofs.HtmlMarks.Remembered.{before-in
 use Rattle.mdconstructs_inline_constructs.proofs.HtmlMarks.Rows.{known_upto, knows_of, opening_length}
 use Rattle.mdconstructs_inline_constructs.proofs.HtmlMarks.Strict.{IsPlain, line-behind, text-plain}
 use Rattle.mdconstructs_inline_constructs.proofs.HtmlTexts.Walks.{gone_over, looked, Move, done, goes, refused}
-use Rattle.mdconstructs_inline_constructs.specs.HtmlMarked.{none_upto, stopped_at}
+use Rattle.mdconstructs_inline_constructs.specs.HtmlMarkedRows.{none_upto, stopped_at}
 use Rattle.mdconstructs_text.proofs.Texts.Counted.{Remembered, remembered}
 use Rattle.mdconstructs_text.proofs.Texts.Leads.{spent}
 use Rattle.mdconstructs_text.specs.Parts.{bytes_of}

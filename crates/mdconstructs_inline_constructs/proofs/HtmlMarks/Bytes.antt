@@ -5,7 +5,8 @@ use Rattle.markdown_base.specs.declared.event.Event.{Event}
 use Rattle.mdconstructs_inline_constructs.proofs.HtmlMarks.Places.{at_open, mark_next}
 use Rattle.mdconstructs_inline_constructs.proofs.HtmlMarks.Readings.{mark-there}
 use Rattle.mdconstructs_inline_constructs.proofs.HtmlTexts.Walks.{one_further, walk}
-use Rattle.mdconstructs_inline_constructs.specs.HtmlMarked.{and_before, begins_with, either_there, html_mark_grammar, html_marks, marked, through}
+use Rattle.mdconstructs_inline_constructs.specs.HtmlMarked.{and_before, begins_with, either_there, html_mark_grammar, marked, through}
+use Rattle.mdconstructs_inline_constructs.specs.HtmlMarkedRows.{html_marks}
 use Rattle.mdconstructs_inline_constructs.specs.HtmlText.{html_of}
 use Rattle.mdconstructs_text.proofs.Autolinks.Bytes.{autolinks-apart}
 use Rattle.mdconstructs_text.proofs.Constructs.Apart.{IsApart, OfOption}

@@ -8,7 +8,7 @@ use Rattle.mdconstructs_tables.specs.Rows.{Rows, when, picked, step_of, class_of
 use Rattle.mdconstructs_text.specs.Bytes.{is_greater_than, passes}
 use Rattle.mdconstructs_text.specs.Laws.Classes.{by-class}
 use Rattle.mdconstructs_text.specs.TextBytes.{TextByte, text_byte}
-use Rattle.mdconstructs_inline_constructs.specs.HtmlMarked.{look_rows}
+use Rattle.mdconstructs_inline_constructs.specs.HtmlMarkedRows.{look_rows}
 use Rattle.mdconstructs_inline_constructs.proofs.HtmlTexts.Picked.{stepped}
 
 -- behind an opening mark, at any byte but a line feed

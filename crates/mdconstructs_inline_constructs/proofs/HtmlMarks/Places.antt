@@ -7,7 +7,7 @@ use Rattle.markdown_tokenizer.specs.Sight.{Sight}
 use Rattle.mdconstructs_machines.specs.Breaks.{is_white}
 use Rattle.mdconstructs_inline_constructs.proofs.HtmlMarks.Marks.{left-enough, left_to_mark}
 use Rattle.mdconstructs_inline_constructs.proofs.HtmlTexts.Walks.{GoesThroughLines, IsThrough, Move, OfLine, Stop, done, goes, moved, one_further, refused, run}
-use Rattle.mdconstructs_inline_constructs.specs.HtmlMarked.{closed_by, none_upto, stopped_at}
+use Rattle.mdconstructs_inline_constructs.specs.HtmlMarkedRows.{closed_by, none_upto, stopped_at}
 use Rattle.mdconstructs_text.specs.Bytes.{has_byte_at}
 use Rattle.mdconstructs_text.specs.TextSizes.{more_than, size_b_grows, size_b_is}
 use Rattle.std.proofs.Common.{Bool, List, None, Option, Some, [], ap, arith, cond, false, inl, inr, nat_le, refl, subst, suc, sym, true, zero, ℕ, ◌&&◌, ◌+◌, ◌<◌, ◌==◌, ◌^◌, ◌∙◌, ◌∷◌, ◌≡◌, ◌≤◌}

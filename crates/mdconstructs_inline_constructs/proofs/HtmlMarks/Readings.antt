@@ -24,7 +24,8 @@ use Rattle.mdconstructs_inline_constructs.proofs.HtmlMarks.Rows.{FollowsMark, Kn
 use Rattle.mdconstructs_inline_constructs.proofs.HtmlTexts.Reads.{called, in_html_data, reads}
 use Rattle.mdconstructs_inline_constructs.proofs.HtmlTexts.Through.{GivesUp, IsLooked, IsWithin, html_option, html-is, walk-looked, walk-within, html-decided}
 use Rattle.mdconstructs_inline_constructs.proofs.HtmlTexts.Walks.{Stop, looked, one_further, run, stop_of, walk, walks}
-use Rattle.mdconstructs_inline_constructs.specs.HtmlMarked.{html_mark_grammar, marked, none_upto}
+use Rattle.mdconstructs_inline_constructs.specs.HtmlMarked.{html_mark_grammar, marked}
+use Rattle.mdconstructs_inline_constructs.specs.HtmlMarkedRows.{none_upto}
 use Rattle.mdconstructs_inline_constructs.specs.HtmlText.{html_of}
 use Rattle.mdconstructs_tables.specs.Rows.{consume, enter, row}
 use Rattle.mdconstructs_text.proofs.Constructs.Apart.{OfOption}

@@ -14,7 +14,7 @@ use Rattle.mdconstructs_inline_constructs.proofs.HtmlMarks.Fails.{NoneBegins}
 use Rattle.mdconstructs_inline_constructs.proofs.HtmlMarks.Known.{of_kind}
 use Rattle.mdconstructs_inline_constructs.proofs.HtmlMarks.Places.{Mark, mark_byte, of_cdata, of_comment, of_declaration, of_instruction}
 use Rattle.mdconstructs_inline_constructs.proofs.HtmlMarks.Rows.{known_upto, knows_of, opening_length}
-use Rattle.mdconstructs_inline_constructs.specs.HtmlMarked.{none_upto, stopped_at}
+use Rattle.mdconstructs_inline_constructs.specs.HtmlMarkedRows.{none_upto, stopped_at}
 use Rattle.mdconstructs_text.proofs.Plain.Stretches.{waits_at}
 use Rattle.mdconstructs_text.proofs.Texts.Counted.{Remembered, remembered}
 use Rattle.mdconstructs_text.specs.Parts.{bytes_of}

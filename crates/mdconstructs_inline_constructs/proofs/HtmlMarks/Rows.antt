@@ -19,8 +19,8 @@ use Rattle.mdconstructs_inline_constructs.proofs.HtmlTexts.Pieces.{is_no_line_fe
 use Rattle.mdconstructs_inline_constructs.proofs.HtmlTexts.Reads.{PlaysHtml, Writes, called, written-counts, line_row_of, row_of, stop_acts, wrote}
 use Rattle.mdconstructs_inline_constructs.proofs.HtmlTexts.Rows.{at-seen, by-byte, other-rows}
 use Rattle.mdconstructs_inline_constructs.proofs.HtmlTexts.Walks.{Move, done, goes, refused}
-use Rattle.mdconstructs_inline_constructs.specs.HtmlMarked.{cdata_open_rows, comment_open_rows, declaration_open_rows, ends_cdata_mark, in_cdata_mark, in_mark, look_rows, mark_begun, mark_ends, mark_fails, mark_inside_rows, mark_line_rows, mark_open_rows, mark_start_rows, mark_white_rows, closed_by, no_cdata, no_comment, no_declaration, no_instruction, none_upto, stopped_at}
-use Rattle.mdconstructs_inline_constructs.specs.HtmlText.{html_goes_on, no_html, sees}
+use Rattle.mdconstructs_inline_constructs.specs.HtmlMarkedRows.{cdata_open_rows, comment_open_rows, declaration_open_rows, ends_cdata_mark, in_cdata_mark, in_mark, look_rows, mark_begun, mark_ends, mark_fails, mark_inside_rows, mark_line_rows, mark_open_rows, mark_start_rows, mark_white_rows, closed_by, no_cdata, no_comment, no_declaration, no_instruction, none_upto, stopped_at}
+use Rattle.mdconstructs_inline_constructs.specs.HtmlTextRows.{html_goes_on, no_html, sees}
 use Rattle.mdconstructs_tables.specs.Rows.{Act, Rows, class_of, consume, enter, exit, row, when, write, writes}
 use Rattle.mdconstructs_text.proofs.Texts.Counted.{IsAfter, Remembered, after-call, remembered}
 use Rattle.mdconstructs_text.proofs.Texts.Steps.{HasRow, HasRows, tested}

@@ -12,7 +12,8 @@ use Rattle.mdconstructs_text.proofs.Autolinks.Bytes.{autolinks-apart}
 use Rattle.mdconstructs_text.proofs.Constructs.Apart.{IsApart, OfOption}
 use Rattle.mdconstructs_text.proofs.DeepSpans.Stretches.{ItemCut}
 use Rattle.mdconstructs_text.proofs.Texts.Built.{IsKeptBySpans, IsBuilt}
-use Rattle.mdconstructs_inline_constructs.specs.HtmlTag.{html_tags, html_tag_grammar, tag_length, is_slash, behind_closing, behind_opening}
+use Rattle.mdconstructs_inline_constructs.specs.HtmlTag.{html_tag_grammar, tag_length, is_slash, behind_closing, behind_opening}
+use Rattle.mdconstructs_inline_constructs.specs.HtmlTagRows.{html_tags}
 use Rattle.mdconstructs_inline_constructs.specs.HtmlText.{html_of}
 use Rattle.mdconstructs_inline_constructs.proofs.HtmlTags.Calls.{tag_calls}
 use Rattle.mdconstructs_inline_constructs.proofs.HtmlTags.Places.{next, opened}

@@ -4,8 +4,8 @@ use Rattle.std.specs.List.{AllByRecursion}
 use Rattle.markdown_base.specs.declared.configuration.ParseOptions.{ParseOptions}
 use Rattle.mdconstructs_tables.specs.NoFurther.{IsAnsweredAlike, tests}
 use Rattle.mdconstructs_text.specs.TextBytes.{TextByte, line_feed, backtick, less, greater, backslash, colon, letter, digit, mark, ampersand, white, punctuation, blank, other}
-use Rattle.mdconstructs_inline_constructs.specs.HtmlTag.{html_tags}
-use Rattle.mdconstructs_inline_constructs.specs.HtmlText.{html_is_on}
+use Rattle.mdconstructs_inline_constructs.specs.HtmlTagRows.{html_tags}
+use Rattle.mdconstructs_inline_constructs.specs.HtmlTextRows.{html_is_on}
 
 pub html-on-alike : IsAnsweredAlike {R = Unit {0}} {D = Unit {0}} html_is_on
 html-on-alike g h s k alike = ap (λ (o : ParseOptions). o.constructs.html_text) alike.options

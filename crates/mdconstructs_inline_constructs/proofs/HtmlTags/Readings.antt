@@ -26,7 +26,8 @@ use Rattle.mdconstructs_text.proofs.Constructs.Listed.{outer}
 use Rattle.mdconstructs_text.proofs.Plain.Items.{ReadsIn, TriedIn, decides-in, decides-more, reads-of}
 use Rattle.mdconstructs_text.proofs.Texts.Reads.{ReadsPart}
 use Rattle.mdconstructs_text.proofs.Texts.Steps.{Plays, between_items, leads-row}
-use Rattle.mdconstructs_inline_constructs.specs.HtmlTag.{html_tags, tag_length}
+use Rattle.mdconstructs_inline_constructs.specs.HtmlTag.{tag_length}
+use Rattle.mdconstructs_inline_constructs.specs.HtmlTagRows.{html_tags}
 use Rattle.mdconstructs_inline_constructs.specs.HtmlText.{html_of}
 use Rattle.mdconstructs_inline_constructs.proofs.HtmlTags.Calls.{tag_calls}
 use Rattle.mdconstructs_inline_constructs.proofs.HtmlTags.Grammar.{tag-is}

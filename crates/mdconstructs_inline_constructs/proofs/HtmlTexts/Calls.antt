@@ -13,7 +13,7 @@ use Rattle.mdconstructs_tables.specs.RowInvariant.{IsCallable}
 use Rattle.mdconstructs_tables.specs.RowTest.{allows_all, start_shape}
 use Rattle.mdconstructs_tables.specs.Rows.{Rows, class_of, consume, exit}
 use Rattle.mdconstructs_text.specs.TextBytes.{TextByte, line_feed, text_byte}
-use Rattle.mdconstructs_inline_constructs.specs.HtmlText.{CanEndHtml, CanEndHtmlLine, html_state}
+use Rattle.mdconstructs_inline_constructs.specs.HtmlTextRows.{CanEndHtml, CanEndHtmlLine, html_state}
 
 -- a byte that is seen waits
 pub byte-waits : (text : Text) (p : ℕ) (waits : Waits) (b : ℕ) → current_of text p waits ≡ Some b → waits ≡ Byte

@@ -6,7 +6,7 @@ use Rattle.markdown_base.specs.declared.state.State.TheVariants.{Retry}
 use Rattle.markdown_tokenizer.specs.Configuration.{TokenizerValue}
 use Rattle.markdown_tokenizer.specs.Sight.{sight_of}
 use Rattle.mdconstructs_tables.specs.Rows.{Act, row, enter, picked, step_of}
-use Rattle.mdconstructs_inline_constructs.specs.HtmlText.{html_line_begins}
+use Rattle.mdconstructs_inline_constructs.specs.HtmlTextRows.{html_line_begins}
 use Rattle.mdconstructs_inline_constructs.proofs.HtmlTexts.Picked.{stepped}
 
 module _ {M R D : Type 0} (t : TokenizerValue M R D) where

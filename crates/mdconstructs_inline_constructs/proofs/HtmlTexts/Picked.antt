@@ -7,7 +7,7 @@ use Rattle.mdconstructs_tables.specs.RowInvariant.{DoesAll}
 use Rattle.mdconstructs_tables.specs.Rows.{Rows, when, picked, step_of, class_of}
 use Rattle.mdconstructs_text.specs.Bytes.{passes}
 use Rattle.mdconstructs_text.specs.TextBytes.{text_byte}
-use Rattle.mdconstructs_inline_constructs.specs.HtmlText.{html_rows, sees}
+use Rattle.mdconstructs_inline_constructs.specs.HtmlTextRows.{html_rows, sees}
 use Rattle.mdconstructs_inline_constructs.proofs.HtmlTexts.Rows.{other-rows}
 
 -- what does one step does another that is equal

@@ -13,7 +13,7 @@ use Rattle.mdconstructs_text.specs.Bytes.{passes}
 use Rattle.mdconstructs_text.specs.Laws.Classes.{by-class}
 use Rattle.mdconstructs_text.specs.TextBytes.{TextByte, text_byte}
 use Rattle.mdconstructs_text.proofs.Texts.Steps.{HasRow, HasRows, tested}
-use Rattle.mdconstructs_inline_constructs.specs.HtmlText.{html_rows, html_line_begins, is_following, sees}
+use Rattle.mdconstructs_inline_constructs.specs.HtmlTextRows.{html_rows, html_line_begins, is_following, sees}
 use Rattle.mdconstructs_inline_constructs.proofs.HtmlTexts.Pieces.{is_no_line_feed}
 use Rattle.mdconstructs_inline_constructs.proofs.HtmlTexts.Reads.{row_of}
 use Rattle.mdconstructs_inline_constructs.proofs.HtmlTexts.Walks.{Move, refused}

@@ -8,7 +8,8 @@ use Rattle.mdconstructs_text.specs.Construct.{Found}
 use Rattle.mdconstructs_text.specs.Items.{item_length}
 use Rattle.mdconstructs_text.specs.Laws.Classes.{by-class}
 use Rattle.mdconstructs_text.specs.TextBytes.{text_byte}
-use Rattle.mdconstructs_inline_constructs.specs.Reference.{Kind, named, decimal, hexadecimal, is_ampersand_class, is_number_sign, is_semicolon, is_value, is_value_byte, is_x, body_at, number_at, reference, reference_at, references, value_at}
+use Rattle.mdconstructs_inline_constructs.specs.Reference.{Kind, named, decimal, hexadecimal, is_number_sign, is_semicolon, is_value, is_value_byte, is_x, body_at, number_at, reference, reference_at, value_at}
+use Rattle.mdconstructs_inline_constructs.specs.ReferenceRows.{is_ampersand_class, references}
 
 ampersand-classed : (b : ℕ) → is_ampersand_class (text_byte b) ≡ (b == 38)
 ampersand-classed b =

@@ -35,7 +35,8 @@ use Rattle.mdconstructs_text.proofs.Texts.Counted.{IsAfter, after-call, after-wi
 use Rattle.mdconstructs_text.proofs.Texts.Reads.{ReadsPart}
 use Rattle.mdconstructs_text.proofs.Texts.Leads.{Ending}
 use Rattle.mdconstructs_text.proofs.Texts.Steps.{EndsWith, HasRows, Plays, between_items, leads-ok, leads-seen, tested}
-use Rattle.mdconstructs_inline_constructs.specs.Reference.{Kind, named, decimal, hexadecimal, is_number_sign, is_x, is_semicolon, may_go_on, is_whole, name_behind, at_number_sign, at_semicolon, at_x, value_goes_on, value_is_whole, value_grows, marker_is, value_begins, reference_start_rows, reference_open_rows, reference_numeric_rows, reference_value_rows, is_value, reference, reference_at, body_at, number_at, value_at, references}
+use Rattle.mdconstructs_inline_constructs.specs.Reference.{Kind, named, decimal, hexadecimal, is_number_sign, is_x, is_semicolon, is_value, reference, reference_at, body_at, number_at, value_at}
+use Rattle.mdconstructs_inline_constructs.specs.ReferenceRows.{may_go_on, is_whole, name_behind, at_number_sign, at_semicolon, at_x, value_goes_on, value_is_whole, value_grows, marker_is, value_begins, reference_start_rows, reference_open_rows, reference_numeric_rows, reference_value_rows, references}
 use Rattle.mdconstructs_inline_constructs.proofs.References.Calls.{reference_calls}
 use Rattle.mdconstructs_inline_constructs.proofs.References.Events.{begun_named, begun_decimal, begun_hexadecimal, decimal-events, decimal-front, ended_value, entered_value, hexadecimal-events, hexadecimal-front, named-events, named-front}
 use Rattle.mdconstructs_inline_constructs.proofs.References.Values.{first-walk, has-room, marker_of, walk, walk-value}

@@ -14,7 +14,8 @@ use Rattle.mdconstructs_references.proofs.Names.{begins-so, found-so}
 use Rattle.mdconstructs_references.proofs.Parts.{no_characters}
 use Rattle.mdconstructs_references.proofs.Tables.{all_are_short}
 use Rattle.mdconstructs_text.specs.Bytes.{has_byte_at}
-use Rattle.mdconstructs_inline_constructs.specs.Reference.{Kind, named, decimal, hexadecimal, is_semicolon, going_on, may_go_on, is_whole, name_behind, value_at, reference, is_value}
+use Rattle.mdconstructs_inline_constructs.specs.Reference.{Kind, named, decimal, hexadecimal, is_semicolon, value_at, reference, is_value}
+use Rattle.mdconstructs_inline_constructs.specs.ReferenceRows.{going_on, may_go_on, is_whole, name_behind}
 
 -- Of these bytes, behind n that were read, the value is read: how many bytes it has, if there is one with `;` behind it
 abbrev pub walk : (marker : ℕ) (name : List ℕ) (n : ℕ) → List ℕ → Option ℕ

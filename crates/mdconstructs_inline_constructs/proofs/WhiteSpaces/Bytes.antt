@@ -8,7 +8,8 @@ use Rattle.mdconstructs_text.specs.Construct.{Found}
 use Rattle.mdconstructs_text.specs.Items.{item_length}
 use Rattle.mdconstructs_text.specs.Laws.Classes.{by-class}
 use Rattle.mdconstructs_text.specs.TextBytes.{text_byte}
-use Rattle.mdconstructs_inline_constructs.specs.WhiteSpace.{is_white_class, is_white_left, white_space, white_spaces}
+use Rattle.mdconstructs_inline_constructs.specs.WhiteSpace.{is_white_left, white_space}
+use Rattle.mdconstructs_inline_constructs.specs.WhiteSpaceRows.{is_white_class, white_spaces}
 
 pub white-classed : (b : ℕ) → is_white_class (text_byte b) ≡ is_white b
 white-classed b =

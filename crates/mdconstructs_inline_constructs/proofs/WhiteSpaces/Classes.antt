@@ -9,7 +9,7 @@ use Rattle.mdconstructs_machines.specs.Breaks.{is_white}
 use Rattle.mdconstructs_text.specs.Bytes.{is_line_feed, passes}
 use Rattle.mdconstructs_text.specs.Laws.Classes.{by-class}
 use Rattle.mdconstructs_text.specs.TextBytes.{TextByte, text_byte, white}
-use Rattle.mdconstructs_inline_constructs.specs.WhiteSpace.{white_inside_rows}
+use Rattle.mdconstructs_inline_constructs.specs.WhiteSpaceRows.{white_inside_rows}
 
 -- white space is of its class
 pub white-class : (b : ℕ) → is_white b ≡ true → text_byte b ≡ white

@@ -34,7 +34,8 @@ use Rattle.mdconstructs_text.specs.Parts.{bytes_of, event, leaf}
 use Rattle.mdconstructs_inline_constructs.proofs.WhiteSpaces.Bytes.{run-some}
 use Rattle.mdconstructs_inline_constructs.proofs.WhiteSpaces.Calls.{white_calls}
 use Rattle.mdconstructs_inline_constructs.proofs.WhiteSpaces.Classes.{inside-ends, inside-on, inside-refused, is_of_line}
-use Rattle.mdconstructs_inline_constructs.specs.WhiteSpace.{is_white_left, white_inside_rows, white_space, white_space_at, white_spaces, white_start_rows}
+use Rattle.mdconstructs_inline_constructs.specs.WhiteSpace.{is_white_left, white_space, white_space_at}
+use Rattle.mdconstructs_inline_constructs.specs.WhiteSpaceRows.{white_inside_rows, white_spaces, white_start_rows}
 
 -- A machine that reads white space at the end of a line: at the names of its states it does what their rows say
 pub record PlaysWhiteSpaces (g : Given) (text : Text) (step : Sight → Configuration Unit Unit → Name → Step Unit Unit) : Type 0 where

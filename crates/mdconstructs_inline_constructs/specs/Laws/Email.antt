@@ -4,7 +4,7 @@ use Rattle.mdconstructs_tables.specs.NoFurther.{IsAnsweredAlike}
 use Rattle.mdconstructs_tables.specs.PlainWrites.{StatesWritePlain}
 use Rattle.mdconstructs_text.specs.Laws.Writes.{b-is, b-grows}
 use Rattle.mdconstructs_text.specs.TextBytes.{TextByte}
-use Rattle.mdconstructs_inline_constructs.specs.Email.{emails, name_ends, name_goes_on, label_goes_on, label_has_hyphen, label_ends, domain_ends}
+use Rattle.mdconstructs_inline_constructs.specs.EmailRows.{emails, name_ends, name_goes_on, label_goes_on, label_has_hyphen, label_ends, domain_ends}
 
 pub email-writes : (previous current : Option TextByte) → StatesWritePlain (emails {R = Unit} {D = Unit}).states previous current
 email-writes previous None = (b-is 0, tt)

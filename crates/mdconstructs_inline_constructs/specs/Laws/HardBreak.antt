@@ -2,7 +2,7 @@
 use Rattle.std.proofs.Common.{Option, Some}
 use Rattle.mdconstructs_tables.specs.PlainWrites.{StatesWritePlain}
 use Rattle.mdconstructs_text.specs.TextBytes.{TextByte, line_feed, white}
-use Rattle.mdconstructs_inline_constructs.specs.HardBreak.{break_escapes, trailing_breaks}
+use Rattle.mdconstructs_inline_constructs.specs.HardBreakRows.{break_escapes, trailing_breaks}
 
 pub break-escape-writes : (previous current : Option TextByte) → StatesWritePlain (break_escapes {R = Unit} {D = Unit}).states previous current
 break-escape-writes previous (Some line_feed) = tt

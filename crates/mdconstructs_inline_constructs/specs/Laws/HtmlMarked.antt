@@ -6,7 +6,7 @@ use Rattle.mdconstructs_tables.specs.PlainTables.{IsPlainEverywhere}
 use Rattle.mdconstructs_tables.specs.PlainWrites.{StatesWritePlain}
 use Rattle.mdconstructs_text.specs.Laws.Writes.{b-is, b-grows}
 use Rattle.mdconstructs_text.specs.TextBytes.{TextByte, line_feed}
-use Rattle.mdconstructs_inline_constructs.specs.HtmlMarked.{closed_by, ends_cdata_mark, html_marks, in_cdata_mark, in_mark, look_fails, mark_begun, mark_ends, no_cdata, no_comment, no_declaration, no_instruction}
+use Rattle.mdconstructs_inline_constructs.specs.HtmlMarkedRows.{closed_by, ends_cdata_mark, html_marks, in_cdata_mark, in_mark, look_fails, mark_begun, mark_ends, no_cdata, no_comment, no_declaration, no_instruction}
 
 closes : {R D : Type 0} (byte times read : ℕ) → IsPlainEverywhere (λ s. closed_by {R = R} {D = D} byte times read)
 closes byte times read s k h = h

@@ -3,7 +3,7 @@ use Rattle.std.proofs.Common.{ℕ, Option, Some, None}
 use Rattle.mdconstructs_tables.specs.PlainTables.{IsPlainEverywhere}
 use Rattle.mdconstructs_tables.specs.PlainWrites.{StatesWritePlain}
 use Rattle.mdconstructs_text.specs.TextBytes.{TextByte, line_feed}
-use Rattle.mdconstructs_inline_constructs.specs.HtmlTag.{html_tags, quote_is}
+use Rattle.mdconstructs_inline_constructs.specs.HtmlTagRows.{html_tags, quote_is}
 use Rattle.mdconstructs_inline_constructs.specs.Laws.HtmlText.{follows-is}
 
 quote-is : {R D : Type 0} (quote : ℕ) → IsPlainEverywhere (λ s. quote_is {R = R} {D = D} quote)

@@ -3,7 +3,7 @@ use Rattle.std.proofs.Common.{ℕ, Option, Some, None}
 use Rattle.mdconstructs_tables.specs.PlainTables.{IsPlainEverywhere}
 use Rattle.mdconstructs_tables.specs.PlainWrites.{StatesWritePlain}
 use Rattle.mdconstructs_text.specs.TextBytes.{TextByte}
-use Rattle.mdconstructs_inline_constructs.specs.Reference.{marker_is, reference_begins, references, value_grows}
+use Rattle.mdconstructs_inline_constructs.specs.ReferenceRows.{marker_is, reference_begins, references, value_grows}
 
 begins : {R D : Type 0} → IsPlainEverywhere (λ s. reference_begins {R = R} {D = D})
 begins s k h = h

@@ -1,7 +1,7 @@
 -- What a machine that reads code spans does at the names of their states: as their rows say, and beside that it may remember backtick strings.
 use Rattle.mdconstructs_text.proofs.Prelude.{◌≡◌, ◌∷◌, [], List, Bool, false, Option, Some, None, refl, Event, CodeTextSequence, CodeTextData, Next, Retry, Nok, RawTextStart, RawTextSequenceOpen, RawTextBetween, RawTextData, RawTextSequenceClose, RawTextAfter, RawTextBackticksStart, RawTextBackticksInside, Point, Given, Text, Configuration, Local, Rows, TextByte, backtick, is_tick, row, when, enter, exit, consume, row_step, raw_text_start_rows, raw_text_sequence_open_rows, raw_text_between_rows, raw_text_data_rows, raw_text_sequence_close_rows, raw_text_backticks_inside_rows}
 use Rattle.mdconstructs_tables.specs.Rows.{write}
-use Rattle.mdconstructs_text.specs.CodeSpan.{raw_text_after_rows, raw_text_backticks_start_rows}
+use Rattle.mdconstructs_text.specs.CodeSpanRows.{raw_text_after_rows, raw_text_backticks_start_rows}
 use Rattle.mdconstructs_text.specs.TextSizes.{size_b_grows}
 use Rattle.mdconstructs_text.proofs.Texts.Steps.{HasRows, Plays}
 

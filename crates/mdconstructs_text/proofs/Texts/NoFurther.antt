@@ -7,9 +7,9 @@ use Rattle.mdconstructs_tables.specs.Joined.{has_state}
 use Rattle.mdconstructs_tables.specs.NoFurther.{IsAnsweredAlike, tests}
 use Rattle.mdconstructs_tables.proofs.Tables.NoFurther.{joined-looks, steps-alike}
 use Rattle.mdconstructs_machines.specs.Tables as line
-use Rattle.mdconstructs_text.specs.Autolink.{autolinks_are_on, has_room, has_scheme}
-use Rattle.mdconstructs_text.specs.CodeSpan.{code_spans_are_on, sizes_are_equal}
-use Rattle.mdconstructs_text.specs.Escape.{escapes_are_on}
+use Rattle.mdconstructs_text.specs.AutolinkRows.{autolinks_are_on, has_room, has_scheme}
+use Rattle.mdconstructs_text.specs.CodeSpanRows.{code_spans_are_on, sizes_are_equal}
+use Rattle.mdconstructs_text.specs.EscapeRows.{escapes_are_on}
 use Rattle.mdconstructs_text.specs.TextBytes.{TextByte, line_feed, backtick, less, greater, backslash, colon, letter, digit, mark, ampersand, white, punctuation, blank, other}
 use Rattle.mdconstructs_text.specs.TextRules.{flow, flow_rules, inline_rules, text_rules}
 use Rattle.mdconstructs_text.specs.TextTable.{texts}

@@ -1,6 +1,6 @@
 -- How the machine of texts reads on, in small steps: to come to an ending it is enough to come to it from further on.
 use Rattle.mdconstructs_text.proofs.Prelude.{◌≡◌, ℕ, ◌<◌, ◌∷◌, ◌++◌, [], List, Bool, cond, Option, ap, length, slice_get, lt-ltb, Event, Name, State, Next, Retry, Ok, Nok, Waits, Nothing, Byte, End, Given, Text, Configuration, Local, Choice, Step, Sight, sight, byte_of, seat_before, fed, settled_at, Rows, when, with_local, counts, subst, sym, ◌∙◌, Some, true, false, Seat, slice_get_within, class_of, picked, step_of, TextByte, text_byte, text_rules, not, passes, row, enter, exit, consume, Data, LineEnding, TextBeforeData, DataAtBreak, Between, AutolinkStart, AutolinkOpen, AutolinkSchemeInsideOrEmailAtext, AutolinkUrlInside, CharacterEscapeStart, CharacterEscapeInside, text_before_data_rows, data_at_break_rows, autolink_open_rows, autolink_scheme_rows, autolink_url_rows, escape_start_rows, escape_inside_rows}
-use Rattle.mdconstructs_text.specs.Autolink.{autolink_start_rows}
+use Rattle.mdconstructs_text.specs.AutolinkRows.{autolink_start_rows}
 use Rattle.markdown_base.specs.declared.event.Name.{Name as EventName}
 use Rattle.mdconstructs_machines.proofs.LineReads.Steps.{held}
 use Rattle.mdconstructs_text.proofs.Texts.Leads.{Ending, EndsWith as step_ends, Leads as step_leads, leads-called as step-called, leads-fed as step-fed, leads-nok as step-nok, leads-ok as step-ok}

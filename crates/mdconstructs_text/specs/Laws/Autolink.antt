@@ -1,7 +1,7 @@
 -- Autolinks in the table of texts: what they write leaves nothing to resolve.
 use Rattle.std.proofs.Common.{Option, Some}
 use Rattle.mdconstructs_tables.specs.PlainWrites.{StatesWritePlain}
-use Rattle.mdconstructs_text.specs.Autolink.{autolinks}
+use Rattle.mdconstructs_text.specs.AutolinkRows.{autolinks}
 use Rattle.mdconstructs_text.specs.Laws.Writes.{b-is, b-grows}
 use Rattle.mdconstructs_text.specs.TextBytes.{TextByte, letter, digit, mark}
 

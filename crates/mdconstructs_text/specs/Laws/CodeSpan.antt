@@ -1,7 +1,7 @@
 -- Code spans in the table of texts: what they write leaves nothing to resolve.
 use Rattle.std.proofs.Common.{Option, Some}
 use Rattle.mdconstructs_tables.specs.PlainWrites.{StatesWritePlain}
-use Rattle.mdconstructs_text.specs.CodeSpan.{code_spans}
+use Rattle.mdconstructs_text.specs.CodeSpanRows.{code_spans}
 use Rattle.mdconstructs_text.specs.Laws.Writes.{b-is, b-grows, c-is, c-grows}
 use Rattle.mdconstructs_text.specs.TextBytes.{TextByte, backtick}
 

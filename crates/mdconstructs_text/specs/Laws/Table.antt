@@ -4,10 +4,10 @@ use Rattle.mdconstructs_tables.specs.Late.{IsLate}
 use Rattle.mdconstructs_tables.specs.Numbers.{priced_tests}
 use Rattle.mdconstructs_tables.specs.PlainWrites.{StatesWritePlain, WritesPlain}
 use Rattle.mdconstructs_tables.proofs.Numbers.Enough.{numbered-late}
-use Rattle.mdconstructs_text.specs.Autolink.{autolinks}
-use Rattle.mdconstructs_text.specs.CodeSpan.{code_spans}
+use Rattle.mdconstructs_text.specs.AutolinkRows.{autolinks}
+use Rattle.mdconstructs_text.specs.CodeSpanRows.{code_spans}
 use Rattle.mdconstructs_text.specs.Construct.{states_of}
-use Rattle.mdconstructs_text.specs.Escape.{escapes}
+use Rattle.mdconstructs_text.specs.EscapeRows.{escapes}
 use Rattle.mdconstructs_text.specs.Laws.Autolink.{autolink-writes}
 use Rattle.mdconstructs_text.specs.Laws.CodeSpan.{code-span-writes}
 use Rattle.mdconstructs_text.specs.Laws.Escape.{escape-writes}

@@ -12,7 +12,7 @@ use Rattle.mdconstructs_tables.specs.RowInvariant.{DoesAll}
 use Rattle.mdconstructs_tables.specs.Rows.{Row, class_of, enter, exit, consume, write, picked, step_of}
 use Rattle.mdconstructs_text.specs.TextBytes.{text_byte}
 use Rattle.mdconstructs_text.specs.TextSizes.{size_b_is, size_b_grows}
-use Rattle.mdconstructs_inline_constructs.specs.Email.{domain_ends, email_label, email_label_rows, label_ends, label_goes_on, label_has_hyphen}
+use Rattle.mdconstructs_inline_constructs.specs.EmailRows.{domain_ends, email_label, email_label_rows, label_ends, label_goes_on, label_has_hyphen}
 use Rattle.mdconstructs_inline_constructs.proofs.email.email_label.Goals as goal
 
 -- a byte that is seen waits

@@ -6,8 +6,8 @@ use Rattle.mdconstructs_inline_constructs.specs.declared.names.TheConstants.{Htm
 use Rattle.markdown_tokenizer.specs.Sight.{sight_of}
 use Rattle.mdconstructs_tables.specs.Rows.{row, write, consume, when}
 use Rattle.mdconstructs_text.specs.TextSizes.{size_b_grows}
-use Rattle.mdconstructs_inline_constructs.specs.HtmlMarked.{closed_by, ends_cdata_mark, in_cdata_mark, no_cdata}
-use Rattle.mdconstructs_inline_constructs.specs.HtmlText.{no_html}
+use Rattle.mdconstructs_inline_constructs.specs.HtmlMarkedRows.{closed_by, ends_cdata_mark, in_cdata_mark, no_cdata}
+use Rattle.mdconstructs_inline_constructs.specs.HtmlTextRows.{no_html}
 use Rattle.mdconstructs_inline_constructs.proofs.HtmlTexts.Picked.{does-by, seen}
 use Rattle.mdconstructs_inline_constructs.proofs.HtmlMarks.Picked.{known-by}
 use Rattle.mdconstructs_inline_constructs.proofs.html_marked.cdata_open.Goals as goal

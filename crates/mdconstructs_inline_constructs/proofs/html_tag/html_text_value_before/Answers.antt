@@ -3,8 +3,9 @@ use Rattle.std.proofs.lemmas.Bool.Decides.{nat_tests}
 use Rattle.markdown_base.specs.declared.state.State.TheVariants.{Next}
 use Rattle.markdown_base.specs.declared.state.TheConstants.Name.{HtmlTextTagOpenAttributeValueBefore, HtmlTextTagOpenAttributeValueQuoted, HtmlTextTagOpenAttributeValueUnquoted}
 use Rattle.mdconstructs_tables.specs.Rows.{row, write, consume, when}
-use Rattle.mdconstructs_inline_constructs.specs.HtmlTag.{quote_is, is_double_quote, is_single_quote, is_tag_white, is_unquoted}
-use Rattle.mdconstructs_inline_constructs.specs.HtmlText.{html_goes_on, html_line_ends, no_html, sees}
+use Rattle.mdconstructs_inline_constructs.specs.HtmlTag.{is_double_quote, is_single_quote, is_tag_white, is_unquoted}
+use Rattle.mdconstructs_inline_constructs.specs.HtmlTagRows.{quote_is}
+use Rattle.mdconstructs_inline_constructs.specs.HtmlTextRows.{html_goes_on, html_line_ends, no_html, sees}
 use Rattle.mdconstructs_inline_constructs.proofs.HtmlTexts.Picked.{does-by, seen, tested-by}
 use Rattle.mdconstructs_inline_constructs.proofs.html_tag.html_text_value_before.Goals as goal
 

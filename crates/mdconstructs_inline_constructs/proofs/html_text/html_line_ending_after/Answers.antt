@@ -5,7 +5,7 @@ use Rattle.markdown_base.specs.declared.state.State.TheVariants.{Next}
 use Rattle.markdown_base.specs.declared.state.TheConstants.Name.{HtmlTextTagCloseBetween, HtmlTextTagOpenBetween, HtmlTextTagOpenAttributeNameAfter, HtmlTextTagOpenAttributeValueBefore, HtmlTextTagOpenAttributeValueQuoted, HtmlTextLineEndingAfterPrefix}
 use Rattle.mdconstructs_machines.specs.Breaks.{is_white}
 use Rattle.mdconstructs_tables.specs.Rows.{row, enter, consume, when}
-use Rattle.mdconstructs_inline_constructs.specs.HtmlText.{html_following, html_line_begins, no_html, sees}
+use Rattle.mdconstructs_inline_constructs.specs.HtmlTextRows.{html_following, html_line_begins, no_html, sees}
 use Rattle.mdconstructs_inline_constructs.proofs.HtmlTexts.Following.{begun-by}
 use Rattle.mdconstructs_inline_constructs.proofs.HtmlTexts.Picked.{does-by, seen, tested-by}
 use Rattle.mdconstructs_inline_constructs.proofs.html_text.html_line_ending_after.Goals as goal

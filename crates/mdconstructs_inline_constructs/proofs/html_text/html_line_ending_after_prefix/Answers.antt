@@ -4,7 +4,7 @@ use Rattle.markdown_base.specs.declared.event.Name.TheVariants.{SpaceOrTab}
 use Rattle.markdown_base.specs.declared.state.TheConstants.Name.{HtmlTextTagCloseBetween, HtmlTextTagOpenBetween, HtmlTextTagOpenAttributeNameAfter, HtmlTextTagOpenAttributeValueBefore, HtmlTextTagOpenAttributeValueQuoted, HtmlTextLineEndingAfterPrefix}
 use Rattle.mdconstructs_machines.specs.Breaks.{is_white}
 use Rattle.mdconstructs_tables.specs.Rows.{exit, when}
-use Rattle.mdconstructs_inline_constructs.specs.HtmlText.{html_following, html_goes_on, html_line_begins, no_html, sees}
+use Rattle.mdconstructs_inline_constructs.specs.HtmlTextRows.{html_following, html_goes_on, html_line_begins, no_html, sees}
 use Rattle.mdconstructs_inline_constructs.proofs.HtmlTexts.Following.{begun-by}
 use Rattle.mdconstructs_inline_constructs.proofs.HtmlTexts.Picked.{does-by, seen, tested-by}
 use Rattle.mdconstructs_inline_constructs.proofs.html_text.html_line_ending_after_prefix.Goals as goal

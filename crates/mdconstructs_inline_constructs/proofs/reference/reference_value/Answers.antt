@@ -9,7 +9,7 @@ use Rattle.mdconstructs_tables.specs.Markers.{marked}
 use Rattle.mdconstructs_tables.specs.Rows.{class_of, consume, enter, exit}
 use Rattle.mdconstructs_tables.proofs.Rows.Calls.{can-exit, can-mark}
 use Rattle.mdconstructs_text.specs.TextBytes.{text_byte}
-use Rattle.mdconstructs_inline_constructs.specs.Reference.{reference_value}
+use Rattle.mdconstructs_inline_constructs.specs.ReferenceRows.{reference_value}
 use Rattle.mdconstructs_inline_constructs.proofs.reference.reference_value.Goals as goal
 
 -- what is seen waits
