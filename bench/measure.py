@@ -10,16 +10,32 @@ are from the fastest of five runs.
 The last table has calls of the static library in place of runs: the instructions of a call of limecove_read, which also writes a
 record of each event, and of what mdevents does to make the events, without reading its input and without printing.
 
+A table has whole documents, the pages of docs joined, by `flow`: instructions with printing; choices and allocations by how often their
+functions are called; peak memory beside the memory of the final events. States are compiled into the loop, so their calls cannot be
+counted from outside. If a program cmark is on the path, its instructions for the same bytes stand beside.
+
 usage: measure.py MDEVENTS MDBENCH ARCHIVE [OTHER]. ARCHIVE is archive.c with the static library. OTHER reads a document from standard
 input and writes the events of the machine of lines, as mdevents does without options.
+
+       measure.py --documents MDEVENTS. Only the table of whole documents.
+
+glibc copies long stretches by one instruction that callgrind counts once a byte, so that is switched off here.
 """
 
+import glob
 import os
 import re
+import shutil
 import subprocess
 import sys
 import tempfile
 import time
+
+os.environ["GLIBC_TUNABLES"] = "glibc.cpu.x86_rep_movsb_threshold=100000000"
+TOP = os.path.dirname(os.path.dirname(os.path.realpath(__file__)))
+
+# bytes of an event in memory
+EVENT = 88
 
 PLAIN = "The quick brown fox jumps over the lazy dog, and does so once more, slowly.\n"
 TABS = "a\tbc\t\tdef\t\t\tg\th\n"
@@ -167,6 +183,51 @@ def grow(programs, folder):
         print(f"| {what} | {few:,} | {many:,} | {many / few:.1f} |", flush=True)
 
 
+def called(program, options, document, counts):
+    """How often a run calls what ends a choice, and what allocates."""
+    valgrind("callgrind", [f"--callgrind-out-file={counts}"], program, options, document)
+    names, choices, allocations, callee = {}, 0, 0, ""
+    with open(counts) as profile:
+        for line in profile:
+            if line.startswith("cfn="):
+                number, _, name = line[4:].strip().partition(" ")
+                callee = names.setdefault(number, name) if name else names[number]
+            elif line.startswith("fn="):
+                number, _, name = line[3:].strip().partition(" ")
+                if name:
+                    names[number] = name
+            elif line.startswith("calls="):
+                times = int(line[6:].split()[0])
+                if re.search(r"Tokenizer::go_on\b", callee):
+                    choices += times
+                elif re.match(r"rattle_(re)?alloc\b", callee):
+                    allocations += times
+    return choices, allocations
+
+
+def documents(program, folder):
+    """Prints the table of whole documents."""
+    counts = os.path.join(folder, "counts")
+    document = os.path.join(folder, "document")
+    with open(document, "wb") as text:
+        for page in sorted(glob.glob(f"{TOP}/docs/*.md")):
+            with open(page, "rb") as it:
+                text.write(it.read())
+    size = os.path.getsize(document)
+    print(f"| The pages of docs, {size:,} bytes | Instructions/byte | Choices/byte | Allocations/byte | Peak heap, KiB | Its events, KiB |")
+    print("|---|---|---|---|---|---|")
+    for options in ("--machine flow", "--machine flow --deep"):
+        words = options.split()
+        whole, _ = instructions(program, words, document, counts)
+        choices, allocations = called(program, words, document, counts)
+        with open(document) as text:
+            lines = subprocess.run([program, *words], stdin=text, capture_output=True, check=True).stdout.count(b"\n")
+        heap = peak(program, words, document, counts) // 1024
+        print(f"| {options} | {whole / size:.1f} | {choices / size:.2f} | {allocations / size:.4f} | {heap:,} | {lines * EVENT // 1024:,} |", flush=True)
+    if shutil.which("cmark"):
+        print(f"| cmark, to HTML | {instructions(shutil.which('cmark'), [], document, counts)[0] / size:.1f} | | | {peak(shutil.which('cmark'), [], document, counts) // 1024:,} | |")
+
+
 def main(program, folder):
     """Prints the table of what a run needs."""
     counts = os.path.join(folder, "counts")
@@ -210,7 +271,12 @@ def compare(program, other, folder):
 
 if __name__ == "__main__":
     with tempfile.TemporaryDirectory() as scratch:
+        if sys.argv[1] == "--documents":
+            documents(sys.argv[2], scratch)
+            sys.exit(0)
         main(sys.argv[1], scratch)
+        print()
+        documents(sys.argv[1], scratch)
         print()
         grow({"mdevents": sys.argv[1], "mdbench": sys.argv[2]}, scratch)
         print()
