@@ -11,7 +11,7 @@ use crate::loose::Loose;
 use markdown::event::Event;
 use std::alloc::Global;
 use std::marker::Model;
-use std::ptr;
+use std::{fmt, ptr};
 
 /// The pointer of a list of events, or no list.
 #[repr(C)]
@@ -25,9 +25,16 @@ impl Model for Kept {
     ghost also_owns = { λ kept. kept_owns kept.at kept.list };
 }
 
+impl fmt::Debug for Kept {
+    /// Shows no address.
+    fn fmt<W: fmt::Write>(&self, f: &mut fmt::Formatter<W>) -> fmt::Result {
+        write!(f, "Kept")
+    }
+}
+
 /// A document that was read, with its events. A caller keeps it between calls, and changes nothing in it.
 #[repr(C)]
-#[derive(Drop)]
+#[derive(Debug, Drop)]
 pub struct Reading {
     /// Whether it has a list of events: 1 if it is open, 0 if it is not.
     pub is_open: usize,

@@ -465,7 +465,8 @@ fn fields_lie_in_their_order(rt: HostRuntime) -> Result<(), AllocError> {
     let want =
         "Record { kind: 1, content: 2, name: 3, line: 4, column: 5, index: 6, vs: 7, previous: 8, next: 9 }, \
         Options { size: 1, tab_size: 2, constructs: 3, cut: 4, machine: 5, deep: 6 }, \
-        TextOptions { size: 1, tab_size: 2, constructs: 3 }, Answer { code: 1, version: 3, count: 3 }";
+        TextOptions { size: 1, tab_size: 2, constructs: 3 }, Answer { code: 1, version: 3, count: 3 }, \
+        ByteRange { from: 1, to: 2 }, Reading { is_open: 0, kept: Kept }";
     let (mut numbers, mut of_options, mut of_text) = (OLD, OLD, OLD);
     let answer = limecove_echo(
         &OPTIONS,
@@ -474,7 +475,11 @@ fn fields_lie_in_their_order(rt: HostRuntime) -> Result<(), AllocError> {
         &mut of_options,
         &mut of_text,
     );
-    let made = format!(in rt.alloc(); "{numbers:?}, {OPTIONS:?}, {TEXT_OPTIONS:?}, {answer:?}")?;
+    let range = ByteRange { from: 1, to: 2 };
+    let closed = Reading::closed();
+    let made = format!(in rt.alloc();
+        "{numbers:?}, {OPTIONS:?}, {TEXT_OPTIONS:?}, {answer:?}, {range:?}, {closed:?}"
+    )?;
     assert!(rt; made.as_str() == want);
     Ok(())
 }

@@ -13,7 +13,7 @@ use std::process::ExitCode;
 /// Whether the program's arguments choose this, and nothing fails.
 fn chooses(
     alloc: Global,
-    words: &[u8],
+    words: &[&[u8]],
     cut: usize,
     deep: bool,
     machine: Which,
@@ -30,66 +30,96 @@ fn chooses(
 }
 
 /// Arguments, and what they choose: the cut, whether chunks are read too, the machine and the tab size.
-const CHOSEN: &[(&[u8], usize, bool, Which, usize)] = &[
-    (b"mdevents", 0, false, Which::Lines, 4),
+const CHOSEN: &[(&[&[u8]], usize, bool, Which, usize)] = &[
+    (&[b"mdevents"], 0, false, Which::Lines, 4),
     (
-        b"mdevents --tab 16 --machine lines",
+        &[b"mdevents", b"--tab", b"16", b"--machine", b"lines"],
         0,
         false,
         Which::Lines,
         16,
     ),
     (
-        b"mdevents --tab 16 --deep --machine paragraphs",
+        &[
+            b"mdevents",
+            b"--tab",
+            b"16",
+            b"--deep",
+            b"--machine",
+            b"paragraphs",
+        ],
         0,
         true,
         Which::Paragraphs,
         16,
     ),
     (
-        b"mdevents --tab 16 --machine peek",
+        &[b"mdevents", b"--tab", b"16", b"--machine", b"peek"],
         0,
         false,
         Which::Peek,
         16,
     ),
     (
-        b"mdevents --machine deep --tab 16",
+        &[b"mdevents", b"--machine", b"deep", b"--tab", b"16"],
         0,
         false,
         Which::Deep,
         16,
     ),
     (
-        b"mdevents --machine back --tab 16",
+        &[b"mdevents", b"--machine", b"back", b"--tab", b"16"],
         0,
         false,
         Which::Back,
         16,
     ),
     (
-        b"mdevents --machine save --tab 16",
+        &[b"mdevents", b"--machine", b"save", b"--tab", b"16"],
         0,
         false,
         Which::Save,
         16,
     ),
     (
-        b"mdevents --machine text --tab 16 --deep",
+        &[
+            b"mdevents",
+            b"--machine",
+            b"text",
+            b"--tab",
+            b"16",
+            b"--deep",
+        ],
         0,
         true,
         Which::Text,
         16,
     ),
     (
-        b"mdevents --machine paragraphs --tab 4 --deep --cut 1",
+        &[
+            b"mdevents",
+            b"--machine",
+            b"paragraphs",
+            b"--tab",
+            b"4",
+            b"--deep",
+            b"--cut",
+            b"1",
+        ],
         1,
         true,
         Which::Paragraphs,
         4,
     ),
     (
-        b"mdevents --deep --machine flow --tab 16",
+        &[
+            b"mdevents",
+            b"--deep",
+            b"--machine",
+            b"flow",
+            b"--tab",
+            b"16",
+        ],
         0,
         true,
         Which::Flow,
@@ -103,10 +133,46 @@ fn takes_the_words_after_the_name(rt: HostRuntime) {
     for &(words, cut, deep, machine, tab) in CHOSEN {
         assert!(rt; chooses(rt.alloc(), words, cut, deep, machine, tab));
     }
-    let mut long = [b'0'; 1000];
-    long[..15].copy_from_slice(b"mdevents --cut ");
-    long[999] = b'7';
-    assert!(rt; chooses(rt.alloc(), &long, 7, false, Which::Lines, 4));
+    let mut long = [b'0'; 985];
+    long[984] = b'7';
+    let words = [b"mdevents".as_slice(), b"--cut", &long];
+    assert!(rt; chooses(rt.alloc(), &words, 7, false, Which::Lines, 4));
+}
+
+/// Whether the words after the name are these, byte for byte, and nothing fails.
+fn has_words(alloc: Global, called: &[&[u8]]) -> bool {
+    let system = (CalledWith::new(called), alloc);
+    let Ok(Some(words)) = words_of(&system) else {
+        return false;
+    };
+    let mut wanted = called.iter().skip(1);
+    for word in words.iter() {
+        if wanted.next().is_none_or(|it| *it != word.as_bytes()) {
+            return false;
+        }
+    }
+    wanted.next().is_none()
+}
+
+/// Words are taken as they are: with spaces, in upper case, the same again, two hyphens, no byte, and many bytes.
+#[test]
+fn words_are_taken_as_they_are(rt: HostRuntime) {
+    let mut long = [b'x'; 3000];
+    long[2999] = b'z';
+    let called = [
+        b"mdevents".as_slice(),
+        b"--",
+        b"--MACHINE",
+        b" --deep ",
+        b"flow ",
+        b"",
+        b"--deep",
+        b"--deep",
+        b"a  b\t",
+        &long,
+        b"\xc3\xa9",
+    ];
+    assert!(rt; has_words(rt.alloc(), &called));
 }
 
 /// How a call of the program ended: its status, what it wrote and what it showed on standard error.
@@ -133,7 +199,7 @@ const ALL: usize = usize::MAX;
 /// takes nothing, or returns an error.
 fn call(
     alloc: Global,
-    words: &[u8],
+    words: &[&[u8]],
     rest: &[u8],
     good_reads: usize,
     good_writes: usize,
@@ -169,35 +235,97 @@ const CODE_BEHIND_A_TAB: &[u8] =
     b"enter Paragraph 1:1 (0+0)\nenter Data 1:1 (0+0)\nexit Data 1:9 (1+0)\nenter CodeText 1:9 (1+0)\nenter CodeTextSequence 1:9 (1+0)\nexit CodeTextSequence 1:10 (2+0)\nenter CodeTextData 1:10 (2+0)\nexit CodeTextData 1:11 (3+0)\nenter CodeTextSequence 1:11 (3+0)\nexit CodeTextSequence 1:12 (4+0)\nexit CodeText 1:12 (4+0)\nexit Paragraph 1:12 (4+0)\n";
 
 /// Arguments, the status, what is written for `ab`, and what is shown on standard error.
-const CALLS: &[(&[u8], u8, &[u8], &[u8])] = &[
-    (b"mdevents", 0, PARAGRAPH, b""),
-    (b"--cut", 0, PARAGRAPH, b""),
-    (b"mdevents --cut 18446744073709551615", 0, PARAGRAPH, b""),
-    (b"mdevents --machine paragraphs --deep", 0, PARAGRAPH, b""),
-    (b"mdevents --cut 016 --machine peek", 0, DATA, b""),
-    (b"mdevents --machine deep --cut 1", 0, DATA, b""),
-    (b"mdevents --machine save", 0, b"", b""),
-    (b"mdevents --machine text --tab 16", 0, PARAGRAPH, b""),
-    (b"mdevents --machine flow --deep --cut 1", 0, PARAGRAPH, b""),
-    (b"--cut 2", 2, b"", USAGE_SHOWN),
-    (b"mdevents --cut", 2, b"", USAGE_SHOWN),
-    (b"mdevents --cut 0", 2, b"", USAGE_SHOWN),
-    (b"mdevents --cut +1", 2, b"", USAGE_SHOWN),
-    (b"mdevents --cut 18446744073709551616", 2, b"", USAGE_SHOWN),
-    (b"mdevents --cut 2 --cut 2", 2, b"", USAGE_SHOWN),
-    (b"mdevents --tab 0", 2, b"", USAGE_SHOWN),
-    (b"mdevents --tab 17", 2, b"", USAGE_SHOWN),
-    (b"mdevents --machine forth", 2, b"", USAGE_SHOWN),
-    (b"mdevents --deep", 2, b"", USAGE_SHOWN),
+const CALLS: &[(&[&[u8]], u8, &[u8], &[u8])] = &[
+    (&[b"mdevents"], 0, PARAGRAPH, b""),
+    (&[b"--cut"], 0, PARAGRAPH, b""),
     (
-        b"mdevents --machine text --deep --tab 4 --cut 1 x",
+        &[b"mdevents", b"--cut", b"18446744073709551615"],
+        0,
+        PARAGRAPH,
+        b"",
+    ),
+    (
+        &[b"mdevents", b"--machine", b"paragraphs", b"--deep"],
+        0,
+        PARAGRAPH,
+        b"",
+    ),
+    (
+        &[b"mdevents", b"--cut", b"016", b"--machine", b"peek"],
+        0,
+        DATA,
+        b"",
+    ),
+    (
+        &[b"mdevents", b"--machine", b"deep", b"--cut", b"1"],
+        0,
+        DATA,
+        b"",
+    ),
+    (&[b"mdevents", b"--machine", b"save"], 0, b"", b""),
+    (
+        &[b"mdevents", b"--machine", b"text", b"--tab", b"16"],
+        0,
+        PARAGRAPH,
+        b"",
+    ),
+    (
+        &[
+            b"mdevents",
+            b"--machine",
+            b"flow",
+            b"--deep",
+            b"--cut",
+            b"1",
+        ],
+        0,
+        PARAGRAPH,
+        b"",
+    ),
+    (&[b"--cut", b"2"], 2, b"", USAGE_SHOWN),
+    (&[b"mdevents", b"--cut"], 2, b"", USAGE_SHOWN),
+    (&[b"mdevents", b"--cut", b"0"], 2, b"", USAGE_SHOWN),
+    (&[b"mdevents", b"--cut", b"+1"], 2, b"", USAGE_SHOWN),
+    (
+        &[b"mdevents", b"--cut", b"18446744073709551616"],
         2,
         b"",
         USAGE_SHOWN,
     ),
-    (b"mdevents --machine lines --deep", 2, b"", USAGE_SHOWN),
-    (b"mdevents ", 2, b"", USAGE_SHOWN),
-    (b"mdevents \xff", 2, b"", USAGE_SHOWN),
+    (
+        &[b"mdevents", b"--cut", b"2", b"--cut", b"2"],
+        2,
+        b"",
+        USAGE_SHOWN,
+    ),
+    (&[b"mdevents", b"--tab", b"0"], 2, b"", USAGE_SHOWN),
+    (&[b"mdevents", b"--tab", b"17"], 2, b"", USAGE_SHOWN),
+    (&[b"mdevents", b"--machine", b"forth"], 2, b"", USAGE_SHOWN),
+    (&[b"mdevents", b"--deep"], 2, b"", USAGE_SHOWN),
+    (
+        &[
+            b"mdevents",
+            b"--machine",
+            b"text",
+            b"--deep",
+            b"--tab",
+            b"4",
+            b"--cut",
+            b"1",
+            b"x",
+        ],
+        2,
+        b"",
+        USAGE_SHOWN,
+    ),
+    (
+        &[b"mdevents", b"--machine", b"lines", b"--deep"],
+        2,
+        b"",
+        USAGE_SHOWN,
+    ),
+    (&[b"mdevents", b""], 2, b"", USAGE_SHOWN),
+    (&[b"mdevents", b"\xff"], 2, b"", USAGE_SHOWN),
 ];
 
 #[test]
@@ -206,7 +334,14 @@ fn does_what_the_words_choose(rt: HostRuntime) {
         let ended = call(rt.alloc(), words, b"ab", ALL, ALL, false);
         assert!(rt; ended.is(status, written, shown));
     }
-    let words = b"mdevents --machine text --deep --tab 8";
+    let words: &[&[u8]] = &[
+        b"mdevents",
+        b"--machine",
+        b"text",
+        b"--deep",
+        b"--tab",
+        b"8",
+    ];
     let ended = call(rt.alloc(), words, b"\t`a`", ALL, ALL, false);
     assert!(rt; ended.is(0, CODE_BEHIND_A_TAB, b""));
 }
@@ -215,10 +350,10 @@ fn does_what_the_words_choose(rt: HostRuntime) {
 #[test]
 fn each_read_fails_in_turn(rt: HostRuntime) {
     for good in 0..5 {
-        let ended = call(rt.alloc(), b"mdevents", b"a\r\nb", good, 0, false);
+        let ended = call(rt.alloc(), &[b"mdevents"], b"a\r\nb", good, 0, false);
         assert!(rt; ended.is(1, b"", b"cannot read input\n"));
     }
-    let ended = call(rt.alloc(), b"mdevents", b"a\r\nb", 5, ALL, false);
+    let ended = call(rt.alloc(), &[b"mdevents"], b"a\r\nb", 5, ALL, false);
     assert!(rt; ended.is(0, TWO_LINES, b""));
 }
 
@@ -227,7 +362,14 @@ fn each_read_fails_in_turn(rt: HostRuntime) {
 fn each_write_fails_in_turn(rt: HostRuntime) {
     for takes_nothing in [false, true] {
         for good in 0..TWO_LINES.len() {
-            let ended = call(rt.alloc(), b"mdevents", b"a\r\nb", ALL, good, takes_nothing);
+            let ended = call(
+                rt.alloc(),
+                &[b"mdevents"],
+                b"a\r\nb",
+                ALL,
+                good,
+                takes_nothing,
+            );
             assert!(rt; ended.is(1, &TWO_LINES[..good], b"cannot write output\n"));
         }
     }
@@ -235,7 +377,7 @@ fn each_write_fails_in_turn(rt: HostRuntime) {
 
 /// Whether a failure to get the arguments is shown as this line.
 fn shows(alloc: Global, failure: Failure, line: &[u8]) -> bool {
-    let system = (CalledWith::new(b"mdevents"), alloc);
+    let system = (CalledWith::new(&[b"mdevents"]), alloc);
     let mut reader = b"ab".as_slice();
     let mut written = Vec::new(alloc);
     let _ = answer_choice(&system, Err(failure), &mut reader, &mut written);
@@ -253,6 +395,13 @@ fn failures_are_shown(rt: HostRuntime) {
 /// It passes also if an allocation fails, which `rt try --test --fail-alloc N` makes one do.
 #[test]
 fn memory_is_no_fault_of_the_reader(rt: HostRuntime) {
-    let ended = call(rt.alloc(), b"mdevents --cut 1", b"ab", ALL, ALL, false);
+    let ended = call(
+        rt.alloc(),
+        &[b"mdevents", b"--cut", b"1"],
+        b"ab",
+        ALL,
+        ALL,
+        false,
+    );
     assert!(rt; ended.is(0, PARAGRAPH, b"") || ended.is(1, b"", b"out of memory\n"));
 }

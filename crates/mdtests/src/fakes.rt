@@ -99,17 +99,17 @@ impl fmt::Write for Line {
     }
 }
 
-/// A system in which the program was called with these arguments, its name first, with spaces between them. It keeps
-/// what the program showed on standard error.
+/// A system in which the program was called with these arguments, its name first. It keeps what the program showed on standard
+/// error.
 #[derive(Drop)]
 pub struct CalledWith<'a> {
-    words: &'a [u8],
+    words: &'a [&'a [u8]],
     pub shown: Cell<Line>,
 }
 
 impl<'a> CalledWith<'a> {
     /// The program was called with these arguments, and has shown nothing.
-    pub fn new(words: &'a [u8]) -> CalledWith<'a> {
+    pub fn new(words: &'a [&'a [u8]]) -> CalledWith<'a> {
         CalledWith {
             words,
             shown: Cell::new(Line::new()),
@@ -133,7 +133,7 @@ impl Eprint for CalledWith<'_> {
 
 impl Env for CalledWith<'_> {
     fn arg(&self, i: usize, buf: &mut [u8]) -> Result<usize, FillError> {
-        let Some(word) = self.words.split(|byte| *byte == b' ').nth(i) else {
+        let Some(word) = self.words.get(i) else {
             return Err(FillError::NotPresent);
         };
         if word.len() > buf.len() {

@@ -1,4 +1,5 @@
-//! The events that machines make of whole documents, with expected events worked by hand.
+//! The events that machines make of whole documents, where these are long, or the program does not offer the machine. Other documents
+//! are cases of `mdcases`.
 
 ghost use Rattle.markdown.specs.Virtual.{IsWithinLimit};
 ghost use Rattle.std.specs.Prelude.{◌+◌, ◌*◌, ◌<◌, Contains};
@@ -11,7 +12,7 @@ use markdown::configuration::ParseOptions;
 use markdown::parser::ParseState;
 use markdown::state::{Machine, Name};
 use markdown::tokenizer::{cuts_every, run};
-use mdconstructs::{Flow, Words, Wrap, read_document, read_inline_text, read_text};
+use mdconstructs::{Words, Wrap, read_text};
 use std::alloc::{AllocError, Global};
 
 /// The events that a machine makes of a document that is cut after each given number of virtual bytes, from this start, with or
@@ -65,92 +66,6 @@ fn data_is_wrapped(rt: HostRuntime) -> Result<(), AllocError> {
     assert_shown(&rt, read, want)
 }
 
-/// A document, and its leaf blocks.
-const BLOCKS: &[(&[u8], &str)] = &[
-    (
-        b"# a #",
-        "enter HeadingAtx 1:1 (0+0); HeadingAtxSequence 1:1 (0+0) to 1:2 (1+0); SpaceOrTab 1:2 (1+0) to 1:3 (2+0); \
-        enter HeadingAtxText 1:3 (2+0); Data 1:3 (2+0) Text None None to 1:4 (3+0); exit HeadingAtxText 1:4 (3+0); \
-        SpaceOrTab 1:4 (3+0) to 1:5 (4+0); HeadingAtxSequence 1:5 (4+0) to 1:6 (5+0); exit HeadingAtx 1:6 (5+0)",
-    ),
-    (
-        b"***\n\n\tb",
-        "enter ThematicBreak 1:1 (0+0); ThematicBreakSequence 1:1 (0+0) to 1:4 (3+0); exit ThematicBreak 1:4 (3+0); \
-        LineEnding 1:4 (3+0) to 2:1 (4+0); BlankLineEnding 2:1 (4+0) to 3:1 (5+0); enter CodeIndented 3:1 (5+0); \
-        SpaceOrTab 3:1 (5+0) to 3:5 (6+0); CodeFlowChunk 3:5 (6+0) to 3:6 (7+0); exit CodeIndented 3:6 (7+0)",
-    ),
-    (
-        b"~~~c\nd\n~~~",
-        "enter CodeFenced 1:1 (0+0); enter CodeFencedFence 1:1 (0+0); CodeFencedFenceSequence 1:1 (0+0) to 1:4 (3+0); \
-        enter CodeFencedFenceInfo 1:4 (3+0); Data 1:4 (3+0) String None None to 1:5 (4+0); exit CodeFencedFenceInfo 1:5 (4+0); \
-        exit CodeFencedFence 1:5 (4+0); LineEnding 1:5 (4+0) to 2:1 (5+0); CodeFlowChunk 2:1 (5+0) to 2:2 (6+0); \
-        LineEnding 2:2 (6+0) to 3:1 (7+0); enter CodeFencedFence 3:1 (7+0); CodeFencedFenceSequence 3:1 (7+0) to 3:4 (10+0); \
-        exit CodeFencedFence 3:4 (10+0); exit CodeFenced 3:4 (10+0)",
-    ),
-    (
-        b"e\n    f",
-        "enter Paragraph 1:1 (0+0); Data 1:1 (0+0) Text None Some(3) to 2:1 (2+0); Data 2:1 (2+0) Text Some(1) None to 2:6 (7+0); \
-        exit Paragraph 2:6 (7+0)",
-    ),
-    (
-        b"g\nh\n -- ",
-        "enter HeadingSetext 1:1 (0+0); enter HeadingSetextText 1:1 (0+0); Data 1:1 (0+0) Text None Some(4) to 2:1 (2+0); \
-        Data 2:1 (2+0) Text Some(2) None to 2:2 (3+0); exit HeadingSetextText 2:2 (3+0); LineEnding 2:2 (3+0) to 3:1 (4+0); \
-        enter HeadingSetextUnderline 3:1 (4+0); SpaceOrTab 3:1 (4+0) to 3:2 (5+0); \
-        HeadingSetextUnderlineSequence 3:2 (5+0) to 3:4 (7+0); SpaceOrTab 3:4 (7+0) to 3:5 (8+0); \
-        exit HeadingSetextUnderline 3:5 (8+0); exit HeadingSetext 3:5 (8+0)",
-    ),
-];
-
-/// The events show no cut.
-#[test]
-fn leaf_blocks_are_read(rt: HostRuntime) -> Result<(), AllocError> {
-    for &(bytes, want) in BLOCKS {
-        for cut in [1, 2, 99] {
-            assert!(rt; bytes.len() < 99 && cut > 0);
-            let read = lines_by(rt.alloc(), &Flow {}, Name::FlowStart, bytes, cut, true);
-            assert_shown(&rt, read, want)?;
-        }
-    }
-    Ok(())
-}
-
-/// A code span.
-const CODE: &str =
-    "enter CodeText 1:1 (0+0); CodeTextSequence 1:1 (0+0) to 1:2 (1+0); CodeTextData 1:2 (1+0) to 1:3 (2+0); \
-    CodeTextSequence 1:3 (2+0) to 1:4 (3+0); exit CodeText 1:4 (3+0)";
-
-/// A document, and the events of its text. If runs are not of equal length, there is no code span; a backslash in a code span is
-/// data; and one letter is no scheme. Runs may be long.
-const TEXTS: &[(&[u8], &str)] = &[
-    (b"`a`", CODE),
-    (b"`\\`", CODE),
-    (
-        b"``a`",
-        "Data 1:1 (0+0) to 1:4 (3+0); Data 1:4 (3+0) to 1:5 (4+0)",
-    ),
-    (
-        b"`a``",
-        "Data 1:1 (0+0) to 1:3 (2+0); Data 1:3 (2+0) to 1:5 (4+0)",
-    ),
-    (
-        b"````````````````````````````````````````a````````````````````````````````````````",
-        "enter CodeText 1:1 (0+0); CodeTextSequence 1:1 (0+0) to 1:41 (40+0); \
-        CodeTextData 1:41 (40+0) to 1:42 (41+0); CodeTextSequence 1:42 (41+0) to 1:82 (81+0); exit CodeText 1:82 (81+0)",
-    ),
-    (
-        b"<ab:c>",
-        "enter Autolink 1:1 (0+0); AutolinkMarker 1:1 (0+0) to 1:2 (1+0); AutolinkProtocol 1:2 (1+0) to 1:6 (5+0); \
-        AutolinkMarker 1:6 (5+0) to 1:7 (6+0); exit Autolink 1:7 (6+0)",
-    ),
-    (b"<a:b>", "Data 1:1 (0+0) to 1:6 (5+0)"),
-    (
-        b"\\*\\a",
-        "enter CharacterEscape 1:1 (0+0); CharacterEscapeMarker 1:1 (0+0) to 1:2 (1+0); \
-        CharacterEscapeValue 1:2 (1+0) to 1:3 (2+0); exit CharacterEscape 1:3 (2+0); Data 1:3 (2+0) to 1:5 (4+0)",
-    ),
-];
-
 /// The events of a document that is read as text, cut after each `cut` virtual bytes.
 fn lines_of_text(alloc: Global, bytes: &[u8], cut: usize) -> Result<String, AllocError>
     requires limit { IsWithinLimit 4 bytes.now }
@@ -162,32 +77,6 @@ fn lines_of_text(alloc: Global, bytes: &[u8], cut: usize) -> Result<String, Allo
         Ok(events) => shown(alloc, events.as_slice()),
         Err(_) => Err(AllocError),
     }
-}
-
-/// The events show no cut.
-#[test]
-fn texts_have_their_constructs(rt: HostRuntime) -> Result<(), AllocError> {
-    for &(bytes, want) in TEXTS {
-        for cut in [1, 2, 99] {
-            assert!(rt; bytes.len() < 99 && cut > 0);
-            assert_shown(&rt, lines_of_text(rt.alloc(), bytes, cut), want)?;
-        }
-    }
-    Ok(())
-}
-
-/// Each single byte is a line ending or data.
-#[test]
-fn any_byte_is_text(rt: HostRuntime) -> Result<(), AllocError> {
-    for byte in 0..=255u8 {
-        let want = match byte {
-            b'\n' | b'\r' => "LineEnding 1:1 (0+0) to 2:1 (1+0)",
-            b'\t' => "Data 1:1 (0+0) to 1:5 (1+0)",
-            _ => "Data 1:1 (0+0) to 1:2 (1+0)",
-        };
-        assert_shown(&rt, lines_of_text(rt.alloc(), &[byte], 99), want)?;
-    }
-    Ok(())
 }
 
 /// The events of a part, this many times, by the machine of words or as text.
@@ -233,164 +122,6 @@ fn long_texts_are_read(rt: HostRuntime) -> Result<(), AllocError> {
     for &(part, count, words, end) in MANY {
         let made = lines_of_many(rt.alloc(), part, count, words)?;
         assert!(rt; made.as_str().ends_with(end));
-    }
-    Ok(())
-}
-
-/// A text with delimiter runs, and its events: emphasis in strong emphasis, a run in a code span, and runs that are in no pair.
-const EMPHASIS: &[(&[u8], &str)] = &[
-    (
-        b"*a*",
-        "enter Emphasis 1:1 (0+0); EmphasisSequence 1:1 (0+0) to 1:2 (1+0); enter EmphasisText 1:2 (1+0); \
-        Data 1:2 (1+0) to 1:3 (2+0); exit EmphasisText 1:3 (2+0); EmphasisSequence 1:3 (2+0) to 1:4 (3+0); exit Emphasis 1:4 (3+0)",
-    ),
-    (
-        b"**a _b_**",
-        "enter Strong 1:1 (0+0); StrongSequence 1:1 (0+0) to 1:3 (2+0); enter StrongText 1:3 (2+0); Data 1:3 (2+0) to 1:5 (4+0); \
-        enter Emphasis 1:5 (4+0); EmphasisSequence 1:5 (4+0) to 1:6 (5+0); enter EmphasisText 1:6 (5+0); \
-        Data 1:6 (5+0) to 1:7 (6+0); exit EmphasisText 1:7 (6+0); EmphasisSequence 1:7 (6+0) to 1:8 (7+0); exit Emphasis 1:8 (7+0); \
-        exit StrongText 1:8 (7+0); StrongSequence 1:8 (7+0) to 1:10 (9+0); exit Strong 1:10 (9+0)",
-    ),
-    (
-        b"*`*`*",
-        "enter Emphasis 1:1 (0+0); EmphasisSequence 1:1 (0+0) to 1:2 (1+0); enter EmphasisText 1:2 (1+0); \
-        enter CodeText 1:2 (1+0); CodeTextSequence 1:2 (1+0) to 1:3 (2+0); CodeTextData 1:3 (2+0) to 1:4 (3+0); \
-        CodeTextSequence 1:4 (3+0) to 1:5 (4+0); exit CodeText 1:5 (4+0); \
-        exit EmphasisText 1:5 (4+0); EmphasisSequence 1:5 (4+0) to 1:6 (5+0); exit Emphasis 1:6 (5+0)",
-    ),
-    (
-        b"\\*a*!*_",
-        "enter CharacterEscape 1:1 (0+0); CharacterEscapeMarker 1:1 (0+0) to 1:2 (1+0); CharacterEscapeValue 1:2 (1+0) to 1:3 (2+0); \
-        exit CharacterEscape 1:3 (2+0); Data 1:3 (2+0) to 1:4 (3+0); Data 1:4 (3+0) to 1:5 (4+0); Data 1:5 (4+0) to 1:6 (5+0); \
-        Data 1:6 (5+0) to 1:7 (6+0); Data 1:7 (6+0) to 1:8 (7+0)",
-    ),
-    (
-        b"a  \nb",
-        "Data 1:1 (0+0) to 1:2 (1+0); HardBreakTrailing 1:2 (1+0) to 1:4 (3+0); \
-        LineEnding 1:4 (3+0) to 2:1 (4+0); Data 2:1 (4+0) to 2:2 (5+0)",
-    ),
-    (
-        b"a \n b",
-        "Data 1:1 (0+0) to 1:2 (1+0); SpaceOrTab 1:2 (1+0) to 1:3 (2+0); LineEnding 1:3 (2+0) to 2:1 (3+0); \
-        SpaceOrTab 2:1 (3+0) to 2:2 (4+0); Data 2:2 (4+0) to 2:3 (5+0)",
-    ),
-    (
-        b"a b\\\nc",
-        "Data 1:1 (0+0) to 1:4 (3+0); HardBreakEscape 1:4 (3+0) to 1:5 (4+0); LineEnding 1:5 (4+0) to 2:1 (5+0); \
-        Data 2:1 (5+0) to 2:2 (6+0)",
-    ),
-    (
-        b"&amp;&x;",
-        "enter CharacterReference 1:1 (0+0); CharacterReferenceMarker 1:1 (0+0) to 1:2 (1+0); \
-        CharacterReferenceValue 1:2 (1+0) to 1:5 (4+0); CharacterReferenceMarkerSemi 1:5 (4+0) to 1:6 (5+0); \
-        exit CharacterReference 1:6 (5+0); Data 1:6 (5+0) to 1:9 (8+0)",
-    ),
-    (
-        b"&#X41;",
-        "enter CharacterReference 1:1 (0+0); CharacterReferenceMarker 1:1 (0+0) to 1:2 (1+0); \
-        CharacterReferenceMarkerNumeric 1:2 (1+0) to 1:3 (2+0); \
-        CharacterReferenceMarkerHexadecimal 1:3 (2+0) to 1:4 (3+0); \
-        CharacterReferenceValue 1:4 (3+0) to 1:6 (5+0); CharacterReferenceMarkerSemi 1:6 (5+0) to 1:7 (6+0); \
-        exit CharacterReference 1:7 (6+0)",
-    ),
-    (
-        b"<a@b.c>",
-        "enter Autolink 1:1 (0+0); AutolinkMarker 1:1 (0+0) to 1:2 (1+0); AutolinkEmail 1:2 (1+0) to 1:7 (6+0); \
-        AutolinkMarker 1:7 (6+0) to 1:8 (7+0); exit Autolink 1:8 (7+0)",
-    ),
-    (
-        b"<a\n b>",
-        "enter HtmlText 1:1 (0+0); HtmlTextData 1:1 (0+0) to 1:3 (2+0); LineEnding 1:3 (2+0) to 2:1 (3+0); \
-        SpaceOrTab 2:1 (3+0) to 2:2 (4+0); HtmlTextData 2:2 (4+0) to 2:4 (6+0); exit HtmlText 2:4 (6+0)",
-    ),
-];
-
-/// The events of a document that is read as inline text, cut after each `cut` virtual bytes.
-fn lines_of_inlines(alloc: Global, bytes: &[u8], cut: usize) -> Result<String, AllocError>
-    requires limit { IsWithinLimit 4 bytes.now }
-    requires cut { 0 < cut }
-{
-    let options = ParseOptions::default();
-    let cuts = cuts_every(alloc, bytes, options.tab_size, cut)?;
-    match read_inline_text(alloc, bytes, &options, cuts.as_slice()) {
-        Ok(events) => shown(alloc, events.as_slice()),
-        Err(_) => Err(AllocError),
-    }
-}
-
-/// Emphasis is made, however the document is cut.
-#[test]
-fn emphasis_is_made(rt: HostRuntime) -> Result<(), AllocError> {
-    for &(bytes, want) in EMPHASIS {
-        for cut in [1, 2, 99] {
-            assert!(rt; bytes.len() < 99 && cut > 0);
-            assert_shown(&rt, lines_of_inlines(rt.alloc(), bytes, cut), want)?;
-        }
-    }
-    Ok(())
-}
-
-/// A document, and its events with its texts read as inline text: emphasis over two lines, in a heading beside a run in code, and in a
-/// setext heading; and none in code.
-const DOCUMENTS: &[(&[u8], &str)] = &[
-    (
-        b"*a\nb*",
-        "enter Paragraph 1:1 (0+0); enter Emphasis 1:1 (0+0); EmphasisSequence 1:1 (0+0) to 1:2 (1+0); enter EmphasisText 1:2 (1+0); \
-        Data 1:2 (1+0) to 1:3 (2+0); LineEnding 1:3 (2+0) to 2:1 (3+0); Data 2:1 (3+0) to 2:2 (4+0); \
-        exit EmphasisText 2:2 (4+0); EmphasisSequence 2:2 (4+0) to 2:3 (5+0); exit Emphasis 2:3 (5+0); exit Paragraph 2:3 (5+0)",
-    ),
-    (
-        b"# *a*`*`",
-        "enter HeadingAtx 1:1 (0+0); HeadingAtxSequence 1:1 (0+0) to 1:2 (1+0); SpaceOrTab 1:2 (1+0) to 1:3 (2+0); \
-        enter HeadingAtxText 1:3 (2+0); enter Emphasis 1:3 (2+0); EmphasisSequence 1:3 (2+0) to 1:4 (3+0); \
-        enter EmphasisText 1:4 (3+0); Data 1:4 (3+0) to 1:5 (4+0); exit EmphasisText 1:5 (4+0); \
-        EmphasisSequence 1:5 (4+0) to 1:6 (5+0); exit Emphasis 1:6 (5+0); \
-        enter CodeText 1:6 (5+0); CodeTextSequence 1:6 (5+0) to 1:7 (6+0); CodeTextData 1:7 (6+0) to 1:8 (7+0); \
-        CodeTextSequence 1:8 (7+0) to 1:9 (8+0); exit CodeText 1:9 (8+0); exit HeadingAtxText 1:9 (8+0); exit HeadingAtx 1:9 (8+0)",
-    ),
-    (
-        b"__a__\n=",
-        "enter HeadingSetext 1:1 (0+0); enter HeadingSetextText 1:1 (0+0); enter Strong 1:1 (0+0); StrongSequence 1:1 (0+0) to 1:3 (2+0); \
-        enter StrongText 1:3 (2+0); Data 1:3 (2+0) to 1:4 (3+0); exit StrongText 1:4 (3+0); StrongSequence 1:4 (3+0) to 1:6 (5+0); \
-        exit Strong 1:6 (5+0); exit HeadingSetextText 1:6 (5+0); LineEnding 1:6 (5+0) to 2:1 (6+0); \
-        enter HeadingSetextUnderline 2:1 (6+0); HeadingSetextUnderlineSequence 2:1 (6+0) to 2:2 (7+0); \
-        exit HeadingSetextUnderline 2:2 (7+0); exit HeadingSetext 2:2 (7+0)",
-    ),
-    (
-        b"    *a*",
-        "enter CodeIndented 1:1 (0+0); SpaceOrTab 1:1 (0+0) to 1:5 (4+0); CodeFlowChunk 1:5 (4+0) to 1:8 (7+0); \
-        exit CodeIndented 1:8 (7+0)",
-    ),
-    (
-        b"```a\\*",
-        "enter CodeFenced 1:1 (0+0); enter CodeFencedFence 1:1 (0+0); \
-        CodeFencedFenceSequence 1:1 (0+0) to 1:4 (3+0); enter CodeFencedFenceInfo 1:4 (3+0); \
-        Data 1:4 (3+0) to 1:5 (4+0); enter CharacterEscape 1:5 (4+0); \
-        CharacterEscapeMarker 1:5 (4+0) to 1:6 (5+0); CharacterEscapeValue 1:6 (5+0) to 1:7 (6+0); \
-        exit CharacterEscape 1:7 (6+0); exit CodeFencedFenceInfo 1:7 (6+0); exit CodeFencedFence 1:7 (6+0); \
-        exit CodeFenced 1:7 (6+0)",
-    ),
-];
-
-/// The events of a document that is cut after each `cut` virtual bytes.
-fn lines_of_document(alloc: Global, bytes: &[u8], cut: usize) -> Result<String, AllocError>
-    requires limit { IsWithinLimit 4 bytes.now }
-    requires cut { 0 < cut }
-{
-    let options = ParseOptions::default();
-    let cuts = cuts_every(alloc, bytes, options.tab_size, cut)?;
-    let events = read_document(alloc, bytes, &options, cuts.as_slice())?;
-    shown(alloc, events.as_slice())
-}
-
-/// Emphasis stands in its block, however the document is cut.
-#[test]
-fn documents_are_read(rt: HostRuntime) -> Result<(), AllocError> {
-    for &(bytes, want) in DOCUMENTS {
-        for cut in [1, 2, 99] {
-            assert!(rt; bytes.len() < 99 && cut > 0);
-            assert_shown(&rt, lines_of_document(rt.alloc(), bytes, cut), want)?;
-        }
     }
     Ok(())
 }
