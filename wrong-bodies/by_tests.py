@@ -1,7 +1,8 @@
 #!/usr/bin/env python3
 """Tries the wrong bodies of LIST that meet their contracts, as they return that memory ran out although there is some. No proof can
 reject them, so a test must. LIST has for each the path of the test; "refusals" if only a failing allocation shows it
-(tools/refusals.py); "call" if only a call of the program with the arguments "--cut 0" shows it, which has status 2.
+(tools/refusals.py); "call" if only a call of the program with the arguments "--cut 0" shows it, which has status 2; "cases" if the
+program mdcases shows it, as it then does not write its stdout.
 
 Works on a copy of the repository, from which it takes the other tests, and runs "rt try --test", once for edits that have different
 tests. Prints a row for each edit, and goes on: the test rejects it ("refused"), or passes over it ("PASSED"), or it can't be applied or
@@ -24,7 +25,8 @@ import table  # noqa: E402
 TEST = re.compile(r"^( *)(?:///[^\n]*\n *)*#\[test\]\n *fn (\w+)\(.*?^\1\}\n", re.M | re.S)
 MEMORY = "memory_is_no_fault_of_the_reader"
 CALL = "call"
-ALONE = (MEMORY, CALL)
+CASES = "cases"
+ALONE = (MEMORY, CALL, CASES)
 
 
 def copy(room):
@@ -52,6 +54,8 @@ def tests_of(row):
     """Returns the crate of the tests, and the name of the test."""
     if row.who == CALL:
         return "mdevents", CALL
+    if row.who == CASES:
+        return "mdcases", CASES
     if row.who == "refusals":
         return "mdtests", MEMORY
     return row.who.split("::")[0], row.who.split("::")[-1]
@@ -98,6 +102,12 @@ def tried(group):
             ended = re.search(r"^run=ended status=(\d+)", said, re.M)
             if ended:
                 came[left.pop(CALL)] = ("refused", "by its status") if ended[1] != "2" else ("PASSED", "status 2")
+        if CASES in left:
+            given, output = (open(f"{crate}/{name}", encoding="utf-8").read() for name in ("stdin", "stdout"))
+            ran = subprocess.run(["rt", "try", "--seconds", "400"], cwd=crate, input=given, capture_output=True, text=True, errors="replace")
+            said = ran.stdout + ran.stderr
+            if re.search(r"^run=ended", said, re.M):
+                came[left.pop(CASES)] = ("PASSED", "its stdout") if output in ran.stdout else ("refused", "by what it writes")
         for number in range(9 if MEMORY in left else 1 if left else 0):
             words = ["rt", "try", "--test", "--seconds", "400"]
             words += ["--fail-alloc", str(number)] if number else []

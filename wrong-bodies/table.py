@@ -198,7 +198,7 @@ def listed(rows):
 
 def is_tried(row):
     """Returns whether it is known who tries a row's edit: a test must be there."""
-    if row.who in ("gate", "prover", "call", "refusals"):
+    if row.who in ("gate", "prover", "call", "cases", "refusals"):
         return True
     crate, *modules, test = row.who.split("::")
     source = f"{TOP}/crates/{crate}/src/{'/'.join(modules)}.rt"

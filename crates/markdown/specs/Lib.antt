@@ -65,6 +65,7 @@ pub use Rattle.markdown_children.specs.Reads
 pub use Rattle.markdown_children.specs.NextContent
 pub use Rattle.markdown_children.specs.Tables
 pub use Rattle.markdown_children.specs.SoFar
+pub use Rattle.markdown_children.specs.Written
 pub use Rattle.markdown_children.specs.StartTests
 pub use Rattle.markdown_children.specs.ByteStarts
 pub use Rattle.markdown_children.specs.ReadyTests
