@@ -3,14 +3,14 @@
 with 1 if something does.
 
 usage: tools/docs.py [--take] [--hand-in]
-  --take     each code block is first rewritten from the items that it names; the numbers of wrong bodies and the list of definitions
-             are put in
+  --take     each code block is first rewritten from the items that it names; the numbers of wrong bodies, the list of definitions and
+             the public contracts are put in
   --hand-in  also fails if crates changed since the last whole gate, or if a change can reach a wrong body since it was last rejected
 
 A fence names its file behind the language, and the items that it shows: ```rust crates/C/src/f.rt item item. `*` is the whole
 file. With no item each stretch between blank lines is text of the file. A block of code that names no file fails. Shown with items
-are the `use` lines that they need, with the names that they use, but if `-` stands before the items. tools/definitions.py and
-tools/prose.py are called, too.
+are the `use` lines that they need, with the names that they use, but if `-` stands before the items. tools/definitions.py,
+tools/prose.py, tools/cases.py and tools/contracts.py are called, too.
 """
 
 import os
@@ -21,6 +21,8 @@ import sys
 TOP = os.path.dirname(os.path.dirname(os.path.realpath(__file__)))
 sys.path.insert(0, f"{TOP}/wrong-bodies")
 sys.dont_write_bytecode = True
+import cases  # noqa: E402
+import contracts  # noqa: E402
 import definitions  # noqa: E402
 import prose  # noqa: E402
 import table  # noqa: E402
@@ -216,7 +218,8 @@ def main():
     last_gate("--hand-in" in sys.argv[1:])
     if "--take" in sys.argv[1:]:
         definitions.write()
-    failed.extend(definitions.disagreements() + prose.disagreements() + table.disagreements())
+        contracts.write()
+    failed.extend(definitions.disagreements() + prose.disagreements() + cases.disagreements() + contracts.disagreements() + table.disagreements())
     print("\n".join(failed), end="\n" if failed else "")
     sys.exit(1 if failed else 0)
 

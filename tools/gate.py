@@ -2,6 +2,11 @@
 """Runs the gate, or another command at the top, and lists what its checks took in seconds of processor time.
 
 usage: tools/gate.py [-C FOLDER] [COMMAND..]        `rt ci` if no command is given; in this checkout or in FOLDER
+       tools/gate.py --write LOG                    puts the table of such a run from nothing, whose output is in the file LOG, into
+                                                    docs/maintaining/GATE.md, under "By crate"
+
+A crate is proved, and once more if it has two edits or more, as edits are tried over a proof of their own; then come its edits and its
+tests. `rt ci` itself prints no times. A run that takes over what an earlier one kept has only what it proved anew.
 
 Each second it looks at the prover's processes that the command has started, so the last second of each is not counted.
 An edit's check is recognized by the texts of the copy that it works on. The total is the time of the command and of each process
@@ -11,6 +16,7 @@ that it has waited for, as the system counts it: the prover, the tests, the prog
 import collections
 import glob
 import os
+import re
 import resource
 import subprocess
 import sys
@@ -18,6 +24,9 @@ import time
 
 HERE = os.path.dirname(os.path.dirname(os.path.realpath(__file__)))
 TICKS = os.sysconf("SC_CLK_TCK")
+PAGE = f"{HERE}/docs/maintaining/GATE.md"
+PARTS = ("proof", "second", "edits", "tests")
+SMALL = 100  # crates below so many seconds are one row of the page
 
 
 def text_of(path):
@@ -71,6 +80,36 @@ def seen(process, session):
     return (process, fields[19]), words, room, sum(map(int, fields[11:13])) / TICKS
 
 
+def row_of(crate, cells):
+    """Returns a row of the table that a run prints."""
+    return f"{crate:32}" + "".join(f"{cell!s:>8}" for cell in cells)
+
+
+def write(log):
+    """Puts the last table of a run's output into the page."""
+    lines = text_of(log).split("\n")
+    heads = [at for at, line in enumerate(lines) if line == row_of("crate", PARTS)]
+    if not heads:
+        sys.exit(f"{log}: no table of tools/gate.py")
+    rows = []
+    for line in lines[heads[-1] + 1 :]:
+        if not (m := re.fullmatch(r"(\w+)" + r" +(\d+)" * len(PARTS), line)):
+            break
+        rows.append((m[1], [int(cell) for cell in m.groups()[1:]]))
+    at = lines[heads[-1] + 1 + len(rows)].removeprefix("seconds of processor time at ")
+    large = [it for it in rows if sum(it[1]) >= SMALL]
+    small = [cells for _, cells in rows if sum(cells) < SMALL]
+    shown = [(f"`{crate}`", cells) for crate, cells in sorted(large, key=lambda it: -sum(it[1]))]
+    shown += [(f"{len(small)} others", [sum(column) for column in zip(*small)])] if small else []
+    shown += [("all", [sum(column) for column in zip(*(cells for _, cells in rows))])]
+    table = "".join(f"| {crate} | {' | '.join(map(str, cells))} |\n" for crate, cells in shown)
+    head = f"Seconds of processor time, at {at}, written by `tools/gate.py --write`:\n\n| Crate | Proof | Second proof | Edits | Tests |\n|---|---|---|---|---|\n"
+    page = text_of(PAGE)
+    new = re.sub(r"(?<=^## By crate\n\n).*?(?=^## )", lambda _: f"{head}{table}\n", page, flags=re.S | re.M)
+    with open(PAGE, "w", encoding="utf-8") as it:
+        it.write(new)
+
+
 def main(top, command):
     started, names, times = time.time(), {}, {}
     running = subprocess.Popen(command, cwd=top, start_new_session=True)
@@ -86,19 +125,20 @@ def main(top, command):
                 names[key] = crate, edit_in(room, f"{top}/crates/{crate}") if is_edit else "tests" if "--test" in words else "proof"
             times[key] = spent
         time.sleep(1)
-    sums, counts = collections.Counter(), collections.Counter()
+    sums = collections.Counter()
     for key, (crate, name) in names.items():
-        part = name if name in ("proof", "tests") else "edits"
-        sums[crate, part] += times[key]
-        counts[crate, part] += 1
-    print(f"\n{'crate':16}{'part':8}{'checks':>8}{'seconds':>10}")
-    for crate, part in sums:
-        print(f"{crate:16}{part:8}{counts[crate, part]:8}{sums[crate, part]:10.0f}")
+        sums[crate, {"none": "second"}.get(name, name if name in PARTS else "edits")] += times[key]
+    order = list(dict.fromkeys(crate for crate, _ in sums))
+    print("\n" + row_of("crate", PARTS))
+    for crate in order:
+        print(row_of(crate, [round(sums[crate, part]) for part in PARTS]))
+    git = ["git", "-C", top, "log", "-1", "--format=%h %cs"]
+    print(f"seconds of processor time at {subprocess.run(git, capture_output=True, text=True).stdout.strip()}, {os.cpu_count()} cores")
     used = resource.getrusage(resource.RUSAGE_CHILDREN)
     print(f"these in all: {sum(sums.values()) / 60:.1f} minutes of processor time")
     print(f"the command in all: {(used.ru_utime + used.ru_stime) / 60:.1f}, and {(time.time() - started) / 60:.1f} of the clock")
     print("\nthe dearest edits:")
-    edits = [(times[key], *names[key]) for key in names if names[key][1] not in ("proof", "tests")]
+    edits = [(times[key], *names[key]) for key in names if names[key][1] not in ("proof", "tests", "none")]
     for spent, crate, name in sorted(edits, reverse=True)[:20]:
         print(f"{spent:6.0f}  {crate}/{name}")
     return running.returncode
@@ -107,6 +147,8 @@ def main(top, command):
 if __name__ == "__main__":
     words = sys.argv[1:]
     top = HERE
+    if words[:1] == ["--write"] and len(words) == 2:
+        sys.exit(write(words[1]))
     if words[:1] == ["-C"] and len(words) > 1:
         top, words = os.path.realpath(words[1]), words[2:]
     sys.exit(main(top, words or ["rt", "ci"]))
