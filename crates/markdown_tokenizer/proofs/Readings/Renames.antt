@@ -1,5 +1,5 @@
 -- Events with other names: they stay balanced, and all else that is said of kinds, places and links stays.
-use Rattle.markdown_tokenizer.proofs.Prelude.{◌≡◌, ℕ, zero, suc, ◌+◌, ◌-◌, ◌<◌, List, [], ◌∷◌, ◌++◌, true, false, Option, Some, None, length, refl, sym, ap, ◌∙◌, subst, arith, take, drop, get_or, map, slice_get, option_map, All, AllPairs, length-map, map-append, append_assoc, append-nil, none-mapped, Event, Kind, Enter, Exit, Link, Point, IsBalanced, empty, span, EndsBelow, IsPointOf, IsShown, stands_before, next_of, previous_of, IsWellFormed, IsInShape, Given, HaveNoLinks}
+use Rattle.markdown_tokenizer.proofs.Prelude.{◌≡◌, ℕ, suc, ◌+◌, ◌-◌, ◌<◌, List, [], ◌∷◌, ◌++◌, true, false, Option, Some, None, length, refl, sym, ap, ◌∙◌, subst, arith, take, drop, get_or, map, slice_get, option_map, All, AllPairs, length-map, map-append, append_assoc, append-nil, none-mapped, Event, Kind, Enter, Exit, Link, Point, IsBalanced, empty, span, EndsBelow, IsPointOf, IsShown, stands_before, next_of, previous_of, IsWellFormed, IsInShape, Given, HaveNoLinks}
 use Rattle.std.proofs.Math.Seq.{take-append_seam, drop-append_seam}
 use Rattle.std.proofs.lemmas.List.{drop-drop, get_or-map, length-drop, length-take-le, take-append-drop}
 use Rattle.std.proofs.lemmas.Option.{slice_get-map, same_Some}

@@ -1,5 +1,5 @@
 -- Documents that begin alike: what a state sees at the bytes of a text is the same in both, so calls are alike.
-use Rattle.markdown_tokenizer.proofs.Prelude.{AllByRecursion, ◌≡◌, ◌-◌, ◌<◌, ◌≤◌, ◌==◌, ◌&&◌, ◌∙◌, ℕ, zero, suc, List, [], ◌∷◌, ◌++◌, Bool, true, false, cond, Some, inl, inr, length, refl, sym, ap, arith, subst, take, take-take, filter, not, slice_get, slice_get_cases, slice_index, length-append, get-front, and_parts, nat_tests, nat_lt, ◌||◌, append_assoc, cases_lt, slice_get-get_or, byte_of, Waits, every-append, every-map, every-get, end-after-append, Point, Seat, point, virtual, end_after, stands_before, shown, follows_cr, IsShown, denotes_same, Byte, Given, Text, Piece, pushed, passed, in_range, empty_text, followed_by, followed_by_all, FitsAfter, CanFollow, IsText, IsPlace, rest_at, Sight, sight, sight_in, seat_before, end_place, Rules, false≢true, Next, Stand, stand, stand_of, Turns, start_configuration, ParseOptions, whole_text}
+use Rattle.markdown_tokenizer.proofs.Prelude.{AllByRecursion, ◌≡◌, ◌<◌, ◌≤◌, ◌==◌, ◌&&◌, ◌∙◌, ℕ, zero, suc, List, [], ◌∷◌, ◌++◌, true, false, cond, Some, inl, inr, length, refl, sym, ap, arith, subst, take, take-take, filter, not, slice_get, slice_get_cases, slice_index, length-append, get-front, and_parts, nat_tests, nat_lt, ◌||◌, append_assoc, cases_lt, slice_get-get_or, byte_of, Waits, every-append, every-map, every-get, end-after-append, Point, Seat, point, virtual, end_after, stands_before, shown, follows_cr, IsShown, denotes_same, Byte, Given, Text, Piece, pushed, passed, in_range, empty_text, followed_by, followed_by_all, FitsAfter, CanFollow, IsText, IsPlace, rest_at, Sight, sight, sight_in, seat_before, end_place, Rules, false≢true, Next, Stand, stand, stand_of, Turns, start_configuration, ParseOptions, whole_text}
 use Rattle.std.proofs.lemmas.Bool.{cond_both}
 use Rattle.markdown_tokenizer.specs.Alike.{AreAlikeUpTo, CallsAreAlike, ReadingGoesOn, bytes_up_to}
 use Rattle.markdown_tokenizer.proofs.Positions.Order.{after-before, before-upto, upto-before, later-later, every-back, every-kept, filter-same, every-all, not-before}

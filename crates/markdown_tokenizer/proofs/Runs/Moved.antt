@@ -1,5 +1,5 @@
 -- A tokenizer is moved to another document that begins alike: what holds of its fields holds there.
-use Rattle.markdown_tokenizer.proofs.Prelude.{AllByRecursion, AreAtPlaces, AreNested, ◌≡◌, ◌≤◌, ◌<◌, ◌∙◌, ℕ, List, [], ◌∷◌, ◌++◌, Bool, true, false, cond, Option, Some, inl, inr, length, refl, sym, ap, arith, subst, take, filter, get_or, reverse, unwrap_or, byte_of, every-map, map, choice_of, Choice, TokenizerValue, IsPlaced, Waits, Nothing, Byte, End, Other, Event, Point, Seat, point, shown, stands_before, is_upto, denotes_same, IsShown, point_at, Given, Text, Piece, pushed, passed, empty_text, followed_by, followed_by_all, FitsAfter, CanFollow, IsDocument, IsText, Inside, IsSkip, is_kept, resumed, IsMade, IsPlace, given_by, given_of, seen, text_within, tab_of, end_point, end_place, seat_before, seats_between, position_from, standing, reach, can_feed, IsReadTo, IsWhatWaits, IsProgress, IsSound, ParseOptions}
+use Rattle.markdown_tokenizer.proofs.Prelude.{AllByRecursion, AreAtPlaces, AreNested, ◌≡◌, ◌≤◌, ◌<◌, ◌∙◌, ℕ, List, [], ◌∷◌, ◌++◌, Bool, true, false, cond, Option, Some, inl, inr, length, refl, sym, ap, subst, take, filter, get_or, reverse, unwrap_or, byte_of, every-map, map, choice_of, Choice, TokenizerValue, IsPlaced, Waits, Nothing, Byte, End, Other, Event, Point, Seat, point, shown, stands_before, is_upto, denotes_same, IsShown, point_at, Given, Text, Piece, pushed, passed, empty_text, followed_by, followed_by_all, FitsAfter, CanFollow, IsDocument, IsText, Inside, IsSkip, is_kept, resumed, IsMade, IsPlace, given_by, given_of, seen, text_within, tab_of, end_point, end_place, seat_before, seats_between, position_from, standing, reach, can_feed, IsReadTo, IsWhatWaits, IsProgress, IsSound, ParseOptions}
 use Rattle.std.proofs.lemmas.Bool.{cond_both}
 use Rattle.markdown_base.specs.declared.event.Name.{Name}
 use Rattle.markdown_tokenizer.specs.Alike.{AreAlikeUpTo, CanMove}

@@ -1,5 +1,5 @@
 -- The work from the start to a turn: what holds at a call, and after it.
-use Rattle.markdown_tokenizer.proofs.Prelude.{◌≡◌, ◌≢◌, ◌-◌, ◌<◌, List, [], Bool, false, inl, inr, refl, sym, ap, subst, ◌∙◌, arith, Name, State, Next, Retry, Ok, Nok, Error, Nothing, Byte, End, IsSome, lt-ltb, length, Given, IsText, followed_by_all, Configuration, Choice, TokenizerValue, at_configuration, fed, Sight, sight, Rules, stepped, DidStep, IsLawful, LeadsOn, budget, HoldsAll, Stops, settled_all, settled_to, EndsClosed, TakesUp, IsInText, answer_in, Waits, no_turn, ℕ, zero, suc, ◌≤◌, step_over, over_one, IsOver, HasReadOver}
+use Rattle.markdown_tokenizer.proofs.Prelude.{◌≡◌, ◌≢◌, ◌-◌, ◌<◌, List, [], Bool, false, inl, inr, refl, sym, ap, subst, ◌∙◌, arith, Name, State, Next, Retry, Ok, Nok, Error, Nothing, Byte, End, IsSome, lt-ltb, length, Given, IsText, followed_by_all, Configuration, Choice, TokenizerValue, at_configuration, fed, Sight, sight, Rules, stepped, DidStep, IsLawful, LeadsOn, budget, HoldsAll, Stops, settled_all, settled_to, EndsClosed, TakesUp, IsInText, answer_in, Waits, no_turn, ℕ, zero, suc, ◌≤◌, over_one, IsOver, HasReadOver}
 use Rattle.std.specs.declared.result.Result.TheVariants as result
 use Rattle.markdown_tokenizer.proofs.Readings.Bounds.{fed-ends, called-ends}
 use Rattle.markdown_tokenizer.proofs.Readings.Turns.{turns-by-one, turns-on, turns-settled, turn-feeds, turn-calls, waits-seen}
