@@ -1,11 +1,6 @@
 -- The classes of ASCII are those of std, but for U+0000: compared one by one.
-use Rattle.std.proofs.Common.{◌≡◌, ℕ, Bool, true, cond, ap, ◌∙◌, refl}
-use Rattle.std.specs.Prelude.{◌==◌, ◌||◌}
-use Rattle.std.specs.Char.{is_ascii_whitespace, is_ascii_punctuation}
-use Rattle.std.proofs.lemmas.Bool.{agree_below, agree_below_at}
-use Rattle.markdown_base.specs.declared.util.char.Kind.TheVariants.{Whitespace, Punctuation, Other}
+use Rattle.mdconstructs_attention.proofs.Prelude.{◌≡◌, ℕ, Bool, true, cond, ap, ◌∙◌, refl, ◌==◌, ◌||◌, is_ascii_whitespace, is_ascii_punctuation, agree_below, agree_below_at, Whitespace, Punctuation, Other, in_ranges, shown_char, AsciiHasItsClasses}
 use Rattle.mdconstructs_attention.specs.Unicode.{white_space, punctuation}
-use Rattle.mdconstructs_attention.specs.Classes.{in_ranges, shown_char, AsciiHasItsClasses}
 
 abbrev is_white : ℕ → Bool
 is_white char = in_ranges white_space (shown_char char)

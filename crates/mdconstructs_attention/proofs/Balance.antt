@@ -2,18 +2,7 @@
 --
 -- `Leaves es` says that a list opens and closes nothing, whatever is open. What is between two runs that wait leaves all as it was: what the
 -- first one opens, the runs behind it, and what the next one closes.
-use Rattle.std.proofs.Common.{◌≡◌, ℕ, zero, suc, Bool, true, false, cond, List, [], ◌∷◌, ◌++◌, Option, Some, None, refl, sym, ap, ◌∙◌, subst, append_assoc, append-nil}
-use Rattle.std.specs.Prelude.{nat_lt, ◌&&◌}
-use Rattle.markdown_base.specs.declared.event.Event.{Event}
-use Rattle.markdown_base.specs.declared.event.Name.{Name}
-use Rattle.markdown_base.specs.declared.event.Name.TheVariants.{Data, Emphasis, EmphasisText, Strong, StrongText}
-use Rattle.markdown_base.specs.declared.event.Point.{Point}
-use Rattle.markdown_base.specs.Events.{IsBalanced}
-use Rattle.markdown_edits.specs.OpenNames.{names_after, names_after_all}
-use Rattle.markdown_edits.proofs.Balanced.{names_after_all-append, names_after_balanced, balanced_from_open, same_name-refl}
-use Rattle.mdconstructs_attention.specs.Emphasis.{Run, may_pair, is_strong, markers_of, later, closings, openings, data_of, markers_of_all, head_events, tail_events, run_events, events_of_runs}
-use Rattle.mdconstructs_attention.specs.InTurn.{Waiting, SoFar, Found, opening, closing, put_behind, put, put_back, last_fitting, close, in_turn_from, all_waiting, none_read, paired_in_turn}
-use Rattle.mdconstructs_attention.specs.LawStatements.{AreFresh, LeavesBalanced}
+use Rattle.mdconstructs_attention.proofs.Prelude.{◌≡◌, ℕ, zero, suc, Bool, true, false, cond, List, [], ◌∷◌, ◌++◌, Option, Some, None, refl, sym, ap, ◌∙◌, subst, append_assoc, append-nil, nat_lt, ◌&&◌, Event, Name, Data, Emphasis, EmphasisText, Strong, StrongText, Point, IsBalanced, names_after, names_after_all, names_after_all-append, names_after_balanced, balanced_from_open, same_name-refl, Run, may_pair, is_strong, markers_of, later, closings, openings, data_of, markers_of_all, head_events, tail_events, run_events, events_of_runs, Waiting, SoFar, Found, opening, closing, put_behind, put, put_back, last_fitting, close, in_turn_from, all_waiting, none_read, paired_in_turn, AreFresh, LeavesBalanced}
 use Rattle.mdconstructs_attention.proofs.InTurn.{paired-in-turn}
 
 -- ---- lists that leave what is open

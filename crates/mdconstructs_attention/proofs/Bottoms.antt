@@ -1,13 +1,5 @@
 -- Below a height that a search of its kind has seen nothing fits: this stays so.
-use Rattle.std.proofs.Common.{◌≡◌, ◌≢◌, ℕ, zero, suc, ◌+◌, ◌-◌, ◌==◌, ◌<◌, ◌≤◌, Bool, true, false, cond, List, [], ◌∷◌, ◌++◌, Option, Some, None, take, length, set, refl, sym, ap, ◌∙◌, arith, inl, inr, length-append}
-use Rattle.std.proofs.lemmas.List.{get_or-set_same, get_or-set_other, length-take-le}
-use Rattle.std.proofs.lemmas.Bool.{cases_lt}
-use Rattle.std.proofs.lemmas.Option.{slice_get_within}
-use Rattle.std.specs.Prelude.{slice_get, slice_index, ◌&&◌, ◌||◌, not, ◌⊎◌}
-use Rattle.std.proofs.lemmas.Bool.Decides.{nat_tests}
-use Rattle.mdconstructs_attention.specs.Emphasis.{Run, same, may_pair, is_strong}
-use Rattle.mdconstructs_attention.specs.InTurn.{opening, closing}
-use Rattle.mdconstructs_attention.specs.Searches.{last_of, may_pair_there, run_there, with_pair, with_pair_of, third, kind, AreBottoms}
+use Rattle.mdconstructs_attention.proofs.Prelude.{◌≡◌, ◌≢◌, ℕ, zero, suc, ◌+◌, ◌-◌, ◌==◌, ◌<◌, ◌≤◌, Bool, true, false, cond, List, [], ◌∷◌, ◌++◌, Option, Some, None, take, length, set, refl, sym, ap, ◌∙◌, arith, inl, inr, length-append, get_or-set_same, get_or-set_other, length-take-le, cases_lt, slice_get_within, slice_get, slice_index, ◌&&◌, ◌||◌, not, ◌⊎◌, nat_tests, Run, same, may_pair, is_strong, opening, closing, last_of, may_pair_there, run_there, with_pair, with_pair_of, third, kind, AreBottoms}
 
 -- ---- the kind of a run
 

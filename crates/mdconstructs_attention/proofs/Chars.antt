@@ -1,13 +1,5 @@
 -- The one character of bytes.
-use Rattle.std.proofs.Common.{◌≡◌, ℕ, ◌-◌, min, take, drop, Bool, true, false, cond, List, [], ◌∷◌, ◌++◌, Option, Some, None, inl, inr, length, refl, sym, ap, ◌∙◌, arith}
-use Rattle.std.specs.Prelude.{◌==◌, slice_get, IsUtf8, chars, MatchOption}
-use Rattle.std.specs.Char.{encode_utf8}
-use Rattle.std.specs.Option.{is_some}
-use Rattle.std.specs.Str.{is_utf8}
-use Rattle.std.proofs.lemmas.Bool.{cases_Bool, true≢false}
-use Rattle.std.proofs.lemmas.List.{nil_from_length, take_all, drop_min, length-drop}
-use Rattle.std.proofs.lemmas.Str.{IsUtf8-from_is_utf8, is_utf8-from_IsUtf8, chars-nil, chars_past_char}
-use Rattle.mdconstructs_attention.specs.Classes.{only, char_of, class_of, class_at_end}
+use Rattle.mdconstructs_attention.proofs.Prelude.{◌≡◌, ℕ, ◌-◌, min, take, drop, Bool, true, false, cond, List, [], ◌∷◌, ◌++◌, Option, Some, None, inl, inr, length, refl, sym, ap, ◌∙◌, arith, ◌==◌, slice_get, IsUtf8, chars, MatchOption, encode_utf8, is_some, is_utf8, cases_Bool, true≢false, nil_from_length, take_all, drop_min, length-drop, IsUtf8-from_is_utf8, is_utf8-from_IsUtf8, chars-nil, chars_past_char, only, char_of, class_of, class_at_end}
 
 only-first : (c : ℕ) (cs : List ℕ) → only (c ∷ cs) ≡ cond (is_some (slice_get cs 0)) None (Some c)
 only-first c [] = refl

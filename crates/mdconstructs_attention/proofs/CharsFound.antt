@@ -1,14 +1,5 @@
 -- The characters with which bytes begin and end are those whose UTF-8 they begin and end with.
-use Rattle.std.proofs.Common.{◌≡◌, ℕ, suc, ◌-◌, ◌≤◌, Bool, true, false, cond, List, [], ◌∷◌, ◌++◌, Option, Some, None, ◌⊎◌, inl, inr, take, drop, length, get_or, refl, sym, ap, ◌∙◌, subst, arith}
-use Rattle.std.specs.Prelude.{slice_index, IsUtf8, IsCharBoundary, chars}
-use Rattle.std.specs.Char.{encode_utf8, IsScalar}
-use Rattle.std.specs.Option.{option_or, is_some, unwrap_or}
-use Rattle.std.specs.Str.{is_utf8, encode_utf8_all, all_scalars}
-use Rattle.std.proofs.lemmas.Bool.{cases_Bool, false≢true, and_parts, and_from, cases_lt}
-use Rattle.std.proofs.lemmas.List.{append-nil, take-append-drop, drop-append-le, length-append}
-use Rattle.std.proofs.lemmas.Str.{IsUtf8-from_is_utf8, is_utf8-from_IsUtf8, IsUtf8-encode, IsUtf8-take, IsCharBoundary-start, chars-append, chars-encodes, encodes-chars, scalars-chars, length-encode}
-use Rattle.std.proofs.Math.Seq.{drop-append_seam, take-append_seam}
-use Rattle.mdconstructs_attention.specs.Classes.{only, char_of, first_char, last_bytes, last_char, BeginWith, EndWith, CharsAreUtf8}
+use Rattle.mdconstructs_attention.proofs.Prelude.{◌≡◌, ℕ, suc, ◌-◌, ◌≤◌, Bool, true, false, cond, List, [], ◌∷◌, ◌++◌, Option, Some, None, ◌⊎◌, inl, inr, take, drop, length, get_or, refl, sym, ap, ◌∙◌, subst, arith, slice_index, IsUtf8, IsCharBoundary, chars, encode_utf8, IsScalar, option_or, is_some, unwrap_or, is_utf8, encode_utf8_all, all_scalars, cases_Bool, false≢true, and_parts, and_from, cases_lt, append-nil, take-append-drop, drop-append-le, length-append, IsUtf8-from_is_utf8, is_utf8-from_IsUtf8, IsUtf8-encode, IsUtf8-take, IsCharBoundary-start, chars-append, chars-encodes, encodes-chars, scalars-chars, length-encode, drop-append_seam, take-append_seam, only, char_of, first_char, last_bytes, last_char, BeginWith, EndWith, CharsAreUtf8}
 
 -- ---- one character
 

@@ -1,9 +1,6 @@
 -- The tables of the code are the lists of the definitions, and a character's class is read off them.
-use Rattle.std.proofs.Common.{◌≡◌, ℕ, Bool, cond, refl, sym, ap, ◌∙◌}
-use Rattle.markdown_base.specs.declared.util.char.Kind.TheVariants.{Whitespace, Punctuation, Other}
-use Rattle.mdconstructs_attention.specs.declared.unicode.TheConstants.{WHITE_SPACE, PUNCTUATION}
+use Rattle.mdconstructs_attention.proofs.Prelude.{◌≡◌, ℕ, Bool, cond, refl, sym, ap, ◌∙◌, Whitespace, Punctuation, Other, WHITE_SPACE, PUNCTUATION, in_ranges, shown_char, class_of}
 use Rattle.mdconstructs_attention.specs.Unicode.{white_space, punctuation}
-use Rattle.mdconstructs_attention.specs.Classes.{in_ranges, shown_char, class_of}
 
 coded-white : WHITE_SPACE ≡ white_space
 unfolding white_space

@@ -1,10 +1,5 @@
 -- What the loops that pair runs cost: what is to be paid pays for it.
-use Rattle.std.proofs.Common.{◌≡◌, ℕ, zero, suc, ◌+◌, ◌-◌, ◌<◌, ◌≤◌, List, [], ◌∷◌, Some, length, set, refl, ap, ◌∙◌, arith}
-use Rattle.std.specs.Prelude.{slice_get, slice_index}
-use Rattle.mdconstructs_attention.specs.Emphasis.{Run, is_strong}
-use Rattle.mdconstructs_attention.specs.InTurn.{opening, closing}
-use Rattle.mdconstructs_attention.specs.Searches.{with_pair, with_pair_of}
-use Rattle.mdconstructs_attention.specs.Costs.{markers_left, above}
+use Rattle.mdconstructs_attention.proofs.Prelude.{◌≡◌, ℕ, zero, suc, ◌+◌, ◌-◌, ◌<◌, ◌≤◌, List, [], ◌∷◌, Some, length, set, refl, ap, ◌∙◌, arith, slice_get, slice_index, Run, is_strong, opening, closing, with_pair, with_pair_of, markers_left, above}
 use Rattle.mdconstructs_attention.proofs.Steps.{fewer}
 
 -- ---- the markers that are left

@@ -1,14 +1,7 @@
 -- `paired` gives what reading the runs in turn gives.
 --
 -- In turn, a pair changes two runs in their places; a delimiter on the stack stands for a run that waits, with as many markers left.
-use Rattle.std.proofs.Common.{◌≡◌, ◌≢◌, ℕ, zero, suc, ◌+◌, ◌-◌, ◌<◌, ◌≤◌, Bool, true, false, cond, List, [], ◌∷◌, ◌++◌, Option, Some, None, inl, inr, map, length, refl, sym, ap, ◌∙◌, subst, arith, append_assoc, append-nil, length-append}
-use Rattle.std.specs.Prelude.{◌==◌, ◌&&◌, ◌⊎◌, nat_lt, reverse}
-use Rattle.std.specs.List.{filter}
-use Rattle.std.proofs.lemmas.Bool.{and_parts, eqb-true, eq-eqb, ne_eqb}
-use Rattle.std.proofs.lemmas.List.{map-append, reverse-append}
-use Rattle.std.proofs.lemmas.List.Elements.{filter-append}
-use Rattle.mdconstructs_attention.specs.Emphasis.{Run, Pair, Delimiter, may_pair, is_strong, markers_of, markers_of_all, opens_yet, closes_yet, gave, on_stack, look_back, close_pairs, pairs_from, strengths, in_lists, in_pairs, all_in_pairs, paired}
-use Rattle.mdconstructs_attention.specs.InTurn.{Waiting, SoFar, Found, opening, closing, put_behind, put, put_back, last_fitting, close, in_turn_from, all_waiting, all_runs, none_read, paired_in_turn}
+use Rattle.mdconstructs_attention.proofs.Prelude.{◌≡◌, ◌≢◌, ℕ, zero, suc, ◌+◌, ◌-◌, ◌<◌, ◌≤◌, Bool, true, false, cond, List, [], ◌∷◌, ◌++◌, Option, Some, None, inl, inr, map, length, refl, sym, ap, ◌∙◌, subst, arith, append_assoc, append-nil, length-append, ◌==◌, ◌&&◌, ◌⊎◌, nat_lt, reverse, filter, and_parts, eqb-true, eq-eqb, ne_eqb, map-append, reverse-append, filter-append, Run, Pair, Delimiter, may_pair, is_strong, markers_of, markers_of_all, opens_yet, closes_yet, gave, on_stack, look_back, close_pairs, pairs_from, strengths, in_lists, in_pairs, all_in_pairs, paired, Waiting, SoFar, Found, opening, closing, put_behind, put, put_back, last_fitting, close, in_turn_from, all_waiting, all_runs, none_read, paired_in_turn}
 
 -- ---- a pair more
 

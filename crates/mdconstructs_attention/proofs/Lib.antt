@@ -8,6 +8,7 @@ mod CodeTables
 mod Costs
 mod InTurn
 pub mod PairsKeep
+mod Prelude
 mod Ranges
 pub mod RunEdits
 mod RunPlaces

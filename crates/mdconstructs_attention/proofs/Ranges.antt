@@ -1,8 +1,5 @@
 -- A search by halves among sorted ranges.
-use Rattle.std.proofs.Common.{◌≡◌, ℕ, zero, suc, ◌+◌, ◌<◌, ◌≤◌, Bool, true, false, List, [], ◌∷◌, length, take, drop, get_or, refl, ap, ◌∙◌, arith}
-use Rattle.std.specs.Prelude.{◌&&◌, ◌||◌, nat_le}
-use Rattle.std.proofs.lemmas.Bool.{and_parts, and_from, and_left, and_right, leb-true, le-leb, lt-leb}
-use Rattle.mdconstructs_attention.specs.Classes.{in_ranges, are_sorted}
+use Rattle.mdconstructs_attention.proofs.Prelude.{◌≡◌, ℕ, zero, suc, ◌+◌, ◌<◌, ◌≤◌, Bool, true, false, List, [], ◌∷◌, length, take, drop, get_or, refl, ap, ◌∙◌, arith, ◌&&◌, ◌||◌, nat_le, and_parts, and_from, and_left, and_right, leb-true, le-leb, lt-leb, in_ranges, are_sorted}
 
 -- the first range is sorted in, and so are the others behind it
 module _ (from : ℕ) (r : ℕ × ℕ) (rs : List (ℕ × ℕ)) (sorted : are_sorted from (r ∷ rs) ≡ true) where

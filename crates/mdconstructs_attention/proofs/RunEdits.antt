@@ -1,21 +1,8 @@
 -- One edit for each run leaves emphasis.
-use Rattle.std.proofs.Common.{◌≡◌, ℕ, zero, suc, ◌+◌, ◌-◌, ◌<◌, Bool, List, [], ◌∷◌, ◌++◌, Option, None, map, take, drop, length, refl, sym, ap, ◌∙◌, subst, arith, append_assoc, length-append}
-use Rattle.std.specs.Prelude.{IfSome}
-use Rattle.std.proofs.Math.Seq.{take-append_seam, drop-append-add}
-use Rattle.markdown_base.specs.declared.event.Event.{Event}
-use Rattle.markdown_base.specs.declared.event.Point.{Point}
-use Rattle.markdown_base.specs.Events.{EachEnd, EndsBelow, IsBalanced}
-use Rattle.markdown_edits.specs.Edits.{AreDisjoint}
-use Rattle.markdown_edits.specs.Spliced.{spliced, relinked_by}
-use Rattle.markdown_edits.proofs.Edits.Splices.{edited-spliced}
-use Rattle.mdconstructs_attention.specs.Emphasis.{Run, closings, paired, tail_events, head_events, run_events, events_of_runs, openings, data_of, later, markers_of, markers_of_all}
-use Rattle.mdconstructs_attention.specs.Runs.{runs_in, end_before, text_before, text_behind}
+use Rattle.mdconstructs_attention.proofs.Prelude.{◌≡◌, ℕ, zero, suc, ◌+◌, ◌-◌, ◌<◌, Bool, List, [], ◌∷◌, ◌++◌, Option, None, map, take, drop, length, refl, sym, ap, ◌∙◌, subst, arith, append_assoc, length-append, IfSome, take-append_seam, drop-append-add, Event, Point, EachEnd, EndsBelow, IsBalanced, AreDisjoint, spliced, relinked_by, edited-spliced, Run, closings, paired, tail_events, head_events, run_events, events_of_runs, openings, data_of, later, markers_of, markers_of_all, runs_in, end_before, text_before, text_behind, in_place, edits_of, index_of, HasRunsAt, EditsMakeEmphasis, EmphasisCanBeMade, HaveNoLinks, no-links-append, no-links-below, no-links-drop, no-links-take, unlinked-same}
 use Rattle.mdconstructs_attention.proofs.RunTexts.{runs-and-texts}
-use Rattle.mdconstructs_attention.specs.RunEdits.{in_place, edits_of, index_of, HasRunsAt, EditsMakeEmphasis, EmphasisCanBeMade}
-use Rattle.markdown_tokenizer.specs.Plain.{HaveNoLinks}
 use Rattle.mdconstructs_attention.proofs.Balance.{leaves-balanced}
 use Rattle.mdconstructs_attention.proofs.PairsKeep.{pairs-keep-indices}
-use Rattle.markdown_tokenizer.proofs.Readings.Plain.{no-links-append, no-links-below, no-links-drop, no-links-take, unlinked-same}
 
 -- ---- edits
 

@@ -1,19 +1,5 @@
 -- The edits of runs, one by one, and that the runs of a list have room.
-use Rattle.std.proofs.Common.{◌≡◌, ℕ, zero, suc, ◌+◌, ◌-◌, ◌<◌, ◌≤◌, cond, List, [], ◌∷◌, ◌++◌, Option, Some, inl, inr, map, take, length, get_or, refl, sym, ap, ◌∙◌, subst, arith}
-use Rattle.std.specs.Prelude.{◌==◌, ◌&&◌, slice_get}
-use Rattle.std.proofs.lemmas.Bool.{cases_Bool}
-use Rattle.std.proofs.lemmas.Bool.Decides.{nat_tests}
-use Rattle.std.proofs.lemmas.List.{map-append}
-use Rattle.std.proofs.lemmas.List.Elements.{All-head, All-tail}
-use Rattle.std.proofs.Math.Seq.{take-suc}
-use Rattle.markdown_base.specs.declared.event.Event.{Event}
-use Rattle.markdown_edits.specs.Edits.{Edit, edit_at, put_after, removal_at}
-use Rattle.mdconstructs_attention.specs.declared.pairs.Delimiters.{Delimiters}
-use Rattle.mdconstructs_attention.specs.Emphasis.{Run}
-use Rattle.mdconstructs_attention.specs.Places.{HasRoom, markers, standing, AreApart, AllHaveRoom, ArePlacesInside}
-use Rattle.mdconstructs_attention.specs.RunEdits.{in_place, edits_of, index_of}
-use Rattle.mdconstructs_attention.specs.Runs.{index_of_event, is_sequence, depth_after, run_at, runs_from}
-use Rattle.mdconstructs_attention.specs.Searches.{as_run}
+use Rattle.mdconstructs_attention.proofs.Prelude.{◌≡◌, ℕ, zero, suc, ◌+◌, ◌-◌, ◌<◌, ◌≤◌, cond, List, [], ◌∷◌, ◌++◌, Option, Some, inl, inr, map, take, length, get_or, refl, sym, ap, ◌∙◌, subst, arith, ◌==◌, ◌&&◌, slice_get, cases_Bool, nat_tests, map-append, All-head, All-tail, take-suc, Event, Edit, edit_at, put_after, removal_at, Delimiters, Run, HasRoom, markers, standing, AreApart, AllHaveRoom, ArePlacesInside, in_place, edits_of, index_of, index_of_event, is_sequence, depth_after, run_at, runs_from, as_run}
 use Rattle.mdconstructs_attention.proofs.RunTexts.{HasRuns}
 
 -- ---- one edit more, behind the others

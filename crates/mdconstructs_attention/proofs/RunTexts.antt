@@ -1,22 +1,5 @@
 -- The runs of a balanced list: between them the list is balanced, so that emphasis can take their place.
-use Rattle.std.proofs.Common.{◌≡◌, ℕ, suc, ◌+◌, ◌-◌, ◌<◌, ◌≤◌, Bool, true, false, cond, List, [], ◌∷◌, ◌++◌, Option, Some, None, map, take, drop, length, refl, sym, ap, ◌∙◌, subst, inl, inr, arith, append_assoc, length-append}
-use Rattle.std.specs.Prelude.{◌==◌, ◌&&◌, not, nat_lt, slice_get}
-use Rattle.std.proofs.lemmas.Bool.{cases_Bool}
-use Rattle.std.proofs.lemmas.List.{drop-drop, length-drop}
-use Rattle.std.proofs.Math.Seq.{take-append_seam, drop-append-add}
-use Rattle.markdown_base.proofs.Common.{and-right, and-false-never}
-use Rattle.markdown_base.specs.declared.event.Event.{Event}
-use Rattle.markdown_base.specs.declared.event.Kind.{Kind}
-use Rattle.markdown_base.specs.declared.event.Kind.TheVariants.{Enter, Exit}
-use Rattle.markdown_base.specs.declared.event.Name.{Name}
-use Rattle.markdown_base.specs.declared.event.Name.TheVariants.{AttentionSequence}
-use Rattle.markdown_base.specs.Events.{IsBalanced, is_enter, same_name}
-use Rattle.markdown_edits.specs.OpenNames.{names_after, names_after_all}
-use Rattle.markdown_edits.proofs.Balanced.{names_after_all-append, balanced_from_open, names-none, names_after_balanced, same_name-refl, same_name-true}
-use Rattle.mdconstructs_attention.specs.Emphasis.{Run}
-use Rattle.mdconstructs_attention.specs.Runs.{index_of_event, is_sequence, depth_after, run_at, runs_from, runs_in, end_before, text_before, text_behind}
-use Rattle.mdconstructs_attention.specs.RunEdits.{index_of, HasRunsAt}
-use Rattle.mdconstructs_attention.specs.LawStatements.{AreFresh}
+use Rattle.mdconstructs_attention.proofs.Prelude.{◌≡◌, ℕ, suc, ◌+◌, ◌-◌, ◌<◌, ◌≤◌, Bool, true, false, cond, List, [], ◌∷◌, ◌++◌, Option, Some, None, map, take, drop, length, refl, sym, ap, ◌∙◌, subst, inl, inr, arith, append_assoc, length-append, ◌==◌, ◌&&◌, not, nat_lt, slice_get, cases_Bool, drop-drop, length-drop, take-append_seam, drop-append-add, and-right, and-false-never, Event, Kind, Enter, Exit, Name, AttentionSequence, IsBalanced, is_enter, same_name, names_after, names_after_all, names_after_all-append, balanced_from_open, names-none, names_after_balanced, same_name-refl, same_name-true, Run, index_of_event, is_sequence, depth_after, run_at, runs_from, runs_in, end_before, text_before, text_behind, index_of, HasRunsAt, AreFresh}
 
 -- What a list holds from an index on: before each run a balanced text, and then its enter and its exit; and a balanced text behind the last one
 abbrev pub HasRuns : ℕ → List Run → List Event → Type 0

@@ -1,16 +1,5 @@
 -- The runs of a list, from an index on.
-use Rattle.std.proofs.Common.{◌≡◌, ℕ, zero, suc, ◌+◌, ◌<◌, ◌≤◌, Bool, true, false, cond, List, [], ◌∷◌, ◌++◌, Option, Some, None, map, drop, length, refl, sym, ap, ◌∙◌, arith, append_assoc}
-use Rattle.std.specs.Prelude.{◌==◌, ◌&&◌, slice_get, slice_index_or}
-use Rattle.std.proofs.lemmas.List.{drop_more, map-append, length-drop}
-use Rattle.markdown_base.specs.declared.event.Event.{Event}
-use Rattle.markdown_base.specs.declared.event.Kind.{Kind as EventKind}
-use Rattle.markdown_base.specs.declared.event.Kind.TheVariants.{Enter, Exit}
-use Rattle.markdown_base.specs.declared.event.Name.TheVariants.{AttentionSequence}
-use Rattle.mdconstructs_attention.specs.declared.pairs.Delimiters.{Delimiters}
-use Rattle.mdconstructs_attention.specs.Emphasis.{Run}
-use Rattle.mdconstructs_attention.specs.Searches.{as_run}
-use Rattle.mdconstructs_attention.specs.Runs.{index_of_event, run_at, is_sequence, depth_after, runs_from}
-use Rattle.std.proofs.lemmas.Bool.{and_from}
+use Rattle.mdconstructs_attention.proofs.Prelude.{◌≡◌, ℕ, zero, suc, ◌+◌, ◌<◌, ◌≤◌, Bool, true, false, cond, List, [], ◌∷◌, ◌++◌, Option, Some, None, map, drop, length, refl, sym, ap, ◌∙◌, arith, append_assoc, ◌==◌, ◌&&◌, slice_get, slice_index_or, drop_more, map-append, length-drop, Event, EventKind, Enter, Exit, AttentionSequence, Delimiters, Run, as_run, index_of_event, run_at, is_sequence, depth_after, runs_from, and_from}
 
 -- what stands for an event behind the end of a list
 abbrev pub no_event : Event

@@ -1,10 +1,5 @@
 -- A search among the runs that wait, one step at a time.
-use Rattle.std.proofs.Common.{◌≡◌, ℕ, suc, cond, List, Some, map, ap, ◌∙◌}
-use Rattle.std.specs.Prelude.{slice_get, option_map}
-use Rattle.std.proofs.lemmas.Option.{slice_get-map}
-use Rattle.mdconstructs_attention.specs.declared.pairs.Delimiters.{Delimiters}
-use Rattle.mdconstructs_attention.specs.Emphasis.{Run, may_pair}
-use Rattle.mdconstructs_attention.specs.Searches.{as_run, last_of, may_pair_there, run_there}
+use Rattle.mdconstructs_attention.proofs.Prelude.{◌≡◌, ℕ, suc, cond, List, Some, map, ap, ◌∙◌, slice_get, option_map, slice_get-map, Delimiters, Run, may_pair, as_run, last_of, may_pair_there, run_there}
 
 pub search-step : (ds : List Delimiters) (openers : List ℕ) (r : Run) (k i : ℕ) (d : Delimiters) → slice_get openers k ≡ Some i → slice_get ds i ≡ Some d
     → last_of (map as_run ds) openers r (suc k) ≡ cond (may_pair (as_run d) r) (Some k) (last_of (map as_run ds) openers r k)

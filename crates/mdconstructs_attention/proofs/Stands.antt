@@ -1,14 +1,5 @@
 -- What the code keeps by indices stands for the runs that wait and the runs behind them.
-use Rattle.std.proofs.Common.{◌≡◌, ℕ, zero, suc, ◌+◌, ◌<◌, ◌≤◌, get_or, Bool, true, false, cond, List, [], ◌∷◌, ◌++◌, Option, Some, None, take, length, set, refl, sym, ap, ◌∙◌, subst, arith, append_assoc, append-nil, length-append, inl, inr}
-use Rattle.std.specs.Prelude.{slice_get, ◌⊎◌, ◌&&◌, nat_lt}
-use Rattle.std.proofs.Math.Seq.{set-append_seam, get_or-append_seam, take-append_seam, take-append-add}
-use Rattle.std.proofs.lemmas.List.{get_or_append_left}
-use Rattle.std.proofs.lemmas.Bool.{cases_lt}
-use Rattle.std.proofs.lemmas.Option.{slice_get_within}
-use Rattle.markdown_edits.proofs.Edits.Survivors.{slice_get-behind}
-use Rattle.mdconstructs_attention.specs.Emphasis.{Run, may_pair, is_strong, closes_yet}
-use Rattle.mdconstructs_attention.specs.InTurn.{Waiting, SoFar, Found, opening, closing, put, put_behind, put_back, close, last_fitting, all_waiting, all_runs}
-use Rattle.mdconstructs_attention.specs.Searches.{last_of, may_pair_there, run_there, with_pair, with_pair_of, positions, Stands, StandsAt}
+use Rattle.mdconstructs_attention.proofs.Prelude.{◌≡◌, ℕ, zero, suc, ◌+◌, ◌<◌, ◌≤◌, get_or, Bool, true, false, cond, List, [], ◌∷◌, ◌++◌, Option, Some, None, take, length, set, refl, sym, ap, ◌∙◌, subst, arith, append_assoc, append-nil, length-append, inl, inr, slice_get, ◌⊎◌, ◌&&◌, nat_lt, set-append_seam, get_or-append_seam, take-append_seam, take-append-add, get_or_append_left, cases_lt, slice_get_within, slice_get-behind, Run, may_pair, is_strong, closes_yet, Waiting, SoFar, Found, opening, closing, put, put_behind, put_back, close, last_fitting, all_waiting, all_runs, last_of, may_pair_there, run_there, with_pair, with_pair_of, positions, Stands, StandsAt}
 use Rattle.mdconstructs_attention.proofs.InTurn.{all-put_back, all-put_behind}
 
 -- the element after a list

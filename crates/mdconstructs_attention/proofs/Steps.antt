@@ -1,13 +1,5 @@
 -- What the code reads is the run that is next.
-use Rattle.std.proofs.Common.{◌≡◌, ℕ, ◌<◌, ◌-◌, Bool, true, false, arith, List, Option, Some, map, length, get_or, sym, ap, ◌∙◌, subst}
-use Rattle.std.specs.Prelude.{slice_get, option_map, nat_lt, ◌&&◌}
-use Rattle.std.proofs.lemmas.Bool.Decides.{nat_tests}
-use Rattle.std.proofs.lemmas.List.{length-map}
-use Rattle.std.proofs.lemmas.Option.{slice_get-map, slice_get-get_or}
-use Rattle.mdconstructs_attention.specs.declared.pairs.Delimiters.{Delimiters}
-use Rattle.mdconstructs_attention.specs.Emphasis.{Run, markers_of}
-use Rattle.mdconstructs_attention.specs.InTurn.{SoFar}
-use Rattle.mdconstructs_attention.specs.Searches.{as_run, last_of, StandsAt, IsNext}
+use Rattle.mdconstructs_attention.proofs.Prelude.{◌≡◌, ℕ, ◌<◌, ◌-◌, Bool, true, false, arith, List, Option, Some, map, length, get_or, sym, ap, ◌∙◌, subst, slice_get, option_map, nat_lt, ◌&&◌, nat_tests, length-map, slice_get-map, slice_get-get_or, Delimiters, Run, markers_of, SoFar, as_run, last_of, StandsAt, IsNext}
 use Rattle.mdconstructs_attention.proofs.Stands.{closer-run, closer-inside}
 
 pub next-inside : (ds : List Delimiters) (openers : List ℕ) (closer : ℕ) → IsNext (map as_run ds) openers closer → closer < length ds

@@ -1,12 +1,5 @@
 -- The runs of a text and the same runs with their pairs, one by one.
-use Rattle.std.proofs.Common.{◌≡◌, ℕ, ◌+◌, Bool, true, false, cond, List, [], ◌∷◌, Option, Some, None, map, refl, sym, ap, ◌∙◌, arith}
-use Rattle.std.specs.Prelude.{◌==◌, ◌&&◌, slice_get}
-use Rattle.markdown_base.specs.declared.event.Event.{Event}
-use Rattle.mdconstructs_attention.specs.Emphasis.{Run, markers_of_all, paired}
-use Rattle.mdconstructs_attention.specs.Places.{Standing, markers, standing}
-use Rattle.mdconstructs_attention.specs.Runs.{index_of_event, is_sequence, depth_after, run_at, runs_from, runs_in}
-use Rattle.mdconstructs_attention.specs.LawStatements.{AreFresh}
-use Rattle.mdconstructs_attention.specs.Beside.{AreBeside, AreUnpaired}
+use Rattle.mdconstructs_attention.proofs.Prelude.{◌≡◌, ℕ, ◌+◌, Bool, true, false, cond, List, [], ◌∷◌, Option, Some, None, map, refl, sym, ap, ◌∙◌, arith, ◌==◌, ◌&&◌, slice_get, Event, Run, markers_of_all, paired, Standing, markers, standing, index_of_event, is_sequence, depth_after, run_at, runs_from, runs_in, AreFresh, AreBeside, AreUnpaired}
 use Rattle.mdconstructs_attention.proofs.Beside.Neighbours.{pairs-beside}
 use Rattle.mdconstructs_attention.proofs.PairsKeep.{pairs-keep}
 

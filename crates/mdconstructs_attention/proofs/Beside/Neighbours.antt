@@ -2,11 +2,7 @@
 --
 -- A run pairs first with the last one that waits and fits. If runs are between the two, they never wait again, and the one directly before it
 -- has opened nothing; if none is, the two have one marker.
-use Rattle.std.proofs.Common.{◌≡◌, ℕ, zero, suc, Bool, true, false, cond, List, [], ◌∷◌, ◌++◌, Option, Some, None, inl, inr, refl, sym, ap, ◌∙◌, subst, append_assoc, append-nil}
-use Rattle.std.specs.Prelude.{◌⊎◌, ◌&&◌, nat_lt}
-use Rattle.mdconstructs_attention.specs.Emphasis.{Run, same, may_pair, is_strong}
-use Rattle.mdconstructs_attention.specs.InTurn.{Waiting, SoFar, Found, opening, closing, put_behind, put, put_back, last_fitting, close, in_turn_from, all_waiting, all_runs, none_read, paired_in_turn}
-use Rattle.mdconstructs_attention.specs.Beside.{AreBeside, AreUnpaired, PairsBeside}
+use Rattle.mdconstructs_attention.proofs.Prelude.{◌≡◌, ℕ, zero, suc, Bool, true, false, cond, List, [], ◌∷◌, ◌++◌, Option, Some, None, inl, inr, refl, sym, ap, ◌∙◌, subst, append_assoc, append-nil, ◌⊎◌, ◌&&◌, nat_lt, Run, same, may_pair, is_strong, Waiting, SoFar, Found, opening, closing, put_behind, put, put_back, last_fitting, close, in_turn_from, all_waiting, all_runs, none_read, paired_in_turn, AreBeside, AreUnpaired, PairsBeside}
 use Rattle.mdconstructs_attention.proofs.InTurn.{paired-in-turn}
 use Rattle.mdconstructs_attention.proofs.PairsKeep.{HaveLeft, found-all, back, put-is}
 use Rattle.mdconstructs_attention.proofs.RunTexts.{and-left}

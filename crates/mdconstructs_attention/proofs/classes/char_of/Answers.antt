@@ -1,6 +1,4 @@
-use Rattle.std.proofs.Common.{cond, None, sym, ap, ◌∙◌, subst}
-use Rattle.std.specs.Str.{IsUtf8}
-use Rattle.mdconstructs_attention.specs.Classes.{char_of}
+use Rattle.mdconstructs_attention.proofs.Prelude.{cond, None, sym, ap, ◌∙◌, subst, IsUtf8, char_of}
 use Rattle.mdconstructs_attention.proofs.Chars.{no-char, char-read}
 use Rattle.mdconstructs_attention.proofs.classes.char_of.Goals as goal
 

@@ -1,5 +1,4 @@
-use Rattle.std.proofs.Common.{◌-◌, length, take, drop, ap, ◌∙◌}
-use Rattle.mdconstructs_attention.specs.Classes.{class_at_end, first_char}
+use Rattle.mdconstructs_attention.proofs.Prelude.{◌-◌, length, take, drop, ap, ◌∙◌, class_at_end, first_char}
 use Rattle.mdconstructs_attention.proofs.Chars.{bytes-from}
 use Rattle.mdconstructs_attention.proofs.classes.class_after.Goals as goal
 

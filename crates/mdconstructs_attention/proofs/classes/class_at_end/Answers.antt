@@ -1,5 +1,4 @@
-use Rattle.std.proofs.Common.{sym, ap, ◌∙◌}
-use Rattle.mdconstructs_attention.specs.Classes.{class_at_end}
+use Rattle.mdconstructs_attention.proofs.Prelude.{sym, ap, ◌∙◌, class_at_end}
 use Rattle.mdconstructs_attention.proofs.Chars.{some-byte}
 use Rattle.mdconstructs_attention.proofs.classes.class_at_end.Goals as goal
 

@@ -1,7 +1,4 @@
-use Rattle.std.proofs.Common.{Bool, cond, refl, sym, ap, ◌∙◌}
-use Rattle.markdown_base.specs.declared.util.char.Kind.TheVariants.{Whitespace, Punctuation, Other}
-use Rattle.mdconstructs_attention.specs.declared.unicode.TheConstants.{PUNCTUATION}
-use Rattle.mdconstructs_attention.specs.Classes.{in_ranges}
+use Rattle.mdconstructs_attention.proofs.Prelude.{Bool, cond, refl, sym, ap, ◌∙◌, Whitespace, Punctuation, Other, PUNCTUATION, in_ranges}
 use Rattle.mdconstructs_attention.proofs.CodeTables.{classed}
 use Rattle.mdconstructs_attention.proofs.classes.class_of.Goals as goal
 

@@ -1,5 +1,4 @@
-use Rattle.std.proofs.Common.{◌≡◌, ◌+◌, ◌-◌, ◌/◌, false, suc, take, drop, sym, subst, arith}
-use Rattle.mdconstructs_attention.specs.Classes.{in_ranges}
+use Rattle.mdconstructs_attention.proofs.Prelude.{◌≡◌, ◌+◌, ◌-◌, ◌/◌, false, suc, take, drop, sym, subst, arith, in_ranges}
 use Rattle.mdconstructs_attention.proofs.Ranges.{none-from, none-up-to, some-range, none-at-all}
 use Rattle.mdconstructs_attention.proofs.classes.is_in.Goals as goal
 

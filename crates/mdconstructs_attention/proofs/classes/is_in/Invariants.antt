@@ -1,5 +1,4 @@
-use Rattle.std.proofs.Common.{◌≡◌, ◌-◌, ◌≤◌, false, length, take, drop}
-use Rattle.mdconstructs_attention.specs.Classes.{in_ranges}
+use Rattle.mdconstructs_attention.proofs.Prelude.{◌≡◌, ◌-◌, ◌≤◌, false, length, take, drop, in_ranges}
 use Rattle.mdconstructs_attention.proofs.classes.is_in.Given as goal
 
 -- the code point is in no range before the low end, and in none from the high end on

@@ -1,9 +1,4 @@
-use Rattle.std.proofs.Common.{◌≡◌, None, map, length, sym, ap, ◌∙◌, subst}
-use Rattle.mdconstructs_attention.specs.Emphasis.{paired}
-use Rattle.mdconstructs_attention.specs.Places.{AreApart, AllHaveRoom, standing}
-use Rattle.mdconstructs_attention.specs.RunEdits.{index_of}
-use Rattle.mdconstructs_attention.specs.Runs.{runs_in}
-use Rattle.mdconstructs_attention.specs.Searches.{as_run}
+use Rattle.mdconstructs_attention.proofs.Prelude.{◌≡◌, None, map, length, sym, ap, ◌∙◌, subst, paired, AreApart, AllHaveRoom, standing, index_of, runs_in, as_run}
 use Rattle.mdconstructs_attention.proofs.PairsKeep.{pairs-keep, pairs-keep-indices, written-back}
 use Rattle.mdconstructs_attention.proofs.RunPlaces.{apart, all-room}
 use Rattle.mdconstructs_attention.proofs.RunTexts.{all-runs}

@@ -1,5 +1,4 @@
-use Rattle.std.proofs.Common.{◌≡◌, ◌-◌, ◌≤◌, ◌++◌, length, drop}
-use Rattle.mdconstructs_attention.specs.Emphasis.{later, closings, markers_of_all}
+use Rattle.mdconstructs_attention.proofs.Prelude.{◌≡◌, ◌-◌, ◌≤◌, ◌++◌, length, drop, later, closings, markers_of_all}
 use Rattle.mdconstructs_attention.proofs.emphasis.push_closed.Given as goal
 
 -- the events so far and those of the other pairs are all events, and the other markers reach to the same place

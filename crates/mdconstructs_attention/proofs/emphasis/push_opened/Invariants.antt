@@ -1,5 +1,4 @@
-use Rattle.std.proofs.Common.{◌≡◌, ◌≤◌, ◌++◌, length, take, reverse}
-use Rattle.mdconstructs_attention.specs.Emphasis.{later, openings, markers_of_all}
+use Rattle.mdconstructs_attention.proofs.Prelude.{◌≡◌, ◌≤◌, ◌++◌, length, take, reverse, later, openings, markers_of_all}
 use Rattle.mdconstructs_attention.proofs.emphasis.push_opened.Given as goal
 
 -- the events so far and those of the other pairs are all events, and the other markers reach to the same place

@@ -1,8 +1,4 @@
-use Rattle.std.proofs.Common.{map, take, get_or, ap, ◌∙◌, arith}
-use Rattle.std.proofs.lemmas.List.{get_or_default}
-use Rattle.markdown_edits.specs.Edits.{edit_at, put_after, removal_at}
-use Rattle.mdconstructs_attention.specs.RunEdits.{in_place, edits_of}
-use Rattle.mdconstructs_attention.specs.Searches.{as_run}
+use Rattle.mdconstructs_attention.proofs.Prelude.{map, take, get_or, ap, ◌∙◌, arith, get_or_default, edit_at, put_after, removal_at, in_place, edits_of, as_run}
 use Rattle.mdconstructs_attention.proofs.RunPlaces.{fits-behind, one-more, room-at}
 use Rattle.mdconstructs_attention.proofs.emphasis.put_edits.Goals as goal
 

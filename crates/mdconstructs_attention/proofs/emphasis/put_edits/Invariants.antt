@@ -1,6 +1,4 @@
-use Rattle.std.proofs.Common.{◌≡◌, ◌-◌, ◌≤◌, map, length, take}
-use Rattle.mdconstructs_attention.specs.RunEdits.{edits_of}
-use Rattle.mdconstructs_attention.specs.Searches.{as_run}
+use Rattle.mdconstructs_attention.proofs.Prelude.{◌≡◌, ◌-◌, ◌≤◌, map, length, take, edits_of, as_run}
 use Rattle.mdconstructs_attention.proofs.emphasis.put_edits.Given as goal
 
 -- the edits so far are those of the runs so far

@@ -1,11 +1,4 @@
-use Rattle.std.proofs.Common.{◌≡◌, ℕ, ◌+◌, ◌*◌, ◌<◌, ◌≤◌, set, List, Some, true, cond, map, take, length, get_or, sym, ap, ◌∙◌, subst, arith}
-use Rattle.std.specs.Prelude.{slice_get, slice_index, nat_lt}
-use Rattle.std.proofs.lemmas.Option.{slice_get_within, get_or_from_slice_get}
-use Rattle.mdconstructs_attention.specs.Emphasis.{Run, is_strong, closes_yet}
-use Rattle.mdconstructs_attention.specs.InTurn.{SoFar, opening, closing, put_back}
-use Rattle.mdconstructs_attention.specs.Searches.{as_run, left_of, with_pair, last_of, kind, AreBottoms, StandsAt}
-use Rattle.std.proofs.lemmas.List.{length-take-le}
-use Rattle.mdconstructs_attention.specs.Costs.{markers_left, end_of, above}
+use Rattle.mdconstructs_attention.proofs.Prelude.{◌≡◌, ℕ, ◌+◌, ◌*◌, ◌<◌, ◌≤◌, set, List, Some, true, cond, map, take, length, get_or, sym, ap, ◌∙◌, subst, arith, slice_get, slice_index, nat_lt, slice_get_within, get_or_from_slice_get, Run, is_strong, closes_yet, SoFar, opening, closing, put_back, as_run, left_of, with_pair, last_of, kind, AreBottoms, StandsAt, length-take-le, markers_left, end_of, above}
 use Rattle.mdconstructs_attention.proofs.Costs.{pair-takes, above-set, above-lower}
 use Rattle.mdconstructs_attention.proofs.Stands.{closer-run, openers-below, some-next, none-next, close-unable, close-unfound, close-found}
 use Rattle.mdconstructs_attention.proofs.Bottoms.{bottoms-after-pair, bottoms-after-search}

@@ -1,11 +1,4 @@
-use Rattle.std.proofs.Common.{◌≡◌, ◌≢◌, ℕ, ◌<◌, Bool, List, Some, map, length, get_or, set, refl, sym, ap, ◌∙◌, arith}
-use Rattle.std.specs.Prelude.{slice_get, option_map, nat_lt}
-use Rattle.std.proofs.lemmas.List.{map-set, get_or-set_other, get_or_default, length-set}
-use Rattle.std.proofs.lemmas.Option.{slice_get-map, slice_get_read, slice_get-get_or}
-use Rattle.mdconstructs_attention.specs.declared.pairs.Delimiters.{Delimiters}
-use Rattle.mdconstructs_attention.specs.Emphasis.{is_strong}
-use Rattle.mdconstructs_attention.specs.InTurn.{opening, closing}
-use Rattle.mdconstructs_attention.specs.Searches.{as_run, with_pair, with_pair_of, left_of}
+use Rattle.mdconstructs_attention.proofs.Prelude.{◌≡◌, ◌≢◌, ℕ, ◌<◌, Bool, List, Some, map, length, get_or, set, refl, sym, ap, ◌∙◌, arith, slice_get, option_map, nat_lt, map-set, get_or-set_other, get_or_default, length-set, slice_get-map, slice_get_read, slice_get-get_or, Delimiters, is_strong, opening, closing, as_run, with_pair, with_pair_of, left_of}
 use Rattle.mdconstructs_attention.proofs.pairs.join.Goals as goal
 
 joined : (ds : List Delimiters) (i j : ℕ) (o r o' r' d e : Delimiters) (s : Bool) → i < j → j < length ds

@@ -1,4 +1,4 @@
-use Rattle.std.proofs.Common.{◌≡◌, ◌≤◌, ◌<◌, ◌-◌, ℕ, length, slice_index_or}
+use Rattle.mdconstructs_attention.proofs.Prelude.{◌≡◌, ◌≤◌, ◌<◌, ◌-◌, ℕ, length, slice_index_or}
 use Rattle.mdconstructs_attention.proofs.pairs.lower.Given as goal
 
 -- those before are low; none grew

@@ -1,9 +1,4 @@
-use Rattle.std.proofs.Common.{◌≡◌, ℕ, suc, ◌+◌, ◌-◌, ◌<◌, Bool, true, false, cond, List, Some, map, length, get_or, sym, ap, ◌∙◌, refl, arith}
-use Rattle.std.proofs.lemmas.Option.{slice_get-get_or, slice_get_read}
-use Rattle.std.proofs.lemmas.List.Elements.{All-get_or}
-use Rattle.mdconstructs_attention.specs.declared.pairs.Delimiters.{Delimiters}
-use Rattle.mdconstructs_attention.specs.Emphasis.{Run, may_pair}
-use Rattle.mdconstructs_attention.specs.Searches.{as_run, last_of}
+use Rattle.mdconstructs_attention.proofs.Prelude.{◌≡◌, ℕ, suc, ◌+◌, ◌-◌, ◌<◌, Bool, true, false, cond, List, Some, map, length, get_or, sym, ap, ◌∙◌, refl, arith, slice_get-get_or, slice_get_read, All-get_or, Delimiters, Run, may_pair, as_run, last_of}
 use Rattle.mdconstructs_attention.proofs.Searches.{search-step}
 use Rattle.mdconstructs_attention.proofs.pairs.opener_for.Goals as goal
 

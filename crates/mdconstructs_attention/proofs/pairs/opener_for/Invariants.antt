@@ -1,5 +1,4 @@
-use Rattle.std.proofs.Common.{◌+◌, ◌-◌, ◌≡◌, ◌≤◌, length, map}
-use Rattle.mdconstructs_attention.specs.Searches.{as_run, last_of}
+use Rattle.mdconstructs_attention.proofs.Prelude.{◌+◌, ◌-◌, ◌≡◌, ◌≤◌, length, map, as_run, last_of}
 use Rattle.mdconstructs_attention.proofs.pairs.opener_for.Given as goal
 
 abbrev pub invariant-loop-at : goal.invariant-loop-at

@@ -1,10 +1,4 @@
-use Rattle.std.proofs.Common.{◌≡◌, ℕ, zero, suc, ◌+◌, ◌*◌, ◌≤◌, replicate, ◌<◌, List, [], ◌∷◌, ◌++◌, map, length, refl, sym, ap, ◌∙◌, subst, arith, append-nil, length-append}
-use Rattle.std.specs.Prelude.{slice_index}
-use Rattle.std.proofs.lemmas.List.{length-map}
-use Rattle.mdconstructs_attention.specs.Emphasis.{Run}
-use Rattle.mdconstructs_attention.specs.InTurn.{SoFar, all_runs, in_turn_from, none_read, close}
-use Rattle.mdconstructs_attention.specs.Searches.{AreBottoms, as_run, Stands}
-use Rattle.mdconstructs_attention.specs.Costs.{markers_left, to_pay}
+use Rattle.mdconstructs_attention.proofs.Prelude.{◌≡◌, ℕ, zero, suc, ◌+◌, ◌*◌, ◌≤◌, replicate, ◌<◌, List, [], ◌∷◌, ◌++◌, map, length, refl, sym, ap, ◌∙◌, subst, arith, append-nil, length-append, slice_index, length-map, Run, SoFar, all_runs, in_turn_from, none_read, close, AreBottoms, as_run, Stands, markers_left, to_pay}
 use Rattle.mdconstructs_attention.proofs.Bottoms.{bottoms-at-first}
 use Rattle.mdconstructs_attention.proofs.InTurn.{paired-in-turn}
 use Rattle.mdconstructs_attention.proofs.pairs.pair_counted.Goals as goal

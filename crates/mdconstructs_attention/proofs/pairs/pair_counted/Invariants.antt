@@ -1,8 +1,4 @@
-use Rattle.std.proofs.Common.{◌≡◌, ◌+◌, ◌-◌, ◌*◌, ◌≤◌, List, map, length}
-use Rattle.mdconstructs_attention.specs.Emphasis.{Run}
-use Rattle.mdconstructs_attention.specs.InTurn.{SoFar, all_runs, in_turn_from, none_read}
-use Rattle.mdconstructs_attention.specs.Searches.{as_run, AreBottoms, Stands}
-use Rattle.mdconstructs_attention.specs.Costs.{markers_left, to_pay}
+use Rattle.mdconstructs_attention.proofs.Prelude.{◌≡◌, ◌+◌, ◌-◌, ◌*◌, ◌≤◌, List, map, length, Run, SoFar, all_runs, in_turn_from, none_read, as_run, AreBottoms, Stands, markers_left, to_pay}
 use Rattle.mdconstructs_attention.proofs.pairs.pair_counted.Given as goal
 
 -- some runs were read, and reading the others gives what reading all gives

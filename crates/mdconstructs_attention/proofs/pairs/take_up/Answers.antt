@@ -1,8 +1,4 @@
-use Rattle.std.proofs.Common.{◌≡◌, ℕ, suc, ◌+◌, ◌-◌, ◌*◌, ◌≤◌, cond, length, length-append, [], ◌∷◌, true, false, List, Ok, map, sym, ap, ◌∙◌, subst, arith}
-use Rattle.mdconstructs_attention.specs.Emphasis.{Run, opens_yet}
-use Rattle.mdconstructs_attention.specs.InTurn.{SoFar, close, put}
-use Rattle.mdconstructs_attention.specs.Searches.{AreBottoms, as_run, Stands, StandsAt}
-use Rattle.mdconstructs_attention.specs.Costs.{markers_left, above, to_pay}
+use Rattle.mdconstructs_attention.proofs.Prelude.{◌≡◌, ℕ, suc, ◌+◌, ◌-◌, ◌*◌, ◌≤◌, cond, length, length-append, [], ◌∷◌, true, false, List, Ok, map, sym, ap, ◌∙◌, subst, arith, Run, opens_yet, SoFar, close, put, AreBottoms, as_run, Stands, StandsAt, markers_left, above, to_pay}
 use Rattle.mdconstructs_attention.proofs.Costs.{above-more}
 use Rattle.mdconstructs_attention.proofs.Stands.{stands-waiting, stands-behind}
 use Rattle.mdconstructs_attention.proofs.Bottoms.{bottoms-after-push}

@@ -1,9 +1,4 @@
-use Rattle.std.proofs.Common.{◌≡◌, ℕ, ◌+◌, ◌≤◌, List, map, length}
-use Rattle.std.specs.Prelude.{slice_get}
-use Rattle.mdconstructs_attention.specs.Emphasis.{Run}
-use Rattle.mdconstructs_attention.specs.InTurn.{SoFar, close}
-use Rattle.mdconstructs_attention.specs.Searches.{as_run, left_of, AreBottoms, StandsAt}
-use Rattle.mdconstructs_attention.specs.Costs.{to_pay}
+use Rattle.mdconstructs_attention.proofs.Prelude.{◌≡◌, ℕ, ◌+◌, ◌≤◌, List, map, length, slice_get, Run, SoFar, close, as_run, left_of, AreBottoms, StandsAt, to_pay}
 use Rattle.mdconstructs_attention.proofs.pairs.take_up.Given as goal
 
 -- heights hold; and whatever the runs stood for, they stand for what is reached after some pairs

@@ -1,7 +1,4 @@
-use Rattle.std.proofs.Common.{◌≡◌, ◌+◌, true, false, ◌++◌, Some, map, drop, sym, ap, ◌∙◌, arith, append-nil}
-use Rattle.std.specs.Prelude.{◌==◌, ◌&&◌, slice_index_or}
-use Rattle.mdconstructs_attention.specs.Runs.{runs_from, is_sequence, run_at}
-use Rattle.mdconstructs_attention.specs.Searches.{as_run}
+use Rattle.mdconstructs_attention.proofs.Prelude.{◌≡◌, ◌+◌, true, false, ◌++◌, Some, map, drop, sym, ap, ◌∙◌, arith, append-nil, ◌==◌, ◌&&◌, slice_index_or, runs_from, is_sequence, run_at, as_run}
 use Rattle.mdconstructs_attention.proofs.RunsFrom.{a-run, no-run, no-more, pushed, not-first, not-second, depth-grows, no_event}
 use Rattle.mdconstructs_attention.proofs.runs.runs_of.Goals as goal
 use Rattle.mdconstructs_attention.proofs.runs.runs_of.Goals.{else-depth-eq0-via-then-depth-eq0+else-is_sequence, else-depth-eq0-via-else-depth-eq0}

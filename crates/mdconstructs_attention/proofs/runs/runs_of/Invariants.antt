@@ -1,6 +1,4 @@
-use Rattle.std.proofs.Common.{◌≡◌, ◌-◌, ◌≤◌, ◌++◌, map, length, drop}
-use Rattle.mdconstructs_attention.specs.Runs.{runs_from, runs_in}
-use Rattle.mdconstructs_attention.specs.Searches.{as_run}
+use Rattle.mdconstructs_attention.proofs.Prelude.{◌≡◌, ◌-◌, ◌≤◌, ◌++◌, map, length, drop, runs_from, runs_in, as_run}
 use Rattle.mdconstructs_attention.proofs.runs.runs_of.Given as goal
 
 -- the runs so far and those of the other events are all runs
