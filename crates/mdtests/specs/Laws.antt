@@ -7,3 +7,4 @@ pub mod Marks
 pub mod Pairs
 pub mod Behind
 pub mod Names
+pub mod Over

@@ -9,3 +9,4 @@ pub mod Stars
 pub mod Marks
 pub mod Pairs
 pub mod Names
+pub mod Over

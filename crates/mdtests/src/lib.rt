@@ -29,6 +29,8 @@ mod machines;
 pub mod names;
 #[cfg(test)]
 mod no_memory;
+#[cfg(test)]
+mod over;
 pub mod pairs;
 #[cfg(test)]
 mod places;

@@ -97,7 +97,7 @@ pub fn read_ranges(
 }
 
 /// Reads ranges that follow on one another, with the default options but for the size of tabs.
-fn read_by<M: Machine>(
+pub(crate) fn read_by<M: Machine>(
     alloc: Global,
     machine: &M,
     start: Name,
