@@ -1,17 +1,16 @@
 -- What is read with the children of chains of text: it is refused nowhere where rules refuse nothing, its chains can be read, and the
 -- definitions without states say what is read.
-use Rattle.std.proofs.Common.{Some, subst, sym}
+use Rattle.std.proofs.Common.{Option, None, Some, arith, subst, sym}
 use Rattle.markdown_base.specs.declared.event.Content.{Content}
-use Rattle.markdown_base.specs.declared.event.Content.TheVariants.{String as StringContent, Text as TextContent}
+use Rattle.markdown_base.specs.declared.event.Content.TheVariants.{Text as TextContent}
 use Rattle.markdown_children.specs.Ready.{IsReady}
-use Rattle.mdconstructs_documents.proofs.FlowChains.Ready.{flow-ready}
-use Rattle.mdconstructs_documents.proofs.FlowTexts.Whole.{inlines-are-read}
-use Rattle.mdconstructs_inlines.proofs.InlineChains.{chains-read-inline, inline-stays-ready}
 use Rattle.mdconstructs_inlines.proofs.Looks.{inlines-refuse-nothing}
-use Rattle.mdconstructs_inlines.proofs.StringChains.{chains-read-strings}
 use Rattle.mdconstructs_inlines.specs.InlineRules.{inlines_rules}
-use Rattle.mdconstructs_inlines.specs.LawStatements.{with_inlines, with_strings}
 use Rattle.mdconstructs_documents.specs.Documents.{AreFlowInlines}
+use Rattle.markdown_children.specs.Reads.{IsSubtokenized, StartAmong}
+use Rattle.mdconstructs_flow_read.specs.LeafEvents.{flow_events}
+use Rattle.mdconstructs_documents.proofs.FlowTexts.AllChildren.{all-children}
+use Rattle.mdconstructs_documents.proofs.FlowTexts.Textual.{each-ready, flow-textual, may-start-each}
 use Rattle.mdconstructs_text.proofs.ParagraphTexts.Whole.{read-as-data, read-as-texts}
 use Rattle.mdconstructs_text.specs.ParagraphTexts.{paragraph_texts}
 use Rattle.mdconstructs_text.specs.TextEvents.{seat_events}
@@ -34,7 +33,7 @@ module _ {R D : Type 0} (rules : Given → Rules R D) (nothing : RulesRefuseNoth
   pub none-refused-deep : (start : Name) (options : ParseOptions) (bytes : List ℕ) (m : Message) → ¬ IsRefusedDeep rules start options bytes m
   none-refused-deep start options bytes m h =
       ⊎_elim (λ (run : IsRunRefused (document options bytes) rules false start m). no-run-refused rules nothing (document options bytes) false start m run)
-      (λ (child : (flat : List Event) × Gives rules start options bytes flat × HasRefusedChild rules options bytes TextContent flat m). no-child-refused (document options bytes) child.0 child.2.1.chain m child.2.1.refused) h
+      (λ (child : (flat : List Event) × Gives rules start options bytes flat × HasRefusedChild rules options bytes (Some TextContent) flat m). no-child-refused (document options bytes) child.0 child.2.1.chain m child.2.1.refused) h
 
 -- a run from the start of paragraphs has chains that can be read
 pub all-ready : (rules : Given → Rules Unit Unit) → HasReadableChains rules FlowStart → (options : ParseOptions) (bytes : List ℕ) → IsDocument (document options bytes) → ¬ GivesUnready rules FlowStart options bytes
@@ -61,24 +60,24 @@ with-texts options bytes is events h =
     ∙ ap (with_texts (document options bytes)) (flat-events text_rules FlowStart paragraph_events text-by-blocks options bytes is h.0 h.1)
     ∙ read-as-texts (document options bytes) is
 
--- what is read of leaf blocks, of which chains of text and then strings are read by the machine of inline text
+-- what is read of leaf blocks, of which all chains are read by the machine of inline text
 module _ (options : ParseOptions) (bytes : List ℕ) where
   -- no child is refused
-  pub no-inline-refused : (wanted : Content) (old : List Event) (m : Message) → ¬ HasRefusedChild inlines_rules options bytes wanted old m
+  pub no-inline-refused : (wanted : Option Content) (old : List Event) (m : Message) → ¬ HasRefusedChild inlines_rules options bytes wanted old m
   no-inline-refused wanted old m h = no-child-refused inlines_rules inlines-refuse-nothing (document options bytes) old h.1.chain m h.1.refused
 
-  module _ (is : IsDocument (document options bytes)) (flat half : List Event) (are : AreFlowEvents options bytes flat) where
+  -- of leaf blocks, all chains of which are read at once
+  module _ (is : IsDocument (document options bytes)) (flat : List Event) (are : AreFlowEvents options bytes flat) where
     abbrev g : Given
     g = document options bytes
 
-    strings-ready : IsReady options.tab_size bytes (Some StringContent) flat
-    strings-ready = subst (IsReady options.tab_size bytes (Some StringContent)) (sym are) (flow-ready g is StringContent (λ e. absurd (cc)))
+    -- their chains can be read, and the machine of inline text may start with each
+    pub all-chains-ready : IsReady options.tab_size bytes None flat
+    all-chains-ready = subst (IsReady options.tab_size bytes None) (sym are) (each-ready g is)
 
-    -- strings stay ready where texts were read
-    pub strings-after-inlines : HasChildren inlines_rules options bytes TextContent flat half → IsReady options.tab_size bytes (Some StringContent) half
-    strings-after-inlines h = inline-stays-ready g flat is h.0 (Some StringContent) half h.1.0 strings-ready h.1.1
+    pub all-may-start : StartAmong (inlines_rules g).starts None flat
+    all-may-start = subst (StartAmong (inlines_rules g).starts None) (sym are) (may-start-each (inlines_rules g).starts (0, omega arith, (cc)) (1, omega arith, (cc)) (flow_events options.constructs bytes (virtual_bytes options bytes)) (flow-textual g))
 
-    -- leaf blocks, with inline text and strings
-    pub flow-inlines : (new : List Event) → HasChildren inlines_rules options bytes TextContent flat half → HasChildren inlines_rules options bytes StringContent half new → AreFlowInlines options bytes new
-    flow-inlines new h k =
-        chains-read-strings g half new k.1.0 is k.0 k.1.1 ∙ ap (with_strings g) (chains-read-inline g flat is h.0 half h.1.0 h.1.1 ∙ ap (with_inlines g) are) ∙ inlines-are-read options bytes is
+    -- with their children they are inline text and strings
+    pub flow-inlines : (new : List Event) → HasChildren inlines_rules options bytes None flat new → AreFlowInlines options bytes new
+    flow-inlines new h = all-children options bytes is new h.1.0 (subst (λ (xs : List Event). IsSubtokenized g inlines_rules None xs new h.1.0) are h.1.1)

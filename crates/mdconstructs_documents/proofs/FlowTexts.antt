@@ -1,5 +1,6 @@
 -- The texts of leaf blocks stand in their blocks.
 pub mod Accounts
+pub mod AllChildren
 pub mod BlockSegments
 pub mod Chained
 pub mod ChainsRead
@@ -14,4 +15,5 @@ pub mod InlineTight
 pub mod Segments
 pub mod Spans
 pub mod Strings
+pub mod Textual
 pub mod Whole

@@ -1,5 +1,5 @@
 -- Inner: what a run of a machine returns, for private functions. No public clause cites this file.
-use Rattle.std.specs.Prelude.{◌⊎◌, ℕ, Bool, Contains, IfSome, List, Some, false}
+use Rattle.std.specs.Prelude.{◌⊎◌, ℕ, Bool, Contains, IfSome, List, Option, Some, false}
 use Rattle.markdown_base.specs.declared.configuration.ParseOptions.{ParseOptions}
 use Rattle.markdown_base.specs.declared.event.Content.{Content}
 use Rattle.markdown_base.specs.declared.event.Content.TheVariants.{Text as TextContent}
@@ -20,13 +20,13 @@ module _ {R D : Type 0} (rules : Given → Rules R D) (options : ParseOptions) (
   abbrev pub MayRead : Content → Type 0
   MayRead content = IfSome (start_name content) (λ start. Contains (rules (document options bytes)).starts start)
 
-  -- events of a document, whose chains of a content can be read, with the children of these in place of the chunks, all read by the machine
-  abbrev pub HasChildren : Content → List Event → List Event → Type 0
-  HasChildren content old new = IsReady options.tab_size bytes (Some content) old × ((sub : Subresult) × IsSubtokenized (document options bytes) rules (Some content) old new sub)
+  -- events of a document, whose chains that pass a filter can be read, with the children of these in place of the chunks, all read by the machine
+  abbrev pub HasChildren : Option Content → List Event → List Event → Type 0
+  HasChildren wanted old new = IsReady options.tab_size bytes wanted old × ((sub : Subresult) × IsSubtokenized (document options bytes) rules wanted old new sub)
 
   -- the first of these children that does not end in Ok ends in a message
-  abbrev pub HasRefusedChild : Content → List Event → Message → Type 0
-  HasRefusedChild content old m = IsReady options.tab_size bytes (Some content) old × IsSubtokenizeRefused (document options bytes) rules (Some content) old m
+  abbrev pub HasRefusedChild : Option Content → List Event → Message → Type 0
+  HasRefusedChild wanted old m = IsReady options.tab_size bytes wanted old × IsSubtokenizeRefused (document options bytes) rules wanted old m
 
 -- a machine with a start
 module _ {R D : Type 0} (rules : Given → Rules R D) (start : Name) (options : ParseOptions) (bytes : List ℕ) where
@@ -40,11 +40,11 @@ module _ {R D : Type 0} (rules : Given → Rules R D) (start : Name) (options : 
 
   -- a run returns events, and with the children of their chains of text they are these
   abbrev pub GivesDeep : List Event → Type 0
-  GivesDeep events = (flat : List Event) × Gives flat × HasChildren rules options bytes TextContent flat events
+  GivesDeep events = (flat : List Event) × Gives flat × HasChildren rules options bytes (Some TextContent) flat events
 
   -- the run, or a child of its chains of text, ends in a message
   abbrev pub IsRefusedDeep : Message → Type 0
-  IsRefusedDeep m = IsRunRefused (document options bytes) rules false start m ⊎ ((flat : List Event) × Gives flat × HasRefusedChild rules options bytes TextContent flat m)
+  IsRefusedDeep m = IsRunRefused (document options bytes) rules false start m ⊎ ((flat : List Event) × Gives flat × HasRefusedChild rules options bytes (Some TextContent) flat m)
 
   -- a run returns events whose chains of text cannot be read
   abbrev pub GivesUnready : Type 0

@@ -12,7 +12,7 @@ ghost use Rattle.mdconstructs_documents.specs.Documents.{document, options_with,
 use crate::choice::{Choice, Which};
 use crate::making::{Unmade, read_by, read_deep_by, read_resolved_by, with_ready_children};
 use markdown_base::configuration::{Constructs, ParseOptions, TabSize};
-use markdown_base::event::{Content, Event};
+use markdown_base::event::Event;
 use markdown_base::state::Name;
 use markdown_tokenizer::tokenizer::{Fault, cuts_every};
 use mdconstructs_flow::flow::Flow;
@@ -182,8 +182,7 @@ fn read_flow_and_inlines(
     ensures document { IsDocument (document options.now bytes.now) }
 {
     let events = read_flow(alloc, bytes, options, cuts)?;
-    let read = with_ready_children(alloc, &Inlines {}, bytes, options, events, Content::Text)?;
-    with_ready_children(alloc, &Inlines {}, bytes, options, read, Content::String)
+    with_ready_children(alloc, &Inlines {}, bytes, options, events, None)
 }
 
 /// The places at which a document is cut.

@@ -1,11 +1,13 @@
 //! The events that any machine makes of a document, and why it makes none.
 
 ghost use Rattle.std.specs.Prelude.{◌≡◌, Contains, IfOk, IsErrOf, Some, false};
+ghost use Rattle.std.specs.Option.{option_copied};
 ghost use Rattle.markdown_base.specs.Virtual.{IsWithinLimit};
 ghost use Rattle.markdown_tokenizer.specs.Engine.{AreCuts, IsRunRefused};
 ghost use Rattle.markdown_tokenizer.specs.Text.{IsDocument};
 ghost use Rattle.markdown_tokenizer.specs.declared.tokenizer.fault.Fault.TheVariants.{Memory};
 ghost use Rattle.markdown_children.specs.Ready.{IsReady};
+ghost use Rattle.markdown_children.specs.Reads.{StartAmong};
 ghost use Rattle.mdconstructs_documents.specs.Documents.{document};
 ghost use Rattle.mdconstructs_documents.specs.Runs.{Gives, Returns, GivesDeep, IsRefusedDeep, GivesUnready, HasChildren, HasRefusedChild, MayRead};
 ghost use Rattle.mdconstructs_documents.specs.declared.making.Unmade.TheVariants.{Fault as OfFault};
@@ -128,8 +130,8 @@ pub(crate) fn with_children<M: Machine>(
 ) -> Result<Vec<Event>, Unmade>
     requires limit { IsWithinLimit options.now.tab_size bytes.now }
     requires start { MayRead (M.rules machine.now) options.now bytes.now content }
-    ensures events { IfOk result (λ new. HasChildren (M.rules machine.now) options.now bytes.now content events.items new.items) }
-    ensures message { (m : _) → IsErrOf result (Unmade.Fault (Fault.Message m)) → HasRefusedChild (M.rules machine.now) options.now bytes.now content events.items m }
+    ensures events { IfOk result (λ new. HasChildren (M.rules machine.now) options.now bytes.now (Some content) events.items new.items) }
+    ensures message { (m : _) → IsErrOf result (Unmade.Fault (Fault.Message m)) → HasRefusedChild (M.rules machine.now) options.now bytes.now (Some content) events.items m }
     ensures unready { IsErrOf result Unmade.NotReady → ¬ IsReady options.now.tab_size bytes.now (Some content) events.items }
     ensures cause { ¬ IsErrOf result (Unmade.Fault Fault.Failed) }
 {
@@ -137,27 +139,26 @@ pub(crate) fn with_children<M: Machine>(
     if !ready(alloc, events.as_slice(), bytes, options.tab_size, wanted)? {
         return Err(Unmade::NotReady);
     }
-    with_ready_children(alloc, machine, bytes, options, events, content)
+    with_ready_children(alloc, machine, bytes, options, events, wanted)
 }
 
-/// As [`with_children`], of events that are ready: it does not look.
+/// As [`with_children`], of events that are ready: it does not look. `None` means the chains of all contents.
 pub(crate) fn with_ready_children<M: Machine>(
     alloc: Global,
     machine: &M,
     bytes: &[u8],
     options: &ParseOptions,
     mut events: Vec<Event>,
-    content: Content,
+    wanted: Option<&Content>,
 ) -> Result<Vec<Event>, Unmade>
     requires limit { IsWithinLimit options.now.tab_size bytes.now }
-    requires start { MayRead (M.rules machine.now) options.now bytes.now content }
-    requires ready { IsReady options.now.tab_size bytes.now (Some content) events.items }
-    ensures events { IfOk result (λ new. HasChildren (M.rules machine.now) options.now bytes.now content events.items new.items) }
-    ensures message { (m : _) → IsErrOf result (Unmade.Fault (Fault.Message m)) → HasRefusedChild (M.rules machine.now) options.now bytes.now content events.items m }
+    requires start { StartAmong (M.rules machine.now (document options.now bytes.now)).starts (option_copied wanted) events.items }
+    requires ready { IsReady options.now.tab_size bytes.now (option_copied wanted) events.items }
+    ensures events { IfOk result (λ new. HasChildren (M.rules machine.now) options.now bytes.now (option_copied wanted.entry) events.items new.items) }
+    ensures message { (m : _) → IsErrOf result (Unmade.Fault (Fault.Message m)) → HasRefusedChild (M.rules machine.now) options.now bytes.now (option_copied wanted.entry) events.items m }
     ensures ready { ¬ IsErrOf result Unmade.NotReady }
     ensures cause { ¬ IsErrOf result (Unmade.Fault Fault.Failed) }
 {
-    let wanted = Some(&content);
     let Some(parse_state) = ParseState::new(bytes, options, machine) else {
         unreachable!();
     };

@@ -1,5 +1,5 @@
 -- The marks of leaf blocks are cut into segments over their lines: the lines of a text are one chain, and so is each string.
-use Rattle.std.proofs.Common.{◌≡◌, ℕ, ◌+◌, ◌-◌, List, [], ◌∷◌, ◌++◌, Bool, true, false, not, Some, length, take, drop, refl, sym, ap, ◌∙◌, subst, arith}
+use Rattle.std.proofs.Common.{◌≡◌, ℕ, ◌+◌, ◌-◌, List, [], ◌∷◌, ◌++◌, Bool, true, false, not, inl, inr, Option, None, Some, length, take, drop, refl, sym, ap, ◌∙◌, subst, arith}
 use Rattle.std.specs.List.{AllByRecursion, flat_map, prefix_len}
 use Rattle.std.proofs.lemmas.Grind.{flat_map-append}
 use Rattle.std.proofs.lemmas.List.{append-nil}
@@ -10,6 +10,7 @@ use Rattle.markdown_base.specs.declared.event.Event.{Event}
 use Rattle.markdown_base.specs.declared.event.Name.{Name}
 use Rattle.markdown_base.specs.declared.event.Name.TheVariants as name
 use Rattle.markdown_base.specs.Virtual.{Seat}
+use Rattle.markdown_children.specs.Chains.{lets_through}
 use Rattle.markdown_tokenizer.proofs.Positions.Order.{every-back, every-front}
 use Rattle.mdconstructs_machines.proofs.BlockReads.Accounts.{lines-are-all}
 use Rattle.markdown_tokenizer.specs.Plain.{HaveNoLinks}
@@ -27,7 +28,7 @@ use Rattle.mdconstructs_flow_read.specs.LeafBlocks.{Line, LeafBlock, blank_line,
 use Rattle.mdconstructs_flow_read.specs.LeafEvents.{Mark, alone, block_around, block_span, body, chunk_span, code_fenced_around, fence_around, fenced_marks, heading_around, last_end, leaf_block_marks, leaf_blocks_marks, line_end, string_chunk, text_chunk, text_marks, underline_marks}
 use Rattle.mdconstructs_flow_read.specs.LineKinds.{Fence, heading_text, indent, run, unindented}
 use Rattle.mdconstructs_documents.specs.FlowTexts.{block_texts, read_marks}
-use Rattle.mdconstructs_documents.proofs.FlowTexts.Segments.{AreSegments, HasByte, IsOther, chain_marks, in_line, kept-events, no-segments, segments-around, segments-both, segments-chain, segments-kept}
+use Rattle.mdconstructs_documents.proofs.FlowTexts.Segments.{AreSegments, HasByte, IsOther, IsTextual, chain_marks, in_line, kept-events, no-segments, segments-around, segments-both, segments-chain, segments-kept}
 
 -- ---- lines of text as chunks
 -- each line is a chunk with its line ending, the last without it
@@ -62,8 +63,8 @@ module _ (bytes : List ℕ) where
   text-chain p (line ∷ next ∷ third ∷ lines) =
       ap (λ l. chunk_span bytes (Some (record { content = content.Text; has_previous = p; has_next = true })) name.Data line [] ++ l) (text-chain true (next ∷ third ∷ lines))
 
--- what chains of one content are read as
-module _ (wanted : Content) (bytes : List ℕ) (reads : List Seat → List Event) where
+-- what chains that pass a filter are read as
+module _ (wanted : Option Content) (bytes : List ℕ) (reads : Option Content → List Seat → List Event) where
   abbrev Are : List Mark → List Mark → List Seat → Type 0
   Are = AreSegments wanted bytes reads
 
@@ -74,12 +75,21 @@ module _ (wanted : Content) (bytes : List ℕ) (reads : List Seat → List Event
   over {f} {d} b e h = subst (Are f d) e h
 
   -- virtual bytes that are a chunk of their own
-  segments-chunk : (seats : List Seat) → Are (chunk_span bytes (alone wanted) name.Data seats []) (read_marks reads bytes seats) seats
-  segments-chunk [] = segments-chain wanted bytes reads [] tt
-  segments-chunk (s ∷ ss) =
+  segments-chunk : (of : Content) → lets_through wanted of ≡ true → IsTextual of → (seats : List Seat) → Are (chunk_span bytes (alone of) name.Data seats []) (read_marks (reads (Some of)) bytes seats) seats
+  segments-chunk of lets textual [] = segments-chain wanted bytes reads of lets textual [] tt
+  segments-chunk of lets textual (s ∷ ss) =
       let t = s ∷ ss in
       let same : in_line (t ∷ []) ≡ t = append-nil t in
-      over t same (subst (λ d. Are (chunk_span bytes (alone wanted) name.Data t []) d (in_line (t ∷ []))) (ap (read_marks reads bytes) same) (segments-chain wanted bytes reads (t ∷ []) (tt, tt)))
+      over t same (subst (λ d. Are (chunk_span bytes (alone of) name.Data t []) d (in_line (t ∷ []))) (ap (read_marks (reads (Some of)) bytes) same) (segments-chain wanted bytes reads of lets textual (t ∷ []) (tt, tt)))
+
+  -- the lines of a text
+  segments-lines : lets_through wanted content.Text ≡ true → (lines : List Line) → AllByRecursion StartsText lines
+      → Are (text_marks bytes false lines) (read_marks (reads (Some content.Text)) bytes (body lines)) (body lines)
+  segments-lines lets lines h =
+      let are = segments-chain wanted bytes reads content.Text lets (inl refl) (chunks_of lines) (full-chunks lines h) in
+      over (body lines) (chunks-body lines)
+      (subst (λ d. Are (text_marks bytes false lines) d (in_line (chunks_of lines))) (ap (read_marks (reads (Some content.Text)) bytes) (chunks-body lines))
+      (subst (λ f. Are f (read_marks (reads (Some content.Text)) bytes (in_line (chunks_of lines))) (in_line (chunks_of lines))) (sym (text-chain bytes false lines)) are))
 
   segments-single : (marks : List Mark) (seats : List Seat) → AreSingle Other marks → Are marks marks seats
   segments-single marks seats h = segments-kept wanted bytes reads marks seats h.each
@@ -189,26 +199,37 @@ module _ (bytes : List ℕ) (texts strings : List Seat → List Event) where
   abbrev pub half_read : LeafBlock → List Mark
   half_read block = block_around bytes (read_marks texts bytes) (λ lines. read_marks texts bytes (body lines)) (string_chunk bytes) block
 
-  -- the lines of a text
-  segments-text : (lines : List Line) → AllByRecursion StartsText lines → AreSegments content.Text bytes texts (text_marks bytes false lines) (read_marks texts bytes (body lines)) (body lines)
-  segments-text lines h =
-      let are = segments-chain content.Text bytes texts (chunks_of lines) (full-chunks lines h) in
-      over content.Text bytes texts (body lines) (chunks-body lines)
-      (subst (λ d. AreSegments content.Text bytes texts (text_marks bytes false lines) d (in_line (chunks_of lines))) (ap (read_marks texts bytes) (chunks-body lines))
-      (subst (λ f. AreSegments content.Text bytes texts f (read_marks texts bytes (in_line (chunks_of lines))) (in_line (chunks_of lines))) (sym (text-chain bytes false lines)) are))
+  -- what a chain is read as, by its content
+  abbrev pub by_content : Option Content → List Seat → List Event
+  by_content None = texts
+  by_content (Some content.Flow) = texts
+  by_content (Some content.Content) = texts
+  by_content (Some content.String) = strings
+  by_content (Some content.Text) = texts
 
   -- chains of text, where strings stay
   pub text-segments : (on : Constructs) (seats : List Seat)
-      → let blocks = leaf_blocks on (lines_in seats) in AreSegments content.Text bytes texts (leaf_blocks_marks bytes blocks) (flat_map half_read blocks) seats
+      → let blocks = leaf_blocks on (lines_in seats) in AreSegments (Some content.Text) bytes (λ o. texts) (leaf_blocks_marks bytes blocks) (flat_map half_read blocks) seats
   text-segments on seats =
-      segments-all content.Text bytes texts (text_chunk bytes) (read_marks texts bytes) (segments-chunk content.Text bytes texts) (text_marks bytes false) (λ lines. read_marks texts bytes (body lines)) segments-text
-      (string_chunk bytes) (string_chunk bytes) (λ seats. segments-single content.Text bytes texts (string_chunk bytes seats) seats (single-data (IsOther content.Text) bytes content.String refl name.Data seats)) on seats
+      let wanted : Option Content = Some content.Text in
+      let reads : Option Content → List Seat → List Event = λ o. texts in
+      segments-all wanted bytes reads (text_chunk bytes) (read_marks texts bytes) (segments-chunk wanted bytes reads content.Text refl (inl refl)) (text_marks bytes false) (λ lines. read_marks texts bytes (body lines)) (segments-lines wanted bytes reads refl)
+      (string_chunk bytes) (string_chunk bytes) (λ seats. segments-single wanted bytes reads (string_chunk bytes seats) seats (single-data (IsOther wanted) bytes content.String refl name.Data seats)) on seats
 
   -- then strings, where the events of texts stay
   pub string-segments : ((seats : List Seat) → HaveNoLinks (texts seats)) → (on : Constructs) (seats : List Seat)
-      → let blocks = leaf_blocks on (lines_in seats) in AreSegments content.String bytes strings (flat_map half_read blocks) (flat_map (block_texts texts strings bytes) blocks) seats
+      → let blocks = leaf_blocks on (lines_in seats) in AreSegments (Some content.String) bytes (λ o. strings) (flat_map half_read blocks) (flat_map (block_texts texts strings bytes) blocks) seats
   string-segments unlinked on seats =
+      let wanted : Option Content = Some content.String in
+      let reads : Option Content → List Seat → List Event = λ o. strings in
       let read = read_marks texts bytes in
-      let stays : (l : List Seat) → AreSegments content.String bytes strings (read l) (read l) l = λ l. segments-kept content.String bytes strings (read l) l (kept-events content.String (texts l) (unlinked l)) in
-      segments-all content.String bytes strings read read stays (λ lines. read (body lines)) (λ lines. read (body lines)) (λ lines h. stays (body lines)) (string_chunk bytes) (read_marks strings bytes)
-      (segments-chunk content.String bytes strings) on seats
+      let stays : (l : List Seat) → AreSegments wanted bytes reads (read l) (read l) l = λ l. segments-kept wanted bytes reads (read l) l (kept-events wanted (texts l) (unlinked l)) in
+      segments-all wanted bytes reads read read stays (λ lines. read (body lines)) (λ lines. read (body lines)) (λ lines h. stays (body lines)) (string_chunk bytes) (read_marks strings bytes)
+      (segments-chunk wanted bytes reads content.String refl (inr refl)) on seats
+
+  -- chains of texts and of strings at once
+  pub all-segments : (on : Constructs) (seats : List Seat)
+      → let blocks = leaf_blocks on (lines_in seats) in AreSegments None bytes by_content (leaf_blocks_marks bytes blocks) (flat_map (block_texts texts strings bytes) blocks) seats
+  all-segments on seats =
+      segments-all None bytes by_content (text_chunk bytes) (read_marks texts bytes) (segments-chunk None bytes by_content content.Text refl (inl refl)) (text_marks bytes false) (λ lines. read_marks texts bytes (body lines))
+      (segments-lines None bytes by_content refl) (string_chunk bytes) (read_marks strings bytes) (segments-chunk None bytes by_content content.String refl (inr refl)) on seats

@@ -1,5 +1,5 @@
 -- A list whose marks are cut into segments has the chains of these.
-use Rattle.std.proofs.Common.{◌≡◌, ℕ, suc, ◌+◌, List, [], ◌∷◌, ◌++◌, false, Some, None, length, drop, refl, sym, ap, ◌∙◌, subst, arith}
+use Rattle.std.proofs.Common.{◌≡◌, ℕ, suc, ◌+◌, List, [], ◌∷◌, ◌++◌, false, Option, Some, None, length, drop, refl, sym, ap, ◌∙◌, subst, arith}
 use Rattle.std.specs.Prelude.{filter, slice_get}
 use Rattle.std.specs.List.{AllByRecursion, range_with_len}
 use Rattle.std.proofs.lemmas.List.{drop-drop}
@@ -44,16 +44,16 @@ module _ (events : List Event) where
       let same : i + 1 + length marks ≡ i + length (m ∷ marks) = omega arith in
       subst (λ j. IsAt events j rest) same (kept-at (i + 1) marks rest (next-at i m (marks ++ rest) at))
 
--- chunks of one content
-module _ (wanted : Content) (events : List Event) where
-  -- an event without a link begins no such chain, nor does one that begins a chunk of another content
-  no-start : (i : ℕ) (m : Mark) → slice_get events i ≡ Some (mark_at i m) → IsKept wanted m → begins (Some wanted) events i ≡ false
+-- chunks that pass a filter
+module _ (wanted : Option Content) (events : List Event) where
+  -- an event without a link begins no such chain, nor does one that begins a chunk that does not pass
+  no-start : (i : ℕ) (m : Mark) → slice_get events i ≡ Some (mark_at i m) → IsKept wanted m → begins wanted events i ≡ false
   no-start i (e, None) is h = rw (is, h) refl
   no-start i (e, Some chunk) is h = rw (is, h.0) refl
 
-  -- the first chunks of chains of the content among the events from an index on
+  -- the first chunks of chains that pass among the events from an index on
   abbrev pub starts_in : (i n : ℕ) → List ℕ
-  starts_in i n = filter (begins (Some wanted) events) (range_with_len i n)
+  starts_in i n = filter (begins wanted events) (range_with_len i n)
 
   pub kept-starts : (i : ℕ) (marks rest : List Mark) → AllByRecursion (IsKept wanted) marks → IsAt events i (marks ++ rest) → starts_in i (length (marks ++ rest)) ≡ starts_in (i + length marks) (length rest)
   kept-starts i [] rest h at = let same : i ≡ i + 0 = omega arith in ap (λ j. starts_in j (length rest)) same

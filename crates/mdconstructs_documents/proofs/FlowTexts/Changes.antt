@@ -1,5 +1,5 @@
 -- The changes that put the texts of segments in place of their chunks, and the list behind them.
-use Rattle.std.proofs.Common.{◌≡◌, ℕ, suc, ◌+◌, ◌-◌, ◌≤◌, List, [], ◌∷◌, ◌++◌, false, Some, None, append_assoc, length, map, take, drop, refl, sym, ap, ◌∙◌, subst, arith}
+use Rattle.std.proofs.Common.{◌≡◌, ℕ, suc, ◌+◌, ◌-◌, ◌≤◌, List, [], ◌∷◌, ◌++◌, false, Option, Some, None, append_assoc, length, map, take, drop, refl, sym, ap, ◌∙◌, subst, arith}
 use Rattle.std.proofs.lemmas.Option.{slice_get_within}
 use Rattle.std.specs.List.{AllByRecursion, between, flat_map}
 use Rattle.markdown_base.specs.declared.event.Content.{Content}
@@ -33,7 +33,7 @@ apart-parts c j i n (d ∷ cs) (p ∷ ps) ws l h =
     (omega arith, apart-parts c (j + length p) (i + 2) n cs ps ws (omega (arith, l)) (subst (λ m. AreApart m ws n) same h))
 
 -- a kept mark has the same event at each index
-same-mark : (wanted : Content) (i j : ℕ) (m : Mark) → IsKept wanted m → mark_at i m ≡ mark_at j m
+same-mark : (wanted : Option Content) (i j : ℕ) (m : Mark) → IsKept wanted m → mark_at i m ≡ mark_at j m
 same-mark wanted i j (e, None) h = refl
 same-mark wanted i j (e, Some chunk) h = rw (h.1, h.2) refl
 
@@ -65,7 +65,7 @@ module _ (events : List Event) where
       let behind : List Event = untagged w.events ++ after_changes events ws (w.index + w.remove) in
       after-step events w ws i (omega (arith, first)) ∙ ap (λ l. l ++ behind) (between-more i w.index x xs here then first) ∙ ap (λ l. x ∷ l) (sym (after-step events w ws (i + 1) first))
 
-  pub after-kept : (wanted : Content) (i j n : ℕ) (marks rest : List Mark) (ws : List Change) → AllByRecursion (IsKept wanted) marks → IsAt events i (marks ++ rest) → AreApart (i + length marks) ws n
+  pub after-kept : (wanted : Option Content) (i j n : ℕ) (marks rest : List Mark) (ws : List Change) → AllByRecursion (IsKept wanted) marks → IsAt events i (marks ++ rest) → AreApart (i + length marks) ws n
       → after_changes events ws i ≡ linked_from j marks ++ after_changes events ws (i + length marks)
   after-kept wanted i j n [] rest ws h at apart = let same : i ≡ i + 0 = omega arith in ap (after_changes events ws) same
   after-kept wanted i j n (m ∷ marks) rest ws h at apart =
@@ -96,55 +96,55 @@ module _ (events : List Event) where
       let more = kept-room (i + 1) marks rest (next-at events i m (marks ++ rest) at) (omega (arith, within)) in
       omega (arith, more)
 
-module _ (wanted : Content) (g : Given) (reads : List Seat → List Event) (events : List Event) where
+module _ (wanted : Option Content) (g : Given) (reads : Option Content → List Seat → List Event) (events : List Event) where
   abbrev n : ℕ
   n = length events
 
   -- what a chain is read as, and the places where its chunks end
-  abbrev child_of : List (List Seat) → List Event
-  child_of cs = reads (in_line cs)
+  abbrev child_of : Content → List (List Seat) → List Event
+  child_of of cs = reads (Some of) (in_line cs)
 
   abbrev ends_of : List ℕ → List Point
   ends_of ks = map (λ k. place_at events (k + 1)) ks
 
-  abbrev parts_of : (i : ℕ) → List (List Seat) → List (List Event)
-  parts_of i cs = parts (ends_of (indices i cs)) (child_of cs)
+  abbrev parts_of : Content → (i : ℕ) → List (List Seat) → List (List Event)
+  parts_of of i cs = parts (ends_of (indices i cs)) (child_of of cs)
 
   -- the changes that put the texts of segments in place of their chunks
   abbrev pub changes_of : ℕ → List Segment → List Change
   changes_of i [] = []
   changes_of i (kept marks seats ∷ segments) = changes_of (i + length marks) segments
-  changes_of i (chain cs ∷ segments) = part_changes i 0 (indices i cs) (parts_of i cs) ++ changes_of (i + two_for cs) segments
+  changes_of i (chain of cs ∷ segments) = part_changes i 0 (indices i cs) (parts_of of i cs) ++ changes_of (i + two_for cs) segments
 
   -- the first chunks of segments
   abbrev pub starts_of : ℕ → List Segment → List ℕ
   starts_of i [] = []
   starts_of i (kept marks seats ∷ segments) = starts_of (i + length marks) segments
-  starts_of i (chain [] ∷ segments) = starts_of i segments
-  starts_of i (chain (c ∷ cs) ∷ segments) = i ∷ starts_of (i + two_for (c ∷ cs)) segments
+  starts_of i (chain of [] ∷ segments) = starts_of i segments
+  starts_of i (chain of (c ∷ cs) ∷ segments) = i ∷ starts_of (i + two_for (c ∷ cs)) segments
 
   abbrev pub marks_of : List Segment → List Mark
-  marks_of segments = flat_map (flat_of wanted g.bytes) segments
+  marks_of segments = flat_map (flat_of g.bytes) segments
 
   abbrev pub texts_of : List Segment → List Mark
   texts_of segments = flat_map (deep_of g.bytes reads) segments
 
-  as-many : (i : ℕ) (cs : List (List Seat)) → length (indices i cs) ≡ length (parts_of i cs)
-  as-many i cs = sym (length-parts (ends_of (indices i cs)) (child_of cs) ∙ length-map_ends events (indices i cs))
+  as-many : (of : Content) (i : ℕ) (cs : List (List Seat)) → length (indices i cs) ≡ length (parts_of of i cs)
+  as-many of i cs = sym (length-parts (ends_of (indices i cs)) (child_of of cs) ∙ length-map_ends events (indices i cs))
 
-  all-parts : reads [] ≡ [] → (i : ℕ) (cs : List (List Seat)) → joined (parts_of i cs) ≡ child_of cs
-  all-parts none i [] = sym none
-  all-parts none i (c ∷ cs) = joined-parts (place_at events (i + 1)) (ends_of (indices (i + 2) cs)) (child_of (c ∷ cs))
+  all-parts : ((of : Content) → reads (Some of) [] ≡ []) → (of : Content) (i : ℕ) (cs : List (List Seat)) → joined (parts_of of i cs) ≡ child_of of cs
+  all-parts none of i [] = sym (none of)
+  all-parts none of i (c ∷ cs) = joined-parts (place_at events (i + 1)) (ends_of (indices (i + 2) cs)) (child_of of (c ∷ cs))
 
   -- the chains of the list are those of segments
   pub starts-are : (i : ℕ) (segments : List Segment) → AllByRecursion (IsGood wanted) segments → IsAt events i (marks_of segments) → starts_in wanted events i (length (marks_of segments)) ≡ starts_of i segments
   starts-are i [] good at = refl
   starts-are i (kept marks seats ∷ segments) good at =
       kept-starts wanted events i marks (marks_of segments) good.0 at ∙ starts-are (i + length marks) segments good.1 (kept-at events i marks (marks_of segments) at)
-  starts-are i (chain [] ∷ segments) good at = starts-are i segments good.1 at
-  starts-are i (chain (c ∷ cs) ∷ segments) good at =
-      chain-starts wanted g events i c cs (marks_of segments) good.0 at
-      ∙ ap (λ l. i ∷ l) (starts-are (i + two_for (c ∷ cs)) segments good.1 (chain-next wanted g events i false (c ∷ cs) (marks_of segments) good.0 at))
+  starts-are i (chain of [] ∷ segments) good at = starts-are i segments good.1 at
+  starts-are i (chain of (c ∷ cs) ∷ segments) good at =
+      chain-starts of g events wanted good.0.0 i c cs (marks_of segments) good.0.2 at
+      ∙ ap (λ l. i ∷ l) (starts-are (i + two_for (c ∷ cs)) segments good.1 (chain-next of g events i false (c ∷ cs) (marks_of segments) good.0.2 at))
 
   -- the changes are apart
   pub changes-apart : (i : ℕ) (segments : List Segment) → AllByRecursion (IsGood wanted) segments → IsAt events i (marks_of segments) → i ≤ n → AreApart i (changes_of i segments) n
@@ -152,12 +152,12 @@ module _ (wanted : Content) (g : Given) (reads : List Seat → List Event) (even
   changes-apart i (kept marks seats ∷ segments) good at l =
       let more = changes-apart (i + length marks) segments good.1 (kept-at events i marks (marks_of segments) at) (kept-room events i marks (marks_of segments) at l) in
       apart-before (i + length marks) i n (changes_of (i + length marks) segments) (omega arith) more
-  changes-apart i (chain cs ∷ segments) good at l =
-      let more = changes-apart (i + two_for cs) segments good.1 (chain-next wanted g events i false cs (marks_of segments) good.0 at) (chain-room wanted g events i false cs (marks_of segments) good.0 at l) in
-      apart-parts i 0 i n cs (parts_of i cs) (changes_of (i + two_for cs) segments) (as-many i cs) more
+  changes-apart i (chain of cs ∷ segments) good at l =
+      let more = changes-apart (i + two_for cs) segments good.1 (chain-next of g events i false cs (marks_of segments) good.0.2 at) (chain-room of g events i false cs (marks_of segments) good.0.2 at l) in
+      apart-parts i 0 i n cs (parts_of of i cs) (changes_of (i + two_for cs) segments) (as-many of i cs) more
 
   -- behind them the list has the texts of segments
-  pub after-texts : reads [] ≡ [] → (i j : ℕ) (segments : List Segment) → AllByRecursion (IsGood wanted) segments → IsAt events i (marks_of segments) → i ≤ n → after_changes events (changes_of i segments) i ≡ linked_from j (texts_of segments)
+  pub after-texts : ((of : Content) → reads (Some of) [] ≡ []) → (i j : ℕ) (segments : List Segment) → AllByRecursion (IsGood wanted) segments → IsAt events i (marks_of segments) → i ≤ n → after_changes events (changes_of i segments) i ≡ linked_from j (texts_of segments)
   after-texts none i j [] good at l = after-none events i ∙ at
   after-texts none i j (kept marks seats ∷ segments) good at l =
       let k = i + length marks in
@@ -165,12 +165,12 @@ module _ (wanted : Content) (g : Given) (reads : List Seat → List Event) (even
       let room = kept-room events i marks (marks_of segments) at l in
       after-kept events wanted i j n marks (marks_of segments) (changes_of k segments) good.0 at (changes-apart k segments good.1 next room)
       ∙ ap (λ l. linked_from j marks ++ l) (after-texts none k (j + length marks) segments good.1 next room) ∙ sym (linked-append j marks (texts_of segments))
-  after-texts none i j (chain cs ∷ segments) good at l =
+  after-texts none i j (chain of cs ∷ segments) good at l =
       let k = i + two_for cs in
-      let child = child_of cs in
+      let child = child_of of cs in
       let read : List Mark = map (λ (e : Event). (e, None)) child in
-      let next = chain-next wanted g events i false cs (marks_of segments) good.0 at in
-      let room = chain-room wanted g events i false cs (marks_of segments) good.0 at l in
-      after-parts events i 0 i cs (parts_of i cs) (changes_of k segments) (as-many i cs)
-      ∙ (λ x. all-parts none i cs x ++ after-texts none k (j + length read) segments good.1 next room x)
+      let next = chain-next of g events i false cs (marks_of segments) good.0.2 at in
+      let room = chain-room of g events i false cs (marks_of segments) good.0.2 at l in
+      after-parts events i 0 i cs (parts_of of i cs) (changes_of k segments) (as-many of i cs)
+      ∙ (λ x. all-parts none of i cs x ++ after-texts none k (j + length read) segments good.1 next room x)
       ∙ ap (λ l. l ++ linked_from (j + length read) (texts_of segments)) (sym (linked-read j child)) ∙ sym (linked-append j read (texts_of segments))

@@ -1,16 +1,15 @@
 -- The chunks of one chain, whose marks stand in a list from an index on: where they are, and the virtual bytes that they are over.
-use Rattle.std.proofs.Common.{◌≡◌, ℕ, zero, suc, ◌+◌, ◌<◌, ◌≤◌, List, [], ◌∷◌, ◌++◌, Bool, true, false, Some, None, append_assoc, length, refl, sym, ap, ◌∙◌, subst, arith}
+use Rattle.std.proofs.Common.{◌≡◌, ℕ, zero, suc, ◌+◌, ◌<◌, ◌≤◌, List, [], ◌∷◌, ◌++◌, Bool, true, false, Option, Some, None, append_assoc, length, refl, sym, ap, ◌∙◌, subst, arith}
 use Rattle.std.proofs.lemmas.Option.{slice_get_within}
 use Rattle.std.specs.Prelude.{filter, slice_get}
 use Rattle.std.specs.List.{AllByRecursion, flat_map}
 use Rattle.markdown_base.specs.declared.event.Content.{Content}
-use Rattle.markdown_base.specs.declared.event.Content.TheVariants.{Content as ContentContent, Flow as FlowContent, String as StringContent, Text as TextContent}
 use Rattle.markdown_base.specs.declared.event.Event.{Event}
 use Rattle.markdown_base.specs.declared.event.Kind.TheVariants.{Enter, Exit}
 use Rattle.markdown_base.specs.declared.event.Name.TheVariants as name
 use Rattle.markdown_base.specs.Places.{in_range}
 use Rattle.markdown_base.specs.Virtual.{Seat, end_after, virtual}
-use Rattle.markdown_children.specs.Chains.{begins, chain_from, lets_through}
+use Rattle.markdown_children.specs.Chains.{begins, chain_from, content_at, lets_through}
 use Rattle.markdown_children.specs.Ready.{place_at}
 use Rattle.markdown_tokenizer.proofs.Positions.Chains.{IsChain}
 use Rattle.markdown_tokenizer.specs.Text.{Given}
@@ -28,17 +27,10 @@ abbrev has_more : List (List Seat) → Bool
 has_more [] = false
 has_more (c ∷ cs) = true
 
--- a content lets itself through
-self : (c : Content) → lets_through (Some c) c ≡ true
-self FlowContent = refl
-self ContentContent = refl
-self StringContent = refl
-self TextContent = refl
-
-module _ (wanted : Content) (g : Given) (events : List Event) where
+module _ (of : Content) (g : Given) (events : List Event) where
   -- the events of the chunk at an index, before others of its chain
   abbrev enter_of : (i : ℕ) (p more : Bool) → Seat → Event
-  enter_of i p more s = mark_at i (event g.bytes Enter name.Data s.point, Some (record { content = wanted; has_previous = p; has_next = more }))
+  enter_of i p more s = mark_at i (event g.bytes Enter name.Data s.point, Some (record { content = of; has_previous = p; has_next = more }))
 
   abbrev exit_of : Seat → List Seat → Event
   exit_of s ss = event g.bytes Exit name.Data (end_after s.end ss)
@@ -47,8 +39,8 @@ module _ (wanted : Content) (g : Given) (events : List Event) where
   record ChunkAt (i : ℕ) (p : Bool) (s : Seat) (ss : List Seat) (cs : List (List Seat)) (rest : List Mark) : Type 0 where
     enter : slice_get events i ≡ Some (enter_of i p (has_more cs) s)
     exit : slice_get events (i + 1) ≡ Some (exit_of s ss)
-    next : IsAt events (i + 2) (chain_marks wanted g.bytes true cs ++ rest)
-    long : length (chain_marks wanted g.bytes p ((s ∷ ss) ∷ cs) ++ rest) ≡ suc (suc (length (chain_marks wanted g.bytes true cs ++ rest)))
+    next : IsAt events (i + 2) (chain_marks of g.bytes true cs ++ rest)
+    long : length (chain_marks of g.bytes p ((s ∷ ss) ∷ cs) ++ rest) ≡ suc (suc (length (chain_marks of g.bytes true cs ++ rest)))
 
   -- two marks in front, and the others
   two-at : (i : ℕ) (m n : Mark) (marks : List Mark) → IsAt events i (m ∷ n ∷ marks)
@@ -59,43 +51,43 @@ module _ (wanted : Content) (g : Given) (events : List Event) where
       (first-at events i m (n ∷ marks) at, first-at events (i + 1) n marks then, subst (λ j. IsAt events j marks) two (next-at events (i + 1) n marks then))
 
   abbrev enter_mark : (p more : Bool) → Seat → Mark
-  enter_mark p more s = (event g.bytes Enter name.Data s.point, Some (record { content = wanted; has_previous = p; has_next = more }))
+  enter_mark p more s = (event g.bytes Enter name.Data s.point, Some (record { content = of; has_previous = p; has_next = more }))
 
-  chunk-at : (i : ℕ) (p : Bool) (s : Seat) (ss : List Seat) (cs : List (List Seat)) (rest : List Mark) → IsAt events i (chain_marks wanted g.bytes p ((s ∷ ss) ∷ cs) ++ rest) → ChunkAt i p s ss cs rest
+  chunk-at : (i : ℕ) (p : Bool) (s : Seat) (ss : List Seat) (cs : List (List Seat)) (rest : List Mark) → IsAt events i (chain_marks of g.bytes p ((s ∷ ss) ∷ cs) ++ rest) → ChunkAt i p s ss cs rest
   chunk-at i p s ss [] rest at = let c = two-at i (enter_mark p false s) (exit_of s ss, None) rest at in record { enter = c.0; exit = c.1; next = c.2; long = refl }
   chunk-at i p s ss (d ∷ cs) rest at =
-      let c = two-at i (enter_mark p true s) (exit_of s ss, None) (chain_marks wanted g.bytes true (d ∷ cs) ++ rest) at in record { enter = c.0; exit = c.1; next = c.2; long = refl }
+      let c = two-at i (enter_mark p true s) (exit_of s ss, None) (chain_marks of g.bytes true (d ∷ cs) ++ rest) at in record { enter = c.0; exit = c.1; next = c.2; long = refl }
 
   -- the first chunk begins the chain, and no other does
-  later-starts : (i : ℕ) (cs : List (List Seat)) (rest : List Mark) → AllByRecursion HasByte cs → IsAt events i (chain_marks wanted g.bytes true cs ++ rest)
-      → starts_in wanted events i (length (chain_marks wanted g.bytes true cs ++ rest)) ≡ starts_in wanted events (i + two_for cs) (length rest)
-  later-starts i [] rest h at = let same : i ≡ i + 0 = omega arith in ap (λ j. starts_in wanted events j (length rest)) same
-  later-starts i ([] ∷ cs) rest h at = absurd h.0
-  later-starts i ((s ∷ ss) ∷ cs) rest h at =
+  later-starts : (wanted : Option Content) → lets_through wanted of ≡ true → (i : ℕ) (cs : List (List Seat)) (rest : List Mark) → AllByRecursion HasByte cs → IsAt events i (chain_marks of g.bytes true cs ++ rest)
+      → starts_in wanted events i (length (chain_marks of g.bytes true cs ++ rest)) ≡ starts_in wanted events (i + two_for cs) (length rest)
+  later-starts wanted lets i [] rest h at = let same : i ≡ i + 0 = omega arith in ap (λ j. starts_in wanted events j (length rest)) same
+  later-starts wanted lets i ([] ∷ cs) rest h at = absurd h.0
+  later-starts wanted lets i ((s ∷ ss) ∷ cs) rest h at =
       let c = chunk-at i true s ss cs rest at in
-      let n = length (chain_marks wanted g.bytes true cs ++ rest) in
-      let one : begins (Some wanted) events i ≡ false = rw (c.enter, self wanted) refl in
-      let two : begins (Some wanted) events (i + 1) ≡ false = rw (c.exit) refl in
+      let n = length (chain_marks of g.bytes true cs ++ rest) in
+      let one : begins wanted events i ≡ false = rw (c.enter, lets) refl in
+      let two : begins wanted events (i + 1) ≡ false = rw (c.exit) refl in
       let behind : i + 1 + 1 ≡ i + 2 = omega arith in
       let same : i + 2 + two_for cs ≡ i + two_for ((s ∷ ss) ∷ cs) = omega arith in
       let both : starts_in wanted events i (suc (suc n)) ≡ starts_in wanted events (i + 1 + 1) n = rw (one, two) refl in
-      ap (starts_in wanted events i) c.long ∙ both ∙ ap (λ j. starts_in wanted events j n) behind ∙ later-starts (i + 2) cs rest h.1 c.next ∙ ap (λ j. starts_in wanted events j (length rest)) same
+      ap (starts_in wanted events i) c.long ∙ both ∙ ap (λ j. starts_in wanted events j n) behind ∙ later-starts wanted lets (i + 2) cs rest h.1 c.next ∙ ap (λ j. starts_in wanted events j (length rest)) same
 
-  pub chain-starts : (i : ℕ) (c : List Seat) (cs : List (List Seat)) (rest : List Mark) → AllByRecursion HasByte (c ∷ cs) → IsAt events i (chain_marks wanted g.bytes false (c ∷ cs) ++ rest)
-      → starts_in wanted events i (length (chain_marks wanted g.bytes false (c ∷ cs) ++ rest)) ≡ i ∷ starts_in wanted events (i + two_for (c ∷ cs)) (length rest)
-  chain-starts i [] cs rest h at = absurd h.0
-  chain-starts i (s ∷ ss) cs rest h at =
+  pub chain-starts : (wanted : Option Content) → lets_through wanted of ≡ true → (i : ℕ) (c : List Seat) (cs : List (List Seat)) (rest : List Mark) → AllByRecursion HasByte (c ∷ cs) → IsAt events i (chain_marks of g.bytes false (c ∷ cs) ++ rest)
+      → starts_in wanted events i (length (chain_marks of g.bytes false (c ∷ cs) ++ rest)) ≡ i ∷ starts_in wanted events (i + two_for (c ∷ cs)) (length rest)
+  chain-starts wanted lets i [] cs rest h at = absurd h.0
+  chain-starts wanted lets i (s ∷ ss) cs rest h at =
       let c = chunk-at i false s ss cs rest at in
-      let n = length (chain_marks wanted g.bytes true cs ++ rest) in
-      let one : begins (Some wanted) events i ≡ true = rw (c.enter, self wanted) refl in
-      let two : begins (Some wanted) events (i + 1) ≡ false = rw (c.exit) refl in
+      let n = length (chain_marks of g.bytes true cs ++ rest) in
+      let one : begins wanted events i ≡ true = rw (c.enter, lets) refl in
+      let two : begins wanted events (i + 1) ≡ false = rw (c.exit) refl in
       let behind : i + 1 + 1 ≡ i + 2 = omega arith in
       let same : i + 2 + two_for cs ≡ i + two_for ((s ∷ ss) ∷ cs) = omega arith in
       let both : starts_in wanted events i (suc (suc n)) ≡ i ∷ starts_in wanted events (i + 1 + 1) n = rw (one, two) refl in
-      ap (starts_in wanted events i) c.long ∙ both ∙ ap (λ l. i ∷ l) (ap (λ j. starts_in wanted events j n) behind ∙ later-starts (i + 2) cs rest h.1 c.next ∙ ap (λ j. starts_in wanted events j (length rest)) same)
+      ap (starts_in wanted events i) c.long ∙ both ∙ ap (λ l. i ∷ l) (ap (λ j. starts_in wanted events j n) behind ∙ later-starts wanted lets (i + 2) cs rest h.1 c.next ∙ ap (λ j. starts_in wanted events j (length rest)) same)
 
   -- the links lead from each chunk to the next
-  pub chain-is : (fuel i : ℕ) (p : Bool) (c : List Seat) (cs : List (List Seat)) (rest : List Mark) → length (c ∷ cs) ≤ fuel → AllByRecursion HasByte (c ∷ cs) → IsAt events i (chain_marks wanted g.bytes p (c ∷ cs) ++ rest)
+  pub chain-is : (fuel i : ℕ) (p : Bool) (c : List Seat) (cs : List (List Seat)) (rest : List Mark) → length (c ∷ cs) ≤ fuel → AllByRecursion HasByte (c ∷ cs) → IsAt events i (chain_marks of g.bytes p (c ∷ cs) ++ rest)
       → chain_from fuel events i ≡ indices i (c ∷ cs)
   chain-is zero i p c cs rest l h at = absurd (omega (arith, l))
   chain-is (suc fuel) i p [] cs rest l h at = absurd h.0
@@ -105,8 +97,13 @@ module _ (wanted : Content) (g : Given) (events : List Event) where
       let one : chain_from (suc fuel) events i ≡ i ∷ chain_from fuel events (i + 2) = rw (c.enter) refl in
       one ∙ ap (λ l. i ∷ l) (chain-is fuel (i + 2) true d cs rest (omega (arith, l)) h.1 c.next)
 
+  -- the first chunk has the content
+  pub chain-content : (i : ℕ) (p : Bool) (c : List Seat) (cs : List (List Seat)) (rest : List Mark) → AllByRecursion HasByte (c ∷ cs) → IsAt events i (chain_marks of g.bytes p (c ∷ cs) ++ rest) → content_at events i ≡ Some of
+  chain-content i p [] cs rest h at = absurd h.0
+  chain-content i p (s ∷ ss) cs rest h at = let c = chunk-at i p s ss cs rest at in rw (c.enter) refl
+
   -- the list goes on behind the chain
-  pub chain-next : (i : ℕ) (p : Bool) (cs : List (List Seat)) (rest : List Mark) → AllByRecursion HasByte cs → IsAt events i (chain_marks wanted g.bytes p cs ++ rest) → IsAt events (i + two_for cs) rest
+  pub chain-next : (i : ℕ) (p : Bool) (cs : List (List Seat)) (rest : List Mark) → AllByRecursion HasByte cs → IsAt events i (chain_marks of g.bytes p cs ++ rest) → IsAt events (i + two_for cs) rest
   chain-next i p [] rest h at = let same : i ≡ i + 0 = omega arith in subst (λ j. IsAt events j rest) same at
   chain-next i p ([] ∷ cs) rest h at = absurd h.0
   chain-next i p ((s ∷ ss) ∷ cs) rest h at =
@@ -114,7 +111,7 @@ module _ (wanted : Content) (g : Given) (events : List Event) where
       subst (λ j. IsAt events j rest) same (chain-next (i + 2) true cs rest h.1 (chunk-at i p s ss cs rest at).next)
 
   -- and all of it is in the list
-  pub chain-room : (i : ℕ) (p : Bool) (cs : List (List Seat)) (rest : List Mark) → AllByRecursion HasByte cs → IsAt events i (chain_marks wanted g.bytes p cs ++ rest) → i ≤ length events → i + two_for cs ≤ length events
+  pub chain-room : (i : ℕ) (p : Bool) (cs : List (List Seat)) (rest : List Mark) → AllByRecursion HasByte cs → IsAt events i (chain_marks of g.bytes p cs ++ rest) → i ≤ length events → i + two_for cs ≤ length events
   chain-room i p [] rest h at l = omega (arith, l)
   chain-room i p ([] ∷ cs) rest h at l = absurd h.0
   chain-room i p ((s ∷ ss) ∷ cs) rest h at l =
@@ -134,7 +131,7 @@ module _ (wanted : Content) (g : Given) (events : List Event) where
         let to : place_at events (i + 1) ≡ end_after q t = place-at-event events (i + 1) (exit_of s ss) c.exit ∙ place-shown g.tab g.bytes q t more run in
         (λ j. filter (in_range (from j) (to j)) (virtual g.tab g.bytes)) ∙ range-of g.tab g.bytes some pre t more whole
 
-    pub chain-seats-are : (i : ℕ) (p : Bool) (cs : List (List Seat)) (rest : List Mark) → AllByRecursion HasByte cs → IsAt events i (chain_marks wanted g.bytes p cs ++ rest)
+    pub chain-seats-are : (i : ℕ) (p : Bool) (cs : List (List Seat)) (rest : List Mark) → AllByRecursion HasByte cs → IsAt events i (chain_marks of g.bytes p cs ++ rest)
         → (pre more : List Seat) → virtual g.tab g.bytes ≡ pre ++ (in_line cs ++ more) → flat_map (chunk_seats g events) (indices i cs) ≡ in_line cs
     chain-seats-are i p [] rest h at pre more whole = refl
     chain-seats-are i p ([] ∷ cs) rest h at pre more whole = absurd h.0

@@ -11,7 +11,7 @@ use Rattle.markdown_base.specs.declared.event.Name.{Name}
 use Rattle.markdown_base.specs.declared.event.Point.{Point}
 use Rattle.markdown_base.specs.Events.{is_void}
 use Rattle.markdown_base.specs.Places.{shown, stands_before}
-use Rattle.markdown_base.specs.Virtual.{Seat, end_after, point}
+use Rattle.markdown_base.specs.Virtual.{Seat, end_after}
 use Rattle.markdown_edits.proofs.Balanced.{names_after_all-append}
 use Rattle.markdown_edits.specs.OpenNames.{names_after_all}
 use Rattle.mdconstructs_machines.specs.Spans.{event, leaf, span}

@@ -1,5 +1,5 @@
 -- The items of inline text can be cut into innermost spans: none goes over a line ending.
-use Rattle.std.proofs.Common.{◌≡◌, ℕ, ◌+◌, ◌≤◌, ◌==◌, ◌&&◌, Bool, true, false, cond, List, [], ◌∷◌, length, take, drop, refl, sym, ap, subst, arith, suc}
+use Rattle.std.proofs.Common.{◌≡◌, ℕ, ◌+◌, ◌≤◌, ◌&&◌, true, false, cond, List, [], ◌∷◌, length, take, drop, refl, sym, subst, arith, suc}
 use Rattle.std.proofs.lemmas.List.{drop-map, drop-take, length-drop, take-append-drop}
 use Rattle.std.specs.List.{flat_map, prefix_len}
 use Rattle.markdown_base.proofs.Common.{and-right, every-map}
@@ -16,7 +16,7 @@ use Rattle.mdconstructs_text.proofs.DeepSpans.Stretches.{ItemCut, NoEnding, cuts
 use Rattle.mdconstructs_text.proofs.Escapes.Cuts.{escape-cut}
 use Rattle.mdconstructs_text.specs.Bytes.{backticks, is_backtick, is_line_feed}
 use Rattle.mdconstructs_text.specs.Items.{item_length}
-use Rattle.mdconstructs_text.specs.Parts.{bytes_of, first_plain, leaf}
+use Rattle.mdconstructs_text.specs.Parts.{bytes_of, first_plain}
 use Rattle.mdconstructs_text.specs.TextEvents.{item_events}
 use Rattle.mdconstructs_inline_constructs.proofs.Emails.Cuts.{email-cut}
 use Rattle.mdconstructs_inline_constructs.proofs.HtmlMarks.Bytes.{html-mark-cut}

@@ -8,7 +8,7 @@ use Rattle.markdown_base.specs.Virtual.{Seat, end_after, point, virtual}
 use Rattle.markdown_edits.proofs.Balanced.{names_after_balanced}
 use Rattle.markdown_tokenizer.proofs.Positions.Order.{every-back, every-front}
 use Rattle.markdown_tokenizer.specs.Engine.{IsWellFormed}
-use Rattle.markdown_tokenizer.specs.Text.{Given, IsDocument, empty_text}
+use Rattle.markdown_tokenizer.specs.Text.{IsDocument, empty_text}
 use Rattle.mdconstructs_attention.proofs.RunEdits.{emphasis-can-be-made}
 use Rattle.mdconstructs_machines.specs.LineEvents.{lines_in}
 use Rattle.mdconstructs_text.proofs.DeepSpans.Atoms.{events_of}

@@ -1,5 +1,5 @@
 -- Delimiter runs of inline text go byte by byte: none goes over a tab or a line ending; and no other item has an attention sequence.
-use Rattle.std.proofs.Common.{◌≡◌, ℕ, zero, suc, ◌+◌, ◌-◌, ◌≤◌, ◌<◌, ◌==◌, Bool, true, false, cond, List, [], ◌∷◌, ◌++◌, Option, Some, None, append_assoc, length, take, drop, refl, sym, ap, ◌∙◌, subst, arith}
+use Rattle.std.proofs.Common.{◌≡◌, ℕ, zero, suc, ◌+◌, ◌-◌, ◌==◌, true, false, cond, List, [], ◌∷◌, ◌++◌, Option, Some, None, append_assoc, length, take, drop, refl, sym, ap, ◌∙◌, subst, arith}
 use Rattle.std.specs.Char.{is_ascii_punctuation}
 use Rattle.std.specs.Prelude.{◌&&◌, nat_le, nat_lt, not, option_map, slice_get}
 use Rattle.std.specs.List.{AllByRecursion, between, flat_map, prefix_len}
@@ -20,7 +20,6 @@ use Rattle.markdown_tokenizer.proofs.Positions.Order.{every-back, every-front}
 use Rattle.markdown_tokenizer.proofs.Positions.Seats.{drop-first}
 use Rattle.mdconstructs_attention.proofs.RunTexts.{and-left}
 use Rattle.mdconstructs_attention.specs.Emphasis.{later}
-use Rattle.mdconstructs_attention.specs.Runs.{is_sequence}
 use Rattle.mdconstructs_machines.specs.Breaks.{is_white}
 use Rattle.mdconstructs_machines.specs.Spans.{event, leaf, span}
 use Rattle.mdconstructs_text.proofs.Constructs.Apart.{EachThere, OfOption, there-holds, when-there}
@@ -47,7 +46,7 @@ use Rattle.mdconstructs_inlines.proofs.InlineBuilt.{items-built}
 use Rattle.mdconstructs_inlines.specs.InlineEvents.{begins_run, data_length, data_run, delimiter_run, inline_grammars, inline_item_at, inline_items, line_break, run_length, run_or_part}
 use Rattle.mdconstructs_inlines.specs.RunRows.{is_delimiter}
 use Rattle.mdconstructs_flow_read.proofs.Marks.MarkForms.{Place, Track, track-on, track-place}
-use Rattle.mdconstructs_documents.proofs.FlowTexts.InlineOrder.{Next, RunSteps, RunsStep, Walk, get-drop, later-later, later-none}
+use Rattle.mdconstructs_documents.proofs.FlowTexts.InlineOrder.{Next, RunsStep, Walk, get-drop, later-later, later-none}
 
 -- ---- delimiters among virtual bytes
 -- behind a delimiter is the place one byte later; it is shown at itself; and it is the byte there

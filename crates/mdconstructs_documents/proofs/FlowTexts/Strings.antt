@@ -10,7 +10,7 @@ use Rattle.mdconstructs_text.proofs.DeepSpans.Stretches.{ItemCut, cuts, one-take
 use Rattle.mdconstructs_text.proofs.Escapes.Bytes.{escapes-apart}
 use Rattle.mdconstructs_text.proofs.Escapes.Cuts.{escape-cut}
 use Rattle.mdconstructs_text.specs.Items.{item_length}
-use Rattle.mdconstructs_text.specs.Parts.{bytes_of, cut, line_ending, part}
+use Rattle.mdconstructs_text.specs.Parts.{bytes_of, line_ending, part}
 use Rattle.mdconstructs_text.specs.TextEvents.{item_events}
 use Rattle.mdconstructs_inline_constructs.proofs.References.Bytes.{references-apart}
 use Rattle.mdconstructs_inline_constructs.proofs.References.Cuts.{reference-cut}

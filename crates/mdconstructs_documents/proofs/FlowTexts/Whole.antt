@@ -1,9 +1,10 @@
 -- The events of leaf blocks, with what their chains of texts and then of strings are read as, are those of leaf blocks with their texts; and so with inline text.
 use Rattle.mdconstructs_documents.proofs.Prelude.{[], ◌≡◌, ◌<◌, ◌∙◌, ℕ, List, map, refl, ap, arith, sym, Event, IsDocument, ParseOptions, Seat, document, virtual_bytes}
-use Rattle.std.specs.Prelude.{Some}
+use Rattle.std.specs.Prelude.{None, Some}
+use Rattle.markdown_base.specs.declared.event.Content.{Content}
 use Rattle.markdown_base.specs.Virtual.{point}
 use Rattle.markdown_base.specs.declared.event.Content.TheVariants as content
-use Rattle.markdown_children.specs.Chains.{fitting_starts}
+use Rattle.markdown_children.specs.Chains.{content_at, fitting_starts}
 use Rattle.markdown_children.specs.Children.{with_children}
 use Rattle.markdown_tokenizer.specs.Plain.{HaveNoLinks}
 use Rattle.markdown_tokenizer.specs.Text.{Text, empty_text}
@@ -13,8 +14,8 @@ use Rattle.mdconstructs_inlines.proofs.StringRuns.{string-alone}
 use Rattle.mdconstructs_inlines.specs.StringEvents.{string_seat_events}
 use Rattle.mdconstructs_text.specs.ChainTexts.{chain_text, with_read}
 use Rattle.mdconstructs_documents.specs.FlowTextLaws.{InlinesAreRead}
-use Rattle.mdconstructs_documents.specs.FlowTexts.{flow_read, inline_seat_events}
-use Rattle.mdconstructs_documents.proofs.FlowTexts.BlockSegments.{string-segments, text-segments}
+use Rattle.mdconstructs_documents.specs.FlowTexts.{flow_inlines, flow_read, inline_seat_events}
+use Rattle.mdconstructs_documents.proofs.FlowTexts.BlockSegments.{all-segments, by_content, string-segments, text-segments}
 use Rattle.mdconstructs_documents.proofs.FlowTexts.ChainsRead.{texts-read}
 
 -- a text with these virtual bytes
@@ -35,10 +36,43 @@ flow-is-read texts strings no_text no_string alone string_alone options bytes is
     let k = string-segments bytes texts strings alone on seats in
     let with_strings : List Event → List Event = λ (half : List Event). with_children (Some content.String) half (map (λ c. strings (chain_text g half c).seats) (fitting_starts (Some content.String) half)) in
     let first = ap (λ (marks : List Mark). let events = linked_from 0 marks in with_read g events (λ c. texts (chain_text g events c).seats)) h.flat_is
-    ∙ texts-read content.Text g texts no_text alone some h.segments h.good h.seats_is ∙ ap (linked_from 0) (sym h.deep_is) in
+    ∙ texts-read (Some content.Text) g (λ o. texts) (λ of. no_text) (λ of. alone) some h.segments h.good h.seats_is ∙ ap (linked_from 0) (sym h.deep_is) in
     ap with_strings first ∙ ap (λ (marks : List Mark). with_strings (linked_from 0 marks)) k.flat_is
-    ∙ texts-read content.String g strings no_string string_alone some k.segments k.good k.seats_is ∙ ap (linked_from 0) (sym k.deep_is)
+    ∙ texts-read (Some content.String) g (λ o. strings) (λ of. no_string) (λ of. string_alone) some k.segments k.good k.seats_is ∙ ap (linked_from 0) (sym k.deep_is)
 
 pub inlines-are-read : InlinesAreRead
 inlines-are-read options bytes =
     flow-is-read (inline_seat_events options.constructs bytes) (string_seat_events options.constructs bytes) refl refl (λ seats. inline-alone (document options bytes) (text_over seats)) (λ seats. string-alone (document options bytes) (text_over seats)) options bytes
+
+-- and with what all their chains are read as at once, whatever texts and strings are read as
+all-is-read : (texts strings : List Seat → List Event) → texts [] ≡ [] → strings [] ≡ [] → ((seats : List Seat) → HaveNoLinks (texts seats)) → ((seats : List Seat) → HaveNoLinks (strings seats))
+    → (options : ParseOptions) (bytes : List ℕ) → IsDocument (document options bytes)
+    → let g = document options bytes in let flat = flow_events options.constructs bytes (virtual_bytes options bytes) in
+    with_children None flat (map (λ c. by_content bytes texts strings (content_at flat c) (chain_text g flat c).seats) (fitting_starts None flat)) ≡ flow_read texts strings options.constructs bytes (virtual_bytes options bytes)
+all-is-read texts strings no_text no_string alone string_alone options bytes is =
+    let g = document options bytes in
+    let seats = virtual_bytes options bytes in
+    let some : 0 < g.tab = (let tab = is.tab.0 in omega (arith, tab)) in
+    let reads = by_content bytes texts strings in
+    let h = all-segments bytes texts strings options.constructs seats in
+    ap (λ (marks : List Mark). let events = linked_from 0 marks in with_children None events (map (λ c. reads (content_at events c) (chain_text g events c).seats) (fitting_starts None events))) h.flat_is
+    ∙ texts-read None g reads (λ of. none of) (λ of. links of) some h.segments h.good h.seats_is ∙ ap (linked_from 0) (sym h.deep_is)
+  where
+    none : (of : Content) → by_content bytes texts strings (Some of) [] ≡ []
+    none content.Flow = no_text
+    none content.Content = no_text
+    none content.String = no_string
+    none content.Text = no_text
+
+    links : (of : Content) (seats : List Seat) → HaveNoLinks (by_content bytes texts strings (Some of) seats)
+    links content.Flow = alone
+    links content.Content = alone
+    links content.String = string_alone
+    links content.Text = alone
+
+-- inline text and strings
+pub all-inlines-are-read : (options : ParseOptions) (bytes : List ℕ) → IsDocument (document options bytes)
+    → let g = document options bytes in let on = options.constructs in let flat = flow_events on bytes (virtual_bytes options bytes) in
+    with_children None flat (map (λ c. by_content bytes (inline_seat_events on bytes) (string_seat_events on bytes) (content_at flat c) (chain_text g flat c).seats) (fitting_starts None flat)) ≡ flow_inlines on bytes (virtual_bytes options bytes)
+all-inlines-are-read options bytes =
+    all-is-read (inline_seat_events options.constructs bytes) (string_seat_events options.constructs bytes) refl refl (λ seats. inline-alone (document options bytes) (text_over seats)) (λ seats. string-alone (document options bytes) (text_over seats)) options bytes

@@ -1,6 +1,4 @@
-use Rattle.mdconstructs_documents.proofs.FlowChains.Contents.{may-start}
 use Rattle.mdconstructs_documents.proofs.making.with_ready_children.Goals as goal
 
 pub subtokenize-requires-clause-starts : goal.subtokenize-requires-clause-starts
-subtokenize-requires-clause-starts g c =
-    rw (c.in-Some.ensures.bytes, c.in-Some.ensures.options, c.in-Some.ensures.machine) (may-start c.args.content _ c.args.events.items c.requires.start)
+subtokenize-requires-clause-starts g c = rw (c.in-Some.ensures.bytes, c.in-Some.ensures.options, c.in-Some.ensures.machine) c.requires.start

@@ -1,0 +1,80 @@
+-- What the machine of inline text reads of all chains of leaf blocks at once: of each text its inline text, and of each string its events.
+use Rattle.std.proofs.Common.{◌≡◌, ℕ, List, [], ◌∷◌, true, Option, Some, None, length, map, refl, sym, ap, ◌∙◌}
+use Rattle.std.specs.Prelude.{◌&&◌, is_none}
+use Rattle.std.specs.List.{AllByRecursion, range_with_len}
+use Rattle.std.proofs.lemmas.Bool.{and_parts}
+use Rattle.markdown_base.specs.declared.configuration.ParseOptions.{ParseOptions}
+use Rattle.markdown_base.specs.declared.event.Content.{Content}
+use Rattle.markdown_base.specs.declared.event.Content.TheVariants.{String as StringContent, Text as TextContent}
+use Rattle.markdown_base.specs.declared.event.Event.{Event}
+use Rattle.markdown_base.specs.declared.state.TheConstants.Name.{StringStart, TextStart}
+use Rattle.markdown_children.specs.Chains.{begins, content_at, fits, fitting_starts, some_fits}
+use Rattle.markdown_children.specs.Children.{with_children}
+use Rattle.markdown_children.specs.Reads.{AreChildren, Child, IsChild, IsSubtokenized, lists}
+use Rattle.markdown_edits.specs.Links.{previous_of}
+use Rattle.markdown_tokenizer.proofs.Positions.Order.{every-all, every-kept}
+use Rattle.markdown_tokenizer.specs.declared.subtokenize.Subresult.{Subresult}
+use Rattle.markdown_tokenizer.specs.Text.{Given, IsDocument}
+use Rattle.mdconstructs_flow_read.specs.LeafEvents.{flow_events}
+use Rattle.mdconstructs_inlines.proofs.InlineChains.{reads-texts}
+use Rattle.mdconstructs_inlines.proofs.StringChains.{reads-strings-of}
+use Rattle.mdconstructs_inlines.specs.InlineEvents.{inline_events}
+use Rattle.mdconstructs_inlines.specs.InlineRules.{inlines_rules}
+use Rattle.mdconstructs_inlines.specs.StringEvents.{string_events, string_seat_events}
+use Rattle.mdconstructs_text.proofs.Paragraphs.ChainEvents.{children-events}
+use Rattle.mdconstructs_text.specs.ChainTexts.{chain_text}
+use Rattle.mdconstructs_documents.proofs.FlowChains.Ready.{flow-ready}
+use Rattle.mdconstructs_documents.proofs.FlowTexts.BlockSegments.{by_content}
+use Rattle.mdconstructs_documents.proofs.FlowTexts.Textual.{by-content}
+use Rattle.mdconstructs_documents.proofs.FlowTexts.Whole.{all-inlines-are-read}
+use Rattle.mdconstructs_documents.specs.Documents.{AreFlowInlines, document, virtual_bytes}
+use Rattle.mdconstructs_documents.specs.FlowTexts.{inline_seat_events}
+
+module _ (options : ParseOptions) (bytes : List ℕ) (is : IsDocument (document options bytes)) where
+  abbrev g : Given
+  g = document options bytes
+
+  abbrev flat : List Event
+  flat = flow_events options.constructs bytes (virtual_bytes options bytes)
+
+  -- what the chain that begins at an index is read as
+  abbrev read_at : ℕ → List Event
+  read_at c = by_content bytes (inline_seat_events options.constructs bytes) (string_seat_events options.constructs bytes) (content_at flat c) (chain_text g flat c).seats
+
+  abbrev Begins : ℕ → Type 0
+  Begins c = begins None flat c ≡ true
+
+  -- what begins some chain begins one of its content
+  begins-one : (wanted : Content) (c : ℕ) → content_at flat c ≡ Some wanted → some_fits (Some wanted) (Some wanted) ≡ true → Begins c → begins (Some wanted) flat c ≡ true
+  begins-one wanted c at self b =
+      let first = (and_parts (fits None flat c) (is_none (previous_of flat c)) b).1 in
+      let fit : fits (Some wanted) flat c ≡ true = ap (some_fits (Some wanted)) at ∙ self in
+      λ j. fit j && first j
+
+  one-child : (c : ℕ) (child : Child) → IsChild g inlines_rules flat c child → Begins c → child.events ≡ read_at c
+  one-child c child one b =
+      let reads_as : Option Content → List Event = λ o. by_content bytes (inline_seat_events options.constructs bytes) (string_seat_events options.constructs bytes) o (chain_text g flat c).seats in
+      by-content g c (and_parts (fits None flat c) (is_none (previous_of flat c)) b).0
+      (λ at.
+      let all = children-events g flat is TextContent (flow-ready g is TextContent (λ e. absurd (cc))) TextStart refl inlines_rules (inline_events g) (reads-texts g) (c ∷ []) (child ∷ []) (begins-one TextContent c at refl b, tt) (one, tt) in
+      let here : child.events ≡ inline_events g (chain_text g flat c) = cc in
+      here ∙ sym (ap reads_as at))
+      (λ at.
+      let all = children-events g flat is StringContent (flow-ready g is StringContent (λ e. absurd (cc))) StringStart refl inlines_rules (string_events g) (reads-strings-of g) (c ∷ []) (child ∷ []) (begins-one StringContent c at refl b, tt) (one, tt) in
+      let here : child.events ≡ string_events g (chain_text g flat c) = cc in
+      here ∙ sym (ap reads_as at))
+
+  each-child : (cs : List ℕ) (children : List Child) → AllByRecursion Begins cs → AreChildren g inlines_rules flat cs children → lists children ≡ map read_at cs
+  each-child [] [] b h = refl
+  each-child [] (child ∷ children) b h = absurd h
+  each-child (c ∷ cs) [] b h = absurd h
+  each-child (c ∷ cs) (child ∷ children) b h = λ j. one-child c child h.0 b.0 j ∷ each-child cs children b.1 h.1 j
+
+  all-begin : AllByRecursion Begins (fitting_starts None flat)
+  all-begin =
+      let indices = range_with_len 0 (length flat) in
+      every-kept (λ k. Unit {0}) Begins (begins None flat) (λ k u e. e) indices (every-all (λ k. Unit {0}) (λ k. tt) indices)
+
+  -- with all children the list is what is read of the document
+  pub all-children : (new : List Event) (sub : Subresult) → IsSubtokenized g inlines_rules None flat new sub → AreFlowInlines options bytes new
+  all-children new sub h = h.events ∙ ap (with_children None flat) (each-child (fitting_starts None flat) h.children all-begin h.read) ∙ all-inlines-are-read options bytes is
