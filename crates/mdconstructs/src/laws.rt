@@ -5,7 +5,8 @@ pub use mdconstructs_attention::laws::{
     emphasis_is_balanced, neighbours_of_pairs,
 };
 pub use mdconstructs_documents::laws::{
-    chains_of_leaf_blocks_can_be_read, inline_texts_in_their_blocks_account_for_each_byte,
+    chains_of_leaf_blocks_can_be_read, inline_texts_and_strings_are_read_at_once,
+    inline_texts_in_their_blocks_account_for_each_byte,
     inline_texts_in_their_blocks_are_well_formed, inline_texts_stand_in_their_blocks,
     innermost_spans_tile_documents,
 };

@@ -1,7 +1,7 @@
 //! The laws about documents. Each is a function that does nothing; its contract is the law.
 
 ghost use Rattle.mdconstructs_documents.specs.Documents.{ChainsAreReadable};
-ghost use Rattle.mdconstructs_documents.specs.FlowTextLaws.{InlinesAccount, InlinesAreFormed, InlinesAreRead};
+ghost use Rattle.mdconstructs_documents.specs.FlowTextLaws.{InlinesAccount, InlinesAreFormed, InlinesAreRead, InlinesAreReadAtOnce};
 ghost use Rattle.mdconstructs_documents.specs.Tiles.{TilesDocuments};
 ghost use Rattle.mdconstructs_documents.specs.declared.choice.Which.TheVariants.{Flow, Lines, Paragraphs, Text};
 
@@ -28,6 +28,12 @@ pub fn chains_of_leaf_blocks_can_be_read()
 /// chain's text in place of its chunks is what a definition says of the lines. It has neither chains nor parts.
 pub fn inline_texts_stand_in_their_blocks()
     ensures { InlinesAreRead }
+{}
+
+/// All chains of leaf blocks may be read at once, by one `subtokenize` with no filter: the list is as if chains of text were read first, and
+/// then strings.
+pub fn inline_texts_and_strings_are_read_at_once()
+    ensures { InlinesAreReadAtOnce }
 {}
 
 /// The events of a document's leaf blocks with inline text are well formed: emphasis keeps places in order, and each of its own is one of
