@@ -9,114 +9,48 @@ ghost use Rattle.mdconstructs_tables.specs.RowInvariant.{begun};
 ghost use Rattle.mdconstructs_flow.specs.FlowTable.{unchanged};
 
 use crate::blank_line::blank_line_start;
-use crate::code_fenced::raw_flow_after;
-use crate::code_fenced::raw_flow_after_sequence_close;
-use crate::code_fenced::raw_flow_at_non_lazy_break;
-use crate::code_fenced::raw_flow_before_content_chunk;
-use crate::code_fenced::raw_flow_before_sequence_close;
-use crate::code_fenced::raw_flow_close_before;
-use crate::code_fenced::raw_flow_close_between;
-use crate::code_fenced::raw_flow_close_blank;
-use crate::code_fenced::raw_flow_close_sequence;
-use crate::code_fenced::raw_flow_close_start;
-use crate::code_fenced::raw_flow_content_before;
-use crate::code_fenced::raw_flow_content_chunk;
-use crate::code_fenced::raw_flow_content_start;
-use crate::code_fenced::raw_flow_sequence_close;
-use crate::code_indented::code_indented_after;
-use crate::code_indented::code_indented_at_break;
-use crate::code_indented::code_indented_further_after;
-use crate::code_indented::code_indented_further_begin;
-use crate::code_indented::code_indented_further_start;
-use crate::code_indented::code_indented_inside;
-use crate::code_indented::code_indented_line_after;
-use crate::code_indented::code_indented_start;
-use crate::fence::flow_before_raw;
-use crate::fence::raw_flow_before_sequence_open;
-use crate::fence::raw_flow_info;
-use crate::fence::raw_flow_info_after;
-use crate::fence::raw_flow_info_before;
-use crate::fence::raw_flow_look_info;
-use crate::fence::raw_flow_meta;
-use crate::fence::raw_flow_meta_before;
-use crate::fence::raw_flow_sequence_open;
-use crate::fence::raw_flow_start;
-use crate::heading_atx::flow_before_heading_atx;
-use crate::heading_atx::heading_atx_at_break;
-use crate::heading_atx::heading_atx_before;
-use crate::heading_atx::heading_atx_data;
-use crate::heading_atx::heading_atx_look_after;
-use crate::heading_atx::heading_atx_look_blank;
-use crate::heading_atx::heading_atx_look_signs;
-use crate::heading_atx::heading_atx_look_start;
-use crate::heading_atx::heading_atx_look_text;
-use crate::heading_atx::heading_atx_sequence_open;
-use crate::heading_atx::heading_atx_start;
-use crate::heading_setext::flow_before_heading_setext;
-use crate::heading_setext::heading_setext_after;
-use crate::heading_setext::heading_setext_before;
-use crate::heading_setext::heading_setext_inside;
-use crate::heading_setext::heading_setext_look_after;
-use crate::heading_setext::heading_setext_start;
-use crate::heading_setext::heading_setext_text_after;
-use crate::html_flow::html_flow_blank_line_before;
-use crate::html_flow::html_flow_blank_line_inside;
-use crate::html_flow::html_flow_continuation;
-use crate::html_flow::html_flow_continuation_after;
-use crate::html_flow::html_flow_continuation_before;
-use crate::html_flow::html_flow_continuation_cdata_inside;
-use crate::html_flow::html_flow_continuation_close;
-use crate::html_flow::html_flow_continuation_comment_inside;
-use crate::html_flow::html_flow_continuation_declaration_inside;
-use crate::html_flow::html_flow_continuation_raw_end_tag;
-use crate::html_flow::html_flow_continuation_raw_tag_open;
-use crate::html_flow::html_flow_continuation_start;
-use crate::html_flow::html_flow_start;
-use crate::html_tags::html_flow_basic_self_closing;
-use crate::html_tags::html_flow_cdata_open_inside;
-use crate::html_tags::html_flow_comment_open_inside;
-use crate::html_tags::html_flow_complete_after;
-use crate::html_tags::html_flow_complete_attribute_name;
-use crate::html_tags::html_flow_complete_attribute_name_after;
-use crate::html_tags::html_flow_complete_attribute_name_before;
-use crate::html_tags::html_flow_complete_attribute_value_before;
-use crate::html_tags::html_flow_complete_attribute_value_quoted;
-use crate::html_tags::html_flow_complete_attribute_value_quoted_after;
-use crate::html_tags::html_flow_complete_attribute_value_unquoted;
-use crate::html_tags::html_flow_complete_closing_tag_after;
-use crate::html_tags::html_flow_complete_end;
-use crate::html_tags::html_flow_declaration_open;
-use crate::html_tags::html_flow_open;
-use crate::html_tags::html_flow_tag_close_start;
-use crate::html_tags::html_flow_tag_name;
-use crate::lines::flow_after;
-use crate::lines::flow_blank_line_after;
-use crate::lines::flow_start;
-use crate::look::flow_blank_line_before;
-use crate::look::paragraph_look_start;
-use crate::names;
-use crate::over::is_in_html;
-use crate::over::is_in_info;
-use crate::over::is_in_line;
-use crate::over::is_in_word;
-use crate::paragraph::flow_before_content;
-use crate::paragraph::paragraph_inside;
-use crate::paragraph::paragraph_line_after;
-use crate::paragraph::paragraph_line_start;
-use crate::paragraph::paragraph_start;
-use crate::thematic_break::flow_before_thematic_break;
-use crate::thematic_break::thematic_break_at_break;
-use crate::thematic_break::thematic_break_before;
-use crate::thematic_break::thematic_break_sequence;
-use markdown_tokenizer::state::Machine;
-use markdown_tokenizer::state::MachineTypes;
-use markdown_tokenizer::state::Name;
-use markdown_tokenizer::state::State;
+use crate::code_fenced::{
+    raw_flow_after, raw_flow_after_sequence_close, raw_flow_at_non_lazy_break,
+    raw_flow_before_content_chunk, raw_flow_before_sequence_close, raw_flow_close_before,
+    raw_flow_close_between, raw_flow_close_blank, raw_flow_close_sequence, raw_flow_close_start,
+    raw_flow_content_before, raw_flow_content_chunk, raw_flow_content_start,
+    raw_flow_sequence_close,
+};
+use crate::code_indented::{
+    code_indented_after, code_indented_at_break, code_indented_further_after,
+    code_indented_further_begin, code_indented_further_start, code_indented_inside,
+    code_indented_line_after, code_indented_start,
+};
+use crate::fence::{
+    flow_before_raw, raw_flow_before_sequence_open, raw_flow_info, raw_flow_info_after,
+    raw_flow_info_before, raw_flow_look_info, raw_flow_meta, raw_flow_meta_before,
+    raw_flow_sequence_open, raw_flow_start,
+};
+use crate::heading_atx::{
+    flow_before_heading_atx, heading_atx_at_break, heading_atx_before, heading_atx_data,
+    heading_atx_look_after, heading_atx_look_blank, heading_atx_look_signs, heading_atx_look_start,
+    heading_atx_look_text, heading_atx_sequence_open, heading_atx_start,
+};
+use crate::heading_setext::{
+    flow_before_heading_setext, heading_setext_after, heading_setext_before, heading_setext_inside,
+    heading_setext_look_after, heading_setext_start, heading_setext_text_after,
+};
+use crate::lines::{flow_after, flow_blank_line_after, flow_start};
+use crate::look::{flow_blank_line_before, paragraph_look_start};
+use crate::over::{is_in_html, is_in_info, is_in_line, is_in_word};
+use crate::paragraph::{
+    flow_before_content, paragraph_inside, paragraph_line_after, paragraph_line_start,
+    paragraph_start,
+};
+use crate::thematic_break::{
+    flow_before_thematic_break, thematic_break_at_break, thematic_break_before,
+    thematic_break_sequence,
+};
+use crate::{html_flow, html_tags, names};
+use markdown_tokenizer::state::{Machine, MachineTypes, Name, State};
 use markdown_tokenizer::subtokenize::Subresult;
-use markdown_tokenizer::tokenizer::Fault;
-use markdown_tokenizer::tokenizer::Tokenizer;
-use std::alloc::AllocError;
-use std::alloc::Global;
+use markdown_tokenizer::tokenizer::{Fault, Tokenizer};
+use std::alloc::{AllocError, Global};
 
 /// Reads the leaf blocks of CommonMark. The options say which constructs are on. Paragraphs
 /// and headings hold chunks of text, and fences chunks of strings.
@@ -223,45 +157,38 @@ impl Machine for Flow {
             names::RawFlowCloseBlank => raw_flow_close_blank(t),
             names::RawFlowCloseSequence => raw_flow_close_sequence(t),
             names::RawFlowCloseBetween => raw_flow_close_between(t),
-            Name::HtmlFlowOpen => html_flow_open(t),
-            Name::HtmlFlowDeclarationOpen => html_flow_declaration_open(t),
-            Name::HtmlFlowCommentOpenInside => html_flow_comment_open_inside(t),
-            Name::HtmlFlowCdataOpenInside => html_flow_cdata_open_inside(t),
-            Name::HtmlFlowTagCloseStart => html_flow_tag_close_start(t),
-            Name::HtmlFlowTagName => html_flow_tag_name(t),
-            Name::HtmlFlowBasicSelfClosing => html_flow_basic_self_closing(t),
-            Name::HtmlFlowCompleteClosingTagAfter => html_flow_complete_closing_tag_after(t),
-            Name::HtmlFlowCompleteEnd => html_flow_complete_end(t),
-            Name::HtmlFlowCompleteAttributeNameBefore => html_flow_complete_attribute_name_before(
-                t,
-            ),
-            Name::HtmlFlowCompleteAttributeName => html_flow_complete_attribute_name(t),
-            Name::HtmlFlowCompleteAttributeNameAfter => html_flow_complete_attribute_name_after(t),
-            Name::HtmlFlowCompleteAttributeValueBefore => html_flow_complete_attribute_value_before(
-                t,
-            ),
-            Name::HtmlFlowCompleteAttributeValueQuoted => html_flow_complete_attribute_value_quoted(
-                t,
-            ),
+            Name::HtmlFlowOpen => html_tags::tag_open(t),
+            Name::HtmlFlowDeclarationOpen => html_tags::declaration_open(t),
+            Name::HtmlFlowCommentOpenInside => html_tags::comment_open_inside(t),
+            Name::HtmlFlowCdataOpenInside => html_tags::cdata_open_inside(t),
+            Name::HtmlFlowTagCloseStart => html_tags::tag_close_start(t),
+            Name::HtmlFlowTagName => html_tags::tag_name(t),
+            Name::HtmlFlowBasicSelfClosing => html_tags::basic_self_closing(t),
+            Name::HtmlFlowCompleteClosingTagAfter => html_tags::closing_tag_after(t),
+            Name::HtmlFlowCompleteEnd => html_tags::end(t),
+            Name::HtmlFlowCompleteAttributeNameBefore => html_tags::attribute_name_before(t),
+            Name::HtmlFlowCompleteAttributeName => html_tags::attribute_name(t),
+            Name::HtmlFlowCompleteAttributeNameAfter => html_tags::attribute_name_after(t),
+            Name::HtmlFlowCompleteAttributeValueBefore => html_tags::attribute_value_before(t),
+            Name::HtmlFlowCompleteAttributeValueQuoted => html_tags::attribute_value_quoted(t),
             Name::HtmlFlowCompleteAttributeValueQuotedAfter =>
-                html_flow_complete_attribute_value_quoted_after(t),
-            Name::HtmlFlowCompleteAttributeValueUnquoted =>
-                html_flow_complete_attribute_value_unquoted(t),
-            Name::HtmlFlowCompleteAfter => html_flow_complete_after(t),
-            Name::HtmlFlowStart => html_flow_start(t),
-            Name::HtmlFlowContinuation => html_flow_continuation(t),
-            Name::HtmlFlowContinuationCommentInside => html_flow_continuation_comment_inside(t),
-            Name::HtmlFlowContinuationCdataInside => html_flow_continuation_cdata_inside(t),
+                html_tags::attribute_value_quoted_after(t),
+            Name::HtmlFlowCompleteAttributeValueUnquoted => html_tags::attribute_value_unquoted(t),
+            Name::HtmlFlowCompleteAfter => html_tags::after(t),
+            Name::HtmlFlowStart => html_flow::start(t),
+            Name::HtmlFlowContinuation => html_flow::continuation(t),
+            Name::HtmlFlowContinuationCommentInside => html_flow::continuation_comment_inside(t),
+            Name::HtmlFlowContinuationCdataInside => html_flow::continuation_cdata_inside(t),
             Name::HtmlFlowContinuationDeclarationInside =>
-                html_flow_continuation_declaration_inside(t),
-            Name::HtmlFlowContinuationRawTagOpen => html_flow_continuation_raw_tag_open(t),
-            Name::HtmlFlowContinuationRawEndTag => html_flow_continuation_raw_end_tag(t),
-            Name::HtmlFlowContinuationClose => html_flow_continuation_close(t),
-            Name::HtmlFlowContinuationBefore => html_flow_continuation_before(t),
-            Name::HtmlFlowBlankLineBefore => html_flow_blank_line_before(t),
-            names::HtmlFlowBlankLineInside => html_flow_blank_line_inside(t),
-            Name::HtmlFlowContinuationAfter => html_flow_continuation_after(t),
-            Name::HtmlFlowContinuationStart => html_flow_continuation_start(t),
+                html_flow::continuation_declaration_inside(t),
+            Name::HtmlFlowContinuationRawTagOpen => html_flow::continuation_raw_tag_open(t),
+            Name::HtmlFlowContinuationRawEndTag => html_flow::continuation_raw_end_tag(t),
+            Name::HtmlFlowContinuationClose => html_flow::continuation_close(t),
+            Name::HtmlFlowContinuationBefore => html_flow::continuation_before(t),
+            Name::HtmlFlowBlankLineBefore => html_flow::blank_line_before(t),
+            names::HtmlFlowBlankLineInside => html_flow::blank_line_inside(t),
+            Name::HtmlFlowContinuationAfter => html_flow::continuation_after(t),
+            Name::HtmlFlowContinuationStart => html_flow::continuation_start(t),
             Name::FlowBeforeContent => flow_before_content(t),
             Name::ParagraphStart => paragraph_start(t),
             Name::ParagraphInside => paragraph_inside(t),

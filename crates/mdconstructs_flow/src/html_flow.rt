@@ -17,9 +17,7 @@ use mdconstructs_tables::marker;
 use std::alloc::AllocError;
 
 /// In white space before HTML.
-pub(crate) fn html_flow_start<'a, M: MachineTypes>(
-    t: &mut Tokenizer<'a, M>,
-) -> Result<State, AllocError>
+pub(crate) fn start<'a, M: MachineTypes>(t: &mut Tokenizer<'a, M>) -> Result<State, AllocError>
     requires { IsCallable flow_byte html_flow_start t.old }
     ensures { IfOk result (DoesAll (step_in flow_byte html_flow_start t.old) t.old t.new) }
 {
@@ -42,7 +40,7 @@ pub(crate) fn html_flow_start<'a, M: MachineTypes>(
 }
 
 /// In a line of HTML: by its kind, the end may begin here.
-pub(crate) fn html_flow_continuation<'a, M: MachineTypes>(
+pub(crate) fn continuation<'a, M: MachineTypes>(
     t: &mut Tokenizer<'a, M>,
 ) -> Result<State, AllocError>
     requires { IsCallable flow_byte html_flow_continuation t.old }
@@ -114,7 +112,7 @@ pub(crate) fn html_flow_continuation<'a, M: MachineTypes>(
 }
 
 /// Behind a dash in a comment.
-pub(crate) fn html_flow_continuation_comment_inside<'a, M: MachineTypes>(
+pub(crate) fn continuation_comment_inside<'a, M: MachineTypes>(
     t: &mut Tokenizer<'a, M>,
 ) -> Result<State, AllocError>
     requires { IsCallable flow_byte html_flow_continuation_comment_inside t.old }
@@ -130,7 +128,7 @@ pub(crate) fn html_flow_continuation_comment_inside<'a, M: MachineTypes>(
 }
 
 /// Behind a closing bracket in CDATA.
-pub(crate) fn html_flow_continuation_cdata_inside<'a, M: MachineTypes>(
+pub(crate) fn continuation_cdata_inside<'a, M: MachineTypes>(
     t: &mut Tokenizer<'a, M>,
 ) -> Result<State, AllocError>
     requires { IsCallable flow_byte html_flow_continuation_cdata_inside t.old }
@@ -146,7 +144,7 @@ pub(crate) fn html_flow_continuation_cdata_inside<'a, M: MachineTypes>(
 }
 
 /// Where only a greater-than sign is missing; the mark before it may come once more.
-pub(crate) fn html_flow_continuation_declaration_inside<'a, M: MachineTypes>(
+pub(crate) fn continuation_declaration_inside<'a, M: MachineTypes>(
     t: &mut Tokenizer<'a, M>,
 ) -> Result<State, AllocError>
     requires { IsCallable flow_byte html_flow_continuation_declaration_inside t.old }
@@ -183,7 +181,7 @@ pub(crate) fn html_flow_continuation_declaration_inside<'a, M: MachineTypes>(
 }
 
 /// Behind a less-than sign in a script and the like.
-pub(crate) fn html_flow_continuation_raw_tag_open<'a, M: MachineTypes>(
+pub(crate) fn continuation_raw_tag_open<'a, M: MachineTypes>(
     t: &mut Tokenizer<'a, M>,
 ) -> Result<State, AllocError>
     requires { IsCallable flow_byte html_flow_continuation_raw_tag_open t.old }
@@ -200,7 +198,7 @@ pub(crate) fn html_flow_continuation_raw_tag_open<'a, M: MachineTypes>(
 }
 
 /// In the name of a closing tag there.
-pub(crate) fn html_flow_continuation_raw_end_tag<'a, M: MachineTypes>(
+pub(crate) fn continuation_raw_end_tag<'a, M: MachineTypes>(
     t: &mut Tokenizer<'a, M>,
 ) -> Result<State, AllocError>
     requires { IsCallable flow_byte html_flow_continuation_raw_end_tag t.old }
@@ -208,7 +206,7 @@ pub(crate) fn html_flow_continuation_raw_end_tag<'a, M: MachineTypes>(
 {
     match t.current() {
         Some(byte @ (b'A'..=b'Z' | b'a'..=b'z' | b'0'..=b'9')) => Ok(
-            html_flow_continuation_raw_end_tag_goes_on(t, byte),
+            continuation_raw_end_tag_goes_on(t, byte),
         ),
         Some(b'>') => {
             if is_raw_tag(t) {
@@ -222,7 +220,7 @@ pub(crate) fn html_flow_continuation_raw_end_tag<'a, M: MachineTypes>(
 }
 
 /// In the last line, behind the end.
-pub(crate) fn html_flow_continuation_close<'a, M: MachineTypes>(
+pub(crate) fn continuation_close<'a, M: MachineTypes>(
     t: &mut Tokenizer<'a, M>,
 ) -> Result<State, AllocError>
     requires { IsCallable flow_byte html_flow_continuation_close t.old }
@@ -242,7 +240,7 @@ pub(crate) fn html_flow_continuation_close<'a, M: MachineTypes>(
 }
 
 /// Before a further line of HTML.
-pub(crate) fn html_flow_continuation_before<'a, M: MachineTypes>(
+pub(crate) fn continuation_before<'a, M: MachineTypes>(
     t: &mut Tokenizer<'a, M>,
 ) -> Result<State, AllocError>
     requires { IsCallable flow_byte html_flow_continuation_before t.old }
@@ -265,7 +263,7 @@ pub(crate) fn html_flow_continuation_before<'a, M: MachineTypes>(
 }
 
 /// A look at the next line: is it blank?.
-pub(crate) fn html_flow_blank_line_before<'a, M: MachineTypes>(
+pub(crate) fn blank_line_before<'a, M: MachineTypes>(
     t: &mut Tokenizer<'a, M>,
 ) -> Result<State, AllocError>
     requires { IsCallable flow_byte html_flow_blank_line_before t.old }
@@ -276,7 +274,7 @@ pub(crate) fn html_flow_blank_line_before<'a, M: MachineTypes>(
 }
 
 /// A look over white space.
-pub(crate) fn html_flow_blank_line_inside<'a, M: MachineTypes>(
+pub(crate) fn blank_line_inside<'a, M: MachineTypes>(
     t: &mut Tokenizer<'a, M>,
 ) -> Result<State, AllocError>
     requires { IsCallable flow_byte html_flow_blank_line_inside t.old }
@@ -293,7 +291,7 @@ pub(crate) fn html_flow_blank_line_inside<'a, M: MachineTypes>(
 }
 
 /// At the end of a line before a blank one.
-pub(crate) fn html_flow_continuation_after<'a, M: MachineTypes>(
+pub(crate) fn continuation_after<'a, M: MachineTypes>(
     t: &mut Tokenizer<'a, M>,
 ) -> Result<State, AllocError>
     requires { IsCallable flow_byte html_flow_continuation_after t.old }
@@ -305,7 +303,7 @@ pub(crate) fn html_flow_continuation_after<'a, M: MachineTypes>(
 }
 
 /// At the end of a line that another one follows.
-pub(crate) fn html_flow_continuation_start<'a, M: MachineTypes>(
+pub(crate) fn continuation_start<'a, M: MachineTypes>(
     t: &mut Tokenizer<'a, M>,
 ) -> Result<State, AllocError>
     requires { IsCallable flow_byte html_flow_continuation_start t.old }
@@ -317,7 +315,7 @@ pub(crate) fn html_flow_continuation_start<'a, M: MachineTypes>(
 }
 
 /// At a letter or a digit of the name of a tag: it is one byte longer.
-fn html_flow_continuation_raw_end_tag_goes_on<'a, M: MachineTypes>(
+fn continuation_raw_end_tag_goes_on<'a, M: MachineTypes>(
     t: &mut Tokenizer<'a, M>,
     byte: u8,
 ) -> State

@@ -17,9 +17,7 @@ use markdown_tokenizer::tokenizer::Tokenizer;
 use std::alloc::AllocError;
 
 /// A look behind a less-than sign.
-pub(crate) fn html_flow_open<'a, M: MachineTypes>(
-    t: &mut Tokenizer<'a, M>,
-) -> Result<State, AllocError>
+pub(crate) fn tag_open<'a, M: MachineTypes>(t: &mut Tokenizer<'a, M>) -> Result<State, AllocError>
     requires { IsCallable flow_byte html_flow_open t.old }
     ensures { IfOk result (DoesAll (step_in flow_byte html_flow_open t.old) t.old t.new) }
 {
@@ -46,7 +44,7 @@ pub(crate) fn html_flow_open<'a, M: MachineTypes>(
 }
 
 /// A look behind `<!`.
-pub(crate) fn html_flow_declaration_open<'a, M: MachineTypes>(
+pub(crate) fn declaration_open<'a, M: MachineTypes>(
     t: &mut Tokenizer<'a, M>,
 ) -> Result<State, AllocError>
     requires { IsCallable flow_byte html_flow_declaration_open t.old }
@@ -71,7 +69,7 @@ pub(crate) fn html_flow_declaration_open<'a, M: MachineTypes>(
 }
 
 /// A look behind `<!-`.
-pub(crate) fn html_flow_comment_open_inside<'a, M: MachineTypes>(
+pub(crate) fn comment_open_inside<'a, M: MachineTypes>(
     t: &mut Tokenizer<'a, M>,
 ) -> Result<State, AllocError>
     requires { IsCallable flow_byte html_flow_comment_open_inside t.old }
@@ -87,7 +85,7 @@ pub(crate) fn html_flow_comment_open_inside<'a, M: MachineTypes>(
 }
 
 /// A look behind `<![` and so many bytes of `CDATA[`.
-pub(crate) fn html_flow_cdata_open_inside<'a, M: MachineTypes>(
+pub(crate) fn cdata_open_inside<'a, M: MachineTypes>(
     t: &mut Tokenizer<'a, M>,
 ) -> Result<State, AllocError>
     requires { IsCallable flow_byte html_flow_cdata_open_inside t.old }
@@ -114,7 +112,7 @@ pub(crate) fn html_flow_cdata_open_inside<'a, M: MachineTypes>(
 }
 
 /// A look behind `</`.
-pub(crate) fn html_flow_tag_close_start<'a, M: MachineTypes>(
+pub(crate) fn tag_close_start<'a, M: MachineTypes>(
     t: &mut Tokenizer<'a, M>,
 ) -> Result<State, AllocError>
     requires { IsCallable flow_byte html_flow_tag_close_start t.old }
@@ -131,9 +129,7 @@ pub(crate) fn html_flow_tag_close_start<'a, M: MachineTypes>(
 }
 
 /// A look at the name of a tag, whose letters and digits make a number.
-pub(crate) fn html_flow_tag_name<'a, M: MachineTypes>(
-    t: &mut Tokenizer<'a, M>,
-) -> Result<State, AllocError>
+pub(crate) fn tag_name<'a, M: MachineTypes>(t: &mut Tokenizer<'a, M>) -> Result<State, AllocError>
     requires { IsCallable flow_byte html_flow_tag_name t.old }
     ensures { IfOk result (DoesAll (step_in flow_byte html_flow_tag_name t.old) t.old t.new) }
 {
@@ -149,9 +145,7 @@ pub(crate) fn html_flow_tag_name<'a, M: MachineTypes>(
             }
             Ok(State::Nok)
         }
-        Some(byte @ (b'A'..=b'Z' | b'a'..=b'z' | b'0'..=b'9')) => Ok(html_flow_tag_name_goes_on(
-            t, byte,
-        )),
+        Some(byte @ (b'A'..=b'Z' | b'a'..=b'z' | b'0'..=b'9')) => Ok(tag_name_goes_on(t, byte)),
         Some(b'\t' | b' ') => {
             if opens_raw(t) {
                 set_html(t, 1);
@@ -201,7 +195,7 @@ pub(crate) fn html_flow_tag_name<'a, M: MachineTypes>(
 }
 
 /// A look behind the slash of a tag with a listed name.
-pub(crate) fn html_flow_basic_self_closing<'a, M: MachineTypes>(
+pub(crate) fn basic_self_closing<'a, M: MachineTypes>(
     t: &mut Tokenizer<'a, M>,
 ) -> Result<State, AllocError>
     requires { IsCallable flow_byte html_flow_basic_self_closing t.old }
@@ -217,7 +211,7 @@ pub(crate) fn html_flow_basic_self_closing<'a, M: MachineTypes>(
 }
 
 /// A look over white space behind the name of a closing tag.
-pub(crate) fn html_flow_complete_closing_tag_after<'a, M: MachineTypes>(
+pub(crate) fn closing_tag_after<'a, M: MachineTypes>(
     t: &mut Tokenizer<'a, M>,
 ) -> Result<State, AllocError>
     requires { IsCallable flow_byte html_flow_complete_closing_tag_after t.old }
@@ -237,9 +231,7 @@ pub(crate) fn html_flow_complete_closing_tag_after<'a, M: MachineTypes>(
 }
 
 /// A look behind the slash of an opening tag.
-pub(crate) fn html_flow_complete_end<'a, M: MachineTypes>(
-    t: &mut Tokenizer<'a, M>,
-) -> Result<State, AllocError>
+pub(crate) fn end<'a, M: MachineTypes>(t: &mut Tokenizer<'a, M>) -> Result<State, AllocError>
     requires { IsCallable flow_byte html_flow_complete_end t.old }
     ensures { IfOk result (DoesAll (step_in flow_byte html_flow_complete_end t.old) t.old t.new) }
 {
@@ -253,7 +245,7 @@ pub(crate) fn html_flow_complete_end<'a, M: MachineTypes>(
 }
 
 /// A look over white space before an attribute, or before the end of the tag.
-pub(crate) fn html_flow_complete_attribute_name_before<'a, M: MachineTypes>(
+pub(crate) fn attribute_name_before<'a, M: MachineTypes>(
     t: &mut Tokenizer<'a, M>,
 ) -> Result<State, AllocError>
     requires { IsCallable flow_byte html_flow_complete_attribute_name_before t.old }
@@ -289,7 +281,7 @@ pub(crate) fn html_flow_complete_attribute_name_before<'a, M: MachineTypes>(
 }
 
 /// A look over the name of an attribute.
-pub(crate) fn html_flow_complete_attribute_name<'a, M: MachineTypes>(
+pub(crate) fn attribute_name<'a, M: MachineTypes>(
     t: &mut Tokenizer<'a, M>,
 ) -> Result<State, AllocError>
     requires { IsCallable flow_byte html_flow_complete_attribute_name t.old }
@@ -341,7 +333,7 @@ pub(crate) fn html_flow_complete_attribute_name<'a, M: MachineTypes>(
 }
 
 /// A look over white space behind the name of an attribute.
-pub(crate) fn html_flow_complete_attribute_name_after<'a, M: MachineTypes>(
+pub(crate) fn attribute_name_after<'a, M: MachineTypes>(
     t: &mut Tokenizer<'a, M>,
 ) -> Result<State, AllocError>
     requires { IsCallable flow_byte html_flow_complete_attribute_name_after t.old }
@@ -381,7 +373,7 @@ pub(crate) fn html_flow_complete_attribute_name_after<'a, M: MachineTypes>(
 }
 
 /// A look over white space before the value of an attribute.
-pub(crate) fn html_flow_complete_attribute_value_before<'a, M: MachineTypes>(
+pub(crate) fn attribute_value_before<'a, M: MachineTypes>(
     t: &mut Tokenizer<'a, M>,
 ) -> Result<State, AllocError>
     requires { IsCallable flow_byte html_flow_complete_attribute_value_before t.old }
@@ -415,7 +407,7 @@ pub(crate) fn html_flow_complete_attribute_value_before<'a, M: MachineTypes>(
 }
 
 /// A look over a quoted value.
-pub(crate) fn html_flow_complete_attribute_value_quoted<'a, M: MachineTypes>(
+pub(crate) fn attribute_value_quoted<'a, M: MachineTypes>(
     t: &mut Tokenizer<'a, M>,
 ) -> Result<State, AllocError>
     requires { IsCallable flow_byte html_flow_complete_attribute_value_quoted t.old }
@@ -439,7 +431,7 @@ pub(crate) fn html_flow_complete_attribute_value_quoted<'a, M: MachineTypes>(
 }
 
 /// A look behind a quoted value.
-pub(crate) fn html_flow_complete_attribute_value_quoted_after<'a, M: MachineTypes>(
+pub(crate) fn attribute_value_quoted_after<'a, M: MachineTypes>(
     t: &mut Tokenizer<'a, M>,
 ) -> Result<State, AllocError>
     requires { IsCallable flow_byte html_flow_complete_attribute_value_quoted_after t.old }
@@ -463,7 +455,7 @@ pub(crate) fn html_flow_complete_attribute_value_quoted_after<'a, M: MachineType
 }
 
 /// A look over a value without quotes.
-pub(crate) fn html_flow_complete_attribute_value_unquoted<'a, M: MachineTypes>(
+pub(crate) fn attribute_value_unquoted<'a, M: MachineTypes>(
     t: &mut Tokenizer<'a, M>,
 ) -> Result<State, AllocError>
     requires { IsCallable flow_byte html_flow_complete_attribute_value_unquoted t.old }
@@ -492,9 +484,7 @@ pub(crate) fn html_flow_complete_attribute_value_unquoted<'a, M: MachineTypes>(
 }
 
 /// A look over white space behind a complete tag.
-pub(crate) fn html_flow_complete_after<'a, M: MachineTypes>(
-    t: &mut Tokenizer<'a, M>,
-) -> Result<State, AllocError>
+pub(crate) fn after<'a, M: MachineTypes>(t: &mut Tokenizer<'a, M>) -> Result<State, AllocError>
     requires { IsCallable flow_byte html_flow_complete_after t.old }
     ensures { IfOk result (DoesAll (step_in flow_byte html_flow_complete_after t.old) t.old t.new) }
 {
@@ -512,7 +502,7 @@ pub(crate) fn html_flow_complete_after<'a, M: MachineTypes>(
 }
 
 /// At a letter or a digit of the name of a tag: it is one byte longer.
-fn html_flow_tag_name_goes_on<'a, M: MachineTypes>(t: &mut Tokenizer<'a, M>, byte: u8) -> State
+fn tag_name_goes_on<'a, M: MachineTypes>(t: &mut Tokenizer<'a, M>, byte: u8) -> State
     requires { t.old.configuration.waiting ≡ Byte }
     ensures { DoesAll (rows_step (html_flow_tag_name_goes_on byte) t.old) t.old t.new result }
 {

@@ -205,95 +205,95 @@ heading_setext_after-requires c =
           (can-end (begun unchanged t).configuration (known-underline t.configuration.events t.configuration.local t.choices c.args.name.number (search rules) c.requires.invariant.known));
     }
 
-pub html_flow_open-requires : goal.html_flow_open-requires
-html_flow_open-requires c = callable flow unchanged c.args.name html_flow_open _ _ (search rules) refl c.requires.invariant.holds c.begin.ensures
+pub tag_open-requires : goal.tag_open-requires
+tag_open-requires c = callable flow unchanged c.args.name html_flow_open _ _ (search rules) refl c.requires.invariant.holds c.begin.ensures
 
-pub html_flow_declaration_open-requires : goal.html_flow_declaration_open-requires
-html_flow_declaration_open-requires c = callable flow unchanged c.args.name html_flow_declaration_open _ _ (search rules) refl c.requires.invariant.holds c.begin.ensures
+pub declaration_open-requires : goal.declaration_open-requires
+declaration_open-requires c = callable flow unchanged c.args.name html_flow_declaration_open _ _ (search rules) refl c.requires.invariant.holds c.begin.ensures
 
-pub html_flow_comment_open_inside-requires : goal.html_flow_comment_open_inside-requires
-html_flow_comment_open_inside-requires c = callable flow unchanged c.args.name html_flow_comment_open_inside _ _ (search rules) refl c.requires.invariant.holds c.begin.ensures
+pub comment_open_inside-requires : goal.comment_open_inside-requires
+comment_open_inside-requires c = callable flow unchanged c.args.name html_flow_comment_open_inside _ _ (search rules) refl c.requires.invariant.holds c.begin.ensures
 
-pub html_flow_cdata_open_inside-requires : goal.html_flow_cdata_open_inside-requires
-html_flow_cdata_open_inside-requires c = callable flow unchanged c.args.name html_flow_cdata_open_inside _ _ (search rules) refl c.requires.invariant.holds c.begin.ensures
+pub cdata_open_inside-requires : goal.cdata_open_inside-requires
+cdata_open_inside-requires c = callable flow unchanged c.args.name html_flow_cdata_open_inside _ _ (search rules) refl c.requires.invariant.holds c.begin.ensures
 
-pub html_flow_tag_close_start-requires : goal.html_flow_tag_close_start-requires
-html_flow_tag_close_start-requires c = callable flow unchanged c.args.name html_flow_tag_close_start _ _ (search rules) refl c.requires.invariant.holds c.begin.ensures
+pub tag_close_start-requires : goal.tag_close_start-requires
+tag_close_start-requires c = callable flow unchanged c.args.name html_flow_tag_close_start _ _ (search rules) refl c.requires.invariant.holds c.begin.ensures
 
-pub html_flow_tag_name-requires : goal.html_flow_tag_name-requires
-html_flow_tag_name-requires c = callable flow unchanged c.args.name html_flow_tag_name _ _ (search rules) refl c.requires.invariant.holds c.begin.ensures
+pub tag_name-requires : goal.tag_name-requires
+tag_name-requires c = callable flow unchanged c.args.name html_flow_tag_name _ _ (search rules) refl c.requires.invariant.holds c.begin.ensures
 
-pub html_flow_basic_self_closing-requires : goal.html_flow_basic_self_closing-requires
-html_flow_basic_self_closing-requires c = callable flow unchanged c.args.name html_flow_basic_self_closing _ _ (search rules) refl c.requires.invariant.holds c.begin.ensures
+pub basic_self_closing-requires : goal.basic_self_closing-requires
+basic_self_closing-requires c = callable flow unchanged c.args.name html_flow_basic_self_closing _ _ (search rules) refl c.requires.invariant.holds c.begin.ensures
 
-pub html_flow_complete_closing_tag_after-requires : goal.html_flow_complete_closing_tag_after-requires
-html_flow_complete_closing_tag_after-requires c = callable flow unchanged c.args.name html_flow_complete_closing_tag_after _ _ (search rules) refl c.requires.invariant.holds c.begin.ensures
+pub closing_tag_after-requires : goal.closing_tag_after-requires
+closing_tag_after-requires c = callable flow unchanged c.args.name html_flow_complete_closing_tag_after _ _ (search rules) refl c.requires.invariant.holds c.begin.ensures
 
-pub html_flow_complete_end-requires : goal.html_flow_complete_end-requires
-html_flow_complete_end-requires c = callable flow unchanged c.args.name html_flow_complete_end _ _ (search rules) refl c.requires.invariant.holds c.begin.ensures
+pub end-requires : goal.end-requires
+end-requires c = callable flow unchanged c.args.name html_flow_complete_end _ _ (search rules) refl c.requires.invariant.holds c.begin.ensures
 
-pub html_flow_complete_attribute_name_before-requires : goal.html_flow_complete_attribute_name_before-requires
-html_flow_complete_attribute_name_before-requires c = callable flow unchanged c.args.name html_flow_complete_attribute_name_before _ _ (search rules) refl c.requires.invariant.holds c.begin.ensures
+pub attribute_name_before-requires : goal.attribute_name_before-requires
+attribute_name_before-requires c = callable flow unchanged c.args.name html_flow_complete_attribute_name_before _ _ (search rules) refl c.requires.invariant.holds c.begin.ensures
 
-pub html_flow_complete_attribute_name-requires : goal.html_flow_complete_attribute_name-requires
-html_flow_complete_attribute_name-requires c = callable flow unchanged c.args.name html_flow_complete_attribute_name _ _ (search rules) refl c.requires.invariant.holds c.begin.ensures
+pub attribute_name-requires : goal.attribute_name-requires
+attribute_name-requires c = callable flow unchanged c.args.name html_flow_complete_attribute_name _ _ (search rules) refl c.requires.invariant.holds c.begin.ensures
 
-pub html_flow_complete_attribute_name_after-requires : goal.html_flow_complete_attribute_name_after-requires
-html_flow_complete_attribute_name_after-requires c = callable flow unchanged c.args.name html_flow_complete_attribute_name_after _ _ (search rules) refl c.requires.invariant.holds c.begin.ensures
+pub attribute_name_after-requires : goal.attribute_name_after-requires
+attribute_name_after-requires c = callable flow unchanged c.args.name html_flow_complete_attribute_name_after _ _ (search rules) refl c.requires.invariant.holds c.begin.ensures
 
-pub html_flow_complete_attribute_value_before-requires : goal.html_flow_complete_attribute_value_before-requires
-html_flow_complete_attribute_value_before-requires c = callable flow unchanged c.args.name html_flow_complete_attribute_value_before _ _ (search rules) refl c.requires.invariant.holds c.begin.ensures
+pub attribute_value_before-requires : goal.attribute_value_before-requires
+attribute_value_before-requires c = callable flow unchanged c.args.name html_flow_complete_attribute_value_before _ _ (search rules) refl c.requires.invariant.holds c.begin.ensures
 
-pub html_flow_complete_attribute_value_quoted-requires : goal.html_flow_complete_attribute_value_quoted-requires
-html_flow_complete_attribute_value_quoted-requires c = callable flow unchanged c.args.name html_flow_complete_attribute_value_quoted _ _ (search rules) refl c.requires.invariant.holds c.begin.ensures
+pub attribute_value_quoted-requires : goal.attribute_value_quoted-requires
+attribute_value_quoted-requires c = callable flow unchanged c.args.name html_flow_complete_attribute_value_quoted _ _ (search rules) refl c.requires.invariant.holds c.begin.ensures
 
-pub html_flow_complete_attribute_value_quoted_after-requires : goal.html_flow_complete_attribute_value_quoted_after-requires
-html_flow_complete_attribute_value_quoted_after-requires c = callable flow unchanged c.args.name html_flow_complete_attribute_value_quoted_after _ _ (search rules) refl c.requires.invariant.holds c.begin.ensures
+pub attribute_value_quoted_after-requires : goal.attribute_value_quoted_after-requires
+attribute_value_quoted_after-requires c = callable flow unchanged c.args.name html_flow_complete_attribute_value_quoted_after _ _ (search rules) refl c.requires.invariant.holds c.begin.ensures
 
-pub html_flow_complete_attribute_value_unquoted-requires : goal.html_flow_complete_attribute_value_unquoted-requires
-html_flow_complete_attribute_value_unquoted-requires c = callable flow unchanged c.args.name html_flow_complete_attribute_value_unquoted _ _ (search rules) refl c.requires.invariant.holds c.begin.ensures
+pub attribute_value_unquoted-requires : goal.attribute_value_unquoted-requires
+attribute_value_unquoted-requires c = callable flow unchanged c.args.name html_flow_complete_attribute_value_unquoted _ _ (search rules) refl c.requires.invariant.holds c.begin.ensures
 
-pub html_flow_complete_after-requires : goal.html_flow_complete_after-requires
-html_flow_complete_after-requires c = callable flow unchanged c.args.name html_flow_complete_after _ _ (search rules) refl c.requires.invariant.holds c.begin.ensures
+pub after-requires : goal.after-requires
+after-requires c = callable flow unchanged c.args.name html_flow_complete_after _ _ (search rules) refl c.requires.invariant.holds c.begin.ensures
 
-pub html_flow_start-requires : goal.html_flow_start-requires
-html_flow_start-requires c = callable flow unchanged c.args.name html_flow_start _ _ (search rules) refl c.requires.invariant.holds c.begin.ensures
+pub start-requires : goal.start-requires
+start-requires c = callable flow unchanged c.args.name html_flow_start _ _ (search rules) refl c.requires.invariant.holds c.begin.ensures
 
-pub html_flow_continuation-requires : goal.html_flow_continuation-requires
-html_flow_continuation-requires c = callable flow unchanged c.args.name html_flow_continuation _ _ (search rules) refl c.requires.invariant.holds c.begin.ensures
+pub continuation-requires : goal.continuation-requires
+continuation-requires c = callable flow unchanged c.args.name html_flow_continuation _ _ (search rules) refl c.requires.invariant.holds c.begin.ensures
 
-pub html_flow_continuation_comment_inside-requires : goal.html_flow_continuation_comment_inside-requires
-html_flow_continuation_comment_inside-requires c = callable flow unchanged c.args.name html_flow_continuation_comment_inside _ _ (search rules) refl c.requires.invariant.holds c.begin.ensures
+pub continuation_comment_inside-requires : goal.continuation_comment_inside-requires
+continuation_comment_inside-requires c = callable flow unchanged c.args.name html_flow_continuation_comment_inside _ _ (search rules) refl c.requires.invariant.holds c.begin.ensures
 
-pub html_flow_continuation_cdata_inside-requires : goal.html_flow_continuation_cdata_inside-requires
-html_flow_continuation_cdata_inside-requires c = callable flow unchanged c.args.name html_flow_continuation_cdata_inside _ _ (search rules) refl c.requires.invariant.holds c.begin.ensures
+pub continuation_cdata_inside-requires : goal.continuation_cdata_inside-requires
+continuation_cdata_inside-requires c = callable flow unchanged c.args.name html_flow_continuation_cdata_inside _ _ (search rules) refl c.requires.invariant.holds c.begin.ensures
 
-pub html_flow_continuation_declaration_inside-requires : goal.html_flow_continuation_declaration_inside-requires
-html_flow_continuation_declaration_inside-requires c = callable flow unchanged c.args.name html_flow_continuation_declaration_inside _ _ (search rules) refl c.requires.invariant.holds c.begin.ensures
+pub continuation_declaration_inside-requires : goal.continuation_declaration_inside-requires
+continuation_declaration_inside-requires c = callable flow unchanged c.args.name html_flow_continuation_declaration_inside _ _ (search rules) refl c.requires.invariant.holds c.begin.ensures
 
-pub html_flow_continuation_raw_tag_open-requires : goal.html_flow_continuation_raw_tag_open-requires
-html_flow_continuation_raw_tag_open-requires c = callable flow unchanged c.args.name html_flow_continuation_raw_tag_open _ _ (search rules) refl c.requires.invariant.holds c.begin.ensures
+pub continuation_raw_tag_open-requires : goal.continuation_raw_tag_open-requires
+continuation_raw_tag_open-requires c = callable flow unchanged c.args.name html_flow_continuation_raw_tag_open _ _ (search rules) refl c.requires.invariant.holds c.begin.ensures
 
-pub html_flow_continuation_raw_end_tag-requires : goal.html_flow_continuation_raw_end_tag-requires
-html_flow_continuation_raw_end_tag-requires c = callable flow unchanged c.args.name html_flow_continuation_raw_end_tag _ _ (search rules) refl c.requires.invariant.holds c.begin.ensures
+pub continuation_raw_end_tag-requires : goal.continuation_raw_end_tag-requires
+continuation_raw_end_tag-requires c = callable flow unchanged c.args.name html_flow_continuation_raw_end_tag _ _ (search rules) refl c.requires.invariant.holds c.begin.ensures
 
-pub html_flow_continuation_close-requires : goal.html_flow_continuation_close-requires
-html_flow_continuation_close-requires c = callable flow unchanged c.args.name html_flow_continuation_close _ _ (search rules) refl c.requires.invariant.holds c.begin.ensures
+pub continuation_close-requires : goal.continuation_close-requires
+continuation_close-requires c = callable flow unchanged c.args.name html_flow_continuation_close _ _ (search rules) refl c.requires.invariant.holds c.begin.ensures
 
-pub html_flow_continuation_before-requires : goal.html_flow_continuation_before-requires
-html_flow_continuation_before-requires c = callable flow unchanged c.args.name html_flow_continuation_before _ _ (search rules) refl c.requires.invariant.holds c.begin.ensures
+pub continuation_before-requires : goal.continuation_before-requires
+continuation_before-requires c = callable flow unchanged c.args.name html_flow_continuation_before _ _ (search rules) refl c.requires.invariant.holds c.begin.ensures
 
-pub html_flow_blank_line_before-requires : goal.html_flow_blank_line_before-requires
-html_flow_blank_line_before-requires c = callable flow unchanged c.args.name html_flow_blank_line_before _ _ (search rules) refl c.requires.invariant.holds c.begin.ensures
+pub blank_line_before-requires : goal.blank_line_before-requires
+blank_line_before-requires c = callable flow unchanged c.args.name html_flow_blank_line_before _ _ (search rules) refl c.requires.invariant.holds c.begin.ensures
 
-pub html_flow_blank_line_inside-requires : goal.html_flow_blank_line_inside-requires
-html_flow_blank_line_inside-requires c = callable flow unchanged c.args.name html_flow_blank_line_inside _ _ (search rules) refl c.requires.invariant.holds c.begin.ensures
+pub blank_line_inside-requires : goal.blank_line_inside-requires
+blank_line_inside-requires c = callable flow unchanged c.args.name html_flow_blank_line_inside _ _ (search rules) refl c.requires.invariant.holds c.begin.ensures
 
-pub html_flow_continuation_after-requires : goal.html_flow_continuation_after-requires
-html_flow_continuation_after-requires c = callable flow unchanged c.args.name html_flow_continuation_after _ _ (search rules) refl c.requires.invariant.holds c.begin.ensures
+pub continuation_after-requires : goal.continuation_after-requires
+continuation_after-requires c = callable flow unchanged c.args.name html_flow_continuation_after _ _ (search rules) refl c.requires.invariant.holds c.begin.ensures
 
-pub html_flow_continuation_start-requires : goal.html_flow_continuation_start-requires
-html_flow_continuation_start-requires c = callable flow unchanged c.args.name html_flow_continuation_start _ _ (search rules) refl c.requires.invariant.holds c.begin.ensures
+pub continuation_start-requires : goal.continuation_start-requires
+continuation_start-requires c = callable flow unchanged c.args.name html_flow_continuation_start _ _ (search rules) refl c.requires.invariant.holds c.begin.ensures
 
 pub flow_before_content-requires : goal.flow_before_content-requires
 flow_before_content-requires c = callable flow unchanged c.args.name flow_before_content _ _ (search rules) refl c.requires.invariant.holds c.begin.ensures
