@@ -6,5 +6,4 @@ pub mod emphasis;
 pub mod laws;
 pub mod pairs;
 pub mod runs;
-pub mod turns;
 pub mod unicode;

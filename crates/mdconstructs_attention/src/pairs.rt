@@ -6,8 +6,8 @@ ghost use Rattle.mdconstructs_attention.specs.InTurn.{opening, closing};
 ghost use Rattle.mdconstructs_attention.specs.Searches.{as_run, last_of, with_pair, left_of, third, kind, AreBottoms, IsNext, HasClosed, ClosesNothing, IsTaken};
 ghost use Rattle.mdconstructs_attention.specs.Costs.{markers_left, end_of, to_pay};
 
-use crate::turns::Turns;
 use markdown_base::event::Point;
+use mdconstructs_turns::Turns;
 use std::alloc::{AllocError, Global};
 use std::marker::Brand;
 use std::sync::ledger::{Blank, Ledger};

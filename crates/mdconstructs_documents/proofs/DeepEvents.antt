@@ -1,20 +1,8 @@
 -- What is read with the children of chains of text: it is refused nowhere where rules refuse nothing, its chains can be read, and the
 -- definitions without states say what is read.
-use Rattle.std.proofs.Common.{Option, None, Some, arith, subst, sym}
-use Rattle.markdown_base.specs.declared.event.Content.{Content}
-use Rattle.markdown_base.specs.declared.event.Content.TheVariants.{Text as TextContent}
-use Rattle.markdown_children.specs.Ready.{IsReady}
-use Rattle.mdconstructs_inlines.proofs.Looks.{inlines-refuse-nothing}
-use Rattle.mdconstructs_inlines.specs.InlineRules.{inlines_rules}
-use Rattle.mdconstructs_documents.specs.Documents.{AreFlowInlines}
-use Rattle.markdown_children.specs.Reads.{IsSubtokenized, StartAmong}
-use Rattle.mdconstructs_flow_read.specs.LeafEvents.{flow_events}
+use Rattle.mdconstructs_documents.proofs.Prelude.{Option, None, Some, arith, subst, sym, Content, TextContent, IsReady, inlines-refuse-nothing, inlines_rules, AreFlowInlines, IsSubtokenized, StartAmong, flow_events, read-as-data, read-as-texts, paragraph_texts, seat_events, Unmade, OfFault, NotReady, Memory, Failed, OfMessage, Result, Ok, Err, IsErrOf, IfErr, refl, ◌≡◌, ℕ, List, ⊎_elim, false, true, ap, ◌∙◌, ParseOptions, Event, Message, Name, start_configuration, IsRunRefused, Rules, Given, IsDocument, FlowStart, chain_of, text_of_chain, IsChildRefused, RulesRefuseNothing, none-refused, no-run-refused, Seat, document, virtual_bytes, Gives, GivesDeep, GivesUnready, HasRefusedChild, IsRefusedDeep, HasReadableChains, with_data, with_texts, data_events, paragraph_events, paragraphs_rules, IsReadAs, text_events, text_rules, HasChildren, AreFlowEvents, chains-read, reads-as-data, reads-items, paragraphs-by-blocks, text-by-blocks}
 use Rattle.mdconstructs_documents.proofs.FlowTexts.AllChildren.{all-children}
 use Rattle.mdconstructs_documents.proofs.FlowTexts.Textual.{each-ready, flow-textual, may-start-each}
-use Rattle.mdconstructs_text.proofs.ParagraphTexts.Whole.{read-as-data, read-as-texts}
-use Rattle.mdconstructs_text.specs.ParagraphTexts.{paragraph_texts}
-use Rattle.mdconstructs_text.specs.TextEvents.{seat_events}
-use Rattle.mdconstructs_documents.proofs.Prelude.{Unmade, OfFault, NotReady, Memory, Failed, OfMessage, Result, Ok, Err, IsErrOf, IfErr, refl, ◌≡◌, ℕ, List, ⊎_elim, false, true, ap, ◌∙◌, ParseOptions, Event, Message, Name, start_configuration, IsRunRefused, Rules, Given, IsDocument, FlowStart, chain_of, text_of_chain, IsChildRefused, RulesRefuseNothing, none-refused, no-run-refused, Seat, document, virtual_bytes, Gives, GivesDeep, GivesUnready, HasRefusedChild, IsRefusedDeep, HasReadableChains, with_data, with_texts, data_events, paragraph_events, paragraphs_rules, IsReadAs, text_events, text_rules, HasChildren, AreFlowEvents, chains-read, reads-as-data, reads-items, paragraphs-by-blocks, text-by-blocks}
 
 -- what is not a message, not a failure before and not a list that cannot be read is want of memory
 pub only-memory : {A : Type 0} (result : Result A Unmade) → ((m : Message) → ¬ IsErrOf result (OfFault (OfMessage m))) → ¬ IsErrOf result NotReady → ¬ IsErrOf result (OfFault Failed)

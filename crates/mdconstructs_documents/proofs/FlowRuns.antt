@@ -1,12 +1,5 @@
 -- A run over a document returns the events of its leaf blocks, and these are well formed.
-use Rattle.mdconstructs_documents.proofs.Prelude.{◌≡◌, ◌∙◌, ℕ, List, true, false, subst, sym, Event, FlowStart, Given, IsDocument, virtual, flow_rules, AreFlowEvents, ParseOptions, document}
-use Rattle.markdown_tokenizer.specs.Engine.{IsRun, IsWellFormed, whole_text}
-use Rattle.markdown_tokenizer.specs.declared.subtokenize.Subresult.{Subresult}
-use Rattle.mdconstructs_flow_read.proofs.Marks.BlocksFormed.{blocks-are-formed}
-use Rattle.mdconstructs_flow_read.proofs.Whole.FlowEnds.{flow-ends}
-use Rattle.mdconstructs_flow_read.proofs.Lines.Rooms.{has-room}
-use Rattle.mdconstructs_flow_read.specs.FlowRead.{FlowIsRead}
-use Rattle.mdconstructs_flow_read.specs.LeafEvents.{flow_events}
+use Rattle.mdconstructs_documents.proofs.Prelude.{◌≡◌, ◌∙◌, ℕ, List, true, false, subst, sym, Event, FlowStart, Given, IsDocument, virtual, flow_rules, AreFlowEvents, ParseOptions, document, IsRun, IsWellFormed, whole_text, Subresult, blocks-are-formed, flow-ends, has-room, FlowIsRead, flow_events}
 
 module _ (read : FlowIsRead) (g : Given) (is : IsDocument g) where
   abbrev blocks_events : List Event

@@ -1,11 +1,7 @@
 -- The innermost spans of the events of leaf blocks account for each virtual byte, also with the texts of their chains.
-use Rattle.mdconstructs_documents.proofs.Prelude.{false, true, subst, sym, virtual_bytes, Tile}
-use Rattle.mdconstructs_flow_read.proofs.Marks.LeafSpans.{flow-accounts}
+use Rattle.mdconstructs_documents.proofs.Prelude.{false, true, subst, sym, virtual_bytes, Tile, flow-accounts, document, AreEventsOf, TilesDocuments, Flow}
 use Rattle.mdconstructs_documents.proofs.Emphasis.InlineAccounts.{inlines-account}
 use Rattle.mdconstructs_documents.proofs.Tiled.{tiled}
-use Rattle.mdconstructs_documents.specs.Documents.{document, AreEventsOf}
-use Rattle.mdconstructs_documents.specs.Tiles.{TilesDocuments}
-use Rattle.mdconstructs_documents.specs.declared.choice.Which.TheVariants.{Flow}
 
 pub flow-tiles : TilesDocuments Flow
 flow-tiles options bytes deep events d = elim deep as (λ is_deep. AreEventsOf is_deep Flow options bytes events → Tile options.tab_size bytes events) [

@@ -1,20 +1,7 @@
 -- The events of a document are well formed, also with the children of their chains of text.
-use Rattle.mdconstructs_documents.proofs.Prelude.{Bool, ◌≡◌, ◌∙◌, ℕ, List, [], ap, arith, false, subst, sym, true, Event, FlowStart, Given, GivesDeep, IsDocument, Name, ParseOptions, Rules, TextStart, document, paragraphs_rules, start_configuration, text_rules}
-use Rattle.markdown_base.specs.Events.{IsInOrder, IsVoidTight}
-use Rattle.markdown_base.specs.declared.state.State.TheVariants.{Next, Ok}
-use Rattle.markdown_tokenizer.specs.Configuration.{Configuration}
-use Rattle.markdown_tokenizer.specs.Engine.{IsRun, IsWellFormed}
-use Rattle.markdown_tokenizer.specs.Reading.{EndsIn, Reading}
-use Rattle.markdown_tokenizer.specs.Resolving.{LeavesEvents}
-use Rattle.markdown_tokenizer.specs.Text.{IsText, Text}
-use Rattle.markdown_tokenizer.specs.declared.subtokenize.Subresult.{Subresult}
+use Rattle.mdconstructs_documents.proofs.Prelude.{Bool, ◌≡◌, ◌∙◌, ℕ, List, [], ap, arith, false, subst, sym, true, Event, FlowStart, Given, GivesDeep, IsDocument, Name, ParseOptions, Rules, TextStart, document, paragraphs_rules, start_configuration, text_rules, IsInOrder, IsVoidTight, Next, Configuration, IsRun, IsWellFormed, EndsIn, Reading, LeavesEvents, IsText, Text, Subresult, paragraphs-fit, paragraphs-known, knows_chunk, paragraphs, knowing-lawful, data-formed, texts-formed, chains-stand, holds-at-end, texts-unresolved}
+use Rattle.markdown_base.specs.declared.state.State.TheVariants.{Ok}
 use Rattle.mdconstructs_documents.proofs.DeepEvents.{with-data, with-texts}
-use Rattle.mdconstructs_machines.specs.Laws.Paragraphs.{paragraphs-fit, paragraphs-known}
-use Rattle.mdconstructs_machines.specs.Paragraphs.{knows_chunk, paragraphs}
-use Rattle.mdconstructs_tables.proofs.Tables.Lawful.{knowing-lawful}
-use Rattle.mdconstructs_text.proofs.ParagraphTexts.Whole.{data-formed, texts-formed}
-use Rattle.mdconstructs_text.proofs.Paragraphs.ChainEvents.{chains-stand}
-use Rattle.mdconstructs_text.proofs.Texts.Ends.{holds-at-end, texts-unresolved}
 
 -- what a run returns without resolving is well formed
 pub run-formed : {R D : Type 0} (g : Given) (rules : Given → Rules R D) (start : Name) (events : List Event) (sub : Subresult) → IsRun g rules false start events sub → IsWellFormed g events

@@ -1,41 +1,6 @@
 -- Ranges are read as one text: the places of their ends, the pieces that they are pushed as, and what is read of these.
-use Rattle.std.proofs.Common.{List, [], ap, arith, false, get_or, inl, inr, refl, subst, sym, true, ℕ, ◌+◌, ◌<◌, ◌∙◌, ◌∷◌, ◌++◌, ◌≡◌, ◌≤◌}
-use Rattle.std.specs.Prelude.{◌==◌, ◌≢◌, Contains, Some, cond, drop, filter, length, suc, zero}
-use Rattle.std.proofs.lemmas.Bool.{cases_lt, eq-eqb, ne_eqb}
-use Rattle.std.proofs.lemmas.Bool.Decides.{nat_tests}
-use Rattle.std.proofs.lemmas.List.{append-nil, append_assoc, drop_more}
-use Rattle.std.proofs.lemmas.Option.{same_Some}
-use Rattle.markdown_base.proofs.PointAt.{point-of_reached}
-use Rattle.markdown_base.specs.Lines.{HasNoLineEnding, is_line_start}
-use Rattle.markdown_base.specs.Places.{denotes_same, IsPointOf, point_at, stands_before}
-use Rattle.markdown_base.specs.Virtual.{point, Seat, virtual}
-use Rattle.markdown_base.specs.declared.configuration.ParseOptions.{ParseOptions}
-use Rattle.markdown_base.specs.declared.event.Point.{Point}
-use Rattle.markdown_base.specs.declared.message.Message.{Message}
-use Rattle.markdown_base.specs.declared.state.State.{State}
-use Rattle.markdown_base.specs.declared.state.State.TheVariants.{Error, Next, Ok}
-use Rattle.markdown_base.specs.declared.state.TheConstants.Name.{TextStart}
-use Rattle.markdown_children.proofs.ChainOrder.Following.{by_test}
-use Rattle.markdown_children.proofs.ChildReads.ChainReads.{flagged, Reads, reads-passed}
-use Rattle.markdown_children.proofs.Ready.Reached.{reached-at}
-use Rattle.markdown_children.specs.ByteStarts.{column_at, line_at}
-use Rattle.markdown_tokenizer.proofs.Positions.Cursors.{same-self, upto-order}
-use Rattle.markdown_tokenizer.proofs.Positions.Points.{point_at-is}
-use Rattle.markdown_tokenizer.proofs.Runs.Working.{holds-on, leads-refl, text-on}
-use Rattle.markdown_tokenizer.specs.Configuration.{Configuration, start_configuration, start_seen, TokenizerValue}
-use Rattle.markdown_tokenizer.specs.Engine.{given_by, IsFlushed, IsRefused, IsWellFormed, LeadsOn}
-use Rattle.markdown_tokenizer.specs.Lawful.{KeepsInvariant}
-use Rattle.markdown_tokenizer.specs.Reading.{EndsIn, Reading}
-use Rattle.markdown_tokenizer.specs.Rules.{Rules}
-use Rattle.markdown_tokenizer.specs.Text.{CanFollow, empty_text, FitsAfter, followed_by, followed_by_all, Given, in_range, IsDocument, IsText, passed, Piece, pushed, Text}
-use Rattle.markdown_tokenizer.specs.declared.subtokenize.Subresult.{Subresult}
-use Rattle.mdconstructs_documents.specs.ByteRanges.{FollowFrom, is_in, IsRangeFrom, seats_in, text_events_in}
-use Rattle.mdconstructs_documents.specs.declared.ranges.ByteRange.{ByteRange}
-use Rattle.mdconstructs_text.proofs.Texts.Leads.{ending}
-use Rattle.mdconstructs_text.proofs.Texts.Ends.{ends-so, from-start}
-use Rattle.mdconstructs_text.proofs.Texts.Steps.{text_step}
-use Rattle.mdconstructs_text.specs.TextEvents.{seat_events, text_events}
-use Rattle.mdconstructs_text.specs.TextRules.{text_rules}
+use Rattle.mdconstructs_documents.proofs.Prelude.{List, [], ap, arith, false, get_or, inl, inr, refl, subst, sym, true, ℕ, ◌+◌, ◌<◌, ◌∙◌, ◌∷◌, ◌++◌, ◌≡◌, ◌≤◌, ◌==◌, ◌≢◌, Contains, Some, cond, drop, filter, length, suc, zero, cases_lt, eq-eqb, ne_eqb, nat_tests, append-nil, append_assoc, drop_more, same_Some, point-of_reached, HasNoLineEnding, is_line_start, denotes_same, IsPointOf, point_at, stands_before, point, Seat, virtual, ParseOptions, Point, Message, State, Error, Next, TextStart, by_test, flagged, Reads, reads-passed, reached-at, column_at, line_at, same-self, upto-order, point_at-is, holds-on, leads-refl, text-on, Configuration, start_configuration, start_seen, TokenizerValue, given_by, IsFlushed, IsRefused, IsWellFormed, LeadsOn, KeepsInvariant, EndsIn, Reading, Rules, CanFollow, empty_text, FitsAfter, followed_by, followed_by_all, Given, in_range, IsDocument, IsText, passed, Piece, pushed, Text, Subresult, FollowFrom, is_in, IsRangeFrom, seats_in, text_events_in, ByteRange, ending, ends-so, from-start, text_step, seat_events, text_events, text_rules}
+use Rattle.markdown_base.specs.declared.state.State.TheVariants.{Ok}
 
 module _ (t : ℕ) (bytes : List ℕ) where
   -- the place of an index

@@ -1,19 +1,9 @@
 -- The events of a document are void-tight, whichever machine reads it.
-use Rattle.mdconstructs_documents.proofs.Prelude.{ℕ, List, true, false, arith, refl, subst, sym, IsDocument, paragraph_events, Seat, ParseOptions, Event, document, virtual_bytes}
-use Rattle.std.specs.Prelude.{Bool, drop, take}
-use Rattle.markdown_base.specs.Events.{IsVoidTight}
-use Rattle.markdown_base.specs.declared.event.Name.TheVariants.{Data, LineEnding, Paragraph}
-use Rattle.mdconstructs_machines.specs.LineEvents.{all_of, data_line, ending_of, line_text, lines_in, paragraph_line}
-use Rattle.mdconstructs_machines.specs.Spans.{leaf, span}
-use Rattle.mdconstructs_text.proofs.ParagraphTexts.Whole.{data-formed, texts-formed}
-use Rattle.mdconstructs_text.proofs.Paragraphs.Formed.{paragraphs-formed}
-use Rattle.mdconstructs_text.proofs.Texts.Built.{IsKeptBySpans, flat-built, line-built}
-use Rattle.mdconstructs_text.proofs.Texts.Tight.{data-tight, tight-kept}
+use Rattle.mdconstructs_documents.proofs.Prelude.{ℕ, List, true, false, arith, refl, subst, sym, IsDocument, paragraph_events, Seat, ParseOptions, Event, document, virtual_bytes, Bool, drop, take, IsVoidTight, Data, LineEnding, Paragraph, all_of, data_line, ending_of, line_text, lines_in, paragraph_line, leaf, span, data-formed, texts-formed, paragraphs-formed, flat-built, line-built, data-tight, tight-kept, AreEventsOf, Which, Lines, Paragraphs, Peek, Deep, Back, Save, Flow}
+use Rattle.mdconstructs_text.proofs.Texts.Built.{IsKeptBySpans}
 use Rattle.mdconstructs_documents.proofs.FlowRuns.{flow-formed}
 use Rattle.mdconstructs_documents.proofs.FlowTexts.InlineForms.{inlines-well-formed}
-use Rattle.mdconstructs_documents.specs.Documents.{AreEventsOf}
-use Rattle.mdconstructs_documents.specs.declared.choice.Which.{Which}
-use Rattle.mdconstructs_documents.specs.declared.choice.Which.TheVariants.{Lines, Paragraphs, Peek, Deep, Back, Save, Text, Flow}
+use Rattle.mdconstructs_documents.specs.declared.choice.Which.TheVariants.{Text}
 
 module _ (options : ParseOptions) (bytes : List ℕ) (is : IsDocument (document options bytes)) where
   abbrev seats : List Seat

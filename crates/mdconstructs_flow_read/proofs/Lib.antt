@@ -6,5 +6,6 @@ pub mod Lines
 pub mod Looks
 pub mod Marks
 pub mod Paragraphs
+mod Prelude
 pub mod Tags
 pub mod Whole

@@ -1,28 +1,6 @@
 -- A budget of calls, for a machine that reads items of constructs: what was spent and what is still to be paid is within it. Each construct has a
 -- potential, which pays for looks that fail; and each item is paid by its bytes.
-use Rattle.std.proofs.Common.{◌≡◌, ℕ, zero, suc, ◌+◌, ◌<◌, ◌≤◌, List, [], ◌∷◌, ◌++◌, Bool, true, Option, Some, None, refl, sym, ap, ◌∙◌, subst, arith, length, take, drop}
-use Rattle.std.proofs.lemmas.List.{drop-drop}
-use Rattle.markdown_base.specs.declared.configuration.Constructs.{Constructs}
-use Rattle.markdown_base.specs.declared.event.Event.{Event}
-use Rattle.markdown_base.specs.declared.state.Name.{Name}
-use Rattle.markdown_base.specs.declared.state.State.{State}
-use Rattle.markdown_base.specs.declared.state.State.TheVariants.{Next, Retry}
-use Rattle.markdown_base.specs.Virtual.{Seat}
-use Rattle.markdown_tokenizer.specs.declared.waiting.Waits.TheVariants.{Byte, Nothing}
-use Rattle.markdown_tokenizer.specs.Configuration.{Choice, Configuration, Local}
-use Rattle.markdown_tokenizer.specs.Text.{Given, Text}
-use Rattle.mdconstructs_machines.specs.Tables.{counts}
-use Rattle.mdconstructs_text.specs.Construct.{Between, Construct, Found, first_there, grammars_of}
-use Rattle.mdconstructs_text.specs.Items.{item_length}
-use Rattle.mdconstructs_text.specs.Parts.{bytes_of}
-use Rattle.mdconstructs_text.specs.TextBytes.{TextByte, text_byte}
-use Rattle.mdconstructs_text.specs.TextEvents.{item_events}
-use Rattle.mdconstructs_text.proofs.Constructs.Apart.{or-none}
-use Rattle.mdconstructs_text.proofs.Constructs.Listed.{AddsFrom, DecidesTo, IsKept, Knowledge, Reads, outer}
-use Rattle.mdconstructs_text.proofs.Plain.Items.{AddsItemIn, DecidesIn, ReadsIn}
-use Rattle.mdconstructs_text.proofs.Texts.Counted.{Remembered, after-call, remembered}
-use Rattle.mdconstructs_text.proofs.Texts.Leads.{spent}
-use Rattle.mdconstructs_text.proofs.Texts.Steps.{Leads, Plays, between_items}
+use Rattle.mdconstructs_inlines.proofs.Prelude.{◌≡◌, ℕ, zero, suc, ◌+◌, ◌<◌, ◌≤◌, List, [], ◌∷◌, ◌++◌, Bool, true, Option, Some, None, refl, sym, ap, ◌∙◌, subst, arith, length, take, drop, drop-drop, Constructs, Event, Name, State, Next, Retry, Seat, Byte, Nothing, Choice, Configuration, Local, Given, Text, counts, Between, Construct, Found, first_there, grammars_of, item_length, bytes_of, TextByte, text_byte, item_events, or-none, AddsFrom, DecidesTo, IsKept, Knowledge, Reads, outer, AddsItemIn, DecidesIn, ReadsIn, Remembered, after-call, remembered, spent, Leads, Plays, between_items}
 
 -- how many calls a construct may still cost, by what is remembered and the virtual bytes that are left
 abbrev pub Potential : Type 0

@@ -1,22 +1,6 @@
 -- Each call of a machine is counted. So where a reading ends, as many calls are counted as were made, or as many as can be counted.
-use Rattle.std.proofs.Common.{◌≡◌, ◌==◌, ℕ, zero, suc, ◌+◌, ◌≤◌, List, [], ◌∷◌, true, false, cond, Option, Some, None, refl, sym, ◌∙◌, subst, arith, length}
-use Rattle.std.specs.Prelude.{min, nat_lt}
-use Rattle.markdown_base.specs.declared.state.Name.{Name}
-use Rattle.markdown_base.specs.declared.state.State.{State}
-use Rattle.markdown_base.specs.declared.state.State.TheVariants.{Next, Retry, Ok, Nok}
-use Rattle.markdown_tokenizer.specs.declared.waiting.AttemptKind.{AttemptKind}
-use Rattle.markdown_tokenizer.specs.declared.waiting.AttemptKind.TheVariants.{Attempt, Check}
-use Rattle.markdown_tokenizer.specs.declared.waiting.Waits.TheVariants.{Byte, End}
-use Rattle.markdown_tokenizer.specs.Calls.{with_local}
-use Rattle.markdown_tokenizer.specs.Configuration.{Configuration, Choice, Local, Saved, Step}
-use Rattle.markdown_tokenizer.specs.Reading.{EndsIn, Reading, after_choices, fed, more_calls, read, settle, settled_at}
-use Rattle.markdown_tokenizer.specs.Sight.{Sight, sight}
-use Rattle.markdown_tokenizer.specs.Text.{Given, Text}
-use Rattle.mdconstructs_machines.specs.Tables.{counts}
-use Rattle.mdconstructs_tables.specs.Calm.{RowsHarmless, WriteHarmless}
-use Rattle.mdconstructs_tables.specs.Rows.{Act, Rows, StateRows, Table, choose, class_of, consume, does, done, enters, exit, links, named, past, picked, row, shown_sight, step_at, step_of, table_step, when, writes}
-use Rattle.mdconstructs_tables.proofs.Calm.{behind-acts, behind-rows}
-use Rattle.mdconstructs_text.proofs.Texts.Leads.{most, spent}
+use Rattle.mdconstructs_inlines.proofs.Prelude.{◌≡◌, ◌==◌, ℕ, zero, suc, ◌+◌, ◌≤◌, List, [], ◌∷◌, true, false, cond, Option, Some, None, refl, sym, ◌∙◌, subst, arith, length, min, nat_lt, Name, State, Next, Retry, Ok, Nok, AttemptKind, Attempt, Check, Byte, End, with_local, Configuration, Choice, Local, Saved, Step, EndsIn, Reading, after_choices, fed, more_calls, read, settle, settled_at, Sight, sight, Given, Text, counts, RowsHarmless, WriteHarmless, Act, Rows, StateRows, Table, choose, class_of, consume, does, enters, exit, links, past, picked, row, shown_sight, step_at, step_of, table_step, when, writes, behind-acts, behind-rows, most, spent}
+use Rattle.mdconstructs_tables.specs.Rows.{done, named}
 
 -- each call of these steps counts one
 abbrev pub CountsCalls : (Sight → Configuration Unit Unit → Name → Step Unit Unit) → Type 0

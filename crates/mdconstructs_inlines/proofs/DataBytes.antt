@@ -1,16 +1,5 @@
 -- Data of inline text by its bytes: how long it is, and how much white space is in it and behind it.
-use Rattle.std.proofs.Common.{◌≡◌, ℕ, suc, ◌+◌, ◌-◌, ◌*◌, ◌==◌, ◌≤◌, ◌&&◌, ◌||◌, List, [], ◌∷◌, Bool, true, false, cond, refl, sym, ap, ◌∙◌, arith, length, drop}
-use Rattle.std.proofs.lemmas.Bool.Decides.{nat_tests}
-use Rattle.std.proofs.lemmas.List.{length-drop}
-use Rattle.std.proofs.lemmas.List.Sums.{prefix_len-le-length}
-use Rattle.std.specs.List.{prefix_len}
-use Rattle.markdown_base.specs.declared.configuration.Constructs.{Constructs}
-use Rattle.mdconstructs_machines.specs.Breaks.{is_white}
-use Rattle.mdconstructs_text.specs.Bytes.{backticks, is_backtick, is_line_feed}
-use Rattle.mdconstructs_text.specs.Items.{item_length}
-use Rattle.mdconstructs_text.specs.Parts.{first_plain}
-use Rattle.mdconstructs_inline_constructs.specs.WhiteSpace.{ends_line_at, is_white_left}
-use Rattle.mdconstructs_inlines.specs.InlineEvents.{begins_run, data_length, data_run, delimiter_run, ends_data_at, line_break, run_length, run_or_part, up_to}
+use Rattle.mdconstructs_inlines.proofs.Prelude.{◌≡◌, ℕ, suc, ◌+◌, ◌-◌, ◌*◌, ◌==◌, ◌≤◌, ◌&&◌, ◌||◌, List, [], ◌∷◌, Bool, true, false, cond, refl, sym, ap, ◌∙◌, arith, length, drop, nat_tests, length-drop, prefix_len-le-length, prefix_len, Constructs, is_white, backticks, is_backtick, is_line_feed, item_length, first_plain, ends_line_at, is_white_left, begins_run, data_length, data_run, delimiter_run, ends_data_at, line_break, run_length, run_or_part, up_to}
 use Rattle.mdconstructs_inlines.proofs.InlineApart.{white-plain}
 
 -- how many bytes come before the end of data is at most how many there are

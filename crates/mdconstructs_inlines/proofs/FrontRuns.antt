@@ -1,25 +1,5 @@
 -- The white space or the backtick string that a text begins with: an item of inline text has it whole, and may be looked at as often as it has bytes.
-use Rattle.std.proofs.Common.{◌≡◌, ℕ, suc, ◌+◌, ◌≤◌, ◌&&◌, ◌||◌, List, [], ◌∷◌, ◌++◌, Bool, true, false, cond, Option, Some, None, refl, sym, ap, ◌∙◌, subst, arith, drop}
-use Rattle.std.proofs.lemmas.Bool.Decides.{nat_tests}
-use Rattle.std.proofs.lemmas.Bool.{and_parts}
-use Rattle.std.specs.List.{prefix_len}
-use Rattle.std.specs.Prelude.{nat_le}
-use Rattle.markdown_base.specs.declared.configuration.Constructs.{Constructs}
-use Rattle.mdconstructs_machines.specs.Breaks.{is_white}
-use Rattle.mdconstructs_text.specs.Bytes.{backticks, has_byte_at, is_backtick, is_line_feed, is_space}
-use Rattle.mdconstructs_text.specs.Construct.{Construct, Found, first_there, grammars_of, if_on, or_else, some_first}
-use Rattle.mdconstructs_text.specs.Items.{item_length}
-use Rattle.mdconstructs_text.specs.Parts.{first_plain}
-use Rattle.mdconstructs_text.specs.TextBytes.{TextByte, text_byte}
-use Rattle.mdconstructs_text.proofs.Constructs.Apart.{AreApart, OfOption, or-none, when-so}
-use Rattle.mdconstructs_inline_constructs.specs.HardBreak.{hard_break_trailing, trailing_break_at, trailing_size_min}
-use Rattle.mdconstructs_inline_constructs.specs.WhiteSpace.{is_white_left, white_space, white_space_at}
-use Rattle.mdconstructs_inline_constructs.specs.HardBreakRows.{break_escapes}
-use Rattle.mdconstructs_inline_constructs.specs.HtmlTagRows.{html_tags}
-use Rattle.mdconstructs_inline_constructs.specs.ReferenceRows.{references}
-use Rattle.mdconstructs_inlines.specs.InlineEvents.{begins_run, data_length, data_run, delimiter_run, inline_item_at, line_break, run_length, run_or_part}
-use Rattle.mdconstructs_inlines.specs.InlineTable.{white_constructs}
-use Rattle.mdconstructs_inlines.specs.RunRows.{is_delimiter}
+use Rattle.mdconstructs_inlines.proofs.Prelude.{◌≡◌, ℕ, suc, ◌+◌, ◌≤◌, ◌&&◌, ◌||◌, List, [], ◌∷◌, ◌++◌, Bool, true, false, cond, Option, Some, None, refl, sym, ap, ◌∙◌, subst, arith, drop, nat_tests, and_parts, prefix_len, nat_le, Constructs, is_white, backticks, has_byte_at, is_backtick, is_line_feed, is_space, Construct, Found, first_there, grammars_of, if_on, or_else, some_first, item_length, first_plain, TextByte, text_byte, AreApart, OfOption, or-none, when-so, hard_break_trailing, trailing_break_at, trailing_size_min, is_white_left, white_space, white_space_at, break_escapes, html_tags, references, begins_run, data_length, data_run, delimiter_run, inline_item_at, line_break, run_length, run_or_part, white_constructs, is_delimiter}
 use Rattle.mdconstructs_inlines.proofs.DataBytes.{white-in-data}
 use Rattle.mdconstructs_inlines.proofs.InlineApart.{inline-apart, or-parts}
 use Rattle.mdconstructs_inlines.proofs.InlineListed.{then_breaks, then_data, then_emails, then_html, then_tags}

@@ -1,28 +1,5 @@
 -- The constructs of inline text by their bytes; and the classes at which the machine goes on with data.
-use Rattle.std.proofs.Common.{◌≡◌, ℕ, ◌<◌, ◌==◌, ◌&&◌, ◌||◌, List, ◌∷◌, Bool, true, false, cond, sym, ap, ◌∙◌, refl, arith}
-use Rattle.std.proofs.Math.Bool.{and-false, or-false}
-use Rattle.std.proofs.lemmas.Bool.Decides.{nat_tests}
-use Rattle.std.specs.List.{prefix_len}
-use Rattle.markdown_base.specs.declared.configuration.Constructs.{Constructs}
-use Rattle.mdconstructs_machines.specs.Breaks.{is_white}
-use Rattle.mdconstructs_text.proofs.Autolinks.Bytes.{autolinks-apart}
-use Rattle.mdconstructs_text.proofs.CodeSpans.Bytes.{code-spans-apart}
-use Rattle.mdconstructs_text.proofs.Constructs.Apart.{AreApart, begins-classed, positive}
-use Rattle.mdconstructs_text.proofs.Escapes.Bytes.{escapes-apart}
-use Rattle.mdconstructs_text.proofs.Texts.Apart.{line-classed}
-use Rattle.mdconstructs_text.specs.Bytes.{is_line_feed}
-use Rattle.mdconstructs_text.specs.Construct.{some_begins, some_first}
-use Rattle.mdconstructs_text.specs.Items.{item_length}
-use Rattle.mdconstructs_text.specs.TextBytes.{is_line_feed_class, punctuation, text_byte}
-use Rattle.mdconstructs_inline_constructs.proofs.Emails.Bytes.{emails-apart}
-use Rattle.mdconstructs_inline_constructs.proofs.HtmlMarks.Bytes.{html-marks-apart}
-use Rattle.mdconstructs_inline_constructs.proofs.HtmlTags.Bytes.{html-tags-apart}
-use Rattle.mdconstructs_inline_constructs.proofs.HardBreaks.Bytes.{break-escapes-apart, trailing-breaks-apart}
-use Rattle.mdconstructs_inline_constructs.proofs.References.Bytes.{references-apart}
-use Rattle.mdconstructs_inline_constructs.proofs.WhiteSpaces.Bytes.{white-spaces-apart}
-use Rattle.mdconstructs_inlines.specs.InlineEvents.{begins_run, data_length, data_run, delimiter_run, ends_data, inline_grammars, inline_item_at, line_break, marked_grammars, run_length, run_or_part}
-use Rattle.mdconstructs_inlines.specs.InlineTable.{behind_autolinks, behind_emails, behind_escapes, behind_marks, inline_constructs, white_constructs}
-use Rattle.mdconstructs_inlines.specs.RunRows.{is_delimiter}
+use Rattle.mdconstructs_inlines.proofs.Prelude.{◌≡◌, ℕ, ◌<◌, ◌==◌, ◌&&◌, ◌||◌, List, ◌∷◌, Bool, true, false, cond, sym, ap, ◌∙◌, refl, arith, and-false, or-false, nat_tests, prefix_len, Constructs, is_white, autolinks-apart, code-spans-apart, AreApart, begins-classed, positive, escapes-apart, line-classed, is_line_feed, some_begins, some_first, item_length, is_line_feed_class, punctuation, text_byte, emails-apart, html-marks-apart, html-tags-apart, break-escapes-apart, trailing-breaks-apart, references-apart, white-spaces-apart, begins_run, data_length, data_run, delimiter_run, ends_data, inline_grammars, inline_item_at, line_break, marked_grammars, run_length, run_or_part, behind_autolinks, behind_emails, behind_escapes, behind_marks, inline_constructs, white_constructs, is_delimiter}
 
 pub white-apart : AreApart text_byte item_length white_constructs
 white-apart = (record { classed = trailing-breaks-apart.classed; nowhere = trailing-breaks-apart.nowhere; some = trailing-breaks-apart.some }, (white-spaces-apart, tt))

@@ -1,34 +1,6 @@
 -- What is read of inline text is balanced, and no event of it has a link: that holds of each item.
-use Rattle.std.proofs.Common.{ℕ, zero, suc, List, [], ◌∷◌, false, true, cond, take, drop, length, refl}
-use Rattle.std.specs.List.{flat_map, prefix_len}
-use Rattle.markdown_base.specs.declared.configuration.Constructs.{Constructs}
-use Rattle.markdown_base.specs.declared.event.Event.{Event}
-use Rattle.markdown_base.specs.declared.event.Kind.TheVariants.{Enter, Exit}
+use Rattle.mdconstructs_inlines.proofs.Prelude.{ℕ, zero, suc, List, [], ◌∷◌, false, true, cond, take, drop, length, refl, flat_map, prefix_len, Constructs, Event, Enter, Exit, AttentionSequence, Data, LineEnding, SpaceOrTab, IsBalanced, empty, balanced_span, Seat, end_after, IsBalanced-append, HaveNoLinks, Given, Text, is_white, has_byte_at, is_line_feed, item_length, bytes_of, cut, event, leaf, span, item_events, autolink-built, code-span-built, EachThere, there-holds, escape-built, IsKeptBySpans, IsBuilt, links-kept, email-built, html-mark-built, html-tag-built, break-escape-built, trailing-break-built, reference-built, white-space-built, begins_run, data_length, data_run, delimiter_run, inline_grammars, inline_item_at, inline_items, line_break, read_events, run_length, run_or_part}
 use Rattle.markdown_base.specs.declared.event.Name.{Name}
-use Rattle.markdown_base.specs.declared.event.Name.TheVariants.{AttentionSequence, Data, LineEnding, SpaceOrTab}
-use Rattle.markdown_base.specs.Events.{IsBalanced, empty, span as balanced_span}
-use Rattle.markdown_base.specs.Virtual.{Seat, end_after}
-use Rattle.markdown_edits.proofs.Balanced.{IsBalanced-append}
-use Rattle.markdown_tokenizer.specs.Plain.{HaveNoLinks}
-use Rattle.markdown_tokenizer.specs.Text.{Given, Text}
-use Rattle.mdconstructs_machines.specs.Breaks.{is_white}
-use Rattle.mdconstructs_text.specs.Bytes.{has_byte_at, is_line_feed}
-use Rattle.mdconstructs_text.specs.Items.{item_length}
-use Rattle.mdconstructs_text.specs.Parts.{bytes_of, cut, event, leaf, span}
-use Rattle.mdconstructs_text.specs.TextEvents.{item_events}
-use Rattle.mdconstructs_text.proofs.Autolinks.Cuts.{autolink-built}
-use Rattle.mdconstructs_text.proofs.CodeSpans.Cuts.{code-span-built}
-use Rattle.mdconstructs_text.proofs.Constructs.Apart.{EachThere, there-holds}
-use Rattle.mdconstructs_text.proofs.Escapes.Cuts.{escape-built}
-use Rattle.mdconstructs_text.proofs.Texts.Built.{IsKeptBySpans, IsBuilt}
-use Rattle.mdconstructs_text.proofs.Texts.Tight.{links-kept}
-use Rattle.mdconstructs_inline_constructs.proofs.Emails.Cuts.{email-built}
-use Rattle.mdconstructs_inline_constructs.proofs.HtmlMarks.Bytes.{html-mark-built}
-use Rattle.mdconstructs_inline_constructs.proofs.HtmlTags.Bytes.{html-tag-built}
-use Rattle.mdconstructs_inline_constructs.proofs.HardBreaks.Cuts.{break-escape-built, trailing-break-built}
-use Rattle.mdconstructs_inline_constructs.proofs.References.Cuts.{reference-built}
-use Rattle.mdconstructs_inline_constructs.proofs.WhiteSpaces.Cuts.{white-space-built}
-use Rattle.mdconstructs_inlines.specs.InlineEvents.{begins_run, data_length, data_run, delimiter_run, inline_grammars, inline_item_at, inline_items, line_break, read_events, run_length, run_or_part}
 
 module _ (bytes : List ℕ) (P : List Event → Type 0) (kept : IsKeptBySpans bytes P) (on : Constructs) where
   other-built : (text : List ℕ) → IsBuilt bytes P kept (run_or_part on text)

@@ -1,27 +1,5 @@
 -- Chains of text are read as inline text; and what is read leaves other chains ready.
-use Rattle.std.proofs.Common.{Some, arith, refl, sym, ap, ◌∙◌, subst}
-use Rattle.std.specs.List.{AllByRecursion}
-use Rattle.markdown_base.specs.declared.event.Content.TheVariants.{Text as TextContent}
-use Rattle.markdown_base.specs.declared.state.State.TheVariants.{Next}
-use Rattle.markdown_base.specs.declared.state.TheConstants.Name.{TextStart}
-use Rattle.markdown_base.specs.Events.{IsBalanced}
-use Rattle.markdown_children.specs.Chains.{fitting_starts}
-use Rattle.markdown_children.specs.Reads.{lists}
-use Rattle.markdown_children.specs.Ready.{IsReady}
-use Rattle.markdown_children.proofs.ChildReads.SoFar.{lists-all}
-use Rattle.markdown_children.proofs.Parts.Staying.{stays-ready}
-use Rattle.markdown_edits.specs.Edited.{edited}
-use Rattle.markdown_tokenizer.specs.Configuration.{start_configuration}
-use Rattle.markdown_tokenizer.specs.Plain.{HaveNoLinks}
-use Rattle.markdown_tokenizer.specs.Text.{Given, Text}
-use Rattle.mdconstructs_attention.proofs.RunEdits.{emphasis-can-be-made}
-use Rattle.mdconstructs_text.specs.ChainTexts.{chain_text}
-use Rattle.mdconstructs_text.proofs.Paragraphs.ChainEvents.{all-begin, chains-read, children-events}
-use Rattle.mdconstructs_text.proofs.Paragraphs.Staying.{each-alone}
-use Rattle.mdconstructs_text.proofs.Texts.Ends.{ReadsTexts, ends-so}
-use Rattle.mdconstructs_inlines.specs.InlineEvents.{inline_events, read_events}
-use Rattle.mdconstructs_inlines.specs.InlineRules.{emphasis_edits, inlines_rules}
-use Rattle.mdconstructs_inlines.specs.LawStatements.{ReadsChainsAsInlineText, StaysReadyAfterInlineText}
+use Rattle.mdconstructs_inlines.proofs.Prelude.{Some, arith, refl, sym, ap, ◌∙◌, subst, AllByRecursion, TextContent, Next, TextStart, IsBalanced, fitting_starts, lists, IsReady, lists-all, stays-ready, edited, start_configuration, HaveNoLinks, Given, Text, emphasis-can-be-made, chain_text, all-begin, chains-read, children-events, each-alone, ReadsTexts, ends-so, inline_events, read_events, emphasis_edits, inlines_rules, ReadsChainsAsInlineText, StaysReadyAfterInlineText}
 use Rattle.mdconstructs_inlines.proofs.InlineBuilt.{read-alone, read-balanced}
 use Rattle.mdconstructs_inlines.proofs.InlineMemory.{inlines-read}
 use Rattle.mdconstructs_inlines.proofs.InlineReads.{text_ending}

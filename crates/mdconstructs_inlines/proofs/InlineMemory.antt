@@ -1,36 +1,6 @@
 -- What the machine of inline text remembers of a text: the backtick strings that were seen, and up to where no mark of raw HTML ends. So each look to the
 -- end is made once, and inline text is read in so many calls.
-use Rattle.std.proofs.Common.{◌≡◌, ℕ, ◌+◌, ◌*◌, ◌<◌, ◌≤◌, ◌==◌, List, [], ◌∷◌, Bool, true, false, cond, Option, Some, None, refl, sym, ap, ◌∙◌, subst, arith, length, drop}
-use Rattle.std.specs.List.{prefix_len}
-use Rattle.std.proofs.lemmas.Bool.Decides.{nat_tests}
-use Rattle.markdown_base.specs.declared.event.Event.{Event}
-use Rattle.markdown_base.specs.declared.state.Name.{Name}
-use Rattle.markdown_base.specs.declared.state.State.{State}
-use Rattle.markdown_base.specs.declared.state.State.TheVariants.{Next, Retry}
-use Rattle.markdown_base.specs.declared.state.TheConstants.Name.{TextBefore, TextStart}
-use Rattle.markdown_base.specs.Virtual.{Seat}
-use Rattle.markdown_tokenizer.specs.declared.waiting.Waits.TheVariants.{Byte}
-use Rattle.markdown_tokenizer.specs.Configuration.{Local, start_configuration}
-use Rattle.markdown_tokenizer.specs.Text.{Given, IsText, Text}
-use Rattle.mdconstructs_machines.specs.Breaks.{is_white}
-use Rattle.mdconstructs_text.specs.Bytes.{is_backtick}
-use Rattle.mdconstructs_text.specs.Construct.{Found, between_texts}
-use Rattle.mdconstructs_text.specs.Items.{item_length}
-use Rattle.mdconstructs_text.specs.Parts.{bytes_of}
-use Rattle.mdconstructs_text.proofs.CodeSpans.Remembered.{knows-later as runs-later, others}
-use Rattle.mdconstructs_text.proofs.Constructs.Apart.{OfOption}
-use Rattle.mdconstructs_text.proofs.Constructs.Listed.{outer}
-use Rattle.mdconstructs_text.proofs.Texts.Counted.{Remembered, remembered}
-use Rattle.mdconstructs_text.proofs.Texts.Steps.{EndsWith, Plays, between_items}
-use Rattle.mdconstructs_inline_constructs.proofs.HtmlMarks.Ahead.{mark-missed, marks-ahead-later, marks-ahead-same, marks-ahead-within, marks-leave-runs, marks_ahead}
-use Rattle.mdconstructs_inline_constructs.proofs.HtmlMarks.Bytes.{html-marks-apart}
-use Rattle.mdconstructs_inline_constructs.proofs.HtmlMarks.Readings.{MarksDecided, html-marks-read, known_at, look_calls, looked_over, mark-paid, mark-within}
-use Rattle.mdconstructs_inline_constructs.proofs.HtmlMarks.Remembered.{KnowsMarks, knows-later as marks-later, knows-nothing as marks-nothing, knows-same as marks-same}
-use Rattle.mdconstructs_inline_constructs.proofs.HtmlMarks.Places.{Mark, of_cdata, of_comment, of_declaration, of_instruction}
-use Rattle.mdconstructs_inline_constructs.proofs.HtmlMarks.Rows.{known_upto}
-use Rattle.mdconstructs_inline_constructs.proofs.RememberedCode.Memory.{code_memory}
-use Rattle.mdconstructs_inline_constructs.proofs.RememberedCode.Readings.{CodeDecided, code-ahead-later, code-ahead-within, code_ahead, knows-code-later, knows-no-code, knows_code, remembered-code-read}
-use Rattle.mdconstructs_inlines.specs.InlineEvents.{read_events}
+use Rattle.mdconstructs_inlines.proofs.Prelude.{◌≡◌, ℕ, ◌+◌, ◌*◌, ◌<◌, ◌≤◌, ◌==◌, List, [], ◌∷◌, Bool, true, false, cond, Option, Some, None, refl, sym, ap, ◌∙◌, subst, arith, length, drop, prefix_len, nat_tests, Event, Name, State, Next, Retry, TextBefore, TextStart, Seat, Byte, Local, start_configuration, Given, IsText, Text, is_white, is_backtick, Found, between_texts, item_length, bytes_of, runs-later, others, OfOption, outer, Remembered, remembered, EndsWith, Plays, between_items, mark-missed, marks-ahead-later, marks-ahead-same, marks-ahead-within, marks-leave-runs, marks_ahead, html-marks-apart, MarksDecided, html-marks-read, known_at, look_calls, looked_over, mark-paid, mark-within, KnowsMarks, marks-later, marks-nothing, marks-same, Mark, of_cdata, of_comment, of_declaration, of_instruction, known_upto, code_memory, CodeDecided, code-ahead-later, code-ahead-within, code_ahead, knows-code-later, knows-no-code, knows_code, remembered-code-read, read_events}
 use Rattle.mdconstructs_inlines.proofs.Budgets.{Potential, total-drop}
 use Rattle.mdconstructs_inlines.proofs.FrontRuns.{no-run}
 use Rattle.mdconstructs_inlines.proofs.InlineCalls.{DecidedSo, IsTextMemory, RemembersSo, TextMemory, code-so, code_toll, inline_budget, inlines-within, mark_toll, marks-so}

@@ -1,18 +1,6 @@
 -- What reading inline text from its start ends in: its items are read one by one, in so many calls. And so it is what its definition says, and read in
 -- linear time.
-use Rattle.std.proofs.Common.{◌+◌, ◌*◌, ◌∙◌, ap, arith, false, length}
-use Rattle.markdown_base.specs.declared.state.State.TheVariants.{Next}
-use Rattle.markdown_base.specs.declared.state.TheConstants.Name.{TextStart}
-use Rattle.markdown_tokenizer.specs.Configuration.{Configuration, start_configuration}
-use Rattle.markdown_tokenizer.specs.Engine.{whole_text}
-use Rattle.markdown_tokenizer.specs.Text.{Given, Text}
-use Rattle.mdconstructs_attention.specs.Runs.{with_emphasis}
-use Rattle.mdconstructs_text.proofs.Texts.Ends.{ends-so}
-use Rattle.mdconstructs_text.proofs.Texts.Leads.{Ending}
-use Rattle.mdconstructs_text.proofs.Texts.WholePlaces.{whole-is-text}
-use Rattle.mdconstructs_inlines.specs.InlineEvents.{read_events}
-use Rattle.mdconstructs_inlines.specs.InlineRules.{inlines_rules}
-use Rattle.mdconstructs_inlines.specs.LawStatements.{ReadsInlineText, RunsWithin}
+use Rattle.mdconstructs_inlines.proofs.Prelude.{◌+◌, ◌*◌, ◌∙◌, ap, arith, false, length, Next, TextStart, Configuration, start_configuration, whole_text, Given, Text, with_emphasis, ends-so, Ending, whole-is-text, read_events, inlines_rules, ReadsInlineText, RunsWithin}
 use Rattle.mdconstructs_inlines.proofs.InlineCalls.{inline_budget}
 use Rattle.mdconstructs_inlines.proofs.InlineMemory.{inlines-read}
 use Rattle.mdconstructs_inlines.proofs.InlinesCounted.{calls-within}

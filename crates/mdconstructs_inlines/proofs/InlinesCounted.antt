@@ -1,15 +1,6 @@
 -- The machine of inline text counts each of its calls: where few were counted, few were made.
-use Rattle.std.proofs.Common.{◌≡◌, ◌<◌, ◌≤◌, [], Bool, Option, None, Some, refl, sym, subst, arith, rules}
-use Rattle.markdown_base.specs.declared.state.Name.{Name}
-use Rattle.markdown_base.specs.declared.state.State.TheVariants.{Next}
-use Rattle.markdown_tokenizer.specs.Configuration.{start_configuration}
-use Rattle.markdown_tokenizer.specs.Reading.{EndsIn, Reading}
-use Rattle.markdown_tokenizer.specs.Text.{Given, Text}
-use Rattle.markdown_tokenizer.proofs.Readings.Bounds.{one-end}
-use Rattle.mdconstructs_text.specs.TextBytes.{TextByte, backtick, digit, letter, line_feed, mark}
-use Rattle.mdconstructs_text.proofs.Texts.Leads.{Ending, EndsWith, most, spent}
-use Rattle.mdconstructs_inlines.specs.InlineRules.{inlines_rules}
-use Rattle.mdconstructs_inlines.specs.InlineTable.{inlines}
+use Rattle.mdconstructs_inlines.proofs.Prelude.{◌≡◌, ◌<◌, ◌≤◌, [], Bool, Option, None, Some, refl, sym, subst, arith, rules, Name, Next, start_configuration, EndsIn, Reading, Given, Text, one-end, TextByte, backtick, digit, letter, line_feed, mark, Ending, most, spent, inlines_rules, inlines}
+use Rattle.mdconstructs_text.proofs.Texts.Leads.{EndsWith}
 use Rattle.mdconstructs_inlines.proofs.CallsCounted.{CountsCalls, KeepCount, calls-counted, table-counts}
 use Rattle.mdconstructs_inlines.proofs.Starts.{start_local}
 

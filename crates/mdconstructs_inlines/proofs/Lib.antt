@@ -1,14 +1,8 @@
+pub mod Budgets
+pub mod CallsCounted
 mod DataBytes
 mod DataReads
 mod FrontRuns
-mod LineReads
-mod PartReads
-mod Playing
-mod Priced
-mod Room
-mod RunReads
-pub mod Budgets
-pub mod CallsCounted
 pub mod InlineApart
 pub mod InlineBuilt
 pub mod InlineCalls
@@ -17,8 +11,15 @@ pub mod InlineListed
 pub mod InlineMemory
 pub mod InlineReads
 pub mod InlinesCounted
+mod LineReads
 pub mod Looks
+mod PartReads
+mod Playing
+mod Prelude
+mod Priced
 pub mod Resolved
+mod Room
+mod RunReads
 pub mod Starts
 pub mod StringCalls
 pub mod StringChains

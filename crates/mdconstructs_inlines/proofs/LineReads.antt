@@ -1,42 +1,7 @@
 -- How the machine of inline text reads a line ending with the white space behind it, and the white space that a text begins with; and in how many
 -- calls.
-use Rattle.std.proofs.Common.{◌≡◌, ℕ, suc, ◌+◌, ◌≤◌, List, [], ◌∷◌, ◌++◌, Bool, true, false, cond, Option, Some, None, refl, sym, ap, ◌∙◌, subst, arith, append_assoc, length, take, drop}
-use Rattle.std.proofs.lemmas.List.{append-nil, length-map}
-use Rattle.std.proofs.lemmas.List.Sums.{prefix_len-le-length}
-use Rattle.std.specs.List.{prefix_len}
-use Rattle.std.specs.Prelude.{slice_get}
-use Rattle.markdown_base.proofs.Common.{drop-next}
-use Rattle.markdown_base.specs.declared.event.Event.{Event}
-use Rattle.markdown_base.specs.declared.event.Kind.TheVariants.{Enter, Exit}
-use Rattle.markdown_base.specs.declared.event.Name.TheVariants.{LineEnding, SpaceOrTab}
-use Rattle.markdown_base.specs.declared.state.State.TheVariants.{Next, Retry}
-use Rattle.markdown_base.specs.declared.state.TheConstants.Name.{TextBefore}
-use Rattle.mdconstructs_inlines.specs.declared.names.TheConstants.{TextLineStart, TextLineWhite}
-use Rattle.markdown_base.specs.Virtual.{Seat}
-use Rattle.markdown_tokenizer.specs.declared.waiting.Waits.TheVariants.{Byte, Nothing}
-use Rattle.markdown_tokenizer.specs.Configuration.{Local}
-use Rattle.markdown_tokenizer.specs.Sight.{byte_of, end_place, point_or}
-use Rattle.markdown_tokenizer.specs.Text.{Given, Text}
-use Rattle.mdconstructs_tables.specs.Rows.{class_of, consume, enter, exit, row}
-use Rattle.mdconstructs_machines.proofs.LineReads.Rows.{line-ending-read}
-use Rattle.mdconstructs_machines.proofs.LineReads.Steps.{at-front, held}
-use Rattle.mdconstructs_machines.specs.Breaks.{is_white}
-use Rattle.mdconstructs_machines.specs.Tables.{counts}
-use Rattle.mdconstructs_text.proofs.Plain.Items.{AddsItemIn, adds-of}
-use Rattle.mdconstructs_text.proofs.Plain.Passed.{after-passed}
-use Rattle.mdconstructs_text.proofs.Plain.Stretches.{first_byte, goes-back, goes-next, leaf-read, loops, past, past-at, past-stops, passed, sees, shows}
-use Rattle.mdconstructs_text.proofs.Texts.Counted.{IsAfter, after-call, after-more, after-within}
-use Rattle.mdconstructs_text.proofs.Texts.Reads.{AddsItem}
-use Rattle.mdconstructs_text.proofs.Texts.Steps.{EndsWith, Leads, Plays, before_class, between_items, leads-row, leads-seen}
-use Rattle.mdconstructs_text.specs.Bytes.{passes}
-use Rattle.mdconstructs_text.specs.Construct.{between_texts}
-use Rattle.mdconstructs_text.specs.Laws.Classes.{by-class}
-use Rattle.mdconstructs_text.specs.Parts.{bytes_of, event, leaf}
-use Rattle.mdconstructs_text.specs.TextBytes.{TextByte, text_byte}
-use Rattle.mdconstructs_inline_constructs.proofs.WhiteSpaces.Bytes.{run-some}
-use Rattle.mdconstructs_inline_constructs.proofs.WhiteSpaces.Classes.{white-class}
-use Rattle.mdconstructs_inlines.specs.InlineEvents.{line_break}
-use Rattle.mdconstructs_inlines.specs.InlineTable.{line_start_rows, line_white_rows}
+use Rattle.mdconstructs_inlines.proofs.Prelude.{◌≡◌, ℕ, suc, ◌+◌, ◌≤◌, List, [], ◌∷◌, ◌++◌, Bool, true, false, cond, Option, Some, None, refl, sym, ap, ◌∙◌, subst, arith, append_assoc, length, take, drop, append-nil, length-map, prefix_len-le-length, prefix_len, slice_get, drop-next, Event, Enter, Exit, LineEnding, SpaceOrTab, Next, Retry, TextBefore, TextLineStart, TextLineWhite, Seat, Byte, Nothing, Local, byte_of, end_place, point_or, Given, Text, class_of, consume, enter, exit, row, line-ending-read, at-front, held, is_white, counts, AddsItemIn, adds-of, after-passed, first_byte, goes-back, goes-next, leaf-read, loops, past-at, past-stops, passed, sees, shows, IsAfter, after-call, after-more, after-within, AddsItem, EndsWith, Leads, Plays, before_class, between_items, leads-row, leads-seen, passes, between_texts, by-class, bytes_of, event, leaf, TextByte, text_byte, run-some, white-class, line_break, line_start_rows, line_white_rows}
+use Rattle.mdconstructs_text.proofs.Plain.Stretches.{past}
 use Rattle.mdconstructs_inlines.proofs.Playing.{inlines_play, line-row}
 
 -- ---- rows

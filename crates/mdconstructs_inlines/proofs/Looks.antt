@@ -1,36 +1,6 @@
 -- The machine of inline text refuses no document, by the test of its rows; and it looks no further than the byte that waits: its tests take
 -- nothing of the document but the options.
-use Rattle.std.proofs.Common.{◌≡◌, ◌&&◌, List, [], ◌∷◌, ◌++◌, true, Option, Some, None, refl, ap}
-use Rattle.std.specs.List.{AllByRecursion}
-use Rattle.markdown_base.specs.declared.configuration.ParseOptions.{ParseOptions}
-use Rattle.markdown_tokenizer.specs.Alike.{LooksNoFurther}
-use Rattle.mdconstructs_tables.specs.NoFurther.{IsAnsweredAlike, tests, tests_of}
-use Rattle.mdconstructs_tables.specs.Refusals.{refusing, RulesRefuseNothing}
-use Rattle.mdconstructs_tables.proofs.Tables.NoFurther.{steps-alike}
-use Rattle.mdconstructs_tables.proofs.Tables.Refusals.{table-steps, refuse-nothing}
-use Rattle.mdconstructs_text.specs.AutolinkRows.{autolinks, autolinks_are_on, has_room, has_scheme}
-use Rattle.mdconstructs_text.specs.Bytes.{passes}
-use Rattle.mdconstructs_text.specs.CodeSpanRows.{code_spans_are_on, sizes_are_equal}
-use Rattle.mdconstructs_text.specs.EscapeRows.{escapes, escapes_are_on}
-use Rattle.mdconstructs_text.specs.TextBytes.{TextByte, line_feed, backtick, less, greater, backslash, colon, letter, digit, mark, ampersand, white, punctuation, blank, other}
-use Rattle.markdown_base.proofs.Common.{every-append}
-use Rattle.markdown_base.specs.declared.state.TheConstants.Name.{TextBeforeHardBreakEscape}
-use Rattle.markdown_tokenizer.proofs.Positions.Order.{every-back, every-front}
-use Rattle.mdconstructs_tables.specs.Rows.{StateRows}
-use Rattle.mdconstructs_text.specs.Construct.{states_of}
-use Rattle.mdconstructs_inline_constructs.proofs.HtmlTags.Looks.{html-on-alike, html-tags-alike}
-use Rattle.mdconstructs_inline_constructs.specs.EmailRows.{emails}
-use Rattle.mdconstructs_inline_constructs.specs.HtmlMarkedRows.{html_marks}
-use Rattle.mdconstructs_inline_constructs.specs.HtmlTagRows.{html_tags}
-use Rattle.mdconstructs_inline_constructs.specs.Laws.Email.{domain-ends-alike, hyphen-alike, label-alike, label-ends-alike, name-alike, name-ends-alike}
-use Rattle.mdconstructs_inline_constructs.specs.HardBreakRows.{break_escapes_are_on, space_waits, trailing_breaks_are_on}
-use Rattle.mdconstructs_inline_constructs.specs.ReferenceRows.{at_number_sign, at_semicolon, at_x, value_goes_on, value_is_whole}
-use Rattle.mdconstructs_inline_constructs.proofs.References.Alike.{goes-on-alike, number-sign-alike, on-alike, semicolon-alike, whole-alike, x-alike}
-use Rattle.mdconstructs_inline_constructs.specs.RememberedCode.{remembered_code_spans}
-use Rattle.mdconstructs_inlines.specs.InlineRules.{inlines_rules}
-use Rattle.mdconstructs_inlines.specs.InlineTable.{behind_escapes, inline_constructs, inline_start, inlines, own_states}
-use Rattle.mdconstructs_inlines.specs.RunRows.{is_delimiter, run_begins, run_goes_on, run_states}
-use Rattle.mdconstructs_inlines.specs.StringTable.{string_states}
+use Rattle.mdconstructs_inlines.proofs.Prelude.{◌≡◌, ◌&&◌, List, [], ◌∷◌, ◌++◌, true, Option, Some, None, refl, ap, AllByRecursion, ParseOptions, LooksNoFurther, IsAnsweredAlike, tests, tests_of, refusing, RulesRefuseNothing, steps-alike, table-steps, refuse-nothing, autolinks, autolinks_are_on, has_room, has_scheme, passes, code_spans_are_on, sizes_are_equal, escapes, escapes_are_on, TextByte, line_feed, backtick, less, greater, backslash, colon, letter, digit, mark, ampersand, white, punctuation, blank, other, every-append, TextBeforeHardBreakEscape, every-back, every-front, StateRows, states_of, html-on-alike, html-tags-alike, emails, html_marks, html_tags, domain-ends-alike, hyphen-alike, label-alike, label-ends-alike, name-alike, name-ends-alike, break_escapes_are_on, space_waits, trailing_breaks_are_on, at_number_sign, at_semicolon, at_x, value_goes_on, value_is_whole, goes-on-alike, number-sign-alike, on-alike, semicolon-alike, whole-alike, x-alike, remembered_code_spans, inlines_rules, behind_escapes, inline_constructs, inline_start, inlines, own_states, is_delimiter, run_begins, run_goes_on, run_states, string_states}
 
 none-refuses : (previous current : Option TextByte) → refusing inlines previous current ≡ []
 none-refuses previous (Some line_feed) = refl

@@ -1,27 +1,5 @@
 -- What is there of inline text where no construct is, data, a run or a line ending, is read in so many calls.
-use Rattle.std.proofs.Common.{◌≡◌, ℕ, ◌+◌, ◌&&◌, ◌||◌, List, ◌∷◌, Bool, true, false, cond, refl, sym, ap, ◌∙◌, subst, arith, drop}
-use Rattle.std.specs.List.{prefix_len}
-use Rattle.std.proofs.Math.Bool.{and-false}
-use Rattle.std.proofs.lemmas.Bool.{eqb-true}
-use Rattle.std.proofs.lemmas.Bool.Decides.{nat_tests}
-use Rattle.markdown_base.specs.declared.configuration.Constructs.{Constructs}
-use Rattle.markdown_base.specs.declared.event.Event.{Event}
-use Rattle.markdown_base.specs.declared.state.Name.{Name}
-use Rattle.markdown_base.specs.declared.state.State.TheVariants.{Retry}
-use Rattle.markdown_base.specs.declared.state.TheConstants.Name.{TextBefore, TextBeforeData}
-use Rattle.markdown_base.specs.Virtual.{Seat}
-use Rattle.markdown_tokenizer.specs.declared.waiting.Waits.TheVariants.{Byte}
-use Rattle.markdown_tokenizer.specs.Configuration.{Local}
-use Rattle.markdown_tokenizer.specs.Text.{Given, Text}
-use Rattle.mdconstructs_machines.specs.Breaks.{is_white}
-use Rattle.mdconstructs_text.specs.Bytes.{is_line_feed}
-use Rattle.mdconstructs_text.specs.Construct.{Found, between_texts}
-use Rattle.mdconstructs_text.specs.Items.{item_length}
-use Rattle.mdconstructs_text.specs.Parts.{bytes_of}
-use Rattle.mdconstructs_text.proofs.Plain.Items.{AddsItemIn, adds-more}
-use Rattle.mdconstructs_text.proofs.Texts.Steps.{Plays, between_items}
-use Rattle.mdconstructs_inlines.specs.InlineEvents.{begins_run, data_length, data_run, delimiter_run, line_break, run_length, run_or_part}
-use Rattle.mdconstructs_inlines.specs.RunRows.{is_delimiter}
+use Rattle.mdconstructs_inlines.proofs.Prelude.{◌≡◌, ℕ, ◌+◌, ◌&&◌, ◌||◌, List, ◌∷◌, Bool, true, false, cond, refl, sym, ap, ◌∙◌, subst, arith, drop, prefix_len, and-false, eqb-true, nat_tests, Constructs, Event, Name, Retry, TextBefore, TextBeforeData, Seat, Byte, Local, Given, Text, is_white, is_line_feed, Found, between_texts, item_length, bytes_of, AddsItemIn, adds-more, Plays, between_items, begins_run, data_length, data_run, delimiter_run, line_break, run_length, run_or_part, is_delimiter}
 use Rattle.mdconstructs_inlines.proofs.DataBytes.{part_calls}
 use Rattle.mdconstructs_inlines.proofs.DataReads.{reads-data-run-in}
 use Rattle.mdconstructs_inlines.proofs.InlineApart.{or-parts}

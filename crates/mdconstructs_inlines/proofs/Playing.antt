@@ -1,45 +1,6 @@
 -- The machine of inline text does what the rows of constructs say; and between them what bytes say.
-use Rattle.std.proofs.Common.{◌≡◌, ◌⊎◌, inl, inr, ℕ, ◌==◌, ◌&&◌, ◌||◌, [], ◌∷◌, Bool, true, false, cond, Option, Some, None, refl, sym, ap, ◌∙◌, arith}
-use Rattle.std.proofs.lemmas.Bool.Decides.{nat_tests}
-use Rattle.markdown_base.specs.declared.configuration.Constructs.{Constructs}
-use Rattle.markdown_base.specs.declared.event.Name.TheVariants.{Data, LineEnding}
-use Rattle.markdown_base.specs.declared.state.State.TheVariants.{Next, Retry}
-use Rattle.markdown_base.specs.declared.state.TheConstants.Name.{AttentionStart, DataInside, SpaceOrTabStart, TextBefore, TextBeforeData}
-use Rattle.mdconstructs_inlines.specs.declared.names.TheConstants.{DataOver, DataWhite, TextLineStart}
-use Rattle.markdown_tokenizer.specs.declared.waiting.AttemptKind.TheVariants.{Check}
-use Rattle.markdown_tokenizer.specs.Calls.{with_local}
-use Rattle.markdown_tokenizer.specs.Configuration.{Configuration}
-use Rattle.markdown_tokenizer.specs.Sight.{sight}
-use Rattle.markdown_tokenizer.specs.Text.{Given, Text}
-use Rattle.mdconstructs_tables.specs.Rows.{Rows, choose, class_of, consume, enter, exit, row}
-use Rattle.mdconstructs_machines.specs.Breaks.{is_white}
-use Rattle.mdconstructs_machines.specs.Tables.{counts}
-use Rattle.mdconstructs_machines.proofs.LineReads.Rows.{row_step}
-use Rattle.mdconstructs_text.specs.Bytes.{is_line_feed, passes}
-use Rattle.mdconstructs_text.specs.Construct.{between_texts, some_begins, tried_at}
-use Rattle.mdconstructs_text.specs.TextBytes.{TextByte, is_line_feed_class, line_feed, punctuation, text_byte, white}
-use Rattle.mdconstructs_text.proofs.CodeSpans.Plays.{PlaysCodeSpans}
-use Rattle.mdconstructs_text.proofs.CodeSpans.Remembered.{remembering}
-use Rattle.mdconstructs_text.proofs.Texts.Apart.{line-classed}
-use Rattle.mdconstructs_text.proofs.Texts.Steps.{BeginsData, HasRow, HasRows, Plays, tested}
-use Rattle.mdconstructs_inline_constructs.proofs.Emails.Readings.{PlaysEmails}
-use Rattle.mdconstructs_inline_constructs.proofs.HtmlMarks.Places.{MarkPlace, at_cdata, at_comment, at_declaration, at_inside, at_open, mark_name}
-use Rattle.mdconstructs_inline_constructs.proofs.HtmlMarks.Rows.{PlaysMarks, mark_rows}
+use Rattle.mdconstructs_inlines.proofs.Prelude.{◌≡◌, ◌⊎◌, inl, inr, ℕ, ◌==◌, ◌&&◌, ◌||◌, [], ◌∷◌, Bool, true, false, cond, Option, Some, None, refl, sym, ap, ◌∙◌, arith, nat_tests, Constructs, Data, LineEnding, Next, Retry, AttentionStart, DataInside, SpaceOrTabStart, TextBefore, TextBeforeData, DataOver, DataWhite, TextLineStart, Check, with_local, Configuration, sight, Given, Text, Rows, choose, class_of, consume, enter, exit, row, is_white, counts, row_step, is_line_feed, passes, between_texts, some_begins, tried_at, TextByte, is_line_feed_class, line_feed, punctuation, text_byte, white, PlaysCodeSpans, remembering, line-classed, BeginsData, HasRow, HasRows, Plays, tested, PlaysEmails, MarkPlace, at_cdata, at_comment, at_declaration, at_inside, at_open, mark_name, PlaysMarks, mark_rows, Place, PlaysTags, rows_of, state_of, PlaysBreakEscapes, PlaysTrailingBreaks, PlaysReferences, between-remembered, code_memory, opening-remembered, white-classed, white-class, PlaysWhiteSpaces, is_white_class, begins_run, ends_data, inlines_rules, inline_before_rows, inline_constructs, inline_data_rows, is_delimiter, run_begins}
 use Rattle.mdconstructs_inline_constructs.proofs.HtmlTags.Places as place
-use Rattle.mdconstructs_inline_constructs.proofs.HtmlTags.Places.{Place}
-use Rattle.mdconstructs_inline_constructs.proofs.HtmlTags.Rows.{PlaysTags, rows_of, state_of}
-use Rattle.mdconstructs_inline_constructs.proofs.HardBreaks.Escaped.{PlaysBreakEscapes}
-use Rattle.mdconstructs_inline_constructs.proofs.HardBreaks.Trailing.{PlaysTrailingBreaks}
-use Rattle.mdconstructs_inline_constructs.proofs.References.Readings.{PlaysReferences}
-use Rattle.mdconstructs_inline_constructs.proofs.RememberedCode.Memory.{between-remembered, code_memory, opening-remembered}
-use Rattle.mdconstructs_inline_constructs.proofs.WhiteSpaces.Bytes.{white-classed}
-use Rattle.mdconstructs_inline_constructs.proofs.WhiteSpaces.Classes.{white-class}
-use Rattle.mdconstructs_inline_constructs.proofs.WhiteSpaces.Readings.{PlaysWhiteSpaces}
-use Rattle.mdconstructs_inline_constructs.specs.WhiteSpaceRows.{is_white_class}
-use Rattle.mdconstructs_inlines.specs.InlineEvents.{begins_run, ends_data}
-use Rattle.mdconstructs_inlines.specs.InlineRules.{inlines_rules}
-use Rattle.mdconstructs_inlines.specs.InlineTable.{inline_before_rows, inline_constructs, inline_data_rows}
-use Rattle.mdconstructs_inlines.specs.RunRows.{is_delimiter, run_begins}
 use Rattle.mdconstructs_inlines.proofs.InlineApart.{marked-classed, punctuation-ends}
 
 -- between constructs a run may begin at punctuation, and a line ends at a line feed; at the other classes constructs are tried

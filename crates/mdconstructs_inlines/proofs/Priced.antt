@@ -1,8 +1,5 @@
 -- Whether a state can be called does not depend on what it costs.
-use Rattle.std.proofs.Common.{ℕ}
-use Rattle.markdown_tokenizer.specs.Configuration.{TokenizerValue}
-use Rattle.mdconstructs_tables.specs.RowInvariant.{IsCallable}
-use Rattle.mdconstructs_tables.specs.Rows.{Cost, StateRows}
+use Rattle.mdconstructs_inlines.proofs.Prelude.{ℕ, TokenizerValue, IsCallable, Cost, StateRows}
 
 pub at-any-cost : {M W R D : Type 0} (class : ℕ → W) (state : StateRows W R D) (cost : Cost) (t : TokenizerValue M R D) → IsCallable class (record state { cost = cost }) t → IsCallable class state t
 at-any-cost class state cost t h = record {

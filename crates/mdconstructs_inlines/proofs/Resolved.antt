@@ -1,26 +1,5 @@
 -- Where a reading of inline text ends, one resolver is registered; and so emphasis is made.
-use Rattle.std.proofs.Common.{Bool, ◌≡◌, List, [], Some, false, true, refl, sym, ap, ◌∙◌, arith}
-use Rattle.std.specs.Prelude.{Contains}
-use Rattle.markdown_base.specs.declared.state.Name.{Name}
-use Rattle.markdown_base.specs.declared.state.State.TheVariants.{Next, Ok}
-use Rattle.markdown_base.specs.declared.state.TheConstants.Name.{TextStart}
-use Rattle.markdown_edits.specs.Edited.{edited}
-use Rattle.markdown_tokenizer.specs.declared.subtokenize.Subresult.{Subresult}
-use Rattle.markdown_tokenizer.specs.Calls.{with_resolvers}
-use Rattle.markdown_tokenizer.specs.Configuration.{Configuration, start_configuration}
-use Rattle.markdown_tokenizer.specs.Engine.{whole_text}
-use Rattle.markdown_tokenizer.specs.Plain.{HaveNoLinks}
-use Rattle.markdown_tokenizer.specs.Reading.{EndsIn, Reading}
-use Rattle.markdown_tokenizer.specs.Resolving.{IsResolved, done, edits_made, found, resolved_by, taken}
-use Rattle.markdown_tokenizer.specs.Text.{Given, IsText, Text}
-use Rattle.mdconstructs_attention.proofs.RunEdits.{emphasis-can-be-made}
-use Rattle.mdconstructs_text.proofs.Texts.Ends.{holds-at-end}
-use Rattle.mdconstructs_text.proofs.Texts.WholePlaces.{whole-is-text}
-use Rattle.mdconstructs_inlines.specs.InlineRules.{emphasis_edits, EndsEmphasised, inlines_rules}
-use Rattle.mdconstructs_inlines.specs.InlineTable.{begins_inline, follows_inline, inline_starts, inlines}
-use Rattle.mdconstructs_inlines.specs.LawStatements.{MakesEmphasis}
-use Rattle.mdconstructs_inlines.specs.Laws.Inlines.{inlines-lawful}
-use Rattle.mdconstructs_inlines.specs.Laws.Registered.{goes-on}
+use Rattle.mdconstructs_inlines.proofs.Prelude.{Bool, ◌≡◌, List, [], Some, false, true, refl, sym, ap, ◌∙◌, arith, Contains, Name, Next, Ok, TextStart, edited, Subresult, with_resolvers, Configuration, start_configuration, whole_text, HaveNoLinks, EndsIn, Reading, IsResolved, done, edits_made, found, resolved_by, taken, Given, IsText, Text, emphasis-can-be-made, holds-at-end, whole-is-text, emphasis_edits, EndsEmphasised, inlines_rules, begins_inline, follows_inline, inline_starts, inlines, MakesEmphasis, inlines-lawful, goes-on}
 
 -- where a reading ends, no event has a link; and resolving makes the edits of its events
 pub resolved-so : (g : Given) (start : Name) → Contains (inlines_rules g).starts start → (text : Text) → IsText g text → (flag : Bool) (r : Reading Unit Unit) → EndsIn g (inlines_rules g).step text 0 (start_configuration flag) [] (Next start) r → r.answer ≡ Ok

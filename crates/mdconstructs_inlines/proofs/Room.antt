@@ -1,14 +1,5 @@
 -- Places of a document have room for the bytes behind them.
-use Rattle.std.proofs.Common.{◌≡◌, ℕ, zero, suc, ◌+◌, ◌-◌, ◌*◌, ◌<◌, ◌≤◌, List, length, inl, inr, ap, arith}
-use Rattle.std.proofs.lemmas.Bool.{cases_lt}
-use Rattle.std.proofs.Math.Nat.{mul-le-mul_right}
-use Rattle.markdown_base.specs.declared.event.Event.{Event}
-use Rattle.markdown_base.specs.declared.event.Point.{Point}
-use Rattle.markdown_base.specs.Places.{IsPointOf}
-use Rattle.markdown_tokenizer.specs.AtPlaces.{AreAtPlaces}
-use Rattle.markdown_tokenizer.specs.Text.{Given, IsDocument}
-use Rattle.markdown_tokenizer.proofs.Positions.Standing.{place-of-point}
-use Rattle.mdconstructs_attention.specs.Places.{HasRoom, ArePlacesInside}
+use Rattle.mdconstructs_inlines.proofs.Prelude.{◌≡◌, ℕ, zero, suc, ◌+◌, ◌-◌, ◌*◌, ◌<◌, ◌≤◌, List, length, inl, inr, ap, arith, cases_lt, mul-le-mul_right, Event, Point, IsPointOf, AreAtPlaces, Given, IsDocument, place-of-point, HasRoom, ArePlacesInside}
 
 -- a column is no larger than its index allows, and neither is one as many bytes behind it as the document has
 fits : (t i n v c : ℕ) → 1 ≤ t → v < t → (0 < v → 0 < n) → c ≤ t * i + v + 1 → c + n ≤ t * (i + n) + 1

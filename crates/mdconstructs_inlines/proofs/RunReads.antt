@@ -1,35 +1,5 @@
 -- Delimiter runs, as the machine of inline text reads them between items; and in how many calls.
-use Rattle.std.proofs.Common.{◌≡◌, ℕ, suc, ◌+◌, ◌≤◌, ◌==◌, List, [], ◌∷◌, ◌++◌, Bool, true, false, cond, Some, refl, sym, ap, ◌∙◌, subst, arith, length, take, drop}
-use Rattle.std.proofs.lemmas.Bool.{eqb-true}
-use Rattle.std.proofs.lemmas.List.{append_assoc, length-map}
-use Rattle.std.proofs.lemmas.List.Sums.{prefix_len-le-length}
-use Rattle.std.specs.List.{prefix_len}
-use Rattle.std.specs.Prelude.{slice_get}
-use Rattle.markdown_base.specs.declared.event.Event.{Event}
-use Rattle.markdown_base.specs.declared.event.Kind.TheVariants.{Enter, Exit}
-use Rattle.markdown_base.specs.declared.event.Name.{Name as EventName}
-use Rattle.markdown_base.specs.declared.event.Name.TheVariants.{AttentionSequence}
-use Rattle.markdown_base.specs.declared.state.State.TheVariants.{Next, Retry}
-use Rattle.markdown_base.specs.declared.state.TheConstants.Name.{AttentionInside, AttentionStart, TextBefore}
-use Rattle.markdown_base.specs.Virtual.{Seat}
-use Rattle.markdown_base.proofs.Common.{drop-next}
-use Rattle.markdown_tokenizer.specs.declared.waiting.Waits.TheVariants.{Byte, Nothing}
-use Rattle.markdown_tokenizer.specs.Configuration.{Local}
-use Rattle.markdown_tokenizer.specs.Sight.{byte_of, end_place, point_or, seat_before, sight}
-use Rattle.markdown_tokenizer.specs.Text.{Given, Text}
-use Rattle.mdconstructs_tables.specs.Rows.{row, enter, exit, consume}
-use Rattle.mdconstructs_machines.specs.Tables.{counts}
-use Rattle.mdconstructs_machines.proofs.LineReads.Steps.{at-front}
-use Rattle.mdconstructs_text.specs.Bytes.{passes}
-use Rattle.mdconstructs_text.specs.Construct.{between_texts}
-use Rattle.mdconstructs_text.specs.Parts.{bytes_of, event, leaf}
-use Rattle.mdconstructs_text.proofs.Plain.Items.{AddsItemIn, adds-of}
-use Rattle.mdconstructs_text.proofs.Plain.Stretches.{shows, first_byte, goes-back, goes-next, leaf-read, sees}
-use Rattle.mdconstructs_text.proofs.Texts.Counted.{IsAfter, after-call, after-more, after-within}
-use Rattle.mdconstructs_text.proofs.Texts.Reads.{AddsItem}
-use Rattle.mdconstructs_text.proofs.Texts.Steps.{Plays, EndsWith, Leads, between_items, leads-row, leads-tested}
-use Rattle.mdconstructs_inlines.specs.InlineEvents.{begins_run, delimiter_run, run_length}
-use Rattle.mdconstructs_inlines.specs.RunRows.{is_byte, attention_inside_rows, run_goes_on}
+use Rattle.mdconstructs_inlines.proofs.Prelude.{◌≡◌, ℕ, suc, ◌+◌, ◌≤◌, ◌==◌, List, [], ◌∷◌, ◌++◌, Bool, true, false, cond, Some, refl, sym, ap, ◌∙◌, subst, arith, length, take, drop, eqb-true, append_assoc, length-map, prefix_len-le-length, prefix_len, slice_get, Event, Enter, Exit, EventName, AttentionSequence, Next, Retry, AttentionInside, AttentionStart, TextBefore, Seat, drop-next, Byte, Nothing, Local, byte_of, end_place, point_or, seat_before, sight, Given, Text, row, enter, exit, consume, counts, at-front, passes, between_texts, bytes_of, event, leaf, AddsItemIn, adds-of, shows, first_byte, goes-back, goes-next, leaf-read, sees, IsAfter, after-call, after-more, after-within, AddsItem, Plays, EndsWith, Leads, between_items, leads-row, leads-tested, begins_run, delimiter_run, run_length, is_byte, attention_inside_rows, run_goes_on}
 use Rattle.mdconstructs_inlines.proofs.Playing.{inlines_play, runs-begin}
 
 -- a run is open

@@ -1,20 +1,5 @@
 -- A start that registers the resolver and goes on with a state between items is read as that state is.
-use Rattle.std.proofs.Common.{◌≡◌, [], ◌∷◌, Bool, true, false, refl, subst, length}
-use Rattle.std.specs.Prelude.{nat_lt}
-use Rattle.markdown_base.specs.declared.state.Name.{Name}
-use Rattle.markdown_base.specs.declared.state.State.TheVariants.{Next, Retry}
-use Rattle.markdown_tokenizer.specs.declared.waiting.Waits.TheVariants.{Nothing}
-use Rattle.markdown_tokenizer.specs.Calls.{with_local}
-use Rattle.markdown_tokenizer.specs.Configuration.{Configuration, Local, start_configuration}
-use Rattle.markdown_tokenizer.specs.Reading.{fed}
-use Rattle.markdown_tokenizer.specs.Text.{Given, Text}
-use Rattle.mdconstructs_tables.specs.Rows.{row, write}
-use Rattle.mdconstructs_machines.specs.Tables.{counts}
-use Rattle.mdconstructs_text.proofs.Plain.Stretches.{seen}
-use Rattle.mdconstructs_text.proofs.Texts.Counted.{IsAfter, after-call}
-use Rattle.mdconstructs_text.proofs.Texts.Leads.{Ending, leads-unfed}
-use Rattle.mdconstructs_text.proofs.Texts.Steps.{EndsWith, HasRow, Plays, between_items, leads-fed, leads-row}
-use Rattle.mdconstructs_inlines.specs.StringTable.{registers}
+use Rattle.mdconstructs_inlines.proofs.Prelude.{◌≡◌, [], ◌∷◌, Bool, true, false, refl, subst, length, nat_lt, Name, Next, Retry, Nothing, with_local, Configuration, Local, start_configuration, fed, Given, Text, row, write, counts, seen, IsAfter, after-call, Ending, leads-unfed, EndsWith, HasRow, Plays, between_items, leads-fed, leads-row, registers}
 
 -- what states share at the start
 abbrev pub start_local : Bool → Local Unit Unit

@@ -1,39 +1,5 @@
 -- In how many calls the machine of inline text reads a string: at most so many for each virtual byte.
-use Rattle.std.proofs.Common.{◌≡◌, ℕ, suc, ◌+◌, ◌*◌, ◌<◌, ◌≤◌, not, List, [], ◌∷◌, Bool, true, false, cond, Option, Some, None, refl, sym, ap, ◌∙◌, subst, arith, drop, length}
-use Rattle.std.specs.List.{flat_map}
-use Rattle.std.proofs.lemmas.List.{drop-drop, length-drop, length-map}
-use Rattle.std.proofs.lemmas.List.Sums.{prefix_len-le-length}
-use Rattle.markdown_base.specs.declared.event.Event.{Event}
-use Rattle.markdown_base.specs.declared.state.Name.{Name}
-use Rattle.markdown_base.specs.declared.state.State.{State}
-use Rattle.markdown_base.specs.declared.state.State.TheVariants.{Next, Retry}
-use Rattle.markdown_base.specs.declared.state.TheConstants.Name.{StringBefore, StringBeforeData, StringStart}
-use Rattle.markdown_base.specs.Virtual.{Seat}
-use Rattle.markdown_tokenizer.specs.declared.waiting.Waits.TheVariants.{Byte, Nothing}
-use Rattle.markdown_tokenizer.specs.Configuration.{Choice, Local, start_configuration}
-use Rattle.markdown_tokenizer.specs.Engine.{whole_text}
-use Rattle.markdown_tokenizer.specs.Text.{Given, Text}
-use Rattle.mdconstructs_machines.specs.Tables.{counts}
-use Rattle.mdconstructs_text.specs.Bytes.{is_line_feed}
-use Rattle.mdconstructs_text.specs.Construct.{Construct, Found}
-use Rattle.mdconstructs_text.specs.Items.{item_length}
-use Rattle.mdconstructs_text.specs.Parts.{bytes_of, line_ending, part}
-use Rattle.mdconstructs_text.specs.TextBytes.{TextByte, text_byte}
-use Rattle.mdconstructs_text.specs.TextEvents.{item_events}
-use Rattle.mdconstructs_text.proofs.Constructs.Apart.{IsApart, OfOption}
-use Rattle.mdconstructs_text.proofs.Constructs.Listed.{AddsFrom, DecidesTo, IsKept, IsListed, Knowledge, items-read}
-use Rattle.mdconstructs_text.proofs.Escapes.Calls.{escape_calls}
-use Rattle.mdconstructs_text.proofs.Escapes.Readings.{escapes-reads-in}
-use Rattle.mdconstructs_text.proofs.Plain.Items.{AddsItemIn, DecidesIn, ReadsIn}
-use Rattle.mdconstructs_text.proofs.Texts.Counted.{after-call}
-use Rattle.mdconstructs_text.proofs.Texts.Cutting.{cut-same, drop-less}
-use Rattle.mdconstructs_text.proofs.Texts.Leads.{spent}
-use Rattle.mdconstructs_text.proofs.Texts.Steps.{EndsWith, Plays, between_items}
-use Rattle.mdconstructs_inline_constructs.proofs.References.Calls.{reference_calls}
-use Rattle.mdconstructs_inline_constructs.proofs.References.Readings.{references-read-in}
-use Rattle.mdconstructs_inlines.specs.LawStatements.{RunsWithin}
-use Rattle.mdconstructs_inlines.specs.StringEvents.{is_string_special, string_data, string_events, string_item_at, string_part}
-use Rattle.mdconstructs_inlines.specs.StringTable.{between_strings, string_constructs}
+use Rattle.mdconstructs_inlines.proofs.Prelude.{◌≡◌, ℕ, suc, ◌+◌, ◌*◌, ◌<◌, ◌≤◌, not, List, [], ◌∷◌, Bool, true, false, cond, Option, Some, None, refl, sym, ap, ◌∙◌, subst, arith, drop, length, flat_map, drop-drop, length-drop, length-map, prefix_len-le-length, Event, Name, State, Next, Retry, StringBefore, StringBeforeData, StringStart, Seat, Byte, Nothing, Choice, Local, start_configuration, whole_text, Given, Text, counts, is_line_feed, Construct, Found, item_length, bytes_of, line_ending, part, TextByte, text_byte, item_events, IsApart, OfOption, AddsFrom, DecidesTo, IsKept, IsListed, Knowledge, items-read, escape_calls, escapes-reads-in, AddsItemIn, DecidesIn, ReadsIn, after-call, cut-same, drop-less, spent, EndsWith, Plays, between_items, reference_calls, references-read-in, RunsWithin, is_string_special, string_data, string_events, string_item_at, string_part, between_strings, string_constructs}
 use Rattle.mdconstructs_inlines.proofs.InlinesCounted.{calls-within}
 use Rattle.mdconstructs_inlines.proofs.Playing.{inlines_play, inlines_play_references}
 use Rattle.mdconstructs_inlines.proofs.Starts.{from-registering-in, start_local}

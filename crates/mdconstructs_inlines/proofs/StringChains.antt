@@ -1,31 +1,5 @@
 -- What a run makes of a string; and chains of strings, which are read as strings, and leave other chains ready.
-use Rattle.std.proofs.Common.{◌≡◌, Bool, List, Some, false, true, arith, refl, sym, ap, ◌∙◌, subst}
-use Rattle.std.specs.List.{AllByRecursion}
-use Rattle.markdown_base.specs.declared.event.Content.TheVariants.{String}
-use Rattle.markdown_base.specs.declared.event.Event.{Event}
-use Rattle.markdown_base.specs.declared.state.State.TheVariants.{Next}
-use Rattle.markdown_base.specs.declared.state.TheConstants.Name.{StringStart}
-use Rattle.markdown_base.specs.Events.{IsBalanced}
-use Rattle.markdown_children.specs.Chains.{fitting_starts}
-use Rattle.markdown_children.specs.Reads.{lists}
-use Rattle.markdown_children.specs.Ready.{IsReady}
-use Rattle.markdown_children.proofs.ChildReads.SoFar.{lists-all}
-use Rattle.markdown_children.proofs.Parts.Staying.{stays-ready}
-use Rattle.markdown_edits.specs.Edited.{edited}
-use Rattle.markdown_tokenizer.specs.declared.subtokenize.Subresult.{Subresult}
-use Rattle.markdown_tokenizer.specs.Configuration.{Configuration, start_configuration}
-use Rattle.markdown_tokenizer.specs.Engine.{IsRun, whole_text}
-use Rattle.markdown_tokenizer.specs.Plain.{HaveNoLinks}
-use Rattle.markdown_tokenizer.specs.Text.{Given, IsDocument}
-use Rattle.mdconstructs_text.specs.ChainTexts.{chain_text}
-use Rattle.mdconstructs_text.proofs.Paragraphs.ChainEvents.{all-begin, chains-read-from, children-events}
-use Rattle.mdconstructs_text.proofs.Paragraphs.Staying.{each-alone}
-use Rattle.mdconstructs_text.proofs.Texts.Leads.{ending}
-use Rattle.mdconstructs_text.proofs.Texts.Ends.{ReadsTextsFrom, ends-so}
-use Rattle.mdconstructs_text.proofs.Texts.WholePlaces.{whole-is-text}
-use Rattle.mdconstructs_inlines.specs.InlineRules.{emphasis_edits, inlines_rules}
-use Rattle.mdconstructs_inlines.specs.LawStatements.{ReadsChainsAsStrings, ReadsStrings, StaysReadyAfterStrings}
-use Rattle.mdconstructs_inlines.specs.StringEvents.{string_events}
+use Rattle.mdconstructs_inlines.proofs.Prelude.{◌≡◌, Bool, List, Some, false, true, arith, refl, sym, ap, ◌∙◌, subst, AllByRecursion, String, Event, Next, StringStart, IsBalanced, fitting_starts, lists, IsReady, lists-all, stays-ready, edited, Subresult, Configuration, start_configuration, IsRun, whole_text, HaveNoLinks, Given, IsDocument, chain_text, all-begin, chains-read-from, children-events, each-alone, ending, ReadsTextsFrom, ends-so, whole-is-text, emphasis_edits, inlines_rules, ReadsChainsAsStrings, ReadsStrings, StaysReadyAfterStrings, string_events}
 use Rattle.mdconstructs_inlines.proofs.Resolved.{resolved-so}
 use Rattle.mdconstructs_inlines.proofs.StringReads.{strings-from-start}
 use Rattle.mdconstructs_inlines.proofs.StringRuns.{calm-same, string-alone, string-calm}

@@ -1,46 +1,5 @@
 -- Strings, as the machine of inline text reads them: item by item, from their start.
-use Rattle.std.proofs.Common.{◌≡◌, ℕ, ◌+◌, ◌<◌, ◌||◌, not, List, [], ◌∷◌, Bool, true, false, cond, Option, Some, None, refl, sym, ap, ◌∙◌, subst, arith, drop, length, ◌≤◌}
-use Rattle.std.specs.List.{flat_map}
-use Rattle.std.proofs.lemmas.Bool.{eqb-true, not-false}
-use Rattle.markdown_base.specs.declared.event.Name.TheVariants.{Data, LineEnding}
-use Rattle.markdown_base.specs.declared.event.Event.{Event}
-use Rattle.markdown_base.specs.declared.state.Name.{Name}
-use Rattle.markdown_base.specs.declared.state.State.TheVariants.{Next, Retry}
-use Rattle.markdown_base.specs.declared.state.TheConstants.Name.{DataStart, StringBefore, StringBeforeData, StringStart}
-use Rattle.markdown_base.specs.Virtual.{Seat}
-use Rattle.markdown_base.proofs.Common.{drop-next}
-use Rattle.markdown_tokenizer.specs.declared.waiting.Waits.TheVariants.{Byte, Nothing}
-use Rattle.markdown_tokenizer.specs.Configuration.{Configuration, Local, start_configuration}
-use Rattle.markdown_tokenizer.specs.Sight.{sight}
-use Rattle.markdown_tokenizer.specs.Text.{Given, Text}
-use Rattle.mdconstructs_tables.specs.Rows.{Rows, class_of, consume, enter, exit, row}
-use Rattle.mdconstructs_machines.specs.Tables.{counts}
-use Rattle.mdconstructs_machines.proofs.LineReads.Rows.{row_step}
-use Rattle.mdconstructs_text.specs.Bytes.{is_line_feed, passes}
-use Rattle.mdconstructs_text.specs.Construct.{Construct, Found, first_there, grammars_of, some_begins, some_first, tried_at}
-use Rattle.mdconstructs_text.specs.EscapeRows.{escapes}
-use Rattle.mdconstructs_text.specs.Items.{item_length}
-use Rattle.mdconstructs_text.specs.Parts.{bytes_of, line_ending, part}
-use Rattle.mdconstructs_text.specs.TextBytes.{TextByte, is_line_feed_class, text_byte}
-use Rattle.mdconstructs_text.specs.TextEvents.{item_events}
-use Rattle.mdconstructs_text.proofs.Constructs.Apart.{AreApart, begins-classed, none-there}
-use Rattle.mdconstructs_text.proofs.Constructs.Listed.{AddsFrom, IsListed, Knowledge, Reads, ReadsFrom, items-read}
-use Rattle.mdconstructs_text.proofs.Escapes.Bytes.{escapes-apart}
-use Rattle.mdconstructs_text.proofs.Escapes.Readings.{escapes-read}
-use Rattle.mdconstructs_text.proofs.Plain.Items.{AddsItemIn, adds-more, adds-of, entered_data, reads-begun}
-use Rattle.mdconstructs_text.proofs.Plain.Stretches.{goes-next}
-use Rattle.mdconstructs_text.proofs.Texts.Apart.{line-classed}
-use Rattle.mdconstructs_text.proofs.Texts.Cutting.{cut-same}
-use Rattle.mdconstructs_text.proofs.Texts.Counted.{after-call, after-within}
-use Rattle.mdconstructs_text.proofs.Texts.LineEndings.{reads-line-in}
-use Rattle.mdconstructs_text.proofs.Texts.Leads.{counted-most, ending, most, spent}
-use Rattle.mdconstructs_text.proofs.Texts.Reads.{ReadsItems, nothing-kept, nothing_known, reads-before}
-use Rattle.mdconstructs_text.proofs.Texts.Steps.{EndsWith, HasRow, Plays, PlaysData, between_items, leads-row}
-use Rattle.mdconstructs_inline_constructs.specs.ReferenceRows.{references}
-use Rattle.mdconstructs_inline_constructs.proofs.References.Bytes.{references-apart}
-use Rattle.mdconstructs_inline_constructs.proofs.References.Readings.{references-read}
-use Rattle.mdconstructs_inlines.specs.StringEvents.{is_string_special, string_data, string_events, string_item_at, string_part}
-use Rattle.mdconstructs_inlines.specs.StringTable.{between_strings, string_before_rows, string_constructs, string_data_rows}
+use Rattle.mdconstructs_inlines.proofs.Prelude.{◌≡◌, ℕ, ◌+◌, ◌<◌, ◌||◌, not, List, [], ◌∷◌, Bool, true, false, cond, Option, Some, None, refl, sym, ap, ◌∙◌, subst, arith, drop, length, ◌≤◌, flat_map, eqb-true, not-false, Data, LineEnding, Event, Name, Next, Retry, DataStart, StringBefore, StringBeforeData, StringStart, Seat, drop-next, Byte, Nothing, Configuration, Local, start_configuration, sight, Given, Text, Rows, class_of, consume, enter, exit, row, counts, row_step, is_line_feed, passes, Construct, Found, first_there, grammars_of, some_begins, some_first, tried_at, escapes, item_length, bytes_of, line_ending, part, TextByte, is_line_feed_class, text_byte, item_events, AreApart, begins-classed, none-there, AddsFrom, IsListed, Knowledge, Reads, ReadsFrom, items-read, escapes-apart, escapes-read, AddsItemIn, adds-more, adds-of, entered_data, reads-begun, goes-next, line-classed, cut-same, after-call, after-within, reads-line-in, counted-most, ending, most, spent, ReadsItems, nothing-kept, nothing_known, reads-before, EndsWith, HasRow, Plays, PlaysData, between_items, leads-row, references, references-apart, references-read, is_string_special, string_data, string_events, string_item_at, string_part, between_strings, string_before_rows, string_constructs, string_data_rows}
 use Rattle.mdconstructs_inlines.proofs.Playing.{inlines_play, inlines_play_references}
 use Rattle.mdconstructs_inlines.proofs.Starts.{from-registering}
 

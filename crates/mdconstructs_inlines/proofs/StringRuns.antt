@@ -1,38 +1,6 @@
 -- No event of a string is one of a delimiter run, and none has a link: so emphasis changes nothing.
-use Rattle.std.proofs.Common.{◌≡◌, ℕ, zero, suc, ◌+◌, ◌&&◌, ◌==◌, not, ◌++◌, List, [], ◌∷◌, false, true, cond, drop, length, Option, Some, refl, ap, ◌∙◌, take}
-use Rattle.std.specs.List.{AllByRecursion, between, flat_map}
-use Rattle.std.specs.Prelude.{slice_get}
-use Rattle.std.proofs.Math.Bool.{and-false}
-use Rattle.markdown_base.specs.declared.configuration.Constructs.{Constructs}
-use Rattle.markdown_base.specs.declared.event.Event.{Event}
-use Rattle.markdown_base.specs.declared.event.Kind.TheVariants.{Exit}
+use Rattle.mdconstructs_inlines.proofs.Prelude.{◌≡◌, ℕ, zero, suc, ◌+◌, ◌&&◌, ◌==◌, not, ◌++◌, List, [], ◌∷◌, false, true, cond, drop, length, Option, Some, refl, ap, ◌∙◌, take, AllByRecursion, between, flat_map, slice_get, and-false, Constructs, Event, Exit, AttentionSequence, CharacterEscape, CharacterEscapeMarker, CharacterEscapeValue, CharacterReference, CharacterReferenceMarker, CharacterReferenceMarkerHexadecimal, CharacterReferenceMarkerNumeric, CharacterReferenceMarkerSemi, CharacterReferenceValue, Data, LineEnding, is_enter, same_name, Seat, end_after, every-append, HaveNoLinks, Given, Text, edited-same, edited, paired, edits_of, depth_after, index_of_event, is_sequence, run_at, runs_from, has_byte_at, is_line_feed, Found, escape, escape_at, item_length, bytes_of, cut, event, leaf, line_ending, part, span, item_events, OfOption, there-holds, when-there, escape-built, IsBuilt, IsKeptBySpans, links-kept, emphasis_edits, Kind, decimal, hexadecimal, mark_events, marks, named, reference, reference_at, reference-holds, reference-built, string_data, string_events, string_grammars, string_item_at, string_part}
 use Rattle.markdown_base.specs.declared.event.Name.{Name}
-use Rattle.markdown_base.specs.declared.event.Name.TheVariants.{AttentionSequence, CharacterEscape, CharacterEscapeMarker, CharacterEscapeValue, CharacterReference, CharacterReferenceMarker, CharacterReferenceMarkerHexadecimal, CharacterReferenceMarkerNumeric, CharacterReferenceMarkerSemi, CharacterReferenceValue, Data, LineEnding}
-use Rattle.markdown_base.specs.Events.{is_enter, same_name}
-use Rattle.markdown_base.specs.Virtual.{Seat, end_after}
-use Rattle.markdown_base.proofs.Common.{every-append}
-use Rattle.markdown_tokenizer.specs.Plain.{HaveNoLinks}
-use Rattle.markdown_tokenizer.specs.Text.{Given, Text}
-use Rattle.markdown_tokenizer.proofs.Readings.Plain.{edited-same}
-use Rattle.markdown_edits.specs.Edited.{edited}
-use Rattle.mdconstructs_attention.specs.Emphasis.{paired}
-use Rattle.mdconstructs_attention.specs.RunEdits.{edits_of}
-use Rattle.mdconstructs_attention.specs.Runs.{depth_after, index_of_event, is_sequence, run_at, runs_from}
-use Rattle.mdconstructs_text.specs.Bytes.{has_byte_at, is_line_feed}
-use Rattle.mdconstructs_text.specs.Construct.{Found}
-use Rattle.mdconstructs_text.specs.Escape.{escape, escape_at}
-use Rattle.mdconstructs_text.specs.Items.{item_length}
-use Rattle.mdconstructs_text.specs.Parts.{bytes_of, cut, event, leaf, line_ending, part, span}
-use Rattle.mdconstructs_text.specs.TextEvents.{item_events}
-use Rattle.mdconstructs_text.proofs.Constructs.Apart.{OfOption, there-holds, when-there}
-use Rattle.mdconstructs_text.proofs.Escapes.Cuts.{escape-built}
-use Rattle.mdconstructs_text.proofs.Texts.Built.{IsBuilt, IsKeptBySpans}
-use Rattle.mdconstructs_text.proofs.Texts.Tight.{links-kept}
-use Rattle.mdconstructs_inlines.specs.InlineRules.{emphasis_edits}
-use Rattle.mdconstructs_inline_constructs.specs.Reference.{Kind, decimal, hexadecimal, mark_events, marks, named, reference, reference_at}
-use Rattle.mdconstructs_inline_constructs.proofs.References.Bytes.{reference-holds}
-use Rattle.mdconstructs_inline_constructs.proofs.References.Cuts.{reference-built}
-use Rattle.mdconstructs_inlines.specs.StringEvents.{string_data, string_events, string_grammars, string_item_at, string_part}
 
 -- an event that is none of a delimiter run, and lists of them
 abbrev pub IsCalm : Event → Type 0

@@ -1,18 +1,6 @@
 -- Virtual bytes that follow one another byte by byte; and what comes in place of a run of these accounts for them.
-use Rattle.std.proofs.Common.{◌≡◌, ℕ, zero, suc, ◌+◌, ◌<◌, Bool, true, false, inl, inr, ◌⊎◌, List, [], ◌∷◌, ◌++◌, append_assoc, length, take, drop, refl, sym, ap, ◌∙◌, subst, arith}
-use Rattle.std.proofs.lemmas.List.{take-append-drop}
-use Rattle.markdown_base.specs.declared.event.Event.{Event}
-use Rattle.markdown_base.specs.declared.event.Kind.TheVariants.{Enter, Exit}
+use Rattle.mdconstructs_documents.proofs.Prelude.{◌≡◌, ℕ, zero, suc, ◌+◌, ◌<◌, Bool, true, false, inl, inr, ◌⊎◌, List, [], ◌∷◌, ◌++◌, append_assoc, length, take, drop, refl, sym, ap, ◌∙◌, subst, arith, take-append-drop, Event, Enter, Exit, Data, Point, shown, Seat, end_after, Run, closings, data_of, inner_name, later, markers_of, markers_of_all, openings, outer_name, sequence_name, unlinked_event, markers, in_place, enter-more, exit-more, span-more, AccountFor}
 use Rattle.markdown_base.specs.declared.event.Name.{Name}
-use Rattle.markdown_base.specs.declared.event.Name.TheVariants.{Data}
-use Rattle.markdown_base.specs.declared.event.Point.{Point}
-use Rattle.markdown_base.specs.Places.{shown}
-use Rattle.markdown_base.specs.Virtual.{Seat, end_after}
-use Rattle.mdconstructs_attention.specs.Emphasis.{Run, closings, data_of, inner_name, later, markers_of, markers_of_all, openings, outer_name, sequence_name, unlinked_event}
-use Rattle.mdconstructs_attention.specs.Places.{markers}
-use Rattle.mdconstructs_attention.specs.RunEdits.{in_place}
-use Rattle.mdconstructs_machines.proofs.Innermost.{enter-more, exit-more, span-more}
-use Rattle.mdconstructs_machines.specs.Innermost.{AccountFor}
 use Rattle.mdconstructs_documents.proofs.FlowTexts.InlineOrder.{later-later, later-none}
 
 -- events begin with an enter, if there are any

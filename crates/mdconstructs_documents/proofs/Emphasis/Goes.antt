@@ -1,15 +1,5 @@
 -- Emphasis accounts for the virtual bytes that its runs and the texts between them do.
-use Rattle.std.proofs.Common.{◌≡◌, ℕ, ◌<◌, inl, inr, ◌⊎◌, List, [], ◌∷◌, ◌++◌, sym, ap, ◌∙◌, subst, arith}
-use Rattle.std.proofs.lemmas.Grind.{flat_map-append}
-use Rattle.markdown_base.specs.declared.event.Event.{Event}
-use Rattle.markdown_base.specs.Events.{IsBalanced}
-use Rattle.markdown_base.specs.Virtual.{Seat}
-use Rattle.mdconstructs_attention.specs.Beside.{AreBeside}
-use Rattle.mdconstructs_attention.specs.Emphasis.{Run, events_of_runs}
-use Rattle.mdconstructs_attention.specs.Places.{markers}
-use Rattle.mdconstructs_attention.specs.RunEdits.{in_place}
-use Rattle.mdconstructs_machines.specs.Innermost.{AccountFor}
-use Rattle.mdconstructs_text.proofs.DeepSpans.Atoms.{Atom, atom_seats, seats_of}
+use Rattle.mdconstructs_documents.proofs.Prelude.{◌≡◌, ℕ, ◌<◌, inl, inr, ◌⊎◌, List, [], ◌∷◌, ◌++◌, sym, ap, ◌∙◌, subst, arith, flat_map-append, Event, IsBalanced, Seat, AreBeside, Run, events_of_runs, markers, in_place, AccountFor, Atom, atom_seats, seats_of}
 use Rattle.mdconstructs_documents.proofs.Emphasis.Follow.{Opens, place-more, place-opens}
 use Rattle.mdconstructs_documents.proofs.Emphasis.Pairs.{HaveAtoms, atoms-account, shut-account}
 use Rattle.mdconstructs_documents.proofs.Emphasis.Runs.{AreRuns, IsFreeBefore, RunsAre, balanced-opens, balanced-shut, beside-others, cut-follows, cut-is-run, cut-star, free-behind, opens-behind, run-cut, runs-behind}

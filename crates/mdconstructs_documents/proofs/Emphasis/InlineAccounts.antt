@@ -1,27 +1,5 @@
 -- Each virtual byte of a document is in one innermost span of the events of leaf blocks with inline text.
-use Rattle.std.proofs.Common.{ℕ, ◌<◌, List, [], ◌∷◌, ◌++◌, None, append_assoc, map, sym, subst}
-use Rattle.std.proofs.lemmas.List.{append-nil}
-use Rattle.std.specs.List.{AllByRecursion, flat_map}
-use Rattle.markdown_base.specs.declared.configuration.Constructs.{Constructs}
-use Rattle.markdown_base.specs.declared.event.Event.{Event}
-use Rattle.markdown_base.specs.declared.event.Point.{Point}
-use Rattle.markdown_base.specs.Virtual.{Seat, end_after, point, virtual}
-use Rattle.markdown_tokenizer.proofs.Positions.Order.{every-back, every-front}
-use Rattle.markdown_tokenizer.specs.Text.{empty_text}
-use Rattle.mdconstructs_attention.proofs.RunEdits.{emphasis-can-be-made}
-use Rattle.mdconstructs_machines.specs.Innermost.{AccountFor}
-use Rattle.mdconstructs_machines.specs.LineEvents.{lines_in}
-use Rattle.mdconstructs_inlines.proofs.InlineBuilt.{read-alone, read-balanced}
-use Rattle.mdconstructs_inlines.specs.InlineEvents.{read_events}
-use Rattle.mdconstructs_inlines.specs.StringEvents.{string_seat_events}
-use Rattle.mdconstructs_flow_read.proofs.Marks.MarkAccounts.{AreSpans, Begins, accounts-kept}
-use Rattle.mdconstructs_flow_read.proofs.Marks.MarkForms.{Track, track-on, whole-track}
-use Rattle.mdconstructs_flow_read.proofs.Marks.MarkSpans.{IsKeptBySpans}
-use Rattle.mdconstructs_flow_read.specs.LeafBlocks.{leaf_blocks}
-use Rattle.mdconstructs_flow_read.specs.LeafEvents.{Mark}
-use Rattle.mdconstructs_documents.specs.Documents.{document, options_with}
-use Rattle.mdconstructs_documents.specs.FlowTextLaws.{InlinesAccount}
-use Rattle.mdconstructs_documents.specs.FlowTexts.{block_texts, inline_seat_events, read_marks}
+use Rattle.mdconstructs_documents.proofs.Prelude.{ℕ, ◌<◌, List, [], ◌∷◌, ◌++◌, None, append_assoc, map, sym, subst, append-nil, AllByRecursion, flat_map, Constructs, Event, Point, Seat, end_after, point, virtual, every-back, every-front, empty_text, emphasis-can-be-made, AccountFor, lines_in, read-alone, read-balanced, read_events, string_seat_events, AreSpans, Begins, accounts-kept, Track, track-on, whole-track, IsKeptBySpans, leaf_blocks, Mark, document, options_with, InlinesAccount, block_texts, inline_seat_events, read_marks}
 use Rattle.mdconstructs_documents.proofs.Emphasis.Follow.{Opens}
 use Rattle.mdconstructs_documents.proofs.Emphasis.InlineRuns.{inline-runs}
 use Rattle.mdconstructs_documents.proofs.Emphasis.Pairs.{HaveAtoms, pairs-of-atoms, shut-account}

@@ -1,22 +1,5 @@
 -- The runs of inline text are as long as can be.
-use Rattle.std.proofs.Common.{◌≡◌, ℕ, ◌≤◌, true, false, cond, List, ◌∷◌, drop, length, refl, arith}
-use Rattle.std.proofs.lemmas.List.{length-drop}
-use Rattle.std.specs.List.{flat_map, prefix_len}
-use Rattle.markdown_base.proofs.Common.{and-right}
-use Rattle.markdown_base.specs.declared.configuration.Constructs.{Constructs}
-use Rattle.markdown_base.specs.declared.event.Name.TheVariants.{Data, SpaceOrTab}
-use Rattle.markdown_base.specs.Virtual.{Seat}
-use Rattle.mdconstructs_machines.specs.Breaks.{is_white}
-use Rattle.mdconstructs_text.proofs.Constructs.Apart.{there-holds}
-use Rattle.mdconstructs_text.specs.Bytes.{is_line_feed}
-use Rattle.mdconstructs_text.specs.Items.{item_length}
-use Rattle.mdconstructs_text.specs.Parts.{bytes_of, cut}
-use Rattle.mdconstructs_text.specs.TextEvents.{item_events}
-use Rattle.mdconstructs_inline_constructs.proofs.WhiteSpaces.Cuts.{white-run-cut}
-use Rattle.mdconstructs_inline_constructs.specs.WhiteSpace.{white_space}
-use Rattle.mdconstructs_inlines.proofs.InlineApart.{some-item}
-use Rattle.mdconstructs_inlines.specs.InlineEvents.{begins_run, data_length, data_run, delimiter_run, inline_grammars, inline_item_at, inline_items, line_break, run_length, run_or_part}
-use Rattle.mdconstructs_inlines.specs.RunRows.{is_delimiter}
+use Rattle.mdconstructs_documents.proofs.Prelude.{◌≡◌, ℕ, ◌≤◌, true, false, cond, List, ◌∷◌, drop, length, refl, arith, length-drop, flat_map, prefix_len, and-right, Constructs, Data, SpaceOrTab, Seat, is_white, there-holds, is_line_feed, item_length, bytes_of, cut, item_events, white-run-cut, white_space, some-item, begins_run, data_length, data_run, delimiter_run, inline_grammars, inline_item_at, inline_items, line_break, run_length, run_or_part, is_delimiter}
 use Rattle.mdconstructs_documents.proofs.Emphasis.WholeRuns.{CutRuns, ItemRuns, cut-runs, free-constructs, free-item, item-more, run-item}
 use Rattle.mdconstructs_documents.proofs.FlowTexts.InlineCuts.{data-run-cut, each-cut, line-break-cut}
 use Rattle.mdconstructs_documents.proofs.FlowTexts.InlineSteps.{free-each, free-leaf, free-line-break}

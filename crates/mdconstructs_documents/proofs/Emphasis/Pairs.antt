@@ -1,17 +1,6 @@
 -- The enter and the exit of each innermost span of events; and atoms that have these.
-use Rattle.std.proofs.Common.{◌≡◌, ℕ, Bool, true, false, cond, List, [], ◌∷◌, ◌++◌, append_assoc, map, refl, sym, ap, ◌∙◌}
-use Rattle.std.specs.List.{flat_map}
-use Rattle.std.proofs.lemmas.Grind.{flat_map-append}
-use Rattle.std.proofs.lemmas.List.{append-nil, map-append}
-use Rattle.markdown_base.specs.declared.event.Event.{Event}
-use Rattle.markdown_base.specs.declared.event.Kind.TheVariants.{Enter, Exit}
+use Rattle.mdconstructs_documents.proofs.Prelude.{◌≡◌, ℕ, Bool, true, false, cond, List, [], ◌∷◌, ◌++◌, append_assoc, map, refl, sym, ap, ◌∙◌, flat_map, flat_map-append, append-nil, map-append, Event, Enter, Exit, Point, is_enter, Seat, end_after, AccountFor, ended_next, innermost_spans, span_over, stretch_bytes, event, Atom, all_at, atom_seats, events_of, seats_of}
 use Rattle.markdown_base.specs.declared.event.Name.{Name}
-use Rattle.markdown_base.specs.declared.event.Point.{Point}
-use Rattle.markdown_base.specs.Events.{is_enter}
-use Rattle.markdown_base.specs.Virtual.{Seat, end_after}
-use Rattle.mdconstructs_machines.specs.Innermost.{AccountFor, ended_next, innermost_spans, span_over, stretch_bytes}
-use Rattle.mdconstructs_machines.specs.Spans.{event}
-use Rattle.mdconstructs_text.proofs.DeepSpans.Atoms.{Atom, all_at, atom_seats, events_of, seats_of}
 
 -- the event with the next one, if that is an exit
 abbrev pub ended_pair : Event → List Event → List (Event × Event)

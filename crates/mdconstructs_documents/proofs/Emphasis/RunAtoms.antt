@@ -1,8 +1,5 @@
 -- Delimiter runs among atoms.
-use Rattle.std.proofs.Common.{◌≡◌, Bool, true, List, [], ◌∷◌}
-use Rattle.markdown_base.specs.declared.event.Name.TheVariants.{AttentionSequence}
-use Rattle.markdown_base.specs.Events.{same_name}
-use Rattle.mdconstructs_text.proofs.DeepSpans.Atoms.{Atom, atom_seats}
+use Rattle.mdconstructs_documents.proofs.Prelude.{◌≡◌, Bool, true, List, [], ◌∷◌, AttentionSequence, same_name, Atom, atom_seats}
 use Rattle.mdconstructs_documents.proofs.FlowTexts.InlineSteps.{AreDelimiters}
 
 -- an atom is a delimiter run

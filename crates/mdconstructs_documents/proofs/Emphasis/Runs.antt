@@ -1,22 +1,7 @@
 -- The runs of a list, each between balanced texts; and atoms of which those that are runs go byte by byte, and are as long as can be.
-use Rattle.std.proofs.Common.{◌≡◌, ℕ, ◌+◌, ◌-◌, Bool, true, false, inl, inr, ◌⊎◌, List, [], ◌∷◌, ◌++◌, length, refl, sym, ap, ◌∙◌, subst, arith}
-use Rattle.std.specs.Prelude.{◌&&◌, not, slice_get}
-use Rattle.markdown_base.proofs.Common.{and-right, none-mapped}
-use Rattle.markdown_base.specs.declared.event.Event.{Event}
-use Rattle.markdown_base.specs.declared.event.Kind.{Kind}
-use Rattle.markdown_base.specs.declared.event.Kind.TheVariants.{Enter, Exit}
+use Rattle.mdconstructs_documents.proofs.Prelude.{◌≡◌, ℕ, ◌+◌, ◌-◌, Bool, true, false, inl, inr, ◌⊎◌, List, [], ◌∷◌, ◌++◌, length, refl, sym, ap, ◌∙◌, subst, arith, ◌&&◌, not, slice_get, and-right, none-mapped, Event, Kind, Enter, Exit, AttentionSequence, Point, IsBalanced, empty, is_enter, same_name, shown, end_after, and-left, AreBeside, IsBeside, Run, same, Standing, markers, standing, is_sequence, is_star_byte, Atom, MapCut, atom_seats, map-cut}
 use Rattle.markdown_base.specs.declared.event.Name.{Name}
-use Rattle.markdown_base.specs.declared.event.Name.TheVariants.{AttentionSequence}
-use Rattle.markdown_base.specs.declared.event.Point.{Point}
-use Rattle.markdown_base.specs.Events.{IsBalanced, empty, span, is_enter, same_name}
-use Rattle.markdown_base.specs.Places.{shown}
-use Rattle.markdown_base.specs.Virtual.{end_after}
-use Rattle.mdconstructs_attention.proofs.RunTexts.{and-left}
-use Rattle.mdconstructs_attention.specs.Beside.{AreBeside, IsBeside}
-use Rattle.mdconstructs_attention.specs.Emphasis.{Run, same}
-use Rattle.mdconstructs_attention.specs.Places.{Standing, markers, standing}
-use Rattle.mdconstructs_attention.specs.Runs.{is_sequence, is_star_byte}
-use Rattle.mdconstructs_text.proofs.DeepSpans.Atoms.{Atom, MapCut, atom_seats, map-cut}
+use Rattle.markdown_base.specs.Events.{span}
 use Rattle.mdconstructs_documents.proofs.Emphasis.Follow.{Follow, FollowFrom, Opens, follow-end}
 use Rattle.mdconstructs_documents.proofs.Emphasis.RunAtoms.{is_run}
 use Rattle.mdconstructs_documents.proofs.Emphasis.Pairs.{HaveAtoms, Shut, innermost_pairs, pair-first, pair_of, pairs-apart}

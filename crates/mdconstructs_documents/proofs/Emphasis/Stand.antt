@@ -1,23 +1,5 @@
 -- The runs of a balanced list, with their pairs, stand where their enters and exits do; so emphasis accounts for the virtual bytes of the list.
-use Rattle.std.proofs.Common.{◌≡◌, ℕ, ◌+◌, ◌-◌, cond, inl, inr, List, [], ◌∷◌, Option, Some, None, length, drop, map, refl, sym, ap, ◌∙◌, subst, arith}
-use Rattle.std.specs.Prelude.{◌==◌, ◌&&◌, slice_get}
-use Rattle.std.specs.List.{AllByRecursion}
-use Rattle.std.proofs.lemmas.Bool.{cases_Bool}
-use Rattle.std.proofs.lemmas.List.{drop-drop}
-use Rattle.std.proofs.lemmas.Option.{same_Some}
-use Rattle.std.proofs.Math.Seq.{drop-append-add}
-use Rattle.markdown_base.proofs.Common.{and-right, drop-next}
-use Rattle.markdown_base.specs.declared.event.Event.{Event}
-use Rattle.markdown_base.specs.Events.{IsBalanced}
-use Rattle.mdconstructs_attention.proofs.Beside.Kept.{beside-in}
-use Rattle.mdconstructs_attention.proofs.PairsKeep.{pairs-keep, pairs-keep-indices}
-use Rattle.mdconstructs_attention.proofs.RunTexts.{runs-and-texts}
-use Rattle.mdconstructs_attention.specs.Emphasis.{Run, paired}
-use Rattle.mdconstructs_attention.specs.Places.{Standing, standing}
-use Rattle.mdconstructs_attention.specs.RunEdits.{HasRunsAt, index_of}
-use Rattle.mdconstructs_attention.specs.Runs.{depth_after, index_of_event, is_sequence, run_at, runs_from, runs_in, text_before, text_behind, with_emphasis}
-use Rattle.mdconstructs_machines.specs.Innermost.{AccountFor}
-use Rattle.mdconstructs_text.proofs.DeepSpans.Atoms.{Atom, seats_of}
+use Rattle.mdconstructs_documents.proofs.Prelude.{◌≡◌, ℕ, ◌+◌, ◌-◌, cond, inl, inr, List, [], ◌∷◌, Option, Some, None, length, drop, map, refl, sym, ap, ◌∙◌, subst, arith, ◌==◌, ◌&&◌, slice_get, AllByRecursion, cases_Bool, drop-drop, same_Some, drop-append-add, and-right, drop-next, Event, IsBalanced, beside-in, pairs-keep, pairs-keep-indices, runs-and-texts, Run, paired, Standing, standing, HasRunsAt, index_of, depth_after, index_of_event, is_sequence, run_at, runs_from, runs_in, text_before, text_behind, with_emphasis, AccountFor, Atom, seats_of}
 use Rattle.mdconstructs_documents.proofs.Emphasis.Goes.{runs-go}
 use Rattle.mdconstructs_documents.proofs.Emphasis.Pairs.{HaveAtoms}
 use Rattle.mdconstructs_documents.proofs.Emphasis.Runs.{AreRuns, IsRunOf, RunsAre}

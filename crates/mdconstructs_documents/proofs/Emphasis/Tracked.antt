@@ -1,17 +1,5 @@
 -- Delimiter runs among atoms, by their virtual bytes: in a document they go byte by byte, and two that adjoin have different markers.
-use Rattle.std.proofs.Common.{◌≡◌, ℕ, ◌==◌, Bool, true, false, List, [], ◌∷◌, ◌++◌, append_assoc, refl, sym, ap, ◌∙◌, subst}
-use Rattle.std.specs.Prelude.{◌||◌, slice_get}
-use Rattle.std.specs.List.{AllByRecursion}
-use Rattle.std.proofs.lemmas.Bool.{eqb-true}
-use Rattle.markdown_base.specs.declared.event.Point.{Point}
-use Rattle.markdown_base.specs.Places.{shown}
-use Rattle.markdown_base.specs.Virtual.{Seat, end_after}
-use Rattle.markdown_tokenizer.proofs.Positions.Order.{every-back, every-front}
-use Rattle.mdconstructs_attention.specs.Emphasis.{later, same}
-use Rattle.mdconstructs_attention.specs.Runs.{is_star_byte}
-use Rattle.mdconstructs_text.proofs.DeepSpans.Atoms.{Atom, atom_seats, seats_of}
-use Rattle.mdconstructs_inlines.specs.RunRows.{is_delimiter}
-use Rattle.mdconstructs_flow_read.proofs.Marks.MarkForms.{Track, track-on, track-place}
+use Rattle.mdconstructs_documents.proofs.Prelude.{◌≡◌, ℕ, ◌==◌, Bool, true, false, List, [], ◌∷◌, ◌++◌, append_assoc, refl, sym, ap, ◌∙◌, subst, ◌||◌, slice_get, AllByRecursion, eqb-true, Point, shown, Seat, end_after, every-back, every-front, later, same, is_star_byte, Atom, atom_seats, seats_of, is_delimiter, Track, track-on, track-place}
 use Rattle.mdconstructs_documents.proofs.Emphasis.Follow.{FollowFrom}
 use Rattle.mdconstructs_documents.proofs.Emphasis.RunAtoms.{AreWholeRuns, Differs, is_run}
 use Rattle.mdconstructs_documents.proofs.Emphasis.Runs.{AreRuns, HasOther}

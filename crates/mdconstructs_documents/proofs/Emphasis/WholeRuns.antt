@@ -1,28 +1,5 @@
 -- Virtual bytes that are cut from the front, item by item, into delimiter runs and items that hold none: their runs are as long as can be.
-use Rattle.std.proofs.Common.{◌≡◌, ℕ, zero, suc, ◌+◌, ◌<◌, ◌≤◌, ◌==◌, true, false, cond, inl, inr, List, [], ◌∷◌, ◌++◌, length, take, drop, Option, Some, None, refl, sym, ◌∙◌, subst, arith}
-use Rattle.std.specs.Prelude.{◌⊎◌}
-use Rattle.std.specs.List.{AllByRecursion, flat_map, prefix_len}
-use Rattle.std.proofs.lemmas.Bool.Decides.{nat_tests}
-use Rattle.std.proofs.lemmas.Grind.{flat_map-append}
-use Rattle.std.proofs.lemmas.List.{append-nil, take-append-drop}
-use Rattle.markdown_base.proofs.Common.{every-append}
-use Rattle.markdown_base.specs.declared.event.Event.{Event}
-use Rattle.markdown_base.specs.declared.event.Kind.TheVariants.{Enter, Exit}
-use Rattle.markdown_base.specs.declared.event.Name.TheVariants.{AttentionSequence}
-use Rattle.markdown_base.specs.Events.{same_name}
-use Rattle.markdown_base.specs.Virtual.{Seat, end_after}
-use Rattle.markdown_tokenizer.proofs.Positions.Order.{every-back, every-front}
-use Rattle.mdconstructs_machines.specs.Spans.{event}
-use Rattle.mdconstructs_text.proofs.Constructs.Apart.{EachThere, OfOption}
-use Rattle.mdconstructs_text.proofs.DeepSpans.Atoms.{Atom, InOneLine, IsCut, all_at, atom_events, atom_seats, events_of, seats_of}
-use Rattle.mdconstructs_text.proofs.DeepSpans.Stretches.{ItemCut, NoEnding, no-feed, plain-line}
-use Rattle.mdconstructs_text.proofs.Texts.Cutting.{drop-less}
-use Rattle.mdconstructs_text.specs.Construct.{Found, Grammar}
-use Rattle.mdconstructs_text.specs.Items.{item_length}
-use Rattle.mdconstructs_text.specs.Parts.{bytes_of, cut}
-use Rattle.mdconstructs_text.specs.TextEvents.{item_events}
-use Rattle.mdconstructs_inlines.specs.InlineEvents.{delimiter_run, run_length}
-use Rattle.mdconstructs_inlines.specs.RunRows.{is_delimiter}
+use Rattle.mdconstructs_documents.proofs.Prelude.{◌≡◌, ℕ, zero, suc, ◌+◌, ◌<◌, ◌≤◌, ◌==◌, true, false, cond, inl, inr, List, [], ◌∷◌, ◌++◌, length, take, drop, Option, Some, None, refl, sym, ◌∙◌, subst, arith, ◌⊎◌, AllByRecursion, flat_map, prefix_len, nat_tests, flat_map-append, append-nil, take-append-drop, every-append, Event, Enter, Exit, AttentionSequence, same_name, Seat, end_after, every-back, every-front, event, EachThere, OfOption, Atom, InOneLine, IsCut, all_at, atom_events, atom_seats, events_of, seats_of, ItemCut, NoEnding, no-feed, plain-line, drop-less, Found, Grammar, item_length, bytes_of, cut, item_events, delimiter_run, run_length, is_delimiter}
 use Rattle.mdconstructs_documents.proofs.Emphasis.RunAtoms.{is_run, Differs, AreWholeRuns}
 use Rattle.mdconstructs_documents.proofs.FlowTexts.InlineSteps.{AreDelimiters, run-delimiters}
 

@@ -1,20 +1,8 @@
 -- Lists of events in which each chunk stands directly before the one that it is linked to: their chains can be read.
-use Rattle.std.proofs.Common.{◌≡◌, ℕ, ◌+◌, ◌<◌, List, false, Option, Some, None, length, ◌⊎◌, inl, inr, refl, sym, ap, ◌∙◌, subst, arith, get_or}
-use Rattle.std.proofs.lemmas.Option.{get_or_from_slice_get, slice_get_within}
-use Rattle.std.specs.Prelude.{slice_get, option_and_then}
-use Rattle.std.specs.List.{AllByRecursion}
-use Rattle.markdown_base.proofs.Common.{every-get}
-use Rattle.markdown_base.specs.declared.event.Content.{Content}
+use Rattle.mdconstructs_documents.proofs.Prelude.{◌≡◌, ℕ, ◌+◌, ◌<◌, List, false, Option, Some, None, length, ◌⊎◌, inl, inr, refl, sym, ap, ◌∙◌, subst, arith, get_or, get_or_from_slice_get, slice_get_within, slice_get, option_and_then, AllByRecursion, every-get, Content, Event, IsBalanced, empty, IsVoidTight, IsInOrder, stands_before, IsPointOf, IsShown, AreMutual, IsChunk, IsLinkedEnter, content_of, next_of, IsReady, IsShownPlace, place_at, AreAtPlaces, ChunksJoin, place-at-event}
 use Rattle.markdown_base.specs.declared.event.Content.TheVariants.{Flow}
-use Rattle.markdown_base.specs.declared.event.Event.{Event}
-use Rattle.markdown_base.specs.Events.{IsBalanced, empty, IsVoidTight, IsInOrder}
-use Rattle.markdown_base.specs.Places.{stands_before, IsPointOf, IsShown}
-use Rattle.markdown_edits.specs.Links.{AreMutual, IsChunk, IsLinkedEnter, content_at, content_of, next_of}
-use Rattle.markdown_children.specs.Ready.{IsReady, IsShownPlace, place_at}
-use Rattle.markdown_tokenizer.specs.AtPlaces.{AreAtPlaces}
-use Rattle.mdconstructs_flow_read.specs.ChunksJoin.{ChunksJoin}
+use Rattle.markdown_edits.specs.Links.{content_at}
 use Rattle.mdconstructs_documents.proofs.FlowChains.Contents.{is-content}
-use Rattle.mdconstructs_text.proofs.Paragraphs.ChunkPairs.{place-at-event}
 use Rattle.mdconstructs_text.proofs.Paragraphs.ChunksReady.{between-none}
 
 -- the event is in no chain, or begins a chunk

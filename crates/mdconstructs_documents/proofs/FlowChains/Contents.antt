@@ -1,15 +1,6 @@
 -- Chains of one content: what begins one, and the state that it is read with.
-use Rattle.std.proofs.Common.{◌≡◌, List, true, Option, Some, None, sym, ap, subst}
-use Rattle.std.specs.Prelude.{Contains, IfSome, is_none}
+use Rattle.mdconstructs_documents.proofs.Prelude.{◌≡◌, List, true, Option, Some, None, sym, ap, subst, Contains, IfSome, is_none, and_parts, the_type, Content, Event, Name, content_at, fits, some_fits, StartAmong, start_name, previous_of}
 use denote.Enum.Bare.{same_true}
-use Rattle.std.proofs.lemmas.Bool.{and_parts}
-use Rattle.markdown_base.specs.contracts.event.Content.{the_type}
-use Rattle.markdown_base.specs.declared.event.Content.{Content}
-use Rattle.markdown_base.specs.declared.event.Event.{Event}
-use Rattle.markdown_base.specs.declared.state.Name.{Name}
-use Rattle.markdown_children.specs.Chains.{content_at, fits, some_fits}
-use Rattle.markdown_children.specs.Reads.{StartAmong, start_name}
-use Rattle.markdown_edits.specs.Links.{previous_of}
 
 pub is-content : (wanted : Content) (o : Option Content) → some_fits (Some wanted) o ≡ true → o ≡ Some wanted
 is-content wanted None h = absurd (cc)

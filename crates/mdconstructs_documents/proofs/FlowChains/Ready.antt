@@ -1,17 +1,7 @@
 -- The events of a document's leaf blocks have chains of text, and strings, that can be read.
-use Rattle.std.proofs.Common.{◌≡◌, List, Some, sym, subst}
-use Rattle.markdown_base.specs.declared.event.Content.{Content}
-use Rattle.markdown_base.specs.declared.event.Content.TheVariants.{Flow, Text as TextContent}
-use Rattle.markdown_base.specs.declared.event.Event.{Event}
-use Rattle.markdown_children.specs.Ready.{IsReady}
-use Rattle.markdown_tokenizer.specs.Engine.{IsWellFormed}
-use Rattle.markdown_tokenizer.specs.Text.{Given, IsDocument}
-use Rattle.mdconstructs_flow_read.proofs.Marks.BlocksFormed.{blocks-are-formed}
-use Rattle.mdconstructs_flow_read.proofs.Marks.ChunksJoin.{blocks-join}
-use Rattle.markdown_base.specs.Virtual.{virtual}
+use Rattle.mdconstructs_documents.proofs.Prelude.{◌≡◌, List, Some, sym, subst, Content, TextContent, Event, IsReady, IsWellFormed, Given, IsDocument, blocks-are-formed, blocks-join, virtual, flow_events, document, ChainsAreReadable, IsReadable}
+use Rattle.markdown_base.specs.declared.event.Content.TheVariants.{Flow}
 use Rattle.mdconstructs_documents.proofs.FlowChains.Adjoined.{AreAdjoined, adjoined-ready, joined-adjoined}
-use Rattle.mdconstructs_flow_read.specs.LeafEvents.{flow_events}
-use Rattle.mdconstructs_documents.specs.Documents.{document, ChainsAreReadable, IsReadable}
 
 module _ (g : Given) (document : IsDocument g) where
   -- the events of its leaf blocks

@@ -1,13 +1,5 @@
 -- Each virtual byte is in one innermost span of the events of leaf blocks with their texts.
-use Rattle.std.proofs.Common.{◌≡◌, ℕ, List, [], ◌∷◌, ◌++◌, None, map, refl, sym, ap, ◌∙◌, subst}
-use Rattle.std.proofs.lemmas.List.{append-nil}
-use Rattle.markdown_base.specs.declared.event.Event.{Event}
-use Rattle.markdown_base.specs.Virtual.{Seat}
-use Rattle.mdconstructs_machines.specs.Innermost.{AccountFor}
-use Rattle.mdconstructs_text.proofs.DeepSpans.Atoms.{Atom, IsCut, atoms-more, events_of, open-atoms}
-use Rattle.mdconstructs_flow_read.proofs.Marks.MarkAccounts.{AreSpans, Begins, bare, linked-spans}
-use Rattle.mdconstructs_flow_read.specs.LeafEvents.{Mark, linked_from}
-use Rattle.mdconstructs_documents.specs.FlowTexts.{read_marks}
+use Rattle.mdconstructs_documents.proofs.Prelude.{◌≡◌, ℕ, List, [], ◌∷◌, ◌++◌, None, map, refl, sym, ap, ◌∙◌, subst, append-nil, Event, Seat, AccountFor, Atom, IsCut, atoms-more, events_of, open-atoms, AreSpans, Begins, bare, linked-spans, Mark, linked_from, read_marks}
 
 -- marks of events, which begin no chunk
 abbrev marks : List Event → List Mark

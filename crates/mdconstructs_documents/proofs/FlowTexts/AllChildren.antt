@@ -1,34 +1,9 @@
 -- What the machine of inline text reads of all chains of leaf blocks at once: of each text its inline text, and of each string its events.
-use Rattle.std.proofs.Common.{◌≡◌, ℕ, List, [], ◌∷◌, true, Option, Some, None, length, map, refl, sym, ap, ◌∙◌}
-use Rattle.std.specs.Prelude.{◌&&◌, is_none}
-use Rattle.std.specs.List.{AllByRecursion, range_with_len}
-use Rattle.std.proofs.lemmas.Bool.{and_parts}
-use Rattle.markdown_base.specs.declared.configuration.ParseOptions.{ParseOptions}
-use Rattle.markdown_base.specs.declared.event.Content.{Content}
-use Rattle.markdown_base.specs.declared.event.Content.TheVariants.{String as StringContent, Text as TextContent}
-use Rattle.markdown_base.specs.declared.event.Event.{Event}
-use Rattle.markdown_base.specs.declared.state.TheConstants.Name.{StringStart, TextStart}
-use Rattle.markdown_children.specs.Chains.{begins, content_at, fits, fitting_starts, some_fits}
-use Rattle.markdown_children.specs.Children.{with_children}
-use Rattle.markdown_children.specs.Reads.{AreChildren, Child, IsChild, IsSubtokenized, lists}
-use Rattle.markdown_edits.specs.Links.{previous_of}
-use Rattle.markdown_tokenizer.proofs.Positions.Order.{every-all, every-kept}
-use Rattle.markdown_tokenizer.specs.declared.subtokenize.Subresult.{Subresult}
-use Rattle.markdown_tokenizer.specs.Text.{Given, IsDocument}
-use Rattle.mdconstructs_flow_read.specs.LeafEvents.{flow_events}
-use Rattle.mdconstructs_inlines.proofs.InlineChains.{reads-texts}
-use Rattle.mdconstructs_inlines.proofs.StringChains.{reads-strings-of}
-use Rattle.mdconstructs_inlines.specs.InlineEvents.{inline_events}
-use Rattle.mdconstructs_inlines.specs.InlineRules.{inlines_rules}
-use Rattle.mdconstructs_inlines.specs.StringEvents.{string_events, string_seat_events}
-use Rattle.mdconstructs_text.proofs.Paragraphs.ChainEvents.{children-events}
-use Rattle.mdconstructs_text.specs.ChainTexts.{chain_text}
+use Rattle.mdconstructs_documents.proofs.Prelude.{◌≡◌, ℕ, List, [], ◌∷◌, true, Option, Some, None, length, map, refl, sym, ap, ◌∙◌, ◌&&◌, is_none, AllByRecursion, range_with_len, and_parts, ParseOptions, Content, StringContent, TextContent, Event, StringStart, TextStart, begins, content_at, fits, fitting_starts, some_fits, with_children, AreChildren, Child, IsChild, IsSubtokenized, lists, previous_of, every-all, every-kept, Subresult, Given, IsDocument, flow_events, reads-texts, reads-strings-of, inline_events, inlines_rules, string_events, string_seat_events, children-events, chain_text, AreFlowInlines, document, virtual_bytes, inline_seat_events}
 use Rattle.mdconstructs_documents.proofs.FlowChains.Ready.{flow-ready}
 use Rattle.mdconstructs_documents.proofs.FlowTexts.BlockSegments.{by_content}
 use Rattle.mdconstructs_documents.proofs.FlowTexts.Textual.{by-content}
 use Rattle.mdconstructs_documents.proofs.FlowTexts.Whole.{all-inlines-are-read}
-use Rattle.mdconstructs_documents.specs.Documents.{AreFlowInlines, document, virtual_bytes}
-use Rattle.mdconstructs_documents.specs.FlowTexts.{inline_seat_events}
 
 module _ (options : ParseOptions) (bytes : List ℕ) (is : IsDocument (document options bytes)) where
   abbrev g : Given

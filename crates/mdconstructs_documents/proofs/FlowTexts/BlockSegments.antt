@@ -1,33 +1,9 @@
 -- The marks of leaf blocks are cut into segments over their lines: the lines of a text are one chain, and so is each string.
-use Rattle.std.proofs.Common.{◌≡◌, ℕ, ◌+◌, ◌-◌, List, [], ◌∷◌, ◌++◌, Bool, true, false, not, inl, inr, Option, None, Some, length, take, drop, refl, sym, ap, ◌∙◌, subst, arith}
-use Rattle.std.specs.List.{AllByRecursion, flat_map, prefix_len}
-use Rattle.std.proofs.lemmas.Grind.{flat_map-append}
-use Rattle.std.proofs.lemmas.List.{append-nil}
-use Rattle.markdown_base.specs.declared.configuration.Constructs.{Constructs}
-use Rattle.markdown_base.specs.declared.event.Content.{Content}
+use Rattle.mdconstructs_documents.proofs.Prelude.{◌≡◌, ℕ, ◌+◌, ◌-◌, List, [], ◌∷◌, ◌++◌, Bool, true, false, not, inl, inr, Option, None, Some, length, take, drop, refl, sym, ap, ◌∙◌, subst, arith, AllByRecursion, flat_map, prefix_len, flat_map-append, append-nil, Constructs, Content, Event, Seat, lets_through, every-back, every-front, lines-are-all, HaveNoLinks, is_white, all_of, ending_of, line_text, lines_in, IsFull, StartsText, leaf-blocks-full, leaf-blocks-lines, setext-body, block_lines, AreSingle, IsPlain, single-block-marks, single-both, single-data, single-end, single-fenced, single-last, single-leaf, single-sequence, single-span, single-underline, line-on, IsWhole, body-and-last, part-behind, text-and-ending, three-parts, whole-lines, block_seats, last_ending, Line, LeafBlock, blank_line, break_line, atx_heading, paragraph, setext_heading, indented_code, fenced_code, html_block, leaf_blocks, Mark, alone, block_around, block_span, body, chunk_span, code_fenced_around, fence_around, fenced_marks, heading_around, last_end, leaf_block_marks, leaf_blocks_marks, line_end, string_chunk, text_chunk, text_marks, underline_marks, Fence, heading_text, indent, run, unindented, block_texts, read_marks}
 use Rattle.markdown_base.specs.declared.event.Content.TheVariants as content
-use Rattle.markdown_base.specs.declared.event.Event.{Event}
 use Rattle.markdown_base.specs.declared.event.Name.{Name}
 use Rattle.markdown_base.specs.declared.event.Name.TheVariants as name
-use Rattle.markdown_base.specs.Virtual.{Seat}
-use Rattle.markdown_children.specs.Chains.{lets_through}
-use Rattle.markdown_tokenizer.proofs.Positions.Order.{every-back, every-front}
-use Rattle.mdconstructs_machines.proofs.BlockReads.Accounts.{lines-are-all}
-use Rattle.markdown_tokenizer.specs.Plain.{HaveNoLinks}
-use Rattle.mdconstructs_machines.specs.Breaks.{is_white}
-use Rattle.mdconstructs_machines.specs.LineEvents.{all_of, ending_of, line_text, lines_in}
-use Rattle.mdconstructs_flow_read.proofs.Marks.FullBlocks.{IsFull, StartsText, leaf-blocks-full}
-use Rattle.mdconstructs_flow_read.proofs.Marks.Cuts.{leaf-blocks-lines}
-use Rattle.mdconstructs_flow_read.proofs.Marks.LeafSpans.{setext-body}
-use Rattle.mdconstructs_flow_read.specs.BlockLines.{block_lines}
-use Rattle.mdconstructs_flow_read.proofs.Marks.MarkChunks.{AreSingle, IsPlain, single-block-marks, single-both, single-data, single-end, single-fenced, single-last, single-leaf, single-sequence, single-span, single-underline}
-use Rattle.mdconstructs_flow_read.proofs.Marks.MarkSpans.{line-on}
-use Rattle.mdconstructs_flow_read.proofs.Lines.WholeLines.{IsWhole, body-and-last, part-behind, text-and-ending, three-parts, whole-lines}
-use Rattle.mdconstructs_flow_read.specs.BlocksRead.{block_seats, last_ending}
-use Rattle.mdconstructs_flow_read.specs.LeafBlocks.{Line, LeafBlock, blank_line, break_line, atx_heading, paragraph, setext_heading, indented_code, fenced_code, html_block, bytes_of, leaf_blocks}
-use Rattle.mdconstructs_flow_read.specs.LeafEvents.{Mark, alone, block_around, block_span, body, chunk_span, code_fenced_around, fence_around, fenced_marks, heading_around, last_end, leaf_block_marks, leaf_blocks_marks, line_end, string_chunk, text_chunk, text_marks, underline_marks}
-use Rattle.mdconstructs_flow_read.specs.LineKinds.{Fence, heading_text, indent, run, unindented}
-use Rattle.mdconstructs_documents.specs.FlowTexts.{block_texts, read_marks}
+use Rattle.mdconstructs_flow_read.specs.LeafBlocks.{bytes_of}
 use Rattle.mdconstructs_documents.proofs.FlowTexts.Segments.{AreSegments, HasByte, IsOther, IsTextual, chain_marks, in_line, kept-events, no-segments, segments-around, segments-both, segments-chain, segments-kept}
 
 -- ---- lines of text as chunks

@@ -1,15 +1,5 @@
 -- A list whose marks are cut into segments has the chains of these.
-use Rattle.std.proofs.Common.{◌≡◌, ℕ, suc, ◌+◌, List, [], ◌∷◌, ◌++◌, false, Option, Some, None, length, drop, refl, sym, ap, ◌∙◌, subst, arith}
-use Rattle.std.specs.Prelude.{filter, slice_get}
-use Rattle.std.specs.List.{AllByRecursion, range_with_len}
-use Rattle.std.proofs.lemmas.List.{drop-drop}
-use Rattle.markdown_base.specs.declared.event.Content.{Content}
-use Rattle.markdown_base.specs.declared.event.Event.{Event}
-use Rattle.markdown_base.specs.Virtual.{Seat}
-use Rattle.markdown_children.proofs.Parts.Weaves.{get-dropped}
-use Rattle.markdown_children.specs.Chains.{begins}
-use Rattle.mdconstructs_flow_read.proofs.Marks.ToldEdits.{first-linked, mark_at}
-use Rattle.mdconstructs_flow_read.specs.LeafEvents.{Mark, linked_from}
+use Rattle.mdconstructs_documents.proofs.Prelude.{◌≡◌, ℕ, suc, ◌+◌, List, [], ◌∷◌, ◌++◌, false, Option, Some, None, length, drop, refl, sym, ap, ◌∙◌, subst, arith, filter, slice_get, AllByRecursion, range_with_len, drop-drop, Content, Event, Seat, get-dropped, begins, first-linked, mark_at, Mark, linked_from}
 use Rattle.mdconstructs_documents.proofs.FlowTexts.Segments.{IsKept}
 
 -- two events for each chunk

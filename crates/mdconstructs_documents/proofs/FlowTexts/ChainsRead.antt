@@ -1,27 +1,5 @@
 -- A list whose marks are cut into segments over a document: with the texts of its chains it has the texts of its segments.
-use Rattle.std.proofs.Common.{◌≡◌, ℕ, suc, ◌+◌, ◌<◌, ◌≤◌, List, [], ◌∷◌, ◌++◌, false, Option, Some, None, append_assoc, length, map, refl, sym, ap, ◌∙◌, subst, arith}
-use Rattle.std.specs.Prelude.{option_map}
-use Rattle.std.specs.List.{AllByRecursion, flat_map}
-use Rattle.markdown_base.proofs.Common.{every-append}
-use Rattle.markdown_base.specs.Events.{relinked, with_ends}
-use Rattle.markdown_base.specs.declared.event.Content.{Content}
-use Rattle.markdown_base.specs.declared.event.Event.{Event}
-use Rattle.markdown_base.specs.declared.event.Link.{Link}
-use Rattle.markdown_base.specs.Virtual.{Seat, virtual}
-use Rattle.markdown_children.proofs.Parts.Kept.{untagged}
-use Rattle.markdown_children.specs.Chains.{chain_of, content_at, fitting_starts}
-use Rattle.markdown_children.specs.Children.{chain_changes, child_changes, first_chunk, part_changes, with_children}
-use Rattle.markdown_children.specs.Parts.{divided_over, parts}
-use Rattle.markdown_children.specs.Reads.{text_of_chain}
-use Rattle.markdown_children.specs.Ready.{place_at}
-use Rattle.markdown_edits.proofs.Edits.Passes.{woven-pass}
-use Rattle.markdown_edits.specs.Woven.{AreApart, Change, Tagged, placed, placed_end, placed_in, woven}
-use Rattle.markdown_tokenizer.specs.Plain.{HaveNoLinks}
-use Rattle.markdown_tokenizer.specs.Text.{Given}
-use Rattle.mdconstructs_text.proofs.DeepSpans.Chunks.{chain-seats}
-use Rattle.mdconstructs_text.specs.ChainTexts.{chain_text}
-use Rattle.mdconstructs_flow_read.proofs.Marks.ToldEdits.{first-linked, mark_at}
-use Rattle.mdconstructs_flow_read.specs.LeafEvents.{Mark, linked_from}
+use Rattle.mdconstructs_documents.proofs.Prelude.{◌≡◌, ℕ, suc, ◌+◌, ◌<◌, ◌≤◌, List, [], ◌∷◌, ◌++◌, false, Option, Some, None, append_assoc, length, map, refl, sym, ap, ◌∙◌, subst, arith, option_map, AllByRecursion, flat_map, every-append, relinked, with_ends, Content, Event, Link, Seat, virtual, untagged, chain_of, content_at, fitting_starts, chain_changes, child_changes, first_chunk, part_changes, with_children, divided_over, parts, text_of_chain, place_at, woven-pass, AreApart, Change, Tagged, placed, placed_end, placed_in, woven, HaveNoLinks, Given, chain-seats, chain_text, first-linked, mark_at, Mark, linked_from}
 use Rattle.mdconstructs_documents.proofs.FlowTexts.Chained.{two_for, indices, IsAt, starts_in, kept-at}
 use Rattle.mdconstructs_documents.proofs.FlowTexts.Changes.{after-texts, changes-apart, changes_of, kept-room, marks_of, starts-are, starts_of, texts_of}
 use Rattle.mdconstructs_documents.proofs.FlowTexts.Chunks.{chain-content, chain-is, chain-next, chain-room, chain-seats-are}

@@ -1,20 +1,5 @@
 -- The changes that put the texts of segments in place of their chunks, and the list behind them.
-use Rattle.std.proofs.Common.{◌≡◌, ℕ, suc, ◌+◌, ◌-◌, ◌≤◌, List, [], ◌∷◌, ◌++◌, false, Option, Some, None, append_assoc, length, map, take, drop, refl, sym, ap, ◌∙◌, subst, arith}
-use Rattle.std.proofs.lemmas.Option.{slice_get_within}
-use Rattle.std.specs.List.{AllByRecursion, between, flat_map}
-use Rattle.markdown_base.specs.declared.event.Content.{Content}
-use Rattle.markdown_base.specs.declared.event.Event.{Event}
-use Rattle.markdown_base.specs.declared.event.Point.{Point}
-use Rattle.markdown_base.specs.Virtual.{Seat}
-use Rattle.markdown_children.proofs.ChainOrder.Spaced.{length-parts, length-map_ends}
-use Rattle.markdown_children.proofs.Parts.Kept.{after_changes, after-step, between-none, joined, joined-parts, part_after, untagged, untagged-olds}
-use Rattle.markdown_children.specs.Children.{part_changes}
-use Rattle.markdown_children.specs.Parts.{parts}
-use Rattle.markdown_children.specs.Ready.{place_at}
-use Rattle.markdown_edits.specs.Woven.{AreApart, Change}
-use Rattle.markdown_tokenizer.specs.Text.{Given}
-use Rattle.mdconstructs_flow_read.proofs.Marks.ToldEdits.{first-linked, mark_at}
-use Rattle.mdconstructs_flow_read.specs.LeafEvents.{Mark, linked_from}
+use Rattle.mdconstructs_documents.proofs.Prelude.{◌≡◌, ℕ, suc, ◌+◌, ◌-◌, ◌≤◌, List, [], ◌∷◌, ◌++◌, false, Option, Some, None, append_assoc, length, map, take, drop, refl, sym, ap, ◌∙◌, subst, arith, slice_get_within, AllByRecursion, between, flat_map, Content, Event, Point, Seat, length-parts, length-map_ends, after_changes, after-step, between-none, joined, joined-parts, part_after, untagged, untagged-olds, part_changes, parts, place_at, AreApart, Change, Given, first-linked, mark_at, Mark, linked_from}
 use Rattle.mdconstructs_documents.proofs.FlowTexts.Chained.{two_for, indices, IsAt, first-at, next-at, starts_in, kept-starts, kept-at}
 use Rattle.mdconstructs_documents.proofs.FlowTexts.Chunks.{chain-starts, chain-next, chain-room}
 use Rattle.mdconstructs_documents.proofs.FlowTexts.Segments.{Segment, kept, chain, IsKept, IsGood, deep_of, flat_of, in_line}

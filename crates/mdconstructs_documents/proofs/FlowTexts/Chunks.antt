@@ -1,24 +1,7 @@
 -- The chunks of one chain, whose marks stand in a list from an index on: where they are, and the virtual bytes that they are over.
-use Rattle.std.proofs.Common.{◌≡◌, ℕ, zero, suc, ◌+◌, ◌<◌, ◌≤◌, List, [], ◌∷◌, ◌++◌, Bool, true, false, Option, Some, None, append_assoc, length, refl, sym, ap, ◌∙◌, subst, arith}
-use Rattle.std.proofs.lemmas.Option.{slice_get_within}
-use Rattle.std.specs.Prelude.{filter, slice_get}
-use Rattle.std.specs.List.{AllByRecursion, flat_map}
-use Rattle.markdown_base.specs.declared.event.Content.{Content}
-use Rattle.markdown_base.specs.declared.event.Event.{Event}
-use Rattle.markdown_base.specs.declared.event.Kind.TheVariants.{Enter, Exit}
+use Rattle.mdconstructs_documents.proofs.Prelude.{◌≡◌, ℕ, zero, suc, ◌+◌, ◌<◌, ◌≤◌, List, [], ◌∷◌, ◌++◌, Bool, true, false, Option, Some, None, append_assoc, length, refl, sym, ap, ◌∙◌, subst, arith, slice_get_within, filter, slice_get, AllByRecursion, flat_map, Content, Event, Enter, Exit, Seat, end_after, virtual, begins, chain_from, content_at, lets_through, place_at, IsChain, Given, event, chunk_seats, origin, chain-from, place-shown, range-of, place-at-event, mark_at, Mark}
 use Rattle.markdown_base.specs.declared.event.Name.TheVariants as name
 use Rattle.markdown_base.specs.Places.{in_range}
-use Rattle.markdown_base.specs.Virtual.{Seat, end_after, virtual}
-use Rattle.markdown_children.specs.Chains.{begins, chain_from, content_at, lets_through}
-use Rattle.markdown_children.specs.Ready.{place_at}
-use Rattle.markdown_tokenizer.proofs.Positions.Chains.{IsChain}
-use Rattle.markdown_tokenizer.specs.Text.{Given}
-use Rattle.mdconstructs_machines.specs.Spans.{event}
-use Rattle.mdconstructs_text.proofs.DeepSpans.Chunks.{chunk_seats}
-use Rattle.mdconstructs_text.proofs.DeepSpans.Places.{origin, chain-from, place-shown, range-of}
-use Rattle.mdconstructs_text.proofs.Paragraphs.ChunkPairs.{place-at-event}
-use Rattle.mdconstructs_flow_read.proofs.Marks.ToldEdits.{mark_at}
-use Rattle.mdconstructs_flow_read.specs.LeafEvents.{Mark}
 use Rattle.mdconstructs_documents.proofs.FlowTexts.Chained.{two_for, indices, IsAt, first-at, next-at, starts_in}
 use Rattle.mdconstructs_documents.proofs.FlowTexts.Segments.{HasByte, chain_marks, in_line}
 

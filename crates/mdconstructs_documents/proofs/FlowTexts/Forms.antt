@@ -1,26 +1,7 @@
 -- The events of leaf blocks with their texts are well formed: balanced, void spans empty, at places, and in order of these.
-use Rattle.std.proofs.Common.{◌≡◌, ℕ, List, [], ◌∷◌, ◌++◌, true, false, Some, append_assoc, refl, sym, ap, ◌∙◌, subst}
-use Rattle.std.specs.List.{AllByRecursion}
-use Rattle.markdown_base.proofs.Common.{every-append}
-use Rattle.markdown_base.proofs.Seats.{end-after-append, stands-self}
-use Rattle.markdown_base.specs.declared.configuration.Constructs.{Constructs}
-use Rattle.markdown_base.specs.declared.event.Event.{Event}
-use Rattle.markdown_base.specs.declared.event.Kind.{Kind}
-use Rattle.markdown_base.specs.declared.event.Kind.TheVariants.{Enter, Exit}
+use Rattle.mdconstructs_documents.proofs.Prelude.{◌≡◌, ℕ, List, [], ◌∷◌, ◌++◌, true, false, Some, append_assoc, refl, sym, ap, ◌∙◌, subst, AllByRecursion, every-append, end-after-append, stands-self, Constructs, Event, Kind, Enter, Exit, Point, is_void, shown, stands_before, Seat, end_after, names_after_all-append, names_after_all, event, leaf, span, Atom, IsCut, all_at, atom_events, atom_seats, events_of, seats_of, string-built, string_seat_events, AreTight, Formed, Forms, InOrder, Place, Track, name-closed, order-both, tight-both, track-on, track-place, track-upto, read_marks}
 use Rattle.markdown_base.specs.declared.event.Name.{Name}
-use Rattle.markdown_base.specs.declared.event.Point.{Point}
-use Rattle.markdown_base.specs.Events.{is_void}
-use Rattle.markdown_base.specs.Places.{shown, stands_before}
-use Rattle.markdown_base.specs.Virtual.{Seat, end_after}
-use Rattle.markdown_edits.proofs.Balanced.{names_after_all-append}
-use Rattle.markdown_edits.specs.OpenNames.{names_after_all}
-use Rattle.mdconstructs_machines.specs.Spans.{event, leaf, span}
-use Rattle.mdconstructs_text.proofs.DeepSpans.Atoms.{Atom, IsCut, all_at, atom_events, atom_seats, events_of, seats_of}
 use Rattle.mdconstructs_text.proofs.Texts.Built.{IsKeptBySpans}
-use Rattle.mdconstructs_inlines.proofs.StringRuns.{string-built}
-use Rattle.mdconstructs_inlines.specs.StringEvents.{string_seat_events}
-use Rattle.mdconstructs_flow_read.proofs.Marks.MarkForms.{AreTight, Formed, Forms, InOrder, Place, Track, name-closed, order-both, tight-both, track-on, track-place, track-upto}
-use Rattle.mdconstructs_documents.specs.FlowTexts.{read_marks}
 use Rattle.mdconstructs_documents.proofs.FlowTexts.Accounts.{bare-marks}
 use Rattle.mdconstructs_documents.proofs.FlowTexts.Strings.{string-cut}
 

@@ -1,33 +1,5 @@
 -- The items of inline text can be cut into innermost spans: none goes over a line ending.
-use Rattle.std.proofs.Common.{◌≡◌, ℕ, ◌+◌, ◌≤◌, ◌&&◌, true, false, cond, List, [], ◌∷◌, length, take, drop, refl, sym, subst, arith, suc}
-use Rattle.std.proofs.lemmas.List.{drop-map, drop-take, length-drop, take-append-drop}
-use Rattle.std.specs.List.{flat_map, prefix_len}
-use Rattle.markdown_base.proofs.Common.{and-right, every-map}
-use Rattle.markdown_base.specs.declared.configuration.Constructs.{Constructs}
-use Rattle.markdown_base.specs.declared.event.Name.TheVariants.{AttentionSequence, Data, LineEnding, SpaceOrTab}
-use Rattle.markdown_base.specs.Virtual.{Seat}
-use Rattle.mdconstructs_machines.specs.Breaks.{is_white}
-use Rattle.mdconstructs_machines.specs.LineEvents.{is_line_ending}
-use Rattle.mdconstructs_text.proofs.Autolinks.Cuts.{autolink-cut}
-use Rattle.mdconstructs_text.proofs.CodeSpans.Cuts.{code-span-cut}
-use Rattle.mdconstructs_text.proofs.Constructs.Apart.{EachThere, there-holds}
-use Rattle.mdconstructs_text.proofs.DeepSpans.Atoms.{IsCut, OneLine, cut-append, cut-leaf}
-use Rattle.mdconstructs_text.proofs.DeepSpans.Stretches.{ItemCut, NoEnding, cuts, first-plain, no-feed, one-taken, plain-add, plain-line, run-plain}
-use Rattle.mdconstructs_text.proofs.Escapes.Cuts.{escape-cut}
-use Rattle.mdconstructs_text.specs.Bytes.{backticks, is_backtick, is_line_feed}
-use Rattle.mdconstructs_text.specs.Items.{item_length}
-use Rattle.mdconstructs_text.specs.Parts.{bytes_of, first_plain}
-use Rattle.mdconstructs_text.specs.TextEvents.{item_events}
-use Rattle.mdconstructs_inline_constructs.proofs.Emails.Cuts.{email-cut}
-use Rattle.mdconstructs_inline_constructs.proofs.HtmlMarks.Bytes.{html-mark-cut}
-use Rattle.mdconstructs_inline_constructs.proofs.HtmlTags.Bytes.{html-tag-cut}
-use Rattle.mdconstructs_inline_constructs.proofs.HardBreaks.Cuts.{break-escape-cut, trailing-break-cut}
-use Rattle.mdconstructs_inline_constructs.proofs.References.Cuts.{reference-cut}
-use Rattle.mdconstructs_inline_constructs.proofs.WhiteSpaces.Cuts.{white-run-cut, white-space-cut}
-use Rattle.mdconstructs_inline_constructs.specs.WhiteSpace.{is_white_left}
-use Rattle.mdconstructs_inlines.proofs.InlineApart.{or-parts, some-item}
-use Rattle.mdconstructs_inlines.specs.InlineEvents.{begins_run, data_length, data_run, delimiter_run, ends_data, ends_data_at, inline_grammars, inline_item_at, inline_items, line_break, run_length, run_or_part, up_to}
-use Rattle.mdconstructs_inlines.specs.RunRows.{is_delimiter}
+use Rattle.mdconstructs_documents.proofs.Prelude.{◌≡◌, ℕ, ◌+◌, ◌≤◌, ◌&&◌, true, false, cond, List, [], ◌∷◌, length, take, drop, refl, sym, subst, arith, suc, drop-map, drop-take, length-drop, take-append-drop, flat_map, prefix_len, and-right, every-map, Constructs, AttentionSequence, Data, LineEnding, SpaceOrTab, Seat, is_white, is_line_ending, autolink-cut, code-span-cut, EachThere, there-holds, IsCut, OneLine, cut-append, cut-leaf, ItemCut, NoEnding, cuts, first-plain, no-feed, one-taken, plain-add, plain-line, run-plain, escape-cut, backticks, is_backtick, is_line_feed, item_length, bytes_of, first_plain, item_events, email-cut, html-mark-cut, html-tag-cut, break-escape-cut, trailing-break-cut, reference-cut, white-run-cut, white-space-cut, is_white_left, or-parts, some-item, begins_run, data_length, data_run, delimiter_run, ends_data, ends_data_at, inline_grammars, inline_item_at, inline_items, line_break, run_length, run_or_part, up_to, is_delimiter}
 use Rattle.mdconstructs_documents.proofs.FlowTexts.InlineSteps.{AreDelimiters, run-delimiters}
 
 no-endings : (l : List Seat) → AreDelimiters l → NoEnding l

@@ -1,27 +1,5 @@
 -- The events of leaf blocks with inline text are well formed: balanced, void spans empty, at places, and in order of these.
-use Rattle.std.proofs.Common.{ℕ, List, ◌++◌, sym, subst}
-use Rattle.std.specs.List.{AllByRecursion, flat_map}
-use Rattle.markdown_base.specs.declared.configuration.Constructs.{Constructs}
-use Rattle.markdown_base.specs.declared.configuration.ParseOptions.{ParseOptions}
-use Rattle.markdown_base.specs.declared.event.Event.{Event}
-use Rattle.markdown_base.specs.Virtual.{Seat, end_after, point, virtual}
-use Rattle.markdown_edits.proofs.Balanced.{names_after_balanced}
-use Rattle.markdown_tokenizer.proofs.Positions.Order.{every-back, every-front}
-use Rattle.markdown_tokenizer.specs.Engine.{IsWellFormed}
-use Rattle.markdown_tokenizer.specs.Text.{IsDocument, empty_text}
-use Rattle.mdconstructs_attention.proofs.RunEdits.{emphasis-can-be-made}
-use Rattle.mdconstructs_machines.specs.LineEvents.{lines_in}
-use Rattle.mdconstructs_text.proofs.DeepSpans.Atoms.{events_of}
-use Rattle.mdconstructs_inlines.proofs.InlineBuilt.{read-alone, read-balanced}
-use Rattle.mdconstructs_inlines.specs.InlineEvents.{read_events}
-use Rattle.mdconstructs_inlines.specs.StringEvents.{string_seat_events}
-use Rattle.mdconstructs_flow_read.proofs.Marks.MarkForms.{Formed, Forms, Track, forms-kept, whole-formed}
-use Rattle.mdconstructs_flow_read.proofs.Marks.MarkSpans.{IsKeptBySpans}
-use Rattle.mdconstructs_flow_read.specs.LeafBlocks.{leaf_blocks}
-use Rattle.mdconstructs_flow_read.specs.LeafEvents.{Mark}
-use Rattle.mdconstructs_documents.specs.Documents.{AreFlowInlines, document, options_with}
-use Rattle.mdconstructs_documents.specs.FlowTextLaws.{InlinesAreFormed}
-use Rattle.mdconstructs_documents.specs.FlowTexts.{block_texts, inline_seat_events, read_marks}
+use Rattle.mdconstructs_documents.proofs.Prelude.{ℕ, List, ◌++◌, sym, subst, AllByRecursion, flat_map, Constructs, ParseOptions, Event, Seat, end_after, point, virtual, names_after_balanced, every-back, every-front, IsWellFormed, IsDocument, empty_text, emphasis-can-be-made, lines_in, events_of, read-alone, read-balanced, read_events, string_seat_events, Formed, Forms, Track, forms-kept, whole-formed, IsKeptBySpans, leaf_blocks, Mark, AreFlowInlines, document, options_with, InlinesAreFormed, block_texts, inline_seat_events, read_marks}
 use Rattle.mdconstructs_documents.proofs.FlowTexts.Accounts.{bare-marks}
 use Rattle.mdconstructs_documents.proofs.FlowTexts.Forms.{Ordered, ordered-atoms, string-forms}
 use Rattle.mdconstructs_documents.proofs.FlowTexts.InlineCuts.{inline-cut}

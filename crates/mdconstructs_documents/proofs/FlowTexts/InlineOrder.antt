@@ -1,26 +1,5 @@
 -- Emphasis keeps the order of places: its events stand in their runs, between the events beside these.
-use Rattle.std.proofs.Common.{◌≡◌, ℕ, zero, suc, ◌+◌, ◌-◌, ◌≤◌, Bool, true, false, cond, inl, inr, List, [], ◌∷◌, ◌++◌, Option, Some, None, length, drop, map, refl, sym, ap, ◌∙◌, subst, arith}
-use Rattle.std.specs.Prelude.{◌==◌, ◌&&◌, slice_get}
-use Rattle.std.specs.List.{AllByRecursion}
-use Rattle.std.proofs.lemmas.Bool.{cases_Bool}
-use Rattle.std.proofs.lemmas.Bool.Decides.{nat_tests}
-use Rattle.std.proofs.lemmas.List.{drop-drop}
-use Rattle.std.proofs.lemmas.Option.{same_Some}
-use Rattle.std.proofs.Math.Seq.{drop-append-add}
-use Rattle.markdown_base.proofs.Common.{and-right, drop-next}
-use Rattle.markdown_base.proofs.Seats.{stands-self}
-use Rattle.markdown_base.specs.declared.event.Event.{Event}
-use Rattle.markdown_base.specs.declared.event.Point.{Point}
-use Rattle.markdown_base.specs.Events.{IsBalanced}
-use Rattle.markdown_base.specs.Places.{stands_before}
-use Rattle.markdown_children.proofs.Parts.Weaves.{get-dropped}
-use Rattle.mdconstructs_attention.proofs.PairsKeep.{pairs-keep, pairs-keep-indices}
-use Rattle.mdconstructs_attention.proofs.RunTexts.{runs-and-texts}
-use Rattle.mdconstructs_attention.specs.Emphasis.{Run, closings, data_of, events_of_runs, later, markers_of, markers_of_all, openings, paired}
-use Rattle.mdconstructs_attention.specs.Places.{Standing, markers, standing}
-use Rattle.mdconstructs_attention.specs.RunEdits.{HasRunsAt, in_place, index_of}
-use Rattle.mdconstructs_attention.specs.Runs.{depth_after, index_of_event, is_sequence, run_at, runs_from, runs_in, text_before, text_behind, with_emphasis}
-use Rattle.mdconstructs_flow_read.proofs.Marks.MarkForms.{Place}
+use Rattle.mdconstructs_documents.proofs.Prelude.{◌≡◌, ℕ, zero, suc, ◌+◌, ◌-◌, ◌≤◌, Bool, true, false, cond, inl, inr, List, [], ◌∷◌, ◌++◌, Option, Some, None, length, drop, map, refl, sym, ap, ◌∙◌, subst, arith, ◌==◌, ◌&&◌, slice_get, AllByRecursion, cases_Bool, nat_tests, drop-drop, same_Some, drop-append-add, and-right, drop-next, stands-self, Event, Point, IsBalanced, stands_before, get-dropped, pairs-keep, pairs-keep-indices, runs-and-texts, Run, closings, data_of, events_of_runs, later, markers_of, markers_of_all, openings, paired, Standing, markers, standing, HasRunsAt, in_place, index_of, depth_after, index_of_event, is_sequence, run_at, runs_from, runs_in, text_before, text_behind, with_emphasis, Place}
 use Rattle.mdconstructs_documents.proofs.FlowTexts.Forms.{Ordered, ordered-both}
 use Rattle.mdconstructs_documents.proofs.FlowTexts.InlineTight.{run-in-place}
 

@@ -1,51 +1,10 @@
 -- Delimiter runs of inline text go byte by byte: none goes over a tab or a line ending; and no other item has an attention sequence.
-use Rattle.std.proofs.Common.{◌≡◌, ℕ, zero, suc, ◌+◌, ◌-◌, ◌==◌, true, false, cond, List, [], ◌∷◌, ◌++◌, Option, Some, None, append_assoc, length, take, drop, refl, sym, ap, ◌∙◌, subst, arith}
-use Rattle.std.specs.Char.{is_ascii_punctuation}
-use Rattle.std.specs.Prelude.{◌&&◌, nat_le, nat_lt, not, option_map, slice_get}
-use Rattle.std.specs.List.{AllByRecursion, between, flat_map, prefix_len}
-use Rattle.std.proofs.lemmas.Bool.{eqb-true}
-use Rattle.std.proofs.lemmas.List.{take-append-drop}
-use Rattle.markdown_base.proofs.Common.{and-right, every-append}
-use Rattle.markdown_base.specs.declared.configuration.Constructs.{Constructs}
-use Rattle.markdown_base.specs.declared.event.Event.{Event}
-use Rattle.markdown_base.specs.declared.event.Kind.TheVariants.{Enter, Exit}
+use Rattle.mdconstructs_documents.proofs.Prelude.{◌≡◌, ℕ, zero, suc, ◌+◌, ◌-◌, ◌==◌, true, false, cond, List, [], ◌∷◌, ◌++◌, Option, Some, None, append_assoc, length, take, drop, refl, sym, ap, ◌∙◌, subst, arith, is_ascii_punctuation, ◌&&◌, nat_le, nat_lt, not, option_map, slice_get, AllByRecursion, between, flat_map, prefix_len, eqb-true, take-append-drop, and-right, every-append, Constructs, Event, Enter, Exit, AttentionSequence, Autolink, AutolinkEmail, AutolinkMarker, AutolinkProtocol, CharacterEscape, CharacterEscapeMarker, CharacterEscapeValue, CharacterReference, CharacterReferenceMarker, CharacterReferenceMarkerHexadecimal, CharacterReferenceMarkerNumeric, CharacterReferenceMarkerSemi, CharacterReferenceValue, CodeText, CodeTextData, CodeTextSequence, Data, HardBreakEscape, HardBreakTrailing, HtmlText, HtmlTextData, LineEnding, SpaceOrTab, Point, is_enter, same_name, shown, Seat, begins_with_lf, end_after, in_tab, point, tab_width, virtual, virtual_from, shown-other, every-back, every-front, drop-first, and-left, later, is_white, event, leaf, span, EachThere, OfOption, there-holds, when-there, autolink, autolink_at, autolink_to, uri, backticks, has_byte_at, is_backslash, is_backtick, is_greater_than, is_less_than, is_line_feed, is_space, before_backtick_string, code_span, code_span_at, pieces, Found, Grammar, escape, escape_at, item_length, Part, line_ending, plain_run, bytes_of, cut, part_events, item_events, reference-holds, decimal, hexadecimal, mark_events, marks, named, reference_at, email, email_at, email_with, is_at_sign, is_atext, is_domain, is_domain_byte, html-there, marked, tag_length, html_of, piece_at, piece_events, piece_length, break_escape_at, hard_break_escape, hard_break_trailing, trailing_break_at, is_white_left, white_space, white_space_at, items-built, begins_run, data_length, data_run, delimiter_run, inline_grammars, inline_item_at, inline_items, line_break, run_length, run_or_part, is_delimiter, Place, Track, track-on, track-place}
 use Rattle.markdown_base.specs.declared.event.Name.{Name}
-use Rattle.markdown_base.specs.declared.event.Name.TheVariants.{AttentionSequence, Autolink, AutolinkEmail, AutolinkMarker, AutolinkProtocol, CharacterEscape, CharacterEscapeMarker, CharacterEscapeValue, CharacterReference, CharacterReferenceMarker, CharacterReferenceMarkerHexadecimal, CharacterReferenceMarkerNumeric, CharacterReferenceMarkerSemi, CharacterReferenceValue, CodeText, CodeTextData, CodeTextSequence, Data, HardBreakEscape, HardBreakTrailing, HtmlText, HtmlTextData, LineEnding, SpaceOrTab}
-use Rattle.markdown_base.specs.declared.event.Point.{Point}
-use Rattle.markdown_base.specs.Events.{is_enter, same_name}
-use Rattle.markdown_base.specs.Places.{shown}
-use Rattle.markdown_base.specs.Virtual.{Seat, begins_with_lf, end_after, in_tab, point, tab_width, virtual, virtual_from}
-use Rattle.markdown_tokenizer.proofs.Positions.Chains.{shown-other}
-use Rattle.markdown_tokenizer.proofs.Positions.Order.{every-back, every-front}
-use Rattle.markdown_tokenizer.proofs.Positions.Seats.{drop-first}
-use Rattle.mdconstructs_attention.proofs.RunTexts.{and-left}
-use Rattle.mdconstructs_attention.specs.Emphasis.{later}
-use Rattle.mdconstructs_machines.specs.Breaks.{is_white}
-use Rattle.mdconstructs_machines.specs.Spans.{event, leaf, span}
-use Rattle.mdconstructs_text.proofs.Constructs.Apart.{EachThere, OfOption, there-holds, when-there}
 use Rattle.mdconstructs_text.proofs.Texts.Built.{IsKeptBySpans}
-use Rattle.mdconstructs_text.specs.Autolink.{autolink, autolink_at, autolink_to, uri}
-use Rattle.mdconstructs_text.specs.Bytes.{backticks, has_byte_at, is_backslash, is_backtick, is_greater_than, is_less_than, is_line_feed, is_space}
-use Rattle.mdconstructs_text.specs.CodeSpan.{before_backtick_string, code_span, code_span_at, pieces}
-use Rattle.mdconstructs_text.specs.Construct.{Found, Grammar}
-use Rattle.mdconstructs_text.specs.Escape.{escape, escape_at}
-use Rattle.mdconstructs_text.specs.Items.{item_length}
-use Rattle.mdconstructs_text.specs.Parts.{Part, line_ending, plain_run, bytes_of, cut, part_events}
-use Rattle.mdconstructs_text.specs.TextEvents.{item_events}
-use Rattle.mdconstructs_inline_constructs.proofs.References.Bytes.{reference-holds}
-use Rattle.mdconstructs_inline_constructs.specs.Reference.{Kind, decimal, hexadecimal, mark_events, marks, named, reference_at}
-use Rattle.mdconstructs_inline_constructs.specs.Email.{email, email_at, email_with, is_at_sign, is_atext, is_domain, is_domain_byte}
-use Rattle.mdconstructs_inline_constructs.proofs.HtmlTexts.Cuts.{html-there}
-use Rattle.mdconstructs_inline_constructs.specs.HtmlMarked.{marked}
-use Rattle.mdconstructs_inline_constructs.specs.HtmlTag.{tag_length}
+use Rattle.mdconstructs_inline_constructs.specs.Reference.{Kind}
 use Rattle.mdconstructs_inline_constructs.specs.HtmlText as html
-use Rattle.mdconstructs_inline_constructs.specs.HtmlText.{Piece, html_of, piece_at, piece_events, piece_length}
-use Rattle.mdconstructs_inline_constructs.specs.HardBreak.{break_escape_at, hard_break_escape, hard_break_trailing, trailing_break_at}
-use Rattle.mdconstructs_inline_constructs.specs.WhiteSpace.{is_white_left, white_space, white_space_at}
-use Rattle.mdconstructs_inlines.proofs.InlineBuilt.{items-built}
-use Rattle.mdconstructs_inlines.specs.InlineEvents.{begins_run, data_length, data_run, delimiter_run, inline_grammars, inline_item_at, inline_items, line_break, run_length, run_or_part}
-use Rattle.mdconstructs_inlines.specs.RunRows.{is_delimiter}
-use Rattle.mdconstructs_flow_read.proofs.Marks.MarkForms.{Place, Track, track-on, track-place}
+use Rattle.mdconstructs_inline_constructs.specs.HtmlText.{Piece}
 use Rattle.mdconstructs_documents.proofs.FlowTexts.InlineOrder.{Next, RunsStep, Walk, get-drop, later-later, later-none}
 
 -- ---- delimiters among virtual bytes

@@ -1,37 +1,6 @@
 -- Void spans are empty where texts are read as inline text: emphasis leaves each with its exit behind it.
-use Rattle.std.proofs.Common.{◌≡◌, ℕ, zero, suc, ◌+◌, Bool, true, false, List, [], ◌∷◌, ◌++◌, Option, Some, None, append_assoc, map, refl, sym, ap, ◌∙◌, subst}
-use Rattle.std.specs.List.{AllByRecursion, flat_map}
-use Rattle.markdown_base.specs.declared.configuration.Constructs.{Constructs}
-use Rattle.markdown_base.specs.declared.event.Event.{Event}
-use Rattle.markdown_base.specs.declared.event.Kind.TheVariants.{Enter, Exit}
+use Rattle.mdconstructs_documents.proofs.Prelude.{◌≡◌, ℕ, zero, suc, ◌+◌, Bool, true, false, List, [], ◌∷◌, ◌++◌, Option, Some, None, append_assoc, map, refl, sym, ap, ◌∙◌, subst, AllByRecursion, flat_map, Constructs, Event, Enter, Exit, Data, Point, IsBalanced, IsVoidTight, is_void, Seat, end_after, point, names_after_balanced, names_after, names_after_all, empty_text, pairs-keep-indices, runs-and-texts, Run, closings, data_of, events_of_runs, inner_name, later, markers_of, markers_of_all, openings, outer_name, paired, sequence_name, tail_events, unlinked_event, AreFresh, HasRunsAt, in_place, index_of, runs_in, text_before, text_behind, with_emphasis, map-append, lines_in, event, bare, IsKeptBySpans, text-by-chunks, leaf_blocks, Chunk, Mark, alone, chunk_span, span_marks, AreTight, tight-at, tight-both, tight-linked, all-built, read-balanced, read_events, string-built, string_seat_events, document, options_with, block_texts, flow_inlines, inline_seat_events, read_marks}
 use Rattle.markdown_base.specs.declared.event.Name.{Name}
-use Rattle.markdown_base.specs.declared.event.Name.TheVariants.{Data}
-use Rattle.markdown_base.specs.declared.event.Point.{Point}
-use Rattle.markdown_base.specs.Events.{IsBalanced, IsVoidTight, is_void}
-use Rattle.markdown_base.specs.Virtual.{Seat, end_after, point}
-use Rattle.markdown_edits.proofs.Balanced.{names_after_balanced}
-use Rattle.markdown_edits.specs.OpenNames.{names_after, names_after_all}
-use Rattle.markdown_tokenizer.specs.Text.{empty_text}
-use Rattle.mdconstructs_attention.proofs.PairsKeep.{pairs-keep-indices}
-use Rattle.mdconstructs_attention.proofs.RunTexts.{runs-and-texts}
-use Rattle.mdconstructs_attention.specs.Emphasis.{Run, closings, data_of, events_of_runs, inner_name, later, markers_of, markers_of_all, openings, outer_name, paired, sequence_name, tail_events, unlinked_event}
-use Rattle.mdconstructs_attention.specs.LawStatements.{AreFresh}
-use Rattle.mdconstructs_attention.specs.RunEdits.{HasRunsAt, in_place, index_of}
-use Rattle.mdconstructs_attention.specs.Runs.{runs_in, text_before, text_behind, with_emphasis}
-use Rattle.std.proofs.lemmas.List.{map-append}
-use Rattle.mdconstructs_machines.specs.LineEvents.{lines_in}
-use Rattle.mdconstructs_machines.specs.Spans.{event}
-use Rattle.mdconstructs_flow_read.proofs.Marks.MarkAccounts.{bare}
-use Rattle.mdconstructs_flow_read.proofs.Marks.MarkSpans.{IsKeptBySpans, text-by-chunks}
-use Rattle.mdconstructs_flow_read.specs.LeafBlocks.{leaf_blocks}
-use Rattle.mdconstructs_flow_read.specs.LeafEvents.{Chunk, Mark, alone, chunk_span, span_marks}
-use Rattle.mdconstructs_flow_read.proofs.Marks.MarkForms.{AreTight, tight-at, tight-both, tight-linked}
-use Rattle.mdconstructs_inlines.proofs.InlineBuilt.{all-built, read-balanced}
-use Rattle.mdconstructs_inlines.specs.InlineEvents.{read_events}
-use Rattle.mdconstructs_inlines.proofs.StringRuns.{string-built}
-use Rattle.mdconstructs_inlines.specs.StringEvents.{string_seat_events}
-use Rattle.mdconstructs_documents.specs.Documents.{document, options_with}
-use Rattle.mdconstructs_documents.specs.FlowTexts.{block_texts, flow_inlines, inline_seat_events, read_marks}
 use Rattle.mdconstructs_documents.proofs.FlowTexts.Accounts.{bare-marks}
 use Rattle.mdconstructs_documents.proofs.FlowTexts.Spans.{texts-keep}
 use Rattle.mdconstructs_documents.proofs.FlowTexts.Forms.{tight-kept}

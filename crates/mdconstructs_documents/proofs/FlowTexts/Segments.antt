@@ -1,22 +1,8 @@
 -- Marks, cut into segments: chains of chunks that pass a filter, which adjoin, and marks that are kept.
-use Rattle.std.proofs.Common.{◌≡◌, ℕ, List, [], ◌∷◌, ◌++◌, Bool, true, false, Option, Some, None, map, refl, ◌⊎◌, sym, ◌∙◌}
-use Rattle.std.proofs.lemmas.Grind.{flat_map-append}
-use Rattle.std.proofs.lemmas.List.{append-nil}
-use Rattle.std.specs.List.{AllByRecursion, flat_map}
-use Rattle.markdown_base.proofs.Common.{every-append}
-use Rattle.markdown_base.specs.declared.event.Content.{Content}
+use Rattle.mdconstructs_documents.proofs.Prelude.{◌≡◌, ℕ, List, [], ◌∷◌, ◌++◌, Bool, true, false, Option, Some, None, map, refl, ◌⊎◌, sym, ◌∙◌, flat_map-append, append-nil, AllByRecursion, flat_map, every-append, Content, Event, Enter, Exit, Seat, end_after, lets_through, HaveNoLinks, event, IsSingle, Mark, chunk_span, span_marks, read_marks}
 use Rattle.markdown_base.specs.declared.event.Content.TheVariants as content
-use Rattle.markdown_base.specs.declared.event.Event.{Event}
-use Rattle.markdown_base.specs.declared.event.Kind.TheVariants.{Enter, Exit}
 use Rattle.markdown_base.specs.declared.event.Name.{Name}
 use Rattle.markdown_base.specs.declared.event.Name.TheVariants as name
-use Rattle.markdown_base.specs.Virtual.{Seat, end_after}
-use Rattle.markdown_children.specs.Chains.{lets_through}
-use Rattle.markdown_tokenizer.specs.Plain.{HaveNoLinks}
-use Rattle.mdconstructs_machines.specs.Spans.{event}
-use Rattle.mdconstructs_flow_read.proofs.Marks.MarkChunks.{IsSingle}
-use Rattle.mdconstructs_flow_read.specs.LeafEvents.{Mark, chunk_span, span_marks}
-use Rattle.mdconstructs_documents.specs.FlowTexts.{read_marks}
 
 -- A segment of marks: marks that are kept, with the virtual bytes that they are over; or a chain of a content, by the virtual bytes of its chunks
 pub data Segment : Type 0 where

@@ -1,19 +1,5 @@
 -- What spans, texts and strings keep, the marks of leaf blocks with their texts and strings keep over all virtual bytes.
-use Rattle.std.proofs.Common.{ℕ, List, arith}
-use Rattle.std.specs.List.{flat_map}
-use Rattle.markdown_base.specs.declared.configuration.Constructs.{Constructs}
-use Rattle.markdown_base.specs.declared.event.Event.{Event}
-use Rattle.markdown_base.specs.Virtual.{Seat}
-use Rattle.mdconstructs_machines.proofs.BlockReads.Accounts.{lines-are-all}
-use Rattle.mdconstructs_machines.specs.LineEvents.{lines_in}
-use Rattle.std.specs.Prelude.{length}
-use Rattle.mdconstructs_flow_read.proofs.Marks.FullBlocks.{leaf-blocks-full}
-use Rattle.mdconstructs_flow_read.proofs.Marks.LeafSpans.{spans-blocks, spans-of-around}
-use Rattle.mdconstructs_flow_read.proofs.Marks.MarkSpans.{IsKeptBySpans, over}
-use Rattle.mdconstructs_flow_read.proofs.Lines.WholeLines.{whole-lines}
-use Rattle.mdconstructs_flow_read.specs.LeafBlocks.{leaf_blocks}
-use Rattle.mdconstructs_flow_read.specs.LeafEvents.{Mark, body}
-use Rattle.mdconstructs_documents.specs.FlowTexts.{block_texts, read_marks}
+use Rattle.mdconstructs_documents.proofs.Prelude.{ℕ, List, arith, flat_map, Constructs, Event, Seat, lines-are-all, lines_in, length, leaf-blocks-full, spans-blocks, spans-of-around, IsKeptBySpans, over, whole-lines, leaf_blocks, Mark, body, block_texts, read_marks}
 
 module _ (on : Constructs) (texts strings : List Seat → List Event) (bytes : List ℕ) (P : List Mark → List Seat → Type 0) (kept : IsKeptBySpans bytes P) (keeps : (seats : List Seat) → P (read_marks texts bytes seats) seats)
     (keeps_string : (seats : List Seat) → P (read_marks strings bytes seats) seats) where

@@ -1,20 +1,5 @@
 -- What strings are read as is cut into innermost spans.
-use Rattle.std.proofs.Common.{◌≡◌, ℕ, ◌+◌, ◌<◌, ◌==◌, true, false, cond, not, List, ◌∷◌, refl, take, drop, length, arith}
-use Rattle.std.specs.List.{position_or_len}
-use Rattle.markdown_base.specs.declared.configuration.Constructs.{Constructs}
-use Rattle.markdown_base.specs.declared.event.Name.TheVariants.{Data, LineEnding}
-use Rattle.markdown_base.specs.Virtual.{Seat}
-use Rattle.mdconstructs_text.proofs.Constructs.Apart.{there-holds}
-use Rattle.mdconstructs_text.proofs.DeepSpans.Atoms.{IsCut, cut-leaf}
-use Rattle.mdconstructs_text.proofs.DeepSpans.Stretches.{ItemCut, cuts, one-taken, plain-add, plain-line, run-behind}
-use Rattle.mdconstructs_text.proofs.Escapes.Bytes.{escapes-apart}
-use Rattle.mdconstructs_text.proofs.Escapes.Cuts.{escape-cut}
-use Rattle.mdconstructs_text.specs.Items.{item_length}
-use Rattle.mdconstructs_text.specs.Parts.{bytes_of, line_ending, part}
-use Rattle.mdconstructs_text.specs.TextEvents.{item_events}
-use Rattle.mdconstructs_inline_constructs.proofs.References.Bytes.{references-apart}
-use Rattle.mdconstructs_inline_constructs.proofs.References.Cuts.{reference-cut}
-use Rattle.mdconstructs_inlines.specs.StringEvents.{is_string_special, string_data, string_grammars, string_item_at, string_part, string_seat_events}
+use Rattle.mdconstructs_documents.proofs.Prelude.{◌≡◌, ℕ, ◌+◌, ◌<◌, ◌==◌, true, false, cond, not, List, ◌∷◌, refl, take, drop, length, arith, position_or_len, Constructs, Data, LineEnding, Seat, there-holds, IsCut, cut-leaf, ItemCut, cuts, one-taken, plain-add, plain-line, run-behind, escapes-apart, escape-cut, item_length, bytes_of, line_ending, part, item_events, references-apart, reference-cut, is_string_special, string_data, string_grammars, string_item_at, string_part, string_seat_events}
 
 some-part : (b : ℕ) (bs : List ℕ) → 0 < item_length (string_part (b ∷ bs))
 some-part b bs = elim (b == 10) as (λ t. 0 < item_length (cond t (part line_ending) (string_data (b ∷ bs)))) [ true ↦ omega arith | false ↦ omega arith ]

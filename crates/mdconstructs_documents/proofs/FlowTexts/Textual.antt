@@ -1,25 +1,5 @@
 -- Each chunk of leaf blocks is of texts or of strings: so all their chains can be read, and a machine that may start with both may start with each.
-use Rattle.std.proofs.Common.{◌≡◌, ℕ, ◌+◌, List, [], ◌∷◌, Bool, true, false, Some, None, inl, inr, refl, sym, ap, ◌∙◌, subst}
-use Rattle.std.proofs.lemmas.Option.{none-some, same_Some}
-use Rattle.std.specs.Prelude.{Contains, option_map, slice_get}
-use Rattle.std.specs.List.{AllByRecursion, flat_map}
-use Rattle.std.specs.Option.{option_and_then}
-use Rattle.markdown_base.proofs.Common.{every-append, every-get, every-map}
-use Rattle.markdown_base.specs.declared.event.Content.{Content}
-use Rattle.markdown_base.specs.declared.event.Content.TheVariants.{String as StringContent, Text as TextContent}
-use Rattle.markdown_base.specs.declared.event.Event.{Event}
-use Rattle.markdown_base.specs.declared.event.Link.{Link}
-use Rattle.markdown_base.specs.declared.state.Name.{Name}
-use Rattle.markdown_base.specs.declared.state.TheConstants.Name.{StringStart, TextStart}
-use Rattle.markdown_base.specs.Virtual.{Seat, virtual}
-use Rattle.markdown_children.proofs.ChainOrder.Following.{by_option}
-use Rattle.markdown_children.specs.Chains.{content_at, fits, some_fits}
-use Rattle.markdown_children.specs.Ready.{IsReady}
-use Rattle.markdown_children.specs.Reads.{StartAmong, start_name}
-use Rattle.markdown_edits.specs.Links.{content_of}
-use Rattle.markdown_tokenizer.specs.Text.{Given, IsDocument}
-use Rattle.mdconstructs_flow_read.proofs.Marks.ToldEdits.{first-linked, mark_at}
-use Rattle.mdconstructs_flow_read.specs.LeafEvents.{Mark, flow_events, linked_from}
+use Rattle.mdconstructs_documents.proofs.Prelude.{◌≡◌, ℕ, ◌+◌, List, [], ◌∷◌, Bool, true, false, Some, None, inl, inr, refl, sym, ap, ◌∙◌, subst, none-some, same_Some, Contains, option_map, slice_get, AllByRecursion, flat_map, option_and_then, every-append, every-get, every-map, Content, StringContent, TextContent, Event, Link, Name, StringStart, TextStart, Seat, virtual, by_option, content_at, fits, some_fits, IsReady, StartAmong, start_name, content_of, Given, IsDocument, first-linked, mark_at, Mark, flow_events, linked_from}
 use Rattle.mdconstructs_documents.proofs.FlowChains.Ready.{flow-ready}
 use Rattle.mdconstructs_documents.proofs.FlowTexts.BlockSegments.{all-segments}
 use Rattle.mdconstructs_documents.proofs.FlowTexts.Segments.{HasByte, IsGood, IsKept, IsTextual, Segment, chain, chain_marks, flat_of, kept}

@@ -1,20 +1,6 @@
 -- The events of leaf blocks, with what their chains of texts and then of strings are read as, are those of leaf blocks with their texts; and so with inline text.
-use Rattle.mdconstructs_documents.proofs.Prelude.{[], ◌≡◌, ◌<◌, ◌∙◌, ℕ, List, map, refl, ap, arith, sym, Event, IsDocument, ParseOptions, Seat, document, virtual_bytes}
-use Rattle.std.specs.Prelude.{None, Some}
-use Rattle.markdown_base.specs.declared.event.Content.{Content}
-use Rattle.markdown_base.specs.Virtual.{point}
+use Rattle.mdconstructs_documents.proofs.Prelude.{[], ◌≡◌, ◌<◌, ◌∙◌, ℕ, List, map, refl, ap, arith, sym, Event, IsDocument, ParseOptions, Seat, document, virtual_bytes, None, Some, Content, point, content_at, fitting_starts, with_children, HaveNoLinks, Text, empty_text, Mark, flow_events, linked_from, inline-alone, string-alone, string_seat_events, chain_text, with_read, InlinesAreRead, flow_inlines, flow_read, inline_seat_events}
 use Rattle.markdown_base.specs.declared.event.Content.TheVariants as content
-use Rattle.markdown_children.specs.Chains.{content_at, fitting_starts}
-use Rattle.markdown_children.specs.Children.{with_children}
-use Rattle.markdown_tokenizer.specs.Plain.{HaveNoLinks}
-use Rattle.markdown_tokenizer.specs.Text.{Text, empty_text}
-use Rattle.mdconstructs_flow_read.specs.LeafEvents.{Mark, flow_events, linked_from}
-use Rattle.mdconstructs_inlines.proofs.InlineChains.{inline-alone}
-use Rattle.mdconstructs_inlines.proofs.StringRuns.{string-alone}
-use Rattle.mdconstructs_inlines.specs.StringEvents.{string_seat_events}
-use Rattle.mdconstructs_text.specs.ChainTexts.{chain_text, with_read}
-use Rattle.mdconstructs_documents.specs.FlowTextLaws.{InlinesAreRead}
-use Rattle.mdconstructs_documents.specs.FlowTexts.{flow_inlines, flow_read, inline_seat_events}
 use Rattle.mdconstructs_documents.proofs.FlowTexts.BlockSegments.{all-segments, by_content, string-segments, text-segments}
 use Rattle.mdconstructs_documents.proofs.FlowTexts.ChainsRead.{texts-read}
 

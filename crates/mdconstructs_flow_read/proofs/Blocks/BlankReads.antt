@@ -1,23 +1,5 @@
 -- Blank lines are read as their definition says.
-use Rattle.std.proofs.Common.{◌≡◌, ◌≤◌, List, [], ◌∷◌, ◌++◌, None, length, refl, sym, ap, ◌∙◌, subst, arith, append_assoc, append-nil}
-use Rattle.std.specs.List.{AllByRecursion}
-use Rattle.markdown_base.specs.declared.event.Kind.TheVariants.{Enter, Exit}
-use Rattle.markdown_base.specs.declared.event.Name.TheVariants.{BlankLineEnding, SpaceOrTab}
-use Rattle.markdown_base.specs.declared.event.Point.{Point}
-use Rattle.markdown_base.specs.declared.state.State.TheVariants.{Next, Retry, Ok}
-use Rattle.markdown_base.specs.declared.state.TheConstants.Name.{BlankLineStart, FlowBlankLineAfter, FlowStart}
-use Rattle.markdown_base.specs.Virtual.{Seat, end_after}
-use Rattle.markdown_tokenizer.specs.Configuration.{Configuration}
-use Rattle.markdown_tokenizer.specs.Sight.{end_place}
-use Rattle.markdown_tokenizer.specs.Text.{Given, Text}
-use Rattle.mdconstructs_tables.specs.Rows.{enter, exit, consume}
-use Rattle.mdconstructs_machines.specs.LineEvents.{all_of, line_text}
-use Rattle.mdconstructs_machines.specs.Spans.{event}
-use Rattle.mdconstructs_flow.specs.FlowBytes.{blank, line_feed, flow_byte}
-use Rattle.mdconstructs_flow_read.specs.BlocksRead.{BlankLinesAreRead, IsReadAs, KeepsEdits}
-use Rattle.mdconstructs_flow_read.specs.LeafBlocks.{bytes_of, text_of}
-use Rattle.mdconstructs_flow_read.specs.LeafEvents.{Mark, leaf_marks, white}
-use Rattle.mdconstructs_flow_read.specs.LineKinds.{is_blank_line}
+use Rattle.mdconstructs_flow_read.proofs.Prelude.{◌≡◌, ◌≤◌, List, [], ◌∷◌, ◌++◌, None, length, refl, sym, ap, ◌∙◌, subst, arith, append_assoc, append-nil, AllByRecursion, Enter, Exit, BlankLineEnding, SpaceOrTab, Point, Next, Retry, Ok, BlankLineStart, FlowBlankLineAfter, FlowStart, Seat, end_after, Configuration, end_place, Given, Text, enter, exit, consume, all_of, line_text, event, blank, line_feed, flow_byte, BlankLinesAreRead, IsReadAs, KeepsEdits, bytes_of, text_of, Mark, leaf_marks, white, is_blank_line}
 use Rattle.mdconstructs_flow_read.proofs.Lines.LineParts.{IsWhite, all-white, at-first}
 use Rattle.mdconstructs_flow_read.proofs.Lines.LineReads.{IsAt, IsUnwritten, keeps-on, reads-keeping, reads-on, reads-run, unwritten-keeps}
 use Rattle.mdconstructs_flow_read.proofs.Lines.RowReads.{counted, row-stays, row-takes, row-takes-on, white-is-blank}

@@ -1,27 +1,5 @@
 -- Thematic breaks are read as their definition says.
-use Rattle.std.proofs.Common.{◌≡◌, ℕ, zero, suc, ◌+◌, ◌-◌, ◌≤◌, ◌==◌, ◌&&◌, ◌||◌, not, nat_le, List, [], ◌∷◌, ◌++◌, true, false, cond, Option, Some, None, ◌⊎◌, inl, inr, length, refl, sym, ap, ◌∙◌, subst, arith, length-append, take, drop}
-use Rattle.std.proofs.lemmas.List.{drop-drop}
-use Rattle.std.proofs.lemmas.Bool.{and_parts, eqb-true, not-true, not-false}
-use Rattle.std.specs.List.{AllByRecursion, list_all, prefix_len}
-use Rattle.markdown_base.specs.declared.event.Name.TheVariants.{HeadingSetextUnderline, SpaceOrTab, ThematicBreak, ThematicBreakSequence as Marks}
-use Rattle.markdown_base.specs.declared.event.Point.{Point}
-use Rattle.markdown_base.specs.declared.state.State.TheVariants.{Next, Retry}
-use Rattle.markdown_base.specs.declared.state.TheConstants.Name.{FlowAfter, FlowBlankLineAfter, ThematicBreakAtBreak, ThematicBreakBefore, ThematicBreakSequence}
-use Rattle.markdown_base.specs.Virtual.{Seat, end_after}
-use Rattle.markdown_tokenizer.specs.Configuration.{Configuration}
-use Rattle.markdown_tokenizer.specs.Sight.{end_place}
-use Rattle.markdown_tokenizer.specs.Text.{Given, Text}
-use Rattle.mdconstructs_tables.specs.Rows.{enter, exit, consume, Rows, row, class_of, picked}
-use Rattle.mdconstructs_machines.specs.Breaks.{is_white}
-use Rattle.mdconstructs_machines.specs.LineEvents.{all_of, ending_of, line_text}
-use Rattle.mdconstructs_flow.specs.FlowBytes.{FlowByte, blank, line_feed, star, underscore, dash, cased, flow_byte, is_rule}
-use Rattle.mdconstructs_flow.specs.Flow.{flow_blank_line_after_rows, mark_begins_line}
-use Rattle.mdconstructs_flow.specs.ThematicBreak.{thematic_break_at_break_rows}
-use Rattle.mdconstructs_flow_read.specs.BlocksRead.{BreaksAreRead, IsAtLines, IsBlockRead, IsReadAs, KeepsEdits}
-use Rattle.mdconstructs_flow_read.specs.LeafBlocks.{Line, bytes_of, text_of}
-use Rattle.mdconstructs_flow_read.specs.LeafEvents.{Mark, break_marks, leaf_marks, span_marks, white}
-use Rattle.mdconstructs_flow_read.specs.LineKinds.{begins_with, is_break_of_marks, is_thematic_break, unindented}
-use Rattle.mdconstructs_flow_read.specs.LooksFind.{LineEnds}
+use Rattle.mdconstructs_flow_read.proofs.Prelude.{◌≡◌, ℕ, zero, suc, ◌+◌, ◌-◌, ◌≤◌, ◌==◌, ◌&&◌, ◌||◌, not, nat_le, List, [], ◌∷◌, ◌++◌, true, false, cond, Option, Some, None, ◌⊎◌, inl, inr, length, refl, sym, ap, ◌∙◌, subst, arith, length-append, take, drop, drop-drop, and_parts, eqb-true, not-true, not-false, AllByRecursion, list_all, prefix_len, HeadingSetextUnderline, SpaceOrTab, ThematicBreak, Marks, Point, Next, Retry, FlowAfter, FlowBlankLineAfter, ThematicBreakAtBreak, ThematicBreakBefore, ThematicBreakSequence, Seat, end_after, Configuration, end_place, Given, Text, enter, exit, consume, Rows, row, class_of, picked, is_white, all_of, ending_of, line_text, FlowByte, blank, line_feed, star, underscore, dash, cased, flow_byte, is_rule, flow_blank_line_after_rows, mark_begins_line, thematic_break_at_break_rows, BreaksAreRead, IsAtLines, IsBlockRead, IsReadAs, KeepsEdits, Line, bytes_of, text_of, Mark, break_marks, leaf_marks, span_marks, white, begins_with, is_break_of_marks, is_thematic_break, unindented, LineEnds}
 use Rattle.mdconstructs_flow_read.proofs.Looks.ByteClasses.{rule-is}
 use Rattle.mdconstructs_flow_read.proofs.Lines.Fronts.{front, back, all-back, all-with-front, all-front, back-fails, drop-back, drop-bytes, Fails, front-all, front-back, length-back, take-front, is_dark}
 use Rattle.mdconstructs_flow_read.proofs.Lines.LineParts.{NoBlank, no-blank, IsWhite, at-first, first-parts}

@@ -1,22 +1,5 @@
 -- The calls that read indented code, line by line.
-use Rattle.std.proofs.Common.{◌≡◌, ℕ, suc, ◌+◌, ◌-◌, ◌^◌, ◌<◌, ◌==◌, min, List, [], ◌∷◌, ◌++◌, true, false, cond, Some, None, ◌⊎◌, inl, inr, refl, ap, ◌∙◌, arith, lt-ltb}
-use Rattle.markdown_base.specs.declared.event.Name.TheVariants.{CodeFlowChunk, CodeIndented, LineEnding, SpaceOrTab}
-use Rattle.markdown_base.specs.declared.event.Point.{Point}
-use Rattle.markdown_base.specs.declared.state.Name.{Name}
-use Rattle.markdown_base.specs.declared.state.State.TheVariants.{Next, Retry}
-use Rattle.markdown_base.specs.declared.state.TheConstants.Name.{CodeIndentedAfter, CodeIndentedAtBreak, CodeIndentedFurtherAfter, CodeIndentedFurtherBegin, CodeIndentedFurtherStart, CodeIndentedInside, CodeIndentedStart, FlowAfter, FlowBlankLineAfter}
-use Rattle.mdconstructs_flow.specs.declared.names.TheConstants.{CodeIndentedLineAfter}
-use Rattle.markdown_base.specs.Virtual.{Seat}
-use Rattle.markdown_tokenizer.specs.declared.waiting.AttemptKind.TheVariants.{Check}
-use Rattle.markdown_tokenizer.specs.Configuration.{Configuration, Local}
-use Rattle.markdown_tokenizer.specs.Sight.{Sight}
-use Rattle.markdown_tokenizer.specs.Text.{Given, Text}
-use Rattle.mdconstructs_tables.specs.Rows.{enter, exit, consume, write, choose, Rows, row, when, picked}
-use Rattle.mdconstructs_machines.specs.Breaks.{is_white}
-use Rattle.mdconstructs_flow.specs.FlowBytes.{blank, line_feed, flow_byte, is_blank}
-use Rattle.mdconstructs_flow.specs.FlowWrites.{count_becomes, count_grows, counts_to_four}
-use Rattle.mdconstructs_flow_read.specs.BlocksRead.{IsReadAs, KeepsEdits}
-use Rattle.mdconstructs_flow_read.specs.LeafEvents.{Mark, leaf_marks}
+use Rattle.mdconstructs_flow_read.proofs.Prelude.{◌≡◌, ℕ, suc, ◌+◌, ◌-◌, ◌^◌, ◌<◌, ◌==◌, min, List, [], ◌∷◌, ◌++◌, true, false, cond, Some, None, ◌⊎◌, inl, inr, refl, ap, ◌∙◌, arith, lt-ltb, CodeFlowChunk, CodeIndented, LineEnding, SpaceOrTab, Point, Name, Next, Retry, CodeIndentedAfter, CodeIndentedAtBreak, CodeIndentedFurtherAfter, CodeIndentedFurtherBegin, CodeIndentedFurtherStart, CodeIndentedInside, CodeIndentedStart, FlowAfter, FlowBlankLineAfter, CodeIndentedLineAfter, Seat, Check, Configuration, Local, Sight, Given, Text, enter, exit, consume, write, choose, Rows, row, when, picked, is_white, blank, line_feed, flow_byte, is_blank, count_becomes, count_grows, counts_to_four, IsReadAs, KeepsEdits, Mark, leaf_marks}
 use Rattle.mdconstructs_flow_read.proofs.Looks.ByteClasses.{blank-is, feed-is}
 use Rattle.mdconstructs_flow_read.proofs.Lines.LineParts.{IsWhite, NoBlank}
 use Rattle.mdconstructs_flow_read.proofs.Lines.LineReads.{IsAt}

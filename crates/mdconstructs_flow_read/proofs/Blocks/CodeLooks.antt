@@ -1,27 +1,7 @@
 -- The look for one more line of indented code: over blank lines, it finds whether the code goes on.
-use Rattle.std.proofs.Common.{◌≡◌, ℕ, suc, ◌+◌, ◌-◌, ◌^◌, ◌<◌, ◌==◌, ◌&&◌, nat_le, min, List, [], ◌∷◌, ◌++◌, Bool, true, false, cond, Option, Some, None, length, refl, sym, ap, ◌∙◌, subst, arith, append_assoc, lt-ltb, le-ltb, ◌⊎◌, inl, inr}
-use Rattle.std.proofs.lemmas.Bool.{le-leb, leb-true, leb-false}
-use Rattle.markdown_base.specs.declared.configuration.Constructs.{Constructs}
-use Rattle.markdown_base.specs.declared.event.Event.{Event}
-use Rattle.markdown_base.specs.declared.event.Name.{Name as EventName}
-use Rattle.markdown_base.specs.declared.state.State.TheVariants.{Next, Ok, Nok}
-use Rattle.markdown_base.specs.declared.state.TheConstants.Name.{CodeIndentedFurtherStart}
-use Rattle.markdown_base.specs.Virtual.{Seat}
-use Rattle.markdown_tokenizer.specs.Configuration.{Local}
-use Rattle.markdown_tokenizer.specs.Text.{Given, Text}
-use Rattle.mdconstructs_tables.proofs.Looks.Tests.{told}
-use Rattle.mdconstructs_tables.specs.Looks.{Look, scan}
-use Rattle.mdconstructs_tables.specs.Rows.{consume, write, Rows, row, when}
-use Rattle.mdconstructs_machines.specs.Breaks.{is_white}
-use Rattle.mdconstructs_machines.specs.LineEvents.{all_of, ending_of, line_text}
-use Rattle.mdconstructs_flow.specs.FlowBytes.{flow_byte, is_blank as is_blank_class, is_line_feed}
-use Rattle.mdconstructs_flow.specs.FlowTable.{flow}
-use Rattle.mdconstructs_flow.specs.FlowWrites.{count_becomes, count_grows, counts_to_four}
-use Rattle.mdconstructs_flow_read.specs.BlocksRead.{AreLines, KeepsEdits}
-use Rattle.mdconstructs_flow_read.specs.HtmlLines.{HtmlKind, html_kind}
-use Rattle.mdconstructs_flow_read.specs.LeafBlocks.{Line, bytes_of, further_code, is_blank, is_indented, text_of}
-use Rattle.mdconstructs_flow_read.specs.LineKinds.{LineKind, blank, indented, indent, is_blank_line, kind_of_rest, unindented, Fence, heading, fence, html, thematic_break, text, is_atx_heading, is_fence_of, is_thematic_break, run}
-use Rattle.mdconstructs_flow_read.specs.LooksFind.{IsInLine}
+use Rattle.mdconstructs_flow_read.proofs.Prelude.{◌≡◌, ℕ, suc, ◌+◌, ◌-◌, ◌^◌, ◌<◌, ◌==◌, ◌&&◌, nat_le, min, List, [], ◌∷◌, ◌++◌, Bool, true, false, cond, Option, Some, None, length, refl, sym, ap, ◌∙◌, subst, arith, append_assoc, lt-ltb, le-ltb, ◌⊎◌, inl, inr, le-leb, leb-true, leb-false, Constructs, Event, EventName, Next, Ok, Nok, CodeIndentedFurtherStart, Seat, Local, Given, Text, told, Look, scan, consume, write, Rows, row, when, is_white, all_of, ending_of, line_text, flow_byte, is_blank_class, is_line_feed, flow, count_becomes, count_grows, counts_to_four, AreLines, KeepsEdits, HtmlKind, html_kind, Line, bytes_of, further_code, is_indented, text_of, LineKind, indented, indent, is_blank_line, kind_of_rest, unindented, Fence, is_atx_heading, is_fence_of, is_thematic_break, run, IsInLine}
+use Rattle.mdconstructs_flow_read.specs.LeafBlocks.{is_blank}
+use Rattle.mdconstructs_flow_read.specs.LineKinds.{blank, heading, fence, html, thematic_break, text}
 use Rattle.mdconstructs_flow_read.proofs.Looks.ByteClasses.{blank-is, feed-is}
 use Rattle.mdconstructs_flow_read.proofs.Lines.Fronts.{prefix-grows}
 use Rattle.mdconstructs_flow_read.proofs.Lines.Lines.{EndsWithIt, EndsWithout, cut-line, lines-behind}

@@ -1,30 +1,5 @@
 -- Indented code is read as its definition says.
-use Rattle.std.proofs.Common.{◌≡◌, ℕ, zero, suc, ◌+◌, ◌-◌, ◌^◌, ◌<◌, ◌≤◌, ◌&&◌, nat_le, min, List, [], ◌∷◌, ◌++◌, true, false, cond, ◌⊎◌, inl, inr, length, refl, sym, ap, ◌∙◌, subst, arith, append_assoc, append-nil, take, drop}
-use Rattle.std.proofs.lemmas.Bool.{and_parts, le-leb, leb-true}
-use Rattle.std.proofs.lemmas.List.{length-drop}
-use Rattle.std.specs.List.{AllByRecursion}
-use Rattle.markdown_base.proofs.Seats.{end-after-append}
-use Rattle.markdown_base.specs.declared.event.Name.TheVariants.{CodeFlowChunk, CodeIndented, LineEnding, SpaceOrTab}
-use Rattle.markdown_base.specs.declared.event.Point.{Point}
-use Rattle.markdown_base.specs.declared.state.Name.{Name}
-use Rattle.markdown_base.specs.declared.state.State.TheVariants.{Retry, Ok, Nok}
-use Rattle.markdown_base.specs.declared.state.TheConstants.Name.{CodeIndentedAfter, CodeIndentedAtBreak, CodeIndentedFurtherAfter, CodeIndentedFurtherBegin, CodeIndentedFurtherStart, CodeIndentedInside, CodeIndentedStart, FlowAfter, FlowBlankLineAfter}
-use Rattle.mdconstructs_flow.specs.declared.names.TheConstants.{CodeIndentedLineAfter}
-use Rattle.markdown_base.specs.Virtual.{Seat, end_after}
-use Rattle.markdown_tokenizer.specs.Calls.{with_local}
-use Rattle.markdown_tokenizer.specs.Configuration.{Configuration, Local}
-use Rattle.markdown_tokenizer.specs.Sight.{byte_of, end_place, seat_before}
-use Rattle.markdown_tokenizer.specs.Text.{Given, Text}
-use Rattle.mdconstructs_machines.specs.Breaks.{is_white}
-use Rattle.mdconstructs_machines.specs.LineEvents.{all_of, ending_of, line_text}
-use Rattle.mdconstructs_flow.specs.FlowTable.{unchanged}
-use Rattle.mdconstructs_flow.specs.CodeIndented.{code_indented_inside}
-use Rattle.mdconstructs_flow.specs.FlowBytes.{line_feed, flow_byte}
-use Rattle.mdconstructs_flow_read.specs.BlocksRead.{AreLines, IndentedCodeIsRead, IsLine, IsReadAs, KeepsEdits, last_ending}
-use Rattle.mdconstructs_flow_read.specs.LeafBlocks.{Line, bytes_of, further_code, text_of}
-use Rattle.mdconstructs_flow_read.specs.LeafEvents.{Mark, body, code_marks, leaf_marks, lines_marks, span_marks, white}
-use Rattle.mdconstructs_flow_read.specs.LineKinds.{indent, is_blank_line}
-use Rattle.mdconstructs_flow_read.specs.LooksFind.{IsInLine, LineEnds}
+use Rattle.mdconstructs_flow_read.proofs.Prelude.{◌≡◌, ℕ, zero, suc, ◌+◌, ◌-◌, ◌^◌, ◌<◌, ◌≤◌, ◌&&◌, nat_le, min, List, [], ◌∷◌, ◌++◌, true, false, cond, ◌⊎◌, inl, inr, length, refl, sym, ap, ◌∙◌, subst, arith, append_assoc, append-nil, take, drop, and_parts, le-leb, leb-true, length-drop, AllByRecursion, end-after-append, CodeFlowChunk, CodeIndented, LineEnding, SpaceOrTab, Point, Name, Retry, Ok, Nok, CodeIndentedAfter, CodeIndentedAtBreak, CodeIndentedFurtherAfter, CodeIndentedFurtherBegin, CodeIndentedFurtherStart, CodeIndentedInside, CodeIndentedStart, FlowAfter, FlowBlankLineAfter, CodeIndentedLineAfter, Seat, end_after, with_local, Configuration, Local, byte_of, end_place, seat_before, Given, Text, is_white, all_of, ending_of, line_text, unchanged, code_indented_inside, line_feed, flow_byte, AreLines, IndentedCodeIsRead, IsLine, IsReadAs, KeepsEdits, last_ending, Line, bytes_of, further_code, text_of, Mark, body, code_marks, leaf_marks, lines_marks, span_marks, white, indent, is_blank_line, IsInLine, LineEnds}
 use Rattle.mdconstructs_flow_read.proofs.Looks.ByteClasses.{white-no-feed}
 use Rattle.mdconstructs_flow_read.proofs.Lines.Checks.{read-if-nok, read-if-ok}
 use Rattle.mdconstructs_flow_read.proofs.Blocks.CodeCalls.{Counted, Reads, begins, break-feed, chunk-begins, chunk-feed, chunk-other, chunk-white, feeds, further-feed, further-white, inside-end, inside-on, line-last, line-on, start-ends, start-on}

@@ -1,27 +1,6 @@
 -- The calls that read an ATX heading: by its white space, its number signs and its text.
-use Rattle.std.proofs.Common.{◌≡◌, ℕ, suc, ◌+◌, ◌-◌, ◌^◌, ◌<◌, ◌==◌, List, [], ◌∷◌, ◌++◌, false, cond, min, Some, None, refl, ap, ◌∙◌, arith, lt-ltb, le-ltb}
-use Rattle.std.proofs.lemmas.Bool.{eqb-true}
+use Rattle.mdconstructs_flow_read.proofs.Prelude.{◌≡◌, ℕ, suc, ◌+◌, ◌-◌, ◌^◌, ◌<◌, ◌==◌, List, [], ◌∷◌, ◌++◌, false, cond, min, Some, None, refl, ap, ◌∙◌, arith, lt-ltb, le-ltb, eqb-true, Enter, Data, HeadingAtx, HeadingAtxSequence, HeadingAtxText, SpaceOrTab, Point, Name, Next, Retry, FlowAfter, FlowBlankLineAfter, HeadingAtxAtBreak, HeadingAtxBefore, HeadingAtxData, HeadingAtxSequenceOpen, HeadingAtxStart, Seat, Configuration, Local, Sight, Given, Text, enter, enter_link, exit, consume, write, Rows, row, picked, is_white, text_link, event, blank, line_feed, sign, flow_byte, is_blank, is_sign_class, count_becomes, count_grows, size_becomes, text_goes_on, text_or_signs, IsReadAs, KeepsEdits, alone, LineEnds}
 use Rattle.markdown_base.specs.declared.event.Content.TheVariants as content
-use Rattle.markdown_base.specs.declared.event.Kind.TheVariants.{Enter}
-use Rattle.markdown_base.specs.declared.event.Name.TheVariants.{Data, HeadingAtx, HeadingAtxSequence, HeadingAtxText, SpaceOrTab}
-use Rattle.markdown_base.specs.declared.event.Point.{Point}
-use Rattle.markdown_base.specs.declared.state.Name.{Name}
-use Rattle.markdown_base.specs.declared.state.State.TheVariants.{Next, Retry}
-use Rattle.markdown_base.specs.declared.state.TheConstants.Name.{FlowAfter, FlowBlankLineAfter, HeadingAtxAtBreak, HeadingAtxBefore, HeadingAtxData, HeadingAtxSequenceOpen, HeadingAtxStart}
-use Rattle.markdown_base.specs.Virtual.{Seat}
-use Rattle.markdown_tokenizer.specs.Configuration.{Configuration, Local}
-use Rattle.markdown_tokenizer.specs.Sight.{Sight}
-use Rattle.markdown_tokenizer.specs.Text.{Given, Text}
-use Rattle.mdconstructs_tables.specs.Rows.{enter, enter_link, exit, consume, write, Rows, row, picked}
-use Rattle.mdconstructs_machines.specs.Breaks.{is_white}
-use Rattle.mdconstructs_machines.specs.Paragraphs.{text_link}
-use Rattle.mdconstructs_machines.specs.Spans.{event}
-use Rattle.mdconstructs_flow.specs.FlowBytes.{blank, line_feed, sign, flow_byte, is_blank, is_sign as is_sign_class}
-use Rattle.mdconstructs_flow.specs.FlowWrites.{count_becomes, count_grows, size_becomes}
-use Rattle.mdconstructs_flow.specs.HeadingAtx.{text_goes_on, text_or_signs}
-use Rattle.mdconstructs_flow_read.specs.BlocksRead.{IsReadAs, KeepsEdits}
-use Rattle.mdconstructs_flow_read.specs.LeafEvents.{alone}
-use Rattle.mdconstructs_flow_read.specs.LooksFind.{LineEnds}
 use Rattle.mdconstructs_flow_read.proofs.Looks.ByteClasses.{blank-is, feed-is, sign-is}
 use Rattle.mdconstructs_flow_read.proofs.Lines.Fronts.{Fails}
 use Rattle.mdconstructs_flow_read.proofs.Blocks.HeadingParts.{IsSign}

@@ -1,18 +1,8 @@
 -- ATX headings in parts: the marks of a heading by its white space, its number signs and its text, and what comes behind the text.
-use Rattle.std.proofs.Common.{◌≡◌, ℕ, suc, ◌+◌, ◌-◌, ◌≤◌, ◌&&◌, List, [], ◌∷◌, ◌++◌, Bool, true, false, cond, length, reverse, refl, sym, ap, ◌∙◌, subst, arith, append_assoc, length-append, take, drop}
-use Rattle.std.proofs.Math.Seq.{drop-append-add, drop-append_seam, take-append_seam}
-use Rattle.std.proofs.lemmas.Bool.{and_from, and_parts, eqb-true}
-use Rattle.std.proofs.lemmas.List.{drop-drop, reverse-append, reverse-reverse, take-append-drop, length-map}
-use Rattle.std.proofs.lemmas.List.Folds.{list_all-append}
-use Rattle.std.specs.List.{AllByRecursion, drop-map, list_all, prefix_len}
+use Rattle.mdconstructs_flow_read.proofs.Prelude.{◌≡◌, ℕ, suc, ◌+◌, ◌-◌, ◌≤◌, ◌&&◌, List, [], ◌∷◌, ◌++◌, Bool, true, false, cond, length, reverse, refl, sym, ap, ◌∙◌, subst, arith, append_assoc, length-append, take, drop, drop-append-add, drop-append_seam, take-append_seam, and_from, and_parts, eqb-true, drop-drop, reverse-append, reverse-reverse, take-append-drop, length-map, list_all-append, AllByRecursion, drop-map, list_all, prefix_len, Seat, is_white, bytes_of, Mark, alone, chunk_span, heading_marks, leaf_marks, sequence_marks, span_marks, white, heading_text, indent, is_blank_line, run, trimmed, unindented}
 use Rattle.markdown_base.specs.declared.event.Content.TheVariants as content
 use Rattle.markdown_base.specs.declared.event.Name.{Name}
 use Rattle.markdown_base.specs.declared.event.Name.TheVariants as name
-use Rattle.markdown_base.specs.Virtual.{Seat}
-use Rattle.mdconstructs_machines.specs.Breaks.{is_white}
-use Rattle.mdconstructs_flow_read.specs.LeafBlocks.{bytes_of}
-use Rattle.mdconstructs_flow_read.specs.LeafEvents.{Mark, alone, chunk_span, heading_marks, leaf_marks, sequence_marks, span_marks, white}
-use Rattle.mdconstructs_flow_read.specs.LineKinds.{heading_text, indent, is_blank_line, run, trimmed, unindented}
 use Rattle.mdconstructs_flow_read.proofs.Lines.Fronts.{front, back, all-back, back-fails, bytes-behind, drop-bytes, Fails, front-all, front-back, prefix-front, prefix-parts}
 use Rattle.mdconstructs_flow_read.proofs.Lines.LineParts.{IsWhite, all-white}
 use Rattle.mdconstructs_flow_read.proofs.Looks.HeadingTexts.{is_sign}

@@ -1,32 +1,11 @@
 -- ATX headings are read as their definition says.
-use Rattle.std.proofs.Common.{◌≡◌, ℕ, suc, ◌+◌, ◌-◌, ◌^◌, ◌<◌, ◌≤◌, nat_le, List, [], ◌∷◌, ◌++◌, true, false, length, refl, sym, ap, ◌∙◌, subst, arith, append_assoc, append-nil, length-append, take, drop}
-use Rattle.std.proofs.lemmas.Bool.{and_parts, eqb-true, leb-true}
-use Rattle.std.proofs.lemmas.List.{length-drop, length-take-le, take-append-drop}
-use Rattle.std.specs.List.{AllByRecursion}
+use Rattle.mdconstructs_flow_read.proofs.Prelude.{◌≡◌, ℕ, suc, ◌+◌, ◌-◌, ◌^◌, ◌<◌, ◌≤◌, nat_le, List, [], ◌∷◌, ◌++◌, true, false, length, refl, sym, ap, ◌∙◌, subst, arith, append_assoc, append-nil, length-append, take, drop, and_parts, eqb-true, leb-true, length-drop, length-take-le, take-append-drop, AllByRecursion, Enter, Data, HeadingAtx, HeadingAtxSequence, HeadingAtxText, SpaceOrTab, Point, Retry, FlowAfter, FlowBlankLineAfter, HeadingAtxAtBreak, HeadingAtxBefore, HeadingAtxData, HeadingAtxSequenceOpen, HeadingAtxStart, Seat, end_after, Configuration, Local, end_place, Given, Text, is_white, all_of, ending_of, line_text, event, HeadingsAreRead, IsReadAs, KeepsEdits, bytes_of, text_of, Mark, alone, heading_marks, leaf_marks, span_marks, white, heading_text, is_atx_heading, run, unindented, IsInLine, LineEnds, text_behind_signs, end-after-append}
 use Rattle.markdown_base.specs.declared.event.Content.TheVariants as content
-use Rattle.markdown_base.specs.declared.event.Kind.TheVariants.{Enter}
-use Rattle.markdown_base.specs.declared.event.Name.TheVariants.{Data, HeadingAtx, HeadingAtxSequence, HeadingAtxText, SpaceOrTab}
-use Rattle.markdown_base.specs.declared.event.Point.{Point}
-use Rattle.markdown_base.specs.declared.state.State.TheVariants.{Retry}
-use Rattle.markdown_base.specs.declared.state.TheConstants.Name.{FlowAfter, FlowBlankLineAfter, HeadingAtxAtBreak, HeadingAtxBefore, HeadingAtxData, HeadingAtxSequenceOpen, HeadingAtxStart}
-use Rattle.markdown_base.specs.Virtual.{Seat, end_after}
-use Rattle.markdown_tokenizer.specs.Configuration.{Configuration, Local}
-use Rattle.markdown_tokenizer.specs.Sight.{end_place}
-use Rattle.markdown_tokenizer.specs.Text.{Given, Text}
-use Rattle.mdconstructs_machines.specs.Breaks.{is_white}
-use Rattle.mdconstructs_machines.specs.LineEvents.{all_of, ending_of, line_text}
-use Rattle.mdconstructs_machines.specs.Spans.{event}
-use Rattle.mdconstructs_flow_read.specs.BlocksRead.{HeadingsAreRead, IsReadAs, KeepsEdits}
-use Rattle.mdconstructs_flow_read.specs.LeafBlocks.{bytes_of, text_of}
-use Rattle.mdconstructs_flow_read.specs.LeafEvents.{Mark, alone, heading_marks, leaf_marks, span_marks, white}
-use Rattle.mdconstructs_flow_read.specs.LineKinds.{heading_text, is_atx_heading, run, unindented}
-use Rattle.mdconstructs_flow_read.specs.LooksFind.{IsInLine, LineEnds, text_behind_signs}
 use Rattle.mdconstructs_flow_read.proofs.Lines.Fronts.{front, back, all-back, back-fails, drop-bytes, Fails, front-all, front-back, length-back, prefix-front}
 use Rattle.mdconstructs_flow_read.proofs.Blocks.HeadingCalls.{BehindText, InText, NoSign, begins-sign, begins-white, line-ends, no-sign, signs-begin, signs-end, signs-on, start-on, start-sign, text-begins, text-ends, text-ends-line, text-on, white-begins, white-ends, white-on}
 use Rattle.mdconstructs_flow_read.proofs.Blocks.HeadingParts.{IsSign, heading-parts, sequence-fronts, signs_behind, text-is, text_span}
 use Rattle.mdconstructs_flow_read.proofs.Lines.LineParts.{IsWhite, NoBlank, at-first, first-parts, no-blank}
 use Rattle.mdconstructs_flow_read.proofs.Lines.LineReads.{IsAt, IsUnwritten, keeps-on, reads-end, reads-keeping, reads-nothing, reads-on, reads-parts, reads-run, unwritten-keeps, unwritten-on}
-use Rattle.markdown_base.proofs.Seats.{end-after-append}
 use Rattle.mdconstructs_flow_read.proofs.Lines.Lines.{in-line-front, in-line-behind}
 use Rattle.mdconstructs_flow_read.proofs.Lines.KindsOfLines.{says}
 use Rattle.mdconstructs_flow_read.proofs.Lines.RunReads.{Reads, comes, goes, in-run, run-piece}

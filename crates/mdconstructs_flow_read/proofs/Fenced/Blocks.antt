@@ -1,22 +1,5 @@
 -- The lines of fenced code behind its first are read, one after another.
-use Rattle.std.proofs.Common.{◌≡◌, ◌⊎◌, inl, inr, ⊎_elim, ℕ, suc, ◌-◌, ◌^◌, ◌≤◌, ◌<◌, ◌==◌, min, not, List, [], ◌∷◌, ◌++◌, Bool, true, false, length, take, drop, refl, sym, ap, ◌∙◌, subst, arith, append_assoc, append-nil, length-append, length-drop}
-use Rattle.markdown_base.proofs.Seats.{end-after-append}
-use Rattle.markdown_base.specs.declared.event.Name.TheVariants.{CodeFenced, CodeFencedFence, CodeFencedFenceSequence, CodeFlowChunk, LineEnding}
-use Rattle.markdown_base.specs.declared.event.Point.{Point}
-use Rattle.markdown_base.specs.declared.state.State.TheVariants.{Next, Retry}
-use Rattle.markdown_base.specs.declared.state.TheConstants.Name.{FlowAfter, RawFlowAfter, RawFlowAtNonLazyBreak, RawFlowContentBefore, RawFlowContentStart}
-use Rattle.mdconstructs_flow.specs.declared.names.TheConstants.{RawFlowCloseBefore}
-use Rattle.markdown_base.specs.Virtual.{Seat, end_after}
-use Rattle.markdown_tokenizer.specs.Configuration.{Configuration}
-use Rattle.markdown_tokenizer.specs.Text.{Given, Text}
-use Rattle.mdconstructs_tables.specs.Rows.{exit}
-use Rattle.mdconstructs_machines.specs.LineEvents.{all_of, ending_of, line_text}
-use Rattle.mdconstructs_flow.specs.CodeFenced.{raw_flow_at_non_lazy_break_rows}
-use Rattle.mdconstructs_flow_read.specs.BlocksRead.{AreLines, behind_block, block_seats}
-use Rattle.mdconstructs_flow_read.specs.LeafBlocks.{Line, bytes_of, has_line, lines_through, text_of}
-use Rattle.mdconstructs_flow_read.specs.LeafEvents.{Mark, code_marks, fenced_marks, leaf_marks, line_end, sequence_marks, span_marks, white}
-use Rattle.mdconstructs_flow_read.specs.LineKinds.{Fence, closes, run, unindented}
-use Rattle.mdconstructs_flow_read.specs.LooksFind.{IsInLine, LineEnds}
+use Rattle.mdconstructs_flow_read.proofs.Prelude.{◌≡◌, ◌⊎◌, inl, inr, ⊎_elim, ℕ, suc, ◌-◌, ◌^◌, ◌≤◌, ◌<◌, ◌==◌, min, not, List, [], ◌∷◌, ◌++◌, Bool, true, false, length, take, drop, refl, sym, ap, ◌∙◌, subst, arith, append_assoc, append-nil, length-append, length-drop, end-after-append, CodeFenced, CodeFencedFence, CodeFencedFenceSequence, CodeFlowChunk, LineEnding, Point, Next, Retry, FlowAfter, RawFlowAfter, RawFlowAtNonLazyBreak, RawFlowContentBefore, RawFlowContentStart, RawFlowCloseBefore, Seat, end_after, Configuration, Given, Text, exit, all_of, ending_of, line_text, raw_flow_at_non_lazy_break_rows, AreLines, behind_block, block_seats, Line, bytes_of, has_line, lines_through, text_of, Mark, code_marks, fenced_marks, leaf_marks, line_end, sequence_marks, span_marks, white, Fence, closes, run, unindented, IsInLine, LineEnds}
 use Rattle.mdconstructs_flow_read.proofs.Fenced.Checks.{behind_look, next-seen}
 use Rattle.mdconstructs_flow_read.proofs.Fenced.Code.{closing-ending, code-ending, ending_marks}
 use Rattle.mdconstructs_flow_read.proofs.Fenced.Lines.{closing-line, code-line}

@@ -1,23 +1,5 @@
 -- At the end of a line in fenced code the next line is looked at.
-use Rattle.std.proofs.Common.{◌≡◌, suc, ◌+◌, ◌-◌, ◌^◌, ◌<◌, ◌≤◌, ◌==◌, List, [], ◌∷◌, ◌++◌, Bool, true, false, cond, length, refl, sym, subst, arith, append-nil}
-use Rattle.markdown_base.specs.declared.state.Name.{Name}
-use Rattle.markdown_base.specs.declared.state.State.TheVariants.{Retry, Ok, Nok}
-use Rattle.markdown_base.specs.declared.event.Point.{Point}
-use Rattle.markdown_base.specs.declared.state.TheConstants.Name.{RawFlowAfter, RawFlowAtNonLazyBreak, RawFlowCloseStart, RawFlowContentBefore}
-use Rattle.markdown_base.specs.Virtual.{Seat}
-use Rattle.markdown_tokenizer.specs.Calls.{with_local}
-use Rattle.markdown_tokenizer.specs.Configuration.{Configuration}
-use Rattle.markdown_tokenizer.specs.Sight.{byte_of, seat_before}
-use Rattle.markdown_tokenizer.specs.Text.{Given, Text}
-use Rattle.mdconstructs_tables.proofs.Looks.Deep.{Leads}
-use Rattle.mdconstructs_tables.specs.Looks.{Look}
-use Rattle.mdconstructs_tables.specs.Rows.{table_step}
-use Rattle.mdconstructs_flow.specs.CodeFenced.{raw_flow_at_non_lazy_break}
-use Rattle.mdconstructs_flow.specs.FlowBytes.{line_feed}
-use Rattle.mdconstructs_flow.specs.FlowTable.{flow, unchanged}
-use Rattle.mdconstructs_flow_read.specs.LeafBlocks.{bytes_of}
-use Rattle.mdconstructs_flow_read.specs.LineKinds.{Fence, closes}
-use Rattle.mdconstructs_flow_read.specs.LooksFind.{IsInLine, LineEnds}
+use Rattle.mdconstructs_flow_read.proofs.Prelude.{◌≡◌, suc, ◌+◌, ◌-◌, ◌^◌, ◌<◌, ◌≤◌, ◌==◌, List, [], ◌∷◌, ◌++◌, Bool, true, false, cond, length, refl, sym, subst, arith, append-nil, Name, Retry, Ok, Nok, Point, RawFlowAfter, RawFlowAtNonLazyBreak, RawFlowCloseStart, RawFlowContentBefore, Seat, with_local, Configuration, byte_of, seat_before, Given, Text, Leads, Look, table_step, raw_flow_at_non_lazy_break, line_feed, flow, unchanged, bytes_of, Fence, closes, IsInLine, LineEnds}
 use Rattle.mdconstructs_flow_read.proofs.Lines.Checks.{checks-nok, checks-ok, looks}
 use Rattle.mdconstructs_flow_read.proofs.Fenced.Looks.{Saw, close-seen, closes-is}
 use Rattle.mdconstructs_flow_read.proofs.Fenced.Runs.{IsMark, feed-class}

@@ -1,21 +1,5 @@
 -- The closing fence is read.
-use Rattle.std.proofs.Common.{◌≡◌, ◌==◌, List, [], ◌∷◌, ◌++◌, true, false, cond, refl, sym, ap, subst, append_assoc, append-nil}
-use Rattle.markdown_base.proofs.Seats.{end-after-append}
-use Rattle.markdown_base.specs.declared.event.Name.TheVariants.{CodeFenced, CodeFencedFence, CodeFencedFenceSequence, SpaceOrTab}
-use Rattle.markdown_base.specs.declared.event.Point.{Point}
-use Rattle.markdown_base.specs.declared.state.State.TheVariants.{Next, Retry}
-use Rattle.markdown_base.specs.declared.state.TheConstants.Name.{FlowAfter}
-use Rattle.mdconstructs_flow.specs.declared.names.TheConstants.{RawFlowCloseBlank, RawFlowCloseBetween, RawFlowCloseSequence, RawFlowCloseBefore}
-use Rattle.markdown_base.specs.Virtual.{Seat, end_after}
-use Rattle.markdown_tokenizer.specs.Configuration.{Configuration}
-use Rattle.markdown_tokenizer.specs.Text.{Given, Text}
-use Rattle.mdconstructs_tables.specs.Rows.{enter, exit, consume, Rows, row}
-use Rattle.mdconstructs_machines.specs.Breaks.{is_white}
-use Rattle.mdconstructs_flow.specs.CodeFenced.{raw_flow_close_between_rows, raw_flow_close_sequence_rows, raw_flow_close_before_rows}
-use Rattle.mdconstructs_flow.specs.FlowBytes.{blank, flow_byte}
-use Rattle.mdconstructs_flow_read.specs.LeafEvents.{Mark, leaf_marks, span_marks, white}
-use Rattle.mdconstructs_flow_read.specs.LineKinds.{Fence}
-use Rattle.mdconstructs_flow_read.specs.LooksFind.{LineEnds}
+use Rattle.mdconstructs_flow_read.proofs.Prelude.{◌≡◌, ◌==◌, List, [], ◌∷◌, ◌++◌, true, false, cond, refl, sym, ap, subst, append_assoc, append-nil, end-after-append, CodeFenced, CodeFencedFence, CodeFencedFenceSequence, SpaceOrTab, Point, Next, Retry, FlowAfter, RawFlowCloseBlank, RawFlowCloseBetween, RawFlowCloseSequence, RawFlowCloseBefore, Seat, end_after, Configuration, Given, Text, enter, exit, consume, Rows, row, is_white, raw_flow_close_between_rows, raw_flow_close_sequence_rows, raw_flow_close_before_rows, blank, flow_byte, Mark, leaf_marks, span_marks, white, Fence, LineEnds}
 use Rattle.mdconstructs_flow_read.proofs.Fenced.Opening.{is_mark, of-fence}
 use Rattle.mdconstructs_flow_read.proofs.Fenced.Rows.{at-assoc, into, line-over, out, two, white-begins, white-goes}
 use Rattle.mdconstructs_flow_read.proofs.Fenced.Runs.{AllOf, IsMark, at_other, line-stops, mark-class, rows-rest, run-reads}

@@ -1,21 +1,5 @@
 -- A line of fenced code is read: its indentation, and the rest; and the line ending before it.
-use Rattle.std.proofs.Common.{◌≡◌, ℕ, suc, ◌+◌, ◌-◌, ◌^◌, ◌<◌, ◌≤◌, ◌==◌, nat_lt, List, [], ◌∷◌, ◌++◌, Bool, true, false, cond, length, refl, sym, ap, ◌∙◌, subst, arith, append-nil, lt-ltb, le-ltb}
-use Rattle.markdown_base.specs.declared.event.Name.TheVariants.{CodeFlowChunk, LineEnding, SpaceOrTab}
-use Rattle.markdown_base.specs.declared.event.Point.{Point}
-use Rattle.markdown_base.specs.declared.state.State.TheVariants.{Next, Retry}
-use Rattle.markdown_base.specs.declared.state.TheConstants.Name.{RawFlowAfter, RawFlowAtNonLazyBreak, RawFlowBeforeContentChunk, RawFlowContentBefore, RawFlowContentChunk, RawFlowContentStart}
-use Rattle.mdconstructs_flow.specs.declared.names.TheConstants.{RawFlowCloseBefore}
-use Rattle.markdown_base.specs.Virtual.{Seat, end_after}
-use Rattle.markdown_tokenizer.specs.Configuration.{Configuration, Local}
-use Rattle.markdown_tokenizer.specs.Text.{Given, Text}
-use Rattle.mdconstructs_tables.specs.Rows.{Act, enter, exit, consume, write, Rows, row}
-use Rattle.mdconstructs_machines.specs.Breaks.{is_white, one_more}
-use Rattle.mdconstructs_flow.specs.CodeFenced.{raw_flow_after_rows, raw_flow_before_content_chunk_rows, raw_flow_content_before_rows, raw_flow_content_start_rows}
-use Rattle.mdconstructs_flow.specs.FlowBytes.{blank, flow_byte, line_feed}
-use Rattle.mdconstructs_flow.specs.FlowWrites.{count_becomes, count_grows}
-use Rattle.mdconstructs_flow_read.specs.LeafEvents.{Mark, leaf_marks, white}
-use Rattle.mdconstructs_flow_read.specs.LineKinds.{Fence}
-use Rattle.mdconstructs_flow_read.specs.LooksFind.{IsInLine, LineEnds}
+use Rattle.mdconstructs_flow_read.proofs.Prelude.{◌≡◌, ℕ, suc, ◌+◌, ◌-◌, ◌^◌, ◌<◌, ◌≤◌, ◌==◌, nat_lt, List, [], ◌∷◌, ◌++◌, Bool, true, false, cond, length, refl, sym, ap, ◌∙◌, subst, arith, append-nil, lt-ltb, le-ltb, CodeFlowChunk, LineEnding, SpaceOrTab, Point, Next, Retry, RawFlowAfter, RawFlowAtNonLazyBreak, RawFlowBeforeContentChunk, RawFlowContentBefore, RawFlowContentChunk, RawFlowContentStart, RawFlowCloseBefore, Seat, end_after, Configuration, Local, Given, Text, Act, enter, exit, consume, write, Rows, row, is_white, one_more, raw_flow_after_rows, raw_flow_before_content_chunk_rows, raw_flow_content_before_rows, raw_flow_content_start_rows, blank, flow_byte, line_feed, count_becomes, count_grows, Mark, leaf_marks, white, Fence, IsInLine, LineEnds}
 use Rattle.mdconstructs_flow_read.proofs.Fenced.Rows.{into, line-goes, line-over, out, two}
 use Rattle.mdconstructs_flow_read.proofs.Fenced.Runs.{AllOf, feed-class, rows-rest, word-class}
 use Rattle.mdconstructs_flow_read.proofs.Fenced.Steps.{IsAt, Reads, at-class, at-rows, byte-then, called, reads-byte, reads-fed, reads-fed-same, reads-then, row_of, told_row}

@@ -1,23 +1,6 @@
 -- The first line of fenced code is read as its definition says.
-use Rattle.std.proofs.Common.{◌≡◌, inl, inr, ℕ, ◌+◌, ◌-◌, ◌≤◌, ◌==◌, not, nat_le, List, [], ◌∷◌, ◌++◌, Bool, true, false, cond, length, take, drop, refl, sym, ap, ◌∙◌, subst, arith, append_assoc, leb-true, take-add}
-use Rattle.std.specs.List.{prefix_len}
-use Rattle.std.proofs.lemmas.Bool.{eqb-true, and_parts}
-use Rattle.std.proofs.lemmas.List.{drop-drop, drop-map}
-use Rattle.markdown_base.specs.declared.configuration.Constructs.{Constructs}
+use Rattle.mdconstructs_flow_read.proofs.Prelude.{◌≡◌, inl, inr, ℕ, ◌+◌, ◌-◌, ◌≤◌, ◌==◌, not, nat_le, List, [], ◌∷◌, ◌++◌, Bool, true, false, cond, length, take, drop, refl, sym, ap, ◌∙◌, subst, arith, append_assoc, leb-true, take-add, prefix_len, eqb-true, and_parts, drop-drop, drop-map, Constructs, CodeFenced, CodeFencedFence, CodeFencedFenceInfo, CodeFencedFenceSequence, Data, Point, Retry, FlowBlankLineAfter, RawFlowAtNonLazyBreak, Seat, Configuration, Given, Text, is_white, bytes_of, Fence, indent, is_fence_of, run, unindented, fence, seen_kind, Mark, alone, chunk_span, fence_marks, leaf_marks, sequence_marks, span_marks, white, IsInLine, LineEnds}
 use Rattle.markdown_base.specs.declared.event.Content.TheVariants as content
-use Rattle.markdown_base.specs.declared.event.Name.TheVariants.{CodeFenced, CodeFencedFence, CodeFencedFenceInfo, CodeFencedFenceSequence, Data}
-use Rattle.markdown_base.specs.declared.event.Point.{Point}
-use Rattle.markdown_base.specs.declared.state.State.TheVariants.{Retry}
-use Rattle.markdown_base.specs.declared.state.TheConstants.Name.{FlowBlankLineAfter, RawFlowAtNonLazyBreak}
-use Rattle.markdown_base.specs.Virtual.{Seat}
-use Rattle.markdown_tokenizer.specs.Configuration.{Configuration}
-use Rattle.markdown_tokenizer.specs.Text.{Given, Text}
-use Rattle.mdconstructs_machines.specs.Breaks.{is_white}
-use Rattle.mdconstructs_flow_read.specs.LeafBlocks.{bytes_of}
-use Rattle.mdconstructs_flow_read.specs.LineKinds.{Fence, indent, is_fence_of, run, unindented}
-use Rattle.mdconstructs_flow_read.specs.SeenKinds.{fence, seen_kind}
-use Rattle.mdconstructs_flow_read.specs.LeafEvents.{Mark, alone, chunk_span, fence_marks, leaf_marks, sequence_marks, span_marks, white}
-use Rattle.mdconstructs_flow_read.specs.LooksFind.{IsInLine, LineEnds}
 use Rattle.mdconstructs_flow_read.proofs.Fenced.Info.{info_marks, meta_marks}
 use Rattle.mdconstructs_flow_read.proofs.Fenced.Lines.{some-of}
 use Rattle.mdconstructs_flow_read.proofs.Fenced.Opening.{IsInfo, info_from, opening-reads, start_of}

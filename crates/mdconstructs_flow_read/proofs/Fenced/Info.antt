@@ -1,32 +1,12 @@
 -- The info string of an opening fence is read: its first word, and the others.
-use Rattle.std.proofs.Common.{◌≡◌, ◌==◌, List, [], ◌∷◌, ◌++◌, true, false, cond, refl, sym, ap, ◌∙◌, subst, append_assoc, append-nil}
-use Rattle.markdown_base.proofs.Seats.{end-after-append}
+use Rattle.mdconstructs_flow_read.proofs.Prelude.{◌≡◌, ◌==◌, List, [], ◌∷◌, ◌++◌, true, false, cond, refl, sym, ap, ◌∙◌, subst, append_assoc, append-nil, end-after-append, Enter, CodeFencedFence, CodeFencedFenceInfo, CodeFencedFenceMeta, Data, SpaceOrTab, Point, Next, Retry, RawFlowInfoBefore, RawFlowInfo, RawFlowMetaBefore, RawFlowMeta, RawFlowAtNonLazyBreak, RawFlowInfoAfter, Seat, end_after, Configuration, Given, Text, enter, enter_link, exit, consume, Rows, row, is_white, event, raw_flow_info_before_rows, raw_flow_info_rows, raw_flow_meta_before_rows, blank, flow_byte, string_link, Mark, alone, chunk_span, span_marks, white, Fence, IsInLine, LineEnds, not-true}
 use Rattle.markdown_base.specs.declared.event.Content.TheVariants as content
-use Rattle.markdown_base.specs.declared.event.Kind.TheVariants.{Enter}
-use Rattle.markdown_base.specs.declared.event.Name.TheVariants.{CodeFencedFence, CodeFencedFenceInfo, CodeFencedFenceMeta, Data, SpaceOrTab}
-use Rattle.markdown_base.specs.declared.event.Point.{Point}
-use Rattle.markdown_base.specs.declared.state.State.TheVariants.{Next, Retry}
-use Rattle.markdown_base.specs.declared.state.TheConstants.Name.{RawFlowInfoBefore, RawFlowInfo, RawFlowMetaBefore, RawFlowMeta, RawFlowAtNonLazyBreak}
-use Rattle.mdconstructs_flow.specs.declared.names.TheConstants.{RawFlowInfoAfter}
-use Rattle.markdown_base.specs.Virtual.{Seat, end_after}
-use Rattle.markdown_tokenizer.specs.Configuration.{Configuration}
-use Rattle.markdown_tokenizer.specs.Text.{Given, Text}
-use Rattle.mdconstructs_tables.specs.Rows.{enter, enter_link, exit, consume, Rows, row}
-use Rattle.mdconstructs_machines.specs.Breaks.{is_white}
-use Rattle.mdconstructs_machines.specs.Spans.{event}
-use Rattle.mdconstructs_flow.specs.CodeFenced.{raw_flow_info_before_rows, raw_flow_info_rows, raw_flow_meta_before_rows}
-use Rattle.mdconstructs_flow.specs.FlowBytes.{blank, flow_byte}
-use Rattle.mdconstructs_flow.specs.FlowWrites.{string_link}
-use Rattle.mdconstructs_flow_read.specs.LeafEvents.{Mark, alone, chunk_span, span_marks, white}
-use Rattle.mdconstructs_flow_read.specs.LineKinds.{Fence}
-use Rattle.mdconstructs_flow_read.specs.LooksFind.{IsInLine, LineEnds}
 use Rattle.mdconstructs_flow_read.proofs.Fenced.Rows.{at-assoc, into, line-goes, line-over, out, three, two, white-goes}
 use Rattle.mdconstructs_flow_read.proofs.Fenced.Runs.{AllOf, Stops, rows-rest, run-reads, word-class}
 use Rattle.mdconstructs_flow_read.proofs.Fenced.Steps.{IsAt, Reads, at-class, at-rows, reads-byte, reads-fed, reads-none, reads-then}
 use Rattle.mdconstructs_flow_read.proofs.Lines.RowReads.{white-is-blank}
 use Rattle.mdconstructs_flow_read.proofs.Looks.ByteClasses.{no-line-feed}
 use Rattle.mdconstructs_flow_read.proofs.Lines.Fronts.{is_dark}
-use Rattle.std.proofs.lemmas.Bool.{not-true}
 
 -- a byte of the first word
 

@@ -1,19 +1,5 @@
 -- Lines of fenced code are read as their definitions say.
-use Rattle.std.proofs.Common.{◌≡◌, ℕ, zero, suc, ◌+◌, ◌-◌, ◌^◌, ◌≤◌, ◌<◌, ◌==◌, ◌&&◌, min, not, nat_le, List, [], ◌∷◌, ◌++◌, Bool, true, false, cond, length, take, drop, refl, sym, ap, ◌∙◌, subst, arith, leb-true}
-use Rattle.std.proofs.lemmas.List.{drop-map}
-use Rattle.markdown_base.specs.declared.event.Name.TheVariants.{CodeFenced, CodeFencedFence, CodeFencedFenceSequence, CodeFlowChunk}
-use Rattle.markdown_base.specs.declared.event.Point.{Point}
-use Rattle.markdown_base.specs.declared.state.State.TheVariants.{Retry}
-use Rattle.markdown_base.specs.declared.state.TheConstants.Name.{FlowAfter, RawFlowAtNonLazyBreak, RawFlowContentStart}
-use Rattle.mdconstructs_flow.specs.declared.names.TheConstants.{RawFlowCloseBefore}
-use Rattle.markdown_base.specs.Virtual.{Seat, end_after}
-use Rattle.markdown_tokenizer.specs.Configuration.{Configuration}
-use Rattle.markdown_tokenizer.specs.Text.{Given, Text}
-use Rattle.mdconstructs_machines.specs.Breaks.{is_white}
-use Rattle.mdconstructs_flow_read.specs.LeafBlocks.{bytes_of}
-use Rattle.mdconstructs_flow_read.specs.LeafEvents.{Mark, code_marks, leaf_marks, sequence_marks, span_marks, white}
-use Rattle.mdconstructs_flow_read.specs.LineKinds.{Fence, closes, indent, is_blank_line, is_far, run, unindented}
-use Rattle.mdconstructs_flow_read.specs.LooksFind.{IsInLine, LineEnds}
+use Rattle.mdconstructs_flow_read.proofs.Prelude.{◌≡◌, ℕ, zero, suc, ◌+◌, ◌-◌, ◌^◌, ◌≤◌, ◌<◌, ◌==◌, ◌&&◌, min, not, nat_le, List, [], ◌∷◌, ◌++◌, Bool, true, false, cond, length, take, drop, refl, sym, ap, ◌∙◌, subst, arith, leb-true, drop-map, CodeFenced, CodeFencedFence, CodeFencedFenceSequence, CodeFlowChunk, Point, Retry, FlowAfter, RawFlowAtNonLazyBreak, RawFlowContentStart, RawFlowCloseBefore, Seat, end_after, Configuration, Given, Text, is_white, bytes_of, Mark, code_marks, leaf_marks, sequence_marks, span_marks, white, Fence, closes, indent, is_blank_line, is_far, run, unindented, IsInLine, LineEnds, and_parts}
 use Rattle.mdconstructs_flow_read.proofs.Fenced.Closing.{closing-reads, closing_line}
 use Rattle.mdconstructs_flow_read.proofs.Fenced.Code.{IsCode, code-reads, full, none, other}
 use Rattle.mdconstructs_flow_read.proofs.Fenced.Looks.{indent-grows}
@@ -22,7 +8,6 @@ use Rattle.mdconstructs_flow_read.proofs.Fenced.Rows.{out}
 use Rattle.mdconstructs_flow_read.proofs.Fenced.Runs.{AllOf, IsMark, back-in-line, front-all}
 use Rattle.mdconstructs_flow_read.proofs.Fenced.Steps.{IsAt, Reads}
 use Rattle.mdconstructs_flow_read.proofs.Lines.Fronts.{back, drop-back, front, front-back, length-front}
-use Rattle.std.proofs.lemmas.Bool.{and_parts}
 
 -- ---- a line of code: columns of white space, so many at most, and the rest
 abbrev columns : ℕ → List Seat → List Seat

@@ -1,29 +1,5 @@
 -- The look at the next line of fenced code finds whether it is the closing fence.
-use Rattle.std.proofs.Common.{◌≡◌, ◌⊎◌, inl, inr, ℕ, suc, ◌+◌, ◌-◌, ◌^◌, ◌<◌, ◌≤◌, ◌==◌, ◌&&◌, ◌||◌, not, nat_le, nat_lt, List, [], ◌∷◌, ◌++◌, Bool, true, false, cond, Option, Some, length, refl, sym, ap, ◌∙◌, subst, arith, drop, le-leb, leb-true, ltb-true, ltb-false}
-use Rattle.std.proofs.lemmas.Bool.{eqb-true}
-use Rattle.markdown_base.proofs.Common.{drop-next}
-use Rattle.markdown_base.specs.declared.event.Event.{Event}
-use Rattle.markdown_base.specs.declared.event.Name.{Name as EventName}
-use Rattle.markdown_base.specs.declared.state.Name.{Name}
-use Rattle.markdown_base.specs.declared.state.State.TheVariants.{Next, Ok, Nok}
-use Rattle.markdown_base.specs.declared.state.TheConstants.Name.{RawFlowCloseStart, RawFlowBeforeSequenceClose, RawFlowSequenceClose, RawFlowAfterSequenceClose}
-use Rattle.markdown_base.specs.Virtual.{Seat}
-use Rattle.markdown_tokenizer.specs.Configuration.{Configuration, Local}
-use Rattle.markdown_tokenizer.specs.Sight.{Sight, byte_of, sight}
-use Rattle.markdown_tokenizer.specs.Text.{Given, Text}
-use Rattle.mdconstructs_tables.proofs.Looks.Left.{at-front}
-use Rattle.mdconstructs_tables.proofs.Looks.Tests.{told, told_by}
-use Rattle.mdconstructs_tables.specs.Cases.{rows_in}
-use Rattle.mdconstructs_tables.specs.Looks.{Look, scan, shows, unfed_look}
-use Rattle.mdconstructs_tables.specs.Rows.{consume, write, Rows, row, when, picked}
-use Rattle.mdconstructs_machines.specs.Breaks.{is_white, one_more}
-use Rattle.mdconstructs_flow.specs.CodeFenced.{raw_flow_close_start_rows, raw_flow_before_sequence_close_rows, raw_flow_sequence_close_rows, raw_flow_after_sequence_close_rows}
-use Rattle.mdconstructs_flow.specs.FlowBytes.{flow_byte, is_line_feed, is_blank, is_fence}
-use Rattle.mdconstructs_flow.specs.FlowTable.{flow, unchanged}
-use Rattle.mdconstructs_flow.specs.FlowWrites.{is_byte, at_mark, count_becomes, count_grows, is_as_long, may_be_indented}
-use Rattle.mdconstructs_flow_read.specs.LeafBlocks.{bytes_of}
-use Rattle.mdconstructs_flow_read.specs.LineKinds.{Fence, closes, indent, is_blank_line, run, unindented}
-use Rattle.mdconstructs_flow_read.specs.LooksFind.{IsInLine, LineEnds}
+use Rattle.mdconstructs_flow_read.proofs.Prelude.{◌≡◌, ◌⊎◌, inl, inr, ℕ, suc, ◌+◌, ◌-◌, ◌^◌, ◌<◌, ◌≤◌, ◌==◌, ◌&&◌, ◌||◌, not, nat_le, nat_lt, List, [], ◌∷◌, ◌++◌, Bool, true, false, cond, Option, Some, length, refl, sym, ap, ◌∙◌, subst, arith, drop, le-leb, leb-true, ltb-true, ltb-false, eqb-true, drop-next, Event, EventName, Name, Next, Ok, Nok, RawFlowCloseStart, RawFlowBeforeSequenceClose, RawFlowSequenceClose, RawFlowAfterSequenceClose, Seat, Configuration, Local, Sight, byte_of, sight, Given, Text, at-front, told, told_by, rows_in, Look, scan, shows, unfed_look, consume, write, Rows, row, when, picked, is_white, one_more, raw_flow_close_start_rows, raw_flow_before_sequence_close_rows, raw_flow_sequence_close_rows, raw_flow_after_sequence_close_rows, flow_byte, is_line_feed, is_blank, is_fence, flow, unchanged, is_byte, at_mark, count_becomes, count_grows, is_as_long, may_be_indented, bytes_of, Fence, closes, indent, is_blank_line, run, unindented, IsInLine, LineEnds}
 use Rattle.mdconstructs_flow_read.proofs.Fenced.Runs.{IsMark, feed-class, mark-class, word-class}
 use Rattle.mdconstructs_flow_read.proofs.Fenced.Steps.{IsOfFence, Keeps}
 use Rattle.mdconstructs_flow_read.proofs.Lines.RowReads.{white-is-blank}

@@ -1,23 +1,5 @@
 -- The opening fence is read.
-use Rattle.std.proofs.Common.{◌≡◌, ◌⊎◌, inl, inr, ⊎_elim, ℕ, ◌==◌, List, [], ◌∷◌, ◌++◌, Bool, true, false, cond, refl, sym, ap, ◌∙◌, subst, append_assoc, append-nil}
-use Rattle.std.proofs.lemmas.Bool.{eqb-true}
-use Rattle.markdown_base.proofs.Seats.{end-after-append}
-use Rattle.markdown_base.specs.declared.event.Name.TheVariants.{CodeFenced, CodeFencedFence, CodeFencedFenceSequence, SpaceOrTab}
-use Rattle.markdown_base.specs.declared.event.Point.{Point}
-use Rattle.markdown_base.specs.declared.state.State.TheVariants.{Next, Retry}
-use Rattle.markdown_base.specs.declared.state.TheConstants.Name.{FlowBlankLineAfter, RawFlowStart, RawFlowSequenceOpen, RawFlowInfoBefore, RawFlowBeforeSequenceOpen, RawFlowAtNonLazyBreak}
-use Rattle.markdown_base.specs.Virtual.{Seat, end_after}
-use Rattle.markdown_tokenizer.specs.Configuration.{Configuration}
-use Rattle.markdown_tokenizer.specs.Text.{Given, Text}
-use Rattle.mdconstructs_tables.specs.Rows.{Act, enter, exit, consume, Rows, row, when}
-use Rattle.mdconstructs_machines.specs.Breaks.{is_white}
-use Rattle.mdconstructs_flow.specs.CodeFenced.{raw_flow_info_before_rows, raw_flow_sequence_open_rows, raw_flow_start_rows}
-use Rattle.mdconstructs_flow.specs.Flow.{flow_blank_line_after_rows}
-use Rattle.mdconstructs_flow.specs.FlowBytes.{blank, tick, tilde, flow_byte, is_fence}
-use Rattle.mdconstructs_flow.specs.FlowWrites.{at_mark}
-use Rattle.mdconstructs_flow_read.specs.LeafEvents.{Mark, leaf_marks, span_marks, white}
-use Rattle.mdconstructs_flow_read.specs.LineKinds.{Fence}
-use Rattle.mdconstructs_flow_read.specs.LooksFind.{IsInLine, LineEnds}
+use Rattle.mdconstructs_flow_read.proofs.Prelude.{◌≡◌, ◌⊎◌, inl, inr, ⊎_elim, ℕ, ◌==◌, List, [], ◌∷◌, ◌++◌, Bool, true, false, cond, refl, sym, ap, ◌∙◌, subst, append_assoc, append-nil, eqb-true, end-after-append, CodeFenced, CodeFencedFence, CodeFencedFenceSequence, SpaceOrTab, Point, Next, Retry, FlowBlankLineAfter, RawFlowStart, RawFlowSequenceOpen, RawFlowInfoBefore, RawFlowBeforeSequenceOpen, RawFlowAtNonLazyBreak, Seat, end_after, Configuration, Given, Text, Act, enter, exit, consume, Rows, row, when, is_white, raw_flow_info_before_rows, raw_flow_sequence_open_rows, raw_flow_start_rows, flow_blank_line_after_rows, blank, tick, tilde, flow_byte, is_fence, at_mark, Mark, leaf_marks, span_marks, white, Fence, IsInLine, LineEnds}
 use Rattle.mdconstructs_flow_read.proofs.Fenced.Info.{info-reads, info_marks}
 use Rattle.mdconstructs_flow_read.proofs.Fenced.Rows.{at-assoc, into, out, run-over, three, two, white-begins}
 use Rattle.mdconstructs_flow_read.proofs.Fenced.Runs.{AllOf, IsMark, Stops, mark-class, run-reads, run-then}

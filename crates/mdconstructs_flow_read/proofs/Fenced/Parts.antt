@@ -1,14 +1,6 @@
 -- The parts of a line: white space, marks, and what is behind them.
-use Rattle.std.proofs.Common.{◌≡◌, ℕ, ◌+◌, ◌-◌, ◌==◌, ◌&&◌, List, [], ◌∷◌, ◌++◌, Bool, true, false, cond, take, drop, refl, sym, ap, ◌∙◌, arith}
-use Rattle.std.specs.List.{prefix_len}
-use Rattle.std.proofs.lemmas.List.{drop-drop, drop-map}
+use Rattle.mdconstructs_flow_read.proofs.Prelude.{◌≡◌, ℕ, ◌+◌, ◌-◌, ◌==◌, ◌&&◌, List, [], ◌∷◌, ◌++◌, Bool, true, false, cond, take, drop, refl, sym, ap, ◌∙◌, arith, prefix_len, drop-drop, drop-map, Seat, is_white, bytes_of, Mark, leaf_marks, sequence_marks, white, indent, is_blank_line, run, unindented, IsInLine}
 use Rattle.markdown_base.specs.declared.event.Name.{Name}
-use Rattle.markdown_base.specs.Virtual.{Seat}
-use Rattle.mdconstructs_machines.specs.Breaks.{is_white}
-use Rattle.mdconstructs_flow_read.specs.LeafBlocks.{bytes_of}
-use Rattle.mdconstructs_flow_read.specs.LeafEvents.{Mark, leaf_marks, sequence_marks, white}
-use Rattle.mdconstructs_flow_read.specs.LineKinds.{indent, is_blank_line, run, unindented}
-use Rattle.mdconstructs_flow_read.specs.LooksFind.{IsInLine}
 use Rattle.mdconstructs_flow_read.proofs.Fenced.Runs.{AllOf}
 use Rattle.mdconstructs_flow_read.proofs.Lines.Fronts.{back, drop-back, front, take-front, Fails}
 

@@ -1,26 +1,5 @@
 -- The rows of fenced code, call by call.
-use Rattle.std.proofs.Common.{◌≡◌, ℕ, ◌==◌, List, [], ◌∷◌, ◌++◌, Bool, true, false, cond, Some, None, refl, sym, ap, ◌∙◌, subst, length, append_assoc, append-nil}
-use Rattle.std.proofs.lemmas.Bool.{eqb-true}
-use Rattle.markdown_base.specs.declared.event.Event.{Event}
-use Rattle.markdown_base.specs.declared.event.Kind.TheVariants.{Enter, Exit}
-use Rattle.markdown_base.specs.declared.event.Name.{Name as EventName}
-use Rattle.markdown_base.specs.declared.event.Name.TheVariants.{SpaceOrTab}
-use Rattle.markdown_base.specs.declared.event.Point.{Point}
-use Rattle.markdown_base.specs.declared.state.Name.{Name}
-use Rattle.markdown_base.specs.declared.state.State.{State}
-use Rattle.markdown_base.specs.declared.state.State.TheVariants.{Next, Retry}
-use Rattle.markdown_base.specs.Virtual.{Seat, end_after}
-use Rattle.markdown_tokenizer.specs.Configuration.{Configuration}
-use Rattle.markdown_tokenizer.specs.Text.{Given, Text}
-use Rattle.mdconstructs_tables.specs.Cases.{at, rows_in}
-use Rattle.mdconstructs_tables.specs.Rows.{Act, enter, exit, consume, Rows, row}
-use Rattle.mdconstructs_tables.specs.Stretches.{reads_byte}
-use Rattle.mdconstructs_machines.specs.Breaks.{is_white}
-use Rattle.mdconstructs_machines.specs.Spans.{event}
-use Rattle.mdconstructs_flow.specs.FlowBytes.{Cased, line_feed, blank, is_blank, is_line_feed}
-use Rattle.mdconstructs_flow_read.specs.LeafEvents.{Mark, linked_from, white}
-use Rattle.mdconstructs_flow_read.specs.LineKinds.{Fence}
-use Rattle.mdconstructs_flow_read.specs.LooksFind.{IsInLine, LineEnds}
+use Rattle.mdconstructs_flow_read.proofs.Prelude.{◌≡◌, ℕ, ◌==◌, List, [], ◌∷◌, ◌++◌, Bool, true, false, cond, Some, None, refl, sym, ap, ◌∙◌, subst, length, append_assoc, append-nil, eqb-true, Event, Enter, Exit, EventName, SpaceOrTab, Point, Name, State, Next, Retry, Seat, end_after, Configuration, Given, Text, at, rows_in, Act, enter, exit, consume, Rows, row, reads_byte, is_white, event, Cased, line_feed, blank, is_blank, is_line_feed, Mark, linked_from, white, Fence, IsInLine, LineEnds}
 use Rattle.mdconstructs_flow_read.proofs.Fenced.Runs.{AllOf, Stops, at_end, at_feed, at_other, feed-class, line-stops, run-then, word-class}
 use Rattle.mdconstructs_flow_read.proofs.Fenced.Steps.{HasRows, IsAt, Keeps, Reads, at-class, at-rows, behind_acts, called, reads-byte, reads-fed, reads-none, reads-then, row_of, told_row}
 use Rattle.mdconstructs_flow_read.proofs.Lines.RowReads.{white-is-blank}

@@ -1,20 +1,5 @@
 -- Runs of bytes in fenced code: each is read in one state, and what comes behind it ends it.
-use Rattle.std.proofs.Common.{◌≡◌, ◌⊎◌, inl, inr, ℕ, ◌==◌, List, [], ◌∷◌, ◌++◌, Bool, true, false, cond, refl, sym, ap, ◌∙◌, subst, append-nil}
-use Rattle.markdown_base.specs.declared.event.Point.{Point}
-use Rattle.markdown_base.specs.declared.state.Name.{Name}
-use Rattle.markdown_base.specs.declared.state.State.{State}
-use Rattle.markdown_base.specs.declared.state.State.TheVariants.{Next, Retry}
-use Rattle.markdown_base.specs.Virtual.{Seat, end_after}
-use Rattle.markdown_tokenizer.specs.Configuration.{Configuration}
-use Rattle.markdown_tokenizer.specs.Text.{Given, Text}
-use Rattle.mdconstructs_tables.specs.Cases.{Case, rows_in}
-use Rattle.mdconstructs_tables.specs.Rows.{Rows}
-use Rattle.mdconstructs_machines.specs.Breaks.{is_white}
-use Rattle.mdconstructs_flow.specs.FlowBytes.{FlowByte, line_feed, blank, flow_byte, word_byte, is_line_feed, is_blank, is_fence}
-use Rattle.mdconstructs_flow.specs.Laws.Measures.{word-is-word, word-no-feed}
-use Rattle.mdconstructs_flow_read.specs.LeafEvents.{Mark}
-use Rattle.mdconstructs_flow_read.specs.LineKinds.{Fence}
-use Rattle.mdconstructs_flow_read.specs.LooksFind.{IsInLine, LineEnds}
+use Rattle.mdconstructs_flow_read.proofs.Prelude.{◌≡◌, ◌⊎◌, inl, inr, ℕ, ◌==◌, List, [], ◌∷◌, ◌++◌, Bool, true, false, cond, refl, sym, ap, ◌∙◌, subst, append-nil, Point, Name, State, Next, Retry, Seat, end_after, Configuration, Given, Text, Case, rows_in, Rows, is_white, FlowByte, line_feed, blank, flow_byte, word_byte, is_line_feed, is_blank, is_fence, word-is-word, word-no-feed, Mark, Fence, IsInLine, LineEnds}
 use Rattle.mdconstructs_flow_read.proofs.Fenced.Steps.{IsAt, Reads, reads-fed, reads-nothing, reads-then}
 use Rattle.mdconstructs_flow_read.proofs.Lines.Fronts.{front, back}
 

@@ -1,27 +1,5 @@
 -- How fenced code is read, call by call: readings that follow one another, and a call by its row.
-use Rattle.std.proofs.Common.{◌≡◌, ℕ, ◌+◌, List, [], ◌∷◌, ◌++◌, Bool, true, false, Option, Some, None, length, refl, sym, ap, ◌∙◌, subst, arith, append-nil, drop, length-append}
-use Rattle.markdown_base.specs.declared.event.Point.{Point}
-use Rattle.markdown_base.specs.declared.state.Name.{Name}
-use Rattle.markdown_base.specs.declared.state.State.{State}
-use Rattle.markdown_base.specs.declared.state.State.TheVariants.{Next, Retry}
-use Rattle.markdown_base.specs.Virtual.{Seat, end_after}
-use Rattle.markdown_tokenizer.specs.declared.waiting.Waits.TheVariants.{Nothing}
-use Rattle.markdown_tokenizer.specs.Configuration.{Configuration, Choice, Local}
-use Rattle.markdown_tokenizer.specs.Reading.{Reading, EndsIn}
-use Rattle.markdown_tokenizer.specs.Sight.{Sight, byte_of, end_place, seat_before}
-use Rattle.markdown_tokenizer.specs.Text.{Given, Text}
-use Rattle.markdown_tokenizer.proofs.Readings.Bounds.{fed-ends}
-use Rattle.mdconstructs_tables.proofs.Looks.Scans.{feeds}
-use Rattle.mdconstructs_tables.proofs.Looks.Stretches.{stretches-are-read}
-use Rattle.mdconstructs_tables.specs.Cases.{rows_in}
-use Rattle.mdconstructs_tables.specs.Looks.{waits_at, shows}
-use Rattle.mdconstructs_tables.specs.Rows.{Act, Row, Rows, class_of, does, picked, table_step}
-use Rattle.mdconstructs_tables.specs.Stretches.{sight_before, reads_byte, Halt, over, row_comes_to, fed_before, ahead, halt, stretch, stretch_from}
-use Rattle.mdconstructs_flow.specs.FlowBytes.{Cased, FlowByte, cased, flow_byte}
-use Rattle.mdconstructs_flow.specs.FlowTable.{flow}
-use Rattle.mdconstructs_flow_read.specs.BlocksRead.{waits_then}
-use Rattle.mdconstructs_flow_read.specs.LeafEvents.{Mark, linked_from}
-use Rattle.mdconstructs_flow_read.specs.LineKinds.{Fence}
+use Rattle.mdconstructs_flow_read.proofs.Prelude.{◌≡◌, ℕ, ◌+◌, List, [], ◌∷◌, ◌++◌, Bool, true, false, Option, Some, None, length, refl, sym, ap, ◌∙◌, subst, arith, append-nil, drop, length-append, Point, Name, State, Next, Retry, Seat, end_after, Nothing, Configuration, Choice, Local, Reading, EndsIn, Sight, byte_of, end_place, seat_before, Given, Text, fed-ends, feeds, stretches-are-read, rows_in, waits_at, shows, Act, Row, Rows, class_of, does, picked, table_step, sight_before, reads_byte, Halt, over, row_comes_to, fed_before, ahead, halt, stretch, stretch_from, Cased, FlowByte, cased, flow_byte, flow, waits_then, Mark, linked_from, Fence}
 use Rattle.mdconstructs_flow_read.proofs.Marks.MarkLists.{marked-on}
 use Rattle.mdconstructs_flow_read.proofs.Lines.LineReads.{behind-line}
 use Rattle.mdconstructs_flow_read.proofs.Lines.RowReads.{counted}

@@ -1,26 +1,5 @@
 -- Fenced code is read as its definition says.
-use Rattle.std.proofs.Common.{◌≡◌, ⊎_elim, ℕ, ◌-◌, ◌^◌, ◌≤◌, ◌<◌, ◌==◌, not, List, [], ◌∷◌, ◌++◌, Bool, true, false, length, take, drop, refl, sym, ap, ◌∙◌, subst, arith, append_assoc, append-nil, length-append, length-drop}
-use Rattle.std.proofs.lemmas.List.{length-map}
-use Rattle.std.proofs.lemmas.List.Sums.{prefix_len-le-length}
-use Rattle.markdown_base.proofs.Seats.{end-after-append}
-use Rattle.markdown_base.specs.declared.event.Name.{Name as EventName}
-use Rattle.markdown_base.specs.declared.event.Name.TheVariants.{CodeFenced, LineEnding}
-use Rattle.markdown_base.specs.declared.event.Point.{Point}
-use Rattle.markdown_base.specs.declared.state.Name.{Name}
-use Rattle.markdown_base.specs.declared.state.State.{State}
-use Rattle.markdown_base.specs.declared.state.State.TheVariants.{Retry}
-use Rattle.markdown_base.specs.declared.state.TheConstants.Name.{FlowAfter, FlowBlankLineAfter, RawFlowAtNonLazyBreak}
-use Rattle.markdown_base.specs.Virtual.{Seat, end_after}
-use Rattle.markdown_tokenizer.specs.Configuration.{Configuration}
-use Rattle.markdown_tokenizer.specs.Sight.{end_place}
-use Rattle.markdown_tokenizer.specs.Text.{Given, Text}
-use Rattle.mdconstructs_tables.specs.Looks.{waits_at}
-use Rattle.mdconstructs_machines.specs.Breaks.{is_white}
-use Rattle.mdconstructs_machines.specs.LineEvents.{all_of, ending_of, line_text}
-use Rattle.mdconstructs_flow_read.specs.BlocksRead.{AreLines, FencedCodeIsRead, IsBlockRead, IsReadAs, KeepsEdits, behind_block, block_seats, last_ending}
-use Rattle.mdconstructs_flow_read.specs.LeafBlocks.{Line, bytes_of, has_line, lines_through, text_of}
-use Rattle.mdconstructs_flow_read.specs.LeafEvents.{Mark, body, code_fenced_marks, fence_marks, fenced_marks, leaf_marks, line_end, span_marks}
-use Rattle.mdconstructs_flow_read.specs.LineKinds.{Fence, closes}
+use Rattle.mdconstructs_flow_read.proofs.Prelude.{◌≡◌, ⊎_elim, ℕ, ◌-◌, ◌^◌, ◌≤◌, ◌<◌, ◌==◌, not, List, [], ◌∷◌, ◌++◌, Bool, true, false, length, take, drop, refl, sym, ap, ◌∙◌, subst, arith, append_assoc, append-nil, length-append, length-drop, length-map, prefix_len-le-length, end-after-append, EventName, CodeFenced, LineEnding, Point, Name, State, Retry, FlowAfter, FlowBlankLineAfter, RawFlowAtNonLazyBreak, Seat, end_after, Configuration, end_place, Given, Text, waits_at, is_white, all_of, ending_of, line_text, AreLines, FencedCodeIsRead, IsBlockRead, IsReadAs, KeepsEdits, behind_block, block_seats, last_ending, Line, bytes_of, has_line, lines_through, text_of, Mark, body, code_fenced_marks, fence_marks, fenced_marks, leaf_marks, line_end, span_marks, Fence, closes}
 use Rattle.mdconstructs_flow_read.proofs.Fenced.Blocks.{AreReadBehind, behind-reads, joined-behind, joined-seats, line-ends, text-ends}
 use Rattle.mdconstructs_flow_read.proofs.Fenced.Code.{ending_marks}
 use Rattle.mdconstructs_flow_read.proofs.Fenced.First.{IsFence, first_point, kind-is-fence, opening-line}

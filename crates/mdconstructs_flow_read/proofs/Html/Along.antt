@@ -1,21 +1,5 @@
 -- Along a line of HTML: its bytes lead from place to place, and what comes behind them is read from there.
-use Rattle.std.proofs.Common.{◌≡◌, ℕ, suc, ◌+◌, List, [], ◌∷◌, ◌++◌, Option, Some, refl, sym, ap, ◌∙◌, subst, arith, length, append_assoc, length-append}
-use Rattle.markdown_base.specs.declared.event.Event.{Event}
-use Rattle.markdown_base.specs.declared.event.Point.{Point}
-use Rattle.markdown_base.specs.declared.state.Name.{Name}
-use Rattle.markdown_base.specs.declared.state.State.{State}
-use Rattle.markdown_base.specs.declared.state.State.TheVariants.{Next, Retry}
-use Rattle.markdown_base.specs.Virtual.{Seat, end_after}
-use Rattle.markdown_tokenizer.specs.declared.waiting.Waits.TheVariants.{Nothing}
-use Rattle.markdown_tokenizer.specs.Reading.{Reading}
-use Rattle.markdown_tokenizer.specs.Text.{Given}
-use Rattle.mdconstructs_tables.specs.Looks.{waits_at}
-use Rattle.mdconstructs_tables.specs.Stretches.{Halt, ahead, fed_before, halt, one_call_more, sight_before, stretch, to_come}
-use Rattle.mdconstructs_flow.specs.FlowBytes.{flow_byte}
-use Rattle.mdconstructs_flow.specs.FlowTable.{flow}
-use Rattle.mdconstructs_flow_read.specs.BlocksRead.{waits_then}
-use Rattle.mdconstructs_flow_read.specs.LeafBlocks.{bytes_of}
-use Rattle.mdconstructs_flow_read.specs.LooksFind.{IsInLine}
+use Rattle.mdconstructs_flow_read.proofs.Prelude.{◌≡◌, ℕ, suc, ◌+◌, List, [], ◌∷◌, ◌++◌, Option, Some, refl, sym, ap, ◌∙◌, subst, arith, length, append_assoc, length-append, Event, Point, Name, State, Next, Retry, Seat, end_after, Nothing, Reading, Given, waits_at, Halt, ahead, fed_before, halt, one_call_more, sight_before, stretch, to_come, flow_byte, flow, waits_then, bytes_of, IsInLine}
 use Rattle.mdconstructs_flow_read.proofs.Looks.ByteClasses.{feed-is}
 use Rattle.mdconstructs_flow_read.proofs.Html.Halts.{Begins, Halts, comes}
 use Rattle.mdconstructs_flow_read.proofs.Html.Places.{Place, inside, from_inside, moved, through}

@@ -1,24 +1,5 @@
 -- HTML is read line by line, from its first line on.
-use Rattle.std.proofs.Common.{◌≡◌, ℕ, suc, List, [], ◌∷◌, ◌++◌, Bool, true, false, cond, inl, inr, take, drop, refl, sym, ap, ◌∙◌, subst, nat_le, append_assoc, append-nil}
-use Rattle.markdown_base.specs.declared.event.Event.{Event}
-use Rattle.markdown_base.specs.declared.event.Kind.TheVariants.{Enter, Exit}
-use Rattle.markdown_base.specs.declared.event.Name.TheVariants.{HtmlFlow, HtmlFlowData, LineEnding}
-use Rattle.markdown_base.specs.declared.event.Point.{Point}
-use Rattle.markdown_base.specs.declared.state.Name.{Name}
-use Rattle.markdown_base.specs.declared.state.State.{State}
-use Rattle.markdown_base.specs.declared.state.State.TheVariants.{Next, Retry}
-use Rattle.markdown_base.specs.declared.state.TheConstants.Name.{FlowAfter, HtmlFlowContinuationBefore}
-use Rattle.markdown_base.specs.Virtual.{Seat, end_after}
-use Rattle.markdown_tokenizer.specs.Sight.{byte_of, seat_before}
-use Rattle.markdown_tokenizer.specs.Text.{Given, Text}
-use Rattle.mdconstructs_tables.specs.Stretches.{sight_before}
-use Rattle.mdconstructs_machines.specs.LineEvents.{all_of, ending_of, line_text}
-use Rattle.mdconstructs_machines.specs.Spans.{event}
-use Rattle.mdconstructs_flow.specs.FlowBytes.{flow_byte, is_blank, is_line_feed}
-use Rattle.mdconstructs_flow_read.specs.BlocksRead.{AreLines, IsReadAs, behind_block, block_seats, last_ending}
-use Rattle.mdconstructs_flow_read.specs.LeafBlocks.{Line, bytes_of, text_of}
-use Rattle.mdconstructs_flow_read.specs.LeafEvents.{Mark, body, leaf_marks, line_end, lines_marks}
-use Rattle.mdconstructs_flow_read.specs.LooksFind.{IsInLine}
+use Rattle.mdconstructs_flow_read.proofs.Prelude.{◌≡◌, ℕ, suc, List, [], ◌∷◌, ◌++◌, Bool, true, false, cond, inl, inr, take, drop, refl, sym, ap, ◌∙◌, subst, nat_le, append_assoc, append-nil, Event, Enter, Exit, HtmlFlow, HtmlFlowData, LineEnding, Point, Name, State, Next, Retry, FlowAfter, HtmlFlowContinuationBefore, Seat, end_after, byte_of, seat_before, Given, Text, sight_before, all_of, ending_of, line_text, event, flow_byte, is_blank, is_line_feed, AreLines, IsReadAs, behind_block, block_seats, last_ending, Line, bytes_of, text_of, Mark, body, leaf_marks, line_end, lines_marks, IsInLine, end-after-append}
 use Rattle.mdconstructs_flow_read.proofs.Html.Checks.{blank_ahead}
 use Rattle.mdconstructs_flow_read.proofs.Looks.ByteClasses.{feed-is}
 use Rattle.mdconstructs_flow_read.proofs.Html.Halts.{before-begins}
@@ -27,7 +8,6 @@ use Rattle.mdconstructs_flow_read.proofs.Html.Reads.{BeginsAt, bare-line-read, e
 use Rattle.mdconstructs_flow_read.proofs.Html.Steps.{Config, Kept, kept-on, kind_in}
 use Rattle.mdconstructs_flow_read.proofs.Lines.LineReads.{IsAt, reads-feeding, reads-on}
 use Rattle.mdconstructs_flow_read.proofs.Lines.Lines.{all-of-split, body-with-ending, cut-line, lines-behind, lines-taken, text-in-line}
-use Rattle.markdown_base.proofs.Seats.{end-after-append}
 
 -- lists of virtual bytes
 

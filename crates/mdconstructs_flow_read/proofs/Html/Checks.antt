@@ -1,27 +1,5 @@
 -- The look at the line behind a line of HTML of kinds 6 and 7: is it blank?
-use Rattle.std.proofs.Common.{◌≡◌, ℕ, suc, ◌+◌, List, [], ◌∷◌, Bool, true, false, cond, Option, Some, drop, refl, sym, ap, ◌∙◌, subst, nat_le}
-use Rattle.markdown_base.specs.declared.event.Event.{Event}
-use Rattle.markdown_base.specs.declared.event.Name.{Name as EventName}
-use Rattle.markdown_base.specs.declared.state.Name.{Name}
-use Rattle.markdown_base.specs.declared.state.State.{State}
-use Rattle.markdown_base.specs.declared.state.State.TheVariants.{Next, Nok, Ok, Retry}
-use Rattle.markdown_base.specs.declared.state.TheConstants.Name.{HtmlFlowBlankLineBefore, HtmlFlowContinuation, HtmlFlowContinuationAfter, HtmlFlowContinuationStart}
-use Rattle.mdconstructs_flow.specs.declared.names.TheConstants.{HtmlFlowBlankLineInside}
-use Rattle.markdown_base.specs.Virtual.{Seat}
-use Rattle.markdown_tokenizer.specs.declared.waiting.Waits.TheVariants.{Byte}
-use Rattle.markdown_tokenizer.specs.Calls.{check_at, with_local}
-use Rattle.markdown_tokenizer.specs.Configuration.{Local}
-use Rattle.markdown_tokenizer.specs.Sight.{byte_of, seat_before, sight}
-use Rattle.markdown_tokenizer.specs.Text.{Given, Text}
-use Rattle.mdconstructs_tables.proofs.Looks.Tests.{told}
-use Rattle.mdconstructs_tables.specs.Cases.{rows_in}
-use Rattle.mdconstructs_tables.specs.Looks.{Look, scan}
-use Rattle.mdconstructs_tables.specs.Rows.{Rows, consume, row, table_step}
-use Rattle.mdconstructs_flow.specs.FlowBytes.{FlowByte, flow_byte, is_blank, is_line_feed, line_feed}
-use Rattle.mdconstructs_flow.specs.FlowTable.{flow, unchanged}
-use Rattle.mdconstructs_flow.specs.HtmlFlow.{html_flow_blank_line_before_rows, html_flow_continuation, html_flow_continuation_rows}
-use Rattle.mdconstructs_flow_read.specs.BlocksRead.{IsReadAs}
-use Rattle.mdconstructs_flow_read.specs.LeafEvents.{Mark}
+use Rattle.mdconstructs_flow_read.proofs.Prelude.{◌≡◌, ℕ, suc, ◌+◌, List, [], ◌∷◌, Bool, true, false, cond, Option, Some, drop, refl, sym, ap, ◌∙◌, subst, nat_le, Event, EventName, Name, State, Next, Nok, Ok, Retry, HtmlFlowBlankLineBefore, HtmlFlowContinuation, HtmlFlowContinuationAfter, HtmlFlowContinuationStart, HtmlFlowBlankLineInside, Seat, Byte, check_at, with_local, Local, byte_of, seat_before, sight, Given, Text, told, rows_in, Look, scan, Rows, consume, row, table_step, FlowByte, flow_byte, is_blank, is_line_feed, line_feed, flow, unchanged, html_flow_blank_line_before_rows, html_flow_continuation, html_flow_continuation_rows, IsReadAs, Mark}
 use Rattle.mdconstructs_flow_read.proofs.Lines.Checks.{called-row, class-here, look_here, read-behind, step-checks-nok, step-checks-ok}
 use Rattle.mdconstructs_flow_read.proofs.Html.Steps.{Config, Kept, kept-on, kind_in}
 

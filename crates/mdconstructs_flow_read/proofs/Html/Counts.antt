@@ -1,14 +1,6 @@
 -- How many lines HTML has, as its definition says.
-use Rattle.std.proofs.Common.{◌≡◌, ℕ, suc, ◌+◌, ◌&&◌, List, [], ◌∷◌, ◌++◌, Bool, true, false, cond, not, refl, sym, ap, ◌∙◌, arith, nat_le, append_assoc}
-use Rattle.markdown_base.specs.Virtual.{Seat}
-use Rattle.mdconstructs_machines.specs.Breaks.{is_white}
-use Rattle.mdconstructs_machines.specs.LineEvents.{all_of, ending_of, line_text}
-use Rattle.mdconstructs_flow.specs.FlowBytes.{flow_byte, is_blank, is_line_feed}
-use Rattle.mdconstructs_flow_read.specs.BlocksRead.{AreLines}
+use Rattle.mdconstructs_flow_read.proofs.Prelude.{◌≡◌, ℕ, suc, ◌+◌, ◌&&◌, List, [], ◌∷◌, ◌++◌, Bool, true, false, cond, not, refl, sym, ap, ◌∙◌, arith, nat_le, append_assoc, Seat, is_white, all_of, ending_of, line_text, flow_byte, is_blank, is_line_feed, AreLines, Line, bytes_of, has_line, lines_through, lines_until, text_of, is_blank_line, IsInLine, LineEnds}
 use Rattle.mdconstructs_flow_read.proofs.Tags.HtmlNumbers.{ends_html}
-use Rattle.mdconstructs_flow_read.specs.LeafBlocks.{Line, bytes_of, has_line, lines_through, lines_until, text_of}
-use Rattle.mdconstructs_flow_read.specs.LineKinds.{is_blank_line}
-use Rattle.mdconstructs_flow_read.specs.LooksFind.{IsInLine, LineEnds}
 use Rattle.mdconstructs_flow_read.proofs.Html.Blocks.{count, is_last, stays_open}
 use Rattle.mdconstructs_flow_read.proofs.Html.Checks.{blank_ahead}
 use Rattle.mdconstructs_flow_read.proofs.Looks.ByteClasses.{blank-is, feed-is}

@@ -1,12 +1,6 @@
 -- HTML of kinds 1 to 5 is behind its end exactly if its line holds it; and what the kind of a line says of its bytes.
-use Rattle.std.proofs.Common.{◌≡◌, ℕ, zero, suc, ◌==◌, List, [], ◌∷◌, Bool, true, false, cond, nat_le, not, arith, refl, sym, ◌∙◌, ap}
-use Rattle.std.proofs.lemmas.Bool.{eqb-true}
-use Rattle.std.proofs.lemmas.Bool.Decides.{nat_tests}
-use Rattle.markdown_base.specs.declared.configuration.Constructs.{Constructs}
-use Rattle.mdconstructs_flow_read.specs.HtmlLines.{first_passes}
+use Rattle.mdconstructs_flow_read.proofs.Prelude.{◌≡◌, ℕ, zero, suc, ◌==◌, List, [], ◌∷◌, Bool, true, false, cond, nat_le, not, arith, refl, sym, ◌∙◌, ap, eqb-true, nat_tests, Constructs, first_passes, is_blank_line, unindented, html, seen_kind}
 use Rattle.mdconstructs_flow_read.proofs.Tags.HtmlNumbers.{ends_html, html_at, number-is}
-use Rattle.mdconstructs_flow_read.specs.LineKinds.{is_blank_line, unindented}
-use Rattle.mdconstructs_flow_read.specs.SeenKinds.{html, seen_kind}
 use Rattle.mdconstructs_flow_read.proofs.Html.Places.{bracket-ends, dash-ends, greater-ends, inside, is_closed, question-ends, through}
 use Rattle.mdconstructs_flow_read.proofs.Html.Raw.{raw-ends}
 use Rattle.mdconstructs_flow_read.proofs.Lines.KindsOfLines.{says}

@@ -1,26 +1,6 @@
 -- The first line of HTML: white space, which is data of its own, and the rest; and so HTML is read.
-use Rattle.std.proofs.Common.{◌≡◌, ℕ, List, [], ◌∷◌, ◌++◌, Bool, true, false, cond, inl, inr, length, take, refl, sym, ap, ◌∙◌, subst, nat_le, append_assoc, append-nil}
-use Rattle.std.specs.List.{AllByRecursion}
-use Rattle.markdown_base.specs.declared.event.Event.{Event}
-use Rattle.markdown_base.specs.declared.event.Kind.TheVariants.{Enter}
-use Rattle.markdown_base.specs.declared.event.Name.TheVariants.{HtmlFlow, HtmlFlowData}
-use Rattle.markdown_base.specs.declared.event.Point.{Point}
-use Rattle.markdown_base.specs.declared.state.State.TheVariants.{Retry}
-use Rattle.markdown_base.specs.declared.state.TheConstants.Name.{FlowBlankLineAfter, HtmlFlowStart}
-use Rattle.markdown_base.specs.Virtual.{Seat}
-use Rattle.markdown_tokenizer.specs.Configuration.{Local}
-use Rattle.markdown_tokenizer.specs.Text.{Given, Text}
-use Rattle.mdconstructs_tables.specs.Rows.{consume, enter}
-use Rattle.mdconstructs_machines.specs.Breaks.{is_white}
-use Rattle.mdconstructs_machines.specs.LineEvents.{all_of, ending_of, line_text}
-use Rattle.mdconstructs_machines.specs.Spans.{event}
-use Rattle.mdconstructs_flow.specs.FlowBytes.{blank}
-use Rattle.mdconstructs_flow_read.specs.BlocksRead.{AreLines, IsLine, IsReadAs, behind_block, block_seats}
+use Rattle.mdconstructs_flow_read.proofs.Prelude.{◌≡◌, ℕ, List, [], ◌∷◌, ◌++◌, Bool, true, false, cond, inl, inr, length, take, refl, sym, ap, ◌∙◌, subst, nat_le, append_assoc, append-nil, AllByRecursion, Event, Enter, HtmlFlow, HtmlFlowData, Point, Retry, FlowBlankLineAfter, HtmlFlowStart, Seat, Local, Given, Text, consume, enter, is_white, all_of, ending_of, line_text, event, blank, AreLines, IsLine, IsReadAs, behind_block, block_seats, Line, bytes_of, text_of, body, indent, unindented, IsInLine}
 use Rattle.mdconstructs_flow_read.proofs.Tags.HtmlNumbers.{html_at}
-use Rattle.mdconstructs_flow_read.specs.LeafBlocks.{Line, bytes_of, text_of}
-use Rattle.mdconstructs_flow_read.specs.LeafEvents.{body}
-use Rattle.mdconstructs_flow_read.specs.LineKinds.{indent, unindented}
-use Rattle.mdconstructs_flow_read.specs.LooksFind.{IsInLine}
 use Rattle.mdconstructs_flow_read.proofs.Lines.Fronts.{back, drop-bytes, front, front-all, front-back, prefix-front}
 use Rattle.mdconstructs_flow_read.proofs.Html.Blocks.{is_last}
 use Rattle.mdconstructs_flow_read.proofs.Html.Checks.{blank_ahead}

@@ -1,26 +1,5 @@
 -- What the calls at the end of a line of HTML, and at its beginning, come to.
-use Rattle.std.proofs.Common.{◌≡◌, ℕ, suc, ◌+◌, List, [], ◌∷◌, ◌++◌, true, false, Option, Some, None, refl, sym, ap, ◌∙◌, subst, nat_le, append_assoc, append-nil}
-use Rattle.markdown_base.specs.declared.event.Event.{Event}
-use Rattle.markdown_base.specs.declared.event.Kind.{Kind}
-use Rattle.markdown_base.specs.declared.event.Kind.TheVariants.{Enter, Exit}
-use Rattle.markdown_base.specs.declared.event.Name.{Name as EventName}
-use Rattle.markdown_base.specs.declared.event.Name.TheVariants.{HtmlFlow, HtmlFlowData, LineEnding}
-use Rattle.markdown_base.specs.declared.event.Point.{Point}
-use Rattle.markdown_base.specs.declared.state.Name.{Name}
-use Rattle.markdown_base.specs.declared.state.State.{State}
-use Rattle.markdown_base.specs.declared.state.State.TheVariants.{Next, Retry}
-use Rattle.markdown_base.specs.declared.state.TheConstants.Name.{FlowAfter, FlowBlankLineAfter, HtmlFlowContinuation, HtmlFlowContinuationAfter, HtmlFlowContinuationBefore, HtmlFlowContinuationCdataInside, HtmlFlowContinuationClose, HtmlFlowContinuationCommentInside, HtmlFlowContinuationDeclarationInside, HtmlFlowContinuationRawEndTag, HtmlFlowContinuationRawTagOpen, HtmlFlowContinuationStart, HtmlFlowStart}
-use Rattle.markdown_tokenizer.specs.Calls.{consumed, entered, exited}
-use Rattle.markdown_tokenizer.specs.declared.waiting.Waits.{Waits}
-use Rattle.markdown_tokenizer.specs.declared.waiting.Waits.TheVariants.{Nothing}
-use Rattle.markdown_tokenizer.specs.Sight.{Sight}
-use Rattle.markdown_tokenizer.specs.Text.{Given}
-use Rattle.mdconstructs_tables.specs.Rows.{Rows, enter, row}
-use Rattle.mdconstructs_tables.specs.Stretches.{Halt, halt, one_call_more, over, to_come}
-use Rattle.mdconstructs_flow.specs.Flow.{flow_blank_line_after_rows}
-use Rattle.mdconstructs_flow.specs.FlowBytes.{FlowByte, blank, cased, is_line_feed, less, line_feed, spelled}
-use Rattle.mdconstructs_flow.specs.FlowTable.{flow}
-use Rattle.mdconstructs_flow.specs.HtmlFlow.{html_flow_continuation_after_rows, html_flow_continuation_before_rows, html_flow_continuation_cdata_inside_rows, html_flow_continuation_close_rows, html_flow_continuation_comment_inside_rows, html_flow_continuation_declaration_inside_rows, html_flow_continuation_raw_end_tag_goes_on, html_flow_continuation_raw_end_tag_rows, html_flow_continuation_raw_tag_open_rows, html_flow_continuation_rows, html_flow_continuation_start_rows, html_flow_start_rows}
+use Rattle.mdconstructs_flow_read.proofs.Prelude.{◌≡◌, ℕ, suc, ◌+◌, List, [], ◌∷◌, ◌++◌, true, false, Option, Some, None, refl, sym, ap, ◌∙◌, subst, nat_le, append_assoc, append-nil, Event, Kind, Enter, Exit, EventName, HtmlFlow, HtmlFlowData, LineEnding, Point, Name, State, Next, Retry, FlowAfter, FlowBlankLineAfter, HtmlFlowContinuation, HtmlFlowContinuationAfter, HtmlFlowContinuationBefore, HtmlFlowContinuationCdataInside, HtmlFlowContinuationClose, HtmlFlowContinuationCommentInside, HtmlFlowContinuationDeclarationInside, HtmlFlowContinuationRawEndTag, HtmlFlowContinuationRawTagOpen, HtmlFlowContinuationStart, HtmlFlowStart, consumed, entered, exited, Waits, Nothing, Sight, Given, Rows, enter, row, Halt, halt, one_call_more, over, to_come, flow_blank_line_after_rows, FlowByte, blank, cased, is_line_feed, less, line_feed, spelled, flow, html_flow_continuation_after_rows, html_flow_continuation_before_rows, html_flow_continuation_cdata_inside_rows, html_flow_continuation_close_rows, html_flow_continuation_comment_inside_rows, html_flow_continuation_declaration_inside_rows, html_flow_continuation_raw_end_tag_goes_on, html_flow_continuation_raw_end_tag_rows, html_flow_continuation_raw_tag_open_rows, html_flow_continuation_rows, html_flow_continuation_start_rows, html_flow_start_rows}
 use Rattle.mdconstructs_flow_read.proofs.Html.Places.{Place, inside, dashed, bracketed, marked, opened, named, closed, is_closed}
 use Rattle.mdconstructs_flow_read.proofs.Html.Steps.{Config, Kept, counted, current, kind_in, name_of, previous, told, until}
 

@@ -1,15 +1,5 @@
 -- HTML of kind 1 is behind its end exactly if its line holds the closing tag of a listed name.
-use Rattle.std.proofs.Common.{◌≡◌, inl, inr, ℕ, ◌==◌, ◌||◌, ◌&&◌, List, [], ◌∷◌, ◌++◌, Bool, true, false, cond, map, Some, None, refl, sym, ap, ◌∙◌, subst, arith}
-use Rattle.std.specs.Char.{is_ascii_alphabetic, is_ascii_alphanumeric}
-use Rattle.std.specs.List.{list_all}
-use Rattle.std.specs.Prelude.{codes}
-use Rattle.std.proofs.lemmas.Bool.{and_parts, eqb-true, eq-eqb, or_right}
-use Rattle.std.proofs.lemmas.Bool.Decides.{nat_tests}
-use Rattle.markdown_base.specs.Texts.{html_raw_names}
-use Rattle.mdconstructs_flow.specs.FlowBytes.{FlowByte, flow_byte, is_less, less}
-use Rattle.mdconstructs_flow.specs.HtmlNames.{IsListed, is_number_in, is_tag_name, no_name, number_behind, number_of, one_byte_more}
-use Rattle.mdconstructs_flow.proofs.TagNames.{raw-told}
-use Rattle.mdconstructs_flow_read.specs.HtmlLines.{holds, lower, starts_with}
+use Rattle.mdconstructs_flow_read.proofs.Prelude.{◌≡◌, inl, inr, ℕ, ◌==◌, ◌||◌, ◌&&◌, List, [], ◌∷◌, ◌++◌, Bool, true, false, cond, map, Some, None, refl, sym, ap, ◌∙◌, subst, arith, is_ascii_alphabetic, is_ascii_alphanumeric, list_all, codes, and_parts, eqb-true, eq-eqb, or_right, nat_tests, html_raw_names, FlowByte, flow_byte, is_less, less, IsListed, is_number_in, is_tag_name, no_name, number_behind, number_of, one_byte_more, raw-told, holds, lower, starts_with}
 use Rattle.mdconstructs_flow_read.proofs.Tags.HtmlNumbers.{ends_html}
 use Rattle.mdconstructs_flow_read.proofs.Looks.ByteClasses.{greater-is, less-is, name-byte-is, slash-is}
 use Rattle.mdconstructs_flow_read.proofs.Html.Places.{Place, inside, opened, named, closed, differ, from_inside, from_name, is_closed, moved, raw_more, stays-closed, through}

@@ -1,30 +1,5 @@
 -- Lines of HTML are read: one that others follow, the last one, and one without a byte.
-use Rattle.std.proofs.Common.{◌≡◌, ℕ, ◌+◌, ◌==◌, List, [], ◌∷◌, ◌++◌, Bool, true, false, cond, Option, Some, None, map, drop, length, refl, sym, ap, ◌∙◌, subst, nat_le, append-nil}
-use Rattle.std.proofs.lemmas.Bool.{eqb-true}
-use Rattle.markdown_base.specs.declared.event.Event.{Event}
-use Rattle.markdown_base.specs.declared.event.Kind.TheVariants.{Enter, Exit}
-use Rattle.markdown_base.specs.declared.event.Name.TheVariants.{HtmlFlow, HtmlFlowData, LineEnding}
-use Rattle.markdown_base.specs.declared.event.Point.{Point}
-use Rattle.markdown_base.specs.declared.state.Name.{Name}
-use Rattle.markdown_base.specs.declared.state.State.{State}
-use Rattle.markdown_base.specs.declared.state.State.TheVariants.{Next, Retry}
-use Rattle.markdown_base.specs.declared.state.TheConstants.Name.{FlowAfter, HtmlFlowContinuation, HtmlFlowContinuationAfter, HtmlFlowContinuationBefore, HtmlFlowContinuationStart}
-use Rattle.markdown_base.specs.Virtual.{Seat, end_after}
-use Rattle.markdown_tokenizer.specs.Calls.{with_local}
-use Rattle.markdown_tokenizer.specs.Reading.{EndsIn}
-use Rattle.markdown_tokenizer.specs.Sight.{byte_of, seat_before}
-use Rattle.markdown_tokenizer.specs.Text.{Given, Text}
-use Rattle.mdconstructs_tables.proofs.Looks.Stretches.{stretches-are-read}
-use Rattle.mdconstructs_tables.specs.Looks.{waits_at}
-use Rattle.mdconstructs_tables.specs.Rows.{table_step}
-use Rattle.mdconstructs_tables.specs.Stretches.{sight_before, stretch_from}
-use Rattle.mdconstructs_machines.specs.Spans.{event}
-use Rattle.mdconstructs_flow.specs.FlowBytes.{FlowByte, closing, dash, flow_byte, greater, less, question}
-use Rattle.mdconstructs_flow.specs.FlowTable.{flow}
-use Rattle.mdconstructs_flow_read.specs.BlocksRead.{IsReadAs}
-use Rattle.mdconstructs_flow_read.specs.LeafBlocks.{bytes_of}
-use Rattle.mdconstructs_flow_read.specs.LeafEvents.{Mark, linked_from}
-use Rattle.mdconstructs_flow_read.specs.LooksFind.{IsInLine}
+use Rattle.mdconstructs_flow_read.proofs.Prelude.{◌≡◌, ℕ, ◌+◌, ◌==◌, List, [], ◌∷◌, ◌++◌, Bool, true, false, cond, Option, Some, None, map, drop, length, refl, sym, ap, ◌∙◌, subst, nat_le, append-nil, eqb-true, Event, Enter, Exit, HtmlFlow, HtmlFlowData, LineEnding, Point, Name, State, Next, Retry, FlowAfter, HtmlFlowContinuation, HtmlFlowContinuationAfter, HtmlFlowContinuationBefore, HtmlFlowContinuationStart, Seat, end_after, with_local, EndsIn, byte_of, seat_before, Given, Text, stretches-are-read, waits_at, table_step, sight_before, stretch_from, event, FlowByte, closing, dash, flow_byte, greater, less, question, flow, IsReadAs, bytes_of, Mark, linked_from, IsInLine}
 use Rattle.mdconstructs_flow_read.proofs.Html.Along.{Along, Arrives, arrives-behind, begun-along, feed-arrives, goes, halt-arrives}
 use Rattle.mdconstructs_flow_read.proofs.Html.Checks.{blank_ahead, read-if-blank, read-if-not}
 use Rattle.mdconstructs_flow_read.proofs.Html.Halts.{Begins, after-ends, before-ends, before-feeds, checks-on, closed-ends, ends-text, feeds-on, start-feeds}

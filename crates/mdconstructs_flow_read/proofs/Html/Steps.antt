@@ -1,23 +1,5 @@
 -- What the calls at one byte of HTML come to, by the rows of their states.
-use Rattle.std.proofs.Common.{◌≡◌, ℕ, suc, ◌+◌, ◌==◌, ◌||◌, [], ◌∷◌, Bool, true, false, cond, Option, Some, None, refl, sym, ap, ◌∙◌, subst}
-use Rattle.markdown_base.specs.declared.event.Point.{Point}
-use Rattle.markdown_base.specs.declared.state.Name.{Name}
-use Rattle.markdown_base.specs.declared.state.State.TheVariants.{Next, Retry}
-use Rattle.markdown_base.specs.declared.state.TheConstants.Name.{FlowAfter, HtmlFlowContinuation, HtmlFlowContinuationBefore, HtmlFlowContinuationCdataInside, HtmlFlowContinuationClose, HtmlFlowContinuationCommentInside, HtmlFlowContinuationDeclarationInside, HtmlFlowContinuationRawEndTag, HtmlFlowContinuationRawTagOpen}
-use Rattle.markdown_base.specs.Texts.{html_raw_names}
-use Rattle.markdown_tokenizer.specs.Calls.{consumed, with_local}
-use Rattle.markdown_tokenizer.specs.Configuration.{Configuration, Local}
-use Rattle.markdown_tokenizer.specs.Sight.{Sight}
-use Rattle.markdown_tokenizer.specs.Text.{Given}
-use Rattle.mdconstructs_tables.specs.Cases.{rows_in}
-use Rattle.mdconstructs_tables.specs.Rows.{Row, Rows, class_of, consume, does, picked, row, when, write}
-use Rattle.mdconstructs_tables.specs.Stretches.{Halt, halt, one_call_more, over, reads_byte, row_comes_to, to_come}
-use Rattle.mdconstructs_flow.specs.FlowBytes.{FlowByte, by_byte, cased, flow_byte, is_closing, is_dash, is_greater, is_less, is_line_feed, is_question, is_slash, name_byte, spelled}
-use Rattle.mdconstructs_flow.specs.FlowTable.{flow, unchanged}
-use Rattle.mdconstructs_flow.specs.FlowWrites.{size_becomes}
-use Rattle.mdconstructs_flow.specs.HtmlFlow.{html_flow_continuation_cdata_inside_rows, html_flow_continuation_close_rows, html_flow_continuation_comment_inside_rows, html_flow_continuation_declaration_inside_rows, html_flow_continuation_raw_end_tag_goes_on, html_flow_continuation_raw_end_tag_rows, html_flow_continuation_raw_tag_open_rows, html_flow_continuation_rows}
-use Rattle.mdconstructs_flow.specs.HtmlNames.{is_number_in}
-use Rattle.mdconstructs_flow.specs.HtmlWrites.{html_is, is_raw_tag, raw_name_grows}
+use Rattle.mdconstructs_flow_read.proofs.Prelude.{◌≡◌, ℕ, suc, ◌+◌, ◌==◌, ◌||◌, [], ◌∷◌, Bool, true, false, cond, Option, Some, None, refl, sym, ap, ◌∙◌, subst, Point, Name, Next, Retry, FlowAfter, HtmlFlowContinuation, HtmlFlowContinuationBefore, HtmlFlowContinuationCdataInside, HtmlFlowContinuationClose, HtmlFlowContinuationCommentInside, HtmlFlowContinuationDeclarationInside, HtmlFlowContinuationRawEndTag, HtmlFlowContinuationRawTagOpen, html_raw_names, consumed, with_local, Configuration, Local, Sight, Given, rows_in, Row, Rows, class_of, consume, does, picked, row, when, write, Halt, halt, one_call_more, over, reads_byte, row_comes_to, to_come, FlowByte, by_byte, cased, flow_byte, is_closing, is_dash, is_greater, is_less, is_line_feed, is_question, is_slash, name_byte, spelled, flow, unchanged, size_becomes, html_flow_continuation_cdata_inside_rows, html_flow_continuation_close_rows, html_flow_continuation_comment_inside_rows, html_flow_continuation_declaration_inside_rows, html_flow_continuation_raw_end_tag_goes_on, html_flow_continuation_raw_end_tag_rows, html_flow_continuation_raw_tag_open_rows, html_flow_continuation_rows, is_number_in, html_is, is_raw_tag, raw_name_grows}
 use Rattle.mdconstructs_flow_read.proofs.Html.Places.{Place, inside, dashed, bracketed, marked, opened, named, closed, from_inside, from_name, moved, raw_more}
 
 abbrev pub Config : Type 0

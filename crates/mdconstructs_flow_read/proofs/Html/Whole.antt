@@ -1,28 +1,6 @@
 -- HTML is read, from its first line on.
-use Rattle.std.proofs.Common.{◌≡◌, ℕ, suc, ◌||◌, List, [], ◌∷◌, ◌++◌, Bool, true, false, cond, not, Some, length, take, drop, refl, sym, ap, ◌∙◌, subst, nat_le, append_assoc}
-use Rattle.std.proofs.Math.Seq.{drop-append_seam}
-use Rattle.std.specs.List.{AllByRecursion}
-use Rattle.markdown_base.specs.declared.event.Event.{Event}
-use Rattle.markdown_base.specs.declared.event.Kind.TheVariants.{Enter, Exit}
-use Rattle.markdown_base.specs.declared.event.Name.TheVariants.{HtmlFlow, HtmlFlowData}
-use Rattle.markdown_base.specs.declared.event.Point.{Point}
-use Rattle.markdown_base.specs.declared.state.Name.{Name}
-use Rattle.markdown_base.specs.declared.state.State.TheVariants.{Retry}
-use Rattle.markdown_base.specs.declared.state.TheConstants.Name.{FlowAfter, FlowBlankLineAfter, HtmlFlowStart}
-use Rattle.markdown_base.specs.Virtual.{Seat, end_after}
-use Rattle.markdown_tokenizer.specs.Sight.{byte_of, end_place, seat_before}
-use Rattle.markdown_tokenizer.specs.Text.{Given, Text}
-use Rattle.mdconstructs_tables.specs.Stretches.{sight_before}
-use Rattle.mdconstructs_machines.specs.LineEvents.{all_of, ending_of}
-use Rattle.mdconstructs_machines.specs.Spans.{event}
-use Rattle.mdconstructs_flow.specs.FlowBytes.{flow_byte}
-use Rattle.mdconstructs_flow_read.specs.BlocksRead.{AreLines, HtmlIsRead, IsBlockRead, IsFound, IsReadAs, KeepsEdits, behind_block, block_seats}
-use Rattle.mdconstructs_flow_read.specs.HtmlLines.{raw, comment, instruction, declaration, cdata, block_tag, any_tag}
+use Rattle.mdconstructs_flow_read.proofs.Prelude.{◌≡◌, ℕ, suc, ◌||◌, List, [], ◌∷◌, ◌++◌, Bool, true, false, cond, not, Some, length, take, drop, refl, sym, ap, ◌∙◌, subst, nat_le, append_assoc, drop-append_seam, AllByRecursion, Event, Enter, Exit, HtmlFlow, HtmlFlowData, Point, Name, Retry, FlowAfter, FlowBlankLineAfter, HtmlFlowStart, Seat, end_after, byte_of, end_place, seat_before, Given, Text, sight_before, all_of, ending_of, event, flow_byte, AreLines, HtmlIsRead, IsBlockRead, IsFound, IsReadAs, KeepsEdits, behind_block, block_seats, raw, comment, instruction, declaration, cdata, block_tag, any_tag, Line, has_line, lines_through, lines_until, text_of, Mark, body, html_marks, leaf_marks, lines_marks, span_marks, is_blank_line, html, end-after-append}
 use Rattle.mdconstructs_flow_read.proofs.Tags.HtmlNumbers.{ends_html}
-use Rattle.mdconstructs_flow_read.specs.LeafBlocks.{Line, has_line, lines_through, lines_until, text_of}
-use Rattle.mdconstructs_flow_read.specs.LeafEvents.{Mark, body, html_marks, leaf_marks, lines_marks, span_marks}
-use Rattle.mdconstructs_flow_read.specs.LineKinds.{is_blank_line}
-use Rattle.mdconstructs_flow_read.specs.SeenKinds.{html}
 use Rattle.mdconstructs_flow_read.proofs.Html.Blocks.{AreRead, count, enters, from-line, further-read, is_last, reads-as, seats-split, stays_open}
 use Rattle.mdconstructs_flow_read.proofs.Html.Counts.{count-through, count-until, open-is}
 use Rattle.mdconstructs_flow_read.proofs.Html.Ends.{ends-are, html-is}
@@ -32,7 +10,6 @@ use Rattle.mdconstructs_flow_read.proofs.Html.Reads.{BeginsAt, plain}
 use Rattle.mdconstructs_flow_read.proofs.Html.Steps.{Config, Kept, kept-on, kind_in}
 use Rattle.mdconstructs_flow_read.proofs.Lines.LineParts.{IsWhite}
 use Rattle.mdconstructs_flow_read.proofs.Lines.LineReads.{IsAt, reads-keeping, reads-on}
-use Rattle.markdown_base.proofs.Seats.{end-after-append}
 
 -- a first virtual byte
 pub record HasFront (s : Seat) (seats : List Seat) : Type 0 where

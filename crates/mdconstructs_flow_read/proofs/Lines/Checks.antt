@@ -1,26 +1,5 @@
 -- Checks: where a state only begins a look, reading on from it is reading on from one of two states at the same place, by what the look says.
-use Rattle.std.proofs.Common.{◌≡◌, ℕ, suc, ◌+◌, List, [], ◌∷◌, ◌++◌, Option, Some, drop, refl, sym, ap, ◌∙◌, subst, arith}
-use Rattle.std.proofs.Math.Seq.{take-length}
-use Rattle.markdown_base.specs.declared.state.Name.{Name}
-use Rattle.markdown_base.specs.declared.state.State.{State}
-use Rattle.markdown_base.specs.declared.state.State.TheVariants.{Next, Retry, Ok, Nok}
-use Rattle.markdown_base.specs.Virtual.{Seat}
-use Rattle.markdown_tokenizer.specs.declared.waiting.AttemptKind.TheVariants.{Check}
-use Rattle.markdown_tokenizer.specs.declared.waiting.Waits.TheVariants.{Nothing, Byte}
-use Rattle.markdown_tokenizer.specs.Calls.{check_at, with_local}
-use Rattle.markdown_tokenizer.specs.Configuration.{Configuration, Local, Choice, Step}
-use Rattle.markdown_tokenizer.specs.Reading.{Reading, EndsIn, restored}
-use Rattle.markdown_tokenizer.specs.Sight.{Sight, sight, byte_of, current_of, seat_before}
-use Rattle.markdown_tokenizer.specs.Text.{Given, Text}
-use Rattle.markdown_tokenizer.proofs.Readings.Bounds.{fed-ends, called-ends, settled-ok-ends, settled-nok-ends}
-use Rattle.mdconstructs_tables.proofs.Looks.Deep.{Leads}
-use Rattle.mdconstructs_tables.proofs.Looks.Scans.{feeds, scan-goes, sees}
-use Rattle.mdconstructs_tables.specs.Looks.{Look, first_byte, held, looked, scan, waits_at}
-use Rattle.mdconstructs_tables.specs.Rows.{Act, choose, write, Rows, row, StateRows, chooses, class_of, does, named, picked, step_at, step_of, table_step}
-use Rattle.mdconstructs_flow.specs.FlowBytes.{FlowByte, flow_byte}
-use Rattle.mdconstructs_flow.specs.FlowTable.{flow, unchanged}
-use Rattle.mdconstructs_flow_read.specs.BlocksRead.{IsReadAs}
-use Rattle.mdconstructs_flow_read.specs.LeafEvents.{Mark}
+use Rattle.mdconstructs_flow_read.proofs.Prelude.{◌≡◌, ℕ, suc, ◌+◌, List, [], ◌∷◌, ◌++◌, Option, Some, drop, refl, sym, ap, ◌∙◌, subst, arith, take-length, Name, State, Next, Retry, Ok, Nok, Seat, Check, Nothing, Byte, check_at, with_local, Configuration, Local, Choice, Step, Reading, EndsIn, restored, Sight, sight, byte_of, current_of, seat_before, Given, Text, fed-ends, called-ends, settled-ok-ends, settled-nok-ends, Leads, feeds, scan-goes, sees, Look, first_byte, held, looked, scan, waits_at, Act, choose, write, Rows, row, StateRows, chooses, class_of, does, named, picked, step_at, step_of, table_step, FlowByte, flow_byte, flow, unchanged, IsReadAs, Mark}
 
 -- writes, one after another, as acts; and what they leave
 abbrev pub write_all : List (Configuration Unit Unit → Local Unit Unit) → List (Act Unit Unit)

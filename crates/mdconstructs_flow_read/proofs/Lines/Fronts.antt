@@ -1,10 +1,5 @@
 -- The bytes in front that pass a test, and those behind them: a list without its prefix, as a recursion on the list.
-use Rattle.std.proofs.Common.{◌≡◌, ℕ, suc, ◌+◌, ◌≤◌, List, [], ◌∷◌, ◌++◌, Bool, true, false, cond, length, refl, ap, ◌∙◌, arith, take, drop, sym, not}
-use Rattle.std.proofs.Math.Seq.{drop-append_seam}
-use Rattle.std.specs.List.{AllByRecursion, drop-map, prefix_len}
-use Rattle.markdown_base.specs.Virtual.{Seat}
-use Rattle.mdconstructs_flow_read.specs.LeafBlocks.{bytes_of}
-use Rattle.mdconstructs_machines.specs.Breaks.{is_white}
+use Rattle.mdconstructs_flow_read.proofs.Prelude.{◌≡◌, ℕ, suc, ◌+◌, ◌≤◌, List, [], ◌∷◌, ◌++◌, Bool, true, false, cond, length, refl, ap, ◌∙◌, arith, take, drop, sym, not, drop-append_seam, AllByRecursion, drop-map, prefix_len, Seat, bytes_of, is_white}
 
 -- no white space
 abbrev pub is_dark : ℕ → Bool

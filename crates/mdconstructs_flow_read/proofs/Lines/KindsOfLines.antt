@@ -1,11 +1,8 @@
 -- What the kind of a line says of its bytes.
-use Rattle.std.proofs.Common.{◌≡◌, ℕ, ◌≤◌, ◌&&◌, nat_le, List, Bool, true, false, cond, refl, sym, subst, ◌⊎◌, inl, inr}
-use Rattle.std.proofs.lemmas.Bool.{and_parts}
-use Rattle.markdown_base.specs.declared.configuration.Constructs.{Constructs}
+use Rattle.mdconstructs_flow_read.proofs.Prelude.{◌≡◌, ℕ, ◌≤◌, ◌&&◌, nat_le, List, Bool, true, false, cond, refl, sym, subst, ◌⊎◌, inl, inr, and_parts, Constructs, Fence, indent, is_atx_heading, is_blank_line, is_far, is_fence_of, is_thematic_break, is_underline_of_marks, run, unindented, is_underline, SeenKind, heading, fence, html, underline, thematic_break, text, seen_kind, html_number}
 use Rattle.mdconstructs_flow_read.proofs.Lines.TestedKinds.{seen-is-tested, tested_rest}
 use Rattle.mdconstructs_flow_read.proofs.Tags.HtmlNumbers.{number-bound}
-use Rattle.mdconstructs_flow_read.specs.LineKinds.{Fence, indent, is_atx_heading, is_blank_line, is_far, is_fence_of, is_thematic_break, is_underline_of_marks, run, unindented}
-use Rattle.mdconstructs_flow_read.specs.SeenKinds.{is_underline, SeenKind, blank, indented, heading, fence, html, underline, thematic_break, text, seen_kind, html_number}
+use Rattle.mdconstructs_flow_read.specs.SeenKinds.{blank, indented}
 
 -- ---- the tests of kinds, one after another
 by-tests : (P : SeenKind → Type 0) (a b c d e f i : Bool) (tick tilde : Fence) (kind : ℕ) → (a ≡ true → P heading) → (b ≡ true → P (fence tick)) → (c ≡ true → P (fence tilde)) → (d ≡ true → P (html kind)) → (e ≡ true → P underline)

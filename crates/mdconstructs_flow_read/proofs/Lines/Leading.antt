@@ -1,20 +1,5 @@
 -- Reading on from one state is reading on from another, in parts and over a stretch.
-use Rattle.std.proofs.Common.{◌≡◌, ℕ, ◌+◌, List, Bool, drop, refl, sym, ap, ◌∙◌, subst, arith}
-use Rattle.markdown_base.specs.declared.state.Name.{Name}
-use Rattle.markdown_base.specs.declared.state.State.{State}
-use Rattle.markdown_base.specs.declared.state.State.TheVariants.{Next, Retry}
-use Rattle.markdown_base.specs.Virtual.{Seat}
-use Rattle.markdown_tokenizer.proofs.Readings.Bounds.{fed-ends}
-use Rattle.markdown_tokenizer.specs.Configuration.{Configuration, Choice}
-use Rattle.markdown_tokenizer.specs.Reading.{Reading, EndsIn, fed}
-use Rattle.markdown_tokenizer.specs.Sight.{byte_of, end_place, seat_before}
-use Rattle.markdown_tokenizer.specs.Text.{Given, Text}
-use Rattle.mdconstructs_tables.proofs.Looks.Deep.{Leads as LeadsIn}
-use Rattle.mdconstructs_tables.proofs.Looks.Stretches.{stretches-are-read}
-use Rattle.mdconstructs_tables.specs.Looks.{waits_at}
-use Rattle.mdconstructs_tables.specs.Rows.{table_step}
-use Rattle.mdconstructs_tables.specs.Stretches.{stretch, stretch_from}
-use Rattle.mdconstructs_flow.specs.FlowTable.{flow}
+use Rattle.mdconstructs_flow_read.proofs.Prelude.{◌≡◌, ℕ, ◌+◌, List, Bool, drop, refl, sym, ap, ◌∙◌, subst, arith, Name, State, Next, Retry, Seat, fed-ends, Configuration, Choice, Reading, EndsIn, fed, byte_of, end_place, seat_before, Given, Text, LeadsIn, stretches-are-read, waits_at, table_step, stretch, stretch_from, flow}
 
 module _ (g : Given) (t : Text) where
   -- with choices that wait, reading on from a state is reading on from another, some calls later

@@ -1,9 +1,5 @@
 -- How many lines come before the first that passes a test, and through it, line by line.
-use Rattle.std.proofs.Common.{◌≡◌, ℕ, suc, ◌+◌, ◌≤◌, List, [], ◌∷◌, Bool, true, false, cond, not, length, min, take, drop, sym, ap, ◌∙◌, subst, arith, nat_lt, lt-ltb}
-use Rattle.std.proofs.lemmas.Bool.{ltb-false}
-use Rattle.std.proofs.lemmas.Bool.Decides.{nat_tests}
-use Rattle.std.proofs.lemmas.List.{drop_all}
-use Rattle.mdconstructs_flow_read.specs.LeafBlocks.{Line, has_line, lines_through, lines_until, text_of}
+use Rattle.mdconstructs_flow_read.proofs.Prelude.{◌≡◌, ℕ, suc, ◌+◌, ◌≤◌, List, [], ◌∷◌, Bool, true, false, cond, not, length, min, take, drop, sym, ap, ◌∙◌, subst, arith, nat_lt, lt-ltb, ltb-false, nat_tests, drop_all, Line, has_line, lines_through, lines_until, text_of}
 
 module _ (test : List ℕ → Bool) where
   -- the first line passes

@@ -1,19 +1,5 @@
 -- A line in parts: its bytes before the line ending, and the line ending.
-use Rattle.std.proofs.Common.{◌≡◌, List, [], ◌∷◌, ◌++◌, true, false, refl, sym, ap, ◌∙◌, subst, append_assoc, inl, inr}
-use Rattle.std.proofs.lemmas.Bool.{and_parts}
-use Rattle.std.specs.List.{AllByRecursion}
-use Rattle.markdown_base.specs.Virtual.{Seat}
-use Rattle.markdown_tokenizer.specs.Configuration.{Configuration}
-use Rattle.markdown_tokenizer.specs.Sight.{end_place}
-use Rattle.markdown_tokenizer.specs.Text.{Text}
-use Rattle.mdconstructs_tables.specs.Looks.{waits_at}
-use Rattle.mdconstructs_machines.specs.Breaks.{is_white}
-use Rattle.mdconstructs_flow.specs.FlowBytes.{flow_byte, is_blank}
-use Rattle.mdconstructs_machines.specs.LineEvents.{all_of, ending_of, line_text}
-use Rattle.mdconstructs_flow_read.specs.BlocksRead.{AreLines, IsAtLines}
-use Rattle.mdconstructs_flow_read.specs.LeafBlocks.{Line, bytes_of}
-use Rattle.mdconstructs_flow_read.specs.LineKinds.{is_blank_line}
-use Rattle.mdconstructs_flow_read.specs.LooksFind.{IsInLine, LineEnds}
+use Rattle.mdconstructs_flow_read.proofs.Prelude.{◌≡◌, List, [], ◌∷◌, ◌++◌, true, false, refl, sym, ap, ◌∙◌, subst, append_assoc, inl, inr, and_parts, AllByRecursion, Seat, Configuration, end_place, Text, waits_at, is_white, flow_byte, is_blank, all_of, ending_of, line_text, AreLines, IsAtLines, Line, bytes_of, is_blank_line, IsInLine, LineEnds}
 use Rattle.mdconstructs_flow_read.proofs.Looks.ByteClasses.{blank-is}
 use Rattle.mdconstructs_flow_read.proofs.Lines.Fronts.{Fails}
 use Rattle.mdconstructs_flow_read.proofs.Lines.LineReads.{IsAt}

@@ -1,25 +1,5 @@
 -- How blocks are read along a line: where reading stands, what it goes on from, and how what is read in parts is read as a whole.
-use Rattle.std.proofs.Common.{◌≡◌, ℕ, suc, ◌+◌, List, [], ◌∷◌, ◌++◌, Bool, true, false, cond, Some, length, refl, sym, ap, ◌∙◌, subst, arith, append_assoc, append-nil, length-append, drop, lt-ltb, le-ltb}
-use Rattle.std.proofs.lemmas.Option.{slice_get_within}
-use Rattle.std.specs.List.{AllByRecursion}
-use Rattle.markdown_base.proofs.Common.{drop-next}
-use Rattle.markdown_base.specs.declared.event.Point.{Point}
-use Rattle.markdown_base.specs.declared.state.Name.{Name}
-use Rattle.markdown_base.specs.declared.state.State.{State}
-use Rattle.markdown_base.specs.declared.state.State.TheVariants.{Next, Retry}
-use Rattle.markdown_base.specs.Virtual.{Seat, end_after}
-use Rattle.markdown_tokenizer.specs.declared.waiting.Waits.TheVariants.{Byte, End}
-use Rattle.markdown_tokenizer.specs.Configuration.{Configuration, Local}
-use Rattle.markdown_tokenizer.specs.Reading.{EndsIn, fed}
-use Rattle.markdown_tokenizer.specs.Sight.{end_or, end_place, seat_before}
-use Rattle.markdown_tokenizer.specs.Text.{Given, Text}
-use Rattle.markdown_tokenizer.proofs.Readings.Bounds.{fed-ends}
-use Rattle.mdconstructs_tables.proofs.Looks.Left.{at-front, past-end}
-use Rattle.mdconstructs_tables.specs.Looks.{waits_at}
-use Rattle.mdconstructs_tables.specs.Rows.{table_step}
-use Rattle.mdconstructs_flow.specs.FlowTable.{flow}
-use Rattle.mdconstructs_flow_read.specs.BlocksRead.{IsReadAs, KeepsEdits}
-use Rattle.mdconstructs_flow_read.specs.LeafEvents.{Mark}
+use Rattle.mdconstructs_flow_read.proofs.Prelude.{◌≡◌, ℕ, suc, ◌+◌, List, [], ◌∷◌, ◌++◌, Bool, true, false, cond, Some, length, refl, sym, ap, ◌∙◌, subst, arith, append_assoc, append-nil, length-append, drop, lt-ltb, le-ltb, slice_get_within, AllByRecursion, drop-next, Point, Name, State, Next, Retry, Seat, end_after, Byte, End, Configuration, Local, EndsIn, fed, end_or, end_place, seat_before, Given, Text, fed-ends, at-front, past-end, waits_at, table_step, flow, IsReadAs, KeepsEdits, Mark}
 use Rattle.mdconstructs_flow_read.proofs.Marks.MarkLists.{marked-on}
 
 -- Where reading stands: the place behind the byte before, and what is left, whose first byte waits, or the end

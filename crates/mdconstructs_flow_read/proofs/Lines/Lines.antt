@@ -1,15 +1,5 @@
 -- Lines of a text: what they are cut into, and that they stay lines where they are taken and dropped.
-use Rattle.std.proofs.Common.{◌≡◌, ℕ, zero, suc, ◌==◌, List, [], ◌∷◌, ◌++◌, true, false, cond, not, ◌⊎◌, inl, inr, take, drop, refl, sym, ap, ◌∙◌, subst, length, ◌≤◌, arith}
-use Rattle.std.proofs.lemmas.Bool.{eqb-true}
-use Rattle.std.proofs.lemmas.Grind.{flat_map-append}
-use Rattle.std.proofs.lemmas.List.{append_assoc, append-nil, take-append-drop}
-use Rattle.std.specs.List.{AllByRecursion}
-use Rattle.markdown_base.specs.Virtual.{Seat}
-use Rattle.mdconstructs_machines.specs.LineEvents.{all_of, ending_of, is_line_ending, joined, line_text, lines_in}
-use Rattle.mdconstructs_flow_read.specs.BlocksRead.{AreLines, IsLine, last_ending}
-use Rattle.mdconstructs_flow_read.specs.LeafBlocks.{Line}
-use Rattle.mdconstructs_flow_read.specs.LeafEvents.{body}
-use Rattle.mdconstructs_flow_read.specs.LooksFind.{IsInLine}
+use Rattle.mdconstructs_flow_read.proofs.Prelude.{◌≡◌, ℕ, zero, suc, ◌==◌, List, [], ◌∷◌, ◌++◌, true, false, cond, not, ◌⊎◌, inl, inr, take, drop, refl, sym, ap, ◌∙◌, subst, length, ◌≤◌, arith, eqb-true, flat_map-append, append_assoc, append-nil, take-append-drop, AllByRecursion, Seat, all_of, ending_of, is_line_ending, joined, line_text, lines_in, AreLines, IsLine, last_ending, Line, body, IsInLine}
 
 -- one line
 

@@ -1,8 +1,5 @@
 -- Counts have room for each virtual byte of a document.
-use Rattle.std.proofs.Common.{◌≡◌, ℕ, zero, suc, ◌+◌, ◌-◌, ◌*◌, ◌%◌, ◌^◌, ◌<◌, ◌≤◌, ◌==◌, List, [], ◌∷◌, ◌++◌, Bool, true, false, cond, length, length-append, refl, sym, ap, subst, arith}
-use Rattle.std.proofs.Math.Nat.{mul-suc}
-use Rattle.markdown_base.specs.Virtual.{Seat, tab_width, in_tab, begins_with_lf, virtual_from, virtual}
-use Rattle.markdown_tokenizer.specs.Text.{Given, IsDocument}
+use Rattle.mdconstructs_flow_read.proofs.Prelude.{◌≡◌, ℕ, zero, suc, ◌+◌, ◌-◌, ◌*◌, ◌%◌, ◌^◌, ◌<◌, ◌≤◌, ◌==◌, List, [], ◌∷◌, ◌++◌, Bool, true, false, cond, length, length-append, refl, sym, ap, subst, arith, mul-suc, Seat, tab_width, in_tab, begins_with_lf, virtual_from, virtual, Given, IsDocument}
 
 -- a document has at most as many virtual bytes for each byte as the tab size
 cond-le : (b : Bool) (x y : List Seat) (n : ℕ) → length x ≤ n → length y ≤ n → length (cond b x y) ≤ n

@@ -1,31 +1,6 @@
 -- How a state is read by its row, where that makes no choice: the row's acts say which marks are made, and which place is read next.
-use Rattle.std.proofs.Common.{◌≡◌, ℕ, ◌+◌, ◌==◌, List, [], ◌∷◌, ◌++◌, Bool, true, false, Option, Some, None, length, refl, sym, ap, ◌∙◌, subst, arith, append_assoc, append-nil, length-append, drop}
-use Rattle.std.proofs.lemmas.Bool.{eqb-true}
-use Rattle.markdown_base.specs.declared.event.Event.{Event}
-use Rattle.markdown_base.specs.declared.event.Kind.TheVariants.{Enter, Exit}
-use Rattle.markdown_base.specs.declared.event.Link.{Link}
-use Rattle.markdown_base.specs.declared.event.Point.{Point}
-use Rattle.markdown_base.specs.declared.state.Name.{Name}
-use Rattle.markdown_base.specs.declared.state.State.{State}
-use Rattle.markdown_base.specs.declared.state.State.TheVariants.{Next, Retry, Nok}
-use Rattle.markdown_base.specs.Places.{shown}
-use Rattle.markdown_base.specs.Virtual.{Seat}
-use Rattle.markdown_tokenizer.specs.declared.waiting.Waits.TheVariants.{Nothing}
-use Rattle.markdown_tokenizer.specs.Calls.{consumed, entered, exited, with_local}
-use Rattle.markdown_tokenizer.specs.Configuration.{Configuration, Choice, Local}
-use Rattle.markdown_tokenizer.specs.Sight.{Sight, sight, sight_in, byte_of, end_or, end_place, point_or, seat_before}
-use Rattle.markdown_tokenizer.specs.Reading.{Reading, EndsIn}
-use Rattle.markdown_tokenizer.specs.Text.{Given, Text}
-use Rattle.mdconstructs_tables.proofs.Looks.Left.{at-front}
-use Rattle.mdconstructs_tables.proofs.Looks.Scans.{goes-called}
-use Rattle.mdconstructs_tables.specs.Looks.{first_byte, waits_at}
-use Rattle.mdconstructs_tables.specs.Rows.{Act, enters, exit, consume, links, writes, choose, Rows, row, StateRows, Table, class_of, does, done, chooses, named, past, picked, step_at, step_of, table_step}
-use Rattle.mdconstructs_tables.specs.Stretches.{sight_before}
-use Rattle.mdconstructs_machines.specs.Breaks.{is_white}
-use Rattle.mdconstructs_flow.specs.FlowBytes.{FlowByte, blank, flow_byte}
-use Rattle.mdconstructs_flow.specs.FlowTable.{flow, unchanged}
-use Rattle.mdconstructs_flow_read.specs.BlocksRead.{IsReadAs, waits_then}
-use Rattle.mdconstructs_flow_read.specs.LeafEvents.{Chunk, Mark, alone, linked_from}
+use Rattle.mdconstructs_flow_read.proofs.Prelude.{◌≡◌, ℕ, ◌+◌, ◌==◌, List, [], ◌∷◌, ◌++◌, Bool, true, false, Option, Some, None, length, refl, sym, ap, ◌∙◌, subst, arith, append_assoc, append-nil, length-append, drop, eqb-true, Event, Enter, Exit, Link, Point, Name, State, Next, Retry, Nok, shown, Seat, Nothing, consumed, entered, exited, with_local, Configuration, Choice, Local, Sight, sight, sight_in, byte_of, end_or, end_place, point_or, seat_before, Reading, EndsIn, Given, Text, at-front, goes-called, first_byte, waits_at, Act, enters, exit, consume, links, writes, choose, Rows, row, StateRows, Table, class_of, does, chooses, named, past, picked, step_at, step_of, table_step, sight_before, is_white, FlowByte, blank, flow_byte, flow, unchanged, IsReadAs, waits_then, Chunk, Mark, alone, linked_from}
+use Rattle.mdconstructs_tables.specs.Rows.{done}
 use Rattle.mdconstructs_flow_read.proofs.Lines.LineReads.{IsAt, reads-feeding}
 
 -- where the rows of a call begin

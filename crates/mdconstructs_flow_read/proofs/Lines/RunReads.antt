@@ -1,17 +1,5 @@
 -- A run of bytes is read as a span: one state begins it, another goes on in it, and ends it before what comes behind.
-use Rattle.std.proofs.Common.{List, [], ◌∷◌, ◌++◌, None}
-use Rattle.std.specs.List.{AllByRecursion}
-use Rattle.markdown_base.specs.declared.event.Kind.TheVariants.{Enter, Exit}
-use Rattle.markdown_base.specs.declared.event.Name.{Name as EventName}
-use Rattle.markdown_base.specs.declared.event.Point.{Point}
-use Rattle.markdown_base.specs.declared.state.Name.{Name}
-use Rattle.markdown_base.specs.declared.state.State.TheVariants.{Retry}
-use Rattle.markdown_base.specs.Virtual.{Seat, end_after}
-use Rattle.markdown_tokenizer.specs.Configuration.{Configuration}
-use Rattle.markdown_tokenizer.specs.Text.{Given, Text}
-use Rattle.mdconstructs_machines.specs.Spans.{event}
-use Rattle.mdconstructs_flow_read.specs.BlocksRead.{IsReadAs}
-use Rattle.mdconstructs_flow_read.specs.LeafEvents.{Mark, leaf_marks}
+use Rattle.mdconstructs_flow_read.proofs.Prelude.{List, [], ◌∷◌, ◌++◌, None, AllByRecursion, Enter, Exit, EventName, Point, Name, Retry, Seat, end_after, Configuration, Given, Text, event, IsReadAs, Mark, leaf_marks}
 use Rattle.mdconstructs_flow_read.proofs.Lines.LineReads.{IsAt, IsUnwritten, reads-nothing, reads-on, reads-run-end, unwritten, unwritten-on}
 
 module _ (g : Given) (t : Text) where

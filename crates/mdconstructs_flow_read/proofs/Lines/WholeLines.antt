@@ -1,12 +1,5 @@
 -- Lines and parts of them: a line is its text and its line ending.
-use Rattle.std.proofs.Common.{◌≡◌, ℕ, zero, suc, ◌+◌, ◌-◌, ◌≤◌, List, [], ◌∷◌, ◌++◌, true, false, cond, not, ◌⊎◌, inl, inr, append_assoc, length, take, drop, refl, sym, ap, ◌∙◌, subst, arith}
-use Rattle.std.proofs.lemmas.List.{append-nil, drop-drop, take-append-drop}
-use Rattle.std.specs.List.{AllByRecursion}
-use Rattle.markdown_base.specs.Virtual.{Seat}
-use Rattle.mdconstructs_machines.specs.LineEvents.{all_of, ending_of, is_line_ending, joined, line_text, lines_in}
-use Rattle.mdconstructs_flow_read.specs.BlocksRead.{last_ending}
-use Rattle.mdconstructs_flow_read.specs.LeafBlocks.{Line}
-use Rattle.mdconstructs_flow_read.specs.LeafEvents.{body}
+use Rattle.mdconstructs_flow_read.proofs.Prelude.{◌≡◌, ℕ, zero, suc, ◌+◌, ◌-◌, ◌≤◌, List, [], ◌∷◌, ◌++◌, true, false, cond, not, ◌⊎◌, inl, inr, append_assoc, length, take, drop, refl, sym, ap, ◌∙◌, subst, arith, append-nil, drop-drop, take-append-drop, AllByRecursion, Seat, all_of, ending_of, is_line_ending, joined, line_text, lines_in, last_ending, Line, body}
 
 -- ---- parts of virtual bytes
 

@@ -1,26 +1,5 @@
 -- The look at the marks of a thematic break.
-use Rattle.std.proofs.Common.{◌≡◌, ◌<◌, ℕ, suc, ◌+◌, ◌-◌, ◌^◌, ◌==◌, ◌||◌, ◌∷◌, ◌++◌, List, [], Bool, true, false, cond, Option, Some, refl, sym, ap, ◌∙◌, subst, drop, length, nat_le}
-use Rattle.std.proofs.lemmas.Bool.{eqb-true}
-use Rattle.markdown_base.specs.declared.event.Event.{Event}
-use Rattle.markdown_base.specs.declared.event.Name.{Name as EventName}
-use Rattle.markdown_base.specs.declared.event.Name.TheVariants.{ThematicBreak}
-use Rattle.markdown_base.specs.declared.state.State.TheVariants.{Next, Ok, Nok}
-use Rattle.markdown_base.specs.declared.state.TheConstants.Name.{FlowBeforeThematicBreak}
-use Rattle.markdown_base.specs.Virtual.{Seat}
-use Rattle.markdown_base.proofs.Common.{drop-next}
-use Rattle.markdown_tokenizer.specs.Configuration.{Local}
-use Rattle.markdown_tokenizer.specs.Text.{Given, Text}
-use Rattle.mdconstructs_tables.specs.Cases.{AreTestsOf}
-use Rattle.mdconstructs_tables.specs.Looks.{shows}
-use Rattle.mdconstructs_tables.specs.Rows.{Rows, consume, write, row, when}
-use Rattle.mdconstructs_machines.specs.Breaks.{is_white, one_more}
-use Rattle.mdconstructs_flow.specs.FlowTable.{unchanged}
-use Rattle.mdconstructs_flow.specs.FlowBytes.{flow_byte}
-use Rattle.mdconstructs_flow.specs.FlowWrites.{kind_becomes, size_grows, has_three, at_mark}
-use Rattle.mdconstructs_flow.specs.ThematicBreak.{flow_before_thematic_break_rows}
-use Rattle.mdconstructs_flow_read.specs.LeafBlocks.{bytes_of}
-use Rattle.mdconstructs_flow_read.specs.SeenKinds.{thematic_break, text}
-use Rattle.mdconstructs_flow_read.specs.LooksFind.{IsInLine, LeavesAll, LineEnds}
+use Rattle.mdconstructs_flow_read.proofs.Prelude.{◌≡◌, ◌<◌, ℕ, suc, ◌+◌, ◌-◌, ◌^◌, ◌==◌, ◌||◌, ◌∷◌, ◌++◌, List, [], Bool, true, false, cond, Option, Some, refl, sym, ap, ◌∙◌, subst, drop, length, nat_le, eqb-true, Event, EventName, ThematicBreak, Next, Ok, Nok, FlowBeforeThematicBreak, Seat, drop-next, Local, Given, Text, AreTestsOf, shows, Rows, consume, write, row, when, is_white, one_more, unchanged, flow_byte, kind_becomes, size_grows, has_three, at_mark, flow_before_thematic_break_rows, bytes_of, thematic_break, text, IsInLine, LeavesAll, LineEnds}
 use Rattle.mdconstructs_flow_read.proofs.Looks.ByteClasses.{feed-is, rule-is, blank-is}
 use Rattle.mdconstructs_flow_read.proofs.Looks.CountRoom.{grows, room-on, room-less}
 use Rattle.mdconstructs_flow_read.proofs.Looks.LineTests.{breaks_on, break-ends, break-mark, break-white, break-fails}

@@ -1,6 +1,5 @@
 -- A count that has room grows by one, and still has room.
-use Rattle.std.proofs.Common.{◌≡◌, ◌<◌, ℕ, suc, ◌+◌, ◌-◌, ◌^◌, arith}
-use Rattle.mdconstructs_machines.specs.Breaks.{one_more}
+use Rattle.mdconstructs_flow_read.proofs.Prelude.{◌≡◌, ◌<◌, ℕ, suc, ◌+◌, ◌-◌, ◌^◌, arith, one_more}
 
 -- a count that has room for one more
 pub grows : (n more : ℕ) → n + suc more < 2 ^ 64 - 1 → one_more n ≡ suc n

@@ -1,30 +1,5 @@
 -- The look at an opening fence: its marks, and the info string of one of grave accents.
-use Rattle.std.proofs.Common.{◌≡◌, ◌<◌, ℕ, suc, ◌+◌, ◌-◌, ◌^◌, ◌==◌, ◌&&◌, ◌||◌, not, ◌∷◌, ◌++◌, List, [], Bool, true, false, cond, Option, Some, refl, sym, ap, ◌∙◌, subst, drop, length, nat_le, arith}
-use Rattle.std.specs.List.{list_all}
-use Rattle.std.proofs.lemmas.Bool.{eqb-true}
-use Rattle.markdown_base.specs.declared.event.Event.{Event}
-use Rattle.markdown_base.specs.declared.event.Name.{Name as EventName}
-use Rattle.markdown_base.specs.declared.event.Name.TheVariants.{CodeFenced}
-use Rattle.markdown_base.specs.declared.state.Name.{Name}
-use Rattle.markdown_base.specs.declared.state.State.TheVariants.{Next, Retry, Ok, Nok}
-use Rattle.markdown_base.specs.declared.state.TheConstants.Name.{FlowBeforeRaw}
-use Rattle.mdconstructs_flow.specs.declared.names.TheConstants.{RawFlowLookInfo}
-use Rattle.markdown_base.specs.Virtual.{Seat}
-use Rattle.markdown_base.proofs.Common.{drop-next}
-use Rattle.markdown_tokenizer.specs.Configuration.{Local}
-use Rattle.markdown_tokenizer.specs.Text.{Given, Text}
-use Rattle.mdconstructs_tables.specs.Cases.{AreTestsOf}
-use Rattle.mdconstructs_tables.specs.Looks.{Glance, goes_on, is_over, Look, glance, looked_on, one_more as one_call, shows}
-use Rattle.mdconstructs_tables.specs.Rows.{Rows, consume, write, row, when}
-use Rattle.mdconstructs_machines.specs.Breaks.{one_more}
-use Rattle.mdconstructs_flow.specs.CodeFenced.{fence_ends, flow_before_raw_rows, raw_flow_look_info_rows}
-use Rattle.mdconstructs_flow.specs.FlowBytes.{flow_byte}
-use Rattle.mdconstructs_flow.specs.FlowTable.{flow, unchanged}
-use Rattle.mdconstructs_flow.specs.FlowWrites.{kind_becomes, size_grows, at_mark, has_three, is_tilde_fence}
-use Rattle.mdconstructs_flow_read.specs.LeafBlocks.{bytes_of}
-use Rattle.mdconstructs_flow_read.specs.LineKinds.{Fence, run}
-use Rattle.mdconstructs_flow_read.specs.SeenKinds.{SeenKind, fence, text}
-use Rattle.mdconstructs_flow_read.specs.LooksFind.{IsInLine, LeavesAll, LineEnds}
+use Rattle.mdconstructs_flow_read.proofs.Prelude.{◌≡◌, ◌<◌, ℕ, suc, ◌+◌, ◌-◌, ◌^◌, ◌==◌, ◌&&◌, ◌||◌, not, ◌∷◌, ◌++◌, List, [], Bool, true, false, cond, Option, Some, refl, sym, ap, ◌∙◌, subst, drop, length, nat_le, arith, list_all, eqb-true, Event, EventName, CodeFenced, Name, Next, Retry, Ok, Nok, FlowBeforeRaw, RawFlowLookInfo, Seat, drop-next, Local, Given, Text, AreTestsOf, Glance, goes_on, is_over, Look, glance, looked_on, one_call, shows, Rows, consume, write, row, when, one_more, fence_ends, flow_before_raw_rows, raw_flow_look_info_rows, flow_byte, flow, unchanged, kind_becomes, size_grows, at_mark, has_three, is_tilde_fence, bytes_of, Fence, run, SeenKind, fence, text, IsInLine, LeavesAll, LineEnds}
 use Rattle.mdconstructs_flow_read.proofs.Looks.ByteClasses.{feed-is, fence-is, tick-is}
 use Rattle.mdconstructs_flow_read.proofs.Looks.CountRoom.{grows, room-on}
 use Rattle.mdconstructs_flow_read.proofs.Looks.LineTests.{fences_on, fence-mark, fence-other, run-on, run-ends}

@@ -1,13 +1,7 @@
 -- What a line is, by its first byte that is not white space.
-use Rattle.std.proofs.Common.{◌≡◌, ℕ, suc, ◌+◌, ◌==◌, ◌&&◌, ◌||◌, not, nat_le, List, ◌∷◌, true, false, cond, take, drop, length, filter, refl, sym, ap, ◌∙◌, arith}
-use Rattle.std.specs.List.{list_all}
-use Rattle.std.proofs.Math.Bool.{and-false, or-false}
-use Rattle.std.proofs.lemmas.Bool.{le-leb}
-use Rattle.markdown_base.specs.declared.configuration.Constructs.{Constructs}
+use Rattle.mdconstructs_flow_read.proofs.Prelude.{◌≡◌, ℕ, suc, ◌+◌, ◌==◌, ◌&&◌, ◌||◌, not, nat_le, List, ◌∷◌, true, false, cond, take, drop, length, filter, refl, sym, ap, ◌∙◌, arith, list_all, and-false, or-false, le-leb, Constructs, is_blank_line, is_atx_heading, is_break_of_marks, is_thematic_break, is_underline_of_marks, is_fence_of, run, underline, heading, fence, html, thematic_break, text, html_number}
 use Rattle.mdconstructs_flow_read.proofs.Lines.TestedKinds.{tested_rest}
-use Rattle.mdconstructs_flow_read.specs.LineKinds.{is_blank_line, is_atx_heading, is_break_of_marks, is_thematic_break, is_underline_of_marks, is_fence_of, run}
 use Rattle.mdconstructs_flow_read.proofs.Tags.HtmlNumbers.{number-is}
-use Rattle.mdconstructs_flow_read.specs.SeenKinds.{underline, heading, fence, html, thematic_break, text, html_number}
 use Rattle.mdconstructs_flow_read.proofs.Looks.LineTests.{breaks_on, underlines_on, fences_on, heads_on, underline-mark, run-on}
 
 one-more : (n : ℕ) → 1 + n ≡ suc n

@@ -1,23 +1,5 @@
 -- The look at an ATX heading: its number signs, and how long its text is.
-use Rattle.std.proofs.Common.{◌≡◌, ◌<◌, ℕ, suc, ◌+◌, ◌-◌, ◌^◌, ◌==◌, ◌∷◌, ◌++◌, List, [], Bool, true, false, cond, Option, Some, refl, sym, ap, ◌∙◌, subst, length}
-use Rattle.std.proofs.lemmas.Bool.{eqb-true}
-use Rattle.markdown_base.specs.declared.event.Event.{Event}
-use Rattle.markdown_base.specs.declared.event.Name.{Name as EventName}
-use Rattle.markdown_base.specs.declared.event.Name.TheVariants.{HeadingAtx}
-use Rattle.markdown_base.specs.declared.state.Name.{Name}
-use Rattle.markdown_base.specs.declared.state.State.TheVariants.{Next, Ok}
-use Rattle.mdconstructs_flow.specs.declared.names.TheConstants.{HeadingAtxLookText, HeadingAtxLookBlank, HeadingAtxLookSigns, HeadingAtxLookAfter}
-use Rattle.markdown_base.specs.Virtual.{Seat}
-use Rattle.markdown_tokenizer.specs.Configuration.{Local}
-use Rattle.markdown_tokenizer.specs.Text.{Given, Text}
-use Rattle.mdconstructs_tables.specs.Looks.{Look, shows}
-use Rattle.mdconstructs_tables.specs.Rows.{Rows, consume, write, row}
-use Rattle.mdconstructs_machines.specs.Breaks.{is_white, one_more}
-use Rattle.mdconstructs_flow.specs.FlowTable.{unchanged}
-use Rattle.mdconstructs_flow.specs.FlowWrites.{count_grows, text_grows, signs_end, signs_were_text}
-use Rattle.mdconstructs_flow.specs.HeadingAtx.{heading_atx_look_text_rows, heading_atx_look_blank_rows, heading_atx_look_signs_rows, heading_atx_look_after_rows}
-use Rattle.mdconstructs_flow_read.specs.LeafBlocks.{bytes_of}
-use Rattle.mdconstructs_flow_read.specs.LooksFind.{IsInLine, LeavesAll, LineEnds}
+use Rattle.mdconstructs_flow_read.proofs.Prelude.{◌≡◌, ◌<◌, ℕ, suc, ◌+◌, ◌-◌, ◌^◌, ◌==◌, ◌∷◌, ◌++◌, List, [], Bool, true, false, cond, Option, Some, refl, sym, ap, ◌∙◌, subst, length, eqb-true, Event, EventName, HeadingAtx, Name, Next, Ok, HeadingAtxLookText, HeadingAtxLookBlank, HeadingAtxLookSigns, HeadingAtxLookAfter, Seat, Local, Given, Text, Look, shows, Rows, consume, write, row, is_white, one_more, unchanged, count_grows, text_grows, signs_end, signs_were_text, heading_atx_look_text_rows, heading_atx_look_blank_rows, heading_atx_look_signs_rows, heading_atx_look_after_rows, bytes_of, IsInLine, LeavesAll, LineEnds}
 use Rattle.mdconstructs_flow_read.proofs.Looks.ByteClasses.{feed-is, sign-is, blank-is}
 use Rattle.mdconstructs_flow_read.proofs.Looks.CountRoom.{grows, room-on}
 use Rattle.mdconstructs_flow_read.proofs.Looks.HeadingTexts.{Counted, text_back, turned, white-read, other-read, sign-in-text, sign-in-closing, sign-behind-white, text-before-white}

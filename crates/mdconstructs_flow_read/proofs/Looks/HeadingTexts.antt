@@ -1,11 +1,5 @@
 -- The text of an ATX heading, as it is read: how long it is behind each byte.
-use Rattle.std.proofs.Common.{◌≡◌, ℕ, suc, ◌+◌, ◌==◌, List, [], ◌∷◌, ◌++◌, Bool, true, false, cond, take, drop, length, reverse, refl, sym, ap, ◌∙◌, append_assoc, append-nil, arith}
-use Rattle.std.proofs.lemmas.Bool.{eqb-true}
-use Rattle.std.specs.List.{prefix_len}
-use Rattle.std.proofs.lemmas.Grind.{reverse_onto}
-use Rattle.std.proofs.lemmas.List.{reverse-reverse, length-reverse}
-use Rattle.mdconstructs_machines.specs.Breaks.{is_white}
-use Rattle.mdconstructs_flow_read.specs.LineKinds.{is_blank_line, trimmed, heading_text}
+use Rattle.mdconstructs_flow_read.proofs.Prelude.{◌≡◌, ℕ, suc, ◌+◌, ◌==◌, List, [], ◌∷◌, ◌++◌, Bool, true, false, cond, take, drop, length, reverse, refl, sym, ap, ◌∙◌, append_assoc, append-nil, arith, eqb-true, prefix_len, reverse_onto, reverse-reverse, length-reverse, is_white, is_blank_line, trimmed, heading_text}
 
 -- without the bytes at the front that pass a test
 abbrev pub behind : (ℕ → Bool) → List ℕ → List ℕ

@@ -1,32 +1,8 @@
 -- The look at a line: over its indentation, and on by its first other byte.
-use Rattle.std.proofs.Common.{◌≡◌, ◌<◌, ◌≤◌, ℕ, zero, suc, ◌+◌, ◌-◌, ◌^◌, ◌==◌, ◌&&◌, ◌∷◌, ◌++◌, List, [], Bool, true, false, cond, Option, Some, refl, sym, ap, ◌∙◌, subst, drop, length, nat_le, arith}
-use Rattle.std.proofs.Math.Bool.{and-false}
-use Rattle.std.proofs.lemmas.Bool.{eqb-true, le-leb}
-use Rattle.markdown_base.specs.declared.configuration.Constructs.{Constructs}
-use Rattle.markdown_base.specs.declared.event.Event.{Event}
-use Rattle.markdown_base.specs.declared.event.Name.{Name as EventName}
-use Rattle.markdown_base.specs.declared.event.Name.TheVariants.{BlankLineEnding, CodeIndented}
-use Rattle.markdown_base.specs.declared.state.State.TheVariants.{Next, Ok, Nok}
-use Rattle.markdown_base.specs.declared.state.TheConstants.Name.{FlowBeforeHeadingAtx, FlowBeforeHeadingSetext, FlowBeforeRaw, FlowBeforeThematicBreak, FlowBlankLineBefore, HtmlFlowOpen}
-use Rattle.markdown_base.specs.Virtual.{Seat}
-use Rattle.markdown_base.proofs.Common.{drop-next}
-use Rattle.markdown_tokenizer.specs.Configuration.{Configuration, Local}
-use Rattle.markdown_tokenizer.specs.Sight.{Sight, sight}
-use Rattle.markdown_tokenizer.specs.Text.{Given, Text}
-use Rattle.mdconstructs_tables.specs.Cases.{AreTestsOf}
-use Rattle.mdconstructs_tables.specs.Looks.{Look, shows}
-use Rattle.mdconstructs_tables.specs.Rows.{Rows, consume, write, row, when}
-use Rattle.mdconstructs_machines.specs.Breaks.{is_white, one_more}
-use Rattle.mdconstructs_flow.specs.FlowTable.{unchanged}
-use Rattle.mdconstructs_flow.specs.FlowBytes.{flow_byte}
-use Rattle.mdconstructs_flow.specs.FlowWrites.{breaks_are_on, fences_are_on, headings_are_on, indent_grows, is_indented, kind_becomes, mark_becomes, size_becomes, underlines_are_on}
-use Rattle.mdconstructs_flow.specs.HtmlWrites.{html_is_on}
-use Rattle.mdconstructs_flow.specs.Look.{break_may_begin, dash_may_begin, equals_may_begin, fence_may_begin, flow_blank_line_before_rows, heading_may_begin, html_may_begin, text_may_begin, underline_may_begin}
+use Rattle.mdconstructs_flow_read.proofs.Prelude.{◌≡◌, ◌<◌, ◌≤◌, ℕ, zero, suc, ◌+◌, ◌-◌, ◌^◌, ◌==◌, ◌&&◌, ◌∷◌, ◌++◌, List, [], Bool, true, false, cond, Option, Some, refl, sym, ap, ◌∙◌, subst, drop, length, nat_le, arith, and-false, eqb-true, le-leb, Constructs, Event, EventName, BlankLineEnding, CodeIndented, Next, Ok, Nok, FlowBeforeHeadingAtx, FlowBeforeHeadingSetext, FlowBeforeRaw, FlowBeforeThematicBreak, FlowBlankLineBefore, HtmlFlowOpen, Seat, drop-next, Configuration, Local, Sight, sight, Given, Text, AreTestsOf, Look, shows, Rows, consume, write, row, when, is_white, one_more, unchanged, flow_byte, breaks_are_on, fences_are_on, headings_are_on, indent_grows, kind_becomes, mark_becomes, size_becomes, underlines_are_on, html_is_on, break_may_begin, dash_may_begin, equals_may_begin, fence_may_begin, flow_blank_line_before_rows, heading_may_begin, html_may_begin, text_may_begin, underline_may_begin, bytes_of, Fence, heading_text, indent, is_blank_line, is_thematic_break, run, unindented, SeenKind, heading, fence, html, underline, thematic_break, text, seen_kind, html_number, FindsHtml, HtmlIsSeen, IsInLine, LeavesAll, LineEnds, LinesAreSeen}
+use Rattle.mdconstructs_flow.specs.FlowWrites.{is_indented}
 use Rattle.mdconstructs_flow_read.proofs.Lines.TestedKinds.{seen-is-tested, tested_rest}
-use Rattle.mdconstructs_flow_read.specs.LeafBlocks.{bytes_of}
-use Rattle.mdconstructs_flow_read.specs.LineKinds.{Fence, heading_text, indent, is_blank_line, is_thematic_break, run, unindented}
-use Rattle.mdconstructs_flow_read.specs.SeenKinds.{SeenKind, blank, indented, heading, fence, html, underline, thematic_break, text, seen_kind, html_number}
-use Rattle.mdconstructs_flow_read.specs.LooksFind.{FindsHtml, HtmlIsSeen, IsInLine, LeavesAll, LineEnds, LinesAreSeen}
+use Rattle.mdconstructs_flow_read.specs.SeenKinds.{blank, indented}
 use Rattle.mdconstructs_flow_read.proofs.Looks.BreakLooks.{break-found, is_break_mark}
 use Rattle.mdconstructs_flow_read.proofs.Looks.ByteClasses.{blank-is, dash-is, equals-is, feed-is, less-is, sign-is, star-is, tick-is, tilde-is, underscore-is}
 use Rattle.mdconstructs_flow_read.proofs.Looks.CountRoom.{grows, room-on}

@@ -1,9 +1,5 @@
 -- What lines are, byte by byte.
-use Rattle.std.proofs.Common.{◌≡◌, ℕ, suc, ◌+◌, ◌==◌, ◌&&◌, ◌||◌, not, nat_le, List, [], ◌∷◌, Bool, true, false, take, drop, length, filter, refl, sym, ap, ◌∙◌, arith, cond}
-use Rattle.std.specs.List.{list_all}
-use Rattle.std.proofs.lemmas.Bool.{eqb-true}
-use Rattle.mdconstructs_machines.specs.Breaks.{is_white}
-use Rattle.mdconstructs_flow_read.specs.LineKinds.{is_blank_line, run}
+use Rattle.mdconstructs_flow_read.proofs.Prelude.{◌≡◌, ℕ, suc, ◌+◌, ◌==◌, ◌&&◌, ◌||◌, not, nat_le, List, [], ◌∷◌, Bool, true, false, take, drop, length, filter, refl, sym, ap, ◌∙◌, arith, cond, list_all, eqb-true, is_white, is_blank_line, run}
 use Rattle.mdconstructs_flow_read.proofs.Looks.HeadingTexts.{goes, stops}
 
 -- behind so many marks the rest of a line makes a thematic break

@@ -1,23 +1,5 @@
 -- Steps of looks at lines: what a look finds at a byte, or at the end of the line, is what the rows there say.
-use Rattle.std.proofs.Common.{◌≡◌, ℕ, suc, ◌+◌, ◌==◌, ◌∷◌, List, [], Bool, true, false, cond, Option, Some, refl, sym, ap, ◌∙◌, subst, drop, slice_get}
-use Rattle.markdown_base.specs.declared.event.Event.{Event}
-use Rattle.markdown_base.specs.declared.event.Name.{Name as EventName}
-use Rattle.markdown_base.specs.declared.state.Name.{Name}
-use Rattle.markdown_base.specs.Virtual.{Seat}
-use Rattle.markdown_tokenizer.specs.Configuration.{Configuration, Local}
-use Rattle.markdown_tokenizer.specs.Sight.{Sight, byte_of, sight}
-use Rattle.markdown_tokenizer.specs.Text.{Given, Text}
-use Rattle.mdconstructs_tables.proofs.Cases.{at-byte}
-use Rattle.mdconstructs_tables.proofs.Looks.Left.{at-front}
-use Rattle.mdconstructs_tables.proofs.Looks.Tests.{told, told_by}
-use Rattle.mdconstructs_tables.specs.Cases.{AreTestsOf, rows_at_byte, rows_in}
-use Rattle.mdconstructs_tables.specs.Looks.{Look, glance, looked_on, scan, shows, unfed_look}
-use Rattle.mdconstructs_tables.specs.Rows.{Rows, when, picked}
-use Rattle.mdconstructs_flow.specs.FlowBytes.{Cased, flow_byte, line_feed}
-use Rattle.mdconstructs_flow.specs.FlowTable.{flow, unchanged}
-use Rattle.mdconstructs_flow.specs.FlowWrites.{at_mark, is_byte}
-use Rattle.mdconstructs_flow_read.specs.SeenKinds.{SeenKind}
-use Rattle.mdconstructs_flow_read.specs.LooksFind.{Finds, LeavesAll, LineEnds}
+use Rattle.mdconstructs_flow_read.proofs.Prelude.{◌≡◌, ℕ, suc, ◌+◌, ◌==◌, ◌∷◌, List, [], Bool, true, false, cond, Option, Some, refl, sym, ap, ◌∙◌, subst, drop, slice_get, Event, EventName, Name, Seat, Configuration, Local, Sight, byte_of, sight, Given, Text, at-byte, at-front, told, told_by, AreTestsOf, rows_at_byte, rows_in, Look, glance, looked_on, scan, shows, unfed_look, Rows, when, picked, Cased, flow_byte, line_feed, flow, unchanged, at_mark, is_byte, SeenKind, Finds, LeavesAll, LineEnds}
 
 -- one of two, by a test that is known
 pub by-true : {X : Type 0} (P : X → Type 0) (t : Bool) (x y : X) → t ≡ true → P x → P (cond t x y)

@@ -1,26 +1,5 @@
 -- The look at the number signs of an ATX heading, and behind them.
-use Rattle.std.proofs.Common.{◌≡◌, ◌<◌, ◌≤◌, ℕ, suc, ◌+◌, ◌-◌, ◌^◌, ◌==◌, ◌&&◌, ◌∷◌, ◌++◌, List, [], Bool, true, false, cond, Option, Some, refl, sym, ap, ◌∙◌, subst, drop, take, length, nat_le, nat_lt, arith}
-use Rattle.std.proofs.Math.Bool.{and-false}
-use Rattle.std.proofs.lemmas.Bool.{eqb-true, le-leb, lt-leb, ltb-true, ltb-false}
-use Rattle.markdown_base.specs.declared.event.Event.{Event}
-use Rattle.markdown_base.specs.declared.event.Name.{Name as EventName}
-use Rattle.markdown_base.specs.declared.event.Name.TheVariants.{HeadingAtx}
-use Rattle.markdown_base.specs.declared.state.State.TheVariants.{Next, Ok, Nok}
-use Rattle.markdown_base.specs.declared.state.TheConstants.Name.{FlowBeforeHeadingAtx}
-use Rattle.mdconstructs_flow.specs.declared.names.TheConstants.{HeadingAtxLookStart, HeadingAtxLookText, HeadingAtxLookSigns}
-use Rattle.markdown_base.specs.Virtual.{Seat}
-use Rattle.markdown_tokenizer.specs.Configuration.{Local}
-use Rattle.markdown_tokenizer.specs.Text.{Given, Text}
-use Rattle.mdconstructs_tables.specs.Looks.{shows}
-use Rattle.mdconstructs_tables.specs.Rows.{Rows, consume, write, row, when}
-use Rattle.mdconstructs_machines.specs.Breaks.{is_white, one_more}
-use Rattle.mdconstructs_flow.specs.FlowTable.{unchanged}
-use Rattle.mdconstructs_flow.specs.FlowWrites.{count_becomes, count_grows, has_room, kind_becomes, size_becomes, size_grows, text_grows}
-use Rattle.mdconstructs_flow.specs.HeadingAtx.{flow_before_heading_atx_rows, heading_atx_look_start_rows}
-use Rattle.mdconstructs_flow_read.specs.LeafBlocks.{bytes_of}
-use Rattle.mdconstructs_flow_read.specs.LineKinds.{heading_text, is_blank_line, run, unindented}
-use Rattle.mdconstructs_flow_read.specs.SeenKinds.{SeenKind, heading, text}
-use Rattle.mdconstructs_flow_read.specs.LooksFind.{IsInLine, LeavesAll, LineEnds, text_behind_signs}
+use Rattle.mdconstructs_flow_read.proofs.Prelude.{◌≡◌, ◌<◌, ◌≤◌, ℕ, suc, ◌+◌, ◌-◌, ◌^◌, ◌==◌, ◌&&◌, ◌∷◌, ◌++◌, List, [], Bool, true, false, cond, Option, Some, refl, sym, ap, ◌∙◌, subst, drop, take, length, nat_le, nat_lt, arith, and-false, eqb-true, le-leb, lt-leb, ltb-true, ltb-false, Event, EventName, HeadingAtx, Next, Ok, Nok, FlowBeforeHeadingAtx, HeadingAtxLookStart, HeadingAtxLookText, HeadingAtxLookSigns, Seat, Local, Given, Text, shows, Rows, consume, write, row, when, is_white, one_more, unchanged, count_becomes, count_grows, has_room, kind_becomes, size_becomes, size_grows, text_grows, flow_before_heading_atx_rows, heading_atx_look_start_rows, bytes_of, heading_text, is_blank_line, run, unindented, SeenKind, heading, text, IsInLine, LeavesAll, LineEnds, text_behind_signs}
 use Rattle.mdconstructs_flow_read.proofs.Looks.ByteClasses.{feed-is, sign-is, blank-is}
 use Rattle.mdconstructs_flow_read.proofs.Looks.HeadingLooks.{Heads, count-on, text-found, three_tests}
 use Rattle.mdconstructs_flow_read.proofs.Looks.HeadingTexts.{Counted, goes, nothing-counted, other-read, sign-behind-white, stops, text_back, text-turned, turned}

@@ -1,29 +1,5 @@
 -- The look at the marks of an underline, which with dashes may come to a thematic break.
-use Rattle.std.proofs.Common.{◌≡◌, ◌<◌, ℕ, suc, ◌+◌, ◌-◌, ◌^◌, ◌==◌, ◌&&◌, ◌||◌, ◌∷◌, ◌++◌, List, [], Bool, true, false, cond, Option, Some, refl, sym, ap, ◌∙◌, subst, drop, length, nat_le}
-use Rattle.std.proofs.Math.Bool.{and-false}
-use Rattle.std.proofs.lemmas.Bool.{eqb-true}
-use Rattle.markdown_base.specs.declared.event.Event.{Event}
-use Rattle.markdown_base.specs.declared.event.Name.{Name as EventName}
-use Rattle.markdown_base.specs.declared.event.Name.TheVariants.{HeadingSetextUnderline}
-use Rattle.markdown_base.specs.declared.state.State.TheVariants.{Next, Ok, Nok}
-use Rattle.markdown_base.specs.declared.state.TheConstants.Name.{FlowBeforeThematicBreak, FlowBeforeHeadingSetext}
-use Rattle.mdconstructs_flow.specs.declared.names.TheConstants.{HeadingSetextLookAfter}
-use Rattle.markdown_base.specs.Virtual.{Seat}
-use Rattle.markdown_base.proofs.Common.{drop-next}
-use Rattle.markdown_tokenizer.specs.Configuration.{Local}
-use Rattle.markdown_tokenizer.specs.Text.{Given, Text}
-use Rattle.mdconstructs_tables.specs.Cases.{AreTestsOf}
-use Rattle.mdconstructs_tables.specs.Looks.{Look, shows}
-use Rattle.mdconstructs_tables.specs.Rows.{Rows, consume, write, row, when}
-use Rattle.mdconstructs_machines.specs.Breaks.{is_white, one_more}
-use Rattle.mdconstructs_flow.specs.FlowTable.{unchanged}
-use Rattle.mdconstructs_flow.specs.FlowBytes.{flow_byte}
-use Rattle.mdconstructs_flow.specs.FlowWrites.{kind_becomes, size_grows, at_mark, breaks_are_on}
-use Rattle.mdconstructs_flow.specs.HeadingSetext.{flow_before_heading_setext_rows, heading_setext_look_after_rows, further_dash}
-use Rattle.mdconstructs_flow_read.specs.LeafBlocks.{bytes_of}
-use Rattle.mdconstructs_flow_read.specs.LineKinds.{is_blank_line, is_thematic_break}
-use Rattle.mdconstructs_flow_read.specs.SeenKinds.{SeenKind, thematic_break, text, underline}
-use Rattle.mdconstructs_flow_read.specs.LooksFind.{IsInLine, LeavesAll, LineEnds}
+use Rattle.mdconstructs_flow_read.proofs.Prelude.{◌≡◌, ◌<◌, ℕ, suc, ◌+◌, ◌-◌, ◌^◌, ◌==◌, ◌&&◌, ◌||◌, ◌∷◌, ◌++◌, List, [], Bool, true, false, cond, Option, Some, refl, sym, ap, ◌∙◌, subst, drop, length, nat_le, and-false, eqb-true, Event, EventName, HeadingSetextUnderline, Next, Ok, Nok, FlowBeforeThematicBreak, FlowBeforeHeadingSetext, HeadingSetextLookAfter, Seat, drop-next, Local, Given, Text, AreTestsOf, Look, shows, Rows, consume, write, row, when, is_white, one_more, unchanged, flow_byte, kind_becomes, size_grows, at_mark, breaks_are_on, flow_before_heading_setext_rows, heading_setext_look_after_rows, further_dash, bytes_of, is_blank_line, is_thematic_break, SeenKind, thematic_break, text, underline, IsInLine, LeavesAll, LineEnds}
 use Rattle.mdconstructs_flow_read.proofs.Looks.BreakLooks.{break-found}
 use Rattle.mdconstructs_flow_read.proofs.Looks.ByteClasses.{feed-is, dash-is, underline-is, blank-is}
 use Rattle.mdconstructs_flow_read.proofs.Looks.CountRoom.{grows, room-on, room-less}

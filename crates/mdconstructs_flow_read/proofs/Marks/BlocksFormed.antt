@@ -1,13 +1,7 @@
 -- The events of leaf blocks are well formed.
-use Rattle.markdown_base.specs.Virtual.{virtual}
-use Rattle.mdconstructs_machines.specs.LineEvents.{lines_in}
+use Rattle.mdconstructs_flow_read.proofs.Prelude.{virtual, lines_in, BlocksAreFormed, flow_told, leaf_blocks, leaf_blocks_marks, before_edits}
 use Rattle.mdconstructs_flow_read.proofs.Marks.LeafSpans.{flow-told-keeps, leaf-blocks-keep}
 use Rattle.mdconstructs_flow_read.proofs.Marks.MarkForms.{Forms, forms-kept, whole-formed}
-use Rattle.mdconstructs_flow_read.specs.BlocksFormed.{BlocksAreFormed}
-use Rattle.mdconstructs_flow_read.specs.BlocksTold.{flow_told}
-use Rattle.mdconstructs_flow_read.specs.LeafBlocks.{leaf_blocks}
-use Rattle.mdconstructs_flow_read.specs.LeafEvents.{leaf_blocks_marks}
-use Rattle.mdconstructs_flow_read.specs.ToldMarks.{before_edits}
 
 pub blocks-are-formed : BlocksAreFormed
 blocks-are-formed = record {

@@ -1,17 +1,9 @@
 -- The chunks of leaf blocks join: each that has a next one stands directly before it.
-use Rattle.std.proofs.Common.{◌≡◌, inl, inr, ℕ, ◌+◌, List, [], sym, ap, ◌∙◌, subst, arith, Some}
-use Rattle.std.proofs.lemmas.List.{append-nil}
-use Rattle.std.specs.Prelude.{slice_get}
-use Rattle.markdown_base.specs.declared.event.Event.{Event}
-use Rattle.markdown_base.specs.Virtual.{point, virtual}
-use Rattle.markdown_edits.specs.Links.{content_at, next_of, previous_of}
-use Rattle.mdconstructs_machines.specs.LineEvents.{lines_in}
+use Rattle.mdconstructs_flow_read.proofs.Prelude.{◌≡◌, inl, inr, ℕ, ◌+◌, List, [], sym, ap, ◌∙◌, subst, arith, Some, append-nil, slice_get, Event, point, virtual, next_of, previous_of, lines_in, BlocksJoin, ChunksJoin, IsDirectlyBehind, leaf_blocks, Mark, leaf_blocks_marks, linked_from}
+use Rattle.markdown_edits.specs.Links.{content_at}
 use Rattle.mdconstructs_flow_read.proofs.Marks.LeafSpans.{leaf-blocks-keep}
 use Rattle.mdconstructs_flow_read.proofs.Marks.MarkForms.{Track, whole-track}
 use Rattle.mdconstructs_flow_read.proofs.Marks.MarkRuns.{Runs, RunsOver, each-begins, next-found, nothing, previous-found, runs-kept}
-use Rattle.mdconstructs_flow_read.specs.ChunksJoin.{BlocksJoin, ChunksJoin, IsDirectlyBehind}
-use Rattle.mdconstructs_flow_read.specs.LeafBlocks.{leaf_blocks}
-use Rattle.mdconstructs_flow_read.specs.LeafEvents.{Mark, leaf_blocks_marks, linked_from}
 
 module _ (marks : List Mark) (h : Runs marks nothing) where
   abbrev es : List Event

@@ -1,13 +1,7 @@
 -- Leaf blocks are all their lines, and their marks account for each virtual byte.
-use Rattle.std.proofs.Common.{◌≡◌, ℕ, zero, suc, ◌≤◌, List, [], ◌∷◌, ◌++◌, false, not, append_assoc, length, take, drop, length-append, length-drop, refl, sym, ap, ◌∙◌, subst, arith}
-use Rattle.std.specs.List.{AllByRecursion}
-use Rattle.std.proofs.lemmas.List.{append-nil}
-use Rattle.markdown_base.specs.declared.configuration.Constructs.{Constructs}
+use Rattle.mdconstructs_flow_read.proofs.Prelude.{◌≡◌, ℕ, zero, suc, ◌≤◌, List, [], ◌∷◌, ◌++◌, false, not, append_assoc, length, take, drop, length-append, length-drop, refl, sym, ap, ◌∙◌, subst, arith, AllByRecursion, append-nil, Constructs, lines-are-all, AccountFor, all_of, ending_of, line_text, lines_in, block_lines, last_ending, paragraph_told, underline_told, Line, LeafBlock, blank_line, break_line, atx_heading, paragraph, setext_heading, indented_code, fenced_code, html_block, block_of_kind, blocks_in, leaf_blocks, text_of, line_kind, block_told, blocks_told, flow_told, as_it_is, before_edits, mark_before, flat_map, map, None, map-append, Enter, Exit, Seat, end_after, event, Mark, block_around, block_span, body, code_marks, last_end, leaf_block_marks, leaf_blocks_marks, span_marks, string_chunk, text_chunk, text_marks, underline_inside, underline_marks, FlowAccounts}
 use Rattle.markdown_base.specs.declared.event.Content.TheVariants as content
 use Rattle.markdown_base.specs.declared.event.Name.TheVariants as name
-use Rattle.mdconstructs_machines.proofs.BlockReads.Accounts.{lines-are-all}
-use Rattle.mdconstructs_machines.specs.Innermost.{AccountFor}
-use Rattle.mdconstructs_machines.specs.LineEvents.{all_of, ending_of, line_text, lines_in}
 use Rattle.mdconstructs_flow_read.proofs.Marks.Cuts.{IsLong, cut}
 use Rattle.mdconstructs_flow_read.proofs.Marks.FullBlocks.{IsFull, StartsText, leaf-blocks-full}
 use Rattle.mdconstructs_flow_read.proofs.Marks.MarkAccounts.{AreSpans, accounts-kept, bare, linked-spans}
@@ -15,20 +9,6 @@ use Rattle.mdconstructs_flow_read.proofs.Lines.Lines.{all-of-split, body-and-tex
 use Rattle.mdconstructs_flow_read.proofs.Marks.MarkLists.{kept-before}
 use Rattle.mdconstructs_flow_read.proofs.Marks.MarkSpans.{IsKeptBySpans, no-spans, over, spans-around, spans-block, spans-both, spans-break, spans-code, spans-code-fenced-around, spans-data, spans-heading-around, spans-html, spans-last, spans-leaf, spans-lines, spans-text, spans-underline}
 use Rattle.mdconstructs_flow_read.proofs.Lines.WholeLines.{IsWhole, body-and-last, text-and-ending, whole-lines}
-use Rattle.mdconstructs_flow_read.specs.BlockLines.{block_lines}
-use Rattle.mdconstructs_flow_read.specs.BlocksRead.{last_ending, paragraph_told, underline_told}
-use Rattle.mdconstructs_flow_read.specs.LeafBlocks.{Line, LeafBlock, blank_line, break_line, atx_heading, paragraph, setext_heading, indented_code, fenced_code, html_block, block_of_kind, blocks_in, leaf_blocks, text_of}
-use Rattle.mdconstructs_flow_read.specs.LineKinds.{line_kind}
-use Rattle.mdconstructs_flow_read.specs.BlocksTold.{block_told, blocks_told, flow_told}
-use Rattle.mdconstructs_flow_read.specs.ToldMarks.{as_it_is, before_edits, mark_before}
-use Rattle.std.specs.List.{flat_map}
-use Rattle.std.specs.Prelude.{map, None}
-use Rattle.std.proofs.lemmas.List.{map-append}
-use Rattle.markdown_base.specs.declared.event.Kind.TheVariants.{Enter, Exit}
-use Rattle.markdown_base.specs.Virtual.{Seat, end_after}
-use Rattle.mdconstructs_machines.specs.Spans.{event}
-use Rattle.mdconstructs_flow_read.specs.LeafEvents.{Mark, block_around, block_span, body, code_marks, last_end, leaf_block_marks, leaf_blocks_marks, span_marks, string_chunk, text_chunk, text_marks, underline_inside, underline_marks}
-use Rattle.mdconstructs_flow_read.specs.FlowAccounts.{FlowAccounts}
 
 last-is : (lines : List Line) (below : Line) → last_ending (lines ++ below ∷ []) ≡ ending_of below
 last-is [] below = refl

@@ -1,19 +1,9 @@
 -- Marks of spans account for their virtual bytes: each byte is in one innermost span.
-use Rattle.std.proofs.Common.{◌≡◌, ℕ, ◌+◌, List, [], ◌∷◌, ◌++◌, cond, false, Option, Some, None, append_assoc, map, refl, sym, ap, ◌∙◌, subst}
-use Rattle.std.specs.List.{flat_map}
-use Rattle.std.proofs.lemmas.List.{map-append}
-use Rattle.markdown_base.specs.declared.event.Event.{Event}
-use Rattle.markdown_base.specs.declared.event.Kind.TheVariants.{Enter, Exit}
+use Rattle.mdconstructs_flow_read.proofs.Prelude.{◌≡◌, ℕ, ◌+◌, List, [], ◌∷◌, ◌++◌, cond, false, Option, Some, None, append_assoc, map, refl, sym, ap, ◌∙◌, subst, flat_map, map-append, Event, Enter, Exit, is_enter, Seat, end_after, enter-more, exit-more, span-more, AccountFor, ended_next, innermost_spans, event, Chunk, Mark, alone, chunk_span, linked_from, span_marks}
 use Rattle.markdown_base.specs.declared.event.Name.{Name}
 use Rattle.markdown_base.specs.declared.event.Name.TheVariants as name
-use Rattle.markdown_base.specs.Events.{is_enter}
-use Rattle.markdown_base.specs.Virtual.{Seat, end_after}
-use Rattle.mdconstructs_machines.proofs.Innermost.{enter-more, exit-more, span-more}
-use Rattle.mdconstructs_machines.specs.Innermost.{AccountFor, ended_next, innermost_spans}
-use Rattle.mdconstructs_machines.specs.Spans.{event}
 use Rattle.mdconstructs_flow_read.proofs.Marks.MarkSpans.{IsKeptBySpans, text-by-chunks}
 use Rattle.mdconstructs_flow_read.proofs.Marks.ToldEdits.{first-linked, mark_at}
-use Rattle.mdconstructs_flow_read.specs.LeafEvents.{Chunk, Mark, alone, chunk_span, linked_from, span_marks}
 
 -- the events of marks, without links
 abbrev pub bare : List Mark → List Event

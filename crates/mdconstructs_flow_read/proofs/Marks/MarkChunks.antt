@@ -1,18 +1,8 @@
 -- Chunks in the marks of leaf blocks: only lines of text have chunks that are linked, and each of these is an enter and an exit.
-use Rattle.std.proofs.Common.{◌≡◌, ℕ, zero, suc, ◌+◌, List, [], ◌∷◌, ◌++◌, Bool, true, false, cond, Some, None, take, drop, refl}
-use Rattle.std.specs.Prelude.{◌-◌, length, not}
-use Rattle.std.specs.List.{AllByRecursion, prefix_len}
-use Rattle.markdown_base.proofs.Common.{every-append}
-use Rattle.markdown_base.specs.declared.event.Content.{Content}
+use Rattle.mdconstructs_flow_read.proofs.Prelude.{◌≡◌, ℕ, zero, suc, ◌+◌, List, [], ◌∷◌, ◌++◌, Bool, true, false, cond, Some, None, take, drop, refl, ◌-◌, length, not, AllByRecursion, prefix_len, every-append, Content, Seat, is_white, all_of, ending_of, line_text, Line, LeafBlock, blank_line, break_line, atx_heading, paragraph, setext_heading, indented_code, fenced_code, html_block, bytes_of, Mark, alone, body, chunk_span, span_marks, leaf_marks, line_end, sequence_marks, break_marks, heading_marks, fence_marks, code_marks, lines_marks, block_span, last_end, fenced_marks, code_fenced_marks, html_marks, leaf_block_marks, underline_inside, Fence, heading_text, indent, run, unindented}
 use Rattle.markdown_base.specs.declared.event.Content.TheVariants as content
 use Rattle.markdown_base.specs.declared.event.Name.{Name}
 use Rattle.markdown_base.specs.declared.event.Name.TheVariants as name
-use Rattle.markdown_base.specs.Virtual.{Seat}
-use Rattle.mdconstructs_machines.specs.Breaks.{is_white}
-use Rattle.mdconstructs_machines.specs.LineEvents.{all_of, ending_of, line_text}
-use Rattle.mdconstructs_flow_read.specs.LeafBlocks.{Line, LeafBlock, blank_line, break_line, atx_heading, paragraph, setext_heading, indented_code, fenced_code, html_block, bytes_of}
-use Rattle.mdconstructs_flow_read.specs.LeafEvents.{Mark, alone, body, chunk_span, span_marks, leaf_marks, line_end, sequence_marks, break_marks, heading_marks, fence_marks, code_marks, lines_marks, block_span, last_end, fenced_marks, code_fenced_marks, html_marks, leaf_block_marks, underline_inside}
-use Rattle.mdconstructs_flow_read.specs.LineKinds.{Fence, heading_text, indent, run, unindented}
 
 -- a mark without a chunk, or with one that stands alone and has a content of some kind
 abbrev pub IsSingle : (Content → Type 0) → Mark → Type 0

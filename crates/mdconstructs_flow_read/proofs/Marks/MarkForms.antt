@@ -1,33 +1,9 @@
 -- Marks of spans over a document's virtual bytes are well formed: balanced, void spans empty, at places, and in order of these.
-use Rattle.std.proofs.Common.{◌≡◌, ℕ, zero, suc, ◌+◌, ◌<◌, List, [], ◌∷◌, ◌++◌, Bool, true, false, cond, Option, Some, None, append_assoc, refl, sym, ap, ◌∙◌, subst, arith}
-use Rattle.std.specs.Prelude.{AllPairs}
-use Rattle.std.specs.List.{AllByRecursion}
-use Rattle.std.proofs.lemmas.List.{map-append, append-nil}
-use Rattle.std.proofs.lemmas.List.Elements.{All-from_recursion}
-use Rattle.std.proofs.lemmas.List.Kept.{AllPairs-cons}
-use Rattle.std.proofs.lemmas.Option.{none-some, same_Some}
-use Rattle.markdown_base.proofs.Common.{every-append, every-map}
-use Rattle.markdown_base.proofs.Seats.{end-after-append, end-after-one, stands-self}
-use Rattle.markdown_base.specs.declared.event.Event.{Event}
-use Rattle.markdown_base.specs.declared.event.Kind.TheVariants.{Enter, Exit}
+use Rattle.mdconstructs_flow_read.proofs.Prelude.{◌≡◌, ℕ, zero, suc, ◌+◌, ◌<◌, List, [], ◌∷◌, ◌++◌, Bool, true, false, cond, Option, Some, None, append_assoc, refl, sym, ap, ◌∙◌, subst, arith, AllPairs, AllByRecursion, map-append, append-nil, All-from_recursion, AllPairs-cons, none-some, same_Some, every-append, every-map, end-after-append, end-after-one, stands-self, Event, Enter, Exit, Point, is_void, same_name, IsVoidTight, IsPointOf, IsShown, shown, stands_before, Seat, end_after, point, virtual, balanced_from_open, names_after_all-append, same_name-refl, names_after, names_after_all, upto-upto, IsChain, whole-chain, after-is-point, chain-at, chain-upto, IsWellFormed, Given, IsDocument, event, Chunk, Mark, alone, linked_from}
 use Rattle.markdown_base.specs.declared.event.Name.{Name}
 use Rattle.markdown_base.specs.declared.event.Name.TheVariants as name
-use Rattle.markdown_base.specs.declared.event.Point.{Point}
-use Rattle.markdown_base.specs.Events.{is_void, same_name, IsVoidTight}
-use Rattle.markdown_base.specs.Places.{IsPointOf, IsShown, shown, stands_before}
-use Rattle.markdown_base.specs.Virtual.{Seat, end_after, point, virtual}
-use Rattle.markdown_edits.proofs.Balanced.{balanced_from_open, names_after_all-append, same_name-refl}
-use Rattle.markdown_edits.specs.OpenNames.{names_after, names_after_all}
-use Rattle.markdown_tokenizer.proofs.Inside.Made.{upto-upto}
-use Rattle.markdown_tokenizer.proofs.Positions.Chains.{IsChain, whole-chain}
-use Rattle.markdown_tokenizer.proofs.Positions.SeatLaws.{after-is-point}
-use Rattle.markdown_tokenizer.proofs.Positions.Standing.{chain-at, chain-upto}
-use Rattle.markdown_tokenizer.specs.Engine.{IsWellFormed}
-use Rattle.markdown_tokenizer.specs.Text.{Given, IsDocument}
-use Rattle.mdconstructs_machines.specs.Spans.{event}
 use Rattle.mdconstructs_flow_read.proofs.Marks.MarkAccounts.{bare}
 use Rattle.mdconstructs_flow_read.proofs.Marks.MarkSpans.{IsKeptBySpans, text-by-chunks}
-use Rattle.mdconstructs_flow_read.specs.LeafEvents.{Chunk, Mark, alone, linked_from}
 
 -- ---- void spans
 

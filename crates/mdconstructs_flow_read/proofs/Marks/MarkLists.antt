@@ -1,13 +1,5 @@
 -- Lists of marks, and of marks that edits rename: one behind another, as events and as edits.
-use Rattle.std.proofs.Common.{◌≡◌, ℕ, suc, ◌+◌, ◌-◌, ◌<◌, List, [], ◌∷◌, ◌++◌, cond, Some, None, length, map, refl, sym, ap, ◌∙◌, arith, append_assoc, length-append}
-use Rattle.std.proofs.lemmas.Grind.{flat_map-append}
-use Rattle.std.proofs.lemmas.List.{length-map, map-append}
-use Rattle.std.specs.List.{AllByRecursion}
-use Rattle.markdown_base.specs.declared.event.Event.{Event}
-use Rattle.markdown_edits.specs.Edits.{Edit, edit_at}
-use Rattle.mdconstructs_flow.specs.HeadingEdits.{under}
-use Rattle.mdconstructs_flow_read.specs.LeafEvents.{Chunk, Mark, linked_from}
-use Rattle.mdconstructs_flow_read.specs.ToldMarks.{ToldMark, as_it_is, under_names, before_edits, behind_edits, mark_before, marks_behind, told_edits}
+use Rattle.mdconstructs_flow_read.proofs.Prelude.{◌≡◌, ℕ, suc, ◌+◌, ◌-◌, ◌<◌, List, [], ◌∷◌, ◌++◌, cond, Some, None, length, map, refl, sym, ap, ◌∙◌, arith, append_assoc, length-append, flat_map-append, length-map, map-append, AllByRecursion, Event, Edit, edit_at, under, Chunk, Mark, linked_from, ToldMark, as_it_is, under_names, before_edits, behind_edits, mark_before, marks_behind, told_edits}
 
 -- ---- events
 

@@ -1,24 +1,11 @@
 -- Runs of chunks among marks: a chunk that has a next one is followed by its exit and by that one.
-use Rattle.std.proofs.Common.{◌≡◌, ◌⊎◌, inl, inr, ℕ, zero, suc, ◌+◌, ◌-◌, List, [], ◌∷◌, ◌++◌, Bool, true, false, cond, Some, None, append_assoc, refl, sym, ap, ◌∙◌, subst, arith}
-use Rattle.std.specs.Prelude.{slice_get, option_and_then}
-use Rattle.std.specs.List.{AllByRecursion}
-use Rattle.markdown_base.specs.declared.event.Content.{Content}
+use Rattle.mdconstructs_flow_read.proofs.Prelude.{◌≡◌, ◌⊎◌, inl, inr, ℕ, zero, suc, ◌+◌, ◌-◌, List, [], ◌∷◌, ◌++◌, Bool, true, false, cond, Some, None, append_assoc, refl, sym, ap, ◌∙◌, subst, arith, slice_get, option_and_then, AllByRecursion, Content, Event, Enter, Exit, Point, is_void, shown, Seat, end_after, IsLinkedEnter, next_of, previous_of, line_text, event, Line, Chunk, Mark, body, chunk_span, linked_from, text_marks}
 use Rattle.markdown_base.specs.declared.event.Content.TheVariants as content
-use Rattle.markdown_base.specs.declared.event.Event.{Event}
-use Rattle.markdown_base.specs.declared.event.Kind.TheVariants.{Enter, Exit}
 use Rattle.markdown_base.specs.declared.event.Name.TheVariants as name
-use Rattle.markdown_base.specs.declared.event.Point.{Point}
-use Rattle.markdown_base.specs.Events.{is_void}
-use Rattle.markdown_base.specs.Places.{shown}
-use Rattle.markdown_base.specs.Virtual.{Seat, end_after}
-use Rattle.markdown_edits.specs.Links.{IsLinkedEnter, content_at, next_of, previous_of}
-use Rattle.mdconstructs_machines.specs.LineEvents.{line_text}
-use Rattle.mdconstructs_machines.specs.Spans.{event}
+use Rattle.markdown_edits.specs.Links.{content_at}
 use Rattle.mdconstructs_flow_read.proofs.Marks.FullBlocks.{StartsText}
 use Rattle.mdconstructs_flow_read.proofs.Marks.MarkForms.{Track, track-on, track-place}
 use Rattle.mdconstructs_flow_read.proofs.Marks.MarkSpans.{IsKeptBySpans}
-use Rattle.mdconstructs_flow_read.specs.LeafBlocks.{Line}
-use Rattle.mdconstructs_flow_read.specs.LeafEvents.{Chunk, Mark, body, chunk_span, linked_from, text_marks}
 
 -- what has to come: nothing, the exit of a chunk, or the next chunk at a place
 pub data Due : Type 0 where

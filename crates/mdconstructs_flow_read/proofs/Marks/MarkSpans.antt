@@ -1,22 +1,9 @@
 -- What holds of spans over virtual bytes, and of marks one after another, holds of the marks of leaf blocks over their lines.
-use Rattle.std.proofs.Common.{◌≡◌, ℕ, zero, suc, ◌+◌, ◌-◌, ◌≤◌, List, [], ◌∷◌, ◌++◌, Bool, true, false, cond, not, Option, append_assoc, length, length-drop, take, drop, refl, sym, ap, ◌∙◌, subst, arith}
-use Rattle.std.specs.Prelude.{min}
-use Rattle.std.specs.List.{AllByRecursion, prefix_len}
-use Rattle.std.proofs.lemmas.List.{append-nil, take-append-drop, length-map}
-use Rattle.std.proofs.lemmas.List.Sums.{prefix_len-le-length}
-use Rattle.markdown_base.specs.declared.event.Content.{Content}
+use Rattle.mdconstructs_flow_read.proofs.Prelude.{◌≡◌, ℕ, zero, suc, ◌+◌, ◌-◌, ◌≤◌, List, [], ◌∷◌, ◌++◌, Bool, true, false, cond, not, Option, append_assoc, length, length-drop, take, drop, refl, sym, ap, ◌∙◌, subst, arith, min, AllByRecursion, prefix_len, append-nil, take-append-drop, length-map, prefix_len-le-length, Content, is_void, Seat, is_white, all_of, ending_of, line_text, last_ending, block_seats, Line, bytes_of, Chunk, Mark, alone, block_span, body, break_marks, chunk_span, code_fenced_around, code_marks, fence_around, fenced_marks, heading_around, html_marks, last_end, leaf_marks, lines_marks, sequence_marks, span_marks, text_marks, underline_marks, Fence, heading_text, indent, run, unindented}
 use Rattle.markdown_base.specs.declared.event.Name.{Name}
 use Rattle.markdown_base.specs.declared.event.Name.TheVariants as name
-use Rattle.markdown_base.specs.Events.{is_void}
-use Rattle.markdown_base.specs.Virtual.{Seat}
-use Rattle.mdconstructs_machines.specs.Breaks.{is_white}
-use Rattle.mdconstructs_machines.specs.LineEvents.{all_of, ending_of, line_text}
 use Rattle.mdconstructs_flow_read.proofs.Marks.FullBlocks.{StartsText}
 use Rattle.mdconstructs_flow_read.proofs.Lines.WholeLines.{IsWhole, body-and-last, part-behind, text-and-ending, text-behind, three-parts, whole-behind}
-use Rattle.mdconstructs_flow_read.specs.BlocksRead.{last_ending, block_seats}
-use Rattle.mdconstructs_flow_read.specs.LeafBlocks.{Line, bytes_of}
-use Rattle.mdconstructs_flow_read.specs.LeafEvents.{Chunk, Mark, alone, block_span, body, break_marks, chunk_span, code_fenced_around, code_marks, fence_around, fenced_marks, heading_around, html_marks, last_end, leaf_marks, lines_marks, sequence_marks, span_marks, text_marks, underline_marks}
-use Rattle.mdconstructs_flow_read.specs.LineKinds.{Fence, heading_text, indent, run, unindented}
 
 -- What is said of marks over virtual bytes is kept by marks behind others, by spans, alone and around others, and by lines of text
 pub record IsKeptBySpans (bytes : List ℕ) (P : List Mark → List Seat → Type 0) : Type 0 where

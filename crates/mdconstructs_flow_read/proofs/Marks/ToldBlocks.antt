@@ -1,26 +1,11 @@
 -- The edits of setext headings make the events of leaf blocks.
-use Rattle.std.proofs.Common.{◌≡◌, ℕ, ◌+◌, ◌≤◌, List, [], ◌∷◌, ◌++◌, Bool, true, false, Some, None, append_assoc, map, refl, sym, ap, ◌∙◌, subst, arith}
-use Rattle.std.specs.Prelude.{◌==◌}
-use Rattle.std.specs.List.{AllByRecursion}
-use Rattle.std.proofs.lemmas.List.{map-append}
-use Rattle.markdown_base.proofs.Seats.{end-after-append}
-use Rattle.markdown_base.specs.declared.event.Content.{Content}
-use Rattle.markdown_base.specs.declared.event.Kind.TheVariants.{Enter, Exit}
+use Rattle.mdconstructs_flow_read.proofs.Prelude.{◌≡◌, ℕ, ◌+◌, ◌≤◌, List, [], ◌∷◌, ◌++◌, Bool, true, false, Some, None, append_assoc, map, refl, sym, ap, ◌∙◌, subst, arith, ◌==◌, AllByRecursion, map-append, end-after-append, Content, Enter, Exit, Seat, end_after, line_text, lines_in, event, heading_told, paragraph_told, underline_told, EditsMakeBlocks, block_told, blocks_told, flow_told, Line, LeafBlock, blank_line, break_line, atx_heading, paragraph, setext_heading, indented_code, fenced_code, html_block, leaf_blocks, Chunk, Mark, body, block_span, chunk_span, last_end, leaf_block_marks, leaf_blocks_marks, linked_from, span_marks, text_marks, underline_inside, underline_marks, ChunksStand, TwoAreKept, ToldMark, as_it_is, under_names, behind_edits}
 use Rattle.markdown_base.specs.declared.event.Name.{Name}
 use Rattle.markdown_base.specs.declared.event.Name.TheVariants as name
-use Rattle.markdown_base.specs.Virtual.{Seat, end_after}
-use Rattle.mdconstructs_machines.specs.LineEvents.{line_text, lines_in}
-use Rattle.mdconstructs_machines.specs.Spans.{event}
 use Rattle.mdconstructs_flow_read.proofs.Marks.FullBlocks.{IsFull, StartsText, leaf-blocks-full}
 use Rattle.mdconstructs_flow_read.proofs.Marks.MarkChunks.{IsSingle, AreSingle, single-last, single-block-marks, single-underline}
 use Rattle.mdconstructs_flow_read.proofs.Marks.MarkLists.{behind-append, kept-behind}
 use Rattle.mdconstructs_flow_read.proofs.Marks.ToldEdits.{edits-give-names}
-use Rattle.mdconstructs_flow_read.specs.BlocksRead.{heading_told, paragraph_told, underline_told}
-use Rattle.mdconstructs_flow_read.specs.BlocksTold.{EditsMakeBlocks, block_told, blocks_told, flow_told}
-use Rattle.mdconstructs_flow_read.specs.LeafBlocks.{Line, LeafBlock, blank_line, break_line, atx_heading, paragraph, setext_heading, indented_code, fenced_code, html_block, leaf_blocks}
-use Rattle.mdconstructs_flow_read.specs.LeafEvents.{Chunk, Mark, body, block_span, chunk_span, last_end, leaf_block_marks, leaf_blocks_marks, linked_from, span_marks, text_marks, underline_inside, underline_marks}
-use Rattle.mdconstructs_flow_read.specs.ToldChunks.{ChunksStand, TwoAreKept}
-use Rattle.mdconstructs_flow_read.specs.ToldMarks.{ToldMark, as_it_is, under_names, behind_edits}
 
 -- ---- chunks stand
 

@@ -1,23 +1,6 @@
 -- Edits give marks their names, and the ends of links lead to where their events are then.
-use Rattle.std.proofs.Common.{◌≡◌, ℕ, suc, ◌+◌, ◌-◌, ◌≤◌, List, [], ◌∷◌, ◌++◌, Bool, true, false, cond, Option, Some, None, length, map, refl, sym, ap, ◌∙◌, subst, arith}
-use Rattle.std.specs.Prelude.{option_map, option_and_then}
-use Rattle.std.proofs.lemmas.Bool.Decides.{nat_tests}
-use Rattle.markdown_base.specs.declared.event.Event.{Event}
-use Rattle.markdown_base.specs.declared.event.Name.{Name as EventName}
-use Rattle.markdown_base.specs.Events.{relinked, with_ends}
-use Rattle.markdown_edits.specs.Edits.{edit_at, AreDisjoint}
-use Rattle.markdown_edits.specs.Edited.{as_addition, as_change}
-use Rattle.markdown_edits.specs.Woven.{of_list, Tagged, as_listed, place_in, placed_end, woven}
-use Rattle.markdown_edits.proofs.Edits.Passes.{AreApart, events_at-none, is_removed-none, woven-at}
-use Rattle.markdown_edits.proofs.Edits.Splices.{AreApart-edits}
-use Rattle.mdconstructs_flow.specs.HeadingEdits.{under}
-use Rattle.mdconstructs_flow.specs.Laws.Renamings.{map-two, told-apart}
-use Rattle.mdconstructs_flow.specs.Renamings.{Told, kept as as_told, renamed, edits_from}
-use Rattle.mdconstructs_flow_read.specs.LeafEvents.{Chunk, Mark, linked_from}
-use Rattle.mdconstructs_flow_read.specs.ToldChunks.{TwoAreKept, ChunksStand, EditsGiveNames}
-use Rattle.mdconstructs_flow_read.specs.ToldMarks.{ToldMark, as_it_is, under_names, before_edits, behind_edits, told_edits}
+use Rattle.mdconstructs_flow_read.proofs.Prelude.{◌≡◌, ℕ, suc, ◌+◌, ◌-◌, ◌≤◌, List, [], ◌∷◌, ◌++◌, Bool, true, false, cond, Option, Some, None, length, map, refl, sym, ap, ◌∙◌, subst, arith, option_map, option_and_then, nat_tests, Event, EventName, relinked, with_ends, edit_at, AreDisjoint, as_addition, as_change, of_list, Tagged, as_listed, place_in, placed_end, woven, AreApart, events_at-none, is_removed-none, woven-at, AreApart-edits, under, map-two, told-apart, Told, as_told, renamed, edits_from, Chunk, Mark, linked_from, TwoAreKept, ChunksStand, EditsGiveNames, ToldMark, as_it_is, under_names, before_edits, behind_edits, told_edits, length-map}
 use Rattle.mdconstructs_flow_read.proofs.Marks.MarkLists.{chunk_at}
-use Rattle.std.proofs.lemmas.List.{length-map}
 
 -- ---- the edits
 

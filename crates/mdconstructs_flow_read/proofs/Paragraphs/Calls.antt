@@ -1,25 +1,7 @@
 -- What the calls of a paragraph's states come to, by the byte that waits.
-use Rattle.std.proofs.Common.{◌≡◌, ℕ, suc, ◌==◌, [], ◌∷◌, Bool, true, false, cond, Option, Some, None, refl, ap, ◌∙◌}
-use Rattle.markdown_base.specs.declared.event.Name.TheVariants.{Data, Paragraph}
-use Rattle.markdown_base.specs.declared.event.Point.{Point}
-use Rattle.markdown_base.specs.declared.state.Name.{Name}
-use Rattle.markdown_base.specs.declared.state.State.TheVariants.{Next, Retry}
-use Rattle.markdown_base.specs.declared.state.TheConstants.Name.{FlowAfter, FlowBeforeContent, ParagraphInside, ParagraphLineStart, ParagraphStart}
-use Rattle.mdconstructs_flow.specs.declared.names.TheConstants.{ParagraphLineAfter, ParagraphLookStart}
-use Rattle.markdown_tokenizer.specs.declared.waiting.AttemptKind.TheVariants.{Check}
-use Rattle.markdown_tokenizer.specs.Calls.{consumed, entered, exited, linked, with_local}
-use Rattle.markdown_tokenizer.specs.Configuration.{Configuration}
-use Rattle.markdown_tokenizer.specs.Sight.{Sight}
-use Rattle.markdown_tokenizer.specs.Text.{Given}
-use Rattle.mdconstructs_tables.specs.Chunks.{alone, chunk_before, connected, is_connected, last_event}
-use Rattle.mdconstructs_tables.specs.Rows.{Row, Rows, row, choose, class_of, consume, does, enter_link, exit, links, picked, when, write}
-use Rattle.mdconstructs_tables.specs.Stretches.{Halt, to_come, over, one_call_more, row_comes_to, reads_byte, halt}
-use Rattle.mdconstructs_machines.specs.Paragraphs.{text_link}
-use Rattle.mdconstructs_flow.specs.FlowBytes.{FlowByte, cased, flow_byte, is_line_feed, line_feed}
-use Rattle.mdconstructs_flow.specs.FlowTable.{flow}
-use Rattle.mdconstructs_flow.specs.HeadingEdits.{paragraph_begins}
+use Rattle.mdconstructs_flow_read.proofs.Prelude.{◌≡◌, ℕ, suc, ◌==◌, [], ◌∷◌, Bool, true, false, cond, Option, Some, None, refl, ap, ◌∙◌, Data, Paragraph, Point, Name, Next, Retry, FlowAfter, FlowBeforeContent, ParagraphInside, ParagraphLineStart, ParagraphStart, ParagraphLineAfter, ParagraphLookStart, Check, consumed, entered, exited, linked, with_local, Configuration, Sight, Given, chunk_before, connected, is_connected, last_event, Row, Rows, row, choose, class_of, consume, does, enter_link, exit, links, picked, when, write, Halt, to_come, over, one_call_more, row_comes_to, reads_byte, halt, text_link, FlowByte, cased, flow_byte, is_line_feed, line_feed, flow, paragraph_begins, paragraph_line_after_rows, flow_before_content_rows, paragraph_inside_rows, paragraph_start_rows}
+use Rattle.mdconstructs_tables.specs.Chunks.{alone}
 use Rattle.mdconstructs_flow_read.proofs.Lines.RowReads.{counted}
-use Rattle.mdconstructs_flow.specs.Paragraph.{paragraph_line_after_rows, flow_before_content_rows, paragraph_inside_rows, paragraph_start_rows}
 
 -- the state behind a block
 abbrev pub until : Name → Bool

@@ -1,7 +1,5 @@
 -- A chunk is linked to the chunk before.
-use Rattle.std.proofs.Common.{◌≡◌, ℕ, zero, suc, ◌+◌, List, [], ◌∷◌, ◌++◌, length, refl, sym, ap, ◌∙◌, arith, append_assoc, length-append}
-use Rattle.markdown_base.specs.declared.event.Event.{Event}
-use Rattle.markdown_edits.specs.Links.{linked_to, updated_at, with_next, with_previous}
+use Rattle.mdconstructs_flow_read.proofs.Prelude.{◌≡◌, ℕ, zero, suc, ◌+◌, List, [], ◌∷◌, ◌++◌, length, refl, sym, ap, ◌∙◌, arith, append_assoc, length-append, Event, linked_to, updated_at, with_next, with_previous}
 
 updated-there : (f : Event → Event) (xs : List Event) (e : Event) (ys : List Event) (i : ℕ) → i ≡ length xs → updated_at i f (xs ++ e ∷ ys) ≡ xs ++ f e ∷ ys
 updated-there f [] e ys zero h = refl

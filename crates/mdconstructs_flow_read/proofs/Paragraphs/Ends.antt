@@ -1,30 +1,5 @@
 -- At a line ending in a paragraph: whether it goes on, ends, or becomes a heading, by what the next line is.
-use Rattle.std.proofs.Common.{◌≡◌, ℕ, suc, ◌<◌, ◌^◌, ◌-◌, List, [], ◌∷◌, ◌++◌, inl, inr, Bool, true, false, cond, not, Some, drop, length, refl, sym, ap, ◌∙◌, subst}
-use Rattle.markdown_base.specs.declared.event.Name.TheVariants.{Data, Paragraph}
-use Rattle.markdown_base.specs.declared.event.Point.{Point}
-use Rattle.markdown_base.specs.declared.state.Name.{Name}
-use Rattle.markdown_base.specs.declared.state.State.{State}
-use Rattle.markdown_base.specs.declared.state.State.TheVariants.{Ok, Retry}
-use Rattle.markdown_base.specs.declared.state.TheConstants.Name.{FlowAfter, ParagraphInside, ParagraphLineStart}
-use Rattle.mdconstructs_flow.specs.declared.names.TheConstants.{ParagraphLineAfter, HeadingSetextTextAfter, ParagraphLookStart}
-use Rattle.markdown_base.specs.Places.{shown}
-use Rattle.markdown_base.specs.Virtual.{Seat}
-use Rattle.markdown_tokenizer.specs.declared.waiting.Waits.TheVariants.{Byte}
-use Rattle.markdown_tokenizer.specs.Calls.{exited, with_local}
-use Rattle.markdown_tokenizer.specs.Configuration.{Configuration, Local}
-use Rattle.markdown_tokenizer.specs.Sight.{Sight, byte_of, end_place, seat_before}
-use Rattle.markdown_tokenizer.specs.Text.{Given, Text}
-use Rattle.mdconstructs_tables.specs.Looks.{Look}
-use Rattle.mdconstructs_tables.specs.Rows.{Row, class_of, does, exit, picked, write}
-use Rattle.mdconstructs_tables.specs.Stretches.{Halt, ahead, fed_before, halt, over, reads_byte, row_comes_to, sight_before, stretch}
-use Rattle.mdconstructs_flow.specs.FlowBytes.{cased, flow_byte, line_feed}
-use Rattle.mdconstructs_flow.specs.FlowTable.{flow, unchanged}
-use Rattle.mdconstructs_flow.specs.HeadingEdits.{paragraph_ends}
-use Rattle.mdconstructs_flow.specs.Paragraph.{paragraph_inside, paragraph_line_start_rows}
-use Rattle.mdconstructs_flow_read.specs.LeafBlocks.{bytes_of}
-use Rattle.mdconstructs_flow_read.specs.LineKinds.{unindented}
-use Rattle.mdconstructs_flow_read.specs.SeenKinds.{is_underline, seen_ends, SeenKind, seen_kind}
-use Rattle.mdconstructs_flow_read.specs.LooksFind.{Finds, IsInLine, LeavesAll, LineEnds, LinesAreSeen}
+use Rattle.mdconstructs_flow_read.proofs.Prelude.{◌≡◌, ℕ, suc, ◌<◌, ◌^◌, ◌-◌, List, [], ◌∷◌, ◌++◌, inl, inr, Bool, true, false, cond, not, Some, drop, length, refl, sym, ap, ◌∙◌, subst, Data, Paragraph, Point, Name, State, Ok, Retry, FlowAfter, ParagraphInside, ParagraphLineStart, ParagraphLineAfter, HeadingSetextTextAfter, ParagraphLookStart, shown, Seat, Byte, exited, with_local, Configuration, Local, Sight, byte_of, end_place, seat_before, Given, Text, Look, Row, class_of, does, exit, picked, write, Halt, ahead, fed_before, halt, over, reads_byte, row_comes_to, sight_before, stretch, cased, flow_byte, line_feed, flow, unchanged, paragraph_ends, paragraph_inside, paragraph_line_start_rows, bytes_of, unindented, is_underline, seen_ends, SeenKind, seen_kind, Finds, IsInLine, LeavesAll, LineEnds, LinesAreSeen}
 use Rattle.mdconstructs_flow_read.proofs.Lines.Checks.{checks-nok, checks-ok, looks}
 use Rattle.mdconstructs_flow_read.proofs.Lines.KindsOfLines.{IsPossible, possible}
 use Rattle.mdconstructs_flow_read.proofs.Lines.Leading.{Leads, from-leads, leads-on, stretch-leads}

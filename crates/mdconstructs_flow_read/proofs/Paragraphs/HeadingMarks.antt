@@ -1,16 +1,6 @@
 -- The edits at the end of an underline are those that the told marks of its heading say.
-use Rattle.std.proofs.Common.{◌≡◌, ℕ, ◌+◌, ◌-◌, ◌<◌, List, [], ◌∷◌, ◌++◌, Some, None, length, map, sym, ap, ◌∙◌, arith, append_assoc, length-append}
-use Rattle.std.specs.Prelude.{slice_get}
-use Rattle.std.specs.List.{AllByRecursion}
-use Rattle.std.proofs.lemmas.List.{length-map, map-append}
-use Rattle.markdown_base.specs.declared.event.Event.{Event}
+use Rattle.mdconstructs_flow_read.proofs.Prelude.{◌≡◌, ℕ, ◌+◌, ◌-◌, ◌<◌, List, [], ◌∷◌, ◌++◌, Some, None, length, map, sym, ap, ◌∙◌, arith, append_assoc, length-append, slice_get, AllByRecursion, length-map, map-append, Event, Edit, added_after, edit_at, slice_get-behind, renaming, under, with_names, added-last, below-more, Mark, linked_from, ToldMark, as_it_is, under_names, before_edits, mark_before, told_edits}
 use Rattle.markdown_base.specs.declared.event.Name.{Name}
-use Rattle.markdown_edits.specs.Edits.{Edit, added_after, edit_at}
-use Rattle.markdown_edits.proofs.Edits.Survivors.{slice_get-behind}
-use Rattle.mdconstructs_flow.specs.HeadingEdits.{renaming, under, with_names}
-use Rattle.mdconstructs_flow.specs.Laws.Headings.{added-last, below-more}
-use Rattle.mdconstructs_flow_read.specs.LeafEvents.{Mark, linked_from}
-use Rattle.mdconstructs_flow_read.specs.ToldMarks.{ToldMark, as_it_is, under_names, before_edits, mark_before, told_edits}
 use Rattle.mdconstructs_flow_read.proofs.Marks.MarkLists.{edits-append, kept-before, kept-edits, linked-append, linked-length}
 
 -- the event of a mark, at its place

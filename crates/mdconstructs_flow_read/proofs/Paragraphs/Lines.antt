@@ -1,30 +1,5 @@
 -- A paragraph, line by line: where its text stands at a line ending, and what comes of the rest.
-use Rattle.std.proofs.Common.{◌≡◌, ℕ, ◌+◌, ◌-◌, ◌==◌, List, [], ◌∷◌, ◌++◌, Bool, true, false, cond, Option, Some, None, drop, length, refl, sym, ap, ◌∙◌, subst, arith, append-nil, append_assoc, length-append}
-use Rattle.markdown_base.specs.declared.event.Content.TheVariants.{Text as TextContent}
-use Rattle.markdown_base.specs.declared.event.Event.{Event}
-use Rattle.markdown_base.specs.declared.event.Kind.TheVariants.{Enter, Exit}
-use Rattle.markdown_base.specs.declared.event.Name.TheVariants.{Data, Paragraph}
-use Rattle.markdown_base.specs.declared.event.Point.{Point}
-use Rattle.markdown_base.specs.declared.state.State.{State}
-use Rattle.markdown_base.specs.declared.state.State.TheVariants.{Retry}
-use Rattle.markdown_base.specs.declared.state.TheConstants.Name.{FlowAfter, ParagraphInside, ParagraphStart}
-use Rattle.mdconstructs_flow.specs.declared.names.TheConstants.{ParagraphLineAfter, HeadingSetextTextAfter}
-use Rattle.markdown_base.specs.Virtual.{Seat, end_after}
-use Rattle.markdown_edits.specs.Links.{linked_to}
-use Rattle.markdown_tokenizer.specs.declared.waiting.Waits.TheVariants.{Byte}
-use Rattle.markdown_tokenizer.specs.Calls.{consumed, exited, with_local}
-use Rattle.markdown_tokenizer.specs.Configuration.{Configuration, Local}
-use Rattle.markdown_tokenizer.specs.Sight.{Sight, byte_of, end_place, seat_before}
-use Rattle.markdown_tokenizer.specs.Text.{Given, Text}
-use Rattle.mdconstructs_tables.specs.Looks.{waits_at}
-use Rattle.mdconstructs_tables.specs.Stretches.{fed_before, sight_before}
-use Rattle.mdconstructs_machines.specs.LineEvents.{ending_of, line_text}
-use Rattle.mdconstructs_machines.specs.Spans.{event}
-use Rattle.mdconstructs_flow.specs.FlowBytes.{flow_byte}
-use Rattle.mdconstructs_flow_read.specs.BlocksRead.{last_ending}
-use Rattle.mdconstructs_flow_read.specs.LeafBlocks.{Line}
-use Rattle.mdconstructs_flow_read.specs.LeafEvents.{Mark, body, chunk_span, linked_from, text_marks}
-use Rattle.mdconstructs_flow_read.specs.LooksFind.{IsInLine, LeavesAll}
+use Rattle.mdconstructs_flow_read.proofs.Prelude.{◌≡◌, ℕ, ◌+◌, ◌-◌, ◌==◌, List, [], ◌∷◌, ◌++◌, Bool, true, false, cond, Option, Some, None, drop, length, refl, sym, ap, ◌∙◌, subst, arith, append-nil, append_assoc, length-append, TextContent, Event, Enter, Exit, Data, Paragraph, Point, State, Retry, FlowAfter, ParagraphInside, ParagraphStart, ParagraphLineAfter, HeadingSetextTextAfter, Seat, end_after, linked_to, Byte, consumed, exited, with_local, Configuration, Local, Sight, byte_of, end_place, seat_before, Given, Text, waits_at, fed_before, sight_before, ending_of, line_text, event, flow_byte, last_ending, Line, Mark, body, chunk_span, linked_from, text_marks, IsInLine, LeavesAll, end-after-one}
 use Rattle.mdconstructs_flow_read.proofs.Looks.ByteClasses.{feed-is}
 use Rattle.mdconstructs_flow_read.proofs.Lines.Leading.{Leads, leads-on, stretch-leads}
 use Rattle.mdconstructs_flow_read.proofs.Lines.LineReads.{behind-line}
@@ -33,7 +8,6 @@ use Rattle.mdconstructs_flow_read.proofs.Paragraphs.ChunkLinks.{linked-last}
 use Rattle.mdconstructs_flow_read.proofs.Lines.RowReads.{counted}
 use Rattle.mdconstructs_flow_read.proofs.Paragraphs.Calls.{continued, further-line, line-ends, until}
 use Rattle.mdconstructs_flow_read.proofs.Paragraphs.Texts.{Begins, Stops, begins-fed, more_behind, reads, stops-on, to-end, to-feed}
-use Rattle.markdown_base.proofs.Seats.{end-after-one}
 
 -- what is kept along a paragraph
 pub record Keeps (before after : Local Unit Unit) : Type 0 where

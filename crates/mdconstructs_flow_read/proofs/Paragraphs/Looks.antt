@@ -1,29 +1,6 @@
 -- The look at the next line, from the line ending in a paragraph, and what it says of the paragraph's end.
-use Rattle.std.proofs.Common.{◌≡◌, ℕ, ◌+◌, ◌-◌, ◌<◌, ◌≤◌, ◌^◌, ◌==◌, ◌&&◌, ◌||◌, ◌⊎◌, inl, inr, not, nat_le, List, ◌∷◌, ◌++◌, Bool, false, Option, Some, drop, length, refl, sym, ap, ◌∙◌, subst, arith, length-append}
-use Rattle.std.proofs.lemmas.List.{length-drop}
-use Rattle.std.proofs.lemmas.Bool.Decides.{nat_tests}
-use Rattle.markdown_base.proofs.Common.{drop-next}
-use Rattle.markdown_base.specs.Events.{same_name}
-use Rattle.markdown_base.specs.declared.event.Event.{Event}
-use Rattle.markdown_base.specs.declared.event.Name.{Name as EventName}
-use Rattle.markdown_base.specs.declared.event.Name.TheVariants.{CodeIndented, HeadingSetextUnderline, HtmlFlow}
-use Rattle.markdown_base.specs.declared.state.State.{State}
-use Rattle.markdown_base.specs.declared.state.State.TheVariants.{Ok, Nok}
-use Rattle.markdown_base.specs.declared.state.TheConstants.Name.{FlowBlankLineBefore}
-use Rattle.mdconstructs_flow.specs.declared.names.TheConstants.{ParagraphLookStart}
-use Rattle.markdown_base.specs.Virtual.{Seat}
-use Rattle.markdown_tokenizer.specs.Configuration.{Local}
-use Rattle.markdown_tokenizer.specs.Sight.{sight}
-use Rattle.markdown_tokenizer.specs.Text.{Given, Text}
-use Rattle.mdconstructs_tables.specs.Looks.{Look, behind_byte, by_row, glance, looked_on, scan, shows, uncalled}
-use Rattle.mdconstructs_tables.specs.Rows.{class_of, picked}
-use Rattle.mdconstructs_flow.specs.FlowBytes.{cased, flow_byte, line_feed}
-use Rattle.mdconstructs_flow.specs.FlowTable.{flow, unchanged}
-use Rattle.mdconstructs_flow.specs.Look.{paragraph_look_start_rows}
-use Rattle.mdconstructs_flow_read.specs.LeafBlocks.{bytes_of}
-use Rattle.mdconstructs_flow_read.specs.LineKinds.{unindented}
-use Rattle.mdconstructs_flow_read.specs.SeenKinds.{seen_ends, SeenKind, blank, indented, heading, fence, html, underline, thematic_break, text, seen_kind, is_underline}
-use Rattle.mdconstructs_flow_read.specs.LooksFind.{Finds, IsInLine, LeavesAll, LineEnds, LinesAreSeen}
+use Rattle.mdconstructs_flow_read.proofs.Prelude.{◌≡◌, ℕ, ◌+◌, ◌-◌, ◌<◌, ◌≤◌, ◌^◌, ◌==◌, ◌&&◌, ◌||◌, ◌⊎◌, inl, inr, not, nat_le, List, ◌∷◌, ◌++◌, Bool, false, Option, Some, drop, length, refl, sym, ap, ◌∙◌, subst, arith, length-append, length-drop, nat_tests, drop-next, same_name, Event, EventName, CodeIndented, HeadingSetextUnderline, HtmlFlow, State, Ok, Nok, FlowBlankLineBefore, ParagraphLookStart, Seat, Local, sight, Given, Text, Look, behind_byte, by_row, glance, looked_on, scan, shows, uncalled, class_of, picked, cased, flow_byte, line_feed, flow, unchanged, paragraph_look_start_rows, bytes_of, unindented, seen_ends, SeenKind, heading, fence, html, underline, thematic_break, text, seen_kind, is_underline, Finds, IsInLine, LeavesAll, LineEnds, LinesAreSeen}
+use Rattle.mdconstructs_flow_read.specs.SeenKinds.{blank, indented}
 use Rattle.mdconstructs_flow_read.proofs.Lines.KindsOfLines.{IsPossible}
 use Rattle.mdconstructs_flow_read.proofs.Looks.LookSteps.{leaves-on}
 

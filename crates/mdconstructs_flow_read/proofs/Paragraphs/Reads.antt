@@ -1,31 +1,5 @@
 -- Paragraphs are read as their definition says.
-use Rattle.std.proofs.Common.{◌≡◌, ℕ, suc, ◌+◌, ◌-◌, ◌≤◌, List, [], ◌∷◌, ◌++◌, inl, inr, Bool, true, false, cond, Some, None, drop, take, length, refl, sym, ap, ◌∙◌, subst, arith, append-nil, append_assoc, length-append}
-use Rattle.markdown_base.specs.declared.event.Content.TheVariants.{Text as TextContent}
-use Rattle.markdown_base.specs.declared.event.Event.{Event}
-use Rattle.markdown_base.specs.declared.event.Kind.TheVariants.{Enter, Exit}
-use Rattle.markdown_base.specs.declared.event.Name.TheVariants.{Data, Paragraph}
-use Rattle.markdown_base.specs.declared.event.Point.{Point}
-use Rattle.markdown_base.specs.declared.state.State.{State}
-use Rattle.markdown_base.specs.declared.state.State.TheVariants.{Retry}
-use Rattle.markdown_base.specs.declared.state.TheConstants.Name.{FlowAfter, FlowBeforeContent, ParagraphInside}
-use Rattle.mdconstructs_flow.specs.declared.names.TheConstants.{HeadingSetextTextAfter}
-use Rattle.markdown_base.specs.Virtual.{Seat, end_after}
-use Rattle.markdown_tokenizer.specs.Calls.{consumed}
-use Rattle.markdown_tokenizer.specs.Configuration.{Configuration}
-use Rattle.markdown_tokenizer.specs.Reading.{EndsIn}
-use Rattle.markdown_tokenizer.specs.Sight.{byte_of, end_place, seat_before}
-use Rattle.markdown_tokenizer.specs.Text.{Given, Text}
-use Rattle.mdconstructs_tables.specs.Looks.{waits_at}
-use Rattle.mdconstructs_tables.specs.Rows.{table_step}
-use Rattle.mdconstructs_tables.specs.Stretches.{fed_before, sight_before}
-use Rattle.mdconstructs_machines.specs.LineEvents.{all_of, ending_of, line_text}
-use Rattle.mdconstructs_machines.specs.Spans.{event}
-use Rattle.mdconstructs_flow.specs.FlowBytes.{flow_byte}
-use Rattle.mdconstructs_flow.specs.FlowTable.{flow}
-use Rattle.mdconstructs_flow_read.specs.BlocksRead.{IsAtLines, ParagraphsAreRead, is_underlined, last_ending}
-use Rattle.mdconstructs_flow_read.specs.LeafBlocks.{Line}
-use Rattle.mdconstructs_flow_read.specs.LeafEvents.{Mark, body, chunk_span, linked_from, span_marks, text_marks}
-use Rattle.mdconstructs_flow_read.specs.LooksFind.{IsInLine, LinesAreSeen}
+use Rattle.mdconstructs_flow_read.proofs.Prelude.{◌≡◌, ℕ, suc, ◌+◌, ◌-◌, ◌≤◌, List, [], ◌∷◌, ◌++◌, inl, inr, Bool, true, false, cond, Some, None, drop, take, length, refl, sym, ap, ◌∙◌, subst, arith, append-nil, append_assoc, length-append, TextContent, Event, Enter, Exit, Data, Paragraph, Point, State, Retry, FlowAfter, FlowBeforeContent, ParagraphInside, HeadingSetextTextAfter, Seat, end_after, consumed, Configuration, EndsIn, byte_of, end_place, seat_before, Given, Text, waits_at, table_step, fed_before, sight_before, all_of, ending_of, line_text, event, flow_byte, flow, IsAtLines, ParagraphsAreRead, is_underlined, last_ending, Line, Mark, body, chunk_span, linked_from, span_marks, text_marks, IsInLine, LinesAreSeen}
 use Rattle.mdconstructs_flow_read.proofs.Looks.ByteClasses.{feed-is}
 use Rattle.mdconstructs_flow_read.proofs.Lines.Leading.{Leads, leads-on, stretch-leads}
 use Rattle.mdconstructs_flow_read.proofs.Lines.LineReads.{behind-line}

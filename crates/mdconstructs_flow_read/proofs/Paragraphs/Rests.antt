@@ -1,30 +1,6 @@
 -- From a line ending in a paragraph: how many lines more it has, and how it ends.
-use Rattle.std.proofs.Common.{◌≡◌, ℕ, suc, ◌+◌, ◌-◌, ◌<◌, ◌^◌, List, [], ◌∷◌, ◌++◌, inl, inr, Bool, true, false, ◌||◌, Some, None, drop, take, length, refl, sym, ap, ◌∙◌, subst, append-nil, append_assoc}
-use Rattle.markdown_base.specs.declared.event.Event.{Event}
-use Rattle.markdown_base.specs.declared.event.Content.TheVariants.{Text as TextContent}
-use Rattle.markdown_base.specs.declared.event.Kind.TheVariants.{Exit}
-use Rattle.markdown_base.specs.declared.event.Name.TheVariants.{Data, Paragraph}
-use Rattle.markdown_base.specs.declared.event.Point.{Point}
-use Rattle.markdown_base.specs.declared.state.State.TheVariants.{Retry}
-use Rattle.markdown_base.specs.declared.state.TheConstants.Name.{FlowAfter, ParagraphInside}
-use Rattle.mdconstructs_flow.specs.declared.names.TheConstants.{HeadingSetextTextAfter}
-use Rattle.markdown_base.specs.Virtual.{Seat, end_after}
-use Rattle.markdown_tokenizer.specs.Calls.{with_local}
-use Rattle.markdown_tokenizer.specs.Configuration.{Configuration, Local}
-use Rattle.markdown_tokenizer.specs.Sight.{end_place}
-use Rattle.markdown_tokenizer.specs.Text.{Given, Text}
-use Rattle.mdconstructs_tables.specs.Looks.{waits_at}
-use Rattle.mdconstructs_machines.specs.LineEvents.{all_of, ending_of, line_text}
-use Rattle.mdconstructs_machines.specs.Spans.{event}
-use Rattle.mdconstructs_flow.specs.HeadingEdits.{paragraph_ends}
-use Rattle.std.specs.Prelude.{is_some}
-use Rattle.mdconstructs_flow_read.specs.BlocksRead.{AreLines, is_underlined}
-use Rattle.mdconstructs_flow_read.specs.LeafBlocks.{Line, bytes_of, ends_text, interrupts, lines_until, text_of}
-use Rattle.mdconstructs_flow_read.specs.LineKinds.{line_kind, underline_rank}
-use Rattle.mdconstructs_flow_read.specs.SeenKinds.{is_underline, seen_ends, SeenKind, seen_kind}
+use Rattle.mdconstructs_flow_read.proofs.Prelude.{◌≡◌, ℕ, suc, ◌+◌, ◌-◌, ◌<◌, ◌^◌, List, [], ◌∷◌, ◌++◌, inl, inr, Bool, true, false, ◌||◌, Some, None, drop, take, length, refl, sym, ap, ◌∙◌, subst, append-nil, append_assoc, Event, TextContent, Exit, Data, Paragraph, Point, Retry, FlowAfter, ParagraphInside, HeadingSetextTextAfter, Seat, end_after, with_local, Configuration, Local, end_place, Given, Text, waits_at, all_of, ending_of, line_text, event, paragraph_ends, is_some, AreLines, is_underlined, Line, bytes_of, ends_text, interrupts, lines_until, text_of, line_kind, underline_rank, is_underline, seen_ends, SeenKind, seen_kind, chunk_span, linked_from, IsInLine, LeavesAll, LineEnds, LinesAreSeen}
 use Rattle.mdconstructs_flow_read.proofs.Lines.TestedKinds.{ends-as-seen, seen-is-tested}
-use Rattle.mdconstructs_flow_read.specs.LeafEvents.{chunk_span, linked_from}
-use Rattle.mdconstructs_flow_read.specs.LooksFind.{IsInLine, LeavesAll, LineEnds, LinesAreSeen}
 use Rattle.mdconstructs_flow_read.proofs.Lines.Leading.{Leads}
 use Rattle.mdconstructs_flow_read.proofs.Lines.LineReads.{behind-line}
 use Rattle.mdconstructs_flow_read.proofs.Lines.Lines.{cut-line, lines-behind, text-in-line, whole-ending, whole-text}

@@ -1,37 +1,5 @@
 -- Setext headings are read as their definition says, and the edits that name them come to wait.
-use Rattle.std.proofs.Common.{◌≡◌, ℕ, suc, ◌+◌, ◌-◌, ◌<◌, ◌≤◌, List, [], ◌∷◌, ◌++◌, true, false, Some, None, drop, take, length, map, refl, sym, ap, ◌∙◌, subst, arith, append_assoc, length-append}
-use Rattle.std.proofs.lemmas.List.{map-append}
-use Rattle.std.specs.List.{AllByRecursion}
-use Rattle.markdown_base.specs.declared.event.Event.{Event}
-use Rattle.markdown_base.specs.declared.event.Kind.TheVariants.{Enter, Exit}
-use Rattle.markdown_base.specs.declared.event.Name.{Name as EventName}
-use Rattle.markdown_base.specs.declared.event.Name.TheVariants.{HeadingSetext, HeadingSetextText, HeadingSetextUnderline, LineEnding, Paragraph}
-use Rattle.markdown_base.specs.declared.event.Point.{Point}
-use Rattle.markdown_base.specs.declared.state.State.TheVariants.{Retry}
-use Rattle.markdown_base.specs.declared.state.TheConstants.Name.{FlowAfter, FlowBeforeContent, HeadingSetextAfter, HeadingSetextStart}
-use Rattle.mdconstructs_flow.specs.declared.names.TheConstants.{HeadingSetextTextAfter}
-use Rattle.markdown_base.proofs.Seats.{end-after-append}
-use Rattle.markdown_base.specs.Places.{shown}
-use Rattle.markdown_base.specs.Virtual.{Seat, end_after}
-use Rattle.markdown_edits.specs.Edits.{Edit, added_after}
-use Rattle.markdown_tokenizer.specs.Calls.{exited}
-use Rattle.markdown_tokenizer.specs.Configuration.{Configuration, Local}
-use Rattle.markdown_tokenizer.specs.Reading.{EndsIn}
-use Rattle.markdown_tokenizer.specs.Sight.{end_place}
-use Rattle.markdown_tokenizer.specs.Text.{Given, Text}
-use Rattle.mdconstructs_tables.specs.Looks.{waits_at}
-use Rattle.mdconstructs_tables.specs.Rows.{consume, enter, exit, table_step, write}
-use Rattle.mdconstructs_machines.specs.LineEvents.{all_of, ending_of, line_text}
-use Rattle.mdconstructs_machines.specs.Spans.{event}
-use Rattle.mdconstructs_flow.specs.FlowBytes.{flow_byte, line_feed}
-use Rattle.mdconstructs_flow.specs.FlowTable.{flow}
-use Rattle.mdconstructs_flow.specs.HeadingEdits.{heading_ends, renaming}
-use Rattle.mdconstructs_flow_read.specs.BlocksRead.{AddsEdits, AreLines, IsAtLines, IsLine, IsReadAs, SetextHeadingsAreRead, heading_told, is_underlined, last_ending, paragraph_told, underline_told}
-use Rattle.mdconstructs_flow_read.specs.LeafBlocks.{Line, text_of}
-use Rattle.mdconstructs_flow_read.specs.SeenKinds.{is_underline, seen_kind}
-use Rattle.mdconstructs_flow_read.specs.LeafEvents.{Mark, body, last_end, leaf_marks, linked_from, span_marks, text_marks, underline_inside}
-use Rattle.mdconstructs_flow_read.specs.LooksFind.{LineEnds, LinesAreSeen}
-use Rattle.mdconstructs_flow_read.specs.ToldMarks.{ToldMark, as_it_is, before_edits, told_edits, under_names}
+use Rattle.mdconstructs_flow_read.proofs.Prelude.{◌≡◌, ℕ, suc, ◌+◌, ◌-◌, ◌<◌, ◌≤◌, List, [], ◌∷◌, ◌++◌, true, false, Some, None, drop, take, length, map, refl, sym, ap, ◌∙◌, subst, arith, append_assoc, length-append, map-append, AllByRecursion, Event, Enter, Exit, EventName, HeadingSetext, HeadingSetextText, HeadingSetextUnderline, LineEnding, Paragraph, Point, Retry, FlowAfter, FlowBeforeContent, HeadingSetextAfter, HeadingSetextStart, HeadingSetextTextAfter, end-after-append, shown, Seat, end_after, Edit, added_after, exited, Configuration, Local, EndsIn, end_place, Given, Text, waits_at, consume, enter, exit, table_step, write, all_of, ending_of, line_text, event, flow_byte, line_feed, flow, heading_ends, renaming, AddsEdits, AreLines, IsAtLines, IsLine, IsReadAs, SetextHeadingsAreRead, heading_told, is_underlined, last_ending, paragraph_told, underline_told, Line, text_of, is_underline, seen_kind, Mark, body, last_end, leaf_marks, linked_from, span_marks, text_marks, underline_inside, LineEnds, LinesAreSeen, ToldMark, as_it_is, before_edits, told_edits, under_names}
 use Rattle.mdconstructs_flow_read.proofs.Paragraphs.HeadingMarks.{heading, heading_marks, heading-added, heading-before, last-is}
 use Rattle.mdconstructs_flow_read.proofs.Lines.KindsOfLines.{underlined-is}
 use Rattle.mdconstructs_flow_read.proofs.Lines.LineParts.{first-parts}

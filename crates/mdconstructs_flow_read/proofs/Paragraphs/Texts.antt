@@ -1,24 +1,5 @@
 -- How the text of a paragraph's line is read, up to its line ending or to the end.
-use Rattle.std.proofs.Common.{◌≡◌, ℕ, suc, ◌+◌, List, [], ◌∷◌, ◌++◌, Option, Some, length, refl, sym, ap, ◌∙◌, subst, arith, append_assoc}
-use Rattle.markdown_base.specs.declared.event.Event.{Event}
-use Rattle.markdown_base.specs.declared.event.Kind.TheVariants.{Exit}
-use Rattle.markdown_base.specs.declared.event.Name.TheVariants.{Data, Paragraph}
-use Rattle.markdown_base.specs.declared.event.Point.{Point}
-use Rattle.markdown_base.specs.declared.state.Name.{Name}
-use Rattle.markdown_base.specs.declared.state.State.{State}
-use Rattle.markdown_base.specs.declared.state.State.TheVariants.{Next, Retry}
-use Rattle.markdown_base.specs.declared.state.TheConstants.Name.{FlowAfter, ParagraphInside}
-use Rattle.markdown_base.specs.Virtual.{Seat, end_after}
-use Rattle.markdown_tokenizer.specs.Calls.{consumed}
-use Rattle.markdown_tokenizer.specs.Configuration.{Configuration, Local}
-use Rattle.markdown_tokenizer.specs.Reading.{Reading}
-use Rattle.markdown_tokenizer.specs.Text.{Given}
-use Rattle.mdconstructs_tables.specs.Looks.{waits_at}
-use Rattle.mdconstructs_tables.specs.Stretches.{Halt, to_come, fed_before, ahead, sight_before, stretch}
-use Rattle.mdconstructs_machines.specs.Spans.{event}
-use Rattle.mdconstructs_flow.specs.FlowBytes.{flow_byte}
-use Rattle.mdconstructs_flow.specs.FlowTable.{flow}
-use Rattle.mdconstructs_flow_read.specs.LooksFind.{IsInLine, LeavesAll}
+use Rattle.mdconstructs_flow_read.proofs.Prelude.{◌≡◌, ℕ, suc, ◌+◌, List, [], ◌∷◌, ◌++◌, Option, Some, length, refl, sym, ap, ◌∙◌, subst, arith, append_assoc, Event, Exit, Data, Paragraph, Point, Name, State, Next, Retry, FlowAfter, ParagraphInside, Seat, end_after, consumed, Configuration, Local, Reading, Given, waits_at, Halt, to_come, fed_before, ahead, sight_before, stretch, event, flow_byte, flow, IsInLine, LeavesAll}
 use Rattle.mdconstructs_flow_read.proofs.Looks.ByteClasses.{feed-is}
 use Rattle.mdconstructs_flow_read.proofs.Lines.RowReads.{counted}
 use Rattle.mdconstructs_flow_read.proofs.Paragraphs.Calls.{until, inside-on, inside-feed, inside-end}

@@ -1,24 +1,7 @@
 -- Underlines of setext headings are read as their definition says, up to their end.
-use Rattle.std.proofs.Common.{◌≡◌, ℕ, suc, ◌+◌, ◌==◌, not, List, [], ◌∷◌, ◌++◌, true, false, cond, Option, Some, None, ◌⊎◌, inl, inr, refl, sym, ap, ◌∙◌, subst, append_assoc, take, drop}
-use Rattle.std.proofs.lemmas.List.{drop-drop}
-use Rattle.std.proofs.lemmas.Bool.{and_parts, eqb-true}
-use Rattle.std.specs.List.{AllByRecursion, prefix_len}
-use Rattle.markdown_base.specs.declared.event.Name.TheVariants.{HeadingSetextUnderline, HeadingSetextUnderlineSequence as Marks, SpaceOrTab}
-use Rattle.markdown_base.specs.declared.event.Point.{Point}
-use Rattle.markdown_base.specs.declared.state.Name.{Name}
-use Rattle.markdown_base.specs.declared.state.State.TheVariants.{Next, Retry}
-use Rattle.markdown_base.specs.declared.state.TheConstants.Name.{HeadingSetextAfter, HeadingSetextBefore, HeadingSetextInside, HeadingSetextStart}
-use Rattle.markdown_base.specs.Virtual.{Seat, end_after}
-use Rattle.markdown_tokenizer.specs.Configuration.{Configuration}
-use Rattle.markdown_tokenizer.specs.Text.{Given, Text}
-use Rattle.mdconstructs_tables.specs.Rows.{enter, exit, consume, Rows, row, class_of, picked}
-use Rattle.mdconstructs_machines.specs.Breaks.{is_white}
-use Rattle.mdconstructs_flow.specs.FlowBytes.{FlowByte, blank, dash, equals, cased, flow_byte, is_blank, is_underline}
-use Rattle.mdconstructs_flow.specs.HeadingSetext.{heading_setext_after_rows, heading_setext_start_rows}
-use Rattle.mdconstructs_flow_read.specs.LeafBlocks.{bytes_of}
-use Rattle.mdconstructs_flow_read.specs.LeafEvents.{Mark, leaf_marks, underline_inside, white}
-use Rattle.mdconstructs_flow_read.specs.LineKinds.{begins_with, is_blank_line, is_underline_of_marks, run, unindented}
-use Rattle.mdconstructs_flow_read.specs.LooksFind.{LineEnds}
+use Rattle.mdconstructs_flow_read.proofs.Prelude.{◌≡◌, ℕ, suc, ◌+◌, ◌==◌, not, List, [], ◌∷◌, ◌++◌, true, false, cond, Option, Some, None, ◌⊎◌, inl, inr, refl, sym, ap, ◌∙◌, subst, append_assoc, take, drop, drop-drop, and_parts, eqb-true, AllByRecursion, prefix_len, HeadingSetextUnderline, SpaceOrTab, Point, Name, Next, Retry, HeadingSetextAfter, HeadingSetextBefore, HeadingSetextInside, HeadingSetextStart, Seat, end_after, Configuration, Given, Text, enter, exit, consume, Rows, row, class_of, picked, is_white, FlowByte, blank, dash, equals, cased, flow_byte, is_blank, heading_setext_after_rows, heading_setext_start_rows, bytes_of, Mark, leaf_marks, underline_inside, white, begins_with, is_blank_line, is_underline_of_marks, run, unindented, LineEnds}
+use Rattle.markdown_base.specs.declared.event.Name.TheVariants.{HeadingSetextUnderlineSequence as Marks}
+use Rattle.mdconstructs_flow.specs.FlowBytes.{is_underline}
 use Rattle.mdconstructs_flow_read.proofs.Lines.Fronts.{front, back, drop-back, drop-bytes, front-all, front-back, take-front, is_dark}
 use Rattle.mdconstructs_flow_read.proofs.Lines.LineParts.{IsWhite, all-white, NoBlank, no-blank}
 use Rattle.mdconstructs_flow_read.proofs.Lines.LineReads.{IsAt, IsUnwritten, reads-on, unwritten-on}

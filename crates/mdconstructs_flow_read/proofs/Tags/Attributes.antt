@@ -1,11 +1,7 @@
 -- What comes behind the name of an opening tag, byte by byte: the definition of attributes says the same.
-use Rattle.std.proofs.Common.{◌≡◌, ℕ, zero, suc, ◌+◌, ◌<◌, ◌≤◌, ◌==◌, ◌||◌, ◌&&◌, not, List, [], ◌∷◌, Bool, true, false, cond, Option, Some, None, length, drop, refl, sym, ap, ◌∙◌, arith, one-add, le_trans}
-use Rattle.std.specs.List.{prefix_len}
-use Rattle.std.proofs.lemmas.Bool.{eqb-true}
-use Rattle.std.proofs.lemmas.List.{length-drop}
-use Rattle.mdconstructs_machines.specs.Breaks.{is_white}
+use Rattle.mdconstructs_flow_read.proofs.Prelude.{◌≡◌, ℕ, zero, suc, ◌+◌, ◌<◌, ◌≤◌, ◌==◌, ◌||◌, ◌&&◌, not, List, [], ◌∷◌, Bool, true, false, cond, Option, Some, None, length, drop, refl, sym, ap, ◌∙◌, arith, one-add, le_trans, prefix_len, eqb-true, length-drop, is_white, first_passes, begins_attribute, goes_on_attribute, is_bare, behind_quote, behind_value, behind_attribute, ends_tag, ends_open_tag}
 use Rattle.mdconstructs_flow_read.proofs.Looks.ByteClasses.{apart, no_bare, no_value, begins-goes-on}
-use Rattle.mdconstructs_flow_read.specs.HtmlLines.{first_passes, is_blank_line, unindented, begins_attribute, goes_on_attribute, is_bare, behind_quote, behind_value, behind_attribute, ends_tag, ends_open_tag}
+use Rattle.mdconstructs_flow_read.specs.HtmlLines.{is_blank_line, unindented}
 
 -- Where the look is: behind a tag; behind its slash; behind the name of a closing tag; before an attribute, in its name, behind it; before a
 -- value, in a quoted one, behind that; in a value without quotes

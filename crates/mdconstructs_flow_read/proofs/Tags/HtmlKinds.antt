@@ -1,15 +1,6 @@
 -- The kind of HTML that a line begins, byte by byte from behind the less-than sign: the definition says the same.
-use Rattle.std.proofs.Common.{◌≡◌, ℕ, suc, ◌+◌, ◌==◌, ◌||◌, ◌&&◌, not, nat_le, List, [], ◌∷◌, Bool, true, false, cond, length, take, drop, refl, sym, ap, ◌∙◌, subst, arith, one-add}
-use Rattle.std.specs.Char.{is_ascii_alphabetic, is_ascii_alphanumeric}
-use Rattle.std.specs.List.{prefix_len}
-use Rattle.std.specs.Prelude.{codes}
-use Rattle.std.proofs.lemmas.Bool.{eqb-true, eq-eqb}
-use Rattle.std.proofs.Math.Bool.{and-true, or-false}
-use Rattle.std.proofs.lemmas.Bool.Decides.{nat_tests}
-use Rattle.markdown_base.specs.Texts.{html_block_names, html_raw_names}
-use Rattle.mdconstructs_machines.specs.Breaks.{is_white}
-use Rattle.mdconstructs_flow.specs.HtmlNames.{no_name, one_byte_more, is_number_in}
-use Rattle.mdconstructs_flow_read.specs.HtmlLines.{unindented, ends_open_tag, ends_tag, first_passes, is_blank_line, is_named, starts_with, tag_name}
+use Rattle.mdconstructs_flow_read.proofs.Prelude.{◌≡◌, ℕ, suc, ◌+◌, ◌==◌, ◌||◌, ◌&&◌, not, nat_le, List, [], ◌∷◌, Bool, true, false, cond, length, take, drop, refl, sym, ap, ◌∙◌, subst, arith, one-add, is_ascii_alphabetic, is_ascii_alphanumeric, prefix_len, codes, eqb-true, eq-eqb, and-true, or-false, nat_tests, html_block_names, html_raw_names, is_white, no_name, one_byte_more, is_number_in, ends_open_tag, ends_tag, first_passes, is_named, starts_with, tag_name}
+use Rattle.mdconstructs_flow_read.specs.HtmlLines.{unindented, is_blank_line}
 use Rattle.mdconstructs_flow_read.proofs.Tags.HtmlNumbers.{named_kind}
 use Rattle.mdconstructs_flow_read.proofs.Tags.Attributes.{after, before, behind, closing, slashed, goes, closing-is, open-is, drop-run}
 use Rattle.mdconstructs_flow_read.proofs.Tags.TagNumbers.{number_with, block-names, raw-names}

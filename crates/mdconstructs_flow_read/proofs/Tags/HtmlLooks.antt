@@ -1,28 +1,6 @@
 -- The look behind a less-than sign, row by row, finds the kind of HTML that the line begins.
-use Rattle.std.proofs.Common.{◌≡◌, ℕ, ◌+◌, ◌==◌, ◌||◌, List, [], ◌∷◌, ◌++◌, Bool, true, false, cond, Option, Some, drop, refl, sym, ap, ◌∙◌, subst}
-use Rattle.markdown_base.specs.declared.event.Event.{Event}
-use Rattle.markdown_base.specs.declared.event.Name.{Name as EventName}
-use Rattle.markdown_base.specs.declared.state.Name.{Name}
-use Rattle.markdown_base.specs.declared.state.State.TheVariants.{Next, Nok}
-use Rattle.markdown_base.specs.declared.state.TheConstants.Name.{HtmlFlowCompleteAfter, HtmlFlowCompleteAttributeName, HtmlFlowCompleteAttributeNameAfter, HtmlFlowCompleteAttributeNameBefore, HtmlFlowCompleteAttributeValueBefore, HtmlFlowCompleteAttributeValueQuoted, HtmlFlowCompleteAttributeValueQuotedAfter, HtmlFlowCompleteAttributeValueUnquoted, HtmlFlowCompleteClosingTagAfter, HtmlFlowCompleteEnd}
-use Rattle.markdown_base.specs.Virtual.{Seat}
-use Rattle.markdown_base.proofs.Common.{drop-next}
-use Rattle.markdown_tokenizer.specs.Configuration.{Configuration, Local}
-use Rattle.markdown_tokenizer.specs.Sight.{Sight, sight}
-use Rattle.markdown_tokenizer.specs.Text.{Given, Text}
-use Rattle.mdconstructs_tables.proofs.Looks.Tests.{told, told_by}
-use Rattle.mdconstructs_tables.specs.Cases.{rows_in}
-use Rattle.mdconstructs_tables.specs.Looks.{Look, scan, shows}
-use Rattle.mdconstructs_tables.specs.Rows.{consume, write, Rows, picked, row, when}
-use Rattle.mdconstructs_machines.specs.Breaks.{is_white}
-use Rattle.mdconstructs_flow.specs.FlowBytes.{FlowByte, Cased, line_feed, flow_byte, is_line_feed, is_blank, is_greater, is_slash, is_equals, is_double, is_single, is_quote, begins_name, is_in_name, begins_no_value, is_in_no_value}
-use Rattle.mdconstructs_flow.specs.FlowTable.{flow, unchanged}
-use Rattle.mdconstructs_flow.specs.FlowWrites.{at_mark, mark_becomes}
-use Rattle.mdconstructs_flow.specs.HtmlTags.{html_flow_complete_after_rows, html_flow_complete_attribute_name_after_rows, html_flow_complete_attribute_name_before_rows, html_flow_complete_attribute_name_rows, html_flow_complete_attribute_value_before_rows, html_flow_complete_attribute_value_quoted_after_rows, html_flow_complete_attribute_value_quoted_rows, html_flow_complete_attribute_value_unquoted_rows, html_flow_complete_closing_tag_after_rows, html_flow_complete_end_rows}
-use Rattle.mdconstructs_flow_read.specs.LeafBlocks.{bytes_of}
-use Rattle.mdconstructs_flow_read.specs.LooksFind.{FindsHtml, IsInLine, LineEnds}
+use Rattle.mdconstructs_flow_read.proofs.Prelude.{◌≡◌, ℕ, ◌+◌, ◌==◌, ◌||◌, List, [], ◌∷◌, ◌++◌, Bool, true, false, cond, Option, Some, drop, refl, sym, ap, ◌∙◌, subst, Event, EventName, Name, Next, Nok, HtmlFlowCompleteAfter, HtmlFlowCompleteAttributeName, HtmlFlowCompleteAttributeNameAfter, HtmlFlowCompleteAttributeNameBefore, HtmlFlowCompleteAttributeValueBefore, HtmlFlowCompleteAttributeValueQuoted, HtmlFlowCompleteAttributeValueQuotedAfter, HtmlFlowCompleteAttributeValueUnquoted, HtmlFlowCompleteClosingTagAfter, HtmlFlowCompleteEnd, Seat, drop-next, Configuration, Local, Sight, sight, Given, Text, told, told_by, rows_in, Look, scan, shows, consume, write, Rows, picked, row, when, is_white, FlowByte, Cased, line_feed, flow_byte, is_line_feed, is_blank, is_greater, is_slash, is_equals, is_double, is_single, is_quote, begins_name, is_in_name, begins_no_value, is_in_no_value, flow, unchanged, at_mark, mark_becomes, html_flow_complete_after_rows, html_flow_complete_attribute_name_after_rows, html_flow_complete_attribute_name_before_rows, html_flow_complete_attribute_name_rows, html_flow_complete_attribute_value_before_rows, html_flow_complete_attribute_value_quoted_after_rows, html_flow_complete_attribute_value_quoted_rows, html_flow_complete_attribute_value_unquoted_rows, html_flow_complete_closing_tag_after_rows, html_flow_complete_end_rows, bytes_of, FindsHtml, IsInLine, LineEnds, begins_attribute, goes_on_attribute}
 use Rattle.mdconstructs_flow_read.proofs.Tags.Attributes.{Place, after, slashed, closing, before, name, named, value, quoted, behind, bare, goes}
-use Rattle.mdconstructs_flow_read.specs.HtmlLines.{begins_attribute, goes_on_attribute}
 use Rattle.mdconstructs_flow_read.proofs.Looks.ByteClasses.{no_bare, no_value, feed-is, blank-is, greater-is, slash-is, equals-is, double-is, single-is, quote-is, begins-is, goes-on-is, no-bare-is, no-value-is}
 use Rattle.mdconstructs_flow_read.proofs.Tags.HtmlKinds.{whole}
 use Rattle.mdconstructs_flow_read.proofs.Looks.LookSteps.{mark-is}

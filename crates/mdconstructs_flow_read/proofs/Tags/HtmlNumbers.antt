@@ -1,11 +1,6 @@
 -- The kinds of HTML by numbers, as they are written down and looked for.
-use Rattle.std.proofs.Common.{◌≡◌, ℕ, ◌≤◌, ◌==◌, ◌||◌, ◌&&◌, not, nat_le, List, [], ◌∷◌, Bool, true, false, cond, map, take, drop, refl, sym, ap, ◌∙◌, subst, arith}
-use Rattle.std.specs.Char.{is_ascii_alphabetic}
-use Rattle.std.specs.Prelude.{None, Option, Some, codes}
-use Rattle.std.proofs.lemmas.Bool.{eqb-true, eq-eqb, leb-false}
-use Rattle.markdown_base.specs.Texts.{html_block_names, html_raw_names}
-use Rattle.mdconstructs_flow_read.specs.HtmlLines.{HtmlKind, raw, comment, instruction, declaration, cdata, block_tag, any_tag, begins, behind_name, ends, ends_name, first_passes, holds, html_kind, is_blank_line, is_block_name, is_closing_tag, is_named, is_open_tag, lower, name_at, starts_with, tag_name}
-use Rattle.mdconstructs_flow_read.specs.SeenKinds.{html_number, number}
+use Rattle.mdconstructs_flow_read.proofs.Prelude.{◌≡◌, ℕ, ◌≤◌, ◌==◌, ◌||◌, ◌&&◌, not, nat_le, List, [], ◌∷◌, Bool, true, false, cond, map, take, drop, refl, sym, ap, ◌∙◌, subst, arith, is_ascii_alphabetic, None, Option, Some, codes, eqb-true, eq-eqb, leb-false, html_block_names, html_raw_names, HtmlKind, raw, comment, instruction, declaration, cdata, block_tag, any_tag, begins, behind_name, ends, ends_name, first_passes, holds, html_kind, is_block_name, is_closing_tag, is_named, is_open_tag, lower, name_at, starts_with, tag_name, html_number, number}
+use Rattle.mdconstructs_flow_read.specs.HtmlLines.{is_blank_line}
 
 -- the kind of a tag with a listed name: a raw one opens kind 1, one of a block opens or closes kind 6
 abbrev pub named_kind : (is_closing : Bool) → (name after : List ℕ) → ℕ

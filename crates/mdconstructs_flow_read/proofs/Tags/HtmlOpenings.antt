@@ -1,12 +1,6 @@
 -- What the look behind a less-than sign tells apart, byte by byte: the definition of the kinds of HTML says the same.
-use Rattle.std.proofs.Common.{◌≡◌, ℕ, ◌+◌, ◌==◌, ◌||◌, ◌&&◌, nat_le, List, [], ◌∷◌, Bool, true, false, cond, take, drop, refl, sym, ap, ◌∙◌}
-use Rattle.std.specs.Char.{is_ascii_alphabetic, is_ascii_alphanumeric}
-use Rattle.std.specs.List.{prefix_len}
-use Rattle.std.specs.Prelude.{codes}
-use Rattle.std.proofs.lemmas.Bool.{eqb-true}
-use Rattle.mdconstructs_machines.specs.Breaks.{one_more}
-use Rattle.mdconstructs_flow.specs.HtmlWrites.{cdata_byte}
-use Rattle.mdconstructs_flow_read.specs.HtmlLines.{unindented, ends_tag, first_passes, is_open_tag, starts_with, tag_name}
+use Rattle.mdconstructs_flow_read.proofs.Prelude.{◌≡◌, ℕ, ◌+◌, ◌==◌, ◌||◌, ◌&&◌, nat_le, List, [], ◌∷◌, Bool, true, false, cond, take, drop, refl, sym, ap, ◌∙◌, is_ascii_alphabetic, is_ascii_alphanumeric, prefix_len, codes, eqb-true, one_more, cdata_byte, ends_tag, first_passes, is_open_tag, starts_with, tag_name}
+use Rattle.mdconstructs_flow_read.specs.HtmlLines.{unindented}
 use Rattle.mdconstructs_flow_read.proofs.Tags.HtmlNumbers.{html_at, named_kind}
 use Rattle.mdconstructs_flow_read.proofs.Looks.ByteClasses.{apart}
 use Rattle.mdconstructs_flow_read.proofs.Tags.HtmlKinds.{closed, closed-is, first-is, flip, opened, opened-is, tagged}

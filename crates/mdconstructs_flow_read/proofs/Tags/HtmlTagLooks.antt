@@ -1,32 +1,7 @@
 -- The look behind a less-than sign finds the kind of HTML that the line begins: names, comments, declarations and the rest.
-use Rattle.std.proofs.Common.{◌≡◌, ℕ, ◌+◌, ◌==◌, ◌&&◌, not, List, [], ◌∷◌, ◌++◌, Bool, true, false, cond, Option, Some, None, drop, refl, sym, ap, ◌∙◌, subst}
-use Rattle.std.specs.Char.{is_ascii_alphabetic, is_ascii_alphanumeric}
-use Rattle.markdown_base.specs.declared.event.Event.{Event}
-use Rattle.markdown_base.specs.declared.event.Name.{Name as EventName}
-use Rattle.markdown_base.specs.declared.state.Name.{Name}
-use Rattle.markdown_base.specs.declared.state.State.TheVariants.{Next, Retry, Ok, Nok}
-use Rattle.markdown_base.specs.declared.state.TheConstants.Name.{HtmlFlowBasicSelfClosing, HtmlFlowCdataOpenInside, HtmlFlowCommentOpenInside, HtmlFlowDeclarationOpen, HtmlFlowOpen, HtmlFlowTagCloseStart, HtmlFlowTagName}
-use Rattle.markdown_base.specs.Virtual.{Seat}
-use Rattle.markdown_base.proofs.Common.{drop-next}
-use Rattle.markdown_tokenizer.specs.Configuration.{Local}
-use Rattle.markdown_tokenizer.specs.Sight.{byte_of}
-use Rattle.markdown_tokenizer.specs.Text.{Given, Text}
-use Rattle.mdconstructs_tables.proofs.Looks.Left.{at-front}
-use Rattle.mdconstructs_tables.proofs.Looks.Tests.{told}
-use Rattle.mdconstructs_tables.specs.Cases.{rows_in}
-use Rattle.mdconstructs_tables.specs.Looks.{Glance, glance, goes_on, is_over, Look, looked_on, one_more as one_call_more, scan, shows, unfed_look}
-use Rattle.mdconstructs_tables.specs.Rows.{consume, write, Rows, row, when}
-use Rattle.mdconstructs_machines.specs.Breaks.{is_white, one_more}
-use Rattle.mdconstructs_flow.specs.FlowBytes.{FlowByte, Cased, by_byte, line_feed, flow_byte, name_byte, is_line_feed, is_blank, is_greater, is_slash, is_dash, is_letter, is_opening, is_bang, is_question}
-use Rattle.mdconstructs_flow.specs.FlowTable.{flow, unchanged}
-use Rattle.mdconstructs_flow.specs.FlowWrites.{size_becomes, size_grows, is_byte}
-use Rattle.mdconstructs_flow.specs.HtmlNames.{no_name, one_byte_more}
-use Rattle.mdconstructs_flow.specs.HtmlTags.{html_flow_basic_self_closing_rows, html_flow_cdata_open_inside_rows, html_flow_comment_open_inside_rows, html_flow_declaration_open_rows, html_flow_open_rows, html_flow_tag_close_start_rows, html_flow_tag_name_goes_on, html_flow_tag_name_rows}
-use Rattle.mdconstructs_flow.specs.HtmlWrites.{at_cdata, cdata_byte, closes_tag, html_becomes, is_block_tag, name_grows, opens_raw, tag_closes}
-use Rattle.mdconstructs_flow_read.specs.HtmlLines.{first_passes}
+use Rattle.mdconstructs_flow_read.proofs.Prelude.{◌≡◌, ℕ, ◌+◌, ◌==◌, ◌&&◌, not, List, [], ◌∷◌, ◌++◌, Bool, true, false, cond, Option, Some, None, drop, refl, sym, ap, ◌∙◌, subst, is_ascii_alphabetic, is_ascii_alphanumeric, Event, EventName, Name, Next, Retry, Ok, Nok, HtmlFlowBasicSelfClosing, HtmlFlowCdataOpenInside, HtmlFlowCommentOpenInside, HtmlFlowDeclarationOpen, HtmlFlowOpen, HtmlFlowTagCloseStart, HtmlFlowTagName, Seat, drop-next, Local, byte_of, Given, Text, at-front, told, rows_in, Glance, glance, goes_on, is_over, Look, looked_on, scan, shows, unfed_look, consume, write, Rows, row, when, is_white, one_more, FlowByte, Cased, by_byte, line_feed, flow_byte, name_byte, is_line_feed, is_blank, is_greater, is_slash, is_dash, is_letter, is_opening, is_bang, is_question, flow, unchanged, size_becomes, size_grows, is_byte, no_name, one_byte_more, html_flow_basic_self_closing_rows, html_flow_cdata_open_inside_rows, html_flow_comment_open_inside_rows, html_flow_declaration_open_rows, html_flow_open_rows, html_flow_tag_close_start_rows, html_flow_tag_name_goes_on, html_flow_tag_name_rows, at_cdata, cdata_byte, closes_tag, html_becomes, is_block_tag, name_grows, opens_raw, tag_closes, first_passes, bytes_of, FindsHtml, HtmlIsSeen, IsInLine, LineEnds}
+use Rattle.mdconstructs_tables.specs.Looks.{one_more as one_call_more}
 use Rattle.mdconstructs_flow_read.proofs.Tags.HtmlNumbers.{number-is}
-use Rattle.mdconstructs_flow_read.specs.LeafBlocks.{bytes_of}
-use Rattle.mdconstructs_flow_read.specs.LooksFind.{FindsHtml, HtmlIsSeen, IsInLine, LineEnds}
 use Rattle.mdconstructs_flow_read.proofs.Tags.Attributes.{Place, after, slashed, closing, before, goes}
 use Rattle.mdconstructs_flow_read.proofs.Looks.ByteClasses.{bang-is, dash-is, feed-is, greater-is, letter-is, name-byte-is, opening-is, question-is, slash-is, blank-is}
 use Rattle.mdconstructs_flow_read.proofs.Tags.HtmlKinds.{is_block, is_raw, listed, tagged, whole}

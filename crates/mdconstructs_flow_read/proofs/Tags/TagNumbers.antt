@@ -1,15 +1,5 @@
 -- A tag has a listed name exactly if the number of its name is listed: also with dashes, which no listed name has.
-use Rattle.std.proofs.Common.{◌≡◌, inl, inr, ℕ, ◌==◌, ◌||◌, ◌&&◌, List, [], ◌∷◌, Bool, true, false, cond, length, map, refl, sym, ap, ◌∙◌, subst, arith}
-use Rattle.std.specs.Char.{is_ascii_alphabetic, is_ascii_alphanumeric, to_ascii_lowercase}
-use Rattle.std.specs.List.{list_all}
-use Rattle.std.specs.Str.{str_to_ascii_lowercase}
-use Rattle.std.proofs.lemmas.Bool.{eqb-true, eq-eqb, or_right, and_parts}
-use Rattle.std.proofs.lemmas.Bool.Decides.{nat_tests}
-use Rattle.std.proofs.lemmas.List.{length-map}
-use Rattle.markdown_base.specs.Texts.{html_block_names, html_raw_names}
-use Rattle.mdconstructs_flow.specs.HtmlNames.{no_name, one_byte_more, number_behind, number_of, is_number_in, is_tag_name, IsListed, AreToldApart}
-use Rattle.mdconstructs_flow.proofs.TagNames.{block-told, raw-told}
-use Rattle.mdconstructs_flow_read.specs.HtmlLines.{starts_with, first_passes, lower, is_named}
+use Rattle.mdconstructs_flow_read.proofs.Prelude.{◌≡◌, inl, inr, ℕ, ◌==◌, ◌||◌, ◌&&◌, List, [], ◌∷◌, Bool, true, false, cond, length, map, refl, sym, ap, ◌∙◌, subst, arith, is_ascii_alphabetic, is_ascii_alphanumeric, to_ascii_lowercase, list_all, str_to_ascii_lowercase, eqb-true, eq-eqb, or_right, and_parts, nat_tests, length-map, html_block_names, html_raw_names, no_name, one_byte_more, number_behind, number_of, is_number_in, is_tag_name, IsListed, AreToldApart, block-told, raw-told, starts_with, first_passes, lower, is_named}
 
 -- the number behind these bytes, if a dash, or another byte that is no letter and no digit, makes it none
 abbrev pub number_with : ℕ → List ℕ → ℕ

@@ -1,20 +1,5 @@
 -- A block that is read as one span, and the line ending behind it.
-use Rattle.std.proofs.Common.{◌≡◌, ℕ, zero, suc, ◌+◌, List, [], ◌∷◌, ◌++◌, Bool, true, false, ◌⊎◌, inl, inr, length, map, take, drop, refl, sym, ap, ◌∙◌, subst}
-use Rattle.std.proofs.lemmas.List.{append_assoc, append-nil, drop-drop, map-append}
-use Rattle.std.proofs.Math.Seq.{drop-append_seam}
-use Rattle.markdown_base.specs.declared.event.Name.{Name as EventName}
-use Rattle.markdown_base.specs.declared.event.Name.TheVariants.{LineEnding}
-use Rattle.markdown_base.specs.declared.state.Name.{Name}
-use Rattle.markdown_base.specs.declared.state.State.TheVariants.{Retry}
-use Rattle.markdown_base.specs.declared.state.TheConstants.Name.{FlowAfter}
-use Rattle.markdown_base.specs.Virtual.{Seat}
-use Rattle.markdown_tokenizer.specs.Configuration.{Configuration}
-use Rattle.markdown_tokenizer.specs.Text.{Given, Text}
-use Rattle.mdconstructs_machines.specs.LineEvents.{all_of, ending_of}
-use Rattle.mdconstructs_flow_read.specs.BlocksRead.{AreLines, IsBlockRead, IsLine, last_ending}
-use Rattle.mdconstructs_flow_read.specs.LeafBlocks.{Line}
-use Rattle.mdconstructs_flow_read.specs.LeafEvents.{Mark, block_span, body, last_end, leaf_marks, span_marks}
-use Rattle.mdconstructs_flow_read.specs.ToldMarks.{as_it_is}
+use Rattle.mdconstructs_flow_read.proofs.Prelude.{◌≡◌, ℕ, zero, suc, ◌+◌, List, [], ◌∷◌, ◌++◌, Bool, true, false, ◌⊎◌, inl, inr, length, map, take, drop, refl, sym, ap, ◌∙◌, subst, append_assoc, append-nil, drop-drop, map-append, drop-append_seam, EventName, LineEnding, Name, Retry, FlowAfter, Seat, Configuration, Given, Text, all_of, ending_of, AreLines, IsBlockRead, IsLine, last_ending, Line, Mark, block_span, body, last_end, leaf_marks, span_marks, as_it_is}
 use Rattle.mdconstructs_flow_read.proofs.Whole.LineBreaks.{Ended, behind-told}
 use Rattle.mdconstructs_flow_read.proofs.Lines.Lines.{EndsWithIt, EndsWithout, all-of-split, body-with-ending, cut-line, line-ending-is, lines-taken}
 use Rattle.mdconstructs_flow_read.proofs.Whole.Told.{IsTold, then-told, told-read}

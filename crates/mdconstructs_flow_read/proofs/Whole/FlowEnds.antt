@@ -1,23 +1,6 @@
 -- What a reading of leaf blocks ends in, and what is left where all is resolved.
-use Rattle.std.proofs.Common.{◌≡◌, [], Bool, true, Some, sym, ap, ◌∙◌, subst}
-use Rattle.markdown_base.specs.declared.state.State.TheVariants.{Next}
-use Rattle.markdown_base.specs.declared.state.TheConstants.Name.{FlowStart}
-use Rattle.markdown_edits.specs.Edited.{edited}
-use Rattle.markdown_tokenizer.proofs.Readings.Bounds.{one-end}
-use Rattle.markdown_tokenizer.specs.Calls.{with_resolvers}
-use Rattle.markdown_tokenizer.specs.Configuration.{Configuration, start_configuration}
-use Rattle.markdown_tokenizer.specs.declared.subtokenize.Subresult.{Subresult}
-use Rattle.markdown_tokenizer.specs.Reading.{Reading, EndsIn}
-use Rattle.markdown_tokenizer.specs.Resolving.{IsResolved, done, edits_made, found, resolved_by, taken}
-use Rattle.markdown_tokenizer.specs.Text.{Given, Text}
-use Rattle.mdconstructs_tables.specs.Rows.{table_step}
-use Rattle.mdconstructs_flow.specs.FlowKnows.{flow_rules}
-use Rattle.mdconstructs_flow.specs.FlowTable.{flow}
+use Rattle.mdconstructs_flow_read.proofs.Prelude.{◌≡◌, [], Bool, true, Some, sym, ap, ◌∙◌, subst, Next, FlowStart, edited, one-end, with_resolvers, Configuration, start_configuration, Subresult, Reading, EndsIn, IsResolved, done, edits_made, found, resolved_by, taken, Given, Text, table_step, flow_rules, flow, flow_told, FlowEnds, FlowIsRead, IsToldAs, flow_events}
 use Rattle.mdconstructs_flow_read.proofs.Marks.ToldBlocks.{edits-make-blocks}
-use Rattle.mdconstructs_flow_read.specs.BlocksTold.{flow_told}
-use Rattle.mdconstructs_flow_read.specs.FlowEnds.{FlowEnds}
-use Rattle.mdconstructs_flow_read.specs.FlowRead.{FlowIsRead, IsToldAs}
-use Rattle.mdconstructs_flow_read.specs.LeafEvents.{flow_events}
 
 module _ (g : Given) (t : Text) (flag : Bool) (r : Reading Unit Unit) (ends : EndsIn g (table_step flow g) t 0 (start_configuration flag) [] (Next FlowStart) r) (told : IsToldAs g t flag (flow_told g.options.constructs g.bytes t.seats)) where
   same-reading : told.result ≡ r

@@ -1,33 +1,9 @@
 -- A text is read line by line and block by block, as its leaf blocks are told.
-use Rattle.std.proofs.Common.{◌≡◌, ℕ, zero, suc, ◌+◌, ◌^◌, ◌-◌, ◌<◌, ◌≤◌, ◌&&◌, List, [], ◌∷◌, ◌++◌, Bool, cond, inl, inr, length, map, drop, refl, sym, ap, ◌∙◌, subst, arith}
-use Rattle.std.proofs.lemmas.List.{append_assoc, append-nil, length-drop}
-use Rattle.std.specs.Prelude.{None, Option, Some}
-use Rattle.std.specs.List.{AllByRecursion}
-use Rattle.markdown_base.specs.declared.configuration.Constructs.{Constructs}
+use Rattle.mdconstructs_flow_read.proofs.Prelude.{◌≡◌, ℕ, zero, suc, ◌+◌, ◌^◌, ◌-◌, ◌<◌, ◌≤◌, ◌&&◌, List, [], ◌∷◌, ◌++◌, Bool, cond, inl, inr, length, map, drop, refl, sym, ap, ◌∙◌, subst, arith, append_assoc, append-nil, length-drop, None, Option, Some, AllByRecursion, Constructs, Next, Retry, Ok, FlowBeforeContent, FlowBlankLineAfter, FlowStart, Seat, Edit, with_local, Configuration, start_configuration, EndsIn, Given, Text, table_step, all_of, ending_of, line_text, lines_in, lines-are-all, flow, AreLines, IsAtLines, Line, LeafBlock, block_of_kind, blocks_in, bytes_of, text_of, LineKind, indented, is_thematic_break, line_kind, underline_rank, unindented, SeenKind, as_seen, seen_kind, underline, block_told, blocks_told, FlowIsRead, leaf_marks, white, Finds, ToldMark, as_it_is}
 use Rattle.markdown_base.specs.declared.event.Name.TheVariants as name
-use Rattle.markdown_base.specs.declared.state.State.TheVariants.{Next, Retry, Ok}
-use Rattle.markdown_base.specs.declared.state.TheConstants.Name.{FlowBeforeContent, FlowBlankLineAfter, FlowStart}
-use Rattle.markdown_base.specs.Virtual.{Seat}
-use Rattle.markdown_edits.specs.Edits.{Edit}
-use Rattle.markdown_tokenizer.specs.Calls.{with_local}
-use Rattle.markdown_tokenizer.specs.Configuration.{Configuration, start_configuration}
-use Rattle.markdown_tokenizer.specs.Reading.{EndsIn}
-use Rattle.markdown_tokenizer.specs.Text.{Given, Text}
-use Rattle.mdconstructs_tables.specs.Rows.{table_step}
-use Rattle.mdconstructs_machines.specs.LineEvents.{all_of, ending_of, line_text, lines_in}
-use Rattle.mdconstructs_machines.proofs.BlockReads.Accounts.{lines-are-all}
-use Rattle.mdconstructs_flow.specs.FlowTable.{flow}
-use Rattle.mdconstructs_flow_read.specs.BlocksRead.{AreLines, IsAtLines}
-use Rattle.mdconstructs_flow_read.specs.LeafBlocks.{Line, LeafBlock, block_of_kind, blocks_in, bytes_of, text_of}
-use Rattle.mdconstructs_flow_read.specs.LineKinds.{LineKind, blank, indented, heading, fence, html, thematic_break, text, is_thematic_break, line_kind, underline_rank, unindented}
-use Rattle.mdconstructs_flow_read.specs.SeenKinds.{SeenKind, as_seen, seen_kind, underline}
+use Rattle.mdconstructs_flow_read.specs.LineKinds.{blank, heading, fence, html, thematic_break, text}
 use Rattle.mdconstructs_flow_read.proofs.Lines.TestedKinds.{underline-kind}
 use Rattle.mdconstructs_flow_read.proofs.Marks.Cuts.{cut}
-use Rattle.mdconstructs_flow_read.specs.BlocksTold.{block_told, blocks_told}
-use Rattle.mdconstructs_flow_read.specs.FlowRead.{FlowIsRead}
-use Rattle.mdconstructs_flow_read.specs.LeafEvents.{leaf_marks, white}
-use Rattle.mdconstructs_flow_read.specs.LooksFind.{Finds}
-use Rattle.mdconstructs_flow_read.specs.ToldMarks.{ToldMark, as_it_is}
 use Rattle.mdconstructs_flow_read.proofs.Whole.LineBlocks.{AllAreRead, BlockTold, blank-line-told, break-told, content-told, fenced-told, heading-told, html-told, indented-told, underline-told}
 use Rattle.mdconstructs_flow_read.proofs.Whole.LineBreaks.{blank-told}
 use Rattle.mdconstructs_flow_read.proofs.Whole.LineStarts.{IsSeen, at_byte, ends-told, line-seen, still-at-lines, told-fed}

@@ -1,34 +1,9 @@
 -- The block that a line begins is read, by the kind of the line.
-use Rattle.std.proofs.Common.{◌≡◌, ℕ, suc, ◌+◌, ◌-◌, ◌<◌, ◌≤◌, ◌&&◌, ◌||◌, List, [], ◌∷◌, ◌++◌, true, false, cond, not, ◌⊎◌, inl, inr, length, map, take, drop, refl, sym, ap, ◌∙◌, subst, arith}
-use Rattle.std.specs.Prelude.{is_some, None, Option, Some}
-use Rattle.std.proofs.lemmas.Bool.{and_parts, not-true}
-use Rattle.std.proofs.lemmas.List.{append_assoc, append-nil}
-use Rattle.std.proofs.lemmas.List.Folds.{length-prefix_len}
-use Rattle.std.specs.List.{AllByRecursion}
-use Rattle.markdown_base.proofs.Common.{drop-next}
-use Rattle.markdown_base.specs.declared.configuration.Constructs.{Constructs}
+use Rattle.mdconstructs_flow_read.proofs.Prelude.{◌≡◌, ℕ, suc, ◌+◌, ◌-◌, ◌<◌, ◌≤◌, ◌&&◌, ◌||◌, List, [], ◌∷◌, ◌++◌, true, false, cond, not, ◌⊎◌, inl, inr, length, map, take, drop, refl, sym, ap, ◌∙◌, subst, arith, is_some, None, Option, Some, and_parts, not-true, append_assoc, append-nil, length-prefix_len, AllByRecursion, drop-next, Constructs, State, Next, Retry, Ok, FlowAfter, FlowBeforeContent, FlowBlankLineAfter, FlowStart, Seat, Edit, Configuration, Given, Text, Byte, waits_at, all_of, ending_of, line_text, AreLines, BlankLinesAreRead, BreaksAreRead, FencedCodeIsRead, HeadingsAreRead, HtmlIsRead, IndentedCodeIsRead, IsAtLines, IsBlockRead, IsFound, ParagraphsAreRead, SetextHeadingsAreRead, heading_told, is_underlined, HtmlKind, ends, waits_for_blank, Line, LeafBlock, atx_heading, blank_line, break_line, paragraph, setext_heading, block_of_kind, bytes_of, content_at, ends_text, further_code, has_line, lines_through, lines_until, text_of, underlined, Fence, indented, closes, is_blank_line, is_thematic_break, underline_rank, unindented, number, seen_kind, block_told, block_span, body, break_marks, code_fenced_marks, code_marks, heading_marks, html_marks, leaf_marks, lines_marks, text_marks, white, Finds, LinesAreSeen, as_it_is}
 use Rattle.markdown_base.specs.declared.event.Name.TheVariants as name
-use Rattle.markdown_base.specs.declared.state.State.{State}
-use Rattle.markdown_base.specs.declared.state.State.TheVariants.{Next, Retry, Ok}
-use Rattle.markdown_base.specs.declared.state.TheConstants.Name.{FlowAfter, FlowBeforeContent, FlowBlankLineAfter, FlowStart}
-use Rattle.markdown_base.specs.Virtual.{Seat}
-use Rattle.markdown_edits.specs.Edits.{Edit}
-use Rattle.markdown_tokenizer.specs.Configuration.{Configuration}
-use Rattle.markdown_tokenizer.specs.Text.{Given, Text}
-use Rattle.markdown_tokenizer.specs.declared.waiting.Waits.TheVariants.{Byte}
-use Rattle.mdconstructs_tables.specs.Looks.{waits_at}
-use Rattle.mdconstructs_machines.specs.LineEvents.{all_of, ending_of, line_text}
-use Rattle.mdconstructs_flow_read.specs.BlocksRead.{AreLines, BlankLinesAreRead, BreaksAreRead, FencedCodeIsRead, HeadingsAreRead, HtmlIsRead, IndentedCodeIsRead, IsAtLines, IsBlockRead, IsFound, ParagraphsAreRead, SetextHeadingsAreRead, heading_told, is_underlined}
-use Rattle.mdconstructs_flow_read.specs.HtmlLines.{HtmlKind, ends, waits_for_blank}
-use Rattle.mdconstructs_flow_read.specs.LeafBlocks.{Line, LeafBlock, atx_heading, blank_line, break_line, paragraph, setext_heading, block_of_kind, bytes_of, content_at, ends_text, further_code, has_line, lines_through, lines_until, text_of, underlined}
-use Rattle.mdconstructs_flow_read.specs.LineKinds.{Fence, indented, fence, html, thematic_break, text, closes, is_blank_line, is_thematic_break, underline_rank, unindented}
-use Rattle.mdconstructs_flow_read.specs.SeenKinds.{number, seen_kind}
+use Rattle.mdconstructs_flow_read.specs.LineKinds.{fence, html, thematic_break, text}
 use Rattle.mdconstructs_flow_read.specs.SeenKinds as seen
 use Rattle.mdconstructs_flow_read.proofs.Lines.TestedKinds.{underlined-as-seen}
-use Rattle.mdconstructs_flow_read.specs.BlocksTold.{block_told}
-use Rattle.mdconstructs_flow_read.specs.LeafEvents.{block_span, body, break_marks, code_fenced_marks, code_marks, heading_marks, html_marks, leaf_marks, lines_marks, text_marks, white}
-use Rattle.mdconstructs_flow_read.specs.LooksFind.{Finds, LinesAreSeen}
-use Rattle.mdconstructs_flow_read.specs.ToldMarks.{as_it_is}
 use Rattle.mdconstructs_flow_read.proofs.Whole.BlockSteps.{block-told, closed-told, cut-ended, left-behind}
 use Rattle.mdconstructs_flow_read.proofs.Whole.LineBreaks.{behind-told}
 use Rattle.mdconstructs_flow_read.proofs.Whole.LineStarts.{first-byte, in-line-there}

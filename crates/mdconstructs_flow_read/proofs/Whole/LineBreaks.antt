@@ -1,32 +1,5 @@
 -- Between blocks: a line ending is read, or the text ends.
-use Rattle.std.proofs.Common.{◌≡◌, List, [], ◌∷◌, ◌++◌, Option, Some, None, ◌⊎◌, inl, inr, map, drop, refl, sym, ap, ◌∙◌, subst}
-use Rattle.std.proofs.lemmas.List.{append_assoc, append-nil}
-use Rattle.markdown_base.proofs.Common.{drop-next}
-use Rattle.markdown_base.specs.declared.event.Kind.TheVariants.{Enter, Exit}
-use Rattle.markdown_base.specs.declared.event.Name.{Name as EventName}
-use Rattle.markdown_base.specs.declared.event.Name.TheVariants.{BlankLineEnding, LineEnding}
-use Rattle.markdown_base.specs.declared.state.Name.{Name}
-use Rattle.markdown_base.specs.declared.state.State.TheVariants.{Next, Retry, Ok}
-use Rattle.markdown_base.specs.declared.state.TheConstants.Name.{FlowAfter, FlowStart}
-use Rattle.markdown_base.specs.Places.{shown}
-use Rattle.markdown_base.specs.Virtual.{Seat}
-use Rattle.markdown_tokenizer.specs.declared.waiting.Waits.TheVariants.{Byte, End}
-use Rattle.markdown_tokenizer.specs.Calls.{with_local, consumed, entered, exited}
-use Rattle.markdown_tokenizer.specs.Configuration.{Configuration}
-use Rattle.markdown_tokenizer.specs.Sight.{sight, end_or, next_place, point_of, point_or}
-use Rattle.markdown_tokenizer.specs.Text.{Given, Text}
-use Rattle.mdconstructs_tables.proofs.Looks.Left.{at-front}
-use Rattle.mdconstructs_tables.proofs.Looks.Scans.{goes-called}
-use Rattle.mdconstructs_tables.specs.Looks.{waits_at}
-use Rattle.mdconstructs_tables.specs.Rows.{enter, exit, consume, row, StateRows, named, table_step}
-use Rattle.mdconstructs_machines.specs.LineEvents.{all_of}
-use Rattle.mdconstructs_machines.specs.Spans.{event}
-use Rattle.mdconstructs_flow.specs.Flow.{flow_after, flow_start}
-use Rattle.mdconstructs_flow.specs.FlowBytes.{FlowByte, line_feed, flow_byte}
-use Rattle.mdconstructs_flow.specs.FlowTable.{flow, unchanged}
-use Rattle.mdconstructs_flow_read.specs.LeafBlocks.{Line}
-use Rattle.mdconstructs_flow_read.specs.LeafEvents.{leaf_marks}
-use Rattle.mdconstructs_flow_read.specs.ToldMarks.{as_it_is}
+use Rattle.mdconstructs_flow_read.proofs.Prelude.{◌≡◌, List, [], ◌∷◌, ◌++◌, Option, Some, None, ◌⊎◌, inl, inr, map, drop, refl, sym, ap, ◌∙◌, subst, append_assoc, append-nil, drop-next, Enter, Exit, EventName, BlankLineEnding, LineEnding, Name, Next, Retry, Ok, FlowAfter, FlowStart, shown, Seat, Byte, End, with_local, consumed, entered, exited, Configuration, sight, end_or, next_place, point_of, point_or, Given, Text, at-front, goes-called, waits_at, enter, exit, consume, row, StateRows, named, table_step, all_of, event, flow_after, flow_start, FlowByte, line_feed, flow_byte, flow, unchanged, Line, leaf_marks, as_it_is}
 use Rattle.mdconstructs_flow_read.proofs.Lines.Checks.{called-row, class-here}
 use Rattle.mdconstructs_flow_read.proofs.Whole.Told.{IsTold, ToldTo, told-none}
 

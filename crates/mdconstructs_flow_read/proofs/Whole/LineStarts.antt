@@ -1,34 +1,5 @@
 -- At the beginning of a line: the text ends there, or a blank line is read, or a look says what the line is.
-use Rattle.std.proofs.Common.{◌≡◌, ◌+◌, ◌-◌, ◌^◌, ◌<◌, List, [], ◌∷◌, ◌++◌, true, cond, Option, Some, inl, inr, length, drop, refl, sym, ap, ◌∙◌, subst, arith}
-use Rattle.std.proofs.lemmas.List.{append_assoc, length-append, length-drop}
-use Rattle.markdown_base.specs.declared.event.Name.TheVariants.{BlankLineEnding}
-use Rattle.markdown_base.specs.declared.state.Name.{Name}
-use Rattle.markdown_base.specs.declared.state.State.{State}
-use Rattle.markdown_base.specs.declared.state.State.TheVariants.{Next, Retry, Ok, Nok}
-use Rattle.markdown_base.specs.declared.state.TheConstants.Name.{FlowBeforeContent, FlowBlankLineAfter, FlowBlankLineBefore, FlowStart}
-use Rattle.markdown_base.specs.Virtual.{Seat}
-use Rattle.markdown_tokenizer.specs.declared.waiting.AttemptKind.TheVariants.{Check}
-use Rattle.markdown_tokenizer.specs.declared.waiting.Waits.TheVariants.{Byte, End}
-use Rattle.markdown_tokenizer.specs.Calls.{with_local}
-use Rattle.markdown_tokenizer.specs.Configuration.{Configuration, Local}
-use Rattle.markdown_tokenizer.specs.Reading.{EndsIn, fed}
-use Rattle.markdown_tokenizer.specs.Sight.{byte_of, seat_before}
-use Rattle.markdown_tokenizer.specs.Text.{Given, Text}
-use Rattle.markdown_tokenizer.proofs.Readings.Bounds.{fed-ends}
-use Rattle.mdconstructs_tables.proofs.Looks.Deep.{Leads}
-use Rattle.mdconstructs_tables.proofs.Looks.Scans.{feeds}
-use Rattle.mdconstructs_tables.specs.Looks.{waits_at}
-use Rattle.mdconstructs_tables.specs.Rows.{enter, exit, consume, choose, write, row, table_step}
-use Rattle.mdconstructs_machines.specs.LineEvents.{all_of, ending_of, line_text}
-use Rattle.mdconstructs_flow.specs.Flow.{flow_start, flow_start_rows}
-use Rattle.mdconstructs_flow.specs.FlowBytes.{FlowByte, flow_byte}
-use Rattle.mdconstructs_flow.specs.FlowTable.{flow, unchanged}
-use Rattle.mdconstructs_flow.specs.FlowWrites.{indent_becomes}
-use Rattle.mdconstructs_flow_read.specs.BlocksRead.{AreLines, IsAtLines, KeepsEdits}
-use Rattle.mdconstructs_flow_read.specs.LeafBlocks.{Line, bytes_of, text_of}
-use Rattle.mdconstructs_flow_read.specs.LineKinds.{unindented}
-use Rattle.mdconstructs_flow_read.specs.SeenKinds.{seen_kind}
-use Rattle.mdconstructs_flow_read.specs.LooksFind.{Finds, IsInLine, LineEnds, LinesAreSeen}
+use Rattle.mdconstructs_flow_read.proofs.Prelude.{◌≡◌, ◌+◌, ◌-◌, ◌^◌, ◌<◌, List, [], ◌∷◌, ◌++◌, true, cond, Option, Some, inl, inr, length, drop, refl, sym, ap, ◌∙◌, subst, arith, append_assoc, length-append, length-drop, BlankLineEnding, Name, State, Next, Retry, Ok, Nok, FlowBeforeContent, FlowBlankLineAfter, FlowBlankLineBefore, FlowStart, Seat, Check, Byte, End, with_local, Configuration, Local, EndsIn, fed, byte_of, seat_before, Given, Text, fed-ends, Leads, feeds, waits_at, enter, exit, consume, choose, write, row, table_step, all_of, ending_of, line_text, flow_start, flow_start_rows, FlowByte, flow_byte, flow, unchanged, indent_becomes, AreLines, IsAtLines, KeepsEdits, Line, bytes_of, text_of, unindented, seen_kind, Finds, IsInLine, LineEnds, LinesAreSeen}
 use Rattle.mdconstructs_flow_read.proofs.Lines.Checks.{checks-nok, checks-ok, leads-on, looks}
 use Rattle.mdconstructs_flow_read.proofs.Whole.LineBreaks.{start-ends}
 use Rattle.mdconstructs_flow_read.proofs.Lines.Lines.{cut-line, text-in-line}

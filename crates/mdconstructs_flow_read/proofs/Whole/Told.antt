@@ -1,21 +1,5 @@
 -- What is read between two states, told by marks and by edits; and one after another.
-use Rattle.std.proofs.Common.{◌≡◌, ℕ, ◌+◌, List, [], ◌++◌, ◌⊎◌, length, map, drop, sym, ap, ◌∙◌}
-use Rattle.std.proofs.lemmas.List.{append_assoc, append-nil, length-append}
-use Rattle.markdown_base.specs.declared.state.Name.{Name}
-use Rattle.markdown_base.specs.declared.state.State.{State}
-use Rattle.markdown_base.specs.declared.state.State.TheVariants.{Next, Retry, Ok}
-use Rattle.markdown_base.specs.declared.state.TheConstants.Name.{FlowStart}
-use Rattle.markdown_base.specs.Virtual.{Seat}
-use Rattle.markdown_tokenizer.specs.Configuration.{Configuration}
-use Rattle.markdown_tokenizer.specs.Text.{Given, Text}
-use Rattle.mdconstructs_machines.specs.LineEvents.{all_of}
-use Rattle.mdconstructs_tables.proofs.Looks.Deep.{Leads}
-use Rattle.mdconstructs_tables.specs.Rows.{table_step}
-use Rattle.mdconstructs_flow.specs.FlowTable.{flow}
-use Rattle.mdconstructs_flow_read.specs.BlocksRead.{AddsEdits, IsReadAs, KeepsEdits}
-use Rattle.mdconstructs_flow_read.specs.LeafBlocks.{Line}
-use Rattle.mdconstructs_flow_read.specs.LeafEvents.{Mark, linked_from}
-use Rattle.mdconstructs_flow_read.specs.ToldMarks.{ToldMark, as_it_is, before_edits, told_edits}
+use Rattle.mdconstructs_flow_read.proofs.Prelude.{◌≡◌, ℕ, ◌+◌, List, [], ◌++◌, ◌⊎◌, length, map, drop, sym, ap, ◌∙◌, append_assoc, append-nil, length-append, Name, State, Next, Retry, Ok, FlowStart, Seat, Configuration, Given, Text, all_of, Leads, table_step, flow, AddsEdits, IsReadAs, KeepsEdits, Line, Mark, linked_from, ToldMark, as_it_is, before_edits, told_edits}
 use Rattle.mdconstructs_flow_read.proofs.Lines.Checks.{leads-on}
 use Rattle.mdconstructs_flow_read.proofs.Marks.MarkLists.{edits-append, kept-before, kept-edits, told-length, told-linked}
 

@@ -1,24 +1,5 @@
 -- A line that could be an underline, where no paragraph comes before it: unless it is a thematic break, a paragraph begins there.
-use Rattle.std.proofs.Common.{◌≡◌, ℕ, ◌==◌, ◌&&◌, nat_le, List, [], ◌∷◌, true, false, cond, Option, Some, ◌⊎◌, inl, inr, drop, refl, sym, ap, ◌∙◌}
-use Rattle.std.proofs.lemmas.Bool.{eqb-true, and_parts}
-use Rattle.markdown_base.specs.declared.configuration.Constructs.{Constructs}
-use Rattle.markdown_base.specs.declared.event.Name.TheVariants.{HeadingSetextUnderline}
-use Rattle.markdown_base.specs.declared.state.State.TheVariants.{Retry}
-use Rattle.markdown_base.specs.declared.state.TheConstants.Name.{FlowBeforeContent, FlowBlankLineAfter}
-use Rattle.markdown_base.specs.Virtual.{Seat}
-use Rattle.markdown_tokenizer.specs.declared.waiting.Waits.TheVariants.{Byte}
-use Rattle.markdown_tokenizer.specs.Calls.{with_local}
-use Rattle.markdown_tokenizer.specs.Configuration.{Configuration}
-use Rattle.markdown_tokenizer.specs.Sight.{sight}
-use Rattle.markdown_tokenizer.specs.Text.{Given, Text}
-use Rattle.mdconstructs_tables.proofs.Looks.Scans.{goes-called}
-use Rattle.mdconstructs_tables.specs.Rows.{Row, Rows, row, picked, step_of, table_step}
-use Rattle.mdconstructs_machines.specs.Breaks.{is_white}
-use Rattle.mdconstructs_flow.specs.Flow.{blank_begins_line, flow_blank_line_after, mark_begins_line}
-use Rattle.mdconstructs_flow.specs.FlowBytes.{FlowByte, blank, dash, equals, flow_byte, word_byte, line_feed}
-use Rattle.mdconstructs_flow.specs.FlowTable.{flow, unchanged}
-use Rattle.mdconstructs_flow_read.specs.LineKinds.{begins_with, unindented}
-use Rattle.mdconstructs_flow_read.specs.SeenKinds.{underline, seen_kind}
+use Rattle.mdconstructs_flow_read.proofs.Prelude.{◌≡◌, ℕ, ◌==◌, ◌&&◌, nat_le, List, [], ◌∷◌, true, false, cond, Option, Some, ◌⊎◌, inl, inr, drop, refl, sym, ap, ◌∙◌, eqb-true, and_parts, Constructs, HeadingSetextUnderline, Retry, FlowBeforeContent, FlowBlankLineAfter, Seat, Byte, with_local, Configuration, sight, Given, Text, goes-called, Row, Rows, row, picked, step_of, table_step, is_white, blank_begins_line, flow_blank_line_after, mark_begins_line, FlowByte, blank, dash, equals, flow_byte, word_byte, line_feed, flow, unchanged, begins_with, unindented, underline, seen_kind}
 use Rattle.mdconstructs_flow_read.proofs.Lines.Checks.{called-row, class-here}
 use Rattle.mdconstructs_flow_read.proofs.Whole.Told.{ToldTo, told-none}
 use Rattle.mdconstructs_flow_read.proofs.Lines.KindsOfLines.{says}

@@ -1,5 +1,5 @@
 -- Any text is read as its leaf blocks are told: each kind of line is seen, and each kind of block is read.
-use Rattle.mdconstructs_flow_read.specs.FlowRead.{FlowIsRead}
+use Rattle.mdconstructs_flow_read.proofs.Prelude.{FlowIsRead, LinesAreSeen}
 use Rattle.mdconstructs_flow_read.proofs.Blocks.BlankReads.{blank-lines-read}
 use Rattle.mdconstructs_flow_read.proofs.Blocks.BreakReads.{breaks-read}
 use Rattle.mdconstructs_flow_read.proofs.Blocks.CodeReads.{indented-code-read}
@@ -11,7 +11,6 @@ use Rattle.mdconstructs_flow_read.proofs.Html.Whole.{html-is-read}
 use Rattle.mdconstructs_flow_read.proofs.Looks.LineLooks.{lines-are-seen}
 use Rattle.mdconstructs_flow_read.proofs.Paragraphs.Reads.{paragraphs-read}
 use Rattle.mdconstructs_flow_read.proofs.Paragraphs.SetextReads.{setext-headings-read}
-use Rattle.mdconstructs_flow_read.specs.LooksFind.{LinesAreSeen}
 
 pub lines-seen : LinesAreSeen
 lines-seen = lines-are-seen html-is-seen

@@ -1,14 +1,5 @@
 -- Email autolinks by their bytes: they begin with `<`, and are a byte at least.
-use Rattle.mdconstructs_inline_constructs.specs.Email.{email, email_with, is_at_sign, is_atext, is_domain, is_domain_byte}
-use Rattle.mdconstructs_inline_constructs.specs.EmailRows.{emails}
-use Rattle.mdconstructs_text.proofs.Autolinks.Bytes.{autolinks-apart}
-use Rattle.mdconstructs_text.proofs.Constructs.Apart.{IsApart, OfOption, only-there, when-there}
-use Rattle.mdconstructs_text.specs.Bytes.{has_byte_at, is_greater_than, is_less_than}
-use Rattle.mdconstructs_text.specs.Construct.{Found}
-use Rattle.mdconstructs_text.specs.Items.{item_length}
-use Rattle.mdconstructs_text.specs.TextBytes.{text_byte}
-use Rattle.std.proofs.Common.{List, Some, arith, drop, nat_lt, take, ℕ, ◌&&◌, ◌+◌, ◌<◌, ◌==◌, ◌∷◌}
-use Rattle.std.specs.List.{prefix_len}
+use Rattle.mdconstructs_inline_constructs.proofs.Prelude.{email, email_with, is_at_sign, is_atext, is_domain, is_domain_byte, emails, autolinks-apart, IsApart, OfOption, only-there, when-there, has_byte_at, is_greater_than, is_less_than, Found, item_length, text_byte, List, Some, arith, drop, nat_lt, take, ℕ, ◌&&◌, ◌+◌, ◌<◌, ◌==◌, ◌∷◌, prefix_len}
 
 -- an email autolink is a byte at least
 abbrev IsSome : Found → Type 0

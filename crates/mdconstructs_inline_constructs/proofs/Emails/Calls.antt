@@ -1,16 +1,5 @@
 -- How many calls email autolinks take: no more than autolinks that hold URIs, since all of an address may be in a URI.
-use Rattle.markdown_children.proofs.Parts.Weaves.{get-dropped}
-use Rattle.mdconstructs_inline_constructs.specs.Email.{email, email_at, email_with, is_at_sign, is_atext, is_domain, is_domain_byte, is_dot, is_hyphen}
-use Rattle.mdconstructs_text.proofs.Autolinks.Calls.{allowed-upto, byte-within, link_calls}
-use Rattle.mdconstructs_text.proofs.Constructs.Apart.{OfOption, when-so, when-there}
-use Rattle.mdconstructs_text.specs.Autolink.{is_allowed}
-use Rattle.mdconstructs_text.specs.Bytes.{has_byte_at, is_greater_than, is_less_than, passes}
-use Rattle.mdconstructs_text.specs.Construct.{Found}
-use Rattle.mdconstructs_text.specs.Items.{item_length}
-use Rattle.std.proofs.Common.{Bool, List, Some, ap, arith, drop, false, length, nat_lt, suc, sym, take, true, ℕ, ◌&&◌, ◌+◌, ◌∙◌, ◌∷◌, ◌≡◌, ◌≤◌}
-use Rattle.std.proofs.lemmas.Bool.Decides.{nat_tests}
-use Rattle.std.specs.Char.{is_ascii_alphanumeric}
-use Rattle.std.specs.List.{prefix_len}
+use Rattle.mdconstructs_inline_constructs.proofs.Prelude.{get-dropped, email, email_at, email_with, is_at_sign, is_atext, is_domain, is_domain_byte, is_dot, is_hyphen, allowed-upto, byte-within, link_calls, OfOption, when-so, when-there, is_allowed, has_byte_at, is_greater_than, is_less_than, passes, Found, item_length, Bool, List, Some, ap, arith, drop, false, length, nat_lt, suc, sym, take, true, ℕ, ◌&&◌, ◌+◌, ◌∙◌, ◌∷◌, ◌≡◌, ◌≤◌, nat_tests, is_ascii_alphanumeric, prefix_len}
 
 -- the bytes of addresses may be in URIs
 pub atext-allowed : (b : ℕ) → is_atext b ≡ true → is_allowed b ≡ true

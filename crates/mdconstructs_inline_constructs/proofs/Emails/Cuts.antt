@@ -1,18 +1,5 @@
 -- The events of an email autolink: they can be cut into atoms, as none goes over a line ending; and what spans keep holds of them.
-use Rattle.markdown_base.specs.Virtual.{Seat}
-use Rattle.markdown_base.specs.declared.event.Event.{Event}
-use Rattle.markdown_base.specs.declared.event.Name.TheVariants.{Autolink, AutolinkEmail, AutolinkMarker}
-use Rattle.mdconstructs_inline_constructs.specs.Email.{email, email_at, email_with, is_at_sign, is_atext, is_domain, is_domain_byte}
-use Rattle.mdconstructs_text.proofs.Constructs.Apart.{OfOption, when-there}
-use Rattle.mdconstructs_text.proofs.DeepSpans.Atoms.{OneLine, cut-leaf}
-use Rattle.mdconstructs_text.proofs.DeepSpans.Stretches.{ItemCut, NoEnding, byte-plain, one-taken, plain-add, plain-line, run-behind, run-plain, three-cut}
-use Rattle.mdconstructs_text.proofs.Texts.Built.{IsBuilt, IsKeptBySpans, three}
-use Rattle.mdconstructs_text.specs.Bytes.{has_byte_at, is_greater_than, is_less_than}
-use Rattle.mdconstructs_text.specs.Parts.{bytes_of, leaf}
-use Rattle.std.proofs.Common.{List, None, Some, [], ap, arith, cond, drop, false, nat_lt, refl, subst, suc, sym, take, true, ℕ, ◌&&◌, ◌+◌, ◌-◌, ◌∙◌, ◌∷◌, ◌≡◌}
-use Rattle.std.proofs.lemmas.Bool.{and_parts}
-use Rattle.std.proofs.lemmas.List.{drop-take, take-take}
-use Rattle.std.specs.List.{between, prefix_len}
+use Rattle.mdconstructs_inline_constructs.proofs.Prelude.{Seat, Event, Autolink, AutolinkEmail, AutolinkMarker, email, email_at, email_with, is_at_sign, is_atext, is_domain, is_domain_byte, OfOption, when-there, OneLine, cut-leaf, ItemCut, NoEnding, byte-plain, one-taken, plain-add, plain-line, run-behind, run-plain, three-cut, IsBuilt, IsKeptBySpans, three, has_byte_at, is_greater_than, is_less_than, bytes_of, leaf, List, None, Some, [], ap, arith, cond, drop, false, nat_lt, refl, subst, suc, sym, take, true, ℕ, ◌&&◌, ◌+◌, ◌-◌, ◌∙◌, ◌∷◌, ◌≡◌, and_parts, drop-take, take-take, between, prefix_len}
 
 -- an address: characters, `@`, and characters of a domain
 address-plain : (l : List Seat) → let n = prefix_len is_atext (bytes_of l) in has_byte_at (bytes_of l) n is_at_sign ≡ true

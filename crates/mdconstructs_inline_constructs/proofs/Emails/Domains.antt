@@ -1,13 +1,5 @@
 -- Domains, read byte by byte: labels with dots between them, up to `>`.
-use Rattle.mdconstructs_inline_constructs.specs.Email.{before_first, between_dots, is_domain_byte, is_dot, is_hyphen, is_label, is_label_byte}
-use Rattle.mdconstructs_text.specs.Bytes.{ends_with, has_byte_at, is_greater_than}
-use Rattle.std.proofs.Common.{Bool, List, None, Option, Some, [], ap, arith, cond, false, inl, inr, length, length-append, nat_le, nat_lt, not, refl, suc, sym, take, true, ℕ, ◌&&◌, ◌++◌, ◌+◌, ◌<◌, ◌||◌, ◌∙◌, ◌∷◌, ◌≡◌, ◌≤◌}
-use Rattle.std.proofs.Math.Bool.{and-false, and-true}
-use Rattle.std.proofs.lemmas.Bool.{and_parts, cases_lt, le-leb, le-ltb, lt-leb, lt-ltb}
-use Rattle.std.proofs.lemmas.Bool.Decides.{nat_tests}
-use Rattle.std.proofs.lemmas.List.{append-nil, append_assoc}
-use Rattle.std.specs.Char.{is_ascii_alphanumeric}
-use Rattle.std.specs.List.{list_all, prefix_len}
+use Rattle.mdconstructs_inline_constructs.proofs.Prelude.{before_first, between_dots, is_domain_byte, is_dot, is_hyphen, is_label, is_label_byte, ends_with, has_byte_at, is_greater_than, Bool, List, None, Option, Some, [], ap, arith, cond, false, inl, inr, length, length-append, nat_le, nat_lt, not, refl, suc, sym, take, true, ℕ, ◌&&◌, ◌++◌, ◌+◌, ◌<◌, ◌||◌, ◌∙◌, ◌∷◌, ◌≡◌, ◌≤◌, and-false, and-true, and_parts, cases_lt, le-leb, le-ltb, lt-leb, lt-ltb, nat_tests, append-nil, append_assoc, is_ascii_alphanumeric, list_all, prefix_len}
 
 -- what is read is one more
 abbrev pub more : Option ℕ → Option ℕ

@@ -1,24 +1,5 @@
 -- The events that a machine makes of an email autolink are the item's.
-use Rattle.markdown_base.proofs.Common.{drop-next}
-use Rattle.markdown_base.proofs.Seats.{end-after-one}
-use Rattle.markdown_base.specs.Virtual.{Seat}
-use Rattle.markdown_base.specs.declared.event.Event.{Event}
-use Rattle.markdown_base.specs.declared.event.Kind.TheVariants.{Enter, Exit}
-use Rattle.markdown_base.specs.declared.event.Name.TheVariants.{Autolink, AutolinkEmail, AutolinkMarker}
-use Rattle.markdown_tokenizer.specs.Sight.{end_or, end_place, point_or}
-use Rattle.markdown_tokenizer.specs.Text.{Given, Text}
-use Rattle.mdconstructs_machines.proofs.LineReads.Steps.{at-front}
-use Rattle.mdconstructs_inline_constructs.specs.Email.{email}
-use Rattle.mdconstructs_text.proofs.Autolinks.Events.{IsJoined}
-use Rattle.mdconstructs_text.proofs.Plain.Stretches.{leaf-read}
-use Rattle.mdconstructs_text.specs.Parts.{event, leaf}
-use Rattle.mdconstructs_text.specs.TextEvents.{item_events}
-use Rattle.std.proofs.Common.{List, Some, [], ap, arith, drop, false, length, refl, slice_get, suc, sym, take, ℕ, ◌++◌, ◌+◌, ◌<◌, ◌==◌, ◌∙◌, ◌∷◌, ◌≡◌}
-use Rattle.std.proofs.Math.Seq.{take-append_seam, take-suc}
-use Rattle.std.proofs.lemmas.List.{append_assoc, drop-drop, drop_at, length-take-le, take_at}
-use Rattle.std.proofs.lemmas.Option.{get_or_from_slice_get, slice_get_within}
-use Rattle.std.proofs.lemmas.Slice.{between_is}
-use Rattle.std.specs.List.{between}
+use Rattle.mdconstructs_inline_constructs.proofs.Prelude.{drop-next, end-after-one, Seat, Event, Enter, Exit, Autolink, AutolinkEmail, AutolinkMarker, end_or, end_place, point_or, Given, Text, at-front, email, IsJoined, leaf-read, event, leaf, item_events, List, Some, [], ap, arith, drop, false, length, refl, slice_get, suc, sym, take, ℕ, ◌++◌, ◌+◌, ◌<◌, ◌==◌, ◌∙◌, ◌∷◌, ◌≡◌, take-append_seam, take-suc, append_assoc, drop-drop, drop_at, length-take-le, take_at, get_or_from_slice_get, slice_get_within, between_is, between}
 
 -- the events of an email autolink, by its first virtual byte, its last, and those between them
 spelled : (bytes : List ℕ) (n : ℕ) (s x : Seat) (xs : List Seat) → length xs ≡ n

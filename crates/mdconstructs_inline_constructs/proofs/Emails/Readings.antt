@@ -1,51 +1,8 @@
 -- Email autolinks, as a machine of texts reads them: if one is there, it is read whole, with its events; if not, what was tried leaves nothing.
-use Rattle.markdown_base.proofs.Common.{drop-next}
-use Rattle.markdown_base.specs.Virtual.{Seat}
-use Rattle.markdown_base.specs.declared.event.Event.{Event}
-use Rattle.markdown_base.specs.declared.event.Name.TheVariants.{Autolink, AutolinkEmail, AutolinkMarker}
-use Rattle.markdown_base.specs.declared.state.Name.{Name}
-use Rattle.markdown_base.specs.declared.state.State.TheVariants.{Next, Nok, Ok, Retry}
-use Rattle.markdown_base.specs.declared.state.TheConstants.Name.{AutolinkEmailAtSignOrDot, AutolinkEmailAtext, AutolinkEmailLabel, AutolinkEmailValue}
-use Rattle.markdown_tokenizer.specs.Calls.{with_local}
-use Rattle.markdown_tokenizer.specs.Configuration.{Choice, Configuration, Local, Step}
-use Rattle.markdown_tokenizer.specs.Sight.{Sight, byte_of, sight}
-use Rattle.markdown_tokenizer.specs.Text.{Given, IsText, Text}
-use Rattle.markdown_tokenizer.specs.declared.waiting.Waits.TheVariants.{Byte, Nothing}
-use Rattle.mdconstructs_machines.proofs.LineReads.Rows.{row_step}
-use Rattle.mdconstructs_machines.proofs.LineReads.Steps.{at-front, held}
-use Rattle.mdconstructs_machines.specs.Tables.{counts}
+use Rattle.mdconstructs_inline_constructs.proofs.Prelude.{drop-next, Seat, Event, Autolink, AutolinkEmail, AutolinkMarker, Name, Next, Nok, Ok, Retry, AutolinkEmailAtSignOrDot, AutolinkEmailAtext, AutolinkEmailLabel, AutolinkEmailValue, with_local, Choice, Configuration, Local, Step, Sight, byte_of, sight, Given, IsText, Text, Byte, Nothing, row_step, at-front, held, counts, email, email_at, email_with, is_at_sign, is_atext, is_domain, is_domain_byte, is_dot, is_hyphen, is_label, domain_ends, email_atext_rows, email_label_rows, email_start_rows, email_value_rows, emails, label_end_rows, label_ends, label_goes_on, label_has_hyphen, label_rows, name_ends, name_goes_on, Rows, class_of, consume, enter, exit, row, when, write, after-sized, link_calls, looked-once, IsJoined, text-joined, grows_b, more-is, size_b, with_b, outer, DecidesIn, ReadsIn, TriedIn, decides-more, decides-within, puts-back, reads-of, refused, after-passed, byte-behind, first_byte, goes-next, loops, passed, past, past-at, past-stops, shows, IsAfter, after-call, ReadsPart, Ending, EndsWith, HasRow, HasRows, Plays, before_class, between_items, leads-ok, leads-row, leads-seen, tested, is_allowed, has_byte_at, is_greater_than, passes, Between, Found, bytes_of, text_byte, more_than, size_b_grows, size_b_is, Bool, List, None, Option, Some, [], ap, arith, cond, drop, false, nat_lt, refl, slice_get, subst, suc, sym, take, true, ℕ, ◌&&◌, ◌++◌, ◌+◌, ◌<◌, ◌==◌, ◌∙◌, ◌∷◌, ◌≡◌, ◌≤◌, and-false, and_parts, eqb-true, lt-ltb, ltb-true, nat_tests, drop-drop, drop-map, is_ascii_alphanumeric, list_all, prefix_len, EventName}
 use Rattle.mdconstructs_inline_constructs.proofs.Emails.Calls.{alphanumeric-allowed, at-sign-allowed, atext-allowed, dot-allowed, hyphen-allowed}
 use Rattle.mdconstructs_inline_constructs.proofs.Emails.Domains.{domain-left, left_of_domain, more, none-begun, pieces-some}
 use Rattle.mdconstructs_inline_constructs.proofs.Emails.Events.{begun-kept, begun_email, email-events, ended_email}
-use Rattle.mdconstructs_inline_constructs.specs.Email.{email, email_at, email_with, is_at_sign, is_atext, is_domain, is_domain_byte, is_dot, is_hyphen, is_label}
-use Rattle.mdconstructs_inline_constructs.specs.EmailRows.{domain_ends, email_atext_rows, email_label_rows, email_start_rows, email_value_rows, emails, label_end_rows, label_ends, label_goes_on, label_has_hyphen, label_rows, name_ends, name_goes_on}
-use Rattle.mdconstructs_tables.specs.Rows.{Rows, class_of, consume, enter, exit, row, when, write}
-use Rattle.mdconstructs_text.proofs.Autolinks.Calls.{after-sized, link_calls, looked-once}
-use Rattle.mdconstructs_text.proofs.Autolinks.Events.{IsJoined}
-use Rattle.mdconstructs_text.proofs.Autolinks.Places.{text-joined}
-use Rattle.mdconstructs_text.proofs.CodeSpans.Parts.{grows_b, more-is, size_b, with_b}
-use Rattle.mdconstructs_text.proofs.Constructs.Listed.{outer}
-use Rattle.mdconstructs_text.proofs.Plain.Items.{DecidesIn, ReadsIn, TriedIn, decides-more, decides-within, puts-back, reads-of, refused}
-use Rattle.mdconstructs_text.proofs.Plain.Passed.{after-passed}
-use Rattle.mdconstructs_text.proofs.Plain.Stretches.{byte-behind, first_byte, goes-next, loops, passed, past, past-at, past-stops, shows}
-use Rattle.mdconstructs_text.proofs.Texts.Counted.{IsAfter, after-call}
-use Rattle.mdconstructs_text.proofs.Texts.Reads.{ReadsPart}
-use Rattle.mdconstructs_text.proofs.Texts.Leads.{Ending}
-use Rattle.mdconstructs_text.proofs.Texts.Steps.{EndsWith, HasRow, HasRows, Plays, before_class, between_items, leads-ok, leads-row, leads-seen, tested}
-use Rattle.mdconstructs_text.specs.Autolink.{is_allowed}
-use Rattle.mdconstructs_text.specs.Bytes.{has_byte_at, is_greater_than, passes}
-use Rattle.mdconstructs_text.specs.Construct.{Between, Found}
-use Rattle.mdconstructs_text.specs.Parts.{bytes_of}
-use Rattle.mdconstructs_text.specs.TextBytes.{text_byte}
-use Rattle.mdconstructs_text.specs.TextSizes.{more_than, size_b_grows, size_b_is}
-use Rattle.std.proofs.Common.{Bool, List, None, Option, Some, [], ap, arith, cond, drop, false, nat_lt, refl, slice_get, subst, suc, sym, take, true, ℕ, ◌&&◌, ◌++◌, ◌+◌, ◌<◌, ◌==◌, ◌∙◌, ◌∷◌, ◌≡◌, ◌≤◌}
-use Rattle.std.proofs.Math.Bool.{and-false}
-use Rattle.std.proofs.lemmas.Bool.{and_parts, eqb-true, lt-ltb, ltb-true}
-use Rattle.std.proofs.lemmas.Bool.Decides.{nat_tests}
-use Rattle.std.proofs.lemmas.List.{drop-drop, drop-map}
-use Rattle.std.specs.Char.{is_ascii_alphanumeric}
-use Rattle.std.specs.List.{list_all, prefix_len}
-use Rattle.markdown_base.specs.declared.event.Name.{Name as EventName}
 
 -- A machine that reads email autolinks: at the names of their states it does what their rows say
 pub record PlaysEmails (g : Given) (text : Text) (m : Plays g text) : Type 0 where

@@ -1,18 +1,6 @@
 -- Hard breaks by their bytes: they begin with a backslash, or with white space, and are a byte at least.
-use Rattle.std.proofs.Common.{◌≡◌, ℕ, ◌+◌, ◌<◌, ◌==◌, ◌&&◌, ◌∷◌, List, Bool, true, false, cond, Some, None, ap, refl, arith}
-use Rattle.std.specs.List.{prefix_len}
-use Rattle.std.specs.Prelude.{nat_le}
-use Rattle.std.proofs.lemmas.Bool.Decides.{nat_tests}
-use Rattle.mdconstructs_machines.specs.Breaks.{is_white}
-use Rattle.mdconstructs_text.proofs.Constructs.Apart.{IsApart, OfOption, only-there, when-there}
-use Rattle.mdconstructs_text.proofs.Escapes.Bytes.{escapes-apart}
-use Rattle.mdconstructs_text.specs.Bytes.{has_byte_at, is_line_feed, is_space}
-use Rattle.mdconstructs_text.specs.Construct.{Found}
-use Rattle.mdconstructs_text.specs.Items.{item_length}
-use Rattle.mdconstructs_text.specs.TextBytes.{text_byte}
+use Rattle.mdconstructs_inline_constructs.proofs.Prelude.{◌≡◌, ℕ, ◌+◌, ◌<◌, ◌==◌, ◌&&◌, ◌∷◌, List, Bool, true, false, cond, Some, None, ap, refl, arith, prefix_len, nat_le, nat_tests, is_white, IsApart, OfOption, only-there, when-there, escapes-apart, has_byte_at, is_line_feed, is_space, Found, item_length, text_byte, hard_break_escape, hard_break_trailing, trailing_break_at, break_escapes, trailing_breaks}
 use Rattle.mdconstructs_inline_constructs.proofs.WhiteSpaces.Bytes.{white-classed}
-use Rattle.mdconstructs_inline_constructs.specs.HardBreak.{hard_break_escape, hard_break_trailing, trailing_break_at}
-use Rattle.mdconstructs_inline_constructs.specs.HardBreakRows.{break_escapes, trailing_breaks}
 
 abbrev IsSome : Found → Type 0
 IsSome item = 0 < item_length item

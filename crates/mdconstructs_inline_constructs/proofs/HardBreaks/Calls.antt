@@ -1,14 +1,5 @@
 -- How many calls hard breaks take, and by what they are paid; and that they are no longer than the text.
-use Rattle.std.proofs.Common.{◌≡◌, ℕ, ◌+◌, ◌≤◌, ◌==◌, ◌&&◌, List, [], ◌∷◌, true, false, cond, Some, length, nat_le, refl, sym, subst, arith}
-use Rattle.std.proofs.lemmas.Bool.Decides.{nat_tests}
-use Rattle.std.proofs.lemmas.List.Sums.{prefix_len-le-length}
-use Rattle.std.specs.List.{prefix_len}
-use Rattle.mdconstructs_machines.specs.Breaks.{is_white}
-use Rattle.mdconstructs_text.proofs.Constructs.Apart.{OfOption, when-there}
-use Rattle.mdconstructs_text.specs.Bytes.{has_byte_at, is_line_feed, is_space}
-use Rattle.mdconstructs_text.specs.Construct.{Found}
-use Rattle.mdconstructs_text.specs.Items.{item_length}
-use Rattle.mdconstructs_inline_constructs.specs.HardBreak.{break_escape_at, hard_break_escape, hard_break_trailing, trailing_break_at}
+use Rattle.mdconstructs_inline_constructs.proofs.Prelude.{◌≡◌, ℕ, ◌+◌, ◌≤◌, ◌==◌, ◌&&◌, List, [], ◌∷◌, true, false, cond, Some, length, nat_le, refl, sym, subst, arith, nat_tests, prefix_len-le-length, prefix_len, is_white, OfOption, when-there, has_byte_at, is_line_feed, is_space, Found, item_length, break_escape_at, hard_break_escape, hard_break_trailing, trailing_break_at}
 
 -- ---- a backslash
 -- one at the backslash, and one behind it

@@ -1,17 +1,5 @@
 -- The event of a hard break: it is an atom, as no line ending is in it; and what spans keep holds of it.
-use Rattle.std.proofs.Common.{ℕ, ◌&&◌, List, Some, refl, take}
-use Rattle.std.specs.List.{prefix_len}
-use Rattle.std.specs.Prelude.{nat_le}
-use Rattle.markdown_base.specs.declared.event.Event.{Event}
-use Rattle.markdown_base.specs.declared.event.Name.TheVariants.{HardBreakEscape, HardBreakTrailing}
-use Rattle.markdown_base.specs.Virtual.{Seat}
-use Rattle.mdconstructs_text.proofs.Constructs.Apart.{OfOption, when-there}
-use Rattle.mdconstructs_text.proofs.DeepSpans.Atoms.{cut-leaf}
-use Rattle.mdconstructs_text.proofs.DeepSpans.Stretches.{ItemCut, one-taken, plain-line, run-plain}
-use Rattle.mdconstructs_text.proofs.Texts.Built.{IsBuilt, IsKeptBySpans}
-use Rattle.mdconstructs_text.specs.Bytes.{has_byte_at, is_backslash, is_line_feed, is_space}
-use Rattle.mdconstructs_text.specs.Parts.{bytes_of}
-use Rattle.mdconstructs_inline_constructs.specs.HardBreak.{break_escape_at, hard_break_escape, hard_break_trailing, trailing_break_at}
+use Rattle.mdconstructs_inline_constructs.proofs.Prelude.{ℕ, ◌&&◌, List, Some, refl, take, prefix_len, nat_le, Event, HardBreakEscape, HardBreakTrailing, Seat, OfOption, when-there, cut-leaf, ItemCut, one-taken, plain-line, run-plain, IsBuilt, IsKeptBySpans, has_byte_at, is_backslash, is_line_feed, is_space, bytes_of, break_escape_at, hard_break_escape, hard_break_trailing, trailing_break_at}
 
 module _ (bytes : List ℕ) where
   pub break-escape-cut : (seats : List Seat) → OfOption (ItemCut bytes seats) (break_escape_at (bytes_of seats))

@@ -1,38 +1,7 @@
 -- How a machine reads a hard break by a backslash: if a line ending follows it is read, with its event; if not, the attempt leaves nothing.
-use Rattle.std.proofs.Common.{◌≡◌, ℕ, ◌+◌, ◌==◌, ◌&&◌, List, [], ◌∷◌, ◌++◌, Bool, true, false, cond, Option, Some, None, refl, sym, ap, ◌∙◌, subst, arith, append_assoc, length, drop}
-use Rattle.std.proofs.lemmas.Bool.{eqb-true}
-use Rattle.std.proofs.lemmas.List.{take_at}
-use Rattle.std.specs.Prelude.{slice_get}
-use Rattle.markdown_base.proofs.Common.{drop-next}
-use Rattle.markdown_base.specs.declared.event.Event.{Event}
-use Rattle.markdown_base.specs.declared.event.Kind.TheVariants.{Enter, Exit}
-use Rattle.markdown_base.specs.declared.event.Name.TheVariants.{HardBreakEscape}
-use Rattle.markdown_base.specs.declared.state.Name.{Name}
-use Rattle.markdown_base.specs.declared.state.State.TheVariants.{Nok, Retry}
-use Rattle.markdown_base.specs.declared.state.TheConstants.Name.{HardBreakEscapeAfter, HardBreakEscapeStart}
-use Rattle.markdown_base.specs.Virtual.{Seat}
-use Rattle.markdown_tokenizer.specs.declared.waiting.Waits.TheVariants.{Byte}
-use Rattle.markdown_tokenizer.specs.Configuration.{Configuration, Local, Step}
-use Rattle.markdown_tokenizer.specs.Sight.{Sight, byte_of, end_place, point_or}
-use Rattle.markdown_tokenizer.specs.Text.{Given, Text}
-use Rattle.mdconstructs_machines.proofs.LineReads.Steps.{at-front}
-use Rattle.mdconstructs_machines.specs.Tables.{counts}
-use Rattle.mdconstructs_tables.specs.Rows.{class_of, row}
-use Rattle.mdconstructs_text.proofs.Constructs.Listed.{outer}
-use Rattle.mdconstructs_text.proofs.Escapes.Calls.{after-two}
-use Rattle.mdconstructs_text.proofs.Plain.Items.{ReadsIn, TriedIn, reads-of, refused}
-use Rattle.mdconstructs_text.proofs.Plain.Stretches.{first_byte, goes-next, leaf-read, sees, shows}
-use Rattle.mdconstructs_text.proofs.Texts.Reads.{ReadsPart}
-use Rattle.mdconstructs_text.proofs.Texts.Steps.{HasRows, Leads, Plays, before_class, between_items, leads-ok, leads-seen}
-use Rattle.mdconstructs_text.specs.Bytes.{is_line_feed, passes}
-use Rattle.mdconstructs_text.specs.Construct.{Between}
-use Rattle.mdconstructs_text.specs.Laws.Classes.{by-class}
-use Rattle.mdconstructs_text.specs.Parts.{bytes_of, event}
-use Rattle.mdconstructs_text.specs.TextBytes.{TextByte, text_byte}
-use Rattle.mdconstructs_text.specs.TextEvents.{item_events}
+use Rattle.mdconstructs_inline_constructs.proofs.Prelude.{◌≡◌, ℕ, ◌+◌, ◌==◌, ◌&&◌, List, [], ◌∷◌, ◌++◌, Bool, true, false, cond, Option, Some, None, refl, sym, ap, ◌∙◌, subst, arith, append_assoc, length, drop, eqb-true, take_at, slice_get, drop-next, Event, Enter, Exit, HardBreakEscape, Name, Nok, Retry, HardBreakEscapeAfter, HardBreakEscapeStart, Seat, Byte, Configuration, Local, Step, Sight, byte_of, end_place, point_or, Given, Text, at-front, counts, class_of, row, outer, after-two, ReadsIn, TriedIn, reads-of, refused, first_byte, goes-next, leaf-read, shows, ReadsPart, HasRows, Leads, Plays, before_class, between_items, leads-ok, leads-seen, is_line_feed, passes, Between, by-class, bytes_of, event, TextByte, text_byte, item_events, break_escape_at, hard_break_escape, break_escape_after_rows, break_escape_start_rows, break_escapes}
+use Rattle.mdconstructs_text.proofs.Plain.Stretches.{sees}
 use Rattle.mdconstructs_inline_constructs.proofs.HardBreaks.Calls.{break_escape_calls}
-use Rattle.mdconstructs_inline_constructs.specs.HardBreak.{break_escape_at, hard_break_escape}
-use Rattle.mdconstructs_inline_constructs.specs.HardBreakRows.{break_escape_after_rows, break_escape_start_rows, break_escapes}
 
 -- A machine that reads hard breaks by a backslash: at the names of their states it does what their rows say
 pub record PlaysBreakEscapes (g : Given) (text : Text) (step : Sight → Configuration Unit Unit → Name → Step Unit Unit) : Type 0 where

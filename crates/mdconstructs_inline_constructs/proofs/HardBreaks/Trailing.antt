@@ -1,47 +1,9 @@
 -- How a machine reads a hard break by spaces: if there are two at least, directly before a line ending, they are read, with their event; if
 -- not, the attempt leaves nothing.
-use Rattle.std.proofs.Common.{◌≡◌, ◌⊎◌, inl, inr, ℕ, suc, ◌+◌, ◌≤◌, ◌&&◌, List, [], ◌∷◌, ◌++◌, Bool, true, false, cond, Option, Some, None, refl, sym, ap, ◌∙◌, subst, arith, append_assoc, length, take, drop}
-use Rattle.std.proofs.Math.Seq.{take-length}
-use Rattle.std.proofs.lemmas.Bool.{eqb-true, le-leb}
-use Rattle.std.proofs.lemmas.Bool.Decides.{nat_tests}
-use Rattle.std.proofs.lemmas.List.{length-map, take_at}
-use Rattle.std.proofs.lemmas.List.Sums.{prefix_len-le-length}
-use Rattle.std.specs.List.{prefix_len}
-use Rattle.std.specs.Prelude.{nat_le, slice_get}
-use Rattle.markdown_base.proofs.Common.{drop-next}
-use Rattle.markdown_base.specs.declared.event.Event.{Event}
-use Rattle.markdown_base.specs.declared.event.Kind.TheVariants.{Enter, Exit}
-use Rattle.markdown_base.specs.declared.event.Name.{Name as EventName}
-use Rattle.markdown_base.specs.declared.event.Name.TheVariants.{HardBreakTrailing}
-use Rattle.markdown_base.specs.declared.state.Name.{Name}
-use Rattle.markdown_base.specs.declared.state.State.TheVariants.{Next, Nok, Ok, Retry}
-use Rattle.mdconstructs_inline_constructs.specs.declared.names.TheConstants.{HardBreakTrailingAfterFirst, HardBreakTrailingAfterMore, HardBreakTrailingStart}
-use Rattle.markdown_base.specs.Virtual.{Seat}
-use Rattle.markdown_tokenizer.specs.declared.waiting.Waits.TheVariants.{Byte, Nothing}
-use Rattle.markdown_tokenizer.specs.Configuration.{Choice, Configuration, Local, Step}
-use Rattle.markdown_tokenizer.specs.Sight.{Sight, byte_of, end_place, point_or}
-use Rattle.markdown_tokenizer.specs.Text.{Given, Text}
-use Rattle.mdconstructs_machines.proofs.LineReads.Steps.{at-front, held}
-use Rattle.mdconstructs_machines.specs.Breaks.{is_white}
-use Rattle.mdconstructs_machines.specs.Tables.{counts}
-use Rattle.mdconstructs_tables.specs.Rows.{Rows, class_of, exit, row, when}
-use Rattle.mdconstructs_text.proofs.Constructs.Listed.{outer}
-use Rattle.mdconstructs_text.proofs.Escapes.Calls.{after-two}
-use Rattle.mdconstructs_text.proofs.Plain.Items.{ReadsIn, TriedIn, puts-back, reads-of}
-use Rattle.mdconstructs_text.proofs.Plain.Passed.{after-passed}
-use Rattle.mdconstructs_text.proofs.Plain.Stretches.{byte-behind, first_byte, goes-next, is_end, leaf-read, loops, past, past-at, past-stops, passed, sees, shows}
-use Rattle.mdconstructs_text.proofs.Texts.Counted.{IsAfter, after-call, after-more, after-within}
-use Rattle.mdconstructs_text.proofs.Texts.Reads.{ReadsPart}
-use Rattle.mdconstructs_text.proofs.Texts.Steps.{HasRows, Leads, Plays, before_class, between_items, leads-ok, leads-seen, leads-tested}
-use Rattle.mdconstructs_text.specs.Bytes.{has_byte_at, is_line_feed, is_space, passes}
-use Rattle.mdconstructs_text.specs.Construct.{Between}
-use Rattle.mdconstructs_text.specs.Laws.Classes.{by-class}
-use Rattle.mdconstructs_text.specs.Parts.{bytes_of, event, leaf}
-use Rattle.mdconstructs_text.specs.TextBytes.{TextByte, text_byte, white}
+use Rattle.mdconstructs_inline_constructs.proofs.Prelude.{◌≡◌, ◌⊎◌, inl, inr, ℕ, suc, ◌+◌, ◌≤◌, ◌&&◌, List, [], ◌∷◌, ◌++◌, Bool, true, false, cond, Option, Some, None, refl, sym, ap, ◌∙◌, subst, arith, append_assoc, length, take, drop, take-length, eqb-true, le-leb, nat_tests, length-map, take_at, prefix_len-le-length, prefix_len, nat_le, slice_get, drop-next, Event, Enter, Exit, EventName, HardBreakTrailing, Name, Next, Nok, Ok, Retry, HardBreakTrailingAfterFirst, HardBreakTrailingAfterMore, HardBreakTrailingStart, Seat, Byte, Nothing, Choice, Configuration, Local, Step, Sight, byte_of, end_place, point_or, Given, Text, at-front, held, is_white, counts, Rows, class_of, exit, row, when, outer, after-two, ReadsIn, TriedIn, puts-back, reads-of, after-passed, byte-behind, first_byte, goes-next, is_end, leaf-read, loops, past, past-at, past-stops, passed, shows, IsAfter, after-call, after-more, after-within, ReadsPart, HasRows, Leads, Plays, before_class, between_items, leads-ok, leads-seen, leads-tested, has_byte_at, is_line_feed, is_space, passes, Between, by-class, bytes_of, event, leaf, TextByte, text_byte, white, hard_break_trailing, trailing_break_at, space_waits, trailing_after_first_rows, trailing_after_more_rows, trailing_breaks, trailing_start_rows}
+use Rattle.mdconstructs_text.proofs.Plain.Stretches.{sees}
 use Rattle.mdconstructs_inline_constructs.proofs.HardBreaks.Calls.{trailing_break_calls}
 use Rattle.mdconstructs_inline_constructs.proofs.WhiteSpaces.Classes.{white-class}
-use Rattle.mdconstructs_inline_constructs.specs.HardBreak.{hard_break_trailing, trailing_break_at}
-use Rattle.mdconstructs_inline_constructs.specs.HardBreakRows.{space_waits, trailing_after_first_rows, trailing_after_more_rows, trailing_breaks, trailing_start_rows}
 
 -- A machine that reads hard breaks by spaces: at the names of their states it does what their rows say
 pub record PlaysTrailingBreaks (g : Given) (text : Text) (step : Sight → Configuration Unit Unit → Name → Step Unit Unit) : Type 0 where

@@ -1,15 +1,6 @@
 -- The calls of looks for marks are paid: by the bytes of a mark that is there; and where none is, by the bytes of which it was not yet known that
 -- no mark of the kind ends that begins there.
-use Rattle.markdown_base.proofs.Common.{drop-at, every-get, every-map}
-use Rattle.markdown_base.specs.Places.{shown}
-use Rattle.markdown_base.specs.Virtual.{Seat}
-use Rattle.markdown_children.proofs.Parts.Weaves.{get-dropped}
-use Rattle.markdown_tokenizer.proofs.Positions.TextOrder.{AreInOrder, Follows, text-order}
-use Rattle.markdown_tokenizer.specs.Configuration.{Configuration, Local}
-use Rattle.markdown_tokenizer.specs.Sight.{byte_of, point_or}
-use Rattle.markdown_tokenizer.specs.Text.{Given, IsText, Text}
-use Rattle.mdconstructs_machines.proofs.LineReads.Steps.{at-front}
-use Rattle.mdconstructs_machines.specs.Breaks.{is_white}
+use Rattle.mdconstructs_inline_constructs.proofs.Prelude.{drop-at, every-get, every-map, shown, Seat, get-dropped, AreInOrder, Follows, text-order, Configuration, Local, byte_of, point_or, Given, IsText, Text, at-front, is_white, none_upto, stopped_at, Remembered, remembered, spent, bytes_of, AllByRecursion, nat_lt, Bool, List, Some, [], ap, arith, cond, drop, false, inl, inr, length, refl, slice_get, subst, suc, sym, take, true, zero, ℕ, ◌&&◌, ◌*◌, ◌+◌, ◌-◌, ◌<◌, ◌==◌, ◌^◌, ◌∙◌, ◌∷◌, ◌≡◌, ◌≤◌, le-ltb, lt-ltb, ltb-false, drop-drop, length-drop, length-map, slice_get_cases, mul-le-mul_right}
 use Rattle.mdconstructs_inline_constructs.proofs.HtmlMarks.Fails.{IsLineAt}
 use Rattle.mdconstructs_inline_constructs.proofs.HtmlMarks.Places.{Mark, at_open, mark_byte, mark_move, of_cdata, of_comment, of_declaration, of_instruction}
 use Rattle.mdconstructs_inline_constructs.proofs.HtmlMarks.Readings.{IsWritten, known_at, look_calls, looked_over}
@@ -17,17 +8,6 @@ use Rattle.mdconstructs_inline_constructs.proofs.HtmlMarks.Remembered.{before-in
 use Rattle.mdconstructs_inline_constructs.proofs.HtmlMarks.Rows.{known_upto, knows_of, opening_length}
 use Rattle.mdconstructs_inline_constructs.proofs.HtmlMarks.Strict.{IsPlain, line-behind, text-plain}
 use Rattle.mdconstructs_inline_constructs.proofs.HtmlTexts.Walks.{gone_over, looked, Move, done, goes, refused}
-use Rattle.mdconstructs_inline_constructs.specs.HtmlMarkedRows.{none_upto, stopped_at}
-use Rattle.mdconstructs_text.proofs.Texts.Counted.{Remembered, remembered}
-use Rattle.mdconstructs_text.proofs.Texts.Leads.{spent}
-use Rattle.mdconstructs_text.specs.Parts.{bytes_of}
-use Rattle.std.specs.List.{AllByRecursion}
-use Rattle.std.specs.Prelude.{nat_lt}
-use Rattle.std.proofs.Common.{Bool, List, Some, [], ap, arith, cond, drop, false, inl, inr, length, refl, slice_get, subst, suc, sym, take, true, zero, ℕ, ◌&&◌, ◌*◌, ◌+◌, ◌-◌, ◌<◌, ◌==◌, ◌^◌, ◌∙◌, ◌∷◌, ◌≡◌, ◌≤◌}
-use Rattle.std.proofs.lemmas.Bool.{le-ltb, lt-ltb, ltb-false}
-use Rattle.std.proofs.lemmas.List.{drop-drop, length-drop, length-map}
-use Rattle.std.proofs.lemmas.Option.{slice_get_cases}
-use Rattle.std.proofs.Math.Nat.{mul-le-mul_right}
 
 -- how many bytes begin at an index or behind it
 abbrev pub count_from : ℕ → List Seat → ℕ

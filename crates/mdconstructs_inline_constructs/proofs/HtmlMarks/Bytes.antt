@@ -1,25 +1,9 @@
 -- Raw HTML between marks by its bytes: it begins with `<`, and is a byte at least; its events can be cut into atoms, and what spans keep holds of
 -- them.
-use Rattle.markdown_base.specs.Virtual.{Seat}
-use Rattle.markdown_base.specs.declared.event.Event.{Event}
+use Rattle.mdconstructs_inline_constructs.proofs.Prelude.{Seat, Event, and_before, begins_with, either_there, html_mark_grammar, marked, through, html_marks, html_of, autolinks-apart, IsApart, OfOption, ItemCut, IsBuilt, IsKeptBySpans, has_byte_at, Found, item_length, bytes_of, text_byte, Bool, List, None, Option, Some, ap, arith, cond, drop, false, refl, subst, sym, true, ℕ, ◌&&◌, ◌<◌, ◌==◌, ◌∙◌, ◌∷◌, ◌≡◌, is_ascii_alphabetic, codes}
 use Rattle.mdconstructs_inline_constructs.proofs.HtmlMarks.Places.{at_open, mark_next}
 use Rattle.mdconstructs_inline_constructs.proofs.HtmlMarks.Readings.{mark-there}
 use Rattle.mdconstructs_inline_constructs.proofs.HtmlTexts.Walks.{one_further, walk}
-use Rattle.mdconstructs_inline_constructs.specs.HtmlMarked.{and_before, begins_with, either_there, html_mark_grammar, marked, through}
-use Rattle.mdconstructs_inline_constructs.specs.HtmlMarkedRows.{html_marks}
-use Rattle.mdconstructs_inline_constructs.specs.HtmlText.{html_of}
-use Rattle.mdconstructs_text.proofs.Autolinks.Bytes.{autolinks-apart}
-use Rattle.mdconstructs_text.proofs.Constructs.Apart.{IsApart, OfOption}
-use Rattle.mdconstructs_text.proofs.DeepSpans.Stretches.{ItemCut}
-use Rattle.mdconstructs_text.proofs.Texts.Built.{IsBuilt, IsKeptBySpans}
-use Rattle.mdconstructs_text.specs.Bytes.{has_byte_at}
-use Rattle.mdconstructs_text.specs.Construct.{Found}
-use Rattle.mdconstructs_text.specs.Items.{item_length}
-use Rattle.mdconstructs_text.specs.Parts.{bytes_of}
-use Rattle.mdconstructs_text.specs.TextBytes.{text_byte}
-use Rattle.std.proofs.Common.{Bool, List, None, Option, Some, ap, arith, cond, drop, false, refl, subst, sym, true, ℕ, ◌&&◌, ◌<◌, ◌==◌, ◌∙◌, ◌∷◌, ◌≡◌}
-use Rattle.std.specs.Char.{is_ascii_alphabetic}
-use Rattle.std.specs.Prelude.{codes}
 use Rattle.mdconstructs_inline_constructs.proofs.HtmlTexts.Cuts.{html-cut, html-built}
 use Rattle.mdconstructs_inline_constructs.proofs.HtmlTexts.Through.{html_option}
 

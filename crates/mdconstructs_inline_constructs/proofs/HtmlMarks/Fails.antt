@@ -1,16 +1,8 @@
 -- Where it is known of kinds that none ends, no mark is lost if they are not opened; and what is known once a look has failed.
-use Rattle.markdown_tokenizer.specs.Configuration.{Configuration, Local}
-use Rattle.mdconstructs_machines.specs.Breaks.{is_white}
+use Rattle.mdconstructs_inline_constructs.proofs.Prelude.{Configuration, Local, is_white, has_byte_at, more_than, size_b_grows, size_b_is, Bool, List, None, Option, Some, [], ap, arith, cond, false, inl, inr, nat_le, refl, subst, suc, sym, true, zero, ℕ, ◌&&◌, ◌-◌, ◌<◌, ◌==◌, ◌∙◌, ◌∷◌, ◌≡◌, ◌≤◌, ◌⊎◌, and_parts, eqb-true, nat_tests, is_ascii_alphabetic, codes}
 use Rattle.mdconstructs_inline_constructs.proofs.HtmlMarks.Known.{IsOpening, behind-none, cdata-letter, feed-refused, inside-same, none-further, of_kind, opening-front, other_than}
 use Rattle.mdconstructs_inline_constructs.proofs.HtmlMarks.Places.{Mark, MarkPlace, at_cdata, at_comment, at_declaration, at_inside, at_open, cdata-few, inside-line, kind_fails, mark_byte, mark_gives_up, mark_move, mark_next, mark_times, nothing-left, nothing_before, nothing_known, of_cdata, of_comment, of_declaration, of_instruction, opens, opens_unless}
 use Rattle.mdconstructs_inline_constructs.proofs.HtmlTexts.Walks.{Move, Stop, done, goes, gone_over, looked, moved, one_further, refused, stop_behind, stop_of, walk}
-use Rattle.mdconstructs_text.specs.Bytes.{has_byte_at}
-use Rattle.mdconstructs_text.specs.TextSizes.{more_than, size_b_grows, size_b_is}
-use Rattle.std.proofs.Common.{Bool, List, None, Option, Some, [], ap, arith, cond, false, inl, inr, nat_le, refl, subst, suc, sym, true, zero, ℕ, ◌&&◌, ◌-◌, ◌<◌, ◌==◌, ◌∙◌, ◌∷◌, ◌≡◌, ◌≤◌, ◌⊎◌}
-use Rattle.std.proofs.lemmas.Bool.{and_parts, eqb-true}
-use Rattle.std.proofs.lemmas.Bool.Decides.{nat_tests}
-use Rattle.std.specs.Char.{is_ascii_alphabetic}
-use Rattle.std.specs.Prelude.{codes}
 
 module _ (known : Mark → Bool) (bs : List ℕ) where
   -- what is left from a place on, by what is known; with nothing known; and of one kind alone

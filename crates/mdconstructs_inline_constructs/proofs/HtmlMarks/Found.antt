@@ -2,14 +2,7 @@
 use Rattle.mdconstructs_inline_constructs.proofs.HtmlMarks.Marks.{comment-left, mark-left, one-before}
 use Rattle.mdconstructs_inline_constructs.proofs.HtmlMarks.Places.{at_cdata, at_comment, at_declaration, at_open, inside-left, mark_next, of_cdata, of_comment, of_declaration, of_instruction, opens}
 use Rattle.mdconstructs_inline_constructs.proofs.HtmlTexts.Walks.{goes, moved, one_further, refused, run}
-use Rattle.mdconstructs_inline_constructs.specs.HtmlMarked.{and_before, begins_with, either_there, marked, through}
-use Rattle.mdconstructs_text.specs.Bytes.{has_byte_at}
-use Rattle.mdconstructs_text.specs.TextSizes.{more_than, size_b_grows, size_b_is}
-use Rattle.std.proofs.Common.{Bool, List, None, Option, Some, [], ap, arith, cond, drop, false, refl, suc, sym, true, ℕ, ◌&&◌, ◌+◌, ◌==◌, ◌∙◌, ◌∷◌, ◌≡◌}
-use Rattle.std.proofs.lemmas.Bool.{eqb-true}
-use Rattle.std.proofs.lemmas.Bool.Decides.{nat_tests}
-use Rattle.std.specs.Char.{is_ascii_alphabetic}
-use Rattle.std.specs.Prelude.{codes}
+use Rattle.mdconstructs_inline_constructs.proofs.Prelude.{and_before, begins_with, either_there, marked, through, has_byte_at, more_than, size_b_grows, size_b_is, Bool, List, None, Option, Some, [], ap, arith, cond, drop, false, refl, suc, sym, true, ℕ, ◌&&◌, ◌+◌, ◌==◌, ◌∙◌, ◌∷◌, ◌≡◌, eqb-true, nat_tests, is_ascii_alphabetic, codes}
 
 nothing-there : (t : Bool) → cond {A = Option ℕ} t None None ≡ None
 nothing-there true = refl

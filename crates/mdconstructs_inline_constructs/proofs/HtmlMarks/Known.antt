@@ -1,15 +1,8 @@
 -- What a look that fails shows: behind its opening mark no other one of its kind ends before the place where it stops. So where it is known of
 -- a kind that none ends, nothing is lost if none is opened.
-use Rattle.mdconstructs_machines.specs.Breaks.{is_white}
+use Rattle.mdconstructs_inline_constructs.proofs.Prelude.{is_white, has_byte_at, more_than, size_b_grows, size_b_is, Bool, List, None, Option, Some, [], ap, arith, cond, false, nat_le, not, refl, subst, suc, sym, true, zero, ℕ, ◌&&◌, ◌==◌, ◌∙◌, ◌∷◌, ◌≡◌, ◌≤◌, and_parts, eqb-true, nat_tests, is_ascii_alphabetic, codes}
 use Rattle.mdconstructs_inline_constructs.proofs.HtmlMarks.Places.{Mark, MarkPlace, at_cdata, at_comment, at_declaration, at_inside, at_open, cdata-line, mark_byte, mark_move, mark_next, mark_times, nothing-left, nothing_before, nothing_known, of_cdata, of_comment, of_declaration, of_instruction, opens_unless}
 use Rattle.mdconstructs_inline_constructs.proofs.HtmlTexts.Walks.{Move, done, goes, moved, one_further, refused, walk}
-use Rattle.mdconstructs_text.specs.Bytes.{has_byte_at}
-use Rattle.mdconstructs_text.specs.TextSizes.{more_than, size_b_grows, size_b_is}
-use Rattle.std.proofs.Common.{Bool, List, None, Option, Some, [], ap, arith, cond, false, nat_le, not, refl, subst, suc, sym, true, zero, ℕ, ◌&&◌, ◌==◌, ◌∙◌, ◌∷◌, ◌≡◌, ◌≤◌}
-use Rattle.std.proofs.lemmas.Bool.{and_parts, eqb-true}
-use Rattle.std.proofs.lemmas.Bool.Decides.{nat_tests}
-use Rattle.std.specs.Char.{is_ascii_alphabetic}
-use Rattle.std.specs.Prelude.{codes}
 
 -- nothing is further on, if nothing is one byte further on
 pub none-further : (o : Option ℕ) → one_further o ≡ None → o ≡ None

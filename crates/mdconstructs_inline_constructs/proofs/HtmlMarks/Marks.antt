@@ -1,10 +1,6 @@
 -- The closing marks of raw HTML, read byte by byte: so many of a byte, and `>`. How many of that byte are directly before is counted.
 use Rattle.mdconstructs_inline_constructs.proofs.HtmlTexts.Walks.{one_further}
-use Rattle.mdconstructs_inline_constructs.specs.HtmlMarked.{and_before, begins_with, through}
-use Rattle.std.proofs.Common.{Bool, List, None, Option, Some, [], ap, arith, cond, false, inl, inr, length, nat_le, refl, subst, suc, sym, true, zero, ℕ, ◌&&◌, ◌+◌, ◌<◌, ◌==◌, ◌∙◌, ◌∷◌, ◌≡◌, ◌≤◌}
-use Rattle.std.proofs.Math.Bool.{and-false}
-use Rattle.std.proofs.lemmas.Bool.{cases_lt, eqb-true, le-leb, lt-leb}
-use Rattle.std.specs.Prelude.{codes}
+use Rattle.mdconstructs_inline_constructs.proofs.Prelude.{and_before, begins_with, through, Bool, List, None, Option, Some, [], ap, arith, cond, false, inl, inr, length, nat_le, refl, subst, suc, sym, true, zero, ℕ, ◌&&◌, ◌+◌, ◌<◌, ◌==◌, ◌∙◌, ◌∷◌, ◌≡◌, ◌≤◌, and-false, cases_lt, eqb-true, le-leb, lt-leb, codes}
 
 -- bytes with so many of one before them
 abbrev pub put : ℕ → ℕ → List ℕ → List ℕ

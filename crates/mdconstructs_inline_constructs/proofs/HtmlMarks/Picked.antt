@@ -1,14 +1,5 @@
 -- What the code of states of raw HTML between marks cites: rows that tests pick, and the end at `>`.
-use Rattle.std.proofs.Common.{◌≡◌, ℕ, ◌==◌, ◌&&◌, Bool, true, false, cond, Option, Some, None, refl, sym, ap, ◌∙◌}
-use Rattle.std.proofs.lemmas.Bool.{and_parts, eqb-true}
-use Rattle.markdown_tokenizer.specs.Configuration.{Configuration, TokenizerValue}
-use Rattle.markdown_tokenizer.specs.Sight.{Sight, sight_of}
-use Rattle.markdown_tokenizer.specs.Text.{Given}
-use Rattle.mdconstructs_tables.specs.Rows.{Rows, when, picked, step_of, class_of}
-use Rattle.mdconstructs_text.specs.Bytes.{is_greater_than, passes}
-use Rattle.mdconstructs_text.specs.Laws.Classes.{by-class}
-use Rattle.mdconstructs_text.specs.TextBytes.{TextByte, text_byte}
-use Rattle.mdconstructs_inline_constructs.specs.HtmlMarkedRows.{look_rows}
+use Rattle.mdconstructs_inline_constructs.proofs.Prelude.{◌≡◌, ℕ, ◌==◌, ◌&&◌, Bool, true, false, cond, Option, Some, None, refl, sym, ap, ◌∙◌, and_parts, eqb-true, Configuration, TokenizerValue, Sight, sight_of, Given, Rows, when, picked, step_of, class_of, is_greater_than, passes, by-class, TextByte, text_byte, look_rows}
 use Rattle.mdconstructs_inline_constructs.proofs.HtmlTexts.Picked.{stepped}
 
 -- behind an opening mark, at any byte but a line feed

@@ -1,21 +1,7 @@
 -- Places in raw HTML between marks, from byte to byte; and how many bytes there are from each on.
-use Rattle.markdown_base.specs.declared.state.Name.{Name}
-use Rattle.markdown_base.specs.declared.state.TheConstants.Name.{HtmlTextCdataOpenInside, HtmlTextCommentOpenInside, HtmlTextDeclarationOpen}
-use Rattle.mdconstructs_inline_constructs.specs.declared.names.TheConstants.{HtmlTextMarkInside, HtmlTextMarkOpen}
-use Rattle.markdown_tokenizer.specs.Configuration.{Configuration, Local}
-use Rattle.markdown_tokenizer.specs.Sight.{Sight}
-use Rattle.mdconstructs_machines.specs.Breaks.{is_white}
+use Rattle.mdconstructs_inline_constructs.proofs.Prelude.{Name, HtmlTextCdataOpenInside, HtmlTextCommentOpenInside, HtmlTextDeclarationOpen, HtmlTextMarkInside, HtmlTextMarkOpen, Configuration, Local, Sight, is_white, closed_by, none_upto, stopped_at, has_byte_at, more_than, size_b_grows, size_b_is, Bool, List, None, Option, Some, [], ap, arith, cond, false, inl, inr, nat_le, refl, subst, suc, sym, true, zero, ℕ, ◌&&◌, ◌+◌, ◌<◌, ◌==◌, ◌^◌, ◌∙◌, ◌∷◌, ◌≡◌, ◌≤◌, and-false, cases_lt, nat_tests, is_ascii_alphabetic, codes}
 use Rattle.mdconstructs_inline_constructs.proofs.HtmlMarks.Marks.{left-enough, left_to_mark}
 use Rattle.mdconstructs_inline_constructs.proofs.HtmlTexts.Walks.{GoesThroughLines, IsThrough, Move, OfLine, Stop, done, goes, moved, one_further, refused, run}
-use Rattle.mdconstructs_inline_constructs.specs.HtmlMarkedRows.{closed_by, none_upto, stopped_at}
-use Rattle.mdconstructs_text.specs.Bytes.{has_byte_at}
-use Rattle.mdconstructs_text.specs.TextSizes.{more_than, size_b_grows, size_b_is}
-use Rattle.std.proofs.Common.{Bool, List, None, Option, Some, [], ap, arith, cond, false, inl, inr, nat_le, refl, subst, suc, sym, true, zero, ℕ, ◌&&◌, ◌+◌, ◌<◌, ◌==◌, ◌^◌, ◌∙◌, ◌∷◌, ◌≡◌, ◌≤◌}
-use Rattle.std.proofs.Math.Bool.{and-false}
-use Rattle.std.proofs.lemmas.Bool.{cases_lt}
-use Rattle.std.proofs.lemmas.Bool.Decides.{nat_tests}
-use Rattle.std.specs.Char.{is_ascii_alphabetic}
-use Rattle.std.specs.Prelude.{codes}
 
 pub data Mark : Type 0 where
   of_comment : Mark

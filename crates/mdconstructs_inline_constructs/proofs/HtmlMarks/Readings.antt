@@ -1,20 +1,6 @@
 -- How a machine reads raw HTML between marks: if it is there, with no blank line in it, it is read whole, with its events; if not, what was tried
 -- leaves nothing but what is remembered of the kind that does not end, which is right.
-use Rattle.markdown_base.proofs.Common.{drop-next}
-use Rattle.markdown_base.specs.Virtual.{Seat}
-use Rattle.markdown_base.specs.declared.event.Event.{Event}
-use Rattle.markdown_base.specs.declared.event.Kind.TheVariants.{Enter}
-use Rattle.markdown_base.specs.declared.event.Name.TheVariants.{HtmlText, HtmlTextData}
-use Rattle.markdown_base.specs.declared.state.Name.{Name}
-use Rattle.markdown_base.specs.declared.state.State.{State}
-use Rattle.markdown_base.specs.declared.state.State.TheVariants.{Next, Retry}
-use Rattle.mdconstructs_inline_constructs.specs.declared.names.TheConstants.{HtmlTextMarkLine, HtmlTextMarkOpen, HtmlTextMarkStart, HtmlTextMarkWhite}
-use Rattle.markdown_tokenizer.specs.Configuration.{Choice, Configuration, Local}
-use Rattle.markdown_tokenizer.specs.Sight.{point_or}
-use Rattle.markdown_tokenizer.specs.Text.{Given, IsText, Text}
-use Rattle.markdown_tokenizer.specs.declared.waiting.Waits.TheVariants.{Byte, Nothing}
-use Rattle.mdconstructs_machines.proofs.LineReads.Steps.{at-front, place-behind}
-use Rattle.mdconstructs_machines.specs.Tables.{counts}
+use Rattle.mdconstructs_inline_constructs.proofs.Prelude.{drop-next, Seat, Event, Enter, HtmlText, HtmlTextData, Name, State, Next, Retry, HtmlTextMarkLine, HtmlTextMarkOpen, HtmlTextMarkStart, HtmlTextMarkWhite, Choice, Configuration, Local, point_or, Given, IsText, Text, Byte, Nothing, at-front, place-behind, counts, html_mark_grammar, marked, none_upto, html_of, consume, enter, row, OfOption, outer, decides-in, goes-next, shows, IsAfter, Remembered, after-call, after-more, remembered, spent, Plays, between_items, leads-row, Between, Found, item_length, bytes_of, event, item_events, Bool, List, [], None, Option, Some, ap, arith, drop, false, inl, inr, length, not, refl, slice_get, subst, sym, take, true, ℕ, ◌*◌, ◌++◌, ◌+◌, ◌==◌, ◌∙◌, ◌∷◌, ◌≡◌, ◌≤◌, ◌⊎◌, eqb-true, length-map}
 use Rattle.mdconstructs_inline_constructs.proofs.HtmlMarks.Fails.{Ended, IsLineAt, known-right, less-none, opening-fails}
 use Rattle.mdconstructs_inline_constructs.proofs.HtmlMarks.Found.{marked-is}
 use Rattle.mdconstructs_inline_constructs.proofs.HtmlMarks.Known.{of_kind}
@@ -24,24 +10,7 @@ use Rattle.mdconstructs_inline_constructs.proofs.HtmlMarks.Rows.{FollowsMark, Kn
 use Rattle.mdconstructs_inline_constructs.proofs.HtmlTexts.Reads.{called, in_html_data, reads}
 use Rattle.mdconstructs_inline_constructs.proofs.HtmlTexts.Through.{GivesUp, IsLooked, IsWithin, html_option, html-is, walk-looked, walk-within, html-decided}
 use Rattle.mdconstructs_inline_constructs.proofs.HtmlTexts.Walks.{Stop, looked, one_further, run, stop_of, walk, walks}
-use Rattle.mdconstructs_inline_constructs.specs.HtmlMarked.{html_mark_grammar, marked}
-use Rattle.mdconstructs_inline_constructs.specs.HtmlMarkedRows.{none_upto}
-use Rattle.mdconstructs_inline_constructs.specs.HtmlText.{html_of}
-use Rattle.mdconstructs_tables.specs.Rows.{consume, enter, row}
-use Rattle.mdconstructs_text.proofs.Constructs.Apart.{OfOption}
-use Rattle.mdconstructs_text.proofs.Constructs.Listed.{outer}
-use Rattle.mdconstructs_text.proofs.Plain.Items.{decides-in}
-use Rattle.mdconstructs_text.proofs.Plain.Stretches.{goes-next, shows}
-use Rattle.mdconstructs_text.proofs.Texts.Counted.{IsAfter, Remembered, after-call, after-more, remembered}
-use Rattle.mdconstructs_text.proofs.Texts.Leads.{EndsWith, Leads, spent}
-use Rattle.mdconstructs_text.proofs.Texts.Steps.{Plays, between_items, leads-row}
-use Rattle.mdconstructs_text.specs.Construct.{Between, Found}
-use Rattle.mdconstructs_text.specs.Items.{item_length}
-use Rattle.mdconstructs_text.specs.Parts.{bytes_of, event}
-use Rattle.mdconstructs_text.specs.TextEvents.{item_events}
-use Rattle.std.proofs.Common.{Bool, List, [], None, Option, Some, ap, arith, drop, false, inl, inr, length, not, refl, slice_get, subst, sym, take, true, ℕ, ◌*◌, ◌++◌, ◌+◌, ◌==◌, ◌∙◌, ◌∷◌, ◌≡◌, ◌≤◌, ◌⊎◌}
-use Rattle.std.proofs.lemmas.Bool.{eqb-true}
-use Rattle.std.proofs.lemmas.List.{length-map}
+use Rattle.mdconstructs_text.proofs.Texts.Leads.{EndsWith, Leads}
 
 -- It is there if its places are gone through, and there is no blank line
 pub mark-there : (b : ℕ) (bs : List ℕ) → (b == 60) ≡ true → html_of (b ∷ bs) (marked (b ∷ bs)) ≡ html_option (one_further (walk mark_next bs false at_open))

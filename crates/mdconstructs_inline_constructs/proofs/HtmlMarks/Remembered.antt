@@ -1,27 +1,9 @@
 -- What is remembered of marks that do not end: it is right from a position of the text on, and a look that fails adds what is right.
-use Rattle.markdown_base.proofs.Common.{every-get}
-use Rattle.markdown_base.specs.Places.{shown, stands_before}
-use Rattle.markdown_base.specs.Virtual.{Seat}
-use Rattle.markdown_base.specs.declared.event.Point.{Point}
-use Rattle.markdown_children.proofs.Parts.Weaves.{get-dropped}
-use Rattle.markdown_tokenizer.proofs.Positions.Standing.{shown-upto}
-use Rattle.markdown_tokenizer.proofs.Positions.TextOrder.{AreInOrder, Follows, text-order}
-use Rattle.markdown_tokenizer.specs.Configuration.{Configuration}
-use Rattle.markdown_tokenizer.specs.Sight.{current_of, point_of, point_or, byte_of}
-use Rattle.markdown_tokenizer.specs.Text.{Given, IsText, Text}
-use Rattle.mdconstructs_machines.proofs.LineReads.Steps.{at-front}
+use Rattle.mdconstructs_inline_constructs.proofs.Prelude.{every-get, shown, stands_before, Seat, Point, get-dropped, shown-upto, AreInOrder, Follows, text-order, Configuration, current_of, point_of, point_or, byte_of, Given, IsText, Text, at-front, none_upto, stopped_at, waits_at, Remembered, remembered, bytes_of, List, None, Option, Some, [], ap, arith, drop, false, inl, inr, refl, slice_get, subst, suc, sym, true, zero, ℕ, ◌+◌, ◌-◌, ◌<◌, ◌==◌, ◌∙◌, ◌∷◌, ◌≡◌, ◌≤◌, cases_lt, ltb-true, nat_tests, drop-drop}
 use Rattle.mdconstructs_inline_constructs.proofs.HtmlMarks.Fails.{NoneBegins}
 use Rattle.mdconstructs_inline_constructs.proofs.HtmlMarks.Known.{of_kind}
 use Rattle.mdconstructs_inline_constructs.proofs.HtmlMarks.Places.{Mark, mark_byte, of_cdata, of_comment, of_declaration, of_instruction}
 use Rattle.mdconstructs_inline_constructs.proofs.HtmlMarks.Rows.{known_upto, knows_of, opening_length}
-use Rattle.mdconstructs_inline_constructs.specs.HtmlMarkedRows.{none_upto, stopped_at}
-use Rattle.mdconstructs_text.proofs.Plain.Stretches.{waits_at}
-use Rattle.mdconstructs_text.proofs.Texts.Counted.{Remembered, remembered}
-use Rattle.mdconstructs_text.specs.Parts.{bytes_of}
-use Rattle.std.proofs.Common.{List, None, Option, Some, [], ap, arith, drop, false, inl, inr, refl, slice_get, subst, suc, sym, true, zero, ℕ, ◌+◌, ◌-◌, ◌<◌, ◌==◌, ◌∙◌, ◌∷◌, ◌≡◌, ◌≤◌}
-use Rattle.std.proofs.lemmas.Bool.{cases_lt, ltb-true}
-use Rattle.std.proofs.lemmas.Bool.Decides.{nat_tests}
-use Rattle.std.proofs.lemmas.List.{drop-drop}
 
 module _ (text : Text) where
   -- no mark of a kind ends that begins at a position or behind it, before an index of the document

@@ -1,17 +1,5 @@
 -- The states of raw HTML between marks do at each byte what it does at their places.
-use Rattle.markdown_base.specs.declared.event.Name.TheVariants.{HtmlTextData, SpaceOrTab}
-use Rattle.markdown_base.specs.declared.state.Name.{Name}
-use Rattle.markdown_base.specs.declared.state.State.TheVariants.{Next, Nok, Retry}
-use Rattle.markdown_base.specs.declared.state.TheConstants.Name.{HtmlTextCommentOpenInside, HtmlTextDeclarationOpen}
-use Rattle.mdconstructs_inline_constructs.specs.declared.names.TheConstants.{HtmlTextMarkInside, HtmlTextMarkLine, HtmlTextMarkStart, HtmlTextMarkWhite}
-use Rattle.markdown_base.specs.Virtual.{Seat}
-use Rattle.markdown_tokenizer.specs.Calls.{with_local}
-use Rattle.markdown_tokenizer.specs.Configuration.{Configuration, Local, Step}
-use Rattle.markdown_tokenizer.specs.Sight.{Sight, sight, byte_of, current_of, point_of, point_or}
-use Rattle.markdown_tokenizer.specs.Text.{Given, Text}
-use Rattle.mdconstructs_machines.proofs.LineReads.Rows.{row_step}
-use Rattle.mdconstructs_machines.specs.Breaks.{is_white}
-use Rattle.mdconstructs_machines.specs.Tables.{counts}
+use Rattle.mdconstructs_inline_constructs.proofs.Prelude.{HtmlTextData, SpaceOrTab, Name, Next, Nok, Retry, HtmlTextCommentOpenInside, HtmlTextDeclarationOpen, HtmlTextMarkInside, HtmlTextMarkLine, HtmlTextMarkStart, HtmlTextMarkWhite, Seat, with_local, Configuration, Local, Step, Sight, sight, byte_of, current_of, point_of, point_or, Given, Text, row_step, is_white, counts, cdata_open_rows, comment_open_rows, declaration_open_rows, ends_cdata_mark, in_cdata_mark, in_mark, look_rows, mark_begun, mark_ends, mark_fails, mark_inside_rows, mark_line_rows, mark_open_rows, mark_start_rows, mark_white_rows, closed_by, no_cdata, no_comment, no_declaration, no_instruction, none_upto, stopped_at, html_goes_on, no_html, sees, Act, Rows, class_of, consume, enter, exit, row, when, write, writes, IsAfter, Remembered, after-call, remembered, HasRow, HasRows, tested, has_byte_at, is_greater_than, passes, TextByte, line_feed, text_byte, more_than, size_b_grows, size_b_is, Bool, List, None, Option, Some, [], ap, arith, cond, false, nat_le, not, refl, slice_get, subst, suc, sym, true, zero, ℕ, ◌&&◌, ◌+◌, ◌<◌, ◌==◌, ◌∙◌, ◌∷◌, ◌≡◌, and_parts, eqb-true, lt-ltb, nat_tests, is_ascii_alphabetic, codes, nat_lt}
 use Rattle.mdconstructs_inline_constructs.proofs.HtmlMarks.Places.{Mark, MarkPlace, at_cdata, at_comment, at_declaration, at_inside, at_open, cdata-few, cdata-line, inside-line, kind_fails, mark_byte, mark_gives_up, mark_move, mark_name, mark_times, marks-go-through-lines, nothing_before, of_cdata, of_comment, of_declaration, of_instruction, opens, opens_unless}
 use Rattle.mdconstructs_inline_constructs.proofs.HtmlMarks.Picked.{look-others}
 use Rattle.mdconstructs_inline_constructs.proofs.HtmlTexts.Calls.{byte-waits}
@@ -19,19 +7,6 @@ use Rattle.mdconstructs_inline_constructs.proofs.HtmlTexts.Pieces.{is_no_line_fe
 use Rattle.mdconstructs_inline_constructs.proofs.HtmlTexts.Reads.{PlaysHtml, Writes, called, written-counts, line_row_of, row_of, stop_acts, wrote}
 use Rattle.mdconstructs_inline_constructs.proofs.HtmlTexts.Rows.{at-seen, by-byte, other-rows}
 use Rattle.mdconstructs_inline_constructs.proofs.HtmlTexts.Walks.{Move, done, goes, refused}
-use Rattle.mdconstructs_inline_constructs.specs.HtmlMarkedRows.{cdata_open_rows, comment_open_rows, declaration_open_rows, ends_cdata_mark, in_cdata_mark, in_mark, look_rows, mark_begun, mark_ends, mark_fails, mark_inside_rows, mark_line_rows, mark_open_rows, mark_start_rows, mark_white_rows, closed_by, no_cdata, no_comment, no_declaration, no_instruction, none_upto, stopped_at}
-use Rattle.mdconstructs_inline_constructs.specs.HtmlTextRows.{html_goes_on, no_html, sees}
-use Rattle.mdconstructs_tables.specs.Rows.{Act, Rows, class_of, consume, enter, exit, row, when, write, writes}
-use Rattle.mdconstructs_text.proofs.Texts.Counted.{IsAfter, Remembered, after-call, remembered}
-use Rattle.mdconstructs_text.proofs.Texts.Steps.{HasRow, HasRows, tested}
-use Rattle.mdconstructs_text.specs.Bytes.{has_byte_at, is_greater_than, passes}
-use Rattle.mdconstructs_text.specs.TextBytes.{TextByte, line_feed, text_byte}
-use Rattle.mdconstructs_text.specs.TextSizes.{more_than, size_b_grows, size_b_is}
-use Rattle.std.proofs.Common.{Bool, List, None, Option, Some, [], ap, arith, cond, false, nat_le, not, refl, slice_get, subst, suc, sym, true, zero, ℕ, ◌&&◌, ◌+◌, ◌<◌, ◌==◌, ◌∙◌, ◌∷◌, ◌≡◌}
-use Rattle.std.proofs.lemmas.Bool.{and_parts, eqb-true, lt-ltb}
-use Rattle.std.proofs.lemmas.Bool.Decides.{nat_tests}
-use Rattle.std.specs.Char.{is_ascii_alphabetic}
-use Rattle.std.specs.Prelude.{codes, nat_lt}
 
 -- the rows of places
 abbrev pub mark_rows : MarkPlace → (previous current : Option TextByte) → Rows Unit Unit

@@ -1,16 +1,7 @@
 -- A line ending of a text is shown behind all bytes before it: their indices are smaller.
-use Rattle.markdown_base.proofs.Common.{every-append, every-filter}
-use Rattle.markdown_base.specs.Places.{denotes_same, follows_cr, in_range, shown}
-use Rattle.markdown_base.specs.Virtual.{Seat, begins_with_lf, in_tab, line_feed, other_byte, point, tab_width, virtual, virtual_from}
-use Rattle.markdown_tokenizer.proofs.Positions.Seats.{drop-first}
-use Rattle.markdown_tokenizer.proofs.Positions.TextOrder.{Follows, IsGood}
-use Rattle.markdown_tokenizer.specs.Text.{Given, IsText, Piece, Text, empty_text, followed_by, followed_by_all, passed, pushed}
-use Rattle.markdown_base.specs.declared.event.Point.{Point}
-use Rattle.std.specs.List.{AllByRecursion}
-use Rattle.std.specs.Prelude.{filter, nat_lt, slice_index, ◌||◌}
-use Rattle.std.proofs.Common.{Bool, List, [], ap, arith, cond, drop, false, inl, inr, length, refl, subst, suc, sym, true, zero, ℕ, ◌&&◌, ◌++◌, ◌+◌, ◌-◌, ◌<◌, ◌==◌, ◌∙◌, ◌∷◌, ◌≡◌, ◌⊎◌}
-use Rattle.std.proofs.lemmas.Bool.{and_parts, cases_lt, eqb-true}
-use Rattle.std.proofs.lemmas.Bool.Decides.{nat_tests}
+use Rattle.mdconstructs_inline_constructs.proofs.Prelude.{every-append, every-filter, denotes_same, follows_cr, in_range, shown, Seat, begins_with_lf, in_tab, other_byte, point, tab_width, virtual, virtual_from, drop-first, Follows, IsGood, Given, IsText, Text, empty_text, followed_by, followed_by_all, pushed, Point, AllByRecursion, filter, nat_lt, slice_index, ◌||◌, Bool, List, [], ap, arith, cond, drop, false, inl, inr, length, refl, subst, suc, sym, true, zero, ℕ, ◌&&◌, ◌++◌, ◌+◌, ◌-◌, ◌<◌, ◌==◌, ◌∙◌, ◌∷◌, ◌≡◌, ◌⊎◌, and_parts, cases_lt, eqb-true, nat_tests}
+use Rattle.markdown_base.specs.Virtual.{line_feed}
+use Rattle.markdown_tokenizer.specs.Text.{Piece, passed}
 
 -- a seat: it begins in the document; a line ending is in no tab; and where it ends in a tab, the tab is
 abbrev pub IsPlain : List ℕ → Seat → Type 0

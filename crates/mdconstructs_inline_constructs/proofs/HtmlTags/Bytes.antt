@@ -1,20 +1,6 @@
 -- Tags by their bytes: they begin with `<`, and are a byte at least; their events can be cut into atoms, and what spans keep holds of them; and the
 -- calls that read one are paid by its bytes.
-use Rattle.std.proofs.Common.{◌≡◌, ℕ, ◌+◌, ◌*◌, ◌<◌, ◌≤◌, ◌-◌, ◌==◌, List, ◌∷◌, true, false, cond, Option, Some, None, option_map, length, drop, refl, sym, ap, subst, arith}
-use Rattle.markdown_base.specs.declared.event.Event.{Event}
-use Rattle.markdown_base.specs.Virtual.{Seat}
-use Rattle.mdconstructs_text.specs.Bytes.{has_byte_at}
-use Rattle.mdconstructs_text.specs.Construct.{Found}
-use Rattle.mdconstructs_text.specs.Items.{item_length}
-use Rattle.mdconstructs_text.specs.Parts.{bytes_of}
-use Rattle.mdconstructs_text.specs.TextBytes.{text_byte}
-use Rattle.mdconstructs_text.proofs.Autolinks.Bytes.{autolinks-apart}
-use Rattle.mdconstructs_text.proofs.Constructs.Apart.{IsApart, OfOption}
-use Rattle.mdconstructs_text.proofs.DeepSpans.Stretches.{ItemCut}
-use Rattle.mdconstructs_text.proofs.Texts.Built.{IsKeptBySpans, IsBuilt}
-use Rattle.mdconstructs_inline_constructs.specs.HtmlTag.{html_tag_grammar, tag_length, is_slash, behind_closing, behind_opening}
-use Rattle.mdconstructs_inline_constructs.specs.HtmlTagRows.{html_tags}
-use Rattle.mdconstructs_inline_constructs.specs.HtmlText.{html_of}
+use Rattle.mdconstructs_inline_constructs.proofs.Prelude.{◌≡◌, ℕ, ◌+◌, ◌*◌, ◌<◌, ◌≤◌, ◌-◌, ◌==◌, List, ◌∷◌, true, false, cond, Option, Some, None, option_map, length, drop, refl, sym, ap, subst, arith, Event, Seat, has_byte_at, Found, item_length, bytes_of, text_byte, autolinks-apart, IsApart, OfOption, ItemCut, IsKeptBySpans, IsBuilt, html_tag_grammar, tag_length, is_slash, behind_closing, behind_opening, html_tags, html_of}
 use Rattle.mdconstructs_inline_constructs.proofs.HtmlTags.Calls.{tag_calls}
 use Rattle.mdconstructs_inline_constructs.proofs.HtmlTags.Places.{next, opened}
 use Rattle.mdconstructs_inline_constructs.proofs.HtmlTags.Readings.{tag-there}

@@ -1,11 +1,5 @@
 -- How many calls look for tags: a look stops at the next `<` that is not in quotes, so that no byte is in more than three looks.
-use Rattle.std.proofs.Common.{◌≡◌, ℕ, ◌+◌, ◌*◌, ◌≤◌, ◌==◌, ◌&&◌, List, [], ◌∷◌, Bool, true, false, cond, Some, None, length, drop, suc, refl, subst, sym, ap, ◌∙◌, arith}
-use Rattle.std.specs.Char.{is_ascii_alphabetic}
-use Rattle.std.proofs.lemmas.Bool.{and_parts}
-use Rattle.mdconstructs_machines.specs.Breaks.{is_white}
-use Rattle.mdconstructs_text.specs.Bytes.{is_greater_than, is_less_than}
-use Rattle.mdconstructs_inline_constructs.specs.HtmlTag.{is_slash, is_equals_sign, is_double_quote, is_single_quote, is_tag_white, is_tag_name_byte, begins_attribute_name, is_attribute_name_byte, is_unquoted}
-use Rattle.mdconstructs_inline_constructs.specs.HtmlTagRows.{quote_is}
+use Rattle.mdconstructs_inline_constructs.proofs.Prelude.{◌≡◌, ℕ, ◌+◌, ◌*◌, ◌≤◌, ◌==◌, ◌&&◌, List, [], ◌∷◌, Bool, true, false, cond, Some, None, length, drop, suc, refl, subst, sym, ap, ◌∙◌, arith, is_ascii_alphabetic, and_parts, is_white, is_greater_than, is_less_than, is_slash, is_equals_sign, is_double_quote, is_single_quote, is_tag_white, is_tag_name_byte, begins_attribute_name, is_attribute_name_byte, is_unquoted, quote_is}
 use Rattle.mdconstructs_inline_constructs.proofs.HtmlTexts.Walks.{Move, refused, done, goes, gone_over, looked}
 use Rattle.mdconstructs_inline_constructs.proofs.HtmlTags.Places.{Place, opened, closed, closing_name, closing, tag_name, before, name, named, value, double_quoted, single_quoted, after, bare, slashed, next, not-that}
 

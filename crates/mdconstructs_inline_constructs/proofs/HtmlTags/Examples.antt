@@ -1,7 +1,5 @@
 -- Examples of tags (CommonMark 0.31, 6.6): how many bytes they have.
-use Rattle.std.proofs.Common.{◌≡◌, Some, None, refl}
-use Rattle.std.specs.Prelude.{codes}
-use Rattle.mdconstructs_inline_constructs.specs.HtmlTag.{tag_length}
+use Rattle.mdconstructs_inline_constructs.proofs.Prelude.{◌≡◌, Some, None, refl, codes, tag_length}
 
 example_1 : tag_length (codes "<a><bab>") ≡ Some 3
 example_1 = refl

@@ -1,14 +1,5 @@
 -- What is behind a tag, from place to place: the definition of tags says the same.
-use Rattle.std.proofs.Common.{◌≡◌, ℕ, zero, suc, ◌+◌, ◌<◌, ◌≤◌, ◌==◌, not, List, [], ◌∷◌, Bool, true, false, cond, Option, Some, None, length, drop, refl, sym, ap, ◌∙◌, arith, one-add, le_trans}
-use Rattle.std.specs.Char.{is_ascii_alphabetic}
-use Rattle.std.specs.List.{prefix_len}
-use Rattle.std.specs.Prelude.{option_and_then}
-use Rattle.std.proofs.lemmas.Bool.{eqb-true}
-use Rattle.std.proofs.lemmas.Bool.Decides.{nat_tests}
-use Rattle.std.proofs.lemmas.List.{length-drop}
-use Rattle.mdconstructs_text.specs.Bytes.{has_byte_at, is_greater_than, is_less_than}
-use Rattle.mdconstructs_inline_constructs.specs.HtmlTag.{is_slash, is_equals_sign, is_double_quote, is_single_quote, is_tag_white, is_tag_name_byte, begins_attribute_name, is_attribute_name_byte, is_unquoted, behind, behind_one, behind_quote, behind_value, behind_attribute, behind_attributes, behind_opening, behind_closing, behind_tag}
-use Rattle.mdconstructs_inline_constructs.specs.HtmlTagRows.{quote_is}
+use Rattle.mdconstructs_inline_constructs.proofs.Prelude.{◌≡◌, ℕ, zero, suc, ◌+◌, ◌<◌, ◌≤◌, ◌==◌, not, List, [], ◌∷◌, Bool, true, false, cond, Option, Some, None, length, drop, refl, sym, ap, ◌∙◌, arith, one-add, le_trans, is_ascii_alphabetic, prefix_len, option_and_then, eqb-true, nat_tests, length-drop, has_byte_at, is_greater_than, is_less_than, is_slash, is_equals_sign, is_double_quote, is_single_quote, is_tag_white, is_tag_name_byte, begins_attribute_name, is_attribute_name_byte, is_unquoted, behind, behind_one, behind_quote, behind_value, behind_attribute, behind_attributes, behind_opening, behind_closing, behind_tag, quote_is}
 use Rattle.mdconstructs_inline_constructs.proofs.HtmlTexts.Walks.{Move, refused, done, goes}
 use Rattle.mdconstructs_inline_constructs.proofs.HtmlTags.Places.{Place, opened, closed, closing_name, closing, tag_name, before, name, named, value, double_quoted, single_quoted, after, bare, slashed, next, left_of, left}
 

@@ -1,11 +1,5 @@
 -- The tests of raw HTML and of tags look no further than the byte that waits.
-use Rattle.std.proofs.Common.{Option, Some, None, refl, ap}
-use Rattle.std.specs.List.{AllByRecursion}
-use Rattle.markdown_base.specs.declared.configuration.ParseOptions.{ParseOptions}
-use Rattle.mdconstructs_tables.specs.NoFurther.{IsAnsweredAlike, tests}
-use Rattle.mdconstructs_text.specs.TextBytes.{TextByte, line_feed, backtick, less, greater, backslash, colon, letter, digit, mark, ampersand, white, punctuation, blank, other}
-use Rattle.mdconstructs_inline_constructs.specs.HtmlTagRows.{html_tags}
-use Rattle.mdconstructs_inline_constructs.specs.HtmlTextRows.{html_is_on}
+use Rattle.mdconstructs_inline_constructs.proofs.Prelude.{Option, Some, None, refl, ap, AllByRecursion, ParseOptions, IsAnsweredAlike, tests, TextByte, line_feed, backtick, less, greater, backslash, colon, letter, digit, mark, ampersand, white, punctuation, blank, other, html_tags, html_is_on}
 
 pub html-on-alike : IsAnsweredAlike {R = Unit {0}} {D = Unit {0}} html_is_on
 html-on-alike g h s k alike = ap (λ (o : ParseOptions). o.constructs.html_text) alike.options

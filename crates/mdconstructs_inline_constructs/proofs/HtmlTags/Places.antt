@@ -1,11 +1,5 @@
 -- Tags, byte by byte: the places in a tag, and what is behind the tag from each of them on.
-use Rattle.std.proofs.Common.{◌≡◌, ℕ, suc, ◌-◌, ◌≤◌, ◌==◌, ◌||◌, List, [], ◌∷◌, Bool, true, false, cond, Option, Some, None, option_map, length, refl, sym, ap, ◌∙◌, arith}
-use Rattle.std.specs.Char.{is_ascii_alphabetic}
-use Rattle.std.proofs.lemmas.Bool.{eqb-true}
-use Rattle.mdconstructs_machines.specs.Breaks.{is_white}
-use Rattle.mdconstructs_text.specs.Bytes.{is_greater_than}
-use Rattle.mdconstructs_inline_constructs.specs.HtmlTag.{is_slash, is_equals_sign, is_double_quote, is_single_quote, is_tag_white, is_tag_name_byte, begins_attribute_name, is_attribute_name_byte, is_unquoted}
-use Rattle.mdconstructs_inline_constructs.specs.HtmlTagRows.{quote_is}
+use Rattle.mdconstructs_inline_constructs.proofs.Prelude.{◌≡◌, ℕ, suc, ◌-◌, ◌≤◌, ◌==◌, ◌||◌, List, [], ◌∷◌, Bool, true, false, cond, Option, Some, None, option_map, length, refl, sym, ap, ◌∙◌, arith, is_ascii_alphabetic, eqb-true, is_white, is_greater_than, is_slash, is_equals_sign, is_double_quote, is_single_quote, is_tag_white, is_tag_name_byte, begins_attribute_name, is_attribute_name_byte, is_unquoted, quote_is}
 use Rattle.mdconstructs_inline_constructs.proofs.HtmlTexts.Walks.{Move, refused, done, goes, moved, one_further, run, GoesThroughLines}
 
 -- Where a reader is: behind `<`; behind `</`, in the name of a closing tag, behind that; in the name of an opening tag; before an attribute, in its

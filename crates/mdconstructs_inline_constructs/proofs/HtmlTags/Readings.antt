@@ -1,34 +1,7 @@
 -- How a machine reads tags: if one is there, with no blank line in it, it is read whole, with its events; if not, what was tried leaves nothing. And
 -- within how many calls.
-use Rattle.std.proofs.Common.{◌≡◌, ℕ, ◌+◌, ◌*◌, ◌==◌, List, [], ◌∷◌, ◌++◌, Bool, true, false, not, None, slice_get, sym, ap, ◌∙◌, subst, drop, arith}
-use Rattle.std.proofs.lemmas.Bool.{eqb-true}
-use Rattle.markdown_base.proofs.Common.{drop-next}
-use Rattle.markdown_base.specs.declared.event.Event.{Event}
-use Rattle.markdown_base.specs.declared.event.Kind.TheVariants.{Enter}
-use Rattle.markdown_base.specs.declared.event.Name.TheVariants.{HtmlText, HtmlTextData}
-use Rattle.markdown_base.specs.declared.state.Name.{Name}
-use Rattle.markdown_base.specs.declared.state.State.TheVariants.{Next, Retry}
-use Rattle.markdown_base.specs.declared.state.TheConstants.Name.{HtmlTextStart, HtmlTextOpen, HtmlTextLineEndingAfter, HtmlTextLineEndingAfterPrefix}
-use Rattle.markdown_base.specs.Virtual.{Seat}
-use Rattle.markdown_tokenizer.specs.Configuration.{Local}
-use Rattle.markdown_tokenizer.specs.Sight.{point_or}
-use Rattle.markdown_tokenizer.specs.Text.{Given, Text}
-use Rattle.markdown_tokenizer.specs.declared.waiting.Waits.TheVariants.{Byte}
-use Rattle.mdconstructs_machines.proofs.LineReads.Steps.{at-front, place-behind}
-use Rattle.mdconstructs_text.proofs.Plain.Stretches.{goes-next, shows}
-use Rattle.mdconstructs_text.proofs.Texts.Counted.{after-call}
+use Rattle.mdconstructs_inline_constructs.proofs.Prelude.{◌≡◌, ℕ, ◌+◌, ◌*◌, ◌==◌, List, [], ◌∷◌, ◌++◌, Bool, true, false, not, None, slice_get, sym, ap, ◌∙◌, subst, drop, arith, eqb-true, drop-next, Event, Enter, HtmlText, HtmlTextData, Name, Next, Retry, HtmlTextStart, HtmlTextOpen, HtmlTextLineEndingAfter, HtmlTextLineEndingAfterPrefix, Seat, Local, point_or, Given, Text, Byte, at-front, place-behind, goes-next, shows, after-call, counts, row, enter, consume, Between, bytes_of, event, outer, ReadsIn, TriedIn, decides-in, decides-more, reads-of, ReadsPart, Plays, between_items, leads-row, tag_length, html_tags, html_of}
 use Rattle.mdconstructs_text.proofs.Texts.Leads.{EndsWith}
-use Rattle.mdconstructs_machines.specs.Tables.{counts}
-use Rattle.mdconstructs_tables.specs.Rows.{row, enter, consume}
-use Rattle.mdconstructs_text.specs.Construct.{Between}
-use Rattle.mdconstructs_text.specs.Parts.{bytes_of, event}
-use Rattle.mdconstructs_text.proofs.Constructs.Listed.{outer}
-use Rattle.mdconstructs_text.proofs.Plain.Items.{ReadsIn, TriedIn, decides-in, decides-more, reads-of}
-use Rattle.mdconstructs_text.proofs.Texts.Reads.{ReadsPart}
-use Rattle.mdconstructs_text.proofs.Texts.Steps.{Plays, between_items, leads-row}
-use Rattle.mdconstructs_inline_constructs.specs.HtmlTag.{tag_length}
-use Rattle.mdconstructs_inline_constructs.specs.HtmlTagRows.{html_tags}
-use Rattle.mdconstructs_inline_constructs.specs.HtmlText.{html_of}
 use Rattle.mdconstructs_inline_constructs.proofs.HtmlTags.Calls.{tag_calls}
 use Rattle.mdconstructs_inline_constructs.proofs.HtmlTags.Grammar.{tag-is}
 use Rattle.mdconstructs_inline_constructs.proofs.HtmlTags.Places.{opened, next, length_to, length-more, run-is, tags-go-through-lines}

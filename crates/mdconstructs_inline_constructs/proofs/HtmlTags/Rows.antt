@@ -1,25 +1,5 @@
 -- The states of tags do at each byte what it does at their places.
-use Rattle.std.proofs.Common.{◌≡◌, ℕ, ◌==◌, List, [], ◌∷◌, ◌++◌, Bool, true, false, cond, Option, Some, None, refl, sym, ap, ◌∙◌, subst}
-use Rattle.std.proofs.lemmas.Bool.{eqb-true}
-use Rattle.std.specs.Char.{is_ascii_alphabetic}
-use Rattle.markdown_base.specs.declared.event.Name.TheVariants.{HtmlTextData, SpaceOrTab}
-use Rattle.markdown_base.specs.declared.state.Name.{Name}
-use Rattle.markdown_base.specs.declared.state.State.TheVariants.{Next, Retry, Nok}
-use Rattle.markdown_base.specs.declared.state.TheConstants.Name.{HtmlTextStart, HtmlTextOpen, HtmlTextTagCloseStart, HtmlTextTagClose, HtmlTextTagCloseBetween, HtmlTextTagOpen, HtmlTextTagOpenBetween, HtmlTextTagOpenAttributeName, HtmlTextTagOpenAttributeNameAfter, HtmlTextTagOpenAttributeValueBefore, HtmlTextTagOpenAttributeValueQuoted, HtmlTextTagOpenAttributeValueQuotedAfter, HtmlTextTagOpenAttributeValueUnquoted, HtmlTextEnd, HtmlTextLineEndingAfter, HtmlTextLineEndingAfterPrefix}
-use Rattle.markdown_tokenizer.specs.Configuration.{Configuration, Local, Step}
-use Rattle.markdown_tokenizer.specs.Sight.{Sight, sight}
-use Rattle.markdown_tokenizer.specs.Text.{Given, Text}
-use Rattle.mdconstructs_machines.proofs.LineReads.Rows.{row_step}
-use Rattle.mdconstructs_machines.specs.Breaks.{is_white}
-use Rattle.mdconstructs_machines.specs.Tables.{counts}
-use Rattle.mdconstructs_tables.specs.Rows.{Act, Rows, row, when, enter, exit, consume, class_of}
-use Rattle.mdconstructs_text.specs.Bytes.{is_greater_than, passes}
-use Rattle.mdconstructs_text.specs.TextBytes.{TextByte, text_byte}
-use Rattle.mdconstructs_text.proofs.Texts.Counted.{IsAfter, after-call}
-use Rattle.mdconstructs_text.proofs.Texts.Steps.{HasRow, HasRows, tested}
-use Rattle.mdconstructs_inline_constructs.specs.HtmlTag.{is_slash, is_equals_sign, is_double_quote, is_single_quote, is_tag_white, is_tag_name_byte, begins_attribute_name, is_attribute_name_byte, is_unquoted}
-use Rattle.mdconstructs_inline_constructs.specs.HtmlTagRows.{quote_is, quote_waits, html_text_start_rows, html_text_open_rows, html_text_tag_close_start_rows, html_text_tag_close_rows, html_text_tag_close_between_rows, html_text_tag_open_rows, html_text_tag_open_between_rows, html_text_attribute_name_rows, html_text_attribute_name_after_rows, html_text_value_before_rows, html_text_value_quoted_rows, html_text_value_quoted_after_rows, html_text_value_unquoted_rows, html_text_end_rows}
-use Rattle.mdconstructs_inline_constructs.specs.HtmlTextRows.{html_following, html_line_begins, html_line_ends, html_rows, sees, html_line_ending_after_rows, html_line_ending_after_prefix_rows, follows_line_ending}
+use Rattle.mdconstructs_inline_constructs.proofs.Prelude.{◌≡◌, ℕ, ◌==◌, List, [], ◌∷◌, ◌++◌, Bool, true, false, cond, Option, Some, None, refl, sym, ap, ◌∙◌, subst, eqb-true, is_ascii_alphabetic, HtmlTextData, SpaceOrTab, Name, Next, Retry, Nok, HtmlTextStart, HtmlTextOpen, HtmlTextTagCloseStart, HtmlTextTagClose, HtmlTextTagCloseBetween, HtmlTextTagOpen, HtmlTextTagOpenBetween, HtmlTextTagOpenAttributeName, HtmlTextTagOpenAttributeNameAfter, HtmlTextTagOpenAttributeValueBefore, HtmlTextTagOpenAttributeValueQuoted, HtmlTextTagOpenAttributeValueQuotedAfter, HtmlTextTagOpenAttributeValueUnquoted, HtmlTextEnd, HtmlTextLineEndingAfter, HtmlTextLineEndingAfterPrefix, Configuration, Local, Step, Sight, sight, Given, Text, row_step, is_white, counts, Act, Rows, row, when, enter, exit, consume, class_of, is_greater_than, passes, TextByte, text_byte, IsAfter, after-call, HasRow, HasRows, tested, is_slash, is_equals_sign, is_double_quote, is_single_quote, is_tag_white, is_tag_name_byte, begins_attribute_name, is_attribute_name_byte, is_unquoted, quote_is, quote_waits, html_text_start_rows, html_text_open_rows, html_text_tag_close_start_rows, html_text_tag_close_rows, html_text_tag_close_between_rows, html_text_tag_open_rows, html_text_tag_open_between_rows, html_text_attribute_name_rows, html_text_attribute_name_after_rows, html_text_value_before_rows, html_text_value_quoted_rows, html_text_value_quoted_after_rows, html_text_value_unquoted_rows, html_text_end_rows, html_following, html_line_begins, html_line_ends, html_rows, sees, html_line_ending_after_rows, html_line_ending_after_prefix_rows, follows_line_ending}
 use Rattle.mdconstructs_inline_constructs.proofs.HtmlTexts.Pieces.{is_no_line_feed}
 use Rattle.mdconstructs_inline_constructs.proofs.HtmlTexts.Reads.{PlaysHtml, called, written-counts, row_of, line_row_of, wrote, Writes}
 use Rattle.mdconstructs_inline_constructs.proofs.HtmlTexts.Rows.{other-rows, stopped-rows, at-seen, at-cases, by-byte, followed, line-begun}

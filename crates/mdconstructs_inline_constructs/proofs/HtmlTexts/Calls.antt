@@ -1,19 +1,5 @@
 -- What the code of states in data of raw HTML may do: read a line ending, and end.
-use Rattle.std.proofs.Common.{◌≡◌, ℕ, [], ◌∷◌, Option, Some, refl, ap}
-use Rattle.markdown_base.specs.declared.event.Name.TheVariants.{HtmlText, HtmlTextData}
-use Rattle.markdown_base.specs.declared.state.Name.{Name}
-use Rattle.markdown_tokenizer.specs.Calls.{exited}
-use Rattle.markdown_tokenizer.specs.Configuration.{TokenizerValue, at_configuration}
-use Rattle.markdown_tokenizer.specs.Sight.{current_of, sight_of}
-use Rattle.markdown_tokenizer.specs.Text.{Text}
-use Rattle.markdown_tokenizer.specs.declared.waiting.Waits.{Waits}
-use Rattle.markdown_tokenizer.specs.declared.waiting.Waits.TheVariants.{Byte, End, Nothing}
-use Rattle.mdconstructs_tables.proofs.Rows.Calls.{can-exit, can-mark}
-use Rattle.mdconstructs_tables.specs.RowInvariant.{IsCallable}
-use Rattle.mdconstructs_tables.specs.RowTest.{allows_all, start_shape}
-use Rattle.mdconstructs_tables.specs.Rows.{Rows, class_of, consume, exit}
-use Rattle.mdconstructs_text.specs.TextBytes.{TextByte, line_feed, text_byte}
-use Rattle.mdconstructs_inline_constructs.specs.HtmlTextRows.{CanEndHtml, CanEndHtmlLine, html_state}
+use Rattle.mdconstructs_inline_constructs.proofs.Prelude.{◌≡◌, ℕ, [], ◌∷◌, Option, Some, refl, ap, HtmlText, HtmlTextData, Name, exited, TokenizerValue, at_configuration, current_of, sight_of, Text, Waits, Byte, End, Nothing, can-exit, can-mark, IsCallable, allows_all, start_shape, Rows, class_of, consume, exit, TextByte, line_feed, text_byte, CanEndHtml, CanEndHtmlLine, html_state}
 
 -- a byte that is seen waits
 pub byte-waits : (text : Text) (p : ℕ) (waits : Waits) (b : ℕ) → current_of text p waits ≡ Some b → waits ≡ Byte

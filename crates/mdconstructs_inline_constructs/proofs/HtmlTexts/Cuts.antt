@@ -1,18 +1,5 @@
 -- The events of raw HTML: they can be cut into atoms, as none goes over a line ending; and what spans keep holds of them.
-use Rattle.std.proofs.Common.{ℕ, ◌+◌, ◌==◌, List, ◌∷◌, true, false, cond, Option, Some, None, length, take, drop, refl, sym, subst, arith}
-use Rattle.std.specs.List.{flat_map, prefix_len}
-use Rattle.std.proofs.lemmas.List.{drop-take, take-append-drop}
-use Rattle.markdown_base.specs.declared.event.Event.{Event}
-use Rattle.markdown_base.specs.declared.event.Name.TheVariants.{HtmlText, HtmlTextData, LineEnding, SpaceOrTab}
-use Rattle.markdown_base.specs.Virtual.{Seat}
-use Rattle.mdconstructs_machines.specs.Breaks.{is_white}
-use Rattle.mdconstructs_text.specs.Construct.{Found}
-use Rattle.mdconstructs_text.specs.Parts.{bytes_of, cut}
-use Rattle.mdconstructs_text.proofs.Constructs.Apart.{OfOption}
-use Rattle.mdconstructs_text.proofs.DeepSpans.Atoms.{IsCut, cut-append, cut-leaf, cut-span}
-use Rattle.mdconstructs_text.proofs.DeepSpans.Stretches.{NoEnding, plain-line, run-plain, one-taken, cuts, ItemCut}
-use Rattle.mdconstructs_text.proofs.Texts.Built.{IsKeptBySpans, IsBuilt, flat-built}
-use Rattle.mdconstructs_inline_constructs.specs.HtmlText.{Piece, line_break, data_run, piece_at, piece_length, piece_events, html, html_of, has_blank_line}
+use Rattle.mdconstructs_inline_constructs.proofs.Prelude.{ℕ, ◌+◌, ◌==◌, List, ◌∷◌, true, false, cond, Option, Some, None, length, take, drop, refl, sym, subst, arith, flat_map, prefix_len, drop-take, take-append-drop, Event, HtmlText, HtmlTextData, LineEnding, SpaceOrTab, Seat, is_white, Found, bytes_of, cut, OfOption, IsCut, cut-append, cut-leaf, cut-span, NoEnding, plain-line, run-plain, one-taken, cuts, ItemCut, IsKeptBySpans, IsBuilt, flat-built, Piece, line_break, data_run, piece_at, piece_length, piece_events, html, html_of, has_blank_line}
 use Rattle.mdconstructs_inline_constructs.proofs.HtmlTexts.Pieces.{is_no_line_feed, piece-positive}
 
 -- what holds of raw HTML of any size holds of what is there

@@ -1,12 +1,5 @@
 -- Which state follows a line ending, for the code of the states behind it.
-use Rattle.std.proofs.Common.{◌≡◌, ◌==◌, List, [], ◌∷◌, ◌++◌, Bool, cond, ap}
-use Rattle.markdown_base.specs.declared.event.Name.TheVariants.{HtmlTextData}
-use Rattle.markdown_base.specs.declared.state.Name.{Name}
-use Rattle.markdown_base.specs.declared.state.State.TheVariants.{Retry}
-use Rattle.markdown_tokenizer.specs.Configuration.{TokenizerValue}
-use Rattle.markdown_tokenizer.specs.Sight.{sight_of}
-use Rattle.mdconstructs_tables.specs.Rows.{Act, row, enter, picked, step_of}
-use Rattle.mdconstructs_inline_constructs.specs.HtmlTextRows.{html_line_begins}
+use Rattle.mdconstructs_inline_constructs.proofs.Prelude.{◌≡◌, ◌==◌, List, [], ◌∷◌, ◌++◌, Bool, cond, ap, HtmlTextData, Name, Retry, TokenizerValue, sight_of, Act, row, enter, picked, step_of, html_line_begins}
 use Rattle.mdconstructs_inline_constructs.proofs.HtmlTexts.Picked.{stepped}
 
 module _ {M R D : Type 0} (t : TokenizerValue M R D) where

@@ -1,13 +1,5 @@
 -- The rows of states of raw HTML that a byte picks, for their code.
-use Rattle.std.proofs.Common.{◌≡◌, ℕ, ◌==◌, Bool, false, cond, Some, sym, ap, ◌∙◌, subst}
-use Rattle.markdown_base.specs.declared.state.State.{State}
-use Rattle.markdown_tokenizer.specs.Configuration.{Step, TokenizerValue}
-use Rattle.markdown_tokenizer.specs.Sight.{sight_of}
-use Rattle.mdconstructs_tables.specs.RowInvariant.{DoesAll}
-use Rattle.mdconstructs_tables.specs.Rows.{Rows, when, picked, step_of, class_of}
-use Rattle.mdconstructs_text.specs.Bytes.{passes}
-use Rattle.mdconstructs_text.specs.TextBytes.{text_byte}
-use Rattle.mdconstructs_inline_constructs.specs.HtmlTextRows.{html_rows, sees}
+use Rattle.mdconstructs_inline_constructs.proofs.Prelude.{◌≡◌, ℕ, ◌==◌, Bool, false, cond, Some, sym, ap, ◌∙◌, subst, State, Step, TokenizerValue, sight_of, DoesAll, Rows, when, picked, step_of, class_of, passes, text_byte, html_rows, sees}
 use Rattle.mdconstructs_inline_constructs.proofs.HtmlTexts.Rows.{other-rows}
 
 -- what does one step does another that is equal

@@ -1,15 +1,5 @@
 -- The events of raw HTML, piece by piece: data up to a line ending, a line ending, and the white space behind it.
-use Rattle.std.proofs.Common.{◌≡◌, ℕ, ◌+◌, ◌<◌, ◌≤◌, ◌==◌, not, List, [], ◌∷◌, ◌++◌, Bool, true, false, cond, length, take, drop, refl, ap, ◌∙◌, arith, one-add}
-use Rattle.std.specs.List.{AllByRecursion, flat_map, prefix_len}
-use Rattle.std.proofs.lemmas.List.{append_assoc, take_at, drop_at}
-use Rattle.markdown_base.specs.declared.event.Event.{Event}
-use Rattle.markdown_base.specs.declared.event.Name.TheVariants.{HtmlTextData, LineEnding, SpaceOrTab}
-use Rattle.markdown_base.specs.Virtual.{Seat}
-use Rattle.mdconstructs_machines.specs.Breaks.{is_white}
-use Rattle.mdconstructs_text.specs.Bytes.{has_byte_at, is_line_feed}
-use Rattle.mdconstructs_text.specs.Parts.{bytes_of, cut, leaf}
-use Rattle.mdconstructs_text.proofs.Texts.Cutting.{cut-enough, drop-less}
-use Rattle.mdconstructs_inline_constructs.specs.HtmlText.{Piece, line_break, data_run, piece_at, piece_length, piece_events}
+use Rattle.mdconstructs_inline_constructs.proofs.Prelude.{◌≡◌, ℕ, ◌+◌, ◌<◌, ◌≤◌, ◌==◌, not, List, [], ◌∷◌, ◌++◌, Bool, true, false, cond, length, take, drop, refl, ap, ◌∙◌, arith, one-add, AllByRecursion, flat_map, prefix_len, append_assoc, take_at, drop_at, Event, HtmlTextData, LineEnding, SpaceOrTab, Seat, is_white, has_byte_at, is_line_feed, bytes_of, cut, leaf, cut-enough, drop-less, Piece, line_break, data_run, piece_at, piece_length, piece_events}
 
 -- a byte of data
 abbrev pub is_no_line_feed : ℕ → Bool

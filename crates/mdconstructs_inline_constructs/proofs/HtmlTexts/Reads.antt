@@ -1,34 +1,8 @@
 -- A machine that reads raw HTML byte by byte, from place to place, reads what there is, with its events; and it refuses a blank line. It makes two
 -- calls at most for each byte that it goes over, and two more.
-use Rattle.std.proofs.Common.{◌≡◌, ℕ, zero, suc, ◌+◌, ◌*◌, ◌≤◌, ◌==◌, List, [], ◌∷◌, ◌++◌, true, false, cond, not, Option, Some, None, take, drop, slice_get, refl, sym, ap, ◌∙◌, subst, arith}
-use Rattle.std.proofs.lemmas.Bool.{eqb-true}
-use Rattle.std.proofs.lemmas.List.{append_assoc, append-nil}
-use Rattle.markdown_base.proofs.Common.{drop-next}
-use Rattle.markdown_base.proofs.Seats.{end-after-one}
-use Rattle.markdown_base.specs.declared.event.Event.{Event}
-use Rattle.markdown_base.specs.declared.event.Kind.TheVariants.{Enter, Exit}
-use Rattle.markdown_base.specs.declared.event.Name.{Name as EventName}
-use Rattle.markdown_base.specs.declared.event.Name.TheVariants.{HtmlText, HtmlTextData, LineEnding, SpaceOrTab}
-use Rattle.markdown_base.specs.declared.state.Name.{Name}
-use Rattle.markdown_base.specs.declared.state.State.{State}
-use Rattle.markdown_base.specs.declared.state.State.TheVariants.{Next, Retry, Ok, Nok}
-use Rattle.markdown_base.specs.Virtual.{Seat, end_after}
-use Rattle.markdown_tokenizer.specs.Calls.{with_local}
-use Rattle.markdown_tokenizer.specs.Configuration.{Choice, Configuration, Local, Step}
-use Rattle.markdown_tokenizer.specs.Sight.{Sight, sight, byte_of, end_or, end_place, point_or}
-use Rattle.markdown_tokenizer.specs.Text.{Given, Text}
-use Rattle.markdown_tokenizer.specs.declared.waiting.Waits.TheVariants.{Byte, End, Nothing}
-use Rattle.mdconstructs_machines.proofs.LineReads.Rows.{row_step}
-use Rattle.mdconstructs_machines.proofs.LineReads.Steps.{at-front, held, place-behind}
-use Rattle.mdconstructs_text.proofs.Plain.Stretches.{shows}
-use Rattle.mdconstructs_text.proofs.Texts.Counted.{IsAfter, after-call, after-more, after-within, remembered}
-use Rattle.mdconstructs_text.proofs.Texts.Leads.{EndsWith, Leads, goes-next as next-fed, leads-step, spent}
-use Rattle.mdconstructs_machines.specs.Breaks.{is_white}
+use Rattle.mdconstructs_inline_constructs.proofs.Prelude.{◌≡◌, ℕ, zero, suc, ◌+◌, ◌*◌, ◌≤◌, ◌==◌, List, [], ◌∷◌, ◌++◌, true, false, cond, not, Option, Some, None, take, drop, slice_get, refl, sym, ap, ◌∙◌, subst, arith, eqb-true, append_assoc, append-nil, drop-next, end-after-one, Event, Enter, Exit, EventName, HtmlText, HtmlTextData, LineEnding, SpaceOrTab, Name, State, Next, Retry, Ok, Nok, Seat, end_after, with_local, Choice, Configuration, Local, Step, Sight, sight, byte_of, end_or, end_place, point_or, Given, Text, Byte, End, Nothing, row_step, at-front, held, place-behind, shows, IsAfter, after-call, after-more, after-within, remembered, next-fed, leads-step, spent, is_white, counts, Act, Rows, row, enter, exit, consume, write, writes, shown_sight, passes, bytes_of, leaf}
+use Rattle.mdconstructs_text.proofs.Texts.Leads.{EndsWith, Leads}
 use Rattle.mdconstructs_machines.specs.Spans.{event}
-use Rattle.mdconstructs_machines.specs.Tables.{counts}
-use Rattle.mdconstructs_tables.specs.Rows.{Act, Rows, row, enter, exit, consume, write, writes, shown_sight}
-use Rattle.mdconstructs_text.specs.Bytes.{passes}
-use Rattle.mdconstructs_text.specs.Parts.{bytes_of, leaf}
 use Rattle.mdconstructs_inline_constructs.proofs.HtmlTexts.Pieces.{AllPass, StopsAt, is_no_line_feed, one-passes-more, pieces_events, line_events, data-piece, line-piece, white-piece}
 use Rattle.mdconstructs_inline_constructs.proofs.HtmlTexts.Walks.{Move, refused, done, goes, moved, one_further, walk, looked, gone_over, Stop, stop_of, stop_behind, OfLine, GoesThroughLines}
 

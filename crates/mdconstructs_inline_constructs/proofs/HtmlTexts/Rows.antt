@@ -1,19 +1,5 @@
 -- The rows of states of raw HTML, by the byte that waits.
-use Rattle.std.proofs.Common.{◌≡◌, ℕ, ◌==◌, not, List, [], ◌∷◌, ◌++◌, Bool, true, false, cond, Option, Some, None, refl, sym, ap, ◌∙◌}
-use Rattle.std.proofs.lemmas.Bool.{eqb-true}
-use Rattle.markdown_base.specs.declared.event.Name.TheVariants.{HtmlTextData}
-use Rattle.markdown_base.specs.declared.state.Name.{Name}
-use Rattle.markdown_base.specs.declared.state.State.TheVariants.{Retry, Nok}
-use Rattle.markdown_tokenizer.specs.Configuration.{Configuration, Step}
-use Rattle.markdown_tokenizer.specs.Sight.{Sight, sight}
-use Rattle.markdown_tokenizer.specs.Text.{Given, Text}
-use Rattle.mdconstructs_machines.proofs.LineReads.Rows.{row_step}
-use Rattle.mdconstructs_tables.specs.Rows.{Act, Rows, row, enter, when, class_of}
-use Rattle.mdconstructs_text.specs.Bytes.{passes}
-use Rattle.mdconstructs_text.specs.Laws.Classes.{by-class}
-use Rattle.mdconstructs_text.specs.TextBytes.{TextByte, text_byte}
-use Rattle.mdconstructs_text.proofs.Texts.Steps.{HasRow, HasRows, tested}
-use Rattle.mdconstructs_inline_constructs.specs.HtmlTextRows.{html_rows, html_line_begins, is_following, sees}
+use Rattle.mdconstructs_inline_constructs.proofs.Prelude.{◌≡◌, ℕ, ◌==◌, not, List, [], ◌∷◌, ◌++◌, Bool, true, false, cond, Option, Some, None, refl, sym, ap, ◌∙◌, eqb-true, HtmlTextData, Name, Retry, Nok, Configuration, Step, Sight, sight, Given, Text, row_step, Act, Rows, row, enter, when, class_of, passes, by-class, TextByte, text_byte, HasRow, HasRows, tested, html_rows, html_line_begins, is_following, sees}
 use Rattle.mdconstructs_inline_constructs.proofs.HtmlTexts.Pieces.{is_no_line_feed}
 use Rattle.mdconstructs_inline_constructs.proofs.HtmlTexts.Reads.{row_of}
 use Rattle.mdconstructs_inline_constructs.proofs.HtmlTexts.Walks.{Move, refused}

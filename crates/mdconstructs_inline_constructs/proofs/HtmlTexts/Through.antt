@@ -1,31 +1,6 @@
 -- Raw HTML behind its `<`: it is read as what there is, if no blank line is in it; and if it is not there, what was tried leaves nothing. The calls
 -- are bounded by the bytes that are gone over.
-use Rattle.std.proofs.Common.{◌≡◌, ℕ, suc, ◌+◌, ◌*◌, ◌≤◌, ◌==◌, ◌&&◌, List, [], ◌∷◌, ◌++◌, Bool, true, false, cond, Option, Some, None, length, take, drop, refl, ap, ◌∙◌, arith}
-use Rattle.std.proofs.lemmas.List.{append_assoc, length-map, take_at}
-use Rattle.markdown_base.specs.declared.event.Event.{Event}
-use Rattle.markdown_base.specs.declared.event.Kind.TheVariants.{Enter, Exit}
-use Rattle.markdown_base.specs.declared.event.Name.{Name as EventName}
-use Rattle.markdown_base.specs.declared.event.Name.TheVariants.{HtmlText}
-use Rattle.markdown_base.specs.declared.state.Name.{Name}
-use Rattle.markdown_base.specs.declared.state.State.{State}
-use Rattle.markdown_base.specs.declared.state.State.TheVariants.{Next}
-use Rattle.markdown_base.specs.Virtual.{Seat}
-use Rattle.markdown_tokenizer.specs.Configuration.{Choice, Configuration, Local}
-use Rattle.markdown_tokenizer.specs.Sight.{end_place}
-use Rattle.markdown_tokenizer.specs.Text.{Given, Text}
-use Rattle.markdown_tokenizer.specs.declared.waiting.Waits.TheVariants.{Nothing}
-use Rattle.mdconstructs_machines.specs.Tables.{counts}
-use Rattle.mdconstructs_machines.specs.Breaks.{is_white}
-use Rattle.mdconstructs_text.specs.Construct.{Found, Between}
-use Rattle.mdconstructs_text.specs.Parts.{bytes_of, event}
-use Rattle.mdconstructs_text.specs.TextEvents.{item_events}
-use Rattle.mdconstructs_text.proofs.Constructs.Apart.{OfOption}
-use Rattle.mdconstructs_text.proofs.Constructs.Listed.{outer}
-use Rattle.mdconstructs_text.proofs.Plain.Items.{DecidesIn, puts-back}
-use Rattle.mdconstructs_text.proofs.Plain.Stretches.{end-behind, shows}
-use Rattle.mdconstructs_text.proofs.Texts.Counted.{IsAfter}
-use Rattle.mdconstructs_text.proofs.Texts.Steps.{Leads, Plays, between_items, leads-ok}
-use Rattle.mdconstructs_inline_constructs.specs.HtmlText.{html, html_of, has_blank_line}
+use Rattle.mdconstructs_inline_constructs.proofs.Prelude.{◌≡◌, ℕ, suc, ◌+◌, ◌*◌, ◌≤◌, ◌==◌, ◌&&◌, List, [], ◌∷◌, ◌++◌, Bool, true, false, cond, Option, Some, None, length, take, drop, refl, ap, ◌∙◌, arith, append_assoc, length-map, take_at, Event, Enter, Exit, EventName, HtmlText, Name, State, Next, Seat, Choice, Configuration, Local, end_place, Given, Text, Nothing, counts, is_white, Found, Between, bytes_of, event, item_events, OfOption, outer, DecidesIn, puts-back, end-behind, shows, IsAfter, Leads, Plays, between_items, leads-ok, html, html_of, has_blank_line}
 use Rattle.mdconstructs_inline_constructs.proofs.HtmlTexts.Pieces.{pieces_events}
 use Rattle.mdconstructs_inline_constructs.proofs.HtmlTexts.Reads.{Decided, given_up}
 use Rattle.mdconstructs_inline_constructs.proofs.HtmlTexts.Walks.{Move, refused, done, goes, moved, gone_over, looked, one_further, with_no_blank, walk, Stop, plain-front}

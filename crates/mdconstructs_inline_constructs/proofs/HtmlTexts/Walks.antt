@@ -1,12 +1,5 @@
 -- Raw HTML that is read byte by byte, from place to place: how many bytes it has, and that a blank line ends the reading.
-use Rattle.std.proofs.Common.{◌≡◌, ℕ, suc, ◌+◌, ◌==◌, ◌&&◌, ◌||◌, List, [], ◌∷◌, Bool, true, false, cond, Option, Some, None, take, refl, sym, ap, ◌∙◌, subst, one-add}
-use Rattle.std.specs.List.{prefix_len}
-use Rattle.std.proofs.lemmas.Bool.{eqb-true}
-use Rattle.markdown_tokenizer.specs.Configuration.{Configuration, Local}
-use Rattle.markdown_tokenizer.specs.Sight.{Sight}
-use Rattle.mdconstructs_machines.specs.Breaks.{is_white}
-use Rattle.mdconstructs_text.specs.Bytes.{has_byte_at, is_line_feed}
-use Rattle.mdconstructs_inline_constructs.specs.HtmlText.{has_blank_line}
+use Rattle.mdconstructs_inline_constructs.proofs.Prelude.{◌≡◌, ℕ, suc, ◌+◌, ◌==◌, ◌&&◌, ◌||◌, List, [], ◌∷◌, Bool, true, false, cond, Option, Some, None, take, refl, sym, ap, ◌∙◌, subst, one-add, prefix_len, eqb-true, Configuration, Local, Sight, is_white, has_byte_at, is_line_feed, has_blank_line}
 
 -- What a byte does at a place: it is refused, it is the last one, or another place follows. What is written then, if anything, is for the reader
 pub data Move (S : Type 0) : Type 0 where

@@ -1,8 +1,5 @@
 -- The tests of character references look no further than the byte that waits.
-use Rattle.std.proofs.Common.{refl, ap}
-use Rattle.markdown_base.specs.declared.configuration.ParseOptions.{ParseOptions}
-use Rattle.mdconstructs_tables.specs.NoFurther.{IsAnsweredAlike}
-use Rattle.mdconstructs_inline_constructs.specs.ReferenceRows.{at_number_sign, at_semicolon, at_x, references_are_on, value_goes_on, value_is_whole}
+use Rattle.mdconstructs_inline_constructs.proofs.Prelude.{refl, ap, ParseOptions, IsAnsweredAlike, at_number_sign, at_semicolon, at_x, references_are_on, value_goes_on, value_is_whole}
 
 pub on-alike : IsAnsweredAlike {R = Unit {0}} {D = Unit {0}} references_are_on
 on-alike g h s k alike = ap (λ (o : ParseOptions). o.constructs.character_reference) alike.options

@@ -1,15 +1,5 @@
 -- Character references by their bytes: they begin with `&`, and are a byte at least.
-use Rattle.std.proofs.Common.{◌≡◌, ℕ, ◌<◌, ◌==◌, ◌&&◌, List, ◌∷◌, Bool, true, false, cond, Option, Some, take, drop, sym, arith}
-use Rattle.std.proofs.lemmas.Bool.Decides.{nat_tests}
-use Rattle.std.specs.List.{prefix_len}
-use Rattle.mdconstructs_text.proofs.Constructs.Apart.{IsApart, OfOption, only-there, when-there}
-use Rattle.mdconstructs_text.specs.Bytes.{has_byte_at}
-use Rattle.mdconstructs_text.specs.Construct.{Found}
-use Rattle.mdconstructs_text.specs.Items.{item_length}
-use Rattle.mdconstructs_text.specs.Laws.Classes.{by-class}
-use Rattle.mdconstructs_text.specs.TextBytes.{text_byte}
-use Rattle.mdconstructs_inline_constructs.specs.Reference.{Kind, named, decimal, hexadecimal, is_number_sign, is_semicolon, is_value, is_value_byte, is_x, body_at, number_at, reference, reference_at, value_at}
-use Rattle.mdconstructs_inline_constructs.specs.ReferenceRows.{is_ampersand_class, references}
+use Rattle.mdconstructs_inline_constructs.proofs.Prelude.{◌≡◌, ℕ, ◌<◌, ◌==◌, ◌&&◌, List, ◌∷◌, Bool, true, false, cond, Option, Some, take, drop, sym, arith, nat_tests, prefix_len, IsApart, OfOption, only-there, when-there, has_byte_at, Found, item_length, by-class, text_byte, Kind, named, decimal, hexadecimal, is_number_sign, is_semicolon, is_value, is_value_byte, is_x, body_at, number_at, reference, reference_at, value_at, is_ampersand_class, references}
 
 ampersand-classed : (b : ℕ) → is_ampersand_class (text_byte b) ≡ (b == 38)
 ampersand-classed b =

@@ -1,14 +1,6 @@
 -- How many calls character references take; and that they are no longer than the text.
-use Rattle.std.proofs.Common.{ℕ, ◌+◌, ◌≤◌, ◌==◌, ◌&&◌, List, [], ◌∷◌, Some, length, take, arith}
-use Rattle.std.proofs.lemmas.Bool.{and_parts}
-use Rattle.std.specs.List.{prefix_len}
-use Rattle.mdconstructs_text.proofs.Autolinks.Calls.{byte-within}
-use Rattle.mdconstructs_text.proofs.Constructs.Apart.{OfOption, when-so, when-there}
-use Rattle.mdconstructs_text.specs.Bytes.{has_byte_at}
-use Rattle.mdconstructs_text.specs.Construct.{Found}
-use Rattle.mdconstructs_text.specs.Items.{item_length}
+use Rattle.mdconstructs_inline_constructs.proofs.Prelude.{ℕ, ◌+◌, ◌≤◌, ◌==◌, ◌&&◌, List, [], ◌∷◌, Some, length, take, arith, and_parts, prefix_len, byte-within, OfOption, when-so, when-there, has_byte_at, Found, item_length, Kind, named, decimal, hexadecimal, is_number_sign, is_semicolon, is_value, is_value_byte, is_x, body_at, marks, number_at, reference, reference_at, value_at}
 use Rattle.mdconstructs_inline_constructs.proofs.References.Bytes.{either-there}
-use Rattle.mdconstructs_inline_constructs.specs.Reference.{Kind, named, decimal, hexadecimal, is_number_sign, is_semicolon, is_value, is_value_byte, is_x, body_at, marks, number_at, reference, reference_at, value_at}
 
 -- four at the marks, and 31 in the value, as none has more bytes
 abbrev pub reference_calls : List ℕ → ℕ

@@ -1,19 +1,6 @@
 -- The events of a character reference: they can be cut into atoms, as none goes over a line ending; and what spans keep holds of them.
-use Rattle.std.proofs.Common.{◌≡◌, ◌∙◌, ℕ, ◌+◌, ◌-◌, ◌++◌, List, [], ◌∷◌, false, take, drop, refl, sym, ap, subst, arith}
-use Rattle.std.proofs.Math.Seq.{take-add}
-use Rattle.std.proofs.lemmas.List.{drop-drop, drop-take, take-take}
-use Rattle.std.specs.List.{between, prefix_len}
-use Rattle.markdown_base.specs.Virtual.{Seat}
-use Rattle.markdown_base.specs.declared.event.Event.{Event}
-use Rattle.markdown_base.specs.declared.event.Name.TheVariants.{CharacterReference, CharacterReferenceMarker, CharacterReferenceMarkerNumeric, CharacterReferenceMarkerHexadecimal, CharacterReferenceMarkerSemi, CharacterReferenceValue}
+use Rattle.mdconstructs_inline_constructs.proofs.Prelude.{◌≡◌, ◌∙◌, ℕ, ◌+◌, ◌-◌, ◌++◌, List, [], ◌∷◌, false, take, drop, refl, sym, ap, subst, arith, take-add, drop-drop, drop-take, take-take, between, prefix_len, Seat, Event, CharacterReference, CharacterReferenceMarker, CharacterReferenceMarkerNumeric, CharacterReferenceMarkerHexadecimal, CharacterReferenceMarkerSemi, CharacterReferenceValue, is_ampersand, bytes_of, OfOption, when-there, OneLine, IsCut, cut-append, cut-leaf, ItemCut, NoEnding, one-taken, plain-line, run-plain, three-cut, IsBuilt, IsKeptBySpans, Kind, named, decimal, hexadecimal, is_number_sign, is_value_byte, is_x, mark_events, marks, body_at, number_at, reference, reference_at, value_at}
 use Rattle.mdconstructs_machines.specs.Spans.{leaf}
-use Rattle.mdconstructs_text.specs.Bytes.{is_ampersand}
-use Rattle.mdconstructs_text.specs.Parts.{bytes_of}
-use Rattle.mdconstructs_text.proofs.Constructs.Apart.{OfOption, when-there}
-use Rattle.mdconstructs_text.proofs.DeepSpans.Atoms.{OneLine, IsCut, cut-append, cut-leaf}
-use Rattle.mdconstructs_text.proofs.DeepSpans.Stretches.{ItemCut, NoEnding, one-taken, plain-line, run-plain, three-cut}
-use Rattle.mdconstructs_text.proofs.Texts.Built.{IsBuilt, IsKeptBySpans}
-use Rattle.mdconstructs_inline_constructs.specs.Reference.{Kind, named, decimal, hexadecimal, is_number_sign, is_value_byte, is_x, mark_events, marks, body_at, number_at, reference, reference_at, value_at}
 use Rattle.mdconstructs_inline_constructs.proofs.References.Bytes.{either-there, reference-holds, value-holds}
 
 module _ (bytes : List ℕ) where

@@ -1,24 +1,6 @@
 -- The events that a machine makes of a character reference are the item's.
-use Rattle.std.proofs.Common.{◌≡◌, ℕ, suc, ◌+◌, ◌<◌, ◌++◌, List, [], ◌∷◌, length, take, drop, slice_get, refl, sym, ap, ◌∙◌, arith}
-use Rattle.std.proofs.Math.Seq.{take-append_seam, take-suc}
-use Rattle.std.proofs.lemmas.List.{append_assoc, drop-drop, drop_at, length-take-le, take_at}
-use Rattle.std.proofs.lemmas.Option.{get_or_from_slice_get, slice_get_within}
-use Rattle.std.proofs.lemmas.Slice.{between_is}
-use Rattle.std.specs.List.{between}
-use Rattle.markdown_base.proofs.Common.{drop-next}
-use Rattle.markdown_base.proofs.Seats.{end-after-one}
-use Rattle.markdown_base.specs.Virtual.{Seat}
-use Rattle.markdown_base.specs.declared.event.Event.{Event}
-use Rattle.markdown_base.specs.declared.event.Kind.TheVariants.{Enter, Exit}
-use Rattle.markdown_base.specs.declared.event.Name.{Name as EventName}
-use Rattle.markdown_base.specs.declared.event.Name.TheVariants.{CharacterReference, CharacterReferenceMarker, CharacterReferenceMarkerNumeric, CharacterReferenceMarkerHexadecimal, CharacterReferenceMarkerSemi, CharacterReferenceValue}
-use Rattle.markdown_tokenizer.specs.Sight.{end_or, end_place, point_or}
-use Rattle.markdown_tokenizer.specs.Text.{Given, Text}
+use Rattle.mdconstructs_inline_constructs.proofs.Prelude.{◌≡◌, ℕ, suc, ◌+◌, ◌<◌, ◌++◌, List, [], ◌∷◌, length, take, drop, slice_get, refl, sym, ap, ◌∙◌, arith, take-append_seam, take-suc, append_assoc, drop-drop, drop_at, length-take-le, take_at, get_or_from_slice_get, slice_get_within, between_is, between, drop-next, end-after-one, Seat, Event, Enter, Exit, EventName, CharacterReference, CharacterReferenceMarker, CharacterReferenceMarkerNumeric, CharacterReferenceMarkerHexadecimal, CharacterReferenceMarkerSemi, CharacterReferenceValue, end_or, end_place, point_or, Given, Text, at-front, item_events, leaf-read, named, decimal, hexadecimal, reference}
 use Rattle.mdconstructs_machines.specs.Spans.{event, leaf}
-use Rattle.mdconstructs_machines.proofs.LineReads.Steps.{at-front}
-use Rattle.mdconstructs_text.specs.TextEvents.{item_events}
-use Rattle.mdconstructs_text.proofs.Plain.Stretches.{leaf-read}
-use Rattle.mdconstructs_inline_constructs.specs.Reference.{named, decimal, hexadecimal, reference}
 
 -- the events of a reference, by its markers, its value, and `;`
 module _ (bytes : List ℕ) (n : ℕ) (v : List Seat) (x : Seat) (size : length v ≡ n) where

@@ -1,42 +1,5 @@
 -- How a machine reads a character reference: if one is there, it is read whole, with its events; if not, the attempt leaves nothing.
-use Rattle.std.proofs.Common.{◌≡◌, ℕ, ◌+◌, ◌-◌, ◌<◌, ◌≤◌, ◌++◌, ◌==◌, ◌&&◌, List, [], ◌∷◌, Bool, true, false, cond, Option, Some, None, length, take, drop, slice_get, refl, sym, ap, subst, ◌∙◌, arith, option_map}
-use Rattle.std.proofs.lemmas.Bool.{eqb-true}
-use Rattle.std.proofs.Math.Bool.{and-false}
-use Rattle.std.proofs.Math.Seq.{take-append_seam}
-use Rattle.std.proofs.lemmas.List.{append_assoc}
-use Rattle.markdown_base.proofs.Common.{drop-next}
-use Rattle.markdown_base.specs.Virtual.{Seat}
-use Rattle.markdown_base.specs.declared.event.Event.{Event}
-use Rattle.markdown_base.specs.declared.event.Name.{Name as EventName}
-use Rattle.markdown_base.specs.declared.event.Name.TheVariants.{CharacterReference, CharacterReferenceMarkerNumeric, CharacterReferenceMarkerHexadecimal, CharacterReferenceMarkerSemi, CharacterReferenceValue}
-use Rattle.markdown_base.specs.declared.state.Name.{Name}
-use Rattle.markdown_base.specs.declared.state.State.TheVariants.{Next, Retry, Ok, Nok}
-use Rattle.markdown_base.specs.declared.state.TheConstants.Name.{CharacterReferenceStart, CharacterReferenceOpen, CharacterReferenceNumeric, CharacterReferenceValue as ReferenceValue}
-use Rattle.markdown_tokenizer.specs.Calls.{with_local}
-use Rattle.markdown_tokenizer.specs.Configuration.{Choice, Configuration, Local, Step}
-use Rattle.markdown_tokenizer.specs.Sight.{Sight, byte_of, sight}
-use Rattle.markdown_tokenizer.specs.Text.{Given, Text}
-use Rattle.markdown_tokenizer.specs.declared.waiting.Waits.TheVariants.{Nothing, Byte}
-use Rattle.mdconstructs_machines.specs.Tables.{counts}
-use Rattle.mdconstructs_machines.proofs.LineReads.Rows.{row_step}
-use Rattle.mdconstructs_machines.proofs.LineReads.Steps.{at-front, held}
-use Rattle.mdconstructs_tables.specs.Rows.{Rows, row, when, write, writes, consume, enter, exit}
-use Rattle.mdconstructs_text.specs.Bytes.{passes}
-use Rattle.mdconstructs_text.specs.Construct.{Between, Found}
-use Rattle.mdconstructs_text.specs.Items.{item_length}
-use Rattle.mdconstructs_text.specs.Parts.{bytes_of}
-use Rattle.mdconstructs_text.specs.TextEvents.{item_events}
-use Rattle.mdconstructs_text.specs.TextSizes.{more_than}
-use Rattle.mdconstructs_text.proofs.CodeSpans.Parts.{more-is}
-use Rattle.mdconstructs_text.proofs.Constructs.Listed.{outer}
-use Rattle.mdconstructs_text.proofs.Plain.Items.{DecidesIn, ReadsIn, TriedIn, decides-in, decides-more, puts-back, reads-of, refused}
-use Rattle.mdconstructs_text.proofs.Plain.Stretches.{goes-next, shows}
-use Rattle.mdconstructs_text.proofs.Texts.Counted.{IsAfter, after-call, after-within}
-use Rattle.mdconstructs_text.proofs.Texts.Reads.{ReadsPart}
-use Rattle.mdconstructs_text.proofs.Texts.Leads.{Ending}
-use Rattle.mdconstructs_text.proofs.Texts.Steps.{EndsWith, HasRows, Plays, between_items, leads-ok, leads-seen, tested}
-use Rattle.mdconstructs_inline_constructs.specs.Reference.{Kind, named, decimal, hexadecimal, is_number_sign, is_x, is_semicolon, is_value, reference, reference_at, body_at, number_at, value_at}
-use Rattle.mdconstructs_inline_constructs.specs.ReferenceRows.{may_go_on, is_whole, name_behind, at_number_sign, at_semicolon, at_x, value_goes_on, value_is_whole, value_grows, marker_is, value_begins, reference_start_rows, reference_open_rows, reference_numeric_rows, reference_value_rows, references}
+use Rattle.mdconstructs_inline_constructs.proofs.Prelude.{◌≡◌, ℕ, ◌+◌, ◌-◌, ◌<◌, ◌≤◌, ◌++◌, ◌==◌, ◌&&◌, List, [], ◌∷◌, Bool, true, false, cond, Option, Some, None, length, take, drop, slice_get, refl, sym, ap, subst, ◌∙◌, arith, option_map, eqb-true, and-false, take-append_seam, append_assoc, drop-next, Seat, Event, EventName, CharacterReference, CharacterReferenceMarkerNumeric, CharacterReferenceMarkerHexadecimal, CharacterReferenceMarkerSemi, CharacterReferenceValue, Name, Next, Retry, Ok, Nok, CharacterReferenceStart, CharacterReferenceOpen, CharacterReferenceNumeric, ReferenceValue, with_local, Choice, Configuration, Local, Step, Sight, byte_of, sight, Given, Text, Nothing, Byte, counts, row_step, at-front, held, Rows, row, when, write, writes, consume, enter, exit, passes, Between, Found, item_length, bytes_of, item_events, more_than, more-is, outer, DecidesIn, ReadsIn, TriedIn, decides-in, decides-more, puts-back, reads-of, refused, goes-next, shows, IsAfter, after-call, after-within, ReadsPart, Ending, EndsWith, HasRows, Plays, between_items, leads-ok, leads-seen, tested, Kind, named, decimal, hexadecimal, is_number_sign, is_x, is_semicolon, is_value, reference, reference_at, body_at, number_at, value_at, may_go_on, is_whole, name_behind, at_number_sign, at_semicolon, at_x, value_goes_on, value_is_whole, value_grows, marker_is, value_begins, reference_start_rows, reference_open_rows, reference_numeric_rows, reference_value_rows, references}
 use Rattle.mdconstructs_inline_constructs.proofs.References.Calls.{reference_calls}
 use Rattle.mdconstructs_inline_constructs.proofs.References.Events.{begun_named, begun_decimal, begun_hexadecimal, decimal-events, decimal-front, ended_value, entered_value, hexadecimal-events, hexadecimal-front, named-events, named-front}
 use Rattle.mdconstructs_inline_constructs.proofs.References.Values.{first-walk, has-room, marker_of, walk, walk-value}

@@ -1,21 +1,7 @@
 -- What is read of the value of a character reference, byte by byte, is a value where one is there.
-use Rattle.std.proofs.Common.{◌≡◌, ℕ, zero, suc, ◌+◌, ◌<◌, ◌≤◌, ◌++◌, ◌==◌, ◌&&◌, List, [], ◌∷◌, Bool, true, false, cond, nat_le, nat_lt, length, take, drop, refl, sym, ap, ◌∙◌, arith, inl, inr, length-append}
-use Rattle.std.proofs.lemmas.Bool.{and_parts, cases_lt, eqb-true, le-leb, le-ltb, lt-leb, lt-ltb, ltb-true}
-use Rattle.std.proofs.lemmas.List.{length-take-le, length-drop, take-append-drop, take-take}
-use Rattle.std.proofs.lemmas.List.Sums.{prefix_len-le-length}
-use Rattle.markdown_base.proofs.Common.{drop-next}
-use Rattle.std.specs.Char.{is_ascii_alphanumeric, is_ascii_digit, is_ascii_hexdigit}
-use Rattle.std.specs.List.{prefix_len}
-use Rattle.std.specs.Option.{is_some, option_map, unwrap_or}
-use Rattle.std.specs.Prelude.{Option, Some, None}
-use Rattle.mdconstructs_references.specs.References.{characters_of, name_from}
+use Rattle.mdconstructs_inline_constructs.proofs.Prelude.{◌≡◌, ℕ, zero, suc, ◌+◌, ◌<◌, ◌≤◌, ◌++◌, ◌==◌, ◌&&◌, List, [], ◌∷◌, Bool, true, false, cond, nat_le, nat_lt, length, take, drop, refl, sym, ap, ◌∙◌, arith, inl, inr, length-append, and_parts, cases_lt, eqb-true, le-leb, le-ltb, lt-leb, lt-ltb, ltb-true, length-take-le, length-drop, take-append-drop, take-take, prefix_len-le-length, drop-next, is_ascii_alphanumeric, is_ascii_digit, is_ascii_hexdigit, prefix_len, is_some, option_map, unwrap_or, Option, Some, None, name_from, begins-so, found-so, no_characters, all_are_short, has_byte_at, Kind, named, decimal, hexadecimal, is_semicolon, value_at, reference, is_value, going_on, may_go_on, is_whole, name_behind}
+use Rattle.mdconstructs_references.specs.References.{characters_of}
 use Rattle.mdconstructs_references.specs.CharacterReferences.{character_references}
-use Rattle.mdconstructs_references.proofs.Names.{begins-so, found-so}
-use Rattle.mdconstructs_references.proofs.Parts.{no_characters}
-use Rattle.mdconstructs_references.proofs.Tables.{all_are_short}
-use Rattle.mdconstructs_text.specs.Bytes.{has_byte_at}
-use Rattle.mdconstructs_inline_constructs.specs.Reference.{Kind, named, decimal, hexadecimal, is_semicolon, value_at, reference, is_value}
-use Rattle.mdconstructs_inline_constructs.specs.ReferenceRows.{going_on, may_go_on, is_whole, name_behind}
 
 -- Of these bytes, behind n that were read, the value is read: how many bytes it has, if there is one with `;` behind it
 abbrev pub walk : (marker : ℕ) (name : List ℕ) (n : ℕ) → List ℕ → Option ℕ

@@ -1,15 +1,5 @@
 -- What is remembered of backtick strings is a memory of them, as the theorem of code spans asks for one.
-use Rattle.std.proofs.Common.{◌≡◌, ◌⊎◌, inl, inr, ℕ, zero, suc, ◌≤◌, ◌&&◌, nat_le, ◌∷◌, [], List, true, false, cond, refl, sym, ◌∙◌, ap, subst, arith, Option, Some, None}
-use Rattle.std.specs.List.{last_or}
-use Rattle.std.proofs.lemmas.Bool.{and_parts}
-use Rattle.std.proofs.lemmas.Bool.Decides.{nat_tests}
-use Rattle.markdown_tokenizer.specs.declared.tokenizer.state.ContainerState.{ContainerState}
-use Rattle.mdconstructs_tables.proofs.GrowingTexts.{last-more}
-use Rattle.mdconstructs_text.proofs.CodeSpans.Parts.{size_c}
-use Rattle.mdconstructs_text.proofs.CodeSpans.Plays.{between_rows, before_chunk_rows, opening_rows}
-use Rattle.mdconstructs_text.proofs.CodeSpans.Remembered.{Memory, remembering}
-use Rattle.mdconstructs_text.specs.TextBytes.{TextByte, backtick}
-use Rattle.mdconstructs_inline_constructs.specs.RememberedCode.{all_runs_seen, index_of, is_ahead, is_seen_from, later_of, remembered_between_rows, remembered_chunk_rows, remembered_open_rows, runs_of, seen_at, with_run, with_run_at}
+use Rattle.mdconstructs_inline_constructs.proofs.Prelude.{◌≡◌, ◌⊎◌, inl, inr, ℕ, zero, suc, ◌≤◌, ◌&&◌, nat_le, ◌∷◌, [], List, true, false, cond, refl, sym, ◌∙◌, ap, subst, arith, Option, Some, None, last_or, and_parts, nat_tests, ContainerState, last-more, size_c, between_rows, before_chunk_rows, opening_rows, Memory, remembering, TextByte, backtick, all_runs_seen, index_of, is_ahead, is_seen_from, later_of, remembered_between_rows, remembered_chunk_rows, remembered_open_rows, runs_of, seen_at, with_run, with_run_at}
 
 -- ---- one entry
 at-least : (i j : ℕ) → j ≤ i → nat_le j i ≡ true

@@ -1,34 +1,6 @@
 -- How a machine reads code spans that remembers backtick strings: they are decided as they are without that, what is remembered holds, and calls are
 -- paid: a look to the end once, and else by the bytes.
-use Rattle.std.proofs.Common.{◌≡◌, ℕ, ◌+◌, ◌*◌, ◌<◌, ◌≤◌, ◌∷◌, ◌++◌, [], List, Bool, true, false, cond, refl, sym, ◌∙◌, ap, subst, arith, length, take, drop, Option, Some, None}
-use Rattle.std.proofs.lemmas.Bool.{eqb-true}
-use Rattle.std.proofs.lemmas.List.{drop-drop, length-map}
-use Rattle.markdown_base.proofs.Common.{drop-next}
-use Rattle.markdown_base.specs.Virtual.{Seat}
-use Rattle.markdown_base.specs.declared.event.Event.{Event}
-use Rattle.markdown_base.specs.declared.state.Name.{Name}
-use Rattle.markdown_base.specs.declared.state.State.{State}
-use Rattle.markdown_base.specs.declared.state.State.TheVariants.{Next, Retry}
-use Rattle.markdown_base.specs.declared.state.TheConstants.Name.{RawTextStart}
-use Rattle.markdown_tokenizer.specs.Configuration.{Choice, Configuration, Local}
-use Rattle.markdown_tokenizer.specs.Text.{Given, IsText, Text}
-use Rattle.markdown_tokenizer.specs.declared.waiting.Waits.TheVariants.{Byte, Nothing}
-use Rattle.mdconstructs_text.proofs.CodeSpans.Items.{Ends}
-use Rattle.mdconstructs_text.proofs.CodeSpans.Parts.{run-positive}
-use Rattle.mdconstructs_text.proofs.CodeSpans.Plays.{PlaysCodeSpans}
-use Rattle.mdconstructs_text.proofs.CodeSpans.Remembered.{KnowsRuns, known_runs, knows-as, knows-later, knows-nothing, left-paid, others, read-paid, remembered-code-spans-read, remembering, seen}
-use Rattle.mdconstructs_text.proofs.CodeSpans.Sizes.{code-span-within}
-use Rattle.mdconstructs_text.proofs.Constructs.Apart.{OfOption}
-use Rattle.mdconstructs_text.proofs.Constructs.Listed.{outer}
-use Rattle.mdconstructs_text.proofs.Texts.Counted.{Remembered, remembered}
-use Rattle.mdconstructs_text.proofs.Texts.Leads.{spent}
-use Rattle.mdconstructs_text.proofs.Texts.Steps.{Leads, Plays, between_items}
-use Rattle.mdconstructs_text.specs.Bytes.{backticks, is_backtick}
-use Rattle.mdconstructs_text.specs.CodeSpan.{code_span_at}
-use Rattle.mdconstructs_text.specs.Construct.{Between, Found}
-use Rattle.mdconstructs_text.specs.Items.{item_length}
-use Rattle.mdconstructs_text.specs.Parts.{bytes_of}
-use Rattle.mdconstructs_text.specs.TextEvents.{item_events}
+use Rattle.mdconstructs_inline_constructs.proofs.Prelude.{◌≡◌, ℕ, ◌+◌, ◌*◌, ◌<◌, ◌≤◌, ◌∷◌, ◌++◌, [], List, Bool, true, false, cond, refl, sym, ◌∙◌, ap, subst, arith, length, take, drop, Option, Some, None, eqb-true, drop-drop, length-map, drop-next, Seat, Event, Name, State, Next, Retry, RawTextStart, Choice, Configuration, Local, Given, IsText, Text, Byte, Nothing, Ends, run-positive, PlaysCodeSpans, KnowsRuns, known_runs, knows-as, knows-later, knows-nothing, left-paid, others, read-paid, remembered-code-spans-read, remembering, seen, code-span-within, OfOption, outer, Remembered, remembered, spent, Leads, Plays, between_items, backticks, is_backtick, code_span_at, Between, Found, item_length, bytes_of, item_events}
 use Rattle.mdconstructs_inline_constructs.proofs.RememberedCode.Memory.{code_memory}
 
 -- The calls of the one look that may still come to the end

@@ -1,16 +1,7 @@
 -- The rows behind the opening backtick string, for the code.
-use Rattle.std.proofs.Common.{[], Bool, Option, Some, ap, cond, false, refl, ℕ, ◌==◌, ◌∙◌, ◌∷◌, ◌≡◌}
-use Rattle.markdown_base.specs.declared.event.Name.TheVariants.{CodeTextSequence}
-use Rattle.markdown_base.specs.declared.state.State.TheVariants.{Nok, Retry}
-use Rattle.markdown_base.specs.declared.state.TheConstants.Name.{RawTextBetween}
-use Rattle.markdown_tokenizer.specs.Configuration.{TokenizerValue}
-use Rattle.markdown_tokenizer.specs.Sight.{sight_of}
-use Rattle.mdconstructs_tables.specs.Rows.{class_of, exit, picked, row, step_of, when}
+use Rattle.mdconstructs_inline_constructs.proofs.Prelude.{[], Bool, Option, Some, ap, cond, false, refl, ℕ, ◌==◌, ◌∙◌, ◌∷◌, ◌≡◌, CodeTextSequence, Nok, Retry, RawTextBetween, TokenizerValue, sight_of, class_of, exit, picked, row, step_of, when, is_hopeless, remembered_open_rows, tick-classed, TextByte, backtick, is_tick, text_byte}
 use Rattle.mdconstructs_inline_constructs.proofs.HtmlMarks.Picked.{known-by}
 use Rattle.mdconstructs_inline_constructs.proofs.HtmlTexts.Picked.{stepped}
-use Rattle.mdconstructs_inline_constructs.specs.RememberedCode.{is_hopeless, remembered_open_rows}
-use Rattle.mdconstructs_text.specs.Laws.Classes.{tick-classed}
-use Rattle.mdconstructs_text.specs.TextBytes.{TextByte, backtick, is_tick, text_byte}
 
 -- no backtick waits
 pub no-tick : {M R D : Type 0} (t : TokenizerValue M R D) (b : ℕ) → (sight_of t).current ≡ Some b → (b == 96) ≡ false → is_tick (class_of text_byte (sight_of t).current) ≡ false

@@ -1,8 +1,5 @@
 -- What is remembered of backtick strings, as the code looks it up and notes it.
-use Rattle.std.proofs.Common.{[], List, Option, None, Some, ap, arith, false, length, refl, replicate, slice_get, slice_index_or, slice_set, suc, sym, zero, ℕ, ◌++◌, ◌+◌, ◌-◌, ◌<◌, ◌∙◌, ◌∷◌, ◌≡◌, ◌≤◌}
-use Rattle.std.specs.List.{last_or}
-use Rattle.markdown_tokenizer.specs.declared.tokenizer.state.ContainerState.{ContainerState}
-use Rattle.mdconstructs_inline_constructs.specs.RememberedCode.{is_ahead, is_seen_from, later_of, seen_at, unseen, with_run}
+use Rattle.mdconstructs_inline_constructs.proofs.Prelude.{[], List, Option, None, Some, ap, arith, false, length, refl, replicate, slice_get, slice_index_or, slice_set, suc, sym, zero, ℕ, ◌++◌, ◌+◌, ◌-◌, ◌<◌, ◌∙◌, ◌∷◌, ◌≡◌, ◌≤◌, last_or, ContainerState, is_ahead, is_seen_from, later_of, seen_at, unseen, with_run}
 
 -- an entry that is there, and one that is not
 pub ahead-is : (runs : List ContainerState) (k index : ℕ) (d : ContainerState) → k < length runs → is_ahead runs k index ≡ is_seen_from (slice_index_or runs k d) index

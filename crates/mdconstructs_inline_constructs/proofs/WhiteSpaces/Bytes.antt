@@ -1,15 +1,5 @@
 -- White space at the end of a line, by its bytes: it begins with a space or a tab, and is a byte at least.
-use Rattle.std.proofs.Common.{◌≡◌, ℕ, ◌+◌, ◌<◌, ◌&&◌, ◌∷◌, List, Bool, true, false, cond, Some, None, sym, ap, refl, arith}
-use Rattle.std.specs.List.{prefix_len}
-use Rattle.std.proofs.lemmas.Bool.Decides.{nat_tests}
-use Rattle.mdconstructs_machines.specs.Breaks.{is_white}
-use Rattle.mdconstructs_text.proofs.Constructs.Apart.{IsApart, OfOption, only-there, when-there}
-use Rattle.mdconstructs_text.specs.Construct.{Found}
-use Rattle.mdconstructs_text.specs.Items.{item_length}
-use Rattle.mdconstructs_text.specs.Laws.Classes.{by-class}
-use Rattle.mdconstructs_text.specs.TextBytes.{text_byte}
-use Rattle.mdconstructs_inline_constructs.specs.WhiteSpace.{is_white_left, white_space}
-use Rattle.mdconstructs_inline_constructs.specs.WhiteSpaceRows.{is_white_class, white_spaces}
+use Rattle.mdconstructs_inline_constructs.proofs.Prelude.{◌≡◌, ℕ, ◌+◌, ◌<◌, ◌&&◌, ◌∷◌, List, Bool, true, false, cond, Some, None, sym, ap, refl, arith, prefix_len, nat_tests, is_white, IsApart, OfOption, only-there, when-there, Found, item_length, by-class, text_byte, is_white_left, white_space, is_white_class, white_spaces}
 
 pub white-classed : (b : ℕ) → is_white_class (text_byte b) ≡ is_white b
 white-classed b =

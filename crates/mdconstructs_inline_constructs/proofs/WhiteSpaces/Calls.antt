@@ -1,12 +1,5 @@
 -- How many calls white space takes at the end of a line, and by what they are paid; and that it is no longer than the text.
-use Rattle.std.proofs.Common.{ℕ, ◌+◌, ◌≤◌, ◌&&◌, List, ◌∷◌, Some, length, arith}
-use Rattle.std.proofs.lemmas.List.Sums.{prefix_len-le-length}
-use Rattle.std.specs.List.{prefix_len}
-use Rattle.mdconstructs_machines.specs.Breaks.{is_white}
-use Rattle.mdconstructs_text.proofs.Constructs.Apart.{OfOption, when-there}
-use Rattle.mdconstructs_text.specs.Construct.{Found}
-use Rattle.mdconstructs_text.specs.Items.{item_length}
-use Rattle.mdconstructs_inline_constructs.specs.WhiteSpace.{is_white_left, white_space, white_space_at}
+use Rattle.mdconstructs_inline_constructs.proofs.Prelude.{ℕ, ◌+◌, ◌≤◌, ◌&&◌, List, ◌∷◌, Some, length, arith, prefix_len-le-length, prefix_len, is_white, OfOption, when-there, Found, item_length, is_white_left, white_space, white_space_at}
 
 -- one for each of its bytes, and one where it ends
 abbrev pub white_calls : List ℕ → ℕ

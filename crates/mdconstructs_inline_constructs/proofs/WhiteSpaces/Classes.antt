@@ -1,15 +1,5 @@
 -- The rows of white space at bytes: it goes on at white space, ends with its line, and is refused at other bytes.
-use Rattle.std.proofs.Common.{◌≡◌, ℕ, ◌==◌, ◌||◌, not, ◌∷◌, [], Bool, true, false, Option, Some, None, ap, refl, arith}
-use Rattle.std.proofs.lemmas.Bool.Decides.{nat_tests}
-use Rattle.markdown_base.specs.declared.event.Name.TheVariants.{SpaceOrTab}
-use Rattle.markdown_base.specs.declared.state.State.TheVariants.{Next, Nok, Ok}
-use Rattle.markdown_base.specs.declared.state.TheConstants.Name.{SpaceOrTabInside}
-use Rattle.mdconstructs_tables.specs.Rows.{class_of, consume, exit, row}
-use Rattle.mdconstructs_machines.specs.Breaks.{is_white}
-use Rattle.mdconstructs_text.specs.Bytes.{is_line_feed, passes}
-use Rattle.mdconstructs_text.specs.Laws.Classes.{by-class}
-use Rattle.mdconstructs_text.specs.TextBytes.{TextByte, text_byte, white}
-use Rattle.mdconstructs_inline_constructs.specs.WhiteSpaceRows.{white_inside_rows}
+use Rattle.mdconstructs_inline_constructs.proofs.Prelude.{◌≡◌, ℕ, ◌==◌, ◌||◌, not, ◌∷◌, [], Bool, true, false, Option, Some, None, ap, refl, arith, nat_tests, SpaceOrTab, Next, Nok, Ok, SpaceOrTabInside, class_of, consume, exit, row, is_white, is_line_feed, passes, by-class, TextByte, text_byte, white, white_inside_rows}
 
 -- white space is of its class
 pub white-class : (b : ℕ) → is_white b ≡ true → text_byte b ≡ white

@@ -1,17 +1,5 @@
 -- The event of white space at the end of a line: it is an atom, as no line ending is in it; and what spans keep holds of it.
-use Rattle.std.proofs.Common.{ℕ, ◌&&◌, List, Some, refl, take}
-use Rattle.std.specs.List.{prefix_len}
-use Rattle.markdown_base.specs.declared.event.Event.{Event}
-use Rattle.markdown_base.specs.declared.event.Name.TheVariants.{SpaceOrTab}
-use Rattle.markdown_base.specs.Virtual.{Seat}
-use Rattle.mdconstructs_machines.specs.Breaks.{is_white}
-use Rattle.mdconstructs_text.proofs.Constructs.Apart.{OfOption, when-there}
-use Rattle.mdconstructs_text.proofs.DeepSpans.Atoms.{IsCut, cut-leaf}
-use Rattle.mdconstructs_text.proofs.DeepSpans.Stretches.{ItemCut, plain-line, run-plain}
-use Rattle.mdconstructs_text.proofs.Texts.Built.{IsBuilt, IsKeptBySpans}
-use Rattle.mdconstructs_text.specs.Bytes.{has_byte_at}
-use Rattle.mdconstructs_text.specs.Parts.{bytes_of, leaf}
-use Rattle.mdconstructs_inline_constructs.specs.WhiteSpace.{is_white_left, white_space, white_space_at}
+use Rattle.mdconstructs_inline_constructs.proofs.Prelude.{ℕ, ◌&&◌, List, Some, refl, take, prefix_len, Event, SpaceOrTab, Seat, is_white, OfOption, when-there, IsCut, cut-leaf, ItemCut, plain-line, run-plain, IsBuilt, IsKeptBySpans, has_byte_at, bytes_of, leaf, is_white_left, white_space, white_space_at}
 
 module _ (bytes : List ℕ) where
   -- all white space at the front is in one line

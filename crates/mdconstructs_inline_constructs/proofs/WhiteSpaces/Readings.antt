@@ -1,41 +1,9 @@
 -- How a machine reads white space: up to the end of its line it is read whole, with its events; if more of the line follows, it fails.
-use Rattle.std.proofs.Common.{◌≡◌, ℕ, suc, ◌+◌, ◌-◌, ◌≤◌, ◌&&◌, not, List, [], ◌∷◌, ◌++◌, Bool, true, false, cond, Some, None, refl, sym, ap, ◌∙◌, subst, arith, append_assoc, length, length-append, take, drop}
-use Rattle.std.proofs.lemmas.Bool.{not-false, not-true}
-use Rattle.std.proofs.lemmas.List.{length-map, take_at}
-use Rattle.std.proofs.lemmas.List.Sums.{prefix_len-le-length}
-use Rattle.std.specs.List.{prefix_len}
-use Rattle.std.specs.Prelude.{slice_get}
-use Rattle.markdown_base.proofs.Common.{drop-next}
-use Rattle.markdown_base.specs.declared.event.Event.{Event}
-use Rattle.markdown_base.specs.declared.event.Kind.TheVariants.{Enter, Exit}
-use Rattle.markdown_base.specs.declared.event.Name.{Name as EventName}
-use Rattle.markdown_base.specs.declared.event.Name.TheVariants.{SpaceOrTab}
-use Rattle.markdown_base.specs.declared.state.Name.{Name}
-use Rattle.markdown_base.specs.declared.state.State.TheVariants.{Nok, Ok, Retry}
-use Rattle.markdown_base.specs.declared.state.TheConstants.Name.{SpaceOrTabInside, SpaceOrTabStart}
-use Rattle.markdown_base.specs.Virtual.{Seat}
-use Rattle.markdown_tokenizer.specs.declared.waiting.Waits.TheVariants.{Byte}
-use Rattle.markdown_tokenizer.specs.Configuration.{Choice, Configuration, Local, Step}
-use Rattle.markdown_tokenizer.specs.Sight.{Sight, byte_of, end_place, point_or}
-use Rattle.markdown_tokenizer.specs.Text.{Given, Text}
-use Rattle.mdconstructs_machines.proofs.LineReads.Steps.{at-front, held}
-use Rattle.mdconstructs_machines.specs.Breaks.{is_white}
-use Rattle.mdconstructs_machines.specs.Tables.{counts}
-use Rattle.mdconstructs_text.proofs.Constructs.Listed.{outer}
-use Rattle.mdconstructs_text.proofs.Plain.Items.{ReadsIn, TriedIn, puts-back, reads-of}
-use Rattle.mdconstructs_text.proofs.Plain.Passed.{after-passed}
-use Rattle.mdconstructs_text.proofs.Plain.Stretches.{byte-behind, first_byte, goes-next, is_end, leaf-read, loops, past, past-at, past-stops, passed, sees, shows}
-use Rattle.mdconstructs_text.proofs.Texts.Counted.{IsAfter, after-call, after-more, after-within}
-use Rattle.mdconstructs_text.proofs.Texts.Reads.{ReadsPart}
-use Rattle.mdconstructs_text.proofs.Texts.Steps.{EndsWith, HasRows, Leads, Plays, before_class, leads-ok, leads-seen}
-use Rattle.mdconstructs_text.specs.Bytes.{passes}
-use Rattle.mdconstructs_text.specs.Construct.{Between}
-use Rattle.mdconstructs_text.specs.Parts.{bytes_of, event, leaf}
+use Rattle.mdconstructs_inline_constructs.proofs.Prelude.{◌≡◌, ℕ, suc, ◌+◌, ◌-◌, ◌≤◌, ◌&&◌, not, List, [], ◌∷◌, ◌++◌, Bool, true, false, cond, Some, None, refl, sym, ap, ◌∙◌, subst, arith, append_assoc, length, length-append, take, drop, not-false, not-true, length-map, take_at, prefix_len-le-length, prefix_len, slice_get, drop-next, Event, Enter, Exit, EventName, SpaceOrTab, Name, Nok, Ok, Retry, SpaceOrTabInside, SpaceOrTabStart, Seat, Byte, Choice, Configuration, Local, Step, Sight, byte_of, end_place, point_or, Given, Text, at-front, held, is_white, counts, outer, ReadsIn, TriedIn, puts-back, reads-of, after-passed, byte-behind, first_byte, goes-next, is_end, leaf-read, loops, past, past-at, past-stops, passed, shows, IsAfter, after-call, after-more, after-within, ReadsPart, EndsWith, HasRows, Leads, Plays, before_class, leads-ok, leads-seen, passes, Between, bytes_of, event, leaf, is_white_left, white_space, white_space_at, white_inside_rows, white_spaces, white_start_rows}
+use Rattle.mdconstructs_text.proofs.Plain.Stretches.{sees}
 use Rattle.mdconstructs_inline_constructs.proofs.WhiteSpaces.Bytes.{run-some}
 use Rattle.mdconstructs_inline_constructs.proofs.WhiteSpaces.Calls.{white_calls}
 use Rattle.mdconstructs_inline_constructs.proofs.WhiteSpaces.Classes.{inside-ends, inside-on, inside-refused, is_of_line}
-use Rattle.mdconstructs_inline_constructs.specs.WhiteSpace.{is_white_left, white_space, white_space_at}
-use Rattle.mdconstructs_inline_constructs.specs.WhiteSpaceRows.{white_inside_rows, white_spaces, white_start_rows}
 
 -- A machine that reads white space at the end of a line: at the names of its states it does what their rows say
 pub record PlaysWhiteSpaces (g : Given) (text : Text) (step : Sight → Configuration Unit Unit → Name → Step Unit Unit) : Type 0 where

@@ -1,12 +1,4 @@
-use Rattle.mdconstructs_documents.proofs.Prelude.{◌≡◌, ◌∙◌, ap, false, List, Event, Given, IsDocument, TextStart, start_configuration, text_events, text_rules, text-refuses-nothing, no-run-refused, IfOk-weaker}
-use Rattle.markdown_base.specs.declared.state.State.TheVariants.{Next}
-use Rattle.markdown_tokenizer.specs.Configuration.{Configuration}
-use Rattle.mdconstructs_text.proofs.Texts.Leads.{ending}
-use Rattle.mdconstructs_text.proofs.Texts.Ends.{ends-so, from-start}
-use Rattle.mdconstructs_text.proofs.Texts.Steps.{text_step}
-use Rattle.mdconstructs_text.proofs.Texts.WholePlaces.{whole-is-text}
-use Rattle.markdown_tokenizer.specs.Engine.{IsRun, whole_text}
-use Rattle.markdown_tokenizer.specs.declared.subtokenize.Subresult.{Subresult}
+use Rattle.mdconstructs_documents.proofs.Prelude.{◌≡◌, ◌∙◌, ap, false, List, Event, Given, IsDocument, TextStart, start_configuration, text_events, text_rules, text-refuses-nothing, no-run-refused, IfOk-weaker, Next, Configuration, ending, ends-so, from-start, text_step, whole-is-text, IsRun, whole_text, Subresult}
 use Rattle.mdconstructs_documents.proofs.DeepEvents.{only-memory}
 use Rattle.mdconstructs_documents.proofs.documents.read_as_text.Goals as goal
 

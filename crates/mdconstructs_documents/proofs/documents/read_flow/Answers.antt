@@ -1,6 +1,5 @@
-use Rattle.mdconstructs_documents.proofs.Prelude.{flow_rules, flow-refuses-nothing, no-run-refused, true, IfOk-weaker}
+use Rattle.mdconstructs_documents.proofs.Prelude.{flow_rules, flow-refuses-nothing, no-run-refused, true, IfOk-weaker, whole-flow-is-read}
 use Rattle.mdconstructs_documents.proofs.DeepEvents.{only-memory}
-use Rattle.mdconstructs_flow_read.proofs.Whole.WholeFlow.{whole-flow-is-read}
 use Rattle.mdconstructs_documents.proofs.FlowRuns.{run-is-flow}
 use Rattle.mdconstructs_documents.proofs.documents.read_flow.Goals as goal
 

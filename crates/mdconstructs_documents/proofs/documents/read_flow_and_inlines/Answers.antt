@@ -1,5 +1,4 @@
-use Rattle.markdown_tokenizer.proofs.Runs.Whole.{err-if}
-use Rattle.mdconstructs_documents.proofs.Prelude.{◌≡◌, ◌∙◌, IfOk-weaker, OfFault, Memory}
+use Rattle.mdconstructs_documents.proofs.Prelude.{err-if, ◌≡◌, ◌∙◌, IfOk-weaker, OfFault, Memory}
 use Rattle.mdconstructs_documents.proofs.DeepEvents.{only-memory, no-inline-refused, flow-inlines, all-chains-ready, all-may-start}
 use Rattle.mdconstructs_documents.proofs.FlowTexts.InlineForms.{inlines-well-formed}
 use Rattle.mdconstructs_documents.proofs.documents.read_flow_and_inlines.Goals as goal

@@ -1,9 +1,7 @@
-use Rattle.mdconstructs_documents.proofs.Prelude.{◌∙◌, true, false, sym, subst, virtual_bytes, document, Tile, lines-account-for, paragraphs-account}
-use Rattle.mdconstructs_documents.specs.Documents.{AreEventsOf}
-use Rattle.mdconstructs_documents.specs.declared.choice.Which.TheVariants.{Paragraphs, Text}
+use Rattle.mdconstructs_documents.proofs.Prelude.{◌∙◌, true, false, sym, subst, virtual_bytes, document, Tile, lines-account-for, paragraphs-account, AreEventsOf, Paragraphs, read-as-data, read-as-texts}
+use Rattle.mdconstructs_documents.specs.declared.choice.Which.TheVariants.{Text}
 use Rattle.mdconstructs_documents.proofs.FlowTiles.{flow-tiles}
 use Rattle.mdconstructs_documents.proofs.Tiled.{tiled}
-use Rattle.mdconstructs_text.proofs.ParagraphTexts.Whole.{read-as-data, read-as-texts}
 use Rattle.mdconstructs_documents.proofs.laws.innermost_spans_tile_documents.Goals as goal
 
 pub returns-clause-lines : goal.returns-clause-lines

@@ -1,5 +1,4 @@
-use Rattle.std.specs.Prelude.{◌↔◌, drop}
-use Rattle.mdconstructs_documents.specs.ByteRanges.{AreRanges, FollowFrom}
+use Rattle.mdconstructs_documents.proofs.Prelude.{◌↔◌, drop, AreRanges, FollowFrom}
 use Rattle.mdconstructs_documents.proofs.ranges.are_ranges.Given as goal
 
 -- the ranges are such as can be read exactly if those that are left are

@@ -1,5 +1,4 @@
-use Rattle.std.proofs.Common.{arith}
-use Rattle.markdown_children.proofs.Ready.Reached.{line_at-le}
+use Rattle.mdconstructs_documents.proofs.Prelude.{arith, line_at-le}
 use Rattle.mdconstructs_documents.proofs.ranges.counted.Goals as goal
 
 pub overflow_add-line : goal.overflow_add-line

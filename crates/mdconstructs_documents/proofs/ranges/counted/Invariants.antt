@@ -1,5 +1,4 @@
-use Rattle.std.specs.Prelude.{◌≡◌}
-use Rattle.markdown_children.specs.ByteStarts.{line_at}
+use Rattle.mdconstructs_documents.proofs.Prelude.{◌≡◌, line_at}
 use Rattle.mdconstructs_documents.proofs.ranges.counted.Given as goal
 
 -- the line of the index reached

@@ -1,4 +1,4 @@
-use Rattle.markdown_base.specs.Lines.{HasNoLineEnding}
+use Rattle.mdconstructs_documents.proofs.Prelude.{HasNoLineEnding}
 use Rattle.mdconstructs_documents.proofs.ranges.has_no_line_ending.Given as goal
 
 -- up to the index reached there is none

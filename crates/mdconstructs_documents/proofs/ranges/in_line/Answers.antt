@@ -1,6 +1,4 @@
-use Rattle.std.proofs.Common.{◌≡◌, sym, subst, arith}
-use Rattle.markdown_base.specs.Places.{IsPointOf}
-use Rattle.markdown_base.specs.Virtual.{point}
+use Rattle.mdconstructs_documents.proofs.Prelude.{◌≡◌, sym, subst, arith, IsPointOf, point}
 use Rattle.mdconstructs_documents.proofs.RangeReads.{line-start, place, place-is}
 use Rattle.mdconstructs_documents.proofs.ranges.in_line.Goals as goal
 

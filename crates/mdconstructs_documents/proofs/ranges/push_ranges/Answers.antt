@@ -1,24 +1,5 @@
-use Rattle.std.proofs.Common.{[], ◌≢◌, ◌≡◌, ◌+◌, ◌<◌, ◌≤◌, ◌∙◌, ap, arith, drop, get_or, length, refl, subst, sym, ℕ, List}
-use Rattle.std.proofs.lemmas.List.{drop_all, drop_more}
-use Rattle.std.proofs.lemmas.Result.{IfOk-weaker}
-use Rattle.std.specs.Prelude.{IfErr, IsErrOf, Result}
-use Rattle.std.specs.declared.result.Result.TheVariants.{Ok, Err}
-use Rattle.std.proofs.lemmas.Option.{same_Some}
-use Rattle.markdown_base.specs.declared.configuration.ParseOptions.{ParseOptions}
-use Rattle.markdown_base.specs.declared.event.Point.{Point}
-use Rattle.markdown_base.specs.declared.message.Message.{Message}
-use Rattle.markdown_tokenizer.specs.declared.tokenizer.fault.Fault.{Fault}
-use Rattle.markdown_tokenizer.specs.declared.tokenizer.fault.Fault.TheVariants.{Memory, Failed, Message as OfMessage}
-use Rattle.markdown_base.specs.declared.state.State.{State}
-use Rattle.markdown_children.proofs.ChildReads.ChainReads.{reads-holds, reads-pushed, reads-range}
-use Rattle.markdown_tokenizer.specs.Configuration.{TokenizerValue, start_seen}
-use Rattle.markdown_tokenizer.specs.Engine.{given_by}
-use Rattle.markdown_tokenizer.specs.Text.{empty_text}
+use Rattle.mdconstructs_documents.proofs.Prelude.{[], ◌≢◌, ◌≡◌, ◌+◌, ◌<◌, ◌≤◌, ◌∙◌, ap, arith, drop, get_or, length, refl, subst, sym, ℕ, List, drop_all, drop_more, IfOk-weaker, IfErr, IsErrOf, Result, Ok, Err, same_Some, ParseOptions, Point, Message, Fault, Memory, Failed, OfMessage, State, reads-holds, reads-pushed, reads-range, TokenizerValue, start_seen, given_by, empty_text, FollowFrom, IsRangeFrom, ByteRange, text-lawful, text_rules}
 use Rattle.mdconstructs_documents.proofs.RangeReads.{ReadsRanges, from_range, never-refused, ranges-flushed, gap-fits, gap-passed, pieces_from, place, place-at, ranges-first, reads-gap, reads-next, reads-no-gap}
-use Rattle.mdconstructs_documents.specs.ByteRanges.{FollowFrom, IsRangeFrom}
-use Rattle.mdconstructs_documents.specs.declared.ranges.ByteRange.{ByteRange}
-use Rattle.mdconstructs_text.specs.Laws.Rules.{text-lawful}
-use Rattle.mdconstructs_text.specs.TextRules.{text_rules}
 use Rattle.mdconstructs_documents.proofs.ranges.push_ranges.Goals as goal
 use Rattle.mdconstructs_documents.proofs.ranges.push_ranges.Goals.{then-range-end+in_ok-define_skip, else-range-end}
 

@@ -1,8 +1,5 @@
-use Rattle.std.specs.Prelude.{◌≡◌, drop}
-use Rattle.markdown_children.specs.ByteStarts.{line_at}
+use Rattle.mdconstructs_documents.proofs.Prelude.{◌≡◌, drop, line_at, FollowFrom, text_rules}
 use Rattle.mdconstructs_documents.proofs.RangeReads.{ReadsRanges, pieces_from}
-use Rattle.mdconstructs_documents.specs.ByteRanges.{FollowFrom}
-use Rattle.mdconstructs_text.specs.TextRules.{text_rules}
 use Rattle.mdconstructs_documents.proofs.ranges.push_ranges.Given as goal
 
 -- the ranges that are left follow, and their pieces are left

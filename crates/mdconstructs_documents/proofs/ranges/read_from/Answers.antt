@@ -1,12 +1,5 @@
-use Rattle.std.proofs.Common.{List, ◌≡◌, ◌∙◌, ap, arith, subst, sym, ℕ}
-use Rattle.std.proofs.lemmas.Option.{same_Some}
-use Rattle.std.specs.Prelude.{Some}
-use Rattle.markdown_base.specs.Places.{point_at}
-use Rattle.markdown_base.specs.Virtual.{IsTabSize}
-use Rattle.markdown_base.specs.declared.event.Point.{Point}
-use Rattle.markdown_tokenizer.proofs.Runs.Whole.{found-place}
+use Rattle.mdconstructs_documents.proofs.Prelude.{List, ◌≡◌, ◌∙◌, ap, arith, subst, sym, ℕ, same_Some, Some, point_at, IsTabSize, Point, found-place, FollowFrom}
 use Rattle.mdconstructs_documents.proofs.RangeReads.{place, place-at}
-use Rattle.mdconstructs_documents.specs.ByteRanges.{FollowFrom}
 use Rattle.mdconstructs_documents.proofs.ranges.read_from.Goals as goal
 
 pub unreachable-requires-in_default-point_at : goal.unreachable-requires-in_default-point_at

@@ -1,8 +1,4 @@
-use Rattle.std.proofs.Common.{[], arith, subst, sym}
-use Rattle.std.proofs.lemmas.List.Elements.{All-nil}
-use Rattle.markdown_base.specs.Events.{empty}
-use Rattle.markdown_tokenizer.specs.Engine.{IsWellFormed}
-use Rattle.markdown_tokenizer.specs.Text.{Given}
+use Rattle.mdconstructs_documents.proofs.Prelude.{[], arith, subst, sym, All-nil, empty, IsWellFormed, Given}
 use Rattle.mdconstructs_documents.proofs.ranges.text_events_in.Goals as goal
 
 -- no events are well formed

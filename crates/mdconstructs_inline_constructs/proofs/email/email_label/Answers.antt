@@ -1,18 +1,5 @@
-use Rattle.std.proofs.Common.{◌≡◌, ℕ, cond, [], ◌∷◌, Some, refl, sym, ap, ◌∙◌, subst}
-use Rattle.markdown_base.specs.declared.event.Name.TheVariants.{Autolink, AutolinkEmail, AutolinkMarker}
-use Rattle.markdown_base.specs.declared.state.State.TheVariants.{Next, Ok, Nok}
-use Rattle.markdown_base.specs.declared.state.TheConstants.Name.{AutolinkEmailLabel, AutolinkEmailValue}
-use Rattle.markdown_tokenizer.specs.Sight.{sight_of, current_of}
-use Rattle.markdown_tokenizer.specs.Text.{Text}
-use Rattle.markdown_tokenizer.specs.declared.waiting.Waits.{Waits}
-use Rattle.markdown_tokenizer.specs.declared.waiting.Waits.TheVariants.{Byte, End, Nothing}
-use Rattle.mdconstructs_tables.proofs.Rows.Calls.{can-exit, can-mark, then}
+use Rattle.mdconstructs_inline_constructs.proofs.Prelude.{◌≡◌, ℕ, cond, [], ◌∷◌, Some, refl, sym, ap, ◌∙◌, subst, Autolink, AutolinkEmail, AutolinkMarker, Next, Ok, Nok, AutolinkEmailLabel, AutolinkEmailValue, sight_of, current_of, Text, Waits, Byte, End, Nothing, can-exit, can-mark, then, DoesAll, Row, class_of, enter, exit, consume, write, picked, step_of, text_byte, size_b_is, size_b_grows, domain_ends, email_label, email_label_rows, label_ends, label_goes_on, label_has_hyphen}
 use Rattle.mdconstructs_tables.specs.Markers.{marked}
-use Rattle.mdconstructs_tables.specs.RowInvariant.{DoesAll}
-use Rattle.mdconstructs_tables.specs.Rows.{Row, class_of, enter, exit, consume, write, picked, step_of}
-use Rattle.mdconstructs_text.specs.TextBytes.{text_byte}
-use Rattle.mdconstructs_text.specs.TextSizes.{size_b_is, size_b_grows}
-use Rattle.mdconstructs_inline_constructs.specs.EmailRows.{domain_ends, email_label, email_label_rows, label_ends, label_goes_on, label_has_hyphen}
 use Rattle.mdconstructs_inline_constructs.proofs.email.email_label.Goals as goal
 
 -- a byte that is seen waits

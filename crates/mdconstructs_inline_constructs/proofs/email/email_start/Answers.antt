@@ -1,9 +1,4 @@
-use Rattle.std.proofs.Common.{[], ◌∷◌, refl, ap, ◌∙◌}
-use Rattle.markdown_base.specs.declared.event.Name.TheVariants.{Autolink}
-use Rattle.mdconstructs_tables.specs.Rows.{enter}
-use Rattle.mdconstructs_text.specs.TextBytes.{text_byte}
-use Rattle.mdconstructs_text.proofs.Constructs.Marks.{can-mark-behind}
-use Rattle.mdconstructs_inline_constructs.specs.EmailRows.{email_start}
+use Rattle.mdconstructs_inline_constructs.proofs.Prelude.{[], ◌∷◌, refl, ap, ◌∙◌, Autolink, enter, text_byte, can-mark-behind, email_start}
 use Rattle.mdconstructs_inline_constructs.proofs.email.email_start.Goals as goal
 
 pub marker-requires : goal.marker-requires

@@ -1,13 +1,4 @@
-use Rattle.std.proofs.Common.{◌≡◌, ◌==◌, [], ◌∷◌, true, false, refl, sym, ◌∙◌, arith, rules}
-use Rattle.std.proofs.lemmas.Bool.Decides.{nat_tests}
-use Rattle.markdown_base.specs.declared.state.State.TheVariants.{Next}
-use Rattle.markdown_base.specs.declared.state.TheConstants.Name.{HtmlTextCdataOpenInside}
-use Rattle.mdconstructs_inline_constructs.specs.declared.names.TheConstants.{HtmlTextMarkInside}
-use Rattle.markdown_tokenizer.specs.Sight.{sight_of}
-use Rattle.mdconstructs_tables.specs.Rows.{row, write, consume, when}
-use Rattle.mdconstructs_text.specs.TextSizes.{size_b_grows}
-use Rattle.mdconstructs_inline_constructs.specs.HtmlMarkedRows.{closed_by, ends_cdata_mark, in_cdata_mark, no_cdata}
-use Rattle.mdconstructs_inline_constructs.specs.HtmlTextRows.{no_html}
+use Rattle.mdconstructs_inline_constructs.proofs.Prelude.{◌≡◌, ◌==◌, [], ◌∷◌, true, false, refl, sym, ◌∙◌, arith, rules, nat_tests, Next, HtmlTextCdataOpenInside, HtmlTextMarkInside, sight_of, row, write, consume, when, size_b_grows, closed_by, ends_cdata_mark, in_cdata_mark, no_cdata, no_html}
 use Rattle.mdconstructs_inline_constructs.proofs.HtmlTexts.Picked.{does-by, seen}
 use Rattle.mdconstructs_inline_constructs.proofs.HtmlMarks.Picked.{known-by}
 use Rattle.mdconstructs_inline_constructs.proofs.html_marked.cdata_open.Goals as goal

@@ -1,8 +1,4 @@
-use Rattle.std.proofs.Common.{◌==◌, ◌≤◌, sym, ap, arith}
-use Rattle.std.proofs.lemmas.Option.{slice_get_past}
-use Rattle.std.specs.Prelude.{codes}
-use Rattle.markdown_tokenizer.specs.Sight.{sight_of}
-use Rattle.mdconstructs_text.specs.Bytes.{passes}
+use Rattle.mdconstructs_inline_constructs.proofs.Prelude.{◌==◌, ◌≤◌, sym, ap, arith, slice_get_past, codes, sight_of, passes}
 use Rattle.mdconstructs_inline_constructs.proofs.html_marked.in_cdata_mark.Goals as goal
 
 pub returns-in-None-get : goal.returns-in-None-get

@@ -1,13 +1,4 @@
-use Rattle.std.proofs.Common.{◌≡◌, ◌==◌, [], ◌∷◌, true, false, IfOk, Some, subst, sym, ap, ◌∙◌, arith, rules}
-use Rattle.std.proofs.lemmas.Bool.Decides.{nat_tests}
-use Rattle.markdown_base.specs.declared.state.State.TheVariants.{Next}
-use Rattle.mdconstructs_inline_constructs.specs.declared.names.TheConstants.{HtmlTextMarkInside}
-use Rattle.markdown_tokenizer.specs.Sight.{sight_of}
-use Rattle.mdconstructs_tables.specs.RowInvariant.{DoesAll}
-use Rattle.mdconstructs_tables.specs.Rows.{row, write, consume, when}
-use Rattle.mdconstructs_text.specs.TextSizes.{size_b_is, size_b_grows}
-use Rattle.mdconstructs_inline_constructs.specs.HtmlMarkedRows.{in_mark, mark_begun, mark_ends, mark_inside_rows, mark_line_ends}
-use Rattle.mdconstructs_inline_constructs.specs.HtmlTextRows.{html_ends, html_goes_on}
+use Rattle.mdconstructs_inline_constructs.proofs.Prelude.{◌≡◌, ◌==◌, [], ◌∷◌, true, false, IfOk, Some, subst, sym, ap, ◌∙◌, arith, rules, nat_tests, Next, HtmlTextMarkInside, sight_of, DoesAll, row, write, consume, when, size_b_is, size_b_grows, in_mark, mark_begun, mark_ends, mark_inside_rows, mark_line_ends, html_ends, html_goes_on}
 use Rattle.mdconstructs_inline_constructs.proofs.HtmlTexts.Picked.{does-by}
 use Rattle.mdconstructs_inline_constructs.proofs.HtmlMarks.Picked.{ends-at, known-by, look-seen}
 use Rattle.mdconstructs_inline_constructs.proofs.HtmlTexts.Calls.{html-can-end, line-can-end}

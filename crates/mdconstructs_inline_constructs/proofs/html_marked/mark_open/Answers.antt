@@ -1,11 +1,4 @@
-use Rattle.std.proofs.Common.{◌≡◌, ◌==◌, [], ◌∷◌, false, refl, sym, ◌∙◌, arith}
-use Rattle.std.proofs.lemmas.Bool.Decides.{nat_tests}
-use Rattle.markdown_base.specs.declared.state.State.TheVariants.{Next}
-use Rattle.markdown_base.specs.declared.state.TheConstants.Name.{HtmlTextDeclarationOpen}
-use Rattle.mdconstructs_inline_constructs.specs.declared.names.TheConstants.{HtmlTextMarkInside}
-use Rattle.mdconstructs_tables.specs.Rows.{row, write, consume, when}
-use Rattle.mdconstructs_inline_constructs.specs.HtmlMarkedRows.{closed_by, no_instruction}
-use Rattle.mdconstructs_inline_constructs.specs.HtmlTextRows.{html_goes_on, no_html, sees}
+use Rattle.mdconstructs_inline_constructs.proofs.Prelude.{◌≡◌, ◌==◌, [], ◌∷◌, false, refl, sym, ◌∙◌, arith, nat_tests, Next, HtmlTextDeclarationOpen, HtmlTextMarkInside, row, write, consume, when, closed_by, no_instruction, html_goes_on, no_html, sees}
 use Rattle.mdconstructs_inline_constructs.proofs.HtmlTexts.Picked.{does-by, seen, tested-by}
 use Rattle.mdconstructs_inline_constructs.proofs.html_marked.mark_open.Goals as goal
 

@@ -1,11 +1,4 @@
-use Rattle.std.proofs.Common.{◌≡◌, ◌==◌, [], ◌∷◌, true, false, refl, sym, ◌∙◌, arith, rules}
-use Rattle.std.proofs.lemmas.Bool.Decides.{nat_tests}
-use Rattle.markdown_base.specs.declared.state.State.TheVariants.{Next}
-use Rattle.markdown_base.specs.declared.state.TheConstants.Name.{HtmlTextTagOpenAttributeValueBefore, HtmlTextTagOpenAttributeValueQuoted, HtmlTextTagOpenAttributeValueUnquoted}
-use Rattle.mdconstructs_tables.specs.Rows.{row, write, consume, when}
-use Rattle.mdconstructs_inline_constructs.specs.HtmlTag.{is_double_quote, is_single_quote, is_tag_white, is_unquoted}
-use Rattle.mdconstructs_inline_constructs.specs.HtmlTagRows.{quote_is}
-use Rattle.mdconstructs_inline_constructs.specs.HtmlTextRows.{html_goes_on, html_line_ends, no_html, sees}
+use Rattle.mdconstructs_inline_constructs.proofs.Prelude.{◌≡◌, ◌==◌, [], ◌∷◌, true, false, refl, sym, ◌∙◌, arith, rules, nat_tests, Next, HtmlTextTagOpenAttributeValueBefore, HtmlTextTagOpenAttributeValueQuoted, HtmlTextTagOpenAttributeValueUnquoted, row, write, consume, when, is_double_quote, is_single_quote, is_tag_white, is_unquoted, quote_is, html_goes_on, html_line_ends, no_html, sees}
 use Rattle.mdconstructs_inline_constructs.proofs.HtmlTexts.Picked.{does-by, seen, tested-by}
 use Rattle.mdconstructs_inline_constructs.proofs.html_tag.html_text_value_before.Goals as goal
 

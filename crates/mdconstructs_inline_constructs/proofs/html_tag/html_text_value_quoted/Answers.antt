@@ -1,10 +1,4 @@
-use Rattle.std.proofs.Common.{◌≡◌, ◌==◌, true, false, cond, sym, ap, ◌∙◌, arith, rules}
-use Rattle.std.proofs.lemmas.Bool.Decides.{nat_tests}
-use Rattle.markdown_base.specs.declared.state.TheConstants.Name.{HtmlTextTagOpenAttributeValueQuoted, HtmlTextTagOpenAttributeValueQuotedAfter}
-use Rattle.markdown_tokenizer.specs.Sight.{sight_of}
-use Rattle.mdconstructs_tables.specs.Rows.{when, picked, step_of}
-use Rattle.mdconstructs_inline_constructs.specs.HtmlTagRows.{quote_waits}
-use Rattle.mdconstructs_inline_constructs.specs.HtmlTextRows.{html_goes_on, html_line_ends}
+use Rattle.mdconstructs_inline_constructs.proofs.Prelude.{◌≡◌, ◌==◌, true, false, cond, sym, ap, ◌∙◌, arith, rules, nat_tests, HtmlTextTagOpenAttributeValueQuoted, HtmlTextTagOpenAttributeValueQuotedAfter, sight_of, when, picked, step_of, quote_waits, html_goes_on, html_line_ends}
 use Rattle.mdconstructs_inline_constructs.proofs.HtmlTexts.Picked.{does-by, seen}
 use Rattle.mdconstructs_inline_constructs.proofs.html_tag.html_text_value_quoted.Goals as goal
 

@@ -1,10 +1,4 @@
-use Rattle.std.proofs.Common.{◌≡◌, ◌==◌, false, refl, sym, ◌∙◌, arith}
-use Rattle.std.proofs.lemmas.Bool.Decides.{nat_tests}
-use Rattle.markdown_base.specs.declared.state.TheConstants.Name.{HtmlTextEnd, HtmlTextTagOpenBetween}
-use Rattle.mdconstructs_tables.specs.Rows.{when}
-use Rattle.mdconstructs_text.specs.Bytes.{is_greater_than}
-use Rattle.mdconstructs_inline_constructs.specs.HtmlTag.{is_slash, is_tag_white}
-use Rattle.mdconstructs_inline_constructs.specs.HtmlTextRows.{html_ends, html_goes_on, html_line_ends, no_html, sees}
+use Rattle.mdconstructs_inline_constructs.proofs.Prelude.{◌≡◌, ◌==◌, false, refl, sym, ◌∙◌, arith, nat_tests, HtmlTextEnd, HtmlTextTagOpenBetween, when, is_greater_than, is_slash, is_tag_white, html_ends, html_goes_on, html_line_ends, no_html, sees}
 use Rattle.mdconstructs_inline_constructs.proofs.HtmlTexts.Picked.{does-by, seen, tested-by}
 use Rattle.mdconstructs_inline_constructs.proofs.html_tag.html_text_value_quoted_after.Goals as goal
 

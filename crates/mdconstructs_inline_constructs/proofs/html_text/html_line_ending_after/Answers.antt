@@ -1,11 +1,4 @@
-use Rattle.std.proofs.Common.{◌≡◌, ◌==◌, [], ◌∷◌, true, false, refl, sym, ◌∙◌, arith, rules}
-use Rattle.std.proofs.lemmas.Bool.Decides.{nat_tests}
-use Rattle.markdown_base.specs.declared.event.Name.TheVariants.{SpaceOrTab}
-use Rattle.markdown_base.specs.declared.state.State.TheVariants.{Next}
-use Rattle.markdown_base.specs.declared.state.TheConstants.Name.{HtmlTextTagCloseBetween, HtmlTextTagOpenBetween, HtmlTextTagOpenAttributeNameAfter, HtmlTextTagOpenAttributeValueBefore, HtmlTextTagOpenAttributeValueQuoted, HtmlTextLineEndingAfterPrefix}
-use Rattle.mdconstructs_machines.specs.Breaks.{is_white}
-use Rattle.mdconstructs_tables.specs.Rows.{row, enter, consume, when}
-use Rattle.mdconstructs_inline_constructs.specs.HtmlTextRows.{html_following, html_line_begins, no_html, sees}
+use Rattle.mdconstructs_inline_constructs.proofs.Prelude.{◌≡◌, ◌==◌, [], ◌∷◌, true, false, refl, sym, ◌∙◌, arith, rules, nat_tests, SpaceOrTab, Next, HtmlTextTagCloseBetween, HtmlTextTagOpenBetween, HtmlTextTagOpenAttributeNameAfter, HtmlTextTagOpenAttributeValueBefore, HtmlTextTagOpenAttributeValueQuoted, HtmlTextLineEndingAfterPrefix, is_white, row, enter, consume, when, html_following, html_line_begins, no_html, sees}
 use Rattle.mdconstructs_inline_constructs.proofs.HtmlTexts.Following.{begun-by}
 use Rattle.mdconstructs_inline_constructs.proofs.HtmlTexts.Picked.{does-by, seen, tested-by}
 use Rattle.mdconstructs_inline_constructs.proofs.html_text.html_line_ending_after.Goals as goal

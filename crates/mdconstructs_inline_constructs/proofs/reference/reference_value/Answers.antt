@@ -1,15 +1,5 @@
-use Rattle.std.proofs.Common.{◌≡◌, ◌∙◌, ℕ, [], ◌∷◌, Some, refl, sym, ap}
-use Rattle.markdown_base.specs.declared.event.Name.TheVariants.{CharacterReference, CharacterReferenceMarkerSemi, CharacterReferenceValue}
-use Rattle.markdown_tokenizer.specs.Sight.{current_of}
-use Rattle.markdown_tokenizer.specs.Sight.{sight_of}
-use Rattle.markdown_tokenizer.specs.Text.{Text}
-use Rattle.markdown_tokenizer.specs.declared.waiting.Waits.{Waits}
-use Rattle.markdown_tokenizer.specs.declared.waiting.Waits.TheVariants.{Nothing, Byte, End}
+use Rattle.mdconstructs_inline_constructs.proofs.Prelude.{◌≡◌, ◌∙◌, ℕ, [], ◌∷◌, Some, refl, sym, ap, CharacterReference, CharacterReferenceMarkerSemi, CharacterReferenceValue, current_of, sight_of, Text, Waits, Nothing, Byte, End, class_of, consume, enter, exit, can-exit, can-mark, text_byte, reference_value}
 use Rattle.mdconstructs_tables.specs.Markers.{marked}
-use Rattle.mdconstructs_tables.specs.Rows.{class_of, consume, enter, exit}
-use Rattle.mdconstructs_tables.proofs.Rows.Calls.{can-exit, can-mark}
-use Rattle.mdconstructs_text.specs.TextBytes.{text_byte}
-use Rattle.mdconstructs_inline_constructs.specs.ReferenceRows.{reference_value}
 use Rattle.mdconstructs_inline_constructs.proofs.reference.reference_value.Goals as goal
 
 -- what is seen waits

@@ -1,9 +1,6 @@
-use Rattle.std.proofs.Common.{[], ap, arith, length, replicate, slice_set, sym, ◌++◌, ◌+◌, ◌-◌, ◌∙◌, ◌∷◌, ◌≡◌, ◌≤◌, ◌<◌}
-use Rattle.std.proofs.lemmas.List.{take_all}
-use Rattle.std.specs.Vec.{vec_len}
+use Rattle.mdconstructs_inline_constructs.proofs.Prelude.{[], ap, arith, length, replicate, slice_set, sym, ◌++◌, ◌+◌, ◌-◌, ◌∙◌, ◌∷◌, ◌≡◌, ◌≤◌, ◌<◌, take_all, vec_len, later_of}
 use Rattle.mdconstructs_inline_constructs.proofs.RememberedCode.Runs.{run-added, run-set}
 use Rattle.mdconstructs_inline_constructs.proofs.remembered_code.add_run.Goals as goal
-use Rattle.mdconstructs_inline_constructs.specs.RememberedCode.{later_of}
 
 pub returns-then-len-length : goal.returns-then-len-length
 returns-then-len-length c =

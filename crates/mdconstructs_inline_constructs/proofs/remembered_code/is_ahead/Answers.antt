@@ -1,5 +1,4 @@
-use Rattle.std.proofs.Common.{sym, ◌∙◌}
-use Rattle.std.proofs.lemmas.Bool.{le-ltb}
+use Rattle.mdconstructs_inline_constructs.proofs.Prelude.{sym, ◌∙◌, le-ltb}
 use Rattle.mdconstructs_inline_constructs.proofs.RememberedCode.Runs.{ahead-is, ahead-none}
 use Rattle.mdconstructs_inline_constructs.proofs.remembered_code.is_ahead.Goals as goal
 

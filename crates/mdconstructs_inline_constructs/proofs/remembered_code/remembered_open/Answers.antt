@@ -1,9 +1,7 @@
-use Rattle.std.proofs.Common.{arith, false, refl, sym, true, ◌==◌, ◌∙◌, ◌≡◌}
-use Rattle.std.proofs.lemmas.Bool.Decides.{nat_tests}
+use Rattle.mdconstructs_inline_constructs.proofs.Prelude.{arith, false, refl, sym, true, ◌==◌, ◌∙◌, ◌≡◌, nat_tests, ended-in}
 use Rattle.mdconstructs_inline_constructs.proofs.HtmlTexts.Picked.{does-by}
 use Rattle.mdconstructs_inline_constructs.proofs.RememberedCode.Rows.{no-tick, open-stepped}
 use Rattle.mdconstructs_inline_constructs.proofs.remembered_code.remembered_open.Goals as goal
-use Rattle.mdconstructs_text.proofs.Plain.Classes.{ended-in}
 
 pub exit-requires-in-Some : goal.exit-requires-in-Some
 exit-requires-in-Some g c =

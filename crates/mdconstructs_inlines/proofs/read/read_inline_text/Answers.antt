@@ -1,11 +1,4 @@
-use Rattle.std.proofs.Common.{◌<◌, true, refl, arith}
-use Rattle.std.proofs.lemmas.List.Elements.{All-from_get_or}
-use Rattle.markdown_base.specs.declared.state.TheConstants.Name.{TextStart}
-use Rattle.markdown_base.specs.Virtual.{IsTabSize}
-use Rattle.markdown_tokenizer.specs.Engine.{given_by}
-use Rattle.markdown_tokenizer.specs.Text.{IsDocument}
-use Rattle.mdconstructs_tables.proofs.Tables.Refusals.{no-run-refused}
-use Rattle.mdconstructs_inlines.specs.InlineRules.{inlines_rules}
+use Rattle.mdconstructs_inlines.proofs.Prelude.{◌<◌, true, refl, arith, All-from_get_or, TextStart, IsTabSize, given_by, IsDocument, no-run-refused, inlines_rules}
 use Rattle.mdconstructs_inlines.proofs.InlineReads.{reads-inline-text}
 use Rattle.mdconstructs_inlines.proofs.Looks.{inlines-refuse-nothing}
 use Rattle.mdconstructs_inlines.proofs.read.read_inline_text.Goals as goal

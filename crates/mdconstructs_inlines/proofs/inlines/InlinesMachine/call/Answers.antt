@@ -1,25 +1,6 @@
-use Rattle.std.proofs.Common.{refl, rules}
-use Rattle.mdconstructs_machines.specs.Tables.{counts}
-use Rattle.mdconstructs_tables.proofs.Rows.Calls.{callable, never-called}
-use Rattle.mdconstructs_text.specs.AutolinkRows.{autolink_start, autolink_open, autolink_scheme, autolink_url}
-use Rattle.mdconstructs_text.specs.CodeSpanRows.{raw_text_start, raw_text_data, raw_text_sequence_close, raw_text_after, raw_text_backticks_inside}
-use Rattle.mdconstructs_text.specs.EscapeRows.{escape_start, escape_inside}
-use Rattle.mdconstructs_tables.specs.Numbers.{by_left}
-use Rattle.mdconstructs_text.specs.TextBytes.{text_byte}
-use Rattle.mdconstructs_text.specs.TextCosts.{text_cost}
-use Rattle.mdconstructs_text.specs.TextTable.{text_before_data, data_at_break}
-use Rattle.mdconstructs_inline_constructs.specs.EmailRows.{email_start, email_atext, email_label, email_value}
-use Rattle.mdconstructs_inline_constructs.specs.HtmlMarkedRows.{cdata_open, comment_open, declaration_open, mark_inside, mark_line, mark_open, mark_start, mark_white}
-use Rattle.mdconstructs_inline_constructs.specs.HtmlTagRows.{html_text_start, html_text_open, html_text_tag_close_start, html_text_tag_close, html_text_tag_close_between, html_text_tag_open, html_text_tag_open_between, html_text_attribute_name, html_text_attribute_name_after, html_text_value_before, html_text_value_quoted, html_text_value_quoted_after, html_text_value_unquoted, html_text_end}
-use Rattle.mdconstructs_inline_constructs.specs.HtmlTextRows.{html_line_ending_after, html_line_ending_after_prefix}
-use Rattle.mdconstructs_inline_constructs.specs.HardBreakRows.{break_escape_start, break_escape_after, trailing_start, trailing_after_first, trailing_after_more}
-use Rattle.mdconstructs_inline_constructs.specs.WhiteSpaceRows.{white_start, white_inside}
+use Rattle.mdconstructs_inlines.proofs.Prelude.{refl, rules, counts, callable, never-called, autolink_start, autolink_open, autolink_scheme, autolink_url, raw_text_start, raw_text_data, raw_text_sequence_close, raw_text_after, raw_text_backticks_inside, escape_start, escape_inside, by_left, text_byte, text_cost, text_before_data, data_at_break, email_start, email_atext, email_label, email_value, cdata_open, comment_open, declaration_open, mark_inside, mark_line, mark_open, mark_start, mark_white, html_text_start, html_text_open, html_text_tag_close_start, html_text_tag_close, html_text_tag_close_between, html_text_tag_open, html_text_tag_open_between, html_text_attribute_name, html_text_attribute_name_after, html_text_value_before, html_text_value_quoted, html_text_value_quoted_after, html_text_value_unquoted, html_text_end, html_line_ending_after, html_line_ending_after_prefix, break_escape_start, break_escape_after, trailing_start, trailing_after_first, trailing_after_more, white_start, white_inside, remembered_between, remembered_chunk, remembered_open, reference_start, reference_open, reference_numeric, reference_value, string_start, string_before, string_before_data, attention_start, attention_inside, inline_start, line_start, line_white, inline_before, before_hard_break_escape, before_white_space, before_email, before_html, before_tag, inline_data, data_over, white_data, at_data_break, inlines}
 use Rattle.mdconstructs_inlines.proofs.Priced.{at-any-cost}
-use Rattle.mdconstructs_inline_constructs.specs.RememberedCode.{remembered_between, remembered_chunk, remembered_open}
-use Rattle.mdconstructs_inline_constructs.specs.ReferenceRows.{reference_start, reference_open, reference_numeric, reference_value}
-use Rattle.mdconstructs_inlines.specs.StringTable.{string_start, string_before, string_before_data, string_data}
-use Rattle.mdconstructs_inlines.specs.RunRows.{attention_start, attention_inside}
-use Rattle.mdconstructs_inlines.specs.InlineTable.{inline_start, line_start, line_white, inline_before, before_hard_break_escape, before_white_space, before_email, before_html, before_tag, inline_data, data_over, white_data, at_data_break, inlines}
+use Rattle.mdconstructs_inlines.specs.StringTable.{string_data}
 use Rattle.mdconstructs_inlines.proofs.inlines.InlinesMachine.call.Goals as goal
 
 pub inline_start-requires : goal.inline_start-requires

@@ -1,12 +1,4 @@
-use Rattle.std.proofs.Common.{None, ap, sym, subst, ◌∙◌}
-use Rattle.markdown_tokenizer.specs.Resolving.{done}
-use Rattle.mdconstructs_attention.specs.Emphasis.{paired}
-use Rattle.mdconstructs_attention.specs.Places.{ArePlacesInside}
-use Rattle.mdconstructs_attention.specs.RunEdits.{edits_of}
-use Rattle.mdconstructs_attention.specs.Runs.{runs_in}
-use Rattle.mdconstructs_inlines.specs.InlineRules.{emphasis_edits, EndsEmphasised}
-use Rattle.mdconstructs_inlines.specs.InlineTable.{begins_inline, follows_inline, inline_starts, inlines}
-use Rattle.mdconstructs_inlines.specs.Laws.Registered.{before-resolver}
+use Rattle.mdconstructs_inlines.proofs.Prelude.{None, ap, sym, subst, ◌∙◌, done, paired, ArePlacesInside, edits_of, runs_in, emphasis_edits, EndsEmphasised, begins_inline, follows_inline, inline_starts, inlines, before-resolver}
 use Rattle.mdconstructs_inlines.proofs.Room.{places-inside}
 use Rattle.mdconstructs_inlines.proofs.inlines.InlinesMachine.resolve.Goals as goal
 
