@@ -1,6 +1,7 @@
 #!/usr/bin/env python3
 """Writes the list of definitions into docs/DEFINITIONS.md: of each file of `specs` of the public crates and of their parts, the first
-sentence of its first comment, a long one up to its colon. What stands above the list is written by hand.
+sentence of its first comment, a long one up to its colon; of files with rows of states only the name. What stands above the list is
+written by hand.
 
 usage: tools/definitions.py [--check]     with --check it writes nothing, and prints what fails, and ends with 1 if something does
 """
@@ -14,6 +15,9 @@ TOP = os.path.dirname(os.path.dirname(os.path.realpath(__file__)))
 PAGE = f"{TOP}/docs/DEFINITIONS.md"
 MARK = "<!-- The rest of this page is made by tools/definitions.py. -->\n"
 INNER = re.compile(r"^Inner: |An inner file: ")
+
+# the crate whose files have the states of a machine, and what is read stands in another one
+MACHINES = ("mdconstructs_flow",)
 
 
 def read(path):
@@ -45,7 +49,7 @@ def short(sentence):
 
 def section(crate):
     """Yields the lines of a crate: a line for each file, and one for all inner files. `Laws` has proofs and no definitions."""
-    inner = []
+    inner, rows = [], []
     for path in sorted(glob.glob(f"{TOP}/crates/{crate}/specs/*.antt")):
         name = os.path.basename(path)[:-5]
         if name in ("Lib", "Laws"):
@@ -53,9 +57,13 @@ def section(crate):
         text = said(path)
         if INNER.search(text):
             inner.append(f"`{name}`")
+        elif name.endswith("Rows") or crate in MACHINES:
+            rows.append(f"`{name}`")
         else:
             first = short(re.split(r"(?<=[.]) (?=[A-Z`])", text)[0].removeprefix(f"{name}: "))
             yield f"- `{name}`: {first[:1].upper() + first[1:]}"
+    if rows:
+        yield f"- States, their rows and prices: {', '.join(rows)}."
     if inner:
         yield f"- Inner: {', '.join(inner)}."
 
