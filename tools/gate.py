@@ -26,7 +26,7 @@ HERE = os.path.dirname(os.path.dirname(os.path.realpath(__file__)))
 TICKS = os.sysconf("SC_CLK_TCK")
 PAGE = f"{HERE}/docs/maintaining/GATE.md"
 PARTS = ("proof", "second", "edits", "tests")
-SMALL = 100  # crates below so many seconds are one row of the page
+SMALL = 300  # crates below so many seconds are one row of the page
 
 
 def text_of(path):
