@@ -1,4 +1,4 @@
--- The machine that reads over bytes: the data of a line, and line endings. Its calls write nothing first.
+-- The machine that reads over bytes. It reads the data of each line, and line endings. Its calls write nothing first.
 use Rattle.std.specs.Prelude.{◌∷◌, [], ◌==◌, ℕ, Bool, true, false, not, Option, Some, None}
 use Rattle.markdown.specs.declared.event.Name.TheVariants.{Data, LineEnding}
 use Rattle.markdown.specs.StateConstants.Name.{DataInside, TextStart}
