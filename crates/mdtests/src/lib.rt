@@ -23,6 +23,8 @@ mod fakes;
 #[cfg(test)]
 mod kept;
 #[cfg(test)]
+mod labels;
+#[cfg(test)]
 mod looping;
 #[cfg(test)]
 mod machines;
