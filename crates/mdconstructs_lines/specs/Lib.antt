@@ -1,0 +1,3 @@
+pub mod Containers
+pub mod Lines
+pub mod Views
