@@ -25,7 +25,9 @@ mod reading;
 #[doc = include_str!("../README.md")]
 struct Readme;
 
-pub use crate::event::{spans, spans_by_start, Content, Event, Kind, Link, Point, Span, Spans};
+pub use crate::event::{
+    spans, spans_by_start, with_ranges, Content, Event, Kind, Link, Point, Span, Spans, WithRanges,
+};
 pub use crate::names::{Machine, Name, UnknownName};
 pub use crate::reading::{Iter, Reading};
 use std::error;
