@@ -17,8 +17,11 @@
 #![deny(missing_docs)]
 
 mod event;
+mod lines;
 mod names;
 mod reading;
+mod references;
+mod tree;
 
 /// The program of the page is tried too.
 #[cfg(doctest)]
@@ -28,8 +31,11 @@ struct Readme;
 pub use crate::event::{
     spans, spans_by_start, with_ranges, Content, Event, Kind, Link, Point, Span, Spans, WithRanges,
 };
+pub use crate::lines::{LineColumn, LineIndex};
 pub use crate::names::{Machine, Name, UnknownName};
 pub use crate::reading::{Iter, Reading};
+pub use crate::references::character_reference;
+pub use crate::tree::{Node, Nodes, Tree};
 use std::error;
 use std::fmt;
 use std::num::NonZeroUsize;

@@ -5,10 +5,11 @@
 //! own, glibc's, do their work.
 
 use limecove::{
-    spans, spans_by_start, tokenize, tokenize_text, Error, Event, Machine, Options, Span,
-    TextOptions,
+    spans, spans_by_start, tokenize, tokenize_text, with_ranges, Error, Event, LineIndex, Machine,
+    Options, TextOptions, Tree,
 };
 use std::ffi::c_void;
+use std::fmt::Debug;
 use std::sync::atomic::{AtomicBool, AtomicIsize, AtomicUsize, Ordering::Relaxed};
 
 /// How many allocations succeed before one fails. None fails below 0.
@@ -105,18 +106,40 @@ impl Ends {
                 }
             }
         }
-        self.of_spans(&want);
+        self.of_helpers(&want);
     }
 
-    /// Puts the spans of events in order of their starts, with each allocation failing.
-    fn of_spans(&mut self, events: &[Event]) {
-        let want: Vec<Span> = spans_by_start(events).expect("there is memory");
+    /// Puts the spans of events in order of their starts, and gives events with ranges, with each allocation failing.
+    fn of_helpers(&mut self, events: &[Event]) {
+        self.of_call(|| spans_by_start(events));
+        self.of_call(|| {
+            Ok(with_ranges(events)?
+                .map(|(_, range)| range.len())
+                .sum::<usize>())
+        });
+    }
+
+    /// Makes a tree and an index of lines, and decodes each text, with each allocation failing.
+    fn of_tree(&mut self, document: &str, events: &[Event]) {
+        let tree = Tree::new(document, events).expect("there is memory");
+        let depths = |tree: &Tree<'_>| tree.nodes().map(|node| node.span().depth).sum::<usize>();
+        self.of_call(|| Ok(depths(&Tree::new(document, events)?)));
+        for node in tree.nodes() {
+            self.of_call(|| node.decoded());
+            self.of_call(|| node.fence_info());
+        }
+        self.of_call(|| Ok(LineIndex::new(document)?.line_count()));
+    }
+
+    /// Makes a call with each of its allocations failing, alone and with all after it.
+    fn of_call<T: PartialEq + Debug>(&mut self, call: impl Fn() -> Result<T, Error>) {
+        let want = call().expect("there is memory");
         for stays in [false, true] {
             for left in 0.. {
-                let (result, failed) = failing(left, stays, || spans_by_start(events));
+                let (result, failed) = failing(left, stays, &call);
                 match result {
-                    Ok(begun) => {
-                        assert_eq!(begun, want);
+                    Ok(found) => {
+                        assert_eq!(found, want);
                         if failed == 0 {
                             break;
                         }
@@ -153,6 +176,9 @@ fn main() {
         ends.of_each(|| tokenize_text(document, &TextOptions::default()));
     }
     assert!(ends.out > 0 && ends.read > 0);
+    let document = "# a *b* &nGt; ` c `\n\n~~~ d\\* e &amp;\n\tf\0\n~~~\n    g\n";
+    let events = tokenize(document, &Options::default()).expect("there is memory");
+    ends.of_tree(document, &events);
     println!(
         "{} calls ran out of memory, and {} managed without",
         ends.out, ends.read

@@ -1,6 +1,6 @@
 //! The names here and in the header, against the numbers that records and options are proved to have.
 
-use limecove::{Machine, Name};
+use limecove::{character_reference, Machine, Name};
 use std::fmt::Display;
 use std::fs;
 use std::path::Path;
@@ -73,4 +73,23 @@ fn machines_have_their_proved_numbers() {
         .collect();
     assert_eq!(proved.len(), 8);
     compare(&proved, Machine::ALL, "LIMECOVE_");
+}
+
+/// The named character references are those that are proved.
+#[test]
+fn references_are_those_that_are_proved() {
+    let specs = text("crates/mdconstructs_references/specs/CharacterReferences.antt");
+    let mut count = 0;
+    for entry in specs.split("(codes \"").skip(1) {
+        let (name, rest) = entry.split_once("\", ").unwrap();
+        let (codes, _) = rest.split_once("[])").unwrap();
+        let characters: String = codes
+            .split(" ∷ ")
+            .filter_map(|code| code.strip_prefix("0x"))
+            .map(|code| char::from_u32(u32::from_str_radix(code, 16).unwrap()).unwrap())
+            .collect();
+        assert_eq!(character_reference(name), Some(characters.as_str()));
+        count += 1;
+    }
+    assert_eq!(count, 2125);
 }

@@ -1,0 +1,233 @@
+//! Lines and columns of bytes.
+
+use crate::Error;
+use std::fmt;
+use std::ops::Range;
+
+/// A place in a document, as people and editors count it.
+#[derive(Clone, Copy, Debug, PartialEq, Eq, PartialOrd, Ord, Hash)]
+#[non_exhaustive]
+pub struct LineColumn {
+    /// Line, from 1.
+    pub line: usize,
+    /// Column in bytes, from 1.
+    pub bytes: usize,
+    /// Column in characters (Unicode scalar values), from 1.
+    pub characters: usize,
+    /// Column in units of UTF-16, from 1. In the language server protocol lines and columns are from 0.
+    pub utf16: usize,
+}
+
+/// As in `2:5`: line, and column in characters.
+impl fmt::Display for LineColumn {
+    fn fmt(&self, f: &mut fmt::Formatter<'_>) -> fmt::Result {
+        write!(f, "{}:{}", self.line, self.characters)
+    }
+}
+
+/// The lines of a document, to look up the line and the columns of a byte. Lines end with LF, CR LF or CR, as in [`Point`](crate::Point).
+///
+/// It is made in one pass, and keeps 8 bytes for each line and 16 for each 256 bytes. To look up takes time in proportion to the
+/// logarithm of the number of lines, however long a line is.
+///
+/// ```
+/// let index = limecove::LineIndex::new("a\né😀b")?;
+/// let place = index.line_column(8);
+/// assert_eq!((place.line, place.bytes, place.characters, place.utf16), (2, 7, 3, 4));
+/// # Ok::<(), limecove::Error>(())
+/// ```
+#[derive(Clone)]
+pub struct LineIndex<'a> {
+    document: &'a [u8],
+    /// Where each line begins.
+    starts: Vec<usize>,
+    /// What is before each multiple of `STEP`.
+    counts: Vec<Count>,
+}
+
+/// How many bytes are counted at most to look up one.
+const STEP: usize = 256;
+
+/// A number of characters, and of units of UTF-16.
+#[derive(Clone, Copy, Default)]
+struct Count {
+    characters: usize,
+    utf16: usize,
+}
+
+impl Count {
+    /// With what begins in these bytes too. A character is counted at its first byte.
+    fn and(self, bytes: &[u8]) -> Count {
+        let firsts = bytes.iter().filter(|byte| !is_inner(**byte)).count();
+        let pairs = bytes.iter().filter(|byte| **byte >= 0xf0).count();
+        Count {
+            characters: self.characters + firsts,
+            utf16: self.utf16 + firsts + pairs,
+        }
+    }
+}
+
+/// Whether it is a byte of a character, but not the first.
+fn is_inner(byte: u8) -> bool {
+    byte & 0xc0 == 0x80
+}
+
+impl<'a> LineIndex<'a> {
+    /// Finds the lines of a document.
+    ///
+    /// # Errors
+    ///
+    /// If it runs out of memory.
+    pub fn new<T: AsRef<[u8]> + ?Sized>(document: &'a T) -> Result<LineIndex<'a>, Error> {
+        let document = document.as_ref();
+        let (mut starts, mut counts) = (Vec::new(), Vec::new());
+        let mut add = |start| {
+            starts.try_reserve(1).map_err(|_| Error::OutOfMemory)?;
+            starts.push(start);
+            Ok(())
+        };
+        add(0)?;
+        for (at, byte) in document.iter().enumerate() {
+            let ends = match byte {
+                b'\n' => true,
+                b'\r' => document.get(at + 1) != Some(&b'\n'),
+                _ => false,
+            };
+            if ends {
+                add(at + 1)?;
+            }
+        }
+        let got = counts.try_reserve_exact(document.len() / STEP + 1);
+        got.map_err(|_| Error::OutOfMemory)?;
+        let mut count = Count::default();
+        counts.push(count);
+        for bytes in document.chunks_exact(STEP) {
+            count = count.and(bytes);
+            counts.push(count);
+        }
+        Ok(LineIndex {
+            document,
+            starts,
+            counts,
+        })
+    }
+
+    /// How many lines there are: one more than line endings.
+    pub fn line_count(&self) -> usize {
+        self.starts.len()
+    }
+
+    /// The bytes of a line, without its line ending, by its number from 1. `None` if there is no such line.
+    pub fn line(&self, number: usize) -> Option<Range<usize>> {
+        let from = *self.starts.get(number.checked_sub(1)?)?;
+        let next = self.starts.get(number).copied();
+        let mut to = next.unwrap_or(self.document.len());
+        if next.is_some() {
+            let ending = &self.document[from..to];
+            to -= if ending.ends_with(b"\r\n") { 2 } else { 1 };
+        }
+        Some(from..to)
+    }
+
+    /// The line and the columns of the byte of this index: those of its character's first byte. Behind the end they are those of the end.
+    ///
+    /// If the document is no UTF-8, bytes from 0x80 to 0xBF count as no characters, and all others as one.
+    pub fn line_column(&self, index: usize) -> LineColumn {
+        let mut index = index.min(self.document.len());
+        let line = self.starts.partition_point(|start| *start <= index);
+        let start = self.starts[line - 1];
+        for _ in 0..3 {
+            if index > start && self.document.get(index).copied().map_or(false, is_inner) {
+                index -= 1;
+            }
+        }
+        let (before, here) = (self.count(start), self.count(index));
+        LineColumn {
+            line,
+            bytes: index - start + 1,
+            characters: here.characters - before.characters + 1,
+            utf16: here.utf16 - before.utf16 + 1,
+        }
+    }
+
+    /// What is before this index.
+    fn count(&self, index: usize) -> Count {
+        let step = index / STEP;
+        self.counts[step].and(&self.document[step * STEP..index])
+    }
+}
+
+impl fmt::Debug for LineIndex<'_> {
+    fn fmt(&self, f: &mut fmt::Formatter<'_>) -> fmt::Result {
+        let lines = self.line_count();
+        f.debug_struct("LineIndex").field("lines", &lines).finish()
+    }
+}
+
+#[cfg(test)]
+mod tests {
+    use super::*;
+
+    /// What is looked up in a text, counted over its characters.
+    fn compare(text: &str) {
+        let index = LineIndex::new(text).unwrap();
+        let (mut line, mut start) = (1, 0);
+        for (at, character) in text.char_indices().chain([(text.len(), 'x')]) {
+            let before = &text[start..at];
+            let want = LineColumn {
+                line,
+                bytes: before.len() + 1,
+                characters: before.chars().count() + 1,
+                utf16: before.encode_utf16().count() + 1,
+            };
+            for inner in 0..character.len_utf8() {
+                assert_eq!(index.line_column(at + inner), want, "{:?}", text);
+            }
+            let next = text.as_bytes().get(at + 1);
+            if character == '\n' || character == '\r' && next != Some(&b'\n') {
+                let bytes = index.line(line).unwrap();
+                assert_eq!(&text[bytes], text[start..at].trim_end_matches('\r'));
+                (line, start) = (line + 1, at + 1);
+            }
+        }
+        assert_eq!(index.line_count(), line);
+        assert_eq!(index.line(line), Some(start..text.len()));
+        assert_eq!((index.line(0), index.line(line + 1)), (None, None));
+        assert_eq!(index.line_column(usize::MAX).line, line);
+    }
+
+    #[test]
+    fn columns_are_those_of_characters() {
+        for text in ["", "a", "\n", "\r\n", "a\r\n\rb\n\n", "é😀\r\n€x"] {
+            compare(text);
+        }
+        for n in [60, 63, 64, 65, 127, 128, 300] {
+            compare(&"😀".repeat(n));
+            compare(&"a😀é\n".repeat(n));
+        }
+    }
+
+    /// No bytes panic, and columns grow with the index.
+    #[test]
+    fn what_is_no_text_has_columns() {
+        let bytes: Vec<u8> = (0..2000_usize).map(|n| (n * n / 7 + n) as u8).collect();
+        for len in [0, 1, 255, 256, 257, 2000] {
+            let index = LineIndex::new(&bytes[..len]).unwrap();
+            let places: Vec<_> = (0..=len + 1).map(|at| index.line_column(at)).collect();
+            assert!(places.windows(2).all(|two| two[0] <= two[1]));
+        }
+        let inner = LineIndex::new(&[0x80; 600]).unwrap();
+        assert_eq!(inner.line_column(599).to_string(), "1:1");
+    }
+
+    /// Each byte of a line of 1 MB is looked up.
+    #[test]
+    fn long_lines_are_no_slower() {
+        let text = "é".repeat(500_000);
+        let index = LineIndex::new(&text).unwrap();
+        let columns: usize = (0..text.len())
+            .map(|at| index.line_column(at).characters)
+            .sum();
+        assert_eq!(columns, 500_000 * 500_001);
+    }
+}

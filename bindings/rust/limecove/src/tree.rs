@@ -1,0 +1,601 @@
+//! The spans of a document as a tree, and what they say: levels of headings, info strings, text.
+
+use crate::references::{character_reference, numeric};
+use crate::{tokenize, Error, Event, Kind, Name, Options, Span, TabSize};
+use std::fmt;
+use std::iter::FusedIterator;
+use std::ops::Range;
+use std::str;
+
+/// The spans of a document as a tree. It keeps about 100 bytes for each span, and is made in time in proportion to the events.
+///
+/// ```
+/// use limecove::{Options, Tree};
+///
+/// let tree = Tree::read("# a &amp; b", &Options::default())?;
+/// let heading = tree.children().next().unwrap();
+/// assert_eq!(heading.heading_level(), Some(1));
+/// assert_eq!(heading.decoded()?, b"a & b");
+/// # Ok::<(), limecove::Error>(())
+/// ```
+#[derive(Clone)]
+pub struct Tree<'a> {
+    document: &'a [u8],
+    tab_size: TabSize,
+    places: Vec<Place>,
+}
+
+/// A span, and where it is in the tree.
+#[derive(Clone, Copy)]
+struct Place {
+    span: Span,
+    /// Index of the span that holds it, if one does.
+    parent: Option<usize>,
+    /// Index of the first span that begins behind it.
+    behind: usize,
+}
+
+impl<'a> Tree<'a> {
+    /// Reads a whole document as the options say: its spans.
+    ///
+    /// # Errors
+    ///
+    /// As those of [`tokenize`].
+    ///
+    /// # Panics
+    ///
+    /// As [`tokenize`].
+    pub fn read<T: AsRef<[u8]> + ?Sized>(
+        document: &'a T,
+        options: &Options,
+    ) -> Result<Tree<'a>, Error> {
+        let events = tokenize(document, options)?;
+        let mut tree = Tree::new(document, &events)?;
+        tree.tab_size = options.text.tab_size;
+        Ok(tree)
+    }
+
+    /// The spans of events of this document, which were read with tab stops at every 4 columns. If the list is not whole, an enter
+    /// without an exit ends at the last event, and an exit without an enter is passed over.
+    ///
+    /// # Errors
+    ///
+    /// If it runs out of memory.
+    pub fn new<T: AsRef<[u8]> + ?Sized>(
+        document: &'a T,
+        events: &[Event],
+    ) -> Result<Tree<'a>, Error> {
+        let (mut places, mut open) = (Vec::<Place>::new(), Vec::<usize>::new());
+        let got = places.try_reserve_exact(events.len() - events.len() / 2);
+        got.map_err(|_| Error::OutOfMemory)?;
+        let last = events.last().map(Event::point);
+        for event in events {
+            match event.kind() {
+                Kind::Enter => {
+                    let span = Span {
+                        name: event.name(),
+                        depth: open.len(),
+                        start: event.point(),
+                        end: last.unwrap_or(event.point()),
+                    };
+                    open.try_reserve(1).map_err(|_| Error::OutOfMemory)?;
+                    places.try_reserve(1).map_err(|_| Error::OutOfMemory)?;
+                    let parent = open.last().copied();
+                    open.push(places.len());
+                    places.push(Place {
+                        span,
+                        parent,
+                        behind: usize::MAX,
+                    });
+                }
+                Kind::Exit => {
+                    if let Some(enter) = open.pop() {
+                        places[enter].span.end = event.point();
+                        places[enter].behind = places.len();
+                    }
+                }
+            }
+        }
+        for enter in open {
+            places[enter].behind = places.len();
+        }
+        Ok(Tree {
+            document: document.as_ref(),
+            tab_size: TabSize::default(),
+            places,
+        })
+    }
+
+    /// All spans, in the order in which they begin: each comes before the spans in it.
+    pub fn nodes(&self) -> Nodes<'_> {
+        Nodes {
+            tree: self,
+            range: 0..self.places.len(),
+            by_child: false,
+        }
+    }
+
+    /// The spans that are in no other.
+    pub fn children(&self) -> Nodes<'_> {
+        Nodes {
+            by_child: true,
+            ..self.nodes()
+        }
+    }
+}
+
+impl fmt::Debug for Tree<'_> {
+    fn fmt(&self, f: &mut fmt::Formatter<'_>) -> fmt::Result {
+        f.debug_list().entries(self.nodes()).finish()
+    }
+}
+
+/// A span of a [`Tree`].
+#[derive(Clone, Copy)]
+pub struct Node<'a> {
+    tree: &'a Tree<'a>,
+    index: usize,
+}
+
+impl<'a> Node<'a> {
+    fn place(&self) -> &'a Place {
+        &self.tree.places[self.index]
+    }
+
+    /// The span.
+    pub fn span(&self) -> Span {
+        self.place().span
+    }
+
+    /// What the span is.
+    pub fn name(&self) -> Name {
+        self.span().name
+    }
+
+    /// The bytes of the document that it covers, as [`Span::bytes`].
+    pub fn bytes(&self) -> Range<usize> {
+        self.span().bytes()
+    }
+
+    /// Those bytes of the document: none if the document has not so many.
+    pub fn text(&self) -> &'a [u8] {
+        self.tree.document.get(self.bytes()).unwrap_or_default()
+    }
+
+    /// The span that holds it, if one does.
+    pub fn parent(&self) -> Option<Node<'a>> {
+        self.place().parent.map(|index| Node { index, ..*self })
+    }
+
+    /// The span that holds it, the one that holds that, and so on.
+    pub fn ancestors(&self) -> impl Iterator<Item = Node<'a>> + 'a {
+        std::iter::successors(self.parent(), Node::parent)
+    }
+
+    /// The spans right in it. To step over a child takes no longer if it holds many spans.
+    pub fn children(&self) -> Nodes<'a> {
+        Nodes {
+            by_child: true,
+            ..self.descendants()
+        }
+    }
+
+    /// The spans in it, and in these, and so on, in the order in which they begin.
+    pub fn descendants(&self) -> Nodes<'a> {
+        Nodes {
+            tree: self.tree,
+            range: self.index + 1..self.place().behind,
+            by_child: false,
+        }
+    }
+
+    /// The first child of this name, if there is one.
+    pub fn child(&self, name: Name) -> Option<Node<'a>> {
+        self.children().find(|child| child.name() == name)
+    }
+
+    /// The level of a heading, from 1 to 6. `None` if it is no heading.
+    ///
+    /// ```
+    /// use limecove::{Options, Tree};
+    ///
+    /// let tree = Tree::read("### a\n\nb\n---", &Options::default())?;
+    /// let levels: Vec<u8> = tree.nodes().filter_map(|node| node.heading_level()).collect();
+    /// assert_eq!(levels, [3, 2]);
+    /// # Ok::<(), limecove::Error>(())
+    /// ```
+    pub fn heading_level(&self) -> Option<u8> {
+        match self.name() {
+            Name::HeadingAtx => {
+                let marks = self.child(Name::HeadingAtxSequence)?.text().len();
+                u8::try_from(marks)
+                    .ok()
+                    .filter(|level| (1..=6).contains(level))
+            }
+            Name::HeadingSetext => {
+                let underline = self.child(Name::HeadingSetextUnderline)?;
+                let marks = underline.child(Name::HeadingSetextUnderlineSequence)?;
+                match marks.text().first()? {
+                    b'=' => Some(1),
+                    _ => Some(2),
+                }
+            }
+            _ => None,
+        }
+    }
+
+    /// The info string of fenced code, as CommonMark has it: all that follows the opening fence, but for blanks at its ends, with escapes
+    /// and references decoded. `None` if there is none, or it is no fenced code. The language is its first word.
+    ///
+    /// ```
+    /// use limecove::{Options, Tree};
+    ///
+    /// let tree = Tree::read("``` r\\*s  x &copy; \na", &Options::default())?;
+    /// let code = tree.children().next().unwrap();
+    /// assert_eq!(code.fence_info()?.unwrap(), "r*s  x ©".as_bytes());
+    /// # Ok::<(), limecove::Error>(())
+    /// ```
+    ///
+    /// # Errors
+    ///
+    /// If it runs out of memory.
+    pub fn fence_info(&self) -> Result<Option<Vec<u8>>, Error> {
+        let fence = match self.name() {
+            Name::CodeFenced => self.child(Name::CodeFencedFence),
+            _ => None,
+        };
+        let (mut text, mut blanks) = (Text(Vec::new()), None);
+        for part in fence.iter().flat_map(Node::children) {
+            match part.name() {
+                Name::CodeFencedFenceInfo => text.add_nodes(&part)?,
+                Name::CodeFencedFenceMeta => {
+                    text.add_bytes(blanks.map_or(b"", |blanks: Node<'_>| blanks.text()))?;
+                    text.add_nodes(&part)?;
+                    let ends = part.descendants().last();
+                    if ends.map_or(false, |end| end.name() == Name::Data) {
+                        text.trim_end();
+                    }
+                }
+                Name::SpaceOrTab => blanks = Some(part),
+                _ => {}
+            }
+        }
+        Ok(Some(text.0).filter(|info| !info.is_empty()))
+    }
+
+    /// The text as a reader has it: with what escapes and references stand for, without marks and raw HTML. It is UTF-8 if the document is.
+    ///
+    /// A line ending is `\n`, but a space in a code span. A code span loses a space at both ends, and NUL is U+FFFD, as CommonMark says.
+    /// Fenced and indented code is its lines, each with its `\n`, without fences, info string and indentation.
+    ///
+    /// ```
+    /// use limecove::{Options, Tree};
+    ///
+    /// let tree = Tree::read("*a* \\* `` ` `` &lt;\n\n    code", &Options::default())?;
+    /// let texts: Result<Vec<_>, _> = tree.children().map(|node| node.decoded()).collect();
+    /// assert_eq!(texts?, [&b"a * ` <"[..], b"\n", b"\n", b"code\n"]);
+    /// # Ok::<(), limecove::Error>(())
+    /// ```
+    ///
+    /// # Errors
+    ///
+    /// If it runs out of memory.
+    pub fn decoded(&self) -> Result<Vec<u8>, Error> {
+        let mut text = Text(Vec::new());
+        text.add_node(self)?;
+        Ok(text.0)
+    }
+}
+
+/// As its span.
+impl fmt::Display for Node<'_> {
+    fn fmt(&self, f: &mut fmt::Formatter<'_>) -> fmt::Result {
+        self.span().fmt(f)
+    }
+}
+
+impl fmt::Debug for Node<'_> {
+    fn fmt(&self, f: &mut fmt::Formatter<'_>) -> fmt::Result {
+        f.debug_tuple("Node").field(&self.span()).finish()
+    }
+}
+
+/// An iterator over spans of a [`Tree`].
+#[derive(Clone, Debug)]
+pub struct Nodes<'a> {
+    tree: &'a Tree<'a>,
+    range: Range<usize>,
+    /// Whether the spans in each are passed over.
+    by_child: bool,
+}
+
+impl<'a> Iterator for Nodes<'a> {
+    type Item = Node<'a>;
+
+    fn next(&mut self) -> Option<Node<'a>> {
+        let node = self.range.clone().next().map(|index| Node {
+            tree: self.tree,
+            index,
+        })?;
+        self.range.start = match self.by_child {
+            true => node.place().behind,
+            false => node.index + 1,
+        };
+        Some(node)
+    }
+}
+
+impl FusedIterator for Nodes<'_> {}
+
+/// Text that is decoded. What it adds fails if memory runs out.
+struct Text(Vec<u8>);
+
+impl Text {
+    fn add_bytes(&mut self, bytes: &[u8]) -> Result<(), Error> {
+        let got = self.0.try_reserve(bytes.len());
+        got.map_err(|_| Error::OutOfMemory)?;
+        self.0.extend_from_slice(bytes);
+        Ok(())
+    }
+
+    /// Adds text of a document: NUL is U+FFFD.
+    fn add_text(&mut self, text: &[u8]) -> Result<(), Error> {
+        for (at, part) in text.split(|byte| *byte == 0).enumerate() {
+            if at > 0 {
+                self.add_bytes("\u{fffd}".as_bytes())?;
+            }
+            self.add_bytes(part)?;
+        }
+        Ok(())
+    }
+
+    /// Adds the text of all that is in a span.
+    fn add_nodes(&mut self, of: &Node<'_>) -> Result<(), Error> {
+        let mut nodes = of.descendants();
+        while let Some(node) = nodes.next() {
+            if self.add_leaf(&node)? {
+                nodes.range.start = node.place().behind;
+            }
+        }
+        Ok(())
+    }
+
+    /// Adds the text of a span.
+    fn add_node(&mut self, node: &Node<'_>) -> Result<(), Error> {
+        match self.add_leaf(node)? {
+            true => Ok(()),
+            false => self.add_nodes(node),
+        }
+    }
+
+    /// Adds the text of a span. Returns false, and adds nothing, if its text is that of what is in it.
+    fn add_leaf(&mut self, node: &Node<'_>) -> Result<bool, Error> {
+        match node.name() {
+            Name::Data
+            | Name::CharacterEscapeValue
+            | Name::AutolinkProtocol
+            | Name::AutolinkEmail
+            | Name::CodeTextData => self.add_text(node.text())?,
+            Name::CodeFlowChunk => self.add_chunk(node)?,
+            Name::LineEnding | Name::BlankLineEnding => self.add_bytes(b"\n")?,
+            Name::CharacterReference => self.add_reference(node)?,
+            Name::CodeText => self.add_code_text(node)?,
+            Name::CodeFenced | Name::CodeIndented => self.add_code(node)?,
+            Name::HeadingSetext => {
+                if let Some(text) = node.child(Name::HeadingSetextText) {
+                    self.add_nodes(&text)?;
+                }
+            }
+            Name::HtmlText | Name::HtmlFlow => {}
+            _ => return Ok(false),
+        }
+        Ok(true)
+    }
+
+    /// Adds the characters of a reference. If there are none, the reference as it stands.
+    fn add_reference(&mut self, reference: &Node<'_>) -> Result<(), Error> {
+        let whole = str::from_utf8(reference.text()).unwrap_or_default();
+        let inner = whole.strip_prefix('&').and_then(|it| it.strip_suffix(';'));
+        let inner = inner.unwrap_or_default();
+        match inner.strip_prefix('#') {
+            Some(digits) => match numeric(digits) {
+                Some(character) => self.add_bytes(character.encode_utf8(&mut [0; 4]).as_bytes()),
+                None => self.add_text(reference.text()),
+            },
+            None => match character_reference(inner) {
+                Some(characters) => self.add_bytes(characters.as_bytes()),
+                None => self.add_text(reference.text()),
+            },
+        }
+    }
+
+    /// Adds the text of a code span: line endings are spaces, blanks at the start of a line are none of it, and a space at both ends
+    /// neither, if there is more than spaces.
+    fn add_code_text(&mut self, code: &Node<'_>) -> Result<(), Error> {
+        let (from, mut is_start) = (self.0.len(), false);
+        for part in code.children() {
+            let mut text = part.text();
+            while let (true, [b' ' | b'\t', rest @ ..]) = (is_start, text) {
+                text = rest;
+            }
+            match part.name() {
+                Name::LineEnding => self.add_bytes(b" ")?,
+                Name::CodeTextData => self.add_text(text)?,
+                _ => {}
+            }
+            is_start = part.name() == Name::LineEnding;
+        }
+        let text = &self.0[from..];
+        if text.len() > 1
+            && (text[0], text[text.len() - 1]) == (b' ', b' ')
+            && text.iter().any(|byte| *byte != b' ')
+        {
+            self.0.pop();
+            self.0.remove(from);
+        }
+        Ok(())
+    }
+
+    /// Adds the lines of a block of code, each with a line ending.
+    fn add_code(&mut self, code: &Node<'_>) -> Result<(), Error> {
+        let (mut is_open, from) = (code.name() == Name::CodeIndented, self.0.len());
+        for part in code.children() {
+            match part.name() {
+                Name::CodeFencedFence => {}
+                // the end of the line of the opening fence
+                Name::LineEnding if !is_open => is_open = true,
+                _ => {
+                    self.add_leaf(&part)?;
+                }
+            }
+        }
+        match self.0[from..].last() {
+            None | Some(b'\n') => Ok(()),
+            Some(_) => self.add_bytes(b"\n"),
+        }
+    }
+
+    /// Adds a line of code. If it begins in a tab, the columns that are left of it are spaces.
+    fn add_chunk(&mut self, chunk: &Node<'_>) -> Result<(), Error> {
+        let (start, text) = (chunk.span().start, chunk.text());
+        if start.vs == 0 {
+            return self.add_text(text);
+        }
+        let size = chunk.tree.tab_size.get();
+        for _ in start.column.saturating_sub(1) % size..size {
+            self.add_bytes(b" ")?;
+        }
+        self.add_text(text.get(1..).unwrap_or_default())
+    }
+
+    /// Removes blanks at the end.
+    fn trim_end(&mut self) {
+        while let Some(b' ' | b'\t') = self.0.last() {
+            self.0.pop();
+        }
+    }
+}
+
+#[cfg(test)]
+mod tests {
+    use super::*;
+    use crate::event::tests::event;
+
+    /// Events by hand: `+` begins a span of this name at this byte, `-` ends one.
+    fn events(of: &[(char, Name, usize)]) -> Vec<Event> {
+        let kind = |sign| match sign {
+            '+' => Kind::Enter,
+            _ => Kind::Exit,
+        };
+        let made = of
+            .iter()
+            .map(|&(sign, name, at)| event(kind(sign), name, at));
+        made.collect()
+    }
+
+    /// `a *b* c`, as it is read.
+    fn emphasis() -> Vec<Event> {
+        use Name::{Data, Emphasis, EmphasisSequence, EmphasisText, Paragraph};
+        events(&[
+            ('+', Paragraph, 0),
+            ('+', Data, 0),
+            ('-', Data, 2),
+            ('+', Emphasis, 2),
+            ('+', EmphasisSequence, 2),
+            ('-', EmphasisSequence, 3),
+            ('+', EmphasisText, 3),
+            ('+', Data, 3),
+            ('-', Data, 4),
+            ('-', EmphasisText, 4),
+            ('+', EmphasisSequence, 4),
+            ('-', EmphasisSequence, 5),
+            ('-', Emphasis, 5),
+            ('+', Data, 5),
+            ('-', Data, 7),
+            ('-', Paragraph, 7),
+        ])
+    }
+
+    fn names(nodes: impl Iterator<Item = impl fmt::Display>) -> String {
+        let names: Vec<_> = nodes.map(|node| node.to_string()).collect();
+        names.join(", ").replace("1:", "")
+    }
+
+    #[test]
+    fn spans_are_a_tree() {
+        let tree = Tree::new("a *b* c", &emphasis()).unwrap();
+        let nodes: Vec<_> = tree.nodes().collect();
+        assert_eq!(names(tree.children()), "Paragraph 1-8");
+        assert_eq!(
+            names(nodes[0].children()),
+            "Data 1-3, Emphasis 3-6, Data 6-8"
+        );
+        let inside = "EmphasisSequence 3-4, EmphasisText 4-5, Data 4-5, EmphasisSequence 5-6";
+        assert_eq!(names(nodes[2].descendants()), inside);
+        assert_eq!(nodes[2].children().count(), 3);
+        let data = nodes[2]
+            .child(Name::EmphasisText)
+            .unwrap()
+            .children()
+            .last();
+        let above = "EmphasisText 4-5, Emphasis 3-6, Paragraph 1-8";
+        assert_eq!(names(data.unwrap().ancestors()), above);
+        assert_eq!(nodes[0].decoded().unwrap(), b"a b c");
+        assert_eq!((nodes[2].text(), nodes[2].bytes()), (&b"*b*"[..], 2..5));
+        let begun = crate::spans_by_start(&emphasis()).unwrap();
+        assert!(tree.nodes().map(|node| node.span()).eq(begun));
+        for node in tree.nodes() {
+            assert!(node
+                .children()
+                .all(|child| child.parent().unwrap().span() == node.span()));
+            assert_eq!(node.heading_level(), None);
+            assert_eq!(node.fence_info(), Ok(None));
+        }
+    }
+
+    /// No part of a list panics, whatever the document is.
+    #[test]
+    fn parts_of_lists_are_trees() {
+        let all = emphasis();
+        for from in 0..all.len() {
+            for to in from..=all.len() {
+                for document in ["a *b* c", "a *", ""] {
+                    let tree = Tree::new(document, &all[from..to]).unwrap();
+                    let depths: usize = tree.nodes().map(|node| node.ancestors().count()).sum();
+                    let held: usize = tree.nodes().map(|node| node.descendants().count()).sum();
+                    assert_eq!(depths, held);
+                    for node in tree.nodes() {
+                        assert!(node.decoded().unwrap().len() <= document.len());
+                    }
+                }
+            }
+        }
+    }
+
+    /// What no document has.
+    #[test]
+    fn odd_spans_are_none() {
+        use Name::{CharacterReference, HeadingAtx, HeadingAtxSequence, HeadingSetext};
+        let sevens = [
+            ('+', HeadingAtx, 0),
+            ('+', HeadingAtxSequence, 0),
+            ('-', HeadingAtxSequence, 7),
+            ('-', HeadingAtx, 7),
+            ('+', HeadingSetext, 7),
+            ('-', HeadingSetext, 7),
+        ];
+        let list = events(&sevens);
+        let tree = Tree::new("#######", &list).unwrap();
+        assert!(tree.nodes().all(|node| node.heading_level().is_none()));
+        for odd in ["&", "&;", "&#;", "&#x;", "&#+1;", "&no;", "\u{7f}", ""] {
+            let whole = [
+                ('+', CharacterReference, 0),
+                ('-', CharacterReference, odd.len()),
+            ];
+            let list = events(&whole);
+            let tree = Tree::new(odd, &list).unwrap();
+            let node = tree.nodes().next().unwrap();
+            assert_eq!(node.decoded().unwrap(), odd.as_bytes());
+        }
+    }
+}
