@@ -1,36 +1,68 @@
-//! A highlighter: `highlight FILE` prints a document with colours for a terminal. Code is green, autolinks are blue and underlined, and
-//! the marks of both and of escapes are dim. Without colours it prints the document's bytes, each once and in order.
+//! A highlighter: `highlight FILE` prints a document with colours for a terminal. Headings and strong emphasis are bold, emphasis is
+//! italic, code is green, addresses of autolinks are blue, raw HTML and references are yellow, and the marks of all are grey. Without
+//! colours it prints the document's bytes, each once and in order.
 
-use limecove::{tokenize, Error, Kind, Name, Options};
+use limecove::{read_document, Error, Kind, Name};
 use std::io::Write;
 use std::{env, fs, io};
 
-/// What a terminal is told before the bytes of a span, if they are shown in a way of their own.
-fn style(name: Name) -> Option<&'static str> {
-    match name {
-        Name::CodeTextData => Some("\x1b[32m"),
-        Name::AutolinkProtocol | Name::AutolinkEmail => Some("\x1b[4;34m"),
-        Name::CodeTextSequence | Name::AutolinkMarker | Name::CharacterEscapeMarker => {
-            Some("\x1b[2m")
-        }
-        _ => None,
-    }
+/// What a terminal is told before the bytes of spans, and after them.
+const STYLES: [(&str, &str); 6] = [
+    ("\x1b[1m", "\x1b[22m"),
+    ("\x1b[3m", "\x1b[23m"),
+    ("\x1b[32m", "\x1b[39m"),
+    ("\x1b[34m", "\x1b[39m"),
+    ("\x1b[33m", "\x1b[39m"),
+    ("\x1b[90m", "\x1b[39m"),
+];
+
+/// Which of the styles a span has, if it is shown in a way of its own. Only void spans have colours: no colour is in another.
+fn style(name: Name) -> Option<usize> {
+    Some(match name {
+        Name::HeadingAtx | Name::HeadingSetext | Name::Strong => 0,
+        Name::Emphasis => 1,
+        Name::CodeTextData | Name::CodeFlowChunk => 2,
+        Name::AutolinkProtocol | Name::AutolinkEmail => 3,
+        Name::HtmlFlowData | Name::HtmlTextData | Name::CharacterReferenceValue => 4,
+        Name::AutolinkMarker
+        | Name::CharacterEscapeMarker
+        | Name::CharacterReferenceMarker
+        | Name::CharacterReferenceMarkerHexadecimal
+        | Name::CharacterReferenceMarkerNumeric
+        | Name::CharacterReferenceMarkerSemi
+        | Name::CodeFencedFenceSequence
+        | Name::CodeTextSequence
+        | Name::EmphasisSequence
+        | Name::HardBreakEscape
+        | Name::HeadingAtxSequence
+        | Name::HeadingSetextUnderlineSequence
+        | Name::StrongSequence
+        | Name::ThematicBreakSequence => 5,
+        _ => return None,
+    })
 }
 
 /// A document with colours.
 fn highlighted(document: &[u8]) -> Result<Vec<u8>, Error> {
-    let mut shown = Vec::new();
-    let mut at = 0;
-    for event in tokenize(document, &Options::default())? {
+    let (mut shown, mut at) = (Vec::new(), 0);
+    // how many spans of each style are open: emphasis may be in emphasis
+    let mut open = [0; STYLES.len()];
+    for event in read_document(document)? {
         if let Some(style) = style(event.name()) {
             let index = event.point().index;
             shown.extend_from_slice(&document[at..index]);
             at = index;
             let code = match event.kind() {
-                Kind::Enter => style,
-                Kind::Exit => "\x1b[0m",
+                Kind::Enter => {
+                    open[style] += 1;
+                    (open[style] == 1).then(|| STYLES[style].0)
+                }
+                Kind::Exit => {
+                    open[style] -= 1;
+                    (open[style] == 0).then(|| STYLES[style].1)
+                }
             };
-            shown.extend_from_slice(code.as_bytes());
+            shown.extend_from_slice(code.unwrap_or_default().as_bytes());
         }
     }
     shown.extend_from_slice(&document[at..]);
@@ -47,32 +79,39 @@ fn main() -> io::Result<()> {
 mod tests {
     use super::*;
 
-    /// A document with `[` where a style begins, by its first letter, and `]` where it ends.
+    /// A document with `{` and a letter where a style begins, and `}` where one ends.
     fn marked(document: &str) -> String {
         let shown = String::from_utf8(highlighted(document.as_bytes()).unwrap()).unwrap();
-        [
-            ("\x1b[32m", "[code "),
-            ("\x1b[4;34m", "[link "),
-            ("\x1b[2m", "[dim "),
-            ("\x1b[0m", "]"),
-        ]
-        .iter()
-        .fold(shown, |text, (code, mark)| text.replace(code, mark))
+        let begun = STYLES
+            .iter()
+            .zip(["{B", "{I", "{C", "{L", "{H", "{."])
+            .fold(shown, |text, ((on, _), mark)| text.replace(on, mark));
+        STYLES
+            .iter()
+            .fold(begun, |text, (_, off)| text.replace(off, "}"))
     }
 
     #[test]
-    fn code_autolinks_and_escapes_are_coloured() {
-        assert_eq!(marked("a `b` c\n"), "a [dim `][code b][dim `] c\n");
-        assert_eq!(marked("<de:f>"), "[dim <][link de:f][dim >]");
-        assert_eq!(marked("\\*f"), "[dim \\]*f");
-        assert_eq!(marked("g\r\n\n\th"), "g\r\n\n\th");
+    fn spans_are_coloured() {
+        assert_eq!(marked("a `b` c\n"), "a {.`}{Cb}{.`} c\n");
+        assert_eq!(marked("<de:f>"), "{.<}{Lde:f}{.>}");
+        assert_eq!(marked("\\*f &lt;"), "{.\\}*f {.&}{Hlt}{.;}");
+        assert_eq!(marked("g\r\n\n\th"), "g\r\n\n\t{Ch}");
+        assert_eq!(marked("*a **b***"), "{I{.*}a {B{.**}b{.**}}{.*}}");
+        assert_eq!(marked("*a *b* c*"), "{I{.*}a {.*}b{.*} c{.*}}");
+        assert_eq!(marked("# a\nb\n-"), "{B{.#} a}\n{Bb\n{.-}}");
+        assert_eq!(
+            marked("~~~ a\nb\n~~~\n***"),
+            "{.~~~} a\n{Cb}\n{.~~~}\n{.***}"
+        );
+        assert_eq!(marked("<b>\n\nc<d>"), "{H<b>}\n\nc{H<d>}");
     }
 
     #[test]
     fn no_byte_is_lost() {
-        let document = "a `b\n> c` <de:f>\r\n\\* \t`f\n";
+        let document = "a `b\n> c` <de:f>\r\n\\* \t`f\n\n# *g\n~~~\n\th\n~~~\n**i** &amp;\\\n";
         let mut shown = String::from_utf8(highlighted(document.as_bytes()).unwrap()).unwrap();
-        for code in ["\x1b[32m", "\x1b[4;34m", "\x1b[2m", "\x1b[0m"] {
+        for code in STYLES.iter().flat_map(|(on, off)| [on, off]) {
             shown = shown.replace(code, "");
         }
         assert_eq!(shown, document);

@@ -1,62 +1,69 @@
-//! A linter: `lint FILE..` prints each blank at the end of a line, each line of more than 120 characters, and each bare address, all
-//! outside of code. The status is 1 if there are any.
+//! A linter: `lint FILE..` prints each blank at the end of a line, each line of more than 120 characters, each bare address, each heading
+//! that skips a level, and each block of fenced code without a language. The status is 1 if there are any.
 //!
-//! The events say what is code: in a code span or an autolink nothing is found. Blocks of code are not read, so a line that is
-//! indented by four columns or stands between fences is looked at as text.
+//! What is in code, in autolinks and in raw HTML is not looked at: each rule is one of spans.
 
-use limecove::{tokenize, Error, Event, Kind, Name, Options};
+use limecove::{Error, LineIndex, Name, Options, Tree};
+use std::collections::HashSet;
 use std::{env, fs, process};
 
 const LONGEST: usize = 120;
 
-/// Whether a span holds code or an address: its text is not prose.
+/// Whether a span holds code, an address or raw HTML: a line with it may be long.
 fn is_quoted(name: Name) -> bool {
-    matches!(name, Name::CodeText | Name::Autolink)
+    use Name::{Autolink, CodeFenced, CodeIndented, CodeText, HtmlFlow, HtmlText};
+    let of = [
+        Autolink,
+        CodeFenced,
+        CodeIndented,
+        CodeText,
+        HtmlFlow,
+        HtmlText,
+    ];
+    of.contains(&name)
 }
 
-/// For each byte of a document of this length, whether it is in code or in an autolink.
-fn quoted(len: usize, events: &[Event]) -> Vec<bool> {
-    let (mut all, mut start) = (vec![false; len], 0);
-    for event in events.iter().filter(|event| is_quoted(event.name())) {
-        let index = event.point().index;
-        match event.kind() {
-            Kind::Enter => start = index,
-            Kind::Exit => all[start..index].fill(true),
-        }
-    }
-    all
-}
-
-/// The starts of bare addresses in a line.
-fn addresses(line: &str) -> impl Iterator<Item = usize> + '_ {
-    let at = |scheme| line.match_indices(scheme).map(|(at, _)| at);
-    at("https://").chain(at("http://"))
-}
-
-/// What is wrong in a document, line by line: line, column in characters, and what.
+/// What is wrong in a document, in the order of its bytes: line, column in characters, and what.
 fn findings(document: &str) -> Result<Vec<String>, Error> {
-    let is_quoted = quoted(document.len(), &tokenize(document, &Options::default())?);
-    let (mut all, mut start) = (Vec::new(), 0);
-    for (number, whole) in document.split_inclusive('\n').enumerate() {
-        let line = whole.trim_end_matches(['\n', '\r']);
-        let mut find = |at: usize, what| {
-            let column = line[..at].chars().count() + 1;
-            all.push(format!("{}:{}: {}", number + 1, column, what));
-        };
-        let text = line.trim_end_matches([' ', '\t']);
-        if text.len() < line.len() && !is_quoted[start + text.len()] {
-            find(text.len(), "blanks at the end of a line");
+    let tree = Tree::read(document, &Options::default())?;
+    let lines = LineIndex::new(document)?;
+    let (mut all, mut quoted, mut last) = (Vec::new(), HashSet::new(), 6);
+    for node in tree.nodes() {
+        let (name, at, behind) = (node.name(), node.bytes().start, node.bytes().end);
+        if is_quoted(name) {
+            quoted.extend(lines.line_column(at).line..=lines.line_column(behind).line);
         }
-        let is_code = (0..line.len()).any(|at| is_quoted[start + at]);
-        if let (Some((at, _)), false) = (line.char_indices().nth(LONGEST), is_code) {
-            find(at, "a line of more than 120 characters");
+        if let Some(level) = node.heading_level() {
+            if level > last + 1 {
+                all.push((at, "a heading that skips a level"));
+            }
+            last = level;
         }
-        for at in addresses(line).filter(|at| !is_quoted[start + at]) {
-            find(at, "an address without < and >");
+        if name == Name::CodeFenced && node.fence_info()?.is_none() {
+            all.push((at, "fenced code without a language"));
         }
-        start += whole.len();
+        let ends = document[behind..].is_empty() || document[behind..].starts_with(['\r', '\n']);
+        if ends && matches!(name, Name::SpaceOrTab | Name::HardBreakTrailing) {
+            all.push((at, "blanks at the end of a line"));
+        }
+        if name == Name::Data {
+            for scheme in ["https://", "http://"] {
+                let found = document[node.bytes()].match_indices(scheme);
+                all.extend(found.map(|(from, _)| (at + from, "an address without < and >")));
+            }
+        }
     }
-    Ok(all)
+    for (number, bytes) in (1..).map_while(|number| Some((number, lines.line(number)?))) {
+        let long = document[bytes.clone()].char_indices().nth(LONGEST);
+        if let (Some((from, _)), false) = (long, quoted.contains(&number)) {
+            all.push((bytes.start + from, "a line of more than 120 characters"));
+        }
+    }
+    all.sort_unstable();
+    let shown = all.iter();
+    Ok(shown
+        .map(|(at, what)| format!("{}: {}", lines.line_column(*at), what))
+        .collect())
 }
 
 fn main() {
@@ -89,16 +96,29 @@ mod tests {
     }
 
     #[test]
-    fn code_and_autolinks_are_not() {
+    fn code_autolinks_and_html_are_not() {
         let long = "c".repeat(121);
-        assert_eq!(
-            findings("`a \nb` <http://c.d> `http://e.f`\n").unwrap(),
-            [""; 0]
-        );
-        assert_eq!(findings(&format!("`{}`\n", long)).unwrap(), [""; 0]);
+        for document in [
+            "`a \nb` <http://c.d> `http://e.f`\n",
+            "~~~ sh\nwget http://a.b \n~~~\n\n    http://c.d \n",
+            "<a href=\"http://b.c\">d</a>\n\n<!-- \nhttp://e.f\n-->\n",
+            &format!("`{}`\n\n    {}\n", long, long),
+        ] {
+            assert_eq!(findings(document).unwrap(), [""; 0], "{}", document);
+        }
         assert_eq!(
             findings("\\`a \n").unwrap(),
             ["1:4: blanks at the end of a line"]
         );
+    }
+
+    #[test]
+    fn headings_and_fences_are_looked_at() {
+        let document = "## a\n### b\n\nc\n===\n#### d\n\n```\ne \n```\n\n``` sh\nf\n";
+        let want = [
+            "6:1: a heading that skips a level",
+            "8:1: fenced code without a language",
+        ];
+        assert_eq!(findings(document).unwrap(), want);
     }
 }

@@ -13,6 +13,9 @@
 //! What is read are leaf blocks (headings, code, HTML, thematic breaks, paragraphs) and inline text with emphasis. Links, lists and block
 //! quotes are not read yet.
 //!
+//! [`tokenize`] returns events, [`spans`] and [`spans_by_start`] what is between them. [`Tree`] is for linters and the like: the spans as
+//! a tree, with levels of headings, info strings and decoded text. [`LineIndex`] gives the line and the columns of a byte.
+//!
 //! The crate `limecove-sys` links `liblimecove.a`. If it is not found, set `LIMECOVE_LIB` to the folder that has it.
 #![deny(missing_docs)]
 
