@@ -130,7 +130,7 @@ impl fmt::Debug for Tree<'_> {
     }
 }
 
-/// A span of a [`Tree`].
+/// A span of a [`Tree`], which is cheap to copy.
 #[derive(Clone, Copy)]
 pub struct Node<'a> {
     tree: &'a Tree<'a>,
@@ -167,7 +167,7 @@ impl<'a> Node<'a> {
         self.place().parent.map(|index| Node { index, ..*self })
     }
 
-    /// The span that holds it, the one that holds that, and so on.
+    /// The span that holds it, the one that holds that, and so on: as many as its depth.
     pub fn ancestors(&self) -> impl Iterator<Item = Node<'a>> + 'a {
         std::iter::successors(self.parent(), Node::parent)
     }
@@ -266,7 +266,8 @@ impl<'a> Node<'a> {
     /// The text as a reader has it: with what escapes and references stand for, without marks and raw HTML. It is UTF-8 if the document is.
     ///
     /// A line ending is `\n`, but a space in a code span. A code span loses a space at both ends, and NUL is U+FFFD, as CommonMark says.
-    /// Fenced and indented code is its lines, each with its `\n`, without fences, info string and indentation.
+    /// Fenced and indented code is its lines, each with its `\n`, without fences, info string and indentation. It takes time in proportion
+    /// to the text and the spans in it.
     ///
     /// ```
     /// use limecove::{Options, Tree};
@@ -386,7 +387,7 @@ impl Text {
                     self.add_nodes(&text)?;
                 }
             }
-            Name::HtmlText | Name::HtmlFlow => {}
+            Name::HtmlText | Name::HtmlFlow | Name::CodeFencedFence => {}
             _ => return Ok(false),
         }
         Ok(true)
@@ -441,7 +442,6 @@ impl Text {
         let (mut is_open, from) = (code.name() == Name::CodeIndented, self.0.len());
         for part in code.children() {
             match part.name() {
-                Name::CodeFencedFence => {}
                 // the end of the line of the opening fence
                 Name::LineEnding if !is_open => is_open = true,
                 _ => {
