@@ -220,14 +220,15 @@ mod tests {
         assert_eq!(inner.line_column(599).to_string(), "1:1");
     }
 
-    /// Each byte of a line of 1 MB is looked up.
+    /// Every tenth byte of a line of 1 MB is looked up.
     #[test]
     fn long_lines_are_no_slower() {
         let text = "é".repeat(500_000);
         let index = LineIndex::new(&text).unwrap();
-        let columns: usize = (0..text.len())
-            .map(|at| index.line_column(at).characters)
-            .sum();
-        assert_eq!(columns, 500_000 * 500_001);
+        let mut columns = 0;
+        for at in (0..text.len()).step_by(10) {
+            columns += index.line_column(at).characters;
+        }
+        assert_eq!(columns, 24_999_850_000);
     }
 }
