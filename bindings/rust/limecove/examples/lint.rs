@@ -12,15 +12,10 @@ const LONGEST: usize = 120;
 /// Whether a span holds code, an address or raw HTML: a line with it may be long.
 fn is_quoted(name: Name) -> bool {
     use Name::{Autolink, CodeFenced, CodeIndented, CodeText, HtmlFlow, HtmlText};
-    let of = [
-        Autolink,
-        CodeFenced,
-        CodeIndented,
-        CodeText,
-        HtmlFlow,
-        HtmlText,
-    ];
-    of.contains(&name)
+    matches!(
+        name,
+        Autolink | CodeFenced | CodeIndented | CodeText | HtmlFlow | HtmlText
+    )
 }
 
 /// What is wrong in a document, in the order of its bytes: line, column in characters, and what.

@@ -136,3 +136,64 @@ fn trees_have_all_spans() {
         .collect();
     assert_eq!(whole, DOCUMENT.as_bytes());
 }
+
+/// Random bytes: nothing panics, what is decoded is UTF-8 if the document is, and lines are those of points.
+#[test]
+fn random_documents_have_trees() {
+    const PIECES: [&[u8]; 24] = [
+        b"a",
+        b"\xc3\xa9",
+        b"\xff",
+        b"\0",
+        b" ",
+        b"\t",
+        b"\n",
+        b"\r",
+        b"\r\n",
+        b"`",
+        b"```",
+        b"~~~",
+        b"#",
+        b"=",
+        b"---",
+        b"*",
+        b"**",
+        b"\\",
+        b"&amp;",
+        b"&#9;",
+        b"&#xFFFFFF;",
+        b"<b>",
+        b"<c:d>",
+        b"    ",
+    ];
+    let mut state = 1_u32;
+    let mut below = move |n: usize| {
+        state = state.wrapping_mul(1_664_525).wrapping_add(1_013_904_223);
+        (state >> 8) as usize % n
+    };
+    for _ in 0..400 {
+        let pieces: Vec<&[u8]> = (0..below(30))
+            .map(|_| PIECES[below(PIECES.len())])
+            .collect();
+        let document = pieces.concat();
+        let tree = Tree::read(&document, &Options::default()).unwrap();
+        let lines = LineIndex::new(&document).unwrap();
+        for node in tree.nodes() {
+            let text = node.decoded().unwrap();
+            let info = node.fence_info().unwrap().unwrap_or_default();
+            if std::str::from_utf8(&document).is_ok() {
+                assert!(String::from_utf8(text).is_ok() && String::from_utf8(info).is_ok());
+            }
+            let is_heading = matches!(node.name(), Name::HeadingAtx | Name::HeadingSetext);
+            assert_eq!(node.heading_level().is_some(), is_heading);
+            for point in [node.span().start, node.span().end] {
+                assert_eq!(lines.line_column(point.index).line, point.line);
+            }
+        }
+        let whole: Vec<u8> = tree
+            .children()
+            .flat_map(|node| node.text().to_vec())
+            .collect();
+        assert_eq!(whole, document);
+    }
+}
