@@ -16,6 +16,20 @@ use markdown_base::event::Event;
 use markdown_tokenizer::tokenizer::Fault;
 use std::alloc::{AllocError, Global};
 
+/// Makes room for so many events more. If there is not enough, the list grows by a quarter at least, so that little of its memory is unused, or,
+/// if there is not so much memory, by these alone. If it runs out of memory, nothing changes.
+fn make_room(woven: &mut Vec<Event>, more: usize) -> Result<(), AllocError>
+    ensures { woven.new.items ≡ woven.old.items }
+{
+    if more <= woven.capacity() - woven.len() {
+        return Ok(());
+    }
+    match woven.reserve_exact(more.max(woven.len() / 4)) {
+        Ok(()) => Ok(()),
+        Err(_) => woven.reserve_exact(more),
+    }
+}
+
 /// Pushes the events between two indices.
 pub(crate) fn push_between(
     woven: &mut Vec<Event>,
@@ -27,6 +41,7 @@ pub(crate) fn push_between(
     requires within { to ≤ length events.now }
     ensures { OnOk result (woven.new.items ≡ woven.old.items ++ between from to events.now) }
 {
+    make_room(woven, to - from)?;
     woven.extend_from_slice(&events[from..to])
 }
 
