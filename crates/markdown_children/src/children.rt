@@ -72,7 +72,8 @@ pub(crate) fn weave<M: Machine>(
     ensures ok { let p = parse_state.now in IfOk result (λ r. HasWoven (given_of p) (M.rules p.machine.now) events.now r.0.items r.1) }
     ensures err { IfErr result (GivesNoChildren M.rules parse_state.now None events.now) }
 {
-    let mut woven = Vec::with_capacity(alloc, events.len())?;
+    // A child has more events than its chunks. With so much room at once the list seldom moves while children's lists come and go.
+    let mut woven = Vec::with_capacity(alloc, events.len().saturating_add(events.len() / 2))?;
     let mut from = 0;
     let mut acc = (0, 0);
     let mut found = Subresult {
