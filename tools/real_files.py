@@ -1,0 +1,86 @@
+#!/usr/bin/env python3
+"""Compares, for each Markdown file under a folder, the HTML that tools/commonmark.py makes of printed events with that of cmark, byte for
+byte. Prints how many files are the same, and of the others which constructs cmark finds in them that the machine does not read.
+
+usage: tools/real_files.py DIR PROGRAM [--machine NAME] [--cmark CMARK] [--differing]
+  DIR             a folder: its files that end in .md or .markdown, at any depth, links passed over
+  PROGRAM         mdevents, or what prints events as it does
+  --machine NAME  the machine that reads the files; without it, flow
+  --cmark CMARK   cmark's program; without it, the one on the path. Debian's package cmark has it
+  --differing     also each file that differs: its name, the constructs, and the first line that differs
+
+Files for a comparison: documentation of Debian's packages, by `apt-get download` and `dpkg -x`, as in usr/share/doc.
+"""
+
+import argparse
+import collections
+import itertools
+import os
+import subprocess
+import sys
+
+sys.path.insert(0, os.path.dirname(os.path.realpath(__file__)))
+import commonmark
+
+sys.setrecursionlimit(1_000_000)
+# cmark's names of what `flow` does not read, as they begin its XML's tags
+UNREAD = ("list", "block_quote", "link", "image")
+
+
+def files_in(folder):
+    """The Markdown files under a folder, in order."""
+    found = [os.path.join(at, name) for at, _, names in os.walk(folder) for name in names if name.lower().endswith((".md", ".markdown"))]
+    return sorted(it for it in found if os.path.isfile(it) and not os.path.islink(it))
+
+
+def by_cmark(cmark, document, form):
+    """What cmark makes of a document, in one of its forms."""
+    made = subprocess.run([cmark, "--unsafe", "-t", form], input=document, capture_output=True, check=True).stdout
+    return made.decode("utf-8", "replace")
+
+
+def ours(document, program, machine):
+    """The HTML of our events, or a line that says why there is none."""
+    try:
+        return commonmark.rendered(document, commonmark.events_of(document, program, machine))
+    except commonmark.NoRule as why:
+        return f"({why})\n"
+
+
+def first_difference(made, wanted):
+    """The first line that differs, of both."""
+    for one, other in itertools.zip_longest(made.split("\n"), wanted.split("\n")):
+        if one != other:
+            return f"{one!r}, and not {other!r}"
+    return ""
+
+
+def main():
+    parser = argparse.ArgumentParser(description=__doc__, formatter_class=argparse.RawDescriptionHelpFormatter, usage=argparse.SUPPRESS)
+    parser.add_argument("folder", help=argparse.SUPPRESS)
+    parser.add_argument("program", help=argparse.SUPPRESS)
+    parser.add_argument("--machine", default="flow", help=argparse.SUPPRESS)
+    parser.add_argument("--cmark", default="cmark", help=argparse.SUPPRESS)
+    parser.add_argument("--differing", action="store_true", help=argparse.SUPPRESS)
+    words = parser.parse_args()
+    files, right, size, why = files_in(words.folder), 0, 0, collections.Counter()
+    for path in files:
+        with open(path, "rb") as it:
+            document = it.read()
+        size += len(document)
+        made, wanted = ours(document, words.program, words.machine), by_cmark(words.cmark, document, "html")
+        if made == wanted:
+            right += 1
+            continue
+        tags = by_cmark(words.cmark, document, "xml")
+        causes = "+".join(it for it in UNREAD if f"<{it} " in tags or f"<{it}>" in tags) or "none of these"
+        why[causes] += 1
+        if words.differing:
+            print(f"{os.path.relpath(path, words.folder)}: {causes}: {first_difference(made, wanted)}")
+    print(f"{right} of {len(files)} files are the same, byte for byte; {size:,} bytes")
+    for causes, times in why.most_common():
+        print(f"{times:6} differ and have {causes}")
+
+
+if __name__ == "__main__":
+    main()
