@@ -3,10 +3,13 @@ pub use Rattle.markdown_base.proofs.CharLemmas
 pub use Rattle.markdown_base.proofs.Common
 pub use Rattle.markdown_base.proofs.Cuts
 pub use Rattle.markdown_base.proofs.EqualityLemmas
+pub use Rattle.markdown_base.proofs.Facts
 pub use Rattle.markdown_base.proofs.LineLemmas
 pub use Rattle.markdown_base.proofs.OpenEvents
+pub use Rattle.markdown_base.proofs.Orders
 pub use Rattle.markdown_base.proofs.PointAt
 pub use Rattle.markdown_base.proofs.Scans
+pub use Rattle.markdown_base.proofs.SeatCounts
 pub use Rattle.markdown_base.proofs.Seats
 pub use Rattle.markdown_base.proofs.SliceLemmas
 pub use Rattle.markdown_edits.proofs.Balanced
