@@ -13,7 +13,8 @@ use Rattle.markdown_base.specs.Events.{is_void, open_events}
 use Rattle.markdown_tokenizer.specs.declared.waiting.Waits.TheVariants.{Nothing}
 use Rattle.markdown_tokenizer.specs.declared.waiting.AttemptKind.TheVariants.{Attempt, Check}
 use Rattle.markdown_tokenizer.specs.Configuration.{Configuration, Local, Saved, Choice, TokenizerValue, at_configuration}
-use Rattle.markdown_tokenizer.specs.Sight.{sight_of}
+use Rattle.markdown_tokenizer.specs.declared.tokenizer.noted.Noted.{Noted}
+use Rattle.markdown_tokenizer.specs.Sight.{Sight, sight_of}
 use Rattle.markdown_edits.specs.Links.{linked_to}
 
 -- one byte is consumed
@@ -41,6 +42,14 @@ linked previous next k = record k { events = linked_to previous next k.events }
 -- other fields are written
 abbrev pub with_local : {R D : Type 0} → Configuration R D → Local R D → Configuration R D
 with_local k local = record k { local = local }
+
+-- the place of a byte that waits: where a span before it would end, and where one that begins with it would begin
+abbrev pub place_of : Sight → Noted
+place_of s = record { exit = s.exit_place; enter = s.enter_place }
+
+-- a place is noted
+abbrev pub noting : {R D : Type 0} → Noted → Configuration R D → Configuration R D
+noting place k = with_local k (record k.local { noted = place })
 
 -- other events are there
 abbrev pub with_events : {R D : Type 0} → Configuration R D → List Event → Configuration R D

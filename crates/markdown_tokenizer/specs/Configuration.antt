@@ -4,6 +4,8 @@ use Rattle.markdown_base.specs.declared.event.Event.{Event}
 use Rattle.markdown_base.specs.declared.event.Name.{Name}
 use Rattle.markdown_base.specs.declared.event.Name.TheVariants.{Data, SpaceOrTab}
 use Rattle.markdown_base.specs.declared.state.State.{State}
+use Rattle.markdown_base.specs.Virtual.{point}
+use Rattle.markdown_tokenizer.specs.declared.tokenizer.noted.Noted.{Noted}
 use Rattle.markdown_tokenizer.specs.declared.tokenizer.state.TokenizeState.{TokenizeState}
 use Rattle.markdown_tokenizer.specs.declared.waiting.Waits.{Waits}
 use Rattle.markdown_tokenizer.specs.declared.waiting.Waits.TheVariants.{Nothing}
@@ -22,6 +24,7 @@ pub record Local (R D : Type 0) : Type 0 where
   pub concrete : Bool
   pub pierce : Bool
   pub lazy : Bool
+  pub noted : Noted
 
 -- How many bytes of the text were read, what waits, whether the end was fed there, and what the states made
 pub record Configuration (R D : Type 0) : Type 0 where
@@ -107,6 +110,10 @@ start_state = record {
   token_6 = Data;
 }
 
+-- the place that is noted before any was
+abbrev pub start_noted : Noted
+start_noted = record { exit = point 1 1 0 0; enter = point 1 1 0 0 }
+
 -- the configuration before anything was read. The flag says that the text is in the first paragraph of a list item.
 abbrev pub start_configuration : {R D : Type 0} → Bool → Configuration R D
 start_configuration flag = record {
@@ -123,6 +130,7 @@ start_configuration flag = record {
     concrete = false;
     pierce = false;
     lazy = false;
+    noted = start_noted;
   };
 }
 

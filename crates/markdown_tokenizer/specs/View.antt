@@ -101,6 +101,7 @@ seen t =
           concrete = t.concrete;
           pierce = t.pierce;
           lazy = t.lazy;
+          noted = t.noted;
         };
       };
       choices = map (choice_of position t.stack.items) (reverse t.kept_choices.items);

@@ -1,13 +1,14 @@
 //! The tokenizer: it feeds the virtual bytes of a document to the states of a machine.
 //!
 //! This module has the tokenizer and the calls that states make. `paths` has the fast and slow paths of those that each byte or span
-//! needs. `running` calls the states, `resolve` runs resolvers, `look` has the calls that only read, `state` has what states share, and
+//! needs. `running` calls the states, `resolve` runs resolvers, `look` has the calls that only read, `noted` those of a place that is noted, `state` has what states share, and
 //! `copy` copies a tokenizer.
 
 mod copy;
 mod fault;
 mod look;
 mod moved;
+mod noted;
 mod paths;
 mod resolve;
 mod running;
@@ -23,6 +24,7 @@ use crate::skips::Skips;
 use crate::state::{MachineTypes, State};
 use crate::subtokenize;
 pub use crate::tokenizer::fault::Fault;
+pub use crate::tokenizer::noted::Noted;
 use crate::tokenizer::paths::{put_enter, put_exit, with_room};
 pub use crate::tokenizer::running::run;
 pub use crate::tokenizer::state::{
@@ -90,6 +92,8 @@ pub struct Tokenizer<'a, M: MachineTypes> {
     closed: bool,
     /// Whether a flush resolves, or has resolved.
     phase: Phase,
+    /// The place that was noted last.
+    noted: Noted,
     /// How many states were called. Only contracts see it.
     calls: Calls,
     // The fields with the longest types are last: a proof about a borrowed field spells out the fields before it.
@@ -174,6 +178,7 @@ impl<'a, M: MachineTypes> Tokenizer<'a, M> {
             tab_size,
             closed: false,
             phase: Phase::Reading,
+            noted: Noted::START,
             calls,
         }
     }

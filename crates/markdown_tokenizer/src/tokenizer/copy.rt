@@ -116,6 +116,7 @@ where
             tab_size: self.tab_size,
             closed: self.closed,
             phase: self.phase,
+            noted: self.noted,
             calls,
             parse_state: self.parse_state,
             tokenize_state,

@@ -85,6 +85,7 @@ impl<'a, M: MachineTypes> Tokenizer<'a, M> {
             tab_size,
             closed,
             phase,
+            noted,
             calls,
             tokenize_state,
             ..
@@ -113,6 +114,7 @@ impl<'a, M: MachineTypes> Tokenizer<'a, M> {
             tab_size,
             closed,
             phase,
+            noted,
             calls,
             parse_state: document,
             tokenize_state,
