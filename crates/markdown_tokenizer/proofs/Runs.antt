@@ -13,3 +13,4 @@ pub mod Later
 pub mod Pushes
 pub mod Outcomes
 pub mod Over
+pub mod Noted

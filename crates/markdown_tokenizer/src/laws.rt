@@ -4,7 +4,7 @@
 
 ghost use Rattle.std.specs.Prelude.{List};
 ghost use Rattle.markdown_base.specs.declared.event.Event.{Event};
-ghost use Rattle.markdown_tokenizer.specs.Noted.{StayNoted};
+ghost use Rattle.markdown_tokenizer.specs.Noted.{BytesHavePlaces, EventsKeepNoted, NoteOnceRead, StayNoted};
 ghost use Rattle.markdown_tokenizer.specs.Alike.{CallsAreAlike, GoesOnElsewhere, ReadingGoesOn};
 ghost use Rattle.markdown_tokenizer.specs.Engine.{HasOneEnd};
 ghost use Rattle.markdown_tokenizer.specs.LawStatements.{CutsLeaveNoTrace, PushesAreOne, ChoicesPutBack, PushesInOneWay};
@@ -111,4 +111,17 @@ pub fn goes_on_elsewhere<M: Machine>()
 /// once it knows what follows.
 pub fn noted_places_stay<M, R, D>()
     ensures { StayNoted M R D }
+{}
+
+/// The place of each byte of a text may be noted: where a span before it would end and where one that begins with it would begin are
+/// places of the document, as they are shown, in this order, and before the end of the byte.
+pub fn bytes_have_places()
+    ensures { BytesHavePlaces }
+{}
+
+/// A place that is noted where a byte waits, while no event is after it, is one where spans can end and begin once the byte is consumed.
+/// It stays so after spans have ended there; after one has begun there, others can still begin there.
+pub fn places_are_noted<M, R, D>()
+    ensures once_read { NoteOnceRead M R D }
+    ensures events { EventsKeepNoted M R D }
 {}

@@ -102,14 +102,14 @@ text-order g text is =
     let all = subst (IsInOrder g) (sym is.is) (pieces-order g some (empty_text text.start) is.pieces start is.follow) in
     (order-front g.bytes text.seats (rest_at g.tab g.bytes text.end) all.order, every-front (λ s. stands_before s.point text.start ≡ false) text.seats (rest_at g.tab g.bytes text.end) all.after_start)
 
-order-get : (bytes : List ℕ) (xs : List Seat) (i : ℕ) (s : Seat) → AreInOrder bytes xs → slice_get xs i ≡ Some s → IsGood bytes s × ((r : Seat) → slice_get xs (suc i) ≡ Some r → Follows s r)
+pub order-get : (bytes : List ℕ) (xs : List Seat) (i : ℕ) (s : Seat) → AreInOrder bytes xs → slice_get xs i ≡ Some s → IsGood bytes s × ((r : Seat) → slice_get xs (suc i) ≡ Some r → Follows s r)
 order-get bytes [] i s h e = absurd (cc)
 order-get bytes (x ∷ xs) zero s h e =
     let is : x ≡ s = cc in
     subst (λ (y : Seat). IsGood bytes y × ((r : Seat) → slice_get xs 0 ≡ Some r → Follows y r)) is (h.0, λ r f. every-get (Follows x) xs 0 r h.1 f)
 order-get bytes (x ∷ xs) (suc i) s h e = order-get bytes xs i s h.2 e
 
-there : (text : Text) (p : ℕ) → p < length text.seats → (s : Seat) × (slice_get text.seats p ≡ Some s)
+pub there : (text : Text) (p : ℕ) → p < length text.seats → (s : Seat) × (slice_get text.seats p ≡ Some s)
 there text p h = elim (slice_get_cases text.seats p).1 [ inl found ↦ (found.0, found.2) | inr past ↦ absurd (omega (arith, past.0)) ]
 
 -- A byte that waits begins before it ends

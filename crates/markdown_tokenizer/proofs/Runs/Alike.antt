@@ -16,7 +16,7 @@ use Rattle.markdown_tokenizer.proofs.Readings.Turns.{seen-waits, turns-are-kept}
 use Rattle.markdown_tokenizer.proofs.Runs.Whole.{start-is-point}
 use Rattle.markdown_tokenizer.proofs.Runs.Working.{Continues}
 
-among-every : (P : Seat → Type 0) (xs : List Seat) (s : Seat) → AllByRecursion P xs → IsAmong s xs → P s
+pub among-every : (P : Seat → Type 0) (xs : List Seat) (s : Seat) → AllByRecursion P xs → IsAmong s xs → P s
 among-every P xs s h among = (every-back P among.front (s ∷ among.back) (subst (AllByRecursion P) among.splits h)).0
 
 all-among : (front xs : List Seat) → AllByRecursion (λ s. IsAmong s (front ++ xs)) xs
@@ -27,7 +27,7 @@ all-among front (x ∷ xs) = (
 )
 
 -- a seat of the document before a place
-abbrev IsIn : Given → Point → Seat → Type 0
+abbrev pub IsIn : Given → Point → Seat → Type 0
 IsIn g p s = (stands_before s.point p ≡ true) × IsAmong s (virtual g.tab g.bytes)
 
 module _ (g : Given) (d : 0 < g.tab) where
@@ -52,7 +52,7 @@ module _ (g : Given) (d : 0 < g.tab) where
   pieces-in text (piece ∷ rest) fits h = pieces-in (followed_by g text piece) rest fits.1 (piece-in text piece fits.0 h)
 
 -- the virtual bytes of a text are the document's, and before its end
-text-in : (g : Given) (text : Text) → IsText g text → AllByRecursion (IsIn g text.end) text.seats
+pub text-in : (g : Given) (text : Text) → IsText g text → AllByRecursion (IsIn g text.end) text.seats
 text-in g text is = subst (λ (x : Text). AllByRecursion (IsIn g x.end) x.seats) (sym is.is) (pieces-in g (omega (arith, is.document.tab.0)) (empty_text text.start) is.pieces is.follow tt)
 
 -- the place where a text ends is a place of the document
