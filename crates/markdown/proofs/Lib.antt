@@ -22,6 +22,7 @@ pub use Rattle.markdown_tokenizer.proofs.Positions
 pub use Rattle.markdown_tokenizer.proofs.Inside
 pub use Rattle.markdown_tokenizer.proofs.Readings
 pub use Rattle.markdown_tokenizer.proofs.Runs
+pub use Rattle.markdown_tokenizer.proofs.ByteSets
 pub use Rattle.markdown_children.proofs.ChainOrder
 pub use Rattle.markdown_children.proofs.ChildReads
 pub use Rattle.markdown_children.proofs.Examples

@@ -3,3 +3,4 @@ pub mod Inside
 mod Prelude
 pub mod Readings
 pub mod Runs
+pub mod ByteSets

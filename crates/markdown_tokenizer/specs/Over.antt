@@ -1,5 +1,5 @@
 -- Bytes that a state reads over: the engine need not call it for them.
-use Rattle.std.specs.Prelude.{◌≡◌, ◌+◌, ◌<◌, ℕ, zero, suc, [], Some, length}
+use Rattle.std.specs.Prelude.{◌≡◌, ◌+◌, ◌<◌, ℕ, zero, suc, Bool, true, false, List, [], Some, get_or, length}
 use Rattle.markdown_base.specs.declared.state.Name.{Name}
 use Rattle.markdown_base.specs.declared.state.State.TheVariants.{Next}
 use Rattle.markdown_tokenizer.specs.Text.{Given}
@@ -22,6 +22,10 @@ ReadsOver g rules name byte =
 -- a byte is above CR, and a state reads over it on every document
 abbrev pub IsByteOver : {R D : Type 0} → (Given → Rules R D) → Name → ℕ → Type 0
 IsByteOver rules name byte = (13 < byte) × ((g : Given) → ReadsOver g (rules g) name byte)
+
+-- a state reads over each byte of a set, which says of each byte whether it is in it
+abbrev pub AreReadOver : {R D : Type 0} → (Given → Rules R D) → Name → List Bool → Type 0
+AreReadOver rules name set = (byte : ℕ) → get_or set byte false ≡ true → IsByteOver rules name byte
 
 -- the tokenizer after it was fed and read over one byte
 abbrev pub over_one : {M R D : Type 0} → TokenizerValue M R D → TokenizerValue M R D

@@ -1,5 +1,7 @@
 //! States, and what a machine of states is.
 
+ghost use Rattle.std.specs.Prelude.{◌≡◌, ℕ, false, get_or};
+
 use crate::subtokenize::Subresult;
 use crate::tokenizer::{Fault, Tokenizer};
 pub use markdown_base::state::{Name, State};
@@ -14,6 +16,19 @@ pub trait MachineTypes {
     type Document: Drop;
 }
 
+/// A set of bytes: for each byte, whether it is in the set.
+pub type ByteSet = [bool; 256];
+
+static NO_BYTES: ByteSet = [false; 256];
+
+/// The set with no byte in it.
+#[inline(always)]
+pub fn no_bytes() -> &'static ByteSet
+    ensures { (byte : ℕ) → get_or result.now byte false ≡ false }
+{
+    &NO_BYTES
+}
+
 /// A machine of states, which reads a text.
 ///
 /// Its rules say what the call of each state does (`step`), and what holds at each call (`holds`). They say how many calls
@@ -22,7 +37,6 @@ pub trait MachineTypes {
 /// (`ends`): those that resolvers and edits leave. The machine proves six laws about them.
 pub trait Machine: MachineTypes + Sized {
     ghost use Rattle.std.specs.Prelude.{◌≡◌, ◌≢◌, [], IfOk, IfErr};
-    ghost use Rattle.std.specs.Bool.{OnTrue};
     ghost use Rattle.markdown_base.specs.declared.state.State.TheVariants.{Retry};
     ghost use Rattle.markdown_tokenizer.specs.declared.waiting.Waits.TheVariants.{Nothing};
     ghost use Rattle.markdown_tokenizer.specs.declared.waiting.Phase.TheVariants.{Reading, Resolving};
@@ -32,7 +46,7 @@ pub trait Machine: MachineTypes + Sized {
     ghost use Rattle.markdown_tokenizer.specs.Fault.{IfMessage};
     ghost use Rattle.markdown_tokenizer.specs.Rules.{Rules};
     ghost use Rattle.markdown_tokenizer.specs.Engine.{HoldsOf};
-    ghost use Rattle.markdown_tokenizer.specs.Over.{ReadsOver};
+    ghost use Rattle.markdown_tokenizer.specs.Over.{AreReadOver};
     ghost use Rattle.markdown_tokenizer.specs.Lawful.{DidStep, IsLawful, step_of, CanResolve, resolver_of};
 
     /// Its rules on a document.
@@ -57,12 +71,12 @@ pub trait Machine: MachineTypes + Sized {
         requires invariant { HoldsOf (rules self.now t.old.given) t.old (Retry name) }
         ensures call_is_step { IfOk result (DidStep t.old t.new (step_of (rules self.now) t.old name)) };
 
-    /// Whether the state of this name reads over this byte: wherever the byte waits, the call consumes it, does nothing else, and
-    /// returns `Next` of the same name. The engine then need not call it. No state need answer `true`.
-    fn reads_over(&self, _name: Name, _byte: u8) -> bool
-        ensures { OnTrue result ((g : Given) → ReadsOver g (rules self.now g) _name _byte) }
+    /// The bytes that the state of this name reads over: wherever one of them waits, the call consumes it, does nothing else, and returns
+    /// `Next` of the same name. The engine then need not call it. Each of them is above CR. There need not be any.
+    fn reads_over(&self, _name: Name) -> &'static ByteSet
+        ensures { AreReadOver (rules self.now) _name result.now }
     {
-        false
+        no_bytes()
     }
 
     /// Runs the resolver of this name over the events. A flush that resolves calls it once all was read.

@@ -83,7 +83,9 @@ fn read_cut<M: Machine>(
 }
 
 /// Up to which index a state reads over the bytes from one index on. It is at most `until`, if that is not before `from`; else it is
-/// `from`. Only bytes above CR are read over: each is one virtual byte, and in no tab.
+/// `from`.
+///
+/// The machine says once which bytes these are, so that the loop only looks each byte up.
 #[inline(always)]
 fn over_until<M: Machine>(machine: &M, name: Name, bytes: &[u8], from: usize, until: usize) -> usize
     requires inside { until ≤ length bytes.now }
@@ -91,10 +93,10 @@ fn over_until<M: Machine>(machine: &M, name: Name, bytes: &[u8], from: usize, un
     ensures until { from < result → result ≤ until }
     ensures over { (k : ℕ) → from ≤ k → k < result → IsByteOver (M.rules machine.now) name (slice_index bytes.now k) }
 {
+    let over = machine.reads_over(name);
     let mut at = from;
     while at < until {
-        let byte = bytes[at];
-        if byte <= b'\r' || !machine.reads_over(name, byte) {
+        if !over[bytes[at] as usize] {
             return at;
         }
         at += 1;
