@@ -1,6 +1,7 @@
 -- Tables that fit: no state is a misfit, and costs of the machine's own are enough for its calls.
 use Rattle.std.specs.Prelude.{◌≡◌, ℕ, ◌≤◌, List, [], ◌∷◌, Bool, true, Option}
 use Rattle.markdown_base.specs.declared.state.Name.{Name}
+use Rattle.markdown_tokenizer.specs.Configuration.{Local}
 use Rattle.markdown_tokenizer.specs.Text.{Text}
 use Rattle.mdconstructs_tables.specs.Rows.{Cost, own, StateRows, Table}
 use Rattle.mdconstructs_tables.specs.Misfits.{misfits}
@@ -26,12 +27,18 @@ module _ {W R D : Type 0} where
   abbrev pub HasNoMisfits : Table W R D → Type 0
   HasNoMisfits table = (previous current : Option W) → misfits table previous current ≡ []
 
--- A table fits: the test names no state as a misfit, and the machine's own costs are enough for its calls. The states that are `early` end
--- no choice with Ok where they are called. The states of `falling` cost less the more was read.
+-- what each call writes first leaves the place that is noted
+abbrev pub KeepsNoted : {R D : Type 0} → (Local R D → Local R D) → Type 0
+KeepsNoted {R} {D} first = (local : Local R D) → (first local).noted ≡ local.noted
+
+-- A table fits: the test names no state as a misfit, the machine's own costs are enough for its calls, and what each call writes first leaves
+-- the place that is noted. The states that are `early` end no choice with Ok where they are called. The states of `falling` cost less the more
+-- was read.
 pub record IsFitBy {W R D : Type 0} (table : Table W R D) (early : Name → Option W → Bool) (falling : Name → Bool) : Type 0 where
   pub fits : HasNoMisfits table
   pub paid : ArePaid table early table.states
   pub falls : AllFall falling table.states
+  pub kept : KeepsNoted table.first
 
 -- any state
 abbrev pub every : Name → Bool

@@ -16,11 +16,11 @@ pub data Reason : Type 0 where
   spans : Reason
   -- a choice that is made cannot go on at its place, or the row goes on with a state that needs a choice and none waits
   choice : Reason
-  -- the row returns what does not fit what was read, or names no state
+  -- the row returns what does not fit what was read or noted, or names no state
   answer : Reason
   -- a call, and what it goes on with, takes more calls than the state says
   unpaid : Reason
-  -- no state has the name that a reading starts with, or that state has open spans, or needs a choice or a byte
+  -- no state has the name that a reading starts with, or that state has open spans, or needs a choice, a byte or a noted place
   start : Reason
 
 -- this reason if the test fails, and else the other one

@@ -4,7 +4,7 @@ use Rattle.markdown_tokenizer.specs.Configuration.{Configuration, Local}
 use Rattle.markdown_tokenizer.specs.Calls.{with_local}
 use Rattle.markdown_tokenizer.specs.Plain.{IsPlain}
 use Rattle.markdown_tokenizer.specs.Sight.{Sight}
-use Rattle.mdconstructs_tables.specs.Rows.{Act, enters, exit, consume, links, writes, choose, Rows, row, when, StateRows, Table}
+use Rattle.mdconstructs_tables.specs.Rows.{Act, enters, exit, consume, links, writes, choose, note, exit_noted, enter_noted, Rows, row, when, StateRows, Table}
 
 module _ {R D : Type 0} where
   -- a write registers no resolver, and makes no edit
@@ -23,6 +23,9 @@ module _ {R D : Type 0} where
   is_plain_act (links previous next) = false
   is_plain_act (writes f) = false
   is_plain_act (choose kind ok nok) = true
+  is_plain_act note = true
+  is_plain_act (exit_noted name) = true
+  is_plain_act (enter_noted name) = true
 
   abbrev pub are_plain_acts : List (Act R D) → Bool
   are_plain_acts [] = true

@@ -1,7 +1,7 @@
 -- Tables without links whose writes leave nothing to resolve.
 use Rattle.std.specs.Prelude.{List, [], ◌∷◌, Option, Some, None}
 use Rattle.markdown_tokenizer.specs.Configuration.{Configuration}
-use Rattle.mdconstructs_tables.specs.Rows.{Act, enters, exit, consume, links, writes, choose, Rows, row, when, StateRows, Table}
+use Rattle.mdconstructs_tables.specs.Rows.{Act, enters, exit, consume, links, writes, choose, note, exit_noted, enter_noted, Rows, row, when, StateRows, Table}
 use Rattle.mdconstructs_tables.specs.PlainTables.{IsPlainWrite, IsPlainEverywhere}
 
 module _ {R D : Type 0} where
@@ -15,6 +15,9 @@ module _ {R D : Type 0} where
   WritePlain (exit name ∷ acts) P = WritePlain acts P
   WritePlain (consume ∷ acts) P = WritePlain acts P
   WritePlain (choose kind ok nok ∷ acts) P = WritePlain acts P
+  WritePlain (note ∷ acts) P = WritePlain acts P
+  WritePlain (exit_noted name ∷ acts) P = WritePlain acts P
+  WritePlain (enter_noted name ∷ acts) P = WritePlain acts P
 
   abbrev pub RowsWritePlain : Rows R D → Type 0 → Type 0
   RowsWritePlain (row acts answer) P = WritePlain acts P

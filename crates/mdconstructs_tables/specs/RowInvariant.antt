@@ -16,12 +16,13 @@ use Rattle.markdown_tokenizer.specs.declared.waiting.Waits.{Waits}
 use Rattle.markdown_tokenizer.specs.declared.waiting.Waits.TheVariants.{Nothing, Byte, End}
 use Rattle.markdown_tokenizer.specs.Text.{Given, Text}
 use Rattle.markdown_tokenizer.specs.Configuration.{Configuration, Local, Choice, Saved, Step, TokenizerValue, at_configuration}
-use Rattle.markdown_tokenizer.specs.Sight.{Sight, sight, sight_of, end_place, next_place, byte_of}
-use Rattle.markdown_tokenizer.specs.Calls.{with_local, consumed, exited, CanExit}
+use Rattle.markdown_tokenizer.specs.Sight.{Sight, sight, sight_in, sight_of, end_place, next_place, byte_of}
+use Rattle.markdown_tokenizer.specs.Calls.{with_local, consumed, exited, place_of, CanExit}
+use Rattle.markdown_tokenizer.specs.Noted.{ArePlaces, IsNoted, CanExitAt, with_enter_at, with_exit_at}
 use Rattle.markdown_tokenizer.specs.Rules.{Rules}
 use Rattle.markdown_tokenizer.specs.Engine.{EndsWellFormed}
 use Rattle.markdown_tokenizer.specs.Plain.{finds_nothing, NothingResolves}
-use Rattle.mdconstructs_tables.specs.Rows.{Act, exit, consume, choose, Rows, row, when, Row, Calls, Cost, by_bytes, own, StateRows, Table, class_of, step_of, row_at, named, table_step}
+use Rattle.mdconstructs_tables.specs.Rows.{Act, exit, exit_noted, consume, choose, Rows, row, when, Row, Calls, Cost, by_bytes, own, StateRows, Table, class_of, step_of, row_at, named, table_step}
 use Rattle.mdconstructs_tables.specs.RowTest.{is_void_last, Stage, byte_waits, Frame, allows_all, first_stage, start_shape, saves, fresh_at, fresh_fed, is_fresh_byte, needs_choice, needs_failing, is_called_at, is_some, is_early, is_behind, never, fits_choice, calls_at}
 use Rattle.mdconstructs_tables.specs.Markers.{IsMarkable}
 
@@ -33,9 +34,9 @@ outline k = map unlinked k.events
 abbrev pub EndsWithEnter : List Event → Type 0
 EndsWithEnter events = (e : Event) × (last_or None events ≡ Some e) × (e.kind ≡ Enter)
 
--- each open span began at a place that passes this test
-abbrev pub Began : (Point → Bool) → List Event → Type 0
-Began where_to events = All (λ e. where_to e.point ≡ true) (open_events events)
+-- Each open span began at a place that passes this test, and so does the place of each event, where the test is of any event
+abbrev pub Began : (where_to : (any : Bool) → Point → Bool) → List Event → Type 0
+Began where_to events = All (λ e. where_to false e.point ≡ true) (open_events events) × All (λ e. where_to true e.point ≡ true) events
 
 -- before a place, or up to it
 abbrev pub upto : Bool → Point → Point → Bool
@@ -43,15 +44,16 @@ upto false place q = stands_before q place
 upto true place q = not (stands_before place q)
 
 -- where spans may have begun in a call: before the current place; or, if they are fresh, before the end of the byte that waits, or up to
--- the current place
-abbrev pub since : Bool → Stage → Sight → Point → Bool
-since fresh byte_waits s q = stands_before q (cond fresh s.next s.exit_place)
-since fresh _ s q = upto fresh s.exit_place q
+-- the current place; if it is asked of any event, up to the current place
+abbrev pub since : Bool → Stage → Sight → (any : Bool) → Point → Bool
+since fresh byte_waits s any q = cond fresh (stands_before q s.next) (upto any s.exit_place q)
+since fresh _ s any q = upto (fresh || any) s.exit_place q
 
--- A byte that waits begins before it ends, and what began before the byte began before its end
+-- A byte that waits begins before it ends, and what began before the byte, or where the previous one ended, began before its end
 pub record SightIsInOrder (waits : Waits) (s : Sight) : Type 0 where
   pub begins : waits ≡ Byte → stands_before s.enter_place s.next ≡ true
   pub later : waits ≡ Byte → (q : Point) → stands_before q s.exit_place ≡ true → stands_before q s.next ≡ true
+  pub soon : waits ≡ Byte → (q : Point) → stands_before s.exit_place q ≡ false → stands_before q s.next ≡ true
 
 -- what waits is a byte of the text, or the end once it was fed, if no byte is left
 abbrev pub IsFed : Waits → ℕ → Bool → Text → Type 0
@@ -97,19 +99,19 @@ before_next g text p q = stands_before q (shown g.bytes (next_place text p Byte)
 
 -- where spans may have begun at a position: if they are fresh, before the end of the byte that is next there, or, if that is not known, where
 -- the previous byte ended
-abbrev pub began_there : (fresh byte : Bool) → Given → Text → ℕ → Point → Bool
-began_there true true g text p q = before_next g text p q
-began_there fresh _ g text p q = upto fresh (exit_place_at g text p) q
+abbrev pub began_there : (fresh byte : Bool) → Given → Text → ℕ → (any : Bool) → Point → Bool
+began_there true true g text p any q = before_next g text p q
+began_there fresh _ g text p any q = upto (fresh || any) (exit_place_at g text p) q
 
 -- where the spans of a frame may have begun, if the choice was made at this position
-abbrev pub began_in : {W : Type 0} → Frame W → Given → Text → ℕ → Point → Bool
+abbrev pub began_in : {W : Type 0} → Frame W → Given → Text → ℕ → (any : Bool) → Point → Bool
 began_in f g text p = began_there f.fresh (is_some f.waits) g text p
 
 -- Where the spans of a state may have begun before it is fed at this position: where the previous byte ended; or before the end of the byte
 -- that is next in the text, if it says so of that byte
-abbrev pub began_unfed : {W R D : Type 0} → (ℕ → W) → Given → Text → ℕ → StateRows W R D → Point → Bool
-began_unfed class g text p state q =
-    upto (fresh_fed state.begun) (exit_place_at g text p) q || (is_fresh_byte state.begun (class_in class text p) && before_next g text p q)
+abbrev pub began_unfed : {W R D : Type 0} → (ℕ → W) → Given → Text → ℕ → StateRows W R D → (any : Bool) → Point → Bool
+began_unfed class g text p state any q =
+    upto (fresh_fed state.begun || any) (exit_place_at g text p) q || (is_fresh_byte state.begun (class_in class text p) && before_next g text p q)
 
 -- What a choice saved: the stack at that time, a position up to this one, events that are a front of these, with the spans as they were
 -- then, and the byte that waited
@@ -190,12 +192,12 @@ abbrev pub at_most : Calls → ℕ → ℕ
 at_most c n = c.per_byte * n + c.more
 
 -- where the spans of a state may have begun, by what waits, if anything does
-abbrev pub began_at : {W R D : Type 0} → Option W → StateRows W R D → Sight → Point → Bool
+abbrev pub began_at : {W R D : Type 0} → Option W → StateRows W R D → Sight → (any : Bool) → Point → Bool
 began_at w state s = since (fresh_at state.begun w) (first_stage w) s
 
--- Spans of a state are open above others: each began at a place that passes this test, and if the innermost is void, no event came since it
+-- Spans of a state are open above others: each open span began at a place that passes this test, and if the innermost is void, no event came since it
 -- began. What must wait for the state is next in the text.
-pub record IsOpen {W R D : Type 0} (class : ℕ → W) (state : StateRows W R D) (base : List EventName) (where_to : Point → Bool) (text : Text) (k : Configuration R D) (choices : List Choice) : Type 0 where
+pub record IsOpen {W R D : Type 0} (class : ℕ → W) (state : StateRows W R D) (base : List EventName) (where_to : (any : Bool) → Point → Bool) (text : Text) (k : Configuration R D) (choices : List Choice) : Type 0 where
   pub stack : k.stack ≡ base ++ state.spans
   pub began : Began where_to (outline k)
   pub void : is_void_last (last_or None state.spans) ≡ true → EndsWithEnter (outline k)
@@ -203,9 +205,27 @@ pub record IsOpen {W R D : Type 0} (class : ℕ → W) (state : StateRows W R D)
   pub needs : let read = is_read k.position in MayEnd (needs_choice state.needs read) (needs_failing state.needs read) choices
   pub called : is_called_at state.called k.ended (class_in class text k.position) ≡ true
 
--- A call began: it is counted, and the machine's own fields were written
+-- The place of the byte at a position was noted: each open span began before it, and no event is after it
+pub record IsNotedAt {R D : Type 0} (g : Given) (text : Text) (position : ℕ) (k : Configuration R D) : Type 0 where
+  pub is : k.local.noted ≡ place_of (sight_in g text position Byte)
+  pub began : Began (λ any. upto any k.local.noted.exit) (outline k)
+
+-- The place of a byte that was read since was noted, and so it is before the current place
+pub record IsNotedBefore {R D : Type 0} (g : Given) (text : Text) (now : Point) (k : Configuration R D) : Type 0 where
+  pub position : ℕ
+  pub read : position < k.position
+  pub at : IsNotedAt g text position k
+  pub exit_before : stands_before k.local.noted.exit now ≡ true
+  pub enter_before : stands_before k.local.noted.enter now ≡ true
+
+-- a state that says so is called where a place was noted before
+abbrev pub KnowsNoted : {W R D : Type 0} → Given → Text → StateRows W R D → Configuration R D → Type 0
+KnowsNoted g text state k = state.noted ≡ true → IsNotedBefore g text (exit_place_at g text k.position) k × ArePlaces g k.local.noted
+
+-- A call began: it is counted, and the machine's own fields were written, but not the place that is noted
 abbrev pub begun : {M R D : Type 0} → (Local R D → Local R D) → TokenizerValue M R D → TokenizerValue M R D
-begun first t = record t { configuration = with_local t.configuration (first t.configuration.local); calls = t.calls + 1 }
+begun first t =
+    record t { configuration = with_local t.configuration (record (first t.configuration.local) { noted = t.configuration.local.noted }); calls = t.calls + 1 }
 
 -- A state did a step: it returned the step's state, the step's choices wait above the old ones, and the configuration is the step's
 pub record DoesAll {M R D : Type 0} (s : Step R D) (old new : TokenizerValue M R D) (answer : State) : Type 0 where
@@ -219,6 +239,7 @@ pub record IsAtState {M W R D : Type 0} (class : ℕ → W) (state : StateRows W
   pub in_order : SightIsInOrder t.configuration.waiting (sight_of t)
   pub base : List EventName
   pub spans : IsOpen class state base (began_at (class_of class (sight_of t).current) state (sight_of t)) t.text t.configuration t.choices
+  pub noted : KnowsNoted t.given t.text state t.configuration
 
 -- once the byte that waits is consumed
 abbrev pub once_read : {M R D : Type 0} → TokenizerValue M R D → TokenizerValue M R D
@@ -229,13 +250,25 @@ abbrev pub CanEnd : {M R D : Type 0} → List EventName → TokenizerValue M R D
 CanEnd [] t = Unit {0}
 CanEnd (name ∷ names) t = CanExit name t × CanEnd names (at_configuration t (exited name (sight_of t).exit_place t.configuration))
 
+-- A span may begin at the place that was noted, and end here
+pub record CanHoldNoted {M R D : Type 0} (t : TokenizerValue M R D) : Type 0 where
+  pub begins : IsNoted t.configuration.local.noted.enter t
+  pub ends : (name : EventName) → CanExit name (with_enter_at name t.configuration.local.noted.enter t)
+
+-- the innermost spans may end at the place that was noted, one after another, and behind each of them another one may begin there
+abbrev pub CanEndNoted : {M R D : Type 0} → List EventName → TokenizerValue M R D → Type 0
+CanEndNoted [] t = CanHoldNoted t
+CanEndNoted (name ∷ names) t =
+    let place = t.configuration.local.noted.exit in
+    CanHoldNoted t × IsNoted place t × CanExitAt name place t × CanEndNoted names (with_exit_at name place t)
+
 -- the acts at the beginning of a state that is called pass the test of acts
 abbrev pub are_allowed : {M W R D : Type 0} → (ℕ → W) → StateRows W R D → TokenizerValue M R D → List (Act R D) → Bool
 are_allowed class state t acts = allows_all acts (start_shape (class_of class (sight_of t).previous) (class_of class (sight_of t).current) state)
 
 -- A state can be called. The fields are what its code needs to know. A byte waits if the state is never called at the end. Once the byte is
 -- consumed, the place of an exit is its end. The byte can be a span of its own. And all spans of the state may end, before the byte or
--- after it, if the test allows that.
+-- after it, if the test allows that. If a place was noted before, they may end there.
 pub record IsCallable {M W R D : Type 0} (class : ℕ → W) (state : StateRows W R D) (t : TokenizerValue M R D) : Type 0 where
   pub called : IsAtState class state t
   pub byte : is_called_at state.called true None ≡ false → t.configuration.waiting ≡ Byte
@@ -243,20 +276,22 @@ pub record IsCallable {M W R D : Type 0} (class : ℕ → W) (state : StateRows 
   pub marks : t.configuration.waiting ≡ Byte → IsMarkable t
   pub ends : are_allowed class state t (map exit (reverse state.spans)) ≡ true → CanEnd (reverse state.spans) t
   pub ends_read : are_allowed class state t (consume ∷ map exit (reverse state.spans)) ≡ true → CanEnd (reverse state.spans) (once_read t)
+  pub ends_noted : state.noted ≡ true → are_allowed class state t (map exit_noted (reverse state.spans)) ≡ true → CanEndNoted (reverse state.spans) t
 
 -- the step of a state in a tokenizer
 abbrev pub step_in : {M W R D : Type 0} → (class : ℕ → W) → StateRows W R D → TokenizerValue M R D → Step R D
 step_in class state t = step_of (row_at class state t.given (sight_of t) t.configuration) (sight_of t) t.configuration
 
 module _ {W R D : Type 0} (table : Table W R D) where
-  -- Open spans and choices are as a state says
-  pub record IsAt (g : Given) (text : Text) (state : StateRows W R D) (where_to : Point → Bool) (k : Configuration R D) (choices : List Choice) : Type 0 where
+  -- Open spans, choices and the place that was noted are as a state says
+  pub record IsAt (g : Given) (text : Text) (state : StateRows W R D) (where_to : (any : Bool) → Point → Bool) (k : Configuration R D) (choices : List Choice) : Type 0 where
     pub base : List EventName
     pub spans : IsOpen table.class state base where_to text k choices
+    pub noted : KnowsNoted g text state k
     pub waiting : AreWaiting table.class table.states g text k.position (outline k) base choices
 
   -- the same for the state of a name, if there is one
-  abbrev pub IsStateAt : Given → Text → Option (StateRows W R D) → (StateRows W R D → Point → Bool) → Configuration R D → List Choice → Type 0
+  abbrev pub IsStateAt : Given → Text → Option (StateRows W R D) → (StateRows W R D → (any : Bool) → Point → Bool) → Configuration R D → List Choice → Type 0
   IsStateAt g text None where_to k choices = ⊥
   IsStateAt g text (Some state) where_to k choices = IsAt g text state (where_to state) k choices
 
@@ -264,7 +299,7 @@ module _ {W R D : Type 0} (table : Table W R D) where
   pub record IsDone (g : Given) (text : Text) (k : Configuration R D) (choices : List Choice) : Type 0 where
     pub base : List EventName
     pub stack : k.stack ≡ base
-    pub began : Began (upto false (exit_place_at g text k.position)) (outline k)
+    pub began : Began (λ any. upto any (exit_place_at g text k.position)) (outline k)
     pub waiting : AreWaiting table.class table.states g text k.position (outline k) base choices
     pub ended : AnyWait choices ⊎ (k.ended ≡ true)
 

@@ -9,7 +9,7 @@ use Rattle.markdown_base.specs.declared.state.State.TheVariants.{Next, Retry, Ok
 use Rattle.markdown_base.specs.Events.{is_void, same_name}
 use Rattle.markdown_tokenizer.specs.declared.waiting.AttemptKind.{AttemptKind}
 use Rattle.markdown_tokenizer.specs.declared.waiting.AttemptKind.TheVariants.{Attempt, Check}
-use Rattle.mdconstructs_tables.specs.Rows.{Act, enters, exit, consume, links, writes, choose, Rows, row, when, Row, Calls, Cost, by_bytes, own, Begun, before, at_byte, here, Called, anywhere, at_a_byte, at_bytes, at_bytes_or_end, Needs, nothing, a_choice, a_choice_once_read, a_choice_for_ok, StateRows, named}
+use Rattle.mdconstructs_tables.specs.Rows.{Act, enters, exit, consume, links, writes, choose, note, exit_noted, enter_noted, Rows, row, when, Row, Calls, Cost, by_bytes, own, Begun, before, at_byte, here, Called, anywhere, at_a_byte, at_bytes, at_bytes_or_end, Needs, nothing, a_choice, a_choice_once_read, a_choice_for_ok, StateRows, named}
 
 -- the innermost span is of a void name
 abbrev pub is_void_last : Option EventName → Bool
@@ -22,8 +22,16 @@ pub data Stage : Type 0 where
   byte_waits : Stage
   byte_read : Stage
 
+-- What is known of the place that was noted: nothing; that it is the place of the byte that waits; or that it is before the current place, and
+-- no event is after it
+pub data Noting : Type 0 where
+  unnoted : Noting
+  noted_here : Noting
+  noted_before : Noting
+
 -- What is open in a call: the spans since the last choice was made; whether one that is open may have begun at the byte that waits or at
--- the current place, before that choice too; whether the last event is the innermost one's enter; whether a choice waits; and whether one waits that may end with Nok
+-- the current place, before that choice too; whether the last event is the innermost one's enter; whether a choice waits; whether one waits
+-- that may end with Nok; and what is known of the place that was noted
 pub record Shape : Type 0 where
   pub stage : Stage
   pub spans : List EventName
@@ -31,6 +39,22 @@ pub record Shape : Type 0 where
   pub bare : Bool
   pub within : Bool
   pub failing : Bool
+  pub noted : Noting
+
+-- a place before the current one was noted, and no event is after it
+abbrev pub is_noted_before : Noting → Bool
+is_noted_before noted_before = true
+is_noted_before _ = false
+
+-- once the byte that waits is consumed, its place is before the current one
+abbrev pub read_on : Noting → Noting
+read_on noted_here = noted_before
+read_on n = n
+
+-- what a state knows when it is called
+abbrev pub noted_if : Bool → Noting
+noted_if true = noted_before
+noted_if false = unnoted
 
 -- a byte waits, and was not read
 abbrev pub is_byte_waiting : Stage → Bool
@@ -117,7 +141,8 @@ abbrev pub is_bare : Shape → Bool
 is_bare p = not (is_void_last (last_or None p.spans)) || p.bare
 
 -- whether an act is allowed: an enter before the end; a consume if a byte waits; an exit of the innermost span, if it began before the
--- place of the exit and, if it is void, no event came since; a choice if, in a void span, no event came since it began
+-- place of the exit and, if it is void, no event came since; a choice if, in a void span, no event came since it began. The place of a byte
+-- that waits is noted if no span has begun with it; a span ends or begins at a place that was noted if that is before the current one.
 abbrev pub allows : {R D : Type 0} → Act R D → Shape → Bool
 allows (enters name link) p = not (is_end p.stage)
 allows (exit name) p = is_last name (last_or None p.spans) && (not p.fresh && (not (is_void name) || p.bare))
@@ -125,20 +150,27 @@ allows consume p = is_byte_waiting p.stage
 allows (links previous next) p = true
 allows (writes f) p = true
 allows (choose kind ok nok) p = is_bare p
+allows note p = is_byte_waiting p.stage && not p.fresh
+allows (exit_noted name) p = is_last name (last_or None p.spans) && (is_noted_before p.noted && (not (is_void name) || p.bare))
+allows (enter_noted name) p = is_noted_before p.noted
 
 -- whether a choice that goes on with this after Nok may end with Nok, by whether the ones below it may
 abbrev pub may_fail : (nok : State) → (below : Bool) → Bool
 may_fail Nok below = below
 may_fail nok below = true
 
--- what is open after an act
+-- What is open after an act. Of the place that was noted no more is known once an event may be after it, or what states share was written; a
+-- span that began there is before the current place.
 abbrev pub after : {R D : Type 0} → Act R D → Shape → Shape
-after (enters name link) p = record { stage = p.stage; spans = p.spans ++ name ∷ []; fresh = true; bare = true; within = p.within; failing = p.failing }
-after (exit name) p = record { stage = p.stage; spans = take (length p.spans - 1) p.spans; fresh = p.fresh; bare = false; within = p.within; failing = p.failing }
-after consume p = record { stage = byte_read; spans = p.spans; fresh = false; bare = p.bare; within = p.within; failing = p.failing }
-after (links previous next) p = p
-after (writes f) p = p
-after (choose kind ok nok) p = record { stage = p.stage; spans = []; fresh = p.fresh; bare = false; within = true; failing = may_fail nok p.failing }
+after (enters name link) p = record p { spans = p.spans ++ name ∷ []; fresh = true; bare = true; noted = unnoted }
+after (exit name) p = record p { spans = take (length p.spans - 1) p.spans; bare = false; noted = unnoted }
+after consume p = record p { stage = byte_read; fresh = false; noted = read_on p.noted }
+after (links previous next) p = record p { noted = unnoted }
+after (writes f) p = record p { noted = unnoted }
+after (choose kind ok nok) p = record p { spans = []; bare = false; within = true; failing = may_fail nok p.failing; noted = unnoted }
+after note p = record p { noted = noted_here }
+after (exit_noted name) p = record p { spans = take (length p.spans - 1) p.spans; bare = false }
+after (enter_noted name) p = record p { spans = p.spans ++ name ∷ []; bare = true; noted = unnoted }
 
 -- acts are allowed, one after another
 abbrev pub allows_all : {R D : Type 0} → List (Act R D) → Shape → Bool
@@ -175,6 +207,7 @@ start_shape b w state = record {
   bare = is_void_last (last_or None state.spans);
   within = needs_choice state.needs (is_some b);
   failing = needs_failing state.needs (is_some b);
+  noted = noted_if state.noted;
 }
 
 -- Where a choice is made: the spans since the previous choice, whether one that is open may have begun there, the byte that waits, if that
@@ -231,12 +264,13 @@ most_calls count (row acts answer) = count (record { acts = acts; answer = answe
 most_calls count (when by one other) = larger (most_calls count one) (most_calls count other)
 
 module _ {W R D : Type 0} (states : List (StateRows W R D)) where
-  -- the spans, and what is known of choices and of what waits, are as a state says
-  abbrev pub is_at : List EventName → (within failing ended : Bool) → (waits : Option W) → (read : Bool) → Option (StateRows W R D) → Bool
-  is_at spans within failing ended waits read None = false
-  is_at spans within failing ended waits read (Some state) =
+  -- the spans, and what is known of choices, of the place that was noted and of what waits, are as a state says
+  abbrev pub is_at : List EventName → (within failing noted ended : Bool) → (waits : Option W) → (read : Bool) → Option (StateRows W R D) → Bool
+  is_at spans within failing noted ended waits read None = false
+  is_at spans within failing noted ended waits read (Some state) =
       same_names spans state.spans
-      && ((not (needs_choice state.needs read) || within) && ((not (needs_failing state.needs read) || failing) && is_called_at state.called ended waits))
+      && ((not (needs_choice state.needs read) || within)
+      && ((not (needs_failing state.needs read) || failing) && (is_called_at state.called ended waits && (not state.noted || noted))))
 
   -- a state says that spans may have begun where it goes on, before this waits
   abbrev pub goes_on_fresh : (waits : Option W) → Option (StateRows W R D) → Bool
@@ -244,10 +278,10 @@ module _ {W R D : Type 0} (states : List (StateRows W R D)) where
   goes_on_fresh None (Some state) = fresh_fed state.begun
   goes_on_fresh (Some w) (Some state) = fresh_at state.begun (Some w)
 
-  -- what a choice goes on with fits, by whether a span may have begun where it goes on
+  -- what a choice goes on with fits, by whether a span may have begun where it goes on; then no noted place is known
   abbrev pub may_go_on : Frame W → (fresh : Bool) → (waits : Option W) → State → Bool
   may_go_on f fresh waits (Next name) =
-      is_at f.spans f.within f.failing false waits true (named states name) && (not fresh || goes_on_fresh waits (named states name))
+      is_at f.spans f.within f.failing false false waits true (named states name) && (not fresh || goes_on_fresh waits (named states name))
   may_go_on f fresh waits Ok = same_names f.spans [] && (not fresh && f.within)
   may_go_on f fresh waits Nok = f.failing
   may_go_on f fresh waits _ = false
@@ -287,11 +321,11 @@ module _ {W R D : Type 0} (states : List (StateRows W R D)) where
   abbrev pub fits_answer : Stage → (previous current : Option W) → Shape → State → Bool
   fits_answer stage b w p Ok = same_names p.spans [] && (not p.fresh && (p.within || is_end stage))
   fits_answer stage b w p Nok = p.failing
-  fits_answer byte_read b w p (Next name) = is_bare p && (is_at p.spans p.within p.failing false None true (named states name) && (not p.fresh || is_fresh_fed (named states name)))
+  fits_answer byte_read b w p (Next name) = is_bare p && (is_at p.spans p.within p.failing (is_noted_before p.noted) false None true (named states name) && (not p.fresh || is_fresh_fed (named states name)))
   fits_answer byte_waits b (Some w) p (Retry name) =
-      is_bare p && (is_at p.spans p.within p.failing false (Some w) (is_some b) (named states name) && (not p.fresh || is_fresh (Some w) (named states name)))
+      is_bare p && (is_at p.spans p.within p.failing (is_noted_before p.noted) false (Some w) (is_some b) (named states name) && (not p.fresh || is_fresh (Some w) (named states name)))
   fits_answer end_waits b None p (Retry name) =
-      is_bare p && (is_at p.spans p.within p.failing true None (is_some b) (named states name) && (not p.fresh || is_fresh None (named states name)))
+      is_bare p && (is_at p.spans p.within p.failing (is_noted_before p.noted) true None (is_some b) (named states name) && (not p.fresh || is_fresh None (named states name)))
   fits_answer _ b w p (Error message) = true
   fits_answer _ _ _ _ _ = false
 
@@ -385,7 +419,7 @@ module _ {W R D : Type 0} (states : List (StateRows W R D)) where
   abbrev pub is_called : Option W → StateRows W R D → Bool
   is_called w state = is_called_at state.called true w
 
-  -- a machine starts with no open span, no choice and no byte
+  -- a machine starts with no open span, no choice, no byte and no noted place
   abbrev pub may_start : Option (StateRows W R D) → Bool
   may_start None = false
-  may_start (Some state) = same_names state.spans [] && (not (needs_choice state.needs false) && is_called_at state.called false None)
+  may_start (Some state) = same_names state.spans [] && (not (needs_choice state.needs false) && (is_called_at state.called false None && not state.noted))

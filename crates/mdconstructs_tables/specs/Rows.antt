@@ -1,5 +1,5 @@
 -- Tables of rows: what the states of a machine do.
-use Rattle.std.specs.Prelude.{ℕ, ◌∷◌, ◌==◌, List, [], Bool, cond, Option, Some, None}
+use Rattle.std.specs.Prelude.{ℕ, ◌∷◌, ◌==◌, List, [], Bool, false, cond, Option, Some, None}
 use Rattle.markdown_base.specs.declared.event.Link.{Link}
 use Rattle.markdown_base.specs.declared.event.Name.{Name as EventName}
 use Rattle.markdown_base.specs.declared.state.Name.{Name}
@@ -10,10 +10,11 @@ use Rattle.markdown_tokenizer.specs.declared.waiting.AttemptKind.TheVariants.{At
 use Rattle.markdown_tokenizer.specs.Text.{Given, Text}
 use Rattle.markdown_tokenizer.specs.Configuration.{Configuration, Local, Choice, Step}
 use Rattle.markdown_tokenizer.specs.Sight.{Sight}
-use Rattle.markdown_tokenizer.specs.Calls.{consumed, entered, exited, linked, with_local, attempt_at, check_at}
+use Rattle.markdown_tokenizer.specs.Calls.{consumed, entered, exited, linked, with_local, noting, place_of, attempt_at, check_at}
 
 -- What a state does in a call, one after another. A write is by what is seen, as the byte that waits, and by the configuration. A choice has
--- its kind, and what it goes on with after Ok and after Nok.
+-- its kind, and what it goes on with after Ok and after Nok. The place of the byte that waits may be noted, so that a span ends, or one begins,
+-- there later, once bytes behind it were read.
 pub data Act (R D : Type 0) : Type 0 where
   enters : EventName → Option Link → Act R D
   exit : EventName → Act R D
@@ -21,6 +22,9 @@ pub data Act (R D : Type 0) : Type 0 where
   links : (previous next : Configuration R D → ℕ) → Act R D
   writes : (Sight → Configuration R D → Local R D) → Act R D
   choose : AttemptKind → (ok nok : State) → Act R D
+  note : Act R D
+  exit_noted : EventName → Act R D
+  enter_noted : EventName → Act R D
 
 -- a span begins, without a link or with one
 abbrev pub enter : {R D : Type 0} → EventName → Act R D
@@ -79,7 +83,7 @@ pub data Called (W : Type 0) : Type 0 where
 
 -- A state: its name, and its rows by the class of the previous byte and of what waits; None is the start and the end. The other fields are
 -- tested: the spans that are open when it is called, since the last choice was made, the outermost first; where they may have begun; which
--- choices it needs; what must wait; and what it costs.
+-- choices it needs; what must wait; whether a place was noted before, and no event came since; and what it costs.
 pub record StateRows (W R D : Type 0) : Type 0 where
   pub name : Name
   pub rows : (previous current : Option W) → Rows R D
@@ -87,6 +91,7 @@ pub record StateRows (W R D : Type 0) : Type 0 where
   pub begun : Begun W
   pub needs : Needs
   pub called : Called W
+  pub noted : Bool
   pub cost : Cost
 
 -- A machine: the class of a byte, what each call writes first, its states, and the names with which it may start
@@ -106,9 +111,9 @@ costs f = own f
 abbrev pub calls : (per_byte more : ℕ) → Cost
 calls per_byte more = by_bytes (record { per_byte = per_byte; more = more })
 
--- a state that needs nothing, and whose spans began before
+-- a state that needs nothing, and whose spans began before; it knows of no place that was noted
 abbrev pub state : {W R D : Type 0} → Name → ((previous current : Option W) → Rows R D) → List EventName → Cost → StateRows W R D
-state name rows spans cost = record { name = name; rows = rows; spans = spans; begun = before; needs = nothing; called = anywhere; cost = cost }
+state name rows spans cost = record { name = name; rows = rows; spans = spans; begun = before; needs = nothing; called = anywhere; noted = false; cost = cost }
 
 -- what is seen once the byte that waited is consumed: the place of enters and exits is after it
 abbrev pub past : Sight → Sight
@@ -132,6 +137,9 @@ module _ {R D : Type 0} where
   done (links previous next) s k = linked (previous k) (next k) k
   done (writes f) s k = with_local k (f (shown_sight s) k)
   done (choose kind ok nok) s k = k
+  done note s k = noting (place_of s) k
+  done (exit_noted name) s k = exited name k.local.noted.exit k
+  done (enter_noted name) s k = entered name None k.local.noted.enter k
 
   -- what is seen after it
   abbrev pub seen_after : Act R D → Sight → Sight
