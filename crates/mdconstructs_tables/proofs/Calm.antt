@@ -12,7 +12,7 @@ use Rattle.markdown_tokenizer.specs.Text.{Given}
 use Rattle.mdconstructs_tables.specs.Calm.{Calmness, are_calm, is_calm, WriteHarmless, RowsHarmless, CasesHarmless, all_cases, IsCalmness, CalmRowsKeep, CalmCasesKeep}
 use Rattle.mdconstructs_tables.specs.Cases.{Case, cases, rows_in}
 use Rattle.mdconstructs_tables.specs.Knowledge.{EachRow, KnownAfter}
-use Rattle.mdconstructs_tables.specs.Rows.{Act, enters, exit, consume, links, writes, choose, Rows, row, when, Table, done, does, chooses, step_of, past, shown_sight}
+use Rattle.mdconstructs_tables.specs.Rows.{Act, enters, exit, consume, links, writes, choose, note, exit_noted, enter_noted, Rows, row, when, Table, done, does, chooses, step_of, past, shown_sight}
 use Rattle.mdconstructs_tables.specs.RowTest.{all_rows}
 
 module _ {R D : Type 0} (harmless : (Sight → Configuration R D → Local R D) → Type 0) where
@@ -25,6 +25,9 @@ module _ {R D : Type 0} (harmless : (Sight → Configuration R D → Local R D) 
   behind-acts (links previous next ∷ acts) P h = behind-acts acts P h
   behind-acts (writes f ∷ acts) P h = let rest = behind-acts acts P h.1 in ((h.0, rest.0), rest.1)
   behind-acts (choose kind ok nok ∷ acts) P h = behind-acts acts P h
+  behind-acts (note ∷ acts) P h = behind-acts acts P h
+  behind-acts (exit_noted name ∷ acts) P h = behind-acts acts P h
+  behind-acts (enter_noted name ∷ acts) P h = behind-acts acts P h
 
   pub behind-rows : (rows : Rows R D) (P : Type 0) → RowsHarmless harmless rows P → P
   behind-rows (row acts answer) P h = (behind-acts acts P h).1
@@ -53,6 +56,9 @@ module _ {W R D : Type 0} (table : Table W R D) (knows : List Event → Local R 
   acts-keep may state steady (links previous next ∷ acts) is h s k choices known = absurd (cc)
   acts-keep may state steady (writes f ∷ acts) is h s k choices known = acts-keep may state steady acts is h.1 s (with_local k (f (shown_sight s) k)) choices (calm.by_write f h.0 (shown_sight s) k choices state known)
   acts-keep may state steady (choose kind ok nok ∷ acts) is h s k choices known = absurd (cc)
+  acts-keep may state steady (note ∷ acts) is h s k choices known = absurd (cc)
+  acts-keep may state steady (exit_noted name ∷ acts) is h s k choices known = absurd (cc)
+  acts-keep may state steady (enter_noted name ∷ acts) is h s k choices known = absurd (cc)
 
   after-acts : (acts : List (Act R D)) (answer : State) (s : Sight) (k : Configuration R D) (choices : List Choice) → ((cs : List Choice) → chooses acts s k cs ≡ cs)
       → (let k' = does acts s k in knows k'.events k'.local choices answer) → KnownAfter table knows (step_of (record { acts = acts; answer = answer }) s k) choices

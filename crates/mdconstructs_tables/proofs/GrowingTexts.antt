@@ -47,7 +47,7 @@ left-kept text longer (suc q) e h =
     rw (seat-kept text longer q e (omega arith), e.start) refl
 
 -- what a state sees is the same where a byte waits that was there before
-sight-kept : (g : Given) (text longer : Text) (p : ℕ) → Extends text longer → p < length text.seats → sight_in g longer p Byte ≡ sight_in g text p Byte
+pub sight-kept : (g : Given) (text longer : Text) (p : ℕ) → Extends text longer → p < length text.seats → sight_in g longer p Byte ≡ sight_in g text p Byte
 sight-kept g text longer zero e h =
     let (s, is) = seat-at text 0 h in
     rw (seat-kept text longer 0 e h, is, e.start) refl

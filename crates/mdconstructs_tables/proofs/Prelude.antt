@@ -33,10 +33,11 @@ pub use Rattle.markdown_tokenizer.proofs.Positions.Order.{upto-before}
 pub use Rattle.markdown_tokenizer.proofs.Positions.TextOrder.{began-before_next, begins-before_end, ends-before_next}
 pub use Rattle.markdown_tokenizer.proofs.Readings.Plain.{no-links-more}
 pub use Rattle.markdown_tokenizer.proofs.Runs.Working.{holds-on}
-pub use Rattle.markdown_tokenizer.specs.Calls.{CanExit, consumed, entered, saved_at, with_local, with_resolvers}
+pub use Rattle.markdown_tokenizer.specs.Calls.{CanExit, consumed, entered, exited, noting, place_of, saved_at, with_local, with_resolvers}
 pub use Rattle.markdown_tokenizer.specs.Configuration.{Choice, Configuration, Local, Saved, Step, TokenizerValue, at_configuration, start_configuration}
 pub use Rattle.markdown_tokenizer.specs.Engine.{EndsWellFormed, IsRunRefused, whole_text}
 pub use Rattle.markdown_tokenizer.specs.Lawful.{ConsumesOnce, CostPays, EndsWhenRead, ForEachCall, IsAsFar, IsLawful, KeepsInvariant, OnlyAdds, ResolversKeep, SavesEvents}
+pub use Rattle.markdown_tokenizer.specs.Noted.{ArePlaces, CanExitAt, IsNoted, with_enter_at, with_exit_at}
 pub use Rattle.markdown_tokenizer.specs.Plain.{IsPlain, KeepsPlain, NothingResolves, finds_nothing, plain}
 pub use Rattle.markdown_tokenizer.specs.Reading.{EndsIn, Reading, after_choices, fed, more_calls, read, restored, settle, settled_at, unfed}
 pub use Rattle.markdown_tokenizer.specs.Resolving.{IsResolvingRefused, found, refused, resolved_by, taken, with_more}
@@ -49,7 +50,7 @@ pub use Rattle.markdown_tokenizer.specs.declared.waiting.AttemptKind.TheVariants
 pub use Rattle.markdown_tokenizer.specs.declared.waiting.Waits.{Waits}
 pub use Rattle.markdown_tokenizer.specs.declared.waiting.Waits.TheVariants.{Byte, End, Nothing}
 pub use Rattle.mdconstructs_tables.specs.Chunks.{chunk_before}
-pub use Rattle.mdconstructs_tables.specs.Fitting.{AllFall, HasNoMisfits, IsFit, IsFitBy, and_falls, every}
+pub use Rattle.mdconstructs_tables.specs.Fitting.{AllFall, HasNoMisfits, IsFit, IsFitBy, KeepsNoted, and_falls, every}
 pub use Rattle.mdconstructs_tables.specs.Joined.{AreApart, has_state, joined_cost, joined_rules}
 pub use Rattle.mdconstructs_tables.specs.Knowledge.{AllKeepKnowing, EachRow, IsKnownThroughout, KeepsKnowing, KnownAfter, KnowsFalling, LeavesShape, knowing_rules}
 pub use Rattle.mdconstructs_tables.specs.Late.{AllFallLater, FallsLater, IsLate, are_falling, falls_on, is_late_row, is_late_state, late_rules}
@@ -60,6 +61,6 @@ pub use Rattle.mdconstructs_tables.specs.PlainTables.{ArePlain, IsPlainTable, ar
 pub use Rattle.mdconstructs_tables.specs.PlainWrites.{RowsWritePlain, StatesWritePlain, WritePlain, WritesPlain}
 pub use Rattle.mdconstructs_tables.specs.Plans.{AllKeepKnown, HoldsPlanned, IsSound, KeepsKnowledge, KeepsKnown, KnownBehind, Plan, planned_rules}
 pub use Rattle.mdconstructs_tables.specs.Refusals.{RulesRefuseNothing, act_refuses, is_message, refusing, rows_refuse}
-pub use Rattle.mdconstructs_tables.specs.RowInvariant.{before_next, began_in, began_there, began_unfed, AnyGoesBack, AnyWait, ArePaid, AreWaiting, AreWithin, Began, CanEnd, EndsWithEnter, GoesBack, HoldsAt, IsAtState, IsBelow, IsCallable, IsFed, IsOpen, IsSaved, IsSavedIn, IsStateAt, MayEnd, PaysRows, SightIsInOrder, Stands, and_of_own, answer_end, answer_price, at_most, began_at, begun, choice_price, chosen_price, class_at, class_in, ends_at, events_saved, exit_place_at, first_end, goes_on_price, is_read, next_price, once_read, outline, own_cost, position_of, price_by, retry_price, row_price, since, state_price, table_cost, table_holds, table_price, table_rules, upto, waiting_or_below, waiting_price}
-pub use Rattle.mdconstructs_tables.specs.RowTest.{goes_on_fresh, is_fresh_byte, may_go_on_there, Frame, Shape, Stage, after, after_all, all_rows, allows, allows_all, answer_calls, at_stage, byte_read, byte_waits, calls_at, calls_le, calls_or, choice_calls, chosen_calls, counts_answer, counts_choices, end_waits, fed_calls, feeds, first_stage, fits_answer, fits_calls, fits_choice, fits_choices, fits_row, frame_of, fresh_at, fresh_fed, is_at, is_bare, is_behind, is_by_bytes, is_byte_waiting, is_called, is_called_at, is_counted, is_early, is_end, is_fresh, is_fresh_fed, is_last, is_some, is_void_last, larger, later_stage, may_fail, may_go_back, may_go_on, may_start, needs_choice, needs_failing, never, next_calls, pays_row, plus, same_names, saves, start_shape, waits_in}
-pub use Rattle.mdconstructs_tables.specs.Rows.{Act, Begun, Called, Calls, Cost, Needs, Row, Rows, StateRows, Table, a_choice_for_ok, anywhere, at_a_byte, at_byte, at_bytes, at_bytes_or_end, before, by_bytes, choice_made_at, choose, chooses, class_of, consume, does, done, enter, enters, exit, here, links, named, nothing, own, past, picked, row, row_at, seen_after, shown_sight, step_at, step_of, table_step, when, with_choice_of, writes}
+pub use Rattle.mdconstructs_tables.specs.RowInvariant.{CanEndNoted, CanHoldNoted, IsNotedAt, IsNotedBefore, KnowsNoted, before_next, began_in, began_there, began_unfed, AnyGoesBack, AnyWait, ArePaid, AreWaiting, AreWithin, Began, CanEnd, EndsWithEnter, GoesBack, HoldsAt, IsAtState, IsBelow, IsCallable, IsFed, IsOpen, IsSaved, IsSavedIn, IsStateAt, MayEnd, PaysRows, SightIsInOrder, Stands, and_of_own, answer_end, answer_price, at_most, began_at, begun, choice_price, chosen_price, class_at, class_in, ends_at, events_saved, exit_place_at, first_end, goes_on_price, is_read, next_price, once_read, outline, own_cost, position_of, price_by, retry_price, row_price, since, state_price, table_cost, table_holds, table_price, table_rules, upto, waiting_or_below, waiting_price}
+pub use Rattle.mdconstructs_tables.specs.RowTest.{Noting, is_noted_before, noted_before, noted_here, noted_if, read_on, unnoted, goes_on_fresh, is_fresh_byte, may_go_on_there, Frame, Shape, Stage, after, after_all, all_rows, allows, allows_all, answer_calls, at_stage, byte_read, byte_waits, calls_at, calls_le, calls_or, choice_calls, chosen_calls, counts_answer, counts_choices, end_waits, fed_calls, feeds, first_stage, fits_answer, fits_calls, fits_choice, fits_choices, fits_row, frame_of, fresh_at, fresh_fed, is_at, is_bare, is_behind, is_by_bytes, is_byte_waiting, is_called, is_called_at, is_counted, is_early, is_end, is_fresh, is_fresh_fed, is_last, is_some, is_void_last, larger, later_stage, may_fail, may_go_back, may_go_on, may_start, needs_choice, needs_failing, never, next_calls, pays_row, plus, same_names, saves, start_shape, waits_in}
+pub use Rattle.mdconstructs_tables.specs.Rows.{Act, Begun, Called, Calls, Cost, Needs, Row, Rows, StateRows, Table, a_choice_for_ok, anywhere, at_a_byte, at_byte, at_bytes, at_bytes_or_end, before, by_bytes, choice_made_at, choose, chooses, class_of, consume, does, done, enter, enter_noted, enters, exit, exit_noted, here, links, named, note, nothing, own, past, picked, row, row_at, seen_after, shown_sight, step_at, step_of, table_step, when, with_choice_of, writes}

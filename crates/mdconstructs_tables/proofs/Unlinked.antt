@@ -25,7 +25,7 @@ use Rattle.markdown_tokenizer.specs.Text.{Given, Text}
 use Rattle.mdconstructs_tables.specs.Calm.{is_end_free, is_alone, WriteHarmless, RowsHarmless}
 use Rattle.mdconstructs_tables.specs.Fitting.{IsFit}
 use Rattle.mdconstructs_tables.specs.Knowledge.{EachRow, KnownAfter, AllKeepKnowing, IsKnownThroughout}
-use Rattle.mdconstructs_tables.specs.Rows.{Act, enters, exit, consume, links, writes, choose, Rows, row, when, StateRows, Table, done, does, step_of, past, shown_sight}
+use Rattle.mdconstructs_tables.specs.Rows.{Act, enters, exit, consume, links, writes, choose, note, exit_noted, enter_noted, Rows, row, when, StateRows, Table, done, does, step_of, past, shown_sight}
 use Rattle.mdconstructs_tables.specs.RowTest.{all_rows}
 use Rattle.mdconstructs_tables.specs.Unlinked.{AreAlone, KnowsAlone, knows_alone, RegistersNothing, are_unlinked, is_unlinked, linking, RegisterNothing, LinksNothing, unlinked_rules}
 use Rattle.mdconstructs_tables.proofs.Calm.{behind-acts, behind-rows}
@@ -82,6 +82,11 @@ module _ {R D : Type 0} where
       let (resolvers, edits) = h.0 (shown_sight s) k in
       acts-keep acts is h.1 s (with_local k (f (shown_sight s) k)) (record { alone = known.alone; resolvers = resolvers ∙ known.resolvers; edits = edits ∙ known.edits })
   acts-keep (choose kind ok nok ∷ acts) is h s k known = acts-keep acts is h s k known
+  acts-keep (note ∷ acts) is h s k known = acts-keep acts is h s (done note s k) (record { alone = known.alone; resolvers = known.resolvers; edits = known.edits })
+  acts-keep (exit_noted name ∷ acts) is h s k known =
+      acts-keep acts is h s (done (exit_noted name) s k) (record { alone = alone-more k.events _ refl known.alone; resolvers = known.resolvers; edits = known.edits })
+  acts-keep (enter_noted name ∷ acts) is h s k known =
+      acts-keep acts is h s (done (enter_noted name) s k) (record { alone = alone-more k.events _ refl known.alone; resolvers = known.resolvers; edits = known.edits })
 
   -- and so does the end of a choice
   settled-keeps : (kind : AttemptKind) (saved : Option Saved) (answer : State) (k : Configuration R D) → KnowsAlone k.events k.local → let k' = settled_at kind saved answer k in KnowsAlone k'.events k'.local

@@ -10,6 +10,7 @@ use Rattle.markdown_tokenizer.specs.Text.{Text}
 use Rattle.mdconstructs_tables.specs.Rows.{Act, consume, choose, Rows, row, when, Row, own, StateRows, Table}
 use Rattle.mdconstructs_tables.specs.RowTest.{is_behind, never, is_called}
 use Rattle.mdconstructs_tables.specs.RowInvariant.{class_in}
+use Rattle.mdconstructs_tables.specs.Fitting.{KeepsNoted}
 use Rattle.mdconstructs_tables.specs.Late.{hasty}
 use Rattle.mdconstructs_tables.specs.Misfits.{Reason, misfits}
 
@@ -201,8 +202,10 @@ module _ {W R D : Type 0} (table : Table W R D) (in_run : W → Bool) (prices : 
   abbrev pub priced_tests : (early : Name → Option W → Bool) → (falling : Name → Bool) → (previous current : Option W) → List (Name × Reason) × List Name × List TooLow
   priced_tests early falling b w = (misfits table b w, hasty table early falling b w, shortages early b w table.states prices)
 
--- The numbers of a table: each state has one price and costs that, those of `falling` cost less later, and no test names a state
+-- The numbers of a table: each state has one price and costs that, those of `falling` cost less later, no test names a state, and what each
+-- call writes first leaves the place that is noted
 pub record AreEnough {W R D : Type 0} (table : Table W R D) (in_run : W → Bool) (prices : List (Price W)) (early : Name → Option W → Bool) (falling : Name → Bool) : Type 0 where
   pub priced : ArePriced table in_run prices table.states prices
   pub falls : rising table in_run prices falling table.states prices ≡ []
   pub tested : (previous current : Option W) → priced_tests table in_run prices early falling previous current ≡ ([], [], [])
+  pub kept : KeepsNoted table.first

@@ -32,8 +32,8 @@ ghost use Rattle.mdconstructs_tables.specs.Unlinked.{LinksNothing, unlinked_rule
 ghost use Rattle.mdconstructs_tables.specs.Rows.{Rows, Table};
 ghost use Rattle.mdconstructs_tables.specs.Stretches.{StretchesAreRead};
 
-/// A table's rules are lawful on every document if the table has no misfits, its own costs are enough, and no state links
-/// or writes. They are lawful too if states write only what leaves nothing to resolve, or if choices end with `Ok` late:
+/// A table's rules are lawful on every document if the table has no misfits, its own costs are enough, what each call writes first
+/// leaves the place that is noted, and no state links or writes. They are lawful too if states write only what leaves nothing to resolve, or if choices end with `Ok` late:
 /// behind the place where they were made.
 ///
 /// `W` is the type of classes of bytes, `R` of resolvers, and `D` of what the machine keeps about a document.
@@ -45,7 +45,7 @@ pub fn fitting_tables_are_lawful<W, R, D>()
 {}
 
 /// An author of a table may give numbers and prove no inequality: a table fits, and its choices end with `Ok` late, if each state
-/// costs what its price says and the test names no state. Where a number is too low, the test names the state, with what a row of
+/// costs what its price says, the test names no state, and what each call writes first leaves the place that is noted. Where a number is too low, the test names the state, with what a row of
 /// it takes and what it has.
 pub fn numbers_are_enough<W, R, D>()
     ensures { (table : Table W R D) (in_run : W → Bool) (prices : List (Price W)) (early : Name → Option W → Bool) (falling : Name → Bool)
@@ -71,7 +71,7 @@ pub trait Knowledge {
     ghost ends: { Given → Text → List Event → Type 0 };
 }
 
-/// A table's rules are lawful on every document if the table has no misfits, its own costs are enough, its rows keep what the
+/// A table's rules are lawful on every document if the table fits (it has no misfits, and its own costs are enough), its rows keep what the
 /// machine knows, and that leads to what it promises of its final events. The own costs of all states fall the more was read, or
 /// at least those of the states that attempts go on with after `Ok`: a look's cost need not.
 pub fn knowing_tables_are_lawful<K: Knowledge>()

@@ -12,7 +12,7 @@ use Rattle.markdown_base.specs.Virtual.{Seat}
 use Rattle.markdown_tokenizer.specs.Text.{Given, Text}
 use Rattle.markdown_tokenizer.specs.Configuration.{Configuration, Local}
 use Rattle.markdown_tokenizer.specs.Sight.{Sight, sight}
-use Rattle.mdconstructs_tables.specs.Rows.{Act, enters, exit, consume, links, writes, choose, Rows, row, when, Row, Table, class_of, past, shown_sight, picked, named}
+use Rattle.mdconstructs_tables.specs.Rows.{Act, enters, exit, consume, links, writes, choose, note, exit_noted, enter_noted, Rows, row, when, Row, Table, class_of, past, shown_sight, picked, named}
 use Rattle.mdconstructs_tables.specs.RowTest.{all_rows, is_some}
 use Rattle.mdconstructs_tables.specs.Looks.{first_byte, Look, Glance, goes_on, is_over, one_more, answered, uncalled, shows, shows_in, acted, row_here, called, glance, looked_on, unfed_look, scan}
 use Rattle.mdconstructs_tables.specs.Quiet.{quiet_acts, quiet_answer, is_one_of, is_quiet_row, is_quiet_state, loud, LookEnds, QuietLooksEnd}
@@ -54,6 +54,12 @@ module _ {R D : Type 0} (stack : List EventName) (events : List Event) (l : List
   acts-quiet s true local (links n k ∷ acts) r' h = absurd (cc)
   acts-quiet s false local (choose n k m ∷ acts) r' h = absurd (cc)
   acts-quiet s true local (choose n k m ∷ acts) r' h = absurd (cc)
+  acts-quiet s false local (note ∷ acts) r' h = absurd (cc)
+  acts-quiet s true local (note ∷ acts) r' h = absurd (cc)
+  acts-quiet s false local (exit_noted n ∷ acts) r' h = absurd (cc)
+  acts-quiet s true local (exit_noted n ∷ acts) r' h = absurd (cc)
+  acts-quiet s false local (enter_noted n ∷ acts) r' h = absurd (cc)
+  acts-quiet s true local (enter_noted n ∷ acts) r' h = absurd (cc)
 
 -- what a quiet place comes to
 abbrev IsCalm : {R D : Type 0} → (look : Name → Bool) → (waits : Bool) → (bound : ℕ) → Glance R D → Type 0

@@ -14,7 +14,7 @@ use Rattle.markdown_tokenizer.specs.Configuration.{Configuration, Local, Choice,
 use Rattle.markdown_tokenizer.specs.Sight.{Sight, sight, byte_of, seat_before, current_of}
 use Rattle.markdown_tokenizer.specs.Reading.{Reading, EndsIn, read, read_step, fed, more_calls}
 use Rattle.markdown_tokenizer.proofs.Readings.Bounds.{fed-ends, called-ends, more-more, more-zero}
-use Rattle.mdconstructs_tables.specs.Rows.{Act, enters, exit, consume, links, writes, choose, StateRows, Table, class_of, past, shown_sight, picked, named, step_at, does, chooses, step_of}
+use Rattle.mdconstructs_tables.specs.Rows.{Act, enters, exit, consume, links, writes, choose, note, exit_noted, enter_noted, StateRows, Table, class_of, past, shown_sight, picked, named, step_at, does, chooses, step_of}
 use Rattle.mdconstructs_tables.proofs.Looks.Left.{at-front, past-end}
 use Rattle.mdconstructs_tables.specs.Looks.{waits_at, ended_at, first_byte, Look, Glance, goes_on, is_over, one_more, answered, held, shows, shows_in, acted, row_here, called, glance, looked_on, scan, looked, uncalled, unfed_look, IsShown, look_from, Plays, LooksAreScans}
 
@@ -48,6 +48,12 @@ module _ {R D : Type 0} (stack : List EventName) (events : List Event) where
   acts-do l q b true local (links n k ∷ acts) r' local' s cs h = absurd (cc)
   acts-do l q b false local (choose n k m ∷ acts) r' local' s cs h = absurd (cc)
   acts-do l q b true local (choose n k m ∷ acts) r' local' s cs h = absurd (cc)
+  acts-do l q b false local (note ∷ acts) r' local' s cs h = absurd (cc)
+  acts-do l q b true local (note ∷ acts) r' local' s cs h = absurd (cc)
+  acts-do l q b false local (exit_noted n ∷ acts) r' local' s cs h = absurd (cc)
+  acts-do l q b true local (exit_noted n ∷ acts) r' local' s cs h = absurd (cc)
+  acts-do l q b false local (enter_noted n ∷ acts) r' local' s cs h = absurd (cc)
+  acts-do l q b true local (enter_noted n ∷ acts) r' local' s cs h = absurd (cc)
 
 -- what a place comes to, as a configuration, a state and calls
 module _ {R D : Type 0} (stack : List EventName) (events : List Event) (l : List Seat) (q : ℕ) (b : Bool) where

@@ -17,7 +17,7 @@ use Rattle.markdown_tokenizer.specs.Text.{Given, Text}
 use Rattle.mdconstructs_tables.proofs.Looks.Left.{at-front, past-end}
 use Rattle.mdconstructs_tables.proofs.Looks.Scans.{Goes, goes-nowhere, goes-on, goes-fed, goes-called}
 use Rattle.mdconstructs_tables.specs.Looks.{waits_at, Plays}
-use Rattle.mdconstructs_tables.specs.Rows.{Act, enters, exit, consume, links, writes, choose, StateRows, Table, done, does, chooses, named, past, row_at, step_at}
+use Rattle.mdconstructs_tables.specs.Rows.{Act, enters, exit, consume, links, writes, choose, note, exit_noted, enter_noted, StateRows, Table, done, does, chooses, named, past, row_at, step_at}
 use Rattle.mdconstructs_tables.specs.Stretches.{sight_before, reads_byte, Halt, to_come, over, one_call_more, row_comes_to, fed_before, ahead, call_comes_to, halt, stretch, StretchesAreRead}
 
 module _ {R D : Type 0} where
@@ -37,6 +37,9 @@ module _ {R D : Type 0} where
   past-byte (links p n ∷ acts) r s k cs h = past-byte acts r s (done (links p n) s k) cs h
   past-byte (writes f ∷ acts) r s k cs h = past-byte acts r s (done (writes f) s k) cs h
   past-byte (choose kind ok nok ∷ acts) r s k cs h = absurd (cc)
+  past-byte (note ∷ acts) r s k cs h = past-byte acts r s (done note s k) cs h
+  past-byte (exit_noted name ∷ acts) r s k cs h = past-byte acts r s (done (exit_noted name) s k) cs h
+  past-byte (enter_noted name ∷ acts) r s k cs h = past-byte acts r s (done (enter_noted name) s k) cs h
 
   acts-leave : (acts : List (Act R D)) (r : Bool) (s : Sight) (k : Configuration R D) (cs : List Choice) → reads_byte false acts ≡ Some r → (chooses acts s k cs ≡ cs) × Left r k (does acts s k)
   acts-leave [] false s k cs h = (refl, (refl, refl))
@@ -52,6 +55,12 @@ module _ {R D : Type 0} where
   acts-leave (writes f ∷ acts) true s k cs h = acts-leave acts true s (done (writes f) s k) cs h
   acts-leave (writes f ∷ acts) false s k cs h = acts-leave acts false s (done (writes f) s k) cs h
   acts-leave (choose kind ok nok ∷ acts) r s k cs h = absurd (cc)
+  acts-leave (note ∷ acts) true s k cs h = acts-leave acts true s (done note s k) cs h
+  acts-leave (note ∷ acts) false s k cs h = acts-leave acts false s (done note s k) cs h
+  acts-leave (exit_noted name ∷ acts) true s k cs h = acts-leave acts true s (done (exit_noted name) s k) cs h
+  acts-leave (exit_noted name ∷ acts) false s k cs h = acts-leave acts false s (done (exit_noted name) s k) cs h
+  acts-leave (enter_noted name ∷ acts) true s k cs h = acts-leave acts true s (done (enter_noted name) s k) cs h
+  acts-leave (enter_noted name ∷ acts) false s k cs h = acts-leave acts false s (done (enter_noted name) s k) cs h
 
   -- what is fed
   fed-is : (text : Text) (l : List Seat) (k : Configuration R D) → drop k.position text.seats ≡ l → fed text k ≡ fed_before l k

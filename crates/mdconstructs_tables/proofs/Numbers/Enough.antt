@@ -199,6 +199,7 @@ numbered-late {W} table in_run prices early falling h =
         fits = λ b w. ap (λ (t : List (Name × Reason) × List Name × List TooLow). t.0) (h.tested b w);
         paid = paid table in_run prices early (agrees table in_run prices early table.states prices h.priced none) table.states prices h.priced none;
         falls = fall table in_run prices early falling table.states prices h.priced h.falls;
+        kept = h.kept;
       };
       late = λ b w. ap (λ (t : List (Name × Reason) × List Name × List TooLow). t.1) (h.tested b w);
     }

@@ -1,10 +1,11 @@
 -- What the code of a state may do where it is called, from the test of its acts.
-use Rattle.mdconstructs_tables.proofs.Prelude.{◌≡◌, ◌≢◌, ◌==◌, ℕ, suc, ◌+◌, ◌<◌, ◌&&◌, ◌||◌, not, List, [], ◌∷◌, ◌++◌, Bool, true, false, Option, Some, None, length, map, refl, sym, ap, ◌∙◌, subst, arith, append_assoc, length-append, All, IfSome, reverse, last_or, nat_tests, All-head, All-tail, All-weaker, and_parts, slice_get_past, Event, Enter, Name, Retry, open_events, open_events_from-unlinked, option_map, is_void, unlinked, stands_before, or-leads, Waits, Nothing, Byte, End, Text, Configuration, Local, TokenizerValue, Sight, sight, sight_of, byte_of, current_of, seat_before, CanExit, IsAsFar, Act, enters, exit, consume, writes, done, shown_sight, with_choice_of, StateRows, Called, Table, class_of, does, chooses, named, Stage, byte_read, Shape, is_last, allows_all, after_all, start_shape, is_called_at, is_some, since, IsFed, class_in, begun, IsBelow, table_holds, IsAtState, once_read, CanEnd, IsCallable, IsMarkable, cond-false, IfSome_then, EventName}
+use Rattle.mdconstructs_tables.proofs.Prelude.{◌≡◌, ◌≢◌, ◌==◌, ℕ, suc, ◌+◌, ◌<◌, ◌&&◌, ◌||◌, not, List, [], ◌∷◌, ◌++◌, Bool, true, false, Option, Some, None, length, map, refl, sym, ap, ◌∙◌, subst, arith, append_assoc, length-append, All, IfSome, reverse, last_or, nat_tests, All-head, All-tail, All-weaker, and_parts, slice_get_past, Event, Enter, Name, Retry, open_events, open_events_from-unlinked, option_map, is_void, stands_before, or-leads, Waits, Nothing, Byte, End, Text, Configuration, Local, TokenizerValue, Sight, sight, sight_of, byte_of, current_of, seat_before, CanExit, IsAsFar, Point, upto, not-true, All-nil, All-cons, IsNoted, ArePlaces, CanHoldNoted, CanEndNoted, IsNotedBefore, noting, noted_if, is_noted_before, unlinked, Act, enters, exit, exit_noted, note, consume, writes, done, shown_sight, with_choice_of, StateRows, Called, Table, class_of, does, chooses, named, Stage, byte_read, Shape, is_last, allows_all, after, after_all, start_shape, is_called_at, is_some, since, IsFed, class_in, begun, IsBelow, table_holds, IsAtState, once_read, CanEnd, IsCallable, IsMarkable, cond-false, IfSome_then, EventName}
 use Rattle.markdown_base.specs.Places.{shown}
 use Rattle.markdown_tokenizer.specs.Calls.{with_local}
 use Rattle.markdown_tokenizer.specs.Sight.{next_place}
-use Rattle.mdconstructs_tables.proofs.Rows.Laws.{Waited, reached, sight_at, HasShape, below_all, is-last, last-above, last-long, to-before, left-at, here-at, has-after-all, does-then, chooses-then, allows-parts}
-use Rattle.mdconstructs_tables.proofs.GrowingTexts.{next-is-left}
+use Rattle.mdconstructs_tables.proofs.Rows.Laws.{Waited, reached, sight_at, HasShape, noted-there, below_all, is-last, last-above, last-long, to-before, left-at, here-at, has-after-all, does-then, chooses-then, allows-parts}
+use Rattle.mdconstructs_tables.proofs.GrowingTexts.{last-more, next-is-left, open-more}
+use Rattle.markdown_tokenizer.proofs.Positions.Order.{after-before, later-later}
 use Rattle.mdconstructs_tables.proofs.Markers.{stack-below}
 use Rattle.mdconstructs_tables.proofs.Tables.Holding.{called-fed, met-at, read-before, ahead-at, start-sight, begins}
 
@@ -19,6 +20,18 @@ last-linked : (o : Option Event) (es : List Event) (e : Event) → last_or (opti
 last-linked None [] e is kind = absurd (cc)
 last-linked (Some x) [] e is kind = let same : unlinked x ≡ e = cc in (x, refl, ap (λ e. e.kind) same ∙ kind)
 last-linked o (y ∷ es) e is kind = last-linked (Some y) es e is kind
+
+-- what holds of the places of events without their links holds of the places of the events
+linked-all : (P : Point → Type 0) (es : List Event) → All (λ e. P e.point) (map unlinked es) → All (λ e. P e.point) es
+linked-all P [] h = All-nil (λ e. P e.point)
+linked-all P (e ∷ es) h =
+    let Q : Event → Type 0 = λ e. P e.point in
+    All-cons Q e es (All-head Q (unlinked e) (map unlinked es) h) (linked-all P es (All-tail Q (unlinked e) (map unlinked es) h))
+
+-- what is open after one more act
+after-then : {R D : Type 0} (acts : List (Act R D)) (act : Act R D) (p : Shape) → after_all (acts ++ act ∷ []) p ≡ after act (after_all acts p)
+after-then [] act p = refl
+after-then (a ∷ acts) act p = after-then acts act (after a p)
 
 -- if a byte still waits, nothing was read
 still-waiting : {R D : Type 0} (stage : Stage) (k k' : Configuration R D) → IsAsFar k' (reached stage k) → k'.waiting ≡ Byte → (k'.position ≡ k.position) × (k'.waiting ≡ k.waiting)
@@ -50,7 +63,7 @@ module _ {M W R D : Type 0} (class : ℕ → W) (state : StateRows W R D) (b w :
         let met = rw is_class at (met-at classes t.given t.text k k.waiting refl can.fed) in
         let read = ap is_some (sym is_before) ∙ read-before classes t.given t.text k.position can.inside in
         has-after-all acts (start_shape b w state) can.base (sight_of t) t.given t.text k k t.choices allowed (ahead-at classes t.given w t.text k met can.in_order) (start-sight classes t.given w (sight_of t))
-        (begins classes t.given b w t.text k k.local can.base t.choices state read met (rw is_class at can.spans))
+        (begins classes t.given b w t.text k k.local can.base t.choices state read met refl can.noted (rw is_class at can.spans))
 
     -- the span that an allowed act exits may end
     pub can-exit : (acts : List (Act R D)) (name : EventName) (t' : TokenizerValue M R D) → are_allowed (acts ++ exit name ∷ []) ≡ true → t' ≡ acted acts → CanExit name t'
@@ -66,8 +79,8 @@ module _ {M W R D : Type 0} (class : ℕ → W) (state : StateRows W R D) (b w :
         let last = is-last name (last_or None p.spans) top in
         let h = shaped acts before in
         let left = left-at t.given t.text k p.stage k' h.reads.0 h.reads.1 in
-        let P : Event → Type 0 = λ e. since p.fresh p.stage s e.point ≡ true in
-        let opened : All P (map unlinked (open_events k'.events)) = subst (All P) (open_events_from-unlinked [] k'.events) h.began in
+        let P : Event → Type 0 = λ e. since p.fresh p.stage s false e.point ≡ true in
+        let opened : All P (map unlinked (open_events k'.events)) = subst (All P) (open_events_from-unlinked [] k'.events) h.began.0 in
         let began : (e : Event) → last_or None (open_events k'.events) ≡ Some e → stands_before e.point s.exit_place ≡ true =
         λ e is. to-before p.fresh p.stage s e.point old (last-unlinked P None (open_events k'.events) e (λ x none. absurd (cc)) opened is) in
         subst (CanExit name) (sym is) (record {
@@ -104,6 +117,11 @@ module _ {M W R D : Type 0} (class : ℕ → W) (state : StateRows W R D) (b w :
     done-at (enters name link) p k' far waited = ap (λ q. done (enters name link) (record (sight_of t) { enter_place = q }) k') (here-at t.given t.text t.configuration p.stage k' far waited)
     done-at (exit name) p k' far waited = ap (λ q. done (exit name) (record (sight_of t) { exit_place = q }) k') (left-at t.given t.text t.configuration p.stage k' far waited)
     done-at (writes f) p k' far waited = ap (λ (s : Sight). with_local k' (f s k')) (shown-at p.stage k' far waited)
+    done-at note p k' far waited =
+        let here = here-at t.given t.text t.configuration p.stage k' far waited in
+        let left = left-at t.given t.text t.configuration p.stage k' far waited in
+        ap (λ q. noting (record { exit = q; enter = (sight t.given t.text k').enter_place }) k') left
+        ∙ ap (λ q. noting (record { exit = (sight_at p.stage (sight_of t)).exit_place; enter = q }) k') here
     done-at act p k' far waited = refl
 
     -- one more act
@@ -126,6 +144,84 @@ module _ {M W R D : Type 0} (class : ℕ → W) (state : StateRows W R D) (b w :
         let whole : are_allowed ((acts ++ exit name ∷ []) ++ map exit names) ≡ true = ap are_allowed (append_assoc acts (exit name ∷ []) (map exit names)) ∙ allowed in
         let one = (allows-parts (acts ++ exit name ∷ []) (map exit names) (start_shape b w state) whole).0 in
         (can-exit acts name t' one is, can-end (acts ++ exit name ∷ []) names (acted_once (exit name) t') whole (then acts (exit name) t' (acted_once (exit name) t') one is refl))
+
+    -- Behind acts that know the place that was noted a span may begin there, and end here, and open ones may end there
+    can-hold : (acts : List (Act R D)) → are_allowed acts ≡ true → is_noted_before (after_all acts (start_shape b w state)).noted ≡ true → ArePlaces t.given (acted acts).configuration.local.noted
+        → IsNotedBefore t.given t.text (sight_of (acted acts)).exit_place (acted acts).configuration × IsNoted (acted acts).configuration.local.noted.exit (acted acts) × CanHoldNoted (acted acts)
+    can-hold acts allowed noted places =
+        let p = after_all acts (start_shape b w state) in
+        let base = below_all acts (start_shape b w state) can.base in
+        let s = sight_at p.stage (sight_of t) in
+        let k' = (acted acts).configuration in
+        let exit_point = k'.local.noted.exit in
+        let enter_point = k'.local.noted.enter in
+        let now = (sight_of (acted acts)).exit_place in
+        let h = shaped acts allowed in
+        let left : now ≡ s.exit_place = left-at t.given t.text t.configuration p.stage k' h.reads.0 h.reads.1 in
+        let before : IsNotedBefore t.given t.text now k' = subst (λ q. IsNotedBefore t.given t.text q k') (sym left) (noted-there p.noted t.given t.text s k' noted h.noted) in
+        let behind : All (λ e. stands_before exit_point e.point ≡ false) k'.events =
+        linked-all (λ q. stands_before exit_point q ≡ false) k'.events
+        (All-weaker (λ e. upto true exit_point e.point ≡ true) (λ e. stands_before exit_point e.point ≡ false) (λ e b. not-true (stands_before exit_point e.point) b) (map unlinked k'.events) before.at.began.1) in
+        let below = stack-below base p.spans k'.stack (acted acts).choices h.stack h.waits.0 in (
+          before,
+          record { place = places.exit_place; shown = places.exit_shown; upto = after-before exit_point.index exit_point.vs now.index now.vs before.exit_before; behind = behind },
+          record {
+            begins = record {
+              place = places.enter_place;
+              shown = places.enter_shown;
+              upto = after-before enter_point.index enter_point.vs now.index now.vs before.enter_before;
+              behind = All-weaker (λ e. stands_before exit_point e.point ≡ false) (λ e. stands_before enter_point e.point ≡ false)
+                  (λ e b. later-later enter_point.index enter_point.vs exit_point.index exit_point.vs e.point.index e.point.vs places.order b) k'.events behind;
+            };
+            ends = λ name.
+                let x : Event = record { kind = Enter; name = name; point = enter_point; link = None } in
+                let opened : open_events (k'.events ++ x ∷ []) ≡ open_events k'.events ++ x ∷ [] = open-more [] k'.events x in
+                let is-it : (e : Event) → last_or None (open_events (k'.events ++ x ∷ [])) ≡ Some e → x ≡ e = λ e is.
+                let last : Some x ≡ Some e = sym (last-more None (open_events k'.events) x) ∙ ap (last_or None) (sym opened) ∙ is in cc in
+                record {
+                  top = last-more None k'.stack name;
+                  read = λ e is. subst (λ e. stands_before e.point now ≡ true) (is-it e is) before.enter_before;
+                  void = λ v. (x, last-more None k'.events x, refl);
+                  above = All-weaker (IsBelow k'.stack) (λ c. IfSome c.saved (λ s. length s.stack < length (k'.stack ++ name ∷ [])))
+                      (λ c b. IfSome_then c.saved b (λ s r. omega (arith, r, length-append k'.stack (name ∷ [])))) (acted acts).choices below;
+                };
+          },
+        )
+
+    -- so they may end there one after another
+    can-end-noted : (acts : List (Act R D)) (names : List EventName) → are_allowed (acts ++ map exit_noted names) ≡ true → is_noted_before (after_all acts (start_shape b w state)).noted ≡ true
+        → ArePlaces t.given (acted acts).configuration.local.noted → CanEndNoted names (acted acts)
+    can-end-noted acts [] allowed noted places = (can-hold acts ((allows-parts acts [] (start_shape b w state) allowed).0) noted places).2
+    can-end-noted acts (name ∷ names) allowed noted places =
+        let p = after_all acts (start_shape b w state) in
+        let base = below_all acts (start_shape b w state) can.base in
+        let k' = (acted acts).configuration in
+        let exit_point = k'.local.noted.exit in
+        let whole : are_allowed ((acts ++ exit_noted name ∷ []) ++ map exit_noted names) ≡ true = ap are_allowed (append_assoc acts (exit_noted name ∷ []) (map exit_noted names)) ∙ allowed in
+        let one = (allows-parts (acts ++ exit_noted name ∷ []) (map exit_noted names) (start_shape b w state) whole).0 in
+        let (first, behind) = allows-parts acts (exit_noted name ∷ []) (start_shape b w state) one in
+        let (top, rest) = and_parts (is_last name (last_or None p.spans)) (is_noted_before p.noted && (not (is_void name) || p.bare)) (and_parts _ _ behind).0 in
+        let void = (and_parts (is_noted_before p.noted) (not (is_void name) || p.bare) rest).1 in
+        let last = is-last name (last_or None p.spans) top in
+        let h = shaped acts first in
+        let (before, at, hold) = can-hold acts first noted places in
+        let P : Event → Type 0 = λ e. stands_before e.point exit_point ≡ true in
+        let opened : All P (map unlinked (open_events k'.events)) = subst (All P) (open_events_from-unlinked [] k'.events) before.at.began.0 in
+        let next : acted_once (exit_noted name) (acted acts) ≡ acted (acts ++ exit_noted name ∷ []) = then acts (exit_noted name) (acted acts) (acted_once (exit_noted name) (acted acts)) one refl refl in
+        let still : is_noted_before (after_all (acts ++ exit_noted name ∷ []) (start_shape b w state)).noted ≡ true =
+        ap (λ (q : Shape). is_noted_before q.noted) (after-then acts (exit_noted name) (start_shape b w state)) ∙ noted in
+        let places_then : ArePlaces t.given (acted (acts ++ exit_noted name ∷ [])).configuration.local.noted = subst (λ (u : TokenizerValue M R D). ArePlaces t.given u.configuration.local.noted) next places in (
+          hold,
+          at,
+          record {
+            top = ap (last_or None) h.stack ∙ last-above None base p.spans name last;
+            read = λ e is. last-unlinked P None (open_events k'.events) e (λ x none. absurd (cc)) opened is;
+            void = λ v. let bare = h.bare (or-leads (is_void name) p.bare void v) in last-linked None k'.events bare.0 bare.1 bare.2;
+            above = All-weaker (IsBelow base) (λ c. IfSome c.saved (λ s. length s.stack < length k'.stack))
+                (λ c b. IfSome_then c.saved b (λ s r. omega (arith, r, ap length h.stack, length-append base p.spans, last-long p.spans name last))) (acted acts).choices h.waits.0;
+          },
+          subst (CanEndNoted names) (sym next) (can-end-noted (acts ++ exit_noted name ∷ []) names whole still places_then),
+        )
 
     -- behind allowed acts a byte that still waits can be a span of its own
     pub can-mark : (acts : List (Act R D)) (t' : TokenizerValue M R D) → are_allowed acts ≡ true → t' ≡ acted acts → t'.configuration.waiting ≡ Byte → IsMarkable t'
@@ -172,6 +268,8 @@ allowed class state t can =
       };
       ends = λ fit. can-end class state before waits t can refl refl [] names t fit refl;
       ends_read = λ fit. can-end class state before waits t can refl refl (consume ∷ []) names (once_read t) fit refl;
+      ends_noted = λ noted fit.
+          let start : is_noted_before (noted_if state.noted) ≡ true = rw noted refl in can-end-noted class state before waits t can refl refl [] names fit start (can.noted noted).1;
     }
 
 -- what holds when a machine is called is what its state requires
@@ -187,6 +285,9 @@ callable table first name state t t' same is h began =
       in_order = h.1.1;
       base = there.base;
       spans = record { stack = o.stack; began = o.began; void = o.void; below = o.below; needs = o.needs; called = o.called };
+      noted = λ n.
+          let (h, places) = there.noted n in
+          (record { position = h.position; read = h.read; at = record { is = h.at.is; began = h.at.began }; exit_before = h.exit_before; enter_before = h.enter_before }, places);
     }))
 
 -- a name is none of the states'

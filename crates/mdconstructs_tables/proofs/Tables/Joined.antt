@@ -123,7 +123,7 @@ module _ {V W R D : Type 0} where
 
 module _ {W R D : Type 0} (table : Table W R D) (g : Given) (text : Text) (k : Configuration R D) (choices : List Choice) where
   -- if a table's invariant holds, the name is one of its states'
-  at-state : (o : Option (StateRows W R D)) (where_to : StateRows W R D → Point → Bool) → IsStateAt table g text o where_to k choices → is_some o ≡ true
+  at-state : (o : Option (StateRows W R D)) (where_to : StateRows W R D → Bool → Point → Bool) → IsStateAt table g text o where_to k choices → is_some o ≡ true
   at-state None where_to h = absurd h
   at-state (Some state) where_to h = refl
 

@@ -41,7 +41,7 @@ module _ {W R D : Type 0} (table : Table W R D) (g : Given) {early : Name → Op
         let (rows_fit, paid) = state-fits b w name state is at_it in
         let (allowed, more) = and_parts (allows_all r.acts (start_shape b w state)) _ (picked-passes (fits_row table.states b w state) (state.rows b w) g s k1 rows_fit) in
         let (with_choice_of, answers) = and_parts (fits_choices table.states w r.acts (start_shape b w state)) _ more in
-        let first = begins table g b w text k (table.first k.local) h.base choices state read met h.spans in
+        let first = begins table g b w text k (table.first k.local) h.base choices state read met (fit.kept k.local) h.noted h.spans in
         let sees = ahead-at table g w text k met order in
         record {
           state = state;
@@ -128,7 +128,7 @@ module _ {W R D : Type 0} (table : Table W R D) (g : Given) {early : Name → Op
         let b = before_class table g text k in
         let r = row_of table g text k c.state in
         let inside = inside-at table g _ text k (left_by table g text k c.state) c.shape.reads.0 c.shape.reads.1 h.0 in
-        let holds = answered table g _ b w _ c.above r.answer text k (left_by table g text k c.state) (chosen_by table g text k choices c.state) (read-before table g text k.position h.0) h.1.0 h.1.1 refl c.met c.fits_it refl c.shape c.wait_on in
+        let holds = answered table g _ b w _ c.above r.answer text k (left_by table g text k c.state) (chosen_by table g text k choices c.state) is inside (read-before table g text k.position h.0) h.1.0 h.1.1 refl c.met c.fits_it refl c.shape c.wait_on in
         (inside, subst (λ cs. HoldsAt table g text (left_by table g text k c.state) cs r.answer) (sym (chooses-append r.acts (sight g text k) (with_local k (table.first k.local)) [] choices)) holds));
     by_ok = λ text k choice choices is h.
         let w = h.1.waiting.0 in (

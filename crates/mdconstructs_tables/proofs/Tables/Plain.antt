@@ -1,6 +1,6 @@
 -- A table without links whose writes are plain keeps that nothing is there to resolve, and is lawful if it fits. A plain table is one.
 use Rattle.markdown_tokenizer.proofs.Readings.Plain as machines
-use Rattle.mdconstructs_tables.proofs.Prelude.{◌≡◌, List, [], ◌∷◌, true, Option, Some, None, refl, and_parts, Given, Configuration, Sight, with_local, consumed, IsLawful, IsPlain, KeepsPlain, plain, no-links-more, Act, enters, exit, consume, writes, choose, Rows, row, when, StateRows, Table, class_of, past, shown_sight, done, does, picked, row_at, named, step_at, table_step, table_rules, IsFit, are_plain_acts, are_plain_rows, are_plain_states, IsPlainTable, WritePlain, RowsWritePlain, StatesWritePlain, WritesPlain, cond_both}
+use Rattle.mdconstructs_tables.proofs.Prelude.{◌≡◌, List, [], ◌∷◌, true, Option, Some, None, refl, and_parts, Given, Configuration, Sight, with_local, consumed, IsLawful, IsPlain, KeepsPlain, plain, no-links-more, Act, enters, exit, consume, writes, choose, note, exit_noted, enter_noted, Rows, row, when, StateRows, Table, class_of, past, shown_sight, done, does, picked, row_at, named, step_at, table_step, table_rules, IsFit, are_plain_acts, are_plain_rows, are_plain_states, IsPlainTable, WritePlain, RowsWritePlain, StatesWritePlain, WritesPlain, cond_both}
 use Rattle.mdconstructs_tables.proofs.Rows.Misfits.{named-in}
 use Rattle.mdconstructs_tables.proofs.Tables.Prices.{table-cost_pays}
 use Rattle.mdconstructs_tables.proofs.Tables.Laws.{table-consumes_once, table-only_adds, table-ends_when_read, table-invariant_kept}
@@ -14,6 +14,9 @@ module _ {R D : Type 0} where
   does-plain (exit name ∷ acts) s k P h plain = does-plain acts s (done (exit name) s k) P h (plain.0, plain.1, no-links-more k.events _ refl plain.2)
   does-plain (consume ∷ acts) s k P h plain = does-plain acts (past s) (consumed k) P h plain
   does-plain (choose kind ok nok ∷ acts) s k P h plain = does-plain acts s k P h plain
+  does-plain (note ∷ acts) s k P h plain = does-plain acts s (done note s k) P h plain
+  does-plain (exit_noted name ∷ acts) s k P h plain = does-plain acts s (done (exit_noted name) s k) P h (plain.0, plain.1, no-links-more k.events _ refl plain.2)
+  does-plain (enter_noted name ∷ acts) s k P h plain = does-plain acts s (done (enter_noted name) s k) P h (plain.0, plain.1, no-links-more k.events _ refl plain.2)
   does-plain acts s k P h plain = absurd h
 
   picked-plain : (rows : Rows R D) (g : Given) (s : Sight) (at k : Configuration R D) (P : Type 0) → RowsWritePlain rows P → IsPlain k → IsPlain (does (picked rows g s at).acts s k) × P
@@ -30,6 +33,9 @@ module _ {R D : Type 0} where
   acts-plain (exit name ∷ acts) P e h = acts-plain acts P e h
   acts-plain (consume ∷ acts) P e h = acts-plain acts P e h
   acts-plain (choose kind ok nok ∷ acts) P e h = acts-plain acts P e h
+  acts-plain (note ∷ acts) P e h = acts-plain acts P e h
+  acts-plain (exit_noted name ∷ acts) P e h = acts-plain acts P e h
+  acts-plain (enter_noted name ∷ acts) P e h = acts-plain acts P e h
   acts-plain acts P e h = absurd (cc)
 
   rows-plain : (rows : Rows R D) (P : Type 0) → are_plain_rows rows ≡ true → P → RowsWritePlain rows P

@@ -74,25 +74,25 @@ module _ {W R D : Type 0} (class : ℕ → W) (states : List (StateRows W R D)) 
 
     -- where spans may have begun there
     in-frame : (stage : Stage) (fresh : Bool) (v : Option W) (s : Sight) → class_of class (sight g text old).current ≡ v → s ≡ sight_at stage (sight g text old) → IsAsFar k (reached stage old) → Waited stage text old
-        → (q : Point) → since fresh stage s q ≡ true → began_there fresh (is_some (waits_in stage v)) g text k.position q ≡ true
-    in-frame byte_waits true (Some v) s is seen far waited q b =
+        → (any : Bool) (q : Point) → since fresh stage s any q ≡ true → began_there fresh (is_some (waits_in stage v)) g text k.position any q ≡ true
+    in-frame byte_waits true (Some v) s is seen far waited any q b =
         let next : s.next ≡ shown g.bytes (next_place text k.position Byte) =
         ap (λ s. s.next) seen ∙ ap (λ x. shown g.bytes (next_place text old.position x)) waited.0 ∙ ap (λ i. shown g.bytes (next_place text i Byte)) (sym far.0) in
         subst (λ x. stands_before q x ≡ true) next b
-    in-frame byte_waits true None s is seen far waited q b =
+    in-frame byte_waits true None s is seen far waited any q b =
         let (seat, at) = seat-at text old.position waited.1 in
         let none : class_of class (byte_of (slice_get text.seats old.position)) ≡ None = subst (λ x. class_of class (current_of text old.position x) ≡ None) waited.0 is in
         absurd (none-some (class seat.byte) (sym none ∙ ap (λ o. class_of class (byte_of o)) at))
-    in-frame byte_waits false v s is seen far waited q b =
-        let left = ap (λ s. s.exit_place) seen ∙ sym (left-at g text old byte_waits k far waited) in subst (λ x. stands_before q x ≡ true) left b
-    in-frame byte_read true v s is seen far waited q b =
+    in-frame byte_waits false v s is seen far waited any q b =
+        let left = ap (λ s. s.exit_place) seen ∙ sym (left-at g text old byte_waits k far waited) in subst (λ x. upto any x q ≡ true) left b
+    in-frame byte_read true v s is seen far waited any q b =
         let left = ap (λ s. s.exit_place) seen ∙ sym (left-at g text old byte_read k far waited) in subst (λ x. upto true x q ≡ true) left b
-    in-frame byte_read false v s is seen far waited q b =
-        let left = ap (λ s. s.exit_place) seen ∙ sym (left-at g text old byte_read k far waited) in subst (λ x. upto false x q ≡ true) left b
-    in-frame end_waits true v s is seen far waited q b =
+    in-frame byte_read false v s is seen far waited any q b =
+        let left = ap (λ s. s.exit_place) seen ∙ sym (left-at g text old byte_read k far waited) in subst (λ x. upto any x q ≡ true) left b
+    in-frame end_waits true v s is seen far waited any q b =
         let left = ap (λ s. s.exit_place) seen ∙ sym (left-at g text old end_waits k far waited) in subst (λ x. upto true x q ≡ true) left b
-    in-frame end_waits false v s is seen far waited q b =
-        let left = ap (λ s. s.exit_place) seen ∙ sym (left-at g text old end_waits k far waited) in subst (λ x. upto false x q ≡ true) left b
+    in-frame end_waits false v s is seen far waited any q b =
+        let left = ap (λ s. s.exit_place) seen ∙ sym (left-at g text old end_waits k far waited) in subst (λ x. upto any x q ≡ true) left b
 
     is-saved : (not (is_void_last (last_or None p.spans)) || p.bare) ≡ true → IsSavedIn class g text k.position (outline k) (base ++ p.spans) (frame_of w p) (saved_at k)
     is-saved void =
@@ -130,7 +130,7 @@ module _ {W R D : Type 0} (class : ℕ → W) (states : List (StateRows W R D)) 
       let (one, rest) = and_parts _ _ can in
       let (now, fits) = waits-after act acts old w here p base s k choices one fit h seen waiting in
       waits-after-all acts old w here (after act p) (below_after act p base) (seen_after act s) (done act s k) (with_choice_of act k choices) rest fits (sees-after act p s sees)
-      (has-after g text old act p base s k choices one sees h) (sight-after act p (sight g text old) s one seen) now
+      (has-after g text old act p base s k choices one sees seen h) (sight-after act p (sight g text old) s one seen) now
 
 -- if the text goes on, what was saved is as it was
 module _ {W R D : Type 0} (class : ℕ → W) (states : List (StateRows W R D)) (g : Given) (text more : Text) (e : Extends text more) where
@@ -155,10 +155,10 @@ module _ {W R D : Type 0} (class : ℕ → W) (states : List (StateRows W R D)) 
 
   -- and where the spans of a frame may have begun
   frame-kept : (fresh : Bool) (waits : Option W) (p : ℕ) → p ≤ length text.seats → ((w : W) → waits ≡ Some w → class_in class text p ≡ Some w)
-      → (q : Point) → began_there fresh (is_some waits) g text p q ≡ true → began_there fresh (is_some waits) g more p q ≡ true
-  frame-kept true (Some w) p inside at q b = subst (λ x. stands_before q x ≡ true) (next-kept p w (at w refl)) b
-  frame-kept true None p inside at q b = subst (λ x. upto true x q ≡ true) (sym (place-kept p inside)) b
-  frame-kept false waits p inside at q b = subst (λ x. upto false x q ≡ true) (sym (place-kept p inside)) b
+      → (any : Bool) (q : Point) → began_there fresh (is_some waits) g text p any q ≡ true → began_there fresh (is_some waits) g more p any q ≡ true
+  frame-kept true (Some w) p inside at any q b = subst (λ x. stands_before q x ≡ true) (next-kept p w (at w refl)) b
+  frame-kept true None p inside at any q b = subst (λ x. upto true x q ≡ true) (sym (place-kept p inside)) b
+  frame-kept false waits p inside at any q b = subst (λ x. upto any x q ≡ true) (sym (place-kept p inside)) b
 
   saved-longer : (stack : List EventName) (f : Frame W) (b : Bool) (saved : Option Saved) (p : ℕ) (events : List Event) → p ≤ length text.seats → IsSaved class g text p events stack f b saved
       → IsSaved class g more p events stack f b saved × (position_of saved p ≤ length text.seats)
