@@ -13,3 +13,4 @@ pub mod Prices
 pub mod Refusals
 pub mod Tests
 pub mod Waiting
+pub mod Twins

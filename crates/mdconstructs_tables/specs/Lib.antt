@@ -24,4 +24,5 @@ pub mod Plans
 pub mod Quiet
 pub mod Refusals
 pub mod Stretches
+pub mod Twins
 pub mod Unlinked

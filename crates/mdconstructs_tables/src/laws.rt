@@ -31,6 +31,7 @@ ghost use Rattle.mdconstructs_tables.specs.RowTest.{never};
 ghost use Rattle.mdconstructs_tables.specs.Unlinked.{LinksNothing, unlinked_rules};
 ghost use Rattle.mdconstructs_tables.specs.Rows.{Rows, Table};
 ghost use Rattle.mdconstructs_tables.specs.Stretches.{StretchesAreRead};
+ghost use Rattle.mdconstructs_tables.specs.Twins.{TwinsReadAlike};
 
 /// A table's rules are lawful on every document if the table has no misfits, its own costs are enough, what each call writes first
 /// leaves the place that is noted, and no state links or writes. They are lawful too if states write only what leaves nothing to resolve, or if choices end with `Ok` late:
@@ -242,4 +243,10 @@ pub fn checks_are_looks<L: Looking>()
 pub fn rows_read_over<W, R, D>()
     ensures steps { RowsReadOver W R D }
     ensures rules { TableReadsOver W R D }
+{}
+
+/// What a table reads that writes nothing first, its twin reads too that writes `size` first, as to count its calls: in as many calls, and all
+/// but `size` is the same. No row looks at `size` or writes it. So calls can be counted in a proof, and no call need count them.
+pub fn twins_read_alike<W, R, D>()
+    ensures { TwinsReadAlike W R D }
 {}
