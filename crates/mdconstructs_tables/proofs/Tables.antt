@@ -7,6 +7,7 @@ pub mod Late
 pub mod Laws
 pub mod Lawful
 pub mod NoFurther
+pub mod Over
 pub mod Plain
 pub mod Plans
 pub mod Prices

@@ -7,7 +7,11 @@ use Rattle.markdown_tokenizer.specs.Configuration.{Configuration, Local}
 use Rattle.markdown_tokenizer.specs.Sight.{Sight}
 use Rattle.markdown_tokenizer.specs.Over.{ReadsOver, step_over}
 use Rattle.mdconstructs_tables.specs.RowInvariant.{table_rules}
-use Rattle.mdconstructs_tables.specs.Rows.{Table, StateRows, row, consume, named, table_step}
+use Rattle.mdconstructs_tables.specs.Rows.{Table, StateRows, row, consume, named, picked, table_step}
+
+-- a call writes nothing before its rows do
+abbrev pub unchanged : {R D : Type 0} → Local R D → Local R D
+unchanged local = local
 
 -- the rows of a state at a class of bytes consume the byte and do nothing else, whatever the previous byte was
 abbrev pub IsOverAt : {W R D : Type 0} → StateRows W R D → Name → W → Type 0
@@ -18,6 +22,19 @@ abbrev pub RowsReadOver : (W R D : Type 0) → Type 0
 RowsReadOver W R D =
     (table : Table W R D) (state : StateRows W R D) (name : Name) (byte : ℕ)
     → ((local : Local R D) → table.first local ≡ local) → named table.states name ≡ Some state → IsOverAt state name (table.class byte)
+    → (g : Given) (s : Sight) (k : Configuration R D) → s.current ≡ Some byte → table_step table g s k name ≡ step_over k name
+
+-- The rows of a state pick that row wherever this byte waits, by their tests, and whatever the previous byte was
+abbrev pub PicksOver : {W R D : Type 0} → StateRows W R D → Name → (class : ℕ → W) → ℕ → Type 0
+PicksOver {W} {R} {D} state name class byte =
+    (previous : Option W) (g : Given) (s : Sight) (k : Configuration R D) → s.current ≡ Some byte
+    → picked (state.rows previous (Some (class byte))) g s k ≡ record { acts = consume ∷ []; answer = Next name }
+
+-- then the step of the table is the same
+abbrev pub PickedReadOver : (W R D : Type 0) → Type 0
+PickedReadOver W R D =
+    (table : Table W R D) (state : StateRows W R D) (name : Name) (byte : ℕ)
+    → ((local : Local R D) → table.first local ≡ local) → named table.states name ≡ Some state → PicksOver state name table.class byte
     → (g : Given) (s : Sight) (k : Configuration R D) → s.current ≡ Some byte → table_step table g s k name ≡ step_over k name
 
 -- so the rules of a table read over it
