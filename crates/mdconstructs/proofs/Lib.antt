@@ -67,6 +67,7 @@ pub use Rattle.mdconstructs_inlines.proofs.StringCalls
 pub use Rattle.mdconstructs_inlines.proofs.StringChains
 pub use Rattle.mdconstructs_inlines.proofs.StringReads
 pub use Rattle.mdconstructs_inlines.proofs.StringRuns
+pub use Rattle.mdconstructs_flow.proofs.ByteSets
 pub use Rattle.mdconstructs_flow.proofs.Called as FlowCalled
 pub use Rattle.mdconstructs_flow.proofs.Dashes
 pub use Rattle.mdconstructs_flow.proofs.HeadingEdits

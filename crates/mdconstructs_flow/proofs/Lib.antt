@@ -1,4 +1,5 @@
 -- The proof of each function is in a folder of its own, by its module.
+pub mod ByteSets
 pub mod Called
 pub mod Dashes
 pub mod HeadingEdits

@@ -37,7 +37,7 @@ use crate::heading_setext::{
 };
 use crate::lines::{flow_after, flow_blank_line_after, flow_start};
 use crate::look::{flow_blank_line_before, paragraph_look_start};
-use crate::over::{is_in_html, is_in_info, is_in_line, is_in_word};
+use crate::over::{in_html, in_info, in_line, in_word};
 use crate::paragraph::{
     flow_before_content, paragraph_inside, paragraph_line_after, paragraph_line_start,
     paragraph_start,
@@ -47,7 +47,7 @@ use crate::thematic_break::{
     thematic_break_sequence,
 };
 use crate::{html_flow, html_tags, names};
-use markdown_tokenizer::state::{Machine, MachineTypes, Name, State};
+use markdown_tokenizer::state::{ByteSet, Machine, MachineTypes, Name, State, no_bytes};
 use markdown_tokenizer::subtokenize::Subresult;
 use markdown_tokenizer::tokenizer::{Fault, Tokenizer};
 use std::alloc::{AllocError, Global};
@@ -73,17 +73,17 @@ impl Machine for Flow {
 
     /// States that read lines of text or code, info strings and HTML read over all bytes but those that may end what they read.
     #[inline(always)]
-    fn reads_over(&self, name: Name, byte: u8) -> bool {
+    fn reads_over(&self, name: Name) -> &'static ByteSet {
         match name {
-            Name::ParagraphInside => is_in_line(byte),
-            Name::RawFlowContentChunk => is_in_line(byte),
-            Name::CodeIndentedInside => is_in_line(byte),
-            Name::HtmlFlowContinuation => is_in_html(byte),
-            Name::HtmlFlowContinuationClose => is_in_line(byte),
-            Name::RawFlowInfo => is_in_word(byte),
-            Name::RawFlowMeta => is_in_line(byte),
-            names::RawFlowLookInfo => is_in_info(byte),
-            _ => false,
+            Name::ParagraphInside => in_line(),
+            Name::RawFlowContentChunk => in_line(),
+            Name::CodeIndentedInside => in_line(),
+            Name::HtmlFlowContinuation => in_html(),
+            Name::HtmlFlowContinuationClose => in_line(),
+            Name::RawFlowInfo => in_word(),
+            Name::RawFlowMeta => in_line(),
+            names::RawFlowLookInfo => in_info(),
+            _ => no_bytes(),
         }
     }
 

@@ -1,50 +1,123 @@
-//! Bytes that states of leaf blocks read over: at them a call only consumes the byte, and the engine need not make it.
+//! Bytes that states of leaf blocks read over: at them a call only consumes the byte, and the engine need not make it. Each is above CR.
 
 ghost use Rattle.std.specs.Prelude.{[], ◌∷◌};
-ghost use Rattle.std.specs.Bool.{OnTrue};
-ghost use Rattle.mdconstructs_flow.specs.FlowBytes.{flow_byte, is_line_feed, is_blank, is_tick, is_less, is_dash, is_question, is_greater, is_closing};
-ghost use Rattle.mdconstructs_flow.specs.Over.{PassesNone};
+ghost use Rattle.mdconstructs_flow.specs.FlowBytes.{is_line_feed, is_blank, is_tick, is_less, is_dash, is_question, is_greater, is_closing};
+ghost use Rattle.mdconstructs_flow.specs.Over.{PassNone};
 
-/// Whether a byte is no line ending.
+use markdown_tokenizer::state::ByteSet;
+
+/// The bytes of a line.
+static IN_LINE: ByteSet = [
+    false, false, false, false, false, false, false, false, false, false, false, false, false,
+    false, true, true, true, true, true, true, true, true, true, true, true, true, true, true,
+    true, true, true, true, true, true, true, true, true, true, true, true, true, true, true, true,
+    true, true, true, true, true, true, true, true, true, true, true, true, true, true, true, true,
+    true, true, true, true, true, true, true, true, true, true, true, true, true, true, true, true,
+    true, true, true, true, true, true, true, true, true, true, true, true, true, true, true, true,
+    true, true, true, true, true, true, true, true, true, true, true, true, true, true, true, true,
+    true, true, true, true, true, true, true, true, true, true, true, true, true, true, true, true,
+    true, true, true, true, true, true, true, true, true, true, true, true, true, true, true, true,
+    true, true, true, true, true, true, true, true, true, true, true, true, true, true, true, true,
+    true, true, true, true, true, true, true, true, true, true, true, true, true, true, true, true,
+    true, true, true, true, true, true, true, true, true, true, true, true, true, true, true, true,
+    true, true, true, true, true, true, true, true, true, true, true, true, true, true, true, true,
+    true, true, true, true, true, true, true, true, true, true, true, true, true, true, true, true,
+    true, true, true, true, true, true, true, true, true, true, true, true, true, true, true, true,
+    true, true, true, true, true, true, true, true, true, true, true, true, true, true, true, true,
+    true, true, true, true,
+];
+
+/// The bytes of a line. A state that reads them stays in them.
 #[inline(always)]
-pub(crate) fn is_in_line(byte: u8) -> bool
-    ensures { OnTrue result (PassesNone (is_line_feed ∷ []) (flow_byte byte)) }
+pub(crate) fn in_line() -> &'static ByteSet
+    ensures { PassNone (is_line_feed ∷ []) result.now }
 {
-    match byte {
-        b'\n' => false,
-        _ => true,
-    }
+    &IN_LINE
 }
 
-/// Whether a byte is neither a line ending nor white space.
+/// The bytes of a word: no white space.
+static IN_WORD: ByteSet = [
+    false, false, false, false, false, false, false, false, false, false, false, false, false,
+    false, true, true, true, true, true, true, true, true, true, true, true, true, true, true,
+    true, true, true, true, false, true, true, true, true, true, true, true, true, true, true,
+    true, true, true, true, true, true, true, true, true, true, true, true, true, true, true, true,
+    true, true, true, true, true, true, true, true, true, true, true, true, true, true, true, true,
+    true, true, true, true, true, true, true, true, true, true, true, true, true, true, true, true,
+    true, true, true, true, true, true, true, true, true, true, true, true, true, true, true, true,
+    true, true, true, true, true, true, true, true, true, true, true, true, true, true, true, true,
+    true, true, true, true, true, true, true, true, true, true, true, true, true, true, true, true,
+    true, true, true, true, true, true, true, true, true, true, true, true, true, true, true, true,
+    true, true, true, true, true, true, true, true, true, true, true, true, true, true, true, true,
+    true, true, true, true, true, true, true, true, true, true, true, true, true, true, true, true,
+    true, true, true, true, true, true, true, true, true, true, true, true, true, true, true, true,
+    true, true, true, true, true, true, true, true, true, true, true, true, true, true, true, true,
+    true, true, true, true, true, true, true, true, true, true, true, true, true, true, true, true,
+    true, true, true, true, true, true, true, true, true, true, true, true, true, true, true, true,
+    true, true, true, true, true,
+];
+
+/// The bytes of a word: no white space. A state that reads them stays in them.
 #[inline(always)]
-pub(crate) fn is_in_word(byte: u8) -> bool
-    ensures { OnTrue result (PassesNone (is_line_feed ∷ is_blank ∷ []) (flow_byte byte)) }
+pub(crate) fn in_word() -> &'static ByteSet
+    ensures { PassNone (is_line_feed ∷ is_blank ∷ []) result.now }
 {
-    match byte {
-        b'\n' | b'\t' | b' ' => false,
-        _ => true,
-    }
+    &IN_WORD
 }
 
-/// Whether a byte is neither a line ending nor a grave accent.
+/// The bytes of an info string in which no grave accent may be.
+static IN_INFO: ByteSet = [
+    false, false, false, false, false, false, false, false, false, false, false, false, false,
+    false, true, true, true, true, true, true, true, true, true, true, true, true, true, true,
+    true, true, true, true, true, true, true, true, true, true, true, true, true, true, true, true,
+    true, true, true, true, true, true, true, true, true, true, true, true, true, true, true, true,
+    true, true, true, true, true, true, true, true, true, true, true, true, true, true, true, true,
+    true, true, true, true, true, true, true, true, true, true, true, true, true, true, true, true,
+    true, true, true, true, false, true, true, true, true, true, true, true, true, true, true,
+    true, true, true, true, true, true, true, true, true, true, true, true, true, true, true, true,
+    true, true, true, true, true, true, true, true, true, true, true, true, true, true, true, true,
+    true, true, true, true, true, true, true, true, true, true, true, true, true, true, true, true,
+    true, true, true, true, true, true, true, true, true, true, true, true, true, true, true, true,
+    true, true, true, true, true, true, true, true, true, true, true, true, true, true, true, true,
+    true, true, true, true, true, true, true, true, true, true, true, true, true, true, true, true,
+    true, true, true, true, true, true, true, true, true, true, true, true, true, true, true, true,
+    true, true, true, true, true, true, true, true, true, true, true, true, true, true, true, true,
+    true, true, true, true, true, true, true, true, true, true, true, true, true, true, true, true,
+    true, true, true, true, true,
+];
+
+/// The bytes of an info string in which no grave accent may be. A state that reads them stays in them.
 #[inline(always)]
-pub(crate) fn is_in_info(byte: u8) -> bool
-    ensures { OnTrue result (PassesNone (is_line_feed ∷ is_tick ∷ []) (flow_byte byte)) }
+pub(crate) fn in_info() -> &'static ByteSet
+    ensures { PassNone (is_line_feed ∷ is_tick ∷ []) result.now }
 {
-    match byte {
-        b'\n' | b'`' => false,
-        _ => true,
-    }
+    &IN_INFO
 }
 
-/// Whether a byte neither ends a line of HTML nor may begin the end of HTML, of whichever kind it is.
+/// The bytes of a line of HTML that do not begin its end, of whichever kind it is.
+static IN_HTML: ByteSet = [
+    false, false, false, false, false, false, false, false, false, false, false, false, false,
+    false, true, true, true, true, true, true, true, true, true, true, true, true, true, true,
+    true, true, true, true, true, true, true, true, true, true, true, true, true, true, true, true,
+    true, false, true, true, true, true, true, true, true, true, true, true, true, true, true,
+    true, false, true, false, false, true, true, true, true, true, true, true, true, true, true,
+    true, true, true, true, true, true, true, true, true, true, true, true, true, true, true, true,
+    true, true, true, false, true, true, true, true, true, true, true, true, true, true, true,
+    true, true, true, true, true, true, true, true, true, true, true, true, true, true, true, true,
+    true, true, true, true, true, true, true, true, true, true, true, true, true, true, true, true,
+    true, true, true, true, true, true, true, true, true, true, true, true, true, true, true, true,
+    true, true, true, true, true, true, true, true, true, true, true, true, true, true, true, true,
+    true, true, true, true, true, true, true, true, true, true, true, true, true, true, true, true,
+    true, true, true, true, true, true, true, true, true, true, true, true, true, true, true, true,
+    true, true, true, true, true, true, true, true, true, true, true, true, true, true, true, true,
+    true, true, true, true, true, true, true, true, true, true, true, true, true, true, true, true,
+    true, true, true, true, true, true, true, true, true, true, true, true, true, true, true, true,
+    true, true, true, true, true, true, true,
+];
+
+/// The bytes of a line of HTML that do not begin its end, of whichever kind it is. A state that reads them stays in them.
 #[inline(always)]
-pub(crate) fn is_in_html(byte: u8) -> bool
-    ensures { OnTrue result (PassesNone (is_line_feed ∷ is_less ∷ is_dash ∷ is_question ∷ is_greater ∷ is_closing ∷ []) (flow_byte byte)) }
+pub(crate) fn in_html() -> &'static ByteSet
+    ensures { PassNone (is_line_feed ∷ is_less ∷ is_dash ∷ is_question ∷ is_greater ∷ is_closing ∷ []) result.now }
 {
-    match byte {
-        b'\n' | b'<' | b'-' | b'?' | b'>' | b']' => false,
-        _ => true,
-    }
+    &IN_HTML
 }
