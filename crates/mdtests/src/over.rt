@@ -1,6 +1,6 @@
 //! A machine that reads over bytes, and its twin that is called for each of them: cuts, gaps, tabs and line endings show no difference.
 
-ghost use Rattle.std.specs.Prelude.{◌+◌, ◌*◌, ◌<◌, IfOk};
+ghost use Rattle.std.specs.Prelude.{◌≡◌, ◌+◌, ◌*◌, ◌<◌, ℕ, IfOk, get_or, false, true};
 ghost use Rattle.markdown.specs.Virtual.{IsWithinLimit};
 ghost use Rattle.mdconstructs.specs.RowInvariant.{DoesAll, IsCallable, step_in};
 ghost use Rattle.mdtests.specs.Over.{data_inside, is_text, text_start};
@@ -10,7 +10,7 @@ use crate::pushed::read_by;
 use crate::shown::{assert_shown, point_of};
 use markdown::configuration::TabSize;
 use markdown::event::{self, Point};
-use markdown::state::{Machine, MachineTypes, Name, State};
+use markdown::state::{ByteSet, Machine, MachineTypes, Name, State, no_bytes};
 use markdown::subtokenize::Subresult;
 use markdown::tokenizer::{AfterGap, Fault, Tokenizer, follow_on, point_at};
 use mdconstructs::marker;
@@ -50,10 +50,13 @@ impl Machine for Over {
         }
     }
 
-    fn reads_over(&self, name: Name, byte: u8) -> bool {
+    fn reads_over(&self, name: Name) -> &'static ByteSet {
+        if !self.over {
+            return no_bytes();
+        }
         match name {
-            Name::DataInside => self.over && byte != b'\n' && byte != b'*',
-            _ => false,
+            Name::DataInside => data_bytes(),
+            _ => no_bytes(),
         }
     }
 
@@ -68,6 +71,34 @@ impl Machine for Over {
     }
 
     ghost lawful = { λ _ g. plain-lawful over g over-fit over-plain };
+}
+
+/// The bytes above CR but `*`.
+static DATA: ByteSet = [
+    false, false, false, false, false, false, false, false, false, false, false, false, false,
+    false, true, true, true, true, true, true, true, true, true, true, true, true, true, true,
+    true, true, true, true, true, true, true, true, true, true, true, true, true, true, false,
+    true, true, true, true, true, true, true, true, true, true, true, true, true, true, true, true,
+    true, true, true, true, true, true, true, true, true, true, true, true, true, true, true, true,
+    true, true, true, true, true, true, true, true, true, true, true, true, true, true, true, true,
+    true, true, true, true, true, true, true, true, true, true, true, true, true, true, true, true,
+    true, true, true, true, true, true, true, true, true, true, true, true, true, true, true, true,
+    true, true, true, true, true, true, true, true, true, true, true, true, true, true, true, true,
+    true, true, true, true, true, true, true, true, true, true, true, true, true, true, true, true,
+    true, true, true, true, true, true, true, true, true, true, true, true, true, true, true, true,
+    true, true, true, true, true, true, true, true, true, true, true, true, true, true, true, true,
+    true, true, true, true, true, true, true, true, true, true, true, true, true, true, true, true,
+    true, true, true, true, true, true, true, true, true, true, true, true, true, true, true, true,
+    true, true, true, true, true, true, true, true, true, true, true, true, true, true, true, true,
+    true, true, true, true, true, true, true, true, true, true, true, true, true, true, true, true,
+    true, true, true, true, true,
+];
+
+/// The bytes that are read over: those of data, but `*`.
+fn data_bytes() -> &'static ByteSet
+    ensures { (byte : ℕ) → get_or result.now byte false ≡ true → (13 < byte) × (is_text byte ≡ true) }
+{
+    &DATA
 }
 
 /// Before data, or before a line ending.
