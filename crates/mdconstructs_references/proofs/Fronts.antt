@@ -1,5 +1,6 @@
 -- The fronts of names in order: how they compare to other bytes, and the first that is these bytes.
-use Rattle.mdconstructs_references.proofs.Prelude.{◌≡◌, ℕ, zero, suc, ◌<◌, ◌≤◌, ◌⊎◌, inl, inr, ◌++◌, List, [], ◌∷◌, Bool, true, false, cond, length, take, refl, sym, ap, subst, ◌∙◌, arith, get_or, cases_lt, Ordering, Less, Equal, Greater, length-map, Less-from_sorted, is_eq-slice_cmp, get_or_from_slice_get, same_Some, slice_get-map, slice_get_within, slice_cmp, nat_list_cmp_total, nat_cmp-IsAntisymmetric, slice_cmp-IsAntisymmetric, find, slice_get, slice_index_or, IsPartitionedBy, IsPartitionPoint, IsStrictlySortedBy, keys_of, option_map, is_eq, is_lt, nat_cmp, ordering_then, Option, None, Some, bytes_eq, Reference, begins_with, first_from, read}
+use Rattle.mdconstructs_references.proofs.Orders.{is_lt-Less}
+use Rattle.mdconstructs_references.proofs.Prelude.{◌≡◌, ℕ, zero, suc, ◌<◌, ◌≤◌, ◌⊎◌, inl, inr, ◌++◌, List, [], ◌∷◌, Bool, true, false, cond, length, take, refl, sym, ap, subst, ◌∙◌, arith, get_or, cases_lt, Ordering, Less, Equal, Greater, length-map, Less-from_sorted, is_eq-slice_cmp, get_or_from_slice_get, same_Some, slice_get-map, slice_get_within, slice_cmp, nat_list_cmp_total, nat_cmp-IsAntisymmetric, slice_cmp-IsAntisymmetric, find, slice_get, slice_index_or, IsPartitionedBy, IsPartitionPoint, IsStrictlySortedBy, keys_of, option_map, is_eq, is_lt, nat_cmp, ordering_then, Option, None, Some, bytes_eq, Reference, starts_with, first_from, read}
 use Rattle.mdconstructs_references.proofs.Searches.{Entry, entry, key_at}
 
 then_Equal : (o : Ordering) → ordering_then o Equal ≡ o
@@ -93,11 +94,6 @@ module _ (references : List Entry) (s : List ℕ) (k : ℕ) (size : length s ≡
       let less = Less-from_sorted (slice_cmp nat_cmp) (keys_of (read references)) i j d.0 sorted below (omega (arith, long, within)) in
       rw (key_at references [] sorted i d, key_at references [] sorted j d) at less
 
-  is_lt-Less : (o : Ordering) → is_lt o ≡ true → o ≡ Less
-  is_lt-Less Less h = refl
-  is_lt-Less Equal h = cc
-  is_lt-Less Greater h = cc
-
   pub parted : IsPartitionedBy (λ e. is_lt (order e)) references
   parted i j d upto within before = elim (cases_lt i j) [
     | inl below ↦ ap is_lt (below-before k s (slice_index_or references i d).0 (slice_index_or references j d).0 (names_rise i j d below within) (is_lt-Less (order (slice_index_or references j d)) before))
@@ -113,10 +109,10 @@ module _ (references : List Entry) (s : List ℕ) (k : ℕ) (size : length s ≡
       of (Some e) at same = (e, at, same_Some e.0 name same)
 
   module _ (i : ℕ) (parts : IsPartitionPoint (λ e. is_lt (order e) ≡ true) (λ e. is_lt (order e) ≡ false) references i) where
-    other : (name : List ℕ) (o : Ordering) → slice_cmp nat_cmp (take k name) s ≡ o → is_eq o ≡ false → begins_with s name ≡ false
+    other : (name : List ℕ) (o : Ordering) → slice_cmp nat_cmp (take k name) s ≡ o → is_eq o ≡ false → starts_with s name ≡ false
     other name o e differs = ap (λ n. bytes_eq (take n name) s) size ∙ sym (is_eq-slice_cmp (take k name) s) ∙ ap is_eq e ∙ differs
 
-    none-before : (j : ℕ) (name : List ℕ) → j < i → slice_get (keys_of (read references)) j ≡ Some name → begins_with s name ≡ false
+    none-before : (j : ℕ) (name : List ℕ) → j < i → slice_get (keys_of (read references)) j ≡ Some name → starts_with s name ≡ false
     none-before j name before is =
         let e = entry_at j name is in
         let less = subst (λ (r : Entry). is_lt (order r) ≡ true) (get_or_from_slice_get references j e.0 e.0 e.1) (parts.0 j e.0 (omega arith) before) in
@@ -125,7 +121,7 @@ module _ (references : List Entry) (s : List ℕ) (k : ℕ) (size : length s ≡
     -- behind all names none begins so
     pub none-at-end : length references ≤ i → first_from (read references) s ≡ None
     none-at-end past =
-        find-none (begins_with s) (keys_of (read references)) (λ j name is.
+        find-none (starts_with s) (keys_of (read references)) (λ j name is.
         let e = entry_at j name is in
         let within = slice_get_within references j e.0 e.1 in none-before j name (omega (arith, past, within)) is)
 
@@ -133,7 +129,7 @@ module _ (references : List Entry) (s : List ℕ) (k : ℕ) (size : length s ≡
     pub first-there : (e : Entry) → slice_get references i ≡ Some e → order e ≡ Equal → first_from (read references) s ≡ Some e.0
     first-there e at is =
         let place : slice_get (keys_of (read references)) i ≡ Some e.0 = slice_get-map (λ (e : Reference). e.0) (read references) i ∙ ap (option_map (λ (e : Reference). e.0)) (slice_get-map entry references i ∙ ap (option_map entry) at) in
-        find-first (begins_with s) (keys_of (read references)) i e.0 place
+        find-first (starts_with s) (keys_of (read references)) i e.0 place
         (ap (λ n. bytes_eq (take n e.0) s) size ∙ sym (is_eq-slice_cmp (take k e.0) s) ∙ ap is_eq is) none-before
 
     -- or none does
@@ -142,7 +138,7 @@ module _ (references : List Entry) (s : List ℕ) (k : ℕ) (size : length s ≡
         let within = slice_get_within references i e at in
         let here = subst (λ (r : Entry). is_lt (order r) ≡ false) (get_or_from_slice_get references i e e at) (parts.1 i e (omega arith) within) in
         let above = is-greater (order e) here differs in
-        find-none (begins_with s) (keys_of (read references)) (λ j name is.
+        find-none (starts_with s) (keys_of (read references)) (λ j name is.
         elim (cases_lt j i) [
           | inl before ↦ none-before j name before is
           | inr not ↦ later j name is above within not
@@ -153,7 +149,7 @@ module _ (references : List Entry) (s : List ℕ) (k : ℕ) (size : length s ≡
         is-greater Equal h n = absurd (cc)
         is-greater Greater h n = refl
 
-        later : (j : ℕ) (name : List ℕ) → slice_get (keys_of (read references)) j ≡ Some name → order e ≡ Greater → i < length references → i ≤ j → begins_with s name ≡ false
+        later : (j : ℕ) (name : List ℕ) → slice_get (keys_of (read references)) j ≡ Some name → order e ≡ Greater → i < length references → i ≤ j → starts_with s name ≡ false
         later j name is above within upto =
             let d = entry_at j name is in
             let there = slice_get_within references j d.0 d.1 in

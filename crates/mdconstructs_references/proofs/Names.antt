@@ -1,5 +1,5 @@
 -- Names by the bytes that they begin with: one is found exactly if a name begins so.
-use Rattle.mdconstructs_references.proofs.Prelude.{◌≡◌, ℕ, ◌++◌, ◌==◌, List, [], ◌∷◌, Bool, true, false, cond, ◌||◌, length, take, refl, sym, ap, ◌∙◌, bytes_eq-Decides, find, list_any, keys_of, lookup, option_or, is_some, Option, None, Some, bytes_eq, eqb-true, Reference, character_references, begins_with, characters_of, first_from, lengths, name_among, of_length}
+use Rattle.mdconstructs_references.proofs.Prelude.{◌≡◌, ℕ, ◌++◌, ◌==◌, List, [], ◌∷◌, Bool, true, false, cond, ◌||◌, length, take, refl, sym, ap, ◌∙◌, bytes_eq-Decides, find, list_any, keys_of, lookup, option_or, is_some, Option, None, Some, bytes_eq, eqb-true, Reference, character_references, starts_with, characters_of, first_from, lengths, name_among, of_length}
 use Rattle.mdconstructs_references.specs.References.{name_from}
 use Rattle.mdconstructs_references.proofs.Parts.{characters_in_part, no_characters}
 use Rattle.mdconstructs_references.proofs.Tables.{all_are_listed}
@@ -13,14 +13,14 @@ find-passes test (n ∷ ns) name h = of (test n) refl h (find-passes test ns nam
     of true e is rest = (let same : n ≡ name = cc in ap test (sym same) ∙ e)
     of false e is rest = rest is
 
-among-passes : (ns : List ℕ) (start name : List ℕ) → name_among ns start ≡ Some name → begins_with start name ≡ true
+among-passes : (ns : List ℕ) (start name : List ℕ) → name_among ns start ≡ Some name → starts_with start name ≡ true
 among-passes [] start name h = absurd (cc)
 among-passes (n ∷ ns) start name h = of (first_from (of_length n character_references) start) refl h (among-passes ns start name)
   where
-    of : (o : Option (List ℕ)) → first_from (of_length n character_references) start ≡ o → option_or o (name_among ns start) ≡ Some name → (name_among ns start ≡ Some name → begins_with start name ≡ true)
-        → begins_with start name ≡ true
+    of : (o : Option (List ℕ)) → first_from (of_length n character_references) start ≡ o → option_or o (name_among ns start) ≡ Some name → (name_among ns start ≡ Some name → starts_with start name ≡ true)
+        → starts_with start name ≡ true
     of None e is rest = rest is
-    of (Some found) e is rest = find-passes (begins_with start) (keys_of (of_length n character_references)) name (e ∙ is)
+    of (Some found) e is rest = find-passes (starts_with start) (keys_of (of_length n character_references)) name (e ∙ is)
 
 -- a name that is found begins with the bytes
 pub begins-so : (start name : List ℕ) → name_from start ≡ Some name → take (length start) name ≡ start
@@ -28,15 +28,15 @@ unfolding name_from
 begins-so start name h = (bytes_eq-Decides (take (length start) name) start).0 (among-passes lengths start name h)
 
 -- where no name is found, there is none that begins so
-none-listed : (references : List Reference) (start name : List ℕ) → begins_with start name ≡ true → first_from references start ≡ None → lookup (bytes_eq name) references ≡ None
+none-listed : (references : List Reference) (start name : List ℕ) → starts_with start name ≡ true → first_from references start ≡ None → lookup (bytes_eq name) references ≡ None
 none-listed [] start name begins h = refl
-none-listed (reference ∷ references) start name begins h = of (bytes_eq name reference.0) (begins_with start reference.0) refl refl h (none-listed references start name begins)
+none-listed (reference ∷ references) start name begins h = of (bytes_eq name reference.0) (starts_with start reference.0) refl refl h (none-listed references start name begins)
   where
-    of : (t u : Bool) → bytes_eq name reference.0 ≡ t → begins_with start reference.0 ≡ u → cond u (Some reference.0) (first_from references start) ≡ None
+    of : (t u : Bool) → bytes_eq name reference.0 ≡ t → starts_with start reference.0 ≡ u → cond u (Some reference.0) (first_from references start) ≡ None
         → (first_from references start ≡ None → lookup (bytes_eq name) references ≡ None)
         → cond (bytes_eq name reference.0) (Some reference.1) (lookup (bytes_eq name) references) ≡ None
     of t true e f is rest = absurd (cc)
-    of true false e f is rest = (let same = (bytes_eq-Decides name reference.0).0 e in let no : true ≡ false = sym begins ∙ ap (begins_with start) same ∙ f in absurd (cc))
+    of true false e f is rest = (let same = (bytes_eq-Decides name reference.0).0 e in let no : true ≡ false = sym begins ∙ ap (starts_with start) same ∙ f in absurd (cc))
     of false false e f is rest = ap (λ t. cond t (Some reference.1) (lookup (bytes_eq name) references)) e ∙ rest is
 
 some-among : (ns : List ℕ) (n : ℕ) (start : List ℕ) → list_any (λ m. n == m) ns ≡ true → is_some (first_from (of_length n character_references) start) ≡ true → is_some (name_among ns start) ≡ true

@@ -13,7 +13,7 @@ below_all : (name : List ℕ) (next : List ℕ) (references : List Reference) �
 below_all name next [] less all = tt
 below_all name next (reference ∷ references) less all = (nat_list_cmp_total.trans name next reference.0 less all.0, below_all name next references less all.1)
 
-is_lt-Less : (order : Ordering) → is_lt order ≡ true → order ≡ Less
+pub is_lt-Less : (order : Ordering) → is_lt order ≡ true → order ≡ Less
 is_lt-Less Less h = refl
 is_lt-Less Equal h = cc
 is_lt-Less Greater h = cc

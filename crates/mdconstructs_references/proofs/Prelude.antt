@@ -20,5 +20,5 @@ pub use Rattle.std.specs.Option.{is_some, option_copied, option_map, option_or}
 pub use Rattle.std.specs.Ordering.{is_eq, is_lt, nat_cmp, ordering_index, ordering_reverse, ordering_then}
 pub use Rattle.std.specs.Prelude.{None, Option, Some, bytes_eq}
 pub use Rattle.mdconstructs_references.specs.CharacterReferences.{Reference, character_references}
-pub use Rattle.mdconstructs_references.specs.References.{begins_with, characters_in, characters_of, code_points, first_from, lengths, name_among, of_length, read}
+pub use Rattle.mdconstructs_references.specs.References.{starts_with, characters_in, characters_of, code_points, first_from, lengths, name_among, of_length, read}
 pub use Rattle.mdconstructs_references.specs.declared.table.TheConstants.{NAMES_OF_10, NAMES_OF_11, NAMES_OF_12, NAMES_OF_13, NAMES_OF_14, NAMES_OF_15, NAMES_OF_16, NAMES_OF_17, NAMES_OF_18, NAMES_OF_19, NAMES_OF_2, NAMES_OF_20, NAMES_OF_21, NAMES_OF_22, NAMES_OF_23, NAMES_OF_24, NAMES_OF_3, NAMES_OF_31, NAMES_OF_4, NAMES_OF_5, NAMES_OF_6, NAMES_OF_7, NAMES_OF_8, NAMES_OF_9}

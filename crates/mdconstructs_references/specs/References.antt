@@ -30,12 +30,12 @@ pub record IsCharacterAt (number : ℕ) (character : ℕ) : Type 0 where
   pub zero_is_none : number ≡ 0 → character ≡ 0xFFFD
 
 -- the name begins with these bytes
-abbrev pub begins_with : (start : List ℕ) → List ℕ → Bool
-begins_with start name = bytes_eq (take (length start) name) start
+abbrev pub starts_with : (start : List ℕ) → List ℕ → Bool
+starts_with start name = bytes_eq (take (length start) name) start
 
 -- the first name of these references that begins with these bytes
 abbrev pub first_from : List Reference → (start : List ℕ) → Option (List ℕ)
-first_from references start = find (begins_with start) (keys_of references)
+first_from references start = find (starts_with start) (keys_of references)
 
 -- the references whose names have this length
 abbrev pub of_length : ℕ → List Reference → List Reference
