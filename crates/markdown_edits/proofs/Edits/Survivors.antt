@@ -81,7 +81,7 @@ same_event ws n i p (x ∷ xs) h e = ⊎_elim
 
 -- the laws
 
-has_no : (ws : List Change) → AreNew ws → (n : ℕ) → HasNo (of_list n) ws
+pub has_no : (ws : List Change) → AreNew ws → (n : ℕ) → HasNo (of_list n) ws
 has_no ws new n = recursion_from_All (λ w. place_in (of_list n) w.events ≡ None) ws (new n)
 
 pub stays_unless_removed : (ws : List Change) (xs : List Event) → AreNew ws → StaysUnlessRemoved ws xs
