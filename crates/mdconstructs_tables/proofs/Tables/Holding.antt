@@ -1,7 +1,7 @@
 -- The invariant of a table: if it holds before a call, it holds at the state returned, once that is fed, when a choice ends, and when the
 -- text goes on.
-use Rattle.mdconstructs_tables.proofs.Prelude.{◌≡◌, ◌≢◌, ℕ, zero, suc, ◌≤◌, ◌&&◌, ◌||◌, not, List, [], ◌∷◌, ◌++◌, Bool, true, false, Option, Some, None, length, get_or, map, refl, sym, ap, ◌∙◌, subst, arith, ◌⊎◌, inl, inr, take, drop, All, IfSome, nat_lt, last_or, ltb-true, ltb-false, and_from, and_parts, not-true, append-nil, take-append-drop, take-map, slice_get_past, All-nil, All-tail, Point, Name, State, Next, Retry, Ok, Nok, Error, unlinked, stands_before, or-leads, Waits, Nothing, Byte, End, AttemptKind, Attempt, Check, Given, Text, IsText, empty_text, Configuration, Local, Choice, Saved, start_configuration, Noting, is_noted_before, noted_if, place_of, IsNotedAt, IsNotedBefore, ArePlaces, KnowsNoted, Sight, sight, sight_in, current_of, seat_before, byte_of, consumed, with_local, fed, unfed, restored, settled_at, IsAsFar, begins-before_end, began-before_next, ends-before_next, upto-before, Row, Begun, before, at_byte, here, Called, anywhere, at_a_byte, at_bytes, at_bytes_or_end, Needs, nothing, a_choice_for_ok, StateRows, Table, class_of, does, chooses, row_at, named, is_void_last, same_names, saves, Stage, end_waits, byte_waits, byte_read, Shape, Frame, after_all, is_at, is_end, is_fresh, is_fresh_fed, fresh_at, fresh_fed, needs_choice, needs_failing, is_called_at, is_some, may_go_on, may_go_on_there, may_go_back, goes_on_fresh, is_fresh_byte, fits_choice, fits_answer, fits_calls, start_shape, first_stage, is_bare, may_start, outline, EndsWithEnter, Began, upto, since, before_next, began_there, began_in, began_unfed, IsOpen, SightIsInOrder, IsFed, exit_place_at, class_in, is_read, AnyWait, GoesBack, AnyGoesBack, MayEnd, IsSavedIn, IsSaved, position_of, events_saved, IsBelow, AreWaiting, began_at, IsStateAt, HoldsAt, EventName}
-use Rattle.mdconstructs_tables.proofs.Rows.Laws.{same_names-true, Waited, reached, IsSeenAhead, sight_at, HasShape, HasNoted, noted-there, left-since, to-upto, before-is-upto, began-on, left-at}
+use Rattle.mdconstructs_tables.proofs.Prelude.{◌≡◌, ◌≢◌, ℕ, zero, suc, ◌≤◌, ◌&&◌, ◌||◌, not, List, [], ◌∷◌, ◌++◌, Bool, true, false, Option, Some, None, length, get_or, map, refl, sym, ap, ◌∙◌, subst, arith, ◌⊎◌, inl, inr, take, drop, All, IfSome, nat_lt, last_or, ltb-true, ltb-false, and_from, and_parts, not-true, append-nil, take-append-drop, take-map, slice_get_past, All-nil, All-tail, Point, Name, State, Next, Retry, Ok, Nok, Error, unlinked, stands_before, or-leads, Waits, Nothing, Byte, End, AttemptKind, Attempt, Check, Given, Text, IsText, empty_text, Configuration, Local, Choice, Saved, start_configuration, is_noted_before, noted_if, place_of, IsNotedBefore, ArePlaces, KnowsNoted, Sight, sight, sight_in, current_of, seat_before, byte_of, consumed, with_local, fed, unfed, restored, settled_at, IsAsFar, begins-before_end, began-before_next, ends-before_next, upto-before, Row, Begun, before, at_byte, here, Called, anywhere, at_a_byte, at_bytes, at_bytes_or_end, Needs, nothing, a_choice_for_ok, StateRows, Table, class_of, does, chooses, row_at, named, is_void_last, same_names, saves, Stage, end_waits, byte_waits, byte_read, Shape, Frame, after_all, is_at, is_end, is_fresh, is_fresh_fed, fresh_at, fresh_fed, needs_choice, needs_failing, is_called_at, is_some, may_go_on, may_go_on_there, may_go_back, goes_on_fresh, is_fresh_byte, fits_choice, fits_answer, fits_calls, start_shape, first_stage, is_bare, may_start, outline, EndsWithEnter, Began, upto, since, before_next, began_there, began_in, began_unfed, IsOpen, SightIsInOrder, IsFed, exit_place_at, class_in, is_read, AnyWait, GoesBack, AnyGoesBack, MayEnd, IsSavedIn, IsSaved, position_of, events_saved, IsBelow, AreWaiting, began_at, IsStateAt, HoldsAt, EventName}
+use Rattle.mdconstructs_tables.proofs.Rows.Laws.{same_names-true, Waited, reached, IsSeenAhead, sight_at, HasShape, HasNoted, noted-there, left-since, to-upto, began-on, left-at}
 use Rattle.mdconstructs_tables.proofs.GrowingTexts.{seat-at, Extends, sight-kept, waits-longer}
 use Rattle.markdown_tokenizer.proofs.Runs.Noted.{bytes-have-places}
 use Rattle.mdconstructs_tables.proofs.Tables.Waiting.{more-waiting, all-below, place-kept, class-kept, next-kept, waiting-longer}
