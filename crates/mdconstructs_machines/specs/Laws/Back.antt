@@ -14,7 +14,7 @@ tested previous (Some line_ending) = refl
 tested previous (Some other) = refl
 
 pub back-fit : IsFit back
-back-fit = record { fits = all-fit back tested; paid = tt; falls = tt }
+back-fit = record { fits = all-fit back tested; paid = tt; falls = tt; kept = λ local. refl }
 
 pub back-plain : IsPlainTable back
 back-plain = record { first = λ k h. h; rows = all-plain back tested }

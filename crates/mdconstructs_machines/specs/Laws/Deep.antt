@@ -56,7 +56,7 @@ tested (Some _) (Some line_ending) = refl
 tested (Some _) (Some other) = refl
 
 pub deep-fit : IsFit deep
-deep-fit = record { fits = all-fit deep tested; paid = (pays, tt); falls = ((λ text p q. tries-fall (length text.seats) p q), tt) }
+deep-fit = record { fits = all-fit deep tested; paid = (pays, tt); falls = ((λ text p q. tries-fall (length text.seats) p q), tt); kept = λ local. refl }
 
 pub deep-plain : IsPlainTable deep
 deep-plain = record { first = λ k h. h; rows = all-plain deep tested }

@@ -13,7 +13,7 @@ fits at previous (Some line_ending) = refl
 fits at previous (Some other) = refl
 
 pub fail-fit : (at : ℕ) → IsFit (fail at)
-fail-fit at = record { fits = fits at; paid = tt; falls = tt }
+fail-fit at = record { fits = fits at; paid = tt; falls = tt; kept = λ local. refl }
 
 -- what it writes leaves nothing to resolve: the call is counted
 counted-plain : IsPlainEverywhere (λ s. counted)

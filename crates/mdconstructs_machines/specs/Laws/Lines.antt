@@ -14,7 +14,7 @@ tested previous (Some line_ending) = refl
 tested previous (Some other) = refl
 
 pub lines-fit : IsFit lines
-lines-fit = record { fits = all-fit lines tested; paid = tt; falls = tt }
+lines-fit = record { fits = all-fit lines tested; paid = tt; falls = tt; kept = λ local. refl }
 
 pub lines-plain : IsPlainTable lines
 lines-plain = record { first = λ k h. h; rows = all-plain lines tested }

@@ -35,7 +35,7 @@ fits previous (Some line_ending) = refl
 fits previous (Some other) = refl
 
 pub paragraphs-fit : IsFit paragraphs
-paragraphs-fit = record { fits = fits; paid = tt; falls = tt }
+paragraphs-fit = record { fits = fits; paid = tt; falls = tt; kept = λ local. refl }
 
 -- the event that begins a chunk
 abbrev pub chunk_enter : Point → Event

@@ -14,7 +14,7 @@ tested previous (Some line_ending) = refl
 tested previous (Some other) = refl
 
 pub peek-fit : IsFit peek
-peek-fit = record { fits = all-fit peek tested; paid = tt; falls = tt }
+peek-fit = record { fits = all-fit peek tested; paid = tt; falls = tt; kept = λ local. refl }
 
 pub peek-plain : IsPlainTable peek
 peek-plain = record { first = λ k h. h; rows = all-plain peek tested }

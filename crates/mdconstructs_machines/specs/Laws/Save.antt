@@ -14,7 +14,7 @@ tested previous (Some line_ending) = refl
 tested previous (Some other) = refl
 
 pub save-fit : IsFit save
-save-fit = record { fits = all-fit save tested; paid = tt; falls = tt }
+save-fit = record { fits = all-fit save tested; paid = tt; falls = tt; kept = λ local. refl }
 
 pub save-plain : IsPlainTable save
 save-plain = record { first = λ k h. h; rows = all-plain save tested }

@@ -34,7 +34,7 @@ fits previous (Some blank) = refl
 fits previous (Some other) = refl
 
 pub words-fit : IsFit words
-words-fit = record { fits = fits; paid = tt; falls = tt }
+words-fit = record { fits = fits; paid = tt; falls = tt; kept = λ local. refl }
 
 -- ---- the blanks with which the events begin, and more events
 

@@ -42,7 +42,7 @@ fits previous (Some line_ending) = refl
 fits previous (Some other) = refl
 
 pub wrap-fit : IsFit wrap
-wrap-fit = record { fits = fits; paid = tt; falls = tt }
+wrap-fit = record { fits = fits; paid = tt; falls = tt; kept = λ local. refl }
 
 -- what the machine is, as a plan: its invariant is that of its rules, said in another form
 abbrev plan : Bool → Plan LineByte Resolver Unit
