@@ -9,7 +9,7 @@ use Rattle.markdown_edits.specs.Edits.{edit_at, added_after}
 use Rattle.markdown_tokenizer.specs.Configuration.{Configuration, Local}
 use Rattle.markdown_tokenizer.specs.Text.{Text}
 use Rattle.mdconstructs_tables.specs.Numbers.{Price, by_left, TooLow}
-use Rattle.mdconstructs_tables.specs.Rows.{enter, exit, consume, write, choose, Rows, row, Called, before, here, a_choice, a_choice_for_ok, at_bytes, StateRows, calls, costs, state, Table}
+use Rattle.mdconstructs_tables.specs.Rows.{enter, exit, consume, write, choose, note, exit_noted, enter_noted, Rows, row, Called, before, here, a_choice, a_choice_for_ok, at_bytes, StateRows, calls, costs, state, Table}
 use Rattle.mdconstructs_machines.specs.Tables.{LineByte, line_ending, other, line_byte, is_other, counts}
 use Rattle.mdconstructs_machines.specs.Lines.{lines, flow_start_rows, flow_start, paragraph_inside}
 
@@ -98,6 +98,26 @@ fills_a_void_span = row (enter LineEnding ∷ enter Data ∷ consume ∷ exit Da
 abbrev pub tries_in_a_full_span : Rows Unit Unit
 tries_in_a_full_span = row (enter LineEnding ∷ enter Data ∷ consume ∷ exit Data ∷ choose Check (Next FlowStart) (Next FlowStart) ∷ []) (Next FlowStart)
 
+-- `act`: a place is noted where a span has just begun
+abbrev pub notes_where_a_span_began : Rows Unit Unit
+notes_where_a_span_began = row (enter LineEnding ∷ note ∷ consume ∷ exit LineEnding ∷ []) (Next FlowStart)
+
+-- `act`: a span ends where no place was noted
+abbrev pub ends_where_nothing_was_noted : Rows Unit Unit
+ends_where_nothing_was_noted = row (enter Data ∷ consume ∷ exit_noted Data ∷ []) (Next FlowStart)
+
+-- `act`: a span begins at the place that was noted, before its byte was read
+abbrev pub begins_where_it_notes : Rows Unit Unit
+begins_where_it_notes = row (note ∷ enter_noted Data ∷ consume ∷ exit Data ∷ []) (Next FlowStart)
+
+-- `act`: a span begins at the place that was noted, and an event is after it
+abbrev pub begins_before_an_event : Rows Unit Unit
+begins_before_an_event = row (note ∷ consume ∷ enter_noted Data ∷ exit Data ∷ enter_noted Data ∷ exit Data ∷ []) (Next FlowStart)
+
+-- a byte is noted and read, and then a span begins before it and ends behind it: that fits
+abbrev pub begins_where_it_noted : Rows Unit Unit
+begins_where_it_noted = row (note ∷ consume ∷ enter_noted Data ∷ exit Data ∷ []) (Next FlowStart)
+
 -- `spans`: Ok is returned while a span is open
 abbrev pub ends_inside : Rows Unit Unit
 ends_inside = row (enter Paragraph ∷ consume ∷ []) Ok
@@ -109,6 +129,10 @@ tries_to_go_inside = row (choose Check (Next ParagraphInside) (Next FlowStart) �
 -- `choice`: the state in a line needs a choice that waits, and before a line none does
 abbrev pub needy_inside : StateRows LineByte Unit Unit
 needy_inside = record paragraph_inside { needs = a_choice }
+
+-- `answer`: the state in a line says that a place was noted, and none was
+abbrev pub knowing_inside : StateRows LineByte Unit Unit
+knowing_inside = record paragraph_inside { noted = true }
 
 -- `answer`: Retry is returned behind a byte
 abbrev pub retries_behind_a_byte : Rows Unit Unit

@@ -22,6 +22,7 @@ ghost use Rattle.mdconstructs_machines.specs.Unfit.{lines_with, consumes_twice, 
 ghost use Rattle.mdconstructs_machines.specs.Unfit.{lines_that, lines_inside, exits_outer_first, spans_nothing, begins_at_the_end, fills_a_void_span, tries_in_a_full_span, tries_where_a_span_began, hasty_inside};
 ghost use Rattle.mdconstructs_machines.specs.Unfit.{ends_inside, tries_to_go_inside, needy_inside, retries_behind_a_byte, names_no_state, goes_on_in_a_full_span};
 ghost use Rattle.mdconstructs_machines.specs.Unfit.{late_inside, narrow_inside, stays, starts_nowhere};
+ghost use Rattle.mdconstructs_machines.specs.Unfit.{notes_where_a_span_began, ends_where_nothing_was_noted, begins_where_it_notes, begins_before_an_event, begins_where_it_noted, knowing_inside};
 ghost use Rattle.mdconstructs_machines.specs.Lines.{lines, lines_rules};
 ghost use Rattle.mdconstructs_machines.specs.Paragraphs.{paragraphs_rules};
 ghost use Rattle.mdconstructs_machines.specs.Peek.{peek, peek_rules};
@@ -107,13 +108,20 @@ pub fn misfits_have_reasons()
     ensures start { misfits starts_inside None (Some other) ≡ (ParagraphInside, start) ∷ [] }
 {}
 
-/// A reason has more causes than one. Here is a table for each of the others, with one thing changed in the table of lines.
+/// A reason has more causes than one. Here is a table for each of the others, with one thing changed in the table of lines. One of them
+/// fits: a span begins at a place that was noted, once its byte was read.
 pub fn misfits_have_causes()
     ensures outer_span_ends_first { misfits (lines_that exits_outer_first) None (Some other) ≡ (FlowStart, act) ∷ [] }
     ensures span_of_no_byte { misfits (lines_that spans_nothing) None (Some other) ≡ (FlowStart, act) ∷ [] }
     ensures span_at_the_end { misfits (lines_that begins_at_the_end) None None ≡ (FlowStart, act) ∷ [] }
     ensures full_void_span_ends { misfits (lines_that fills_a_void_span) None (Some other) ≡ (FlowStart, act) ∷ [] }
     ensures choice_in_a_full_void_span { misfits (lines_that tries_in_a_full_span) None (Some other) ≡ (FlowStart, act) ∷ [] }
+    ensures note_where_a_span_began { misfits (lines_that notes_where_a_span_began) None (Some other) ≡ (FlowStart, act) ∷ [] }
+    ensures exit_where_nothing_was_noted { misfits (lines_that ends_where_nothing_was_noted) None (Some other) ≡ (FlowStart, act) ∷ [] }
+    ensures enter_where_it_notes { misfits (lines_that begins_where_it_notes) None (Some other) ≡ (FlowStart, act) ∷ [] }
+    ensures enter_before_an_event { misfits (lines_that begins_before_an_event) None (Some other) ≡ (FlowStart, act) ∷ [] }
+    ensures enter_where_it_noted { misfits (lines_that begins_where_it_noted) None (Some other) ≡ [] }
+    ensures no_place_was_noted { misfits (lines_inside knowing_inside) None (Some other) ≡ (FlowStart, answer) ∷ [] }
     ensures choice_where_a_span_began { misfits tries_where_a_span_began None (Some other) ≡ (FlowStart, choice) ∷ [] }
     ensures ok_where_a_span_began { misfits (lines_inside hasty_inside) None (Some line_ending) ≡ (ParagraphInside, answer) ∷ [] }
     ensures ok_in_a_span { misfits (lines_that ends_inside) None (Some other) ≡ (FlowStart, spans) ∷ [] }
