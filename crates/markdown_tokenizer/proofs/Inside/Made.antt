@@ -1,12 +1,10 @@
 -- What a tokenizer keeps of its events, call by call.
 use Rattle.markdown_tokenizer.proofs.Prelude.{◌≡◌, ◌↔◌, ℕ, zero, suc, ◌+◌, ◌-◌, Bool, true, false, cond, List, [], ◌∷◌, ◌++◌, Option, Some, None, length, take, map, reverse, get_or, refl, sym, ◌∙◌, ap, subst, arith, ◌⊎◌, inl, inr, slice_get, All, AllPairs, last_or, reverse-append, take-map, map-append, length-map, get_or_append_left, get_or_push, length_push, get_or-map, All-nil, All-push, All-weaker, all_pairs_push, Event, Kind, Enter, Exit, Point, IsBalanced, empty, span, is_void, open_after, open_events, open_events_from, same_name, unlinked, IsInOrder, stands_before, IsShown, open_events_from-unlinked, stands-self, names_after, names_after_all, names_after_all-append, same_name-refl, none_is_not_some, names-none, IsMade, VoidExitsFollow, last_kind}
 use Rattle.markdown_base.specs.declared.event.Name.{Name}
-use Rattle.markdown_tokenizer.proofs.Positions.Order.{after-before, later-later}
+use Rattle.markdown_tokenizer.proofs.Positions.Order.{after-before}
+pub use Rattle.markdown_base.proofs.Orders.{upto-upto}
 
 -- ---- orders of places
-
-pub upto-upto : (p q r : Point) → stands_before q p ≡ false → stands_before r q ≡ false → stands_before r p ≡ false
-upto-upto p q r h k = later-later r.index r.vs q.index q.vs p.index p.vs k h
 
 pub before-upto : (p q : Point) → stands_before p q ≡ true → stands_before q p ≡ false
 before-upto p q h = after-before p.index p.vs q.index q.vs h

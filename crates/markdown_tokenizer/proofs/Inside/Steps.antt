@@ -1,5 +1,5 @@
 -- Each call on a tokenizer keeps what holds of its fields, and does what its contract says.
-use Rattle.markdown_tokenizer.proofs.Prelude.{Bool, ◌≡◌, ◌≢◌, ℕ, ◌≤◌, ◌<◌, List, [], true, false, Option, Some, None, length, refl, sym, ap, ◌∙◌, subst, add-one, arith, inl, inr, map, OnTrue, is_some, lt-ltb, Point, Seat, shown, stands_before, IsPointOf, IsShown, open_events, stands-self, Waits, Nothing, Byte, End, Moves, Other, Reading, Inside, at_configuration, sight, byte_of, point_of, current_of, point_or, consumed, fed, IsWellFormed, IsInText, resumed, IsPlainUntil, seen, text_within, standing, EndWaits, NextByteIsKnown, IsSound, IsPlace, rest_at, is_before_pair, IsNextByte, CanMove, moved, IsQuick, IsMade, Exit, reverse, is_void, balanced_from_open}
+use Rattle.markdown_tokenizer.proofs.Prelude.{Bool, ◌≡◌, ◌≢◌, ℕ, ◌≤◌, ◌<◌, List, [], true, false, Option, Some, None, length, refl, sym, ap, ◌∙◌, subst, add-one, arith, inl, inr, OnTrue, is_some, lt-ltb, Point, Seat, shown, stands_before, IsPointOf, IsShown, stands-self, Waits, Nothing, Byte, End, Moves, Other, Reading, Inside, at_configuration, sight, byte_of, point_of, current_of, point_or, consumed, fed, IsWellFormed, IsInText, resumed, IsPlainUntil, seen, text_within, standing, EndWaits, NextByteIsKnown, IsSound, IsPlace, rest_at, is_before_pair, IsNextByte, CanMove, moved, IsQuick, IsMade, Exit, reverse, is_void, balanced_from_open}
 use Rattle.markdown_base.specs.declared.event.Name.{Name}
 use Rattle.markdown_tokenizer.proofs.Positions.Order.{later-later}
 use Rattle.markdown_tokenizer.proofs.Positions.Seats.{one-seat}
@@ -86,9 +86,6 @@ module _ {M R D : Type 0} {same : R → R → Bool} (t : Inside M R D) (sound : 
       let m = sound.made reads in
       let balanced = balanced_from_open t.events.items (m.nested ∙ ap (λ (stack : List Name). Some (reverse stack)) e) in
       record { balanced = balanced; void_tight = followed-at is_void t.events.items (balanced-followed is_void balanced Exit m.tight); at_places = sound.at_places reads; in_order = m.in_order }
-
-  pub stack-is : t.phase ≡ Reading → t.stack.items ≡ map (λ e. e.name) (open_events t.events.items)
-  stack-is reads = sym (sound.made reads).names
 
   -- the test of the code
   pub before-end : (q : Point) → stands_before q (end_within t) ≡ is_before_pair q t.end

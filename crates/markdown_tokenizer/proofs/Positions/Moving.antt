@@ -36,18 +36,19 @@ front-split P Q never (x ∷ xs) left (y ∷ ys) rest e h k =
     let r = front-split P Q never xs left ys rest on h.1 k in
     (r.0, ap (λ (zs : List Seat). y ∷ zs) r.1 ∙ ap (λ (z : Seat). z ∷ (xs ++ r.0)) (sym is), r.2)
 
+-- a byte behind a CR is not the first
+pub back-first : (bytes : List ℕ) (i : ℕ) → follows_cr bytes i ≡ true → 0 < i
+back-first bytes zero h = absurd (cc)
+back-first bytes (suc i) h = omega arith
+
 -- where a place is shown, it is itself or the one before
 is-shown-at : (bytes : List ℕ) (x p : Point) → shown bytes x ≡ p → stands_before p x ≡ false → x ≡ p
 is-shown-at bytes x p e upto = tested ((slice_index bytes x.index == 10) && follows_cr bytes x.index) refl e
   where
-    back-first : (i : ℕ) → follows_cr bytes i ≡ true → 0 < i
-    back-first zero h = absurd (cc)
-    back-first (suc i) h = omega arith
-
     tested : (b : Bool) → ((slice_index bytes x.index == 10) && follows_cr bytes x.index) ≡ b → cond b (point x.line x.column (x.index - 1) x.vs) x ≡ p → x ≡ p
     tested false f h = h
     tested true f h =
-        let first = back-first x.index (and_parts (slice_index bytes x.index == 10) (follows_cr bytes x.index) f).1 in
+        let first = back-first bytes x.index (and_parts (slice_index bytes x.index == 10) (follows_cr bytes x.index) f).1 in
         let less : stands_before (point x.line x.column (x.index - 1) x.vs) x ≡ true = below-before (x.index - 1) x.vs x.index x.vs (omega (arith, first)) in
         absurd (let no : true ≡ false = sym less ∙ ap (λ (q : Point). stands_before q x) h ∙ upto in cc)
 
@@ -62,7 +63,7 @@ at-cr bytes x s pair e =
     ap (shown bytes) e ∙ ap (λ (w : Bool). cond w (point x.line x.column (suc x.index - 1) x.vs) (point x.line x.column (suc x.index) x.vs)) both
     ∙ ap (λ (i : ℕ). point x.line x.column i x.vs) back
 
-first-same : (x y : Seat) (xs ys : List Seat) → x ∷ xs ≡ y ∷ ys → x ≡ y
+pub first-same : (x y : Seat) (xs ys : List Seat) → x ∷ xs ≡ y ∷ ys → x ≡ y
 first-same x y xs ys e = cc
 
 tab-on : (index b : ℕ) (bs : List ℕ) (s : Seat) → suc index ≤ s.point.index → (0 < s.point.vs → (k : ℕ) → suc index + k ≡ s.point.index → slice_index bs k ≡ 9)

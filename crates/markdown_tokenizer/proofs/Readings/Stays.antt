@@ -1,32 +1,13 @@
 -- What was read before the outermost waiting choice stays until the reading ends.
 use Rattle.markdown_tokenizer.proofs.Prelude.{◌≡◌, ◌+◌, ◌≤◌, ℕ, zero, suc, List, [], ◌∷◌, ◌++◌, Option, Some, None, refl, ap, ◌∙◌, subst, arith, take, length, map, cond, true, false, nat_lt, IfSome, AllByRecursion, every-append, Name, State, Next, Retry, Ok, Nok, Error, AttemptKind, Attempt, Check, Byte, End, Event, unlinked, HasFrontUpToLinkEnds, Later, added, here, Given, Text, IsText, Configuration, Choice, Saved, sight, fed, settled_at, restored, more_calls, read, EndsIn, Rules, IsLawful, SavesEvents}
 use Rattle.std.proofs.lemmas.List.Elements.{recursion_from_All}
+use Rattle.std.proofs.lemmas.List.{take-take, length-take, take_min}
+use Rattle.std.proofs.Math.Seq.{take-length}
 use Rattle.markdown_tokenizer.specs.Reading.{Reading}
 use Rattle.markdown_tokenizer.specs.Stays.{StayBeforeChoices, WhatWasReadStays}
 use Rattle.markdown_tokenizer.proofs.Runs.Later.{later-kept}
 use Rattle.markdown_tokenizer.proofs.Readings.Bounds.{fed-ends, called-ends, settled-ok-ends, settled-nok-ends, one-end}
 use Rattle.markdown_tokenizer.proofs.Readings.Ends.{error-stays}
-
-take-less : {A : Type 0} (m n : ℕ) (l : List A) → m ≤ n → take m (take n l) ≡ take m l
-take-less zero n l h = refl
-take-less (suc m) zero l h = absurd (omega arith)
-take-less (suc m) (suc n) [] h = refl
-take-less (suc m) (suc n) (x ∷ l) h = ap (λ r. x ∷ r) (take-less m n l (omega arith))
-
--- a front is as long as it says, or the list is shorter
-take-front : {A : Type 0} (n : ℕ) (l : List A) → take (length (take n l)) l ≡ take n l
-take-front zero l = refl
-take-front (suc n) [] = refl
-take-front (suc n) (x ∷ l) = ap (λ r. x ∷ r) (take-front n l)
-
-take-short : {A : Type 0} (n : ℕ) (l : List A) → length (take n l) ≤ n
-take-short zero l = omega arith
-take-short (suc n) [] = omega arith
-take-short (suc n) (x ∷ l) = let h = take-short n l in omega (arith, h)
-
-take-self : {A : Type 0} (l : List A) → take (length l) l ≡ l
-take-self [] = refl
-take-self (x ∷ l) = ap (λ r. x ∷ r) (take-self l)
 
 front-longer : (l m : List Event) → HasFrontUpToLinkEnds l m → length m ≤ length l
 front-longer l [] h = omega arith
@@ -54,7 +35,7 @@ module _ {R D : Type 0} where
 
   restored-front : (saved : Option Saved) (k : Configuration R D) (m : List Event) → IfSome saved (λ s. length m ≤ s.events) → HasFrontUpToLinkEnds k.events m → HasFrontUpToLinkEnds (restored saved k).events m
   restored-front None k m s h = h
-  restored-front (Some saved) k m s h = ap (map unlinked) (take-less (length m) saved.events k.events s) ∙ h
+  restored-front (Some saved) k m s h = ap (map unlinked) (take-take (length m) saved.events k.events s) ∙ h
 
   ok-front : (kind : AttemptKind) (saved : Option Saved) (k : Configuration R D) (m : List Event) → IfSome saved (λ s. length m ≤ s.events) → HasFrontUpToLinkEnds k.events m
       → HasFrontUpToLinkEnds (settled_at kind saved Ok k).events m
@@ -126,9 +107,9 @@ module _ {R D : Type 0} (given : Given) (rules : Rules R D) (lawful : IsLawful g
 pub stay-before-choices : {R D : Type 0} (g : Given) (rules : Rules R D) → IsLawful g rules → StayBeforeChoices g rules
 stay-before-choices g rules lawful text calls k choices state r n is h saved ends =
     let m : List Event = take n k.events in
-    stays g rules lawful text is m calls k choices state r h (ap (map unlinked) (take-front n k.events))
-    (all-save (length m) n choices (take-short n k.events) (recursion_from_All (SavesEvents n) choices saved)) ends
+    stays g rules lawful text is m calls k choices state r h (ap (map unlinked) (ap (λ i. take i k.events) (length-take n k.events) ∙ take_min n k.events))
+    (all-save (length m) n choices (omega (arith, length-take n k.events)) (recursion_from_All (SavesEvents n) choices saved)) ends
 
 pub what-was-read-stays : {R D : Type 0} (g : Given) (rules : Rules R D) → IsLawful g rules → WhatWasReadStays g rules
 what-was-read-stays g rules lawful text calls k state r is h ends =
-    stays g rules lawful text is k.events calls k [] state r h (ap (map unlinked) (take-self k.events)) tt ends
+    stays g rules lawful text is k.events calls k [] state r h (ap (map unlinked) (take-length k.events)) tt ends

@@ -1,13 +1,9 @@
 -- Turns: what one turn does, that they are kept on a longer text, and that they come to one stand.
-use Rattle.markdown_tokenizer.proofs.Prelude.{◌≡◌, ◌+◌, ◌≤◌, ◌<◌, ◌↔◌, ◌∙◌, ℕ, nat_lt, List, [], ◌∷◌, ◌++◌, Bool, true, false, cond, Option, Some, None, inl, inr, length, refl, sym, ap, arith, subst, ltb-true, lt-ltb, le-ltb, is_some, false≢true, slice_get_cases, slice_get-get_or, Name, State, Next, Retry, Ok, Nok, Error, Seat, Waits, Nothing, Byte, End, Given, Text, Configuration, Choice, Step, TokenizerValue, Sight, sight, byte_of, current_of, fed, settled_at, EndsIn, settled_all, Stops, Stand, stand, turn, Turns, no_turn, one_turn, EndsFrom, AreCalledAlike}
+use Rattle.markdown_tokenizer.proofs.Prelude.{◌≡◌, ◌+◌, ◌≤◌, ◌<◌, ◌↔◌, ◌∙◌, ℕ, nat_lt, List, [], ◌∷◌, ◌++◌, true, false, Option, Some, None, inl, inr, length, refl, sym, ap, arith, subst, ltb-true, lt-ltb, le-ltb, is_some, false≢true, slice_get_cases, slice_get-get_or, Name, State, Next, Retry, Ok, Nok, Error, Seat, Waits, Nothing, Byte, End, Given, Text, Configuration, Choice, Step, TokenizerValue, Sight, sight, byte_of, current_of, fed, settled_at, EndsIn, settled_all, Stops, Stand, stand, turn, Turns, no_turn, one_turn, EndsFrom, AreCalledAlike}
+use Rattle.std.proofs.lemmas.Option.{cond_some}
 use Rattle.markdown_tokenizer.specs.Reading.{Reading}
 use Rattle.markdown_tokenizer.specs.Turns.{TurnsAreKept}
 use Rattle.markdown_tokenizer.proofs.Readings.Bounds.{fed-ends, called-ends, settled-ok-ends, settled-nok-ends}
-
--- what a test lets through
-pub let-through : {A : Type 0} (b : Bool) (x y : A) → cond b (Some x) None ≡ Some y → (b ≡ true) × (x ≡ y)
-let-through true x y e = (refl, cc)
-let-through false x y e = absurd (cc)
 
 -- a byte is seen exactly if one waits and the text has it
 pub seen-waits : (text : Text) (p : ℕ) (waits : Waits) → is_some (current_of text p waits) ≡ true → (waits ≡ Byte) × (p < length text.seats)
@@ -78,13 +74,13 @@ module _ {R D : Type 0} (g : Given) (step : Sight → Configuration R D → Name
 module _ {R D : Type 0} (g h : Given) (one other : Sight → Configuration R D → Name → Step R D) (short long : Text) (alike : AreCalledAlike g h one other short long) where
   turn-kept : (k : Configuration R D) (cs : List Choice) (s : State) (calls : ℕ) (b : Stand R D) → turn g one short k cs s calls ≡ Some b → turn h other long k cs s calls ≡ Some b
   turn-kept k cs (Next n) calls b e =
-      let p = let-through (nat_lt k.position (length short.seats)) (stand (record k { waiting = Byte }) cs (Retry n) calls) b e in
+      let p = cond_some (nat_lt k.position (length short.seats)) (stand (record k { waiting = Byte }) cs (Retry n) calls) b e in
       let less = ltb-true k.position (length short.seats) p.0 in let longer = alike.longer in
       let there = lt-ltb k.position (length long.seats) (omega (arith, less, longer)) in
       rw there (ap Some p.1)
   turn-kept k cs (Retry n) calls b e =
       let s : Step R D = one (sight g short k) k n in
-      let p = let-through (is_some (sight g short k).current) (stand s.configuration (s.choices ++ cs) s.answer (calls + 1)) b e in
+      let p = cond_some (is_some (sight g short k).current) (stand s.configuration (s.choices ++ cs) s.answer (calls + 1)) b e in
       let waits = seen-waits short k.position k.waiting p.0 in let longer = alike.longer in
       let there : is_some (sight h long k).current ≡ true = waits-seen long k.position k.waiting waits.0 (omega (arith, waits.1, longer)) in
       let same : other (sight h long k) k n ≡ s = sym (alike.alike k n p.0) in
@@ -104,13 +100,13 @@ module _ {R D : Type 0} (g : Given) (step : Sight → Configuration R D → Name
   turn-ends : (k : Configuration R D) (cs : List Choice) (s : State) (calls : ℕ) (b : Stand R D) → turn g step text k cs s calls ≡ Some b
       → (r : Reading R D) → EndsFrom g step text b r ↔ EndsFrom g step text (stand k cs s calls) r
   turn-ends k cs (Next n) calls b e r =
-      let p = let-through (nat_lt k.position (length text.seats)) (stand (record k { waiting = Byte }) cs (Retry n) calls) b e in
+      let p = cond_some (nat_lt k.position (length text.seats)) (stand (record k { waiting = Byte }) cs (Retry n) calls) b e in
       let feeds : fed text k ≡ record k { waiting = Byte } = rw p.0 refl in
       let first = subst (λ (q : Configuration R D). EndsIn g step text calls q cs (Retry n) r ↔ EndsIn g step text calls k cs (Next n) r) feeds (fed-ends g step text calls k cs n r) in
       subst (λ (y : Stand R D). EndsFrom g step text y r ↔ EndsFrom g step text (stand k cs (Next n) calls) r) p.1 first
   turn-ends k cs (Retry n) calls b e r =
       let s : Step R D = step (sight g text k) k n in
-      let p = let-through (is_some (sight g text k).current) (stand s.configuration (s.choices ++ cs) s.answer (calls + 1)) b e in
+      let p = cond_some (is_some (sight g text k).current) (stand s.configuration (s.choices ++ cs) s.answer (calls + 1)) b e in
       subst (λ (y : Stand R D). EndsFrom g step text y r ↔ EndsFrom g step text (stand k cs (Retry n) calls) r) p.1 (called-ends g step text calls k cs n r)
   turn-ends k (c ∷ cs) Ok calls b e r =
       let is : stand (settled_at c.kind c.saved Ok k) cs c.ok calls ≡ b = cc in

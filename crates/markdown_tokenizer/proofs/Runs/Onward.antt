@@ -1,6 +1,6 @@
 -- What was read of a document is what reading another one leaves, if that begins alike.
 use Rattle.markdown_tokenizer.proofs.Prelude.{AreAtPlaces, ◌≡◌, ◌+◌, ◌≤◌, ◌<◌, ◌∙◌, ℕ, nat_lt, List, [], ◌∷◌, ◌++◌, ◌↔◌, ◌⊎◌, false, Some, None, inl, inr, length, refl, sym, ap, arith, subst, Contains, is_some, Message, Name, State, Next, Retry, Ok, Nok, Error, Byte, Point, Seat, point, point_at, stands_before, ParseOptions, Given, Text, Piece, pushed, empty_text, followed_by, followed_by_all, FitsAfter, CanFollow, IsDocument, IsText, Configuration, Choice, Step, TokenizerValue, start_configuration, sight, fed, settled_at, Rules, IsLawful, CanPush, HoldsOf, IsFlushed, IsPushed, IsRefused, LeadsOn, IsPlace, given_by, EndsFrom, Stand, stand, stand_of, Turns, no_turn, one_turn, turn}
-use Rattle.std.proofs.lemmas.Option.{same_Some}
+use Rattle.std.proofs.lemmas.Option.{same_Some, cond_some}
 use Rattle.markdown_tokenizer.specs.Reading.{Reading}
 use Rattle.markdown_tokenizer.specs.Alike.{AreAlikeUpTo, GoesOnElsewhere, IsLeftIn, LooksNoFurther, RestIsRun, at_document_start, in_document}
 use Rattle.markdown_tokenizer.proofs.Inside.Changes.{text-more}
@@ -9,7 +9,7 @@ use Rattle.markdown_tokenizer.proofs.Positions.Moving.{BeginAlike, point-alike, 
 use Rattle.markdown_tokenizer.proofs.Positions.Order.{before-self}
 use Rattle.markdown_tokenizer.proofs.Positions.Points.{point_at-is}
 use Rattle.markdown_tokenizer.proofs.Positions.Standing.{place-of-point}
-use Rattle.markdown_tokenizer.proofs.Readings.Turns.{let-through, turns-are-kept}
+use Rattle.markdown_tokenizer.proofs.Readings.Turns.{turns-are-kept}
 use Rattle.markdown_tokenizer.proofs.Runs.Alike.{calls-are-alike}
 use Rattle.markdown_tokenizer.proofs.Runs.Moved.{alike-begin, with_bytes}
 use Rattle.markdown_tokenizer.proofs.Runs.Whole.{RunsBy, run-flushed, run-holds, run-last, run-pushed, run-range, run-refused, run-start, start-at, start-is-point, start-upto}
@@ -26,14 +26,14 @@ module _ {R D : Type 0} (h : Given) (rules : Rules R D) (laws : IsLawful h rules
   turn-leads : (k : Configuration R D) (cs : List Choice) (s : State) (calls : ℕ) (b : Stand R D) → turn h rules.step w k cs s calls ≡ Some b → rules.holds w k cs s
       → HoldsAt b × (cost_at b ≤ cost_at (stand k cs s calls))
   turn-leads k cs (Next n) calls b e hold =
-      let p = let-through (nat_lt k.position (length w.seats)) (stand (record k { waiting = Byte }) cs (Retry n) calls) b e in
+      let p = cond_some (nat_lt k.position (length w.seats)) (stand (record k { waiting = Byte }) cs (Retry n) calls) b e in
       let feeds : fed w k ≡ record k { waiting = Byte } = (let more = p.0 in rw more refl) in
       let kept = subst (λ (q : Configuration R D). rules.holds w q cs (Retry n)) feeds (laws.invariant_kept.by_feeding w k cs n is hold) in
       let paid = subst (λ (q : Configuration R D). rules.cost w q cs (Retry n) ≤ rules.cost w k cs (Next n)) feeds (laws.cost_pays.for_feeding w k cs n is hold) in
       subst (λ (y : Stand R D). HoldsAt y × (cost_at y ≤ cost_at (stand k cs (Next n) calls))) p.1 (kept, omega (arith, paid))
   turn-leads k cs (Retry n) calls b e hold =
       let s : Step R D = rules.step (sight h w k) k n in
-      let p = let-through (is_some (sight h w k).current) (stand s.configuration (s.choices ++ cs) s.answer (calls + 1)) b e in
+      let p = cond_some (is_some (sight h w k).current) (stand s.configuration (s.choices ++ cs) s.answer (calls + 1)) b e in
       let paid = laws.cost_pays.for_calls w k cs n is hold in
       subst (λ (y : Stand R D). HoldsAt y × (cost_at y ≤ cost_at (stand k cs (Retry n) calls))) p.1 (laws.invariant_kept.by_calls w k cs n is hold, omega (arith, paid))
   turn-leads k (c ∷ cs) Ok calls b e hold =
