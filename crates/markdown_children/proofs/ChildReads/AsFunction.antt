@@ -1,33 +1,11 @@
 -- What `subtokenize` gives is what the function of the list gives: a reading needs no larger bound than it makes calls.
-use Rattle.markdown_children.proofs.Prelude.{◌≡◌, ◌+◌, ◌-◌, ◌<◌, ◌≤◌, ℕ, zero, suc, Bool, true, false, List, [], ◌∷◌, ◌++◌, length, take, Option, Some, None, inl, inr, refl, sym, ap, ◌∙◌, subst, arith, flat_map, slice_get, nat_lt, Message, Name, Next, Ok, Error, Event, Enter, Exit, Paragraph, IsBalanced, Given, Text, Configuration, start_configuration, Rules, Reading, resolving, same_from_decides, append-nil, lt-ltb, ltb-true, slice_get_within, fitting_starts, with_children, Child, lists, IsRead, IsChild, IsChildRefused, AreChildren, AllByRecursion, AreAtPlaces, AreMutual, IsInShape, IsVoidTight, IsReady, begins, range_with_len, every-all, ◌⊎◌}
-use Rattle.std.specs.Prelude.{IsSomeAnd, ◌↔◌, ◌&&◌, if◌then◌else◌}
-use Rattle.std.proofs.lemmas.Bool.{and_parts, and_from}
-use Rattle.std.proofs.lemmas.List.{length-take-le}
-use denote.Enum.Bare.{sameb}
+use Rattle.markdown_children.proofs.Prelude.{◌≡◌, ◌+◌, ◌-◌, ◌<◌, ◌≤◌, ℕ, zero, suc, Bool, true, false, List, [], ◌∷◌, ◌++◌, length, take, Option, Some, None, inl, inr, refl, sym, ap, ◌∙◌, subst, arith, flat_map, slice_get, nat_lt, Message, Name, Next, Ok, Error, Event, Enter, Exit, Paragraph, IsBalanced, Given, Text, Configuration, start_configuration, Rules, Reading, resolving, same_from_decides, append-nil, lt-ltb, ltb-true, slice_get_within, fitting_starts, with_children, Child, lists, IsRead, IsChild, IsChildRefused, AreChildren, AllByRecursion, AreAtPlaces, AreMutual, IsInShape, IsVoidTight, IsReady, begins, range_with_len, every-all, ◌⊎◌, IsSomeAnd, ◌↔◌, ◌&&◌, if◌then◌else◌, and_parts, and_from, length-take-le, sameb, Constructs, Content, Kind, BlankLineEnding, Definition, LineEnding, SpaceOrTab, ListItemPrefix, State, Retry, Nok, same_name, Subresult, Choice, Step, Sight, sight, fed, settled_at, more_calls, settle, after_choices, read_step, read, every-kept, more-zero, IsLongestRunTo, depth_after, is_stop, mirror, run_len, same_name-refl, same_name-true, IsLongestRunTo-walk, length-mirror, run_begin, is_of, is_at_first_paragraph, Answer, gives, refuses, endless, with_first, are_none, child_of, read_from, children_at, put_in, AreChildrenOf, EachIsRead, IsJustChildrenOf, IsAtFirstParagraph, IsSubtokenized, IsSubtokenizeRefused, start_at, text_from}
 use Rattle.markdown_base.specs.contracts.event.Kind.{the_type as kinds}
-use Rattle.markdown_base.specs.declared.configuration.Constructs.{Constructs}
-use Rattle.markdown_base.specs.declared.event.Content.{Content}
-use Rattle.markdown_base.specs.declared.event.Kind.{Kind}
 use Rattle.markdown_base.specs.declared.event.Name.{Name as EventName}
-use Rattle.markdown_base.specs.declared.event.Name.TheVariants.{BlankLineEnding, Definition, LineEnding, SpaceOrTab, ListItemPrefix}
-use Rattle.markdown_base.specs.declared.state.State.{State}
-use Rattle.markdown_base.specs.declared.state.State.TheVariants.{Retry, Nok}
-use Rattle.markdown_base.specs.Events.{same_name}
-use Rattle.markdown_tokenizer.specs.declared.subtokenize.Subresult.{Subresult}
-use Rattle.markdown_tokenizer.specs.Configuration.{Choice, Step}
-use Rattle.markdown_tokenizer.specs.Sight.{Sight, sight}
-use Rattle.markdown_tokenizer.specs.Reading.{fed, settled_at, more_calls, settle, after_choices, read_step, read}
-use Rattle.markdown_tokenizer.proofs.Positions.Order.{every-kept}
-use Rattle.markdown_tokenizer.proofs.Readings.Bounds.{more-zero}
-use Rattle.markdown_edits.specs.SpanWalks.{IsLongestRunTo}
-use Rattle.markdown_edits.specs.SpanWalksInner.{depth_after, is_stop, mirror, run_len}
-use Rattle.markdown_edits.proofs.Balanced.{same_name-refl, same_name-true}
-use Rattle.markdown_edits.proofs.Mirrors.{IsLongestRunTo-walk, length-mirror}
 use Rattle.markdown_children.proofs.ChildReads.SoFar.{lists-all}
 use Rattle.markdown_children.proofs.Parts.AtPlaces.{with_children_at_places}
 use Rattle.markdown_children.proofs.Parts.InShape.{children_fit}
-use Rattle.markdown_children.specs.ChildrenOf.{run_begin, is_of, is_at_first_paragraph, Answer, gives, refuses, endless, with_first, are_none, child_of, left_of, read_from, children_at, put_in, AreChildrenOf, EachIsRead, IsJustChildrenOf}
-use Rattle.markdown_children.specs.Reads.{IsAtFirstParagraph, IsSubtokenized, IsSubtokenizeRefused, start_at, text_from}
+use Rattle.markdown_children.specs.ChildrenOf.{left_of}
 
 -- ---- a bound of as many calls as are made is enough
 

@@ -1,19 +1,11 @@
 -- A list that goes on to the next content: "a", a line ending and "> b" in two chunks of text, with a quote's prefix between; and a child
 -- that links two chunks of a string, one a line.
-use Rattle.markdown_children.proofs.Prelude.{◌≡◌, ℕ, zero, suc, ◌<◌, ◌&&◌, true, false, List, [], ◌∷◌, Option, Some, None, refl, sym, ◌∙◌, ap, subst, arith, inr, same_Some, none-some, All, All-from_recursion, Contains, String, Event, Enter, Exit, BlockQuotePrefix, Data, Paragraph, Point, point, ParseOptions, IsReady, IsShownPlace, IsVoidTight, Given, and_parts, is_sound_at, can_be_read_at, is_place, place_at, stands_before}
-use Rattle.std.proofs.Common.{lit<}
-use Rattle.markdown_base.specs.declared.event.Content.{Content}
+use Rattle.markdown_children.proofs.Prelude.{◌≡◌, ℕ, zero, suc, ◌<◌, ◌&&◌, true, false, List, [], ◌∷◌, Option, Some, None, refl, sym, ◌∙◌, ap, subst, arith, inr, same_Some, none-some, All, All-from_recursion, Contains, String, Event, Enter, Exit, BlockQuotePrefix, Data, Paragraph, Point, point, ParseOptions, IsReady, IsShownPlace, IsVoidTight, Given, and_parts, is_sound_at, can_be_read_at, is_place, place_at, stands_before, lit<, Content, Kind, Link, in_range, Seat, virtual, HasTextInGaps, HoldsOnlyText, ChildrenCanBeRead, text_from}
 use Rattle.markdown_base.specs.declared.event.Content.TheVariants.{Text}
-use Rattle.markdown_base.specs.declared.event.Kind.{Kind}
-use Rattle.markdown_base.specs.declared.event.Link.{Link}
 use Rattle.markdown_base.specs.declared.event.Name.{Name}
-use Rattle.markdown_base.specs.Places.{in_range}
-use Rattle.markdown_base.specs.Virtual.{Seat, virtual}
 use Rattle.markdown_children.proofs.Parts.Tight.{tight-to}
 use Rattle.markdown_children.proofs.Ready.Decided.{ready-of}
 use Rattle.markdown_children.proofs.Ready.Reached.{place-sound}
-use Rattle.markdown_children.specs.NextContent.{HasTextInGaps, HoldsOnlyText, ChildrenCanBeRead}
-use Rattle.markdown_children.specs.Reads.{text_from}
 
 abbrev bytes : List ℕ
 bytes = 97 ∷ 10 ∷ 62 ∷ 32 ∷ 98 ∷ []

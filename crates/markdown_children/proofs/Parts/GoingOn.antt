@@ -1,9 +1,7 @@
 -- After the chains of one content were read, a list is ready for the next content.
-use Rattle.markdown_children.proofs.Prelude.{◌≡◌, ℕ, ◌<◌, List, [], ◌∷◌, Option, sym, subst, arith, AllByRecursion, Content, Event, IsVoidTight, Given, Text, begins, length, range_with_len, filter_passes, recursion_from_All, true, Rules, IsReady, fitting_starts, Child, lists, AreChildren, text_from}
-use Rattle.std.specs.List.{AllZip}
+use Rattle.markdown_children.proofs.Prelude.{◌≡◌, ℕ, ◌<◌, List, [], ◌∷◌, Option, sym, subst, arith, AllByRecursion, Content, Event, IsVoidTight, Given, Text, begins, length, range_with_len, filter_passes, recursion_from_All, true, Rules, IsReady, fitting_starts, Child, lists, AreChildren, text_from, AllZip, CanBeReadNext, GoesOn, ReadsNext, GoesOnBy}
 use Rattle.markdown_children.proofs.Parts.Staying.{chains-stay-ready}
 use Rattle.markdown_children.proofs.Parts.Untorn.{none-torn}
-use Rattle.markdown_children.specs.NextContent.{CanBeReadNext, GoesOn, ReadsNext, GoesOnBy}
 
 module _ (g : Given) (next : Option Content) (events : List Event) where
   -- what each child is alone

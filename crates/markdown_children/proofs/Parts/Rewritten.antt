@@ -1,14 +1,11 @@
 -- A list in which all chains are edited, as it is written: what is between the edits has no links, and stays as it is.
-use Rattle.markdown_children.proofs.Prelude.{◌≡◌, ℕ, zero, suc, ◌+◌, ◌-◌, ◌*◌, ◌<◌, ◌≤◌, Bool, true, false, List, [], ◌∷◌, ◌++◌, length, map, drop, drop-drop, flat_map, filter, range_with_len, Option, None, Some, inl, inr, cases_lt, refl, sym, ◌∙◌, ap, subst, arith, between, slice_get, slice_get_past, option_and_then, option_map, AllByRecursion, append_assoc, Event, Link, with_ends, relinked, Edit, AreDisjoint, edited, IsReady, chain_of, fits, fitting_starts, some_fits, Divided, divided, divided_over, child_place, part_edits, all_edits, total}
-use Rattle.markdown_edits.proofs.Edits.Splices.{edited-spliced, place_after}
-use Rattle.markdown_edits.specs.Links.{content_of}
-use Rattle.markdown_edits.specs.Spliced.{spliced}
-use Rattle.markdown_children.specs.Written.{written, end_of}
+use Rattle.markdown_children.proofs.Prelude.{◌≡◌, ℕ, zero, suc, ◌+◌, ◌-◌, ◌*◌, ◌<◌, ◌≤◌, Bool, true, false, List, [], ◌∷◌, ◌++◌, length, map, drop, drop-drop, flat_map, filter, range_with_len, Option, None, Some, inl, inr, cases_lt, refl, sym, ◌∙◌, ap, subst, arith, between, slice_get, slice_get_past, option_and_then, option_map, AllByRecursion, append_assoc, Event, Link, with_ends, relinked, Edit, AreDisjoint, edited, IsReady, chain_of, fits, fitting_starts, some_fits, Divided, divided, divided_over, child_place, part_edits, all_edits, total, all-there, get-dropped, edited-spliced, content_of, spliced, written, end_of}
+use Rattle.markdown_edits.proofs.Edits.Splices.{place_after}
 use Rattle.markdown_children.proofs.ChainOrder.Following.{by_option, by_test, filter-no, filter-yes, follow_one_another}
 use Rattle.markdown_children.proofs.ChainOrder.Forward.{ends-inside}
 use Rattle.markdown_children.proofs.ChainOrder.Spaced.{divided-parts}
 use Rattle.markdown_children.proofs.Parts.Edits.{edits_give_children}
-use Rattle.markdown_children.proofs.Parts.Weaves.{IsFree, all-between, all-there, get-dropped}
+use Rattle.markdown_children.proofs.Parts.Weaves.{IsFree, all-between}
 
 -- ---- where the edits are
 

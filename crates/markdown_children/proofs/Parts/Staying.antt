@@ -3,26 +3,14 @@
 -- A linked event of the new list is one of the list that stays, or one of a child. If it is one of the list, so are the exit behind it and
 -- all events up to the next one of its chain: no chunk that is replaced is among them, as it is linked. So they stand side by side as
 -- before. If it is one of a child, gaps of the list may come between (`Weaves`).
-use Rattle.markdown_children.proofs.Prelude.{chain_of, front_until, zero-add, AreSpaced, ◌≡◌, ℕ, zero, suc, ◌+◌, ◌-◌, ◌<◌, ◌≤◌, inl, inr, ◌&&◌, ◌||◌, Bool, true, false, eqb, List, [], ◌∷◌, ◌++◌, length, map, take, drop, Option, Some, None, refl, sym, ◌∙◌, ap, subst, arith, zero-add, eq-eqb, le-leb, lt-ltb, le-ltb, leb-true, leb-false, ltb-true, ltb-false, nat_le, nat_lt, leb, slice_get, slice_get_within, slice_get-map, none-some, same_Some, option_map, option_and_then, option_and_then_some, map-append, flat_map, range_with_len, AllByRecursion, every-get, every-map, recursion_from_All, both_true, between, Content, Event, Enter, Exit, Link, Point, drop-at, IsBalanced, AreMutual, relinked, next_of, stands_before, next_moved, stays_unless_removed, of_list, of_child, of_addition, Identity, Tagged, Change, is_same, is_removed, place_in, placed_end, pass, woven, woven-pass, AreApart, HasNo, same_shift, content_at, some_fits, fits, fitting_starts, IsChunk, IsGap, IsReady, IsReadable, IsShownPlace, place_at, LeadOnFrom, IsWholeFrom, parts, divided_over, first_chunk, part_changes, chain_changes, child_changes, with_children}
-use Rattle.std.proofs.Common.{ltb, not}
-use Rattle.std.specs.Prelude.{is_some, unwrap_or}
-use Rattle.markdown_base.specs.Events.{empty, span}
-use Rattle.markdown_base.specs.Virtual.{point}
-use Rattle.std.proofs.lemmas.Bool.{cases_order}
-use Rattle.markdown_edits.proofs.Edits.FinalPlaces.{old_place, old_place-pass}
-use Rattle.markdown_edits.proofs.Edits.Survivors.{keeps_order, stays_as_it_was}
-use Rattle.markdown_edits.specs.Links.{IsLinkedEnter, content_of}
+use Rattle.markdown_children.proofs.Prelude.{chain_of, front_until, zero-add, AreSpaced, ◌≡◌, ℕ, zero, suc, ◌+◌, ◌-◌, ◌<◌, ◌≤◌, inl, inr, ◌&&◌, Bool, true, false, eqb, List, [], ◌∷◌, ◌++◌, length, map, take, drop, Option, Some, None, refl, sym, ◌∙◌, ap, subst, arith, zero-add, eq-eqb, le-leb, lt-ltb, le-ltb, leb-true, leb-false, ltb-true, ltb-false, nat_le, nat_lt, leb, slice_get, slice_get_within, slice_get-map, none-some, same_Some, option_map, option_and_then, option_and_then_some, map-append, flat_map, range_with_len, AllByRecursion, every-get, every-map, both_true, between, Content, Event, Enter, Exit, Link, Point, drop-at, IsBalanced, AreMutual, relinked, next_of, stands_before, next_moved, stays_unless_removed, of_list, of_child, of_addition, Identity, Tagged, Change, is_same, is_removed, place_in, placed_end, pass, woven, woven-pass, AreApart, same_shift, content_at, some_fits, fits, fitting_starts, IsChunk, IsGap, IsReady, IsReadable, IsShownPlace, place_at, LeadOnFrom, IsWholeFrom, parts, divided_over, first_chunk, part_changes, chain_changes, child_changes, with_children, some-get, ltb, not, is_some, unwrap_or, empty, span, point, cases_order, or_parts, old_place, old_place-pass, keeps_order, stays_as_it_was, has_no, IsLinkedEnter, content_of, no-links-shape, no-links-take, no-links-drop, HaveNoLinks, StaysReady, StaysReadyWithChains}
 use Rattle.markdown_edits.specs.Survivors.{place_after}
-use Rattle.markdown_tokenizer.proofs.Readings.Plain.{no-links-shape, no-links-take, no-links-drop}
-use Rattle.markdown_tokenizer.specs.Plain.{HaveNoLinks}
-use Rattle.markdown_children.specs.LawStatements.{StaysReady}
 use Rattle.markdown_children.proofs.ChainOrder.Following.{chunks-apart, Fits, by_test, by_option, chunk, fits_next, some_content, starts_fit, follow_one_another}
 use Rattle.markdown_children.proofs.ChainOrder.Spaced.{changes_are_apart}
 use Rattle.markdown_children.proofs.Parts.InShape.{source, IsSourced, place_in-there, child-all, child_of, all-sourced, all-once, children_fit}
 use Rattle.markdown_children.proofs.Parts.Once.{once-place}
-use Rattle.markdown_children.specs.NextContent.{StaysReadyWithChains}
 use Rattle.markdown_children.proofs.Parts.Untorn.{none-cut}
-use Rattle.markdown_children.proofs.Parts.Weaves.{some-get, content-kept, EndsInChunkEnter, IsCutNowhere, AreCutNowhere, IsPut, put-chains, Between, exit-place, between-chunks, gap-balanced, gap-free}
+use Rattle.markdown_children.proofs.Parts.Weaves.{content-kept, EndsInChunkEnter, IsCutNowhere, AreCutNowhere, IsPut, put-chains, Between, exit-place, between-chunks, gap-balanced, gap-free}
 
 -- ---- lists
 no-content : (xs : List Event) → HaveNoLinks xs → (k : ℕ) → content_at xs k ≡ None
@@ -133,16 +121,12 @@ next-place (w ∷ ws) from total removed added n p d r l q e =
     rw (le-ltb (suc n) w.index (omega arith), le-ltb (suc n) (w.index + w.remove) (omega arith))
     (next-place ws (w.index + w.remove) total (removed + w.remove) (added + length w.events) n p d.1 (omega arith) past q.1 (rw (b, c) at e))))
 
-neither : (x y : Bool) → (x || y) ≡ false → (x ≡ false) × (y ≡ false)
-neither true y e = absurd (cc)
-neither false y e = (refl, e)
-
 -- nor does one at an event that stays
 stays-quiet : (ws : List Change) (n : ℕ) → AllByRecursion (λ (w : Change). w.remove ≡ 2) ws → is_removed ws n ≡ false → Quiet n ws
 stays-quiet [] n h e = tt
 stays-quiet (w ∷ ws) n h e =
     let test : Bool = nat_le w.index n && nat_lt n (w.index + w.remove) in
-    let two = neither test (is_removed ws n) e in
+    let two = or_parts test (is_removed ws n) e in
     let no : w.index ≡ n → ⊥ = λ s.
     let all : w.remove ≡ 2 = h.0 in
     let yes : test ≡ true = both_true (le-leb w.index n (omega arith)) (lt-ltb n (w.index + w.remove) (omega arith)) in
@@ -164,13 +148,10 @@ module _ (tab : ℕ) (bytes : List ℕ) (wanted : Option Content) (events : List
   abbrev after : ℕ → Option ℕ
   after n = place_after ws events n
 
-  has-no : (n : ℕ) → HasNo (of_list n) ws
-  has-no n = recursion_from_All (λ (w : Change). place_in (of_list n) w.events ≡ None) ws ((changes_are_apart tab bytes wanted events children ready).fresh n)
-
   place-is : (n : ℕ) → n < length events → after n ≡ old_place ws 0 0 n
   place-is n l =
       let apart : AreApart 0 ws (0 + length events) = rw zero-add (changes_are_apart tab bytes wanted events children ready).apart in
-      ap (place_in (of_list n)) (woven-pass ws 0 events apart) ∙ sym (same_shift (place_in (of_list n) (pass ws 0 events))) ∙ old_place-pass ws n 0 0 0 events (has-no n) apart (omega arith) (omega arith) (omega arith)
+      ap (place_in (of_list n)) (woven-pass ws 0 events apart) ∙ sym (same_shift (place_in (of_list n) (pass ws 0 events))) ∙ old_place-pass ws n 0 0 0 events (has_no ws (changes_are_apart tab bytes wanted events children ready).fresh n) apart (omega arith) (omega arith) (omega arith)
 
   next-after : (n p : ℕ) → suc n < length events → Quiet (suc n) ws → after n ≡ Some p → after (suc n) ≡ Some (suc p)
   next-after n p l q e =

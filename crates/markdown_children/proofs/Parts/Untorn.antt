@@ -2,21 +2,10 @@
 --
 -- Where events are between two chunks there is text too. A void span that is open there would hold the first byte of that text, which is in
 -- no chunk.
-use Rattle.markdown_children.proofs.Prelude.{both_true, every-get, range_with_len, ◌≡◌, ◌⊎◌, ℕ, zero, suc, ◌+◌, ◌<◌, inl, inr, Bool, true, false, cond, not, List, [], ◌∷◌, ◌++◌, length, map, drop, drop-drop, Option, Some, refl, sym, ◌∙◌, ap, subst, arith, filter, slice_get, none-some, same_Some, AllByRecursion, every-append, every-map, All-from_recursion, recursion_from_All, filter_passes, All, Contains, Content, Event, Enter, Point, is_void, IsVoidTight, stands_before, next_of, Given, Text, pushed, passed, empty_text, followed_by, followed_by_all, denotes_same, fitting_starts, IsReady, place_at, IsShownPlace, LeadOnFrom, IsWholeFrom, EndsInVoidEnter, StandSideBySide, IsTornNowhere, NoneTorn, parts, front_until, Divided, divided_over, pieces_behind, text_from, text_of_chain, false_from_ne_true, and_parts, not-true, take_while-cons}
-use Rattle.std.specs.List.{AllZip, take_while}
-use Rattle.std.proofs.lemmas.List.Elements.{All-contains, All-contains_itself, Contains-append_right}
-use Rattle.markdown_base.specs.Places.{in_range, is_upto}
-use Rattle.markdown_base.specs.Virtual.{Seat, virtual}
+use Rattle.markdown_children.proofs.Prelude.{both_true, every-get, range_with_len, ◌≡◌, ◌⊎◌, ℕ, zero, suc, ◌+◌, ◌<◌, inl, inr, Bool, true, false, cond, not, List, [], ◌∷◌, ◌++◌, length, map, drop, drop-drop, Option, Some, refl, sym, ◌∙◌, ap, subst, arith, filter, slice_get, none-some, same_Some, AllByRecursion, every-append, every-map, All-from_recursion, recursion_from_All, filter_passes, All, Contains, Content, Event, Enter, Point, is_void, IsVoidTight, stands_before, next_of, Given, Text, pushed, passed, empty_text, followed_by, followed_by_all, denotes_same, fitting_starts, IsReady, place_at, IsShownPlace, LeadOnFrom, IsWholeFrom, EndsInVoidEnter, StandSideBySide, IsTornNowhere, NoneTorn, parts, front_until, Divided, divided_over, pieces_behind, text_from, text_of_chain, false_from_ne_true, and_parts, not-true, take_while-cons, get-dropped, get-taken, AllZip, take_while, All-contains, All-contains_itself, Contains-append_right, not-false, in_range, is_upto, Seat, virtual, HasTextInGaps, HoldsOnlyText, CanBeReadNext, ChildrenCanBeRead, before-self, later-later, before-upto, after-before, upto-order, way-rest, way-none, same-shown, rest-later, place-of-point, rest_at, IsPlace}
 use Rattle.markdown_children.proofs.ChainOrder.Following.{Fits, by_test, fits_next, starts_fit, follow_one_another}
-use Rattle.markdown_children.proofs.Parts.Weaves.{EndsInChunkEnter, IsCutNowhere, get-dropped, get-taken}
-use Rattle.markdown_children.specs.NextContent.{HasTextInGaps, HoldsOnlyText, CanBeReadNext, ChildrenCanBeRead}
-use Rattle.markdown_tokenizer.proofs.Positions.Order.{before-self, later-later, before-upto, after-before}
-use Rattle.markdown_tokenizer.proofs.Positions.Cursors.{left_of, upto-order}
-use Rattle.markdown_tokenizer.proofs.Positions.Lines.{way-rest, way-none}
-use Rattle.markdown_tokenizer.proofs.Positions.Points.{same-shown}
-use Rattle.markdown_tokenizer.proofs.Positions.Seats.{rest-later}
-use Rattle.markdown_tokenizer.proofs.Positions.Standing.{place-of-point}
-use Rattle.markdown_tokenizer.specs.Cursor.{rest_at, IsPlace}
+use Rattle.markdown_children.proofs.Parts.Weaves.{EndsInChunkEnter, IsCutNowhere}
+use Rattle.markdown_tokenizer.proofs.Positions.Cursors.{left_of}
 
 -- ---- nothing torn is nothing cut
 -- a chunk that is begun is a void span that is entered
@@ -76,10 +65,6 @@ pub goes-on-side : (k d : ℕ) (ks : List ℕ) (q : List Event) (qs : List (List
 goes-on-side k d ks [] qs at go = (at, go refl)
 goes-on-side k d ks (x ∷ q) qs at go = at
 
-pub passed-by : (b : Bool) → not b ≡ false → b ≡ true
-passed-by true e = refl
-passed-by false e = absurd (cc)
-
 -- a void span of the child that is entered at or before a place is exited there or before
 abbrev IsShutAt : List Event → Point → Type 0
 IsShutAt child p = (n : ℕ) (e f : Event) → slice_get child n ≡ Some e → slice_get child (n + 1) ≡ Some f → e.kind ≡ Enter → is_void e.name ≡ true → stands_before p e.point ≡ false → stands_before p f.point ≡ false
@@ -124,7 +109,7 @@ module _ (tab : ℕ) (bytes : List ℕ) (wanted : Option Content) (events : List
         let later = later-later end.index end.vs here.index here.vs e.point.index e.point.vs (ends-rise tab bytes wanted events ready k d h lead.0) before in
         goes-on-side k d (c ∷ ks) front (parts (ends_of (c ∷ ks)) (drop (length front) es)) next (λ none.
         let still : slice_get (drop (length front) es) 0 ≡ Some f = ap (λ (l : List Event). slice_get (drop (length l) es) 0) none ∙ first in
-        side d (c ∷ ks) (drop (length front) es) (fits_next tab bytes wanted events ready k d h lead.0) lead.2 stops.1 later (passed-by (stands_before end f.point) (fails-next test es f still)) still)
+        side d (c ∷ ks) (drop (length front) es) (fits_next tab bytes wanted events ready k d h lead.0) lead.2 stops.1 later (not-false (stands_before end f.point) (fails-next test es f still)) still)
 
   -- so no chunks tear one
   untorn : (k : ℕ) (ks : List ℕ) (m : ℕ) → Fits wanted events k → LeadOnFrom events k ks → StopsAt events child k ks → IsTornNowhere (k ∷ ks) (parts (ends_of (k ∷ ks)) (drop m child))
@@ -149,7 +134,7 @@ module _ (tab : ℕ) (bytes : List ℕ) (wanted : Option Content) (events : List
           let z : m + (length front + 0) ≡ m + last.n + 1 = omega (arith, long) in
           let first : slice_get (drop (length front) es) 0 ≡ Some exit.0 = get-dropped (length front) es 0 ∙ get-dropped m child (length front + 0) ∙ ap (slice_get child) z ∙ exit.1 in
           side (m + last.n) last.e exit.0 at_e exit.1 last.enter last.void k (d ∷ ks) (drop (length front) es) h lead stops (not-true (stands_before end last.e.point) (passes-at test es last.n last.e last.at))
-          (passed-by (stands_before end exit.0.point) (fails-next test es exit.0 first)) first
+          (not-false (stands_before end exit.0.point) (fails-next test es exit.0 first)) first
 
 -- ---- the bytes of a gap
 -- The first byte from a place on is before another place
@@ -186,6 +171,10 @@ byte-behind tab some bytes p q a b less = by (left_of tab bytes p q) refl
           before = first.0;
         }
 
+-- a gap adds no byte
+pub gap-seats : (g : Given) (text : Text) (p : Point) → (followed_by g text (passed p)).seats ≡ text.seats
+gap-seats g text p = by_test (denotes_same g.tab g.bytes p text.end) (λ e. rw e refl) (λ e. rw e refl)
+
 module _ (g : Given) (some : 0 < g.tab) (wanted : Option Content) (events : List Event) (ready : IsReady g.tab g.bytes wanted events) where
   -- the bytes of a range are not before its beginning, and are before its end
   abbrev IsIn : Point → Point → Seat → Type 0
@@ -198,10 +187,6 @@ module _ (g : Given) (some : 0 < g.tab) (wanted : Option Content) (events : List
       (λ s h. let two = and_parts (not (stands_before s.point from)) (stands_before s.point to) h in (not-true (stands_before s.point from) two.0, two.1))
       seats (recursion_from_All (λ s. in_range from to s ≡ true) seats (filter_passes (in_range from to) (virtual g.tab g.bytes)))
 
-  -- a gap adds no byte
-  gap-seats : (text : Text) (p : Point) → (followed_by g text (passed p)).seats ≡ text.seats
-  gap-seats text p = by_test (denotes_same g.tab g.bytes p text.end) (λ e. rw e refl) (λ e. rw e refl)
-
   -- the text up to the end of the next chunk
   abbrev with_chunk : Text → ℕ → Text
   with_chunk text d = followed_by g (followed_by g text (passed (place_at events d))) (pushed (place_at events d) (place_at events (d + 1)))
@@ -212,7 +197,7 @@ module _ (g : Given) (some : 0 < g.tab) (wanted : Option Content) (events : List
       let to = place_at events (d + 1) in
       let added = filter (in_range from to) (virtual g.tab g.bytes) in
       let mid = followed_by g text (passed from) in
-      every-append Q mid.seats added (subst (AllByRecursion Q) (sym (gap-seats text from)) all) (every-map (IsIn from to) Q more added (range-in from to))
+      every-append Q mid.seats added (subst (AllByRecursion Q) (sym (gap-seats g text from)) all) (every-map (IsIn from to) Q more added (range-in from to))
 
   -- what holds from a place on holds of the bytes of all chunks behind it
   seats-behind : (Q : Seat → Type 0) (from : Point) → ((s : Seat) → stands_before s.point from ≡ false → Q s) → (k : ℕ) (ks : List ℕ) (text : Text) → Fits wanted events k → LeadOnFrom events k ks

@@ -1,9 +1,8 @@
 -- What comes in place of a chain: the events of its child in order, and between its parts the gaps of the list.
 --
 -- A gap is balanced, and none of its events has a link. So the events between two of a child are balanced if they are so in the child.
-use Rattle.markdown_children.proofs.Prelude.{slice_get_within, slice_get-behind, slice_get-map, get-front, every-get, length-drop, eq-eqb, is_same, place_in, placed, placed_in, placed_end, relinked, option_map, balanced_from_open, names_after_balanced, Link, with_ends, IsChunk, IsGap, ◌≡◌, ℕ, zero, suc, ◌+◌, ◌-◌, ◌<◌, ◌≤◌, Bool, true, false, cond, eqb, List, [], ◌∷◌, ◌++◌, length, map, take, drop, Option, Some, None, refl, sym, ◌∙◌, ap, subst, arith, append_assoc, length-append, map-append, drop-drop, flat_map, slice_get, none-some, same_Some, option_and_then, AllByRecursion, every-append, between, Content, Event, Point, IsBalanced, names_after, names_after_all, names_after_all-append, olds, pass, Identity, of_list, of_child, of_addition, Tagged, Change, tagged_child, part_changes, first_chunk, chain_changes, chain_of, content_at, IsReady, place_at, LeadOnFrom, IsWholeFrom, AreSpaced, StandSideBySide, parts, Divided, divided_over, eqb-true}
+use Rattle.markdown_children.proofs.Prelude.{slice_get_within, slice_get-behind, slice_get-map, get-front, every-get, length-drop, eq-eqb, is_same, place_in, placed, placed_in, placed_end, relinked, option_map, balanced_from_open, names_after_balanced, Link, with_ends, IsChunk, IsGap, ◌≡◌, ℕ, zero, suc, ◌+◌, ◌-◌, ◌<◌, ◌≤◌, Bool, true, false, cond, eqb, List, [], ◌∷◌, ◌++◌, length, map, take, drop, Option, Some, None, refl, sym, ◌∙◌, ap, subst, arith, append_assoc, length-append, map-append, drop-drop, flat_map, slice_get, none-some, same_Some, option_and_then, AllByRecursion, every-append, between, Content, Event, Point, IsBalanced, names_after, names_after_all, names_after_all-append, olds, pass, Identity, of_list, of_child, of_addition, Tagged, Change, tagged_child, part_changes, first_chunk, chain_changes, chain_of, content_at, IsReady, place_at, LeadOnFrom, IsWholeFrom, AreSpaced, StandSideBySide, parts, Divided, divided_over, eqb-true, all-there, get-dropped, get-taken, some-get, IsLinkedEnter, content_of}
 use Rattle.markdown_base.specs.declared.event.Name.{Name}
-use Rattle.markdown_edits.specs.Links.{IsLinkedEnter, content_of}
 use Rattle.markdown_children.proofs.ChainOrder.Following.{Fits, by_test, fits_next}
 use Rattle.markdown_children.proofs.ChainOrder.Spaced.{length-parts, length-map_ends}
 use Rattle.markdown_children.proofs.Parts.InShape.{child_at}
@@ -11,21 +10,6 @@ use Rattle.markdown_children.proofs.Parts.Kept.{joined, joined-parts, untagged, 
 use Rattle.markdown_children.proofs.Parts.Once.{AreOnce, once-place}
 
 -- ---- lists
--- what holds of each element that is there holds of all
-pub all-there : {A : Type 0} (P : A → Type 0) (xs : List A) → ((i : ℕ) (x : A) → slice_get xs i ≡ Some x → P x) → AllByRecursion P xs
-all-there P [] h = tt
-all-there P (x ∷ xs) h = (h 0 x refl, all-there P xs (λ i y e. h (suc i) y e))
-
-pub get-dropped : {A : Type 0} (k : ℕ) (xs : List A) (i : ℕ) → slice_get (drop k xs) i ≡ slice_get xs (k + i)
-get-dropped zero xs i = let z : i ≡ 0 + i = omega arith in ap (slice_get xs) z
-get-dropped (suc k) [] i = refl
-get-dropped (suc k) (x ∷ xs) i = let z : suc (k + i) ≡ suc k + i = omega arith in get-dropped k xs i ∙ ap (slice_get (x ∷ xs)) z
-
-pub get-taken : {A : Type 0} (k : ℕ) (xs : List A) (i : ℕ) (x : A) → slice_get (take k xs) i ≡ Some x → (i < k) × (slice_get xs i ≡ Some x)
-get-taken zero xs i x e = absurd (none-some x e)
-get-taken (suc k) [] i x e = absurd (none-some x e)
-get-taken (suc k) (y ∷ xs) zero x e = (omega arith, e)
-get-taken (suc k) (y ∷ xs) (suc i) x e = let r = get-taken k xs i x e in (omega (arith, r.0), r.1)
 
 -- what holds of each event between two indices
 pub all-between : {A : Type 0} (P : A → Type 0) (a b : ℕ) (xs : List A) → ((i : ℕ) (x : A) → a ≤ i → i < b → slice_get xs i ≡ Some x → P x) → AllByRecursion P (between a b xs)
@@ -33,11 +17,6 @@ all-between P a b xs h = all-there P (between a b xs) (λ i x e.
     let r = get-taken (b - a) (drop a xs) i x e in
     let l : i < b - a = r.0 in
     h (a + i) x (omega arith) (omega arith) (sym (get-dropped a xs i) ∙ r.1))
-
-pub some-get : {A : Type 0} (xs : List A) (i : ℕ) → i < length xs → (x : A) × (slice_get xs i ≡ Some x)
-some-get [] i l = absurd (omega arith)
-some-get (x ∷ xs) zero l = (x, refl)
-some-get (x ∷ xs) (suc i) l = some-get xs i (omega arith)
 
 -- events with other link ends
 pub content-kept : (f : ℕ → Option ℕ) (o : Option Link) → option_map (λ (l : Link). l.content) (option_map (with_ends f) o) ≡ option_map (λ (l : Link). l.content) o

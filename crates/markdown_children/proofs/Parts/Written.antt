@@ -1,6 +1,5 @@
 -- A list as it is written while edits are made in it.
-use Rattle.markdown_children.proofs.Prelude.{◌≡◌, ℕ, ◌+◌, ◌≤◌, List, [], ◌∷◌, ◌++◌, refl, sym, ◌∙◌, ap, append-nil, append_assoc, between, Event, Edit, AreDisjoint, AreDisjoint-le}
-use Rattle.markdown_children.specs.Written.{written, end_of}
+use Rattle.markdown_children.proofs.Prelude.{◌≡◌, ℕ, ◌+◌, ◌≤◌, List, [], ◌∷◌, ◌++◌, refl, sym, ◌∙◌, ap, append-nil, append_assoc, between, Event, Edit, AreDisjoint, AreDisjoint-le, written, end_of}
 
 pub end_of-append : (from : ℕ) (es fs : List Edit) → end_of from (es ++ fs) ≡ end_of (end_of from es) fs
 end_of-append from [] fs = refl

@@ -1,7 +1,4 @@
-use Rattle.markdown_children.proofs.Prelude.{◌≡◌, ℕ, ◌≤◌, List, [], None, true, false, refl, sym, ap, ◌∙◌, subst, arith, length, drop, length-drop, length-map, between, take, ◌+◌, ◌-◌, ◌++◌, AllZip-long, AreDisjoint, SoFar, Child, IsChild, fitting_starts, begins, IsReady, Event, Edit, StandBefore, Subresult, given_by, err-if, lists, all_edits, divided_over, starts_below, removed_by, IsChildFault}
-use Rattle.std.proofs.Math.Seq.{take-length}
-use Rattle.markdown_children.specs.Parts.{edits_of_chain}
-use Rattle.markdown_children.specs.Written.{written, end_of}
+use Rattle.markdown_children.proofs.Prelude.{◌≡◌, ℕ, ◌≤◌, List, [], None, true, false, refl, sym, ap, ◌∙◌, subst, arith, length, drop, length-drop, length-map, between, take, ◌+◌, ◌-◌, ◌++◌, AllZip-long, AreDisjoint, SoFar, Child, IsChild, fitting_starts, begins, IsReady, Event, Edit, StandBefore, Subresult, given_by, err-if, lists, all_edits, divided_over, starts_below, removed_by, IsChildFault, take-length, edits_of_chain, written, end_of}
 use Rattle.markdown_children.proofs.ChildReads.SoFar.{stand-before, so_far-other, so_far-next, so_far-fault}
 use Rattle.markdown_children.proofs.ChainOrder.Forward.{forward-chain, within}
 use Rattle.markdown_children.proofs.Parts.Tabled.{removed-le}

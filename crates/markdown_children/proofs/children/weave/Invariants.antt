@@ -1,5 +1,4 @@
-use Rattle.markdown_children.proofs.Prelude.{◌≡◌, List, None, Edit, given_by, SoFar}
-use Rattle.markdown_children.specs.Written.{written, end_of}
+use Rattle.markdown_children.proofs.Prelude.{◌≡◌, List, None, Edit, given_by, SoFar, written, end_of}
 use Rattle.markdown_children.proofs.children.weave.Given as goal
 
 -- the chains that begin so far were read, and what is written has their edits made

@@ -1,6 +1,4 @@
-use Rattle.markdown_children.proofs.Prelude.{◌≡◌, ◌++◌, ◌+◌, ◌<◌, ℕ, List, length, map, take, drop, get_or, slice_set, ap, ◌∙◌, arith, Event, relinked, table_place, length-append, length-map, length-take, length-drop}
-use Rattle.std.proofs.lemmas.List.{get_or_default}
-use Rattle.std.proofs.lemmas.List.Edits.{map_over_more}
+use Rattle.markdown_children.proofs.Prelude.{◌≡◌, ◌++◌, ◌+◌, ◌<◌, ℕ, List, length, map, take, drop, get_or, slice_set, ap, ◌∙◌, arith, Event, relinked, table_place, length-append, length-map, length-take, length-drop, get_or_default, map_over_more}
 use Rattle.markdown_children.proofs.division.place_links.Goals as goal
 
 -- one more event is written over, where the loop is inside the list

@@ -1,5 +1,4 @@
-use Rattle.markdown_children.proofs.Prelude.{◌≡◌, true, sym, ◌∙◌, is_sound_at}
-use borrow.Author.Count.{below_more}
+use Rattle.markdown_children.proofs.Prelude.{◌≡◌, true, sym, ◌∙◌, is_sound_at, below_more}
 use Rattle.markdown_children.proofs.readiness.are_sound.Goals as goal
 
 pub loop-index-preserved : goal.loop-index-preserved

@@ -1,5 +1,4 @@
-use Rattle.markdown_children.proofs.Prelude.{◌≡◌, true, sym, ◌∙◌, can_be_read_from}
-use borrow.Author.Count.{below_more}
+use Rattle.markdown_children.proofs.Prelude.{◌≡◌, true, sym, ◌∙◌, can_be_read_from, below_more}
 use Rattle.markdown_children.proofs.readiness.can_be_read.Goals as goal
 
 pub loop-index-preserved : goal.loop-index-preserved

@@ -1,5 +1,4 @@
-use Rattle.markdown_children.proofs.Prelude.{List, None, length, sym, ◌∙◌, ap, subst, Event, Edit, edited, given_by, HasEndsWithin, lists, StartAmong, starts_below}
-use Rattle.markdown_children.specs.Written.{HasWoven}
+use Rattle.markdown_children.proofs.Prelude.{List, None, length, sym, ◌∙◌, ap, subst, Event, Edit, edited, given_by, HasEndsWithin, lists, StartAmong, starts_below, HasWoven}
 use Rattle.markdown_children.proofs.ChildReads.AsFunction.{subtokenized}
 use Rattle.markdown_children.proofs.ChildReads.SoFar.{lists-all}
 use Rattle.markdown_children.proofs.Parts.Edits.{edits_give_children}

@@ -1,7 +1,4 @@
-use Rattle.markdown_children.proofs.Prelude.{◌≡◌, ℕ, ◌+◌, ◌<◌, ◌≤◌, ◌^◌, List, ◌++◌, length, map, ◌∙◌, ap, arith, All-from_recursion, AllByRecursion, Event, Edit, chain_of, place_at, IsForward, table_place, chunk_edit, Chunk}
-use Rattle.std.proofs.Common.{rules}
-use Rattle.markdown_children.specs.Parts.{edits_of_chain}
-use Rattle.markdown_children.specs.Written.{written, end_of}
+use Rattle.markdown_children.proofs.Prelude.{◌≡◌, ℕ, ◌+◌, ◌<◌, ◌≤◌, ◌^◌, List, ◌++◌, length, map, ◌∙◌, ap, arith, All-from_recursion, AllByRecursion, Event, Edit, chain_of, place_at, IsForward, table_place, chunk_edit, Chunk, rules, edits_of_chain, written, end_of}
 use Rattle.markdown_children.proofs.Parts.Tabled.{length-table, table-ends, within-table, total-parts, ks, ps, cs, long, chunks-above, chunks-fit, table-edits, chunks-apart}
 use Rattle.markdown_children.proofs.weaving.push_child.Goals as goal
 

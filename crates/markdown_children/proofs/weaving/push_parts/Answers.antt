@@ -1,6 +1,4 @@
-use Rattle.markdown_children.proofs.Prelude.{◌≡◌, ℕ, suc, ◌+◌, ◌<◌, ◌≤◌, List, [], ◌∷◌, ◌++◌, length, map, take, drop, get_or, Option, sym, ◌∙◌, ap, subst, arith, add-one, take-suc, take-append-drop, map-append, append_assoc, between, Event, AreDisjoint, Chunk, chunk_edit, table_place}
-use Rattle.std.proofs.Common.{drop-cons}
-use Rattle.markdown_children.specs.Written.{written, end_of}
+use Rattle.markdown_children.proofs.Prelude.{◌≡◌, ℕ, suc, ◌+◌, ◌<◌, ◌≤◌, List, [], ◌∷◌, ◌++◌, length, map, take, drop, get_or, Option, sym, ◌∙◌, ap, subst, arith, add-one, take-suc, take-append-drop, map-append, append_assoc, between, Event, AreDisjoint, Chunk, chunk_edit, table_place, drop-cons, written, end_of}
 use Rattle.markdown_children.proofs.Parts.Written.{end_of-append, next-behind, written-push}
 use Rattle.markdown_children.proofs.weaving.push_parts.Goals as goal
 

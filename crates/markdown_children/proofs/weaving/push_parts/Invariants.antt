@@ -1,5 +1,4 @@
-use Rattle.markdown_children.proofs.Prelude.{◌≡◌, ◌++◌, map, take, table_place, chunk_edit}
-use Rattle.markdown_children.specs.Written.{written, end_of}
+use Rattle.markdown_children.proofs.Prelude.{◌≡◌, ◌++◌, map, take, table_place, chunk_edit, written, end_of}
 use Rattle.markdown_children.proofs.weaving.push_parts.Given as goal
 
 -- the parts of the chunks so far are written, with the events between them
