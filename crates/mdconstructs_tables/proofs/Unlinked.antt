@@ -1,8 +1,9 @@
 -- What a machine knows whose table links no events to one another: its rows keep it, and the events stay in shape and well formed.
-use Rattle.std.proofs.Common.{◌≡◌, ℕ, zero, suc, ◌++◌, not, List, [], ◌∷◌, Bool, true, false, cond, Option, Some, None, length, take, refl, sym, ◌∙◌, arith}
-use Rattle.std.specs.Prelude.{All, filter, map, option_and_then}
+use Rattle.std.proofs.Common.{◌≡◌, ℕ, zero, suc, ◌++◌, List, [], ◌∷◌, Bool, true, Option, Some, None, length, take, refl, sym, ◌∙◌, arith}
+use Rattle.std.specs.Prelude.{All, map, option_and_then}
 use Rattle.std.proofs.lemmas.Bool.{and_parts}
 use Rattle.std.proofs.lemmas.List.Elements.{All-nil, All-cons}
+use Rattle.markdown_base.proofs.Facts.Lists.{none-left}
 use Rattle.markdown_base.specs.declared.event.Event.{Event}
 use Rattle.markdown_base.specs.declared.event.Link.{Link}
 use Rattle.markdown_base.specs.declared.state.Name.{Name}
@@ -95,13 +96,6 @@ module _ {R D : Type 0} where
   settled-keeps Attempt None Nok k h = h
   settled-keeps Attempt (Some saved) Nok k h = record { alone = alone-take saved.events k.events h.alone; resolvers = h.resolvers; edits = h.edits }
   settled-keeps Attempt saved answer k h = h
-
--- a list that a test leaves empty
-none-left : {A B : Type 0} (test : A → Bool) (f : A → B) (x : A) (xs : List A) → map f (filter (λ y. not (test y)) (x ∷ xs)) ≡ [] → (test x ≡ true) × (map f (filter (λ y. not (test y)) xs) ≡ [])
-none-left test f x xs h = elim (test x) as (λ t. map f (cond (not t) (x ∷ filter (λ y. not (test y)) xs) (filter (λ y. not (test y)) xs)) ≡ [] → (t ≡ true) × (map f (filter (λ y. not (test y)) xs) ≡ [])) [
-  | true ↦ λ h. (refl, h)
-  | false ↦ λ h. absurd (let e : f x ∷ map f (filter (λ y. not (test y)) xs) ≡ [] = h in cc)
-] h
 
 module _ {W R D : Type 0} (table : Table W R D) where
   each-keeps : (g : Given) (s : Sight) (k : Configuration R D) (choices : List Choice) → KnowsAlone k.events k.local → (rows : Rows R D) (P : Type 0) → all_rows is_unlinked rows ≡ true → RowsHarmless RegistersNothing rows P

@@ -73,7 +73,7 @@ module _ {R D : Type 0} where
   fed-waits (s ∷ ss) k = (refl, refl)
 
 -- what is seen before the bytes that are left
-sees-at : (g : Given) (text : Text) (l : List Seat) (q : ℕ) → drop q text.seats ≡ l → sight_in g text q (waits_at l) ≡ sight_before g text.end (end_place text q) (byte_of (seat_before text q)) l
+pub sees-at : (g : Given) (text : Text) (l : List Seat) (q : ℕ) → drop q text.seats ≡ l → sight_in g text q (waits_at l) ≡ sight_before g text.end (end_place text q) (byte_of (seat_before text q)) l
 sees-at g text [] q at = refl
 sees-at g text (s ∷ ss) q at =
     ap

@@ -2,18 +2,11 @@
 -- text goes on.
 use Rattle.mdconstructs_tables.proofs.Prelude.{◌≡◌, ◌≢◌, ℕ, zero, suc, ◌≤◌, ◌&&◌, ◌||◌, not, List, [], ◌∷◌, ◌++◌, Bool, true, false, Option, Some, None, length, get_or, map, refl, sym, ap, ◌∙◌, subst, arith, ◌⊎◌, inl, inr, take, drop, All, IfSome, nat_lt, last_or, ltb-true, ltb-false, and_from, and_parts, not-true, append-nil, take-append-drop, take-map, slice_get_past, All-nil, All-tail, Point, Name, State, Next, Retry, Ok, Nok, Error, unlinked, stands_before, or-leads, Waits, Nothing, Byte, End, AttemptKind, Attempt, Check, Given, Text, IsText, empty_text, Configuration, Local, Choice, Saved, start_configuration, is_noted_before, noted_if, place_of, IsNotedBefore, ArePlaces, KnowsNoted, Sight, sight, sight_in, current_of, seat_before, byte_of, consumed, with_local, fed, unfed, restored, settled_at, IsAsFar, begins-before_end, began-before_next, ends-before_next, upto-before, Row, Begun, before, at_byte, here, Called, anywhere, at_a_byte, at_bytes, at_bytes_or_end, Needs, nothing, a_choice_for_ok, StateRows, Table, class_of, does, chooses, row_at, named, is_void_last, same_names, saves, Stage, end_waits, byte_waits, byte_read, Shape, Frame, after_all, is_at, is_end, is_fresh, is_fresh_fed, fresh_at, fresh_fed, needs_choice, needs_failing, is_called_at, is_some, may_go_on, may_go_on_there, may_go_back, goes_on_fresh, is_fresh_byte, fits_choice, fits_answer, fits_calls, start_shape, first_stage, is_bare, may_start, outline, EndsWithEnter, Began, upto, since, before_next, began_there, began_in, began_unfed, IsOpen, SightIsInOrder, IsFed, exit_place_at, class_in, is_read, AnyWait, GoesBack, AnyGoesBack, MayEnd, IsSavedIn, IsSaved, position_of, events_saved, IsBelow, AreWaiting, began_at, IsStateAt, HoldsAt, EventName}
 use Rattle.mdconstructs_tables.proofs.Rows.Laws.{same_names-true, Waited, reached, IsSeenAhead, sight_at, HasShape, HasNoted, noted-there, left-since, to-upto, began-on, left-at}
+use Rattle.std.proofs.lemmas.Bool.{or_right}
+use Rattle.std.proofs.Math.Bool.{or-false}
 use Rattle.mdconstructs_tables.proofs.GrowingTexts.{seat-at, Extends, sight-kept, waits-longer}
 use Rattle.markdown_tokenizer.proofs.Runs.Noted.{bytes-have-places}
 use Rattle.mdconstructs_tables.proofs.Tables.Waiting.{more-waiting, all-below, place-kept, class-kept, next-kept, waiting-longer}
-
--- One of two holds
-or-false : (a : Bool) → (a || false) ≡ true → a ≡ true
-or-false true h = refl
-or-false false h = absurd (cc)
-
-pub or-true : (a b : Bool) → b ≡ true → (a || b) ≡ true
-or-true true b h = refl
-or-true false b h = h
 
 -- Where spans may have begun
 upto-fits : (fresh on any : Bool) (place q : Point) → (not fresh || on) ≡ true → upto (fresh || any) place q ≡ true → upto (on || any) place q ≡ true
@@ -331,7 +324,7 @@ module _ {W R D : Type 0} (table : Table W R D) (g : Given) where
       let none : (upto (fresh_fed state.begun || any) (exit_place_at g text p) q || false) ≡ true =
       subst (λ o. (upto (fresh_fed state.begun || any) (exit_place_at g text p) q || (is_fresh_byte state.begun o && before_next g text p q)) ≡ true) is h in
       unfed-left state more p any q
-      (subst (λ x. upto (fresh_fed state.begun || any) x q ≡ true) (sym (place-kept table.class table.states g text more e p inside)) (or-false (upto (fresh_fed state.begun || any) (exit_place_at g text p) q) none))
+      (subst (λ x. upto (fresh_fed state.begun || any) x q ≡ true) (sym (place-kept table.class table.states g text more e p inside)) (sym (or-false (upto (fresh_fed state.begun || any) (exit_place_at g text p) q)) ∙ none))
   unfed-longer state text more e p inside (Some w) is any q h =
       let place = place-kept table.class table.states g text more e p inside in
       let next = next-kept table.class table.states g text more e p w is in
@@ -418,8 +411,8 @@ module _ {W R D : Type 0} (table : Table W R D) (g : Given) where
         (refl, past),
         record { begins = λ waits. absurd (cc); later = λ waits. absurd (cc); soon = λ waits. absurd (cc) },
         moved (named table.states name) (began_unfed table.class g text k.position) (λ state. began_at None state s) text text k choices End true
-            (λ state any q b. fed-end state.begun s any q (or-false (upto (fresh_fed state.begun || any) s.exit_place q)
-            (subst (λ o. (upto (fresh_fed state.begun || any) s.exit_place q || (is_fresh_byte state.begun o && before_next g text k.position q)) ≡ true) none b))) (λ w is. is) (λ n fed. (refl, n)) (λ base h. h) (λ h. h) h.1,
+            (λ state any q b. fed-end state.begun s any q (sym (or-false (upto (fresh_fed state.begun || any) s.exit_place q))
+            ∙ subst (λ o. (upto (fresh_fed state.begun || any) s.exit_place q || (is_fresh_byte state.begun o && before_next g text k.position q)) ≡ true) none b))) (λ w is. is) (λ n fed. (refl, n)) (λ base h. h) (λ h. h) h.1,
       )
 
   pub starts-at : (o : Option (StateRows W R D)) (p : Point) (where_to : StateRows W R D → Bool → Point → Bool) (flag : Bool) → may_start table.states o ≡ true
@@ -453,7 +446,7 @@ module _ {W R D : Type 0} (table : Table W R D) (g : Given) where
   goes-unfed true (Some w) state text p next fit any q h =
       let is = next w refl in
       subst (λ o. (upto (fresh_fed state.begun || any) (exit_place_at g text p) q || (is_fresh_byte state.begun o && before_next g text p q)) ≡ true) (sym is)
-      (or-true (upto (fresh_fed state.begun || any) (exit_place_at g text p) q) (fresh_at state.begun (Some w) && before_next g text p q) (and_from (fresh_at state.begun (Some w)) (before_next g text p q) fit h))
+      (or_right (upto (fresh_fed state.begun || any) (exit_place_at g text p) q) (fresh_at state.begun (Some w) && before_next g text p q) (and_from (fresh_at state.begun (Some w)) (before_next g text p q) fit h))
 
   -- what goes on at the place a choice was made at holds there
   goes-on-at : (f : Frame W) (below : List EventName) (fresh : Bool) (waits : Option W) (a : State) (text : Text) (k : Configuration R D) (choices : List Choice) → may_go_on table.states f fresh waits a ≡ true → k.waiting ≡ Nothing
