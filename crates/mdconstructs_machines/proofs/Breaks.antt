@@ -1,22 +1,8 @@
 -- The look of a thematic break, by its tests.
-use Rattle.std.proofs.Common.{◌≡◌, ℕ, ◌+◌, ◌==◌, ◌∷◌, List, [], Bool, true, false, cond, Option, Some, None, refl, sym, ap, ◌∙◌, map, nat_le}
-use Rattle.std.proofs.lemmas.Bool.{eqb-true}
-use Rattle.markdown_base.specs.declared.event.Event.{Event}
+use Rattle.mdconstructs_machines.proofs.Prelude.{◌≡◌, ℕ, ◌+◌, ◌==◌, ◌∷◌, List, [], Bool, true, false, cond, Option, Some, None, refl, sym, ap, ◌∙◌, map, nat_le, eqb-true, cond-itself, Event, Name, Ok, Nok, ThematicBreakAtBreak, Seat, Given, Local, at-byte, told, by-test, by-when, AreTestsOf, Look, scan, shows, unfed_look, loud, row, counts, is_white, BreakByte, star, white, line_feed, break_byte, is_star_class, is_white_class, is_line_feed_class, one_star_more, has_three, line_ends, break_cases, breaks, is_ok, is_break, BreaksAreScanned}
 use Rattle.markdown_base.specs.declared.event.Name.{Name as EventName}
-use Rattle.markdown_base.specs.declared.state.Name.{Name}
-use Rattle.markdown_base.specs.declared.state.State.TheVariants.{Ok, Nok}
-use Rattle.markdown_base.specs.declared.state.TheConstants.Name.{ThematicBreakAtBreak}
-use Rattle.markdown_base.specs.Virtual.{Seat}
-use Rattle.markdown_tokenizer.specs.Text.{Given, Text}
-use Rattle.markdown_tokenizer.specs.Configuration.{Local}
-use Rattle.mdconstructs_tables.proofs.Cases.{at-byte}
-use Rattle.mdconstructs_tables.proofs.Looks.Tests.{told, by-test, by-when}
-use Rattle.mdconstructs_tables.specs.Cases.{AreTestsOf}
-use Rattle.mdconstructs_tables.specs.Looks.{Look, scan, shows, unfed_look}
-use Rattle.mdconstructs_tables.specs.Quiet.{loud}
-use Rattle.mdconstructs_tables.specs.Rows.{row}
-use Rattle.mdconstructs_machines.specs.Tables.{counts}
-use Rattle.mdconstructs_machines.specs.Breaks.{is_white, BreakByte, star, white, line_feed, other, break_byte, is_star_class, is_white_class, is_line_feed_class, one_star_more, has_three, line_ends, break_cases, breaks, is_ok, is_break, BreaksAreScanned}
+use Rattle.markdown_tokenizer.specs.Text.{Text}
+use Rattle.mdconstructs_machines.specs.Breaks.{other}
 
 -- each test of classes is a test of bytes
 star-test : (b : ℕ) → is_star_class (break_byte b) ≡ (b == 42)
@@ -53,11 +39,6 @@ line-feed-test b = elim (b == 42) as (λ t. (b == 42) ≡ t → is_line_feed_cla
   ] refl
 ] refl
 
--- a test is what it says
-itself : (t : Bool) → cond t true false ≡ t
-itself true = refl
-itself false = refl
-
 -- the tests of bytes
 abbrev tests : List (ℕ → Bool)
 tests = (λ b. b == 42) ∷ is_white ∷ (λ b. b == 10) ∷ []
@@ -74,7 +55,7 @@ module _ (g : Given) (text : Text) (stack : List EventName) (events : List Event
       → told breaks ok g text stack events 0 rest l previous q mark local ThematicBreakAtBreak line_ends ≡ nat_le 3 local.tokenize_state.size_b
   ends rest l previous q mark local =
       by-when breaks ok g text stack events 0 rest l previous q mark local ThematicBreakAtBreak has_three (row [] Ok) (row [] Nok) true false refl refl
-      ∙ itself (nat_le 3 local.tokenize_state.size_b)
+      ∙ cond-itself (nat_le 3 local.tokenize_state.size_b)
 
   scanned : (l : List Seat) (previous : Option ℕ) (q : ℕ) (mark : Bool) (local : Local Unit Unit)
       → is_ok (scan breaks g text stack events 1 l previous q mark local ThematicBreakAtBreak).answer ≡ is_break local.tokenize_state.size_b (map (λ s. s.byte) l)

@@ -1,6 +1,7 @@
 -- The proof of each function is in a folder of its own, by its module.
 pub mod BlockReads
 pub mod Breaks
+pub mod ChunkEnters
 pub mod Innermost
 pub mod LineExamples
 pub mod LineReads

@@ -4,6 +4,7 @@ pub mod Back
 pub mod Data
 pub mod Deep
 pub mod Lines
+pub mod Onward
 pub mod Peek
 pub mod Reads
 pub mod Rest

@@ -1,11 +1,6 @@
 -- Paragraphs look no further than the byte that waits: their tests take nothing of the document.
-use Rattle.std.specs.List.{AllByRecursion}
-use Rattle.mdconstructs_machines.proofs.Prelude.{Option, Some, None, refl}
-use Rattle.markdown_tokenizer.specs.Alike.{LooksNoFurther}
-use Rattle.mdconstructs_tables.specs.NoFurther.{IsAnsweredAlike, tests}
-use Rattle.mdconstructs_tables.proofs.Tables.NoFurther.{steps-alike}
-use Rattle.mdconstructs_machines.specs.Tables.{LineByte, line_ending, other}
-use Rattle.mdconstructs_machines.specs.Paragraphs.{paragraphs, paragraphs_rules}
+use Rattle.mdconstructs_machines.proofs.Prelude.{Option, Some, None, refl, AllByRecursion, LooksNoFurther, IsAnsweredAlike, tests, steps-alike, LineByte, line_ending, paragraphs, paragraphs_rules}
+use Rattle.mdconstructs_machines.specs.Tables.{other}
 
 paragraphs-tests : (previous current : Option LineByte) → AllByRecursion IsAnsweredAlike (tests paragraphs.states previous current)
 paragraphs-tests previous None = tt

@@ -1,5 +1,5 @@
 -- What the proofs of this crate cite from below them: words of std, of the crates below and of specs.
-pub use Rattle.std.proofs.Common.{Bool, List, None, Option, Some, [], ap, arith, cond, drop, false, get_or, inl, inr, le-ltb, length, length-append, lt-ltb, not, refl, rules, slice_get, slice_set, subst, suc, sym, take, true, zero, ℕ, ◌*◌, ◌++◌, ◌+◌, ◌-◌, ◌/◌, ◌<◌, ◌==◌, ◌∙◌, ◌∷◌, ◌≡◌, ◌≤◌, ◌⊎◌}
+pub use Rattle.std.proofs.Common.{Bool, List, None, Option, Some, [], ap, arith, cond, drop, false, get_or, inl, inr, le-ltb, length, length-append, lt-ltb, nat_le, not, refl, rules, slice_get, slice_set, subst, suc, sym, take, true, zero, ℕ, ◌*◌, ◌++◌, ◌+◌, ◌-◌, ◌/◌, ◌<◌, ◌==◌, ◌∙◌, ◌∷◌, ◌≡◌, ◌≤◌, ◌⊎◌}
 pub use Rattle.std.proofs.lemmas.Bool.Decides.{nat_tests}
 pub use Rattle.std.proofs.lemmas.Iterator.Adapters.{position_from-zero}
 pub use Rattle.std.proofs.lemmas.List.{append-nil, append_assoc, length-drop, length-map, map-append}
@@ -17,10 +17,10 @@ pub use Rattle.markdown_base.specs.declared.event.Point.{Point}
 pub use Rattle.markdown_base.specs.declared.state.Name.{Name}
 pub use Rattle.markdown_base.specs.declared.state.State.{State}
 pub use Rattle.markdown_base.specs.declared.state.State.TheVariants.{Next, Nok, Ok, Retry}
-pub use Rattle.markdown_base.specs.declared.state.TheConstants.Name.{DataAtBreak, DataInside, DataStart, FlowStart, ParagraphInside, ParagraphLineStart, ParagraphStart, StringBefore, StringStart, TextBefore, TextStart}
+pub use Rattle.markdown_base.specs.declared.state.TheConstants.Name.{DataAtBreak, DataInside, DataStart, FlowStart, ParagraphInside, ParagraphLineStart, ParagraphStart, StringBefore, StringStart, TextBefore, TextStart, ThematicBreakAtBreak}
 pub use Rattle.markdown_edits.proofs.LinkEnds.{updated-length}
 pub use Rattle.markdown_edits.specs.Links.{CanLink, linked_to, updated_at, with_next, with_previous}
-pub use Rattle.markdown_tokenizer.proofs.Readings.Bounds.{called-ends, fed-ends, one-end, settled-nok-ends}
+pub use Rattle.markdown_tokenizer.proofs.Readings.Bounds.{called-ends, fed-ends, one-end, settled-nok-ends, settled-ok-ends}
 pub use Rattle.markdown_tokenizer.specs.Calls.{entered, with_local}
 pub use Rattle.markdown_tokenizer.specs.Configuration.{Choice, Configuration, Local, Saved, Step, TokenizerValue, at_configuration, start_configuration}
 pub use Rattle.markdown_tokenizer.specs.Engine.{IsRun, whole_text}
@@ -43,10 +43,10 @@ pub use Rattle.mdconstructs_tables.specs.PlainTables.{IsPlainTable}
 pub use Rattle.mdconstructs_tables.specs.PlainWrites.{WritesPlain}
 pub use Rattle.mdconstructs_tables.specs.Refusals.{RulesRefuseNothing, refusing}
 pub use Rattle.mdconstructs_tables.specs.RowInvariant.{DoesAll, begun, step_in}
-pub use Rattle.mdconstructs_tables.specs.Rows.{Rows, StateRows, at_bytes_or_end, class_of, consume, enter, enter_link, exit, links, named, picked, row, step_at, step_of, write}
+pub use Rattle.mdconstructs_tables.specs.Rows.{Rows, StateRows, Table, at_bytes_or_end, class_of, consume, enter, enter_link, exit, links, named, picked, row, step_at, step_of, write}
 pub use Rattle.mdconstructs_machines.specs.Back.{back, back_rules, data_at_break_rows, data_inside_rows, data_start_rows, string_before_rows, string_start, string_start_rows, text_before_rows, text_start_rows}
 pub use Rattle.mdconstructs_machines.specs.Deep.{deep, deep_rules, triangle}
-pub use Rattle.mdconstructs_machines.specs.Fail.{as_it_was, fail}
+pub use Rattle.mdconstructs_machines.specs.Fail.{as_it_was, fail, text_start}
 pub use Rattle.mdconstructs_machines.specs.Innermost.{AccountFor, AccountsForDocuments, span_over}
 pub use Rattle.mdconstructs_machines.specs.Laws.Back.{back-none}
 pub use Rattle.mdconstructs_machines.specs.Laws.Deep.{deep-none, triangle-is}
@@ -66,3 +66,19 @@ pub use Rattle.mdconstructs_machines.specs.Tables.{LineByte, counts, line_byte, 
 pub use Rattle.mdconstructs_machines.specs.Unfit.{breaking, editing, is_ending, uncounted_lines}
 pub use Rattle.mdconstructs_machines.specs.Words.{words}
 pub use Rattle.mdconstructs_machines.specs.Wrap.{renamed, wrap}
+pub use Rattle.markdown_base.proofs.Facts.Bools.{cond-itself}
+pub use Rattle.markdown_base.proofs.Seats.{end-after-append}
+pub use Rattle.markdown_tokenizer.specs.Alike.{LooksNoFurther}
+pub use Rattle.mdconstructs_machines.specs.Breaks.{BreakByte, BreaksAreScanned, break_byte, break_cases, breaks, has_three, is_break, is_line_feed_class, is_ok, is_star_class, is_white, is_white_class, line_ends, line_feed, one_star_more, star, white}
+pub use Rattle.mdconstructs_machines.specs.WholeLooks.{LooksOverTheRest}
+pub use Rattle.mdconstructs_machines.specs.declared.wrap.Resolver.{Resolver}
+pub use Rattle.mdconstructs_tables.proofs.Cases.{at-byte}
+pub use Rattle.mdconstructs_tables.proofs.Looks.Scans.{scan-goes}
+pub use Rattle.mdconstructs_tables.proofs.Looks.Tests.{by-test, by-when, told}
+pub use Rattle.mdconstructs_tables.proofs.Rows.Called.{IsCalled, is-called}
+pub use Rattle.mdconstructs_tables.proofs.Tables.NoFurther.{steps-alike}
+pub use Rattle.mdconstructs_tables.specs.Cases.{AreTestsOf}
+pub use Rattle.mdconstructs_tables.specs.Looks.{Look, Plays, looked, scan, shows, unfed_look}
+pub use Rattle.mdconstructs_tables.specs.NoFurther.{IsAnsweredAlike, tests}
+pub use Rattle.mdconstructs_tables.specs.Quiet.{loud}
+pub use Rattle.std.proofs.lemmas.Bool.{eqb-true}

@@ -132,7 +132,7 @@ pub record EndsIn (b n : ℕ) (ms : List Marked) (index : ℕ) : Type 0 where
   pub at : index ≡ length front
 
 -- Lists with one event changed
-updated-mid : (f : Event → Event) (xs : List Event) (e : Event) (ys : List Event) (i : ℕ) → i ≡ length xs → updated_at i f (xs ++ e ∷ ys) ≡ xs ++ f e ∷ ys
+pub updated-mid : (f : Event → Event) (xs : List Event) (e : Event) (ys : List Event) (i : ℕ) → i ≡ length xs → updated_at i f (xs ++ e ∷ ys) ≡ xs ++ f e ∷ ys
 updated-mid f [] e ys zero h = refl
 updated-mid f (x ∷ xs) e ys (suc i) h = ap (λ l. x ∷ l) (updated-mid f xs e ys i (omega (arith, h)))
 updated-mid f xs e ys i h = absurd (omega (arith, h))

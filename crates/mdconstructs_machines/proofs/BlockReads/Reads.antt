@@ -3,7 +3,7 @@ use Rattle.mdconstructs_machines.proofs.Prelude.{◌≡◌, ℕ, zero, suc, ◌+
 use Rattle.mdconstructs_machines.specs.Paragraphs.{paragraph_inside_rows}
 use Rattle.mdconstructs_machines.proofs.BlockReads.Links.{alone, KnowsLast, links-first, links-next}
 use Rattle.mdconstructs_machines.proofs.LineReads.Rows.{HasRows, is-class, leads-row}
-use Rattle.mdconstructs_machines.proofs.LineReads.Steps.{EndsWith, Leads, held, shows, goes-next, at-front}
+use Rattle.mdconstructs_machines.proofs.LineReads.Steps.{EndsWith, Leads, held, shows, goes-next, at-front, has_events}
 
 -- the line at the front
 abbrev pub first_line : List Seat → List Seat
@@ -128,7 +128,7 @@ module _ (g : Given) (text : Text) (step : Sight → Configuration Unit Unit →
           goes = λ es h.
               leads-row g text step ParagraphInside paragraph_inside_rows reads.inside k [] (Some line_ending) (is-class g text p s true at is) es
               (subst (λ o. EndsWith g text step (held in_paragraph (p + 1) Nothing false (exited o) (counts local)) [] (Next ParagraphLineStart) es) (sym at)
-              (goes-next g text step ss in_paragraph (p + 1) false (exited (Some s)) (counts local) [] ParagraphLineStart next.0 es h));
+              (goes-next has_events g text step ss in_paragraph (p + 1) false (exited (Some s)) (counts local) [] ParagraphLineStart next.0 es h));
         }
         | false ↦ λ is. record {
           to = then.to;
@@ -139,7 +139,7 @@ module _ (g : Given) (text : Text) (step : Sight → Configuration Unit Unit →
           stands = then.stands;
           goes = λ es h.
               leads-row g text step ParagraphInside paragraph_inside_rows reads.inside k [] (Some other) (is-class g text p s false at is) es
-              (goes-next g text step ss in_chunk (p + 1) false events (counts local) [] ParagraphInside next.0 es (then.goes es h));
+              (goes-next has_events g text step ss in_chunk (p + 1) false events (counts local) [] ParagraphInside next.0 es (then.goes es h));
         }
       ] refl
 

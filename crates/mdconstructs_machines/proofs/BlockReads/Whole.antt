@@ -1,10 +1,9 @@
 -- Whole documents are read block by block, and a paragraph line by line: the quote mark of a line, and its chunk.
-use Rattle.markdown_base.proofs.Seats.{end-after-append}
-use Rattle.mdconstructs_machines.proofs.Prelude.{AllByRecursion, ◌≡◌, ℕ, zero, suc, ◌+◌, ◌≤◌, ◌∷◌, ◌++◌, [], List, Bool, true, false, ◌⊎◌, inl, inr, refl, sym, ◌∙◌, ap, subst, Option, Some, None, arith, length, append_assoc, append-nil, every-append, Event, Enter, Exit, Paragraph, BlankLineEnding, Point, Name, Next, Retry, FlowStart, ParagraphLineStart, Seat, end_after, Nothing, Byte, End, Given, Text, Configuration, Local, Step, start_configuration, whole_text, Rules, Sight, point_or, end_or, is_line_ending, lines_in, all_of, IsReadAs, event, line_ending, other, counts, flow_start_rows, Block, Marked, continued, paragraph, marked_span, line_marks, lines_marks, blocks_marks, blocks_of, with_links, paragraph_events, ◌==◌, cond, take, drop, slice_get, Data, BlockQuoteMarker, ParagraphStart, sight, byte_of, Rows, row, enter, exit, consume, picked, step_of, paragraph_line_start_rows, paragraph_start_rows, is_quote_mark, Chunk, is_quoted}
+use Rattle.mdconstructs_machines.proofs.Prelude.{AllByRecursion, ◌≡◌, ℕ, zero, suc, ◌+◌, ◌≤◌, ◌∷◌, ◌++◌, [], List, Bool, true, false, ◌⊎◌, inl, inr, refl, sym, ◌∙◌, ap, subst, Option, Some, None, arith, length, append_assoc, append-nil, every-append, Event, Enter, Exit, Paragraph, BlankLineEnding, Point, Name, Next, Retry, FlowStart, ParagraphLineStart, Seat, end_after, Nothing, Byte, End, Given, Text, Configuration, Local, Step, start_configuration, whole_text, Rules, Sight, point_or, end_or, is_line_ending, lines_in, all_of, IsReadAs, event, line_ending, other, counts, flow_start_rows, Block, Marked, continued, paragraph, marked_span, line_marks, lines_marks, blocks_marks, blocks_of, with_links, paragraph_events, ◌==◌, cond, take, drop, slice_get, Data, BlockQuoteMarker, ParagraphStart, sight, byte_of, Rows, row, enter, exit, consume, picked, step_of, paragraph_line_start_rows, paragraph_start_rows, is_quote_mark, Chunk, is_quoted, end-after-append}
 use Rattle.mdconstructs_machines.proofs.BlockReads.Reads.{first_line, after_line, line-on, after-less, blank-block, other-block, Run, in_paragraph, connects, begins_at, Stands, stands-next, ReadsBlocks, Goes, Stops, reads-rest, begins-chunk}
 use Rattle.mdconstructs_machines.proofs.BlockReads.Links.{IsBefore, KnowsLast, links-plain, before-next, EndsIn, known-before, known-plain}
 use Rattle.mdconstructs_machines.proofs.LineReads.Rows.{is-class, leads-row}
-use Rattle.mdconstructs_machines.proofs.LineReads.Steps.{EndsWith, ended, held, shows, goes-next, at-front, reads-as, Leads}
+use Rattle.mdconstructs_machines.proofs.LineReads.Steps.{EndsWith, ended, held, shows, goes-next, at-front, reads-as, Leads, has_events}
 
 -- The marks of a line, by whether it is quoted
 module _ (bytes : List ℕ) (c : Chunk) where
@@ -132,7 +131,7 @@ module _ (g : Given) (text : Text) (step : Sight → Configuration Unit Unit →
             let leads : Goes g text step reads begins ParagraphLineStart (shows ss in_paragraph (p + 1) false (with_links two) (counts local)) ParagraphStart = λ es h.
             line-starts p b (with_links ms) local s at no_end true quoted es
             (subst (λ o. EndsWith g text step (held in_paragraph (p + 1) Nothing false (marked_line (with_links ms) o) (counts local)) [] (Next ParagraphStart) es) (sym at)
-            (goes-next g text step ss in_paragraph (p + 1) false (marked_line (with_links ms) (Some s)) (counts local) [] ParagraphStart next.0 es
+            (goes-next has_events g text step ss in_paragraph (p + 1) false (marked_line (with_links ms) (Some s)) (counts local) [] ParagraphStart next.0 es
             (subst (λ l. EndsWith g text step (shows ss in_paragraph (p + 1) false l (counts local)) [] (Retry ParagraphStart) es) linked h))) in
             subst (λ t. ReadsLine begins ParagraphLineStart (cond t ss (after_line ss)) (end_after place (cond t (s ∷ []) (s ∷ first_line ss))) block n (ms ++ line_marks g.bytes c line)) (sym no_end)
             (subst (ReadsLine begins ParagraphLineStart (after_line ss) (end_after s.end (first_line ss)) block n) same
@@ -264,7 +263,7 @@ module _ (g : Given) (text : Text) (step : Sight → Configuration Unit Unit →
       subst (λ l. at_flow (s ∷ ss) p b (with_links ms) local (with_links l)) same
       (leads-row g text step FlowStart flow_start_rows reads.flow_start (held [] p Byte b (with_links ms) local) [] (Some line_ending) (is-class g text p s true at is) (with_links (two ++ rest))
       (subst (λ o. EndsWith g text step (held [] (p + 1) Nothing false (blank_line (with_links ms) o) (counts local)) [] (Next FlowStart) (with_links (two ++ rest))) (sym at)
-      (goes-next g text step ss [] (p + 1) false (blank_line (with_links ms) (Some s)) (counts local) [] FlowStart next.0 (with_links (two ++ rest))
+      (goes-next has_events g text step ss [] (p + 1) false (blank_line (with_links ms) (Some s)) (counts local) [] FlowStart next.0 (with_links (two ++ rest))
       (subst (λ l. at_flow ss (p + 1) false l (counts local) (with_links (two ++ rest))) linked (then (p + 1) false s.end (suc block) two (counts local) next all)))))
 
   from-paragraph : (m : ℕ) (s : Seat) (ss : List Seat) → length ss ≤ m → is_line_ending s ≡ false → ((l : List Seat) → length l ≤ m → FromFlow l) → FromFlow (s ∷ ss)
@@ -323,7 +322,7 @@ module _ (g : Given) (text : Text) (step : Sight → Configuration Unit Unit →
   reads-whole flag =
       let local = (start_configuration {R = Unit} {D = Unit} flag).local in
       let end = paragraph_events g.bytes text.seats in
-      goes-next g text step text.seats [] 0 false [] local [] FlowStart refl end (reads-blocks (length text.seats) text.seats (omega arith) 0 false text.start 0 [] local (refl, refl) tt)
+      goes-next has_events g text step text.seats [] 0 false [] local [] FlowStart refl end (reads-blocks (length text.seats) text.seats (omega arith) 0 false text.start 0 [] local (refl, refl) tt)
 
 -- A machine that has the states of paragraphs reads each document so
 pub blocks-read : (rules : Given → Rules Unit Unit) → ((g : Given) → ReadsBlocks g (whole_text g) (rules g).step) → IsReadAs rules FlowStart paragraph_events

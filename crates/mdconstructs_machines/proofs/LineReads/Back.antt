@@ -2,7 +2,7 @@
 use Rattle.mdconstructs_machines.proofs.BlockReads.Accounts.{lines-are-all}
 use Rattle.mdconstructs_machines.proofs.LineReads.Reads.{joined-first}
 use Rattle.mdconstructs_machines.proofs.Prelude.{◌≡◌, ℕ, ◌+◌, ◌∷◌, ◌++◌, [], List, Bool, true, false, cond, refl, sym, ◌∙◌, ap, subst, Some, None, drop, take, drop-next, Event, Enter, Exit, Data, Point, Name, Next, Retry, TextStart, TextBefore, DataStart, DataInside, StringStart, DataAtBreak, StringBefore, Seat, end_after, Check, Byte, End, with_local, Given, Text, Configuration, Local, Choice, Step, Sight, point_or, end_place, whole_text, back_rules, text_start_rows, text_before_rows, data_start_rows, data_inside_rows, string_start_rows, data_at_break_rows, string_before_rows, is_line_ending, joined, lines_in, all_of, back_events, IsReadAs, event, leaf, line_ending, other, line_byte, counts, EventName}
-use Rattle.mdconstructs_machines.proofs.LineReads.Steps.{FailsTo, goes-back, shows-events, place-behind, EndsWith, held, shows, ended, goes-next, reads-from, at-front}
+use Rattle.mdconstructs_machines.proofs.LineReads.Steps.{FailsTo, goes-back, shows-events, place-behind, EndsWith, held, shows, ended, goes-next, reads-from, at-front, has_events}
 use Rattle.mdconstructs_machines.proofs.LineReads.Rows.{leads-row, waits_class, is-class, byte-class}
 
 -- the first line, and all the rest
@@ -51,7 +51,7 @@ module _ (g : Given) (text : Text) where
       let same : es ≡ exited events (end_after s.end ss) = ap (λ q. exited events (end_after q ss)) (place-behind text p s at) in
       subst (EndsWith g text step (at_byte p b events local) [] (Retry StringBefore)) same
       (leads-row g text step StringBefore string_before_rows (λ k. refl) (at_byte p b events local) [] (Some (line_byte s.byte)) (byte-class g text p s at) es
-      (goes-next g text step ss in_data (p + 1) false events (counts local) [] StringBefore next es (in-rest ss (p + 1) false events (counts local) next)))
+      (goes-next has_events g text step ss in_data (p + 1) false events (counts local) [] StringBefore next es (in-rest ss (p + 1) false events (counts local) next)))
 
   -- the look fails, wherever it ends
   looks : (l : List Seat) (p : ℕ) (b : Bool) (events : List Event) (local : Local Unit Unit) (cs : List Choice) (all : List Event) → drop p text.seats ≡ l → FailsTo g text step cs events all
@@ -65,12 +65,12 @@ module _ (g : Given) (text : Text) where
       elim (is_line_ending s) as (λ t. is_line_ending s ≡ t → EndsWith g text step (at_byte p b events local) cs (Retry DataInside) all) [
         | true ↦ λ e.
             leads-row g text step DataInside data_inside_rows (λ k. refl) (at_byte p b events local) cs (Some line_ending) (is-class g text p s true at e) all
-            (goes-next g text step ss in_data (p + 1) false events (counts local) cs StringStart next all
+            (goes-next has_events g text step ss in_data (p + 1) false events (counts local) cs StringStart next all
             (leads-row g text step StringStart string_start_rows (λ k. refl) then cs (waits_class g text then) refl all
             (back (with_local then (counts then.local)) (shows-events ss in_data (p + 1) false events (counts local)))))
         | false ↦ λ e.
             leads-row g text step DataInside data_inside_rows (λ k. refl) (at_byte p b events local) cs (Some other) (is-class g text p s false at e) all
-            (goes-next g text step ss in_data (p + 1) false events (counts local) cs DataInside next all (looks ss (p + 1) false events (counts local) cs all next back))
+            (goes-next has_events g text step ss in_data (p + 1) false events (counts local) cs DataInside next all (looks ss (p + 1) false events (counts local) cs all next back))
       ] refl
 
   -- before the next line, with one event before
@@ -89,7 +89,7 @@ module _ (g : Given) (text : Text) where
       (looks (s ∷ ss) p b (begun ∷ []) (counts local) _ all here
       (goes-back g text step Check (Next DataAtBreak) DataAtBreak p b 1 in_data [] (begun ∷ []) all
       (λ local.
-      goes-next g text step (s ∷ ss) in_data p b (begun ∷ []) local [] DataAtBreak here all
+      goes-next has_events g text step (s ∷ ss) in_data p b (begun ∷ []) local [] DataAtBreak here all
       (leads-row g text step DataAtBreak data_at_break_rows (λ k. refl) (at_byte p b (begun ∷ []) local) [] (Some (line_byte s.byte)) (byte-class g text p s at) all
       (subst (λ o. EndsWith g text step (at_byte p b (begun ∷ exit ∷ event g.bytes Enter Data (point_or text.end o) ∷ []) (counts local)) [] (Retry StringBefore) all) (sym at)
       (in-rest (s ∷ ss) p b es (counts local) here))))))
@@ -113,14 +113,14 @@ module _ (g : Given) (text : Text) where
             let same : all ≡ begun ∷ in_first g.bytes place (s ∷ ss) = ap (λ q. begun ∷ event g.bytes Exit Data q ∷ leaf g.bytes Data ss) (place-behind text p s at) ∙ ap (λ l. begun ∷ l) (sym ends) in
             subst (EndsWith g text step k [] (Retry TextBefore)) same
             (leads-row g text step TextBefore text_before_rows (λ k. refl) k [] (Some line_ending) (is-class g text p s true at e) all
-            (goes-next g text step ss in_data (p + 1) false (begun ∷ []) (counts local) [] DataStart next all (before-next ss (p + 1) false begun (counts local) next)))
+            (goes-next has_events g text step ss in_data (p + 1) false (begun ∷ []) (counts local) [] DataStart next all (before-next ss (p + 1) false begun (counts local) next)))
         | false ↦ λ e.
             let all = begun ∷ in_first g.bytes behind ss in
             let goes_on : in_first g.bytes place (s ∷ ss) ≡ in_first g.bytes s.end ss = rw (e, first-joined s (lines_in ss), joined-first s (lines_in ss)) in
             let same : all ≡ begun ∷ in_first g.bytes place (s ∷ ss) = ap (λ q. begun ∷ in_first g.bytes q ss) (place-behind text p s at) ∙ ap (λ l. begun ∷ l) (sym goes_on) in
             subst (EndsWith g text step k [] (Retry TextBefore)) same
             (leads-row g text step TextBefore text_before_rows (λ k. refl) k [] (Some other) (is-class g text p s false at e) all
-            (goes-next g text step ss in_data (p + 1) false (begun ∷ []) (counts local) [] TextBefore next all (in-first ss (p + 1) false begun (counts local) next)))
+            (goes-next has_events g text step ss in_data (p + 1) false (begun ∷ []) (counts local) [] TextBefore next all (in-first ss (p + 1) false begun (counts local) next)))
       ] refl
 
   -- from the start

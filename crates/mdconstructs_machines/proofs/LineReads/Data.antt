@@ -3,7 +3,7 @@ use Rattle.mdconstructs_machines.proofs.Prelude.{◌≡◌, ℕ, ◌+◌, ◌∷
 use Rattle.mdconstructs_machines.specs.DataRows.{data_start_rows, data_inside_rows}
 use Rattle.mdconstructs_machines.proofs.LineReads.Reads.{ReadsLines, from-both}
 use Rattle.mdconstructs_machines.proofs.LineReads.Rows.{HasRows, leads-row, is-class, line-ending-read}
-use Rattle.mdconstructs_machines.proofs.LineReads.Steps.{EndsWith, held, goes-next}
+use Rattle.mdconstructs_machines.proofs.LineReads.Steps.{EndsWith, held, goes-next, has_events}
 
 module _ (g : Given) (text : Text) (step : Sight → Configuration Unit Unit → Name → Step Unit Unit) where
   -- The step reads data as its rows say
@@ -39,6 +39,6 @@ module _ (g : Given) (text : Text) (step : Sight → Configuration Unit Unit →
     pub data-read : (l : List Seat) (p : ℕ) (b : Bool) (events : List Event) (local : Local Unit Unit) → drop p text.seats ≡ l
         → EndsWith g text step (held [] p Nothing b events local) [] (Next DataStart) (events ++ data_events g.bytes l)
     data-read l p b events local here =
-        goes-next g text step l [] p b events local [] DataStart here (events ++ data_events g.bytes l)
+        goes-next has_events g text step l [] p b events local [] DataStart here (events ++ data_events g.bytes l)
         ((from-both g text step DataStart DataInside (Data ∷ []) opening closing reads-lines (leaf g.bytes Data)
         (record { none = refl; none_ends = refl; some = λ s ss. refl }) l).0 p b events local here)

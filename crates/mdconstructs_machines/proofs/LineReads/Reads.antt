@@ -1,6 +1,6 @@
 -- The events of lines, from one virtual byte to the next, and a machine that reads each line with two states: the events that it makes from there on.
 use Rattle.mdconstructs_machines.proofs.Prelude.{◌≡◌, ℕ, ◌+◌, ◌∷◌, ◌++◌, [], List, Bool, true, false, refl, sym, ◌∙◌, ap, subst, Some, drop, slice_get, append_assoc, append-nil, drop-next, Event, LineEnding, Point, Name, Next, Retry, Ok, Seat, Nothing, Byte, End, Given, Text, Configuration, Local, Step, Sight, end_place, is_line_ending, lines_in, leaf, counts, EventName, flat_map, end_after, joined, line_text, ending_of}
-use Rattle.mdconstructs_machines.proofs.LineReads.Steps.{place-behind, EndsWith, Leads, ended, held, shows, goes-next, at-front}
+use Rattle.mdconstructs_machines.proofs.LineReads.Steps.{place-behind, EndsWith, Leads, ended, held, shows, goes-next, at-front, has_events}
 
 -- one more byte changes only the first line
 pub joined-first : (s : Seat) (lines : List (List Seat)) → drop 1 (joined s lines) ≡ drop 1 lines
@@ -113,7 +113,7 @@ module _ (g : Given) (text : Text) (step : Sight → Configuration Unit Unit →
               let same : es ++ all ss ≡ events ++ all (s ∷ ss) = append_assoc events _ _ ∙ ap (λ l. events ++ l) (sym (at-ending over (leaf g.bytes LineEnding) opening closing is s ss e)) in
               subst (EndsWith g text step (held [] p Byte b events local) [] (Retry start)) same
               (reads.at_ending p b events local s (at-front text.seats p s ss here) e (es ++ all ss)
-              (goes-next g text step ss [] (p + 1) false es (counts local) [] start next (es ++ all ss) (from_start (p + 1) false es (counts local) next))) in (
+              (goes-next has_events g text step ss [] (p + 1) false es (counts local) [] start next (es ++ all ss) (from_start (p + 1) false es (counts local) next))) in (
                 start_ending,
                 λ p b events local here.
                     let place = end_place text p in
@@ -132,7 +132,7 @@ module _ (g : Given) (text : Text) (step : Sight → Configuration Unit Unit →
               ap (λ q. rest q ss) (place-behind text p s at) ∙ sym (rest-other over (leaf g.bytes LineEnding) opening closing is place s ss e) in
               subst (λ l. EndsWith g text step (held stack p Byte b events local) [] (Retry inside) (events ++ l)) same
               (reads.goes_on p b events local s at e (events ++ rest (end_place text (p + 1)) ss)
-              (goes-next g text step ss stack (p + 1) false events (counts local) [] inside next (events ++ rest (end_place text (p + 1)) ss)
+              (goes-next has_events g text step ss stack (p + 1) false events (counts local) [] inside next (events ++ rest (end_place text (p + 1)) ss)
               (from_inside (p + 1) false events (counts local) next))) in (
                 λ p b events local here.
                     let place = end_place text p in

@@ -1,9 +1,5 @@
 -- The looks over all that is left of a text.
-use Rattle.mdconstructs_machines.proofs.Prelude.{◌≡◌, ℕ, suc, ◌+◌, ◌∷◌, [], false, refl, ◌∙◌, ap, arith, length, Option, Some, None, LineByte, TextBefore, StringBefore, counts}
-use Rattle.mdconstructs_tables.specs.Quiet.{loud}
-use Rattle.mdconstructs_machines.specs.Deep.{deep}
-use Rattle.mdconstructs_machines.specs.Peek.{peek}
-use Rattle.mdconstructs_machines.specs.WholeLooks.{LooksOverTheRest}
+use Rattle.mdconstructs_machines.proofs.Prelude.{◌≡◌, ℕ, suc, ◌+◌, ◌∷◌, [], false, refl, ◌∙◌, ap, arith, length, Option, Some, None, LineByte, TextBefore, StringBefore, counts, loud, deep, peek, LooksOverTheRest}
 
 -- the calls of a byte and of the rest
 more-calls : (n calls : ℕ) → calls ≡ n + 1 → 1 + calls ≡ suc n + 1

@@ -1,6 +1,7 @@
 -- How a machine of a table of lines reads on, by the row of what waits.
+use Rattle.mdconstructs_machines.proofs.LineReads.Onward.{leads-step}
 use Rattle.mdconstructs_machines.proofs.Prelude.{◌≡◌, ℕ, ◌∷◌, ◌++◌, [], List, Bool, cond, ◌∙◌, ap, Option, Some, slice_get, Event, Enter, Exit, LineEnding, Name, Retry, Seat, Given, Text, with_local, Configuration, Choice, Step, Sight, sight, byte_of, point_or, end_or, Rows, class_of, picked, step_of, is_line_ending, event, leaf, LineByte, line_ending, other, line_byte, counts, append_assoc}
-use Rattle.mdconstructs_machines.proofs.LineReads.Steps.{EndsWith, leads-step}
+use Rattle.mdconstructs_machines.proofs.LineReads.Steps.{EndsWith, has_events}
 
 -- two events more
 pub two : (es : List Event) (a b : Event) → (es ++ a ∷ []) ++ b ∷ [] ≡ es ++ a ∷ b ∷ []
@@ -45,4 +46,4 @@ module _ (g : Given) (text : Text) (step : Sight → Configuration Unit Unit →
       → (events : List Event) → (let q = row_step g text k (rows (class_of line_byte (sight g text k).previous) w) in EndsWith g text step q.configuration (q.choices ++ cs) q.answer events)
       → EndsWith g text step k cs (Retry name) events
   leads-row name rows has k cs w is events h =
-      leads-step g text step k cs name (row_step g text k (rows (class_of line_byte (sight g text k).previous) w)) (has k ∙ ap (λ w. row_step g text k (rows (class_of line_byte (sight g text k).previous) w)) is) events h
+      leads-step has_events g text step k cs name (row_step g text k (rows (class_of line_byte (sight g text k).previous) w)) (has k ∙ ap (λ w. row_step g text k (rows (class_of line_byte (sight g text k).previous) w)) is) events h

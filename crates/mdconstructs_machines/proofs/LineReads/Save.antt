@@ -3,7 +3,7 @@ use Rattle.mdconstructs_machines.proofs.LineReads.Reads.{joined-first}
 use Rattle.mdconstructs_machines.proofs.Prelude.{◌≡◌, ℕ, ◌+◌, ◌∷◌, [], List, Bool, true, false, cond, refl, sym, ◌∙◌, ap, subst, Some, None, drop, flat_map, drop-next, Name, Next, Retry, TextStart, TextBefore, DataStart, Seat, Attempt, Nothing, Byte, End, with_local, Given, Text, Configuration, Local, Step, Sight, whole_text, is_line_ending, joined, lines_in, data_line, data_events, save_events, IsReadAs, save_rules, line_ending, other, counts}
 use Rattle.mdconstructs_machines.specs.Save.{text_start_rows, text_before_rows}
 use Rattle.mdconstructs_machines.proofs.LineReads.Data.{data-read}
-use Rattle.mdconstructs_machines.proofs.LineReads.Steps.{goes-back, shows-events, EndsWith, held, shows, ended, goes-next, reads-from, at-front}
+use Rattle.mdconstructs_machines.proofs.LineReads.Steps.{goes-back, shows-events, EndsWith, held, shows, ended, goes-next, reads-from, at-front, has_events}
 use Rattle.mdconstructs_machines.proofs.LineReads.Rows.{leads-row, waits_class, is-class}
 
 module _ (g : Given) (text : Text) where
@@ -15,7 +15,7 @@ module _ (g : Given) (text : Text) where
       → EndsWith g text step (held [] p Nothing false [] local) (record { kind = Attempt; ok = Next DataStart; nok = Next DataStart; saved = Some (record { position = p; ended = false; events = 0; stack = [] }) } ∷ []) (Next TextBefore) (data_events g.bytes l)
   behind-first l p local here =
       let k = shows l [] p false [] local in
-      goes-next g text step l [] p false [] local _ TextBefore here (data_events g.bytes l)
+      goes-next has_events g text step l [] p false [] local _ TextBefore here (data_events g.bytes l)
       (leads-row g text step TextBefore text_before_rows (λ k. refl) k _ (waits_class g text k) refl (data_events g.bytes l)
       (goes-back g text step Attempt (Next DataStart) DataStart p false 0 [] [] [] (data_events g.bytes l)
       (λ local. data-read g text step (record { start = λ k. refl; inside = λ k. refl }) l p false [] local here) (with_local k (counts k.local)) (shows-events l [] p false [] local)))
@@ -35,7 +35,7 @@ module _ (g : Given) (text : Text) where
         | false ↦ λ e.
             subst (EndsWith g text step k [] (Retry TextStart)) (sym (ap saved e ∙ ap (flat_map (data_line g.bytes)) (joined-first s (lines_in ss))))
             (leads-row g text step TextStart text_start_rows (λ k. refl) k [] (Some other) (is-class g text p s false at e) (save_events g.bytes ss)
-            (goes-next g text step ss [] (p + 1) false [] (counts local) [] TextStart next (save_events g.bytes ss) (in-first ss (p + 1) false (counts local) next)))
+            (goes-next has_events g text step ss [] (p + 1) false [] (counts local) [] TextStart next (save_events g.bytes ss) (in-first ss (p + 1) false (counts local) next)))
       ] refl
 
 pub save-reads : IsReadAs save_rules TextStart save_events

@@ -1,71 +1,25 @@
 -- How a machine reads on, in small steps: to come to these events it is enough to come to them from further on. And looks that fail.
-pub use Rattle.mdconstructs_tables.proofs.Looks.Left.{at-front, past-end}
-use Rattle.mdconstructs_tables.proofs.Looks.Scans.{scan-goes}
-use Rattle.mdconstructs_tables.specs.Looks.{Plays, looked, scan, shows as looked_at}
-use Rattle.mdconstructs_tables.specs.Rows.{Table}
-use Rattle.mdconstructs_machines.proofs.Prelude.{◌≡◌, ℕ, suc, ◌+◌, ◌∷◌, ◌++◌, [], List, Bool, true, false, cond, Some, refl, sym, ◌∙◌, ap, subst, arith, length, drop, slice_get, lt-ltb, le-ltb, slice_get_within, Event, Name, State, Next, Retry, Ok, Nok, Seat, virtual, Waits, Nothing, Byte, End, Given, Text, Configuration, Local, Choice, Step, start_configuration, Sight, sight, Reading, EndsIn, fed, settled_at, Rules, whole_text, called-ends, fed-ends, settled-nok-ends, one-end, IsReadAs, EventName, take, AttemptKind, Attempt, Check, Saved, end_place, end_or, byte_of, seat_before}
+pub use Rattle.mdconstructs_machines.proofs.LineReads.Onward.{at-front, goes-next, held, past-end, shows}
+use Rattle.mdconstructs_machines.proofs.LineReads.Onward.{Ends, Goes, ended as ended-so, leads-nok}
+use Rattle.mdconstructs_tables.specs.Looks.{shows as looked_at}
+use Rattle.mdconstructs_machines.proofs.Prelude.{◌≡◌, ℕ, suc, ◌+◌, ◌∷◌, [], List, Bool, false, Some, refl, sym, ◌∙◌, ap, subst, arith, drop, slice_get, Event, Name, State, Next, Retry, Ok, Nok, Seat, virtual, Nothing, Given, Text, Configuration, Local, Choice, Step, start_configuration, Sight, EndsIn, Rules, whole_text, one-end, IsReadAs, EventName, take, AttemptKind, Attempt, Check, Saved, end_place, end_or, byte_of, seat_before, scan-goes, Plays, looked, scan, Table}
 
--- a configuration with these spans open
-abbrev pub held : List EventName → ℕ → Waits → Bool → List Event → Local Unit Unit → Configuration Unit Unit
-held stack p waits ended events local = record { position = p; waiting = waits; ended = ended; events = events; stack = stack; local = local }
-
--- one in which the first of the bytes that are left waits, or the end
-abbrev pub shows : List Seat → List EventName → ℕ → Bool → List Event → Local Unit Unit → Configuration Unit Unit
-shows [] stack p ended events local = held stack p End true events local
-shows (s ∷ ss) stack p ended events local = held stack p Byte ended events local
+-- these events
+abbrev pub has_events : List Event → Configuration Unit Unit → Type 0
+has_events events k = k.events ≡ events
 
 module _ (g : Given) (text : Text) (step : Sight → Configuration Unit Unit → Name → Step Unit Unit) where
   -- reading on ends in Ok with these events
   abbrev pub EndsWith : Configuration Unit Unit → List Choice → State → List Event → Type 0
-  EndsWith k cs s events = (calls : ℕ) → (r : Reading Unit Unit) × (EndsIn g step text calls k cs s r × (r.answer ≡ Ok) × (r.configuration.events ≡ events))
+  EndsWith k cs s events = Ends has_events g text step k cs s events
 
   -- what the second ends with the first does too
   abbrev pub Leads : (k : Configuration Unit Unit) (cs : List Choice) (s : State) (k' : Configuration Unit Unit) (cs' : List Choice) (s' : State) → Type 0
-  Leads k cs s k' cs' s' = (events : List Event) → EndsWith k' cs' s' events → EndsWith k cs s events
+  Leads k cs s k' cs' s' = Goes has_events g text step k cs s k' cs' s'
 
-module _ (g : Given) (text : Text) (step : Sight → Configuration Unit Unit → Name → Step Unit Unit) where
   -- with nothing left to do it ends
-  pub ended : (k : Configuration Unit Unit) → EndsWith g text step k [] Ok k.events
-  ended k calls = (record { configuration = k; answer = Ok; calls = calls }, (record { bound = 0; is = ap (λ n. Some (record { configuration = k; answer = Ok; calls = n })) (omega arith) }, refl, refl))
-
-  -- a call
-  pub leads-called : (k : Configuration Unit Unit) (cs : List Choice) (n : Name)
-      → let s = step (sight g text k) k n in Leads g text step k cs (Retry n) s.configuration (s.choices ++ cs) s.answer
-  leads-called k cs n events h calls =
-      let it = h (calls + 1) in
-      (it.0, ((called-ends g step text calls k cs n it.0).0 it.1.0, it.1.1, it.1.2))
-
-  -- one whose step is known
-  pub leads-step : (k : Configuration Unit Unit) (cs : List Choice) (n : Name) (q : Step Unit Unit) → step (sight g text k) k n ≡ q
-      → Leads g text step k cs (Retry n) q.configuration (q.choices ++ cs) q.answer
-  leads-step k cs n q is events h =
-      leads-called k cs n events (subst (λ (q : Step Unit Unit). EndsWith g text step q.configuration (q.choices ++ cs) q.answer events) (sym is) h)
-
-  -- a byte or the end that is fed
-  pub leads-fed : (k : Configuration Unit Unit) (cs : List Choice) (n : Name) → Leads g text step k cs (Next n) (fed text k) cs (Retry n)
-  leads-fed k cs n events h calls =
-      let it = h calls in
-      (it.0, ((fed-ends g step text calls k cs n it.0).0 it.1.0, it.1.1, it.1.2))
-
-  -- a choice that ends with Nok
-  pub leads-nok : (k : Configuration Unit Unit) (c : Choice) (cs : List Choice) → Leads g text step k (c ∷ cs) Nok (settled_at c.kind c.saved Nok k) cs c.nok
-  leads-nok k c cs events h calls =
-      let it = h calls in
-      (it.0, ((settled-nok-ends g step text calls k c cs it.0).0 it.1.0, it.1.1, it.1.2))
-
-  -- what is fed
-  pub stands : (l : List Seat) (stack : List EventName) (p : ℕ) (ended : Bool) (events : List Event) (local : Local Unit Unit) → drop p text.seats ≡ l
-      → fed text (held stack p Nothing ended events local) ≡ shows l stack p ended events local
-  stands [] stack p ended events local at =
-      ap (λ t. cond t (held stack p Byte ended events local) (held stack p End true events local)) (le-ltb p (length text.seats) (past-end text.seats p at))
-  stands (s ∷ ss) stack p ended events local at =
-      ap (λ t. cond t (held stack p Byte ended events local) (held stack p End true events local)) (lt-ltb p (length text.seats) (slice_get_within text.seats p s (at-front text.seats p s ss at)))
-
-  -- a state that is to come is called with what is fed
-  pub goes-next : (l : List Seat) (stack : List EventName) (p : ℕ) (ended : Bool) (events : List Event) (local : Local Unit Unit) (cs : List Choice) (name : Name) → drop p text.seats ≡ l
-      → Leads g text step (held stack p Nothing ended events local) cs (Next name) (shows l stack p ended events local) cs (Retry name)
-  goes-next l stack p ended events local cs name at es h =
-      leads-fed (held stack p Nothing ended events local) cs name es (subst (λ k. EndsWith g text step k cs (Retry name) es) (sym (stands l stack p ended events local at)) h)
+  pub ended : (k : Configuration Unit Unit) → EndsWith k [] Ok k.events
+  ended k = ended-so has_events g text step k k.events refl
 
 -- A machine whose reading of each whole document ends with these events reads them
 pub reads-as : (rules : Given → Rules Unit Unit) (start : Name) (events_of : List ℕ → List Seat → List Event)
@@ -83,7 +37,7 @@ pub reads-from : (rules : Given → Rules Unit Unit) (start : Name) (events_of :
 reads-from rules start events_of reads = reads-as rules start events_of (λ g.
     let k : Configuration Unit Unit = start_configuration false in
     let l = (whole_text g).seats in
-    goes-next g (whole_text g) (rules g).step l [] 0 false [] k.local [] start refl (events_of g.bytes l) (reads g k.local))
+    goes-next has_events g (whole_text g) (rules g).step l [] 0 false [] k.local [] start refl (events_of g.bytes l) (reads g k.local))
 
 -- one byte on, that byte is the one before
 pub seat-behind : (text : Text) (p : ℕ) (s : Seat) → slice_get text.seats p ≡ Some s → seat_before text (p + 1) ≡ Some s
@@ -111,10 +65,10 @@ module _ (g : Given) (text : Text) (step : Sight → Configuration Unit Unit →
       → ((local : Local Unit Unit) → EndsWith g text step (held stack p Nothing b (take n events) local) cs (Next name) all)
       → FailsTo (record { kind = kind; ok = ok; nok = Next name; saved = Some (saved_here p b n stack) } ∷ cs) events all
   goes-back Attempt ok name p b n stack cs events all h k same =
-      leads-nok g text step k (record { kind = Attempt; ok = ok; nok = Next name; saved = Some (saved_here p b n stack) }) cs all
+      leads-nok has_events g text step k (record { kind = Attempt; ok = ok; nok = Next name; saved = Some (saved_here p b n stack) }) cs all
       (subst (λ es. EndsWith g text step (held stack p Nothing b (take n es) k.local) cs (Next name) all) (sym same) (h k.local))
   goes-back Check ok name p b n stack cs events all h k same =
-      leads-nok g text step k (record { kind = Check; ok = ok; nok = Next name; saved = Some (saved_here p b n stack) }) cs all
+      leads-nok has_events g text step k (record { kind = Check; ok = ok; nok = Next name; saved = Some (saved_here p b n stack) }) cs all
       (subst (λ es. EndsWith g text step (held stack p Nothing b (take n es) k.local) cs (Next name) all) (sym same) (h k.local))
 
   -- a look that fails: choices that fail then lead on

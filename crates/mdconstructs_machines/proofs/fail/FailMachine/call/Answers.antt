@@ -1,5 +1,4 @@
-use Rattle.mdconstructs_machines.proofs.Prelude.{refl, rules, callable, fail, as_it_was}
-use Rattle.mdconstructs_machines.specs.Fail.{text_start}
+use Rattle.mdconstructs_machines.proofs.Prelude.{refl, rules, callable, fail, as_it_was, text_start}
 use Rattle.mdconstructs_machines.proofs.fail.FailMachine.call.Goals as goal
 
 pub text_start-requires : goal.text_start-requires
