@@ -1,12 +1,5 @@
 -- The normal form of collapsed bytes, by whether they are UTF-8.
-use Rattle.std.proofs.Common.{◌≡◌, ℕ, List, cond, inl, inr, map, sym, ap, ◌∙◌}
-use Rattle.std.specs.Prelude.{IsUtf8}
-use Rattle.std.specs.Char.{to_ascii_uppercase}
-use Rattle.std.specs.Str.{is_utf8}
-use Rattle.std.specs.StrCase.Lower.{str_to_lowercase}
-use Rattle.std.specs.StrCase.Upper.{str_to_uppercase}
-use Rattle.std.proofs.lemmas.Bool.{cases_Bool}
-use Rattle.std.proofs.lemmas.Str.{IsUtf8-from_is_utf8, is_utf8-from_IsUtf8}
+use Rattle.mdconstructs_labels.proofs.Prelude.{◌≡◌, ℕ, List, cond, inl, inr, map, sym, ap, ◌∙◌, IsUtf8, to_ascii_uppercase, is_utf8, str_to_lowercase, str_to_uppercase, cases_Bool, IsUtf8-from_is_utf8, is_utf8-from_IsUtf8}
 
 abbrev pub cased : List ℕ → List ℕ
 cased bs = cond (is_utf8 bs) (str_to_uppercase (str_to_lowercase bs)) (map to_ascii_uppercase bs)

@@ -6,8 +6,8 @@ use Rattle.std.specs.StrCase.Lower.{str_to_lowercase}
 use Rattle.std.specs.StrCase.Upper.{str_to_uppercase}
 
 -- white space in a label: a space, a tab, or a part of a line ending
-abbrev pub is_white : ℕ → Bool
-is_white b = ((b == 32) || (b == 9)) || ((b == 10) || (b == 13))
+abbrev pub is_label_white : ℕ → Bool
+is_label_white b = ((b == 32) || (b == 9)) || ((b == 10) || (b == 13))
 
 -- a byte begins a character: it does not go on with one
 abbrev pub begins_character : ℕ → Bool
@@ -34,7 +34,7 @@ characters (b ∷ bs) = cond (begins_character b) 1 0 + characters bs
 -- not all is white space
 abbrev pub is_filled : List ℕ → Bool
 is_filled [] = false
-is_filled (b ∷ bs) = not (is_white b) || is_filled bs
+is_filled (b ∷ bs) = not (is_label_white b) || is_filled bs
 
 -- What may stand between the brackets of a label
 abbrev pub is_label : List ℕ → Bool
@@ -45,7 +45,7 @@ is_label bytes = has_no_bracket false bytes && (nat_le (characters bytes) 999 &&
 abbrev pub collapsed_behind : (begun apart : Bool) → List ℕ → List ℕ
 collapsed_behind begun apart [] = []
 collapsed_behind begun apart (b ∷ bs) =
-    cond (is_white b) (collapsed_behind begun true bs)
+    cond (is_label_white b) (collapsed_behind begun true bs)
     (cond (begun && apart) (32 ∷ b ∷ collapsed_behind true false bs) (b ∷ collapsed_behind true false bs))
 
 abbrev pub collapsed : List ℕ → List ℕ

@@ -3,7 +3,7 @@
 ghost use Rattle.std.specs.Prelude.{ℕ, ◌≡◌, ◌+◌, ◌*◌, ◌-◌, ◌≤◌, ◌<◌, ◌⊎◌, IfSome, Some, None, length, drop};
 ghost use Rattle.std.specs.List.{prefix_len};
 ghost use Rattle.mdconstructs_labels.specs.Costs.{TriesTitle, IsEnded, IsPaid};
-ghost use Rattle.mdconstructs_labels.specs.Tails.{is_blank, gap};
+ghost use Rattle.mdconstructs_labels.specs.Tails.{is_white, gap};
 ghost use Rattle.mdconstructs_labels.specs.Definitions.{end, end_of, label_at, destination_at, title_at, line_left, ended, titled_or_not, definition_at, definitions, rest};
 
 use crate::is_label_counted;
@@ -40,7 +40,7 @@ fn label_at<L: Ledger>(bytes: &[u8], turns: &mut Turns<L>) -> Option<Stretch>
     ensures inside { IfSome result (λ s. end s < length bytes.now) }
     ensures found { IfSome result (λ s. turns.new ≤ turns.old + 2 * end s) }
     ensures turns { turns.new ≤ turns.old + 2 * length bytes.now + 1 }
-    ensures front { IfSome result (λ s. prefix_len is_blank bytes.now + 2 ≤ end s) }
+    ensures front { IfSome result (λ s. prefix_len is_white bytes.now + 2 ≤ end s) }
 {
     let from = blanks(bytes, turns);
     if !begins_with(b'[', &bytes[from..]) {
@@ -166,7 +166,7 @@ pub fn definition_counted<L: Ledger>(bytes: &[u8], turns: &mut Turns<L>) -> Opti
     ensures definition { result ≡ definition_at bytes.now }
     ensures inside { IfSome result (λ d. d.size ≤ length bytes.now) }
     ensures turns { turns.new ≤ turns.old + 4 * length bytes.now + 8 }
-    ensures front { IfSome result (λ d. prefix_len is_blank bytes.now + 3 ≤ d.size) }
+    ensures front { IfSome result (λ d. prefix_len is_white bytes.now + 3 ≤ d.size) }
     ensures paid { IfSome result (λ d. IsPaid bytes.now d turns.old turns.new) }
 {
     let label = label_at(bytes, turns)?;

@@ -2,7 +2,7 @@
 #![tactic(auto)]
 
 ghost use Rattle.std.specs.Prelude.{◌≡◌, ◌+◌, ◌≤◌, ◌<◌, IfOk, length};
-ghost use Rattle.mdconstructs_labels.specs.Labels.{is_white, begins_character, hides, is_bracket, is_label, collapsed, normalised};
+ghost use Rattle.mdconstructs_labels.specs.Labels.{is_label_white, begins_character, hides, is_bracket, is_label, collapsed, normalised};
 
 pub mod definitions;
 pub mod labels;
@@ -19,8 +19,8 @@ use std::sync::ledger::{Blank, Ledger};
 pub const LABEL_SIZE_MAX: usize = 999;
 
 /// Whether a byte is white space in a label.
-fn is_white(byte: u8) -> bool
-    ensures { result ≡ is_white byte }
+fn is_label_white(byte: u8) -> bool
+    ensures { result ≡ is_label_white byte }
 {
     byte == b' ' || byte == b'\t' || byte == b'\n' || byte == b'\r'
 }
@@ -61,7 +61,7 @@ pub fn is_label_counted<L: Ledger>(bytes: &[u8], turns: &mut Turns<L>) -> bool
             }
             characters += 1;
         }
-        filled = filled || !is_white(byte);
+        filled = filled || !is_label_white(byte);
         hidden = byte == b'\\' && !hidden;
         next += 1;
     }
@@ -96,7 +96,7 @@ fn collapsed(alloc: Global, bytes: &[u8]) -> Result<Vec<u8>, AllocError>
     let mut next = 0;
     while next < bytes.len() {
         let byte = bytes[next];
-        if is_white(byte) {
+        if is_label_white(byte) {
             apart = true;
         } else {
             if begun && apart {

@@ -3,7 +3,7 @@
 ghost use Rattle.std.specs.List.{prefix_len};
 ghost use Rattle.std.specs.Prelude.{ℕ, ◌≡◌, ◌+◌, ◌≤◌, ◌<◌, ◌⊎◌, IfSome, length, true, false};
 ghost use Rattle.mdconstructs_labels.specs.Labels.{hides};
-ghost use Rattle.mdconstructs_labels.specs.Tails.{is_blank, ends_raw, begins_with, begins_title, line_ends, bare_behind, is_plain, label_size, enclosed_size, raw_end, behind, is_raw_end, depth_behind, raw_size, destination_size, title_inside, title_end, title_size, gap};
+ghost use Rattle.mdconstructs_labels.specs.Tails.{is_white, ends_raw, begins_with, begins_title, line_ends, bare_behind, is_plain, label_size, enclosed_size, raw_end, behind, is_raw_end, depth_behind, raw_size, destination_size, title_inside, title_end, title_size, gap};
 
 use mdconstructs_turns::Turns;
 use std::sync::ledger::Ledger;
@@ -12,8 +12,8 @@ use std::sync::ledger::Ledger;
 pub const DEPTH_MAX: usize = 32;
 
 /// A space or a tab.
-fn is_blank(byte: u8) -> bool
-    ensures { result ≡ is_blank byte }
+fn is_white(byte: u8) -> bool
+    ensures { result ≡ is_white byte }
 {
     byte == b' ' || byte == b'\t'
 }
@@ -55,14 +55,14 @@ pub(crate) fn line_ends(bytes: &[u8]) -> bool
 
 /// How many spaces and tabs come.
 pub(crate) fn blanks<L: Ledger>(bytes: &[u8], turns: &mut Turns<L>) -> usize
-    ensures size { result ≡ prefix_len is_blank bytes.now }
+    ensures size { result ≡ prefix_len is_white bytes.now }
     ensures inside { result ≤ length bytes.now }
     ensures turns { turns.new ≤ turns.old + result + 1 }
 {
     let mut next = 0;
     while next < bytes.len() {
         turns.add_one();
-        if !is_blank(bytes[next]) {
+        if !is_white(bytes[next]) {
             return next;
         }
         next += 1;
@@ -74,7 +74,7 @@ pub(crate) fn blanks<L: Ledger>(bytes: &[u8], turns: &mut Turns<L>) -> usize
 fn bare_behind(bare: bool, byte: u8) -> bool
     ensures { result ≡ bare_behind bare byte }
 {
-    byte == b'\n' || bare && is_blank(byte)
+    byte == b'\n' || bare && is_white(byte)
 }
 
 /// Behind a `[`: how many bytes a label has, up to its `]`.

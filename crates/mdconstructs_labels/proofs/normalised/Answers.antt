@@ -1,8 +1,4 @@
-use Rattle.std.proofs.Common.{◌≡◌, IfOk, Ok, Err, map, ap, ◌∙◌, subst}
-use Rattle.std.specs.Prelude.{IsUtf8}
-use Rattle.std.specs.Char.{to_ascii_uppercase}
-use Rattle.std.specs.StrCase.Upper.{str_to_uppercase}
-use Rattle.mdconstructs_labels.specs.Labels.{collapsed, normalised}
+use Rattle.mdconstructs_labels.proofs.Prelude.{◌≡◌, IfOk, Ok, Err, map, ap, ◌∙◌, subst, IsUtf8, to_ascii_uppercase, str_to_uppercase, collapsed, normalised}
 use Rattle.mdconstructs_labels.proofs.Folded.{of-text, of-bytes}
 use Rattle.mdconstructs_labels.proofs.normalised.Goals as goal
 
