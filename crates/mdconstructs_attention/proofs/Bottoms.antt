@@ -1,5 +1,5 @@
 -- Below a height that a search of its kind has seen nothing fits: this stays so.
-use Rattle.mdconstructs_attention.proofs.Prelude.{◌≡◌, ◌≢◌, ℕ, zero, suc, ◌+◌, ◌-◌, ◌==◌, ◌<◌, ◌≤◌, Bool, true, false, cond, List, [], ◌∷◌, ◌++◌, Option, Some, None, take, length, set, refl, sym, ap, ◌∙◌, arith, inl, inr, length-append, get_or-set_same, get_or-set_other, length-take-le, cases_lt, slice_get_within, slice_get, slice_index, ◌&&◌, ◌||◌, not, ◌⊎◌, nat_tests, Run, same, may_pair, is_strong, opening, closing, last_of, may_pair_there, run_there, with_pair, with_pair_of, third, kind, AreBottoms}
+use Rattle.mdconstructs_attention.proofs.Prelude.{◌≡◌, ◌≢◌, ℕ, zero, suc, ◌+◌, ◌-◌, ◌==◌, ◌<◌, ◌≤◌, Bool, true, false, cond, List, [], ◌∷◌, ◌++◌, Option, Some, None, take, length, set, refl, sym, ap, ◌∙◌, arith, inl, inr, length-append, get_or-set_same, get_or-set_other, length-take-le, slice_get_within, slice_get, slice_index, ◌&&◌, ◌||◌, not, nat_tests, Run, same, may_pair, is_strong, opening, closing, last_of, may_pair_there, run_there, with_pair, with_pair_of, third, kind, AreBottoms, get-front, get-take, cases_eq}
 
 -- ---- the kind of a run
 
@@ -90,26 +90,6 @@ slice_get-set_same [] i v h = absurd (omega (arith, h))
 slice_get-set_same (x ∷ xs) zero v h = refl
 slice_get-set_same (x ∷ xs) (suc i) v h = slice_get-set_same xs i v (omega (arith, h))
 
-slice_get-take : {X : Type 0} → (h : ℕ) (xs : List X) (k : ℕ) → k < h → slice_get (take h xs) k ≡ slice_get xs k
-slice_get-take zero xs k lt = absurd (omega (arith, lt))
-slice_get-take (suc h) [] k lt = refl
-slice_get-take (suc h) (x ∷ xs) zero lt = refl
-slice_get-take (suc h) (x ∷ xs) (suc k) lt = slice_get-take h xs k (omega (arith, lt))
-
-slice_get-front : {X : Type 0} → (xs ys : List X) (k : ℕ) → k < length xs → slice_get (xs ++ ys) k ≡ slice_get xs k
-slice_get-front [] ys k lt = absurd (omega (arith, lt))
-slice_get-front (x ∷ xs) ys zero lt = refl
-slice_get-front (x ∷ xs) ys (suc k) lt = slice_get-front xs ys k (omega (arith, lt))
-
-equal-or-not : (a b : ℕ) → (a ≡ b) ⊎ (a ≢ b)
-equal-or-not a b = elim (cases_lt a b) [
-  | inl less ↦ inr (λ e. absurd (omega (arith, less, e)))
-  | inr most ↦ elim (cases_lt b a) [
-    | inl more ↦ inr (λ e. absurd (omega (arith, more, e)))
-    | inr least ↦ inl (omega (arith, most, least))
-  ]
-]
-
 -- ---- after a pair
 
 module _ (rs : List Run) (i j : ℕ) (o c : Run) (at : slice_get rs i ≡ Some o) (next : slice_get rs j ≡ Some c) where
@@ -121,7 +101,7 @@ module _ (rs : List Run) (i j : ℕ) (o c : Run) (at : slice_get rs i ≡ Some o
       let o' = opening (is_strong o c) o in
       let one : slice_get (with_pair rs i j) m ≡ slice_get (set rs i o') m =
       ap (λ xs. slice_get xs m) made ∙ slice_get-set_other (set rs i o') j m (closing (is_strong o c) c) (λ e. absurd (omega (arith, before, e))) in
-      ap (λ x. may_pair_there x r) one ∙ elim (equal-or-not m i) [
+      ap (λ x. may_pair_there x r) one ∙ elim (cases_eq m i) [
         | inl same ↦
             ap (λ k. may_pair_there (slice_get (set rs i o') k) r) same ∙ ap (λ x. may_pair_there x r) (slice_get-set_same rs i o' (slice_get_within rs i o at))
             ∙ ap (λ x. may_pair_there x r) (sym at) ∙ ap (λ k. may_pair_there (slice_get rs k) r) (sym same)
@@ -139,7 +119,7 @@ module _ (rs : List Run) (i j : ℕ) (o c : Run) (at : slice_get rs i ≡ Some o
       let long = length-take-le height openers within in (
         omega (arith, low (kind r), long),
         search-alike rs (with_pair rs i j) openers (take height openers) r n
-            (λ k lt. ap (λ x. may_pair_there (run_there (with_pair rs i j) x) r) (slice_get-take height openers k (omega (arith, lt, low (kind r)))) ∙ run-after r (slice_get openers k) (below k))
+            (λ k lt. ap (λ x. may_pair_there (run_there (with_pair rs i j) x) r) (get-take height openers k (omega (arith, lt, low (kind r)))) ∙ run-after r (slice_get openers k) (below k))
             ∙ none-lower rs openers r n (slice_index bottoms (kind r)) (lower (kind r)) (h r).1,
       )
 
@@ -147,7 +127,7 @@ module _ (rs : List Run) (i j : ℕ) (o c : Run) (at : slice_get rs i ≡ Some o
 
 pub bottoms-after-search : (rs : List Run) (openers bottoms : List ℕ) (c : Run) → kind c < length bottoms → last_of rs openers c (length openers) ≡ None → AreBottoms rs openers bottoms
     → AreBottoms rs openers (set bottoms (kind c) (length openers))
-bottoms-after-search rs openers bottoms c inside none h r = elim (equal-or-not (kind r) (kind c)) [
+bottoms-after-search rs openers bottoms c inside none h r = elim (cases_eq (kind r) (kind c)) [
   | inl same ↦
       let is : slice_index (set bottoms (kind c) (length openers)) (kind r) ≡ length openers =
       ap (slice_index (set bottoms (kind c) (length openers))) same ∙ get_or-set_same bottoms (kind c) (length openers) 0 inside in
@@ -162,7 +142,7 @@ bottoms-after-push rs openers bottoms j h r =
     let n = slice_index bottoms (kind r) in
     let long = length-append openers (j ∷ []) in (
       omega (arith, (h r).0, long),
-      search-alike rs rs openers (openers ++ j ∷ []) r n (λ k lt. ap (λ x. may_pair_there (run_there rs x) r) (slice_get-front openers (j ∷ []) k (omega (arith, lt, (h r).0)))) ∙ (h r).1,
+      search-alike rs rs openers (openers ++ j ∷ []) r n (λ k lt. ap (λ x. may_pair_there (run_there rs x) r) (get-front openers (j ∷ []) k (omega (arith, lt, (h r).0)))) ∙ (h r).1,
     )
 
 pub bottoms-at-first : (rs : List Run) (bottoms : List ℕ) → ((k : ℕ) → slice_index bottoms k ≡ 0) → AreBottoms rs [] bottoms

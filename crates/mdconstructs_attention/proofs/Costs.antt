@@ -1,5 +1,5 @@
 -- What the loops that pair runs cost: what is to be paid pays for it.
-use Rattle.mdconstructs_attention.proofs.Prelude.{◌≡◌, ℕ, zero, suc, ◌+◌, ◌-◌, ◌<◌, ◌≤◌, List, [], ◌∷◌, Some, length, set, refl, ap, ◌∙◌, arith, slice_get, slice_index, Run, is_strong, opening, closing, with_pair, with_pair_of, markers_left, above}
+use Rattle.mdconstructs_attention.proofs.Prelude.{◌≡◌, ℕ, zero, suc, ◌+◌, ◌-◌, ◌<◌, ◌≤◌, List, [], ◌∷◌, Some, length, set, refl, ap, ◌∙◌, arith, slice_get, slice_index, Run, is_strong, opening, closing, with_pair, with_pair_of, markers_left, above, same_Some}
 use Rattle.mdconstructs_attention.proofs.Steps.{fewer}
 
 -- ---- the markers that are left
@@ -7,12 +7,9 @@ use Rattle.mdconstructs_attention.proofs.Steps.{fewer}
 set-left : (rs : List Run) (i : ℕ) (o o' : Run) → slice_get rs i ≡ Some o → markers_left (set rs i o') + o.left ≡ markers_left rs + o'.left
 set-left [] i o o' e = absurd (cc)
 set-left (r ∷ rs) zero o o' e =
-    let same : r ≡ o = some-same r o e in
+    let same : r ≡ o = same_Some r o e in
     let left = ap (λ x. x.left) same in
     omega (arith, left)
-  where
-    some-same : (a b : Run) → Some a ≡ Some b → a ≡ b
-    some-same a b h = cc
 set-left (r ∷ rs) (suc i) o o' e = let more = set-left rs i o o' e in omega (arith, more)
 
 set-other : (rs : List Run) (i m : ℕ) (v : Run) → i < m → slice_get (set rs i v) m ≡ slice_get rs m
@@ -59,11 +56,3 @@ above-lower few many bottoms' bottoms le e h = above-each few many bottoms' bott
 pub above-more : (many : ℕ) (bottoms : List ℕ) → above (many + 1) bottoms ≤ above many bottoms + length bottoms
 above-more many [] = omega arith
 above-more many (b ∷ bs) = let more = above-more many bs in omega (arith, more)
-
-pub above-zeros : (bottoms : List ℕ) → above 0 bottoms ≡ 0
-above-zeros [] = refl
-above-zeros (b ∷ bs) = let more = above-zeros bs in omega (arith, more)
-
--- a search looks at no more runs than wait
-pub above-one : (many : ℕ) (bottoms : List ℕ) (k : ℕ) → many - slice_index bottoms k ≤ many
-above-one many bottoms k = omega arith

@@ -1,7 +1,6 @@
 -- Pairs keep the runs in their order, each with its index, its place, its marker, and its number of markers.
-use Rattle.mdconstructs_attention.proofs.Prelude.{◌≡◌, ℕ, zero, suc, ◌<◌, ◌≤◌, Bool, true, false, cond, List, [], ◌∷◌, ◌++◌, Option, Some, None, inl, inr, map, take, drop, length, refl, sym, ap, ◌∙◌, subst, arith, append_assoc, append-nil, ◌&&◌, nat_lt, nat_le, cases_Bool, length-map, map-append, drop-length, take-length, and-right, Run, may_pair, is_strong, markers_of, paired, Waiting, SoFar, Found, opening, closing, put_behind, put, put_back, last_fitting, close, in_turn_from, all_waiting, all_runs, none_read, Delimiters, as_run, Standing, standing, markers}
+use Rattle.mdconstructs_attention.proofs.Prelude.{◌≡◌, ℕ, zero, suc, ◌<◌, ◌≤◌, Bool, true, false, cond, List, [], ◌∷◌, ◌++◌, Option, Some, None, inl, inr, map, take, drop, length, refl, sym, ap, ◌∙◌, subst, arith, append_assoc, append-nil, ◌&&◌, nat_lt, nat_le, cases_Bool, length-map, map-append, drop-length, take-length, and-right, Run, may_pair, is_strong, markers_of, paired, Waiting, SoFar, Found, opening, closing, put_behind, put, put_back, last_fitting, close, in_turn_from, all_waiting, all_runs, none_read, Delimiters, as_run, Standing, standing, markers, and-left}
 use Rattle.mdconstructs_attention.proofs.InTurn.{all-put_behind, markers-more, paired-in-turn}
-use Rattle.mdconstructs_attention.proofs.RunTexts.{and-left}
 
 abbrev all_standing : List Run → List Standing
 all_standing rs = map standing rs

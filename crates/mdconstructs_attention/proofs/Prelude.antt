@@ -1,18 +1,18 @@
 -- What the proofs of this crate cite from below them: words of std, of the crates below and of specs.
 pub use Rattle.std.proofs.Common.{Bool, List, None, Ok, Option, Some, [], ap, append-nil, append_assoc, arith, cond, drop, false, get_or, inl, inr, length, length-append, map, min, refl, replicate, set, subst, suc, sym, take, true, zero, ℕ, ◌*◌, ◌++◌, ◌+◌, ◌-◌, ◌/◌, ◌<◌, ◌∙◌, ◌∷◌, ◌≡◌, ◌≢◌, ◌≤◌}
 pub use Rattle.std.proofs.Math.Seq.{drop-append-add, drop-append_seam, drop-length, get_or-append_seam, set-append_seam, take-append-add, take-append_seam, take-length, take-suc}
-pub use Rattle.std.proofs.lemmas.Bool.{agree_below, agree_below_at, and_from, and_left, and_parts, and_right, cases_Bool, cases_lt, eq-eqb, eqb-true, false≢true, le-leb, leb-true, lt-leb, ne_eqb, true≢false}
+pub use Rattle.std.proofs.lemmas.Bool.{agree_below, agree_below_at, and_from, and_left, and_parts, and_right, cases_Bool, cases_eq, cases_lt, eq-eqb, eqb-true, false≢true, le-leb, leb-true, lt-leb, lt-ltb, ne_eqb, or_from, or_left, or_right, true≢false}
 pub use Rattle.std.proofs.lemmas.Bool.Decides.{nat_tests}
 pub use Rattle.std.proofs.lemmas.List.{drop-append-le, drop-drop, drop_min, drop_more, get_or-set_other, get_or-set_same, get_or_append_left, get_or_default, length-drop, length-map, length-set, length-take-le, map-append, map-set, nil_from_length, reverse-append, take-append-drop, take_all}
 pub use Rattle.std.proofs.lemmas.List.Elements.{All-get_or, All-head, All-tail, filter-append}
-pub use Rattle.std.proofs.lemmas.Option.{get_or_from_slice_get, slice_get-get_or, slice_get-map, slice_get_read, slice_get_within}
+pub use Rattle.std.proofs.lemmas.Option.{get_or_from_slice_get, same_Some, slice_get-get_or, slice_get-map, slice_get_read, slice_get_within}
 pub use Rattle.std.proofs.lemmas.Str.{IsCharBoundary-start, IsUtf8-encode, IsUtf8-from_is_utf8, IsUtf8-take, chars-append, chars-encodes, chars-nil, chars_past_char, encodes-chars, is_utf8-from_IsUtf8, length-encode, scalars-chars}
 pub use Rattle.std.specs.Char.{IsScalar, encode_utf8, is_ascii_punctuation, is_ascii_whitespace}
 pub use Rattle.std.specs.List.{filter}
 pub use Rattle.std.specs.Option.{is_some, option_or, unwrap_or}
 pub use Rattle.std.specs.Prelude.{IfSome, IsCharBoundary, IsUtf8, MatchOption, chars, nat_le, nat_lt, not, option_map, reverse, slice_get, slice_index, slice_index_or, ◌&&◌, ◌==◌, ◌||◌, ◌⊎◌}
 pub use Rattle.std.specs.Str.{all_scalars, encode_utf8_all, is_utf8}
-pub use Rattle.markdown_base.proofs.Common.{and-false-never, and-right}
+pub use Rattle.markdown_base.proofs.Common.{and-false-never, and-right, get-front}
 pub use Rattle.markdown_base.specs.Events.{EachEnd, EndsBelow, IsBalanced, is_enter, same_name}
 pub use Rattle.markdown_base.specs.declared.event.Event.{Event}
 pub use Rattle.markdown_base.specs.declared.event.Kind.{Kind, Kind as EventKind}
@@ -41,3 +41,5 @@ pub use Rattle.mdconstructs_attention.specs.Runs.{depth_after, end_before, index
 pub use Rattle.mdconstructs_attention.specs.Searches.{AreBottoms, IsNext, Stands, StandsAt, as_run, kind, last_of, left_of, may_pair_there, positions, run_there, third, with_pair, with_pair_of}
 pub use Rattle.mdconstructs_attention.specs.declared.pairs.Delimiters.{Delimiters}
 pub use Rattle.mdconstructs_attention.specs.declared.unicode.TheConstants.{PUNCTUATION, WHITE_SPACE}
+pub use Rattle.markdown_base.proofs.Facts.Bools.{and-left}
+pub use Rattle.markdown_base.proofs.Facts.Lists.{get-take}

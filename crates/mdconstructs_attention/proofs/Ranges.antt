@@ -1,5 +1,5 @@
 -- A search by halves among sorted ranges.
-use Rattle.mdconstructs_attention.proofs.Prelude.{◌≡◌, ℕ, zero, suc, ◌+◌, ◌<◌, ◌≤◌, Bool, true, false, List, [], ◌∷◌, length, take, drop, get_or, refl, ap, ◌∙◌, arith, ◌&&◌, ◌||◌, nat_le, and_parts, and_from, and_left, and_right, leb-true, le-leb, lt-leb, in_ranges, are_sorted}
+use Rattle.mdconstructs_attention.proofs.Prelude.{◌≡◌, ℕ, zero, suc, ◌+◌, ◌<◌, ◌≤◌, true, false, List, [], ◌∷◌, length, take, drop, get_or, refl, arith, ◌&&◌, ◌||◌, nat_le, and_parts, and_from, and_left, and_right, leb-true, le-leb, lt-leb, in_ranges, are_sorted, or_from, or_left, or_right}
 
 -- the first range is sorted in, and so are the others behind it
 module _ (from : ℕ) (r : ℕ × ℕ) (rs : List (ℕ × ℕ)) (sorted : are_sorted from (r ∷ rs) ≡ true) where
@@ -12,16 +12,6 @@ module _ (from : ℕ) (r : ℕ × ℕ) (rs : List (ℕ × ℕ)) (sorted : are_so
   others : are_sorted (r.1 + 1) rs ≡ true
   others = parts.1
 
-or-false : (a b : Bool) → a ≡ false → b ≡ false → (a || b) ≡ false
-or-false a b h k = ap (λ x. x || b) h ∙ k
-
-or-first : (a b : Bool) → a ≡ true → (a || b) ≡ true
-or-first a b h = ap (λ x. x || b) h
-
-or-second : (a b : Bool) → b ≡ true → (a || b) ≡ true
-or-second true b h = refl
-or-second false b h = h
-
 above : (r : ℕ × ℕ) (code : ℕ) → code < r.0 → (nat_le r.0 code && nat_le code r.1) ≡ false
 above r code h = and_left (nat_le r.0 code) (nat_le code r.1) (lt-leb r.0 code h)
 
@@ -33,7 +23,7 @@ none-before : (from : ℕ) (rs : List (ℕ × ℕ)) (code : ℕ) → are_sorted 
 none-before from [] code sorted h = refl
 none-before from (r ∷ rs) code sorted h =
     let s = starts from r rs sorted in
-    or-false (nat_le r.0 code && nat_le code r.1) (in_ranges rs code) (above r code (omega (arith, s.0, h))) (none-before (r.1 + 1) rs code (others from r rs sorted) (omega (arith, s.0, s.1, h)))
+    or_from (nat_le r.0 code && nat_le code r.1) (in_ranges rs code) (above r code (omega (arith, s.0, h))) (none-before (r.1 + 1) rs code (others from r rs sorted) (omega (arith, s.0, s.1, h)))
 
 -- the last code point of a range is behind where the ranges begin
 behind-start : (from : ℕ) (rs : List (ℕ × ℕ)) (i : ℕ) (d : ℕ × ℕ) → are_sorted from rs ≡ true → i < length rs → from ≤ (get_or rs i d).1
@@ -49,25 +39,25 @@ pub none-from : (from : ℕ) (rs : List (ℕ × ℕ)) (i : ℕ) (d : ℕ × ℕ)
 none-from from [] i d code sorted inside h = absurd (omega (arith, inside))
 none-from from (r ∷ rs) zero d code sorted inside h =
     let s = starts from r rs sorted in
-    or-false (nat_le r.0 code && nat_le code r.1) (in_ranges rs code) (above r code h) (none-before (r.1 + 1) rs code (others from r rs sorted) (omega (arith, s.1, h)))
+    or_from (nat_le r.0 code && nat_le code r.1) (in_ranges rs code) (above r code h) (none-before (r.1 + 1) rs code (others from r rs sorted) (omega (arith, s.1, h)))
 none-from from (r ∷ rs) (suc i) d code sorted inside h = none-from (r.1 + 1) rs i d code (others from r rs sorted) (omega (arith, inside)) h
 
 -- a code point behind a range is in none up to there
 pub none-up-to : (from : ℕ) (rs : List (ℕ × ℕ)) (i : ℕ) (d : ℕ × ℕ) (code : ℕ) → are_sorted from rs ≡ true → i < length rs → (get_or rs i d).1 < code → in_ranges (take (suc i) rs) code ≡ false
 none-up-to from [] i d code sorted inside h = absurd (omega (arith, inside))
-none-up-to from (r ∷ rs) zero d code sorted inside h = or-false (nat_le r.0 code && nat_le code r.1) false (below r code h) refl
+none-up-to from (r ∷ rs) zero d code sorted inside h = or_from (nat_le r.0 code && nat_le code r.1) false (below r code h) refl
 none-up-to from (r ∷ rs) (suc i) d code sorted inside h =
     let k = behind-start (r.1 + 1) rs i d (others from r rs sorted) (omega (arith, inside)) in
-    or-false (nat_le r.0 code && nat_le code r.1) (in_ranges (take (suc i) rs) code) (below r code (omega (arith, k, h)))
+    or_from (nat_le r.0 code && nat_le code r.1) (in_ranges (take (suc i) rs) code) (below r code (omega (arith, k, h)))
     (none-up-to (r.1 + 1) rs i d code (others from r rs sorted) (omega (arith, inside)) h)
 
 -- a range that has the code point is found
 pub some-range : (rs : List (ℕ × ℕ)) (i : ℕ) (d : ℕ × ℕ) (code : ℕ) → i < length rs → (get_or rs i d).0 ≤ code → code ≤ (get_or rs i d).1 → in_ranges rs code ≡ true
 some-range [] i d code inside low high = absurd (omega (arith, inside))
 some-range (r ∷ rs) zero d code inside low high =
-    or-first (nat_le r.0 code && nat_le code r.1) (in_ranges rs code) (and_from (nat_le r.0 code) (nat_le code r.1) (le-leb r.0 code low) (le-leb code r.1 high))
+    or_left (nat_le r.0 code && nat_le code r.1) (in_ranges rs code) (and_from (nat_le r.0 code) (nat_le code r.1) (le-leb r.0 code low) (le-leb code r.1 high))
 some-range (r ∷ rs) (suc i) d code inside low high =
-    or-second (nat_le r.0 code && nat_le code r.1) (in_ranges rs code) (some-range rs i d code (omega (arith, inside)) low high)
+    or_right (nat_le r.0 code && nat_le code r.1) (in_ranges rs code) (some-range rs i d code (omega (arith, inside)) low high)
 
 -- a code point that is in none before a place, and in none behind it, is in none
 pub none-at-all : (rs : List (ℕ × ℕ)) (i : ℕ) (code : ℕ) → in_ranges (take i rs) code ≡ false → in_ranges (drop i rs) code ≡ false → in_ranges rs code ≡ false

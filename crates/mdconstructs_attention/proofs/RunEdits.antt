@@ -1,5 +1,5 @@
 -- One edit for each run leaves emphasis.
-use Rattle.mdconstructs_attention.proofs.Prelude.{◌≡◌, ℕ, zero, suc, ◌+◌, ◌-◌, ◌<◌, Bool, List, [], ◌∷◌, ◌++◌, Option, None, map, take, drop, length, refl, sym, ap, ◌∙◌, subst, arith, append_assoc, length-append, IfSome, take-append_seam, drop-append-add, Event, Point, EachEnd, EndsBelow, IsBalanced, AreDisjoint, spliced, relinked_by, edited-spliced, Run, closings, paired, tail_events, head_events, run_events, events_of_runs, openings, data_of, later, markers_of, markers_of_all, runs_in, end_before, text_before, text_behind, in_place, edits_of, index_of, HasRunsAt, EditsMakeEmphasis, EmphasisCanBeMade, HaveNoLinks, no-links-append, no-links-below, no-links-drop, no-links-take, unlinked-same}
+use Rattle.mdconstructs_attention.proofs.Prelude.{◌≡◌, ℕ, zero, suc, ◌+◌, ◌-◌, Bool, List, [], ◌∷◌, ◌++◌, Option, map, take, drop, length, refl, sym, ap, ◌∙◌, subst, arith, append_assoc, length-append, take-append_seam, drop-append-add, Event, Point, IsBalanced, AreDisjoint, spliced, relinked_by, edited-spliced, Run, closings, paired, tail_events, head_events, run_events, events_of_runs, openings, data_of, later, markers_of, markers_of_all, runs_in, end_before, text_before, text_behind, in_place, edits_of, index_of, HasRunsAt, EditsMakeEmphasis, EmphasisCanBeMade, HaveNoLinks, no-links-append, no-links-below, no-links-drop, no-links-take, unlinked-same}
 use Rattle.mdconstructs_attention.proofs.RunTexts.{runs-and-texts}
 use Rattle.mdconstructs_attention.proofs.Balance.{leaves-balanced}
 use Rattle.mdconstructs_attention.proofs.PairsKeep.{pairs-keep-indices}
@@ -17,9 +17,6 @@ no-links-front (x ∷ xs) ys h = (h.0, no-links-front xs ys h.1)
 no-links-back : (xs ys : List Event) → HaveNoLinks (xs ++ ys) → HaveNoLinks ys
 no-links-back [] ys h = h
 no-links-back (x ∷ xs) ys h = no-links-back xs ys h.1
-
-below-none : (o : Event) (n : ℕ) → o.link ≡ None → EndsBelow n o
-below-none o n h = subst (λ l. IfSome l (EachEnd (λ k. k < n))) (sym h) tt
 
 module _ (texts : ℕ → List Event) (rest : List Event) where
   disjoint : (i : ℕ) (rs : List Run) (xs : List Event) → HasRunsAt texts rest i (map index_of rs) xs → AreDisjoint i (edits_of rs) (i + length xs)

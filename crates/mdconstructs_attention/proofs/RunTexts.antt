@@ -1,5 +1,5 @@
 -- The runs of a balanced list: between them the list is balanced, so that emphasis can take their place.
-use Rattle.mdconstructs_attention.proofs.Prelude.{◌≡◌, ℕ, suc, ◌+◌, ◌-◌, ◌<◌, ◌≤◌, Bool, true, false, cond, List, [], ◌∷◌, ◌++◌, Option, Some, None, map, take, drop, length, refl, sym, ap, ◌∙◌, subst, inl, inr, arith, append_assoc, length-append, ◌==◌, ◌&&◌, not, nat_lt, slice_get, cases_Bool, drop-drop, length-drop, take-append_seam, drop-append-add, and-right, and-false-never, Event, Kind, Enter, Exit, Name, AttentionSequence, IsBalanced, is_enter, same_name, names_after, names_after_all, names_after_all-append, balanced_from_open, names-none, names_after_balanced, same_name-refl, same_name-true, Run, index_of_event, is_sequence, depth_after, run_at, runs_from, runs_in, end_before, text_before, text_behind, index_of, HasRunsAt, AreFresh}
+use Rattle.mdconstructs_attention.proofs.Prelude.{◌≡◌, ℕ, suc, ◌+◌, ◌-◌, ◌≤◌, Bool, true, false, cond, List, [], ◌∷◌, ◌++◌, Option, Some, None, map, take, drop, length, refl, sym, ap, ◌∙◌, subst, inl, inr, arith, append_assoc, length-append, ◌==◌, ◌&&◌, not, nat_lt, slice_get, cases_Bool, drop-drop, length-drop, take-append_seam, drop-append-add, and-right, and-false-never, Event, Kind, Enter, Exit, Name, AttentionSequence, IsBalanced, is_enter, same_name, names_after, names_after_all, names_after_all-append, balanced_from_open, names-none, names_after_balanced, same_name-refl, same_name-true, Run, index_of_event, is_sequence, depth_after, run_at, runs_from, runs_in, end_before, text_before, text_behind, index_of, HasRunsAt, AreFresh, and-left, same_Some, lt-ltb}
 
 -- What a list holds from an index on: before each run a balanced text, and then its enter and its exit; and a balanced text behind the last one
 abbrev pub HasRuns : ℕ → List Run → List Event → Type 0
@@ -15,13 +15,6 @@ whole pre ys st a b = balanced_from_open (pre ++ ys) (names_after_all-append (So
 none-open : (st : List Name) → (length st == 0) ≡ true → st ≡ []
 none-open [] h = refl
 none-open (n ∷ st) h = let never : suc (length st) ≡ 0 = grind (arith, h) in absurd (omega (arith, never))
-
-pub and-left : (a b : Bool) → (a && b) ≡ true → a ≡ true
-and-left true b h = refl
-and-left false b h = cc
-
-some-is : {A : Type 0} {a b : A} → Some a ≡ Some b → a ≡ b
-some-is h = cc
 
 add-zero : (n : ℕ) → n + 0 ≡ n
 add-zero n = omega arith
@@ -41,12 +34,12 @@ sequence-leaves e f es st h =
 
 -- what is open after an event is as long as its depth
 deeper : (k : Kind) (n : Name) (st st' : List Name) → names_after k n st ≡ Some st' → depth_after k (length st) ≡ length st'
-deeper Enter n st st' h = ap length (some-is h)
+deeper Enter n st st' h = ap length (same_Some _ _ h)
 deeper Exit n [] st' h = cc
 deeper Exit n (m ∷ st) st' h = exits (same_name m n) h
   where
     exits : (t : Bool) → cond t (Some st) None ≡ Some st' → length (m ∷ st) - 1 ≡ length st'
-    exits true k = let same = ap length (some-is k) in omega (arith, same)
+    exits true k = let same = ap length (same_Some _ _ k) in omega (arith, same)
     exits false k = cc
 
 -- something is open after an event, if all is closed in the end
@@ -90,9 +83,6 @@ module _ (bytes : List ℕ) where
 
 -- ---- texts by the index of their run
 
-past : (a b : ℕ) → a < b → nat_lt a b ≡ true
-past a b h = grind (arith, h)
-
 not-past : (a : ℕ) → nat_lt a a ≡ false
 not-past a = grind arith
 
@@ -120,7 +110,7 @@ module _ (events : List Event) (all : List Run) where
       let behind : more ≡ drop (r.index + 2) events =
       sym (dropped xs more events i (length text + 2) is (ap (drop (length text + 2)) h.4 ∙ drop-append-add text pair 2)) ∙ ap (λ n. drop n events) (let e : i + (length text + 2) ≡ r.index + 2 = omega (arith, h.6) in e) in
       let later_ones = to-texts rs (r.index + 2) more behind (omega (arith, h.6, long, left, within))
-      (λ k past_it. ends k (omega (arith, h.6, past_it)) ∙ ap (λ b. cond b (end_before (r.index + 2) rs k) i) (past r.index k (omega (arith, past_it)))) h.9 in (
+      (λ k past_it. ends k (omega (arith, h.6, past_it)) ∙ ap (λ b. cond b (end_before (r.index + 2) rs k) i) (lt-ltb r.index k (omega (arith, past_it)))) h.9 in (
         (h.2, h.3, more, h.4 ∙ ap (λ t. t ++ pair) (sym same), h.6 ∙ ap (λ t. i + length t) (sym same), later_ones.0),
         (h.7, h.8, subst IsBalanced (sym same) h.5, later_ones.1),
         later_ones.2,

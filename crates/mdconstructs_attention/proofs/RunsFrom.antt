@@ -1,5 +1,5 @@
 -- The runs of a list, from an index on.
-use Rattle.mdconstructs_attention.proofs.Prelude.{◌≡◌, ℕ, zero, suc, ◌+◌, ◌<◌, ◌≤◌, Bool, true, false, cond, List, [], ◌∷◌, ◌++◌, Option, Some, None, map, drop, length, refl, sym, ap, ◌∙◌, arith, append_assoc, ◌==◌, ◌&&◌, slice_get, slice_index_or, drop_more, map-append, length-drop, Event, EventKind, Enter, Exit, AttentionSequence, Delimiters, Run, as_run, index_of_event, run_at, is_sequence, depth_after, runs_from, and_from}
+use Rattle.mdconstructs_attention.proofs.Prelude.{◌≡◌, ℕ, zero, suc, ◌+◌, ◌<◌, ◌≤◌, true, false, cond, List, [], ◌∷◌, ◌++◌, Option, Some, None, map, drop, length, refl, sym, ap, ◌∙◌, arith, append_assoc, ◌==◌, ◌&&◌, slice_get, slice_index_or, drop_more, map-append, length-drop, Event, EventKind, Enter, Exit, AttentionSequence, Delimiters, Run, as_run, index_of_event, run_at, is_sequence, depth_after, runs_from, and_from}
 
 -- what stands for an event behind the end of a list
 abbrev pub no_event : Event
@@ -17,13 +17,6 @@ first-left : (xs : List Event) (n : ℕ) → index_of_event (slice_get (drop n x
 first-left xs zero = refl
 first-left [] (suc n) = refl
 first-left (x ∷ xs) (suc n) = first-left xs n
-
-pub not-second : (b c : Bool) → c ≡ false → (b && c) ≡ false
-not-second true c h = h
-not-second false c h = refl
-
-pub not-first : (b c : Bool) → b ≡ false → (b && c) ≡ false
-not-first b c h = ap (λ x. x && c) h
 
 -- an attention sequence in no span is a run
 pub a-run : (bytes : List ℕ) (xs : List Event) (i depth : ℕ) (before : Option ℕ) (d : Event) → i + 1 < length xs → (depth == 0) ≡ true

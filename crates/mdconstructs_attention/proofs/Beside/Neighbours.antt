@@ -2,10 +2,9 @@
 --
 -- A run pairs first with the last one that waits and fits. If runs are between the two, they never wait again, and the one directly before it
 -- has opened nothing; if none is, the two have one marker.
-use Rattle.mdconstructs_attention.proofs.Prelude.{◌≡◌, ℕ, zero, suc, Bool, true, false, cond, List, [], ◌∷◌, ◌++◌, Option, Some, None, inl, inr, refl, sym, ap, ◌∙◌, subst, append_assoc, append-nil, ◌⊎◌, ◌&&◌, nat_lt, Run, same, may_pair, is_strong, Waiting, SoFar, Found, opening, closing, put_behind, put, put_back, last_fitting, close, in_turn_from, all_waiting, all_runs, none_read, paired_in_turn, AreBeside, AreUnpaired, PairsBeside}
+use Rattle.mdconstructs_attention.proofs.Prelude.{◌≡◌, ℕ, zero, suc, Bool, true, false, cond, List, [], ◌∷◌, ◌++◌, Option, Some, None, inl, inr, refl, sym, ap, ◌∙◌, subst, append_assoc, append-nil, ◌⊎◌, ◌&&◌, nat_lt, Run, same, may_pair, is_strong, Waiting, SoFar, Found, opening, closing, put_behind, put, put_back, last_fitting, close, in_turn_from, all_waiting, all_runs, none_read, paired_in_turn, AreBeside, AreUnpaired, PairsBeside, and-left}
 use Rattle.mdconstructs_attention.proofs.InTurn.{paired-in-turn}
 use Rattle.mdconstructs_attention.proofs.PairsKeep.{HaveLeft, found-all, back, put-is}
-use Rattle.mdconstructs_attention.proofs.RunTexts.{and-left}
 
 -- ---- lists of neighbours
 

@@ -1,5 +1,5 @@
-use Rattle.mdconstructs_attention.proofs.Prelude.{◌≡◌, ◌+◌, true, false, ◌++◌, Some, map, drop, sym, ap, ◌∙◌, arith, append-nil, ◌==◌, ◌&&◌, slice_index_or, runs_from, is_sequence, run_at, as_run}
-use Rattle.mdconstructs_attention.proofs.RunsFrom.{a-run, no-run, no-more, pushed, not-first, not-second, depth-grows, no_event}
+use Rattle.mdconstructs_attention.proofs.Prelude.{◌≡◌, ◌+◌, true, false, ◌++◌, Some, map, drop, sym, ap, ◌∙◌, arith, append-nil, ◌==◌, ◌&&◌, slice_index_or, runs_from, is_sequence, run_at, as_run, and_left, and_right}
+use Rattle.mdconstructs_attention.proofs.RunsFrom.{a-run, no-run, no-more, pushed, depth-grows, no_event}
 use Rattle.mdconstructs_attention.proofs.runs.runs_of.Goals as goal
 use Rattle.mdconstructs_attention.proofs.runs.runs_of.Goals.{else-depth-eq0-via-then-depth-eq0+else-is_sequence, else-depth-eq0-via-else-depth-eq0}
 
@@ -25,8 +25,8 @@ loop-index-preserved c =
     let f = slice_index_or xs (l.index + 1) no_event in
     let none : (l.depth == 0 && is_sequence e f) ≡ false =
     elim c.else-depth-eq0.branch [
-      | else-depth-eq0-via-then-depth-eq0+else-is_sequence w ↦ not-second (l.depth == 0) (is_sequence e f) (sym w.is_sequence.ensures ∙ w.if-is_sequence.false)
-      | else-depth-eq0-via-else-depth-eq0 w ↦ not-first (l.depth == 0) (is_sequence e f) (grind (arith, w.if-depth-eq0.false))
+      | else-depth-eq0-via-then-depth-eq0+else-is_sequence w ↦ and_right (l.depth == 0) (is_sequence e f) (sym w.is_sequence.ensures ∙ w.if-is_sequence.false)
+      | else-depth-eq0-via-else-depth-eq0 w ↦ and_left (l.depth == 0) (is_sequence e f) (grind (arith, w.if-depth-eq0.false))
     ] in (
       ap (λ d. map as_run l.runs.items ++ runs_from c.args.bytes.now (l.index + 1) d (Some e.point.index) (drop (l.index + 1) xs)) c.depth_after-depth.ensures
           ∙ ap (λ rs. map as_run l.runs.items ++ rs) (sym (no-run c.args.bytes.now xs l.index l.depth l.before no_event c.loop-index-test.true none)) ∙ l.invariant.0,
