@@ -1,10 +1,8 @@
 -- How many calls autolinks take, with a URI or an email address in them. A look stops at the next `<` at the latest: so a look that finds nothing is
 -- paid by the bytes up to there, and one that finds an autolink by its own bytes.
-use Rattle.mdconstructs_text.proofs.Prelude.{◌≡◌, ℕ, zero, suc, ◌+◌, ◌<◌, ◌≤◌, ◌∷◌, [], List, Bool, true, false, cond, refl, sym, subst, ap, ◌∙◌, Option, Some, None, arith, length, drop, nat_tests, prefix_len, has_byte_at, is_less_than, is_greater_than, is_allowed, is_scheme_byte, uri, autolink, autolink_at, autolink_to, Found, item_length, Local, Seat, bytes_of, counts}
-use Rattle.mdconstructs_text.proofs.CodeSpans.Parts.{with_b}
+use Rattle.mdconstructs_text.proofs.Prelude.{◌≡◌, ℕ, zero, suc, ◌+◌, ◌<◌, ◌≤◌, ◌∷◌, [], List, Bool, true, false, cond, refl, sym, subst, ap, ◌∙◌, Option, Some, None, arith, length, drop, nat_tests, prefix_len, has_byte_at, is_less_than, is_greater_than, is_allowed, is_scheme_byte, uri, autolink, autolink_at, autolink_to, Found, item_length, Seat, bytes_of}
 use Rattle.mdconstructs_text.proofs.Constructs.Apart.{OfOption, when-so, when-there}
 use Rattle.mdconstructs_text.proofs.Plain.Stretches.{past}
-use Rattle.mdconstructs_text.proofs.Texts.Counted.{IsAfter}
 
 -- one for each byte behind `<` that an autolink may hold, and two more
 abbrev pub link_calls : List ℕ → ℕ
@@ -89,10 +87,6 @@ autolink-paid b bs = link-holds (λ item. link_calls (b ∷ bs) ≤ item_length 
 -- and it has no more than the text
 pub autolink-within : (b : ℕ) (bs : List ℕ) → OfOption (λ (item : Found). item_length item ≤ length (b ∷ bs)) (autolink_at (b ∷ bs))
 autolink-within b bs = link-holds (λ item. item_length item ≤ length (b ∷ bs)) b bs (λ n h. omega (arith, byte-within is_greater_than bs n h))
-
--- a call that writes the size of a name
-pub after-sized : (n : ℕ) (local : Local Unit Unit) → IsAfter 1 local (with_b n (counts local))
-after-sized n local = record { calls = omega arith; same = refl }
 
 -- bytes that are looked at by two states, one behind the other, are looked at once
 pub looked-once : (p q : ℕ → Bool) → ((b : ℕ) → p b ≡ true → q b ≡ true) → (l : List Seat) → prefix_len p (bytes_of l) + prefix_len q (bytes_of (past p l)) ≤ prefix_len q (bytes_of l)

@@ -8,10 +8,10 @@ use Rattle.mdconstructs_text.proofs.Constructs.Listed.{outer}
 use Rattle.mdconstructs_text.proofs.Plain.Items.{DecidesIn, ReadsIn, TriedIn, decides-more, decides-within, puts-back, reads-of, refused}
 use Rattle.mdconstructs_text.proofs.Plain.Passed.{after-passed}
 use Rattle.mdconstructs_text.proofs.CodeSpans.Parts.{size_b, with_b, grows_b, more-is}
-use Rattle.mdconstructs_text.proofs.Autolinks.Calls.{after-sized, link_calls, looked-once, scheme-allowed}
-use Rattle.mdconstructs_text.proofs.Autolinks.Events.{IsJoined, begun_link, begun-front, ended_link, link-events}
+use Rattle.mdconstructs_text.proofs.Autolinks.Calls.{link_calls, looked-once, scheme-allowed}
+use Rattle.mdconstructs_text.proofs.Autolinks.Events.{IsJoined, begun_marked, ended_marked, marked-events, marked-front}
 use Rattle.mdconstructs_text.proofs.Autolinks.Places.{text-joined}
-use Rattle.mdconstructs_text.proofs.Texts.Counted.{after-call, after-more}
+use Rattle.mdconstructs_text.proofs.Texts.Counted.{after-call, after-more, after-sized}
 use Rattle.mdconstructs_text.proofs.Texts.Reads.{ReadsPart}
 
 -- a scheme begins at a letter
@@ -104,7 +104,7 @@ module _ (g : Given) (text : Text) (m : Plays g text) (names : Between) (nok : N
   choices = outer names.home nok p ended events ∷ []
 
   abbrev in_tried : ℕ → List Seat → Local Unit Unit → Configuration Unit Unit
-  in_tried q l local = shows l link_spans q (begun_link g text events p) local
+  in_tried q l local = shows l link_spans q (begun_marked AutolinkProtocol g text events p) local
 
   -- the reading of an autolink is decided, within so many calls
   abbrev IsDecided : ℕ → List Seat → ℕ → List Seat → Local Unit Unit → Name → Option Found → Type 0
@@ -120,7 +120,7 @@ module _ (g : Given) (text : Text) (m : Plays g text) (names : Between) (nok : N
       → (seats : List Seat) (q : ℕ) (l : List Seat) (local : Local Unit Unit) → drop q text.seats ≡ l → table (before_class g text q) (class_of text_byte (first_byte l)) ≡ row [] Nok
       → IsDecided 1 seats q l local name None
   rejects table name has seats q l local at fails =
-      (counts local, after-call local, refused g text m names table name has nok p ended events l link_spans q (begun_link g text events p) local at fails (begun-front g text events p))
+      (counts local, after-call local, refused g text m names table name has nok p ended events l link_spans q (begun_marked AutolinkProtocol g text events p) local at fails (marked-front AutolinkProtocol g text events p))
 
   -- a scheme is read whole, or rejected if it is too long
   reads-scheme : (n : ℕ) (seats l : List Seat) (q q' : ℕ) (local : Local Unit Unit) (o : Option Found) → drop q text.seats ≡ l → q' ≡ q + prefix_len is_scheme_byte (bytes_of l) → size_b local ≤ 32
@@ -148,7 +148,7 @@ module _ (g : Given) (text : Text) (m : Plays g text) (names : Between) (nok : N
                   (λ es h.
                   leads-tested g text m has_room autolink_scheme_rows (in_tried q l local) choices AutolinkSchemeInsideOrEmailAtext es (ap byte_of front)
                   (scheme-class (before_class g text q) s.byte e) (lt-ltb size 32 room) (m.autolink_scheme _)
-                  (goes-next g text m ss link_spans (q + 1) (begun_link g text events p) (grows_b local) choices AutolinkSchemeInsideOrEmailAtext next es h))
+                  (goes-next g text m ss link_spans (q + 1) (begun_marked AutolinkProtocol g text events p) (grows_b local) choices AutolinkSchemeInsideOrEmailAtext next es h))
                   (reads-scheme n seats ss (q + 1) q' (grows_b local) o next (omega (arith, i)) (omega (arith, grown, room)) (λ h. more (omega (arith, grown, h))) (λ h. over (omega (arith, grown, h))))
               | inr full ↦ subst (IsDecided (1 + more_bytes + n) seats q l local AutolinkSchemeInsideOrEmailAtext) (sym (over (omega (arith, full))))
                   (allows 1 (1 + more_bytes + n) seats q l local AutolinkSchemeInsideOrEmailAtext None (omega arith) (
@@ -157,7 +157,7 @@ module _ (g : Given) (text : Text) (m : Plays g text) (names : Between) (nok : N
                     λ es h.
                         leads-tested g text m has_room autolink_scheme_rows (in_tried q l local) choices AutolinkSchemeInsideOrEmailAtext es (ap byte_of front)
                         (scheme-class (before_class g text q) s.byte e) (le-ltb size 32 full) (m.autolink_scheme _)
-                        (puts-back g text m names nok p ended events (in_tried q l (counts local)) (begun-front g text events p) es h),
+                        (puts-back g text m names nok p ended events (in_tried q l (counts local)) (marked-front AutolinkProtocol g text events p) es h),
                   ))
             ]
         | false ↦ λ e i more over.
@@ -202,7 +202,7 @@ module _ (g : Given) (text : Text) (m : Plays g text) (joined : IsJoined g text)
       elim (x.byte == 62) as (λ b. (x.byte == 62) ≡ b → Decided 1 q (x ∷ xs) local AutolinkUrlInside (cond b (Some (autolink inside)) None)) [
         | true ↦ λ is.
             let further : q + 1 ≡ p + (inside + 2) = omega arith in
-            let made = link-events g text joined events p inside s r x rs xs here plain (omega arith) at in (
+            let made = marked-events AutolinkProtocol g text joined events p inside s r x rs xs here plain (omega arith) at in (
               false,
               counts local,
               after-call local,
@@ -210,7 +210,7 @@ module _ (g : Given) (text : Text) (m : Plays g text) (joined : IsJoined g text)
                   leads-seen g text m autolink_url_rows (in_tried g text m names nok p ended events q (x ∷ xs) local) (choices g text m names nok p ended events) AutolinkUrlInside es
                   (ap byte_of (at-front text.seats q x xs at))
                   (ap (λ c. autolink_url_rows (before_class g text q) (Some (text_byte c))) (eqb-true x.byte 62 is)) (m.autolink_url _)
-                  (leads-ok g text m (between_items (q + 1) Nothing false (ended_link g text (begun_link g text events p) q) (counts local)) (outer names.home nok p ended events) [] es
+                  (leads-ok g text m (between_items (q + 1) Nothing false (ended_marked AutolinkProtocol g text (begun_marked AutolinkProtocol g text events p) q) (counts local)) (outer names.home nok p ended events) [] es
                   (rw (made, further) h)),
             )
         | false ↦ λ other.
@@ -236,7 +236,7 @@ module _ (g : Given) (text : Text) (m : Plays g text) (joined : IsJoined g text)
       let last = byte-behind text.seats p (inside + 1) (s ∷ r ∷ rs) rest here (ap (λ i. drop i text.seats) marker ∙ at') in
       let after = passed is_allowed counts l (counts local) in
       let waits = choices g text m names nok p ended events in
-      let begun = begun_link g text events p in
+      let begun = begun_marked AutolinkProtocol g text events p in
       let length_allowed = prefix_len is_allowed (bytes_of l) in
       decides-within g text m names (1 + length_allowed) 1 (1 + calls_at l) nok p ended events (s ∷ r ∷ rs) (in_tried g text m names nok p ended events q (c ∷ l) local)
       (in_tried g text m names nok p ended events q' rest after) waits waits (Retry AutolinkSchemeInsideOrEmailAtext) (Retry AutolinkUrlInside) (autolink_to bytes (Some inside)) (omega arith)
@@ -278,7 +278,7 @@ module _ (g : Given) (text : Text) (m : Plays g text) (joined : IsJoined g text)
                     leads-tested g text m has_scheme autolink_scheme_rows (in_tried g text m names nok p ended events q (c ∷ l) local) (choices g text m names nok p ended events) AutolinkSchemeInsideOrEmailAtext es
                     (ap byte_of (at-front text.seats q c l at))
                     (ap (λ b. autolink_scheme_rows (before_class g text q) (Some (text_byte b))) (eqb-true c.byte 58 colon)) (ap (nat_le 2) size ∙ short) (m.autolink_scheme _)
-                    (puts-back g text m names nok p ended events (in_tried g text m names nok p ended events q (c ∷ l) (counts local)) (begun-front g text events p) es h),
+                    (puts-back g text m names nok p ended events (in_tried g text m names nok p ended events q (c ∷ l) (counts local)) (marked-front AutolinkProtocol g text events p) es h),
               )
             ] refl
         | false ↦ λ other.
@@ -315,7 +315,7 @@ module _ (g : Given) (text : Text) (m : Plays g text) (joined : IsJoined g text)
             (λ es h.
             leads-seen g text m autolink_open_rows (in_tried g text m names nok p ended events (p + 1) (r ∷ rs) local) waits AutolinkOpen es (ap byte_of (at-front text.seats (p + 1) r rs behind))
             (open-class (before_class g text (p + 1)) r.byte letter) (m.autolink_open _)
-            (goes-next g text m rs link_spans (p + 1 + 1) (begun_link g text events p) first waits AutolinkSchemeInsideOrEmailAtext next es h))
+            (goes-next g text m rs link_spans (p + 1 + 1) (begun_marked AutolinkProtocol g text events p) first waits AutolinkSchemeInsideOrEmailAtext next es h))
             (reads-scheme g text m names nok p ended events (calls_at rest) (s ∷ r ∷ rs) rs (p + 1 + 1) (p + 1 + n) first (item (nat_le n 32)) next place (omega arith)
             (λ fits.
             let size : size_b read ≡ n = omega (arith, passed-counts size_b grows_b (λ c h. more-is (size_b c) h) is_scheme_byte rs first (omega (arith, fits)), is) in
@@ -338,7 +338,7 @@ module _ (g : Given) (text : Text) (m : Plays g text) (names : Between) where
   tries-marker : (n n' : ℕ) (nok : Name) (p : ℕ) (ended : Bool) (events : List Event) (local : Local Unit Unit) (s : Seat) (ss : List Seat) → drop p text.seats ≡ s ∷ ss → s.byte ≡ 60 → 1 + n ≤ n'
       → (o : Option Found) → IsDecided g text m names nok p ended events n (s ∷ ss) (p + 1) ss (counts local) AutolinkOpen o → TriedIn g text m names n' AutolinkStart nok p ended events local (s ∷ ss) o
   tries-marker n n' nok p ended events local s ss here is fits o decided =
-      let begun = begun_link g text events p in
+      let begun = begun_marked AutolinkProtocol g text events p in
       let waits = outer names.home nok p ended events ∷ [] in
       decides-within g text m names 1 n n' nok p ended events (s ∷ ss) (between_items p Byte ended events local) (shows ss link_spans (p + 1) begun (counts local)) waits waits (Retry AutolinkStart)
       (Retry AutolinkOpen) o fits (after-call local)

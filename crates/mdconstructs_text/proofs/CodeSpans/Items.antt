@@ -1,4 +1,5 @@
 -- Code spans as items: if one is there, it is read with its events; if not, data is read from its first backtick.
+use Rattle.markdown_tokenizer.proofs.Positions.Moving.{first-same}
 use Rattle.mdconstructs_text.proofs.Prelude.{Configuration, Ending, Found, Next, State, item_length, passes, point_or, text_byte, tick-classed, Between, row, exit, eqb-true, IsText, Name, code_spans, at-front, ◌≡◌, ℕ, suc, ◌+◌, ◌-◌, ◌^◌, ◌<◌, ◌≤◌, ◌∷◌, ◌++◌, [], List, Bool, true, false, cond, refl, sym, ◌∙◌, ap, subst, Option, Some, None, arith, length, take, drop, option_map, append_assoc, take_at, drop-drop, drop-take, take-take, length-take, length-drop, flat_map, between, Event, CodeText, CodeTextSequence, CodeTextData, Retry, Ok, Nok, RawTextStart, RawTextSequenceOpen, RawTextSequenceClose, RawTextBetween, RawTextAfter, Seat, Nothing, Byte, Given, Text, Local, Choice, byte_of, counts, code_span, is_backtick, is_backtick_or_line_feed, backticks, part_length, part_at, code_span_at, bytes_of, leaf, part_events, pieces, item_events, drop-map, held, backtick, sizes_are_equal, raw_text_start_rows, raw_text_sequence_close_rows}
 use Rattle.std.proofs.lemmas.Bool.{eq-eqb}
 use Rattle.mdconstructs_text.proofs.Texts.Cutting.{cut-enough}
@@ -13,7 +14,6 @@ use Rattle.mdconstructs_text.proofs.CodeSpans.Parts.{Known, in_code, in_run, siz
 use Rattle.mdconstructs_text.proofs.CodeSpans.Plays.{PlaysCodeSpans, Remembering, forgetful, opening-ended, opening_rows}
 use Rattle.mdconstructs_text.proofs.CodeSpans.Walks.{RunsAreShort, Walks, walks}
 use Rattle.mdconstructs_text.proofs.CodeSpans.Short.{runs-of-text}
-use Rattle.mdconstructs_text.proofs.CodeSpans.Ticks.{same-head}
 use Rattle.mdconstructs_text.proofs.Texts.Reads.{DecidesPart, ReadsPart}
 
 -- lists of events, one after another
@@ -225,7 +225,7 @@ module _ (g : Given) (text : Text) (m : Plays g text) (r : Remembering) (c : Pla
               | false ↦ λ e.
                   ends-before from nok p ended events l (shows (t ∷ ts) in_run (p + k) begun read) (shows (t ∷ ts) in_code (p + k) entered (counts read)) cs cs (Retry RawTextSequenceOpen) (Retry RawTextBetween) (option_map (code_span k) o)
                   (λ es h. goes-in (p + k) begun read cs t ts at1 other false e es (within es h))
-                  (further (λ u us same. let first : t ≡ u = same-head t u ts us (sym behind ∙ same) in ap (λ (v : Seat). r.hopeless v.point (counts read)) (sym first) ∙ e))
+                  (further (λ u us same. let first : t ≡ u = first-same t u ts us (sym behind ∙ same) in ap (λ (v : Seat). r.hopeless v.point (counts read)) (sym first) ∙ e))
             ] refl
       ] behind at1 further within
 

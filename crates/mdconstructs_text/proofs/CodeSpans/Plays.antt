@@ -1,16 +1,23 @@
 -- What a machine that reads code spans does at the names of their states: as their rows say, and beside that it may remember backtick strings.
 use Rattle.mdconstructs_text.proofs.Prelude.{◌≡◌, ◌∷◌, [], List, Bool, false, Option, Some, None, refl, Event, CodeTextSequence, CodeTextData, Next, Retry, Nok, RawTextStart, RawTextSequenceOpen, RawTextBetween, RawTextData, RawTextSequenceClose, RawTextAfter, RawTextBackticksStart, RawTextBackticksInside, Point, Given, Text, Configuration, Local, Rows, TextByte, backtick, is_tick, row, when, enter, exit, consume, row_step, raw_text_start_rows, raw_text_sequence_open_rows, raw_text_between_rows, raw_text_data_rows, raw_text_sequence_close_rows, raw_text_backticks_inside_rows}
 use Rattle.mdconstructs_tables.specs.Rows.{write}
-use Rattle.mdconstructs_text.specs.CodeSpanRows.{raw_text_after_rows, raw_text_backticks_start_rows}
+use Rattle.mdconstructs_text.specs.CodeSpanRows.{raw_text_after_rows}
 use Rattle.mdconstructs_text.specs.TextSizes.{size_b_grows}
 use Rattle.mdconstructs_text.proofs.Texts.Steps.{HasRows, Plays}
+
+-- what is written beside events
+abbrev pub Notes : Type 0
+Notes = List Event → Local Unit Unit → Local Unit Unit
+
+abbrev pub Writes : Type 0
+Writes = Local Unit Unit → Local Unit Unit
 
 -- What a machine remembers of backtick strings: by the place behind one that opens, whether none can close it; what is written where one that
 -- closes nothing was entered as data; and what is written at the end
 pub record Remembering : Type 0 where
   pub hopeless : Point → Local Unit Unit → Bool
-  pub noted : List Event → Local Unit Unit → Local Unit Unit
-  pub all_noted : Local Unit Unit → Local Unit Unit
+  pub noted : Notes
+  pub all_noted : Writes
 
 -- nothing is remembered
 abbrev pub forgetful : Remembering
@@ -60,6 +67,3 @@ module _ (g : Given) (text : Text) (k : Configuration Unit Unit) where
   pub between-plain : (before waits : Option TextByte) → row_step g text k (raw_text_between_rows before waits) ≡ row_step g text k (between_rows forgetful before waits)
   between-plain before None = refl
   between-plain before (Some w) = refl
-
-  pub chunk-plain : (before waits : Option TextByte) → row_step g text k (raw_text_backticks_start_rows before waits) ≡ row_step g text k (before_chunk_rows forgetful before waits)
-  chunk-plain before waits = refl

@@ -1,17 +1,18 @@
 -- A machine that remembers backtick strings: what it knows of them where a code span is tried, in it, and where it is over; and how many calls are
 -- counted.
+use Rattle.markdown_base.proofs.Common.{leads-back}
 use Rattle.mdconstructs_text.proofs.Prelude.{Between, Byte, Name, RawTextStart, Retry, code_span_at, eqb-true, ◌⊎◌, ◌≡◌, ℕ, ◌+◌, ◌-◌, ◌*◌, ◌≤◌, ◌==◌, ◌&&◌, not, ◌∷◌, ◌++◌, [], List, Bool, true, false, cond, refl, sym, ◌∙◌, ap, subst, inl, inr, None, arith, nat_tests, not-true, and_parts, cases_lt, length, drop, drop-drop, length-drop, at-front, Event, CodeTextData, Seat, Point, Given, Text, IsText, Local, counts, point_or, shown, passes, is_line_feed, is_backtick, is_backtick_or_line_feed, backticks, bytes_of}
 use Rattle.mdconstructs_text.proofs.CodeSpans.Found.{first_run, further}
 use Rattle.mdconstructs_text.proofs.CodeSpans.Parts.{Known, chunk_after, closed_after, count-within, data_after, data_length, enter_at, grows_b, grows_c, is_code_byte, opened_after, run-positive, run_read, size_b, size_c, with_b, with_c}
 use Rattle.mdconstructs_text.proofs.CodeSpans.Items.{Ends, tries-code-span}
-use Rattle.mdconstructs_text.proofs.CodeSpans.Plays.{PlaysCodeSpans, Remembering}
+use Rattle.mdconstructs_text.proofs.CodeSpans.Plays.{PlaysCodeSpans, Remembering, Notes, Writes}
 use Rattle.mdconstructs_text.proofs.CodeSpans.Short.{runs-of-text}
 use Rattle.mdconstructs_text.proofs.Constructs.Listed.{outer}
 use Rattle.mdconstructs_text.proofs.CodeSpans.Seen.{Complete, Sound, Tracks, behind-run, sound-run, tracks-as, tracks-data, tracks-line, tracks-none, tracks-run}
 use Rattle.mdconstructs_text.proofs.CodeSpans.Ticks.{tick-shown}
 use Rattle.mdconstructs_text.proofs.Plain.Passed.{after-passed}
 use Rattle.mdconstructs_text.proofs.Plain.Stretches.{first_byte, past, past-at, past-is, past-stops, passed}
-use Rattle.mdconstructs_text.proofs.Texts.Counted.{IsAfter, Remembered, after-call, remembered}
+use Rattle.mdconstructs_text.proofs.Texts.Counted.{IsAfter, Remembered, after-call, remembered, after-sized}
 use Rattle.mdconstructs_text.proofs.Texts.Leads.{spent}
 use Rattle.mdconstructs_text.proofs.Texts.Steps.{Plays, between_items}
 
@@ -26,8 +27,8 @@ seen local = local.tokenize_state.seen
 -- event is and has the length that was read; and how it is noted that all were seen
 pub record Memory : Type 0 where
   pub ahead : Local Unit Unit → (k index : ℕ) → Bool
-  pub noted : List Event → Local Unit Unit → Local Unit Unit
-  pub all_noted : Local Unit Unit → Local Unit Unit
+  pub noted : Notes
+  pub all_noted : Writes
   pub same : (a b : Local Unit Unit) → (remembered a).runs ≡ (remembered b).runs → (k index : ℕ) → ahead a k index ≡ ahead b k index
   pub notes : (events : List Event) (e : Event) (local : Local Unit Unit) (index : ℕ) → index ≤ e.point.index → ahead (noted (events ++ e ∷ []) local) (size_c local) index ≡ true
   pub keeps_old : (events : List Event) (local : Local Unit Unit) (k index : ℕ) → ahead local k index ≡ true → ahead (noted events local) k index ≡ true
@@ -53,9 +54,6 @@ remembering y = record {
 after-c : (n : ℕ) (local : Local Unit Unit) → IsAfter 1 local (with_c n (counts local))
 after-c n local = record { calls = omega arith; same = refl }
 
-after-b : (n : ℕ) (local : Local Unit Unit) → IsAfter 1 local (with_b n (counts local))
-after-b n local = record { calls = omega arith; same = refl }
-
 after-grows_c : (local : Local Unit Unit) → IsAfter 1 local (grows_c local)
 after-grows_c local = record { calls = omega arith; same = refl }
 
@@ -67,7 +65,7 @@ after-opened : (l : List Seat) (local : Local Unit Unit) → IsAfter (backticks 
 after-opened l local =
     let begun = with_b 0 (counts local) in
     let read = passed is_backtick grows_b l begun in
-    let one = after-b 0 local in
+    let one = after-sized 0 local in
     let all = after-passed grows_b after-grows_b is_backtick l begun in
     let last = after-call read in
     record { calls = omega (arith, one.calls, all.calls, last.calls); same = last.same ∙ all.same ∙ one.same }
@@ -114,11 +112,6 @@ nothing-behind xs q r t ts ended at = elim (cases_lt q r) [
       absurd (omega (arith, none, ap length ended, ap length at))
   | inr upto ↦ upto
 ]
-
--- a test that fails behind, failed before if what passes stays so
-fails-before : (a b : Bool) → (a ≡ true → b ≡ true) → b ≡ false → a ≡ false
-fails-before true b h e = let no : true ≡ false = sym (h refl) ∙ e in absurd (cc)
-fails-before false b h e = refl
 
 module _ (g : Given) (text : Text) (is : IsText g text) (m : Plays g text) (y : Memory) where
   abbrev xs : List Seat
@@ -227,7 +220,7 @@ module _ (g : Given) (text : Text) (is : IsText g text) (m : Plays g text) (y : 
       let place : e.point.index ≡ s.point.index = ap (λ o. (shown g.bytes (point_or text.end o)).index) (at-front xs q s ss at) ∙ ap (λ (x : Point). x.index) (tick-shown g text is q s ss at tick) in
       let kept : (j i : ℕ) → y.ahead local j i ≡ true → y.ahead after j i ≡ true =
       λ j i old. alike-after _ noted after b j i ∙ y.keeps_old (events ++ e ∷ []) mid j i (alike-after _ local mid a j i ∙ old) in
-      let less : (j i : ℕ) → y.ahead after j i ≡ false → y.ahead local j i ≡ false = λ j i dark. fails-before (y.ahead local j i) (y.ahead after j i) (kept j i) dark in
+      let less : (j i : ℕ) → y.ahead after j i ≡ false → y.ahead local j i ≡ false = λ j i dark. leads-back (y.ahead local j i) (y.ahead after j i) (kept j i) dark in
       let now : (i : ℕ) → i ≤ s.point.index → y.ahead after k i ≡ true =
       λ i le. alike-after _ noted after b k i ∙ subst (λ j. y.ahead noted j i ≡ true) size (y.notes events e mid i (omega (arith, le, place))) in
       let new : (j i : ℕ) → y.ahead after j i ≡ true → (y.ahead local j i ≡ true) ⊎ ((j ≡ k) × (i ≤ s.point.index)) =
@@ -362,7 +355,7 @@ module _ (g : Given) (text : Text) (is : IsText g text) (m : Plays g text) (y : 
           sound = λ j some r t ts lo here other none. alike j t.point.index ∙ h.sound j some r t ts (omega (arith, lo, h.later)) here other none;
           complete = λ all j some r t ts lo here other dark.
               h.complete (sym h.seen_same ∙ sym (seen-after _ local after a) ∙ all) j some r t ts (omega (arith, lo, h.later)) here other
-              (fails-before (y.ahead from j t.point.index) (y.ahead local j t.point.index) (h.grows j t.point.index) (sym (alike j t.point.index) ∙ dark));
+              (leads-back (y.ahead from j t.point.index) (y.ahead local j t.point.index) (h.grows j t.point.index) (sym (alike j t.point.index) ∙ dark));
         };
         calls = omega (arith, a.calls, h.calls, length-behind xs q k l at (count-within is_backtick l), run-positive s.byte (bytes_of ss) tick);
         seen_same = seen-after _ local after a ∙ h.seen_same;

@@ -1,7 +1,7 @@
 -- What it means that backtick strings of a text were seen, by a test `ahead` of lengths and indices: whether one that was seen does not begin before
 -- an index.
 use Rattle.mdconstructs_text.proofs.Prelude.{◌⊎◌, ◌≡◌, ℕ, zero, suc, ◌+◌, ◌-◌, ◌<◌, ◌≤◌, ◌==◌, ◌&&◌, not, ◌∷◌, [], List, Bool, true, false, cond, refl, sym, ◌∙◌, ap, subst, inl, inr, Option, Some, None, arith, nat_tests, cases_lt, drop, drop-drop, drop-next, eqb-true, prefix_len, Seat, is_backtick, is_backtick_or_line_feed, backticks, bytes_of, passes, Given, Text, IsText}
-use Rattle.std.proofs.lemmas.Bool.{eq-eqb}
+use Rattle.std.proofs.lemmas.Bool.{eq-eqb, not-true}
 use Rattle.mdconstructs_text.proofs.CodeSpans.Found.{first_run, further, further-further, no-further, no-run, no-tick}
 use Rattle.mdconstructs_text.proofs.CodeSpans.Parts.{data_length, is_code_byte}
 use Rattle.mdconstructs_text.proofs.CodeSpans.Ticks.{index-behind, index-upto}
@@ -135,11 +135,7 @@ module _ (xs : List Seat) where
   other-starts b bs e = (e, λ j some. let none : (0 == j) ≡ false = grind (arith, nat_tests) in ap (λ t. cond t (1 + backticks bs) 0 == j) e ∙ none)
 
   code-starts : (b : ℕ) (bs : List ℕ) → is_code_byte b ≡ true → ((b == 96) ≡ false) × ((j : ℕ) → 0 < j → starts false (b ∷ bs) j ≡ false)
-  code-starts b bs h = let plain : is_backtick_or_line_feed b ≡ false = not-so (is_backtick_or_line_feed b) h in other-starts b bs (no-tick b plain)
-    where
-      not-so : (b : Bool) → not b ≡ true → b ≡ false
-      not-so true h = absurd (cc)
-      not-so false h = refl
+  code-starts b bs h = let plain : is_backtick_or_line_feed b ≡ false = not-true (is_backtick_or_line_feed b) h in other-starts b bs (no-tick b plain)
 
   pub tracks-data : (ahead : ℕ → ℕ → Bool) (q0 : ℕ) (l : List Seat) (q : ℕ) → drop q xs ≡ l → Tracks ahead q0 q false → Tracks ahead q0 (q + data_length (bytes_of l)) false
   tracks-data = tracks-over is_code_byte false code-starts

@@ -1,4 +1,6 @@
 -- The backticks of a text are one byte each, and its virtual bytes are in order of their places.
+use Rattle.markdown_tokenizer.proofs.Inside.Known.{not-before-index}
+use Rattle.markdown_tokenizer.proofs.Positions.Moving.{first-same}
 use Rattle.mdconstructs_text.proofs.Prelude.{◌≡◌, ℕ, zero, suc, ◌+◌, ◌-◌, ◌<◌, ◌≤◌, ◌==◌, ◌&&◌, ◌||◌, ◌∷◌, ◌++◌, [], List, Bool, true, false, cond, refl, sym, ◌∙◌, ap, subst, arith, nat_lt, nat_tests, drop, filter, AllByRecursion, every-append, every-filter, every-get, drop-drop, at-front, Seat, Point, point, begins_with_lf, in_tab, tab_width, virtual, virtual_from, shown, denotes_same, in_range, is_backtick, Given, Text, Piece, pushed, passed, IsText, empty_text, followed_by, followed_by_all}
 use Rattle.markdown_tokenizer.proofs.Positions.Chains.{shown-other}
 use Rattle.markdown_tokenizer.proofs.Positions.Seats.{drop-first}
@@ -71,19 +73,12 @@ text-ones g text is = subst (AreOnes g) (sym is.is) (pieces-ones g (empty_text t
 before-index : (i j m n : ℕ) → (nat_lt i m || ((i == m) && nat_lt j n)) ≡ true → i ≤ m
 before-index i j m n h = grind (arith, nat_tests)
 
-later-index : (i j m n : ℕ) → (nat_lt i m || ((i == m) && nat_lt j n)) ≡ false → m ≤ i
-later-index i j m n h = grind (arith, nat_tests)
-
 -- what is left of a list in order, and of one of which all have a property
 drop-order : (bytes : List ℕ) (xs : List Seat) (i : ℕ) → AreInOrder bytes xs → AreInOrder bytes (drop i xs)
 drop-order bytes [] zero h = h
 drop-order bytes [] (suc i) h = h
 drop-order bytes (x ∷ xs) zero h = h
 drop-order bytes (x ∷ xs) (suc i) h = drop-order bytes xs i h.2
-
--- equal lists begin with the same
-pub same-head : (s t : Seat) (ss ts : List Seat) → s ∷ ss ≡ t ∷ ts → s ≡ t
-same-head s t ss ts h = cc
 
 module _ (g : Given) (text : Text) (is : IsText g text) where
   -- a virtual byte further on comes after another
@@ -100,7 +95,7 @@ module _ (g : Given) (text : Text) (is : IsText g text) where
       upto : (n : ℕ) → r - q ≡ n → s.point.index ≤ t.point.index
       upto zero e =
           let same : r ≡ q = omega (arith, e, h) in
-          let first : s ≡ t = same-head s t ss ts (sym at ∙ ap (λ n. drop n text.seats) (sym same) ∙ at') in
+          let first : s ≡ t = first-same s t ss ts (sym at ∙ ap (λ n. drop n text.seats) (sym same) ∙ at') in
           let equal : s.point.index ≡ t.point.index = ap (λ (x : Seat). x.point.index) first in
           omega (arith, equal)
       upto (suc n) e =
@@ -113,7 +108,7 @@ module _ (g : Given) (text : Text) (is : IsText g text) where
       let n = r - suc q in
       let place : r ≡ q + suc n = omega (arith, h) in
       let one = every-get (IsOne g.bytes) text.seats q s (text-ones g text is) (at-front text.seats q s ss at) tick in
-      let later = later-index t.point.index t.point.vs s.end.index s.end.vs (follows q n s t ss ts at (ap (λ n. drop n text.seats) (sym place) ∙ at')).1 in
+      let later = not-before-index t.point.index t.point.vs s.end.index s.end.vs (follows q n s t ss ts at (ap (λ n. drop n text.seats) (sym place) ∙ at')).1 in
       omega (arith, one.0, later)
 
   -- a backtick is shown at itself

@@ -1,5 +1,6 @@
 -- Constructs in a list, by their bytes and without states: what is there, and where nothing is.
 use Rattle.mdconstructs_text.proofs.Prelude.{◌≡◌, ℕ, ◌<◌, ◌∷◌, [], List, Bool, true, false, cond, ◌||◌, refl, ◌∙◌, ap, Option, Some, None, Constructs, Construct, Grammar, first_there, grammars_of, some_begins, some_first, if_on, or_else}
+use Rattle.std.proofs.lemmas.Bool.{or_parts}
 
 -- what holds of a thing that is there
 abbrev pub OfOption : {A : Type 0} → (A → Type 0) → Option A → Type 0
@@ -45,14 +46,6 @@ abbrev pub AreApart : {A W : Type 0} (class : ℕ → W) (size : A → ℕ) → 
 AreApart class size [] = Unit {0}
 AreApart class size (c ∷ cs) = IsApart class size c × AreApart class size cs
 
-or-first : (x y : Bool) → (x || y) ≡ false → x ≡ false
-or-first true y h = absurd (cc)
-or-first false y h = refl
-
-or-rest : (x y : Bool) → (x || y) ≡ false → y ≡ false
-or-rest true y h = absurd (cc)
-or-rest false y h = h
-
 -- what is not there
 pub or-none : {A : Type 0} (on : Bool) (o : Option A) (x : A) → o ≡ None → or_else (if_on on o) x ≡ x
 or-none true o x h = ap (λ o. or_else o x) h
@@ -65,8 +58,8 @@ module _ {A W : Type 0} (class : ℕ → W) (size : A → ℕ) where
   none-there [] apart on b bs other h = refl
   none-there (c ∷ cs) apart on b bs other h =
       or-none (c.grammar.on on) (c.grammar.front (b ∷ bs)) (first_there (grammars_of cs) on (b ∷ bs) other)
-      (apart.0.nowhere b bs (or-first (c.grammar.first b) (some_first (grammars_of cs) b) h))
-      ∙ none-there cs apart.1 on b bs other (or-rest (c.grammar.first b) (some_first (grammars_of cs) b) h)
+      (apart.0.nowhere b bs (or_parts (c.grammar.first b) (some_first (grammars_of cs) b) h).0)
+      ∙ none-there cs apart.1 on b bs other (or_parts (c.grammar.first b) (some_first (grammars_of cs) b) h).1
 
   each-some : (cs : List (Construct A W Unit Unit)) → AreApart class size cs → (b : ℕ) (bs : List ℕ) → EachThere (λ a. 0 < size a) (grammars_of cs) (b ∷ bs)
   each-some [] apart b bs = tt

@@ -1,7 +1,8 @@
 -- The main law of a machine that is a list of constructs, once for all lists. Each construct is read if it is there, and else leaves nothing, and
 -- what follows it reads the rest of the list. So the machine reads a text item by item. What is there may depend on a memory of what was read.
-use Rattle.mdconstructs_text.proofs.Prelude.{at-front, ◌≡◌, ℕ, zero, suc, ◌+◌, ◌<◌, ◌≤◌, ◌∷◌, ◌++◌, [], List, Bool, true, false, cond, refl, sym, ◌∙◌, ap, subst, Option, Some, None, arith, length, take, drop, drop-drop, append-nil, append_assoc, flat_map, Event, Name, State, Next, Retry, Ok, Seat, Waits, Nothing, Byte, End, Given, Text, Configuration, Local, Choice, Step, Sight, sight, byte_of, class_of, with_local, counts, if_on, or_else, Rows, row, when, row_step, bytes_of, held, EndsWith, goes-next, picked, step_of, Between, Construct, first_there, grammars_of, some_first, tried_at, choose, Attempt}
-use Rattle.mdconstructs_text.proofs.Texts.Leads.{Ending, Leads, leads-step, spent, ended as ended-so}
+use Rattle.mdconstructs_machines.proofs.LineReads.Onward.{leads-step}
+use Rattle.mdconstructs_text.proofs.Prelude.{at-front, ◌≡◌, ℕ, zero, suc, ◌+◌, ◌<◌, ◌≤◌, ◌∷◌, ◌++◌, [], List, Bool, true, false, cond, refl, sym, ◌∙◌, ap, subst, Option, Some, None, arith, length, take, drop, drop-drop, append-nil, append_assoc, flat_map, Event, Name, State, Next, Retry, Ok, Seat, Waits, Nothing, Byte, End, Given, Text, Configuration, Local, Choice, Step, Sight, sight, byte_of, with_local, counts, if_on, or_else, Rows, row, when, row_step, bytes_of, held, EndsWith, goes-next, picked, step_of, Between, Construct, first_there, grammars_of, some_first, tried_at, choose, Attempt}
+use Rattle.mdconstructs_text.proofs.Texts.Leads.{Ending, Leads, spent, ended as ended-so, as_asked}
 use Rattle.mdconstructs_text.proofs.Constructs.Apart.{AreApart, IsApart, none-there, or-none, positive}
 use Rattle.mdconstructs_text.proofs.Texts.Cutting.{cut_by, drop-less}
 
@@ -58,10 +59,6 @@ module _ {A W M : Type 0} (g : Given) (text : Text) (step : Sight → Configurat
       (p : ℕ) (ended : Bool) (events : List Event) (local : Local Unit Unit) (s : Seat) (ss : List Seat) → drop p text.seats ≡ s ∷ ss → At s.byte → Knows p local
       → AddsFrom m (between p Byte ended events local) (Retry name) p events (s ∷ ss) (front (bytes_of (s ∷ ss)))
 
-  -- The step of a name is that of these rows
-  abbrev pub HasRowsBy : Name → ((previous current : Option W) → Rows Unit Unit) → Type 0
-  HasRowsBy name rows = (k : Configuration Unit Unit) → step (sight g text k) k name ≡ row_step g text k (rows (class_of class (sight g text k).previous) (class_of class (sight g text k).current))
-
   module _ (is_line : ℕ → Bool) (other : M → List ℕ → A) where
     -- what is there of some constructs, and else of none
     abbrev pub rest_of : M → List (Construct A W Unit Unit) → List ℕ → A
@@ -95,7 +92,7 @@ module _ {A W M : Type 0} (g : Given) (text : Text) (step : Sight → Configurat
       -- reading goes on by this row
       goes : (k : Configuration Unit Unit) (cs : List Choice) (name : Name) (rows : Rows Unit Unit) → step (sight g text k) k name ≡ row_step g text k rows
           → let q = row_step g text k rows in Leads g text step k cs (Retry name) q.configuration (q.choices ++ cs) q.answer
-      goes k cs name rows has es h = leads-step g text step k cs name (row_step g text k rows) has es h
+      goes k cs name rows has es h = leads-step as_asked g text step k cs name (row_step g text k rows) has es h
 
       module _ (m : M) (data-reads : ReadsFrom m (known.at_data m) names.before_data (λ b. is_line b ≡ false) (other m)) (p : ℕ) (ended : Bool) (events : List Event) (s : Seat) (ss : List Seat)
           (here : drop p text.seats ≡ s ∷ ss) (plain : is_line s.byte ≡ false) where

@@ -1,8 +1,8 @@
 -- Virtual bytes with no line ending but at their end, and events over such: data of each line, parts, and spans can be cut into atoms.
+use Rattle.markdown_base.proofs.Facts.Numbers.{unlike}
 use Rattle.mdconstructs_text.proofs.Prelude.{◌≡◌, ℕ, zero, suc, ◌+◌, ◌-◌, ◌<◌, ◌≤◌, ◌==◌, ◌∷◌, ◌++◌, [], List, Bool, true, false, cond, not, refl, sym, ◌∙◌, ap, subst, arith, length, take, drop, max, flat_map, AllByRecursion, every-append, between, prefix_len, position_or_len, drop-drop, take-append-drop, drop-map, Event, Data, LineEnding, Seat, is_line_ending, joined, lines_in, line_text, ending_of, data_line, data_events, both, line_ending, plain_run, Found, part_length, item_length, has_byte_at, is_backtick, backticks, plain_length, part_at, bytes_of, cut, part_events, item_events}
 use Rattle.std.proofs.Math.Seq.{take-add}
 use Rattle.markdown_base.specs.declared.event.Name.{Name}
-use Rattle.markdown_tokenizer.proofs.Positions.Order.{not-number}
 use Rattle.mdconstructs_machines.proofs.LineReads.Accounts.{lines-are-all}
 use Rattle.mdconstructs_machines.specs.Spans.{span}
 use Rattle.mdconstructs_text.proofs.DeepSpans.Atoms.{OneLine, IsCut, cut-none, cut-append, cut-leaf, cut-span}
@@ -43,16 +43,13 @@ lines-once (s ∷ ss) = elim (is_line_ending s) as (λ b. is_line_ending s ≡ b
 ] refl
 
 -- ---- stretches with no line ending
--- a byte that passes a test that a line ending does not
-pub no-feed : (test : ℕ → Bool) → test 10 ≡ false → (b : ℕ) → test b ≡ true → (b == 10) ≡ false
-no-feed test fails b is = not-number b 10 (λ e. let no : true ≡ false = sym is ∙ ap test e ∙ fails in absurd (cc))
 
 pub run-plain : (test : ℕ → Bool) → test 10 ≡ false → (l : List Seat) → NoEnding (take (prefix_len test (bytes_of l)) l)
 run-plain test fails [] = tt
 run-plain test fails (s ∷ ss) = elim (test s.byte) as (λ t. test s.byte ≡ t → NoEnding (take (cond t (1 + prefix_len test (bytes_of ss)) 0) (s ∷ ss))) [
   | true ↦ λ e.
       let one : suc (prefix_len test (bytes_of ss)) ≡ 1 + prefix_len test (bytes_of ss) = omega arith in
-      subst (λ n. NoEnding (take n (s ∷ ss))) one (no-feed test fails s.byte e, run-plain test fails ss)
+      subst (λ n. NoEnding (take n (s ∷ ss))) one (unlike test 10 fails s.byte e, run-plain test fails ss)
   | false ↦ λ e. tt
 ] refl
 
@@ -75,7 +72,7 @@ first-plain (suc k) s ss other h = let same : suc k ≡ max 1 (suc k) = omega ar
 -- a byte that passes such a test
 pub byte-plain : (test : ℕ → Bool) → test 10 ≡ false → (l : List Seat) (m : ℕ) → has_byte_at (bytes_of l) m test ≡ true → NoEnding (take 1 (drop m l))
 byte-plain test fails [] m h = absurd (cc)
-byte-plain test fails (s ∷ ss) zero h = (no-feed test fails s.byte h, tt)
+byte-plain test fails (s ∷ ss) zero h = (unlike test 10 fails s.byte h, tt)
 byte-plain test fails (s ∷ ss) (suc m) h = byte-plain test fails ss m h
 
 module _ (bytes : List ℕ) where

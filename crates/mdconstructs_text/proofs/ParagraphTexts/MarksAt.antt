@@ -1,11 +1,12 @@
 -- Marks of paragraphs at an index: their events, their links, and what changes of chains leave there.
 use Rattle.std.proofs.Common.{◌≡◌, ℕ, zero, suc, ◌+◌, ◌-◌, ◌<◌, ◌≤◌, ◌==◌, Bool, true, false, cond, List, [], ◌∷◌, ◌++◌, Some, None, length, map, take, drop, refl, sym, ap, ◌∙◌, subst, arith}
-use Rattle.std.specs.Prelude.{◌&&◌, filter, nat_lt, not, option_map, position, slice_get}
+use Rattle.std.specs.Prelude.{◌&&◌, filter, not, option_map, position, slice_get}
 use Rattle.std.specs.List.{AllByRecursion, between, flat_map, prefix_len, range_with_len}
 use Rattle.std.proofs.lemmas.Bool.Decides.{nat_tests}
-use Rattle.std.proofs.lemmas.List.{drop-drop, drop-map, take-append-drop}
+use Rattle.std.proofs.lemmas.List.{drop-map, take-append-drop}
 use Rattle.std.proofs.lemmas.Option.{slice_get-map, slice_get_within}
-use Rattle.markdown_base.proofs.Common.{every-map}
+use Rattle.std.proofs.lemmas.Bool.{lt-ltb}
+use Rattle.markdown_base.proofs.Common.{every-map, drop-next}
 use Rattle.markdown_base.specs.declared.event.Content.TheVariants.{Text as TextContent}
 use Rattle.markdown_base.specs.declared.event.Event.{Event}
 use Rattle.markdown_edits.specs.Links.{content_at, next_of}
@@ -18,18 +19,11 @@ use Rattle.markdown_children.specs.Parts.{divided_over, parts}
 use Rattle.markdown_children.specs.Ready.{IsReady, place_at}
 use Rattle.markdown_tokenizer.specs.Text.{Given}
 use Rattle.mdconstructs_machines.specs.ParagraphEvents.{Marked, as_linked, begins as begins_chunk, chunk_at, with_links}
+use Rattle.mdconstructs_tables.proofs.Looks.Left.{at-front}
 use Rattle.mdconstructs_text.proofs.DeepSpans.Chains.{after, from_chunk, up-to-chunk}
 use Rattle.mdconstructs_text.proofs.Paragraphs.ChunkPairs.{FollowsChunk}
 
 -- ---- elements of lists at an index
-get-at : {A : Type 0} (xs : List A) (i : ℕ) (x : A) (rest : List A) → drop i xs ≡ x ∷ rest → slice_get xs i ≡ Some x
-get-at [] zero x rest e = absurd (cc)
-get-at [] (suc i) x rest e = absurd (cc)
-get-at (y ∷ ys) zero x rest e = let same : y ≡ x = cc in ap Some same
-get-at (y ∷ ys) (suc i) x rest e = get-at ys i x rest e
-
-next-at : {A : Type 0} (xs : List A) (i : ℕ) (x : A) (rest : List A) → drop i xs ≡ x ∷ rest → drop (i + 1) xs ≡ rest
-next-at xs i x rest e = sym (drop-drop 1 i xs) ∙ ap (drop 1) e
 
 passes-first : {A : Type 0} (p : A → Bool) (xs : List A) (x : A) (ys : List A) → p x ≡ true → prefix_len (λ y. not (p y)) (xs ++ x ∷ ys) < length (xs ++ x ∷ ys)
 passes-first p [] x ys h = rw h (omega arith)
@@ -37,13 +31,10 @@ passes-first p (y ∷ xs) x ys h =
     let more = passes-first p xs x ys h in
     elim (p y) as (λ b. cond (not b) (1 + prefix_len (λ y. not (p y)) (xs ++ x ∷ ys)) 0 < suc (length (xs ++ x ∷ ys))) [ true ↦ omega arith | false ↦ omega (arith, more) ]
 
-is-less : (a b : ℕ) → a < b → nat_lt a b ≡ true
-is-less a b h = grind (arith, h)
-
 some-position : {A : Type 0} (p : A → Bool) (xs : List A) (x : A) (ys : List A) → p x ≡ true → (d : ℕ) × (position p (xs ++ x ∷ ys) ≡ Some d)
 some-position p xs x ys h =
     let n = prefix_len (λ y. not (p y)) (xs ++ x ∷ ys) in
-    (n, ap (λ b. cond b (Some n) None) (is-less n (length (xs ++ x ∷ ys)) (passes-first p xs x ys h)))
+    (n, ap (λ b. cond b (Some n) None) (lt-ltb n (length (xs ++ x ∷ ys)) (passes-first p xs x ys h)))
 
 self : (n : ℕ) → (n == n) ≡ true
 self n = grind (arith, nat_tests)
@@ -59,7 +50,7 @@ least p i (suc n) =
 between-more : (events : List Event) (i b : ℕ) (x : Event) (xs : List Event) → drop i events ≡ x ∷ xs → i + 1 ≤ b → between i b events ≡ x ∷ between (i + 1) b events
 between-more events i b x xs here l =
     let one : b - i ≡ suc (b - (i + 1)) = omega (arith, l) in
-    (λ k. take (one k) (here k)) ∙ ap (λ ys. x ∷ take (b - (i + 1)) ys) (sym (next-at events i x xs here))
+    (λ k. take (one k) (here k)) ∙ ap (λ ys. x ∷ take (b - (i + 1)) ys) (sym (drop-next events i x xs here))
 
 -- a mark with no chunk
 abbrev pub IsPlain : Marked → Type 0
@@ -74,10 +65,10 @@ module _ (all : List Marked) where
   At i ms = drop i all ≡ ms
 
   pub mark-here : (i : ℕ) (m : Marked) (ms : List Marked) → At i (m ∷ ms) → slice_get events_in i ≡ Some (as_linked all m)
-  mark-here i m ms at = slice_get-map (as_linked all) all i ∙ ap (option_map (as_linked all)) (get-at all i m ms at)
+  mark-here i m ms at = slice_get-map (as_linked all) all i ∙ ap (option_map (as_linked all)) (at-front all i m ms at)
 
   pub mark-next : (i : ℕ) (m : Marked) (ms : List Marked) → At i (m ∷ ms) → At (i + 1) ms
-  mark-next i m ms at = next-at all i m ms at
+  mark-next i m ms at = drop-next all i m ms at
 
   events-at : (i : ℕ) (ms : List Marked) → At i ms → drop i events_in ≡ map (as_linked all) ms
   events-at i ms at = drop-map (as_linked all) i all ∙ ap (map (as_linked all)) at

@@ -3,6 +3,7 @@ use Rattle.std.proofs.Common.{◌≡◌, ℕ, zero, suc, true, false, List, [], 
 use Rattle.std.specs.Prelude.{◌⊎◌}
 use Rattle.std.specs.List.{AllByRecursion, flat_map}
 use Rattle.markdown_base.proofs.Common.{every-append, every-map}
+use Rattle.markdown_base.proofs.Orders.{InOrder, order-both}
 use Rattle.markdown_base.specs.declared.event.Event.{Event}
 use Rattle.markdown_base.specs.declared.event.Kind.{Kind}
 use Rattle.markdown_base.specs.declared.event.Kind.TheVariants.{Enter, Exit}
@@ -24,7 +25,6 @@ use Rattle.mdconstructs_text.proofs.Prelude.{end-after-append, shown-shown}
 use Rattle.mdconstructs_text.proofs.DeepSpans.Atoms.{Atom, IsCut, all_at, atom_events, events_of, seats_of}
 use Rattle.mdconstructs_text.proofs.DeepSpans.Chains.{front-at, front-upto}
 use Rattle.mdconstructs_text.proofs.DeepSpans.Places.{Upto, place-shown}
-use Rattle.mdconstructs_text.proofs.Paragraphs.Formed.{InOrder, order-append}
 use Rattle.mdconstructs_text.proofs.ParagraphTexts.Blocks.{all-are, rows_of, text-are, with-are}
 use Rattle.mdconstructs_text.proofs.ParagraphTexts.Rows.{Row, Within, all-within, rows_all, rows_text, rows_with}
 use Rattle.mdconstructs_text.specs.ParagraphTexts.{block_with, chunk_events, lines_with, text_of}
@@ -261,8 +261,8 @@ module _ (bytes : List ℕ) where
         let then = rows-order rows others o d rest third (order-drop (length part) o es order) take.others in
         let end : end_after d more ≡ end_after p ((q ++ c) ++ more) = sym (end-after-append p (q ++ c) more ∙ ap (λ x. end_after x more) (end-after-append p q c)) in
         subst (InOrder p (rows_with bytes ((q, c) ∷ rows) es)) end
-        (order-append p (leaf bytes BlockQuoteMarker q) b (part ++ rows_with bytes rows others) (end_after d more) (leaf-order p BlockQuoteMarker q (c ++ (more ++ rest)) whole)
-        (order-append b part d (rows_with bytes rows others) (end_after d more) take.order then))
+        (order-both p (leaf bytes BlockQuoteMarker q) b (part ++ rows_with bytes rows others) (end_after d more) (leaf-order p BlockQuoteMarker q (c ++ (more ++ rest)) whole)
+        (order-both b part d (rows_with bytes rows others) (end_after d more) take.order then))
 
     module _ (reads : List Seat → List Event) (cuts : (l : List Seat) → IsCut bytes (reads l) l) where
       -- places of events are shown
@@ -299,7 +299,7 @@ module _ (bytes : List ℕ) where
           let end_is = place-shown t bytes p (s ∷ ss) rest chain in
           let start = chain.1.shown_is in
           let last : InOrder end (event bytes Exit Paragraph end ∷ []) end = subst (λ q. (stands_before q end ≡ false) × (stands_before end q ≡ false)) (sym end_is) (self end, self end) in
-          (subst (IsUpto p) (sym start) (self p), order-append (shown bytes s.point) es end (event bytes Exit Paragraph end ∷ []) end (subst (λ q. InOrder q es end) (sym start) h) last)
+          (subst (IsUpto p) (sym start) (self p), order-both (shown bytes s.point) es end (event bytes Exit Paragraph end ∷ []) end (subst (λ q. InOrder q es end) (sym start) h) last)
 
       block-order : (block : Block) (p : Point) (rest : List Seat) → IsChain t bytes p (block_bytes block ++ rest) → InOrder p (block_with reads bytes block) (end_after p (block_bytes block))
       block-order (blank line) p rest chain = leaf-order p BlankLineEnding line rest chain
@@ -313,5 +313,5 @@ module _ (bytes : List ℕ) where
           let whole = subst (IsChain t bytes p) (append_assoc l more rest) chain in
           let m = end_after p l in
           subst (InOrder p (flat_map (block_with reads bytes) (block ∷ blocks))) (sym (end-after-append p l more))
-          (order-append p (block_with reads bytes block) m (flat_map (block_with reads bytes) blocks) (end_after m more) (block-order block p (more ++ rest) whole)
+          (order-both p (block_with reads bytes block) m (flat_map (block_with reads bytes) blocks) (end_after m more) (block-order block p (more ++ rest) whole)
           (blocks-order blocks m rest (chain-split t bytes p l (more ++ rest) whole)))

@@ -1,12 +1,11 @@
 -- What `Paragraphs` and `Text` make of a document, with the text of each chain read, is what stands in its lines.
-use Rattle.std.proofs.Common.{◌≡◌, ℕ, ◌+◌, ◌<◌, List, [], ◌∷◌, ◌++◌, append-nil, None, Option, Some, length, map, refl, sym, ap, ◌∙◌, subst, arith}
-use Rattle.std.specs.Prelude.{option_map}
+use Rattle.std.proofs.Common.{◌≡◌, ℕ, ◌+◌, ◌<◌, List, [], ◌∷◌, ◌++◌, append-nil, None, Some, length, map, refl, sym, ap, ◌∙◌, subst, arith}
 use Rattle.std.specs.List.{flat_map}
 use Rattle.std.proofs.lemmas.List.{length-map}
-use Rattle.markdown_base.specs.Events.{IsInOrder, IsVoidTight, relinked, with_ends}
+use Rattle.markdown_base.proofs.Orders.{order-pairs}
+use Rattle.markdown_base.specs.Events.{IsInOrder, IsVoidTight}
 use Rattle.markdown_base.specs.declared.event.Content.TheVariants.{Text as TextContent}
 use Rattle.markdown_base.specs.declared.event.Event.{Event}
-use Rattle.markdown_base.specs.declared.event.Link.{Link}
 use Rattle.markdown_base.specs.Places.{IsShown}
 use Rattle.markdown_base.specs.Virtual.{Seat, end_after, point, virtual}
 use Rattle.markdown_edits.proofs.Edits.Passes.{woven-pass}
@@ -17,6 +16,7 @@ use Rattle.markdown_children.proofs.Parts.Kept.{untagged}
 use Rattle.markdown_children.specs.Chains.{chain_of, fitting_starts}
 use Rattle.markdown_children.specs.Children.{child_changes}
 use Rattle.markdown_children.specs.LawStatements.{AreSpaced}
+use Rattle.markdown_tokenizer.proofs.Readings.Plain.{unlinked-same}
 use Rattle.markdown_tokenizer.specs.Plain.{HaveNoLinks}
 use Rattle.markdown_tokenizer.specs.Text.{Given, IsDocument, empty_text}
 use Rattle.mdconstructs_machines.proofs.BlockReads.Accounts.{block_bytes, blocks-are-all}
@@ -29,7 +29,6 @@ use Rattle.mdconstructs_text.proofs.DeepSpans.TextCuts.{text-cut}
 use Rattle.mdconstructs_text.proofs.Paragraphs.Ready.{document-readable}
 use Rattle.mdconstructs_text.proofs.Texts.Built.{data-built}
 use Rattle.mdconstructs_text.proofs.Texts.Tight.{links-kept, text-alone}
-use Rattle.mdconstructs_text.proofs.Paragraphs.Formed.{order-pairs}
 use Rattle.mdconstructs_text.proofs.Paragraphs.Tight.{data-stays-tight, texts-stay-tight}
 use Rattle.mdconstructs_text.proofs.ParagraphTexts.Blocks.{blocks-done, blocks-of-good}
 use Rattle.mdconstructs_text.proofs.ParagraphTexts.Every.{blocks-every}
@@ -40,13 +39,9 @@ use Rattle.mdconstructs_text.specs.ChainTexts.{chain_text, paragraphs_of, with_r
 use Rattle.mdconstructs_text.specs.ParagraphTexts.{ParagraphsReadAsData, ParagraphsReadAsTexts, TextsAreInOrder, block_with, paragraph_texts}
 use Rattle.mdconstructs_text.specs.TextEvents.{seat_events}
 
--- places change nothing where no event has a link
-link-same : (f : ℕ → Option ℕ) (e : Event) → e.link ≡ None → relinked f e ≡ e
-link-same f e h = ap (λ (o : Option Link). record e { link = option_map (with_ends f) o }) h ∙ ap (λ (o : Option Link). record e { link = o }) (sym h)
-
 placed-same : (ts us : List Tagged) → HaveNoLinks (untagged us) → placed_in ts us ≡ untagged us
 placed-same ts [] h = refl
-placed-same ts (u ∷ us) h = λ i. link-same (placed_end ts u.identity) u.event h.0 i ∷ placed-same ts us h.1 i
+placed-same ts (u ∷ us) h = λ i. unlinked-same (placed_end ts u.identity) u.event h.0 i ∷ placed-same ts us h.1 i
 
 -- ---- a whole document
 module _ (g : Given) (document : IsDocument g) (reads : List Seat → List Event) (cuts : (l : List Seat) → IsCut g.bytes (reads l) l) (alone : (l : List Seat) → HaveNoLinks (reads l)) where

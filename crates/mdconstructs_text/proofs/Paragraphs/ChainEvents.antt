@@ -8,7 +8,7 @@ use Rattle.markdown_tokenizer.proofs.Positions.Order.{every-kept}
 use Rattle.mdconstructs_text.proofs.Texts.Ends.{ReadsTexts, ReadsTextsFrom}
 
 -- what passes the filter of a content is that
-is-content : (wanted : Content) (o : Option Content) → some_fits (Some wanted) o ≡ true → o ≡ Some wanted
+pub is-content : (wanted : Content) (o : Option Content) → some_fits (Some wanted) o ≡ true → o ≡ Some wanted
 is-content content.Flow (Some content.Flow) h = refl
 is-content content.Content (Some content.Content) h = refl
 is-content content.String (Some content.String) h = refl

@@ -1,6 +1,11 @@
 -- Lists of events in which chunks of text are linked one after another: what is between two that are linked, and that this is kept if
 -- events are added and chunks are linked.
+use Rattle.markdown_base.specs.Events.{IsInOrder}
+use Rattle.markdown_base.specs.Places.{IsShown, stands_before}
+use Rattle.markdown_children.specs.Ready.{IsShownPlace}
 use Rattle.mdconstructs_text.proofs.Prelude.{AllByRecursion, ◌≡◌, ℕ, zero, suc, ◌+◌, ◌<◌, ◌≤◌, ◌==◌, List, [], ◌∷◌, ◌++◌, true, false, Option, Some, None, length, ◌⊎◌, inl, inr, refl, sym, ap, ◌∙◌, subst, arith, length-append, is_some, slice_get, option_map, option_and_then, unwrap_or, nat_tests, slice_get_within, eqb-true, Event, Enter, Exit, Link, Point, IsPointOf, point, IsLinkedEnter, content_of, updated_at, next_set, previous_set, with_next, with_previous, linked_to, next_of, updated-length, place_at, next_end, next-more, next-other, next-kept, every-append, get-front}
+use Rattle.std.proofs.Common.{get_or}
+use Rattle.std.proofs.lemmas.Option.{get_or_from_slice_get}
 use Rattle.markdown_base.specs.declared.event.Content.TheVariants.{Text}
 
 -- Lists with one more event
@@ -14,6 +19,18 @@ point_or_first o = unwrap_or (option_map (λ (e : Event). e.point) o) (point 1 1
 
 pub place-at-event : (xs : List Event) (i : ℕ) (e : Event) → slice_get xs i ≡ Some e → place_at xs i ≡ e.point
 place-at-event xs i e is = ap point_or_first is
+
+-- events in order stand at places that are shown, and none before another
+pub stands-shown : (t : ℕ) (bytes : List ℕ) (es : List Event) → IsInOrder bytes es → (k : ℕ) (e : Event) → slice_get es k ≡ Some e → IsPointOf t bytes e.point → IsShownPlace t bytes (place_at es k)
+stands-shown t bytes es order k e at point =
+    let is_shown = subst (λ (x : Event). IsShown bytes x.point) (get_or_from_slice_get es k e e at) (order.1 k e (slice_get_within es k e at)) in
+    subst (IsShownPlace t bytes) (sym (place-at-event es k e at)) (point, is_shown)
+
+pub stand-in-order : (bytes : List ℕ) (es : List Event) → IsInOrder bytes es → (i j : ℕ) (e f : Event) → i < j → slice_get es i ≡ Some e → slice_get es j ≡ Some f → stands_before (place_at es j) (place_at es i) ≡ false
+stand-in-order bytes es order i j e f less at then =
+    let first : place_at es i ≡ (get_or es i e).point = place-at-event es i e at ∙ ap (λ (x : Event). x.point) (sym (get_or_from_slice_get es i e e at)) in
+    let second : place_at es j ≡ (get_or es j e).point = place-at-event es j f then ∙ ap (λ (x : Event). x.point) (sym (get_or_from_slice_get es j f e then)) in
+    (λ x. stands_before (second x) (first x)) ∙ order.0 i j e less (slice_get_within es j f then)
 
 pub front-place : (xs : List Event) (e : Event) (i : ℕ) → i < length xs → place_at (xs ++ e ∷ []) i ≡ place_at xs i
 front-place xs e i h = ap point_or_first (get-front xs (e ∷ []) i h)

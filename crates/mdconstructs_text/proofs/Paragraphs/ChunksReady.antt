@@ -1,9 +1,8 @@
 -- Events in which chunks of text are linked one after another can be read chain by chain.
-use Rattle.mdconstructs_text.proofs.Prelude.{between, ◌≡◌, ℕ, suc, ◌+◌, ◌-◌, ◌<◌, ◌≤◌, List, [], ◌∷◌, false, Option, Some, None, take, drop, inl, inr, ⊎_elim, refl, sym, ap, ◌∙◌, subst, arith, slice_get, option_and_then, option_map, cases_lt, slice_get_within, get_or_from_slice_get, drop-at, every-get, Content, Flow, Event, Link, IsBalanced, empty, span, IsVoidTight, IsInOrder, stands_before, IsShown, content_of, next_of, AreMutual, content_at, place_at, IsChunk, IsShownPlace, IsReady}
-use Rattle.std.proofs.Common.{get_or}
+use Rattle.mdconstructs_text.proofs.Prelude.{between, ◌≡◌, ℕ, suc, ◌+◌, ◌-◌, ◌<◌, ◌≤◌, List, [], ◌∷◌, Option, Some, None, take, drop, inl, inr, ⊎_elim, refl, sym, ap, ◌∙◌, subst, arith, slice_get, option_and_then, option_map, cases_lt, drop-at, every-get, Content, Flow, Event, Link, IsBalanced, empty, span, IsVoidTight, IsInOrder, content_of, next_of, AreMutual, content_at, IsChunk, IsReady}
 use Rattle.markdown_base.specs.declared.event.Content.TheVariants.{Text}
 use Rattle.mdconstructs_text.proofs.Paragraphs.ChainEvents.{is-text-content}
-use Rattle.mdconstructs_text.proofs.Paragraphs.ChunkPairs.{place-at-event, IsChunkStart, IsPlaced, AreChunks}
+use Rattle.mdconstructs_text.proofs.Paragraphs.ChunkPairs.{IsChunkStart, IsPlaced, AreChunks, stands-shown, stand-in-order}
 
 pub between-none : (es : List Event) (i j : ℕ) → j ≡ i → between i j es ≡ []
 between-none es i j same = let none : j - i ≡ 0 = omega (arith, same) in ap (λ n. take n (drop i es)) none
@@ -53,17 +52,6 @@ module _ (t : ℕ) (bytes : List ℕ) (es : List Event) (chunks : AreChunks t by
       let exit = tight k h.event h.at h.start.linked.enter h.start.linked.void in
       record { enter = h.event; exit = exit.0; enter_at = h.at; exit_at = exit.1; linked = h.start.linked; ended = record { exits = exit.2; same = exit.3 } }
 
-  stands-shown : (k : ℕ) (e : Event) → slice_get es k ≡ Some e → IsShownPlace t bytes (place_at es k)
-  stands-shown k e at =
-      let is_shown = subst (λ (x : Event). IsShown bytes x.point) (get_or_from_slice_get es k e e at) (order.1 k e (slice_get_within es k e at)) in
-      subst (IsShownPlace t bytes) (sym (place-at-event es k e at)) ((every-get (IsPlaced t bytes) es k e chunks.each at).1, is_shown)
-
-  stand-in-order : (i j : ℕ) (e f : Event) → i < j → slice_get es i ≡ Some e → slice_get es j ≡ Some f → stands_before (place_at es j) (place_at es i) ≡ false
-  stand-in-order i j e f less at then =
-      let first : place_at es i ≡ (get_or es i e).point = place-at-event es i e at ∙ ap (λ (x : Event). x.point) (sym (get_or_from_slice_get es i e e at)) in
-      let second : place_at es j ≡ (get_or es j e).point = place-at-event es j f then ∙ ap (λ (x : Event). x.point) (sym (get_or_from_slice_get es j f e then)) in
-      (λ x. stands_before (second x) (first x)) ∙ order.0 i j e less (slice_get_within es j f then)
-
   -- an event that is in no chain has no content
   alone-at : (i m : ℕ) (e : Event) → slice_get es i ≡ Some e → e.link ≡ None → i ≡ m → content_at es m ≡ None
   alone-at i m e at alone same = ap (content_at es) (sym same) ∙ ap (option_and_then content_of) at ∙ rw alone refl
@@ -80,9 +68,9 @@ module _ (t : ℕ) (bytes : List ℕ) (es : List Event) (chunks : AreChunks t by
         let c = chunk-at k s in
         record {
           content = λ flow. let no : Some Text ≡ Some Flow = sym s.content ∙ flow in absurd (cc);
-          from = stands-shown k c.enter c.enter_at;
-          to = stands-shown (k + 1) c.exit c.exit_at;
-          forward = stand-in-order k (k + 1) c.enter c.exit (omega arith) c.enter_at c.exit_at;
+          from = stands-shown t bytes es order k c.enter c.enter_at (every-get (IsPlaced t bytes) es k c.enter chunks.each c.enter_at).1;
+          to = stands-shown t bytes es order (k + 1) c.exit c.exit_at (every-get (IsPlaced t bytes) es (k + 1) c.exit chunks.each c.exit_at).1;
+          forward = stand-in-order bytes es order k (k + 1) c.enter c.exit (omega arith) c.enter_at c.exit_at;
         };
     gaps = λ k d h is.
         let c = chunk-at k (leads k d is) in
@@ -90,7 +78,7 @@ module _ (t : ℕ) (bytes : List ℕ) (es : List Event) (chunks : AreChunks t by
         elim (chunks.pairs k d is).follows [
           | inl directly ↦
               let at = directly.0 in record {
-                forward = stand-in-order (k + 1) d c.exit next.enter (omega (arith, at)) c.exit_at next.enter_at;
+                forward = stand-in-order bytes es order (k + 1) d c.exit next.enter (omega (arith, at)) c.exit_at next.enter_at;
                 in_line = inl (sym directly.1);
                 balanced = subst IsBalanced (sym (between-none es (k + 2) d at)) empty;
                 no_link = λ m least most. absurd (omega (arith, at, least, most));
@@ -99,7 +87,7 @@ module _ (t : ℕ) (bytes : List ℕ) (es : List Event) (chunks : AreChunks t by
               let at = marked.0 in
               let mark = marked.1 in
               let two = between-two es (k + 2) d mark.enter mark.exit (omega (arith, at)) mark.enter_at mark.exit_at in record {
-                forward = stand-in-order (k + 1) d c.exit next.enter (omega (arith, at)) c.exit_at next.enter_at;
+                forward = stand-in-order bytes es order (k + 1) d c.exit next.enter (omega (arith, at)) c.exit_at next.enter_at;
                 in_line = inr (marked.2, marked.3);
                 balanced = subst IsBalanced (sym two) (span mark.enter mark.exit [] [] refl mark.are.enters mark.are.exits mark.are.same empty empty);
                 no_link = λ m least most.

@@ -1,5 +1,6 @@
 -- The events of a document's blocks are balanced, void-tight and in order.
-use Rattle.mdconstructs_text.proofs.Prelude.{◌≡◌, ℕ, zero, suc, ◌+◌, ◌<◌, ◌∷◌, ◌++◌, [], List, true, false, Option, Some, None, refl, sym, ◌∙◌, ap, subst, arith, AllPairs, slice_get, flat_map, AllByRecursion, append-nil, map-append, All-from_recursion, AllPairs-cons, every-append, every-map, end-after-append, Event, Enter, Exit, Paragraph, Data, BlankLineEnding, BlockQuoteMarker, Point, is_void, IsBalanced, empty, span, IsVoidTight, IsInOrder, stands_before, shown, IsShown, Seat, point, virtual, end_after, IsBalanced-append, upto-upto, IsChain, whole-chain, before-self, chain-split, chain-upto, shown-shown, lines_in, all_of, Block, paragraph, blocks_of, mark_of, chunk_of, Chunk, Marked, marked_span, line_marks, lines_marks, block_marks, blocks_marks, as_linked, paragraph_events, lines-are-all, block_bytes, blocks-are-all, line-is, linked, get-front, slice_get_within}
+use Rattle.markdown_base.proofs.Orders.{InOrder, order-both, order-pairs, order-from}
+use Rattle.mdconstructs_text.proofs.Prelude.{◌≡◌, ℕ, zero, suc, ◌+◌, ◌<◌, ◌∷◌, ◌++◌, [], List, true, false, Option, Some, None, refl, sym, ◌∙◌, ap, subst, arith, slice_get, flat_map, AllByRecursion, append-nil, map-append, All-from_recursion, every-append, end-after-append, Event, Enter, Exit, Paragraph, Data, BlankLineEnding, BlockQuoteMarker, Point, is_void, IsBalanced, empty, span, IsVoidTight, IsInOrder, stands_before, shown, IsShown, Seat, point, virtual, end_after, IsBalanced-append, IsChain, whole-chain, before-self, chain-split, chain-upto, shown-shown, lines_in, all_of, Block, paragraph, blocks_of, mark_of, chunk_of, Chunk, Marked, marked_span, line_marks, lines_marks, block_marks, blocks_marks, as_linked, paragraph_events, lines-are-all, block_bytes, blocks-are-all, line-is, linked, get-front, slice_get_within}
 use Rattle.std.proofs.Common.{append_assoc}
 use Rattle.markdown_base.specs.declared.event.Name.{Name}
 use Rattle.mdconstructs_machines.specs.ParagraphEvents.{blank}
@@ -22,27 +23,6 @@ void-append (x ∷ xs) ys h k =
     (void-append xs ys (λ i f at enter void. let r = h (suc i) f at enter void in let z : suc i + 1 ≡ suc (i + 1) = omega arith in (r.0, sym (ap (slice_get (x ∷ xs)) z) ∙ r.1, r.2, r.3)) k)
 
 -- ---- events between two places, in order
-abbrev pub InOrder : Point → List Event → Point → Type 0
-InOrder p [] q = stands_before q p ≡ false
-InOrder p (e ∷ es) q = (stands_before e.point p ≡ false) × InOrder e.point es q
-
-pub order-from : (o p : Point) (es : List Event) (q : Point) → stands_before p o ≡ false → InOrder p es q → InOrder o es q
-order-from o p [] q h k = upto-upto o p q h k
-order-from o p (e ∷ es) q h k = (upto-upto o p e.point h k.0, k.1)
-
-pub order-append : (p : Point) (xs : List Event) (m : Point) (ys : List Event) (q : Point) → InOrder p xs m → InOrder m ys q → InOrder p (xs ++ ys) q
-order-append p [] m ys q h k = order-from p m ys q h k
-order-append p (x ∷ xs) m ys q h k = (h.0, order-append x.point xs m ys q h.1 k)
-
-order-later : (p : Point) (es : List Event) (q : Point) → InOrder p es q → AllByRecursion (λ (f : Event). stands_before f.point p ≡ false) es
-order-later p [] q h = tt
-order-later p (e ∷ es) q h =
-    (h.0, every-map (λ (f : Event). stands_before f.point e.point ≡ false) (λ (f : Event). stands_before f.point p ≡ false) (λ (f : Event) later. upto-upto p e.point f.point h.0 later) es (order-later e.point es q h.1))
-
-pub order-pairs : (p : Point) (es : List Event) (q : Point) → InOrder p es q → AllPairs (λ (e f : Event). stands_before f.point e.point ≡ false) es
-order-pairs p [] q h = λ i j d less within. absurd (omega (arith, within))
-order-pairs p (e ∷ es) q h =
-    AllPairs-cons (λ (e f : Event). stands_before f.point e.point ≡ false) e es (All-from_recursion (λ (f : Event). stands_before f.point e.point ≡ false) es (order-later e.point es q h.1)) (order-pairs e.point es q h.1)
 
 -- Events between two places: balanced, void-tight and in order
 record Formed (bytes : List ℕ) (p : Point) (es : List Event) (q : Point) : Type 0 where
@@ -69,7 +49,7 @@ module _ (t : ℕ) (bytes : List ℕ) (all : List Marked) where
       (subst (Formed bytes p (linked bytes all xs ++ linked bytes all ys)) (sym (end-after-append p seats others)) (record {
         balanced = IsBalanced-append (linked bytes all xs) (linked bytes all ys) one.balanced two.balanced;
         tight = void-append (linked bytes all xs) (linked bytes all ys) one.tight two.tight;
-        order = order-append p (linked bytes all xs) m (linked bytes all ys) (end_after m others) one.order two.order;
+        order = order-both p (linked bytes all xs) m (linked bytes all ys) (end_after m others) one.order two.order;
         shown_all = every-append (λ (e : Event). IsShown bytes e.point) (linked bytes all xs) (linked bytes all ys) one.shown_all two.shown_all;
       }))
 
@@ -91,7 +71,7 @@ module _ (t : ℕ) (bytes : List ℕ) (all : List Marked) where
         record {
           balanced = span e f es [] refl enters refl (sym named) h.balanced empty;
           tight = void-cons e (es ++ f ∷ []) first (void-append es (f ∷ []) h.tight last);
-          order = (subst (λ q. stands_before q p ≡ false) (sym at) c.1.shown_later, order-append e.point es end (f ∷ []) end (order-from e.point p es end here h.order) close);
+          order = (subst (λ q. stands_before q p ≡ false) (sym at) c.1.shown_later, order-both e.point es end (f ∷ []) end (order-from e.point p es end here h.order) close);
           shown_all = (subst (IsShown bytes) (sym at) (shown-shown t bytes s.point), every-append (λ (x : Event). IsShown bytes x.point) es (f ∷ []) h.shown_all (shown-shown t bytes end, tt));
         }
 

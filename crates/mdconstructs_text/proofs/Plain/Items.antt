@@ -83,12 +83,6 @@ module _ (g : Given) (text : Text) (m : Plays g text) (names : Between) where
   decided-so nok p ended events seats k cs s None d = (d.0, tt, d.1)
   decided-so nok p ended events seats k cs s (Some item) d = (d.0, d.1, tt, d.2)
 
-  -- what is decided further on is decided here
-  pub decides-before : (nok : Name) (p : ℕ) (ended : Bool) (events : List Event) (seats : List Seat) (k k' : Configuration Unit Unit) (cs cs' : List Choice) (s s' : State) (o : Option Found)
-      → Leads g text m k cs s k' cs' s' → Decides nok p ended events seats k' cs' s' o → Decides nok p ended events seats k cs s o
-  decides-before nok p ended events seats k k' cs cs' s s' None leads d = (d.0, λ es h. leads es (d.1 es h))
-  decides-before nok p ended events seats k k' cs cs' s s' (Some item) leads d = (d.0, d.1, λ es h. leads es (d.2 es h))
-
   -- The same, within so many calls, and with what is remembered as it was
   abbrev pub DecidesIn : (n : ℕ) (nok : Name) (p : ℕ) (ended : Bool) (events : List Event) → List Seat → Configuration Unit Unit → List Choice → State → Option Found → Type 0
   DecidesIn n nok p ended events seats k cs s None = (after : Local Unit Unit) × IsAfter n k.local after × Leads g text m k cs s (between_items p Nothing ended events after) [] (Next nok)

@@ -1,9 +1,10 @@
 -- How the machine of texts reads on over bytes that one state reads, one after another, and what is behind them.
-use Rattle.mdconstructs_text.proofs.Prelude.{at-front, ◌≡◌, ℕ, zero, suc, ◌+◌, ◌^◌, ◌<◌, ◌≤◌, ◌∷◌, ◌++◌, [], List, Bool, true, false, cond, refl, sym, ◌∙◌, ap, subst, Option, Some, None, arith, length, take, drop, slice_get, drop-drop, prefix_len, drop-next, Event, Enter, Exit, Name, Next, Retry, Seat, end_after, Waits, Nothing, Byte, End, Given, Text, Configuration, Local, Choice, byte_of, point_or, end_or, end_place, current_of, fed, fed-ends, passes, Rows, TextByte, text_byte, bytes_of, event, leaf, held}
+use Rattle.mdconstructs_text.proofs.Prelude.{at-front, ◌≡◌, ℕ, zero, suc, ◌+◌, ◌^◌, ◌<◌, ◌≤◌, ◌∷◌, ◌++◌, [], List, Bool, true, false, cond, refl, sym, ◌∙◌, ap, subst, Option, Some, None, arith, length, take, drop, slice_get, drop-drop, prefix_len, drop-next, Event, Enter, Exit, Name, Next, Retry, Seat, end_after, Waits, Nothing, Byte, End, Given, Text, Configuration, Local, Choice, byte_of, point_or, end_or, end_place, current_of, fed, passes, Rows, TextByte, text_byte, bytes_of, event, leaf, held}
 use Rattle.markdown_base.specs.declared.event.Name.{Name as EventName}
-use Rattle.mdconstructs_machines.proofs.LineReads.Steps.{stands as fed_as}
+use Rattle.mdconstructs_machines.proofs.LineReads.Onward.{stands as fed_as}
 use Rattle.mdconstructs_text.specs.Parts.{span}
-use Rattle.mdconstructs_text.proofs.Texts.Leads.{leads-unfed as step-unfed}
+use Rattle.mdconstructs_machines.proofs.LineReads.Onward.{leads-unfed as step-unfed}
+use Rattle.mdconstructs_text.proofs.Texts.Leads.{as_asked}
 use Rattle.mdconstructs_text.proofs.Texts.Steps.{Plays, EndsWith, Leads, leads-fed, before_class}
 
 -- what waits where these virtual bytes are left: the first of them, or the end
@@ -115,12 +116,12 @@ module _ (g : Given) (text : Text) (m : Plays g text) where
   -- what is fed, and what is fed once more
   stands : (l : List Seat) (stack : List EventName) (q : ℕ) (events : List Event) (local : Local Unit Unit) → drop q text.seats ≡ l
       → fed text (held stack q Nothing false events local) ≡ shows l stack q events local
-  stands [] stack q events local at = fed_as g text m.step [] stack q false events local at
-  stands (s ∷ ss) stack q events local at = fed_as g text m.step (s ∷ ss) stack q false events local at
+  stands [] stack q events local at = fed_as g text [] stack q false events local at
+  stands (s ∷ ss) stack q events local at = fed_as g text (s ∷ ss) stack q false events local at
 
   pub shown-fed : (l : List Seat) (stack : List EventName) (q : ℕ) (events : List Event) (local : Local Unit Unit) → drop q text.seats ≡ l
       → fed text (held stack q Nothing (is_end l) events local) ≡ shows l stack q events local
-  shown-fed [] stack q events local at = fed_as g text m.step [] stack q true events local at
+  shown-fed [] stack q events local at = fed_as g text [] stack q true events local at
   shown-fed (s ∷ ss) stack q events local at = stands (s ∷ ss) stack q events local at
 
   -- a state that is to come is called with what is fed
@@ -131,7 +132,7 @@ module _ (g : Given) (text : Text) (m : Plays g text) where
 
   -- feeding may come later
   pub leads-unfed : (k : Configuration Unit Unit) (cs : List Choice) (n : Name) → Leads g text m (fed text k) cs (Retry n) k cs (Next n)
-  leads-unfed k cs n e h = step-unfed g text m.step k cs n e h
+  leads-unfed k cs n e h = step-unfed as_asked g text m.step k cs n e h
 
   pub goes-back : (l : List Seat) (stack : List EventName) (q : ℕ) (events : List Event) (local : Local Unit Unit) (cs : List Choice) (name : Name) → drop q text.seats ≡ l
       → Leads g text m (shows l stack q events local) cs (Retry name) (held stack q Nothing false events local) cs (Next name)

@@ -3,6 +3,7 @@ use Rattle.std.proofs.Common.{◌≡◌, ℕ, ◌+◌, ◌≤◌, List, Bool, re
 use Rattle.markdown_tokenizer.specs.Configuration.{Local}
 use Rattle.markdown_tokenizer.specs.declared.tokenizer.state.ContainerState.{ContainerState}
 use Rattle.mdconstructs_machines.specs.Tables.{counts}
+use Rattle.mdconstructs_text.proofs.CodeSpans.Parts.{with_b}
 use Rattle.mdconstructs_text.proofs.Texts.Leads.{spent}
 
 -- What a machine may remember of a text: that all backtick strings further on were seen, the last place of each length, and the places up to
@@ -45,3 +46,7 @@ after-none local = record { calls = omega arith; same = refl }
 -- one call
 pub after-call : (local : Local Unit Unit) → IsAfter 1 local (counts local)
 after-call local = record { calls = omega arith; same = refl }
+
+-- a call that writes one of the sizes
+pub after-sized : (n : ℕ) (local : Local Unit Unit) → IsAfter 1 local (with_b n (counts local))
+after-sized n local = record { calls = omega arith; same = refl }

@@ -1,9 +1,10 @@
 -- How the machine of texts reads on, in small steps: to come to an ending it is enough to come to it from further on.
-use Rattle.mdconstructs_text.proofs.Prelude.{◌≡◌, ℕ, ◌<◌, ◌∷◌, ◌++◌, [], List, Bool, cond, Option, ap, length, slice_get, lt-ltb, Event, Name, State, Next, Retry, Ok, Nok, Waits, Nothing, Byte, End, Given, Text, Configuration, Local, Choice, Step, Sight, sight, byte_of, seat_before, fed, settled_at, Rows, when, with_local, counts, subst, sym, ◌∙◌, Some, true, false, Seat, slice_get_within, class_of, picked, step_of, TextByte, text_byte, text_rules, not, passes, row, enter, exit, consume, Data, LineEnding, TextBeforeData, DataAtBreak, Between, AutolinkStart, AutolinkOpen, AutolinkSchemeInsideOrEmailAtext, AutolinkUrlInside, CharacterEscapeStart, CharacterEscapeInside, text_before_data_rows, data_at_break_rows, autolink_open_rows, autolink_scheme_rows, autolink_url_rows, escape_start_rows, escape_inside_rows}
+use Rattle.mdconstructs_machines.proofs.LineReads.Onward.{leads-called as step-called, leads-fed as step-fed, leads-nok as step-nok, leads-ok as step-ok}
+use Rattle.mdconstructs_text.proofs.Prelude.{◌≡◌, ℕ, ◌<◌, ◌∷◌, ◌++◌, [], List, Bool, cond, Option, ap, length, lt-ltb, Event, Name, State, Next, Retry, Ok, Nok, Waits, Nothing, Byte, End, Given, Text, Configuration, Local, Choice, Step, Sight, sight, byte_of, seat_before, fed, settled_at, Rows, when, with_local, counts, subst, sym, ◌∙◌, Some, true, false, class_of, picked, step_of, TextByte, text_byte, text_rules, not, passes, row, enter, exit, consume, Data, LineEnding, TextBeforeData, DataAtBreak, Between, AutolinkStart, AutolinkOpen, AutolinkSchemeInsideOrEmailAtext, AutolinkUrlInside, CharacterEscapeStart, CharacterEscapeInside, text_before_data_rows, data_at_break_rows, autolink_open_rows, autolink_scheme_rows, autolink_url_rows, escape_start_rows, escape_inside_rows}
 use Rattle.mdconstructs_text.specs.AutolinkRows.{autolink_start_rows}
 use Rattle.markdown_base.specs.declared.event.Name.{Name as EventName}
 use Rattle.mdconstructs_machines.proofs.LineReads.Steps.{held}
-use Rattle.mdconstructs_text.proofs.Texts.Leads.{Ending, EndsWith as step_ends, Leads as step_leads, leads-called as step-called, leads-fed as step-fed, leads-nok as step-nok, leads-ok as step-ok}
+use Rattle.mdconstructs_text.proofs.Texts.Leads.{Ending, EndsWith as step_ends, Leads as step_leads, as_asked}
 use Rattle.mdconstructs_machines.proofs.LineReads.Rows.{row_step}
 
 -- the step of the machine
@@ -58,9 +59,6 @@ module _ (g : Given) (text : Text) where
   abbrev pub before_class : ℕ → Option TextByte
   before_class p = class_of text_byte (byte_of (seat_before text p))
 
-  abbrev pub waiting_class : ℕ → Option TextByte
-  waiting_class p = class_of text_byte (byte_of (slice_get text.seats p))
-
   -- of two rows one is picked by a test
   pub tested : (test : Given → Sight → Configuration Unit Unit → Bool) (a b : Rows Unit Unit) (k : Configuration Unit Unit) (t : Bool) → test g (sight g text k) (with_local k (counts k.local)) ≡ t
       → row_step g text k (when test a b) ≡ row_step g text k (cond t a b)
@@ -71,26 +69,21 @@ module _ (g : Given) (text : Text) (m : Plays g text) where
   -- a call, a byte or the end that is fed, and a choice that ends
   pub leads-called : (k : Configuration Unit Unit) (cs : List Choice) (n : Name)
       → let s = m.step (sight g text k) k n in Leads g text m k cs (Retry n) s.configuration (s.choices ++ cs) s.answer
-  leads-called k cs n e h = step-called g text m.step k cs n e h
+  leads-called k cs n e h = step-called as_asked g text m.step k cs n e h
 
   pub leads-fed : (k : Configuration Unit Unit) (cs : List Choice) (n : Name) → Leads g text m k cs (Next n) (fed text k) cs (Retry n)
-  leads-fed k cs n e h = step-fed g text m.step k cs n e h
+  leads-fed k cs n e h = step-fed as_asked g text m.step k cs n e h
 
   pub leads-ok : (k : Configuration Unit Unit) (c : Choice) (cs : List Choice) → Leads g text m k (c ∷ cs) Ok (settled_at c.kind c.saved Ok k) cs c.ok
-  leads-ok k c cs e h = step-ok g text m.step k c cs e h
+  leads-ok k c cs e h = step-ok as_asked g text m.step k c cs e h
 
   pub leads-nok : (k : Configuration Unit Unit) (c : Choice) (cs : List Choice) → Leads g text m k (c ∷ cs) Nok (settled_at c.kind c.saved Nok k) cs c.nok
-  leads-nok k c cs e h = step-nok g text m.step k c cs e h
+  leads-nok k c cs e h = step-nok as_asked g text m.step k c cs e h
 
   -- if a byte is left, it is fed
   pub fed-is : (p : ℕ) (ended : Bool) (events : List Event) (stack : List EventName) (local : Local Unit Unit) → p < length text.seats
       → fed text (held stack p Nothing ended events local) ≡ held stack p Byte ended events local
   fed-is p ended events stack local h = ap (λ b. cond b (held stack p Byte ended events local) (held stack p End true events local)) (lt-ltb p (length text.seats) h)
-
-  pub leads-byte : {s : Seat} (stack : List EventName) (p : ℕ) (ended : Bool) (events : List Event) (local : Local Unit Unit) (cs : List Choice) (n : Name) → slice_get text.seats p ≡ Some s
-      → Leads g text m (held stack p Nothing ended events local) cs (Next n) (held stack p Byte ended events local) cs (Retry n)
-  leads-byte {s} stack p ended events local cs n at es h =
-      leads-fed (held stack p Nothing ended events local) cs n es (subst (λ k. EndsWith g text m k cs (Retry n) es) (sym (fed-is p ended events stack local (slice_get_within text.seats p s at))) h)
 
   -- reading on from the step of these rows
   abbrev pub WithRows : Configuration Unit Unit → List Choice → Ending → Rows Unit Unit → Type 0
