@@ -28,7 +28,7 @@ pub use Rattle.markdown_base.specs.declared.state.Name.{Name}
 pub use Rattle.markdown_base.specs.declared.state.State.{State}
 pub use Rattle.markdown_base.specs.declared.state.State.TheVariants.{Next, Nok, Ok, Retry}
 pub use Rattle.markdown_base.specs.declared.state.TheConstants.Name.{AutolinkEmailAtSignOrDot, AutolinkEmailAtext, AutolinkEmailLabel, AutolinkEmailValue, CharacterReferenceNumeric, CharacterReferenceOpen, CharacterReferenceStart, CharacterReferenceValue as ReferenceValue, HardBreakEscapeAfter, HardBreakEscapeStart, HtmlTextCdataOpenInside, HtmlTextCommentOpenInside, HtmlTextDeclarationOpen, HtmlTextEnd, HtmlTextLineEndingAfter, HtmlTextLineEndingAfterPrefix, HtmlTextOpen, HtmlTextStart, HtmlTextTagClose, HtmlTextTagCloseBetween, HtmlTextTagCloseStart, HtmlTextTagOpen, HtmlTextTagOpenAttributeName, HtmlTextTagOpenAttributeNameAfter, HtmlTextTagOpenAttributeValueBefore, HtmlTextTagOpenAttributeValueQuoted, HtmlTextTagOpenAttributeValueQuotedAfter, HtmlTextTagOpenAttributeValueUnquoted, HtmlTextTagOpenBetween, RawTextBetween, RawTextStart, SpaceOrTabInside, SpaceOrTabStart}
-pub use Rattle.markdown_children.proofs.Parts.Weaves.{get-dropped}
+pub use Rattle.markdown_base.proofs.Facts.Lists.{get-dropped}
 pub use Rattle.markdown_tokenizer.proofs.Positions.Seats.{drop-first}
 pub use Rattle.markdown_tokenizer.proofs.Positions.Standing.{shown-upto}
 pub use Rattle.markdown_tokenizer.proofs.Positions.TextOrder.{AreInOrder, Follows, IsGood, text-order}
@@ -39,13 +39,13 @@ pub use Rattle.markdown_tokenizer.specs.Text.{Given, IsText, Text, empty_text, f
 pub use Rattle.markdown_tokenizer.specs.declared.tokenizer.state.ContainerState.{ContainerState}
 pub use Rattle.markdown_tokenizer.specs.declared.waiting.Waits.{Waits}
 pub use Rattle.markdown_tokenizer.specs.declared.waiting.Waits.TheVariants.{Byte, End, Nothing}
-pub use Rattle.mdconstructs_inline_constructs.specs.Email.{before_first, between_dots, email, email_at, email_with, is_at_sign, is_atext, is_domain, is_domain_byte, is_dot, is_hyphen, is_label, is_label_byte}
+pub use Rattle.mdconstructs_inline_constructs.specs.Email.{before_first, between_dots, email, email_at, email_with, is_at_sign, is_atext, is_domain, is_domain_byte, is_dot, is_hyphen, is_domain_label, is_label_byte}
 pub use Rattle.mdconstructs_inline_constructs.specs.EmailRows.{domain_ends, email_atext_rows, email_label, email_label_rows, email_start, email_start_rows, email_value_rows, emails, label_end_rows, label_ends, label_goes_on, label_has_hyphen, label_rows, name_ends, name_goes_on}
 pub use Rattle.mdconstructs_inline_constructs.specs.HardBreak.{break_escape_at, hard_break_escape, hard_break_trailing, trailing_break_at}
 pub use Rattle.mdconstructs_inline_constructs.specs.HardBreakRows.{break_escape_after_rows, break_escape_start_rows, break_escapes, space_waits, trailing_after_first_rows, trailing_after_more_rows, trailing_breaks, trailing_start_rows}
-pub use Rattle.mdconstructs_inline_constructs.specs.HtmlMarked.{and_before, begins_with, either_there, html_mark_grammar, marked, through}
+pub use Rattle.mdconstructs_inline_constructs.specs.HtmlMarked.{and_before, starts_with, either_there, html_mark_grammar, marked, through}
 pub use Rattle.mdconstructs_inline_constructs.specs.HtmlMarkedRows.{cdata_open_rows, closed_by, comment_open_rows, declaration_open_rows, ends_cdata_mark, html_marks, in_cdata_mark, in_mark, look_rows, mark_begun, mark_ends, mark_fails, mark_inside_rows, mark_line_ends, mark_line_rows, mark_open_rows, mark_start_rows, mark_white_rows, no_cdata, no_comment, no_declaration, no_instruction, none_upto, stopped_at}
-pub use Rattle.mdconstructs_inline_constructs.specs.HtmlTag.{begins_attribute_name, behind, behind_attribute, behind_attributes, behind_closing, behind_one, behind_opening, behind_quote, behind_tag, behind_value, html_tag_grammar, is_attribute_name_byte, is_double_quote, is_equals_sign, is_single_quote, is_slash, is_tag_name_byte, is_tag_white, is_unquoted, tag_length}
+pub use Rattle.mdconstructs_inline_constructs.specs.HtmlTag.{begins_attribute_name, behind, past_attribute, behind_attributes, behind_closing, behind_one, behind_opening, past_quote, behind_tag, past_value, html_tag_grammar, is_attribute_name_byte, is_double_quote, is_equals_sign, is_single_quote, is_slash, is_tag_name_byte, is_tag_white, is_unquoted, tag_length}
 pub use Rattle.mdconstructs_inline_constructs.specs.HtmlTagRows.{html_tags, html_text_attribute_name_after_rows, html_text_attribute_name_rows, html_text_end_rows, html_text_open_rows, html_text_start_rows, html_text_tag_close_between_rows, html_text_tag_close_rows, html_text_tag_close_start_rows, html_text_tag_open_between_rows, html_text_tag_open_rows, html_text_value_before_rows, html_text_value_quoted_after_rows, html_text_value_quoted_rows, html_text_value_unquoted_rows, quote_is, quote_waits}
 pub use Rattle.mdconstructs_inline_constructs.specs.HtmlText.{Piece, data_run, has_blank_line, html, html_of, line_break, piece_at, piece_events, piece_length}
 pub use Rattle.mdconstructs_inline_constructs.specs.HtmlTextRows.{CanEndHtml, CanEndHtmlLine, follows_line_ending, html_ends, html_following, html_goes_on, html_is_on, html_line_begins, html_line_ending_after_prefix_rows, html_line_ending_after_rows, html_line_ends, html_rows, html_state, is_following, no_html, sees}
@@ -56,6 +56,7 @@ pub use Rattle.mdconstructs_inline_constructs.specs.WhiteSpace.{is_white_left, w
 pub use Rattle.mdconstructs_inline_constructs.specs.WhiteSpaceRows.{is_white_class, white_inside_rows, white_spaces, white_start_rows}
 pub use Rattle.mdconstructs_inline_constructs.specs.declared.names.TheConstants.{HardBreakTrailingAfterFirst, HardBreakTrailingAfterMore, HardBreakTrailingStart, HtmlTextMarkInside, HtmlTextMarkLine, HtmlTextMarkOpen, HtmlTextMarkStart, HtmlTextMarkWhite}
 pub use Rattle.mdconstructs_machines.proofs.LineReads.Rows.{row_step}
+pub use Rattle.mdconstructs_machines.proofs.LineReads.Onward.{leads-step}
 pub use Rattle.mdconstructs_machines.proofs.LineReads.Steps.{at-front, held, place-behind}
 pub use Rattle.mdconstructs_machines.specs.Breaks.{is_white}
 pub use Rattle.mdconstructs_machines.specs.Tables.{counts}
@@ -70,7 +71,7 @@ pub use Rattle.mdconstructs_tables.specs.RowInvariant.{DoesAll, IsCallable}
 pub use Rattle.mdconstructs_tables.specs.RowTest.{allows_all, start_shape}
 pub use Rattle.mdconstructs_tables.specs.Rows.{Act, Row, Rows, class_of, consume, enter, exit, picked, row, shown_sight, step_of, when, write, writes}
 pub use Rattle.mdconstructs_text.proofs.Autolinks.Bytes.{autolinks-apart}
-pub use Rattle.mdconstructs_text.proofs.Autolinks.Calls.{after-sized, allowed-upto, byte-within, link_calls, looked-once}
+pub use Rattle.mdconstructs_text.proofs.Autolinks.Calls.{allowed-upto, byte-within, link_calls, looked-once}
 pub use Rattle.mdconstructs_text.proofs.Autolinks.Events.{IsJoined}
 pub use Rattle.mdconstructs_text.proofs.Autolinks.Places.{text-joined}
 pub use Rattle.mdconstructs_text.proofs.CodeSpans.Items.{Ends}
@@ -90,9 +91,9 @@ pub use Rattle.mdconstructs_text.proofs.Plain.Items.{DecidesIn, ReadsIn, TriedIn
 pub use Rattle.mdconstructs_text.proofs.Plain.Passed.{after-passed}
 pub use Rattle.mdconstructs_text.proofs.Plain.Stretches.{byte-behind, end-behind, first_byte, goes-next, is_end, leaf-read, loops, passed, past, past-at, past-stops, shows, waits_at}
 pub use Rattle.mdconstructs_text.proofs.Texts.Built.{IsBuilt, IsKeptBySpans, flat-built, three}
-pub use Rattle.mdconstructs_text.proofs.Texts.Counted.{IsAfter, Remembered, after-call, after-more, after-within, remembered}
+pub use Rattle.mdconstructs_text.proofs.Texts.Counted.{IsAfter, Remembered, after-call, after-more, after-sized, after-within, remembered}
 pub use Rattle.mdconstructs_text.proofs.Texts.Cutting.{cut-enough, drop-less}
-pub use Rattle.mdconstructs_text.proofs.Texts.Leads.{Ending, goes-next as next-fed, leads-step, spent}
+pub use Rattle.mdconstructs_text.proofs.Texts.Leads.{Ending, as_asked, goes-next as next-fed, spent}
 pub use Rattle.mdconstructs_text.proofs.Texts.Reads.{ReadsPart}
 pub use Rattle.mdconstructs_text.proofs.Texts.Steps.{EndsWith, HasRow, HasRows, Leads, Plays, before_class, between_items, leads-ok, leads-row, leads-seen, leads-tested, tested}
 pub use Rattle.mdconstructs_text.specs.Autolink.{is_allowed}

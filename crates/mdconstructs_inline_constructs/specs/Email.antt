@@ -46,8 +46,8 @@ abbrev pub label_size_max : ℕ
 label_size_max = 63
 
 -- Label: 1 to 63 of these characters; the first and the last is an ASCII letter or digit
-abbrev pub is_label : List ℕ → Bool
-is_label name =
+abbrev pub is_domain_label : List ℕ → Bool
+is_domain_label name =
     nat_le (length name) label_size_max && (has_byte_at name 0 is_ascii_alphanumeric && (ends_with name is_ascii_alphanumeric && list_all is_label_byte name))
 
 -- a byte put before the first of some pieces
@@ -62,7 +62,7 @@ between_dots (b ∷ bs) = cond (is_dot b) ([] ∷ between_dots bs) (before_first
 
 -- Domain: one or more labels with dots between them
 abbrev pub is_domain : List ℕ → Bool
-is_domain text = list_all is_label (between_dots text)
+is_domain text = list_all is_domain_label (between_dots text)
 
 -- an email autolink around an address with so many bytes before `@`: a domain follows that, and `>` the domain
 abbrev pub email_with : List ℕ → (before : ℕ) → Option Found

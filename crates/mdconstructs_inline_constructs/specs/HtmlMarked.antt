@@ -6,10 +6,10 @@ use Rattle.mdconstructs_text.specs.Construct.{Found, Grammar}
 use Rattle.mdconstructs_inline_constructs.specs.HtmlText.{html_of}
 
 -- a text begins with these bytes
-abbrev pub begins_with : List ℕ → List ℕ → Bool
-begins_with [] text = true
-begins_with (m ∷ ms) [] = false
-begins_with (m ∷ ms) (b ∷ bs) = (b == m) && begins_with ms bs
+abbrev pub starts_with : List ℕ → List ℕ → Bool
+starts_with [] text = true
+starts_with (m ∷ ms) [] = false
+starts_with (m ∷ ms) (b ∷ bs) = (b == m) && starts_with ms bs
 
 -- so many bytes more, if there are some
 abbrev pub and_before : ℕ → Option ℕ → Option ℕ
@@ -19,15 +19,15 @@ and_before n (Some k) = Some (n + k)
 -- how many bytes come up to the end of the first mark, if there is one
 abbrev pub through : (mark : List ℕ) → List ℕ → Option ℕ
 through mark [] = None
-through mark (b ∷ bs) = cond (begins_with mark (b ∷ bs)) (Some (length mark)) (and_before 1 (through mark bs))
+through mark (b ∷ bs) = cond (starts_with mark (b ∷ bs)) (Some (length mark)) (and_before 1 (through mark bs))
 
 -- from an opening mark at the front through the first closing mark behind it
 abbrev pub between_marks : (opening closing : List ℕ) → List ℕ → Option ℕ
-between_marks opening closing text = cond (begins_with opening text) (and_before (length opening) (through closing (drop (length opening) text))) None
+between_marks opening closing text = cond (starts_with opening text) (and_before (length opening) (through closing (drop (length opening) text))) None
 
 -- Comment: `<!-->`, `<!--->`, or `<!--` through the first `-->` behind it; how many bytes it has
 abbrev pub comment : List ℕ → Option ℕ
-comment text = cond (begins_with (codes "<!-->") text) (Some 5) (cond (begins_with (codes "<!--->") text) (Some 6) (between_marks (codes "<!--") (codes "-->") text))
+comment text = cond (starts_with (codes "<!-->") text) (Some 5) (cond (starts_with (codes "<!--->") text) (Some 6) (between_marks (codes "<!--") (codes "-->") text))
 
 -- Processing instruction: `<?` through the first `?>` behind it
 abbrev pub instruction : List ℕ → Option ℕ

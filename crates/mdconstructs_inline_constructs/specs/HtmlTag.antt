@@ -55,20 +55,20 @@ abbrev pub behind_tag_name : List ℕ → Option (List ℕ)
 behind_tag_name t = cond (has_byte_at t 0 is_ascii_alphabetic) (Some (behind is_tag_name_byte t)) None
 
 -- Attribute value: bytes with no quotes, one at least; or any bytes up to the next quotation mark, in two of these
-abbrev pub behind_quote : (quote : ℕ) → List ℕ → Option (List ℕ)
-behind_quote quote t = behind_one (λ b. b == quote) (behind (λ b. not (b == quote)) t)
+abbrev pub past_quote : (quote : ℕ) → List ℕ → Option (List ℕ)
+past_quote quote t = behind_one (λ b. b == quote) (behind (λ b. not (b == quote)) t)
 
-abbrev pub behind_value : List ℕ → Option (List ℕ)
-behind_value t =
-    cond (has_byte_at t 0 is_double_quote) (behind_quote 34 (drop 1 t))
-    (cond (has_byte_at t 0 is_single_quote) (behind_quote 39 (drop 1 t)) (cond (has_byte_at t 0 is_unquoted) (Some (behind is_unquoted t)) None))
+abbrev pub past_value : List ℕ → Option (List ℕ)
+past_value t =
+    cond (has_byte_at t 0 is_double_quote) (past_quote 34 (drop 1 t))
+    (cond (has_byte_at t 0 is_single_quote) (past_quote 39 (drop 1 t)) (cond (has_byte_at t 0 is_unquoted) (Some (behind is_unquoted t)) None))
 
 -- Attribute: its name, and maybe `=` and a value, each with white space before it or with none
-abbrev pub behind_attribute : List ℕ → Option (List ℕ)
-behind_attribute t =
+abbrev pub past_attribute : List ℕ → Option (List ℕ)
+past_attribute t =
     let rest = behind is_attribute_name_byte t in
     let more = behind is_tag_white rest in
-    cond (has_byte_at t 0 begins_attribute_name) (cond (has_byte_at more 0 is_equals_sign) (behind_value (behind is_tag_white (drop 1 more))) (Some rest)) None
+    cond (has_byte_at t 0 begins_attribute_name) (cond (has_byte_at more 0 is_equals_sign) (past_value (behind is_tag_white (drop 1 more))) (Some rest)) None
 
 -- Behind the name of an opening tag, with this many attributes at most: attributes, with white space before each; white space or none, maybe `/`, and `>`
 abbrev pub behind_attributes : (bound : ℕ) → List ℕ → Option (List ℕ)
@@ -77,7 +77,7 @@ behind_attributes (suc bound) t =
     let more = behind is_tag_white t in
     cond (has_byte_at more 0 is_slash) (behind_one is_greater_than (drop 1 more))
     (cond (has_byte_at more 0 is_greater_than) (Some (drop 1 more))
-    (cond (has_byte_at t 0 is_tag_white) (option_and_then (behind_attributes bound) (behind_attribute more)) None))
+    (cond (has_byte_at t 0 is_tag_white) (option_and_then (behind_attributes bound) (past_attribute more)) None))
 
 -- Opening tag, from its name on
 abbrev pub behind_opening : List ℕ → Option (List ℕ)

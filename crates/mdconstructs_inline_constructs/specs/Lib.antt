@@ -13,4 +13,3 @@ pub mod ReferenceRows
 pub mod RememberedCode
 pub mod WhiteSpace
 pub mod WhiteSpaceRows
-pub mod Laws

@@ -1,5 +1,6 @@
 -- Domains, read byte by byte: labels with dots between them, up to `>`.
-use Rattle.mdconstructs_inline_constructs.proofs.Prelude.{before_first, between_dots, is_domain_byte, is_dot, is_hyphen, is_label, is_label_byte, ends_with, has_byte_at, is_greater_than, Bool, List, None, Option, Some, [], ap, arith, cond, false, inl, inr, length, length-append, nat_le, nat_lt, not, refl, suc, sym, take, true, ℕ, ◌&&◌, ◌++◌, ◌+◌, ◌<◌, ◌||◌, ◌∙◌, ◌∷◌, ◌≡◌, ◌≤◌, and-false, and-true, and_parts, cases_lt, le-leb, le-ltb, lt-leb, lt-ltb, nat_tests, append-nil, append_assoc, is_ascii_alphanumeric, list_all, prefix_len}
+use Rattle.markdown_base.proofs.Facts.Bools.{cond-same}
+use Rattle.mdconstructs_inline_constructs.proofs.Prelude.{before_first, between_dots, is_domain_byte, is_dot, is_hyphen, is_domain_label, is_label_byte, ends_with, has_byte_at, is_greater_than, Bool, List, None, Option, Some, [], ap, arith, cond, false, inl, inr, length, length-append, nat_le, nat_lt, not, refl, suc, sym, take, true, ℕ, ◌&&◌, ◌++◌, ◌+◌, ◌<◌, ◌||◌, ◌∙◌, ◌∷◌, ◌≡◌, ◌≤◌, and-false, and-true, and_parts, cases_lt, le-leb, le-ltb, lt-leb, lt-ltb, nat_tests, append-nil, append_assoc, is_ascii_alphanumeric, list_all, prefix_len}
 
 -- what is read is one more
 abbrev pub more : Option ℕ → Option ℕ
@@ -31,7 +32,7 @@ pub record IsBegun (hyphen : Bool) (n : ℕ) (read : List ℕ) : Type 0 where
 -- what is said of the rest of the text
 abbrev pub rest_is : List ℕ → List ℕ → Option ℕ
 rest_is read text =
-    let d = prefix_len is_domain_byte text in cond (list_all is_label (before_pieces read (between_dots (take d text))) && has_byte_at text d is_greater_than) (Some d) None
+    let d = prefix_len is_domain_byte text in cond (list_all is_domain_label (before_pieces read (between_dots (take d text))) && has_byte_at text d is_greater_than) (Some d) None
 
 pub none-begun : IsBegun false 0 []
 none-begun = record { sized = refl; fits = omega arith; bytes = refl; first = λ h. absurd (omega (arith, h)); last = λ h. absurd (omega (arith, h)); some = λ h. absurd (cc) }
@@ -84,7 +85,7 @@ pieces-some (b ∷ bs) = elim (is_dot b) as (λ t. before_pieces [] (cond t ([] 
 ]
 
 -- what was read is a label if it is no more than begun, and does not end with `-`
-is-label : (hyphen : Bool) (n : ℕ) (read : List ℕ) → IsBegun hyphen n read → is_label read ≡ (nat_lt 0 n && not hyphen)
+is-label : (hyphen : Bool) (n : ℕ) (read : List ℕ) → IsBegun hyphen n read → is_domain_label read ≡ (nat_lt 0 n && not hyphen)
 is-label hyphen n [] begun = ap (λ k. nat_lt 0 k && not hyphen) begun.sized
 is-label hyphen n (x ∷ xs) begun =
     let read = x ∷ xs in
@@ -94,16 +95,16 @@ is-label hyphen n (x ∷ xs) begun =
     ∙ and-true (not hyphen) ∙ ap (λ t. t && not hyphen) (sym (lt-ltb 0 n some))
 
 -- a label that is too long, or begins with `-`, is none, whatever comes
-too-long : (read rest : List ℕ) → 63 < length read → is_label (read ++ rest) ≡ false
+too-long : (read rest : List ℕ) → 63 < length read → is_domain_label (read ++ rest) ≡ false
 too-long read rest h =
     let long : nat_le (length (read ++ rest)) 63 ≡ false = lt-leb (length (read ++ rest)) 63 (omega (arith, h, length-append read rest)) in
     ap (λ t. t && (has_byte_at (read ++ rest) 0 is_ascii_alphanumeric && (ends_with (read ++ rest) is_ascii_alphanumeric && list_all is_label_byte (read ++ rest)))) long
 
-no-pieces : (read : List ℕ) (pieces : List (List ℕ)) → ((rest : List ℕ) → is_label (read ++ rest) ≡ false) → list_all is_label (before_pieces read pieces) ≡ false
-no-pieces read [] h = ap (λ t. t && true) (ap is_label (sym (append-nil read)) ∙ h [])
-no-pieces read (piece ∷ pieces) h = ap (λ t. t && list_all is_label pieces) (h piece)
+no-pieces : (read : List ℕ) (pieces : List (List ℕ)) → ((rest : List ℕ) → is_domain_label (read ++ rest) ≡ false) → list_all is_domain_label (before_pieces read pieces) ≡ false
+no-pieces read [] h = ap (λ t. t && true) (ap is_domain_label (sym (append-nil read)) ∙ h [])
+no-pieces read (piece ∷ pieces) h = ap (λ t. t && list_all is_domain_label pieces) (h piece)
 
-begins-badly : (b : ℕ) (rest : List ℕ) → is_ascii_alphanumeric b ≡ false → is_label (b ∷ rest) ≡ false
+begins-badly : (b : ℕ) (rest : List ℕ) → is_ascii_alphanumeric b ≡ false → is_domain_label (b ∷ rest) ≡ false
 begins-badly b rest h =
     ap (λ t. nat_le (length (b ∷ rest)) 63 && (t && (ends_with (b ∷ rest) is_ascii_alphanumeric && list_all is_label_byte (b ∷ rest)))) h ∙ and-false (nat_le (length (b ∷ rest)) 63)
 
@@ -128,10 +129,10 @@ at-label-byte read b bs label other =
     let pieces : between_dots (take (1 + d) (b ∷ bs)) ≡ before_first b (between_dots (take d bs)) =
     ap (λ n. between_dots (take n (b ∷ bs))) one ∙ ap (λ t. cond t ([] ∷ between_dots (take d bs)) (before_first b (between_dots (take d bs)))) other in
     let last : has_byte_at (b ∷ bs) (1 + d) is_greater_than ≡ has_byte_at bs d is_greater_than = ap (λ n. has_byte_at (b ∷ bs) n is_greater_than) one in
-    ap (λ t. let n = cond t (1 + d) 0 in cond (list_all is_label (before_pieces read (between_dots (take n (b ∷ bs)))) && has_byte_at (b ∷ bs) n is_greater_than) (Some n) None) domain
-    ∙ (λ i. cond (list_all is_label (before_pieces read (pieces i)) && last i) (Some (1 + d)) None)
-    ∙ ap (λ ps. cond (list_all is_label ps && has_byte_at bs d is_greater_than) (Some (1 + d)) None) (pieces-moved read b (between_dots (take d bs)))
-    ∙ sym (more-there (list_all is_label (before_pieces (read ++ b ∷ []) (between_dots (take d bs))) && has_byte_at bs d is_greater_than) d)
+    ap (λ t. let n = cond t (1 + d) 0 in cond (list_all is_domain_label (before_pieces read (between_dots (take n (b ∷ bs)))) && has_byte_at (b ∷ bs) n is_greater_than) (Some n) None) domain
+    ∙ (λ i. cond (list_all is_domain_label (before_pieces read (pieces i)) && last i) (Some (1 + d)) None)
+    ∙ ap (λ ps. cond (list_all is_domain_label ps && has_byte_at bs d is_greater_than) (Some (1 + d)) None) (pieces-moved read b (between_dots (take d bs)))
+    ∙ sym (more-there (list_all is_domain_label (before_pieces (read ++ b ∷ []) (between_dots (take d bs))) && has_byte_at bs d is_greater_than) d)
 
 at-dot : (hyphen : Bool) (n : ℕ) (read : List ℕ) (b : ℕ) (bs : List ℕ) → IsBegun hyphen n read → is_dot b ≡ true → rest_is read (b ∷ bs) ≡ cond (nat_lt 0 n && not hyphen) (more (rest_is [] bs)) None
 at-dot hyphen n read b bs begun dot =
@@ -141,15 +142,15 @@ at-dot hyphen n read b bs begun dot =
     let pieces : between_dots (take (1 + d) (b ∷ bs)) ≡ [] ∷ between_dots (take d bs) =
     ap (λ n. between_dots (take n (b ∷ bs))) one ∙ ap (λ t. cond t ([] ∷ between_dots (take d bs)) (before_first b (between_dots (take d bs)))) dot in
     let last : has_byte_at (b ∷ bs) (1 + d) is_greater_than ≡ has_byte_at bs d is_greater_than = ap (λ n. has_byte_at (b ∷ bs) n is_greater_than) one in
-    let others = list_all is_label (between_dots (take d bs)) in
-    let first : is_label (read ++ []) ≡ (nat_lt 0 n && not hyphen) = ap is_label (append-nil read) ∙ is-label hyphen n read begun in
-    ap (λ t. let n = cond t (1 + d) 0 in cond (list_all is_label (before_pieces read (between_dots (take n (b ∷ bs)))) && has_byte_at (b ∷ bs) n is_greater_than) (Some n) None) domain
-    ∙ (λ i. cond (list_all is_label (before_pieces read (pieces i)) && last i) (Some (1 + d)) None)
+    let others = list_all is_domain_label (between_dots (take d bs)) in
+    let first : is_domain_label (read ++ []) ≡ (nat_lt 0 n && not hyphen) = ap is_domain_label (append-nil read) ∙ is-label hyphen n read begun in
+    ap (λ t. let n = cond t (1 + d) 0 in cond (list_all is_domain_label (before_pieces read (between_dots (take n (b ∷ bs)))) && has_byte_at (b ∷ bs) n is_greater_than) (Some n) None) domain
+    ∙ (λ i. cond (list_all is_domain_label (before_pieces read (pieces i)) && last i) (Some (1 + d)) None)
     ∙ ap (λ t. cond ((t && others) && has_byte_at bs d is_greater_than) (Some (1 + d)) None) first
     ∙ elim (nat_lt 0 n && not hyphen) as (λ t. cond ((t && others) && has_byte_at bs d is_greater_than) (Some (1 + d)) None ≡ cond t (more (rest_is [] bs)) None) [
       | true ↦
           sym (more-there (others && has_byte_at bs d is_greater_than) d)
-          ∙ ap (λ ps. more (cond (list_all is_label ps && has_byte_at bs d is_greater_than) (Some d) None)) (sym (pieces-some (take d bs)))
+          ∙ ap (λ ps. more (cond (list_all is_domain_label ps && has_byte_at bs d is_greater_than) (Some d) None)) (sym (pieces-some (take d bs)))
       | false ↦ refl
     ]
 
@@ -158,13 +159,9 @@ at-other : (hyphen : Bool) (n : ℕ) (read : List ℕ) (b : ℕ) (bs : List ℕ)
     → rest_is read (b ∷ bs) ≡ cond ((nat_lt 0 n && not hyphen) && is_greater_than b) (Some 0) None
 at-other hyphen n read b bs begun none =
     let d = prefix_len is_domain_byte bs in
-    let first : is_label (read ++ []) ≡ (nat_lt 0 n && not hyphen) = ap is_label (append-nil read) ∙ is-label hyphen n read begun in
-    ap (λ t. let n = cond t (1 + d) 0 in cond (list_all is_label (before_pieces read (between_dots (take n (b ∷ bs)))) && has_byte_at (b ∷ bs) n is_greater_than) (Some n) None) none
-    ∙ ap (λ t. cond (t && is_greater_than b) (Some 0) None) (and-true (is_label (read ++ [])) ∙ first)
-
-nothing : (t : Bool) → cond {A = Option ℕ} t None None ≡ None
-nothing true = refl
-nothing false = refl
+    let first : is_domain_label (read ++ []) ≡ (nat_lt 0 n && not hyphen) = ap is_domain_label (append-nil read) ∙ is-label hyphen n read begun in
+    ap (λ t. let n = cond t (1 + d) 0 in cond (list_all is_domain_label (before_pieces read (between_dots (take n (b ∷ bs)))) && has_byte_at (b ∷ bs) n is_greater_than) (Some n) None) none
+    ∙ ap (λ t. cond (t && is_greater_than b) (Some 0) None) (and-true (is_domain_label (read ++ [])) ∙ first)
 
 behind-dot : (hyphen some : Bool) (o : Option ℕ) → cond hyphen None (cond some o None) ≡ cond (some && not hyphen) o None
 behind-dot true true o = refl
@@ -182,12 +179,12 @@ at-end false false false = refl
 
 -- So reading it byte by byte finds it
 pub domain-left : (hyphen : Bool) (n : ℕ) (read : List ℕ) (text : List ℕ) → IsBegun hyphen n read → left_of_domain hyphen n text ≡ rest_is read text
-domain-left hyphen n read [] begun = sym (ap (λ t. cond t (Some 0) None) (and-false (list_all is_label (before_pieces read ([] ∷ [])))))
+domain-left hyphen n read [] begun = sym (ap (λ t. cond t (Some 0) None) (and-false (list_all is_domain_label (before_pieces read ([] ∷ [])))))
 domain-left hyphen n read (b ∷ bs) begun =
     let all = λ (a y d e r z : Bool). cond (a && r) (more (left_of_domain false (n + 1) bs))
     (cond (y && (z && r)) (more (left_of_domain true (n + 1) bs)) (cond hyphen None (cond (d && z) (more (left_of_domain false 0 bs)) (cond (e && z) (Some 0) None)))) in
-    let bad : is_label_byte b ≡ true → is_dot b ≡ false → ((rest : List ℕ) → is_label ((read ++ b ∷ []) ++ rest) ≡ false) → cond hyphen None None ≡ rest_is read (b ∷ bs) =
-    λ label other bad. nothing hyphen ∙ sym (at-label-byte read b bs label other ∙ ap more (no-rest _ _ _ (no-pieces (read ++ b ∷ []) _ bad))) in
+    let bad : is_label_byte b ≡ true → is_dot b ≡ false → ((rest : List ℕ) → is_domain_label ((read ++ b ∷ []) ++ rest) ≡ false) → cond hyphen None None ≡ rest_is read (b ∷ bs) =
+    λ label other bad. cond-same hyphen None ∙ sym (at-label-byte read b bs label other ∙ ap more (no-rest _ _ _ (no-pieces (read ++ b ∷ []) _ bad))) in
     let longer : length (read ++ b ∷ []) ≡ n + 1 = omega (arith, length-append read (b ∷ []), begun.sized) in
     elim (is_ascii_alphanumeric b) as (λ t. is_ascii_alphanumeric b ≡ t → all t (is_hyphen b) (is_dot b) (is_greater_than b) (nat_lt n 63) (nat_lt 0 n) ≡ rest_is read (b ∷ bs)) [
       | true ↦ λ a.
@@ -221,7 +218,7 @@ domain-left hyphen n read (b ∷ bs) begun =
               | inr first ↦
                   ap (λ z. all false true false false (nat_lt n 63) z) (le-ltb 0 n first)
                   ∙ bad label d (λ rest.
-                  elim read as (λ xs. length xs ≡ n → is_label ((xs ++ b ∷ []) ++ rest) ≡ false) [
+                  elim read as (λ xs. length xs ≡ n → is_domain_label ((xs ++ b ∷ []) ++ rest) ≡ false) [
                     | [] ↦ λ size. begins-badly b rest a
                     | x ∷ xs ↦ λ size. absurd (omega (arith, size, first))
                   ] begun.sized)

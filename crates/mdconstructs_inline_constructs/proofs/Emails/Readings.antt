@@ -1,8 +1,8 @@
 -- Email autolinks, as a machine of texts reads them: if one is there, it is read whole, with its events; if not, what was tried leaves nothing.
-use Rattle.mdconstructs_inline_constructs.proofs.Prelude.{drop-next, Seat, Event, Autolink, AutolinkEmail, AutolinkMarker, Name, Next, Nok, Ok, Retry, AutolinkEmailAtSignOrDot, AutolinkEmailAtext, AutolinkEmailLabel, AutolinkEmailValue, with_local, Choice, Configuration, Local, Step, Sight, byte_of, sight, Given, IsText, Text, Byte, Nothing, row_step, at-front, held, counts, email, email_at, email_with, is_at_sign, is_atext, is_domain, is_domain_byte, is_dot, is_hyphen, is_label, domain_ends, email_atext_rows, email_label_rows, email_start_rows, email_value_rows, emails, label_end_rows, label_ends, label_goes_on, label_has_hyphen, label_rows, name_ends, name_goes_on, Rows, class_of, consume, enter, exit, row, when, write, after-sized, link_calls, looked-once, IsJoined, text-joined, grows_b, more-is, size_b, with_b, outer, DecidesIn, ReadsIn, TriedIn, decides-more, decides-within, puts-back, reads-of, refused, after-passed, byte-behind, first_byte, goes-next, loops, passed, past, past-at, past-stops, shows, IsAfter, after-call, ReadsPart, Ending, EndsWith, HasRow, HasRows, Plays, before_class, between_items, leads-ok, leads-row, leads-seen, tested, is_allowed, has_byte_at, is_greater_than, passes, Between, Found, bytes_of, text_byte, more_than, size_b_grows, size_b_is, Bool, List, None, Option, Some, [], ap, arith, cond, drop, false, nat_lt, refl, slice_get, subst, suc, sym, take, true, ℕ, ◌&&◌, ◌++◌, ◌+◌, ◌<◌, ◌==◌, ◌∙◌, ◌∷◌, ◌≡◌, ◌≤◌, and-false, and_parts, eqb-true, lt-ltb, ltb-true, nat_tests, drop-drop, drop-map, is_ascii_alphanumeric, list_all, prefix_len, EventName}
+use Rattle.mdconstructs_inline_constructs.proofs.Prelude.{drop-next, Seat, Event, Autolink, AutolinkEmail, AutolinkMarker, Name, Next, Nok, Ok, Retry, AutolinkEmailAtSignOrDot, AutolinkEmailAtext, AutolinkEmailLabel, AutolinkEmailValue, with_local, Choice, Configuration, Local, Step, Sight, byte_of, sight, Given, IsText, Text, Byte, Nothing, row_step, at-front, held, counts, email, email_at, email_with, is_at_sign, is_atext, is_domain, is_domain_byte, is_dot, is_hyphen, is_domain_label, domain_ends, email_atext_rows, email_label_rows, email_start_rows, email_value_rows, emails, label_end_rows, label_ends, label_goes_on, label_has_hyphen, label_rows, name_ends, name_goes_on, Rows, class_of, consume, enter, exit, row, when, write, after-sized, link_calls, looked-once, IsJoined, text-joined, grows_b, more-is, size_b, with_b, outer, DecidesIn, ReadsIn, TriedIn, decides-more, decides-within, puts-back, refused, after-passed, byte-behind, first_byte, goes-next, loops, passed, past, past-at, past-stops, shows, IsAfter, after-call, Ending, EndsWith, HasRow, HasRows, Plays, before_class, between_items, leads-ok, leads-row, leads-seen, tested, is_allowed, has_byte_at, is_greater_than, passes, Between, Found, bytes_of, text_byte, more_than, size_b_grows, size_b_is, Bool, List, None, Option, Some, [], ap, arith, cond, drop, false, nat_lt, refl, slice_get, subst, suc, sym, take, true, ℕ, ◌&&◌, ◌++◌, ◌+◌, ◌<◌, ◌==◌, ◌∙◌, ◌∷◌, ◌≡◌, ◌≤◌, and-false, and_parts, eqb-true, lt-ltb, ltb-true, nat_tests, drop-drop, drop-map, is_ascii_alphanumeric, list_all, prefix_len, EventName}
 use Rattle.mdconstructs_inline_constructs.proofs.Emails.Calls.{alphanumeric-allowed, at-sign-allowed, atext-allowed, dot-allowed, hyphen-allowed}
 use Rattle.mdconstructs_inline_constructs.proofs.Emails.Domains.{domain-left, left_of_domain, more, none-begun, pieces-some}
-use Rattle.mdconstructs_inline_constructs.proofs.Emails.Events.{begun-kept, begun_email, email-events, ended_email}
+use Rattle.mdconstructs_text.proofs.Autolinks.Events.{begun_marked, ended_marked, marked-events, marked-front}
 
 -- A machine that reads email autolinks: at the names of their states it does what their rows say
 pub record PlaysEmails (g : Given) (text : Text) (m : Plays g text) : Type 0 where
@@ -76,7 +76,7 @@ email-is b bs n =
     let there = λ (t : Bool). cond t (Some (email (n + 1 + d))) None in
     let ends = is_domain (take d domain) && has_byte_at domain d is_greater_than in
     let left : left_of_domain false 0 domain ≡ cond ends (Some d) None =
-    domain-left false 0 [] domain none-begun ∙ ap (λ ps. cond (list_all is_label ps && has_byte_at domain d is_greater_than) (Some d) None) (pieces-some (take d domain)) in
+    domain-left false 0 [] domain none-begun ∙ ap (λ ps. cond (list_all is_domain_label ps && has_byte_at domain d is_greater_than) (Some d) None) (pieces-some (take d domain)) in
     (λ i. let l = drop (two i) (b ∷ bs) in let e = prefix_len is_domain_byte l in
     cond (nat_lt 0 n && (has_byte_at (b ∷ bs) (one i) is_at_sign && (is_domain (take e l) && has_byte_at l e is_greater_than))) (Some (email (n + 1 + e))) None)
     ∙ two-tests (nat_lt 0 n) (has_byte_at bs n is_at_sign) ends (email (n + 1 + d))
@@ -107,7 +107,7 @@ module _ (g : Given) (text : Text) (m : Plays g text) (e : PlaysEmails g text m)
   choices = outer names.home nok p ended events ∷ []
 
   abbrev in_tried : ℕ → List Seat → Local Unit Unit → Configuration Unit Unit
-  in_tried q l local = shows l email_spans q (begun_email g text events p) local
+  in_tried q l local = shows l email_spans q (begun_marked AutolinkEmail g text events p) local
 
   -- its reading is decided from a place in it, within so many calls
   abbrev IsDecided : ℕ → ℕ → List Seat → Local Unit Unit → Name → Option Found → Type 0
@@ -136,20 +136,20 @@ module _ (g : Given) (text : Text) (m : Plays g text) (e : PlaysEmails g text m)
   rejects name q l local rows has fails = in-one q l local name None (
     counts local,
     after-call local,
-    λ es h. leads-row g text m rows (in_tried q l local) choices name es has (fails es (puts-back g text m names nok p ended events (in_tried q l (counts local)) (begun-kept g text events p) es h)),
+    λ es h. leads-row g text m rows (in_tried q l local) choices name es has (fails es (puts-back g text m names nok p ended events (in_tried q l (counts local)) (marked-front AutolinkEmail g text events p) es h)),
   )
 
   -- a byte that is allowed is read, and a state follows
   goes-on : (name next : Name) (q : ℕ) (x : Seat) (xs : List Seat) (local after : Local Unit Unit) (rows : Rows Unit Unit) (o : Option Found) → drop q text.seats ≡ x ∷ xs → is_allowed x.byte ≡ true
       → IsAfter 1 local after → HasRow g text m.step (in_tried q (x ∷ xs) local) name rows
-      → ((es : Ending) → EndsWith g text m (held email_spans (q + 1) Nothing false (begun_email g text events p) after) choices (Next next) es → Goes (in_tried q (x ∷ xs) local) es rows)
+      → ((es : Ending) → EndsWith g text m (held email_spans (q + 1) Nothing false (begun_marked AutolinkEmail g text events p) after) choices (Next next) es → Goes (in_tried q (x ∷ xs) local) es rows)
       → IsDecided (calls_at xs) (q + 1) xs after next o → IsDecided (calls_at (x ∷ xs)) q (x ∷ xs) local name o
   goes-on name next q x xs local after rows o at allowed one has goes decided =
       let calls : calls_at (x ∷ xs) ≡ 1 + prefix_len is_allowed (bytes_of xs) + 1 = ap (λ t. cond t (1 + prefix_len is_allowed (bytes_of xs)) 0 + 1) allowed in
       decides-within g text m names 1 (calls_at xs) (calls_at (x ∷ xs)) nok p ended events (s ∷ r ∷ rs) (in_tried q (x ∷ xs) local) (in_tried (q + 1) xs after) choices choices (Retry name) (Retry next) o
       (omega (arith, calls)) one
       (λ es h. leads-row g text m rows (in_tried q (x ∷ xs) local) choices name es has
-      (goes es (goes-next g text m xs email_spans (q + 1) (begun_email g text events p) after choices next (drop-next text.seats q x xs at) es h)))
+      (goes es (goes-next g text m xs email_spans (q + 1) (begun_marked AutolinkEmail g text events p) after choices next (drop-next text.seats q x xs at) es h)))
       decided
 
   -- the rows of the states at a byte and at the end
@@ -173,8 +173,8 @@ module _ (g : Given) (text : Text) (m : Plays g text) (e : PlaysEmails g text m)
       → IsDecided (calls_at (x ∷ xs)) q (x ∷ xs) local name (Some (email i))
   closes q i x xs local rows name at is some has goes =
       let further : q + 1 ≡ p + (i + 2) = omega (arith, is) in
-      let made = email-events g text joined events p i s r x rs xs here plain some (ap (λ q. drop q text.seats) (sym is) ∙ at) in
-      let place : ended_email g text (begun_email g text events p) q ≡ ended_email g text (begun_email g text events p) (p + 1 + i) = ap (ended_email g text (begun_email g text events p)) is in
+      let made = marked-events AutolinkEmail g text joined events p i s r x rs xs here plain some (ap (λ q. drop q text.seats) (sym is) ∙ at) in
+      let place : ended_marked AutolinkEmail g text (begun_marked AutolinkEmail g text events p) q ≡ ended_marked AutolinkEmail g text (begun_marked AutolinkEmail g text events p) (p + 1 + i) = ap (ended_marked AutolinkEmail g text (begun_marked AutolinkEmail g text events p)) is in
       in-one q (x ∷ xs) local name (Some (email i)) (
         false,
         counts local,
@@ -182,7 +182,7 @@ module _ (g : Given) (text : Text) (m : Plays g text) (e : PlaysEmails g text m)
         λ es h.
             leads-row g text m rows (in_tried q (x ∷ xs) local) choices name es has
             (goes es
-            (leads-ok g text m (between_items (q + 1) Nothing false (ended_email g text (begun_email g text events p) q) (counts local)) (outer names.home nok p ended events) [] es
+            (leads-ok g text m (between_items (q + 1) Nothing false (ended_marked AutolinkEmail g text (begun_marked AutolinkEmail g text events p) q) (counts local)) (outer names.home nok p ended events) [] es
             (rw (place, made, further) h))),
       )
 
@@ -299,7 +299,7 @@ module _ (g : Given) (text : Text) (m : Plays g text) (e : PlaysEmails g text m)
       let q = p + 1 + n in
       let rest = past is_atext l in
       let after = passed is_atext name_read l local in
-      let begun = begun_email g text events p in
+      let begun = begun_marked AutolinkEmail g text events p in
       let behind : drop (p + 1) text.seats ≡ l = drop-next text.seats p s l here in
       let at = past-at g text m is_atext l (p + 1) q behind refl in
       let last : slice_get bs n ≡ first_byte rest = byte-behind text.seats (p + 1) n l rest behind at in
@@ -322,16 +322,16 @@ module _ (g : Given) (text : Text) (m : Plays g text) (e : PlaysEmails g text m)
 module _ (g : Given) (text : Text) (m : Plays g text) (e : PlaysEmails g text m) (names : Between) where
   -- an email autolink is tried at its marker
   tries-marker : (n n' : ℕ) (nok : Name) (p : ℕ) (ended : Bool) (events : List Event) (local : Local Unit Unit) (s : Seat) (ss : List Seat) → drop p text.seats ≡ s ∷ ss → s.byte ≡ 60 → 1 + n ≤ n' → (o : Option Found)
-      → DecidesIn g text m names n nok p ended events (s ∷ ss) (shows ss email_spans (p + 1) (begun_email g text events p) (with_b 0 (counts local))) (outer names.home nok p ended events ∷ []) (Retry AutolinkEmailAtext) o
+      → DecidesIn g text m names n nok p ended events (s ∷ ss) (shows ss email_spans (p + 1) (begun_marked AutolinkEmail g text events p) (with_b 0 (counts local))) (outer names.home nok p ended events ∷ []) (Retry AutolinkEmailAtext) o
       → TriedIn g text m names n' AutolinkEmailAtSignOrDot nok p ended events local (s ∷ ss) o
   tries-marker n n' nok p ended events local s ss here is fits o decided =
       let waits = outer names.home nok p ended events ∷ [] in
       let k = between_items p Byte ended events local in
-      decides-within g text m names 1 n n' nok p ended events (s ∷ ss) k (shows ss email_spans (p + 1) (begun_email g text events p) (with_b 0 (counts local))) waits waits (Retry AutolinkEmailAtSignOrDot)
+      decides-within g text m names 1 n n' nok p ended events (s ∷ ss) k (shows ss email_spans (p + 1) (begun_marked AutolinkEmail g text events p) (with_b 0 (counts local))) waits waits (Retry AutolinkEmailAtSignOrDot)
       (Retry AutolinkEmailAtext) o fits (after-sized 0 local)
       (λ es h.
       leads-row g text m (email_start_rows None None) k waits AutolinkEmailAtSignOrDot es (e.email_start k)
-      (goes-next g text m ss email_spans (p + 1) (begun_email g text events p) (with_b 0 (counts local)) waits AutolinkEmailAtext (drop-next text.seats p s ss here) es h))
+      (goes-next g text m ss email_spans (p + 1) (begun_marked AutolinkEmail g text events p) (with_b 0 (counts local)) waits AutolinkEmailAtext (drop-next text.seats p s ss here) es h))
       decided
 
   tries-email : IsJoined g text → (nok : Name) (p : ℕ) (ended : Bool) (events : List Event) (local : Local Unit Unit) (s : Seat) (ss : List Seat) → drop p text.seats ≡ s ∷ ss → s.byte ≡ 60
@@ -342,8 +342,8 @@ module _ (g : Given) (text : Text) (m : Plays g text) (e : PlaysEmails g text m)
       (tries-marker 1 calls nok p ended events local s [] here is (omega arith) None (
         counts (with_b 0 (counts local)),
         after-call (with_b 0 (counts local)),
-        refused g text m names email_atext_rows AutolinkEmailAtext e.email_atext nok p ended events [] email_spans (p + 1) (begun_email g text events p) (with_b 0 (counts local)) (drop-next text.seats p s [] here) refl
-            (begun-kept g text events p),
+        refused g text m names email_atext_rows AutolinkEmailAtext e.email_atext nok p ended events [] email_spans (p + 1) (begun_marked AutolinkEmail g text events p) (with_b 0 (counts local)) (drop-next text.seats p s [] here) refl
+            (marked-front AutolinkEmail g text events p),
       ))
   tries-email joined nok p ended events local s (r ∷ rs) here is =
       let calls = link_calls (bytes_of (s ∷ r ∷ rs)) in
@@ -356,6 +356,3 @@ module _ (g : Given) (text : Text) (m : Plays g text) (e : PlaysEmails g text m)
 pub emails-reads-in : (g : Given) (text : Text) (m : Plays g text) → PlaysEmails g text m → (names : Between) → IsText g text → ReadsIn g text m names link_calls emails
 emails-reads-in g text m e names is nok p ended events local s ss here first =
     tries-email g text m e names (text-joined g text is) nok p ended events local s ss here (eqb-true s.byte 60 first)
-
-pub emails-read : (g : Given) (text : Text) (m : Plays g text) → PlaysEmails g text m → (names : Between) → IsText g text → ReadsPart g text m names emails
-emails-read g text m e names is = reads-of g text m names link_calls emails (emails-reads-in g text m e names is)

@@ -1,5 +1,5 @@
 -- How a machine reads a hard break by a backslash: if a line ending follows it is read, with its event; if not, the attempt leaves nothing.
-use Rattle.mdconstructs_inline_constructs.proofs.Prelude.{◌≡◌, ℕ, ◌+◌, ◌==◌, ◌&&◌, List, [], ◌∷◌, ◌++◌, Bool, true, false, cond, Option, Some, None, refl, sym, ap, ◌∙◌, subst, arith, append_assoc, length, drop, eqb-true, take_at, slice_get, drop-next, Event, Enter, Exit, HardBreakEscape, Name, Nok, Retry, HardBreakEscapeAfter, HardBreakEscapeStart, Seat, Byte, Configuration, Local, Step, Sight, byte_of, end_place, point_or, Given, Text, at-front, counts, class_of, row, outer, after-two, ReadsIn, TriedIn, reads-of, refused, first_byte, goes-next, leaf-read, shows, ReadsPart, HasRows, Leads, Plays, before_class, between_items, leads-ok, leads-seen, is_line_feed, passes, Between, by-class, bytes_of, event, TextByte, text_byte, item_events, break_escape_at, hard_break_escape, break_escape_after_rows, break_escape_start_rows, break_escapes}
+use Rattle.mdconstructs_inline_constructs.proofs.Prelude.{◌≡◌, ℕ, ◌+◌, ◌==◌, ◌&&◌, List, [], ◌∷◌, ◌++◌, Bool, true, false, cond, Option, Some, None, refl, sym, ap, ◌∙◌, subst, arith, append_assoc, length, drop, eqb-true, take_at, slice_get, drop-next, Event, Enter, Exit, HardBreakEscape, Name, Nok, Retry, HardBreakEscapeAfter, HardBreakEscapeStart, Seat, Byte, Configuration, Local, Step, Sight, byte_of, end_place, point_or, Given, Text, at-front, counts, class_of, row, outer, after-two, ReadsIn, TriedIn, refused, first_byte, goes-next, leaf-read, shows, HasRows, Leads, Plays, before_class, between_items, leads-ok, leads-seen, is_line_feed, passes, Between, by-class, bytes_of, event, TextByte, text_byte, item_events, break_escape_at, hard_break_escape, break_escape_after_rows, break_escape_start_rows, break_escapes}
 use Rattle.mdconstructs_text.proofs.Plain.Stretches.{sees}
 use Rattle.mdconstructs_inline_constructs.proofs.HardBreaks.Calls.{break_escape_calls}
 
@@ -66,7 +66,3 @@ module _ (g : Given) (text : Text) (m : Plays g text) (w : PlaysBreakEscapes g t
 -- The theorem of hard breaks by a backslash, within so many calls
 pub break-escapes-read-in : (g : Given) (text : Text) (m : Plays g text) → PlaysBreakEscapes g text m.step → (names : Between) → ReadsIn g text m names break_escape_calls break_escapes
 break-escapes-read-in g text m w names nok p ended events local s ss here first = tries-break g text m w names nok p ended events local s (eqb-true s.byte 92 first) ss here
-
--- and within any number
-pub break-escapes-read : (g : Given) (text : Text) (m : Plays g text) → PlaysBreakEscapes g text m.step → (names : Between) → ReadsPart g text m names break_escapes
-break-escapes-read g text m w names = reads-of g text m names break_escape_calls break_escapes (break-escapes-read-in g text m w names)

@@ -1,6 +1,6 @@
 -- How a machine reads a hard break by spaces: if there are two at least, directly before a line ending, they are read, with their event; if
 -- not, the attempt leaves nothing.
-use Rattle.mdconstructs_inline_constructs.proofs.Prelude.{◌≡◌, ◌⊎◌, inl, inr, ℕ, suc, ◌+◌, ◌≤◌, ◌&&◌, List, [], ◌∷◌, ◌++◌, Bool, true, false, cond, Option, Some, None, refl, sym, ap, ◌∙◌, subst, arith, append_assoc, length, take, drop, take-length, eqb-true, le-leb, nat_tests, length-map, take_at, prefix_len-le-length, prefix_len, nat_le, slice_get, drop-next, Event, Enter, Exit, EventName, HardBreakTrailing, Name, Next, Nok, Ok, Retry, HardBreakTrailingAfterFirst, HardBreakTrailingAfterMore, HardBreakTrailingStart, Seat, Byte, Nothing, Choice, Configuration, Local, Step, Sight, byte_of, end_place, point_or, Given, Text, at-front, held, is_white, counts, Rows, class_of, exit, row, when, outer, after-two, ReadsIn, TriedIn, puts-back, reads-of, after-passed, byte-behind, first_byte, goes-next, is_end, leaf-read, loops, past, past-at, past-stops, passed, shows, IsAfter, after-call, after-more, after-within, ReadsPart, HasRows, Leads, Plays, before_class, between_items, leads-ok, leads-seen, leads-tested, has_byte_at, is_line_feed, is_space, passes, Between, by-class, bytes_of, event, leaf, TextByte, text_byte, white, hard_break_trailing, trailing_break_at, space_waits, trailing_after_first_rows, trailing_after_more_rows, trailing_breaks, trailing_start_rows}
+use Rattle.mdconstructs_inline_constructs.proofs.Prelude.{◌≡◌, ◌⊎◌, inl, inr, ℕ, suc, ◌+◌, ◌≤◌, ◌&&◌, List, [], ◌∷◌, ◌++◌, Bool, true, false, cond, Option, Some, None, refl, sym, ap, ◌∙◌, subst, arith, append_assoc, length, take, drop, take-length, eqb-true, le-leb, nat_tests, length-map, take_at, prefix_len-le-length, prefix_len, nat_le, slice_get, drop-next, Event, Enter, Exit, EventName, HardBreakTrailing, Name, Next, Nok, Ok, Retry, HardBreakTrailingAfterFirst, HardBreakTrailingAfterMore, HardBreakTrailingStart, Seat, Byte, Nothing, Choice, Configuration, Local, Step, Sight, byte_of, end_place, point_or, Given, Text, at-front, held, is_white, counts, Rows, class_of, exit, row, when, outer, after-two, ReadsIn, TriedIn, puts-back, after-passed, byte-behind, first_byte, goes-next, is_end, leaf-read, loops, past, past-at, past-stops, passed, shows, IsAfter, after-call, after-more, after-within, HasRows, Leads, Plays, before_class, between_items, leads-ok, leads-seen, leads-tested, has_byte_at, is_line_feed, is_space, passes, Between, by-class, bytes_of, event, leaf, TextByte, text_byte, white, hard_break_trailing, trailing_break_at, space_waits, trailing_after_first_rows, trailing_after_more_rows, trailing_breaks, trailing_start_rows}
 use Rattle.mdconstructs_text.proofs.Plain.Stretches.{sees}
 use Rattle.mdconstructs_inline_constructs.proofs.HardBreaks.Calls.{trailing_break_calls}
 use Rattle.mdconstructs_inline_constructs.proofs.WhiteSpaces.Classes.{white-class}
@@ -214,7 +214,3 @@ module _ (g : Given) (text : Text) (m : Plays g text) (w : PlaysTrailingBreaks g
 -- The theorem of hard breaks by spaces, within so many calls
 pub trailing-breaks-read-in : (g : Given) (text : Text) (m : Plays g text) → PlaysTrailingBreaks g text m.step → (names : Between) → ReadsIn g text m names trailing_break_calls trailing_breaks
 trailing-breaks-read-in g text m w names nok p ended events local s ss here first = tries-trailing g text m w names nok p ended events local s ss here first
-
--- and within any number
-pub trailing-breaks-read : (g : Given) (text : Text) (m : Plays g text) → PlaysTrailingBreaks g text m.step → (names : Between) → ReadsPart g text m names trailing_breaks
-trailing-breaks-read g text m w names = reads-of g text m names trailing_break_calls trailing_breaks (trailing-breaks-read-in g text m w names)

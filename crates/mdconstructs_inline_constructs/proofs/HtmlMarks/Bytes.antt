@@ -1,28 +1,25 @@
 -- Raw HTML between marks by its bytes: it begins with `<`, and is a byte at least; its events can be cut into atoms, and what spans keep holds of
 -- them.
-use Rattle.mdconstructs_inline_constructs.proofs.Prelude.{Seat, Event, and_before, begins_with, either_there, html_mark_grammar, marked, through, html_marks, html_of, autolinks-apart, IsApart, OfOption, ItemCut, IsBuilt, IsKeptBySpans, has_byte_at, Found, item_length, bytes_of, text_byte, Bool, List, None, Option, Some, ap, arith, cond, drop, false, refl, subst, sym, true, ℕ, ◌&&◌, ◌<◌, ◌==◌, ◌∙◌, ◌∷◌, ◌≡◌, is_ascii_alphabetic, codes}
+use Rattle.markdown_base.proofs.Facts.Bools.{cond-same}
+use Rattle.mdconstructs_inline_constructs.proofs.Prelude.{Seat, Event, and_before, starts_with, either_there, html_mark_grammar, marked, through, html_marks, html_of, autolinks-apart, IsApart, OfOption, ItemCut, IsBuilt, IsKeptBySpans, has_byte_at, Found, item_length, bytes_of, text_byte, List, None, Option, Some, ap, arith, cond, drop, false, refl, subst, sym, true, ℕ, ◌&&◌, ◌<◌, ◌==◌, ◌∙◌, ◌∷◌, ◌≡◌, is_ascii_alphabetic, codes}
 use Rattle.mdconstructs_inline_constructs.proofs.HtmlMarks.Places.{at_open, mark_next}
 use Rattle.mdconstructs_inline_constructs.proofs.HtmlMarks.Readings.{mark-there}
 use Rattle.mdconstructs_inline_constructs.proofs.HtmlTexts.Walks.{one_further, walk}
 use Rattle.mdconstructs_inline_constructs.proofs.HtmlTexts.Cuts.{html-cut, html-built}
 use Rattle.mdconstructs_inline_constructs.proofs.HtmlTexts.Through.{html_option}
 
-either-none : (t : Bool) → cond {A = Option ℕ} t None None ≡ None
-either-none true = refl
-either-none false = refl
-
 nowhere-else : (b : ℕ) (bs : List ℕ) → (b == 60) ≡ false → marked (b ∷ bs) ≡ None
 nowhere-else b bs h =
     let T = λ (n : ℕ) (c : List ℕ). and_before n (through c (drop n (b ∷ bs))) in
-    (λ i. either_there (cond (h i && begins_with (codes "!-->") bs) (Some 5) (cond (h i && begins_with (codes "!--->") bs) (Some 6) (cond (h i && begins_with (codes "!--") bs) (T 4 (codes "-->")) None)))
-    (either_there (cond (h i && begins_with (codes "?") bs) (T 2 (codes "?>")) None)
-    (either_there (cond (has_byte_at (b ∷ bs) 2 is_ascii_alphabetic) (cond (h i && begins_with (codes "!") bs) (T 2 (codes ">")) None) None) (cond (h i && begins_with (codes "![CDATA[") bs) (T 9 (codes "]]>")) None))))
-    ∙ ap (λ o. either_there o None) (either-none (has_byte_at (b ∷ bs) 2 is_ascii_alphabetic))
+    (λ i. either_there (cond (h i && starts_with (codes "!-->") bs) (Some 5) (cond (h i && starts_with (codes "!--->") bs) (Some 6) (cond (h i && starts_with (codes "!--") bs) (T 4 (codes "-->")) None)))
+    (either_there (cond (h i && starts_with (codes "?") bs) (T 2 (codes "?>")) None)
+    (either_there (cond (has_byte_at (b ∷ bs) 2 is_ascii_alphabetic) (cond (h i && starts_with (codes "!") bs) (T 2 (codes ">")) None) None) (cond (h i && starts_with (codes "![CDATA[") bs) (T 9 (codes "]]>")) None))))
+    ∙ ap (λ o. either_there o None) (cond-same (has_byte_at (b ∷ bs) 2 is_ascii_alphabetic) None)
 
-abbrev IsSome : Found → Type 0
+abbrev pub IsSome : Found → Type 0
 IsSome item = 0 < item_length item
 
-some-bytes : (o : Option ℕ) → OfOption IsSome (html_option (one_further o))
+pub some-bytes : (o : Option ℕ) → OfOption IsSome (html_option (one_further o))
 some-bytes None = tt
 some-bytes (Some n) = omega arith
 

@@ -1,6 +1,6 @@
 -- The closing marks of raw HTML, read byte by byte: so many of a byte, and `>`. How many of that byte are directly before is counted.
 use Rattle.mdconstructs_inline_constructs.proofs.HtmlTexts.Walks.{one_further}
-use Rattle.mdconstructs_inline_constructs.proofs.Prelude.{and_before, begins_with, through, Bool, List, None, Option, Some, [], ap, arith, cond, false, inl, inr, length, nat_le, refl, subst, suc, sym, true, zero, ℕ, ◌&&◌, ◌+◌, ◌<◌, ◌==◌, ◌∙◌, ◌∷◌, ◌≡◌, ◌≤◌, and-false, cases_lt, eqb-true, le-leb, lt-leb, codes}
+use Rattle.mdconstructs_inline_constructs.proofs.Prelude.{and_before, starts_with, through, Bool, List, None, Option, Some, [], ap, arith, cond, false, inl, inr, length, nat_le, refl, subst, suc, sym, true, zero, ℕ, ◌&&◌, ◌+◌, ◌<◌, ◌==◌, ◌∙◌, ◌∷◌, ◌≡◌, ◌≤◌, and-false, cases_lt, eqb-true, le-leb, lt-leb, codes}
 
 -- bytes with so many of one before them
 abbrev pub put : ℕ → ℕ → List ℕ → List ℕ
@@ -47,34 +47,34 @@ put-length (suc c) m = let same : suc (1 + c) ≡ 1 + suc c = omega arith in ap 
 
 module _ (m : ℕ) (other : (m == 62) ≡ false) (self : (m == m) ≡ true) where
   -- where the mark begins, and where it does not
-  begins-none : (c k : ℕ) → begins_with (mark c m) (put k m []) ≡ false
+  begins-none : (c k : ℕ) → starts_with (mark c m) (put k m []) ≡ false
   begins-none zero zero = refl
   begins-none zero (suc k) = ap (λ t. t && true) other
   begins-none (suc c) zero = refl
   begins-none (suc c) (suc k) = ap (λ t. (m == m) && t) (begins-none c k) ∙ and-false (m == m)
 
-  begins-over : (c k : ℕ) (text : List ℕ) → c < k → begins_with (mark c m) (put k m text) ≡ false
+  begins-over : (c k : ℕ) (text : List ℕ) → c < k → starts_with (mark c m) (put k m text) ≡ false
   begins-over c zero text h = absurd (omega (arith, h))
   begins-over zero (suc k) text h = ap (λ t. t && true) other
   begins-over (suc c) (suc k) text h = ap (λ t. (m == m) && t) (begins-over c k text (omega (arith, h))) ∙ and-false (m == m)
 
-  begins-under : (c k : ℕ) (b : ℕ) (bs : List ℕ) → k < c → (b == m) ≡ false → begins_with (mark c m) (put k m (b ∷ bs)) ≡ false
+  begins-under : (c k : ℕ) (b : ℕ) (bs : List ℕ) → k < c → (b == m) ≡ false → starts_with (mark c m) (put k m (b ∷ bs)) ≡ false
   begins-under zero k b bs h fails = absurd (omega (arith, h))
-  begins-under (suc c) zero b bs h fails = ap (λ t. t && begins_with (mark c m) bs) fails
+  begins-under (suc c) zero b bs h fails = ap (λ t. t && starts_with (mark c m) bs) fails
   begins-under (suc c) (suc k) b bs h fails = ap (λ t. (m == m) && t) (begins-under c k b bs (omega (arith, h)) fails) ∙ and-false (m == m)
 
-  begins-other : (c k : ℕ) (b : ℕ) (bs : List ℕ) → (b == 62) ≡ false → (b == m) ≡ false → begins_with (mark c m) (put k m (b ∷ bs)) ≡ false
+  begins-other : (c k : ℕ) (b : ℕ) (bs : List ℕ) → (b == 62) ≡ false → (b == m) ≡ false → starts_with (mark c m) (put k m (b ∷ bs)) ≡ false
   begins-other zero zero b bs last fails = ap (λ t. t && true) last
   begins-other zero (suc k) b bs last fails = ap (λ t. t && true) other
-  begins-other (suc c) zero b bs last fails = ap (λ t. t && begins_with (mark c m) bs) fails
+  begins-other (suc c) zero b bs last fails = ap (λ t. t && starts_with (mark c m) bs) fails
   begins-other (suc c) (suc k) b bs last fails = ap (λ t. (m == m) && t) (begins-other c k b bs last fails) ∙ and-false (m == m)
 
-  begins-at : (c : ℕ) (b : ℕ) (bs : List ℕ) → (b == 62) ≡ true → begins_with (mark c m) (put c m (b ∷ bs)) ≡ true
+  begins-at : (c : ℕ) (b : ℕ) (bs : List ℕ) → (b == 62) ≡ true → starts_with (mark c m) (put c m (b ∷ bs)) ≡ true
   begins-at zero b bs last = ap (λ t. t && true) last
   begins-at (suc c) b bs last = ap (λ t. (m == m) && t) (begins-at c b bs last) ∙ ap (λ t. t && true) self
 
   -- one byte further on, if it does not begin
-  through-next : (c x : ℕ) (xs : List ℕ) → begins_with (mark c m) (x ∷ xs) ≡ false → through (mark c m) (x ∷ xs) ≡ one_further (through (mark c m) xs)
+  through-next : (c x : ℕ) (xs : List ℕ) → starts_with (mark c m) (x ∷ xs) ≡ false → through (mark c m) (x ∷ xs) ≡ one_further (through (mark c m) xs)
   through-next c x xs fails = ap (λ t. cond t (Some (length (mark c m))) (and_before 1 (through (mark c m) xs))) fails ∙ one-before (through (mark c m) xs)
 
   -- no byte is left
@@ -82,7 +82,7 @@ module _ (m : ℕ) (other : (m == 62) ≡ false) (self : (m == m) ≡ true) wher
   through-none c zero = refl
   through-none c (suc k) = through-next c m (put k m []) (begins-none c (suc k)) ∙ ap one_further (through-none c k)
 
-  through-here : (c x : ℕ) (xs : List ℕ) → begins_with (mark c m) (x ∷ xs) ≡ true → through (mark c m) (x ∷ xs) ≡ Some (1 + c)
+  through-here : (c x : ℕ) (xs : List ℕ) → starts_with (mark c m) (x ∷ xs) ≡ true → through (mark c m) (x ∷ xs) ≡ Some (1 + c)
   through-here c x xs is = ap (λ t. cond t (Some (length (mark c m))) (and_before 1 (through (mark c m) xs))) is ∙ ap Some (put-length c m)
 
   -- `>` ends it, behind enough of the byte
@@ -98,7 +98,7 @@ module _ (m : ℕ) (other : (m == 62) ≡ false) (self : (m == m) ≡ true) wher
   ]
 
   -- any other byte ends nothing
-  through-on : (c n b : ℕ) (bs : List ℕ) → ((k : ℕ) → k ≤ n → begins_with (mark c m) (put k m (b ∷ bs)) ≡ false)
+  through-on : (c n b : ℕ) (bs : List ℕ) → ((k : ℕ) → k ≤ n → starts_with (mark c m) (put k m (b ∷ bs)) ≡ false)
       → through (mark c m) (put n m (b ∷ bs)) ≡ further n (one_further (through (mark c m) bs))
   through-on c zero b bs fails = through-next c b bs (fails zero (omega arith))
   through-on c (suc n) b bs fails = through-next c m (put n m (b ∷ bs)) (fails (suc n) (omega arith)) ∙ ap one_further (through-on c n b bs (λ k h. fails k (omega (arith, h))))
@@ -108,7 +108,7 @@ module _ (m : ℕ) (other : (m == 62) ≡ false) (self : (m == m) ≡ true) wher
   mark-left c [] n = through-none c n ∙ sym (further-none n)
   mark-left c (b ∷ bs) n =
       let all = λ (t u : Bool). further n (cond (t && nat_le c n) (Some 1) (one_further (left_to_mark m c (cond u (n + 1) 0) bs))) in
-      let goes : (b == m) ≡ false → ((k : ℕ) → k ≤ n → begins_with (mark c m) (put k m (b ∷ bs)) ≡ false) → through (mark c m) (put n m (b ∷ bs)) ≡ further n (one_further (left_to_mark m c 0 bs)) =
+      let goes : (b == m) ≡ false → ((k : ℕ) → k ≤ n → starts_with (mark c m) (put k m (b ∷ bs)) ≡ false) → through (mark c m) (put n m (b ∷ bs)) ≡ further n (one_further (left_to_mark m c 0 bs)) =
       λ fails none. through-on c n b bs none ∙ ap (λ o. further n (one_further o)) (mark-left c bs 0) in
       elim (b == m) as (λ t. (b == m) ≡ t → through (mark c m) (put n m (b ∷ bs)) ≡ all (b == 62) t) [
         | true ↦ λ is.
@@ -143,18 +143,18 @@ left-enough m c (b ∷ bs) n k h i =
     λ j. cond ((b == 62) && enough j) (Some 1) (one_further (rest j))
 
 -- a comment may end with `-` of its opening mark
-pub comment-left : (text : List ℕ) → left_to_mark 45 2 2 text ≡ cond (begins_with (codes ">") text) (Some 1) (cond (begins_with (codes "->") text) (Some 2) (through (codes "-->") text))
+pub comment-left : (text : List ℕ) → left_to_mark 45 2 2 text ≡ cond (starts_with (codes ">") text) (Some 1) (cond (starts_with (codes "->") text) (Some 2) (through (codes "-->") text))
 comment-left [] = refl
 comment-left (b ∷ bs) =
     let T = through (codes "-->") (b ∷ bs) in
     let first = λ (last dash : Bool). cond (last && true) (Some 1) (one_further (left_to_mark 45 2 (cond dash 3 0) bs)) in
-    let said = λ (last dash : Bool). cond (last && true) (Some 1) (cond (dash && begins_with (codes ">") bs) (Some 2) T) in
+    let said = λ (last dash : Bool). cond (last && true) (Some 1) (cond (dash && starts_with (codes ">") bs) (Some 2) T) in
     elim (b == 62) as (λ t. (b == 62) ≡ t → first t (b == 45) ≡ said t (b == 45)) [
       | true ↦ λ last. refl
       | false ↦ λ last. elim (b == 45) as (λ t. (b == 45) ≡ t → first false t ≡ said false t) [
         | true ↦ λ dash.
             let is = eqb-true b 45 dash in
-            elim bs as (λ l. one_further (left_to_mark 45 2 3 l) ≡ cond (begins_with (codes ">") l) (Some 2) (through (codes "-->") (b ∷ l))) [
+            elim bs as (λ l. one_further (left_to_mark 45 2 3 l) ≡ cond (starts_with (codes ">") l) (Some 2) (through (codes "-->") (b ∷ l))) [
               | [] ↦ sym (ap (λ x. through (codes "-->") (x ∷ [])) is)
               | d ∷ ds ↦
                   let one = ap (λ x. through (codes "-->") (x ∷ d ∷ ds)) is ∙ mark-left 45 refl refl 2 (d ∷ ds) 1 in

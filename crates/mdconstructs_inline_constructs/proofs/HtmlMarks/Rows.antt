@@ -1,5 +1,6 @@
 -- The states of raw HTML between marks do at each byte what it does at their places.
-use Rattle.mdconstructs_inline_constructs.proofs.Prelude.{HtmlTextData, SpaceOrTab, Name, Next, Nok, Retry, HtmlTextCommentOpenInside, HtmlTextDeclarationOpen, HtmlTextMarkInside, HtmlTextMarkLine, HtmlTextMarkStart, HtmlTextMarkWhite, Seat, with_local, Configuration, Local, Step, Sight, sight, byte_of, current_of, point_of, point_or, Given, Text, row_step, is_white, counts, cdata_open_rows, comment_open_rows, declaration_open_rows, ends_cdata_mark, in_cdata_mark, in_mark, look_rows, mark_begun, mark_ends, mark_fails, mark_inside_rows, mark_line_rows, mark_open_rows, mark_start_rows, mark_white_rows, closed_by, no_cdata, no_comment, no_declaration, no_instruction, none_upto, stopped_at, html_goes_on, no_html, sees, Act, Rows, class_of, consume, enter, exit, row, when, write, writes, IsAfter, Remembered, after-call, remembered, HasRow, HasRows, tested, has_byte_at, is_greater_than, passes, TextByte, line_feed, text_byte, more_than, size_b_grows, size_b_is, Bool, List, None, Option, Some, [], ap, arith, cond, false, nat_le, not, refl, slice_get, subst, suc, sym, true, zero, ℕ, ◌&&◌, ◌+◌, ◌<◌, ◌==◌, ◌∙◌, ◌∷◌, ◌≡◌, and_parts, eqb-true, lt-ltb, nat_tests, is_ascii_alphabetic, codes, nat_lt}
+use Rattle.markdown_base.proofs.Facts.Numbers.{unlike}
+use Rattle.mdconstructs_inline_constructs.proofs.Prelude.{HtmlTextData, SpaceOrTab, Name, Next, Nok, Retry, HtmlTextCommentOpenInside, HtmlTextDeclarationOpen, HtmlTextMarkInside, HtmlTextMarkLine, HtmlTextMarkStart, HtmlTextMarkWhite, Seat, with_local, Configuration, Local, Step, Sight, sight, byte_of, current_of, point_of, point_or, Given, Text, row_step, is_white, counts, cdata_open_rows, comment_open_rows, declaration_open_rows, ends_cdata_mark, in_cdata_mark, in_mark, look_rows, mark_begun, mark_ends, mark_fails, mark_inside_rows, mark_line_rows, mark_open_rows, mark_start_rows, mark_white_rows, closed_by, no_cdata, no_comment, no_declaration, no_instruction, none_upto, stopped_at, html_goes_on, no_html, sees, Act, Rows, class_of, consume, enter, exit, row, when, write, writes, IsAfter, Remembered, after-call, remembered, HasRow, HasRows, tested, has_byte_at, is_greater_than, passes, TextByte, line_feed, text_byte, more_than, size_b_grows, size_b_is, Bool, List, None, Option, Some, [], ap, arith, cond, false, nat_le, not, refl, slice_get, subst, suc, sym, true, zero, ℕ, ◌&&◌, ◌+◌, ◌<◌, ◌==◌, ◌∙◌, ◌∷◌, ◌≡◌, and_parts, eqb-true, lt-ltb, is_ascii_alphabetic, codes, nat_lt}
 use Rattle.mdconstructs_inline_constructs.proofs.HtmlMarks.Places.{Mark, MarkPlace, at_cdata, at_comment, at_declaration, at_inside, at_open, cdata-few, cdata-line, inside-line, kind_fails, mark_byte, mark_gives_up, mark_move, mark_name, mark_times, marks-go-through-lines, nothing_before, of_cdata, of_comment, of_declaration, of_instruction, opens, opens_unless}
 use Rattle.mdconstructs_inline_constructs.proofs.HtmlMarks.Picked.{look-others}
 use Rattle.mdconstructs_inline_constructs.proofs.HtmlTexts.Calls.{byte-waits}
@@ -178,9 +179,6 @@ line-rows known at_comment previous = refl
 line-rows known (at_cdata n) previous = ap line_row (sym (cdata-line known n))
 line-rows known (at_inside kind n) previous = nothing-line kind n previous ∙ ap line_row (sym (inside-line known kind n))
 
-white-plain : (b : ℕ) → is_white b ≡ true → (b == 10) ≡ false
-white-plain b h = grind (arith, nat_tests)
-
 module _ (g : Given) (text : Text) (step : Sight → Configuration Unit Unit → Name → Step Unit Unit) (m : PlaysMarks g text step) where
   abbrev Has : Configuration Unit Unit → Name → Rows Unit Unit → Type 0
   Has k name rows = HasRow g text step k name rows
@@ -310,7 +308,7 @@ module _ (g : Given) (text : Text) (step : Sight → Configuration Unit Unit →
 
     whites : (k : Configuration Unit Unit) (b : ℕ) → (sight g text k).current ≡ Some b → is_white b ≡ true → Has k n white
     whites k b waits w =
-        at-seen g text step n (look_rows mark_fails others) others k (Some b) has waits (look-others mark_fails others (class_of text_byte (sight g text k).previous) b (white-plain b w))
+        at-seen g text step n (look_rows mark_fails others) others k (Some b) has waits (look-others mark_fails others (class_of text_byte (sight g text k).previous) b (unlike is_white 10 refl b w))
         ∙ by-byte g text k is_white white (row acts (Retry HtmlTextMarkInside)) b true waits w
 
     begins : (s : MarkPlace) (k : Configuration Unit Unit) (b : ℕ) → (sight g text k).current ≡ Some b → (b == 10) ≡ false → is_white b ≡ false → FollowsMark s k.local → Has k n (row acts (Retry (mark_name s)))

@@ -1,4 +1,5 @@
 -- A line ending of a text is shown behind all bytes before it: their indices are smaller.
+use Rattle.markdown_tokenizer.proofs.Positions.Moving.{back-first}
 use Rattle.mdconstructs_inline_constructs.proofs.Prelude.{every-append, every-filter, denotes_same, follows_cr, in_range, shown, Seat, begins_with_lf, in_tab, other_byte, point, tab_width, virtual, virtual_from, drop-first, Follows, IsGood, Given, IsText, Text, empty_text, followed_by, followed_by_all, pushed, Point, AllByRecursion, filter, nat_lt, slice_index, ◌||◌, Bool, List, [], ap, arith, cond, drop, false, inl, inr, length, refl, subst, suc, sym, true, zero, ℕ, ◌&&◌, ◌++◌, ◌+◌, ◌-◌, ◌<◌, ◌==◌, ◌∙◌, ◌∷◌, ◌≡◌, ◌⊎◌, and_parts, cases_lt, eqb-true, nat_tests}
 use Rattle.markdown_base.specs.Virtual.{line_feed}
 use Rattle.markdown_tokenizer.specs.Text.{Piece, passed}
@@ -77,7 +78,7 @@ line-behind bytes s r good follows plain line feed =
     elim ((slice_index bytes i == 10) && follows_cr bytes i) as (λ t. ((slice_index bytes i == 10) && follows_cr bytes i) ≡ t
     → s.point.index < (cond t (record { line = r.point.line; column = r.point.column; index = i - 1; vs = r.point.vs }) r.point).index) [
       | true ↦ λ pair.
-          let some : 0 < i = behind-some i (and_parts (slice_index bytes i == 10) (follows_cr bytes i) pair).1 in
+          let some : 0 < i = back-first bytes i (and_parts (slice_index bytes i == 10) (follows_cr bytes i) pair).1 in
           let cr : slice_index bytes (i - 1) ≡ 13 = behind-cr i (and_parts (slice_index bytes i == 10) (follows_cr bytes i) pair).1 in
           elim (ends-upto e.index e.vs i upto) [
             | inl less ↦ elim (begins-before s.point.index s.point.vs e.index e.vs good.0) [
@@ -105,10 +106,6 @@ line-behind bytes s r good follows plain line feed =
       ]
     ] refl
   where
-    behind-some : (i : ℕ) → follows_cr bytes i ≡ true → 0 < i
-    behind-some zero h = absurd (cc)
-    behind-some (suc i) h = omega arith
-
     behind-cr : (i : ℕ) → follows_cr bytes i ≡ true → slice_index bytes (i - 1) ≡ 13
     behind-cr zero h = absurd (cc)
     behind-cr (suc i) h = let at : suc i - 1 ≡ i = omega arith in ap (slice_index bytes) at ∙ eqb-true (slice_index bytes i) 13 h

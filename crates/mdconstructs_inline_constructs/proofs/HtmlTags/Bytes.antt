@@ -1,6 +1,7 @@
 -- Tags by their bytes: they begin with `<`, and are a byte at least; their events can be cut into atoms, and what spans keep holds of them; and the
 -- calls that read one are paid by its bytes.
-use Rattle.mdconstructs_inline_constructs.proofs.Prelude.{◌≡◌, ℕ, ◌+◌, ◌*◌, ◌<◌, ◌≤◌, ◌-◌, ◌==◌, List, ◌∷◌, true, false, cond, Option, Some, None, option_map, length, drop, refl, sym, ap, subst, arith, Event, Seat, has_byte_at, Found, item_length, bytes_of, text_byte, autolinks-apart, IsApart, OfOption, ItemCut, IsKeptBySpans, IsBuilt, html_tag_grammar, tag_length, is_slash, behind_closing, behind_opening, html_tags, html_of}
+use Rattle.mdconstructs_inline_constructs.proofs.HtmlMarks.Bytes.{IsSome, some-bytes}
+use Rattle.mdconstructs_inline_constructs.proofs.Prelude.{◌≡◌, ℕ, ◌+◌, ◌*◌, ◌≤◌, ◌-◌, ◌==◌, List, ◌∷◌, true, false, cond, Option, Some, None, option_map, length, drop, refl, sym, ap, subst, arith, Event, Seat, has_byte_at, Found, item_length, bytes_of, text_byte, autolinks-apart, IsApart, OfOption, ItemCut, IsKeptBySpans, IsBuilt, html_tag_grammar, tag_length, is_slash, behind_closing, behind_opening, html_tags, html_of}
 use Rattle.mdconstructs_inline_constructs.proofs.HtmlTags.Calls.{tag_calls}
 use Rattle.mdconstructs_inline_constructs.proofs.HtmlTags.Places.{next, opened}
 use Rattle.mdconstructs_inline_constructs.proofs.HtmlTags.Readings.{tag-there}
@@ -11,13 +12,6 @@ use Rattle.mdconstructs_inline_constructs.proofs.HtmlTexts.Walks.{looked, one_fu
 nowhere-else : (b : ℕ) (bs : List ℕ) → (b == 60) ≡ false → html_of (b ∷ bs) (tag_length (b ∷ bs)) ≡ None
 nowhere-else b bs h =
     ap (λ t. html_of (b ∷ bs) (option_map (λ (rest : List ℕ). length (b ∷ bs) - length rest) (cond t (cond (has_byte_at (b ∷ bs) 1 is_slash) (behind_closing (drop 2 (b ∷ bs))) (behind_opening bs)) None))) h
-
-abbrev IsSome : Found → Type 0
-IsSome item = 0 < item_length item
-
-some-bytes : (o : Option ℕ) → OfOption IsSome (html_option (one_further o))
-some-bytes None = tt
-some-bytes (Some n) = omega arith
 
 pub html-tags-apart : IsApart text_byte item_length html_tags
 html-tags-apart = record {

@@ -1,7 +1,8 @@
 -- How many calls look for tags: a look stops at the next `<` that is not in quotes, so that no byte is in more than three looks.
+use Rattle.markdown_base.proofs.Facts.Numbers.{unlike}
 use Rattle.mdconstructs_inline_constructs.proofs.Prelude.{◌≡◌, ℕ, ◌+◌, ◌*◌, ◌≤◌, ◌==◌, ◌&&◌, List, [], ◌∷◌, Bool, true, false, cond, Some, None, length, drop, suc, refl, subst, sym, ap, ◌∙◌, arith, is_ascii_alphabetic, and_parts, is_white, is_greater_than, is_less_than, is_slash, is_equals_sign, is_double_quote, is_single_quote, is_tag_white, is_tag_name_byte, begins_attribute_name, is_attribute_name_byte, is_unquoted, quote_is}
 use Rattle.mdconstructs_inline_constructs.proofs.HtmlTexts.Walks.{Move, refused, done, goes, gone_over, looked}
-use Rattle.mdconstructs_inline_constructs.proofs.HtmlTags.Places.{Place, opened, closed, closing_name, closing, tag_name, before, name, named, value, double_quoted, single_quoted, after, bare, slashed, next, not-that}
+use Rattle.mdconstructs_inline_constructs.proofs.HtmlTags.Places.{Place, opened, closed, closing_name, closing, tag_name, before, name, named, value, double_quoted, single_quoted, after, bare, slashed, next}
 
 -- two calls for each byte that the places of tags go over behind `<`, and two more
 abbrev pub tag_calls : List ℕ → ℕ
@@ -68,7 +69,7 @@ by-test : (test : ℕ → Bool) (b : ℕ) (one other : Move Place) → test 60 �
     → May (turned outside b) (b == 60) (cond (test b) one other)
 by-test test b one other no_less no_double no_single stays rest =
     elim (test b) as (λ t. test b ≡ t → May (turned outside b) (b == 60) (cond t one other)) [
-      | true ↦ λ e. plain-may b one (not-that test 60 b no_less e) (not-that test 34 b no_double e) (not-that test 39 b no_single e) stays
+      | true ↦ λ e. plain-may b one (unlike test 60 no_less b e) (unlike test 34 no_double b e) (unlike test 39 no_single b e) stays
       | false ↦ λ e. rest
     ] refl
 
@@ -83,9 +84,9 @@ quotes-may : (b : ℕ) (other : Move Place) → May (turned outside b) (b == 60)
     → May (turned outside b) (b == 60) (cond (is_double_quote b) (goes (Some (quote_is 34)) double_quoted) (cond (is_single_quote b) (goes (Some (quote_is 39)) single_quoted) other))
 quotes-may b other rest =
     elim (b == 34) as (λ t. (b == 34) ≡ t → May (cond t double (cond (b == 39) single outside)) (b == 60) (cond t (goes (Some (quote_is 34)) double_quoted) (cond (b == 39) (goes (Some (quote_is 39)) single_quoted) other))) [
-      | true ↦ λ e. (refl, not-that is_double_quote 60 b refl e)
+      | true ↦ λ e. (refl, unlike is_double_quote 60 refl b e)
       | false ↦ λ e. elim (b == 39) as (λ t. (b == 39) ≡ t → May (cond (b == 34) double (cond t single outside)) (b == 60) other → May (cond t single outside) (b == 60) (cond t (goes (Some (quote_is 39)) single_quoted) other)) [
-        | true ↦ λ i h. (refl, not-that is_single_quote 60 b refl i)
+        | true ↦ λ i h. (refl, unlike is_single_quote 60 refl b i)
         | false ↦ λ i h. subst (λ t. May (cond t double outside) (b == 60) other) e h
       ] refl rest
     ] refl
@@ -117,13 +118,13 @@ may slashed b = ending-may b
 -- white space leaves the quotes as they are, and ends nothing
 white-turns : (q : Quotes) (b : ℕ) (bs : List ℕ) → is_white b ≡ true → 1 + reach q bs ≤ reach q (b ∷ bs)
 white-turns outside b bs h =
-    let no_less = not-that is_white 60 b refl h in
-    let no_double = not-that is_white 34 b refl h in
-    let no_single = not-that is_white 39 b refl h in
+    let no_less = unlike is_white 60 refl b h in
+    let no_double = unlike is_white 34 refl b h in
+    let no_single = unlike is_white 39 refl b h in
     let same : reach outside (b ∷ bs) ≡ 1 + reach outside bs = λ i. cond (no_less i) 0 (1 + reach (cond (no_double i) double (cond (no_single i) single outside)) bs) in
     omega (arith, same)
-white-turns single b bs h = let same : reach single (b ∷ bs) ≡ 1 + reach single bs = ap (λ t. 1 + reach (cond t outside single) bs) (not-that is_white 39 b refl h) in omega (arith, same)
-white-turns double b bs h = let same : reach double (b ∷ bs) ≡ 1 + reach double bs = ap (λ t. 1 + reach (cond t outside double) bs) (not-that is_white 34 b refl h) in omega (arith, same)
+white-turns single b bs h = let same : reach single (b ∷ bs) ≡ 1 + reach single bs = ap (λ t. 1 + reach (cond t outside single) bs) (unlike is_white 39 refl b h) in omega (arith, same)
+white-turns double b bs h = let same : reach double (b ∷ bs) ≡ 1 + reach double bs = ap (λ t. 1 + reach (cond t outside double) bs) (unlike is_white 34 refl b h) in omega (arith, same)
 
 -- a move goes over no more
 move-reaches : (line : Bool) (b : ℕ) (bs : List ℕ) (q : Quotes) (ends : Bool) (move : Move Place) → May q ends move → ((s : Place) → looked next bs line s ≤ reach (quotes_of s) bs)
@@ -168,13 +169,13 @@ thrice (b ∷ bs) =
     let ih = thrice bs in
     elim (b == 60) as (λ t. (b == 60) ≡ t → cond t (reach outside bs) 0 + from_tags bs + (cond t 0 (1 + reach (turned outside b) bs) + (reach single (b ∷ bs) + reach double (b ∷ bs))) ≤ 3 * suc (length bs)) [
       | true ↦ λ e.
-          let single_on : reach single (b ∷ bs) ≡ 1 + reach single bs = ap (λ t. 1 + reach (cond t outside single) bs) (not-that (λ b. b == 60) 39 b refl e) in
-          let double_on : reach double (b ∷ bs) ≡ 1 + reach double bs = ap (λ t. 1 + reach (cond t outside double) bs) (not-that (λ b. b == 60) 34 b refl e) in
+          let single_on : reach single (b ∷ bs) ≡ 1 + reach single bs = ap (λ t. 1 + reach (cond t outside single) bs) (unlike (λ b. == b 60) 39 b refl e) in
+          let double_on : reach double (b ∷ bs) ≡ 1 + reach double bs = ap (λ t. 1 + reach (cond t outside double) bs) (unlike (λ b. == b 60) 34 b refl e) in
           omega (arith, ih, single_on, double_on)
       | false ↦ λ e. elim (b == 34) as (λ t. (b == 34) ≡ t → 0 + from_tags bs + ((1 + reach (cond t double (cond (b == 39) single outside)) bs)
           + ((1 + reach (cond (b == 39) outside single) bs) + (1 + reach (cond t outside double) bs))) ≤ 3 * suc (length bs)) [
             | true ↦ λ i.
-                let single_on : reach (cond (b == 39) outside single) bs ≡ reach single bs = ap (λ t. reach (cond t outside single) bs) (not-that (λ b. b == 34) 39 b refl i) in
+                let single_on : reach (cond (b == 39) outside single) bs ≡ reach single bs = ap (λ t. reach (cond t outside single) bs) (unlike (λ b. == b 34) 39 b refl i) in
                 omega (arith, ih, single_on)
             | false ↦ λ i. elim (b == 39) as (λ t. 0 + from_tags bs + ((1 + reach (cond t single outside) bs) + ((1 + reach (cond t outside single) bs) + (1 + reach double bs))) ≤ 3 * suc (length bs)) [
               | true ↦ omega (arith, ih)

@@ -1,14 +1,9 @@
 -- What is behind a tag, from place to place: the definition of tags says the same.
-use Rattle.mdconstructs_inline_constructs.proofs.Prelude.{◌≡◌, ℕ, zero, suc, ◌+◌, ◌<◌, ◌≤◌, ◌==◌, not, List, [], ◌∷◌, Bool, true, false, cond, Option, Some, None, length, drop, refl, sym, ap, ◌∙◌, arith, one-add, le_trans, is_ascii_alphabetic, prefix_len, option_and_then, eqb-true, nat_tests, length-drop, has_byte_at, is_greater_than, is_less_than, is_slash, is_equals_sign, is_double_quote, is_single_quote, is_tag_white, is_tag_name_byte, begins_attribute_name, is_attribute_name_byte, is_unquoted, behind, behind_one, behind_quote, behind_value, behind_attribute, behind_attributes, behind_opening, behind_closing, behind_tag, quote_is}
+use Rattle.markdown_base.proofs.Facts.Lists.{Fits, drop-fits, fits-more, either-fits}
+use Rattle.markdown_base.proofs.Facts.Numbers.{unlike}
+use Rattle.mdconstructs_inline_constructs.proofs.Prelude.{◌≡◌, ℕ, zero, suc, ◌+◌, ◌<◌, ◌≤◌, ◌==◌, not, List, [], ◌∷◌, Bool, true, false, cond, Option, Some, None, length, drop, refl, sym, ap, ◌∙◌, arith, one-add, le_trans, is_ascii_alphabetic, prefix_len, option_and_then, eqb-true, nat_tests, has_byte_at, is_greater_than, is_less_than, is_slash, is_equals_sign, is_double_quote, is_single_quote, is_tag_white, is_tag_name_byte, begins_attribute_name, is_attribute_name_byte, is_unquoted, behind, behind_one, past_quote, past_value, past_attribute, behind_attributes, behind_opening, behind_closing, behind_tag, quote_is}
 use Rattle.mdconstructs_inline_constructs.proofs.HtmlTexts.Walks.{Move, refused, done, goes}
-use Rattle.mdconstructs_inline_constructs.proofs.HtmlTags.Places.{Place, opened, closed, closing_name, closing, tag_name, before, name, named, value, double_quoted, single_quoted, after, bare, slashed, next, left_of, left}
-
--- a byte that passes a test is not one that fails it
-other-byte : (test : ℕ → Bool) (n : ℕ) → test n ≡ false → (b : ℕ) → test b ≡ true → (b == n) ≡ false
-other-byte test n fails b h = elim (b == n) as (λ t. (b == n) ≡ t → t ≡ false) [
-  | true ↦ λ e. let no : true ≡ false = sym h ∙ ap test (eqb-true b n e) ∙ fails in absurd (cc)
-  | false ↦ λ e. refl
-] refl
+use Rattle.mdconstructs_inline_constructs.proofs.HtmlTags.Places.{Place, opened, closed, closing_name, closing, tag_name, before, name, named, value, double_quoted, single_quoted, after, bare, slashed, next, left_of, left, value-white, before-white}
 
 -- what is behind a run of bytes
 drop-run : (p : ℕ → Bool) (b : ℕ) (bs : List ℕ) → behind p (b ∷ bs) ≡ cond (p b) (behind p bs) (b ∷ bs)
@@ -57,18 +52,18 @@ closing-is t = run-skipped is_tag_white closing closing-white t ∙ closing-at (
 abbrev then_on : Option (List ℕ) → Option (List ℕ)
 then_on o = option_and_then (λ rest. left rest after) o
 
-double-is : (t : List ℕ) → left t double_quoted ≡ then_on (behind_quote 34 t)
+double-is : (t : List ℕ) → left t double_quoted ≡ then_on (past_quote 34 t)
 double-is [] = refl
-double-is (b ∷ bs) = elim (b == 34) as (λ t. (b == 34) ≡ t → left_of (left bs) bs (cond t (goes None after) (goes None double_quoted)) ≡ then_on (behind_quote 34 (b ∷ bs))) [
+double-is (b ∷ bs) = elim (b == 34) as (λ t. (b == 34) ≡ t → left_of (left bs) bs (cond t (goes None after) (goes None double_quoted)) ≡ then_on (past_quote 34 (b ∷ bs))) [
   | true ↦ λ e. sym (ap (λ l. then_on (behind_one (λ b. b == 34) l)) (drop-run (λ b. not (b == 34)) b bs ∙ ap (λ t. cond (not t) (behind (λ b. not (b == 34)) bs) (b ∷ bs)) e)
       ∙ ap (λ t. then_on (cond t (Some bs) None)) e)
   | false ↦ λ e. double-is bs
       ∙ sym (ap (λ l. then_on (behind_one (λ b. b == 34) l)) (drop-run (λ b. not (b == 34)) b bs ∙ ap (λ t. cond (not t) (behind (λ b. not (b == 34)) bs) (b ∷ bs)) e))
 ] refl
 
-single-is : (t : List ℕ) → left t single_quoted ≡ then_on (behind_quote 39 t)
+single-is : (t : List ℕ) → left t single_quoted ≡ then_on (past_quote 39 t)
 single-is [] = refl
-single-is (b ∷ bs) = elim (b == 39) as (λ t. (b == 39) ≡ t → left_of (left bs) bs (cond t (goes None after) (goes None single_quoted)) ≡ then_on (behind_quote 39 (b ∷ bs))) [
+single-is (b ∷ bs) = elim (b == 39) as (λ t. (b == 39) ≡ t → left_of (left bs) bs (cond t (goes None after) (goes None single_quoted)) ≡ then_on (past_quote 39 (b ∷ bs))) [
   | true ↦ λ e. sym (ap (λ l. then_on (behind_one (λ b. b == 39) l)) (drop-run (λ b. not (b == 39)) b bs ∙ ap (λ t. cond (not t) (behind (λ b. not (b == 39)) bs) (b ∷ bs)) e)
       ∙ ap (λ t. then_on (cond t (Some bs) None)) e)
   | false ↦ λ e. single-is bs
@@ -93,20 +88,16 @@ bare-at (b ∷ bs) h =
 bare-is : (t : List ℕ) → left t bare ≡ left (behind is_unquoted t) after
 bare-is t = run-skipped is_unquoted bare bare-goes-on t ∙ bare-at (behind is_unquoted t) (first-not is_unquoted t)
 
-value-white : (b : ℕ) → is_tag_white b ≡ true → next value b ≡ goes None value
-value-white b h =
-    ap (λ t. cond t (goes None value) (cond (is_double_quote b) (goes (Some (quote_is 34)) double_quoted) (cond (is_single_quote b) (goes (Some (quote_is 39)) single_quoted) (cond (is_unquoted b) (goes None bare) refused)))) h
-
-value-at : (t : List ℕ) → has_byte_at t 0 is_tag_white ≡ false → left t value ≡ then_on (behind_value t)
+value-at : (t : List ℕ) → has_byte_at t 0 is_tag_white ≡ false → left t value ≡ then_on (past_value t)
 value-at [] h = refl
 value-at (b ∷ bs) h =
     let out = left_of (left bs) bs in
     let plain = behind is_unquoted (b ∷ bs) in
     ap (λ t. out (cond t (goes None value) (cond (is_double_quote b) (goes (Some (quote_is 34)) double_quoted) (cond (is_single_quote b) (goes (Some (quote_is 39)) single_quoted) (cond (is_unquoted b) (goes None bare) refused))))) h
     ∙ elim (b == 34) as (λ d. out (cond d (goes (Some (quote_is 34)) double_quoted) (cond (is_single_quote b) (goes (Some (quote_is 39)) single_quoted) (cond (is_unquoted b) (goes None bare) refused)))
-    ≡ then_on (cond d (behind_quote 34 bs) (cond (is_single_quote b) (behind_quote 39 bs) (cond (is_unquoted b) (Some plain) None)))) [
+    ≡ then_on (cond d (past_quote 34 bs) (cond (is_single_quote b) (past_quote 39 bs) (cond (is_unquoted b) (Some plain) None)))) [
       | true ↦ double-is bs
-      | false ↦ elim (b == 39) as (λ s. out (cond s (goes (Some (quote_is 39)) single_quoted) (cond (is_unquoted b) (goes None bare) refused)) ≡ then_on (cond s (behind_quote 39 bs) (cond (is_unquoted b) (Some plain) None))) [
+      | false ↦ elim (b == 39) as (λ s. out (cond s (goes (Some (quote_is 39)) single_quoted) (cond (is_unquoted b) (goes None bare) refused)) ≡ then_on (cond s (past_quote 39 bs) (cond (is_unquoted b) (Some plain) None))) [
         | true ↦ single-is bs
         | false ↦ elim (is_unquoted b) as (λ u. is_unquoted b ≡ u → out (cond u (goes None bare) refused) ≡ then_on (cond u (Some plain) None)) [
           | true ↦ λ e. sym (ap out (bare-goes-on b e)) ∙ bare-is (b ∷ bs)
@@ -115,7 +106,7 @@ value-at (b ∷ bs) h =
       ]
     ]
 
-value-is : (t : List ℕ) → left t value ≡ then_on (behind_value (behind is_tag_white t))
+value-is : (t : List ℕ) → left t value ≡ then_on (past_value (behind is_tag_white t))
 value-is t = run-skipped is_tag_white value value-white t ∙ value-at (behind is_tag_white t) (first-not is_tag_white t)
 
 -- ---- attributes
@@ -159,9 +150,9 @@ abbrev behind_name : Bool → List ℕ → Option (List ℕ)
 behind_name begins t =
     let rest = behind is_attribute_name_byte t in
     let more = behind is_tag_white rest in
-    cond begins (cond (has_byte_at more 0 is_equals_sign) (behind_value (behind is_tag_white (drop 1 more))) (Some rest)) None
+    cond begins (cond (has_byte_at more 0 is_equals_sign) (past_value (behind is_tag_white (drop 1 more))) (Some rest)) None
 
-attribute-is : (b : ℕ) (bs : List ℕ) → begins_attribute_name b ≡ true → left bs name ≡ then_on (behind_attribute (b ∷ bs))
+attribute-is : (b : ℕ) (bs : List ℕ) → begins_attribute_name b ≡ true → left bs name ≡ then_on (past_attribute (b ∷ bs))
 attribute-is b bs e =
     let all = b ∷ bs in
     let rest = behind is_attribute_name_byte all in
@@ -169,13 +160,13 @@ attribute-is b bs e =
     sym (ap (left_of (left bs) bs) (name-goes-on b (begins-is b e)))
     ∙ run-skipped is_attribute_name_byte name name-goes-on all
     ∙ name-ends rest (first-not is_attribute_name_byte all)
-    ∙ elim (has_byte_at more 0 is_equals_sign) as (λ t. cond t (left (drop 1 more) value) (left rest after) ≡ then_on (cond t (behind_value (behind is_tag_white (drop 1 more))) (Some rest))) [
+    ∙ elim (has_byte_at more 0 is_equals_sign) as (λ t. cond t (left (drop 1 more) value) (left rest after) ≡ then_on (cond t (past_value (behind is_tag_white (drop 1 more))) (Some rest))) [
       | true ↦ value-is (drop 1 more)
       | false ↦ refl
     ]
     ∙ sym (ap (λ t. then_on (behind_name t all)) e)
 
-no-attribute : (b : ℕ) (bs : List ℕ) → begins_attribute_name b ≡ false → then_on (behind_attribute (b ∷ bs)) ≡ None
+no-attribute : (b : ℕ) (bs : List ℕ) → begins_attribute_name b ≡ false → then_on (past_attribute (b ∷ bs)) ≡ None
 no-attribute b bs e = ap (λ t. then_on (behind_name t (b ∷ bs))) e
 
 -- before an attribute, or before the end of the tag
@@ -188,67 +179,50 @@ end-at b bs = elim (b == 47) as (λ s. left_of (left bs) bs (cond s (goes None s
   | false ↦ elim (b == 62) as (λ t. left_of (left bs) bs (cond t done refused) ≡ cond t (Some bs) None) [ true ↦ refl | false ↦ refl ]
 ]
 
-before-at : (t : List ℕ) → has_byte_at t 0 is_tag_white ≡ false → left t before ≡ ends_or t (then_on (behind_attribute t))
+before-at : (t : List ℕ) → has_byte_at t 0 is_tag_white ≡ false → left t before ≡ ends_or t (then_on (past_attribute t))
 before-at [] h = refl
 before-at (b ∷ bs) h =
     let out = left_of (left bs) bs in
     ap (λ t. out (cond t (goes None before) (cond (begins_attribute_name b) (goes None name) (end_or b)))) h
-    ∙ elim (begins_attribute_name b) as (λ t. begins_attribute_name b ≡ t → out (cond t (goes None name) (end_or b)) ≡ ends_or (b ∷ bs) (then_on (behind_attribute (b ∷ bs)))) [
+    ∙ elim (begins_attribute_name b) as (λ t. begins_attribute_name b ≡ t → out (cond t (goes None name) (end_or b)) ≡ ends_or (b ∷ bs) (then_on (past_attribute (b ∷ bs)))) [
       | true ↦ λ e.
-          let all = then_on (behind_attribute (b ∷ bs)) in
+          let all = then_on (past_attribute (b ∷ bs)) in
           attribute-is b bs e
-          ∙ sym (ap (λ s. cond s (behind_one is_greater_than bs) (cond (is_greater_than b) (Some bs) all)) (other-byte begins_attribute_name 47 refl b e)
-          ∙ ap (λ s. cond s (Some bs) all) (other-byte begins_attribute_name 62 refl b e))
+          ∙ sym (ap (λ s. cond s (behind_one is_greater_than bs) (cond (is_greater_than b) (Some bs) all)) (unlike begins_attribute_name 47 refl b e)
+          ∙ ap (λ s. cond s (Some bs) all) (unlike begins_attribute_name 62 refl b e))
       | false ↦ λ e.
           end-at b bs ∙ ap (ends_or (b ∷ bs)) (sym (no-attribute b bs e))
     ] refl
 
-before-white : (b : ℕ) → is_tag_white b ≡ true → next before b ≡ goes None before
-before-white b h = ap (λ t. cond t (goes None before) (cond (begins_attribute_name b) (goes None name) (end_or b))) h
-
-before-is : (t : List ℕ) → let more = behind is_tag_white t in left t before ≡ ends_or more (then_on (behind_attribute more))
+before-is : (t : List ℕ) → let more = behind is_tag_white t in left t before ≡ ends_or more (then_on (past_attribute more))
 before-is t = run-skipped is_tag_white before before-white t ∙ before-at (behind is_tag_white t) (first-not is_tag_white t)
 
 -- ---- what is behind something is no longer
-abbrev Fits : ℕ → Option (List ℕ) → Type 0
-Fits n None = Unit {0}
-Fits n (Some rest) = length rest ≤ n
 
-drop-fits : (n : ℕ) (t : List ℕ) → length (drop n t) ≤ length t
-drop-fits n t = let e = length-drop n t in omega (arith, e)
-
-fits-more : (o : Option (List ℕ)) (n m : ℕ) → n ≤ m → Fits n o → Fits m o
-fits-more None n m le fits = tt
-fits-more (Some rest) n m le fits = le_trans fits le
-
-either-fits : (t : Bool) (n : ℕ) (x y : Option (List ℕ)) → Fits n x → Fits n y → Fits n (cond t x y)
-either-fits true n x y h k = h
-either-fits false n x y h k = k
-
-quote-fits : (m : ℕ) (t : List ℕ) → Fits (length t) (behind_quote m t)
+quote-fits : (m : ℕ) (t : List ℕ) → Fits (length t) (past_quote m t)
 quote-fits m t =
     let rest = behind (λ b. not (b == m)) t in
     either-fits (has_byte_at rest 0 (λ b. b == m)) (length t) (Some (drop 1 rest)) None (le_trans (drop-fits 1 rest) (drop-fits (prefix_len (λ b. not (b == m)) t) t)) tt
 
-value-fits : (t : List ℕ) → Fits (length t) (behind_value t)
+value-fits : (t : List ℕ) → Fits (length t) (past_value t)
 value-fits t =
     let fewer = drop-fits 1 t in
     let rest = drop 1 t in
     let bare_part = cond (has_byte_at t 0 is_unquoted) (Some (behind is_unquoted t)) None in
-    let single_part = cond (has_byte_at t 0 is_single_quote) (behind_quote 39 rest) bare_part in
-    either-fits (has_byte_at t 0 is_double_quote) (length t) (behind_quote 34 rest) single_part (fits-more (behind_quote 34 rest) (length rest) (length t) fewer (quote-fits 34 rest))
-    (either-fits (has_byte_at t 0 is_single_quote) (length t) (behind_quote 39 rest) bare_part (fits-more (behind_quote 39 rest) (length rest) (length t) fewer (quote-fits 39 rest))
+    let single_part = cond (has_byte_at t 0 is_single_quote) (past_quote 39 rest) bare_part in
+    either-fits (has_byte_at t 0 is_double_quote) (length t) (past_quote 34 rest) single_part (fits-more (past_quote 34 rest) (length rest) (length t) fewer (quote-fits 34 rest))
+    (either-fits (has_byte_at t 0 is_single_quote) (length t) (past_quote 39 rest) bare_part (fits-more (past_quote 39 rest) (length rest) (length t) fewer (quote-fits 39 rest))
     (either-fits (has_byte_at t 0 is_unquoted) (length t) (Some (behind is_unquoted t)) None (drop-fits (prefix_len is_unquoted t) t) tt))
 
-attribute-fits : (t : List ℕ) → Fits (length t) (behind_attribute t)
+attribute-fits : (t : List ℕ) → Fits (length t) (past_attribute t)
 attribute-fits t =
     let rest = behind is_attribute_name_byte t in
     let more = behind is_tag_white rest in
     let at = behind is_tag_white (drop 1 more) in
     let shorter : length at ≤ length t = le_trans (drop-fits (prefix_len is_tag_white (drop 1 more)) (drop 1 more)) (le_trans (drop-fits 1 more) (le_trans (drop-fits (prefix_len is_tag_white rest) rest) (drop-fits (prefix_len is_attribute_name_byte t) t))) in
-    let with = cond (has_byte_at more 0 is_equals_sign) (behind_value at) (Some rest) in
+    let with = cond (has_byte_at more 0 is_equals_sign) (past_value at) (Some rest) in
     either-fits (has_byte_at t 0 begins_attribute_name) (length t) with None
-    (either-fits (has_byte_at more 0 is_equals_sign) (length t) (behind_value at) (Some rest) (fits-more (behind_value at) (length at) (length t) shorter (value-fits at)) (drop-fits (prefix_len is_attribute_name_byte t) t)) tt
+    (either-fits (has_byte_at more 0 is_equals_sign) (length t) (past_value at) (Some rest) (fits-more (past_value at) (length at) (length t) shorter (value-fits at)) (drop-fits (prefix_len is_attribute_name_byte t) t)) tt
 
 -- what is behind the name of an opening tag
 attributes-are : (n : ℕ) (t : List ℕ) → length t < n → behind_attributes n t ≡ left t after
@@ -257,12 +231,12 @@ attributes-are (suc n) [] low = refl
 attributes-are (suc n) (b ∷ bs) low =
     let out = left_of (left bs) bs in
     let more = behind is_tag_white bs in
-    let on : option_and_then (behind_attributes n) (behind_attribute more) ≡ then_on (behind_attribute more) =
-    elim (behind_attribute more) as (λ o. Fits (length bs) o → option_and_then (behind_attributes n) o ≡ then_on o) [
+    let on : option_and_then (behind_attributes n) (past_attribute more) ≡ then_on (past_attribute more) =
+    elim (past_attribute more) as (λ o. Fits (length bs) o → option_and_then (behind_attributes n) o ≡ then_on o) [
       | None ↦ λ fits. refl
       | Some rest ↦ λ fits. attributes-are n rest (omega (arith, fits, low))
-    ] (fits-more (behind_attribute more) (length more) (length bs) (drop-fits (prefix_len is_tag_white bs) bs) (attribute-fits more)) in
-    let at = λ (l : List ℕ) (w : Bool). ends_or l (cond w (option_and_then (behind_attributes n) (behind_attribute l)) None) in
+    ] (fits-more (past_attribute more) (length more) (length bs) (drop-fits (prefix_len is_tag_white bs) bs) (attribute-fits more)) in
+    let at = λ (l : List ℕ) (w : Bool). ends_or l (cond w (option_and_then (behind_attributes n) (past_attribute l)) None) in
     ap (λ l. at l (is_tag_white b)) (drop-run is_tag_white b bs)
     ∙ elim (is_tag_white b) as (λ w. at (cond w more (b ∷ bs)) w ≡ out (cond w (goes None before) (end_or b))) [
       | true ↦ ap (ends_or more) on ∙ sym (before-is bs)

@@ -1,5 +1,7 @@
 -- Tags, byte by byte: the places in a tag, and what is behind the tag from each of them on.
-use Rattle.mdconstructs_inline_constructs.proofs.Prelude.{◌≡◌, ℕ, suc, ◌-◌, ◌≤◌, ◌==◌, ◌||◌, List, [], ◌∷◌, Bool, true, false, cond, Option, Some, None, option_map, length, refl, sym, ap, ◌∙◌, arith, is_ascii_alphabetic, eqb-true, is_white, is_greater_than, is_slash, is_equals_sign, is_double_quote, is_single_quote, is_tag_white, is_tag_name_byte, begins_attribute_name, is_attribute_name_byte, is_unquoted, quote_is}
+use Rattle.markdown_base.proofs.Facts.Lists.{Fits, fits-more}
+use Rattle.markdown_base.proofs.Facts.Numbers.{unlike}
+use Rattle.mdconstructs_inline_constructs.proofs.Prelude.{◌≡◌, ℕ, suc, ◌-◌, ◌==◌, ◌||◌, List, [], ◌∷◌, true, cond, Option, Some, None, option_map, length, refl, ap, ◌∙◌, arith, is_ascii_alphabetic, is_white, is_greater_than, is_slash, is_equals_sign, is_double_quote, is_single_quote, is_tag_white, is_tag_name_byte, begins_attribute_name, is_attribute_name_byte, is_unquoted, quote_is}
 use Rattle.mdconstructs_inline_constructs.proofs.HtmlTexts.Walks.{Move, refused, done, goes, moved, one_further, run, GoesThroughLines}
 
 -- Where a reader is: behind `<`; behind `</`, in the name of a closing tag, behind that; in the name of an opening tag; before an attribute, in its
@@ -47,14 +49,7 @@ next slashed b = cond (is_greater_than b) done refused
 white-is : (b : ℕ) → is_white b ≡ true → is_tag_white b ≡ true
 white-is b h = ap (λ t. t || (b == 10)) h
 
--- a byte that passes a test is no byte that does not, as a quotation mark
-pub not-that : (test : ℕ → Bool) (q b : ℕ) → test q ≡ false → test b ≡ true → (b == q) ≡ false
-not-that test q b other h = elim (b == q) as (λ t. (b == q) ≡ t → t ≡ false) [
-  | true ↦ λ e. let no : true ≡ false = sym h ∙ ap test (eqb-true b q e) ∙ other in absurd (cc)
-  | false ↦ λ e. refl
-] refl
-
-before-white : (b : ℕ) → is_tag_white b ≡ true → next before b ≡ goes None before
+pub before-white : (b : ℕ) → is_tag_white b ≡ true → next before b ≡ goes None before
 before-white b h = ap (λ t. cond t (goes None before) (cond (begins_attribute_name b) (goes None name) (cond (is_slash b) (goes None slashed) (cond (is_greater_than b) done refused)))) h
 
 named-white : (b : ℕ) → is_tag_white b ≡ true → next named b ≡ goes None named
@@ -62,7 +57,7 @@ named-white b h =
     ap (λ t. cond t (goes None named)
     (cond (is_equals_sign b) (goes None value) (cond (begins_attribute_name b) (goes None name) (cond (is_slash b) (goes None slashed) (cond (is_greater_than b) done refused))))) h
 
-value-white : (b : ℕ) → is_tag_white b ≡ true → next value b ≡ goes None value
+pub value-white : (b : ℕ) → is_tag_white b ≡ true → next value b ≡ goes None value
 value-white b h =
     ap (λ t. cond t (goes None value)
     (cond (is_double_quote b) (goes (Some (quote_is 34)) double_quoted) (cond (is_single_quote b) (goes (Some (quote_is 39)) single_quoted) (cond (is_unquoted b) (goes None bare) refused)))) h
@@ -78,8 +73,8 @@ tags-go-through-lines before = λ b h. before-white b (white-is b h)
 tags-go-through-lines name = λ b h. named-white b (white-is b h)
 tags-go-through-lines named = λ b h. named-white b (white-is b h)
 tags-go-through-lines value = λ b h. value-white b (white-is b h)
-tags-go-through-lines double_quoted = λ b h. ap (λ t. cond t (goes None after) (goes None double_quoted)) (not-that is_white 34 b refl h)
-tags-go-through-lines single_quoted = λ b h. ap (λ t. cond t (goes None after) (goes None single_quoted)) (not-that is_white 39 b refl h)
+tags-go-through-lines double_quoted = λ b h. ap (λ t. cond t (goes None after) (goes None double_quoted)) (unlike is_white 34 refl b h)
+tags-go-through-lines single_quoted = λ b h. ap (λ t. cond t (goes None after) (goes None single_quoted)) (unlike is_white 39 refl b h)
 tags-go-through-lines after = λ b h. before-white b (white-is b h)
 tags-go-through-lines bare = λ b h. before-white b (white-is b h)
 tags-go-through-lines slashed = tt
@@ -94,21 +89,12 @@ abbrev pub left : List ℕ → Place → Option (List ℕ)
 left [] s = None
 left (b ∷ bs) s = left_of (left bs) bs (next s b)
 
--- it is no longer than what was there
-abbrev Fits : ℕ → Option (List ℕ) → Type 0
-Fits n None = Unit {0}
-Fits n (Some rest) = length rest ≤ n
-
-fits-more : (n : ℕ) (o : Option (List ℕ)) → Fits n o → Fits (suc n) o
-fits-more n None h = tt
-fits-more n (Some rest) h = omega (arith, h)
-
 left-fits : (t : List ℕ) (s : Place) → Fits (length t) (left t s)
 left-fits [] s = tt
 left-fits (b ∷ bs) s = elim (next s b) as (λ m. Fits (suc (length bs)) (left_of (left bs) bs m)) [
   | refused ↦ tt
   | done ↦ omega arith
-  | goes w s' ↦ fits-more (length bs) (left bs s') (left-fits bs s')
+  | goes w s' ↦ fits-more (left bs s') (length bs) (suc (length bs)) (omega arith) (left-fits bs s')
 ]
 
 -- how many bytes are in front of it

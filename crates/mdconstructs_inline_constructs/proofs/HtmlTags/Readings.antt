@@ -1,6 +1,6 @@
 -- How a machine reads tags: if one is there, with no blank line in it, it is read whole, with its events; if not, what was tried leaves nothing. And
 -- within how many calls.
-use Rattle.mdconstructs_inline_constructs.proofs.Prelude.{◌≡◌, ℕ, ◌+◌, ◌*◌, ◌==◌, List, [], ◌∷◌, ◌++◌, Bool, true, false, not, None, slice_get, sym, ap, ◌∙◌, subst, drop, arith, eqb-true, drop-next, Event, Enter, HtmlText, HtmlTextData, Name, Next, Retry, HtmlTextStart, HtmlTextOpen, HtmlTextLineEndingAfter, HtmlTextLineEndingAfterPrefix, Seat, Local, point_or, Given, Text, Byte, at-front, place-behind, goes-next, shows, after-call, counts, row, enter, consume, Between, bytes_of, event, outer, ReadsIn, TriedIn, decides-in, decides-more, reads-of, ReadsPart, Plays, between_items, leads-row, tag_length, html_tags, html_of}
+use Rattle.mdconstructs_inline_constructs.proofs.Prelude.{◌≡◌, ℕ, ◌+◌, ◌*◌, ◌==◌, List, [], ◌∷◌, ◌++◌, Bool, true, false, not, None, slice_get, sym, ap, ◌∙◌, subst, drop, arith, eqb-true, drop-next, Event, Enter, HtmlText, HtmlTextData, Name, Next, Retry, HtmlTextStart, HtmlTextOpen, HtmlTextLineEndingAfter, HtmlTextLineEndingAfterPrefix, Seat, Local, point_or, Given, Text, Byte, at-front, place-behind, goes-next, shows, after-call, counts, row, enter, consume, Between, bytes_of, event, outer, ReadsIn, TriedIn, decides-in, decides-more, Plays, between_items, leads-row, tag_length, html_tags, html_of}
 use Rattle.mdconstructs_text.proofs.Texts.Leads.{EndsWith}
 use Rattle.mdconstructs_inline_constructs.proofs.HtmlTags.Calls.{tag_calls}
 use Rattle.mdconstructs_inline_constructs.proofs.HtmlTags.Grammar.{tag-is}
@@ -54,6 +54,3 @@ module _ (g : Given) (text : Text) (m : Plays g text) (tags : PlaysTags g text m
   html-tags-read-in nok p ended events local s ss here first =
       subst (TriedIn g text m names (tag_calls (bytes_of (s ∷ ss))) HtmlTextStart nok p ended events local (s ∷ ss)) (sym (tag-there s.byte (bytes_of ss) first))
       (tries-tag nok p ended events local s ss here first)
-
-  pub html-tags-read : ReadsPart g text m names html_tags
-  html-tags-read = reads-of g text m names tag_calls html_tags html-tags-read-in

@@ -1,5 +1,6 @@
 -- The states of tags do at each byte what it does at their places.
-use Rattle.mdconstructs_inline_constructs.proofs.Prelude.{◌≡◌, ℕ, ◌==◌, List, [], ◌∷◌, ◌++◌, Bool, true, false, cond, Option, Some, None, refl, sym, ap, ◌∙◌, subst, eqb-true, is_ascii_alphabetic, HtmlTextData, SpaceOrTab, Name, Next, Retry, Nok, HtmlTextStart, HtmlTextOpen, HtmlTextTagCloseStart, HtmlTextTagClose, HtmlTextTagCloseBetween, HtmlTextTagOpen, HtmlTextTagOpenBetween, HtmlTextTagOpenAttributeName, HtmlTextTagOpenAttributeNameAfter, HtmlTextTagOpenAttributeValueBefore, HtmlTextTagOpenAttributeValueQuoted, HtmlTextTagOpenAttributeValueQuotedAfter, HtmlTextTagOpenAttributeValueUnquoted, HtmlTextEnd, HtmlTextLineEndingAfter, HtmlTextLineEndingAfterPrefix, Configuration, Local, Step, Sight, sight, Given, Text, row_step, is_white, counts, Act, Rows, row, when, enter, exit, consume, class_of, is_greater_than, passes, TextByte, text_byte, IsAfter, after-call, HasRow, HasRows, tested, is_slash, is_equals_sign, is_double_quote, is_single_quote, is_tag_white, is_tag_name_byte, begins_attribute_name, is_attribute_name_byte, is_unquoted, quote_is, quote_waits, html_text_start_rows, html_text_open_rows, html_text_tag_close_start_rows, html_text_tag_close_rows, html_text_tag_close_between_rows, html_text_tag_open_rows, html_text_tag_open_between_rows, html_text_attribute_name_rows, html_text_attribute_name_after_rows, html_text_value_before_rows, html_text_value_quoted_rows, html_text_value_quoted_after_rows, html_text_value_unquoted_rows, html_text_end_rows, html_following, html_line_begins, html_line_ends, html_rows, sees, html_line_ending_after_rows, html_line_ending_after_prefix_rows, follows_line_ending}
+use Rattle.markdown_base.proofs.Facts.Numbers.{unlike}
+use Rattle.mdconstructs_inline_constructs.proofs.Prelude.{◌≡◌, ℕ, ◌==◌, List, [], ◌∷◌, ◌++◌, Bool, true, false, cond, Option, Some, None, refl, ap, ◌∙◌, subst, is_ascii_alphabetic, HtmlTextData, SpaceOrTab, Name, Next, Retry, Nok, HtmlTextStart, HtmlTextOpen, HtmlTextTagCloseStart, HtmlTextTagClose, HtmlTextTagCloseBetween, HtmlTextTagOpen, HtmlTextTagOpenBetween, HtmlTextTagOpenAttributeName, HtmlTextTagOpenAttributeNameAfter, HtmlTextTagOpenAttributeValueBefore, HtmlTextTagOpenAttributeValueQuoted, HtmlTextTagOpenAttributeValueQuotedAfter, HtmlTextTagOpenAttributeValueUnquoted, HtmlTextEnd, HtmlTextLineEndingAfter, HtmlTextLineEndingAfterPrefix, Configuration, Local, Step, Sight, sight, Given, Text, row_step, is_white, counts, Act, Rows, row, when, enter, exit, consume, class_of, is_greater_than, passes, TextByte, text_byte, IsAfter, after-call, HasRow, HasRows, tested, is_slash, is_equals_sign, is_double_quote, is_single_quote, is_tag_white, is_tag_name_byte, begins_attribute_name, is_attribute_name_byte, is_unquoted, quote_is, quote_waits, html_text_start_rows, html_text_open_rows, html_text_tag_close_start_rows, html_text_tag_close_rows, html_text_tag_close_between_rows, html_text_tag_open_rows, html_text_tag_open_between_rows, html_text_attribute_name_rows, html_text_attribute_name_after_rows, html_text_value_before_rows, html_text_value_quoted_rows, html_text_value_quoted_after_rows, html_text_value_unquoted_rows, html_text_end_rows, html_following, html_line_begins, html_line_ends, html_rows, sees, html_line_ending_after_rows, html_line_ending_after_prefix_rows, follows_line_ending}
 use Rattle.mdconstructs_inline_constructs.proofs.HtmlTexts.Pieces.{is_no_line_feed}
 use Rattle.mdconstructs_inline_constructs.proofs.HtmlTexts.Reads.{PlaysHtml, called, written-counts, row_of, line_row_of, wrote, Writes}
 use Rattle.mdconstructs_inline_constructs.proofs.HtmlTexts.Rows.{other-rows, stopped-rows, at-seen, at-cases, by-byte, followed, line-begun}
@@ -72,13 +73,6 @@ pub record FollowsLine (s : Place) (local : Local Unit Unit) : Type 0 where
 -- its number is kept
 abbrev pub returns_to : Place → Writes
 returns_to s = Some (follows_line_ending (state_of s).number)
-
--- white space is no line feed
-white-plain : (b : ℕ) → is_white b ≡ true → (b == 10) ≡ false
-white-plain b h = elim (b == 10) as (λ t. (b == 10) ≡ t → t ≡ false) [
-  | true ↦ λ e. let no : true ≡ false = sym h ∙ ap is_white (eqb-true b 10 e) in absurd (cc)
-  | false ↦ λ e. refl
-] refl
 
 -- what is known of a place is not of the number of calls, nor of what follows a line ending
 quote-counted : (s : Place) (local : Local Unit Unit) → KnowsQuote s local → KnowsQuote s (counts local)
@@ -245,7 +239,7 @@ module _ (g : Given) (text : Text) (step : Sight → Configuration Unit Unit →
     whites : (k : Configuration Unit Unit) (b : ℕ) → (sight g text k).current ≡ Some b → is_white b ≡ true → Has k n white
     whites k b waits w =
         at-seen g text step n (html_rows (row [] Nok) (when (sees is_white) white (html_line_begins acts html_following))) (when (sees is_white) white (html_line_begins acts html_following)) k (Some b) has waits
-        (other-rows (row [] Nok) (when (sees is_white) white (html_line_begins acts html_following)) (class_of text_byte (sight g text k).previous) b (white-plain b w))
+        (other-rows (row [] Nok) (when (sees is_white) white (html_line_begins acts html_following)) (class_of text_byte (sight g text k).previous) b (unlike is_white 10 refl b w))
         ∙ by-byte g text k is_white white (html_line_begins acts html_following) b true waits w
 
     begins : (s : Place) (k : Configuration Unit Unit) (b : ℕ) → (sight g text k).current ≡ Some b → (b == 10) ≡ false → is_white b ≡ false → FollowsLine s k.local

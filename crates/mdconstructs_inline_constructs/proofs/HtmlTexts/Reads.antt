@@ -1,6 +1,6 @@
 -- A machine that reads raw HTML byte by byte, from place to place, reads what there is, with its events; and it refuses a blank line. It makes two
 -- calls at most for each byte that it goes over, and two more.
-use Rattle.mdconstructs_inline_constructs.proofs.Prelude.{◌≡◌, ℕ, zero, suc, ◌+◌, ◌*◌, ◌≤◌, ◌==◌, List, [], ◌∷◌, ◌++◌, true, false, cond, not, Option, Some, None, take, drop, slice_get, refl, sym, ap, ◌∙◌, subst, arith, eqb-true, append_assoc, append-nil, drop-next, end-after-one, Event, Enter, Exit, EventName, HtmlText, HtmlTextData, LineEnding, SpaceOrTab, Name, State, Next, Retry, Ok, Nok, Seat, end_after, with_local, Choice, Configuration, Local, Step, Sight, sight, byte_of, end_or, end_place, point_or, Given, Text, Byte, End, Nothing, row_step, at-front, held, place-behind, shows, IsAfter, after-call, after-more, after-within, remembered, next-fed, leads-step, spent, is_white, counts, Act, Rows, row, enter, exit, consume, write, writes, shown_sight, passes, bytes_of, leaf}
+use Rattle.mdconstructs_inline_constructs.proofs.Prelude.{◌≡◌, ℕ, zero, suc, ◌+◌, ◌*◌, ◌≤◌, ◌==◌, List, [], ◌∷◌, ◌++◌, true, false, cond, not, Option, Some, None, take, drop, slice_get, refl, sym, ap, ◌∙◌, subst, arith, eqb-true, append_assoc, append-nil, drop-next, end-after-one, Event, Enter, Exit, EventName, HtmlText, HtmlTextData, LineEnding, SpaceOrTab, Name, State, Next, Retry, Ok, Nok, Seat, end_after, with_local, Choice, Configuration, Local, Step, Sight, sight, byte_of, end_or, end_place, point_or, Given, Text, Byte, End, Nothing, row_step, at-front, held, place-behind, shows, IsAfter, after-call, after-more, after-within, remembered, next-fed, as_asked, leads-step, spent, is_white, counts, Act, Rows, row, enter, exit, consume, write, writes, shown_sight, passes, bytes_of, leaf}
 use Rattle.mdconstructs_text.proofs.Texts.Leads.{EndsWith, Leads}
 use Rattle.mdconstructs_machines.specs.Spans.{event}
 use Rattle.mdconstructs_inline_constructs.proofs.HtmlTexts.Pieces.{AllPass, StopsAt, is_no_line_feed, one-passes-more, pieces_events, line_events, data-piece, line-piece, white-piece}
@@ -160,7 +160,7 @@ module _ (g : Given) (text : Text) (step : Sight → Configuration Unit Unit →
       -- a call, by its row
       leads-row : (k : Configuration Unit Unit) (n : Name) (rows : Rows Unit Unit) → HasStep k n rows
           → let q = row_step g text k rows in Leads g text step k cs (Retry n) q.configuration (q.choices ++ cs) q.answer
-      leads-row k n rows has = leads-step g text step k cs n (row_step g text k rows) has
+      leads-row k n rows has = leads-step as_asked g text step k cs n (row_step g text k rows) has
 
       -- a call that gives up
       gives-up : (k : Configuration Unit Unit) (n : Name) (w : Stop) → HasStep k n (row (stop_acts w) Nok) → Leads g text step k cs (Retry n) (given_up k w) cs Nok

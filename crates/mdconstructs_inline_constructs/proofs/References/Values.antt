@@ -1,5 +1,8 @@
 -- What is read of the value of a character reference, byte by byte, is a value where one is there.
 use Rattle.mdconstructs_inline_constructs.proofs.Prelude.{◌≡◌, ℕ, zero, suc, ◌+◌, ◌<◌, ◌≤◌, ◌++◌, ◌==◌, ◌&&◌, List, [], ◌∷◌, Bool, true, false, cond, nat_le, nat_lt, length, take, drop, refl, sym, ap, ◌∙◌, arith, inl, inr, length-append, and_parts, cases_lt, eqb-true, le-leb, le-ltb, lt-leb, lt-ltb, ltb-true, length-take-le, length-drop, take-append-drop, take-take, prefix_len-le-length, drop-next, is_ascii_alphanumeric, is_ascii_digit, is_ascii_hexdigit, prefix_len, is_some, option_map, unwrap_or, Option, Some, None, name_from, begins-so, found-so, no_characters, all_are_short, has_byte_at, Kind, named, decimal, hexadecimal, is_semicolon, value_at, reference, is_value, going_on, may_go_on, is_whole, name_behind}
+use Rattle.std.proofs.Math.Bool.{and-false, and-true}
+use Rattle.std.proofs.lemmas.Bool.{false_from_ne_true}
+use Rattle.std.proofs.lemmas.List.{take_all}
 use Rattle.mdconstructs_references.specs.References.{characters_of}
 use Rattle.mdconstructs_references.specs.CharacterReferences.{character_references}
 
@@ -15,10 +18,6 @@ marker_of named = 38
 marker_of decimal = 35
 marker_of hexadecimal = 120
 
-and-none : (t : Bool) → (t && false) ≡ false
-and-none true = refl
-and-none false = refl
-
 -- a semicolon is in no value
 apart : (p : ℕ → Bool) → p 59 ≡ false → (b : ℕ) → is_semicolon b ≡ true → p b ≡ false
 apart p not b is = ap p (eqb-true b 59 is) ∙ not
@@ -30,7 +29,7 @@ module _ (p : ℕ → Bool) (whole : ℕ → Bool) where
   ends n bs = let k = prefix_len p bs in cond (whole (n + k) && has_byte_at bs k is_semicolon) (Some (n + k)) None
 
   at-end : (n : ℕ) → None ≡ ends n []
-  at-end n = ap (λ t. cond t (Some (n + 0)) None) (sym (and-none (whole (n + 0))))
+  at-end n = ap (λ t. cond t (Some (n + 0)) None) (sym (and-false (whole (n + 0))))
 
   stops : (n b : ℕ) (bs : List ℕ) → p b ≡ false → cond (whole n && is_semicolon b) (Some n) None ≡ ends n (b ∷ bs)
   stops n b bs no_more =
@@ -86,13 +85,13 @@ module _ (marker most : ℕ) (p : ℕ → Bool) (not : p 59 ≡ false) (goes_on 
             let goes_is : may_go_on marker name n b ≡ false = goes_on name n b ∙ ap (λ t. t && p b) (le-ltb n most more) in
             ap (λ t. cond t (cond (is_whole marker name n) (Some n) None) (cond (may_go_on marker name n b) (walk marker (name_behind marker name n (Some b)) (n + 1) bs) None)) e
             ∙ ap (λ t. cond t (walk marker (name_behind marker name n (Some b)) (n + 1) bs) None) goes_is
-            ∙ none-further p fits n b bs (λ k more_than. ap (λ t. nat_le 1 k && t) (lt-leb k most (omega (arith, more, more_than))) ∙ and-none (nat_le 1 k)) f
+            ∙ none-further p fits n b bs (λ k more_than. ap (λ t. nat_le 1 k && t) (lt-leb k most (omega (arith, more, more_than))) ∙ and-false (nat_le 1 k)) f
       ]
       of false false e f rest =
-          let goes_is : may_go_on marker name n b ≡ false = goes_on name n b ∙ ap (λ t. nat_lt n most && t) f ∙ and-none (nat_lt n most) in
+          let goes_is : may_go_on marker name n b ≡ false = goes_on name n b ∙ ap (λ t. nat_lt n most && t) f ∙ and-false (nat_lt n most) in
           ap (λ t. cond t (cond (is_whole marker name n) (Some n) None) (cond (may_go_on marker name n b) (walk marker (name_behind marker name n (Some b)) (n + 1) bs) None)) e
           ∙ ap (λ t. cond t (walk marker (name_behind marker name n (Some b)) (n + 1) bs) None) goes_is
-          ∙ sym (ap (λ t. cond t (Some n) None) (ap (λ t. fits n && t) e ∙ and-none (fits n)))
+          ∙ sym (ap (λ t. cond t (Some n) None) (ap (λ t. fits n && t) e ∙ and-false (fits n)))
           ∙ stops p fits n b bs f
 
 -- one byte more
@@ -126,13 +125,6 @@ no-name name n b h = of (has_byte_at name n (λ c. c == b)) h
     of true is = absurd (cc)
     of false is = is
 
-not-some : {A : Type 0} (o : Option A) → o ≡ None → is_some o ≡ false
-not-some o h = ap is_some h
-
-false-if : (t : Bool) → (t ≡ true → ⊥) → t ≡ false
-false-if true h = absurd (h refl)
-false-if false h = refl
-
 -- what is read at a byte, by the tests of it
 abbrev goes_row : (name : List ℕ) (n b : ℕ) → List ℕ → Bool → Option ℕ
 goes_row name n b bs t = cond t (walk 38 (name_behind 38 name n (Some b)) (n + 1) bs) None
@@ -149,30 +141,24 @@ module _ (text : List ℕ) where
   too-long : (n : ℕ) → 31 < n → n ≤ length text → is_name n ≡ false
   too-long n long within =
       let size : length (take n text) ≡ n = length-take-le n text within in
-      not-some _ (no_characters (λ key. nat_le (length key) 31) (take n text) (lt-leb (length (take n text)) 31 (omega (arith, size, long))) all_are_short)
+      ap is_some (no_characters (λ key. nat_le (length key) 31) (take n text) (lt-leb (length (take n text)) 31 (omega (arith, size, long))) all_are_short)
 
   longer : (n k : ℕ) → n < length text → n + 1 ≤ k → 31 ≤ n → is_name k ≡ false
   longer n k within more long = elim (cases_lt (length text) k) [
     | inl past ↦
-        let all : take k text ≡ take (length text) text = all-taken k text (omega (arith, past)) ∙ sym (all-taken (length text) text (omega arith)) in
+        let all : take k text ≡ take (length text) text = take_all k text (omega (arith, past)) ∙ sym (take_all (length text) text (omega arith)) in
         ap (λ l. is_some (characters_of l)) all ∙ too-long (length text) (omega (arith, within, long)) (omega arith)
     | inr upto ↦ too-long k (omega (arith, more, long)) upto
   ]
-    where
-      all-taken : (k : ℕ) (xs : List ℕ) → length xs ≤ k → take k xs ≡ xs
-      all-taken zero [] h = refl
-      all-taken zero (x ∷ xs) h = absurd (omega (arith, h))
-      all-taken (suc k) [] h = refl
-      all-taken (suc k) (x ∷ xs) h = ap (λ l. x ∷ l) (all-taken k xs (omega (arith, h)))
 
   -- where no name begins with these bytes, no more of them are one
   none-begins : (n k : ℕ) → name_from (take (suc n) text) ≡ None → n + 1 ≤ k → is_name k ≡ false
   none-begins n k none more =
       let whole : take (suc n) (take k text) ++ drop (suc n) (take k text) ≡ take k text = take-append-drop (suc n) (take k text) in
       let front : take (suc n) (take k text) ≡ take (suc n) text = take-take (suc n) k text (omega (arith, more)) in
-      false-if (is_name k) (λ is.
+      false_from_ne_true (is_name k) (λ is.
       let found = found-so (take (suc n) (take k text)) (drop (suc n) (take k text)) (ap (λ l. is_some (characters_of l)) whole ∙ is) in
-      let no : true ≡ false = sym found ∙ ap (λ l. is_some (name_from l)) front ∙ not-some _ none in absurd (cc))
+      let no : true ≡ false = sym found ∙ ap (λ l. is_some (name_from l)) front ∙ ap is_some none in absurd (cc))
 
   walk-name : (name : List ℕ) (n : ℕ) (bs : List ℕ) → drop n text ≡ bs → take n name ≡ take n text → n ≤ 31 → walk 38 name n bs ≡ ends is_ascii_alphanumeric is_name n bs
   walk-name name n [] at same h = at-end is_ascii_alphanumeric is_name n
@@ -180,10 +166,6 @@ module _ (text : List ℕ) where
     where
       within : n < length text
       within = omega (arith, ap length at, length-drop n text)
-
-      and-true : (t : Bool) → t ≡ (t && true)
-      and-true true = refl
-      and-true false = refl
 
       some-is : (o : Option (List ℕ)) → is_some o ≡ true → o ≡ Some (unwrap_or o name)
       some-is None e = absurd (cc)
@@ -208,7 +190,7 @@ module _ (text : List ℕ) where
           ∙ rest (drop-next text n b bs at) (ap (λ m. take m (name_behind 38 name n (Some b))) one ∙ further ∙ ap (λ l. l ++ (b ∷ [])) same ∙ sym more-text ∙ ap (λ m. take m text) (sym one)) (omega (arith, less))
           ∙ goes is_ascii_alphanumeric is_name n b bs f
       goes-further false less f found rest =
-          let goes_is : may_go_on 38 name n b ≡ false = ap (λ t. (nat_lt n 31 && is_ascii_alphanumeric b) && t) found ∙ and-none (nat_lt n 31 && is_ascii_alphanumeric b) in
+          let goes_is : may_go_on 38 name n b ≡ false = ap (λ t. (nat_lt n 31 && is_ascii_alphanumeric b) && t) found ∙ and-false (nat_lt n 31 && is_ascii_alphanumeric b) in
           let none : name_from (take (suc n) text) ≡ None = ap name_from (more-text ∙ ap (λ l. l ++ (b ∷ [])) (sym same)) ∙ no-name name n b (none-is (going_on name n b) found) in
           ap (goes_row name n b bs) goes_is ∙ none-further is_ascii_alphanumeric is_name n b bs (λ k more. none-begins n k none more) f
 
@@ -218,7 +200,7 @@ module _ (text : List ℕ) where
       of true u e f rest =
           ap (whole_row name n b bs) e
           ∙ ap (λ l. cond (is_some (characters_of l)) (Some n) None) same
-          ∙ ap (λ t. cond t (Some n) None) (and-true (is_name n) ∙ ap (λ t. is_name n && t) (sym e))
+          ∙ ap (λ t. cond t (Some n) None) (sym (and-true (is_name n)) ∙ ap (λ t. is_name n && t) (sym e))
           ∙ stops is_ascii_alphanumeric is_name n b bs (apart is_ascii_alphanumeric refl b e)
       of false true e f rest = elim (cases_lt n 31) [
         | inl less ↦ ap (whole_row name n b bs) e ∙ goes-further (is_some (going_on name n b)) less f refl rest
@@ -227,9 +209,9 @@ module _ (text : List ℕ) where
             ap (whole_row name n b bs) e ∙ ap (goes_row name n b bs) goes_is ∙ none-further is_ascii_alphanumeric is_name n b bs (λ k further. longer n k within further more) f
       ]
       of false false e f rest =
-          let goes_is : may_go_on 38 name n b ≡ false = ap (λ t. (nat_lt n 31 && t) && is_some (going_on name n b)) f ∙ ap (λ t. t && is_some (going_on name n b)) (and-none (nat_lt n 31)) in
+          let goes_is : may_go_on 38 name n b ≡ false = ap (λ t. (nat_lt n 31 && t) && is_some (going_on name n b)) f ∙ ap (λ t. t && is_some (going_on name n b)) (and-false (nat_lt n 31)) in
           ap (whole_row name n b bs) e ∙ ap (goes_row name n b bs) goes_is
-          ∙ sym (ap (λ t. cond t (Some n) None) (ap (λ t. is_name n && t) e ∙ and-none (is_name n)))
+          ∙ sym (ap (λ t. cond t (Some n) None) (ap (λ t. is_name n && t) e ∙ and-false (is_name n)))
           ∙ stops is_ascii_alphanumeric is_name n b bs f
 
 made-of : (kind : Kind) (t : Bool) (n : ℕ) → option_map (reference kind) (cond t (Some n) None) ≡ cond t (Some (reference kind n)) None

@@ -1,5 +1,5 @@
 -- What is remembered of backtick strings is a memory of them, as the theorem of code spans asks for one.
-use Rattle.mdconstructs_inline_constructs.proofs.Prelude.{◌≡◌, ◌⊎◌, inl, inr, ℕ, zero, suc, ◌≤◌, ◌&&◌, nat_le, ◌∷◌, [], List, true, false, cond, refl, sym, ◌∙◌, ap, subst, arith, Option, Some, None, last_or, and_parts, nat_tests, ContainerState, last-more, size_c, between_rows, before_chunk_rows, opening_rows, Memory, remembering, TextByte, backtick, all_runs_seen, index_of, is_ahead, is_seen_from, later_of, remembered_between_rows, remembered_chunk_rows, remembered_open_rows, runs_of, seen_at, with_run, with_run_at}
+use Rattle.mdconstructs_inline_constructs.proofs.Prelude.{◌≡◌, ◌⊎◌, inl, inr, ℕ, zero, suc, ◌≤◌, ◌&&◌, nat_le, ◌∷◌, [], List, true, false, cond, refl, sym, ◌∙◌, ap, subst, arith, Option, Some, None, last_or, and_parts, nat_tests, ContainerState, last-more, size_c, between_rows, opening_rows, Memory, remembering, TextByte, backtick, all_runs_seen, index_of, is_ahead, is_seen_from, later_of, remembered_between_rows, remembered_open_rows, runs_of, seen_at, with_run, with_run_at}
 
 -- ---- one entry
 at-least : (i j : ℕ) → j ≤ i → nat_le j i ≡ true
@@ -103,6 +103,3 @@ opening-remembered before (Some _) = refl
 pub between-remembered : (before waits : Option TextByte) → remembered_between_rows {R = Unit} {D = Unit} before waits ≡ between_rows (remembering code_memory) before waits
 between-remembered before None = refl
 between-remembered before (Some w) = refl
-
-pub chunk-remembered : (before waits : Option TextByte) → remembered_chunk_rows {R = Unit} {D = Unit} before waits ≡ before_chunk_rows (remembering code_memory) before waits
-chunk-remembered before waits = refl

@@ -1,5 +1,5 @@
 -- How a machine reads white space: up to the end of its line it is read whole, with its events; if more of the line follows, it fails.
-use Rattle.mdconstructs_inline_constructs.proofs.Prelude.{◌≡◌, ℕ, suc, ◌+◌, ◌-◌, ◌≤◌, ◌&&◌, not, List, [], ◌∷◌, ◌++◌, Bool, true, false, cond, Some, None, refl, sym, ap, ◌∙◌, subst, arith, append_assoc, length, length-append, take, drop, not-false, not-true, length-map, take_at, prefix_len-le-length, prefix_len, slice_get, drop-next, Event, Enter, Exit, EventName, SpaceOrTab, Name, Nok, Ok, Retry, SpaceOrTabInside, SpaceOrTabStart, Seat, Byte, Choice, Configuration, Local, Step, Sight, byte_of, end_place, point_or, Given, Text, at-front, held, is_white, counts, outer, ReadsIn, TriedIn, puts-back, reads-of, after-passed, byte-behind, first_byte, goes-next, is_end, leaf-read, loops, past, past-at, past-stops, passed, shows, IsAfter, after-call, after-more, after-within, ReadsPart, EndsWith, HasRows, Leads, Plays, before_class, leads-ok, leads-seen, passes, Between, bytes_of, event, leaf, is_white_left, white_space, white_space_at, white_inside_rows, white_spaces, white_start_rows}
+use Rattle.mdconstructs_inline_constructs.proofs.Prelude.{◌≡◌, ℕ, suc, ◌+◌, ◌-◌, ◌≤◌, ◌&&◌, not, List, [], ◌∷◌, ◌++◌, Bool, true, false, cond, Some, None, refl, sym, ap, ◌∙◌, subst, arith, append_assoc, length, length-append, take, drop, not-false, not-true, length-map, take_at, prefix_len-le-length, prefix_len, slice_get, drop-next, Event, Enter, Exit, EventName, SpaceOrTab, Name, Nok, Ok, Retry, SpaceOrTabInside, SpaceOrTabStart, Seat, Byte, Choice, Configuration, Local, Step, Sight, byte_of, end_place, point_or, Given, Text, at-front, held, is_white, counts, outer, ReadsIn, TriedIn, puts-back, after-passed, byte-behind, first_byte, goes-next, is_end, leaf-read, loops, past, past-at, past-stops, passed, shows, IsAfter, after-call, after-more, after-within, EndsWith, HasRows, Leads, Plays, before_class, leads-ok, leads-seen, passes, Between, bytes_of, event, leaf, is_white_left, white_space, white_space_at, white_inside_rows, white_spaces, white_start_rows}
 use Rattle.mdconstructs_text.proofs.Plain.Stretches.{sees}
 use Rattle.mdconstructs_inline_constructs.proofs.WhiteSpaces.Bytes.{run-some}
 use Rattle.mdconstructs_inline_constructs.proofs.WhiteSpaces.Calls.{white_calls}
@@ -132,7 +132,3 @@ module _ (g : Given) (text : Text) (m : Plays g text) (w : PlaysWhiteSpaces g te
 -- The theorem of white space at the end of a line, within so many calls
 pub white-spaces-read-in : (g : Given) (text : Text) (m : Plays g text) → PlaysWhiteSpaces g text m.step → (names : Between) → ReadsIn g text m names white_calls white_spaces
 white-spaces-read-in g text m w names nok p ended events local s ss here first = tries-white g text m w names nok p ended events local s ss here first (is_white_left (bytes_of (s ∷ ss))) refl
-
--- and within any number
-pub white-spaces-read : (g : Given) (text : Text) (m : Plays g text) → PlaysWhiteSpaces g text m.step → (names : Between) → ReadsPart g text m names white_spaces
-white-spaces-read g text m w names = reads-of g text m names white_calls white_spaces (white-spaces-read-in g text m w names)

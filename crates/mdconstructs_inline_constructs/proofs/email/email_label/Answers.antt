@@ -1,12 +1,7 @@
-use Rattle.mdconstructs_inline_constructs.proofs.Prelude.{◌≡◌, ℕ, cond, [], ◌∷◌, Some, refl, sym, ap, ◌∙◌, subst, Autolink, AutolinkEmail, AutolinkMarker, Next, Ok, Nok, AutolinkEmailLabel, AutolinkEmailValue, sight_of, current_of, Text, Waits, Byte, End, Nothing, can-exit, can-mark, then, DoesAll, Row, class_of, enter, exit, consume, write, picked, step_of, text_byte, size_b_is, size_b_grows, domain_ends, email_label, email_label_rows, label_ends, label_goes_on, label_has_hyphen}
+use Rattle.mdconstructs_inline_constructs.proofs.HtmlTexts.Calls.{byte-waits}
+use Rattle.mdconstructs_inline_constructs.proofs.Prelude.{◌≡◌, cond, [], ◌∷◌, Some, refl, sym, ap, ◌∙◌, subst, Autolink, AutolinkEmail, AutolinkMarker, Next, Ok, Nok, AutolinkEmailLabel, AutolinkEmailValue, sight_of, can-exit, can-mark, then, DoesAll, Row, class_of, enter, exit, consume, write, picked, step_of, text_byte, size_b_is, size_b_grows, domain_ends, email_label, email_label_rows, label_ends, label_goes_on, label_has_hyphen}
 use Rattle.mdconstructs_tables.specs.Markers.{marked}
 use Rattle.mdconstructs_inline_constructs.proofs.email.email_label.Goals as goal
-
--- a byte that is seen waits
-byte-waits : (text : Text) (p : ℕ) (waits : Waits) (b : ℕ) → current_of text p waits ≡ Some b → waits ≡ Byte
-byte-waits text p Nothing b h = absurd (cc)
-byte-waits text p Byte b h = refl
-byte-waits text p End b h = absurd (cc)
 
 pub marker-requires : goal.marker-requires
 marker-requires g c =

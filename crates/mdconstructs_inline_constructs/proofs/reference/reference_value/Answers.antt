@@ -1,12 +1,7 @@
-use Rattle.mdconstructs_inline_constructs.proofs.Prelude.{◌≡◌, ◌∙◌, ℕ, [], ◌∷◌, Some, refl, sym, ap, CharacterReference, CharacterReferenceMarkerSemi, CharacterReferenceValue, current_of, sight_of, Text, Waits, Nothing, Byte, End, class_of, consume, enter, exit, can-exit, can-mark, text_byte, reference_value}
+use Rattle.mdconstructs_inline_constructs.proofs.HtmlTexts.Calls.{byte-waits}
+use Rattle.mdconstructs_inline_constructs.proofs.Prelude.{◌≡◌, ◌∙◌, [], ◌∷◌, Some, refl, sym, ap, CharacterReference, CharacterReferenceMarkerSemi, CharacterReferenceValue, sight_of, class_of, consume, enter, exit, can-exit, can-mark, text_byte, reference_value}
 use Rattle.mdconstructs_tables.specs.Markers.{marked}
 use Rattle.mdconstructs_inline_constructs.proofs.reference.reference_value.Goals as goal
-
--- what is seen waits
-waits-seen : (text : Text) (p : ℕ) (waits : Waits) (b : ℕ) → current_of text p waits ≡ Some b → waits ≡ Byte
-waits-seen text p Nothing b h = absurd (cc)
-waits-seen text p Byte b h = refl
-waits-seen text p End b h = absurd (cc)
 
 pub marker-requires : goal.marker-requires
 marker-requires g c =
@@ -15,7 +10,7 @@ marker-requires g c =
     let made = c.in_ok-exit-in-Some.ensures.ok in
     let still : c.exit.new.self.configuration.waiting ≡ t.configuration.waiting = ap (λ t. t.configuration.waiting) made in
     can-mark text_byte reference_value (class_of text_byte (sight_of t).previous) (Some (text_byte c.in-Some.byte)) t c.requires.called refl (ap (class_of text_byte) e) (exit CharacterReferenceValue ∷ [])
-    c.exit.new.self refl made (still ∙ waits-seen t.text t.configuration.position t.configuration.waiting c.in-Some.byte e)
+    c.exit.new.self refl made (still ∙ byte-waits t.text t.configuration.position t.configuration.waiting c.in-Some.byte e)
 
 pub exit-requires-then-byte-eq59 : goal.exit-requires-then-byte-eq59
 exit-requires-then-byte-eq59 g c =
@@ -30,4 +25,4 @@ consume-requires g c =
     let t = c.args.t.now in
     let e : (sight_of t).current ≡ Some c.in-Some.byte = sym c.current.ensures ∙ c.in-Some.is in
     let still : c.grow_value.new.t.configuration.waiting ≡ t.configuration.waiting = ap (λ t. t.configuration.waiting) c.grow_value.ensures in
-    still ∙ waits-seen t.text t.configuration.position t.configuration.waiting c.in-Some.byte e
+    still ∙ byte-waits t.text t.configuration.position t.configuration.waiting c.in-Some.byte e
