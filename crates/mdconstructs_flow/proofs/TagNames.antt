@@ -3,11 +3,10 @@ use Rattle.std.proofs.Common.{◌≡◌, inl, inr, ℕ, ◌+◌, ◌*◌, ◌<�
 use Rattle.std.specs.Char.{is_ascii_alphabetic, is_ascii_alphanumeric, to_ascii_lowercase}
 use Rattle.std.specs.List.{list_all}
 use Rattle.std.specs.Str.{str_to_ascii_lowercase}
-use Rattle.std.proofs.lemmas.Bool.{eqb-true, eq-eqb, and_parts}
+use Rattle.std.proofs.lemmas.Bool.{eqb-true, eq-eqb, and_parts, or_right}
 use Rattle.std.proofs.lemmas.Bool.Decides.{nat_tests}
 use Rattle.markdown_base.specs.Texts.{html_block_names, html_raw_names}
 use Rattle.mdconstructs_flow.specs.HtmlNames.{digit_of, no_name, one_byte_more, number_behind, number_of, is_number_in, is_tag_name, IsListed, AreToldApart}
-use Rattle.mdconstructs_tables.proofs.Tables.Holding.{or-true}
 
 -- A number by its digits, the last one first, and a name the other way round
 abbrev value : List ℕ → ℕ
@@ -68,7 +67,7 @@ lower byte h = grind (arith, nat_tests)
 digit-lower : (byte : ℕ) → is_ascii_alphanumeric byte ≡ true → digit_of (to_ascii_lowercase byte) ≡ digit_of byte
 digit-lower byte h = grind (arith, nat_tests)
 
-letter-is : (byte : ℕ) → is_ascii_alphabetic byte ≡ true → is_ascii_alphanumeric byte ≡ true
+pub letter-is : (byte : ℕ) → is_ascii_alphabetic byte ≡ true → is_ascii_alphanumeric byte ≡ true
 letter-is byte h = grind (arith, nat_tests)
 
 front : (byte : ℕ) (bytes : List ℕ) → IsName (byte ∷ bytes) → is_ascii_alphanumeric byte ≡ true
@@ -169,7 +168,7 @@ told (listed ∷ names) fine name is =
       (λ h. elim h as (λ _. ((n == m) || is_number_in names n) ≡ true) [
         | inl same_name ↦
             let numbers : m ≡ n = ap number_of (sym same_name) ∙ lower-number 0 name (all-of name is) in ap (λ t. t || is_number_in names n) (eq-eqb n m (sym numbers))
-        | inr behind ↦ or-true (n == m) (is_number_in names n) (further.1 behind)
+        | inr behind ↦ or_right (n == m) (is_number_in names n) (further.1 behind)
       ]),
     )
 

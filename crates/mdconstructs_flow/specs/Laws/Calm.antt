@@ -296,10 +296,6 @@ module _ (test : Row Unit Unit → Bool) (g : Given) (s : Sight) (k : Configurat
   behind-rows (row acts answer) P h = behind-acts acts P h
   behind-rows (when t a b) P h = behind-rows b P (behind-rows a (HarmlessRows b P) h)
 
-  behind-cases : (cs : List (Case FlowByte Unit Unit)) (P : Type 0) → HarmlessCases cs P → P
-  behind-cases [] P h = h
-  behind-cases (c ∷ cs) P h = behind-cases cs P (behind-rows c.rows (HarmlessCases cs P) h)
-
   each : (rows : Rows Unit Unit) (P : Type 0) → all_rows test rows ≡ true → HarmlessRows rows P → Each rows
   each (row acts answer) P is h = one acts answer P is h
   each (when t a b) P is h =

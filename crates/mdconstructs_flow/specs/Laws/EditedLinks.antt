@@ -1,9 +1,9 @@
 -- Links between events stay in shape through edits that add only events without links.
-use Rattle.std.proofs.Common.{◌≡◌, ◌⊎◌, ℕ, zero, suc, ◌+◌, ◌<◌, ◌≤◌, List, [], ◌∷◌, ◌++◌, true, false, cond, Option, Some, None, inl, inr, length, refl, sym, ap, ◌∙◌, subst, arith}
+use Rattle.std.proofs.Common.{◌≡◌, ◌⊎◌, ℕ, zero, suc, ◌+◌, ◌<◌, ◌≤◌, List, [], ◌∷◌, ◌++◌, true, false, cond, Option, Some, None, inl, inr, length, refl, sym, ap, ◌∙◌, arith}
 use Rattle.std.specs.Prelude.{◌==◌, All, IfSome, slice_get, option_map, option_and_then}
 use Rattle.std.specs.List.{AllByRecursion}
 use Rattle.std.proofs.lemmas.Bool.Decides.{nat_tests}
-use Rattle.std.proofs.lemmas.List.Elements.{All-from_recursion, recursion_from_All}
+use Rattle.std.proofs.lemmas.List.Elements.{All-from_recursion}
 use Rattle.std.proofs.lemmas.Option.{slice_get-map, none-some, same_Some}
 use Rattle.markdown_base.specs.declared.event.Event.{Event}
 use Rattle.markdown_base.specs.declared.event.Link.{Link}
@@ -12,7 +12,7 @@ use Rattle.markdown_edits.specs.Links.{next_of, previous_of}
 use Rattle.markdown_edits.specs.Survivors.{AreNew, place_after}
 use Rattle.markdown_edits.specs.Woven.{of_list, Change, Tagged, as_listed, changed, events_at, is_removed, place_in, placed_end, woven}
 use Rattle.markdown_edits.proofs.Edits.FinalPlaces.{HasNo, place_in-append}
-use Rattle.markdown_edits.proofs.Edits.Survivors.{stays_as_it_was, next_moved, previous_moved}
+use Rattle.markdown_edits.proofs.Edits.Survivors.{stays_as_it_was, next_moved, previous_moved, has_no}
 use Rattle.markdown_base.proofs.Common.{every-append, every-get}
 
 -- an element of two lists together is in the first, or in the second behind it
@@ -85,9 +85,6 @@ by-way f None j h = absurd (none-some j h)
 by-way f (Some m) j h = (m, refl, h)
 
 module _ (ws : List Change) (xs : List Event) (new : AreNew ws) (unlinked : AddNoLinks ws) where
-  none-of-them : (n : ℕ) → HasNo (of_list n) ws
-  none-of-them n = recursion_from_All (λ w. place_in (of_list n) w.events ≡ None) ws (new n)
-
   abbrev moved : (u : Tagged) → Event
   moved u = relinked (placed_end (woven ws 0 xs) u.identity) u.event
 
@@ -100,7 +97,7 @@ module _ (ws : List Change) (xs : List Event) (new : AreNew ws) (unlinked : AddN
       let got = slice_get-map moved (woven ws 0 xs) i in
       elim (slice_get (woven ws 0 xs) i) as (λ o. slice_get (woven ws 0 xs) i ≡ o → (n : ℕ) × (place_after ws xs n ≡ Some i)) [
         | None ↦ λ e. absurd (none-some j (ap (λ o. option_and_then (λ (e : Event). option_and_then end e.link) o) (sym (got ∙ ap (option_map moved) e)) ∙ h))
-        | Some t ↦ λ e. elim (found ws none-of-them unlinked 0 xs i t e) [
+        | Some t ↦ λ e. elim (found ws has_no ws new unlinked 0 xs i t e) [
           | inl none ↦ absurd (none-some j (sym (none-linked end (placed_end (woven ws 0 xs) t.identity) t.event none) ∙ ap (λ o. option_and_then (λ (e : Event). option_and_then end e.link) o) (sym (got ∙ ap (option_map moved) e)) ∙ h))
           | inr q ↦ (q.0, q.3)
         ]

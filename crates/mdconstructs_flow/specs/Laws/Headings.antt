@@ -2,7 +2,7 @@
 use Rattle.std.proofs.Common.{◌≡◌, ℕ, ◌+◌, ◌-◌, ◌<◌, List, [], ◌∷◌, ◌++◌, Option, Some, None, length, map, refl, sym, ap, ◌∙◌, subst, arith, append_assoc, append-nil, length-append}
 use Rattle.std.specs.Prelude.{slice_get, option_map}
 use Rattle.std.specs.List.{AllByRecursion}
-use Rattle.std.proofs.lemmas.List.{length-map}
+use Rattle.std.proofs.lemmas.List.{length-map, map-append}
 use Rattle.std.proofs.lemmas.Option.{slice_get-map}
 use Rattle.markdown_base.specs.declared.event.Event.{Event}
 use Rattle.markdown_base.specs.declared.event.Kind.TheVariants.{Enter, Exit}
@@ -17,7 +17,7 @@ use Rattle.markdown_edits.proofs.Edits.Survivors.{slice_get-behind}
 use Rattle.mdconstructs_flow.specs.HeadingEdits.{under, with_names, renaming}
 use Rattle.mdconstructs_flow.specs.Renamings.{Told, kept, renamed, event_of, events_of, old, new, edits_from, IsNotVoid, AreTold, SameOpen}
 use Rattle.mdconstructs_flow.specs.FlowKnows.{LeaveOpen, IsInParagraph, IsBehindParagraph, RenameSpans}
-use Rattle.mdconstructs_flow.specs.Laws.Renamings.{map-two, same-length}
+use Rattle.mdconstructs_flow.specs.Laws.Renamings.{same-length}
 
 -- ---- two parts
 
@@ -68,7 +68,7 @@ edits-below i n (renamed e names ∷ ts) h = (omega (arith, h), edits-below (i +
 
 told-more : (ts : List Told) (events : List Event) (edits : List Edit) (e : Event) → AreTold ts events edits → AreTold (ts ++ kept (unlinked e) ∷ []) (events ++ e ∷ []) edits
 told-more ts events edits e told = record {
-  events_are = map-two unlinked events (e ∷ []) ∙ ap (λ l. l ++ unlinked e ∷ []) told.events_are ∙ sym (map-two event_of ts (kept (unlinked e) ∷ []));
+  events_are = map-append unlinked events (e ∷ []) ∙ ap (λ l. l ++ unlinked e ∷ []) told.events_are ∙ sym (map-append event_of ts (kept (unlinked e) ∷ []));
   edits_are = told.edits_are ∙ sym (edits-front 0 ts (unlinked e ∷ []));
   no_void = not-void-two ts (kept (unlinked e) ∷ []) told.no_void (tt, tt);
 }
@@ -77,7 +77,7 @@ same-kept : (ts : List Told) (es : List Event) → SameOpen ts → SameOpen (ts 
 same-kept ts es same =
     ap (names_after_all (Some [])) (new-two ts (map kept es) ∙ ap (λ l. new ts ++ l) (new-kept es))
     ∙ names_after_all-append (Some []) (new ts) es ∙ ap (λ o. names_after_all o es) same
-    ∙ sym (names_after_all-append (Some []) (old ts) es) ∙ ap (names_after_all (Some [])) (ap (λ l. old ts ++ l) (sym (old-kept es)) ∙ sym (map-two event_of ts (map kept es)))
+    ∙ sym (names_after_all-append (Some []) (old ts) es) ∙ ap (names_after_all (Some [])) (ap (λ l. old ts ++ l) (sym (old-kept es)) ∙ sym (map-append event_of ts (map kept es)))
 
 pub spans-more : (events : List Event) (edits : List Edit) (e : Event) → RenameSpans events edits → RenameSpans (events ++ e ∷ []) edits
 spans-more events edits e (ts, told, same) = (ts ++ kept (unlinked e) ∷ [], told-more ts events edits e told, same-kept ts (unlinked e ∷ []) same)
@@ -89,7 +89,7 @@ open-more names names' es e h step before =
 
 -- what is told, with one more event at the end of what is kept
 more-kept : (ts : List Told) (e : Event) (es : List Event) (f : Event) → (ts ++ map kept (e ∷ es)) ++ kept f ∷ [] ≡ ts ++ map kept (e ∷ (es ++ f ∷ []))
-more-kept ts e es f = append_assoc ts (map kept (e ∷ es)) (kept f ∷ []) ∙ ap (λ l. ts ++ kept e ∷ l) (sym (map-two kept es (f ∷ [])))
+more-kept ts e es f = append_assoc ts (map kept (e ∷ es)) (kept f ∷ []) ∙ ap (λ l. ts ++ kept e ∷ l) (sym (map-append kept es (f ∷ [])))
 
 -- ---- paragraphs
 
@@ -282,9 +282,9 @@ module _ (events : List Event) (edits : List Edit) (first second : ℕ) (e : Eve
 
   old-rest : old rest ≡ before
   old-rest =
-      ap (λ l. h.enter ∷ l) (map-two event_of (map kept h.chunks) (renamed h.exit texts ∷ (map kept h.underline ++ renamed last ends ∷ []))
+      ap (λ l. h.enter ∷ l) (map-append event_of (map kept h.chunks) (renamed h.exit texts ∷ (map kept h.underline ++ renamed last ends ∷ []))
       ∙ ap (λ l. l ++ h.exit ∷ old (map kept h.underline ++ renamed last ends ∷ [])) (old-kept h.chunks)
-      ∙ ap (λ l. h.chunks ++ h.exit ∷ l) (map-two event_of (map kept h.underline) (renamed last ends ∷ []) ∙ ap (λ l. l ++ last ∷ []) (old-kept h.underline)))
+      ∙ ap (λ l. h.chunks ++ h.exit ∷ l) (map-append event_of (map kept h.underline) (renamed last ends ∷ []) ∙ ap (λ l. l ++ last ∷ []) (old-kept h.underline)))
 
   new-rest : new rest ≡ map (under h.enter) firsts ++ (h.chunks ++ (map (under h.exit) texts ++ (h.underline ++ map (under last) ends)))
   new-rest =
@@ -293,11 +293,11 @@ module _ (events : List Event) (edits : List Edit) (first second : ℕ) (e : Eve
       ∙ ap (λ l. h.chunks ++ (map (under h.exit) texts ++ l)) (new-two (map kept h.underline) (renamed last ends ∷ []) ∙ ap (λ l. l ++ new (renamed last ends ∷ [])) (new-kept h.underline)))
 
   told-parts : map unlinked events ≡ old front ++ h.enter ∷ (h.chunks ++ h.exit ∷ h.underline)
-  told-parts = let es = h.enter ∷ (h.chunks ++ h.exit ∷ h.underline) in h.told.events_are ∙ map-two event_of front (map kept es) ∙ ap (λ l. old front ++ l) (old-kept es)
+  told-parts = let es = h.enter ∷ (h.chunks ++ h.exit ∷ h.underline) in h.told.events_are ∙ map-append event_of front (map kept es) ∙ ap (λ l. old front ++ l) (old-kept es)
 
   all-parts : map unlinked (events ++ e ∷ []) ≡ old front ++ before
   all-parts =
-      map-two unlinked events (e ∷ []) ∙ ap (λ l. l ++ last ∷ []) told-parts ∙ append_assoc (old front) (h.enter ∷ (h.chunks ++ h.exit ∷ h.underline)) (last ∷ [])
+      map-append unlinked events (e ∷ []) ∙ ap (λ l. l ++ last ∷ []) told-parts ∙ append_assoc (old front) (h.enter ∷ (h.chunks ++ h.exit ∷ h.underline)) (last ∷ [])
       ∙ ap (λ l. old front ++ h.enter ∷ l) (append_assoc h.chunks (h.exit ∷ h.underline) (last ∷ []))
 
   old-long : length (old front) ≡ length front
@@ -382,7 +382,7 @@ module _ (events : List Event) (edits : List Edit) (first second : ℕ) (e : Eve
             ((rw h.closes refl, (refl, tt)), not-void-two (map kept h.underline) (renamed last ends ∷ []) (not-void-kept h.underline) ((rw named refl, (refl, (refl, tt))), tt)),
       ) in
       record {
-        events_are = all-parts ∙ ap (λ l. old front ++ l) (sym old-rest) ∙ sym (map-two event_of front rest);
+        events_are = all-parts ∙ ap (λ l. old front ++ l) (sym old-rest) ∙ sym (map-append event_of front rest);
         edits_are = added-three ∙ append_assoc (edits ++ one ∷ []) (two ∷ []) (three ∷ []) ∙ append_assoc edits (one ∷ []) (two ∷ three ∷ []) ∙ sym told-edits;
         no_void = not-void-two front rest (not-void-front front (map kept es) h.told.no_void) no_void_rest;
       }
@@ -395,7 +395,7 @@ module _ (events : List Event) (edits : List Edit) (first second : ℕ) (e : Eve
       ∙ h.same
       ∙ sym (as-paragraph h.enter h.exit last h.chunks h.underline h.enters h.named h.exits h.closes exits named h.text h.opened (names_after_all (Some []) (old front)))
       ∙ sym (names_after_all-append (Some []) (old front) before)
-      ∙ ap (names_after_all (Some [])) (ap (λ l. old front ++ l) (sym old-rest) ∙ sym (map-two event_of front rest))
+      ∙ ap (names_after_all (Some [])) (ap (λ l. old front ++ l) (sym old-rest) ∙ sym (map-append event_of front rest))
 
   pub heading-made : RenameSpans (events ++ e ∷ []) with_heading
   heading-made = (front ++ rest, heading-told, heading-same)

@@ -1,13 +1,15 @@
 -- Events that got other names by edits: how edits make them, and what stays.
-use Rattle.std.proofs.Common.{◌≡◌, ℕ, zero, suc, ◌+◌, ◌≤◌, List, [], ◌∷◌, ◌++◌, true, false, Option, Some, None, length, map, refl, sym, ap, ◌∙◌, subst, arith}
+use Rattle.std.proofs.Common.{◌≡◌, ℕ, suc, ◌+◌, ◌≤◌, List, [], ◌∷◌, ◌++◌, true, false, Option, Some, None, length, map, refl, sym, ap, ◌∙◌, subst, arith}
 use Rattle.std.specs.Prelude.{slice_get, option_map, All, AllPairs}
 use Rattle.std.specs.List.{AllByRecursion}
 use Rattle.std.proofs.lemmas.List.Elements.{All-from_recursion, recursion_from_All}
 use Rattle.std.proofs.lemmas.List.Kept.{AllPairs-cons}
 use Rattle.std.proofs.lemmas.Option.{none-some, same_Some}
+use Rattle.std.proofs.lemmas.List.{map-append}
+use Rattle.markdown_base.proofs.Orders.{IsFirstExit, AreTight, tight-at}
 use Rattle.markdown_base.proofs.Seats.{stands-self}
 use Rattle.markdown_base.specs.declared.event.Event.{Event}
-use Rattle.markdown_base.specs.declared.event.Kind.TheVariants.{Enter, Exit}
+use Rattle.markdown_base.specs.declared.event.Kind.TheVariants.{Exit}
 use Rattle.markdown_base.specs.declared.event.Link.{Link}
 use Rattle.markdown_base.specs.declared.event.Name.{Name as EventName}
 use Rattle.markdown_base.specs.declared.event.Point.{Point}
@@ -50,10 +52,6 @@ bare-additions : (e : Event) (names : List EventName) → map bare (map as_addit
 bare-additions e [] = refl
 bare-additions e (n ∷ names) = ap (λ es. under e n ∷ es) (bare-additions e names)
 
-pub map-two : {A B : Type 0} (f : A → B) (xs ys : List A) → map f (xs ++ ys) ≡ map f xs ++ map f ys
-map-two f [] ys = refl
-map-two f (x ∷ xs) ys = ap (λ l. f x ∷ l) (map-two f xs ys)
-
 pub same-length : (xs : List Event) (ts : List Told) → map unlinked xs ≡ old ts → length xs ≡ length ts
 same-length [] [] e = refl
 same-length [] (t ∷ ts) e = absurd (cc)
@@ -79,7 +77,7 @@ woven-told i (renamed y names ∷ ts) (x ∷ xs) e =
     let d = as_change (edit_at i 1 (map (under y) names)) in
     let apart : AreApart (i + 1) ws n = AreApart-edits (edits_from (i + 1) ts) (i + 1) n (told-apart (i + 1) n ts refl) in
     let one : woven (d ∷ ws) i (x ∷ xs) ≡ map as_addition (map (under y) names) ++ woven ws (i + 1) xs = woven-at d ws n 1 (x ∷ xs) apart refl (omega arith) in
-    ap (map bare) one ∙ map-two bare (map as_addition (map (under y) names)) (woven ws (i + 1) xs)
+    ap (map bare) one ∙ map-append bare (map as_addition (map (under y) names)) (woven ws (i + 1) xs)
     ∙ ap (λ l. l ++ map bare (woven ws (i + 1) xs)) (bare-additions y names) ∙ ap (λ l. map (under y) names ++ l) (woven-told (i + 1) ts xs rest)
 
 -- links that are moved are no part of it
@@ -162,26 +160,6 @@ pairs-of R (x ∷ xs) h = (
 )
 
 -- ---- void spans
-
--- the exit of this name comes first
-abbrev IsFirstExit : EventName → List Event → Type 0
-IsFirstExit n [] = ⊥
-IsFirstExit n (e ∷ es) = (e.kind ≡ Exit) × (e.name ≡ n)
-
-abbrev AreTight : List Event → Type 0
-AreTight [] = Unit {0}
-AreTight (e ∷ es) = (e.kind ≡ Enter → is_void e.name ≡ true → IsFirstExit e.name es) × AreTight es
-
-tight-at : (xs : List Event) → AreTight xs → IsVoidTight xs
-tight-at [] h k e is enters void = absurd (none-some e is)
-tight-at (x ∷ []) h zero e is enters void = let same = same_Some x e is in absurd (subst (λ (y : Event). y.kind ≡ Enter → is_void y.name ≡ true → ⊥) same h.0 enters void)
-tight-at (x ∷ y ∷ xs) h zero e is enters void =
-    let same = same_Some x e is in
-    let first = subst (λ (z : Event). z.kind ≡ Enter → is_void z.name ≡ true → IsFirstExit z.name (y ∷ xs)) same h.0 enters void in
-    (y, refl, first.0, first.1)
-tight-at (x ∷ xs) h (suc k) e is enters void =
-    let n : suc k + 1 ≡ suc (k + 1) = omega arith in
-    rw n (tight-at xs h.1 k e is enters void)
 
 tight-of : (xs : List Event) → IsVoidTight xs → AreTight xs
 tight-of [] h = tt

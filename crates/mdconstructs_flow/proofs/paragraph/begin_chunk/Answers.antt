@@ -1,25 +1,9 @@
-use Rattle.std.proofs.Common.{◌≡◌, true, Some, sym, ◌∙◌, rules}
-use Rattle.markdown_base.specs.declared.event.Name.TheVariants.{Data}
-use Rattle.markdown_edits.specs.Links.{CanLink}
-use Rattle.markdown_tokenizer.specs.Calls.{entered}
-use Rattle.markdown_tokenizer.specs.Configuration.{TokenizerValue, at_configuration}
-use Rattle.markdown_tokenizer.specs.Sight.{sight_of}
-use Rattle.mdconstructs_tables.specs.Chunks.{chunk_before, last_event}
-use Rattle.mdconstructs_machines.specs.Paragraphs.{text_link}
+use Rattle.std.proofs.Common.{true, sym, ◌∙◌, rules}
+use Rattle.mdconstructs_machines.proofs.ChunkEnters.{linkable, as_text}
 use Rattle.mdconstructs_flow.proofs.paragraph.begin_chunk.Goals as goal
-
--- what can be linked in one configuration can be in another that is the same
-linkable : {M R D : Type 0} (t u : TokenizerValue M R D) → u ≡ t
-    → (t.configuration.local.tokenize_state.connect ≡ true → CanLink t.configuration.events (chunk_before t.configuration) (last_event t.configuration))
-    → u.configuration.local.tokenize_state.connect ≡ true → CanLink u.configuration.events (chunk_before u.configuration) (last_event u.configuration)
-linkable t u e h = rw e h
 
 pub link_chunk-requires : goal.link_chunk-requires
 link_chunk-requires g c = linkable _ _ c.in_ok-enter_link.ensures.ok c.requires (sym c.is_connected.ensures ∙ c.if-is_connected.true)
-
--- the chunk was entered as text, and then what follows
-as_text : {M R D B : Type 0} (t u : TokenizerValue M R D) → u ≡ at_configuration t (entered Data (Some text_link) (sight_of t).enter_place t.configuration) → B → B
-as_text t u e b = b
 
 pub returns : goal.returns
 returns g c = as_text c.args.t.now c.enter_link.new.self c.in_ok-enter_link.ensures.ok (search rules)
