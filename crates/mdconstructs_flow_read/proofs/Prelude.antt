@@ -78,7 +78,7 @@ pub use Rattle.mdconstructs_flow.specs.HtmlTags.{html_flow_basic_self_closing_ro
 pub use Rattle.mdconstructs_flow.specs.HtmlWrites.{at_cdata, cdata_byte, closes_tag, html_becomes, html_is, html_is_on, is_block_tag, is_raw_tag, name_grows, opens_raw, raw_name_grows, tag_closes}
 pub use Rattle.mdconstructs_flow.specs.Laws.Headings.{added-last, below-more}
 pub use Rattle.mdconstructs_flow.specs.Laws.Measures.{word-is-word, word-no-feed}
-pub use Rattle.mdconstructs_flow.specs.Laws.Renamings.{map-two, told-apart}
+pub use Rattle.mdconstructs_flow.specs.Laws.Renamings.{told-apart}
 pub use Rattle.mdconstructs_flow.specs.Look.{break_may_begin, dash_may_begin, equals_may_begin, fence_may_begin, flow_blank_line_before_rows, heading_may_begin, html_may_begin, paragraph_look_start_rows, text_may_begin, underline_may_begin}
 pub use Rattle.mdconstructs_flow.specs.Paragraph.{flow_before_content_rows, paragraph_inside, paragraph_inside_rows, paragraph_line_after_rows, paragraph_line_start_rows, paragraph_start_rows}
 pub use Rattle.mdconstructs_flow.specs.Renamings.{Told, edits_from, kept as as_told, renamed}

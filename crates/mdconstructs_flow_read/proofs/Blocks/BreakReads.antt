@@ -20,10 +20,6 @@ module _ (bytes : List ℕ) where
   abbrev behind_both : List Seat → List Seat
   behind_both l = back is_dark (back is_white l)
 
-  -- both pieces come in front
-  both-in-front : (l : List Seat) → l ≡ white_front l ++ (dark_front l ++ behind_both l)
-  both-in-front l = sym (front-back is_white l) ∙ ap (λ r. front is_white l ++ r) (sym (front-back is_dark (back is_white l)))
-
   -- the marks of a line begin with those of its first pieces
   break-pieces : (bound : ℕ) (l : List Seat) → break_marks bytes (suc bound) l ≡ white bytes (white_front l) ++ (leaf_marks bytes Marks (dark_front l) ++ break_marks bytes bound (behind_both l))
   break-pieces bound l =

@@ -1,10 +1,11 @@
 -- The closing fence is read.
 use Rattle.mdconstructs_flow_read.proofs.Prelude.{◌≡◌, ◌==◌, List, [], ◌∷◌, ◌++◌, true, false, cond, refl, sym, ap, subst, append_assoc, append-nil, end-after-append, CodeFenced, CodeFencedFence, CodeFencedFenceSequence, SpaceOrTab, Point, Next, Retry, FlowAfter, RawFlowCloseBlank, RawFlowCloseBetween, RawFlowCloseSequence, RawFlowCloseBefore, Seat, end_after, Configuration, Given, Text, enter, exit, consume, Rows, row, is_white, raw_flow_close_between_rows, raw_flow_close_sequence_rows, raw_flow_close_before_rows, blank, flow_byte, Mark, leaf_marks, span_marks, white, Fence, LineEnds}
 use Rattle.mdconstructs_flow_read.proofs.Fenced.Opening.{is_mark, of-fence}
-use Rattle.mdconstructs_flow_read.proofs.Fenced.Rows.{at-assoc, into, line-over, out, two, white-begins, white-goes}
+use Rattle.mdconstructs_flow_read.proofs.Fenced.Rows.{at-assoc, into, line-over, out, white-begins, white-goes}
 use Rattle.mdconstructs_flow_read.proofs.Fenced.Runs.{AllOf, IsMark, at_other, line-stops, mark-class, rows-rest, run-reads}
 use Rattle.mdconstructs_flow_read.proofs.Fenced.Steps.{IsAt, Reads, at-class, at-rows, reads-byte, reads-fed, reads-none, reads-then}
 use Rattle.mdconstructs_flow_read.proofs.Lines.RowReads.{white-is-blank}
+use Rattle.mdconstructs_machines.proofs.LineReads.Rows.{two}
 
 module _ (g : Given) (t : Text) (f : Fence) (of : IsMark f.byte) where
   -- the end of the fence and of the block

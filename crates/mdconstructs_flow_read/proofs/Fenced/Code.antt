@@ -1,9 +1,10 @@
 -- A line of fenced code is read: its indentation, and the rest; and the line ending before it.
 use Rattle.mdconstructs_flow_read.proofs.Prelude.{◌≡◌, ℕ, suc, ◌+◌, ◌-◌, ◌^◌, ◌<◌, ◌≤◌, ◌==◌, nat_lt, List, [], ◌∷◌, ◌++◌, Bool, true, false, cond, length, refl, sym, ap, ◌∙◌, subst, arith, append-nil, lt-ltb, le-ltb, CodeFlowChunk, LineEnding, SpaceOrTab, Point, Next, Retry, RawFlowAfter, RawFlowAtNonLazyBreak, RawFlowBeforeContentChunk, RawFlowContentBefore, RawFlowContentChunk, RawFlowContentStart, RawFlowCloseBefore, Seat, end_after, Configuration, Local, Given, Text, Act, enter, exit, consume, write, Rows, row, is_white, one_more, raw_flow_after_rows, raw_flow_before_content_chunk_rows, raw_flow_content_before_rows, raw_flow_content_start_rows, blank, flow_byte, line_feed, count_becomes, count_grows, Mark, leaf_marks, white, Fence, IsInLine, LineEnds}
-use Rattle.mdconstructs_flow_read.proofs.Fenced.Rows.{into, line-goes, line-over, out, two}
+use Rattle.mdconstructs_flow_read.proofs.Fenced.Rows.{into, line-goes, line-over, out}
 use Rattle.mdconstructs_flow_read.proofs.Fenced.Runs.{AllOf, feed-class, rows-rest, word-class}
 use Rattle.mdconstructs_flow_read.proofs.Fenced.Steps.{IsAt, Reads, at-class, at-rows, byte-then, called, reads-byte, reads-fed, reads-fed-same, reads-then, row_of, told_row}
 use Rattle.mdconstructs_flow_read.proofs.Lines.RowReads.{white-is-blank}
+use Rattle.mdconstructs_machines.proofs.LineReads.Rows.{two}
 
 -- a number that reaches another is not below it
 

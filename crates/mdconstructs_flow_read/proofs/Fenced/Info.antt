@@ -1,12 +1,13 @@
 -- The info string of an opening fence is read: its first word, and the others.
 use Rattle.mdconstructs_flow_read.proofs.Prelude.{◌≡◌, ◌==◌, List, [], ◌∷◌, ◌++◌, true, false, cond, refl, sym, ap, ◌∙◌, subst, append_assoc, append-nil, end-after-append, Enter, CodeFencedFence, CodeFencedFenceInfo, CodeFencedFenceMeta, Data, SpaceOrTab, Point, Next, Retry, RawFlowInfoBefore, RawFlowInfo, RawFlowMetaBefore, RawFlowMeta, RawFlowAtNonLazyBreak, RawFlowInfoAfter, Seat, end_after, Configuration, Given, Text, enter, enter_link, exit, consume, Rows, row, is_white, event, raw_flow_info_before_rows, raw_flow_info_rows, raw_flow_meta_before_rows, blank, flow_byte, string_link, Mark, alone, chunk_span, span_marks, white, Fence, IsInLine, LineEnds, not-true}
 use Rattle.markdown_base.specs.declared.event.Content.TheVariants as content
-use Rattle.mdconstructs_flow_read.proofs.Fenced.Rows.{at-assoc, into, line-goes, line-over, out, three, two, white-goes}
+use Rattle.mdconstructs_flow_read.proofs.Fenced.Rows.{at-assoc, into, line-goes, line-over, out, three, white-goes}
 use Rattle.mdconstructs_flow_read.proofs.Fenced.Runs.{AllOf, Stops, rows-rest, run-reads, word-class}
 use Rattle.mdconstructs_flow_read.proofs.Fenced.Steps.{IsAt, Reads, at-class, at-rows, reads-byte, reads-fed, reads-none, reads-then}
 use Rattle.mdconstructs_flow_read.proofs.Lines.RowReads.{white-is-blank}
 use Rattle.mdconstructs_flow_read.proofs.Looks.ByteClasses.{no-line-feed}
 use Rattle.mdconstructs_flow_read.proofs.Lines.Fronts.{is_dark}
+use Rattle.mdconstructs_machines.proofs.LineReads.Rows.{two}
 
 -- a byte of the first word
 

@@ -1,7 +1,9 @@
 -- The look at the next line of fenced code finds whether it is the closing fence.
+use Rattle.markdown_base.proofs.Facts.Bools.{cond-itself, cond-same}
 use Rattle.mdconstructs_flow_read.proofs.Prelude.{◌≡◌, ◌⊎◌, inl, inr, ℕ, suc, ◌+◌, ◌-◌, ◌^◌, ◌<◌, ◌≤◌, ◌==◌, ◌&&◌, ◌||◌, not, nat_le, nat_lt, List, [], ◌∷◌, ◌++◌, Bool, true, false, cond, Option, Some, length, refl, sym, ap, ◌∙◌, subst, arith, drop, le-leb, leb-true, ltb-true, ltb-false, eqb-true, drop-next, Event, EventName, Name, Next, Ok, Nok, RawFlowCloseStart, RawFlowBeforeSequenceClose, RawFlowSequenceClose, RawFlowAfterSequenceClose, Seat, Configuration, Local, Sight, byte_of, sight, Given, Text, at-front, told, told_by, rows_in, Look, scan, shows, unfed_look, consume, write, Rows, row, when, picked, is_white, one_more, raw_flow_close_start_rows, raw_flow_before_sequence_close_rows, raw_flow_sequence_close_rows, raw_flow_after_sequence_close_rows, flow_byte, is_line_feed, is_blank, is_fence, flow, unchanged, is_byte, at_mark, count_becomes, count_grows, is_as_long, may_be_indented, bytes_of, Fence, closes, indent, is_blank_line, run, unindented, IsInLine, LineEnds}
+use Rattle.std.proofs.Math.Bool.{and-true, and-false}
 use Rattle.mdconstructs_flow_read.proofs.Fenced.Runs.{IsMark, feed-class, mark-class, word-class}
-use Rattle.mdconstructs_flow_read.proofs.Fenced.Steps.{IsOfFence, Keeps}
+use Rattle.mdconstructs_flow_read.proofs.Fenced.Steps.{IsOfFence, KeepsFence}
 use Rattle.mdconstructs_flow_read.proofs.Lines.RowReads.{white-is-blank}
 use Rattle.mdconstructs_flow_read.proofs.Looks.ByteClasses.{no-line-feed}
 use Rattle.mdconstructs_flow_read.proofs.Looks.LineTests.{run-grows}
@@ -20,18 +22,10 @@ closes_from code f c (b ∷ bs) = cond (is_white b) (cond (not code || nat_lt c 
 
 -- the look says so, and leaves what states share of the fence
 abbrev pub Saw : Bool → Local Unit Unit → Look Unit Unit → Type 0
-Saw v before r = (r.answer ≡ cond v Ok Nok) × Keeps before r.local
+Saw v before r = (r.answer ≡ cond v Ok Nok) × KeepsFence before r.local
 
 saw-as : (v w : Bool) (before : Local Unit Unit) (r : Look Unit Unit) → v ≡ w → Saw v before r → Saw w before r
 saw-as v w before r h = subst (λ v. Saw v before r) h
-
-both : (t : Bool) → cond t false false ≡ false
-both true = refl
-both false = refl
-
-itself : (t : Bool) → cond t true false ≡ t
-itself true = refl
-itself false = refl
 
 -- a byte of a line, by class and by itself
 sorts-before : (b m : ℕ) (x y : Bool) → IsMark m → (b == 10) ≡ false
@@ -43,7 +37,7 @@ sorts-before b m x y mark feed = elim (b == m) as (λ t. (b == m) ≡ t → cond
       ap (λ t. cond t x (cond (is_fence (flow_byte b)) y false)) no_blank ∙ ap (λ t. cond t y false) fence ∙ ap (λ t. cond t x y) (sym no_white)
   | false ↦ λ e. elim (is_white b) as (λ t. is_white b ≡ t → cond (is_blank (flow_byte b)) x (cond (is_fence (flow_byte b)) false false) ≡ cond t x false) [
     | true ↦ λ w. ap (λ c. cond (is_blank c) x (cond (is_fence c) false false)) (white-is-blank b w)
-    | false ↦ λ w. ap (λ t. cond t x (cond (is_fence (flow_byte b)) false false)) (word-class b feed w).1 ∙ both (is_fence (flow_byte b))
+    | false ↦ λ w. ap (λ t. cond t x (cond (is_fence (flow_byte b)) false false)) (word-class b feed w).1 ∙ cond-same (is_fence (flow_byte b)) false
   ] refl
 ] refl
 
@@ -129,12 +123,12 @@ module _ (g : Given) (t : Text) (stack : List EventName) (events : List Event) w
       → Saw (closes_behind f m (bytes_of l)) local (looks (l ++ rest) previous q mark local RawFlowSequenceClose)
   marks-left f [] [] of all ends previous q mark local m at fence counted room =
       let name = RawFlowSequenceClose in
-      saw-as (cond (nat_le local.tokenize_state.size_b local.tokenize_state.space_or_tab_size) true false) (nat_le f.size m) local (looks [] previous q mark local name) (itself _ ∙ rw (fence.1, counted) refl)
+      saw-as (cond (nat_le local.tokenize_state.size_b local.tokenize_state.space_or_tab_size) true false) (nat_le f.size m) local (looks [] previous q mark local name) (cond-itself _ ∙ rw (fence.1, counted) refl)
       (by-when (unfed_look flow g t stack events) [] previous q mark local name is_as_long (row [] Ok) (row [] Nok) true false (refl, (refl, refl, refl, refl, refl)) (refl, (refl, refl, refl, refl, refl)))
   marks-left f [] (s ∷ ss) of all ends previous q mark local m at fence counted room =
       let name = RawFlowSequenceClose in
       let rows = raw_flow_sequence_close_rows {R = Unit {0}} {D = Unit {0}} in
-      saw-as (cond (nat_le local.tokenize_state.size_b local.tokenize_state.space_or_tab_size) true false) (nat_le f.size m) local (looks (s ∷ ss) previous q mark local name) (itself _ ∙ rw (fence.1, counted) refl)
+      saw-as (cond (nat_le local.tokenize_state.size_b local.tokenize_state.space_or_tab_size) true false) (nat_le f.size m) local (looks (s ∷ ss) previous q mark local name) (cond-itself _ ∙ rw (fence.1, counted) refl)
       (subst (λ c. Saw (cond (nat_le local.tokenize_state.size_b local.tokenize_state.space_or_tab_size) true false) local (by (onward s ss q) (s ∷ ss) previous q mark local name (rows_in rows.cases rows.rest c))) (sym (feed-class s.byte (ap (λ b. b == 10) ends)))
       (by-when (onward s ss q) (s ∷ ss) previous q mark local name is_as_long (row [] Ok) (row [] Nok) true false (refl, (refl, refl, refl, refl, refl)) (refl, (refl, refl, refl, refl, refl))))
   marks-left f (s ∷ ss) rest of all ends previous q mark local m at fence counted room =
@@ -237,11 +231,7 @@ module _ (g : Given) (t : Text) (stack : List EventName) (events : List Event) w
 
 -- ---- what the look says is the definition
 marks-close : (f : Fence) (m : ℕ) (bs : List ℕ) → closes_behind f m bs ≡ (nat_le f.size (m + run f.byte bs) && is_blank_line (drop (run f.byte bs) bs))
-marks-close f m [] = let e : m ≡ m + 0 = omega arith in ap (λ n. nat_le f.size n) e ∙ and-true (nat_le f.size (m + 0))
-  where
-    and-true : (b : Bool) → b ≡ (b && true)
-    and-true true = refl
-    and-true false = refl
+marks-close f m [] = let e : m ≡ m + 0 = omega arith in ap (λ n. nat_le f.size n) e ∙ sym (and-true (nat_le f.size (m + 0)))
 marks-close f m (b ∷ bs) = subst (λ n. closes_behind f m (b ∷ bs) ≡ (nat_le f.size (m + n) && is_blank_line (drop n (b ∷ bs)))) (sym (run-grows f.byte b bs)) (elim (b == f.byte) as (λ t. cond t (closes_behind f (m + 1) bs) (nat_le f.size m && is_blank_line (b ∷ bs))
     ≡ (nat_le f.size (m + cond t (suc (run f.byte bs)) 0) && is_blank_line (drop (cond t (suc (run f.byte bs)) 0) (b ∷ bs)))) [
       | true ↦ let e : m + 1 + run f.byte bs ≡ m + suc (run f.byte bs) = omega arith in marks-close f (m + 1) bs ∙ ap (λ n. nat_le f.size n && is_blank_line (drop (run f.byte bs) bs)) e
@@ -273,11 +263,7 @@ rest-closes f b bs size = elim (b == f.byte) as (λ t. (b == f.byte) ≡ t → c
 
 columns-close : (code : Bool) (f : Fence) (c : ℕ) (bs : List ℕ) → 1 ≤ f.size → (code ≡ false) ⊎ (c ≤ 3)
     → closes_from code f c bs ≡ (not (code && nat_le 4 (c + indent bs)) && closes_rest f (unindented bs))
-columns-close code f c [] size near = sym (ap (λ b. not (code && nat_le 4 (c + 0)) && b) (none-closes f [] size refl) ∙ no (not (code && nat_le 4 (c + 0))))
-  where
-    no : (b : Bool) → (b && false) ≡ false
-    no true = refl
-    no false = refl
+columns-close code f c [] size near = sym (ap (λ b. not (code && nat_le 4 (c + 0)) && b) (none-closes f [] size refl) ∙ and-false (not (code && nat_le 4 (c + 0))))
 columns-close code f c (b ∷ bs) size near =
     subst (λ n. closes_from code f c (b ∷ bs) ≡ (not (code && nat_le 4 (c + n)) && closes_rest f (drop n (b ∷ bs)))) (sym (indent-grows b bs))
     (elim (is_white b) as (λ w. cond w (cond (not code || nat_lt c 3) (closes_from code f (c + 1) bs) false) (cond (b == f.byte) (closes_behind f 1 bs) false)

@@ -1,11 +1,12 @@
 -- The opening fence is read.
 use Rattle.mdconstructs_flow_read.proofs.Prelude.{◌≡◌, ◌⊎◌, inl, inr, ⊎_elim, ℕ, ◌==◌, List, [], ◌∷◌, ◌++◌, Bool, true, false, cond, refl, sym, ap, ◌∙◌, subst, append_assoc, append-nil, eqb-true, end-after-append, CodeFenced, CodeFencedFence, CodeFencedFenceSequence, SpaceOrTab, Point, Next, Retry, FlowBlankLineAfter, RawFlowStart, RawFlowSequenceOpen, RawFlowInfoBefore, RawFlowBeforeSequenceOpen, RawFlowAtNonLazyBreak, Seat, end_after, Configuration, Given, Text, Act, enter, exit, consume, Rows, row, when, is_white, raw_flow_info_before_rows, raw_flow_sequence_open_rows, raw_flow_start_rows, flow_blank_line_after_rows, blank, tick, tilde, flow_byte, is_fence, at_mark, Mark, leaf_marks, span_marks, white, Fence, IsInLine, LineEnds}
 use Rattle.mdconstructs_flow_read.proofs.Fenced.Info.{info-reads, info_marks}
-use Rattle.mdconstructs_flow_read.proofs.Fenced.Rows.{at-assoc, into, out, run-over, three, two, white-begins}
+use Rattle.mdconstructs_flow_read.proofs.Fenced.Rows.{at-assoc, into, out, run-over, three, white-begins}
 use Rattle.mdconstructs_flow_read.proofs.Fenced.Runs.{AllOf, IsMark, Stops, mark-class, run-reads, run-then}
 use Rattle.mdconstructs_flow_read.proofs.Fenced.Steps.{IsAt, Reads, at-class, at-rows, called, reads-byte, reads-fed, reads-then, row_of, told_row}
 use Rattle.mdconstructs_flow_read.proofs.Lines.RowReads.{white-is-blank}
 use Rattle.mdconstructs_flow_read.proofs.Lines.Fronts.{is_dark}
+use Rattle.mdconstructs_machines.proofs.LineReads.Rows.{two}
 
 -- the class of a mark
 mark-is : (b : ℕ) → IsMark b → (flow_byte b ≡ tick) ⊎ (flow_byte b ≡ tilde)

@@ -5,10 +5,6 @@ use Rattle.mdconstructs_flow_read.proofs.Fenced.Runs.{AllOf}
 use Rattle.mdconstructs_flow_read.proofs.Lines.Fronts.{back, drop-back, front, take-front, Fails}
 
 module _ (test : ℕ → Bool) where
-  pub front-fails : (a b : List Seat) → Fails test (a ++ b) → Fails test a
-  front-fails [] b h = tt
-  front-fails (s ∷ a) b h = h
-
   -- what is in front of bytes that fail
   pub front-append : (a b : List Seat) → AllOf test a → Fails test b → (front test (a ++ b) ≡ a) × (back test (a ++ b) ≡ b)
   front-append [] [] all fails = (refl, refl)

@@ -1,7 +1,7 @@
 -- The rows of fenced code, call by call.
 use Rattle.mdconstructs_flow_read.proofs.Prelude.{◌≡◌, ℕ, ◌==◌, List, [], ◌∷◌, ◌++◌, Bool, true, false, cond, Some, None, refl, sym, ap, ◌∙◌, subst, length, append_assoc, append-nil, eqb-true, Event, Enter, Exit, EventName, SpaceOrTab, Point, Name, State, Next, Retry, Seat, end_after, Configuration, Given, Text, at, rows_in, Act, enter, exit, consume, Rows, row, reads_byte, is_white, event, Cased, line_feed, blank, is_blank, is_line_feed, Mark, linked_from, white, Fence, IsInLine, LineEnds}
 use Rattle.mdconstructs_flow_read.proofs.Fenced.Runs.{AllOf, Stops, at_end, at_feed, at_other, feed-class, line-stops, run-then, word-class}
-use Rattle.mdconstructs_flow_read.proofs.Fenced.Steps.{HasRows, IsAt, Keeps, Reads, at-class, at-rows, behind_acts, called, reads-byte, reads-fed, reads-none, reads-then, row_of, told_row}
+use Rattle.mdconstructs_flow_read.proofs.Fenced.Steps.{HasRows, IsAt, KeepsFence, Reads, at-class, at-rows, behind_acts, called, reads-byte, reads-fed, reads-none, reads-then, row_of, told_row}
 use Rattle.mdconstructs_flow_read.proofs.Lines.RowReads.{white-is-blank}
 use Rattle.mdconstructs_flow_read.proofs.Looks.ByteClasses.{no-line-feed}
 
@@ -11,10 +11,6 @@ into g n p = (event g.bytes Enter n p, None)
 
 abbrev pub out : Given → EventName → Point → Mark
 out g n p = (event g.bytes Exit n p, None)
-
--- events behind events
-pub two : (es : List Event) (a b : Event) → (es ++ a ∷ []) ++ b ∷ [] ≡ es ++ a ∷ b ∷ []
-two es a b = append_assoc es (a ∷ []) (b ∷ [])
 
 pub three : (es : List Event) (a b c : Event) → ((es ++ a ∷ []) ++ b ∷ []) ++ c ∷ [] ≡ es ++ a ∷ b ∷ c ∷ []
 three es a b c = append_assoc (es ++ a ∷ []) (b ∷ []) (c ∷ []) ∙ append_assoc es (a ∷ []) (b ∷ c ∷ [])
@@ -32,7 +28,7 @@ module _ (g : Given) (t : Text) (f : Fence) where
   abbrev pub Left : Name → List (Act Unit Unit) → List Mark → Configuration Unit Unit → Point → List Seat → Type 0
   Left n acts marks k p l =
       let k' = behind_acts g t f k n p acts l in
-      (k'.events ≡ k.events ++ linked_from (length k.events) marks) × (k'.position ≡ k.position) × (k'.waiting ≡ k.waiting) × Keeps k.local k'.local
+      (k'.events ≡ k.events ++ linked_from (length k.events) marks) × (k'.position ≡ k.position) × (k'.waiting ≡ k.waiting) × KeepsFence k.local k'.local
 
   -- a run ends with these acts
   module _ (n to : Name) (c : Cased Unit Unit) (has : HasRows g t f n c) (test : ℕ → Bool) (acts : List (Act Unit Unit)) (marks : Point → List Mark)

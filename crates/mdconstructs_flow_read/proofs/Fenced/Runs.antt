@@ -30,11 +30,6 @@ pub rows-rest : (cs : List (Case FlowByte Unit Unit)) (rest : Rows Unit Unit) (w
 rows-rest [] rest w h = refl
 rows-rest (c ∷ cs) rest w h = ap (λ t. cond t c.rows (rows_in cs rest w)) h.0 ∙ rows-rest cs rest w h.1
 
-pub rows-at : (before : List (Case FlowByte Unit Unit)) (c : Case FlowByte Unit Unit) (behind : List (Case FlowByte Unit Unit)) (rest : Rows Unit Unit) (w : FlowByte) → NonePass before w → c.test w ≡ true
-    → rows_in (before ++ c ∷ behind) rest w ≡ c.rows
-rows-at [] c behind rest w h k = ap (λ t. cond t c.rows (rows_in behind rest w)) k
-rows-at (b ∷ bs) c behind rest w h k = ap (λ t. cond t b.rows (rows_in (bs ++ c ∷ behind) rest w)) h.0 ∙ rows-at bs c behind rest w h.1 k
-
 -- ---- bytes that pass a test
 module _ (test : ℕ → Bool) where
   -- bytes of a line that pass the test

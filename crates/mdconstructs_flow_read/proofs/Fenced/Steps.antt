@@ -5,22 +5,22 @@ use Rattle.mdconstructs_flow_read.proofs.Lines.LineReads.{behind-line}
 use Rattle.mdconstructs_flow_read.proofs.Lines.RowReads.{counted}
 
 -- What states share of a fence stays, and so do edits and resolvers
-abbrev pub Keeps : (before after : Local Unit Unit) → Type 0
-Keeps before after =
+abbrev pub KeepsFence : (before after : Local Unit Unit) → Type 0
+KeepsFence before after =
     (after.map ≡ before.map) × (after.resolvers ≡ before.resolvers)
     × (after.tokenize_state.marker ≡ before.tokenize_state.marker) × (after.tokenize_state.size_b ≡ before.tokenize_state.size_b) × (after.tokenize_state.size_c ≡ before.tokenize_state.size_c)
 
-pub keeps-all : (a : Local Unit Unit) → Keeps a a
+pub keeps-all : (a : Local Unit Unit) → KeepsFence a a
 keeps-all a = (refl, refl, refl, refl, refl)
 
-pub keeps-on : (a b c : Local Unit Unit) → Keeps a b → Keeps b c → Keeps a c
+pub keeps-on : (a b c : Local Unit Unit) → KeepsFence a b → KeepsFence b c → KeepsFence a c
 keeps-on a b c h k = (k.0 ∙ h.0, k.1 ∙ h.1, k.2 ∙ h.2, k.3 ∙ h.3, k.4 ∙ h.4)
 
 -- the fence whose block is read
 abbrev pub IsOfFence : Fence → Local Unit Unit → Type 0
 IsOfFence f local = (local.tokenize_state.marker ≡ f.byte) × (local.tokenize_state.size_b ≡ f.size) × (local.tokenize_state.size_c ≡ f.indent)
 
-pub of-fence-kept : (f : Fence) (a b : Local Unit Unit) → Keeps a b → IsOfFence f a → IsOfFence f b
+pub of-fence-kept : (f : Fence) (a b : Local Unit Unit) → KeepsFence a b → IsOfFence f a → IsOfFence f b
 of-fence-kept f a b k h = (k.2 ∙ h.0, k.3 ∙ h.1, k.4 ∙ h.2)
 
 module _ (g : Given) (t : Text) (f : Fence) where
@@ -38,7 +38,7 @@ module _ (g : Given) (t : Text) (f : Fence) where
     pub events_are : after.events ≡ k.events ++ linked_from (length k.events) marks
     pub position : after.position ≡ k.position + length line
     pub waiting : after.waiting ≡ waits_then to rest
-    pub local : Keeps k.local after.local
+    pub local : KeepsFence k.local after.local
     pub leads : (choices : List Choice) (before : ℕ) (z : Reading Unit Unit) → EndsIn g (table_step flow g) t (before + calls) after choices to z → EndsIn g (table_step flow g) t before k choices from z
 
   -- a state that is to come is called with what is fed
@@ -142,7 +142,7 @@ module _ (g : Given) (t : Text) (f : Fence) where
     pub reads-byte : (s : Seat) (rest : List Seat) → IsAt k (Retry n) p (s ∷ rest) → (acts : List (Act Unit Unit)) (to : Name) (marks : List Mark)
         → called (s ∷ rest) ≡ told_row (s ∷ rest) (record { acts = acts; answer = Next to }) → reads_byte false acts ≡ Some true
         → let k' = behind_acts acts (s ∷ rest) in
-        k'.events ≡ k.events ++ linked_from (length k.events) marks → k'.position ≡ k.position + 1 → k'.waiting ≡ Nothing → Keeps k.local k'.local
+        k'.events ≡ k.events ++ linked_from (length k.events) marks → k'.position ≡ k.position + 1 → k'.waiting ≡ Nothing → KeepsFence k.local k'.local
         → Reads k (Retry n) (s ∷ []) rest marks (Next to)
     reads-byte s rest here acts to marks call read events position waiting local =
         let k' = behind_acts acts (s ∷ rest) in
@@ -153,7 +153,7 @@ module _ (g : Given) (t : Text) (f : Fence) where
     pub byte-then : (s : Seat) (line rest : List Seat) → IsAt k (Retry n) p (s ∷ (line ++ rest)) → (acts : List (Act Unit Unit)) (next : Name) (to : State) (marks more : List Mark)
         → called (s ∷ (line ++ rest)) ≡ told_row (s ∷ (line ++ rest)) (record { acts = acts; answer = Next next }) → reads_byte false acts ≡ Some true
         → let k' = behind_acts acts (s ∷ (line ++ rest)) in
-        k'.events ≡ k.events ++ linked_from (length k.events) marks → k'.position ≡ k.position + 1 → k'.waiting ≡ Nothing → Keeps k.local k'.local
+        k'.events ≡ k.events ++ linked_from (length k.events) marks → k'.position ≡ k.position + 1 → k'.waiting ≡ Nothing → KeepsFence k.local k'.local
         → (IsAt k' (Next next) s.end (line ++ rest) → Reads k' (Next next) line rest more to) → Reads k (Retry n) (s ∷ line) rest (marks ++ more) to
     byte-then s line rest here acts next to marks more call read events position waiting local further =
         let l = line ++ rest in
@@ -166,7 +166,7 @@ module _ (g : Given) (t : Text) (f : Fence) where
     pub reads-none : (l : List Seat) → IsAt k (Retry n) p l → (acts : List (Act Unit Unit)) (to : Name) (marks : List Mark)
         → called l ≡ told_row l (record { acts = acts; answer = Retry to }) → reads_byte false acts ≡ Some false
         → let k' = behind_acts acts l in
-        k'.events ≡ k.events ++ linked_from (length k.events) marks → k'.position ≡ k.position → k'.waiting ≡ k.waiting → Keeps k.local k'.local
+        k'.events ≡ k.events ++ linked_from (length k.events) marks → k'.position ≡ k.position → k'.waiting ≡ k.waiting → KeepsFence k.local k'.local
         → Reads k (Retry n) [] l marks (Retry to)
     reads-none l here acts to marks call read events position waiting local =
         let k' = behind_acts acts l in

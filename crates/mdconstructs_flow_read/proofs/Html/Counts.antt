@@ -1,5 +1,6 @@
 -- How many lines HTML has, as its definition says.
-use Rattle.mdconstructs_flow_read.proofs.Prelude.{◌≡◌, ℕ, suc, ◌+◌, ◌&&◌, List, [], ◌∷◌, ◌++◌, Bool, true, false, cond, not, refl, sym, ap, ◌∙◌, arith, nat_le, append_assoc, Seat, is_white, all_of, ending_of, line_text, flow_byte, is_blank, is_line_feed, AreLines, Line, bytes_of, has_line, lines_through, lines_until, text_of, is_blank_line, IsInLine, LineEnds}
+use Rattle.markdown_base.proofs.Facts.Bools.{cond-and}
+use Rattle.mdconstructs_flow_read.proofs.Prelude.{◌≡◌, ℕ, suc, ◌+◌, List, [], ◌∷◌, ◌++◌, true, false, cond, not, refl, sym, ap, ◌∙◌, arith, nat_le, append_assoc, Seat, is_white, all_of, ending_of, line_text, flow_byte, is_blank, is_line_feed, AreLines, Line, bytes_of, has_line, lines_through, lines_until, text_of, is_blank_line, IsInLine, LineEnds}
 use Rattle.mdconstructs_flow_read.proofs.Tags.HtmlNumbers.{ends_html}
 use Rattle.mdconstructs_flow_read.proofs.Html.Blocks.{count, is_last, stays_open}
 use Rattle.mdconstructs_flow_read.proofs.Html.Checks.{blank_ahead}
@@ -35,9 +36,6 @@ module _ (kind : ℕ) (short : nat_le 6 kind ≡ false) (ends : (t : List ℕ) �
       ] refl)
 
 -- ---- kinds 6 and 7
-both : (a b : Bool) → cond a b false ≡ (a && b)
-both true b = refl
-both false b = refl
 
 -- a blank line comes
 line-blank : (text rest : List Seat) → IsInLine text → LineEnds rest → blank_ahead (text ++ rest) ≡ is_blank_line (bytes_of text)
@@ -47,7 +45,7 @@ line-blank (s ∷ ss) rest all ends =
     let other = all.0 in
     ap (λ f. cond f true (cond (is_blank (flow_byte s.byte)) (blank_ahead (ss ++ rest)) false)) (feed-is s.byte ∙ other)
     ∙ ap (λ w. cond w (blank_ahead (ss ++ rest)) false) (blank-is s.byte) ∙ ap (λ b. cond (is_white s.byte) b false) (line-blank ss rest all.1 ends)
-    ∙ both (is_white s.byte) (is_blank_line (bytes_of ss))
+    ∙ cond-and (is_white s.byte) (is_blank_line (bytes_of ss))
 
 pub lines-blank : (line : Line) (more : List Line) → AreLines (line ∷ more) → blank_ahead (all_of (line ∷ more)) ≡ is_blank_line (text_of line)
 lines-blank line more are =

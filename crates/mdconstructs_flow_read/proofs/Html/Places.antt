@@ -1,5 +1,6 @@
 -- Where HTML of kinds 1 to 5 is in a line, by its bytes so far; and that a line is behind the end exactly if it holds the end.
-use Rattle.mdconstructs_flow_read.proofs.Prelude.{◌≡◌, ℕ, ◌==◌, ◌||◌, ◌&&◌, List, [], ◌∷◌, Bool, true, false, cond, Option, Some, None, refl, sym, ap, ◌∙◌, is_ascii_alphabetic, eqb-true, eq-eqb, html_raw_names, FlowByte, less, flow_byte, is_less, is_greater, is_slash, is_dash, is_question, is_closing, name_byte, is_number_in, no_name, one_byte_more, holds, starts_with}
+use Rattle.markdown_base.proofs.Facts.Numbers.{eq-flip}
+use Rattle.mdconstructs_flow_read.proofs.Prelude.{◌≡◌, ℕ, ◌==◌, ◌||◌, ◌&&◌, List, [], ◌∷◌, Bool, true, false, cond, Option, Some, None, refl, sym, ap, ◌∙◌, is_ascii_alphabetic, eqb-true, html_raw_names, FlowByte, less, flow_byte, is_less, is_greater, is_slash, is_dash, is_question, is_closing, name_byte, is_number_in, no_name, one_byte_more, holds, starts_with}
 use Rattle.mdconstructs_flow_read.proofs.Looks.ByteClasses.{dash-is, greater-is, question-is, closing-is}
 
 -- in the line; behind a dash or a bracket; where only a greater-than sign is missing; behind a less-than sign; in the name of a closing tag,
@@ -96,12 +97,6 @@ bracket-marked : (c : FlowByte) → moved 5 marked c ≡ cond (is_greater c) clo
 bracket-marked less = refl
 bracket-marked c = refl
 
-pub differ : (b m : ℕ) → (b == m) ≡ false → (m == b) ≡ false
-differ b m e = elim (m == b) as (λ t. (m == b) ≡ t → t ≡ false) [
-  | true ↦ λ h. absurd (let yes : (b == m) ≡ true = eq-eqb b m (sym (eqb-true m b h)) in cc)
-  | false ↦ λ h. refl
-] refl
-
 -- Comments
 pub dash-ends : (bs : List ℕ) → (is_closed (through 2 inside bs) ≡ holds (45 ∷ 45 ∷ 62 ∷ []) bs) × (is_closed (through 2 dashed bs) ≡ holds (45 ∷ 45 ∷ 62 ∷ []) (45 ∷ bs))
     × (is_closed (through 2 marked bs) ≡ holds (45 ∷ 45 ∷ 62 ∷ []) (45 ∷ 45 ∷ bs))
@@ -113,18 +108,18 @@ dash-ends (b ∷ bs) =
     let class : is_dash (flow_byte b) ≡ (b == 45) = dash-is b in (
       ap to (dash-inside (flow_byte b) ∙ ap (λ t. cond t dashed inside) class) ∙ elim (b == 45) as (λ t. (b == 45) ≡ t → to (cond t dashed inside) ≡ ends (b ∷ bs)) [
         | true ↦ λ e. once ∙ sym (ap (λ n. ends (n ∷ bs)) (eqb-true b 45 e))
-        | false ↦ λ e. within ∙ sym (ap (λ t. (t && starts_with (45 ∷ 62 ∷ []) bs) || ends bs) (differ b 45 e))
+        | false ↦ λ e. within ∙ sym (ap (λ t. (t && starts_with (45 ∷ 62 ∷ []) bs) || ends bs) (eq-flip 45 b ∙ e))
       ] refl,
       ap to (dash-dashed (flow_byte b) ∙ ap (λ t. cond t marked inside) class) ∙ elim (b == 45) as (λ t. (b == 45) ≡ t → to (cond t marked inside) ≡ ends (45 ∷ b ∷ bs)) [
         | true ↦ λ e. twice ∙ sym (ap (λ n. ends (45 ∷ n ∷ bs)) (eqb-true b 45 e))
-        | false ↦ λ e. within ∙ sym (ap (λ t. (t && starts_with (62 ∷ []) bs) || ((t && starts_with (45 ∷ 62 ∷ []) bs) || ends bs)) (differ b 45 e))
+        | false ↦ λ e. within ∙ sym (ap (λ t. (t && starts_with (62 ∷ []) bs) || ((t && starts_with (45 ∷ 62 ∷ []) bs) || ends bs)) (eq-flip 45 b ∙ e))
       ] refl,
       ap to (dash-marked (flow_byte b) ∙ ap (λ t. cond t closed (cond (is_dash (flow_byte b)) marked inside)) (greater-is b) ∙ ap (λ t. cond (b == 62) closed (cond t marked inside)) class)
           ∙ elim (b == 62) as (λ t. (b == 62) ≡ t → to (cond t closed (cond (b == 45) marked inside)) ≡ ends (45 ∷ 45 ∷ b ∷ bs)) [
             | true ↦ λ e. ap is_closed (stays-closed 2 bs) ∙ sym (ap (λ n. ends (45 ∷ 45 ∷ n ∷ bs)) (eqb-true b 62 e))
             | false ↦ λ g. elim (b == 45) as (λ t. (b == 45) ≡ t → to (cond t marked inside) ≡ ends (45 ∷ 45 ∷ b ∷ bs)) [
               | true ↦ λ e. twice ∙ sym (ap (λ n. ends (45 ∷ 45 ∷ n ∷ bs)) (eqb-true b 45 e))
-              | false ↦ λ e. within ∙ sym (ap (λ t. (t && true) || (((45 == b) && starts_with (62 ∷ []) bs) || (((45 == b) && starts_with (45 ∷ 62 ∷ []) bs) || ends bs))) (differ b 62 g) ∙ ap (λ t. (t && starts_with (62 ∷ []) bs) || ((t && starts_with (45 ∷ 62 ∷ []) bs) || ends bs)) (differ b 45 e))
+              | false ↦ λ e. within ∙ sym (ap (λ t. (t && true) || (((45 == b) && starts_with (62 ∷ []) bs) || (((45 == b) && starts_with (45 ∷ 62 ∷ []) bs) || ends bs))) (eq-flip 62 b ∙ g) ∙ ap (λ t. (t && starts_with (62 ∷ []) bs) || ((t && starts_with (45 ∷ 62 ∷ []) bs) || ends bs)) (eq-flip 45 b ∙ e))
             ] refl
           ] refl,
     )
@@ -140,18 +135,18 @@ bracket-ends (b ∷ bs) =
     let class : is_closing (flow_byte b) ≡ (b == 93) = closing-is b in (
       ap to (bracket-inside (flow_byte b) ∙ ap (λ t. cond t bracketed inside) class) ∙ elim (b == 93) as (λ t. (b == 93) ≡ t → to (cond t bracketed inside) ≡ ends (b ∷ bs)) [
         | true ↦ λ e. once ∙ sym (ap (λ n. ends (n ∷ bs)) (eqb-true b 93 e))
-        | false ↦ λ e. within ∙ sym (ap (λ t. (t && starts_with (93 ∷ 62 ∷ []) bs) || ends bs) (differ b 93 e))
+        | false ↦ λ e. within ∙ sym (ap (λ t. (t && starts_with (93 ∷ 62 ∷ []) bs) || ends bs) (eq-flip 93 b ∙ e))
       ] refl,
       ap to (bracket-bracketed (flow_byte b) ∙ ap (λ t. cond t marked inside) class) ∙ elim (b == 93) as (λ t. (b == 93) ≡ t → to (cond t marked inside) ≡ ends (93 ∷ b ∷ bs)) [
         | true ↦ λ e. twice ∙ sym (ap (λ n. ends (93 ∷ n ∷ bs)) (eqb-true b 93 e))
-        | false ↦ λ e. within ∙ sym (ap (λ t. (t && starts_with (62 ∷ []) bs) || ((t && starts_with (93 ∷ 62 ∷ []) bs) || ends bs)) (differ b 93 e))
+        | false ↦ λ e. within ∙ sym (ap (λ t. (t && starts_with (62 ∷ []) bs) || ((t && starts_with (93 ∷ 62 ∷ []) bs) || ends bs)) (eq-flip 93 b ∙ e))
       ] refl,
       ap to (bracket-marked (flow_byte b) ∙ ap (λ t. cond t closed (cond (is_closing (flow_byte b)) marked inside)) (greater-is b) ∙ ap (λ t. cond (b == 62) closed (cond t marked inside)) class)
           ∙ elim (b == 62) as (λ t. (b == 62) ≡ t → to (cond t closed (cond (b == 93) marked inside)) ≡ ends (93 ∷ 93 ∷ b ∷ bs)) [
             | true ↦ λ e. ap is_closed (stays-closed 5 bs) ∙ sym (ap (λ n. ends (93 ∷ 93 ∷ n ∷ bs)) (eqb-true b 62 e))
             | false ↦ λ g. elim (b == 93) as (λ t. (b == 93) ≡ t → to (cond t marked inside) ≡ ends (93 ∷ 93 ∷ b ∷ bs)) [
               | true ↦ λ e. twice ∙ sym (ap (λ n. ends (93 ∷ 93 ∷ n ∷ bs)) (eqb-true b 93 e))
-              | false ↦ λ e. within ∙ sym (ap (λ t. (t && true) || (((93 == b) && starts_with (62 ∷ []) bs) || (((93 == b) && starts_with (93 ∷ 62 ∷ []) bs) || ends bs))) (differ b 62 g) ∙ ap (λ t. (t && starts_with (62 ∷ []) bs) || ((t && starts_with (93 ∷ 62 ∷ []) bs) || ends bs)) (differ b 93 e))
+              | false ↦ λ e. within ∙ sym (ap (λ t. (t && true) || (((93 == b) && starts_with (62 ∷ []) bs) || (((93 == b) && starts_with (93 ∷ 62 ∷ []) bs) || ends bs))) (eq-flip 62 b ∙ g) ∙ ap (λ t. (t && starts_with (62 ∷ []) bs) || ((t && starts_with (93 ∷ 62 ∷ []) bs) || ends bs)) (eq-flip 93 b ∙ e))
             ] refl
           ] refl,
     )
@@ -166,14 +161,14 @@ question-ends (b ∷ bs) =
     let class : is_question (flow_byte b) ≡ (b == 63) = question-is b in (
       ap to (question-inside (flow_byte b) ∙ ap (λ t. cond t marked inside) class) ∙ elim (b == 63) as (λ t. (b == 63) ≡ t → to (cond t marked inside) ≡ ends (b ∷ bs)) [
         | true ↦ λ e. once ∙ sym (ap (λ n. ends (n ∷ bs)) (eqb-true b 63 e))
-        | false ↦ λ e. within ∙ sym (ap (λ t. (t && starts_with (62 ∷ []) bs) || ends bs) (differ b 63 e))
+        | false ↦ λ e. within ∙ sym (ap (λ t. (t && starts_with (62 ∷ []) bs) || ends bs) (eq-flip 63 b ∙ e))
       ] refl,
       ap to (question-marked (flow_byte b) ∙ ap (λ t. cond t closed (cond (is_question (flow_byte b)) marked inside)) (greater-is b) ∙ ap (λ t. cond (b == 62) closed (cond t marked inside)) class)
           ∙ elim (b == 62) as (λ t. (b == 62) ≡ t → to (cond t closed (cond (b == 63) marked inside)) ≡ ends (63 ∷ b ∷ bs)) [
             | true ↦ λ e. ap is_closed (stays-closed 3 bs) ∙ sym (ap (λ n. ends (63 ∷ n ∷ bs)) (eqb-true b 62 e))
             | false ↦ λ g. elim (b == 63) as (λ t. (b == 63) ≡ t → to (cond t marked inside) ≡ ends (63 ∷ b ∷ bs)) [
               | true ↦ λ e. once ∙ sym (ap (λ n. ends (63 ∷ n ∷ bs)) (eqb-true b 63 e))
-              | false ↦ λ e. within ∙ sym (ap (λ t. (t && true) || (((63 == b) && starts_with (62 ∷ []) bs) || ends bs)) (differ b 62 g) ∙ ap (λ t. (t && starts_with (62 ∷ []) bs) || ends bs) (differ b 63 e))
+              | false ↦ λ e. within ∙ sym (ap (λ t. (t && true) || (((63 == b) && starts_with (62 ∷ []) bs) || ends bs)) (eq-flip 62 b ∙ g) ∙ ap (λ t. (t && starts_with (62 ∷ []) bs) || ends bs) (eq-flip 63 b ∙ e))
             ] refl
           ] refl,
     )
@@ -185,5 +180,5 @@ greater-ends (b ∷ bs) =
     let to = λ (p : Place). is_closed (through 4 p bs) in
     ap to (greater-inside (flow_byte b) ∙ ap (λ t. cond t closed inside) (greater-is b)) ∙ elim (b == 62) as (λ t. (b == 62) ≡ t → to (cond t closed inside) ≡ holds (62 ∷ []) (b ∷ bs)) [
       | true ↦ λ e. ap is_closed (stays-closed 4 bs) ∙ sym (ap (λ n. holds (62 ∷ []) (n ∷ bs)) (eqb-true b 62 e))
-      | false ↦ λ e. greater-ends bs ∙ sym (ap (λ t. (t && true) || holds (62 ∷ []) bs) (differ b 62 e))
+      | false ↦ λ e. greater-ends bs ∙ sym (ap (λ t. (t && true) || holds (62 ∷ []) bs) (eq-flip 62 b ∙ e))
     ] refl

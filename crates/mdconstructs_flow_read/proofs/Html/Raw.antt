@@ -1,8 +1,11 @@
 -- HTML of kind 1 is behind its end exactly if its line holds the closing tag of a listed name.
+use Rattle.markdown_base.proofs.Facts.Numbers.{eq-flip, unlike}
 use Rattle.mdconstructs_flow_read.proofs.Prelude.{◌≡◌, inl, inr, ℕ, ◌==◌, ◌||◌, ◌&&◌, List, [], ◌∷◌, ◌++◌, Bool, true, false, cond, map, Some, None, refl, sym, ap, ◌∙◌, subst, arith, is_ascii_alphabetic, is_ascii_alphanumeric, list_all, codes, and_parts, eqb-true, eq-eqb, or_right, nat_tests, html_raw_names, FlowByte, flow_byte, is_less, less, IsListed, is_number_in, is_tag_name, no_name, number_behind, number_of, one_byte_more, raw-told, holds, lower, starts_with}
+use Rattle.std.proofs.lemmas.Bool.{and_right}
+use Rattle.std.proofs.Math.Bool.{or-false}
 use Rattle.mdconstructs_flow_read.proofs.Tags.HtmlNumbers.{ends_html}
 use Rattle.mdconstructs_flow_read.proofs.Looks.ByteClasses.{greater-is, less-is, name-byte-is, slash-is}
-use Rattle.mdconstructs_flow_read.proofs.Html.Places.{Place, inside, opened, named, closed, differ, from_inside, from_name, is_closed, moved, raw_more, stays-closed, through}
+use Rattle.mdconstructs_flow_read.proofs.Html.Places.{Place, inside, opened, named, closed, from_inside, from_name, is_closed, moved, raw_more, stays-closed, through}
 use Rattle.mdconstructs_flow_read.proofs.Tags.TagNumbers.{agree, all-lowered, lower-alphanumeric, lowered, none-more}
 
 -- ---- names before a greater-than sign
@@ -13,13 +16,6 @@ IsWord l = list_all is_ascii_alphanumeric l ≡ true
 abbrev Breaks : List ℕ → Type 0
 Breaks [] = Unit {0}
 Breaks (b ∷ bs) = (is_ascii_alphanumeric b ≡ false) × ((b == 62) ≡ false)
-
--- bytes are not the same if a test tells them apart
-apart : (test : ℕ → Bool) (a b : ℕ) → test a ≡ true → test b ≡ false → (a == b) ≡ false
-apart test a b yes_a no_b = elim (a == b) as (λ t. (a == b) ≡ t → t ≡ false) [
-  | true ↦ λ e. absurd (let wrong : true ≡ false = sym yes_a ∙ ap test (eqb-true a b e) ∙ no_b in cc)
-  | false ↦ λ e. refl
-] refl
 
 -- a name and a greater-than sign come, one of these
 abbrev ends_name : List (List ℕ) → List ℕ → Bool
@@ -34,10 +30,10 @@ same-before : (n x l : List ℕ) → IsWord n → IsWord x → starts_with (n ++
 same-before [] [] l w v h = refl
 same-before [] (c ∷ cs) l w v h =
     let (here, on) = and_parts (is_ascii_alphanumeric c) (list_all is_ascii_alphanumeric cs) v in
-    absurd (let other = differ c 62 (apart is_ascii_alphanumeric c 62 here refl) in let (same, more) = and_parts (62 == c) true h in cc)
+    absurd (let other = eq-flip 62 c ∙ unlike is_ascii_alphanumeric 62 refl c here in let (same, more) = and_parts (62 == c) true h in cc)
 same-before (b ∷ bs) [] l w v h =
     let (here, on) = and_parts (is_ascii_alphanumeric b) (list_all is_ascii_alphanumeric bs) w in
-    absurd (let other = apart is_ascii_alphanumeric b 62 here refl in let (same, more) = and_parts (b == 62) (starts_with (bs ++ 62 ∷ []) l) h in cc)
+    absurd (let other = unlike is_ascii_alphanumeric 62 refl b here in let (same, more) = and_parts (b == 62) (starts_with (bs ++ 62 ∷ []) l) h in cc)
 same-before (b ∷ bs) (c ∷ cs) l w v h =
     let (same, more) = and_parts (b == c) (starts_with (bs ++ 62 ∷ []) (cs ++ 62 ∷ l)) h in
     let here = (and_parts (is_ascii_alphanumeric b) (list_all is_ascii_alphanumeric bs) w).1 in
@@ -64,21 +60,16 @@ listed-ends (n ∷ ns) x l h = elim h as (λ _. (starts_with (n ++ 62 ∷ []) (x
   | inr behind ↦ or_right (starts_with (n ++ 62 ∷ []) (x ++ 62 ∷ l)) (ends_name ns (x ++ 62 ∷ l)) (listed-ends ns x l behind)
 ]
 
--- no name ends where other bytes follow
-and-false : (a b : Bool) → b ≡ false → (a && b) ≡ false
-and-false true b h = h
-and-false false b h = refl
-
 no-start : (n x r : List ℕ) → IsWord n → IsWord x → Breaks r → starts_with (n ++ 62 ∷ []) (x ++ r) ≡ false
 no-start [] [] [] w v breaks = refl
-no-start [] [] (b ∷ bs) w v breaks = ap (λ t. t && true) (differ b 62 breaks.1)
+no-start [] [] (b ∷ bs) w v breaks = ap (λ t. t && true) (eq-flip 62 b ∙ breaks.1)
 no-start [] (c ∷ cs) r w v breaks =
-    ap (λ t. t && true) (differ c 62 (apart is_ascii_alphanumeric c 62 (and_parts (is_ascii_alphanumeric c) (list_all is_ascii_alphanumeric cs) v).0 refl))
+    ap (λ t. t && true) (eq-flip 62 c ∙ unlike is_ascii_alphanumeric 62 refl c (and_parts (is_ascii_alphanumeric c) (list_all is_ascii_alphanumeric cs) v).0)
 no-start (b ∷ bs) [] [] w v breaks = refl
 no-start (b ∷ bs) [] (c ∷ cs) w v breaks =
-    ap (λ t. t && starts_with (bs ++ 62 ∷ []) cs) (apart is_ascii_alphanumeric b c (and_parts (is_ascii_alphanumeric b) (list_all is_ascii_alphanumeric bs) w).0 breaks.0)
+    ap (λ t. t && starts_with (bs ++ 62 ∷ []) cs) (unlike is_ascii_alphanumeric c breaks.0 b (and_parts (is_ascii_alphanumeric b) (list_all is_ascii_alphanumeric bs) w).0)
 no-start (b ∷ bs) (c ∷ cs) r w v breaks =
-    and-false (b == c) (starts_with (bs ++ 62 ∷ []) (cs ++ r))
+    and_right (b == c) (starts_with (bs ++ 62 ∷ []) (cs ++ r))
     (no-start bs cs r (and_parts (is_ascii_alphanumeric b) (list_all is_ascii_alphanumeric bs) w).1 (and_parts (is_ascii_alphanumeric c) (list_all is_ascii_alphanumeric cs) v).1 breaks)
 
 ends-nowhere : (names : List (List ℕ)) (x r : List ℕ) → AreWords names → IsWord x → Breaks r → ends_name names (x ++ r) ≡ false
@@ -196,21 +187,17 @@ ends-cons c cs = swap-four (starts_with (codes "</pre>") (c ∷ cs)) (starts_wit
 ends-skips : (c : ℕ) (cs : List ℕ) → (c == 60) ≡ false → ends (c ∷ cs) ≡ ends cs
 ends-skips c cs e =
     ends-cons c cs
-    ∙ ap (λ t. ((t && starts_with (codes "/pre>") cs) || ((t && starts_with (codes "/script>") cs) || ((t && starts_with (codes "/style>") cs) || (t && starts_with (codes "/textarea>") cs)))) || ends cs) (differ c 60 e)
+    ∙ ap (λ t. ((t && starts_with (codes "/pre>") cs) || ((t && starts_with (codes "/script>") cs) || ((t && starts_with (codes "/style>") cs) || (t && starts_with (codes "/textarea>") cs)))) || ends cs) (eq-flip 60 c ∙ e)
 
 ends-skips-sign : (c : ℕ) (cs : List ℕ) → (c == 47) ≡ false → ends (60 ∷ c ∷ cs) ≡ ends (c ∷ cs)
 ends-skips-sign c cs e =
     ends-cons 60 (c ∷ cs)
-    ∙ ap (λ t. ((t && starts_with (codes "pre>") cs) || ((t && starts_with (codes "script>") cs) || ((t && starts_with (codes "style>") cs) || (t && starts_with (codes "textarea>") cs)))) || ends (c ∷ cs)) (differ c 47 e)
-
-or-false : (a : Bool) → a ≡ (a || false)
-or-false true = refl
-or-false false = refl
+    ∙ ap (λ t. ((t && starts_with (codes "pre>") cs) || ((t && starts_with (codes "script>") cs) || ((t && starts_with (codes "style>") cs) || (t && starts_with (codes "textarea>") cs)))) || ends (c ∷ cs)) (eq-flip 47 c ∙ e)
 
 ends-tag : (l : List ℕ) → ends (60 ∷ 47 ∷ l) ≡ (ends_name html_raw_names l || ends l)
 ends-tag l =
     ends-cons 60 (47 ∷ l) ∙ ap (λ t. begins (60 ∷ 47 ∷ l) || t) (ends-skips 47 l refl)
-    ∙ ap (λ t. (starts_with (codes "pre>") l || (starts_with (codes "script>") l || (starts_with (codes "style>") l || t))) || ends l) (or-false (starts_with (codes "textarea>") l))
+    ∙ ap (λ t. (starts_with (codes "pre>") l || (starts_with (codes "script>") l || (starts_with (codes "style>") l || t))) || ends l) (sym (or-false (starts_with (codes "textarea>") l)))
 
 -- ---- along the line
 sign-inside : (c : FlowByte) → moved 1 inside c ≡ cond (is_less c) opened inside
@@ -270,7 +257,7 @@ module _ (b : ℕ) (bs : List ℕ) (r : Reach bs) (word : List ℕ) (is : IsWord
   name-grows h =
       ap (λ n. to bs (named n)) (sym (numbered-append 0 word b)) ∙ r.name (word ++ b ∷ []) (word-on word b is h)
       ∙ ap (λ l. ends_name html_raw_names l || ends (low bs)) (low-on word b (low bs))
-      ∙ ap (λ t. ends_name html_raw_names (low word ++ low (b ∷ bs)) || t) (sym (ends-skips (lower b) (low bs) (lower-sign b ∙ apart is_ascii_alphanumeric b 60 h refl)))
+      ∙ ap (λ t. ends_name html_raw_names (low word ++ low (b ∷ bs)) || t) (sym (ends-skips (lower b) (low bs) (lower-sign b ∙ unlike is_ascii_alphanumeric 60 refl b h)))
 
   -- it is over
   name-ends : (b == 62) ≡ true → to bs (cond (is_number_in html_raw_names number) closed (from_inside 1 (flow_byte b))) ≡ goal

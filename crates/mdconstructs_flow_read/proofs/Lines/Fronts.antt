@@ -60,11 +60,6 @@ module _ (test : ℕ → Bool) where
     | false ↦ λ e. e
   ] refl
 
-  -- also before other bytes
-  pub fails-before : (l rest : List Seat) → Fails l → Fails rest → Fails (l ++ rest)
-  fails-before [] rest h k = k
-  fails-before (s ∷ ss) rest h k = h
-
   pub length-back : (l : List Seat) → length (back l) ≤ length l
   length-back [] = omega arith
   length-back (s ∷ ss) = let more = length-back ss in elim (test s.byte) as (λ b. length (cond b (back ss) (s ∷ ss)) ≤ suc (length ss)) [

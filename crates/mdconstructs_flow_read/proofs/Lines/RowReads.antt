@@ -1,5 +1,6 @@
 -- How a state is read by its row, where that makes no choice: the row's acts say which marks are made, and which place is read next.
-use Rattle.mdconstructs_flow_read.proofs.Prelude.{◌≡◌, ℕ, ◌+◌, ◌==◌, List, [], ◌∷◌, ◌++◌, Bool, true, false, Option, Some, None, length, refl, sym, ap, ◌∙◌, subst, arith, append_assoc, append-nil, length-append, drop, eqb-true, Event, Enter, Exit, Link, Point, Name, State, Next, Retry, Nok, shown, Seat, Nothing, consumed, entered, exited, with_local, Configuration, Choice, Local, Sight, sight, sight_in, byte_of, end_or, end_place, point_or, seat_before, Reading, EndsIn, Given, Text, at-front, goes-called, first_byte, waits_at, Act, enters, exit, consume, links, writes, choose, Rows, row, StateRows, Table, class_of, does, chooses, named, past, picked, step_at, step_of, table_step, sight_before, is_white, FlowByte, blank, flow_byte, flow, unchanged, IsReadAs, waits_then, Chunk, Mark, alone, linked_from}
+use Rattle.mdconstructs_flow_read.proofs.Prelude.{◌≡◌, ℕ, ◌+◌, ◌==◌, List, [], ◌∷◌, ◌++◌, Bool, true, false, Option, Some, None, length, refl, sym, ap, ◌∙◌, subst, arith, append_assoc, append-nil, length-append, eqb-true, Event, Enter, Exit, Link, Point, Name, State, Next, Retry, Nok, Seat, Nothing, consumed, entered, exited, with_local, Configuration, Choice, Local, Sight, sight, sight_in, byte_of, seat_before, Reading, EndsIn, Given, Text, goes-called, first_byte, waits_at, Act, enters, exit, consume, links, writes, choose, Rows, row, StateRows, Table, class_of, does, chooses, named, past, picked, step_at, step_of, table_step, sight_before, is_white, FlowByte, blank, flow_byte, flow, unchanged, IsReadAs, waits_then, Chunk, Mark, alone, linked_from}
+use Rattle.mdconstructs_tables.proofs.Looks.Stretches.{sees-at}
 use Rattle.mdconstructs_tables.specs.Rows.{done}
 use Rattle.mdconstructs_flow_read.proofs.Lines.LineReads.{IsAt, reads-feeding}
 
@@ -116,21 +117,6 @@ pub step-by-row : (table : Table FlowByte Unit Unit) (g : Given) (s : Sight) (k 
 step-by-row table g s k name =
     let k1 = with_local k (table.first k.local) in
     elim (named table.states name) as (λ x. step_at table g x s k1 ≡ step_of (picked (rows_of x (class_of table.class s.previous) (class_of table.class s.current)) g s k1) s k1) [ None ↦ refl | Some state ↦ refl ]
-
--- what is seen where the first of these bytes waits, or the end
-sees-at : (g : Given) (t : Text) (l : List Seat) (q : ℕ) → drop q t.seats ≡ l → sight_in g t q (waits_at l) ≡ sight_before g t.end (end_place t q) (byte_of (seat_before t q)) l
-sees-at g t [] q at = refl
-sees-at g t (s ∷ ss) q at =
-    ap
-    (λ (o : Option Seat). record {
-      previous = byte_of (seat_before t q);
-      current = byte_of o;
-      point = point_or t.end o;
-      enter_place = shown g.bytes (point_or t.end o);
-      exit_place = shown g.bytes (end_place t q);
-      next = shown g.bytes (end_or t.end o);
-    })
-    (at-front t.seats q s ss at)
 
 sees-first : (g : Given) (end p : Point) (b : Option ℕ) (l : List Seat) → (sight_before g end p b l).current ≡ first_byte l
 sees-first g end p b [] = refl

@@ -1,4 +1,5 @@
 -- The tests of the classes of bytes are tests of bytes.
+use Rattle.markdown_base.proofs.Facts.Numbers.{unlike}
 use Rattle.mdconstructs_flow_read.proofs.Prelude.{◌≡◌, ℕ, zero, suc, ◌<◌, ◌≤◌, ◌==◌, ◌||◌, ◌&&◌, not, Bool, true, false, cond, Option, Some, None, refl, sym, ap, ◌∙◌, subst, nat_lt, arith, is_ascii_alphabetic, is_ascii_alphanumeric, is_ascii_digit, eqb-true, and_parts, or_from, nat_tests, is_white, FlowByte, other, flow_byte, is_line_feed, is_blank, is_sign, is_star, is_underscore, is_tick, is_tilde, is_less, is_rule, is_fence, is_letter, is_slash, is_bang, is_question, is_dash, is_opening, is_closing, is_greater, is_equals, is_double, is_single, is_quote, begins_name, is_in_name, begins_no_value, is_in_no_value, name_byte, line_feed, blank, word_byte, begins_attribute, goes_on_attribute, word-is-word, word-no-feed}
 use Rattle.mdconstructs_flow.specs.FlowBytes.{is_underline}
 
@@ -15,13 +16,6 @@ below-has p (suc n) h b low =
       | true ↦ λ e. subst (λ m. p m ≡ true) (sym (eqb-true b n e)) here
       | false ↦ λ e. below-has p n on b (grind (arith, nat_tests))
     ] refl
-
--- a byte that passes a test is none that fails it
-pub apart : (p : ℕ → Bool) (k : ℕ) → p k ≡ false → (b : ℕ) → p b ≡ true → (b == k) ≡ false
-apart p k off b on = elim (b == k) as (λ t. (b == k) ≡ t → t ≡ false) [
-  | true ↦ λ e. sym on ∙ ap p (eqb-true b k e) ∙ off
-  | false ↦ λ e. refl
-] refl
 
 -- a property of bytes that is tested below 128, and known from there on
 pub by-table : (p : ℕ → Bool) → all_below p 128 ≡ true → ((b : ℕ) → 128 ≤ b → p b ≡ true) → (b : ℕ) → p b ≡ true
@@ -144,7 +138,7 @@ no-line-feed b is =
     ∙ elim (is_white b) as (λ w. is_line_feed (cond w blank (word_byte b)) ≡ false) [ true ↦ refl | false ↦ (word-no-feed (word_byte b) (word-is-word b)).0 ]
 
 pub white-no-feed : (b : ℕ) → is_white b ≡ true → (b == 10) ≡ false
-white-no-feed b w = apart is_white 10 refl b w
+white-no-feed b w = unlike is_white 10 refl b w
 
 pub letter-is : (b : ℕ) → is_letter (flow_byte b) ≡ is_ascii_alphabetic b
 letter-is = tells is_letter is_ascii_alphabetic refl refl no-letter

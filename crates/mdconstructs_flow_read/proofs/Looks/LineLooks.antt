@@ -1,5 +1,6 @@
 -- The look at a line: over its indentation, and on by its first other byte.
 use Rattle.mdconstructs_flow_read.proofs.Prelude.{◌≡◌, ◌<◌, ◌≤◌, ℕ, zero, suc, ◌+◌, ◌-◌, ◌^◌, ◌==◌, ◌&&◌, ◌∷◌, ◌++◌, List, [], Bool, true, false, cond, Option, Some, refl, sym, ap, ◌∙◌, subst, drop, length, nat_le, arith, and-false, eqb-true, le-leb, Constructs, Event, EventName, BlankLineEnding, CodeIndented, Next, Ok, Nok, FlowBeforeHeadingAtx, FlowBeforeHeadingSetext, FlowBeforeRaw, FlowBeforeThematicBreak, FlowBlankLineBefore, HtmlFlowOpen, Seat, drop-next, Configuration, Local, Sight, sight, Given, Text, AreTestsOf, Look, shows, Rows, consume, write, row, when, is_white, one_more, unchanged, flow_byte, breaks_are_on, fences_are_on, headings_are_on, indent_grows, kind_becomes, mark_becomes, size_becomes, underlines_are_on, html_is_on, break_may_begin, dash_may_begin, equals_may_begin, fence_may_begin, flow_blank_line_before_rows, heading_may_begin, html_may_begin, text_may_begin, underline_may_begin, bytes_of, Fence, heading_text, indent, is_blank_line, is_thematic_break, run, unindented, SeenKind, heading, fence, html, underline, thematic_break, text, seen_kind, html_number, FindsHtml, HtmlIsSeen, IsInLine, LeavesAll, LineEnds, LinesAreSeen}
+use Rattle.std.proofs.lemmas.Bool.{cond_both}
 use Rattle.mdconstructs_flow.specs.FlowWrites.{is_indented}
 use Rattle.mdconstructs_flow_read.proofs.Lines.TestedKinds.{seen-is-tested, tested_rest}
 use Rattle.mdconstructs_flow_read.specs.SeenKinds.{blank, indented}
@@ -42,11 +43,6 @@ tests =
 
 are-tests : AreTestsOf flow_byte (flow_blank_line_before_rows {R = Unit {0}} {D = Unit {0}}).cases tests
 are-tests = (feed-is, (blank-is, (sign-is, (star-is, (underscore-is, (dash-is, (equals-is, (tick-is, (tilde-is, (less-is, tt))))))))))
-
--- one of two rows, by a test
-by-test-of : {X : Type 0} (P : X → Type 0) (v : Bool) (x y : X) → (v ≡ true → P x) → (v ≡ false → P y) → P (cond v x y)
-by-test-of P true x y h k = h refl
-by-test-of P false x y h k = k refl
 
 -- HTML of a kind that was looked at
 html-found : (before now : Local Unit Unit) (word : List ℕ) (kind : ℕ) (r : Look Unit Unit) → LeavesAll before now → LeavesAll now r.local × FindsHtml kind r.local r.answer → Found before (cond (nat_le 1 kind) (html kind) text) word r
@@ -215,9 +211,9 @@ module _ (html_seen : HtmlIsSeen) (g : Given) (t : Text) (stack : List EventName
     first-here : Here (cond (s.byte == 35) heading_may_begin (cond (s.byte == 42) (break_may_begin 42) (cond (s.byte == 95) (break_may_begin 95) (cond (s.byte == 45) dash_may_begin (cond (s.byte == 61) equals_may_begin
         (cond (s.byte == 96) (fence_may_begin 96) (cond (s.byte == 126) (fence_may_begin 126) (cond (s.byte == 60) html_may_begin text_may_begin))))))))
     first-here =
-        by-test-of Here (s.byte == 35) _ _ (λ e. sign-here (eqb-true s.byte 35 e)) (λ sign. by-test-of Here (s.byte == 42) _ _ (λ e. star-here (eqb-true s.byte 42 e)) (λ star. by-test-of Here (s.byte == 95) _ _ (λ e. underscore-here (eqb-true s.byte 95 e)) (λ underscore.
-        by-test-of Here (s.byte == 45) _ _ (λ e. dash-here (eqb-true s.byte 45 e)) (λ dash. by-test-of Here (s.byte == 61) _ _ (λ e. equals-here (eqb-true s.byte 61 e)) (λ equals. by-test-of Here (s.byte == 96) _ _ (λ e. tick-here (eqb-true s.byte 96 e)) (λ tick.
-        by-test-of Here (s.byte == 126) _ _ (λ e. tilde-here (eqb-true s.byte 126 e)) (λ tilde. by-test-of Here (s.byte == 60) _ _ (λ e. less-here (eqb-true s.byte 60 e)) (λ less. other-here sign star underscore dash equals tick tilde less))))))))
+        cond_both (s.byte == 35) _ _ Here (λ e. sign-here (eqb-true s.byte 35 e)) (λ sign. cond_both (s.byte == 42) _ _ Here (λ e. star-here (eqb-true s.byte 42 e)) (λ star. cond_both (s.byte == 95) _ _ Here (λ e. underscore-here (eqb-true s.byte 95 e)) (λ underscore.
+        cond_both (s.byte == 45) _ _ Here (λ e. dash-here (eqb-true s.byte 45 e)) (λ dash. cond_both (s.byte == 61) _ _ Here (λ e. equals-here (eqb-true s.byte 61 e)) (λ equals. cond_both (s.byte == 96) _ _ Here (λ e. tick-here (eqb-true s.byte 96 e)) (λ tick.
+        cond_both (s.byte == 126) _ _ Here (λ e. tilde-here (eqb-true s.byte 126 e)) (λ tilde. cond_both (s.byte == 60) _ _ Here (λ e. less-here (eqb-true s.byte 60 e)) (λ less. other-here sign star underscore dash equals tick tilde less))))))))
 
   -- the look at the rest of a line, behind white space
   line-found : (before : Local Unit Unit) (more : List Seat) → LineEnds more → (line : List Seat) → IsInLine line → (previous : Option ℕ) (q : ℕ) (mark : Bool) (local : Local Unit Unit) → drop q t.seats ≡ line ++ more → LeavesAll before local

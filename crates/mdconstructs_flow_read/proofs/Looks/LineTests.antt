@@ -1,5 +1,5 @@
 -- What lines are, byte by byte.
-use Rattle.mdconstructs_flow_read.proofs.Prelude.{◌≡◌, ℕ, suc, ◌+◌, ◌==◌, ◌&&◌, ◌||◌, not, nat_le, List, [], ◌∷◌, Bool, true, false, take, drop, length, filter, refl, sym, ap, ◌∙◌, arith, cond, list_all, eqb-true, is_white, is_blank_line, run}
+use Rattle.mdconstructs_flow_read.proofs.Prelude.{◌≡◌, ℕ, suc, ◌+◌, ◌==◌, ◌&&◌, ◌||◌, not, nat_le, List, [], ◌∷◌, Bool, true, false, take, drop, length, filter, refl, ap, ◌∙◌, arith, cond, list_all, is_white, is_blank_line, run}
 use Rattle.mdconstructs_flow_read.proofs.Looks.HeadingTexts.{goes, stops}
 
 -- behind so many marks the rest of a line makes a thematic break
@@ -72,10 +72,3 @@ pub heading-other : (signs b : ℕ) (bs : List ℕ) → (b == 35) ≡ false → 
 heading-other signs b bs e =
     ap (λ n. nat_le (signs + n) 6 && is_blank_line (take 1 (drop n (b ∷ bs)))) (run-ends 35 b bs e)
     ∙ ap (λ n. nat_le n 6 && is_blank_line (take 1 (b ∷ bs))) (none-more signs)
-
--- white space is not this mark
-pub apart : (mark b : ℕ) → is_white mark ≡ false → is_white b ≡ true → (b == mark) ≡ false
-apart mark b m w = elim (b == mark) as (λ t. (b == mark) ≡ t → t ≡ false) [
-  | true ↦ λ e. absurd (let same : is_white b ≡ is_white mark = ap is_white (eqb-true b mark e) in let wrong : true ≡ false = sym w ∙ same ∙ m in cc)
-  | false ↦ λ e. refl
-] refl

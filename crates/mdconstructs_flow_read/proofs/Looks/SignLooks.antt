@@ -1,9 +1,10 @@
 -- The look at the number signs of an ATX heading, and behind them.
+use Rattle.markdown_base.proofs.Facts.Numbers.{unlike}
 use Rattle.mdconstructs_flow_read.proofs.Prelude.{◌≡◌, ◌<◌, ◌≤◌, ℕ, suc, ◌+◌, ◌-◌, ◌^◌, ◌==◌, ◌&&◌, ◌∷◌, ◌++◌, List, [], Bool, true, false, cond, Option, Some, refl, sym, ap, ◌∙◌, subst, drop, take, length, nat_le, nat_lt, arith, and-false, eqb-true, le-leb, lt-leb, ltb-true, ltb-false, Event, EventName, HeadingAtx, Next, Ok, Nok, FlowBeforeHeadingAtx, HeadingAtxLookStart, HeadingAtxLookText, HeadingAtxLookSigns, Seat, Local, Given, Text, shows, Rows, consume, write, row, when, is_white, one_more, unchanged, count_becomes, count_grows, has_room, kind_becomes, size_becomes, size_grows, text_grows, flow_before_heading_atx_rows, heading_atx_look_start_rows, bytes_of, heading_text, is_blank_line, run, unindented, SeenKind, heading, text, IsInLine, LeavesAll, LineEnds, text_behind_signs}
 use Rattle.mdconstructs_flow_read.proofs.Looks.ByteClasses.{feed-is, sign-is, blank-is}
 use Rattle.mdconstructs_flow_read.proofs.Looks.HeadingLooks.{Heads, count-on, text-found, three_tests}
 use Rattle.mdconstructs_flow_read.proofs.Looks.HeadingTexts.{Counted, goes, nothing-counted, other-read, sign-behind-white, stops, text_back, text-turned, turned}
-use Rattle.mdconstructs_flow_read.proofs.Looks.LineTests.{apart, heads_on, heading-other, heading-sign, run-ends}
+use Rattle.mdconstructs_flow_read.proofs.Looks.LineTests.{heads_on, heading-other, heading-sign, run-ends}
 use Rattle.mdconstructs_flow_read.proofs.Looks.LookSteps.{Found, HasRows, at-line-byte, at-line-end, by-false, by-share, come, kept, look, look-is}
 
 -- the text from a byte on that is no white space
@@ -116,7 +117,7 @@ module _ (g : Given) (t : Text) (stack : List EventName) (events : List Event) w
           (by-false (λ (rows : Rows Unit Unit). P (comes rows)) (b == 10) ends _ in_line.0
           (elim (is_white b) as (λ v. is_white b ≡ v → P (comes (cond v starts (cond (b == 35) (when has_room grow none) none)))) [
             | true ↦ λ w.
-                let no_sign : (b == 35) ≡ false = apart 35 b refl w in
+                let no_sign : (b == 35) ≡ false = unlike is_white 35 refl b w in
                 let same : length (text_behind_signs word) ≡ length (heading_text (unindented bs)) =
                 is ∙ ap (λ m. length (heading_text (unindented (drop m (b ∷ bs))))) (run-ends 35 b bs no_sign) ∙ ap (λ r. length (heading_text r)) (goes is_white b bs w) in
                 subst (λ v. Found before (kind_by v) word (on begun HeadingAtxLookStart)) (sym (heads-white n b bs few w no_sign))

@@ -1,9 +1,10 @@
 -- The look at the marks of an underline, which with dashes may come to a thematic break.
+use Rattle.markdown_base.proofs.Facts.Numbers.{unlike}
 use Rattle.mdconstructs_flow_read.proofs.Prelude.{◌≡◌, ◌<◌, ℕ, suc, ◌+◌, ◌-◌, ◌^◌, ◌==◌, ◌&&◌, ◌||◌, ◌∷◌, ◌++◌, List, [], Bool, true, false, cond, Option, Some, refl, sym, ap, ◌∙◌, subst, drop, length, nat_le, and-false, eqb-true, Event, EventName, HeadingSetextUnderline, Next, Ok, Nok, FlowBeforeThematicBreak, FlowBeforeHeadingSetext, HeadingSetextLookAfter, Seat, drop-next, Local, Given, Text, AreTestsOf, Look, shows, Rows, consume, write, row, when, is_white, one_more, unchanged, flow_byte, kind_becomes, size_grows, at_mark, breaks_are_on, flow_before_heading_setext_rows, heading_setext_look_after_rows, further_dash, bytes_of, is_blank_line, is_thematic_break, SeenKind, thematic_break, text, underline, IsInLine, LeavesAll, LineEnds}
 use Rattle.mdconstructs_flow_read.proofs.Looks.BreakLooks.{break-found}
 use Rattle.mdconstructs_flow_read.proofs.Looks.ByteClasses.{feed-is, dash-is, underline-is, blank-is}
 use Rattle.mdconstructs_flow_read.proofs.Looks.CountRoom.{grows, room-on, room-less}
-use Rattle.mdconstructs_flow_read.proofs.Looks.LineTests.{breaks_on, underlines_on, break-ends, break-mark, break-white, break-fails, underline-mark, underline-other, apart}
+use Rattle.mdconstructs_flow_read.proofs.Looks.LineTests.{breaks_on, underlines_on, break-ends, break-mark, break-white, break-fails, underline-mark, underline-other}
 use Rattle.mdconstructs_flow_read.proofs.Looks.LookSteps.{Found, HasRows, at-line-byte, at-line-end, by-false, by-known, by-true, by-share, come, kept, look, look-is, mark-is}
 
 abbrev setext_tests : List (ℕ → Bool)
@@ -141,7 +142,7 @@ module _ (g : Given) (t : Text) (stack : List EventName) (events : List Event) w
               ] refl)
           | false ↦ λ e. elim (is_white b) as (λ v. is_white b ≡ v → at (cond v go no)) [
             | true ↦ λ w.
-                let apart_from : (b == m) ≡ false = apart m b (mark-no-white m is) w in
+                let apart_from : (b == m) ≡ false = unlike is_white m (mark-no-white m is) b w in
                 let later = behind-found line in_line.1 (Some b) (q + 1) false (unchanged local) there (kept before local (unchanged local) h refl refl refl refl refl) marks (room-less size (length line) room)
                 (whole ∙ ap (λ v. (m == 45) && v) (break-white m size b bs apart_from w)) in
                 subst (λ c. Found before (kind_by m word c) word (on (unchanged local) name)) (sym (white-one b bs w)) later

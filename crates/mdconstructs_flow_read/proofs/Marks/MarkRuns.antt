@@ -1,5 +1,6 @@
 -- Runs of chunks among marks: a chunk that has a next one is followed by its exit and by that one.
 use Rattle.mdconstructs_flow_read.proofs.Prelude.{◌≡◌, ◌⊎◌, inl, inr, ℕ, zero, suc, ◌+◌, ◌-◌, List, [], ◌∷◌, ◌++◌, Bool, true, false, cond, Some, None, append_assoc, refl, sym, ap, ◌∙◌, subst, arith, slice_get, option_and_then, AllByRecursion, Content, Event, Enter, Exit, Point, is_void, shown, Seat, end_after, IsLinkedEnter, next_of, previous_of, line_text, event, Line, Chunk, Mark, body, chunk_span, linked_from, text_marks}
+use Rattle.std.proofs.lemmas.Option.{cond_some}
 use Rattle.markdown_base.specs.declared.event.Content.TheVariants as content
 use Rattle.markdown_base.specs.declared.event.Name.TheVariants as name
 use Rattle.markdown_edits.specs.Links.{content_at}
@@ -161,10 +162,6 @@ next-first i e k ((x, None) ∷ (f, Some m) ∷ ms) h =
       back = ap (λ b. cond b (Some (i + 1 + 1 - 2)) None) previous ∙ ap Some same;
     }
 
-when-next : (has : Bool) (j n : ℕ) → cond has (Some j) None ≡ Some n → (has ≡ true) × (n ≡ j)
-when-next true j n h = (refl, (cc))
-when-next false j n h = absurd (cc)
-
 pub next-found : (i : ℕ) (marks : List Mark) (d : Due) → Runs marks d → (k n : ℕ) → next_of (linked_from i marks) k ≡ Some n → (n ≡ i + k + 2) × IsNext (linked_from i marks) i k
 next-found i [] d h k n is = absurd (cc)
 next-found i ((e, None) ∷ ms) d h zero n is = absurd (let none = alone-unlinked e ms d h in let no : None ≡ Some n = ap (option_and_then (λ l. l.next)) (sym none) ∙ is in cc)
@@ -173,7 +170,7 @@ next-found i ((e, None) ∷ ms) d h (suc k) n is =
     let (at, next) = next-found (i + 1) ms f rest k n is in
     (omega (arith, at), next-later e (linked_from (i + 1) ms) i k next)
 next-found i ((e, Some c) ∷ ms) d h zero n is =
-    let (has, at) = when-next c.has_next (i + 2) n is in
+    let (has, at) = cond_some c.has_next (i + 2) n is in
     let rest = subst (λ b. Runs ms (cond b (an_exit c.content) nothing)) has (behind-chunk e c ms d h) in
     (omega (arith, at), next-first i e c ms rest)
 next-found i ((e, Some c) ∷ ms) d h (suc k) n is =
@@ -208,7 +205,7 @@ previous-found i ((e, None) ∷ ms) (an_exit c) h (suc j) p is =
 previous-found i ((e, None) ∷ ms) (a_chunk c q) h (suc j) p is = absurd h
 previous-found i ((e, Some k) ∷ ms) nothing h zero p is = absurd (let no : None ≡ Some p = ap (λ b. cond b (Some (i - 2)) None) (sym h.0) ∙ is in cc)
 previous-found i ((e, Some k) ∷ ms) (an_exit c) h zero p is = absurd h
-previous-found i ((e, Some k) ∷ ms) (a_chunk c q) h zero p is = let (has, at) = when-next k.has_previous (i - 2) p is in (omega (arith, at), inl refl)
+previous-found i ((e, Some k) ∷ ms) (a_chunk c q) h zero p is = let (has, at) = cond_some k.has_previous (i - 2) p is in (omega (arith, at), inl refl)
 previous-found i ((e, Some k) ∷ ms) d h (suc j) p is =
     let (at, found) = previous-found (i + 1) ms (next_due k) (behind-chunk e k ms d h) j p is in
     (omega (arith, at), elim found [ inl before ↦ inr (first-of i j e k ms k.has_next refl before) | inr next ↦ inr (later-of _ (linked_from (i + 1) ms) i j next) ])

@@ -1,5 +1,5 @@
 -- Edits give marks their names, and the ends of links lead to where their events are then.
-use Rattle.mdconstructs_flow_read.proofs.Prelude.{◌≡◌, ℕ, suc, ◌+◌, ◌-◌, ◌≤◌, List, [], ◌∷◌, ◌++◌, Bool, true, false, cond, Option, Some, None, length, map, refl, sym, ap, ◌∙◌, subst, arith, option_map, option_and_then, nat_tests, Event, EventName, relinked, with_ends, edit_at, AreDisjoint, as_addition, as_change, of_list, Tagged, as_listed, place_in, placed_end, woven, AreApart, events_at-none, is_removed-none, woven-at, AreApart-edits, under, map-two, told-apart, Told, as_told, renamed, edits_from, Chunk, Mark, linked_from, TwoAreKept, ChunksStand, EditsGiveNames, ToldMark, as_it_is, under_names, before_edits, behind_edits, told_edits, length-map}
+use Rattle.mdconstructs_flow_read.proofs.Prelude.{◌≡◌, ℕ, suc, ◌+◌, ◌-◌, ◌≤◌, List, [], ◌∷◌, ◌++◌, Bool, true, false, cond, Option, Some, None, length, map, refl, sym, ap, ◌∙◌, subst, arith, option_map, option_and_then, nat_tests, Event, EventName, relinked, with_ends, edit_at, AreDisjoint, as_addition, as_change, of_list, Tagged, as_listed, place_in, placed_end, woven, AreApart, events_at-none, is_removed-none, woven-at, AreApart-edits, under, map-append, told-apart, Told, as_told, renamed, edits_from, Chunk, Mark, linked_from, TwoAreKept, ChunksStand, EditsGiveNames, ToldMark, as_it_is, under_names, before_edits, behind_edits, told_edits, length-map}
 use Rattle.mdconstructs_flow_read.proofs.Marks.MarkLists.{chunk_at}
 
 -- ---- the edits
@@ -146,7 +146,7 @@ module _ (all : List Tagged) where
       let q = p + length names in
       let added = behind-added p i (map (under e) names) (tagged (i + 1) ts) leads in
       let there : Leads all q (i + 1) (tagged (i + 1) ts) = λ n l. subst (λ k. place_in (of_list n) all ≡ option_map (λ q. p + k + q) (place_in (of_list n) (tagged (i + 1) ts))) (length-map names (under e)) (added n (omega (arith, l))) in
-      map-two moved (map as_addition (map (under e) names)) (tagged (i + 1) ts)
+      map-append moved (map as_addition (map (under e) names)) (tagged (i + 1) ts)
       ∙ ap (λ es. es ++ map moved (tagged (i + 1) ts)) (moved-added e names)
       ∙ ap (λ es. map (under e) names ++ es) (moved-tagged 0 q (i + 1) ts there (none-behind q (i + 1)) stand)
       ∙ sym (linked-names p e names (behind_edits ts))

@@ -1,17 +1,13 @@
 -- A chunk is linked to the chunk before.
-use Rattle.mdconstructs_flow_read.proofs.Prelude.{◌≡◌, ℕ, zero, suc, ◌+◌, List, [], ◌∷◌, ◌++◌, length, refl, sym, ap, ◌∙◌, arith, append_assoc, length-append, Event, linked_to, updated_at, with_next, with_previous}
-
-updated-there : (f : Event → Event) (xs : List Event) (e : Event) (ys : List Event) (i : ℕ) → i ≡ length xs → updated_at i f (xs ++ e ∷ ys) ≡ xs ++ f e ∷ ys
-updated-there f [] e ys zero h = refl
-updated-there f (x ∷ xs) e ys (suc i) h = ap (λ l. x ∷ l) (updated-there f xs e ys i (omega (arith, h)))
-updated-there f xs e ys i h = absurd (omega (arith, h))
+use Rattle.mdconstructs_flow_read.proofs.Prelude.{◌≡◌, ℕ, ◌+◌, List, [], ◌∷◌, ◌++◌, length, refl, sym, ap, ◌∙◌, arith, append_assoc, length-append, Event, linked_to, updated_at, with_next, with_previous}
+use Rattle.mdconstructs_machines.proofs.BlockReads.Links.{updated-mid}
 
 -- the last chunk is linked to the chunk before, which ended just before it
 pub linked-last : (done : List Event) (first out second : Event) (last : ℕ) → last ≡ length done + 2
     → linked_to (length done) last (done ++ first ∷ out ∷ second ∷ []) ≡ done ++ with_next last first ∷ out ∷ with_previous (length done) second ∷ []
 linked-last done first out second last is =
     let back = with_next last first ∷ out ∷ [] in
-    ap (updated_at last (with_previous (length done))) (updated-there (with_next last) done first (out ∷ second ∷ []) (length done) refl)
+    ap (updated_at last (with_previous (length done))) (updated-mid (with_next last) done first (out ∷ second ∷ []) (length done) refl)
     ∙ ap (updated_at last (with_previous (length done))) (sym (append_assoc done back (second ∷ [])))
-    ∙ updated-there (with_previous (length done)) (done ++ back) second [] last (omega (arith, is, length-append done back))
+    ∙ updated-mid (with_previous (length done)) (done ++ back) second [] last (omega (arith, is, length-append done back))
     ∙ append_assoc done back (with_previous (length done) second ∷ [])

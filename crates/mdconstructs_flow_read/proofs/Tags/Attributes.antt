@@ -1,6 +1,9 @@
 -- What comes behind the name of an opening tag, byte by byte: the definition of attributes says the same.
-use Rattle.mdconstructs_flow_read.proofs.Prelude.{◌≡◌, ℕ, zero, suc, ◌+◌, ◌<◌, ◌≤◌, ◌==◌, ◌||◌, ◌&&◌, not, List, [], ◌∷◌, Bool, true, false, cond, Option, Some, None, length, drop, refl, sym, ap, ◌∙◌, arith, one-add, le_trans, prefix_len, eqb-true, length-drop, is_white, first_passes, begins_attribute, goes_on_attribute, is_bare, behind_quote, behind_value, behind_attribute, ends_tag, ends_open_tag}
-use Rattle.mdconstructs_flow_read.proofs.Looks.ByteClasses.{apart, no_bare, no_value, begins-goes-on}
+use Rattle.markdown_base.proofs.Facts.Bools.{cond-same}
+use Rattle.markdown_base.proofs.Facts.Lists.{Fits, drop-fits, fits-more, either-fits}
+use Rattle.markdown_base.proofs.Facts.Numbers.{unlike}
+use Rattle.mdconstructs_flow_read.proofs.Prelude.{◌≡◌, ℕ, zero, suc, ◌+◌, ◌<◌, ◌≤◌, ◌==◌, ◌||◌, ◌&&◌, not, List, [], ◌∷◌, Bool, true, false, cond, Option, Some, None, length, drop, refl, sym, ap, ◌∙◌, arith, one-add, le_trans, prefix_len, eqb-true, is_white, first_passes, begins_attribute, goes_on_attribute, is_bare, behind_quote, behind_value, behind_attribute, ends_tag, ends_open_tag}
+use Rattle.mdconstructs_flow_read.proofs.Looks.ByteClasses.{no_bare, no_value, begins-goes-on}
 use Rattle.mdconstructs_flow_read.specs.HtmlLines.{is_blank_line, unindented}
 
 -- Where the look is: behind a tag; behind its slash; behind the name of a closing tag; before an attribute, in its name, behind it; before a
@@ -90,15 +93,11 @@ abbrev then_on : Option (List ℕ) → Bool
 then_on None = false
 then_on (Some rest) = goes rest behind
 
-both-ways : (t : Bool) (x : Bool) → cond t x x ≡ x
-both-ways true x = refl
-both-ways false x = refl
-
 quoted-is : (m : ℕ) → ((m == 34) || (m == 39)) ≡ true → (t : List ℕ) → goes t (quoted m) ≡ then_on (behind_quote m t)
 quoted-is m is [] = refl
 quoted-is m is (b ∷ bs) = elim (b == m) as (λ t. (b == m) ≡ t → cond ((b == 34) || (b == 39)) (cond t (goes bs behind) (goes bs (quoted m))) (goes bs (quoted m)) ≡ then_on (cond t (Some bs) (behind_quote m bs))) [
   | true ↦ λ e. ap (λ t. cond t (goes bs behind) (goes bs (quoted m))) (ap (λ n. (n == 34) || (n == 39)) (eqb-true b m e) ∙ is)
-  | false ↦ λ e. both-ways ((b == 34) || (b == 39)) (goes bs (quoted m)) ∙ quoted-is m is bs
+  | false ↦ λ e. cond-same ((b == 34) || (b == 39)) (goes bs (quoted m)) ∙ quoted-is m is bs
 ] refl
 
 -- bytes of values without quotes, by tests of theirs: white space, two quotation marks, an equals sign, less-than, greater-than, a grave accent
@@ -248,7 +247,7 @@ before-at (b ∷ bs) h =
     ap (λ w. cond w (goes bs before) (cond (begins_attribute b) (goes bs name) (cond (b == 47) (goes bs slashed) (cond (b == 62) (goes bs after) false)))) h
     ∙ elim (begins_attribute b) as (λ t. begins_attribute b ≡ t → cond t (goes bs name) (cond (b == 47) (goes bs slashed) (cond (b == 62) (goes bs after) false))
     ≡ cond (b == 47) (ends_tag bs) (cond (b == 62) (ends_tag (b ∷ bs)) (then_on (behind_attribute (b ∷ bs))))) [
-      | true ↦ λ e. rw (apart begins_attribute 47 refl b e, apart begins_attribute 62 refl b e) (attribute-is b bs e)
+      | true ↦ λ e. rw (unlike begins_attribute 47 refl b e, unlike begins_attribute 62 refl b e) (attribute-is b bs e)
       | false ↦ λ e.
           ap (λ r. cond (b == 47) r (cond (b == 62) (goes bs after) false)) (slashed-is bs)
           ∙ ap (λ r. cond (b == 47) (ends_tag bs) r) (elim (b == 62) as (λ t. cond t (goes bs after) false ≡ cond t (t && is_blank_line bs) (then_on (behind_attribute (b ∷ bs)))) [
@@ -259,22 +258,6 @@ before-at (b ∷ bs) h =
 
 before-is : (t : List ℕ) → let more = unindented t in goes t before ≡ cond (at_slash more) (ends_tag (drop 1 more)) (cond (at_greater more) (ends_tag more) (then_on (behind_attribute more)))
 before-is t = run-skipped is_white before (λ b bs e. rw e refl) t ∙ before-at (unindented t) (first-not is_white t)
-
--- what is behind something is no longer
-abbrev Fits : ℕ → Option (List ℕ) → Type 0
-Fits n None = Unit {0}
-Fits n (Some rest) = length rest ≤ n
-
-drop-fits : (n : ℕ) (t : List ℕ) → length (drop n t) ≤ length t
-drop-fits n t = let e = length-drop n t in omega (arith, e)
-
-fits-more : (o : Option (List ℕ)) (n m : ℕ) → n ≤ m → Fits n o → Fits m o
-fits-more None n m le fits = tt
-fits-more (Some rest) n m le fits = le_trans fits le
-
-either-fits : (t : Bool) (n : ℕ) (x y : Option (List ℕ)) → Fits n x → Fits n y → Fits n (cond t x y)
-either-fits true n x y h k = h
-either-fits false n x y h k = k
 
 quote-fits : (m : ℕ) (t : List ℕ) → Fits (length t) (behind_quote m t)
 quote-fits m [] = tt

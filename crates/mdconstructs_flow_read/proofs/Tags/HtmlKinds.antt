@@ -1,5 +1,7 @@
 -- The kind of HTML that a line begins, byte by byte from behind the less-than sign: the definition says the same.
-use Rattle.mdconstructs_flow_read.proofs.Prelude.{◌≡◌, ℕ, suc, ◌+◌, ◌==◌, ◌||◌, ◌&&◌, not, nat_le, List, [], ◌∷◌, Bool, true, false, cond, length, take, drop, refl, sym, ap, ◌∙◌, subst, arith, one-add, is_ascii_alphabetic, is_ascii_alphanumeric, prefix_len, codes, eqb-true, eq-eqb, and-true, or-false, nat_tests, html_block_names, html_raw_names, is_white, no_name, one_byte_more, is_number_in, ends_open_tag, ends_tag, first_passes, is_named, starts_with, tag_name}
+use Rattle.markdown_base.proofs.Facts.Numbers.{eq-flip}
+use Rattle.mdconstructs_flow.proofs.TagNames.{letter-is}
+use Rattle.mdconstructs_flow_read.proofs.Prelude.{◌≡◌, ℕ, suc, ◌+◌, ◌==◌, ◌||◌, ◌&&◌, not, nat_le, List, [], ◌∷◌, Bool, true, false, cond, length, take, drop, refl, sym, ap, ◌∙◌, subst, arith, one-add, is_ascii_alphabetic, is_ascii_alphanumeric, prefix_len, codes, eqb-true, and-true, or-false, nat_tests, html_block_names, html_raw_names, is_white, no_name, one_byte_more, is_number_in, ends_open_tag, ends_tag, first_passes, is_named, starts_with, tag_name}
 use Rattle.mdconstructs_flow_read.specs.HtmlLines.{unindented, is_blank_line}
 use Rattle.mdconstructs_flow_read.proofs.Tags.HtmlNumbers.{named_kind}
 use Rattle.mdconstructs_flow_read.proofs.Tags.Attributes.{after, before, behind, closing, slashed, goes, closing-is, open-is, drop-run}
@@ -84,18 +86,9 @@ ends t = is_blank_line (take 1 t) || first_passes (λ b. b == 62) t
 abbrev kind_by : (closes raw block : Bool) → List ℕ → ℕ
 kind_by closes raw block t = cond (not closes && (raw && ends t)) 1 (cond (block && (ends t || starts_with (codes "/>") t)) 6 0)
 
-pub flip : (a b : ℕ) → (a == b) ≡ (b == a)
-flip a b = elim (b == a) as (λ t. (b == a) ≡ t → (a == b) ≡ t) [
-  | true ↦ λ e. eq-eqb a b (sym (eqb-true b a e))
-  | false ↦ λ e. elim (a == b) as (λ t. (a == b) ≡ t → t ≡ false) [
-    | true ↦ λ f. sym (eq-eqb b a (sym (eqb-true a b f))) ∙ e
-    | false ↦ λ f. refl
-  ] refl
-] refl
-
 pub first-is : (k : ℕ) (bs : List ℕ) → starts_with (k ∷ []) bs ≡ first_passes (λ c. c == k) bs
 first-is k [] = refl
-first-is k (b ∷ bs) = and-true (k == b) ∙ flip k b
+first-is k (b ∷ bs) = and-true (k == b) ∙ eq-flip k b
 
 -- by the tests of the first byte behind the name: white space, the end, a slash, and the end behind that; and by what the rest is
 opening-by : (raw block white greater slash ended further done over : Bool) → (greater ≡ true → slash ≡ false) → (ended ≡ false → over ≡ false)
@@ -150,7 +143,7 @@ opening-kind raw block (b ∷ bs) =
     let g = b == 62 in
     let s = b == 47 in
     let made = λ (t : Bool) (u : Bool). by_name (cond (raw && ((w && true) || g)) 1 (cond (block && (((w && true) || g) || (t && u))) 6 0)) (cond w (goes bs before) (cond s (goes bs slashed) (cond g (goes bs after) false))) in
-    ap (λ t. made t (starts_with (62 ∷ []) bs)) (flip 47 b) ∙ ap (made s) (first-is 62 bs)
+    ap (λ t. made t (starts_with (62 ∷ []) bs)) (eq-flip 47 b) ∙ ap (made s) (first-is 62 bs)
     ∙ opening-by raw block w g s (first_passes (λ c. c == 62) bs) (goes bs before) (goes bs after) (goes bs slashed) (not-both b) (slash-ends bs)
 
 closing-kind : (raw block : Bool) (t : List ℕ) → by_name (kind_by true raw block t) (goes t closing) ≡ behind_tag true raw block t
@@ -161,11 +154,8 @@ closing-kind raw block (b ∷ bs) =
     let g = b == 62 in
     let s = b == 47 in
     let made = λ (t : Bool) (u : Bool). by_name (cond false 1 (cond (block && (((w && true) || g) || (t && u))) 6 0)) (cond w (goes bs closing) (cond g (goes bs after) false)) in
-    ap (λ t. made t (starts_with (62 ∷ []) bs)) (flip 47 b) ∙ ap (made s) (first-is 62 bs)
+    ap (λ t. made t (starts_with (62 ∷ []) bs)) (eq-flip 47 b) ∙ ap (made s) (first-is 62 bs)
     ∙ closing-by raw block w g s (first_passes (λ c. c == 62) bs) (goes bs closing) (goes bs after)
-
-letter-in-name : (b : ℕ) → is_ascii_alphabetic b ≡ true → is_ascii_alphanumeric b ≡ true
-letter-in-name b h = grind (arith, nat_tests)
 
 at-least-one : (n : ℕ) → nat_le 1 (1 + n) ≡ true
 at-least-one n = grind (arith, nat_tests)
@@ -202,7 +192,7 @@ module _ (b : ℕ) (bs : List ℕ) (is : is_ascii_alphabetic b ≡ true) where
   size-is = ap (λ t. cond t size 0) is
 
   in-tag : in_tag b ≡ true
-  in-tag = ap (λ t. t || (b == 45)) (letter-in-name b is)
+  in-tag = ap (λ t. t || (b == 45)) (letter-is b is)
 
   is-some : nat_le 1 size ≡ true
   is-some = ap (λ t. nat_le 1 (cond t (1 + prefix_len in_tag bs) 0)) in-tag ∙ at-least-one (prefix_len in_tag bs)

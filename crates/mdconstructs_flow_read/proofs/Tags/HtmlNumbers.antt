@@ -1,5 +1,7 @@
 -- The kinds of HTML by numbers, as they are written down and looked for.
-use Rattle.mdconstructs_flow_read.proofs.Prelude.{◌≡◌, ℕ, ◌≤◌, ◌==◌, ◌||◌, ◌&&◌, not, nat_le, List, [], ◌∷◌, Bool, true, false, cond, map, take, drop, refl, sym, ap, ◌∙◌, subst, arith, is_ascii_alphabetic, None, Option, Some, codes, eqb-true, eq-eqb, leb-false, html_block_names, html_raw_names, HtmlKind, raw, comment, instruction, declaration, cdata, block_tag, any_tag, begins, behind_name, ends, ends_name, first_passes, holds, html_kind, is_block_name, is_closing_tag, is_named, is_open_tag, lower, name_at, starts_with, tag_name, html_number, number}
+use Rattle.markdown_base.proofs.Facts.Numbers.{eq-flip}
+use Rattle.mdconstructs_flow_read.proofs.Prelude.{◌≡◌, ℕ, ◌≤◌, ◌==◌, ◌||◌, ◌&&◌, not, nat_le, List, [], ◌∷◌, Bool, true, false, cond, map, take, drop, refl, sym, ap, ◌∙◌, subst, arith, is_ascii_alphabetic, None, Option, Some, codes, eqb-true, leb-false, html_block_names, html_raw_names, HtmlKind, raw, comment, instruction, declaration, cdata, block_tag, any_tag, begins, behind_name, ends, ends_name, first_passes, holds, html_kind, is_block_name, is_closing_tag, is_named, is_open_tag, lower, name_at, starts_with, tag_name, html_number, number}
+use Rattle.std.proofs.Math.Bool.{or-false}
 use Rattle.mdconstructs_flow_read.specs.HtmlLines.{is_blank_line}
 
 -- the kind of a tag with a listed name: a raw one opens kind 1, one of a block opens or closes kind 6
@@ -68,15 +70,6 @@ unlisted closes t n = elim (nat_le 1 n) as (λ b. nat_le 1 n ≡ b → cond b (n
     nothing true = refl
     nothing false = refl
 
-flip : (a b : ℕ) → (a == b) ≡ (b == a)
-flip a b = elim (b == a) as (λ t. (b == a) ≡ t → (a == b) ≡ t) [
-  | true ↦ λ e. eq-eqb a b (sym (eqb-true b a e))
-  | false ↦ λ e. elim (a == b) as (λ t. (a == b) ≡ t → t ≡ false) [
-    | true ↦ λ f. sym (eq-eqb b a (sym (eqb-true a b f))) ∙ e
-    | false ↦ λ f. refl
-  ] refl
-] refl
-
 -- all tests of a line behind those of names
 abbrev others : List ℕ → ℕ
 others r =
@@ -85,10 +78,6 @@ others r =
     (cond (begins declaration r) 4
     (cond (begins cdata r) 5
     (cond (begins any_tag r) 7 0))))
-
-or-none : (b : Bool) → (b || false) ≡ b
-or-none true = refl
-or-none false = refl
 
 -- behind a less-than sign, where no slash comes
 module _ (b : ℕ) (bs : List ℕ) where
@@ -106,7 +95,7 @@ module _ (b : ℕ) (bs : List ℕ) where
   by-slash false h =
       ap (λ named. cond (nat_le 1 named) named (others r)) (unlisted false t (tag_name t))
       ∙ named-first (is_named html_raw_names (name_at t) && ends_name (behind_name t)) (is_block_name t) (others r)
-      ∙ ap (λ six. cond (begins raw r) 1 (cond six 6 (others r))) (sym (or-none (is_block_name t)))
+      ∙ ap (λ six. cond (begins raw r) 1 (cond six 6 (others r))) (sym (or-false (is_block_name t)))
 
   opening : (47 == b) ≡ false → html_at r ≡ cond (begins raw r) 1 (cond (begins block_tag r) 6 (others r))
   opening h = by-slash (47 == b) h
@@ -128,7 +117,7 @@ number-is r = in-order (begins raw r) (begins block_tag r) (begins comment r) (b
     by-tests [] = refl
     by-tests (b ∷ bs) = elim (60 == b) as (λ less. (60 == b) ≡ less → let r = b ∷ bs in html_at r ≡ cond (begins raw r) 1 (cond (begins block_tag r) 6 (others r))) [
       | true ↦ λ less. subst (λ c. let r = c ∷ bs in html_at r ≡ cond (begins raw r) 1 (cond (begins block_tag r) 6 (others r))) (eqb-true 60 b less) (behind-less bs)
-      | false ↦ λ less. let other = flip b 60 ∙ less in rw (less, other) refl
+      | false ↦ λ less. let other = eq-flip b 60 ∙ less in rw (less, other) refl
     ] refl
 
 -- a kind's number is 7 at most

@@ -1,9 +1,10 @@
 -- What the look behind a less-than sign tells apart, byte by byte: the definition of the kinds of HTML says the same.
+use Rattle.markdown_base.proofs.Facts.Bools.{cond-same}
+use Rattle.markdown_base.proofs.Facts.Numbers.{unlike, eq-flip}
 use Rattle.mdconstructs_flow_read.proofs.Prelude.{◌≡◌, ℕ, ◌+◌, ◌==◌, ◌||◌, ◌&&◌, nat_le, List, [], ◌∷◌, Bool, true, false, cond, take, drop, refl, sym, ap, ◌∙◌, is_ascii_alphabetic, is_ascii_alphanumeric, prefix_len, codes, eqb-true, one_more, cdata_byte, ends_tag, first_passes, is_open_tag, starts_with, tag_name}
 use Rattle.mdconstructs_flow_read.specs.HtmlLines.{unindented}
 use Rattle.mdconstructs_flow_read.proofs.Tags.HtmlNumbers.{html_at, named_kind}
-use Rattle.mdconstructs_flow_read.proofs.Looks.ByteClasses.{apart}
-use Rattle.mdconstructs_flow_read.proofs.Tags.HtmlKinds.{closed, closed-is, first-is, flip, opened, opened-is, tagged}
+use Rattle.mdconstructs_flow_read.proofs.Tags.HtmlKinds.{closed, closed-is, first-is, opened, opened-is, tagged}
 
 -- behind `<![` and so many bytes of `CDATA[`
 abbrev pub in_cdata : (seen : ℕ) → List ℕ → ℕ
@@ -30,17 +31,13 @@ cond-and : (t u : Bool) (x y : ℕ) → cond (t && u) x y ≡ cond t (cond u x y
 cond-and true u x y = refl
 cond-and false u x y = refl
 
-same : (t : Bool) (x : ℕ) → cond t x x ≡ x
-same true x = refl
-same false x = refl
-
 at-letter : (b k x : ℕ) → is_ascii_alphabetic k ≡ true → cond (is_ascii_alphabetic b) (cond (b == k) x 0) (cond (b == 91) (cond (b == k) 5 0) 0) ≡ cond (k == b) x 0
 at-letter b k x letter =
     elim (b == k) as (λ t. (b == k) ≡ t → cond (is_ascii_alphabetic b) (cond t x 0) (cond (b == 91) (cond t 5 0) 0) ≡ cond t x 0) [
       | true ↦ λ e. ap (λ t. cond t x (cond (b == 91) 5 0)) (ap is_ascii_alphabetic (eqb-true b k e) ∙ letter)
-      | false ↦ λ e. ap (λ y. cond (is_ascii_alphabetic b) 0 y) (same (b == 91) 0) ∙ same (is_ascii_alphabetic b) 0
+      | false ↦ λ e. ap (λ y. cond (is_ascii_alphabetic b) 0 y) (cond-same (b == 91) 0) ∙ cond-same (is_ascii_alphabetic b) 0
     ] refl
-    ∙ ap (λ t. cond t x 0) (flip b k)
+    ∙ ap (λ t. cond t x 0) (eq-flip b k)
 
 cdata-step : (n k : ℕ) (ks : List ℕ) → cdata_byte n ≡ k → is_ascii_alphabetic k ≡ true → ((t : List ℕ) → in_cdata (one_more n) t ≡ cond (starts_with ks t) 5 0)
     → (t : List ℕ) → in_cdata n t ≡ cond (starts_with (k ∷ ks) t) 5 0
@@ -56,7 +53,7 @@ cdata-ends [] = refl
 cdata-ends (b ∷ bs) =
     elim (b == 91) as (λ t. (b == 91) ≡ t → cond (is_ascii_alphabetic b) (cond t (in_cdata (one_more 5) bs) 0) (cond t (cond t 5 0) 0) ≡ cond t 5 0) [
       | true ↦ λ e. ap (λ t. cond t (in_cdata (one_more 5) bs) 5) (ap is_ascii_alphabetic (eqb-true b 91 e))
-      | false ↦ λ e. same (is_ascii_alphabetic b) 0
+      | false ↦ λ e. cond-same (is_ascii_alphabetic b) 0
     ] refl
     ∙ ap (λ t. cond t 5 0) (sym (first-is 91 (b ∷ bs)))
 
@@ -75,9 +72,9 @@ at-declared b bs true bracket e f =
     ∙ ap (λ t. cond (first_passes (λ c. c == 45) bs) 2 (cond t 4 0)) (sym (ap is_ascii_alphabetic is))
     ∙ ap (λ c. cond (is_ascii_alphabetic c) 4 (cond (c == 45) (cond (first_passes (λ c. c == 45) bs) 2 0) (cond (c == 91) (in_cdata 0 bs) 0))) is
 at-declared b bs false bracket e f =
-    ap (λ t. cond (is_ascii_alphabetic b) 4 (cond (t && starts_with (codes "CDATA[") bs) 5 0)) (sym f ∙ flip 91 b)
+    ap (λ t. cond (is_ascii_alphabetic b) 4 (cond (t && starts_with (codes "CDATA[") bs) 5 0)) (sym f ∙ eq-flip 91 b)
     ∙ ap (λ r. cond (is_ascii_alphabetic b) 4 r) (cond-and (b == 91) (starts_with (codes "CDATA[") bs) 5 0 ∙ ap (λ r. cond (b == 91) r 0) (sym (cdata-is bs)))
-    ∙ ap (λ t. cond (is_ascii_alphabetic b) 4 (cond t (cond (first_passes (λ c. c == 45) bs) 2 0) (cond (b == 91) (in_cdata 0 bs) 0))) (sym e ∙ flip 45 b)
+    ∙ ap (λ t. cond (is_ascii_alphabetic b) 4 (cond t (cond (first_passes (λ c. c == 45) bs) 2 0) (cond (b == 91) (in_cdata 0 bs) 0))) (sym e ∙ eq-flip 45 b)
 
 declared-is : (bs : List ℕ) → html_at (60 ∷ 33 ∷ bs) ≡ declared bs
 declared-is [] = refl
@@ -120,13 +117,10 @@ by_first b bs slash bang question =
 by-first : (b : ℕ) (bs : List ℕ) → html_at (60 ∷ b ∷ bs) ≡ by_first b bs (47 == b) (33 == b) (63 == b)
 by-first b bs = refl
 
-is-not : (k b : ℕ) → (b == k) ≡ false → (k == b) ≡ false
-is-not k b e = flip k b ∙ e
-
 plain : (b : ℕ) (bs : List ℕ) → (b == 47) ≡ false → (b == 33) ≡ false → (b == 63) ≡ false
     → let tag = b ∷ bs in html_at (60 ∷ tag) ≡ opened tag (tag_name tag) (nat_le 1 (tag_name tag)) (drop (1 + tag_name tag) (60 ∷ tag))
 plain b bs slash bang question =
-    by-first b bs ∙ ap (λ t. by_first b bs t (33 == b) (63 == b)) (is-not 47 b slash) ∙ ap (λ t. by_first b bs false t (63 == b)) (is-not 33 b bang) ∙ ap (by_first b bs false false) (is-not 63 b question)
+    by-first b bs ∙ ap (λ t. by_first b bs t (33 == b) (63 == b)) (eq-flip 47 b ∙ slash) ∙ ap (λ t. by_first b bs false t (63 == b)) (eq-flip 33 b ∙ bang) ∙ ap (by_first b bs false false) (eq-flip 63 b ∙ question)
 
 no-letter : (b : ℕ) (bs : List ℕ) → is_ascii_alphabetic b ≡ false → html_at (60 ∷ b ∷ bs) ≡ cond (b == 47) (tag_closed bs) (cond (b == 33) (declared bs) (cond (b == 63) 3 0))
 no-letter b bs letter = elim (b == 47) as (λ t. (b == 47) ≡ t → html_at (60 ∷ b ∷ bs) ≡ cond t (tag_closed bs) (cond (b == 33) (declared bs) (cond (b == 63) 3 0))) [
@@ -143,6 +137,6 @@ no-letter b bs letter = elim (b == 47) as (λ t. (b == 47) ≡ t → html_at (60
 pub begun-is : (bs : List ℕ) → html_at (60 ∷ bs) ≡ begun bs
 begun-is [] = refl
 begun-is (b ∷ bs) = elim (is_ascii_alphabetic b) as (λ t. is_ascii_alphabetic b ≡ t → html_at (60 ∷ b ∷ bs) ≡ cond t (tagged false 0 (b ∷ bs)) (cond (b == 47) (tag_closed bs) (cond (b == 33) (declared bs) (cond (b == 63) 3 0)))) [
-  | true ↦ λ e. plain b bs (apart is_ascii_alphabetic 47 refl b e) (apart is_ascii_alphabetic 33 refl b e) (apart is_ascii_alphabetic 63 refl b e) ∙ opened-is b bs e
+  | true ↦ λ e. plain b bs (unlike is_ascii_alphabetic 47 refl b e) (unlike is_ascii_alphabetic 33 refl b e) (unlike is_ascii_alphabetic 63 refl b e) ∙ opened-is b bs e
   | false ↦ λ e. no-letter b bs e
 ] refl
