@@ -2,7 +2,7 @@
 pub use Rattle.std.proofs.Common.{Bool, Err, List, None, Ok, Option, Result, Some, [], ap, append_assoc, arith, cond, drop, false, get_or, inl, inr, length, map, not, refl, subst, suc, sym, take, true, zero, ℕ, ⊎_elim, ◌*◌, ◌++◌, ◌+◌, ◌-◌, ◌/◌, ◌<◌, ◌==◌, ◌^◌, ◌∙◌, ◌∷◌, ◌≡◌, ◌≤◌, ◌⊎◌}
 pub use Rattle.std.proofs.Math.Nat.{le-div_iff_mul-le, mul_comm}
 pub use Rattle.std.proofs.Math.Seq.{drop-append-add}
-pub use Rattle.std.proofs.lemmas.Bool.{and_parts, cases_Bool, cases_lt, eq-eqb, eqb-true, ne_eqb}
+pub use Rattle.std.proofs.lemmas.Bool.{and_parts, cases_Bool, cases_lt, eq-eqb, eqb-true, ne_eqb, or_parts}
 pub use Rattle.std.proofs.lemmas.Bool.Decides.{nat_tests}
 pub use Rattle.std.proofs.lemmas.Grind.{flat_map-append}
 pub use Rattle.std.proofs.lemmas.List.{append-nil, drop-drop, drop-map, drop-take, drop_all, drop_more, length-drop, map-append, take-append-drop}
@@ -14,8 +14,10 @@ pub use Rattle.std.specs.List.{AllByRecursion, between, flat_map, position_or_le
 pub use Rattle.std.specs.Option.{option_and_then}
 pub use Rattle.std.specs.Prelude.{Contains, IfErr, IfSome, IsErrOf, filter, is_none, nat_le, nat_lt, option_map, slice_get, ◌&&◌, ◌||◌, ◌↔◌, ◌≢◌}
 pub use Rattle.markdown_base.proofs.Common.{and-right, drop-next, every-append, every-get, every-map, none-mapped}
+pub use Rattle.markdown_base.proofs.Facts.Bools.{and-left}
 pub use Rattle.markdown_base.proofs.PointAt.{point-of_reached}
 pub use Rattle.markdown_base.proofs.Seats.{end-after-append, stands-self}
+pub use Rattle.markdown_base.proofs.Orders.{AreTight, InOrder, order-both, tight-at, tight-both}
 pub use Rattle.markdown_base.specs.Events.{IsBalanced, IsInOrder, IsVoidTight, empty, is_enter, is_void, relinked, same_name, with_ends}
 pub use Rattle.markdown_base.specs.Lines.{HasNoLineEnding, is_line_start}
 pub use Rattle.markdown_base.specs.Places.{IsPointOf, IsShown, denotes_same, point_at, shown, stands_before}
@@ -40,7 +42,7 @@ pub use Rattle.markdown_children.proofs.ChainOrder.Following.{by_option, by_test
 pub use Rattle.markdown_children.proofs.ChainOrder.Spaced.{length-map_ends, length-parts}
 pub use Rattle.markdown_children.proofs.ChildReads.ChainReads.{Reads, flagged, reads-holds, reads-passed, reads-pushed, reads-range}
 pub use Rattle.markdown_children.proofs.Parts.Kept.{after-step, after_changes, between-none, joined, joined-parts, part_after, untagged, untagged-olds}
-pub use Rattle.markdown_children.proofs.Parts.Weaves.{get-dropped}
+pub use Rattle.markdown_base.proofs.Facts.Lists.{get-dropped}
 pub use Rattle.markdown_children.proofs.Ready.Reached.{line_at-le, reached-at}
 pub use Rattle.markdown_children.specs.ByteStarts.{column_at, line_at}
 pub use Rattle.markdown_children.specs.Chains.{begins, chain_from, chain_of, content_at, fits, fitting_starts, lets_through, some_fits}
@@ -76,7 +78,7 @@ pub use Rattle.markdown_tokenizer.specs.declared.tokenizer.fault.Fault.TheVarian
 pub use Rattle.mdconstructs_attention.proofs.Beside.Kept.{beside-in}
 pub use Rattle.mdconstructs_attention.proofs.PairsKeep.{pairs-keep, pairs-keep-indices}
 pub use Rattle.mdconstructs_attention.proofs.RunEdits.{emphasis-can-be-made}
-pub use Rattle.mdconstructs_attention.proofs.RunTexts.{and-left, runs-and-texts}
+pub use Rattle.mdconstructs_attention.proofs.RunTexts.{runs-and-texts}
 pub use Rattle.mdconstructs_attention.specs.Beside.{AreBeside, IsBeside}
 pub use Rattle.mdconstructs_attention.specs.Emphasis.{Run, closings, data_of, events_of_runs, inner_name, later, markers_of, markers_of_all, openings, outer_name, paired, same, sequence_name, tail_events, unlinked_event}
 pub use Rattle.mdconstructs_attention.specs.LawStatements.{AreFresh}
@@ -105,7 +107,7 @@ pub use Rattle.mdconstructs_flow_read.proofs.Marks.FullBlocks.{IsFull, StartsTex
 pub use Rattle.mdconstructs_flow_read.proofs.Marks.LeafSpans.{flow-accounts, setext-body, spans-blocks, spans-of-around}
 pub use Rattle.mdconstructs_flow_read.proofs.Marks.MarkAccounts.{AreSpans, Begins, accounts-kept, bare, linked-spans}
 pub use Rattle.mdconstructs_flow_read.proofs.Marks.MarkChunks.{AreSingle, IsPlain, IsSingle, single-block-marks, single-both, single-data, single-end, single-fenced, single-last, single-leaf, single-sequence, single-span, single-underline}
-pub use Rattle.mdconstructs_flow_read.proofs.Marks.MarkForms.{AreTight, Formed, Forms, InOrder, Place, Track, forms-kept, name-closed, order-both, tight-at, tight-both, tight-linked, track-on, track-place, track-upto, whole-formed, whole-track}
+pub use Rattle.mdconstructs_flow_read.proofs.Marks.MarkForms.{Formed, Forms, Place, Track, forms-kept, name-closed, tight-linked, track-on, track-place, track-upto, whole-formed, whole-track}
 pub use Rattle.mdconstructs_flow_read.proofs.Marks.MarkSpans.{IsKeptBySpans, line-on, over, text-by-chunks}
 pub use Rattle.mdconstructs_flow_read.proofs.Marks.ToldEdits.{first-linked, mark_at}
 pub use Rattle.mdconstructs_flow_read.proofs.Whole.FlowEnds.{flow-ends}
@@ -132,7 +134,7 @@ pub use Rattle.mdconstructs_inline_constructs.specs.HtmlTag.{tag_length}
 pub use Rattle.mdconstructs_inline_constructs.specs.HtmlText.{html_of, piece_at, piece_events, piece_length}
 pub use Rattle.mdconstructs_inline_constructs.specs.Reference.{decimal, hexadecimal, mark_events, marks, named, reference_at}
 pub use Rattle.mdconstructs_inline_constructs.specs.WhiteSpace.{is_white_left, white_space, white_space_at}
-pub use Rattle.mdconstructs_inlines.proofs.InlineApart.{or-parts, some-item}
+pub use Rattle.mdconstructs_inlines.proofs.InlineApart.{some-item}
 pub use Rattle.mdconstructs_inlines.proofs.InlineBuilt.{all-built, items-built, read-alone, read-balanced}
 pub use Rattle.mdconstructs_inlines.proofs.InlineChains.{inline-alone, reads-texts}
 pub use Rattle.mdconstructs_inlines.proofs.Looks.{inlines-refuse-nothing}
@@ -173,7 +175,7 @@ pub use Rattle.mdconstructs_text.proofs.Constructs.Apart.{EachThere, OfOption, t
 pub use Rattle.mdconstructs_text.proofs.DeepSpans.Atoms.{Atom, InOneLine, IsCut, MapCut, OneLine, all_at, atom_events, atom_seats, atoms-more, cut-append, cut-leaf, events_of, map-cut, open-atoms, seats_of}
 pub use Rattle.mdconstructs_text.proofs.DeepSpans.Chunks.{chain-seats, chunk_seats}
 pub use Rattle.mdconstructs_text.proofs.DeepSpans.Places.{chain-from, origin, place-shown, range-of}
-pub use Rattle.mdconstructs_text.proofs.DeepSpans.Stretches.{ItemCut, NoEnding, cuts, first-plain, no-feed, one-taken, plain-add, plain-line, run-behind, run-plain}
+pub use Rattle.mdconstructs_text.proofs.DeepSpans.Stretches.{ItemCut, NoEnding, cuts, first-plain, one-taken, plain-add, plain-line, run-behind, run-plain}
 pub use Rattle.mdconstructs_text.proofs.Escapes.Bytes.{escapes-apart}
 pub use Rattle.mdconstructs_text.proofs.Escapes.Cuts.{escape-cut}
 pub use Rattle.mdconstructs_text.proofs.NoRefusals.{text-refuses-nothing}

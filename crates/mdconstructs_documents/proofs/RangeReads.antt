@@ -1,4 +1,5 @@
 -- Ranges are read as one text: the places of their ends, the pieces that they are pushed as, and what is read of these.
+use Rattle.markdown_children.proofs.Parts.Untorn.{gap-seats}
 use Rattle.mdconstructs_documents.proofs.Prelude.{List, [], ap, arith, false, get_or, inl, inr, refl, subst, sym, true, ℕ, ◌+◌, ◌<◌, ◌∙◌, ◌∷◌, ◌++◌, ◌≡◌, ◌≤◌, ◌==◌, ◌≢◌, Contains, Some, cond, drop, filter, length, suc, zero, cases_lt, eq-eqb, ne_eqb, nat_tests, append-nil, append_assoc, drop_more, same_Some, point-of_reached, HasNoLineEnding, is_line_start, denotes_same, IsPointOf, point_at, stands_before, point, Seat, virtual, ParseOptions, Point, Message, State, Error, Next, TextStart, by_test, flagged, Reads, reads-passed, reached-at, column_at, line_at, same-self, upto-order, point_at-is, holds-on, leads-refl, text-on, Configuration, start_configuration, start_seen, TokenizerValue, given_by, IsFlushed, IsRefused, IsWellFormed, LeadsOn, KeepsInvariant, EndsIn, Reading, Rules, CanFollow, empty_text, FitsAfter, followed_by, followed_by_all, Given, in_range, IsDocument, IsText, passed, Piece, pushed, Text, Subresult, FollowFrom, is_in, IsRangeFrom, seats_in, text_events_in, ByteRange, ending, ends-so, from-start, text_step, seat_events, text_events, text_rules}
 use Rattle.markdown_base.specs.declared.state.State.TheVariants.{Ok}
 
@@ -68,10 +69,6 @@ module _ (options : ParseOptions) (bytes : List ℕ) where
   abbrev pub text_from : ℕ → List ByteRange → Text
   text_from start ranges = followed_by_all g (empty_text (at_index start)) (pieces_from start ranges)
 
-  -- a gap adds no virtual byte
-  passed-seats : (text : Text) (p : Point) → (followed_by g text (passed p)).seats ≡ text.seats
-  passed-seats text p = by_test (denotes_same t bytes p text.end) (λ e. rw e refl) (λ e. rw e refl)
-
   -- what a range and then others read behind a text
   range-seats : (text : Text) (range : ByteRange) (ranges : List ByteRange) → ((text : Text) → (followed_by_all g text (pieces_from range.to ranges)).seats ≡ text.seats ++ seats_in t bytes ranges)
       → (followed_by_all g text (from_range range (pieces_from range.to ranges))).seats ≡ text.seats ++ seats_in t bytes (range ∷ ranges)
@@ -88,7 +85,7 @@ module _ (options : ParseOptions) (bytes : List ℕ) where
       let more = λ (text : Text). pieces-seats text range.to ranges in
       by_test (range.from == end)
       (λ e. rw e (range-seats text range ranges more))
-      (λ e. rw e (range-seats after range ranges more ∙ ap (λ xs. xs ++ seats_in t bytes (range ∷ ranges)) (passed-seats text (at_index range.from))))
+      (λ e. rw e (range-seats after range ranges more ∙ ap (λ xs. xs ++ seats_in t bytes (range ∷ ranges)) (gap-seats g text (at_index range.from))))
 
   module _ (some : 0 < t) where
     -- a range fits where the text ends at its first byte

@@ -3,8 +3,9 @@ use Rattle.mdconstructs_documents.proofs.Prelude.{◌≡◌, ℕ, ◌+◌, ◌-�
 use Rattle.mdconstructs_documents.proofs.Emphasis.Goes.{runs-go}
 use Rattle.mdconstructs_documents.proofs.Emphasis.Pairs.{HaveAtoms}
 use Rattle.mdconstructs_documents.proofs.Emphasis.Runs.{AreRuns, IsRunOf, RunsAre}
-use Rattle.mdconstructs_documents.proofs.FlowTexts.InlineOrder.{found-at, get-drop}
+use Rattle.mdconstructs_documents.proofs.FlowTexts.InlineOrder.{found-at}
 use Rattle.mdconstructs_documents.proofs.FlowTexts.InlineTight.{AreBalanced, fresh-balanced}
+use Rattle.mdconstructs_tables.proofs.Looks.Left.{at-front}
 
 module _ (bytes : List ℕ) where
   -- where a run stands there are its enter and its exit
@@ -26,7 +27,7 @@ module _ (bytes : List ℕ) where
             let two : j + 1 + 1 ≡ j + 2 = omega arith in
             let third = subst (λ k. drop k events ≡ es) two (drop-next events (j + 1) f es next) in
             subst (λ c. AllStand events (cond c (run_at bytes j e f before (index_of_event (slice_get es 0)) ∷ runs_from bytes (j + 2) depth (Some f.point.index) es) (runs_from bytes (j + 1) (depth_after e.kind depth) (Some e.point.index) (f ∷ es)))) (sym b) (
-              (e, f, get-drop events j e (f ∷ es) at, get-drop events (j + 1) f es next, record { is = and-right (depth == 0) (is_sequence e f) b; start = refl; many = many; star = refl }),
+              (e, f, at-front events j e (f ∷ es) at, at-front events (j + 1) f es next, record { is = and-right (depth == 0) (is_sequence e f) b; start = refl; many = many; star = refl }),
               runs-stand events es (j + 2) depth (Some f.point.index) third,
             )
         | inr b ↦

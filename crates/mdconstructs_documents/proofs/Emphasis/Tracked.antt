@@ -1,5 +1,6 @@
 -- Delimiter runs among atoms, by their virtual bytes: in a document they go byte by byte, and two that adjoin have different markers.
 use Rattle.mdconstructs_documents.proofs.Prelude.{◌≡◌, ℕ, ◌==◌, Bool, true, false, List, [], ◌∷◌, ◌++◌, append_assoc, refl, sym, ap, ◌∙◌, subst, ◌||◌, slice_get, AllByRecursion, eqb-true, Point, shown, Seat, end_after, every-back, every-front, later, same, is_star_byte, Atom, atom_seats, seats_of, is_delimiter, Track, track-on, track-place}
+use Rattle.std.proofs.Math.Bool.{or-false}
 use Rattle.mdconstructs_documents.proofs.Emphasis.Follow.{FollowFrom}
 use Rattle.mdconstructs_documents.proofs.Emphasis.RunAtoms.{AreWholeRuns, Differs, is_run}
 use Rattle.mdconstructs_documents.proofs.Emphasis.Runs.{AreRuns, HasOther}
@@ -9,17 +10,13 @@ use Rattle.mdconstructs_documents.proofs.FlowTexts.InlineSteps.{AreDelimiters, S
 markers-differ : (x y : ℕ) → is_delimiter x ≡ true → is_delimiter y ≡ true → (x ≡ y → ⊥) → same (x == 42) (y == 42) ≡ false
 markers-differ x y h k differ = by (x == 42) (y == 42) refl refl
   where
-    only : (a : Bool) → (a || false) ≡ true → a ≡ true
-    only true i = refl
-    only false i = i
-
     by : (a b : Bool) → (x == 42) ≡ a → (y == 42) ≡ b → same a b ≡ false
     by true true e f = absurd (differ (eqb-true x 42 e ∙ sym (eqb-true y 42 f)))
     by true false e f = refl
     by false true e f = refl
     by false false e f =
-        let one : (x == 95) ≡ true = only (x == 95) (sym (ap (λ (a : Bool). a || ((x == 95) || false)) e) ∙ h) in
-        let other : (y == 95) ≡ true = only (y == 95) (sym (ap (λ (a : Bool). a || ((y == 95) || false)) f) ∙ k) in
+        let one : (x == 95) ≡ true = sym (or-false (x == 95)) ∙ sym (ap (λ (a : Bool). a || ((x == 95) || false)) e) ∙ h in
+        let other : (y == 95) ≡ true = sym (or-false (y == 95)) ∙ sym (ap (λ (a : Bool). a || ((y == 95) || false)) f) ∙ k in
         absurd (differ (eqb-true x 95 one ∙ sym (eqb-true y 95 other)))
 
 module _ (bytes : List ℕ) where

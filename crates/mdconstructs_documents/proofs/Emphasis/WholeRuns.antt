@@ -1,5 +1,6 @@
 -- Virtual bytes that are cut from the front, item by item, into delimiter runs and items that hold none: their runs are as long as can be.
-use Rattle.mdconstructs_documents.proofs.Prelude.{◌≡◌, ℕ, zero, suc, ◌+◌, ◌<◌, ◌≤◌, ◌==◌, true, false, cond, inl, inr, List, [], ◌∷◌, ◌++◌, length, take, drop, Option, Some, None, refl, sym, ◌∙◌, subst, arith, ◌⊎◌, AllByRecursion, flat_map, prefix_len, nat_tests, flat_map-append, append-nil, take-append-drop, every-append, Event, Enter, Exit, AttentionSequence, same_name, Seat, end_after, every-back, every-front, event, EachThere, OfOption, Atom, InOneLine, IsCut, all_at, atom_events, atom_seats, events_of, seats_of, ItemCut, NoEnding, no-feed, plain-line, drop-less, Found, Grammar, item_length, bytes_of, cut, item_events, delimiter_run, run_length, is_delimiter}
+use Rattle.mdconstructs_documents.proofs.FlowTexts.InlineCuts.{no-endings}
+use Rattle.mdconstructs_documents.proofs.Prelude.{◌≡◌, ℕ, zero, suc, ◌+◌, ◌<◌, ◌≤◌, ◌==◌, true, false, cond, inl, inr, List, [], ◌∷◌, ◌++◌, length, take, drop, Option, Some, None, refl, sym, ◌∙◌, subst, arith, ◌⊎◌, AllByRecursion, flat_map, prefix_len, nat_tests, flat_map-append, append-nil, take-append-drop, every-append, Event, Enter, Exit, AttentionSequence, same_name, Seat, end_after, every-back, every-front, event, EachThere, OfOption, Atom, InOneLine, IsCut, all_at, atom_events, atom_seats, events_of, seats_of, ItemCut, plain-line, drop-less, Found, Grammar, item_length, bytes_of, cut, item_events, delimiter_run, run_length, is_delimiter}
 use Rattle.mdconstructs_documents.proofs.Emphasis.RunAtoms.{is_run, Differs, AreWholeRuns}
 use Rattle.mdconstructs_documents.proofs.FlowTexts.InlineSteps.{AreDelimiters, run-delimiters}
 
@@ -75,11 +76,6 @@ module _ (bytes : List ℕ) where
   pub free-constructs : (l : List Seat) (grammars : List (Grammar Found)) (text : List ℕ) → EachThere (ItemCut bytes l) grammars text → EachThere IsFree grammars text → EachThere (ItemRuns l) grammars text
   free-constructs l [] text cuts frees = tt
   free-constructs l (grammar ∷ grammars) text cuts frees = (free-option l (grammar.front text) cuts.0 frees.0, free-constructs l grammars text cuts.1 frees.1)
-
-  -- and with a delimiter run
-  no-endings : (l : List Seat) → AreDelimiters l → NoEnding l
-  no-endings [] h = tt
-  no-endings (s ∷ ss) h = (no-feed is_delimiter refl s.byte h.0, no-endings ss h.1)
 
   pub run-item : (s : Seat) (ss : List Seat) → is_delimiter s.byte ≡ true → ItemRuns (s ∷ ss) (delimiter_run (run_length (bytes_of (s ∷ ss))))
   run-item s ss is =

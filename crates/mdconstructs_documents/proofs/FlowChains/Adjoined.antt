@@ -1,8 +1,9 @@
 -- Lists of events in which each chunk stands directly before the one that it is linked to: their chains can be read.
-use Rattle.mdconstructs_documents.proofs.Prelude.{◌≡◌, ℕ, ◌+◌, ◌<◌, List, false, Option, Some, None, length, ◌⊎◌, inl, inr, refl, sym, ap, ◌∙◌, subst, arith, get_or, get_or_from_slice_get, slice_get_within, slice_get, option_and_then, AllByRecursion, every-get, Content, Event, IsBalanced, empty, IsVoidTight, IsInOrder, stands_before, IsPointOf, IsShown, AreMutual, IsChunk, IsLinkedEnter, content_of, next_of, IsReady, IsShownPlace, place_at, AreAtPlaces, ChunksJoin, place-at-event}
+use Rattle.mdconstructs_documents.proofs.Prelude.{◌≡◌, ℕ, ◌+◌, ◌<◌, List, Option, Some, None, length, ◌⊎◌, inl, inr, refl, sym, ◌∙◌, subst, arith, get_or_from_slice_get, slice_get_within, slice_get, option_and_then, AllByRecursion, every-get, Content, Event, IsBalanced, empty, IsVoidTight, IsInOrder, IsPointOf, AreMutual, IsChunk, IsLinkedEnter, content_of, next_of, IsReady, place_at, AreAtPlaces, ChunksJoin, place-at-event}
 use Rattle.markdown_base.specs.declared.event.Content.TheVariants.{Flow}
 use Rattle.markdown_edits.specs.Links.{content_at}
-use Rattle.mdconstructs_documents.proofs.FlowChains.Contents.{is-content}
+use Rattle.mdconstructs_text.proofs.Paragraphs.ChainEvents.{is-content}
+use Rattle.mdconstructs_text.proofs.Paragraphs.ChunkPairs.{stands-shown, stand-in-order}
 use Rattle.mdconstructs_text.proofs.Paragraphs.ChunksReady.{between-none}
 
 -- the event is in no chain, or begins a chunk
@@ -49,19 +50,8 @@ module _ (t : ℕ) (bytes : List ℕ) (es : List Event) (h : AreAdjoined es) (ba
   chunk-at : (k : ℕ) (c : Content) → content_at es k ≡ Some c → IsChunk es k
   chunk-at k c is = chunk-of k (slice_get es k) c refl is
 
-  stands-shown : (k : ℕ) (e : Event) → slice_get es k ≡ Some e → IsShownPlace t bytes (place_at es k)
-  stands-shown k e at =
-      let within = slice_get_within es k e at in
-      let same = get_or_from_slice_get es k e e at in
-      let here = subst (λ (x : Event). IsPointOf t bytes x.point) same (at_places k e within) in
-      let is_shown = subst (λ (x : Event). IsShown bytes x.point) same (order.1 k e within) in
-      subst (IsShownPlace t bytes) (sym (place-at-event es k e at)) (here, is_shown)
-
-  stand-in-order : (i j : ℕ) (e f : Event) → i < j → slice_get es i ≡ Some e → slice_get es j ≡ Some f → stands_before (place_at es j) (place_at es i) ≡ false
-  stand-in-order i j e f less at then =
-      let first : place_at es i ≡ (get_or es i e).point = place-at-event es i e at ∙ ap (λ (x : Event). x.point) (sym (get_or_from_slice_get es i e e at)) in
-      let second : place_at es j ≡ (get_or es j e).point = place-at-event es j f then ∙ ap (λ (x : Event). x.point) (sym (get_or_from_slice_get es j f e then)) in
-      (λ x. stands_before (second x) (first x)) ∙ order.0 i j e less (slice_get_within es j f then)
+  placed : (k : ℕ) (e : Event) → slice_get es k ≡ Some e → IsPointOf t bytes e.point
+  placed k e at = subst (λ (x : Event). IsPointOf t bytes x.point) (get_or_from_slice_get es k e e at) (at_places k e (slice_get_within es k e at))
 
   pub adjoined-ready : (wanted : Content) → ¬ (wanted ≡ Flow) → IsReady t bytes (Some wanted) es
   adjoined-ready wanted other = record {
@@ -75,9 +65,9 @@ module _ (t : ℕ) (bytes : List ℕ) (es : List Event) (h : AreAdjoined es) (ba
         let c = chunk-at k wanted at in
         record {
           content = λ flow. let no : Some wanted ≡ Some Flow = sym at ∙ flow in other (cc);
-          from = stands-shown k c.enter c.enter_at;
-          to = stands-shown (k + 1) c.exit c.exit_at;
-          forward = stand-in-order k (k + 1) c.enter c.exit (omega arith) c.enter_at c.exit_at;
+          from = stands-shown t bytes es order k c.enter c.enter_at (placed k c.enter c.enter_at);
+          to = stands-shown t bytes es order (k + 1) c.exit c.exit_at (placed (k + 1) c.exit c.exit_at);
+          forward = stand-in-order bytes es order k (k + 1) c.enter c.exit (omega arith) c.enter_at c.exit_at;
         };
     gaps = λ k d fit is.
         let at = is-content wanted (content_at es k) fit in
@@ -86,7 +76,7 @@ module _ (t : ℕ) (bytes : List ℕ) (es : List Event) (h : AreAdjoined es) (ba
         let c = chunk-at k wanted at in
         let behind = chunk-at d wanted (pair.content ∙ at) in
         record {
-          forward = stand-in-order (k + 1) d c.exit behind.enter (omega (arith, next)) c.exit_at behind.enter_at;
+          forward = stand-in-order bytes es order (k + 1) d c.exit behind.enter (omega (arith, next)) c.exit_at behind.enter_at;
           in_line = inl (sym pair.place);
           balanced = subst IsBalanced (sym (between-none es (k + 2) d next)) empty;
           no_link = λ m least most. absurd (omega (arith, next, least, most));

@@ -1,10 +1,6 @@
 -- Chains of one content: what begins one, and the state that it is read with.
-use Rattle.mdconstructs_documents.proofs.Prelude.{◌≡◌, List, true, Option, Some, None, sym, ap, subst, Contains, IfSome, is_none, and_parts, the_type, Content, Event, Name, content_at, fits, some_fits, StartAmong, start_name, previous_of}
-use denote.Enum.Bare.{same_true}
-
-pub is-content : (wanted : Content) (o : Option Content) → some_fits (Some wanted) o ≡ true → o ≡ Some wanted
-is-content wanted None h = absurd (cc)
-is-content wanted (Some c) h = ap Some (sym (same_true the_type tt wanted c h))
+use Rattle.mdconstructs_documents.proofs.Prelude.{◌≡◌, List, Option, Some, None, subst, Contains, IfSome, is_none, and_parts, Content, Event, Name, content_at, fits, StartAmong, start_name, previous_of}
+use Rattle.mdconstructs_text.proofs.Paragraphs.ChainEvents.{is-content}
 
 when-some : (o : Option Name) (P : Name → Type 0) (name : Name) → IfSome o P → o ≡ Some name → P name
 when-some None P name h e = absurd (cc)

@@ -1,9 +1,10 @@
 -- A list whose marks are cut into segments over a document: with the texts of its chains it has the texts of its segments.
-use Rattle.mdconstructs_documents.proofs.Prelude.{◌≡◌, ℕ, suc, ◌+◌, ◌<◌, ◌≤◌, List, [], ◌∷◌, ◌++◌, false, Option, Some, None, append_assoc, length, map, refl, sym, ap, ◌∙◌, subst, arith, option_map, AllByRecursion, flat_map, every-append, relinked, with_ends, Content, Event, Link, Seat, virtual, untagged, chain_of, content_at, fitting_starts, chain_changes, child_changes, first_chunk, part_changes, with_children, divided_over, parts, text_of_chain, place_at, woven-pass, AreApart, Change, Tagged, placed, placed_end, placed_in, woven, HaveNoLinks, Given, chain-seats, chain_text, first-linked, mark_at, Mark, linked_from}
+use Rattle.mdconstructs_documents.proofs.Prelude.{◌≡◌, ℕ, ◌+◌, ◌<◌, ◌≤◌, List, [], ◌∷◌, ◌++◌, false, Option, Some, None, append_assoc, length, map, refl, sym, ap, ◌∙◌, subst, arith, option_map, AllByRecursion, flat_map, every-append, relinked, with_ends, Content, Event, Link, Seat, virtual, untagged, chain_of, content_at, fitting_starts, chain_changes, child_changes, first_chunk, part_changes, with_children, divided_over, parts, text_of_chain, place_at, woven-pass, AreApart, Change, Tagged, placed, placed_end, placed_in, woven, HaveNoLinks, Given, chain-seats, chain_text, first-linked, mark_at, Mark, linked_from}
 use Rattle.mdconstructs_documents.proofs.FlowTexts.Chained.{two_for, indices, IsAt, starts_in, kept-at}
 use Rattle.mdconstructs_documents.proofs.FlowTexts.Changes.{after-texts, changes-apart, changes_of, kept-room, marks_of, starts-are, starts_of, texts_of}
 use Rattle.mdconstructs_documents.proofs.FlowTexts.Chunks.{chain-content, chain-is, chain-next, chain-room, chain-seats-are}
 use Rattle.mdconstructs_documents.proofs.FlowTexts.Segments.{Segment, kept, chain, IsKept, IsGood, HasByte, chain_marks, in_line, kept-events, seats_of}
+use Rattle.mdconstructs_flow_read.proofs.Marks.MarkLists.{linked-length}
 
 -- ---- no link leads anywhere
 -- link ends of the event do not change
@@ -78,10 +79,6 @@ module _ (wanted : Option Content) (g : Given) (reads : Option Content → List 
         let others = changes-are (i + two_for (c ∷ cs)) segments good.1 next room (pre ++ t) (whole ∙ sym (append_assoc pre t more)) in
         λ j. one-chain of i c cs rest good.0.2 at l pre more whole j ++ others j
 
-  linked-long : (i : ℕ) (marks : List Mark) → length (linked_from i marks) ≡ length marks
-  linked-long i [] = refl
-  linked-long i (m ∷ marks) = ap length (first-linked i m marks) ∙ ap suc (linked-long (i + 1) marks)
-
   -- the list with the texts of its chains
   pub texts-read : 0 < g.tab → (segments : List Segment) → AllByRecursion (IsGood wanted) segments → virtual g.tab g.bytes ≡ flat_map seats_of segments
       → let events = linked_from 0 (marks_of wanted g reads [] segments) in with_children wanted events (map (chain_read events) (fitting_starts wanted events)) ≡ linked_from 0 (texts_of wanted g reads [] segments)
@@ -89,7 +86,7 @@ module _ (wanted : Option Content) (g : Given) (reads : Option Content → List 
       let marks = marks_of wanted g reads [] segments in
       let events : List Event = linked_from 0 marks in
       let n = length events in
-      let starts : fitting_starts wanted events ≡ starts_of wanted g reads events 0 segments = ap (starts_in wanted events 0) (linked-long 0 marks) ∙ starts-are wanted g reads events 0 segments good refl in
+      let starts : fitting_starts wanted events ≡ starts_of wanted g reads events 0 segments = ap (starts_in wanted events 0) (linked-length 0 marks) ∙ starts-are wanted g reads events 0 segments good refl in
       let ws : List Change = changes_of wanted g reads events 0 segments in
       let are : child_changes wanted events (map (chain_read events) (fitting_starts wanted events)) ≡ ws =
       ap (λ (cs : List ℕ). flat_map chain_changes (divided_over events cs (map (chain_read events) cs))) starts ∙ changes-are some events 0 segments good refl (omega arith) [] whole in

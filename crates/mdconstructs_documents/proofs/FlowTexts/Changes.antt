@@ -3,6 +3,7 @@ use Rattle.mdconstructs_documents.proofs.Prelude.{◌≡◌, ℕ, suc, ◌+◌, 
 use Rattle.mdconstructs_documents.proofs.FlowTexts.Chained.{two_for, indices, IsAt, first-at, next-at, starts_in, kept-starts, kept-at}
 use Rattle.mdconstructs_documents.proofs.FlowTexts.Chunks.{chain-starts, chain-next, chain-room}
 use Rattle.mdconstructs_documents.proofs.FlowTexts.Segments.{Segment, kept, chain, IsKept, IsGood, deep_of, flat_of, in_line}
+use Rattle.mdconstructs_flow_read.proofs.Marks.MarkLists.{linked-append}
 
 -- changes that are apart from an index on are so from one before it
 apart-before : (m i n : ℕ) (ws : List Change) → i ≤ m → AreApart m ws n → AreApart i ws n
@@ -21,13 +22,6 @@ apart-parts c j i n (d ∷ cs) (p ∷ ps) ws l h =
 same-mark : (wanted : Option Content) (i j : ℕ) (m : Mark) → IsKept wanted m → mark_at i m ≡ mark_at j m
 same-mark wanted i j (e, None) h = refl
 same-mark wanted i j (e, Some chunk) h = rw (h.1, h.2) refl
-
-linked-append : (j : ℕ) (marks rest : List Mark) → linked_from j (marks ++ rest) ≡ linked_from j marks ++ linked_from (j + length marks) rest
-linked-append j [] rest = let same : j ≡ j + 0 = omega arith in ap (λ i. linked_from i rest) same
-linked-append j (m ∷ marks) rest =
-    let same : j + 1 + length marks ≡ j + length (m ∷ marks) = omega arith in
-    first-linked j m (marks ++ rest) ∙ ap (λ l. mark_at j m ∷ l) (linked-append (j + 1) marks rest ∙ ap (λ i. linked_from (j + 1) marks ++ linked_from i rest) same)
-    ∙ ap (λ l. l ++ linked_from (j + length (m ∷ marks)) rest) (sym (first-linked j m marks))
 
 linked-read : (j : ℕ) (es : List Event) → linked_from j (map (λ (e : Event). (e, None)) es) ≡ es
 linked-read j [] = refl

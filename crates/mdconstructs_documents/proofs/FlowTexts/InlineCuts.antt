@@ -1,9 +1,10 @@
 -- The items of inline text can be cut into innermost spans: none goes over a line ending.
-use Rattle.mdconstructs_documents.proofs.Prelude.{◌≡◌, ℕ, ◌+◌, ◌≤◌, ◌&&◌, true, false, cond, List, [], ◌∷◌, length, take, drop, refl, sym, subst, arith, suc, drop-map, drop-take, length-drop, take-append-drop, flat_map, prefix_len, and-right, every-map, Constructs, AttentionSequence, Data, LineEnding, SpaceOrTab, Seat, is_white, is_line_ending, autolink-cut, code-span-cut, EachThere, there-holds, IsCut, OneLine, cut-append, cut-leaf, ItemCut, NoEnding, cuts, first-plain, no-feed, one-taken, plain-add, plain-line, run-plain, escape-cut, backticks, is_backtick, is_line_feed, item_length, bytes_of, first_plain, item_events, email-cut, html-mark-cut, html-tag-cut, break-escape-cut, trailing-break-cut, reference-cut, white-run-cut, white-space-cut, is_white_left, or-parts, some-item, begins_run, data_length, data_run, delimiter_run, ends_data, ends_data_at, inline_grammars, inline_item_at, inline_items, line_break, run_length, run_or_part, up_to, is_delimiter}
+use Rattle.markdown_base.proofs.Facts.Numbers.{unlike}
+use Rattle.mdconstructs_documents.proofs.Prelude.{◌≡◌, ℕ, ◌+◌, ◌≤◌, ◌&&◌, true, false, cond, List, [], ◌∷◌, length, take, drop, refl, sym, subst, arith, suc, drop-map, drop-take, length-drop, take-append-drop, flat_map, prefix_len, and-right, every-map, Constructs, AttentionSequence, Data, LineEnding, SpaceOrTab, Seat, is_white, is_line_ending, autolink-cut, code-span-cut, EachThere, there-holds, IsCut, OneLine, cut-append, cut-leaf, ItemCut, NoEnding, cuts, first-plain, one-taken, plain-add, plain-line, run-plain, escape-cut, backticks, is_backtick, is_line_feed, item_length, bytes_of, first_plain, item_events, email-cut, html-mark-cut, html-tag-cut, break-escape-cut, trailing-break-cut, reference-cut, white-run-cut, white-space-cut, is_white_left, or_parts, some-item, begins_run, data_length, data_run, delimiter_run, ends_data, ends_data_at, inline_grammars, inline_item_at, inline_items, line_break, run_length, run_or_part, up_to, is_delimiter}
 use Rattle.mdconstructs_documents.proofs.FlowTexts.InlineSteps.{AreDelimiters, run-delimiters}
 
-no-endings : (l : List Seat) → AreDelimiters l → NoEnding l
-no-endings l h = every-map (λ (s : Seat). is_delimiter s.byte ≡ true) (λ (s : Seat). is_line_ending s ≡ false) (λ s is. no-feed is_delimiter refl s.byte is) l h
+pub no-endings : (l : List Seat) → AreDelimiters l → NoEnding l
+no-endings l h = every-map (λ (s : Seat). is_delimiter s.byte ≡ true) (λ (s : Seat). is_line_ending s ≡ false) (λ s is. unlike is_delimiter 10 refl s.byte is) l h
 
 module _ (on : Constructs) where
   -- no line ending is in data
@@ -16,8 +17,8 @@ module _ (on : Constructs) where
         | true ↦ λ e. tt
         | false ↦ λ e.
             let one : suc n ≡ 1 + n = omega arith in
-            let (here, white) = or-parts (ends_data on s.byte) (is_white s.byte && is_white_left text) e in
-            let (line, other) = or-parts (is_line_feed s.byte) _ here in
+            let (here, white) = or_parts (ends_data on s.byte) (is_white s.byte && is_white_left text) e in
+            let (line, other) = or_parts (is_line_feed s.byte) _ here in
             subst (λ k. NoEnding (take k (s ∷ ss))) one (line, up-to-plain ss)
       ] refl
 

@@ -2,6 +2,7 @@
 use Rattle.mdconstructs_documents.proofs.Prelude.{◌≡◌, ℕ, zero, suc, ◌+◌, ◌-◌, ◌≤◌, Bool, true, false, cond, inl, inr, List, [], ◌∷◌, ◌++◌, Option, Some, None, length, drop, map, refl, sym, ap, ◌∙◌, subst, arith, ◌==◌, ◌&&◌, slice_get, AllByRecursion, cases_Bool, nat_tests, drop-drop, same_Some, drop-append-add, and-right, drop-next, stands-self, Event, Point, IsBalanced, stands_before, get-dropped, pairs-keep, pairs-keep-indices, runs-and-texts, Run, closings, data_of, events_of_runs, later, markers_of, markers_of_all, openings, paired, Standing, markers, standing, HasRunsAt, in_place, index_of, depth_after, index_of_event, is_sequence, run_at, runs_from, runs_in, text_before, text_behind, with_emphasis, Place}
 use Rattle.mdconstructs_documents.proofs.FlowTexts.Forms.{Ordered, ordered-both}
 use Rattle.mdconstructs_documents.proofs.FlowTexts.InlineTight.{run-in-place}
+use Rattle.mdconstructs_tables.proofs.Looks.Left.{at-front}
 
 -- ---- places some bytes later
 pub later-later : (a b : ℕ) (p : Point) → later a (later b p) ≡ later (b + a) p
@@ -20,10 +21,6 @@ upto-later : (n : ℕ) (p : Point) → stands_before (later n p) p ≡ false
 upto-later n p = grind (arith, nat_tests)
 
 -- ---- events of a list, by what is left of it
-pub get-drop : {A : Type 0} (xs : List A) (j : ℕ) (x : A) (ys : List A) → drop j xs ≡ x ∷ ys → slice_get xs j ≡ Some x
-get-drop {A} xs j x ys at =
-    let same : j + 0 ≡ j = omega arith in
-    ap (slice_get xs) (sym same) ∙ sym (get-dropped j xs 0) ∙ ap (λ (l : List A). slice_get l 0) at
 
 get-seam : (xs ys : List Event) (n : ℕ) → slice_get (xs ++ ys) (length xs + n) ≡ slice_get ys n
 get-seam [] ys n = let same : 0 + n ≡ n = omega arith in ap (slice_get ys) same
@@ -127,7 +124,7 @@ module _ (t : ℕ) (bytes : List ℕ) where
             let two : j + 1 + 1 ≡ j + 2 = omega arith in
             let third = subst (λ k. drop k events ≡ es) two (drop-next events (j + 1) f es next) in
             subst (λ c. AllStand events (cond c (run_at bytes j e f before (index_of_event (slice_get es 0)) ∷ runs_from bytes (j + 2) depth (Some f.point.index) es) (runs_from bytes (j + 1) (depth_after e.kind depth) (Some e.point.index) (f ∷ es)))) (sym b) (
-              (e, f, get-drop events j e (f ∷ es) at, get-drop events (j + 1) f es next, refl, subst (λ k. later k e.point ≡ f.point) many steps.0, subst (Walk e.point) many steps.1),
+              (e, f, at-front events j e (f ∷ es) at, at-front events (j + 1) f es next, refl, subst (λ k. later k e.point ≡ f.point) many steps.0, subst (Walk e.point) many steps.1),
               runs-stand events es (j + 2) depth (Some f.point.index) third h.1.1,
             )
         | inr b ↦

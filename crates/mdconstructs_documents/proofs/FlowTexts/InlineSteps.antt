@@ -1,11 +1,12 @@
 -- Delimiter runs of inline text go byte by byte: none goes over a tab or a line ending; and no other item has an attention sequence.
 use Rattle.mdconstructs_documents.proofs.Prelude.{◌≡◌, ℕ, zero, suc, ◌+◌, ◌-◌, ◌==◌, true, false, cond, List, [], ◌∷◌, ◌++◌, Option, Some, None, append_assoc, length, take, drop, refl, sym, ap, ◌∙◌, subst, arith, is_ascii_punctuation, ◌&&◌, nat_le, nat_lt, not, option_map, slice_get, AllByRecursion, between, flat_map, prefix_len, eqb-true, take-append-drop, and-right, every-append, Constructs, Event, Enter, Exit, AttentionSequence, Autolink, AutolinkEmail, AutolinkMarker, AutolinkProtocol, CharacterEscape, CharacterEscapeMarker, CharacterEscapeValue, CharacterReference, CharacterReferenceMarker, CharacterReferenceMarkerHexadecimal, CharacterReferenceMarkerNumeric, CharacterReferenceMarkerSemi, CharacterReferenceValue, CodeText, CodeTextData, CodeTextSequence, Data, HardBreakEscape, HardBreakTrailing, HtmlText, HtmlTextData, LineEnding, SpaceOrTab, Point, is_enter, same_name, shown, Seat, begins_with_lf, end_after, in_tab, point, tab_width, virtual, virtual_from, shown-other, every-back, every-front, drop-first, and-left, later, is_white, event, leaf, span, EachThere, OfOption, there-holds, when-there, autolink, autolink_at, autolink_to, uri, backticks, has_byte_at, is_backslash, is_backtick, is_greater_than, is_less_than, is_line_feed, is_space, before_backtick_string, code_span, code_span_at, pieces, Found, Grammar, escape, escape_at, item_length, Part, line_ending, plain_run, bytes_of, cut, part_events, item_events, reference-holds, decimal, hexadecimal, mark_events, marks, named, reference_at, email, email_at, email_with, is_at_sign, is_atext, is_domain, is_domain_byte, html-there, marked, tag_length, html_of, piece_at, piece_events, piece_length, break_escape_at, hard_break_escape, hard_break_trailing, trailing_break_at, is_white_left, white_space, white_space_at, items-built, begins_run, data_length, data_run, delimiter_run, inline_grammars, inline_item_at, inline_items, line_break, run_length, run_or_part, is_delimiter, Place, Track, track-on, track-place}
 use Rattle.markdown_base.specs.declared.event.Name.{Name}
+use Rattle.mdconstructs_tables.proofs.Looks.Left.{at-front}
 use Rattle.mdconstructs_text.proofs.Texts.Built.{IsKeptBySpans}
 use Rattle.mdconstructs_inline_constructs.specs.Reference.{Kind}
 use Rattle.mdconstructs_inline_constructs.specs.HtmlText as html
 use Rattle.mdconstructs_inline_constructs.specs.HtmlText.{Piece}
-use Rattle.mdconstructs_documents.proofs.FlowTexts.InlineOrder.{Next, RunsStep, Walk, get-drop, later-later, later-none}
+use Rattle.mdconstructs_documents.proofs.FlowTexts.InlineOrder.{Next, RunsStep, Walk, later-later, later-none}
 
 -- ---- delimiters among virtual bytes
 -- behind a delimiter is the place one byte later; it is shown at itself; and it is the byte there
@@ -23,7 +24,7 @@ module _ (bytes : List ℕ) where
       let index : suc i ≡ i + 1 = omega arith in (
         λ j. point l (column j) (index j) 0,
         shown-other bytes (point l c i 0) (λ ten. let b-ten : b ≡ 10 = sym (drop-first i bytes b bs at).1 ∙ ten in let no : is_delimiter 10 ≡ true = subst (λ x. is_delimiter x ≡ true) b-ten is in absurd (cc)),
-        get-drop bytes i b bs at,
+        at-front bytes i b bs at,
       )
 
   steps-from : (t l c i : ℕ) (bs : List ℕ) → drop i bytes ≡ bs → AllByRecursion (Steps bytes) (virtual_from t l c i bs)

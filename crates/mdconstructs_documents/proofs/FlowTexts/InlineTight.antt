@@ -1,8 +1,6 @@
 -- Void spans are empty where texts are read as inline text: emphasis leaves each with its exit behind it.
-use Rattle.mdconstructs_documents.proofs.Prelude.{◌≡◌, ℕ, zero, suc, ◌+◌, Bool, true, false, List, [], ◌∷◌, ◌++◌, Option, Some, None, append_assoc, map, refl, sym, ap, ◌∙◌, subst, AllByRecursion, flat_map, Constructs, Event, Enter, Exit, Data, Point, IsBalanced, IsVoidTight, is_void, Seat, end_after, point, names_after_balanced, names_after, names_after_all, empty_text, pairs-keep-indices, runs-and-texts, Run, closings, data_of, events_of_runs, inner_name, later, markers_of, markers_of_all, openings, outer_name, paired, sequence_name, tail_events, unlinked_event, AreFresh, HasRunsAt, in_place, index_of, runs_in, text_before, text_behind, with_emphasis, map-append, lines_in, event, bare, IsKeptBySpans, text-by-chunks, leaf_blocks, Chunk, Mark, alone, chunk_span, span_marks, AreTight, tight-at, tight-both, tight-linked, all-built, read-balanced, read_events, string-built, string_seat_events, document, options_with, block_texts, flow_inlines, inline_seat_events, read_marks}
+use Rattle.mdconstructs_documents.proofs.Prelude.{◌≡◌, ℕ, zero, suc, ◌+◌, Bool, true, false, List, [], ◌∷◌, ◌++◌, Option, Some, None, append_assoc, map, refl, sym, ap, ◌∙◌, subst, AllByRecursion, Constructs, Event, Enter, Exit, Data, Point, IsBalanced, is_void, Seat, point, names_after_balanced, names_after, names_after_all, empty_text, pairs-keep-indices, runs-and-texts, Run, closings, data_of, events_of_runs, inner_name, later, markers_of, markers_of_all, openings, outer_name, paired, sequence_name, tail_events, unlinked_event, AreFresh, HasRunsAt, in_place, index_of, runs_in, text_before, text_behind, with_emphasis, bare, Mark, AreTight, tight-both, all-built, read-balanced, read_events, document, options_with, inline_seat_events}
 use Rattle.markdown_base.specs.declared.event.Name.{Name}
-use Rattle.mdconstructs_documents.proofs.FlowTexts.Accounts.{bare-marks}
-use Rattle.mdconstructs_documents.proofs.FlowTexts.Spans.{texts-keep}
 use Rattle.mdconstructs_documents.proofs.FlowTexts.Forms.{tight-kept}
 
 -- ---- what comes in place of a run
@@ -115,32 +113,3 @@ inline-tight on bytes seats =
 module _ (bytes : List ℕ) where
   abbrev Tight : List Mark → List Seat → Type 0
   Tight marks seats = AreTight (bare marks)
-
-  pair-tight : (chunk : Option Chunk) (n : Name) (s : Seat) (ss : List Seat) → Tight (chunk_span bytes chunk n (s ∷ ss) []) (s ∷ ss)
-  pair-tight chunk n s ss = ((λ enters void. (refl, refl)), ((λ enters void. absurd (cc)), tt))
-
-  both-tight : (xs ys : List Mark) (a b : List Seat) → Tight xs a → Tight ys b → Tight (xs ++ ys) (a ++ b)
-  both-tight xs ys a b h k = subst AreTight (sym (map-append (λ (m : Mark). m.0) xs ys)) (tight-both (bare xs) (bare ys) h k)
-
-  around-tight : (n : Name) (s : Seat) (ss : List Seat) (inside : List Mark) → is_void n ≡ false → Tight inside (s ∷ ss) → Tight (span_marks bytes n (s ∷ ss) inside) (s ∷ ss)
-  around-tight n s ss inside other h =
-      ((λ enters void. let no : false ≡ true = sym other ∙ void in absurd (cc)), both-tight inside ((event bytes Exit n (end_after s.end ss), None) ∷ []) (s ∷ ss) [] h ((λ enters void. absurd (cc)), tt))
-
-  spans-tight : IsKeptBySpans bytes Tight
-  spans-tight = record {
-    none = tt;
-    both = λ {xs} {ys} {a} {b} h k. both-tight xs ys a b h k;
-    leaf = pair-tight None;
-    datum = λ c s ss. pair-tight (alone c) Data s ss;
-    text = λ lines h. text-by-chunks bytes Tight tt both-tight pair-tight false lines;
-    around = around-tight;
-  }
-
-pub inlines-tight : (on : Constructs) (bytes : List ℕ) (seats : List Seat) → IsVoidTight (flow_inlines on bytes seats)
-inlines-tight on bytes seats =
-    let texts = inline_seat_events on bytes in
-    let strings = string_seat_events on bytes in
-    let read : (reads : List Seat → List Event) → ((l : List Seat) → AreTight (reads l)) → (l : List Seat) → Tight bytes (read_marks reads bytes l) l = λ reads h l. subst AreTight (sym (bare-marks (reads l))) (h l) in
-    let marks = flat_map (block_texts texts strings bytes) (leaf_blocks on (lines_in seats)) in
-    tight-at (flow_inlines on bytes seats)
-    (tight-linked 0 marks (texts-keep on texts strings bytes (Tight bytes) (spans-tight bytes) (read texts (inline-tight on bytes)) (read strings (string-built bytes AreTight (tight-kept bytes) on)) seats))
