@@ -1,25 +1,8 @@
 -- The leaf blocks of a document are those of its parts.
-use Rattle.std.proofs.Common.{◌≡◌, ℕ, ◌&&◌, List, [], ◌∷◌, ◌++◌, Bool, true, false, not, length, refl, sym, ap, ◌∙◌}
-use Rattle.std.specs.Prelude.{map}
-use Rattle.std.proofs.lemmas.List.{append-nil}
-use Rattle.markdown_base.specs.declared.configuration.Constructs.{Constructs}
-use Rattle.mdconstructs_flow_read.specs.LeafBlocks.{Line, leaf_blocks}
-use Rattle.mdconstructs_machines.specs.LineEvents.{lines_in}
-use Rattle.mdconstructs_flow_read.specs.LineKinds.{line_kind}
-use Rattle.mdconstructs_rests.specs.Moved.{BlocksOfBoth, first_at_rest, line_endings, moved_block, moved_line, moved_lines}
-use Rattle.mdconstructs_rests.specs.Rests.{begins_near, is_at_rest, is_open_behind}
-use Rattle.markdown_base.specs.Virtual.{virtual}
+use Rattle.mdconstructs_rests.proofs.Prelude.{◌≡◌, ℕ, ◌&&◌, List, [], ◌∷◌, ◌++◌, true, not, length, sym, ap, ◌∙◌, map, append-nil, and-right, and-left, Constructs, Line, leaf_blocks, lines_in, line_kind, BlocksOfBoth, first_at_rest, line_endings, moved_block, moved_line, moved_lines, begins_near, is_at_rest, is_open_behind, virtual}
 use Rattle.mdconstructs_rests.proofs.MovedBlocks.{blocks-move, text-moved}
 use Rattle.mdconstructs_rests.proofs.Rests.{rests-cut-blocks}
 use Rattle.mdconstructs_rests.proofs.Virtual.{lines-of-both}
-
-pub left-true : (a b : Bool) → (a && b) ≡ true → a ≡ true
-left-true true b h = refl
-left-true false b h = absurd (cc)
-
-pub right-true : (a b : Bool) → (a && b) ≡ true → b ≡ true
-right-true true b h = h
-right-true false b h = absurd (cc)
 
 module _ (on : Constructs) (l n : ℕ) where
   -- a moved line is at a rest where the line is
@@ -32,5 +15,5 @@ module _ (on : Constructs) (l n : ℕ) where
 
 pub blocks-of-both : BlocksOfBoth
 blocks-of-both on t a b h =
-    ap (leaf_blocks on) (lines-of-both t a b (left-true _ _ h))
-    ∙ apart-moved on (line_endings a) (length a) (lines_in (virtual t a)) (lines_in (virtual t b)) (right-true _ _ h)
+    ap (leaf_blocks on) (lines-of-both t a b (and-left _ _ h))
+    ∙ apart-moved on (line_endings a) (length a) (lines_in (virtual t a)) (lines_in (virtual t b)) (and-right _ _ h)

@@ -1,18 +1,7 @@
 -- The events of leaf blocks of a document are those of its parts.
-use Rattle.std.proofs.Common.{◌≡◌, ℕ, ◌+◌, ◌≤◌, List, [], ◌∷◌, ◌++◌, Bool, true, false, cond, length, refl, sym, ap, ◌∙◌, subst, arith}
-use Rattle.std.specs.Prelude.{map}
-use Rattle.std.specs.List.{AllByRecursion, flat_map}
-use Rattle.std.proofs.lemmas.Grind.{flat_map-append}
-use Rattle.markdown_base.specs.declared.configuration.Constructs.{Constructs}
-use Rattle.mdconstructs_flow_read.specs.LeafBlocks.{Line, LeafBlock, blank_line, break_line, atx_heading, paragraph, setext_heading, indented_code, fenced_code, html_block, leaf_blocks}
-use Rattle.mdconstructs_flow_read.specs.LeafEvents.{leaf_block_marks, leaf_blocks_marks, linked_from}
-use Rattle.mdconstructs_machines.specs.LineEvents.{is_line_ending, joined, lines_in}
-use Rattle.mdconstructs_rests.specs.Moved.{EventsOfBoth, begins_line, first_at_rest, line_endings, moved_block, moved_event, moved_link, moved_point}
-use Rattle.mdconstructs_flow_read.specs.BlockLines.{block_lines}
-use Rattle.markdown_base.specs.Virtual.{Seat, virtual}
-use Rattle.mdconstructs_rests.proofs.Both.{blocks-of-both, left-true}
-use Rattle.mdconstructs_flow_read.proofs.Marks.Cuts.{leaf-blocks-lines}
-use Rattle.mdconstructs_rests.proofs.Links.{HasSeat, blocks-link-back, linked-both, linked-length, linked-moved}
+use Rattle.mdconstructs_rests.proofs.Prelude.{◌≡◌, ℕ, ◌+◌, ◌≤◌, List, [], ◌∷◌, ◌++◌, Bool, true, false, cond, length, refl, sym, ap, ◌∙◌, subst, arith, map, AllByRecursion, flat_map, flat_map-append, and-left, Constructs, linked-append, linked-length, Line, LeafBlock, blank_line, break_line, atx_heading, paragraph, setext_heading, indented_code, fenced_code, html_block, leaf_blocks, leaf_block_marks, leaf_blocks_marks, linked_from, is_line_ending, joined, lines_in, EventsOfBoth, begins_line, first_at_rest, line_endings, moved_block, moved_event, moved_link, moved_point, block_lines, Seat, virtual, leaf-blocks-lines}
+use Rattle.mdconstructs_rests.proofs.Both.{blocks-of-both}
+use Rattle.mdconstructs_rests.proofs.Links.{HasSeat, blocks-link-back, linked-moved}
 use Rattle.mdconstructs_rests.proofs.MovedMarks.{blocks-marks-moved, mb}
 use Rattle.mdconstructs_rests.proofs.Shown.{shown-behind, shown-front, within}
 
@@ -134,7 +123,7 @@ pub events-of-both : EventsOfBoth
 events-of-both on t a b h =
     let l = line_endings a in
     let n = length a in
-    let torn : begins_line b a ≡ true = left-true (begins_line b a) (first_at_rest on (lines_in (virtual t a)) (lines_in (virtual t b))) h in
+    let torn : begins_line b a ≡ true = and-left (begins_line b a) (first_at_rest on (lines_in (virtual t a)) (lines_in (virtual t b))) h in
     let first_blocks = leaf_blocks on (lines_in (virtual t a)) in
     let blocks = leaf_blocks on (lines_in (virtual t b)) in
     let first = leaf_blocks_marks a first_blocks in
@@ -145,5 +134,5 @@ events-of-both on t a b h =
     ap (λ bs. linked_from 0 (leaf_blocks_marks (a ++ b) bs)) (blocks-of-both on t a b h)
     ∙ ap (linked_from 0) (flat_map-append (leaf_block_marks (a ++ b)) first_blocks (map (moved_block l n) blocks))
     ∙ (let f = front-marks a b torn on t in let g = behind-marks a b torn on t k in (λ i. linked_from 0 (f i ++ g i)))
-    ∙ linked-both 0 first (map (λ m. (moved_event l n k m.0, m.1)) marks)
+    ∙ linked-append 0 first (map (λ m. (moved_event l n k m.0, m.1)) marks)
     ∙ ap (λ r. linked_from 0 first ++ r) (linked-moved l n k marks 0 (0 + length first) same back)

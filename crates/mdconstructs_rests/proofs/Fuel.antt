@@ -1,9 +1,5 @@
 -- The bound of `blocks_in` is enough where it is at least the number of lines: more changes nothing.
-use Rattle.std.proofs.Common.{◌≡◌, ℕ, zero, suc, ◌≤◌, List, [], ◌∷◌, length, drop, length-drop, refl, ap, arith}
-use Rattle.markdown_base.specs.declared.configuration.Constructs.{Constructs}
-use Rattle.mdconstructs_flow_read.specs.LeafBlocks.{Line, block_of_kind, blocks_in, leaf_blocks, text_of}
-use Rattle.mdconstructs_flow_read.specs.LineKinds.{line_kind}
-use Rattle.mdconstructs_flow_read.proofs.Marks.Cuts.{cut}
+use Rattle.mdconstructs_rests.proofs.Prelude.{◌≡◌, ℕ, zero, suc, ◌≤◌, List, [], ◌∷◌, length, drop, length-drop, refl, ap, arith, Constructs, Line, block_of_kind, blocks_in, leaf_blocks, text_of, line_kind, cut}
 
 module _ (on : Constructs) where
   pub fuel : (b c : ℕ) (lines : List Line) → length lines ≤ b → length lines ≤ c → blocks_in on b lines ≡ blocks_in on c lines

@@ -11,3 +11,4 @@ pub mod Rests
 pub mod Sections
 pub mod Shown
 pub mod Virtual
+mod Prelude

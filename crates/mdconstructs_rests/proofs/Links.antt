@@ -1,21 +1,7 @@
 -- Links of chunks behind other events.
-use Rattle.std.proofs.Common.{◌≡◌, ℕ, zero, suc, ◌+◌, ◌-◌, ◌≤◌, List, [], ◌∷◌, ◌++◌, Bool, true, false, cond, not, length, take, drop, refl, sym, ap, ◌∙◌, arith, Option, Some, None}
-use Rattle.std.specs.Prelude.{map}
-use Rattle.std.specs.List.{AllByRecursion, flat_map, prefix_len}
+use Rattle.mdconstructs_rests.proofs.Prelude.{◌≡◌, ℕ, zero, suc, ◌+◌, ◌-◌, ◌≤◌, List, [], ◌∷◌, ◌++◌, Bool, true, false, cond, not, length, take, drop, refl, sym, ap, ◌∙◌, arith, Option, Some, None, map, AllByRecursion, flat_map, prefix_len, Event, Exit, event, Name, Line, LeafBlock, blank_line, break_line, atx_heading, paragraph, setext_heading, indented_code, fenced_code, html_block, bytes_of, Chunk, Mark, alone, block_around, block_span, body, break_marks, chunk_span, code_fenced_around, code_marks, fence_around, fenced_marks, heading_around, html_marks, last_end, leaf_blocks_marks, leaf_marks, lines_marks, linked_from, sequence_marks, string_chunk, text_chunk, text_marks, underline_inside, all_of, ending_of, line_text, Fence, heading_text, indent, run, unindented, is_white, moved_event, moved_index, block_lines, Seat, end_after}
 use Rattle.markdown_base.specs.declared.event.Content.TheVariants as content
-use Rattle.markdown_base.specs.declared.event.Event.{Event}
-use Rattle.markdown_base.specs.declared.event.Kind.TheVariants.{Exit}
-use Rattle.mdconstructs_machines.specs.Spans.{event}
-use Rattle.markdown_base.specs.declared.event.Name.{Name}
 use Rattle.markdown_base.specs.declared.event.Name.TheVariants as name
-use Rattle.mdconstructs_flow_read.specs.LeafBlocks.{Line, LeafBlock, blank_line, break_line, atx_heading, paragraph, setext_heading, indented_code, fenced_code, html_block, bytes_of}
-use Rattle.mdconstructs_flow_read.specs.LeafEvents.{Chunk, Mark, alone, block_around, block_span, body, break_marks, chunk_span, code_fenced_around, code_marks, fence_around, fenced_marks, heading_around, html_marks, last_end, leaf_blocks_marks, leaf_marks, lines_marks, linked_from, sequence_marks, string_chunk, text_chunk, text_marks, underline_inside}
-use Rattle.mdconstructs_machines.specs.LineEvents.{all_of, ending_of, line_text}
-use Rattle.mdconstructs_flow_read.specs.LineKinds.{Fence, heading_text, indent, run, unindented}
-use Rattle.mdconstructs_machines.specs.Breaks.{is_white}
-use Rattle.mdconstructs_rests.specs.Moved.{moved_event, moved_index}
-use Rattle.mdconstructs_flow_read.specs.BlockLines.{block_lines}
-use Rattle.markdown_base.specs.Virtual.{Seat, end_after}
 
 -- a chunk that has another before it has two marks before it at least, if so many stand before these marks
 abbrev pub LinkBack : ℕ → List Mark → Type 0
@@ -35,21 +21,6 @@ back-both i ((e, None) ∷ xs) ys h k = back-both (suc i) xs ys h (back-more i (
 back-both i ((e, Some chunk) ∷ xs) ys h k = (h.0, back-both (suc i) xs ys h.1 (back-more i (suc i) ys (omega arith) k))
 
 -- ---- events
-
-pub linked-both : (i : ℕ) (xs ys : List Mark) → linked_from i (xs ++ ys) ≡ linked_from i xs ++ linked_from (i + length xs) ys
-linked-both i [] ys = let e : i ≡ i + 0 = omega arith in ap (λ i. linked_from i ys) e
-linked-both i ((e, None) ∷ xs) ys =
-    let far : (i + 1) + length xs ≡ i + suc (length xs) = omega arith in
-    ap (λ l. e ∷ l) (linked-both (i + 1) xs ys ∙ ap (λ j. linked_from (i + 1) xs ++ linked_from j ys) far)
-linked-both i ((e, Some chunk) ∷ xs) ys =
-    let far : (i + 1) + length xs ≡ i + suc (length xs) = omega arith in
-    let first : Event = record e { link = Some (record { previous = cond chunk.has_previous (Some (i - 2)) None; next = cond chunk.has_next (Some (i + 2)) None; content = chunk.content }) } in
-    ap (λ l. first ∷ l) (linked-both (i + 1) xs ys ∙ ap (λ j. linked_from (i + 1) xs ++ linked_from j ys) far)
-
-pub linked-length : (i : ℕ) (xs : List Mark) → length (linked_from i xs) ≡ length xs
-linked-length i [] = refl
-linked-length i ((e, None) ∷ xs) = ap suc (linked-length (i + 1) xs)
-linked-length i ((e, Some chunk) ∷ xs) = ap suc (linked-length (i + 1) xs)
 
 module _ (l n k : ℕ) where
   abbrev moved_mark : Mark → Mark

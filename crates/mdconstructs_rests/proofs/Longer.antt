@@ -1,15 +1,5 @@
 -- A block that ends before the end of its lines, or does not go on with what comes there, is the same with more lines behind.
-use Rattle.std.proofs.Common.{◌≡◌, ◌⊎◌, inl, inr, ℕ, suc, ◌+◌, ◌<◌, ◌≤◌, ◌&&◌, ◌||◌, nat_le, nat_lt, List, [], ◌∷◌, ◌++◌, Bool, true, false, cond, not, Option, Some, None, length, take, drop, length-append, length-take, length-drop, refl, sym, ap, ◌∙◌, arith, lt-ltb, ltb-true, ltb-false}
-use Rattle.std.specs.Prelude.{is_some}
-use Rattle.std.proofs.Math.Bool.{or-true}
-use Rattle.std.proofs.lemmas.List.{take-append-le, drop-append-le, drop_all}
-use Rattle.std.proofs.lemmas.List.Sums.{prefix_len-le-length}
-use Rattle.markdown_base.specs.declared.configuration.Constructs.{Constructs}
-use Rattle.mdconstructs_flow_read.specs.HtmlLines.{HtmlKind, ends, waits_for_blank}
-use Rattle.mdconstructs_flow_read.specs.LeafBlocks.{Line, LeafBlock, paragraph, setext_heading, indented_code, fenced_code, html_block, block_of_kind, content_at, ends_text, interrupts, further_code, has_line, html_block_at, is_blank, is_indented, lines_through, lines_until, text_of, underlined}
-use Rattle.mdconstructs_flow_read.specs.LineKinds.{Fence, LineKind, blank, indented, heading, fence, html, thematic_break, text, closes, is_blank_line, underline_rank}
-use Rattle.mdconstructs_rests.specs.Rests.{begins_near, goes_on, kind_of_line}
-use Rattle.mdconstructs_flow_read.proofs.Marks.Cuts.{further-within}
+use Rattle.mdconstructs_rests.proofs.Prelude.{◌≡◌, ◌⊎◌, inl, inr, ℕ, suc, ◌+◌, ◌<◌, ◌≤◌, ◌&&◌, ◌||◌, nat_le, nat_lt, List, [], ◌∷◌, ◌++◌, Bool, true, false, cond, not, Option, Some, None, length, take, drop, length-append, length-take, length-drop, refl, sym, ap, ◌∙◌, arith, lt-ltb, ltb-true, ltb-false, is_some, or-true, take-append-le, drop-append-le, drop_all, prefix_len-le-length, not-false, or_parts, Constructs, HtmlKind, ends, waits_for_blank, Line, LeafBlock, paragraph, setext_heading, indented_code, fenced_code, html_block, block_of_kind, content_at, ends_text, interrupts, further_code, has_line, html_block_at, is_blank, is_indented, lines_through, lines_until, text_of, underlined, Fence, LineKind, blank, indented, heading, fence, html, thematic_break, text, closes, is_blank_line, underline_rank, begins_near, goes_on, kind_of_line, further-within}
 
 -- ---- the first line that passes a test
 
@@ -50,18 +40,6 @@ module _ (test : List ℕ → Bool) where
 -- the front is the same with more lines behind
 taken : (n m : ℕ) (all more : List Line) → n ≡ m → m ≤ length all → take n (all ++ more) ≡ take m all
 taken n m all more e within = ap (λ k. take k (all ++ more)) e ∙ take-append-le m all more within
-
-not-not : (b : Bool) → not b ≡ false → b ≡ true
-not-not true h = refl
-not-not false h = absurd (cc)
-
-left-false : (a b : Bool) → (a || b) ≡ false → a ≡ false
-left-false true b h = absurd (cc)
-left-false false b h = refl
-
-right-false : (a b : Bool) → (a || b) ≡ false → b ≡ false
-right-false true b h = absurd (cc)
-right-false false b h = h
 
 module _ (on : Constructs) where
   -- a block that has all lines so far does not go on with this line, or it ends before
@@ -145,7 +123,7 @@ module _ (on : Constructs) where
         at-end h (inl short) = let n = ap (λ c. c.1) (content-all line lines h) in absurd (omega (arith, short, n))
         at-end h (inr stays) =
             let none : (not (interrupts (kind_of_line on l)) || is_some (underline_rank on (text_of l))) ≡ false = sym (ap (λ c. goes_on on c.0 l) (content-all line lines h)) ∙ stays in
-            content-behind line lines h (not-not (interrupts (kind_of_line on l)) (left-false _ _ none)) (right-false _ _ none)
+            content-behind line lines h (not-false (interrupts (kind_of_line on l)) (or_parts _ _ none).0) (or_parts _ _ none).1
 
     -- fenced code
     fence-same : (f : Fence) (line : Line) (lines : List Line) → StandsApart l (block_of_kind on (fence f) line lines) (line ∷ lines) → block_of_kind on (fence f) line (lines ++ l ∷ behind) ≡ block_of_kind on (fence f) line lines
@@ -157,7 +135,7 @@ module _ (on : Constructs) where
       where
         within : StandsApart l (block_of_kind on (fence f) line lines) (line ∷ lines) → lines_until (of_text (closes on f)) lines < length lines
         within (inl short) = omega (arith, short)
-        within (inr stays) = ltb-true (lines_until (of_text (closes on f)) lines) (length lines) (not-not _ stays)
+        within (inr stays) = ltb-true (lines_until (of_text (closes on f)) lines) (length lines) (not-false _ stays)
 
     -- HTML that waits for a blank line
     html-blank-same : (kind : HtmlKind) (line : Line) (lines : List Line) → lines_until blank_text (line ∷ lines) < length (line ∷ lines) → (b c : Bool)
@@ -185,7 +163,7 @@ module _ (on : Constructs) where
         by true e (inl short) = html-blank-same kind line lines short (has_line (ends kind) (line ∷ lines ++ l ∷ behind)) (has_line (ends kind) (line ∷ lines))
         by true e (inr stays) = absurd (let both : true ≡ false = sym e ∙ stays in cc)
         by false e (inl short) = html-end-same kind (ends kind) (line ∷ lines) (omega (arith, short))
-        by false e (inr stays) = html-end-same kind (ends kind) (line ∷ lines) (ltb-true (lines_until (of_text (ends kind)) (line ∷ lines)) (length (line ∷ lines)) (not-not _ (left-false _ _ stays)))
+        by false e (inr stays) = html-end-same kind (ends kind) (line ∷ lines) (ltb-true (lines_until (of_text (ends kind)) (line ∷ lines)) (length (line ∷ lines)) (not-false _ (or_parts _ _ stays).0))
 
     -- each block
     block-same : begins_near (kind_of_line on l) ≡ true → (kind : LineKind) (line : Line) (lines : List Line) → kind_of_line on line ≡ kind → StandsApart l (block_of_kind on kind line lines) (line ∷ lines)

@@ -1,14 +1,5 @@
 -- Moved lines are cut into the same leaf blocks, moved.
-use Rattle.std.proofs.Common.{◌≡◌, ℕ, zero, suc, ◌+◌, ◌&&◌, ◌||◌, nat_le, nat_lt, List, [], ◌∷◌, Bool, true, false, cond, not, Option, Some, None, length, min, take, drop, refl, ap, ◌∙◌}
-use Rattle.std.specs.Prelude.{is_some, map}
-use Rattle.std.proofs.lemmas.List.{drop-map, length-map, take-map}
-use Rattle.markdown_base.specs.declared.configuration.Constructs.{Constructs}
-use Rattle.mdconstructs_flow_read.specs.HtmlLines.{HtmlKind, ends, waits_for_blank}
-use Rattle.mdconstructs_flow_read.specs.LeafBlocks.{Line, LeafBlock, paragraph, setext_heading, indented_code, fenced_code, html_block, block_of_kind, blocks_in, bytes_of, content_at, ends_text, interrupts, further_code, has_line, html_block_at, is_blank, is_indented, lines_through, lines_until, text_of, underlined}
-use Rattle.mdconstructs_flow_read.specs.LineKinds.{LineKind, blank, indented, heading, fence, html, thematic_break, text, closes, is_blank_line, line_kind, underline_rank}
-use Rattle.mdconstructs_machines.specs.LineEvents.{ending_of, is_line_ending, line_text}
-use Rattle.mdconstructs_rests.specs.Moved.{BlocksMove, moved_block, moved_line, moved_lines, moved_seat}
-use Rattle.markdown_base.specs.Virtual.{Seat}
+use Rattle.mdconstructs_rests.proofs.Prelude.{◌≡◌, ℕ, zero, suc, ◌+◌, ◌&&◌, ◌||◌, nat_le, nat_lt, List, [], ◌∷◌, Bool, true, false, cond, not, Option, Some, None, length, min, take, drop, refl, ap, ◌∙◌, is_some, map, drop-map, length-map, take-map, Constructs, HtmlKind, ends, waits_for_blank, Line, LeafBlock, paragraph, setext_heading, indented_code, fenced_code, html_block, block_of_kind, blocks_in, bytes_of, content_at, ends_text, interrupts, further_code, has_line, html_block_at, is_blank, is_indented, lines_through, lines_until, text_of, underlined, LineKind, blank, indented, heading, fence, html, thematic_break, text, closes, is_blank_line, line_kind, underline_rank, ending_of, is_line_ending, line_text, BlocksMove, moved_block, moved_line, moved_lines, moved_seat, Seat}
 
 module _ (l n : ℕ) where
   abbrev ml : Line → Line

@@ -1,24 +1,6 @@
 -- The marks of leaf blocks depend on the places of their virtual bytes alone, and on how these are shown: where places move, marks move.
-use Rattle.std.proofs.Common.{◌≡◌, ℕ, zero, suc, ◌+◌, ◌-◌, List, [], ◌∷◌, ◌++◌, Bool, true, false, cond, not, length, min, take, drop, refl, sym, ap, ◌∙◌, Option, None}
-use Rattle.std.specs.Prelude.{map}
-use Rattle.std.specs.List.{AllByRecursion, flat_map, prefix_len}
-use Rattle.std.proofs.lemmas.List.{drop-map, length-map, map-append, take-map}
-use Rattle.markdown_base.specs.declared.event.Event.{Event}
-use Rattle.markdown_base.specs.declared.event.Kind.{Kind}
-use Rattle.markdown_base.specs.declared.event.Kind.TheVariants.{Enter, Exit}
-use Rattle.markdown_base.specs.declared.event.Link.{Link}
-use Rattle.markdown_base.specs.declared.event.Name.{Name}
+use Rattle.mdconstructs_rests.proofs.Prelude.{◌≡◌, ℕ, zero, suc, ◌+◌, ◌-◌, List, [], ◌∷◌, ◌++◌, Bool, true, false, cond, not, length, min, take, drop, refl, sym, ap, ◌∙◌, Option, None, map, AllByRecursion, flat_map, prefix_len, drop-map, length-map, map-append, take-map, Event, Kind, Enter, Exit, Link, Name, Point, Line, LeafBlock, blank_line, break_line, atx_heading, paragraph, setext_heading, indented_code, fenced_code, html_block, bytes_of, Chunk, Mark, block_around, block_span, body, break_marks, chunk_span, code_fenced_around, code_marks, fence_around, fenced_marks, heading_around, html_marks, last_end, leaf_blocks_marks, leaf_marks, line_end, lines_marks, sequence_marks, span_marks, string_chunk, text_chunk, text_marks, underline_marks, white, all_of, ending_of, is_line_ending, line_text, Fence, heading_text, indent, run, unindented, shown, block_lines, event, Seat, end_after, is_white}
 use Rattle.markdown_base.specs.declared.event.Name.TheVariants as name
-use Rattle.markdown_base.specs.declared.event.Point.{Point}
-use Rattle.mdconstructs_flow_read.specs.LeafBlocks.{Line, LeafBlock, blank_line, break_line, atx_heading, paragraph, setext_heading, indented_code, fenced_code, html_block, bytes_of}
-use Rattle.mdconstructs_flow_read.specs.LeafEvents.{Chunk, Mark, block_around, block_span, body, break_marks, chunk_span, code_fenced_around, code_marks, fence_around, fenced_marks, heading_around, html_marks, last_end, leaf_blocks_marks, leaf_marks, line_end, lines_marks, sequence_marks, span_marks, string_chunk, text_chunk, text_marks, underline_marks, white}
-use Rattle.mdconstructs_machines.specs.LineEvents.{all_of, ending_of, is_line_ending, line_text}
-use Rattle.mdconstructs_flow_read.specs.LineKinds.{Fence, heading_text, indent, run, unindented}
-use Rattle.markdown_base.specs.Places.{shown}
-use Rattle.mdconstructs_flow_read.specs.BlockLines.{block_lines}
-use Rattle.mdconstructs_machines.specs.Spans.{event}
-use Rattle.markdown_base.specs.Virtual.{Seat, end_after}
-use Rattle.mdconstructs_machines.specs.Breaks.{is_white}
 
 -- places of one document, B, and where they are in another, C
 module _ (B C : List ℕ) (f : Point → Point) (g : Option Link → Option Link) (none : g None ≡ None) (Ok : Point → Type 0) (sh : (p : Point) → Ok p → shown C (f p) ≡ f (shown B p)) where

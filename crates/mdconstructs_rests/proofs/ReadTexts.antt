@@ -1,20 +1,8 @@
 -- Documents whose texts are read, too.
-use Rattle.std.proofs.Common.{◌≡◌, ℕ, ◌+◌, ◌≤◌, List, [], ◌∷◌, ◌++◌, true, length, refl, sym, ap, ◌∙◌, arith, None}
-use Rattle.std.specs.Prelude.{map}
-use Rattle.std.specs.List.{flat_map}
-use Rattle.std.proofs.lemmas.Grind.{flat_map-append}
-use Rattle.markdown_base.specs.declared.configuration.Constructs.{Constructs}
-use Rattle.markdown_base.specs.declared.event.Event.{Event}
-use Rattle.mdconstructs_documents.specs.FlowTexts.{block_texts, read_marks}
-use Rattle.mdconstructs_flow_read.specs.LeafBlocks.{leaf_blocks}
-use Rattle.mdconstructs_flow_read.specs.LeafEvents.{Mark, body, linked_from}
-use Rattle.mdconstructs_machines.specs.LineEvents.{lines_in}
-use Rattle.mdconstructs_rests.specs.Moved.{begins_line, first_at_rest, line_endings, moved_block, moved_event, moved_link, moved_point}
-use Rattle.mdconstructs_rests.specs.ReadTexts.{ReadEventsOfBoth, ReadsMove}
-use Rattle.markdown_base.specs.Virtual.{Seat, virtual}
-use Rattle.mdconstructs_rests.proofs.Both.{blocks-of-both, left-true}
+use Rattle.mdconstructs_rests.proofs.Prelude.{◌≡◌, ℕ, ◌+◌, ◌≤◌, List, [], ◌∷◌, ◌++◌, true, length, refl, sym, ap, ◌∙◌, arith, None, map, flat_map, flat_map-append, and-left, Constructs, Event, block_texts, read_marks, linked-append, linked-length, leaf_blocks, Mark, body, linked_from, lines_in, begins_line, first_at_rest, line_endings, moved_block, moved_event, moved_link, moved_point, ReadEventsOfBoth, ReadsMove, Seat, virtual}
+use Rattle.mdconstructs_rests.proofs.Both.{blocks-of-both}
 use Rattle.mdconstructs_rests.proofs.Events.{all-known, block-goes, block-stays, full-lines, goes, in-blocks, in-lines, map-ext, map-same, same-line, stays}
-use Rattle.mdconstructs_rests.proofs.Links.{Back, HasSeat, around-back, linked-both, linked-length, linked-moved, nothing, two}
+use Rattle.mdconstructs_rests.proofs.Links.{Back, HasSeat, around-back, linked-moved, nothing, two}
 use Rattle.mdconstructs_rests.proofs.MovedMarks.{Part, around-moved, bodies}
 use Rattle.mdconstructs_rests.proofs.Shown.{shown-behind, shown-front, within}
 
@@ -73,7 +61,7 @@ pub read-events-of-both : ReadEventsOfBoth
 read-events-of-both texts strings move move_strings on t a b h =
     let l = line_endings a in
     let n = length a in
-    let torn : begins_line b a ≡ true = left-true (begins_line b a) (first_at_rest on (lines_in (virtual t a)) (lines_in (virtual t b))) h in
+    let torn : begins_line b a ≡ true = and-left (begins_line b a) (first_at_rest on (lines_in (virtual t a)) (lines_in (virtual t b))) h in
     let first_blocks = leaf_blocks on (lines_in (virtual t a)) in
     let blocks = leaf_blocks on (lines_in (virtual t b)) in
     let whole = block_texts (texts (a ++ b)) (strings (a ++ b)) (a ++ b) in
@@ -86,5 +74,5 @@ read-events-of-both texts strings move move_strings on t a b h =
     ap (λ bs. linked_from 0 (flat_map whole bs)) (blocks-of-both on t a b h)
     ∙ ap (linked_from 0) (flat_map-append whole first_blocks (map (moved_block l n) blocks))
     ∙ (let f = front a b torn texts strings move move_strings on t in let g = behind a b torn texts strings move move_strings on t k in (λ i. linked_from 0 (f i ++ g i)))
-    ∙ linked-both 0 first (map (λ m. (moved_event l n k m.0, m.1)) marks)
+    ∙ linked-append 0 first (map (λ m. (moved_event l n k m.0, m.1)) marks)
     ∙ ap (λ r. linked_from 0 first ++ r) (linked-moved l n k marks 0 (0 + length first) same back)

@@ -1,21 +1,7 @@
 -- At a rest leaf blocks are cut apart.
-use Rattle.std.proofs.Common.{◌≡◌, inl, inr, ℕ, zero, suc, ◌<◌, ◌≤◌, ◌&&◌, List, [], ◌∷◌, ◌++◌, Bool, true, false, not, length, drop, length-drop, refl, sym, ap, ◌∙◌, arith}
-use Rattle.std.proofs.lemmas.List.{drop-append-le}
-use Rattle.markdown_base.specs.declared.configuration.Constructs.{Constructs}
-use Rattle.mdconstructs_flow_read.specs.LeafBlocks.{Line, LeafBlock, blank_line, break_line, atx_heading, paragraph, setext_heading, indented_code, fenced_code, html_block, block_of_kind, leaf_blocks}
-use Rattle.mdconstructs_rests.specs.Rests.{RestsCutBlocks, RestsForget, WideRestsCutBlocks, begins_near, goes_on, is_open, kind_of_line, last_passes}
-use Rattle.mdconstructs_flow_read.proofs.Marks.Cuts.{cut}
+use Rattle.mdconstructs_rests.proofs.Prelude.{◌≡◌, inl, inr, ℕ, zero, suc, ◌<◌, ◌≤◌, ◌&&◌, List, [], ◌∷◌, ◌++◌, Bool, true, false, not, length, drop, length-drop, refl, sym, ap, ◌∙◌, arith, drop-append-le, not-true, and-right, and-left, Constructs, Line, LeafBlock, blank_line, break_line, atx_heading, paragraph, setext_heading, indented_code, fenced_code, html_block, block_of_kind, leaf_blocks, RestsCutBlocks, RestsForget, WideRestsCutBlocks, begins_near, goes_on, is_open, kind_of_line, last_passes, cut}
 use Rattle.mdconstructs_rests.proofs.Fuel.{enough}
 use Rattle.mdconstructs_rests.proofs.Longer.{StandsApart, front-same}
-
-both-left : (a b : Bool) → (a && b) ≡ true → a ≡ true
-both-left true b h = refl
-both-left false b h = absurd (cc)
-
-both-right : (a b : Bool) → (a && not b) ≡ true → b ≡ false
-both-right true false h = refl
-both-right true true h = absurd (cc)
-both-right false b h = absurd (cc)
 
 more-there : (n : ℕ) (all : List Line) (next : Line) (behind : List Line) → drop n all ≡ next ∷ behind → n < length all
 more-there n all next behind e = let l = ap length e in omega (arith, l, length-drop n all)
@@ -77,10 +63,10 @@ module _ (on : Constructs) where
   last-append test (block ∷ other ∷ blocks) next more = last-append test (other ∷ blocks) next more
 
 pub wide-rests-cut-blocks : WideRestsCutBlocks
-wide-rests-cut-blocks on before line behind h = apart on line behind (both-left _ _ h) (length before) before (omega arith) (both-right _ _ h)
+wide-rests-cut-blocks on before line behind h = apart on line behind (and-left _ _ h) (length before) before (omega arith) (not-true _ (and-right _ _ h))
 
 pub rests-cut-blocks : RestsCutBlocks
-rests-cut-blocks on before line behind h = apart on line behind (both-left _ _ h) (length before) before (omega arith) (last-closed on line (leaf_blocks on before) (both-right _ _ h))
+rests-cut-blocks on before line behind h = apart on line behind (and-left _ _ h) (length before) before (omega arith) (last-closed on line (leaf_blocks on before) (not-true _ (and-right _ _ h)))
 
 pub rests-forget : RestsForget
 rests-forget on before line behind next h =

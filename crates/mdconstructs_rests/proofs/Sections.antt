@@ -1,16 +1,6 @@
 -- A document as sections, each of which is read by itself.
-use Rattle.std.proofs.Common.{◌≡◌, ℕ, suc, ◌≤◌, ◌==◌, ◌&&◌, ◌||◌, List, [], ◌∷◌, ◌++◌, Bool, true, false, cond, not, length, refl, sym, ap, ◌∙◌, arith, leb-true, nat_le}
-use Rattle.std.specs.Prelude.{map}
-use Rattle.std.proofs.lemmas.List.{append-nil}
-use Rattle.markdown_base.specs.declared.configuration.Constructs.{Constructs}
-use Rattle.mdconstructs_flow_read.specs.LeafBlocks.{Line, LeafBlock, blank_line, break_line, atx_heading, paragraph, setext_heading, indented_code, fenced_code, html_block, leaf_blocks}
-use Rattle.mdconstructs_flow_read.specs.LeafEvents.{flow_events}
-use Rattle.mdconstructs_machines.specs.LineEvents.{lines_in}
-use Rattle.mdconstructs_rests.specs.Moved.{begins_at_rest, begins_line, first_at_rest, line_endings, moved_block, moved_event, moved_lines}
-use Rattle.mdconstructs_rests.specs.Rests.{begins_near, is_open, is_open_behind, kind_of_line, last_passes}
-use Rattle.mdconstructs_rests.specs.Sections.{FirstLineTells, RestsOfBoth, SectionsGiveEvents, are_sections, document_of, events_of_sections}
-use Rattle.markdown_base.specs.Virtual.{begins_with_lf, virtual}
-use Rattle.mdconstructs_rests.proofs.Both.{blocks-of-both, left-true, right-true}
+use Rattle.mdconstructs_rests.proofs.Prelude.{◌≡◌, ℕ, suc, ◌≤◌, ◌==◌, ◌&&◌, ◌||◌, List, [], ◌∷◌, ◌++◌, Bool, true, false, cond, not, length, refl, sym, ap, ◌∙◌, arith, leb-true, nat_le, map, append-nil, and-right, and-left, Constructs, Line, LeafBlock, blank_line, break_line, atx_heading, paragraph, setext_heading, indented_code, fenced_code, html_block, leaf_blocks, flow_events, lines_in, begins_at_rest, begins_line, first_at_rest, line_endings, moved_block, moved_event, moved_lines, begins_near, is_open, is_open_behind, kind_of_line, last_passes, FirstLineTells, RestsOfBoth, SectionsGiveEvents, are_sections, document_of, events_of_sections, begins_with_lf, virtual}
+use Rattle.mdconstructs_rests.proofs.Both.{blocks-of-both}
 use Rattle.mdconstructs_rests.proofs.Events.{events-of-both}
 use Rattle.mdconstructs_rests.proofs.Rests.{last-append}
 use Rattle.mdconstructs_rests.proofs.Virtual.{lines-are-counted, lines-of-both}
@@ -104,25 +94,25 @@ rests-of-both on t a b c rest some ends =
 module _ (on : Constructs) (t : ℕ) where
   some-document : (s : List ℕ) (more : List (List ℕ)) → are_sections on t (s ∷ more) ≡ true → 1 ≤ length s
   some-document s [] h = leb-true 1 (length s) h
-  some-document s (next ∷ more) h = leb-true 1 (length s) (left-true (nat_le 1 (length s)) (begins_at_rest on t s next && are_sections on t (next ∷ more)) h)
+  some-document s (next ∷ more) h = leb-true 1 (length s) (and-left (nat_le 1 (length s)) (begins_at_rest on t s next && are_sections on t (next ∷ more)) h)
 
   -- a section begins at a rest, whatever sections come behind it
   rest-ahead : (s next : List ℕ) (more : List (List ℕ)) → begins_at_rest on t s next ≡ true → are_sections on t (next ∷ more) ≡ true → begins_at_rest on t s (next ++ document_of more) ≡ true
   rest-ahead s next [] h sections = ap (begins_at_rest on t s) (append-nil next) ∙ h
   rest-ahead s next (third ∷ more) h sections =
-      let behind = right-true (nat_le 1 (length next)) (begins_at_rest on t next third && are_sections on t (third ∷ more)) sections in
-      let rest = left-true (begins_at_rest on t next third) (are_sections on t (third ∷ more)) behind in
-      let some = some-document third more (right-true (begins_at_rest on t next third) (are_sections on t (third ∷ more)) behind) in
-      let ends = line-ahead next third (document_of more) some ∙ left-true (begins_line third next) _ rest in
-      first-line-tells on t s next (third ++ document_of more) (some-document next (third ∷ more) sections) ends (left-true (begins_line next s) _ h) ∙ h
+      let behind = and-right (nat_le 1 (length next)) (begins_at_rest on t next third && are_sections on t (third ∷ more)) sections in
+      let rest = and-left (begins_at_rest on t next third) (are_sections on t (third ∷ more)) behind in
+      let some = some-document third more (and-right (begins_at_rest on t next third) (are_sections on t (third ∷ more)) behind) in
+      let ends = line-ahead next third (document_of more) some ∙ and-left (begins_line third next) _ rest in
+      first-line-tells on t s next (third ++ document_of more) (some-document next (third ∷ more) sections) ends (and-left (begins_line next s) _ h) ∙ h
 
   give : (sections : List (List ℕ)) → are_sections on t sections ≡ true → flow_events on (document_of sections) (virtual t (document_of sections)) ≡ events_of_sections on t sections
   give [] h = refl
   give (s ∷ []) h = ap (λ d. flow_events on d (virtual t d)) (append-nil s) ∙ sym (append-nil (flow_events on s (virtual t s)))
   give (s ∷ next ∷ more) h =
-      let behind = right-true (nat_le 1 (length s)) (begins_at_rest on t s next && are_sections on t (next ∷ more)) h in
-      let rest = left-true (begins_at_rest on t s next) (are_sections on t (next ∷ more)) behind in
-      let sections = right-true (begins_at_rest on t s next) (are_sections on t (next ∷ more)) behind in
+      let behind = and-right (nat_le 1 (length s)) (begins_at_rest on t s next && are_sections on t (next ∷ more)) h in
+      let rest = and-left (begins_at_rest on t s next) (are_sections on t (next ∷ more)) behind in
+      let sections = and-right (begins_at_rest on t s next) (are_sections on t (next ∷ more)) behind in
       let first = flow_events on s (virtual t s) in
       events-of-both on t s (next ++ document_of more) (rest-ahead s next more rest sections)
       ∙ ap (λ es. first ++ map (moved_event (line_endings s) (length s) (length first)) es) (give (next ∷ more) sections)

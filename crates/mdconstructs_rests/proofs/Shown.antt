@@ -1,18 +1,6 @@
 -- Where places are shown in a document, and in its parts.
-use Rattle.std.proofs.Common.{◌≡◌, ℕ, zero, suc, ◌+◌, ◌-◌, ◌≤◌, ◌==◌, ◌&&◌, ◌||◌, List, [], ◌∷◌, ◌++◌, Bool, true, false, cond, not, length, refl, sym, ap, ◌∙◌, nat_lt, ltb-true, ltb-false, arith}
-use Rattle.std.specs.Prelude.{slice_index}
-use Rattle.std.specs.List.{AllByRecursion}
-use Rattle.std.proofs.lemmas.Bool.{eqb-true}
-use Rattle.std.proofs.lemmas.List.{get_or-append-add, get_or_append_left, get_or_past}
-use Rattle.markdown_base.specs.declared.event.Point.{Point}
-use Rattle.mdconstructs_rests.specs.Moved.{begins_line, moved_point}
-use Rattle.markdown_base.specs.Places.{follows_cr, shown}
+use Rattle.mdconstructs_rests.proofs.Prelude.{◌≡◌, ℕ, zero, suc, ◌+◌, ◌-◌, ◌≤◌, ◌==◌, ◌&&◌, ◌||◌, List, [], ◌∷◌, ◌++◌, Bool, true, false, cond, not, length, refl, sym, ap, ◌∙◌, nat_lt, ltb-true, ltb-false, arith, slice_index, AllByRecursion, eqb-true, get_or-append-add, get_or_append_left, get_or_past, and-false, Point, begins_line, moved_point, follows_cr, shown, Seat, begins_with_lf, in_tab, point, tab_width, virtual_from}
 use Rattle.mdconstructs_rests.proofs.Virtual.{step}
-use Rattle.markdown_base.specs.Virtual.{Seat, begins_with_lf, in_tab, point, tab_width, virtual_from}
-
-and-false : (b : Bool) → (b && false) ≡ false
-and-false true = refl
-and-false false = refl
 
 -- a CR LF is not torn
 not-both : (x y : ℕ) → ((x == 10) || ((x == 13) && not (y == 10))) ≡ true → ((y == 10) && (x == 13)) ≡ false

@@ -1,10 +1,5 @@
 -- Virtual bytes, and lines, of bytes that begin a line behind others.
-use Rattle.std.proofs.Common.{◌≡◌, ℕ, zero, suc, ◌+◌, ◌==◌, ◌&&◌, ◌||◌, List, [], ◌∷◌, ◌++◌, Bool, true, false, cond, not, append_assoc, length, refl, sym, ap, ◌∙◌, arith}
-use Rattle.std.specs.Prelude.{filter, map}
-use Rattle.std.proofs.lemmas.List.{map-append}
-use Rattle.mdconstructs_machines.specs.LineEvents.{is_line_ending, joined, lines_in}
-use Rattle.mdconstructs_rests.specs.Moved.{LinesAreCounted, LinesOfBoth, VirtualOfBoth, begins_line, line_endings, moved_lines, moved_point, moved_seat}
-use Rattle.markdown_base.specs.Virtual.{Seat, begins_with_lf, end_in_tab, in_tab, line_feed, other_byte, point, tab_width, virtual, virtual_from}
+use Rattle.mdconstructs_rests.proofs.Prelude.{◌≡◌, ℕ, zero, suc, ◌+◌, ◌==◌, ◌&&◌, ◌||◌, List, [], ◌∷◌, ◌++◌, Bool, true, false, cond, not, append_assoc, length, refl, sym, ap, ◌∙◌, arith, filter, map, map-append, is_line_ending, joined, lines_in, LinesAreCounted, LinesOfBoth, VirtualOfBoth, begins_line, line_endings, moved_lines, moved_point, moved_seat, Seat, begins_with_lf, end_in_tab, in_tab, line_feed, other_byte, point, tab_width, virtual, virtual_from}
 
 -- one byte's virtual bytes, and those of what comes behind it: whether the byte is an LF or a CR, an LF comes behind it, it is a tab
 abbrev pub step : (is_lf is_cr lf_comes is_tab : Bool) → (t x line column index : ℕ) → (ℕ → ℕ → ℕ → List Seat) → List Seat
