@@ -38,7 +38,6 @@ NAMED = {
     ("mdconstructs_inlines", "proofs", "Looks"): "InlineLooks",
     ("mdconstructs_inlines", "specs", "Laws"): "InlineLaws",
     ("mdconstructs_inlines", "specs", "LawStatements"): "InlineLawStatements",
-    ("mdconstructs_inline_constructs", "specs", "Laws"): "PhrasingLaws",
     ("mdconstructs_references", "proofs", "Tables"): "ReferenceTables",
     ("mdconstructs_references", "proofs", "Parts"): "ReferenceParts",
     ("mdconstructs_references", "proofs", "Orders"): "ReferenceOrders",
