@@ -15,8 +15,8 @@ use Rattle.markdown.specs.Places.{IsPointOf, stands_before}
 use Rattle.markdown.specs.Slices.{bytes_between, is_enter_of, nearest_enter}
 use Rattle.markdown.proofs.Balanced.{same_name-refl}
 use Rattle.markdown.proofs.Common.{get-front, every-get}
+use Rattle.markdown_base.proofs.Facts.Lists.{get-take, get-taken}
 use Rattle.mdexamples.specs.Texts.{EndsAt, bytes_from, ends_span, text_at, text_if, texts_upto}
-use Rattle.markdown_children.proofs.Parts.Weaves.{get-taken}
 
 -- ---- places in a list
 
@@ -36,12 +36,6 @@ stands-in (x ∷ xs) g zs (suc k) f e = elim (stands-in xs g zs k f e) [
   | inl h ↦ (let lt = h.0 in inl (omega (arith, lt), h.1))
   | inr h ↦ inr (elim h [ inl same ↦ inl same | inr m ↦ (let is = m.1 in inr (m.0, omega (arith, is), m.2)) ])
 ]
-
-taken : {A : Type 0} (n : ℕ) (l : List A) (j : ℕ) → j < n → slice_get (take n l) j ≡ slice_get l j
-taken zero l j h = absurd (omega (arith, h))
-taken (suc n) [] j h = refl
-taken (suc n) (x ∷ l) zero h = refl
-taken (suc n) (x ∷ l) (suc j) h = taken n l j (omega (arith, h))
 
 pub all-at : {A : Type 0} (P : A → Type 0) (l : List A) (j : ℕ) (q : A) → All P l → slice_get l j ≡ Some q → P q
 all-at P l j q h e = every-get P l j q (recursion_from_All P l h) e
@@ -127,7 +121,7 @@ nearest events index exit balanced at exits =
     let r = opened balanced index exit at exits in
     let p = λ (event : Event). is_enter_of event exit in
     let passes : p r.enter ≡ true = ap (λ (k : _). is_enter k && same_name r.enter.name exit.name) r.enters ∙ ap (λ (n : _). same_name n exit.name) r.named ∙ same_name-refl exit.name in
-    let q = finds p (take index events) r.place r.enter (taken index events r.place r.before ∙ r.there) passes in
+    let q = finds p (take index events) r.place r.enter (get-take index events r.place r.before ∙ r.there) passes in
     let place = found-in p (take index events) q.0 q.1 in
     let there = get-taken index events place.0 q.0 place.1 in
     record {
