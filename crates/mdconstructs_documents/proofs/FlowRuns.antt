@@ -1,5 +1,5 @@
 -- A run over a document returns the events of its leaf blocks, and these are well formed.
-use Rattle.mdconstructs_documents.proofs.Prelude.{◌≡◌, ◌∙◌, ℕ, List, true, false, subst, sym, Event, FlowStart, Given, IsDocument, virtual, flow_rules, AreFlowEvents, ParseOptions, document, IsRun, IsWellFormed, whole_text, Subresult, blocks-are-formed, flow-ends, has-room, FlowIsRead, flow_events}
+use Rattle.mdconstructs_documents.proofs.Prelude.{◌≡◌, ◌∙◌, ℕ, List, true, false, refl, subst, sym, arith, Event, FlowStart, Given, IsDocument, virtual, flow_rules, AreFlowEvents, ParseOptions, document, IsRun, IsWellFormed, whole_text, Subresult, blocks-are-formed, flow-ends, has-room, FlowIsRead, flow_events}
 
 module _ (read : FlowIsRead) (g : Given) (is : IsDocument g) where
   abbrev blocks_events : List Event
@@ -7,7 +7,7 @@ module _ (read : FlowIsRead) (g : Given) (is : IsDocument g) where
 
   -- what a run returns
   pub run-is-flow : (events : List Event) (sub : Subresult) → IsRun g flow_rules true FlowStart events sub → events ≡ blocks_events
-  run-is-flow events sub run = run.events ∙ (flow-ends read g (whole_text g) false (has-room g is) run.result run.ends).events_are run.final sub run.resolved
+  run-is-flow events sub run = run.events ∙ (flow-ends read g (whole_text g) false FlowStart (0, omega arith, refl) (has-room g is) run.result run.ends).events_are run.final sub run.resolved
 
 -- the events of leaf blocks of a document are well formed
 pub flow-formed : (options : ParseOptions) (bytes : List ℕ) → IsDocument (document options bytes) → (events : List Event) → AreFlowEvents options bytes events → IsWellFormed (document options bytes) events

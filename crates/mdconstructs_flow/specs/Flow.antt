@@ -2,7 +2,7 @@
 use Rattle.std.specs.Prelude.{[], ◌∷◌}
 use Rattle.markdown_base.specs.declared.event.Name.TheVariants.{BlankLineEnding, CodeFenced, CodeFencedFence, CodeFencedFenceSequence, CodeIndented, HeadingAtx, HeadingAtxSequence, HtmlFlow, HtmlFlowData, LineEnding, SpaceOrTab, ThematicBreak, ThematicBreakSequence as Marks}
 use Rattle.markdown_base.specs.declared.state.State.TheVariants.{Next, Retry, Ok}
-use Rattle.markdown_base.specs.declared.state.TheConstants.Name.{FlowStart, FlowBlankLineAfter, FlowAfter, FlowBlankLineBefore, BlankLineStart, ThematicBreakBefore, ThematicBreakSequence, HeadingAtxStart, HeadingAtxSequenceOpen, CodeIndentedStart, RawFlowStart, RawFlowSequenceOpen, HtmlFlowStart, HtmlFlowContinuation, FlowBeforeContent}
+use Rattle.markdown_base.specs.declared.state.TheConstants.Name.{ContentDefinitionBefore, FlowStart, FlowBlankLineAfter, FlowAfter, FlowBlankLineBefore, BlankLineStart, ThematicBreakBefore, ThematicBreakSequence, HeadingAtxStart, HeadingAtxSequenceOpen, CodeIndentedStart, RawFlowStart, RawFlowSequenceOpen, HtmlFlowStart, HtmlFlowContinuation, FlowBeforeContent}
 use Rattle.markdown_tokenizer.specs.declared.waiting.AttemptKind.TheVariants.{Check}
 use Rattle.mdconstructs_tables.specs.Cases.{at}
 use Rattle.mdconstructs_tables.specs.Rows.{enter, exit, consume, write, choose, Rows, row, when, at_bytes, at_bytes_or_end, StateRows, costs, state}
@@ -28,6 +28,13 @@ flow_start_rows = record {
 
 abbrev pub flow_start : {R D : Type 0} → StateRows FlowByte R D
 flow_start = state FlowStart (cased flow_start_rows) [] (costs (starting 9))
+
+-- before the text of a chain of content, which begins as a document does
+abbrev pub content_definition_before_rows : {R D : Type 0} → Cased R D
+content_definition_before_rows = record { at_end = row [] (Retry FlowStart); cases = []; rest = row [] (Retry FlowStart) }
+
+abbrev pub content_definition_before : {R D : Type 0} → StateRows FlowByte R D
+content_definition_before = state ContentDefinitionBefore (cased content_definition_before_rows) [] (costs (starting 10))
 
 -- at a line whose kind is known: its block begins
 abbrev pub flow_blank_line_after_rows : {R D : Type 0} → Cased R D

@@ -1,10 +1,10 @@
 -- The table of the machine of leaf blocks, as its constructs give it.
 use Rattle.std.specs.Prelude.{[], ◌∷◌}
-use Rattle.markdown_base.specs.declared.state.TheConstants.Name.{FlowStart}
+use Rattle.markdown_base.specs.declared.state.TheConstants.Name.{ContentDefinitionBefore, FlowStart}
 use Rattle.markdown_tokenizer.specs.Configuration.{Local}
 use Rattle.mdconstructs_tables.specs.Rows.{Table}
 use Rattle.mdconstructs_flow.specs.FlowBytes.{FlowByte, flow_byte}
-use Rattle.mdconstructs_flow.specs.Flow.{flow_start, flow_blank_line_after, flow_after}
+use Rattle.mdconstructs_flow.specs.Flow.{flow_start, content_definition_before, flow_blank_line_after, flow_after}
 use Rattle.mdconstructs_flow.specs.Look.{flow_blank_line_before, paragraph_look_start}
 use Rattle.mdconstructs_flow.specs.BlankLine.{blank_line_start}
 use Rattle.mdconstructs_flow.specs.ThematicBreak.{flow_before_thematic_break, thematic_break_before, thematic_break_at_break, thematic_break_sequence}
@@ -26,7 +26,7 @@ flow = record {
   class = flow_byte;
   first = unchanged;
   states =
-      flow_start ∷ flow_blank_line_after ∷ flow_after
+      flow_start ∷ content_definition_before ∷ flow_blank_line_after ∷ flow_after
       ∷ flow_blank_line_before ∷ paragraph_look_start
       ∷ blank_line_start
       ∷ flow_before_thematic_break ∷ thematic_break_before ∷ thematic_break_at_break ∷ thematic_break_sequence
@@ -37,5 +37,5 @@ flow = record {
       ∷ html_flow_open ∷ html_flow_declaration_open ∷ html_flow_comment_open_inside ∷ html_flow_cdata_open_inside ∷ html_flow_tag_close_start ∷ html_flow_tag_name ∷ html_flow_basic_self_closing ∷ html_flow_complete_closing_tag_after ∷ html_flow_complete_end ∷ html_flow_complete_attribute_name_before ∷ html_flow_complete_attribute_name ∷ html_flow_complete_attribute_name_after ∷ html_flow_complete_attribute_value_before ∷ html_flow_complete_attribute_value_quoted ∷ html_flow_complete_attribute_value_quoted_after ∷ html_flow_complete_attribute_value_unquoted ∷ html_flow_complete_after
       ∷ html_flow_start ∷ html_flow_continuation ∷ html_flow_continuation_comment_inside ∷ html_flow_continuation_cdata_inside ∷ html_flow_continuation_declaration_inside ∷ html_flow_continuation_raw_tag_open ∷ html_flow_continuation_raw_end_tag ∷ html_flow_continuation_close ∷ html_flow_continuation_before ∷ html_flow_blank_line_before ∷ html_flow_blank_line_inside ∷ html_flow_continuation_after ∷ html_flow_continuation_start
       ∷ flow_before_content ∷ paragraph_start ∷ paragraph_inside ∷ paragraph_line_start ∷ paragraph_line_after ∷ [];
-  starts = FlowStart ∷ [];
+  starts = FlowStart ∷ ContentDefinitionBefore ∷ [];
 }

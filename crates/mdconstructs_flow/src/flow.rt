@@ -35,7 +35,7 @@ use crate::heading_setext::{
     flow_before_heading_setext, heading_setext_after, heading_setext_before, heading_setext_inside,
     heading_setext_look_after, heading_setext_start, heading_setext_text_after,
 };
-use crate::lines::{flow_after, flow_blank_line_after, flow_start};
+use crate::lines::{content_definition_before, flow_after, flow_blank_line_after, flow_start};
 use crate::look::{flow_blank_line_before, paragraph_look_start};
 use crate::over::{in_html, in_info, in_line, in_word};
 use crate::paragraph::{
@@ -55,7 +55,8 @@ use std::alloc::{AllocError, Global};
 /// Reads the leaf blocks of CommonMark. The options say which constructs are on. Paragraphs
 /// and headings hold chunks of text, and fences chunks of strings.
 ///
-/// It takes at most 9 n + 9 calls for n virtual bytes.
+/// It starts with `FlowStart`, for a document, or with `ContentDefinitionBefore`, for a chain of content: what is read is the same.
+/// It takes at most 9 n + 10 calls for n virtual bytes.
 #[derive(Drop)]
 pub struct Flow {}
 
@@ -98,6 +99,7 @@ impl Machine for Flow {
         // The names are the Rust crate's, but for those of `names`.
         match name {
             Name::FlowStart => flow_start(t),
+            Name::ContentDefinitionBefore => content_definition_before(t),
             Name::FlowBlankLineAfter => flow_blank_line_after(t),
             Name::FlowAfter => flow_after(t),
             names::ParagraphLookStart => paragraph_look_start(t),

@@ -1,7 +1,7 @@
 //! Laws about the machine of leaf blocks. Each is a function that does nothing; its contract is the law.
 
 ghost use Rattle.std.specs.Prelude.{◌≡◌, ◌+◌, ◌*◌, [], ◌∷◌};
-ghost use Rattle.markdown_base.specs.declared.state.TheConstants.Name.{FlowStart};
+ghost use Rattle.markdown_base.specs.declared.state.TheConstants.Name.{ContentDefinitionBefore, FlowStart};
 ghost use Rattle.markdown_base.specs.Texts.{html_block_names, html_raw_names};
 ghost use Rattle.markdown_tokenizer.specs.Lawful.{IsLawful};
 ghost use Rattle.markdown_tokenizer.specs.Text.{Given};
@@ -13,10 +13,11 @@ ghost use Rattle.mdconstructs_flow.specs.FlowTable.{flow};
 ghost use Rattle.mdconstructs_flow.specs.HtmlNames.{AreToldApart};
 ghost use Rattle.mdconstructs_flow.specs.LawStatements.{StartsWithin};
 
-/// The machine has one start, and from it takes at most this many calls on a text of n virtual bytes.
+/// The machine has two starts, and from each takes at most this many calls on a text of n virtual bytes.
 pub fn cost_at_the_start()
-    ensures starts { (g : Given) → (flow_rules g).starts ≡ FlowStart ∷ [] }
+    ensures starts { (g : Given) → (flow_rules g).starts ≡ FlowStart ∷ ContentDefinitionBefore ∷ [] }
     ensures cost { StartsWithin flow_rules FlowStart (λ n. 9 * n + 9) }
+    ensures content_cost { StartsWithin flow_rules ContentDefinitionBefore (λ n. 9 * n + 10) }
 {}
 
 /// The machine is lawful on every document.

@@ -5,7 +5,7 @@ ghost use Rattle.markdown_tokenizer.specs.declared.waiting.Waits.TheVariants.{By
 ghost use Rattle.mdconstructs_flow.specs.Steps.{rows_step};
 ghost use Rattle.mdconstructs_tables.specs.RowInvariant.{DoesAll, IsCallable, step_in};
 ghost use Rattle.mdconstructs_flow.specs.FlowBytes.{flow_byte};
-ghost use Rattle.mdconstructs_flow.specs.Flow.{flow_start, flow_blank_line_after, flow_after, blank_begins_line, mark_begins_line};
+ghost use Rattle.mdconstructs_flow.specs.Flow.{flow_start, content_definition_before, flow_blank_line_after, flow_after, blank_begins_line, mark_begins_line};
 
 use crate::sizes::{is_break, kind_is, set_count, set_indent};
 use markdown_tokenizer::event;
@@ -34,6 +34,16 @@ pub(crate) fn flow_start<'a, M: MachineTypes>(t: &mut Tokenizer<'a, M>) -> Resul
             Ok(State::Retry(Name::FlowBlankLineBefore))
         }
     }
+}
+
+/// Before the text of a chain of content, which begins as a document does.
+pub(crate) fn content_definition_before<'a, M: MachineTypes>(
+    t: &mut Tokenizer<'a, M>,
+) -> Result<State, AllocError>
+    requires { IsCallable flow_byte content_definition_before t.old }
+    ensures { IfOk result (DoesAll (step_in flow_byte content_definition_before t.old) t.old t.new) }
+{
+    Ok(State::Retry(Name::FlowStart))
 }
 
 /// Before a line that is no plain text: the block of its kind begins.

@@ -7,14 +7,14 @@ pub use Rattle.std.proofs.lemmas.Bool.{and_from, and_parts, eq-eqb, eqb-true, le
 pub use Rattle.std.proofs.lemmas.Bool.Decides.{nat_tests}
 pub use Rattle.std.proofs.lemmas.Grind.{flat_map-append, reverse_onto}
 pub use Rattle.std.proofs.lemmas.List.{drop-drop, drop-map, drop_all, length-drop, length-map, length-reverse, length-take-le, map-append, reverse-append, reverse-reverse, take-append-drop}
-pub use Rattle.std.proofs.lemmas.List.Elements.{All-from_recursion}
+pub use Rattle.std.proofs.lemmas.List.Elements.{All-cons, All-contains, All-from_recursion, All-nil}
 pub use Rattle.std.proofs.lemmas.List.Folds.{length-prefix_len, list_all-append}
 pub use Rattle.std.proofs.lemmas.List.Kept.{AllPairs-cons}
 pub use Rattle.std.proofs.lemmas.List.Sums.{prefix_len-le-length}
 pub use Rattle.std.proofs.lemmas.Option.{none-some, same_Some, slice_get_within}
 pub use Rattle.std.specs.Char.{is_ascii_alphabetic, is_ascii_alphanumeric, is_ascii_digit, to_ascii_lowercase}
 pub use Rattle.std.specs.List.{AllByRecursion, flat_map, list_all, prefix_len}
-pub use Rattle.std.specs.Prelude.{AllPairs, codes, is_some, option_and_then, option_map, slice_get}
+pub use Rattle.std.specs.Prelude.{AllPairs, Contains, codes, is_some, option_and_then, option_map, slice_get}
 pub use Rattle.std.specs.Str.{str_to_ascii_lowercase}
 pub use Rattle.markdown_base.proofs.Common.{drop-next, every-append, every-map}
 pub use Rattle.markdown_base.proofs.Seats.{end-after-append, end-after-one, stands-self}
@@ -35,7 +35,7 @@ pub use Rattle.markdown_base.specs.declared.event.Point.{Point}
 pub use Rattle.markdown_base.specs.declared.state.Name.{Name}
 pub use Rattle.markdown_base.specs.declared.state.State.{State}
 pub use Rattle.markdown_base.specs.declared.state.State.TheVariants.{Next, Nok, Ok, Retry}
-pub use Rattle.markdown_base.specs.declared.state.TheConstants.Name.{BlankLineStart, CodeIndentedAfter, CodeIndentedAtBreak, CodeIndentedFurtherAfter, CodeIndentedFurtherBegin, CodeIndentedFurtherStart, CodeIndentedInside, CodeIndentedStart, FlowAfter, FlowBeforeContent, FlowBeforeHeadingAtx, FlowBeforeHeadingSetext, FlowBeforeRaw, FlowBeforeThematicBreak, FlowBlankLineAfter, FlowBlankLineBefore, FlowStart, HeadingAtxAtBreak, HeadingAtxBefore, HeadingAtxData, HeadingAtxSequenceOpen, HeadingAtxStart, HeadingSetextAfter, HeadingSetextBefore, HeadingSetextInside, HeadingSetextStart, HtmlFlowBasicSelfClosing, HtmlFlowBlankLineBefore, HtmlFlowCdataOpenInside, HtmlFlowCommentOpenInside, HtmlFlowCompleteAfter, HtmlFlowCompleteAttributeName, HtmlFlowCompleteAttributeNameAfter, HtmlFlowCompleteAttributeNameBefore, HtmlFlowCompleteAttributeValueBefore, HtmlFlowCompleteAttributeValueQuoted, HtmlFlowCompleteAttributeValueQuotedAfter, HtmlFlowCompleteAttributeValueUnquoted, HtmlFlowCompleteClosingTagAfter, HtmlFlowCompleteEnd, HtmlFlowContinuation, HtmlFlowContinuationAfter, HtmlFlowContinuationBefore, HtmlFlowContinuationCdataInside, HtmlFlowContinuationClose, HtmlFlowContinuationCommentInside, HtmlFlowContinuationDeclarationInside, HtmlFlowContinuationRawEndTag, HtmlFlowContinuationRawTagOpen, HtmlFlowContinuationStart, HtmlFlowDeclarationOpen, HtmlFlowOpen, HtmlFlowStart, HtmlFlowTagCloseStart, HtmlFlowTagName, ParagraphInside, ParagraphLineStart, ParagraphStart, RawFlowAfter, RawFlowAfterSequenceClose, RawFlowAtNonLazyBreak, RawFlowBeforeContentChunk, RawFlowBeforeSequenceClose, RawFlowBeforeSequenceOpen, RawFlowCloseStart, RawFlowContentBefore, RawFlowContentChunk, RawFlowContentStart, RawFlowInfo, RawFlowInfoBefore, RawFlowMeta, RawFlowMetaBefore, RawFlowSequenceClose, RawFlowSequenceOpen, RawFlowStart, ThematicBreakAtBreak, ThematicBreakBefore, ThematicBreakSequence}
+pub use Rattle.markdown_base.specs.declared.state.TheConstants.Name.{BlankLineStart, CodeIndentedAfter, CodeIndentedAtBreak, CodeIndentedFurtherAfter, CodeIndentedFurtherBegin, CodeIndentedFurtherStart, CodeIndentedInside, CodeIndentedStart, ContentDefinitionBefore, FlowAfter, FlowBeforeContent, FlowBeforeHeadingAtx, FlowBeforeHeadingSetext, FlowBeforeRaw, FlowBeforeThematicBreak, FlowBlankLineAfter, FlowBlankLineBefore, FlowStart, HeadingAtxAtBreak, HeadingAtxBefore, HeadingAtxData, HeadingAtxSequenceOpen, HeadingAtxStart, HeadingSetextAfter, HeadingSetextBefore, HeadingSetextInside, HeadingSetextStart, HtmlFlowBasicSelfClosing, HtmlFlowBlankLineBefore, HtmlFlowCdataOpenInside, HtmlFlowCommentOpenInside, HtmlFlowCompleteAfter, HtmlFlowCompleteAttributeName, HtmlFlowCompleteAttributeNameAfter, HtmlFlowCompleteAttributeNameBefore, HtmlFlowCompleteAttributeValueBefore, HtmlFlowCompleteAttributeValueQuoted, HtmlFlowCompleteAttributeValueQuotedAfter, HtmlFlowCompleteAttributeValueUnquoted, HtmlFlowCompleteClosingTagAfter, HtmlFlowCompleteEnd, HtmlFlowContinuation, HtmlFlowContinuationAfter, HtmlFlowContinuationBefore, HtmlFlowContinuationCdataInside, HtmlFlowContinuationClose, HtmlFlowContinuationCommentInside, HtmlFlowContinuationDeclarationInside, HtmlFlowContinuationRawEndTag, HtmlFlowContinuationRawTagOpen, HtmlFlowContinuationStart, HtmlFlowDeclarationOpen, HtmlFlowOpen, HtmlFlowStart, HtmlFlowTagCloseStart, HtmlFlowTagName, ParagraphInside, ParagraphLineStart, ParagraphStart, RawFlowAfter, RawFlowAfterSequenceClose, RawFlowAtNonLazyBreak, RawFlowBeforeContentChunk, RawFlowBeforeSequenceClose, RawFlowBeforeSequenceOpen, RawFlowCloseStart, RawFlowContentBefore, RawFlowContentChunk, RawFlowContentStart, RawFlowInfo, RawFlowInfoBefore, RawFlowMeta, RawFlowMetaBefore, RawFlowSequenceClose, RawFlowSequenceOpen, RawFlowStart, ThematicBreakAtBreak, ThematicBreakBefore, ThematicBreakSequence}
 pub use Rattle.markdown_edits.proofs.Balanced.{balanced_from_open, names_after_all-append, same_name-refl}
 pub use Rattle.markdown_edits.proofs.Edits.Passes.{AreApart, events_at-none, is_removed-none, woven-at}
 pub use Rattle.markdown_edits.proofs.Edits.Splices.{AreApart-edits}
@@ -64,7 +64,7 @@ pub use Rattle.markdown_tokenizer.specs.declared.waiting.Waits.TheVariants.{Byte
 pub use Rattle.mdconstructs_flow.proofs.TagNames.{block-told, raw-told}
 pub use Rattle.mdconstructs_flow.specs.CodeFenced.{fence_ends, flow_before_raw_rows, raw_flow_after_rows, raw_flow_after_sequence_close_rows, raw_flow_at_non_lazy_break, raw_flow_at_non_lazy_break_rows, raw_flow_before_content_chunk_rows, raw_flow_before_sequence_close_rows, raw_flow_close_before_rows, raw_flow_close_between_rows, raw_flow_close_sequence_rows, raw_flow_close_start_rows, raw_flow_content_before_rows, raw_flow_content_start_rows, raw_flow_info_before_rows, raw_flow_info_rows, raw_flow_look_info_rows, raw_flow_meta_before_rows, raw_flow_sequence_close_rows, raw_flow_sequence_open_rows, raw_flow_start_rows}
 pub use Rattle.mdconstructs_flow.specs.CodeIndented.{code_indented_inside}
-pub use Rattle.mdconstructs_flow.specs.Flow.{blank_begins_line, flow_after, flow_blank_line_after, flow_blank_line_after_rows, flow_start, flow_start_rows, mark_begins_line}
+pub use Rattle.mdconstructs_flow.specs.Flow.{blank_begins_line, content_definition_before, flow_after, flow_blank_line_after, flow_blank_line_after_rows, flow_start, flow_start_rows, mark_begins_line}
 pub use Rattle.mdconstructs_flow.specs.FlowBytes.{Cased, FlowByte, begins_name, begins_no_value, blank, by_byte, cased, closing, dash, equals, flow_byte, greater, is_bang, is_blank, is_blank as is_blank_class, is_closing, is_dash, is_double, is_equals, is_fence, is_greater, is_in_name, is_in_no_value, is_less, is_letter, is_line_feed, is_opening, is_question, is_quote, is_rule, is_sign, is_sign as is_sign_class, is_single, is_slash, is_star, is_tick, is_tilde, is_underscore, less, line_feed, name_byte, other, question, sign, spelled, star, tick, tilde, underscore, word_byte}
 pub use Rattle.mdconstructs_flow.specs.FlowKnows.{flow_rules}
 pub use Rattle.mdconstructs_flow.specs.FlowTable.{flow, unchanged}

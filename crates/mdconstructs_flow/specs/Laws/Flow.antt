@@ -3,7 +3,7 @@ use Rattle.std.proofs.Common.{arith}
 use Rattle.mdconstructs_tables.specs.RowTest.{never}
 use Rattle.mdconstructs_tables.specs.RowInvariant.{PaysRows}
 use Rattle.mdconstructs_flow.specs.FlowCosts.{starting, reading, looked}
-use Rattle.mdconstructs_flow.specs.Flow.{flow_start_rows, flow_start, flow_blank_line_after_rows, flow_blank_line_after, flow_after_rows, flow_after}
+use Rattle.mdconstructs_flow.specs.Flow.{flow_start_rows, flow_start, content_definition_before_rows, content_definition_before, flow_blank_line_after_rows, flow_blank_line_after, flow_after_rows, flow_after}
 use Rattle.mdconstructs_flow.specs.FlowTable.{flow}
 use Rattle.mdconstructs_flow.specs.Laws.Measures.{sign-word, rule-word, fence-word, at-feed, at-blank, at-word, at-in-line}
 use Rattle.mdconstructs_flow.specs.Laws.Paying.{pays}
@@ -15,6 +15,9 @@ flow_start-pays b w text p read at seen called =
       λ w others b text p m. let q = at-in-line text p w m others.0 in omega arith,
     )
     w b b text p at seen
+
+pub content_definition_before-pays : PaysRows flow never content_definition_before
+content_definition_before-pays b w text p read at seen called = pays (starting 10) content_definition_before_rows (omega arith) (λ w others b text p m. omega arith) w b b text p at seen
 
 pub flow_blank_line_after-pays : PaysRows flow never flow_blank_line_after
 flow_blank_line_after-pays b w text p read at seen called =

@@ -9,7 +9,7 @@ use Rattle.markdown_base.specs.declared.event.Name.TheVariants.{Data, HeadingSet
 use Rattle.markdown_base.specs.declared.state.Name.{Name}
 use Rattle.markdown_base.specs.declared.state.State.{State}
 use Rattle.markdown_base.specs.declared.state.State.TheVariants.{Next, Retry, Ok, Nok}
-use Rattle.markdown_base.specs.declared.state.TheConstants.Name.{FlowStart, FlowBlankLineAfter, FlowAfter, FlowBlankLineBefore, BlankLineStart, FlowBeforeThematicBreak, ThematicBreakBefore, ThematicBreakAtBreak, ThematicBreakSequence, FlowBeforeHeadingAtx, HeadingAtxStart, HeadingAtxSequenceOpen, HeadingAtxAtBreak, HeadingAtxBefore, HeadingAtxData, CodeIndentedStart, CodeIndentedAtBreak, CodeIndentedFurtherAfter, CodeIndentedInside, CodeIndentedFurtherStart, CodeIndentedAfter, CodeIndentedFurtherBegin, FlowBeforeRaw, RawFlowStart, RawFlowSequenceOpen, RawFlowInfoBefore, RawFlowBeforeSequenceOpen, RawFlowInfo, RawFlowMetaBefore, RawFlowMeta, RawFlowAtNonLazyBreak, RawFlowCloseStart, RawFlowBeforeSequenceClose, RawFlowSequenceClose, RawFlowAfterSequenceClose, RawFlowContentBefore, RawFlowContentStart, RawFlowBeforeContentChunk, RawFlowContentChunk, RawFlowAfter, HtmlFlowOpen, HtmlFlowDeclarationOpen, HtmlFlowCommentOpenInside, HtmlFlowCdataOpenInside, HtmlFlowTagCloseStart, HtmlFlowTagName, HtmlFlowBasicSelfClosing, HtmlFlowCompleteClosingTagAfter, HtmlFlowCompleteEnd, HtmlFlowCompleteAttributeNameBefore, HtmlFlowCompleteAttributeName, HtmlFlowCompleteAttributeNameAfter, HtmlFlowCompleteAttributeValueBefore, HtmlFlowCompleteAttributeValueQuoted, HtmlFlowCompleteAttributeValueQuotedAfter, HtmlFlowCompleteAttributeValueUnquoted, HtmlFlowCompleteAfter, HtmlFlowStart, HtmlFlowContinuation, HtmlFlowContinuationCommentInside, HtmlFlowContinuationCdataInside, HtmlFlowContinuationDeclarationInside, HtmlFlowContinuationRawTagOpen, HtmlFlowContinuationRawEndTag, HtmlFlowContinuationClose, HtmlFlowContinuationBefore, HtmlFlowBlankLineBefore, HtmlFlowContinuationAfter, HtmlFlowContinuationStart, FlowBeforeContent, ParagraphStart, ParagraphInside, ParagraphLineStart, FlowBeforeHeadingSetext, HeadingSetextStart, HeadingSetextBefore, HeadingSetextInside, HeadingSetextAfter}
+use Rattle.markdown_base.specs.declared.state.TheConstants.Name.{ContentDefinitionBefore, FlowStart, FlowBlankLineAfter, FlowAfter, FlowBlankLineBefore, BlankLineStart, FlowBeforeThematicBreak, ThematicBreakBefore, ThematicBreakAtBreak, ThematicBreakSequence, FlowBeforeHeadingAtx, HeadingAtxStart, HeadingAtxSequenceOpen, HeadingAtxAtBreak, HeadingAtxBefore, HeadingAtxData, CodeIndentedStart, CodeIndentedAtBreak, CodeIndentedFurtherAfter, CodeIndentedInside, CodeIndentedFurtherStart, CodeIndentedAfter, CodeIndentedFurtherBegin, FlowBeforeRaw, RawFlowStart, RawFlowSequenceOpen, RawFlowInfoBefore, RawFlowBeforeSequenceOpen, RawFlowInfo, RawFlowMetaBefore, RawFlowMeta, RawFlowAtNonLazyBreak, RawFlowCloseStart, RawFlowBeforeSequenceClose, RawFlowSequenceClose, RawFlowAfterSequenceClose, RawFlowContentBefore, RawFlowContentStart, RawFlowBeforeContentChunk, RawFlowContentChunk, RawFlowAfter, HtmlFlowOpen, HtmlFlowDeclarationOpen, HtmlFlowCommentOpenInside, HtmlFlowCdataOpenInside, HtmlFlowTagCloseStart, HtmlFlowTagName, HtmlFlowBasicSelfClosing, HtmlFlowCompleteClosingTagAfter, HtmlFlowCompleteEnd, HtmlFlowCompleteAttributeNameBefore, HtmlFlowCompleteAttributeName, HtmlFlowCompleteAttributeNameAfter, HtmlFlowCompleteAttributeValueBefore, HtmlFlowCompleteAttributeValueQuoted, HtmlFlowCompleteAttributeValueQuotedAfter, HtmlFlowCompleteAttributeValueUnquoted, HtmlFlowCompleteAfter, HtmlFlowStart, HtmlFlowContinuation, HtmlFlowContinuationCommentInside, HtmlFlowContinuationCdataInside, HtmlFlowContinuationDeclarationInside, HtmlFlowContinuationRawTagOpen, HtmlFlowContinuationRawEndTag, HtmlFlowContinuationClose, HtmlFlowContinuationBefore, HtmlFlowBlankLineBefore, HtmlFlowContinuationAfter, HtmlFlowContinuationStart, FlowBeforeContent, ParagraphStart, ParagraphInside, ParagraphLineStart, FlowBeforeHeadingSetext, HeadingSetextStart, HeadingSetextBefore, HeadingSetextInside, HeadingSetextAfter}
 use Rattle.mdconstructs_flow.specs.declared.names.TheConstants.{ParagraphLookStart, HeadingAtxLookStart, HeadingAtxLookText, HeadingAtxLookBlank, HeadingAtxLookSigns, HeadingAtxLookAfter, CodeIndentedLineAfter, RawFlowLookInfo, RawFlowInfoAfter, RawFlowCloseBefore, RawFlowCloseBlank, RawFlowCloseSequence, RawFlowCloseBetween, HtmlFlowBlankLineInside, ParagraphLineAfter, HeadingSetextLookAfter, HeadingSetextTextAfter}
 use Rattle.markdown_base.specs.Events.{EndsBelow, IsBalanced}
 use Rattle.markdown_edits.specs.Edited.{edited}
@@ -37,7 +37,7 @@ use Rattle.mdconstructs_flow.specs.FlowBytes.{FlowByte, Cased, cased}
 use Rattle.mdconstructs_flow.specs.BlankLine.{blank_line_start_rows, blank_line_start}
 use Rattle.mdconstructs_flow.specs.CodeFenced.{flow_before_raw_rows, flow_before_raw, raw_flow_look_info_rows, raw_flow_look_info, raw_flow_start_rows, raw_flow_start, raw_flow_sequence_open_rows, raw_flow_sequence_open, raw_flow_info_before_rows, raw_flow_info_before, raw_flow_before_sequence_open_rows, raw_flow_before_sequence_open, raw_flow_info_rows, raw_flow_info, raw_flow_info_after_rows, raw_flow_info_after, raw_flow_meta_before_rows, raw_flow_meta_before, raw_flow_meta_rows, raw_flow_meta, raw_flow_at_non_lazy_break_rows, raw_flow_at_non_lazy_break, raw_flow_close_start_rows, raw_flow_close_start, raw_flow_before_sequence_close_rows, raw_flow_before_sequence_close, raw_flow_sequence_close_rows, raw_flow_sequence_close, raw_flow_after_sequence_close_rows, raw_flow_after_sequence_close, raw_flow_content_before_rows, raw_flow_content_before, raw_flow_content_start_rows, raw_flow_content_start, raw_flow_before_content_chunk_rows, raw_flow_before_content_chunk, raw_flow_content_chunk_rows, raw_flow_content_chunk, raw_flow_after_rows, raw_flow_after, raw_flow_close_before_rows, raw_flow_close_before, raw_flow_close_blank_rows, raw_flow_close_blank, raw_flow_close_sequence_rows, raw_flow_close_sequence, raw_flow_close_between_rows, raw_flow_close_between}
 use Rattle.mdconstructs_flow.specs.CodeIndented.{code_indented_start_rows, code_indented_start, code_indented_at_break_rows, code_indented_at_break, code_indented_further_after_rows, code_indented_further_after, code_indented_inside_rows, code_indented_inside, code_indented_further_start_rows, code_indented_further_start, code_indented_line_after_rows, code_indented_line_after, code_indented_after_rows, code_indented_after, code_indented_further_begin_rows, code_indented_further_begin}
-use Rattle.mdconstructs_flow.specs.Flow.{flow_start_rows, flow_start, flow_blank_line_after_rows, flow_blank_line_after, flow_after_rows, flow_after}
+use Rattle.mdconstructs_flow.specs.Flow.{flow_start_rows, flow_start, content_definition_before_rows, content_definition_before, flow_blank_line_after_rows, flow_blank_line_after, flow_after_rows, flow_after}
 use Rattle.mdconstructs_flow.specs.HeadingAtx.{flow_before_heading_atx_rows, flow_before_heading_atx, heading_atx_look_start_rows, heading_atx_look_start, heading_atx_look_text_rows, heading_atx_look_text, heading_atx_look_blank_rows, heading_atx_look_blank, heading_atx_look_signs_rows, heading_atx_look_signs, heading_atx_look_after_rows, heading_atx_look_after, heading_atx_start_rows, heading_atx_start, heading_atx_sequence_open_rows, heading_atx_sequence_open, heading_atx_at_break_rows, heading_atx_at_break, heading_atx_before_rows, heading_atx_before, heading_atx_data_rows, heading_atx_data}
 use Rattle.mdconstructs_flow.specs.HeadingEdits.{paragraph_begins, paragraph_ends, heading_ends}
 use Rattle.mdconstructs_flow.specs.HeadingSetext.{flow_before_heading_setext_rows, flow_before_heading_setext, heading_setext_look_after_rows, heading_setext_look_after, heading_setext_text_after_rows, heading_setext_text_after, heading_setext_start_rows, heading_setext_start, heading_setext_before_rows, heading_setext_before, heading_setext_inside_rows, heading_setext_inside, heading_setext_after_rows, heading_setext_after}
@@ -56,6 +56,9 @@ use Rattle.std.proofs.Math.Seq.{take-length}
 
 flow_start-keeps : KeepsKnowing flow knows_flow flow_start
 flow_start-keeps = reading-keeps FlowStart flow_start_rows refl refl (λ k. refl, tt)
+
+content_definition_before-keeps : KeepsKnowing flow knows_flow content_definition_before
+content_definition_before-keeps = reading-keeps ContentDefinitionBefore content_definition_before_rows refl refl tt
 
 flow_blank_line_after-keeps : KeepsKnowing flow knows_flow flow_blank_line_after
 flow_blank_line_after-keeps = reading-keeps FlowBlankLineAfter flow_blank_line_after_rows refl refl (λ k. refl, tt)
@@ -531,7 +534,8 @@ at-starts flag =
     let P = λ (name : Name). knows_flow k.events k.local [] (Next name) in
     let shape : AreInShape [] = record { inside = All-nil (EndsBelow 0); on = λ i j is. absurd (let same : None ≡ Some j = is in cc); back = λ i j is. absurd (let same : None ≡ Some i = is in cc) } in
     let edits : RenameSpans [] [] = ([], record { events_are = refl; edits_are = refl; no_void = tt }, refl) in
-    let nothing : Knows elsewhere [] k.local = record { chunk = tt; shape = shape; resolvers = refl; edits = edits } in All-cons P FlowStart [] nothing (All-nil P)
+    let nothing : Knows elsewhere [] k.local = record { chunk = tt; shape = shape; resolvers = refl; edits = edits } in
+    All-cons P FlowStart (ContentDefinitionBefore ∷ []) nothing (All-cons P ContentDefinitionBefore [] nothing (All-nil P))
 
 -- what is known when a state is fed is known when it is called
 by-feeding : (events : List Event) (local : Local Unit Unit) (choices : List Choice) (name : Name) → knows_flow events local choices (Next name) → knows_flow events local choices (Retry name)
@@ -571,7 +575,7 @@ pub flow-known : IsKnownThroughout flow knows_flow EndsWellFormed
 flow-known = record {
   at_starts = at-starts;
   by_feeding = by-feeding;
-  by_rows = (flow_start-keeps, (flow_blank_line_after-keeps, (flow_after-keeps, (flow_blank_line_before-keeps, (paragraph_look_start-keeps, (blank_line_start-keeps, (flow_before_thematic_break-keeps, (thematic_break_before-keeps, (thematic_break_at_break-keeps, (thematic_break_sequence-keeps, (flow_before_heading_atx-keeps, (heading_atx_look_start-keeps, (heading_atx_look_text-keeps, (heading_atx_look_blank-keeps, (heading_atx_look_signs-keeps, (heading_atx_look_after-keeps, (heading_atx_start-keeps, (heading_atx_sequence_open-keeps, (heading_atx_at_break-keeps, (heading_atx_before-keeps, (heading_atx_data-keeps, (code_indented_start-keeps, (code_indented_at_break-keeps, (code_indented_further_after-keeps, (code_indented_inside-keeps, (code_indented_further_start-keeps, (code_indented_line_after-keeps, (code_indented_after-keeps, (code_indented_further_begin-keeps, (flow_before_raw-keeps, (raw_flow_look_info-keeps, (raw_flow_start-keeps, (raw_flow_sequence_open-keeps, (raw_flow_info_before-keeps, (raw_flow_before_sequence_open-keeps, (raw_flow_info-keeps, (raw_flow_info_after-keeps, (raw_flow_meta_before-keeps, (raw_flow_meta-keeps, (raw_flow_at_non_lazy_break-keeps, (raw_flow_close_start-keeps, (raw_flow_before_sequence_close-keeps, (raw_flow_sequence_close-keeps, (raw_flow_after_sequence_close-keeps, (raw_flow_content_before-keeps, (raw_flow_content_start-keeps, (raw_flow_before_content_chunk-keeps, (raw_flow_content_chunk-keeps, (raw_flow_after-keeps, (raw_flow_close_before-keeps, (raw_flow_close_blank-keeps, (raw_flow_close_sequence-keeps, (raw_flow_close_between-keeps, (flow_before_heading_setext-keeps, (heading_setext_look_after-keeps, (heading_setext_text_after-keeps, (heading_setext_start-keeps, (heading_setext_before-keeps, (heading_setext_inside-keeps, (heading_setext_after-keeps, (html_flow_open-keeps, (html_flow_declaration_open-keeps, (html_flow_comment_open_inside-keeps, (html_flow_cdata_open_inside-keeps, (html_flow_tag_close_start-keeps, (html_flow_tag_name-keeps, (html_flow_basic_self_closing-keeps, (html_flow_complete_closing_tag_after-keeps, (html_flow_complete_end-keeps, (html_flow_complete_attribute_name_before-keeps, (html_flow_complete_attribute_name-keeps, (html_flow_complete_attribute_name_after-keeps, (html_flow_complete_attribute_value_before-keeps, (html_flow_complete_attribute_value_quoted-keeps, (html_flow_complete_attribute_value_quoted_after-keeps, (html_flow_complete_attribute_value_unquoted-keeps, (html_flow_complete_after-keeps, (html_flow_start-keeps, (html_flow_continuation-keeps, (html_flow_continuation_comment_inside-keeps, (html_flow_continuation_cdata_inside-keeps, (html_flow_continuation_declaration_inside-keeps, (html_flow_continuation_raw_tag_open-keeps, (html_flow_continuation_raw_end_tag-keeps, (html_flow_continuation_close-keeps, (html_flow_continuation_before-keeps, (html_flow_blank_line_before-keeps, (html_flow_blank_line_inside-keeps, (html_flow_continuation_after-keeps, (html_flow_continuation_start-keeps, (flow_before_content-keeps, (paragraph_start-keeps, (paragraph_inside-keeps, (paragraph_line_start-keeps, (paragraph_line_after-keeps, tt)))))))))))))))))))))))))))))))))))))))))))))))))))))))))))))))))))))))))))))))))))))))))))))));
+  by_rows = (flow_start-keeps, (content_definition_before-keeps, (flow_blank_line_after-keeps, (flow_after-keeps, (flow_blank_line_before-keeps, (paragraph_look_start-keeps, (blank_line_start-keeps, (flow_before_thematic_break-keeps, (thematic_break_before-keeps, (thematic_break_at_break-keeps, (thematic_break_sequence-keeps, (flow_before_heading_atx-keeps, (heading_atx_look_start-keeps, (heading_atx_look_text-keeps, (heading_atx_look_blank-keeps, (heading_atx_look_signs-keeps, (heading_atx_look_after-keeps, (heading_atx_start-keeps, (heading_atx_sequence_open-keeps, (heading_atx_at_break-keeps, (heading_atx_before-keeps, (heading_atx_data-keeps, (code_indented_start-keeps, (code_indented_at_break-keeps, (code_indented_further_after-keeps, (code_indented_inside-keeps, (code_indented_further_start-keeps, (code_indented_line_after-keeps, (code_indented_after-keeps, (code_indented_further_begin-keeps, (flow_before_raw-keeps, (raw_flow_look_info-keeps, (raw_flow_start-keeps, (raw_flow_sequence_open-keeps, (raw_flow_info_before-keeps, (raw_flow_before_sequence_open-keeps, (raw_flow_info-keeps, (raw_flow_info_after-keeps, (raw_flow_meta_before-keeps, (raw_flow_meta-keeps, (raw_flow_at_non_lazy_break-keeps, (raw_flow_close_start-keeps, (raw_flow_before_sequence_close-keeps, (raw_flow_sequence_close-keeps, (raw_flow_after_sequence_close-keeps, (raw_flow_content_before-keeps, (raw_flow_content_start-keeps, (raw_flow_before_content_chunk-keeps, (raw_flow_content_chunk-keeps, (raw_flow_after-keeps, (raw_flow_close_before-keeps, (raw_flow_close_blank-keeps, (raw_flow_close_sequence-keeps, (raw_flow_close_between-keeps, (flow_before_heading_setext-keeps, (heading_setext_look_after-keeps, (heading_setext_text_after-keeps, (heading_setext_start-keeps, (heading_setext_before-keeps, (heading_setext_inside-keeps, (heading_setext_after-keeps, (html_flow_open-keeps, (html_flow_declaration_open-keeps, (html_flow_comment_open_inside-keeps, (html_flow_cdata_open_inside-keeps, (html_flow_tag_close_start-keeps, (html_flow_tag_name-keeps, (html_flow_basic_self_closing-keeps, (html_flow_complete_closing_tag_after-keeps, (html_flow_complete_end-keeps, (html_flow_complete_attribute_name_before-keeps, (html_flow_complete_attribute_name-keeps, (html_flow_complete_attribute_name_after-keeps, (html_flow_complete_attribute_value_before-keeps, (html_flow_complete_attribute_value_quoted-keeps, (html_flow_complete_attribute_value_quoted_after-keeps, (html_flow_complete_attribute_value_unquoted-keeps, (html_flow_complete_after-keeps, (html_flow_start-keeps, (html_flow_continuation-keeps, (html_flow_continuation_comment_inside-keeps, (html_flow_continuation_cdata_inside-keeps, (html_flow_continuation_declaration_inside-keeps, (html_flow_continuation_raw_tag_open-keeps, (html_flow_continuation_raw_end_tag-keeps, (html_flow_continuation_close-keeps, (html_flow_continuation_before-keeps, (html_flow_blank_line_before-keeps, (html_flow_blank_line_inside-keeps, (html_flow_continuation_after-keeps, (html_flow_continuation_start-keeps, (flow_before_content-keeps, (paragraph_start-keeps, (paragraph_inside-keeps, (paragraph_line_start-keeps, (paragraph_line_after-keeps, tt))))))))))))))))))))))))))))))))))))))))))))))))))))))))))))))))))))))))))))))))))))))))))))))));
   by_ok = by-ok;
   by_nok = by-nok;
   at_end = at-end;

@@ -1,10 +1,10 @@
 -- What a reading of leaf blocks ends in, and what is left where all is resolved.
-use Rattle.mdconstructs_flow_read.proofs.Prelude.{◌≡◌, [], Bool, true, Some, sym, ap, ◌∙◌, subst, Next, FlowStart, edited, one-end, with_resolvers, Configuration, start_configuration, Subresult, Reading, EndsIn, IsResolved, done, edits_made, found, resolved_by, taken, Given, Text, table_step, flow_rules, flow, flow_told, FlowEnds, FlowIsRead, IsToldAs, flow_events}
+use Rattle.mdconstructs_flow_read.proofs.Prelude.{◌≡◌, [], Bool, true, Name, Some, sym, ap, ◌∙◌, subst, Next, edited, one-end, with_resolvers, Configuration, start_configuration, Subresult, Reading, EndsIn, IsResolved, done, edits_made, found, resolved_by, taken, Given, Text, table_step, flow_rules, flow, flow_told, FlowEnds, FlowIsRead, IsToldAs, flow_events}
 use Rattle.mdconstructs_flow_read.proofs.Marks.ToldBlocks.{edits-make-blocks}
 
-module _ (g : Given) (t : Text) (flag : Bool) (r : Reading Unit Unit) (ends : EndsIn g (table_step flow g) t 0 (start_configuration flag) [] (Next FlowStart) r) (told : IsToldAs g t flag (flow_told g.options.constructs g.bytes t.seats)) where
+module _ (g : Given) (t : Text) (flag : Bool) (start : Name) (r : Reading Unit Unit) (ends : EndsIn g (table_step flow g) t 0 (start_configuration flag) [] (Next start) r) (told : IsToldAs g t flag start (flow_told g.options.constructs g.bytes t.seats)) where
   same-reading : told.result ≡ r
-  same-reading = one-end g (table_step flow g) t 0 (start_configuration flag) [] (Next FlowStart) told.result r told.ends ends
+  same-reading = one-end g (table_step flow g) t 0 (start_configuration flag) [] (Next start) told.result r told.ends ends
 
   resolved-so : (final : Configuration Unit Unit) (sub : Subresult) → IsResolved (flow_rules g).resolver g t true told.result.configuration final sub → final.events ≡ flow_events g.options.constructs g.bytes t.seats
   resolved-so final sub resolved =
@@ -15,10 +15,10 @@ module _ (g : Given) (t : Text) (flag : Bool) (r : Reading Unit Unit) (ends : En
       ∙ edits-make-blocks.events g.options.constructs g.bytes t.seats
 
 pub flow-ends : FlowIsRead → FlowEnds
-flow-ends read g t flag room r ends =
-    let told = read g t flag room in
-    let same = same-reading g t flag r ends told in
+flow-ends read g t flag start among room r ends =
+    let told = read g t flag start among room in
+    let same = same-reading g t flag start r ends told in
     record {
       well = ap (λ (q : Reading Unit Unit). q.answer) (sym same) ∙ told.well;
-      events_are = λ final sub resolved. resolved-so g t flag r ends told final sub (subst (λ (q : Reading Unit Unit). IsResolved (flow_rules g).resolver g t true q.configuration final sub) (sym same) resolved);
+      events_are = λ final sub resolved. resolved-so g t flag start r ends told final sub (subst (λ (q : Reading Unit Unit). IsResolved (flow_rules g).resolver g t true q.configuration final sub) (sym same) resolved);
     }

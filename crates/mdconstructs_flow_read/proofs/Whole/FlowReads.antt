@@ -1,12 +1,12 @@
 -- A text is read line by line and block by block, as its leaf blocks are told.
-use Rattle.mdconstructs_flow_read.proofs.Prelude.{◌≡◌, ℕ, zero, suc, ◌+◌, ◌^◌, ◌-◌, ◌<◌, ◌≤◌, ◌&&◌, List, [], ◌∷◌, ◌++◌, Bool, cond, inl, inr, length, map, drop, refl, sym, ap, ◌∙◌, subst, arith, append_assoc, append-nil, length-drop, None, Option, Some, AllByRecursion, Constructs, Next, Retry, Ok, FlowBeforeContent, FlowBlankLineAfter, FlowStart, Seat, Edit, with_local, Configuration, start_configuration, EndsIn, Given, Text, table_step, all_of, ending_of, line_text, lines_in, lines-are-all, flow, AreLines, IsAtLines, Line, LeafBlock, block_of_kind, blocks_in, bytes_of, text_of, LineKind, indented, is_thematic_break, line_kind, underline_rank, unindented, SeenKind, as_seen, seen_kind, underline, block_told, blocks_told, FlowIsRead, leaf_marks, white, Finds, ToldMark, as_it_is}
+use Rattle.mdconstructs_flow_read.proofs.Prelude.{◌≡◌, ℕ, zero, suc, ◌+◌, ◌^◌, ◌-◌, ◌<◌, ◌≤◌, ◌&&◌, List, [], ◌∷◌, ◌++◌, Bool, cond, inl, inr, length, map, drop, refl, sym, ap, ◌∙◌, subst, arith, append_assoc, append-nil, length-drop, None, Option, Some, All-cons, All-contains, All-nil, AllByRecursion, Constructs, Next, Name, Retry, Ok, ContentDefinitionBefore, FlowBeforeContent, FlowBlankLineAfter, FlowStart, Seat, Edit, with_local, Configuration, start_configuration, EndsIn, Reading, Given, Text, table_step, all_of, ending_of, line_text, lines_in, lines-are-all, flow, AreLines, IsAtLines, Line, LeafBlock, block_of_kind, blocks_in, bytes_of, text_of, LineKind, indented, is_thematic_break, line_kind, underline_rank, unindented, SeenKind, as_seen, seen_kind, underline, block_told, blocks_told, flow_told, FlowIsRead, IsToldAs, leaf_marks, white, Finds, ToldMark, as_it_is}
 use Rattle.markdown_base.specs.declared.event.Name.TheVariants as name
 use Rattle.mdconstructs_flow_read.specs.LineKinds.{blank, heading, fence, html, thematic_break, text}
 use Rattle.mdconstructs_flow_read.proofs.Lines.TestedKinds.{underline-kind}
 use Rattle.mdconstructs_flow_read.proofs.Marks.Cuts.{cut}
 use Rattle.mdconstructs_flow_read.proofs.Whole.LineBlocks.{AllAreRead, BlockTold, blank-line-told, break-told, content-told, fenced-told, heading-told, html-told, indented-told, underline-told}
 use Rattle.mdconstructs_flow_read.proofs.Whole.LineBreaks.{blank-told}
-use Rattle.mdconstructs_flow_read.proofs.Whole.LineStarts.{IsSeen, at_byte, ends-told, line-seen, still-at-lines, told-fed}
+use Rattle.mdconstructs_flow_read.proofs.Whole.LineStarts.{IsSeen, at_byte, content-leads, ends-told, line-seen, still-at-lines, told-fed}
 use Rattle.mdconstructs_flow_read.proofs.Lines.Lines.{cut-line, lines-dropped, lines-in-are}
 use Rattle.mdconstructs_flow_read.proofs.Whole.Told.{IsTold, ToldTo, then-told, told-on}
 use Rattle.mdconstructs_flow_read.proofs.Marks.MarkLists.{edits-within, told-length}
@@ -137,19 +137,32 @@ module _ (all : AllAreRead) (g : Given) (t : Text) (flag : Bool) (room : length 
             (step.after, subst (λ ms. ToldTo g t start (Next FlowStart) ms step.after Ok) (sym (ap (λ bs. (told ++ block) ++ bs) nothing ∙ append-nil (told ++ block))) (subst (ToldTo g t start (Next FlowStart) (told ++ block) step.after) well both))
       ])
 
--- So is any text
+  -- from the start of documents
+  told-from-line : (after : Configuration Unit Unit) (told : List ToldMark) → ToldTo g t start (Next FlowStart) told after Ok → IsToldAs g t flag FlowStart told
+  told-from-line after told h =
+      let r : Reading Unit Unit = record { configuration = after; answer = Ok; calls = 0 + h.calls + 0 } in
+      record { result = r; ends = h.leads [] 0 r (record { bound = zero; is = refl }); well = refl; events_are = h.events_are; edits = h.edits; resolvers = h.resolvers }
+
+  -- and from that of chains of content, with one call more
+  told-from-content : (after : Configuration Unit Unit) (told : List ToldMark) → ToldTo g t start (Next FlowStart) told after Ok → IsToldAs g t flag ContentDefinitionBefore told
+  told-from-content after told h =
+      let r : Reading Unit Unit = record { configuration = after; answer = Ok; calls = 1 + h.calls + 0 } in
+      record { result = r; ends = content-leads g t start r (h.leads [] 1 r (record { bound = zero; is = refl })); well = refl; events_are = h.events_are; edits = h.edits; resolvers = h.resolvers }
+
+  -- the whole text is told
+  whole-told : ToldToEnd (flow_told on g.bytes t.seats)
+  whole-told =
+      let lines = lines_in t.seats in
+      let nothing : ToldTo g t start (Next FlowStart) [] start (Next FlowStart) =
+      record { calls = 0; events_are = refl; edits = refl; resolvers = refl; leads = λ cs calls z h. let none : calls + 0 ≡ calls = omega arith in subst (λ n. EndsIn g (table_step flow g) t n start cs (Next FlowStart) z) none h } in
+      reads-on (length lines) lines (omega arith) (lines-in-are t.seats) start (sym (lines-are-all t.seats)) [] nothing
+
+-- So is any text, from each start
 pub flow-is-read : AllAreRead → FlowIsRead
-flow-is-read all g t flag room =
-    let lines = lines_in t.seats in
-    let start = start_configuration {R = Unit {0}} {D = Unit {0}} flag in
-    let nothing : ToldTo g t start (Next FlowStart) [] start (Next FlowStart) =
-    record { calls = 0; events_are = refl; edits = refl; resolvers = refl; leads = λ cs calls z h. let none : calls + 0 ≡ calls = omega arith in subst (λ n. EndsIn g (table_step flow g) t n start cs (Next FlowStart) z) none h } in
-    let (after, told) = reads-on all g t flag room (length lines) lines (omega arith) (lines-in-are t.seats) start (sym (lines-are-all t.seats)) [] nothing in
-    record {
-      result = record { configuration = after; answer = Ok; calls = 0 + told.calls + 0 };
-      ends = told.leads [] 0 (record { configuration = after; answer = Ok; calls = 0 + told.calls + 0 }) (record { bound = zero; is = refl });
-      well = refl;
-      events_are = told.events_are;
-      edits = told.edits;
-      resolvers = told.resolvers;
-    }
+flow-is-read all g t flag start among room =
+    let told = flow_told g.options.constructs g.bytes t.seats in
+    let (after, h) = whole-told all g t flag room in
+    let P = λ (start : Name). IsToldAs g t flag start told in
+    All-contains P flow.starts start
+    (All-cons P FlowStart (ContentDefinitionBefore ∷ []) (told-from-line all g t flag room after told h) (All-cons P ContentDefinitionBefore [] (told-from-content all g t flag room after told h) (All-nil P)))
+    among

@@ -1,6 +1,6 @@
 -- At the beginning of a line: the text ends there, or a blank line is read, or a look says what the line is.
-use Rattle.mdconstructs_flow_read.proofs.Prelude.{◌≡◌, ◌+◌, ◌-◌, ◌^◌, ◌<◌, List, [], ◌∷◌, ◌++◌, true, cond, Option, Some, inl, inr, length, drop, refl, sym, ap, ◌∙◌, subst, arith, append_assoc, length-append, length-drop, BlankLineEnding, Name, State, Next, Retry, Ok, Nok, FlowBeforeContent, FlowBlankLineAfter, FlowBlankLineBefore, FlowStart, Seat, Check, Byte, End, with_local, Configuration, Local, EndsIn, fed, byte_of, seat_before, Given, Text, fed-ends, Leads, feeds, waits_at, enter, exit, consume, choose, write, row, table_step, all_of, ending_of, line_text, flow_start, flow_start_rows, FlowByte, flow_byte, flow, unchanged, indent_becomes, AreLines, IsAtLines, KeepsEdits, Line, bytes_of, text_of, unindented, seen_kind, Finds, IsInLine, LineEnds, LinesAreSeen}
-use Rattle.mdconstructs_flow_read.proofs.Lines.Checks.{checks-nok, checks-ok, leads-on, looks}
+use Rattle.mdconstructs_flow_read.proofs.Prelude.{◌≡◌, ◌+◌, ◌-◌, ◌^◌, ◌<◌, List, [], ◌∷◌, ◌++◌, true, cond, Option, None, Some, inl, inr, length, drop, refl, sym, ap, ◌∙◌, subst, arith, append_assoc, length-append, length-drop, BlankLineEnding, Name, State, Next, Retry, Ok, Nok, FlowBeforeContent, FlowBlankLineAfter, FlowBlankLineBefore, ContentDefinitionBefore, FlowStart, Seat, Check, Byte, End, with_local, Configuration, Local, EndsIn, Reading, fed, sight, class_of, goes-called, byte_of, seat_before, Given, Text, fed-ends, Leads, feeds, waits_at, enter, exit, consume, choose, write, row, table_step, all_of, ending_of, line_text, content_definition_before, flow_start, flow_start_rows, FlowByte, flow_byte, flow, unchanged, indent_becomes, AreLines, IsAtLines, KeepsEdits, Line, bytes_of, text_of, unindented, seen_kind, Finds, IsInLine, LineEnds, LinesAreSeen}
+use Rattle.mdconstructs_flow_read.proofs.Lines.Checks.{called-row, checks-nok, checks-ok, leads-on, looks}
 use Rattle.mdconstructs_flow_read.proofs.Whole.LineBreaks.{start-ends}
 use Rattle.mdconstructs_flow_read.proofs.Lines.Lines.{cut-line, text-in-line}
 use Rattle.mdconstructs_flow_read.proofs.Whole.Told.{ToldTo, told-none, told-on}
@@ -28,6 +28,19 @@ module _ (g : Given) (t : Text) (k : Configuration Unit Unit) where
   pub told-fed-end : (name : Name) → drop k.position t.seats ≡ [] → ToldTo g t k (Next name) [] (at_end k) (Retry name)
   told-fed-end name at =
       told-none g t k (at_end k) (Next name) (Retry name) 0 refl (record { edits = refl; resolvers = refl }) (leads-fed name (at_end k) (feeds k.stack k.events t [] k.position k.ended k.local at))
+
+  -- a chain of content begins as a document does, one call later
+  same-row : (current previous : Option FlowByte) → (content_definition_before {R = Unit {0}} {D = Unit {0}}).rows previous current ≡ row [] (Retry FlowStart)
+  same-row None previous = refl
+  same-row (Some w) previous = refl
+
+  pub content-leads : (r : Reading Unit Unit) → EndsIn g (table_step flow g) t 1 k [] (Next FlowStart) r → EndsIn g (table_step flow g) t 0 k [] (Next ContentDefinitionBefore) r
+  content-leads r h =
+      let k1 = fed t k in
+      let seen = class_of flow_byte (sight g t k1).current in
+      let step = called-row g t k1 ContentDefinitionBefore content_definition_before refl seen refl (row [] (Retry FlowStart)) (same-row seen) in
+      let called = (goes-called g (table_step flow g) t k1 ContentDefinitionBefore k1 (Retry FlowStart) step).leads [] 0 r in
+      (fed-ends g (table_step flow g) t 0 k [] ContentDefinitionBefore r).0 (called ((fed-ends g (table_step flow g) t 1 k [] FlowStart r).1 h))
 
   -- the text ends before a line
   pub ends-told : drop k.position t.seats ≡ [] → ToldTo g t k (Next FlowStart) [] (with_local (at_end k) (unchanged k.local)) Ok

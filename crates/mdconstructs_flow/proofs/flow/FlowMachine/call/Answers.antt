@@ -6,7 +6,7 @@ use Rattle.mdconstructs_machines.specs.Laws.Paragraphs.{can-follow}
 use Rattle.mdconstructs_flow.specs.BlankLine.{blank_line_start}
 use Rattle.mdconstructs_flow.specs.CodeFenced.{flow_before_raw, raw_flow_look_info, raw_flow_start, raw_flow_sequence_open, raw_flow_info_before, raw_flow_before_sequence_open, raw_flow_info, raw_flow_info_after, raw_flow_meta_before, raw_flow_meta, raw_flow_at_non_lazy_break, raw_flow_close_start, raw_flow_before_sequence_close, raw_flow_sequence_close, raw_flow_after_sequence_close, raw_flow_content_before, raw_flow_content_start, raw_flow_before_content_chunk, raw_flow_content_chunk, raw_flow_after, raw_flow_close_before, raw_flow_close_blank, raw_flow_close_sequence, raw_flow_close_between}
 use Rattle.mdconstructs_flow.specs.CodeIndented.{code_indented_start, code_indented_at_break, code_indented_further_after, code_indented_inside, code_indented_line_after, code_indented_after, code_indented_further_begin, code_indented_further_start}
-use Rattle.mdconstructs_flow.specs.Flow.{flow_start, flow_blank_line_after, flow_after}
+use Rattle.mdconstructs_flow.specs.Flow.{flow_start, content_definition_before, flow_blank_line_after, flow_after}
 use Rattle.mdconstructs_flow.specs.HeadingAtx.{flow_before_heading_atx, heading_atx_look_start, heading_atx_look_text, heading_atx_look_blank, heading_atx_look_signs, heading_atx_look_after, heading_atx_start, heading_atx_sequence_open, heading_atx_at_break, heading_atx_before, heading_atx_data}
 use Rattle.mdconstructs_flow.specs.HeadingEdits.{CanEndHeading}
 use Rattle.mdconstructs_flow.specs.HeadingSetext.{flow_before_heading_setext, heading_setext_look_after, heading_setext_text_after, heading_setext_start, heading_setext_before, heading_setext_inside, heading_setext_after}
@@ -21,6 +21,9 @@ use Rattle.mdconstructs_flow.proofs.flow.FlowMachine.call.Goals as goal
 
 pub flow_start-requires : goal.flow_start-requires
 flow_start-requires c = callable flow unchanged c.args.name flow_start _ _ (search rules) refl c.requires.invariant.holds c.begin.ensures
+
+pub content_definition_before-requires : goal.content_definition_before-requires
+content_definition_before-requires c = callable flow unchanged c.args.name content_definition_before _ _ (search rules) refl c.requires.invariant.holds c.begin.ensures
 
 pub flow_blank_line_after-requires : goal.flow_blank_line_after-requires
 flow_blank_line_after-requires c = callable flow unchanged c.args.name flow_blank_line_after _ _ (search rules) refl c.requires.invariant.holds c.begin.ensures
