@@ -7,7 +7,7 @@ pub use Rattle.std.proofs.lemmas.Bool.{and_from, and_parts, eq-eqb, eqb-true, le
 pub use Rattle.std.proofs.lemmas.Bool.Decides.{nat_tests}
 pub use Rattle.std.proofs.lemmas.Grind.{flat_map-append, reverse_onto}
 pub use Rattle.std.proofs.lemmas.List.{drop-drop, drop-map, drop_all, length-drop, length-map, length-reverse, length-take-le, map-append, reverse-append, reverse-reverse, take-append-drop}
-pub use Rattle.std.proofs.lemmas.List.Elements.{All-cons, All-contains, All-from_recursion, All-nil}
+pub use Rattle.std.proofs.lemmas.List.Elements.{All-cons, All-contains, All-contains_itself, All-from_recursion, All-nil, recursion_from_All}
 pub use Rattle.std.proofs.lemmas.List.Folds.{length-prefix_len, list_all-append}
 pub use Rattle.std.proofs.lemmas.List.Kept.{AllPairs-cons}
 pub use Rattle.std.proofs.lemmas.List.Sums.{prefix_len-le-length}
@@ -19,7 +19,7 @@ pub use Rattle.std.specs.Str.{str_to_ascii_lowercase}
 pub use Rattle.markdown_base.proofs.Common.{drop-next, every-append, every-map}
 pub use Rattle.markdown_base.proofs.Seats.{end-after-append, end-after-one, stands-self}
 pub use Rattle.markdown_base.specs.Events.{IsVoidTight, is_enter, is_void, relinked, same_name, with_ends}
-pub use Rattle.markdown_base.specs.Places.{IsPointOf, IsShown, shown, stands_before}
+pub use Rattle.markdown_base.specs.Places.{IsPointOf, IsShown, denotes_same, is_upto, shown, stands_before}
 pub use Rattle.markdown_base.specs.Texts.{html_block_names, html_raw_names}
 pub use Rattle.markdown_base.specs.Virtual.{Seat, begins_with_lf, end_after, in_tab, point, tab_width, virtual, virtual_from}
 pub use Rattle.markdown_base.specs.declared.configuration.Constructs.{Constructs}
@@ -47,6 +47,7 @@ pub use Rattle.markdown_edits.specs.OpenNames.{names_after, names_after_all}
 pub use Rattle.markdown_edits.specs.Woven.{Tagged, as_listed, of_list, place_in, placed_end, woven}
 pub use Rattle.markdown_tokenizer.proofs.Inside.Made.{upto-upto}
 pub use Rattle.markdown_tokenizer.proofs.Positions.Chains.{IsChain, whole-chain}
+pub use Rattle.markdown_tokenizer.proofs.Positions.Order.{every-back, every-front}
 pub use Rattle.markdown_tokenizer.proofs.Positions.SeatLaws.{after-is-point}
 pub use Rattle.markdown_tokenizer.proofs.Positions.Standing.{chain-at, chain-upto}
 pub use Rattle.markdown_tokenizer.proofs.Readings.Bounds.{called-ends, fed-ends, one-end, settled-nok-ends, settled-ok-ends}
@@ -56,7 +57,7 @@ pub use Rattle.markdown_tokenizer.specs.Engine.{IsWellFormed}
 pub use Rattle.markdown_tokenizer.specs.Reading.{EndsIn, Reading, fed, restored}
 pub use Rattle.markdown_tokenizer.specs.Resolving.{IsResolved, done, edits_made, found, resolved_by, taken}
 pub use Rattle.markdown_tokenizer.specs.Sight.{Sight, byte_of, current_of, end_or, end_place, next_place, point_of, point_or, seat_before, sight, sight_in}
-pub use Rattle.markdown_tokenizer.specs.Text.{Given, IsDocument, Text}
+pub use Rattle.markdown_tokenizer.specs.Text.{CanFollow, FitsAfter, Given, IsDocument, IsText, Piece, Text, empty_text, followed_by, followed_by_all, passed, pushed}
 pub use Rattle.markdown_tokenizer.specs.declared.subtokenize.Subresult.{Subresult}
 pub use Rattle.markdown_tokenizer.specs.declared.waiting.AttemptKind.TheVariants.{Check}
 pub use Rattle.markdown_tokenizer.specs.declared.waiting.Waits.{Waits}
@@ -88,7 +89,7 @@ pub use Rattle.mdconstructs_flow_read.specs.BlockLines.{LinesAreInBlocks, block_
 pub use Rattle.mdconstructs_flow_read.specs.BlocksFormed.{BlocksAreFormed}
 pub use Rattle.mdconstructs_flow_read.specs.BlocksRead.{AddsEdits, AreLines, BlankLinesAreRead, BreaksAreRead, FencedCodeIsRead, HeadingsAreRead, HtmlIsRead, IndentedCodeIsRead, IsAtLines, IsBlockRead, IsFound, IsLine, IsReadAs, KeepsEdits, ParagraphsAreRead, SetextHeadingsAreRead, behind_block, block_seats, heading_told, is_underlined, last_ending, paragraph_told, underline_told, waits_then}
 pub use Rattle.mdconstructs_flow_read.specs.BlocksTold.{EditsMakeBlocks, block_told, blocks_told, flow_told}
-pub use Rattle.mdconstructs_flow_read.specs.ChunksJoin.{BlocksJoin, ChunksJoin, IsDirectlyBehind}
+pub use Rattle.mdconstructs_flow_read.specs.ChunksJoin.{AcrossGap, AtOnce, BlocksJoin, BlocksMeet, ChunksMeet, IsDirectlyBehind}
 pub use Rattle.mdconstructs_flow_read.specs.FlowAccounts.{FlowAccounts}
 pub use Rattle.mdconstructs_flow_read.specs.FlowEnds.{FlowEnds}
 pub use Rattle.mdconstructs_flow_read.specs.FlowRead.{FlowIsRead, IsToldAs}

@@ -4,7 +4,7 @@ ghost use Rattle.mdconstructs_flow_read.specs.BlockLines.{LinesAreInBlocks};
 ghost use Rattle.mdconstructs_flow_read.specs.BlocksFormed.{BlocksAreFormed};
 ghost use Rattle.mdconstructs_flow_read.specs.BlocksRead.{AreLines, BlankLinesAreRead, BreaksAreRead, FencedCodeIsRead, HeadingsAreRead, HtmlIsRead, IndentedCodeIsRead, ParagraphsAreRead, SetextHeadingsAreRead};
 ghost use Rattle.mdconstructs_flow_read.specs.BlocksTold.{EditsMakeBlocks};
-ghost use Rattle.mdconstructs_flow_read.specs.ChunksJoin.{BlocksJoin};
+ghost use Rattle.mdconstructs_flow_read.specs.ChunksJoin.{BlocksJoin, BlocksMeet};
 ghost use Rattle.mdconstructs_flow_read.specs.FlowAccounts.{FlowAccounts};
 ghost use Rattle.mdconstructs_flow_read.specs.FlowEnds.{FlowEnds};
 ghost use Rattle.mdconstructs_flow_read.specs.FlowRead.{FlowIsRead};
@@ -99,12 +99,14 @@ pub fn leaf_blocks_account_for_each_byte()
     ensures { FlowAccounts }
 {}
 
-/// The events of a document's leaf blocks are well formed, and so they are before the edits of setext headings.
+/// The events of a text's leaf blocks are well formed, whatever gaps it has, and so they are before the edits of setext headings.
 pub fn leaf_blocks_are_well_formed()
     ensures { BlocksAreFormed }
 {}
 
-/// In the events of a document's leaf blocks the chunk of each line of text stands directly before that of the next line.
+/// In the events of leaf blocks the chunk of each line of text stands directly before that of the next line. In a document it ends where that
+/// one begins; in a text there may be a gap between the two.
 pub fn chunks_of_leaf_blocks_join()
-    ensures { BlocksJoin }
+    ensures documents { BlocksJoin }
+    ensures texts { BlocksMeet }
 {}

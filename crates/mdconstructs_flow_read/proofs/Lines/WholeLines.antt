@@ -30,6 +30,32 @@ whole-behind (suc n) [] h = tt
 whole-behind (suc n) (s ∷ ss) (inl h) = whole-behind n ss h.1
 whole-behind (suc n) (s ∷ ss) (inr h) = whole-behind n ss (subst IsWhole (sym h.1) tt)
 
+none-taken : (n : ℕ) → take {A = Seat} n [] ≡ []
+none-taken zero = refl
+none-taken (suc n) = refl
+
+pub whole-front : (n : ℕ) (line : Line) → IsWhole line → IsWhole (take n line)
+whole-front zero line h = tt
+whole-front (suc n) [] h = tt
+whole-front (suc n) (s ∷ ss) (inl h) = inl (h.0, whole-front n ss h.1)
+whole-front (suc n) (s ∷ ss) (inr h) = inr (h.0, ap (take n) h.1 ∙ none-taken n)
+
+pub whole-part : (n from : ℕ) (line : Line) → IsWhole line → IsWhole (take n (drop from line))
+whole-part n from line h = whole-front n (drop from line) (whole-behind from line h)
+
+-- the text of a line is one, and its line ending
+pub whole-text : (line : Line) → IsWhole (line_text line)
+whole-text [] = tt
+whole-text (s ∷ ss) = elim (is_line_ending s) as (λ b. is_line_ending s ≡ b → IsWhole (cond (not b) (s ∷ line_text ss) (line_text ss))) [
+  | true ↦ λ e. whole-text ss
+  | false ↦ λ e. inl (e, whole-text ss)
+] refl
+
+pub whole-ending : (line : Line) → IsWhole line → IsWhole (ending_of line)
+whole-ending [] h = tt
+whole-ending (s ∷ ss) (inl h) = subst IsWhole (sym (ap (λ b. cond b (s ∷ ending_of ss) (ending_of ss)) h.0)) (whole-ending ss h.1)
+whole-ending (s ∷ ss) (inr h) = subst IsWhole (sym (ap (λ b. cond b (s ∷ ending_of ss) (ending_of ss)) h.0 ∙ ap (λ l. s ∷ ending_of l) h.1)) (inr (h.0, refl))
+
 -- what a line begins with is no part of its line ending
 pub text-behind : (n : ℕ) (line : Line) → IsWhole line → n ≤ length (line_text line) → take n line ++ line_text (drop n line) ≡ line_text line
 text-behind zero line h l = refl

@@ -8,22 +8,26 @@ use Rattle.mdconstructs_flow_read.proofs.Marks.MarkAccounts.{AreSpans, accounts-
 use Rattle.mdconstructs_flow_read.proofs.Lines.Lines.{all-of-split, body-and-text}
 use Rattle.mdconstructs_flow_read.proofs.Marks.MarkLists.{kept-before}
 use Rattle.mdconstructs_flow_read.proofs.Marks.MarkSpans.{IsKeptBySpans, no-spans, over, spans-around, spans-block, spans-both, spans-break, spans-code, spans-code-fenced-around, spans-data, spans-heading-around, spans-html, spans-last, spans-leaf, spans-lines, spans-text, spans-underline}
-use Rattle.mdconstructs_flow_read.proofs.Lines.WholeLines.{IsWhole, body-and-last, text-and-ending, whole-lines}
+use Rattle.mdconstructs_flow_read.proofs.Lines.WholeLines.{IsWhole, body-and-last, text-and-ending, whole-ending, whole-lines, whole-text}
 
 last-is : (lines : List Line) (below : Line) → last_ending (lines ++ below ∷ []) ≡ ending_of below
 last-is [] below = refl
 last-is (line ∷ []) below = refl
 last-is (line ∷ next ∷ lines) below = last-is (next ∷ lines) below
 
-whole-front : (xs ys : List Line) → AllByRecursion IsWhole (xs ++ ys) → AllByRecursion IsWhole xs
-whole-front [] ys h = tt
-whole-front (x ∷ xs) ys h = (h.0, whole-front xs ys h.1)
+lines-front : (xs ys : List Line) → AllByRecursion IsWhole (xs ++ ys) → AllByRecursion IsWhole xs
+lines-front [] ys h = tt
+lines-front (x ∷ xs) ys h = (h.0, lines-front xs ys h.1)
+
+lines-back : (xs ys : List Line) → AllByRecursion IsWhole (xs ++ ys) → AllByRecursion IsWhole ys
+lines-back [] ys h = h
+lines-back (x ∷ xs) ys h = lines-back xs ys h.1
 
 -- a setext heading is its text, the line ending behind that, and its underline
 pub setext-body : (lines : List Line) (below : Line) → AllByRecursion IsWhole (lines ++ below ∷ []) → body lines ++ (last_ending lines ++ line_text below) ≡ body (lines ++ below ∷ [])
 setext-body lines below whole =
     let t = line_text below in
-    sym (append_assoc (body lines) (last_ending lines) t) ∙ ap (λ l. l ++ t) (body-and-last lines (whole-front lines (below ∷ []) whole)) ∙ sym (body-and-text lines below)
+    sym (append_assoc (body lines) (last_ending lines) t) ∙ ap (λ l. l ++ t) (body-and-last lines (lines-front lines (below ∷ []) whole)) ∙ sym (body-and-text lines below)
 
 whole-taken : (n : ℕ) (lines : List Line) → AllByRecursion IsWhole lines → AllByRecursion IsWhole (take n lines)
 whole-taken zero lines h = tt
@@ -46,18 +50,18 @@ module _ (bytes : List ℕ) (P : List Mark → List Seat → Type 0) (kept : IsK
       let t = line_text below in
       let is = setext-body lines below whole in
       spans-block bytes P kept name.HeadingSetext false (lines ++ below ∷ []) _ refl whole
-      (over bytes P kept (body (lines ++ below ∷ [])) is (spans-both bytes P kept (spans-around bytes P kept name.HeadingSetextText (body lines) _ refl h) (spans-both bytes P kept (spans-last bytes P kept lines) (spans-underline bytes P kept t))))
+      (over bytes P kept (body (lines ++ below ∷ [])) is (spans-both bytes P kept (spans-around bytes P kept name.HeadingSetextText (body lines) _ refl h) (spans-both bytes P kept (spans-last bytes P kept lines (lines-front lines (below ∷ []) whole)) (spans-underline bytes P kept t (whole-text below)))))
 
   -- a block, by what its texts and strings are read as
-  pub spans-of-around : (read : List Seat → List Mark) → ((seats : List Seat) → P (read seats) seats)
-      → (lines_of_text : List Line → List Mark) → ((lines : List Line) → AllByRecursion StartsText lines → P (lines_of_text lines) (body lines))
-      → (string : List Seat → List Mark) → ((seats : List Seat) → P (string seats) seats)
+  pub spans-of-around : (read : List Seat → List Mark) → ((seats : List Seat) → IsWhole seats → P (read seats) seats)
+      → (lines_of_text : List Line → List Mark) → ((lines : List Line) → AllByRecursion StartsText lines → AllByRecursion IsWhole lines → P (lines_of_text lines) (body lines))
+      → (string : List Seat → List Mark) → ((seats : List Seat) → IsWhole seats → P (string seats) seats)
       → (block : LeafBlock) → IsFull block → AllByRecursion IsWhole (block_lines block) → IsLong block → P (block_around bytes read lines_of_text string block) (all_of (block_lines block))
-  spans-of-around read texts ls lines_read string strings (blank_line line) full whole long = over bytes P kept (line ++ []) (text-and-ending line whole.0 ∙ sym (append-nil line)) (spans-both bytes P kept (spans-leaf bytes P kept name.SpaceOrTab (line_text line)) (spans-leaf bytes P kept name.BlankLineEnding (ending_of line)))
-  spans-of-around read texts ls lines_read string strings (break_line line) full whole long = spans-block bytes P kept name.ThematicBreak false (line ∷ []) _ refl whole (spans-break bytes P kept (length line) (line_text line) (text-shorter line whole.0))
-  spans-of-around read texts ls lines_read string strings (atx_heading line) full whole long = spans-block bytes P kept name.HeadingAtx false (line ∷ []) _ refl whole (spans-heading-around bytes P kept read texts (line_text line))
-  spans-of-around read texts ls lines_read string strings (paragraph lines) full whole long = spans-block bytes P kept name.Paragraph false lines _ refl whole (lines_read lines full)
-  spans-of-around read texts ls lines_read string strings (setext_heading rank lines below) full whole long = spans-setext-around lines below (ls lines) (lines_read lines full.0) whole
+  spans-of-around read texts ls lines_read string strings (blank_line line) full whole long = over bytes P kept (line ++ []) (text-and-ending line whole.0 ∙ sym (append-nil line)) (spans-both bytes P kept (spans-leaf bytes P kept name.SpaceOrTab (line_text line) (whole-text line)) (spans-leaf bytes P kept name.BlankLineEnding (ending_of line) (whole-ending line whole.0)))
+  spans-of-around read texts ls lines_read string strings (break_line line) full whole long = spans-block bytes P kept name.ThematicBreak false (line ∷ []) _ refl whole (spans-break bytes P kept (length line) (line_text line) (text-shorter line whole.0) (whole-text line))
+  spans-of-around read texts ls lines_read string strings (atx_heading line) full whole long = spans-block bytes P kept name.HeadingAtx false (line ∷ []) _ refl whole (spans-heading-around bytes P kept read texts (line_text line) (whole-text line))
+  spans-of-around read texts ls lines_read string strings (paragraph lines) full whole long = spans-block bytes P kept name.Paragraph false lines _ refl whole (lines_read lines full whole)
+  spans-of-around read texts ls lines_read string strings (setext_heading rank lines below) full whole long = spans-setext-around lines below (ls lines) (lines_read lines full.0 (lines-front lines (below ∷ []) whole)) whole
   spans-of-around read texts ls lines_read string strings (indented_code lines) full whole long = spans-block bytes P kept name.CodeIndented false lines _ refl whole (spans-lines bytes P kept (code_marks bytes 4) (spans-code bytes P kept 4) false lines whole)
   spans-of-around read texts ls lines_read string strings (fenced_code f is_closed lines) full whole long = spans-block bytes P kept name.CodeFenced (not is_closed) lines _ refl whole (spans-code-fenced-around bytes P kept string strings f is_closed lines long whole)
   spans-of-around read texts ls lines_read string strings (html_block kind is_closed lines) full whole long = spans-block bytes P kept name.HtmlFlow (not is_closed) lines _ refl whole (spans-html bytes P kept (not is_closed) lines whole)
@@ -124,8 +128,8 @@ module _ (bytes : List ℕ) (P : List Mark → List Seat → Type 0) (kept : IsK
       subst (λ ms. P ms (all_of all)) (sym (before-heading rank lines below))
       (over bytes P kept (all_of all) is
       (spans-both bytes P kept
-      (spans-both bytes P kept (spans-around bytes P kept name.Paragraph (body lines) _ refl (spans-text bytes P kept lines full)) (spans-both bytes P kept (spans-last bytes P kept lines) (spans-underline bytes P kept t)))
-      (spans-last bytes P kept (below ∷ []))))
+      (spans-both bytes P kept (spans-around bytes P kept name.Paragraph (body lines) _ refl (spans-text bytes P kept lines full (lines-front lines (below ∷ []) whole))) (spans-both bytes P kept (spans-last bytes P kept lines (lines-front lines (below ∷ []) whole)) (spans-underline bytes P kept t (whole-text below))))
+      (spans-last bytes P kept (below ∷ []) (lines-back lines (below ∷ []) whole))))
 
   as-kept : (block : LeafBlock) → IsFull block → AllByRecursion IsWhole (block_lines block) → IsLong block → P (before_edits (map as_it_is (leaf_block_marks bytes block))) (all_of (block_lines block))
   as-kept block full whole long = subst (λ ms. P ms (all_of (block_lines block))) (sym (kept-before (leaf_block_marks bytes block))) (spans-of bytes P kept block full whole long)

@@ -98,8 +98,8 @@ module _ (bytes : List ℕ) where
   accounts-kept = record {
     none = no-spans;
     both = λ h k. spans-both h k;
-    leaf = λ n s ss. alone-all None n s ss;
-    datum = λ c s ss. alone-all (alone c) name.Data s ss;
-    text = λ lines h. text-by-chunks bytes (λ marks seats. AreSpans marks seats) no-spans (λ xs ys a b h k. spans-both h k) alone-all false lines;
+    leaf = λ n s ss w. alone-all None n s ss;
+    datum = λ c s ss w. alone-all (alone c) name.Data s ss;
+    text = λ lines h w. text-by-chunks bytes (λ marks seats. AreSpans marks seats) no-spans (λ xs ys a b h k. spans-both h k) (λ chunk n s ss w. alone-all chunk n s ss) false lines w;
     around = λ n s ss inside void h. around-all n s ss inside h;
   }
