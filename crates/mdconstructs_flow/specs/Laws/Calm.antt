@@ -16,7 +16,7 @@ use Rattle.markdown_tokenizer.specs.Sight.{Sight}
 use Rattle.mdconstructs_tables.specs.Cases.{Case, rows_in}
 use Rattle.mdconstructs_tables.specs.Knowledge.{EachRow, KnownAfter}
 use Rattle.mdconstructs_tables.specs.LinkShapes.{AreInShape}
-use Rattle.mdconstructs_tables.specs.Rows.{Act, enters, exit, consume, links, writes, choose, Rows, row, when, Row, done, does, chooses, step_of, past, shown_sight}
+use Rattle.mdconstructs_tables.specs.Rows.{Act, enters, exit, consume, links, writes, choose, note, exit_noted, enter_noted, Rows, row, when, Row, done, does, chooses, step_of, past, shown_sight}
 use Rattle.mdconstructs_tables.specs.RowTest.{all_rows}
 use Rattle.mdconstructs_tables.proofs.LinkShapes.{more-shape}
 use Rattle.mdconstructs_flow.specs.FlowBytes.{FlowByte, name_byte, Cased, cased, by_byte, spelled}
@@ -64,6 +64,9 @@ are_calm [] = true
 are_calm (enters name link ∷ acts) = is_fresh_link link && are_calm acts
 are_calm (links previous next ∷ acts) = false
 are_calm (choose kind ok nok ∷ acts) = false
+are_calm (note ∷ acts) = false
+are_calm (exit_noted name ∷ acts) = false
+are_calm (enter_noted name ∷ acts) = false
 are_calm (_ ∷ acts) = are_calm acts
 
 abbrev pub are_silent : List (Act Unit Unit) → Bool
@@ -166,6 +169,9 @@ calm (writes f ∷ acts) P is h s k shape edits =
     let (on, spans, kept, same) = calm acts P is h.1 s (with_local k local) shape (subst (RenameSpans k.events) (sym written.map) edits) in
     (on, spans, stays-on k.local local _ written kept, same)
 calm (choose kind ok nok ∷ acts) P is h s k shape edits = absurd (cc)
+calm (note ∷ acts) P is h s k shape edits = absurd (cc)
+calm (exit_noted name ∷ acts) P is h s k shape edits = absurd (cc)
+calm (enter_noted name ∷ acts) P is h s k shape edits = absurd (cc)
 
 -- What silent acts come to
 silent : (acts : List (Act Unit Unit)) (P : Type 0) → are_silent acts ≡ true → HarmlessActs acts P → (s : Sight) (k : Configuration Unit Unit)
@@ -179,6 +185,9 @@ silent (writes f ∷ acts) P is h s k =
     let (same, kept, none) = silent acts P is h.1 s (with_local k (f (shown_sight s) k)) in
     (same, stays-on k.local (f (shown_sight s) k) _ (by-write f h.0 (shown_sight s) k) kept, none)
 silent (choose kind ok nok ∷ acts) P is h s k = absurd (cc)
+silent (note ∷ acts) P is h s k = absurd (cc)
+silent (exit_noted name ∷ acts) P is h s k = absurd (cc)
+silent (enter_noted name ∷ acts) P is h s k = absurd (cc)
 
 -- What is known stays, if events and the chunk that is noted do
 chunk-stays : (place : Place) (events : List Event) (old new : Local Unit Unit) → Stays old new → KnowsChunk place events old → KnowsChunk place events new
@@ -217,6 +226,9 @@ look-begins place (exit name ∷ acts) answer P is harmless s k known = absurd (
 look-begins place (consume ∷ acts) answer P is harmless s k known = absurd (cc)
 look-begins place (links previous next ∷ acts) answer P is harmless s k known = absurd (cc)
 look-begins place (writes f ∷ acts) answer P is harmless s k known = absurd (cc)
+look-begins place (note ∷ acts) answer P is harmless s k known = absurd (cc)
+look-begins place (exit_noted name ∷ acts) answer P is harmless s k known = absurd (cc)
+look-begins place (enter_noted name ∷ acts) answer P is harmless s k known = absurd (cc)
 look-begins place (choose Attempt ok nok ∷ acts) answer P is harmless s k known = absurd (cc)
 look-begins place (choose Check ok nok ∷ acts) answer P is harmless s k known =
     let (by_ok, further) = and_parts (same_place place (place_of ok)) (same_place place (place_of nok) && (are_silent acts && is_looking answer)) is in
@@ -291,6 +303,9 @@ module _ (test : Row Unit Unit → Bool) (g : Given) (s : Sight) (k : Configurat
   behind-acts (links previous next ∷ acts) P h = behind-acts acts P h
   behind-acts (writes f ∷ acts) P h = behind-acts acts P h.1
   behind-acts (choose kind ok nok ∷ acts) P h = behind-acts acts P h
+  behind-acts (note ∷ acts) P h = behind-acts acts P h
+  behind-acts (exit_noted name ∷ acts) P h = behind-acts acts P h
+  behind-acts (enter_noted name ∷ acts) P h = behind-acts acts P h
 
   behind-rows : (rows : Rows Unit Unit) (P : Type 0) → HarmlessRows rows P → P
   behind-rows (row acts answer) P h = behind-acts acts P h
