@@ -117,5 +117,5 @@ pub use Rattle.mdconstructs_tables.proofs.Looks.Tests.{told, told_by}
 pub use Rattle.mdconstructs_tables.specs.Cases.{AreTestsOf, Case, at, rows_at_byte, rows_in}
 pub use Rattle.mdconstructs_tables.specs.Chunks.{chunk_before, connected, is_connected, last_event}
 pub use Rattle.mdconstructs_tables.specs.Looks.{Glance, Look, behind_byte, by_row, first_byte, glance, goes_on, held, is_over, looked, looked_on, one_more as one_call, scan, shows, uncalled, unfed_look, waits_at}
-pub use Rattle.mdconstructs_tables.specs.Rows.{Act, Row, Rows, StateRows, Table, choose, chooses, class_of, consume, does, enter, enter_link, enters, exit, links, named, past, picked, row, step_at, step_of, table_step, when, write, writes}
+pub use Rattle.mdconstructs_tables.specs.Rows.{Act, Row, Rows, StateRows, Table, choose, chooses, class_of, consume, does, enter, enter_link, enter_noted, enters, exit, exit_noted, links, note, named, past, picked, row, step_at, step_of, table_step, when, write, writes}
 pub use Rattle.mdconstructs_tables.specs.Stretches.{Halt, ahead, fed_before, halt, one_call_more, over, reads_byte, row_comes_to, sight_before, stretch, stretch_from, to_come}

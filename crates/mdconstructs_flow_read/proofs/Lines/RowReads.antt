@@ -1,5 +1,5 @@
 -- How a state is read by its row, where that makes no choice: the row's acts say which marks are made, and which place is read next.
-use Rattle.mdconstructs_flow_read.proofs.Prelude.{◌≡◌, ℕ, ◌+◌, ◌==◌, List, [], ◌∷◌, ◌++◌, Bool, true, false, Option, Some, None, length, refl, sym, ap, ◌∙◌, subst, arith, append_assoc, append-nil, length-append, eqb-true, Event, Enter, Exit, Link, Point, Name, State, Next, Retry, Nok, Seat, Nothing, consumed, entered, exited, with_local, Configuration, Choice, Local, Sight, sight, sight_in, byte_of, seat_before, Reading, EndsIn, Given, Text, goes-called, first_byte, waits_at, Act, enters, exit, consume, links, writes, choose, Rows, row, StateRows, Table, class_of, does, chooses, named, past, picked, step_at, step_of, table_step, sight_before, is_white, FlowByte, blank, flow_byte, flow, unchanged, IsReadAs, waits_then, Chunk, Mark, alone, linked_from}
+use Rattle.mdconstructs_flow_read.proofs.Prelude.{◌≡◌, ℕ, ◌+◌, ◌==◌, List, [], ◌∷◌, ◌++◌, Bool, true, false, Option, Some, None, length, refl, sym, ap, ◌∙◌, subst, arith, append_assoc, append-nil, length-append, eqb-true, Event, Enter, Exit, Link, Point, Name, State, Next, Retry, Nok, Seat, Nothing, consumed, entered, exited, with_local, Configuration, Choice, Local, Sight, sight, sight_in, byte_of, seat_before, Reading, EndsIn, Given, Text, goes-called, first_byte, waits_at, Act, enters, exit, consume, links, writes, choose, Rows, row, StateRows, Table, class_of, does, chooses, named, past, picked, step_at, step_of, table_step, sight_before, is_white, FlowByte, blank, flow_byte, flow, unchanged, IsReadAs, waits_then, Chunk, Mark, alone, linked_from, exit_noted, enter_noted, note}
 use Rattle.mdconstructs_tables.proofs.Looks.Stretches.{sees-at}
 use Rattle.mdconstructs_tables.specs.Rows.{done}
 use Rattle.mdconstructs_flow_read.proofs.Lines.LineReads.{IsAt, reads-feeding}
@@ -22,6 +22,9 @@ told s (consume ∷ acts) = told (past s) acts
 told s (links previous next ∷ acts) = told s acts
 told s (writes f ∷ acts) = told s acts
 told s (choose kind ok nok ∷ acts) = told s acts
+told s (note ∷ acts) = told s acts
+told s (exit_noted name ∷ acts) = told s acts
+told s (enter_noted name ∷ acts) = told s acts
 
 -- acts link no events and make no choice; they read the byte, or not
 abbrev pub ArePlain : List (Act Unit Unit) → Type 0
@@ -33,6 +36,9 @@ ArePlain (consume ∷ acts) = ArePlain acts
 ArePlain (links previous next ∷ acts) = ⊥
 ArePlain (writes f ∷ acts) = ArePlain acts
 ArePlain (choose kind ok nok ∷ acts) = ⊥
+ArePlain (note ∷ acts) = ArePlain acts
+ArePlain (exit_noted name ∷ acts) = ⊥
+ArePlain (enter_noted name ∷ acts) = ⊥
 
 abbrev pub reads : List (Act Unit Unit) → Bool
 reads [] = false
@@ -55,6 +61,9 @@ past-byte (consume ∷ acts) s k cs plain none = absurd (cc)
 past-byte (links previous next ∷ acts) s k cs plain none = absurd plain
 past-byte (writes f ∷ acts) s k cs plain none = past-byte acts s (done (writes f) s k) cs plain none
 past-byte (choose kind ok nok ∷ acts) s k cs plain none = absurd plain
+past-byte (note ∷ acts) s k cs plain none = past-byte acts s (done note s k) cs plain none
+past-byte (exit_noted name ∷ acts) s k cs plain none = absurd plain
+past-byte (enter_noted name ∷ acts) s k cs plain none = absurd plain
 
 -- they read it once
 abbrev pub ReadOnce : List (Act Unit Unit) → Type 0
@@ -72,6 +81,9 @@ over-byte (consume ∷ acts) s k cs plain once = past-byte acts (past s) (consum
 over-byte (links previous next ∷ acts) s k cs plain once = absurd plain
 over-byte (writes f ∷ acts) s k cs plain once = over-byte acts s (done (writes f) s k) cs plain once
 over-byte (choose kind ok nok ∷ acts) s k cs plain once = absurd plain
+over-byte (note ∷ acts) s k cs plain once = over-byte acts s (done note s k) cs plain once
+over-byte (exit_noted name ∷ acts) s k cs plain once = absurd plain
+over-byte (enter_noted name ∷ acts) s k cs plain once = absurd plain
 
 -- and make their marks
 one-event : (k : Configuration Unit Unit) (e : Event) (m : Mark) (marks : List Mark) (after : List Event) → linked_from (length k.events) (m ∷ []) ≡ e ∷ []
@@ -98,6 +110,9 @@ tells (consume ∷ acts) s k plain = tells acts (past s) (consumed k) plain
 tells (links previous next ∷ acts) s k plain = absurd plain
 tells (writes f ∷ acts) s k plain = tells acts s (done (writes f) s k) plain
 tells (choose kind ok nok ∷ acts) s k plain = absurd plain
+tells (note ∷ acts) s k plain = tells acts s (done note s k) plain
+tells (exit_noted name ∷ acts) s k plain = absurd plain
+tells (enter_noted name ∷ acts) s k plain = absurd plain
 
 -- the class of white space
 pub white-is-blank : (b : ℕ) → is_white b ≡ true → flow_byte b ≡ blank
