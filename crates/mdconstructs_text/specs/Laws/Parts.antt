@@ -1,7 +1,7 @@
 -- What is written by each state of a table, for two lists of states together.
 use Rattle.std.proofs.Common.{List, [], ◌∷◌, ◌++◌, Option, Some, None}
 use Rattle.mdconstructs_tables.specs.PlainWrites.{WritePlain, RowsWritePlain, StatesWritePlain}
-use Rattle.mdconstructs_tables.specs.Rows.{Act, enters, exit, consume, links, writes, choose, Rows, row, when, StateRows}
+use Rattle.mdconstructs_tables.specs.Rows.{Act, enters, exit, consume, links, writes, choose, note, exit_noted, enter_noted, Rows, row, when, StateRows}
 
 module _ {R D : Type 0} (P Q : Type 0) (f : P → Q) where
   acts-then : (acts : List (Act R D)) → WritePlain acts P → WritePlain acts Q
@@ -13,6 +13,9 @@ module _ {R D : Type 0} (P Q : Type 0) (f : P → Q) where
   acts-then (exit name ∷ acts) h = acts-then acts h
   acts-then (consume ∷ acts) h = acts-then acts h
   acts-then (choose kind ok nok ∷ acts) h = acts-then acts h
+  acts-then (note ∷ acts) h = acts-then acts h
+  acts-then (exit_noted name ∷ acts) h = acts-then acts h
+  acts-then (enter_noted name ∷ acts) h = acts-then acts h
 
 -- what holds behind the writes of rows may be weakened
 rows-then : {R D : Type 0} (P Q : Type 0) → (P → Q) → (rows : Rows R D) → RowsWritePlain rows P → RowsWritePlain rows Q

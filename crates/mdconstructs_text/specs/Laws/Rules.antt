@@ -31,7 +31,7 @@ fits previous (Some line_ending) = refl
 fits previous (Some other) = refl
 
 pub flow-fit : IsFit flow
-flow-fit = record { fits = fits; paid = tt; falls = tt }
+flow-fit = record { fits = fits; paid = tt; falls = tt; kept = λ local. refl }
 
 at-start : (flag : Bool) → let k : Configuration Unit Unit = start_configuration flag in All (λ name. knows_chunk k.events k.local [] (Next name)) flow.starts
 at-start flag =

@@ -26,6 +26,7 @@ texts-late =
       priced = (refl, (refl, (refl, (refl, (refl, (refl, (refl, (refl, (refl, (refl, (refl, (refl, (refl, (refl, (refl, (refl, (refl, (refl, (refl, tt)))))))))))))))))));
       falls = refl;
       tested = tested;
+      kept = λ local. refl;
     })
 
 -- what states write: those between constructs write nothing
