@@ -1,5 +1,5 @@
 -- Each call of a machine is counted. So where a reading ends, as many calls are counted as were made, or as many as can be counted.
-use Rattle.mdconstructs_inlines.proofs.Prelude.{◌≡◌, ◌==◌, ℕ, zero, suc, ◌+◌, ◌≤◌, List, [], ◌∷◌, true, false, cond, Option, Some, None, refl, sym, ◌∙◌, subst, arith, length, min, nat_lt, Name, State, Next, Retry, Ok, Nok, AttemptKind, Attempt, Check, Byte, End, with_local, Configuration, Choice, Local, Saved, Step, EndsIn, Reading, after_choices, fed, more_calls, read, settle, settled_at, Sight, sight, Given, Text, counts, RowsHarmless, WriteHarmless, Act, Rows, StateRows, Table, choose, class_of, consume, does, enters, exit, links, past, picked, row, shown_sight, step_at, step_of, table_step, when, writes, behind-acts, behind-rows, most, spent}
+use Rattle.mdconstructs_inlines.proofs.Prelude.{◌≡◌, ◌==◌, ℕ, zero, suc, ◌+◌, ◌≤◌, List, [], ◌∷◌, true, false, cond, Option, Some, None, refl, sym, ◌∙◌, subst, arith, length, min, nat_lt, Name, State, Next, Retry, Ok, Nok, AttemptKind, Attempt, Check, Byte, End, with_local, Configuration, Choice, Local, Saved, Step, EndsIn, Reading, after_choices, fed, more_calls, read, settle, settled_at, Sight, sight, Given, Text, counts, RowsHarmless, WriteHarmless, Act, Rows, StateRows, Table, choose, class_of, consume, does, enters, exit, exit_noted, enter_noted, note, links, past, picked, row, shown_sight, step_at, step_of, table_step, when, writes, behind-acts, behind-rows, most, spent}
 use Rattle.mdconstructs_tables.specs.Rows.{done, named}
 
 -- each call of these steps counts one
@@ -91,6 +91,9 @@ acts-count (consume ∷ acts) h s k = acts-count acts h (past s) (done consume s
 acts-count (links previous next ∷ acts) h s k = acts-count acts h s (done (links previous next) s k)
 acts-count (writes f ∷ acts) h s k = acts-count acts h.1 s (with_local k (f (shown_sight s) k)) ∙ h.0 (shown_sight s) k
 acts-count (choose kind ok nok ∷ acts) h s k = acts-count acts h s k
+acts-count (note ∷ acts) h s k = acts-count acts h s (done note s k)
+acts-count (exit_noted name ∷ acts) h s k = acts-count acts h s (done (exit_noted name) s k)
+acts-count (enter_noted name ∷ acts) h s k = acts-count acts h s (done (enter_noted name) s k)
 
 rows-count : (rows : Rows Unit Unit) (P : Type 0) → RowsHarmless KeepsCount rows P → (g : Given) (s : Sight) (at k : Configuration Unit Unit) → spent (step_of (picked rows g s at) s k).configuration.local ≡ spent k.local
 rows-count (row acts answer) P h g s at k = acts-count acts (behind-acts KeepsCount acts P h).0 s k

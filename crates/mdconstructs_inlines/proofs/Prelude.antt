@@ -123,7 +123,7 @@ pub use Rattle.mdconstructs_tables.specs.NoFurther.{IsAnsweredAlike, tests, test
 pub use Rattle.mdconstructs_tables.specs.Numbers.{by_left}
 pub use Rattle.mdconstructs_tables.specs.Refusals.{RulesRefuseNothing, refusing}
 pub use Rattle.mdconstructs_tables.specs.RowInvariant.{IsCallable}
-pub use Rattle.mdconstructs_tables.specs.Rows.{Act, Cost, Rows, StateRows, Table, choose, class_of, consume, does, enter, enters, exit, links, past, picked, row, shown_sight, step_at, step_of, table_step, when, write, writes}
+pub use Rattle.mdconstructs_tables.specs.Rows.{Act, Cost, Rows, StateRows, Table, choose, class_of, consume, does, enter, enter_noted, enters, exit, exit_noted, links, note, past, picked, row, shown_sight, step_at, step_of, table_step, when, write, writes}
 pub use Rattle.mdconstructs_text.proofs.Autolinks.Bytes.{autolinks-apart}
 pub use Rattle.mdconstructs_text.proofs.Autolinks.Calls.{autolink-paid, autolink-within, from-less-ahead, from-less-within, from_less, link-missed, link_calls}
 pub use Rattle.mdconstructs_text.proofs.Autolinks.Cuts.{autolink-built}

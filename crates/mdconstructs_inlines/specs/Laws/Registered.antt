@@ -24,7 +24,7 @@ use Rattle.markdown_tokenizer.proofs.Readings.Plain.{no-links-more, no-links-tak
 use Rattle.mdconstructs_tables.specs.Calm.{WriteHarmless, RowsHarmless}
 use Rattle.mdconstructs_tables.specs.Knowledge.{EachRow}
 use Rattle.mdconstructs_tables.specs.Plans.{Plan, KnownBehind, AllKeepKnown, KeepsKnowledge, planned_rules}
-use Rattle.mdconstructs_tables.specs.Rows.{Act, enters, exit, consume, links, writes, choose, Rows, row, when, StateRows, Table, done as act_done, does, step_of, past, shown_sight}
+use Rattle.mdconstructs_tables.specs.Rows.{Act, enters, exit, consume, links, writes, choose, note, exit_noted, enter_noted, Rows, row, when, StateRows, Table, done as act_done, does, step_of, past, shown_sight}
 use Rattle.mdconstructs_tables.specs.RowTest.{all_rows}
 use Rattle.mdconstructs_tables.specs.Unlinked.{RegistersNothing, RegisterNothing}
 use Rattle.mdconstructs_tables.proofs.Calm.{behind-acts, behind-rows}
@@ -49,6 +49,9 @@ module _ {R D : Type 0} (r : R) where
       let (resolvers, edits) = h.0 (shown_sight s) k in
       acts-keep acts is h.1 s (with_local k (f (shown_sight s) k)) (known.0, edits ∙ known.1, resolvers ∙ known.2)
   acts-keep (choose kind ok nok ∷ acts) is h s k known = acts-keep acts is h s k known
+  acts-keep (note ∷ acts) is h s k known = acts-keep acts is h s (act_done note s k) known
+  acts-keep (exit_noted name ∷ acts) is h s k known = acts-keep acts is h s (act_done (exit_noted name) s k) (no-links-more k.events _ refl known.0, known.1, known.2)
+  acts-keep (enter_noted name ∷ acts) is h s k known = acts-keep acts is h s (act_done (enter_noted name) s k) (no-links-more k.events _ refl known.0, known.1, known.2)
 
   goes-back : (n : Option Saved) (kind : AttemptKind) (answer : State) (k : Configuration R D) → GoesOn k → GoesOn (settled_at kind n answer k)
   goes-back None Check answer k h = h
