@@ -10,7 +10,7 @@ tested dividers previous None = refl
 tested dividers previous (Some w) = refl
 
 pub fields-fit : (dividers : List ℕ) → IsFit (fields dividers)
-fields-fit dividers = record { fits = all-fit (fields dividers) (tested dividers); paid = tt; falls = tt }
+fields-fit dividers = record { fits = all-fit (fields dividers) (tested dividers); paid = tt; falls = tt; kept = λ local. refl }
 
 pub fields-plain : (dividers : List ℕ) → IsPlainTable (fields dividers)
 fields-plain dividers = record { first = λ k h. h; rows = all-plain (fields dividers) (tested dividers) }

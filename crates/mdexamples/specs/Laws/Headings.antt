@@ -13,7 +13,7 @@ fits previous (Some sign) = refl
 fits previous (Some other) = refl
 
 pub headings-fit : IsFit headings
-headings-fit = record { fits = fits; paid = tt; falls = tt }
+headings-fit = record { fits = fits; paid = tt; falls = tt; kept = λ local. refl }
 
 -- its writes leave nothing to resolve
 one-plain : IsPlainEverywhere (λ s. one_sign)

@@ -15,7 +15,7 @@ tested previous (Some other) = refl
 
 pub labels-late : IsLate labels begins_label follows_label
 labels-late =
-    numbered-late labels no_run label_prices begins_label follows_label (record { priced = (refl, (refl, (refl, (refl, (refl, tt))))); falls = refl; tested = tested })
+    numbered-late labels no_run label_prices begins_label follows_label (record { priced = (refl, (refl, (refl, (refl, (refl, tt))))); falls = refl; tested = tested; kept = λ local. refl })
 
 -- no state writes
 written : (previous current : Option LabelByte) → StatesWritePlain labels.states previous current

@@ -60,7 +60,7 @@ fits previous (Some line_ending) = refl
 fits previous (Some other) = refl
 
 pub text-lines-fit : IsFit text_lines
-text-lines-fit = record { fits = fits; paid = tt; falls = tt }
+text-lines-fit = record { fits = fits; paid = tt; falls = tt; kept = λ local. refl }
 
 -- ---- each chunk is a chain of its own, so it can be read
 
