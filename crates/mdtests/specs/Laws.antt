@@ -8,3 +8,4 @@ pub mod Pairs
 pub mod Behind
 pub mod Names
 pub mod Over
+pub mod Trail

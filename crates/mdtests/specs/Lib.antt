@@ -10,3 +10,4 @@ pub mod Marks
 pub mod Pairs
 pub mod Names
 pub mod Over
+pub mod Trail

@@ -61,6 +61,8 @@ mod surface;
 #[cfg(test)]
 mod tokenizer;
 #[cfg(test)]
+mod trail;
+#[cfg(test)]
 mod values;
 #[cfg(test)]
 mod walks;

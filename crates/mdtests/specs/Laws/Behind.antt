@@ -12,7 +12,7 @@ fits previous (Some line_ending) = refl
 fits previous (Some other) = refl
 
 pub behind-fit : IsFit behind
-behind-fit = record { fits = fits; paid = tt; falls = tt }
+behind-fit = record { fits = fits; paid = tt; falls = tt; kept = λ local. refl }
 
 -- no state links or writes
 unlinked-rows : (previous current : Option LineByte) → are_plain_states behind.states previous current ≡ true

@@ -13,7 +13,7 @@ fits previous (Some line_ending) = refl
 fits previous (Some other) = refl
 
 pub looping-fit : IsFit looping
-looping-fit = record { fits = fits; paid = tt; falls = tt }
+looping-fit = record { fits = fits; paid = tt; falls = tt; kept = λ local. refl }
 
 -- no state links or writes
 unlinked-rows : (previous current : Option LineByte) → are_plain_states looping.states previous current ≡ true

@@ -48,6 +48,7 @@ marks-fit = record {
   fits = fits;
   paid = (before-pays, (before-data-pays, tt));
   falls = ((λ text p q h. before-falls (length text.seats - p) (length text.seats - q) (omega (arith, h))), tt);
+  kept = λ local. refl;
 }
 
 pub marks-late : IsLate marks begins_line follows_line

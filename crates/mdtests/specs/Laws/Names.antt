@@ -18,7 +18,7 @@ fits previous (Some line_ending) = refl
 fits previous (Some other) = refl
 
 pub names-fit : IsFit names
-names-fit = record { fits = fits; paid = tt; falls = tt }
+names-fit = record { fits = fits; paid = tt; falls = tt; kept = λ local. refl }
 
 -- what it writes leaves nothing to resolve
 byte-plain : (o : Option ℕ) (k : Configuration Unit Unit) → IsPlain k → IsPlain (with_local k (fold_of after_byte o k.local))

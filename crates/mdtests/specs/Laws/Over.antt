@@ -11,7 +11,7 @@ tested previous (Some false) = refl
 tested previous (Some true) = refl
 
 pub over-fit : IsFit over
-over-fit = record { fits = all-fit over tested; paid = tt; falls = tt }
+over-fit = record { fits = all-fit over tested; paid = tt; falls = tt; kept = λ local. refl }
 
 pub over-plain : IsPlainTable over
 over-plain = record { first = λ k h. h; rows = all-plain over tested }

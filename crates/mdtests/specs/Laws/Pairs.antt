@@ -103,6 +103,7 @@ pairs-fit = record {
   fits = fits;
   paid = (first-pays, (before-pays, (chunk-pays, (chunk-end-pays, (begins-pays, (inside-pays, tt))))));
   falls = ((λ text p q h. between-falls (length text.seats - p) (length text.seats - q) (omega (arith, h))), tt);
+  kept = λ local. refl;
 }
 
 -- ---- events

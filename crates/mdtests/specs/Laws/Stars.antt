@@ -54,7 +54,7 @@ fits previous (Some star) = refl
 fits previous (Some other) = refl
 
 pub stars-fit : IsFit stars
-stars-fit = record { fits = fits; paid = tt; falls = tt }
+stars-fit = record { fits = fits; paid = tt; falls = tt; kept = λ local. refl }
 
 -- ---- the new names
 

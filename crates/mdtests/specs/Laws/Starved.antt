@@ -12,7 +12,7 @@ fits previous (Some line_ending) = refl
 fits previous (Some other) = refl
 
 pub starved-fit : IsFit starved
-starved-fit = record { fits = fits; paid = tt; falls = tt }
+starved-fit = record { fits = fits; paid = tt; falls = tt; kept = λ local. refl }
 
 -- no state links or writes
 unlinked-rows : (previous current : Option LineByte) → are_plain_states starved.states previous current ≡ true
