@@ -93,7 +93,6 @@ pub use Rattle.mdconstructs_inline_constructs.specs.Reference
 pub use Rattle.mdconstructs_inline_constructs.specs.ReferenceRows
 pub use Rattle.mdconstructs_inline_constructs.specs.RememberedCode
 pub use Rattle.mdconstructs_inline_constructs.specs.WhiteSpace
-pub use Rattle.mdconstructs_inline_constructs.specs.WhiteSpaceRows
 pub use Rattle.mdconstructs_inlines.specs.InlineEvents
 pub use Rattle.mdconstructs_inlines.specs.InlineRules
 pub use Rattle.mdconstructs_inlines.specs.InlineTable

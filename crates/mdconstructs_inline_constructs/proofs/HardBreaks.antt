@@ -3,4 +3,3 @@ pub mod Bytes
 pub mod Calls
 pub mod Cuts
 pub mod Escaped
-pub mod Trailing

@@ -1,20 +1,17 @@
--- Rows that read hard breaks.
+-- Rows that read hard breaks by a backslash; and whether those by spaces are on.
 use Rattle.std.specs.Prelude.{◌==◌, Bool, false, List, [], ◌∷◌, Option, Some}
-use Rattle.markdown_base.specs.declared.event.Name.TheVariants.{HardBreakEscape, HardBreakTrailing}
+use Rattle.markdown_base.specs.declared.event.Name.TheVariants.{HardBreakEscape}
 use Rattle.markdown_base.specs.declared.state.State.TheVariants.{Next, Ok, Nok}
 use Rattle.markdown_base.specs.declared.state.TheConstants.Name.{TextBeforeData, HardBreakEscapeStart, HardBreakEscapeAfter}
-use Rattle.mdconstructs_inline_constructs.specs.declared.names.TheConstants.{HardBreakTrailingAfterFirst, HardBreakTrailingAfterMore, HardBreakTrailingStart}
 use Rattle.markdown_tokenizer.specs.Text.{Given}
 use Rattle.markdown_tokenizer.specs.Configuration.{Configuration}
 use Rattle.markdown_tokenizer.specs.Sight.{Sight}
-use Rattle.mdconstructs_tables.specs.Rows.{enter, exit, consume, Rows, row, when, at_bytes, StateRows, state}
+use Rattle.mdconstructs_tables.specs.Rows.{enter, exit, consume, Rows, row, at_bytes, StateRows, state}
 use Rattle.mdconstructs_tables.specs.Numbers.{Price, by_left}
-use Rattle.mdconstructs_text.specs.Bytes.{is_space, passes}
 use Rattle.mdconstructs_text.specs.Construct.{Found, Construct, tried}
-use Rattle.mdconstructs_text.specs.TextBytes.{TextByte, line_feed, white, is_backslash_class}
+use Rattle.mdconstructs_text.specs.TextBytes.{TextByte, line_feed, is_backslash_class}
 use Rattle.mdconstructs_text.specs.TextCosts.{text_cost}
-use Rattle.mdconstructs_inline_constructs.specs.WhiteSpaceRows.{is_white_class}
-use Rattle.mdconstructs_inline_constructs.specs.HardBreak.{break_escape_grammar, trailing_break_grammar}
+use Rattle.mdconstructs_inline_constructs.specs.HardBreak.{break_escape_grammar}
 
 -- the options have them on
 abbrev pub break_escapes_are_on : {R D : Type 0} → Given → Sight → Configuration R D → Bool
@@ -55,57 +52,6 @@ break_escapes = record {
   follows = λ name. false;
 }
 
--- the options have them on
+-- the options have those by spaces on
 abbrev pub trailing_breaks_are_on : {R D : Type 0} → Given → Sight → Configuration R D → Bool
 trailing_breaks_are_on g s k = g.options.constructs.hard_break_trailing
-
--- a space waits, and no tab
-abbrev pub space_waits : {R D : Type 0} → Given → Sight → Configuration R D → Bool
-space_waits g s k = passes is_space s.current
-
--- It begins with a space
-abbrev pub trailing_start_rows : {R D : Type 0} → (previous current : Option TextByte) → Rows R D
-trailing_start_rows _ (Some white) = when space_waits (row (enter HardBreakTrailing ∷ consume ∷ []) (Next HardBreakTrailingAfterFirst)) (row [] Nok)
-trailing_start_rows _ _ = row [] Nok
-
--- its state: it is called only at white space, and no span is open yet
-abbrev pub trailing_start : {R D : Type 0} → StateRows TextByte R D
-trailing_start =
-    tried (record (state HardBreakTrailingStart trailing_start_rows [] (text_cost (by_left 0 1 1))) { called = at_bytes is_white_class })
-
--- a second space follows
-abbrev pub trailing_after_first_rows : {R D : Type 0} → (previous current : Option TextByte) → Rows R D
-trailing_after_first_rows _ (Some white) = when space_waits (row (consume ∷ []) (Next HardBreakTrailingAfterMore)) (row [] Nok)
-trailing_after_first_rows _ _ = row [] Nok
-
--- its state: the hard break is open
-abbrev pub trailing_after_first : {R D : Type 0} → StateRows TextByte R D
-trailing_after_first =
-    tried (state HardBreakTrailingAfterFirst trailing_after_first_rows (HardBreakTrailing ∷ []) (text_cost (by_left 0 1 1)))
-
--- further spaces follow, up to a line ending
-abbrev pub trailing_after_more_rows : {R D : Type 0} → (previous current : Option TextByte) → Rows R D
-trailing_after_more_rows _ (Some white) = when space_waits (row (consume ∷ []) (Next HardBreakTrailingAfterMore)) (row [] Nok)
-trailing_after_more_rows _ (Some line_feed) = row (exit HardBreakTrailing ∷ []) Ok
-trailing_after_more_rows _ _ = row [] Nok
-
--- its state: the hard break is open
-abbrev pub trailing_after_more : {R D : Type 0} → StateRows TextByte R D
-trailing_after_more =
-    tried (state HardBreakTrailingAfterMore trailing_after_more_rows (HardBreakTrailing ∷ []) (text_cost (by_left 0 1 1)))
-
--- What its states cost: each reads a byte or ends
-abbrev pub trailing_break_prices : List (Price TextByte)
-trailing_break_prices = by_left 0 1 1 ∷ by_left 0 1 1 ∷ by_left 0 1 1 ∷ []
-
--- How hard breaks by spaces are read
-abbrev pub trailing_breaks : {R D : Type 0} → Construct Found TextByte R D
-trailing_breaks = record {
-  grammar = trailing_break_grammar;
-  begins = is_white_class;
-  start = HardBreakTrailingStart;
-  otherwise = TextBeforeData;
-  states = trailing_start ∷ trailing_after_first ∷ trailing_after_more ∷ [];
-  begun = λ name w. name.number == HardBreakTrailingStart.number;
-  follows = λ name. false;
-}

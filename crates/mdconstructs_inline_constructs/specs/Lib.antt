@@ -12,4 +12,3 @@ pub mod Reference
 pub mod ReferenceRows
 pub mod RememberedCode
 pub mod WhiteSpace
-pub mod WhiteSpaceRows

@@ -1,4 +1,4 @@
-//! Further constructs of inline text: character references, hard breaks, white space, email autolinks and raw HTML.
+//! Further constructs of inline text: character references, hard breaks by a backslash, email autolinks and raw HTML.
 #![tactic(auto)]
 
 pub mod email;
@@ -9,4 +9,3 @@ pub mod html_text;
 pub mod names;
 pub mod reference;
 pub mod remembered_code;
-pub mod white_space;

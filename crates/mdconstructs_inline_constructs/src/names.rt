@@ -17,12 +17,3 @@ pub const HtmlTextMarkLine: Name = Name { number: 1_103 };
 
 /// Raw HTML between marks: in white space after a line ending.
 pub const HtmlTextMarkWhite: Name = Name { number: 1_104 };
-
-/// Hard break by spaces: start.
-pub const HardBreakTrailingStart: Name = Name { number: 1_105 };
-
-/// Hard break by spaces: after the first space.
-pub const HardBreakTrailingAfterFirst: Name = Name { number: 1_106 };
-
-/// Hard break by spaces: after two spaces or more.
-pub const HardBreakTrailingAfterMore: Name = Name { number: 1_107 };

@@ -1,20 +1,13 @@
--- How the machine of inline text reads data: up to a byte that something else may begin with, or up to white space with which its line ends; and
--- in how many calls.
-use Rattle.mdconstructs_inlines.proofs.Prelude.{◌≡◌, ℕ, suc, ◌+◌, ◌*◌, ◌<◌, ◌≤◌, ◌&&◌, ◌||◌, List, [], ◌∷◌, ◌++◌, Bool, true, false, cond, Option, Some, refl, sym, ap, ◌∙◌, subst, arith, append_assoc, length, take, drop, drop-drop, drop-map, length-drop, length-map, take_at, prefix_len-le-length, add_assoc, prefix_len, slice_get, drop-next, Constructs, Event, Exit, EventName, Data, Name, Next, Retry, DataInside, SpaceOrTabStart, TextBefore, TextBeforeData, DataOver, DataWhite, Seat, Check, Byte, Nothing, Choice, Local, byte_of, end_place, sight, Given, Text, choose, class_of, consume, exit, row, row_step, at-front, held, is_white, counts, AddsItemIn, adds-of, data-begun, entered_data, goes-back, goes-next, leaf-read, shows, IsAfter, after-call, after-more, after-within, AddsItem, Ending, EndsWith, Leads, Plays, before_class, between_items, leads-nok, leads-ok, leads-row, leads-seen, is_backtick, between_texts, by-class, bytes_of, event, first_plain, leaf, TextByte, text_byte, white-class, run-some, after_white, ends-white, fails-white, white-calls, is_white_left, data_length, data_run, ends_data, ends_data_at, up_to, white_data_rows}
+-- How the machine of inline text reads data: up to a byte that something else may begin with; or up to white space with which its line ends, and then that
+-- too; and in how many calls.
+use Rattle.mdconstructs_text.proofs.Plain.Stretches.{past}
+use Rattle.mdconstructs_inlines.proofs.Prelude.{◌≡◌, ℕ, zero, suc, ◌+◌, ◌-◌, ◌*◌, ◌<◌, ◌≤◌, ◌&&◌, ◌||◌, List, [], ◌∷◌, ◌++◌, Bool, true, false, cond, Some, refl, sym, ap, ◌∙◌, subst, arith, append-nil, append_assoc, length, take, take-take, drop, drop-take, drop-drop, drop-map, length-drop, length-map, prefix_len, slice_get, drop-next, Constructs, Event, Exit, EventName, Data, Name, Next, Retry, DataInside, TextBefore, TextBeforeData, Seat, Byte, Nothing, Configuration, Local, byte_of, end_place, sight, Given, Text, at-front, is_white, counts, AddsItemIn, adds-more, BeginsData, data-begun, entered_data, goes-back, goes-next, leaf-read, past-is, past-stops, first_byte, shows, IsAfter, after-call, after-more, after-within, Ending, EndsWith, Leads, Plays, between_items, passes, between_texts, bytes_of, event, first_plain, item_events, item_length, leaf, leads-step, run-some, is_white_left, Found, consumed, entered, exited, data_length, ends_data, ends_data_at, up_to}
+use Rattle.mdconstructs_inlines.proofs.DataBytes.{data-within, data_joined, white-data, white_behind}
 use Rattle.mdconstructs_inlines.proofs.InlineApart.{white-plain}
-use Rattle.mdconstructs_inlines.proofs.DataBytes.{data_calls, up-to-within, left-behind, white_after, white-after-is}
-use Rattle.mdconstructs_inlines.proofs.Playing.{data-ends, data-ends-last, data-looks, data-on, inlines_begin_data, inlines_play, inlines_play_white_spaces}
+use Rattle.mdconstructs_inlines.proofs.WhiteBytes.{White, found-size, found_white, no_item, over-white, white-ends, white-last, white-none}
+use Rattle.mdconstructs_inlines.proofs.WhiteReads.{PlaysWhite, ReadsTo, StopsData, all_white, as-found, breaks_here, counted, begins-data, data-made, ends_line, followed, no-line, rest-at, rest-is, to-rest}
 
--- what is white space goes on as data
-goes-on-other : (before : Option TextByte) (b : ℕ) → is_white b ≡ false → white_data_rows before (Some (text_byte b)) ≡ row [] (Retry DataInside)
-goes-on-other before b h =
-    by-class (λ w. white_data_rows before (Some w) ≡ row [] (Retry DataInside)) b
-    (λ e. refl) (λ e. refl) (λ e. refl) (λ e. refl) (λ e. refl) (λ e. refl) (λ e. refl) (λ e f. refl) (λ e. refl) (λ e. refl) (λ e. absurd (cc)) (λ o e. refl) (λ o e. refl) (λ o n e. refl)
-
-module _ (g : Given) (text : Text) where
-  abbrev m : Plays g text
-  m = inlines_play g text
-
+module _ (g : Given) (text : Text) (m : Plays g text) {plain inside : White → Name} (plays : PlaysWhite g text m plain inside) where
   abbrev on : Constructs
   on = g.options.constructs
 
@@ -24,219 +17,290 @@ module _ (g : Given) (text : Text) where
   abbrev with_end : List Event → ℕ → List Event
   with_end events q = events ++ event g.bytes Exit Data (end_place text q) ∷ []
 
-  -- from a state in data its next bytes are read, and it ends, within so many calls
-  abbrev ReadFrom : (l : List Seat) (q : ℕ) (events : List Event) (local : Local Unit Unit) → Name → (n calls : ℕ) → Type 0
-  ReadFrom l q events local name n calls =
-      (after : Local Unit Unit) × IsAfter calls local after × Leads g text m (shows l in_data q events local) [] (Retry name) (between_items (q + n) Nothing false (with_end events (q + n)) after) [] (Next TextBefore)
-
-  -- how many bytes of it come next
-  abbrev next_data : List Seat → ℕ
+  -- how many bytes of data come next
+  abbrev pub next_data : List Seat → ℕ
   next_data l = up_to (ends_data_at on) (bytes_of l)
 
-  -- how much white space there is next, and how much behind data
-  abbrev next_white : List Seat → ℕ
-  next_white l = prefix_len is_white (bytes_of l)
+  -- the white space at the end of a line that is at the front, or nothing
+  abbrev white_at : List Seat → Found
+  white_at l = white_behind on (bytes_of l)
 
-  abbrev white_behind : List Seat → ℕ
-  white_behind l = white_after (ends_data_at on) (bytes_of l)
+  -- data ended at a place, and this behind it was read
+  abbrev reached_by : List Event → ℕ → List Seat → Found → Bool → Local Unit Unit → Configuration Unit Unit
+  reached_by events q l w ended after = between_items (q + item_length w) Nothing ended (with_end events q ++ item_events g.bytes (w, take (item_length w) l)) after
 
-  -- Within so many calls data is read from any of its bytes: one for each, and over white space four more, since each look goes over it
-  abbrev calls_in_data : List Seat → ℕ
-  calls_in_data l = 5 * next_data l + white_behind l + 3
+  abbrev pub reached : List Event → ℕ → List Seat → Bool → Local Unit Unit → Configuration Unit Unit
+  reached events q l ended after = reached_by events q l (white_at l) ended after
 
-  abbrev DataRead : List Seat → Type 0
-  DataRead l = (q : ℕ) (events : List Event) (local : Local Unit Unit) → drop q text.seats ≡ l → ReadFrom l q events local DataInside (next_data l) (calls_in_data l)
+  -- from a state in data its next bytes are read, it ends, and the white space behind it is read, within so many calls
+  abbrev ReadFrom : (l : List Seat) (q : ℕ) (events : List Event) (local : Local Unit Unit) → Name → (n calls : ℕ) → Type 0
+  ReadFrom l q events local name n calls =
+      (ended : Bool) × (after : Local Unit Unit) × IsAfter calls local after × Leads g text m (shows l in_data q events local) [] (Retry name) (reached events (q + n) (drop n l) ended after) [] (Next TextBefore)
 
-  -- From white space that its line does not end with the look has been: four calls less for each of its bytes
-  abbrev WhiteReadFrom : List Seat → ℕ → List Event → Local Unit Unit → Type 0
-  WhiteReadFrom l q events local = (calls : ℕ) × (calls + 4 * next_white l ≤ calls_in_data l + 1) × ReadFrom l q events local DataWhite (next_data l) calls
+  -- in two calls more than it has bytes
+  abbrev ReadAll : (l : List Seat) (q : ℕ) (events : List Event) (local : Local Unit Unit) → Name → (n : ℕ) → Type 0
+  ReadAll l q events local name n = ReadFrom l q events local name n (n + item_length (white_at (drop n l)) + 2)
 
-  abbrev WhiteRead : List Seat → Type 0
-  WhiteRead l = (q : ℕ) (events : List Event) (local : Local Unit Unit) → drop q text.seats ≡ l → is_white_left (bytes_of l) ≡ false → WhiteReadFrom l q events local
+  abbrev pub DataRead : List Seat → Type 0
+  DataRead l = (q : ℕ) (events : List Event) (local : Local Unit Unit) → drop q text.seats ≡ l → ReadAll l q events local DataInside (next_data l)
 
   -- more calls may be counted
   read-more : (l : List Seat) (q : ℕ) (events : List Event) (local : Local Unit Unit) (name : Name) (n calls more : ℕ) → calls ≤ more → ReadFrom l q events local name n calls → ReadFrom l q events local name n more
-  read-more l q events local name n calls more h read = (read.0, after-within calls more local read.0 h read.1, read.2)
+  read-more l q events local name n calls more h read = (read.0, read.1, after-within calls more local read.1 h read.2, read.3)
 
-  -- it ends at once
-  ends-here : (l : List Seat) (q : ℕ) (events : List Event) (local : Local Unit Unit) (name : Name) → drop q text.seats ≡ l → m.step (sight g text (shows l in_data q events local)) (shows l in_data q events local) name ≡ row_step g text (shows l in_data q events local) (row (exit Data ∷ []) (Retry TextBefore))
-      → ReadFrom l q events local name 0 1
-  ends-here l q events local name at has =
-      let same : q ≡ q + 0 = omega arith in (
-        counts local,
+  -- it ends at once, and nothing is behind it
+  ends-here : (l : List Seat) (q : ℕ) (events : List Event) (local : Local Unit Unit) (name : Name) → drop q text.seats ≡ l → white_at l ≡ no_item → StopsData g text m (shows l in_data q events local) name → ReadFrom l q events local name 0 1
+  ends-here l q events local name at none stops =
+      let k = shows l in_data q events local in
+      let after = counts local in
+      let place : q + 0 + 0 ≡ q = omega arith in
+      let first : q + 0 ≡ q = omega arith in
+      let same : with_end events (q + 0) ++ [] ≡ with_end events q = append-nil (with_end events (q + 0)) ∙ ap (with_end events) first in (
+        false,
+        after,
         after-call local,
         λ es h.
-            leads-row g text m (row (exit Data ∷ []) (Retry TextBefore)) (shows l in_data q events local) [] name es has
-            (goes-back g text m l [] q (with_end events q) (counts local) [] TextBefore at es (subst (λ n. EndsWith g text m (between_items n Nothing false (with_end events n) (counts local)) [] (Next TextBefore) es) (sym same) h)),
+            leads-step g text m.step k [] name (record { configuration = exited Data (sight g text k).exit_place (counted g text m k); choices = []; answer = Retry TextBefore }) stops es
+            (goes-back g text m l [] q (with_end events q) after [] TextBefore at es
+            (subst (λ n. EndsWith g text m (between_items n Nothing false (with_end events q) after) [] (Next TextBefore) es) place
+            (subst (λ xs. EndsWith g text m (between_items (q + 0 + 0) Nothing false xs after) [] (Next TextBefore) es) same
+            (subst (λ w. EndsWith g text m (reached_by events (q + 0) l w false after) [] (Next TextBefore) es) none h)))),
       )
 
-  module _ (s : Seat) (ss : List Seat) (more : DataRead ss) (white_more : WhiteRead ss) (q : ℕ) (events : List Event) (local : Local Unit Unit) (at : drop q text.seats ≡ s ∷ ss) where
-    abbrev l : List Seat
-    l = s ∷ ss
-
-    next : drop (q + 1) text.seats ≡ ss
-    next = drop-next text.seats q s ss at
-
-    waits : byte_of (slice_get text.seats q) ≡ Some s.byte
-    waits = ap byte_of (at-front text.seats q s ss at)
-
-    -- how many bytes come next is said by whether data ends here
-    ends-so : (t : Bool) → ends_data_at on (bytes_of l) ≡ t → next_data l ≡ cond t 0 (1 + next_data ss)
-    ends-so t e = ap (λ t. cond t 0 (1 + next_data ss)) e
-
-    behind-so : (t : Bool) → ends_data_at on (bytes_of l) ≡ t → white_behind l ≡ cond t (next_white l) (white_behind ss)
-    behind-so t e = ap (λ t. cond t (next_white l) (white_behind ss)) e
-
-    -- and how much white space, by whether there is some
-    white-so : (t : Bool) → is_white s.byte ≡ t → next_white l ≡ cond t (1 + next_white ss) 0
-    white-so t e = ap (λ t. cond t (1 + next_white ss) 0) e
-
-    place : q + 1 + next_data ss ≡ q + (1 + next_data ss)
-    place = omega arith
-
-    -- a byte is read, and what is behind it
-    one-more : (name next_name : Name) (local : Local Unit Unit) (calls : ℕ) → m.step (sight g text (shows l in_data q events local)) (shows l in_data q events local) name ≡ row_step g text (shows l in_data q events local) (row (consume ∷ []) (Next next_name))
-        → ReadFrom ss (q + 1) events (counts local) next_name (next_data ss) calls → ReadFrom l q events local name (1 + next_data ss) (1 + calls)
-    one-more name next_name local calls has read = (
-      read.0,
-      after-more 1 calls local (counts local) read.0 (after-call local) read.1,
-      λ es h.
-          leads-row g text m (row (consume ∷ []) (Next next_name)) (shows l in_data q events local) [] name es has
-          (goes-next g text m ss in_data (q + 1) events (counts local) [] next_name next es
-          (read.2 es (subst (λ n. EndsWith g text m (between_items n Nothing false (with_end events n) read.0) [] (Next TextBefore) es) (sym place) h))),
-    )
-
-    -- at another byte than white space
-    at-other : (t : Bool) → is_white s.byte ≡ false → ends_data on s.byte ≡ t → (local : Local Unit Unit) → ReadFrom l q events local DataInside (next_data l) (calls_in_data l)
-    at-other true other ends local =
-        let there : ends_data_at on (bytes_of l) ≡ true = (λ i. ends i || (is_white s.byte && is_white_left (bytes_of l))) in
-        subst (λ n. ReadFrom l q events local DataInside n (calls_in_data l)) (sym (ends-so true there))
-        (read-more l q events local DataInside 0 1 (calls_in_data l) (omega arith) (ends-here l q events local DataInside at (data-ends g text (shows l in_data q events local) s.byte waits other ends)))
-    at-other false other ends local =
-        let there : ends_data_at on (bytes_of l) ≡ false = (λ i. ends i || (other i && is_white_left (bytes_of l))) in
-        let within : 1 + calls_in_data ss ≤ calls_in_data l = omega (arith, ends-so false there, behind-so false there) in
-        subst (λ n. ReadFrom l q events local DataInside n (calls_in_data l)) (sym (ends-so false there))
-        (read-more l q events local DataInside (1 + next_data ss) (1 + calls_in_data ss) (calls_in_data l) within
-        (one-more DataInside DataInside local (calls_in_data ss) (data-on g text (shows l in_data q events local) s.byte waits other ends) (more (q + 1) events (counts local) next)))
-
-    -- white space is read as data
-    white-on : is_white s.byte ≡ true → is_white_left (bytes_of l) ≡ false → (local : Local Unit Unit) → WhiteReadFrom l q events local
-    white-on is left local =
-        let there : ends_data_at on (bytes_of l) ≡ false = (λ i. white-plain on s.byte is i || (is i && left i)) in
-        let read : WhiteReadFrom ss (q + 1) events (counts local) = white_more (q + 1) events (counts local) next (sym (left-behind s.byte (bytes_of ss) is) ∙ left) in (
-          1 + read.0,
-          omega (arith, read.1, ends-so false there, behind-so false there, white-so true is),
-          subst (λ n. ReadFrom l q events local DataWhite n (1 + read.0)) (sym (ends-so false there))
-              (one-more DataWhite DataWhite local read.0 (ap (λ o. row_step g text (shows l in_data q events local) (white_data_rows (before_class g text q) (class_of text_byte o))) waits ∙ ap (λ w. row_step g text (shows l in_data q events local) (white_data_rows (before_class g text q) (Some w))) (white-class s.byte is))
-              read.2),
-        )
-
-    -- what the look leads to
-    abbrev look : Choice
-    look = record { kind = Check; ok = Next DataOver; nok = Next DataWhite; saved = Some (record { position = q; ended = false; events = length events; stack = in_data }) }
-
-    looks : (read : List Event) (after : Local Unit Unit) (name : Name) (es : Ending) → EndsWith g text m (shows l in_data q events after) [] (Retry name) es
-        → EndsWith g text m (held in_data q Nothing false (take (length events) (events ++ read)) after) [] (Next name) es
-    looks read after name es h =
-        subst (λ xs. EndsWith g text m (held in_data q Nothing false xs after) [] (Next name) es) (sym (take_at events read (length events) refl))
-        (goes-next g text m l in_data q events after [] name at es h)
-
-    -- at white space
-    at-white : (t : Bool) → is_white s.byte ≡ true → is_white_left (bytes_of l) ≡ t → ReadFrom l q events local DataInside (next_data l) (calls_in_data l)
-    at-white true is left =
-        let w = inlines_play_white_spaces g text in
-        let there : ends_data_at on (bytes_of l) ≡ true = (λ i. white-plain on s.byte is i || (is i && left i)) in
-        let after = after_white g text m w in_data (look ∷ []) q false events (counts local) s ss at is in
-        let read = ends-here l q events after DataOver at refl in
-        let looked : IsAfter (1 + (1 + next_white l)) local after = after-more 1 (1 + next_white l) local (counts local) after (after-call local) (white-calls g text m w in_data (look ∷ []) q false events (counts local) s ss at is) in
-        let within : 1 + (1 + next_white l) + 1 ≤ calls_in_data l = omega (arith, behind-so true there) in
-        subst (λ n. ReadFrom l q events local DataInside n (calls_in_data l)) (sym (ends-so true there)) (
-          read.0,
-          after-within (1 + (1 + next_white l) + 1) (calls_in_data l) local read.0 within (after-more (1 + (1 + next_white l)) 1 local after read.0 looked read.1),
-          λ es h.
-              leads-row g text m (row (choose Check (Next DataOver) (Next DataWhite) ∷ []) (Retry SpaceOrTabStart)) (shows l in_data q events local) [] DataInside es (data-looks g text (shows l in_data q events local) s.byte waits is)
-              (ends-white g text m w in_data (look ∷ []) q false events (counts local) s ss at is left es
-              (leads-ok g text m _ look [] es (looks _ after DataOver es (read.2 es h)))),
-        )
-    at-white false is left =
-        let w = inlines_play_white_spaces g text in
-        let after = after_white g text m w in_data (look ∷ []) q false events (counts local) s ss at is in
-        let read : WhiteReadFrom l q events after = white-on is left after in
-        let looked : IsAfter (1 + (1 + next_white l)) local after = after-more 1 (1 + next_white l) local (counts local) after (after-call local) (white-calls g text m w in_data (look ∷ []) q false events (counts local) s ss at is) in
-        let within : 1 + (1 + next_white l) + read.0 ≤ calls_in_data l = omega (arith, read.1, run-some s.byte (bytes_of ss) is) in (
-          read.2.0,
-          after-within (1 + (1 + next_white l) + read.0) (calls_in_data l) local read.2.0 within (after-more (1 + (1 + next_white l)) read.0 local after read.2.0 looked read.2.1),
-          λ es h.
-              leads-row g text m (row (choose Check (Next DataOver) (Next DataWhite) ∷ []) (Retry SpaceOrTabStart)) (shows l in_data q events local) [] DataInside es (data-looks g text (shows l in_data q events local) s.byte waits is)
-              (fails-white g text m w in_data (look ∷ []) q false events (counts local) s ss at is left es
-              (leads-nok g text m _ look [] es (looks _ after DataWhite es (read.2.2 es h)))),
-        )
-
-    -- from any byte of data
-    from-data : (t : Bool) → is_white s.byte ≡ t → ReadFrom l q events local DataInside (next_data l) (calls_in_data l)
-    from-data true is = at-white (is_white_left (bytes_of l)) is refl
-    from-data false other = at-other (ends_data on s.byte) other refl local
-
-    -- and from white space that is data
-    from-white : (t : Bool) → is_white s.byte ≡ t → is_white_left (bytes_of l) ≡ false → WhiteReadFrom l q events local
-    from-white true is left = white-on is left local
-    from-white false other left =
-        let read = at-other (ends_data on s.byte) other refl (counts local) in (
-          1 + calls_in_data l,
-          omega (arith, white-so false other),
-          (
-            read.0,
-            after-more 1 (calls_in_data l) local (counts local) read.0 (after-call local) read.1,
-            λ es h.
-                leads-seen g text m white_data_rows (shows l in_data q events local) [] DataWhite es waits (goes-on-other (before_class g text q) s.byte other) refl (read.2 es h),
-          ),
-        )
-
-  both : (l : List Seat) → DataRead l × WhiteRead l
-  both [] = (
-    (λ q events local at. read-more [] q events local DataInside 0 1 (calls_in_data []) (omega arith) (ends-here [] q events local DataInside at (data-ends-last g text (shows [] in_data q events local) refl))),
-    (λ q events local at left. absurd (cc)),
-  )
-  both (s ∷ ss) =
-      let (more, white_more) = both ss in
-      ((λ q events local at. from-data s ss more white_more q events local at (is_white s.byte) refl), (λ q events local at left. from-white s ss more white_more q events local at (is_white s.byte) refl left))
-
-  -- Data is read, with its event, in so many calls
-  pub reads-data-run-in : (p : ℕ) (ended : Bool) (events : List Event) (local : Local Unit Unit) (s : Seat) (ss : List Seat) → drop p text.seats ≡ s ∷ ss
-      → AddsItemIn g text m between_texts (data_calls on (bytes_of (s ∷ ss))) (between_items p Byte ended events local) (Retry TextBeforeData) p events (s ∷ ss) (data_run (data_length on (bytes_of (s ∷ ss))))
-  reads-data-run-in p ended events local s ss here =
-      let bytes = bytes_of (s ∷ ss) in
-      let n = first_plain bytes in
-      let l = drop n (s ∷ ss) in
-      let whole = data_length on bytes in
-      let begun = data-begun g text m (inlines_begin_data g text) p ended events local s ss here in
-      let entered = entered_data g text m between_texts events p in
-      let behind : drop (p + n) text.seats ≡ l = sym (drop-drop n p text.seats) ∙ ap (drop n) here in
-      let read = (both l).0 (p + n) entered begun.0 behind in
-      let left : bytes_of l ≡ drop n bytes = sym (drop-map (λ (x : Seat). x.byte) n (s ∷ ss)) in
-      let rest : next_data l ≡ up_to (ends_data_at on) (drop n bytes) = ap (up_to (ends_data_at on)) left in
-      let white : white_behind l ≡ prefix_len is_white (drop whole bytes) =
-      white-after-is (ends_data_at on) (bytes_of l) ∙ ap (λ xs. prefix_len is_white (drop (up_to (ends_data_at on) xs) xs)) left ∙ ap (prefix_len is_white) (drop-drop (up_to (ends_data_at on) (drop n bytes)) n bytes) in
-      let within : n + 2 + calls_in_data l ≤ data_calls on bytes = omega (arith, rest, white) in
-      let place : p + n + next_data l ≡ p + whole = add_assoc p n (next_data l) ∙ ap (λ k. p + (n + k)) rest in
-      let size : length bytes ≡ suc (length ss) = length-map (s ∷ ss) (λ x. x.byte) in
-      let first : (1 ≤ n) × (n ≤ length bytes) = ((omega arith), (omega (arith, prefix_len-le-length is_backtick bytes, size))) in
-      let inside : whole ≤ suc (length ss) = omega (arith, first.0, first.1, up-to-within (ends_data_at on) (drop n bytes), length-drop n bytes, size) in
-      let some : 0 < whole = omega (arith, first.0) in
-      let made : with_end entered (p + whole) ≡ events ++ leaf g.bytes Data (take whole (s ∷ ss)) =
-      append_assoc events _ _ ∙ ap (λ es. events ++ es) (leaf-read text g.bytes Data whole p s ss here some inside) in (
-        false,
+  -- a byte is read, and what is behind it
+  one-more : (s : Seat) (ss : List Seat) (q : ℕ) (events : List Event) (name : Name) (local : Local Unit Unit) (n : ℕ) → drop q text.seats ≡ s ∷ ss → ReadsTo g text m (shows (s ∷ ss) in_data q events local) name DataInside
+      → ReadAll ss (q + 1) events (counts local) DataInside n → ReadAll (s ∷ ss) q events local name (1 + n)
+  one-more s ss q events name local n at reads read =
+      let k = shows (s ∷ ss) in_data q events local in
+      let next = drop-next text.seats q s ss at in
+      let place : q + 1 + n ≡ q + (1 + n) = omega arith in
+      let one : suc n ≡ 1 + n = omega arith in
+      let rest : drop n ss ≡ drop (1 + n) (s ∷ ss) = ap (λ j. drop j (s ∷ ss)) one in
+      let size : item_length (white_at (drop n ss)) ≡ item_length (white_at (drop (1 + n) (s ∷ ss))) = ap (λ l. item_length (white_at l)) rest in
+      let few : 1 + (n + item_length (white_at (drop n ss)) + 2) ≤ 1 + n + item_length (white_at (drop (1 + n) (s ∷ ss))) + 2 = omega (arith, size) in (
         read.0,
-        after-within (n + 2 + calls_in_data l) (data_calls on bytes) local read.0 within (after-more (n + 2) (calls_in_data l) local begun.0 read.0 begun.1 read.1),
+        read.1,
+        after-within (1 + (n + item_length (white_at (drop n ss)) + 2)) (1 + n + item_length (white_at (drop (1 + n) (s ∷ ss))) + 2) local read.1 few
+            (after-more 1 (n + item_length (white_at (drop n ss)) + 2) local (counts local) read.1 (after-call local) read.2),
+        λ es h.
+            leads-step g text m.step k [] name (record { configuration = consumed (counted g text m k); choices = []; answer = Next DataInside }) reads es
+            (goes-next g text m ss in_data (q + 1) events (counts local) [] DataInside next es
+            (read.3 es
+            (subst (λ j. EndsWith g text m (reached events j (drop n ss) read.0 read.1) [] (Next TextBefore) es) (sym place)
+            (subst (λ l. EndsWith g text m (reached events (q + (1 + n)) l read.0 read.1) [] (Next TextBefore) es) (sym rest) h)))),
+      )
+
+  -- how many bytes come next is said by whether data ends here
+  ends-so : (s : Seat) (ss : List Seat) (t : Bool) → ends_data_at on (bytes_of (s ∷ ss)) ≡ t → next_data (s ∷ ss) ≡ cond t 0 (1 + next_data ss)
+  ends-so s ss t e = ap (λ t. cond t 0 (1 + next_data ss)) e
+
+  waits : (s : Seat) (ss : List Seat) (q : ℕ) → drop q text.seats ≡ s ∷ ss → byte_of (slice_get text.seats q) ≡ Some s.byte
+  waits s ss q at = ap byte_of (at-front text.seats q s ss at)
+
+  -- at another byte than white space
+  at-other : (s : Seat) (ss : List Seat) → DataRead ss → is_white s.byte ≡ false → (t : Bool) → ends_data on s.byte ≡ t → (q : ℕ) (events : List Event) (local : Local Unit Unit) → drop q text.seats ≡ s ∷ ss
+      → ReadAll (s ∷ ss) q events local DataInside (next_data (s ∷ ss))
+  at-other s ss more other true ends q events local at =
+      let l = s ∷ ss in
+      let there : ends_data_at on (bytes_of l) ≡ true = (λ i. ends i || (is_white s.byte && is_white_left (bytes_of l))) in
+      subst (ReadAll l q events local DataInside) (sym (ends-so s ss true there))
+      (read-more l q events local DataInside 0 1 (0 + item_length (white_at l) + 2) (omega arith)
+      (ends-here l q events local DataInside at (white-none on s.byte (bytes_of ss) no_item other) (plays.inside_ends (shows l in_data q events local) s.byte (waits s ss q at) other ends)))
+  at-other s ss more other false ends q events local at =
+      let l = s ∷ ss in
+      let there : ends_data_at on (bytes_of l) ≡ false = (λ i. ends i || (other i && is_white_left (bytes_of l))) in
+      subst (ReadAll l q events local DataInside) (sym (ends-so s ss false there))
+      (one-more s ss q events DataInside local (next_data ss) at (plays.inside_on (shows l in_data q events local) s.byte (waits s ss q at) other ends)
+      (more (q + 1) events (counts local) (drop-next text.seats q s ss at)))
+
+  -- behind white space that was read as data
+  behind-white : (w : White) (r : List Seat) → ((t : Seat) (ts : List Seat) → r ≡ t ∷ ts → DataRead ts) → passes is_white (first_byte r) ≡ false → ends_line (first_byte r) ≡ false
+      → (q : ℕ) (events : List Event) (local : Local Unit Unit) → drop q text.seats ≡ r → ReadAll r q events local (inside w) (next_data r)
+  behind-white w [] more other goes q events local at = absurd (cc)
+  behind-white w (t ∷ ts) more other goes q events local at =
+      let r = t ∷ ts in
+      let k = shows r in_data q events local in
+      let line = no-line t.byte goes in
+      elim (ends_data on t.byte) as (λ b. ends_data on t.byte ≡ b → ReadAll r q events local (inside w) (next_data r)) [
+        | true ↦ λ ends.
+            let there : ends_data_at on (bytes_of r) ≡ true = (λ i. ends i || (is_white t.byte && is_white_left (bytes_of r))) in
+            let after = counts local in
+            let read = ends-here r q events after DataInside at (white-none on t.byte (bytes_of ts) no_item other) (plays.inside_ends (shows r in_data q events after) t.byte (waits t ts q at) other ends) in
+            subst (ReadAll r q events local (inside w)) (sym (ends-so t ts true there)) (
+              read.0,
+              read.1,
+              after-within (1 + 1) (0 + item_length (white_at r) + 2) local read.1 (omega arith) (after-more 1 1 local after read.1 (after-call local) read.2),
+              λ es h.
+                  leads-step g text m.step k [] (inside w) (record { configuration = counted g text m k; choices = []; answer = Retry DataInside }) (plays.data_special w k t.byte (waits t ts q at) other line ends) es (read.3 es h),
+            )
+        | false ↦ λ ends.
+            let there : ends_data_at on (bytes_of r) ≡ false = (λ i. ends i || (other i && is_white_left (bytes_of r))) in
+            subst (ReadAll r q events local (inside w)) (sym (ends-so t ts false there))
+            (one-more t ts q events (inside w) local (next_data ts) at (plays.data_other w k t.byte (waits t ts q at) other ends) (more t ts refl (q + 1) events (counts local) (drop-next text.seats q t ts at)))
+      ] refl
+
+  -- at white space with which its line ends data ends, and that is read
+  white-last-of-line : (s : Seat) (ss : List Seat) → is_white s.byte ≡ true → is_white_left (bytes_of (s ∷ ss)) ≡ true → (q : ℕ) (events : List Event) (local : Local Unit Unit) → drop q text.seats ≡ s ∷ ss → ReadAll (s ∷ ss) q events local DataInside 0
+  white-last-of-line s ss is left q events local at =
+      let l = s ∷ ss in
+      let n = prefix_len is_white (bytes_of l) in
+      let breaks = breaks_here g text m plays s ss q at is in
+      let found : white_at l ≡ found_white breaks n = white-ends on s.byte (bytes_of ss) no_item is left in
+      let size : item_length (white_at l) ≡ n = ap item_length found ∙ found-size breaks n in
+      let made = data-made g text m plays s ss q at is left events local in
+      let few : n + 1 ≤ 0 + item_length (white_at l) + 2 = omega (arith, size) in
+      let first : q + 0 ≡ q = omega arith in (
+        false,
+        made.0,
+        after-within (n + 1) (0 + item_length (white_at l) + 2) local made.0 few made.1,
+        λ es h.
+            made.2 es
+            (as-found g text m breaks n q (with_end events q) l made.0 es
+            (subst (λ w. EndsWith g text m (reached_by events q l w false made.0) [] (Next TextBefore) es) found
+            (subst (λ j. EndsWith g text m (reached events j l false made.0) [] (Next TextBefore) es) first h))),
+      )
+
+  -- at white space that its line does not end with it goes on
+  white-on : (s : Seat) (ss : List Seat) → ((ts : List Seat) → length ts ≤ length ss → DataRead ts) → is_white s.byte ≡ true → is_white_left (bytes_of (s ∷ ss)) ≡ false → (q : ℕ) (events : List Event) (local : Local Unit Unit)
+      → drop q text.seats ≡ s ∷ ss → ReadAll (s ∷ ss) q events local DataInside (next_data (s ∷ ss))
+  white-on s ss more is left q events local at =
+      let l = s ∷ ss in
+      let k = prefix_len is_white (bytes_of l) in
+      let r = past is_white ss in
+      let read = to-rest g text m plays s ss q at is inside in_data plays.data_on false events local DataInside plays.data_begins in
+      let cut : drop k l ≡ r = sym (past-is is_white l) ∙ rest-is g text m plays s ss q at is in
+      let there = rest-at g text m plays s ss q at is in
+      let shorter : (t : Seat) (ts : List Seat) → r ≡ t ∷ ts → DataRead ts = λ t ts e.
+      (let size : length (drop k l) ≡ suc (length ts) = ap length (cut ∙ e) in more ts (omega (arith, size, length-drop k l, run-some s.byte (bytes_of ss) is))) in
+      let rest = behind-white (all_white g text m plays s ss q at is) r shorter (past-stops is_white ss) (sym (followed g text m plays s ss q at is) ∙ left) (q + k) events read.0 there in
+      let n = next_data r in
+      let all : next_data l ≡ k + n =
+      over-white on (bytes_of l) left ∙ ap (λ xs. k + up_to (ends_data_at on) xs) (drop-map (λ (x : Seat). x.byte) k l ∙ ap bytes_of cut) in
+      let place : q + k + n ≡ q + (k + n) = omega arith in
+      let behind : drop n r ≡ drop (k + n) l = ap (drop n) (sym cut) ∙ drop-drop n k l in
+      let size : item_length (white_at (drop n r)) ≡ item_length (white_at (drop (k + n) l)) = ap (λ l. item_length (white_at l)) behind in
+      let few : k + (n + item_length (white_at (drop n r)) + 2) ≤ k + n + item_length (white_at (drop (k + n) l)) + 2 = omega (arith, size) in
+      subst (ReadAll l q events local DataInside) (sym all) (
+        rest.0,
+        rest.1,
+        after-within (k + (n + item_length (white_at (drop n r)) + 2)) (k + n + item_length (white_at (drop (k + n) l)) + 2) local rest.1 few
+            (after-more k (n + item_length (white_at (drop n r)) + 2) local read.0 rest.1 read.1 rest.2),
+        λ es h.
+            read.3 es
+            (rest.3 es
+            (subst (λ j. EndsWith g text m (reached events j (drop n r) rest.0 rest.1) [] (Next TextBefore) es) (sym place)
+            (subst (λ l. EndsWith g text m (reached events (q + (k + n)) l rest.0 rest.1) [] (Next TextBefore) es) (sym behind) h))),
+      )
+
+  -- from any byte of data
+  from-byte : (s : Seat) (ss : List Seat) → ((ts : List Seat) → length ts ≤ length ss → DataRead ts) → DataRead (s ∷ ss)
+  from-byte s ss more q events local at =
+      let l = s ∷ ss in
+      elim (is_white s.byte) as (λ t. is_white s.byte ≡ t → ReadAll l q events local DataInside (next_data l)) [
+        | true ↦ λ is. elim (is_white_left (bytes_of l)) as (λ t. is_white_left (bytes_of l) ≡ t → ReadAll l q events local DataInside (next_data l)) [
+          | true ↦ λ left.
+              let there : ends_data_at on (bytes_of l) ≡ true = (λ i. white-plain on s.byte is i || (is i && left i)) in
+              subst (ReadAll l q events local DataInside) (sym (ends-so s ss true there)) (white-last-of-line s ss is left q events local at)
+          | false ↦ λ left. white-on s ss more is left q events local at
+        ] refl
+        | false ↦ λ other. at-other s ss (more ss (omega arith)) other (ends_data on s.byte) refl q events local at
+      ] refl
+
+  data-read-within : (bound : ℕ) (l : List Seat) → length l ≤ bound → DataRead l
+  data-read-within bound [] h = λ q events local at.
+      read-more [] q events local DataInside 0 1 (0 + item_length (white_at []) + 2) (omega arith)
+      (ends-here [] q events local DataInside at (white-last on no_item) (plays.inside_ends_last (shows [] in_data q events local) refl))
+  data-read-within zero (s ∷ ss) h = absurd (omega (arith, h))
+  data-read-within (suc bound) (s ∷ ss) h = from-byte s ss (λ ts less. data-read-within bound ts (omega (arith, h, less)))
+
+  pub data-read : (l : List Seat) → DataRead l
+  data-read l = data-read-within (length l) l (omega arith)
+
+  -- ---- the item
+  -- what was read of data that began at a byte is data with the white space behind it
+  joined-made : (p : ℕ) (events : List Event) (s : Seat) (ss : List Seat) (ended : Bool) (after : Local Unit Unit) (es : Ending) → drop p text.seats ≡ s ∷ ss
+      → (let item = data_joined on (bytes_of (s ∷ ss)) in EndsWith g text m (between_items (p + item_length item) Nothing ended (events ++ item_events g.bytes (item, take (item_length item) (s ∷ ss))) after) [] (Next TextBefore) es)
+      → (let n = data_length on (bytes_of (s ∷ ss)) in EndsWith g text m (reached (entered_data g text m between_texts events p) (p + n) (drop n (s ∷ ss)) ended after) [] (Next TextBefore) es)
+  joined-made p events s ss ended after es here h =
+      let l = s ∷ ss in
+      let bytes = bytes_of l in
+      let n = data_length on bytes in
+      let rest = drop n l in
+      let size : length bytes ≡ suc (length ss) = length-map l (λ x. x.byte) in
+      let within : n ≤ suc (length ss) = omega (arith, data-within on s.byte (bytes_of ss), size) in
+      let some : 0 < n = omega arith in
+      let w = white_at rest in
+      let left : drop n bytes ≡ bytes_of rest = drop-map (λ (x : Seat). x.byte) n l in
+      let entered = entered_data g text m between_texts events p in
+      let behind : Found → List Event = λ w. w.events g.bytes (drop n (take (n + w.size) l)) in
+      let whole : Found → Configuration Unit Unit = λ w. between_items (p + (n + w.size)) Nothing ended (events ++ (leaf g.bytes Data (take n (take (n + w.size) l)) ++ behind w)) after in
+      let place : p + (n + w.size) ≡ p + n + w.size = omega arith in
+      let less : n ≤ n + w.size = omega arith in
+      let made : with_end entered (p + n) ≡ events ++ leaf g.bytes Data (take n l) = append_assoc events _ _ ∙ ap (λ es. events ++ es) (leaf-read text g.bytes Data n p s ss here some within) in
+      let all : events ++ (leaf g.bytes Data (take n (take (n + w.size) l)) ++ behind w) ≡ with_end entered (p + n) ++ w.events g.bytes (take w.size rest) =
+      ap (λ xs. events ++ (leaf g.bytes Data xs ++ behind w)) (take-take n (n + w.size) l less)
+      ∙ ap (λ xs. events ++ (leaf g.bytes Data (take n l) ++ w.events g.bytes xs)) (drop-take n w.size l)
+      ∙ sym (append_assoc events (leaf g.bytes Data (take n l)) (w.events g.bytes (take w.size rest)))
+      ∙ ap (λ xs. xs ++ w.events g.bytes (take w.size rest)) (sym made) in
+      subst (λ j. EndsWith g text m (between_items j Nothing ended (with_end entered (p + n) ++ w.events g.bytes (take w.size rest)) after) [] (Next TextBefore) es) place
+      (subst (λ xs. EndsWith g text m (between_items (p + (n + w.size)) Nothing ended xs after) [] (Next TextBefore) es) all
+      (subst (λ (w : Found). EndsWith g text m (whole w) [] (Next TextBefore) es) (ap (white_behind on) left) h))
+
+  -- Data is read with the white space behind it, from where it was begun with its first bytes
+  from-begun : (p n calls : ℕ) (ended : Bool) (events : List Event) (local : Local Unit Unit) (s : Seat) (ss : List Seat) (name : Name) → drop p text.seats ≡ s ∷ ss
+      → data_length on (bytes_of (s ∷ ss)) ≡ n + next_data (drop n (s ∷ ss))
+      → (after : Local Unit Unit) × IsAfter calls local after
+      × Leads g text m (between_items p Byte ended events local) [] (Retry name) (shows (drop n (s ∷ ss)) in_data (p + n) (entered_data g text m between_texts events p) after) [] (Retry DataInside)
+      → AddsItemIn g text m between_texts (calls + item_length (data_joined on (bytes_of (s ∷ ss))) + 2) (between_items p Byte ended events local) (Retry name) p events (s ∷ ss) (data_joined on (bytes_of (s ∷ ss)))
+  from-begun p n calls ended events local s ss name here is begun =
+      let l = s ∷ ss in
+      let rest = drop n l in
+      let k = next_data rest in
+      let entered = entered_data g text m between_texts events p in
+      let behind : drop (p + n) text.seats ≡ rest = sym (drop-drop n p text.seats) ∙ ap (drop n) here in
+      let read = data-read rest (p + n) entered begun.0 behind in
+      let size = data_length on (bytes_of l) in
+      let place : p + size ≡ p + n + k = omega (arith, is) in
+      let cut : drop size l ≡ drop k rest = ap (λ j. drop j l) is ∙ sym (drop-drop k n l) in
+      let white : item_length (white_at (drop k rest)) ≡ item_length (white_behind on (drop size (bytes_of l))) = ap (λ l. item_length (white_at l)) (sym cut) ∙ ap (λ bs. item_length (white_behind on bs)) (sym (drop-map (λ (x : Seat). x.byte) size l)) in
+      let few : calls + (k + item_length (white_at (drop k rest)) + 2) ≤ calls + item_length (data_joined on (bytes_of l)) + 2 = omega (arith, is, white) in (
+        read.0,
+        read.1,
+        after-within (calls + (k + item_length (white_at (drop k rest)) + 2)) (calls + item_length (data_joined on (bytes_of l)) + 2) local read.1 few
+            (after-more calls (k + item_length (white_at (drop k rest)) + 2) local begun.0 read.1 begun.1 read.2),
         λ es h.
             begun.2 es
-            (read.2 es
-            (subst (λ q. EndsWith g text m (between_items q Nothing false (with_end entered q) read.0) [] (Next TextBefore) es) (sym place)
-            (subst (λ xs. EndsWith g text m (between_items (p + whole) Nothing false xs read.0) [] (Next TextBefore) es) (sym made) h))),
+            (read.3 es
+            (subst (λ j. EndsWith g text m (reached entered j (drop k rest) read.0 read.1) [] (Next TextBefore) es) place
+            (subst (λ l. EndsWith g text m (reached entered (p + size) l read.0 read.1) [] (Next TextBefore) es) cut
+            (joined-made p events s ss read.0 read.1 es here h)))),
       )
 
-  pub reads-data-run : (p : ℕ) (ended : Bool) (events : List Event) (local : Local Unit Unit) (s : Seat) (ss : List Seat) → drop p text.seats ≡ s ∷ ss
-      → AddsItem g text m between_texts (between_items p Byte ended events local) (Retry TextBeforeData) p events (s ∷ ss) (data_run (data_length on (bytes_of (s ∷ ss))))
-  reads-data-run p ended events local s ss here =
-      let bytes = bytes_of (s ∷ ss) in
-      adds-of g text m between_texts (data_calls on bytes) (between_items p Byte ended events local) (Retry TextBeforeData) p events (s ∷ ss) (data_run (data_length on bytes)) (reads-data-run-in p ended events local s ss here)
+  -- Data is read, from a byte at which no construct is
+  pub reads-data-run-in : BeginsData g text m → (p : ℕ) (ended : Bool) (events : List Event) (local : Local Unit Unit) (s : Seat) (ss : List Seat) → drop p text.seats ≡ s ∷ ss
+      → let item = data_joined on (bytes_of (s ∷ ss)) in AddsItemIn g text m between_texts (2 * item_length item + 4) (between_items p Byte ended events local) (Retry TextBeforeData) p events (s ∷ ss) item
+  reads-data-run-in b p ended events local s ss here =
+      let l = s ∷ ss in
+      let n = first_plain (bytes_of l) in
+      let left : drop n (bytes_of l) ≡ bytes_of (drop n l) = drop-map (λ (x : Seat). x.byte) n l in
+      let is : data_length on (bytes_of l) ≡ n + next_data (drop n l) = ap (λ xs. n + up_to (ends_data_at on) xs) left in
+      let item = data_joined on (bytes_of l) in
+      let few : n + 2 + item_length item + 2 ≤ 2 * item_length item + 4 = omega (arith, is) in
+      adds-more g text m between_texts (n + 2 + item_length item + 2) (2 * item_length item + 4) (between_items p Byte ended events local) (Retry TextBeforeData) p events l item few
+      (from-begun p n (n + 2) ended events local s ss TextBeforeData here is (data-begun g text m b p ended events local s ss here))
+
+  -- Data that begins with white space is read
+  pub reads-white-data-in : (p : ℕ) (ended : Bool) (events : List Event) (local : Local Unit Unit) (s : Seat) (ss : List Seat) → drop p text.seats ≡ s ∷ ss → is_white s.byte ≡ true → is_white_left (bytes_of (s ∷ ss)) ≡ false
+      → let item = data_joined on (bytes_of (s ∷ ss)) in AddsItemIn g text m between_texts (2 * item_length item + 4) (between_items p Byte ended events local) (Retry TextBefore) p events (s ∷ ss) item
+  reads-white-data-in p ended events local s ss here white left =
+      let l = s ∷ ss in
+      let n = prefix_len is_white (bytes_of l) in
+      let cut : drop n (bytes_of l) ≡ bytes_of (drop n l) = drop-map (λ (x : Seat). x.byte) n l in
+      let is : data_length on (bytes_of l) ≡ n + next_data (drop n l) = white-data on s.byte (bytes_of ss) white left ∙ ap (λ xs. n + up_to (ends_data_at on) xs) cut in
+      let item = data_joined on (bytes_of l) in
+      let few : n + 1 + item_length item + 2 ≤ 2 * item_length item + 4 = omega (arith, is) in
+      let begun = begins-data g text m plays s ss p here white left ended events local in
+      let entered = entered_data g text m between_texts events p in
+      let rest : past is_white ss ≡ drop n l = sym (rest-is g text m plays s ss p here white) ∙ past-is is_white l in
+      adds-more g text m between_texts (n + 1 + item_length item + 2) (2 * item_length item + 4) (between_items p Byte ended events local) (Retry TextBefore) p events l item few
+      (from-begun p n (n + 1) ended events local s ss TextBefore here is (begun.0, begun.1, λ es h. begun.2 es (subst (λ r. EndsWith g text m (shows r in_data (p + n) entered begun.0) [] (Retry DataInside) es) (sym rest) h)))

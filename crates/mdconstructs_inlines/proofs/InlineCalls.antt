@@ -1,14 +1,13 @@
 -- In how many calls the machine of inline text reads a text: at most so many for each virtual byte. What code spans and raw HTML between marks cost is
 -- said by what is remembered; all else is paid by the bytes that are read, and tags, autolinks and emails by the bytes up to where a look for one ends.
-use Rattle.mdconstructs_inlines.proofs.Prelude.{◌≡◌, ℕ, zero, suc, ◌+◌, ◌*◌, ◌<◌, ◌≤◌, List, [], ◌∷◌, ◌++◌, Bool, true, false, Option, Some, None, refl, sym, ap, ◌∙◌, subst, arith, length, take, drop, nat_tests, drop-map, length-drop, length-map, prefix_len-le-length, prefix_len, Constructs, Event, Name, State, Next, Retry, TextBefore, TextBeforeData, TextStart, TextLineStart, Seat, Byte, Nothing, Choice, Configuration, Local, start_configuration, Given, IsText, Text, is_white, backticks, is_backtick, Construct, Found, between_texts, item_length, bytes_of, TextByte, item_events, autolinks-apart, autolink-paid, autolink-within, from-less-ahead, from-less-within, from_less, link-missed, link_calls, autolinks-reads-in, OfOption, Knowledge, outer, escapes-apart, escape-paid, escape-within, escape_calls, escapes-reads-in, goes-next, IsAfter, Remembered, after-call, remembered, Ending, spent, EndsWith, Leads, Plays, between_items, break_escapes, html_tags, references, white_spaces, emails-apart, email-paid, email-within, emails-reads-in, break-escapes-apart, trailing-breaks-apart, break-escape-paid, break-escape-within, break_escape_calls, trailing-break-looked, trailing-break-paid, trailing-break-within, trailing_break_calls, break-escapes-read-in, trailing-breaks-read-in, html-tags-apart, tag-paid, tag-within, tag-missed, tag_calls, tags-ahead-later, tags-ahead-within, tags_ahead, html-tags-read-in, references-apart, reference-within, reference_calls, references-read-in, white-spaces-apart, white-space-paid, white-space-within, white_calls, white-spaces-read-in, inline_item_at, read_events, run_or_part, behind_autolinks, behind_emails, behind_escapes, behind_marks, inline_constructs, white_constructs}
+use Rattle.mdconstructs_inlines.proofs.Prelude.{◌≡◌, ℕ, zero, suc, ◌+◌, ◌*◌, ◌<◌, ◌≤◌, List, [], ◌∷◌, ◌++◌, Bool, true, false, Option, Some, None, refl, sym, ap, ◌∙◌, subst, arith, length, take, drop, nat_tests, length-drop, length-map, prefix_len-le-length, prefix_len, Constructs, Event, Name, State, Next, Retry, TextBefore, TextBeforeData, TextStart, TextLineStart, Seat, Byte, Nothing, Choice, Configuration, Local, start_configuration, Given, IsText, Text, is_white, backticks, is_backtick, Construct, Found, between_texts, item_length, bytes_of, TextByte, item_events, autolinks-apart, autolink-paid, autolink-within, from-less-ahead, from-less-within, from_less, link-missed, link_calls, autolinks-reads-in, OfOption, Knowledge, outer, escapes-apart, escape-paid, escape-within, escape_calls, escapes-reads-in, goes-next, IsAfter, Remembered, after-call, remembered, Ending, spent, EndsWith, Leads, Plays, between_items, break_escapes, html_tags, references, emails-apart, email-paid, email-within, emails-reads-in, break-escapes-apart, break-escape-paid, break-escape-within, break_escape_calls, break-escapes-read-in, html-tags-apart, tag-paid, tag-within, tag-missed, tag_calls, tags-ahead-later, tags-ahead-within, tags_ahead, html-tags-read-in, references-apart, reference-within, reference_calls, references-read-in, read_events, behind_autolinks, behind_emails, behind_escapes, behind_marks, inline_constructs}
 use Rattle.mdconstructs_inlines.proofs.Budgets.{DecidesPaid, GoDown, Pays, Potential, Prices, ReadsPaid, Tries, TriesNone, adds-paid, budget-kept, budgeted, reads-budgeted, reads-within, total, total-behind, total-down, total-drop, try-all, try-none}
-use Rattle.mdconstructs_inlines.proofs.DataBytes.{behind-white-within, behind_white, part-within, part_calls, white-paid}
-use Rattle.mdconstructs_inlines.proofs.FrontRuns.{data-run, front_run, no-run, own-run, trailing-whole, white-run}
-use Rattle.mdconstructs_inlines.proofs.InlineApart.{some-other}
-use Rattle.mdconstructs_inlines.proofs.InlineListed.{ReadsParts, inlines-from, then_breaks, then_data, then_emails, then_html, then_tags, then_white}
+use Rattle.mdconstructs_inlines.proofs.FrontRuns.{data-run, no-backticks, own-run}
+use Rattle.mdconstructs_inlines.proofs.InlineListed.{ReadsParts, inlines-from, then_breaks, then_data, then_emails, then_html, then_tags}
+use Rattle.mdconstructs_inlines.proofs.JoinedItems.{joined_item_at, joined_other, other-within, some-other}
 use Rattle.mdconstructs_inlines.proofs.LineReads.{start-read-in}
-use Rattle.mdconstructs_inlines.proofs.PartReads.{data-read-in, own-read-in}
-use Rattle.mdconstructs_inlines.proofs.Playing.{inlines_play, inlines_play_break_escapes, inlines_play_emails, inlines_play_references, inlines_play_tags, inlines_play_trailing_breaks, inlines_play_white_spaces}
+use Rattle.mdconstructs_inlines.proofs.PartReads.{data-read-in, own-read-in, part_calls}
+use Rattle.mdconstructs_inlines.proofs.Playing.{inlines_play, inlines_play_break_escapes, inlines_play_emails, inlines_play_references, inlines_play_tags}
 use Rattle.mdconstructs_inlines.proofs.Starts.{from-registering-in, start_local}
 
 -- What is remembered of a text: what is known of it, by the place; and what code spans and raw HTML between marks may still cost
@@ -43,8 +42,8 @@ code_toll bs = 7 * backticks bs + 3
 abbrev pub mark_toll : List ℕ → ℕ
 mark_toll bs = 18
 
--- What a try of each construct costs beside, the last of the list first: white space, hard breaks by spaces, references, hard breaks by a backslash,
--- escapes, tags, raw HTML between marks, emails, autolinks, code spans
+-- What a try of each construct costs beside, the last of the list first: references, hard breaks by a backslash, escapes, tags, raw HTML between marks,
+-- emails, autolinks, code spans
 abbrev pub one_toll : List ℕ → ℕ → ℕ
 one_toll [] n = 0
 one_toll (t ∷ ts) zero = t
@@ -53,25 +52,24 @@ one_toll (t ∷ ts) (suc n) = one_toll ts n
 abbrev pub inline_toll : List Seat → ℕ → ℕ
 inline_toll l =
     let bs = bytes_of l in
-    let white = prefix_len is_white bs + 2 in
-    one_toll (white ∷ white ∷ 36 ∷ 3 ∷ 3 ∷ 3 ∷ (mark_toll bs + 1) ∷ 2 ∷ 2 ∷ (code_toll bs + 1) ∷ [])
+    one_toll (36 ∷ 3 ∷ 3 ∷ 3 ∷ (mark_toll bs + 1) ∷ 2 ∷ 2 ∷ (code_toll bs + 1) ∷ [])
 
 -- what each byte pays for
 abbrev pub calls_a_byte : ℕ
-calls_a_byte = 119
+calls_a_byte = 115
 
 -- so many calls are enough for a text of so many virtual bytes
 abbrev pub inline_budget : ℕ → ℕ
-inline_budget n = 143 * n + 3
+inline_budget n = 138 * n + 3
 
 abbrev pub inline_prices : Constructs → TextMemory → Prices
 inline_prices on x = record {
-  potentials = free ∷ free ∷ free ∷ free ∷ free ∷ tags_left ∷ x.marks ∷ links_left ∷ links_left ∷ x.code ∷ [];
+  potentials = free ∷ free ∷ free ∷ tags_left ∷ x.marks ∷ links_left ∷ links_left ∷ x.code ∷ [];
   toll = inline_toll;
-  fixed = λ l. behind_white (bytes_of l) + calls_a_byte * length l;
+  fixed = λ l. calls_a_byte * length l;
   sound = x.sound;
-  other = run_or_part on;
-  item = inline_item_at on;
+  other = joined_other on;
+  item = joined_item_at on;
 }
 
 -- what holds of a thing that is there, where less is asked
@@ -79,10 +77,10 @@ weaker : {A : Type 0} (P Q : A → Type 0) → ((a : A) → P a → Q a) → (o 
 weaker P Q f None h = tt
 weaker P Q f (Some a) h = f a h
 
--- the sum for an item: each of its bytes pays for some calls, for the looks at the white space or the backtick string at its front, and for the tries
-pays-sum : (n size whole rest white ticks next before behind same : ℕ) → same ≡ behind → 0 < size → rest + size ≡ whole → white + ticks ≤ size → n ≤ 7 * size + next + 28 → next + behind ≤ before
-    → let w = white + 2 in n + 1 + (w + (w + (36 + (3 + (3 + (3 + (18 + 1 + (2 + (2 + (7 * ticks + 3 + 1 + 0)))))))))) + (same + 119 * rest) ≤ before + 119 * whole
-pays-sum n size whole rest white ticks next before behind same is some cut run few paid = omega (arith, is, some, cut, run, few, paid)
+-- the sum for an item: each of its bytes pays for some calls, for the looks at the backtick string at its front, and for the tries
+pays-sum : (n size whole rest ticks : ℕ) → 0 < size → rest + size ≡ whole → ticks ≤ size → n ≤ 7 * size + 28
+    → n + 1 + (36 + (3 + (3 + (3 + (18 + 1 + (2 + (2 + (7 * ticks + 3 + 1 + 0)))))))) + 115 * rest ≤ 115 * whole
+pays-sum n size whole rest ticks some cut run few = omega (arith, some, cut, run, few)
 
 module _ (g : Given) (text : Text) (memory : TextMemory) (is : IsTextMemory memory) (budget : ℕ) where
   abbrev on : Constructs
@@ -99,38 +97,28 @@ module _ (g : Given) (text : Text) (memory : TextMemory) (is : IsTextMemory memo
       let nothing : (r : Remembered) (s : Seat) (ss : List Seat) → 0 ≤ 0 = λ r s ss. omega arith in
       let links : (r : Remembered) (s : Seat) (ss : List Seat) → from_less (bytes_of ss) ≤ from_less (bytes_of (s ∷ ss)) = λ r s ss. from-less-ahead s.byte (bytes_of ss) in
       let tags : (r : Remembered) (s : Seat) (ss : List Seat) → tags_ahead (bytes_of ss) ≤ tags_ahead (bytes_of (s ∷ ss)) = λ r s ss. tags-ahead-later s.byte (bytes_of ss) in
-      (nothing, (nothing, (nothing, (nothing, (nothing, (tags, (is.marks_down, (links, (links, (is.code_down, tt))))))))))
+      (nothing, (nothing, (nothing, (tags, (is.marks_down, (links, (links, (is.code_down, tt))))))))
 
   -- ---- what its bytes pay for
-  -- an item that has the white space or the backtick string at its front whole, pays for this many calls
-  pub pays-enough : (n size : ℕ) (l : List Seat) → 0 < size → size ≤ length l → front_run (bytes_of l) ≤ size → n ≤ 7 * size + prefix_len is_white (drop size (bytes_of l)) + 28 → Pays text on x budget n size l
+  -- an item that has the backtick string at its front whole pays for this many calls
+  pub pays-enough : (n size : ℕ) (l : List Seat) → 0 < size → size ≤ length l → backticks (bytes_of l) ≤ size → n ≤ 7 * size + 28 → Pays text on x budget n size l
   pays-enough n size l some within run few =
-      let bytes = bytes_of l in
-      let cut : bytes_of (drop size l) ≡ drop size bytes = sym (drop-map (λ (s : Seat). s.byte) size l) in
-      let same : behind_white (bytes_of (drop size l)) ≡ behind_white (drop size bytes) = ap behind_white cut in
-      let total_length : length bytes ≡ length l = length-map l (λ (s : Seat). s.byte) in
-      let white : prefix_len is_white bytes ≤ size = omega (arith, run) in
-      let inside : size ≤ length bytes = omega (arith, within, total_length) in
-      let paid = white-paid size bytes inside white in
-      let rest : length (drop size l) + size ≡ length l = omega (arith, length-drop size l, within) in (
-        some,
-        pays-sum n size (length l) (length (drop size l)) (prefix_len is_white bytes) (backticks bytes) (prefix_len is_white (drop size bytes)) (behind_white bytes) (behind_white (drop size bytes))
-            (behind_white (bytes_of (drop size l))) same some rest run few paid,
-      )
+      let rest : length (drop size l) + size ≡ length l = omega (arith, length-drop size l, within) in
+      (some, pays-sum n size (length l) (length (drop size l)) (backticks (bytes_of l)) some rest run few)
 
   -- a construct that is there pays, if it is long enough
   found-paid : (n : ℕ) (s : Seat) (ss : List Seat) (o : Option Found) → OfOption (λ (i : Found). 0 < item_length i) o → OfOption (λ (i : Found). item_length i ≤ length (bytes_of (s ∷ ss))) o
-      → OfOption (λ (i : Found). front_run (bytes_of (s ∷ ss)) ≤ item_length i) o → OfOption (λ (i : Found). n ≤ 7 * item_length i + 28) o → (item : Found) → o ≡ Some item → Pays text on x budget n (item_length item) (s ∷ ss)
+      → OfOption (λ (i : Found). backticks (bytes_of (s ∷ ss)) ≤ item_length i) o → OfOption (λ (i : Found). n ≤ 7 * item_length i + 28) o → (item : Found) → o ≡ Some item → Pays text on x budget n (item_length item) (s ∷ ss)
   found-paid n s ss None some within run few item there = absurd (cc)
   found-paid n s ss (Some i) some within run few item there =
       let same : i ≡ item = cc in
       let inside : item_length i ≤ length (s ∷ ss) = omega (arith, within, length-map (s ∷ ss) (λ (s : Seat). s.byte)) in
       subst (λ (i : Found). Pays text on x budget n (item_length i) (s ∷ ss)) same (pays-enough n (item_length i) (s ∷ ss) some inside run (omega (arith, few)))
 
-  -- where neither white space nor a backtick is
-  none-run : (s : Seat) (ss : List Seat) → is_white s.byte ≡ false → is_backtick s.byte ≡ false → (o : Option Found) → OfOption (λ (i : Found). front_run (bytes_of (s ∷ ss)) ≤ item_length i) o
-  none-run s ss white tick None = tt
-  none-run s ss white tick (Some i) = omega (arith, no-run s.byte (bytes_of ss) white tick)
+  -- where no backtick is
+  none-run : (s : Seat) (ss : List Seat) → is_backtick s.byte ≡ false → (o : Option Found) → OfOption (λ (i : Found). backticks (bytes_of (s ∷ ss)) ≤ item_length i) o
+  none-run s ss tick None = tt
+  none-run s ss tick (Some i) = omega (arith, no-backticks s.byte (bytes_of ss) tick)
 
   -- ---- the constructs
   abbrev known : Knowledge Found TextByte (Unit {0})
@@ -144,11 +132,10 @@ module _ (g : Given) (text : Text) (memory : TextMemory) (is : IsTextMemory memo
       reads-within g text m between_texts x budget inline-down is.later then_emails behind_autolinks link_calls (autolinks-reads-in g text m between_texts is-text)
       (λ s ss first none r. (let missed = link-missed s.byte (bytes_of ss) first in omega (arith, missed)))
       (λ s ss first.
-      let white : is_white s.byte ≡ false = grind (arith, nat_tests) in
       let tick : is_backtick s.byte ≡ false = grind (arith, nat_tests) in
       let n = link_calls (bytes_of (s ∷ ss)) in
       let o = then_emails.grammar.front (bytes_of (s ∷ ss)) in
-      found-paid n s ss o (autolinks-apart.some s.byte (bytes_of ss)) (autolink-within s.byte (bytes_of ss)) (none-run s ss white tick o)
+      found-paid n s ss o (autolinks-apart.some s.byte (bytes_of ss)) (autolink-within s.byte (bytes_of ss)) (none-run s ss tick o)
       (weaker (λ (i : Found). n ≤ item_length i) (λ (i : Found). n ≤ 7 * item_length i + 28) (λ i h. omega (arith, h)) o (autolink-paid s.byte (bytes_of ss))))
 
   emails-are-paid : IsText g text → Paid then_html behind_emails
@@ -156,11 +143,10 @@ module _ (g : Given) (text : Text) (memory : TextMemory) (is : IsTextMemory memo
       reads-within g text m between_texts x budget inline-down is.later then_html behind_emails link_calls (emails-reads-in g text m (inlines_play_emails g text) between_texts is-text)
       (λ s ss first none r. (let missed = link-missed s.byte (bytes_of ss) first in omega (arith, missed)))
       (λ s ss first.
-      let white : is_white s.byte ≡ false = grind (arith, nat_tests) in
       let tick : is_backtick s.byte ≡ false = grind (arith, nat_tests) in
       let n = link_calls (bytes_of (s ∷ ss)) in
       let o = then_html.grammar.front (bytes_of (s ∷ ss)) in
-      found-paid n s ss o (emails-apart.some s.byte (bytes_of ss)) (email-within s.byte (bytes_of ss)) (none-run s ss white tick o)
+      found-paid n s ss o (emails-apart.some s.byte (bytes_of ss)) (email-within s.byte (bytes_of ss)) (none-run s ss tick o)
       (weaker (λ (i : Found). n ≤ item_length i) (λ (i : Found). n ≤ 7 * item_length i + 28) (λ i h. omega (arith, h)) o (email-paid s.byte (bytes_of ss))))
 
   tags-are-paid : Paid html_tags (then_breaks ∷ behind_escapes)
@@ -168,11 +154,10 @@ module _ (g : Given) (text : Text) (memory : TextMemory) (is : IsTextMemory memo
       reads-within g text m between_texts x budget inline-down is.later html_tags (then_breaks ∷ behind_escapes) tag_calls (html-tags-read-in g text m (inlines_play_tags g text) between_texts)
       (λ s ss first none r. (let missed = tag-missed s.byte (bytes_of ss) first in omega (arith, missed)))
       (λ s ss first.
-      let white : is_white s.byte ≡ false = grind (arith, nat_tests) in
       let tick : is_backtick s.byte ≡ false = grind (arith, nat_tests) in
       let n = tag_calls (bytes_of (s ∷ ss)) in
       let o = (html_tags {R = Unit {0}} {D = Unit {0}}).grammar.front (bytes_of (s ∷ ss)) in
-      found-paid n s ss o (html-tags-apart.some s.byte (bytes_of ss)) (tag-within s.byte (bytes_of ss) first) (none-run s ss white tick o)
+      found-paid n s ss o (html-tags-apart.some s.byte (bytes_of ss)) (tag-within s.byte (bytes_of ss) first) (none-run s ss tick o)
       (weaker (λ (i : Found). n ≤ 2 * item_length i) (λ (i : Found). n ≤ 7 * item_length i + 28) (λ i h. omega (arith, h)) o (tag-paid s.byte (bytes_of ss) first)))
 
   escapes-are-paid : Paid then_breaks behind_escapes
@@ -180,62 +165,34 @@ module _ (g : Given) (text : Text) (memory : TextMemory) (is : IsTextMemory memo
       reads-within g text m between_texts x budget inline-down is.later then_breaks behind_escapes escape_calls (escapes-reads-in g text m between_texts)
       (λ s ss first none r. omega arith)
       (λ s ss first.
-      let white : is_white s.byte ≡ false = grind (arith, nat_tests) in
       let tick : is_backtick s.byte ≡ false = grind (arith, nat_tests) in
       let n = escape_calls (bytes_of (s ∷ ss)) in
       let o = then_breaks.grammar.front (bytes_of (s ∷ ss)) in
-      found-paid n s ss o (escapes-apart.some s.byte (bytes_of ss)) (escape-within s.byte (bytes_of ss)) (none-run s ss white tick o)
+      found-paid n s ss o (escapes-apart.some s.byte (bytes_of ss)) (escape-within s.byte (bytes_of ss)) (none-run s ss tick o)
       (weaker (λ (i : Found). n ≤ item_length i) (λ (i : Found). n ≤ 7 * item_length i + 28) (λ i h. omega (arith, h)) o (escape-paid s.byte (bytes_of ss))))
 
-  break-escapes-are-paid : Paid break_escapes (references ∷ white_constructs)
+  break-escapes-are-paid : Paid break_escapes (references ∷ [])
   break-escapes-are-paid =
-      reads-within g text m between_texts x budget inline-down is.later break_escapes (references ∷ white_constructs) break_escape_calls (break-escapes-read-in g text m (inlines_play_break_escapes g text) between_texts)
+      reads-within g text m between_texts x budget inline-down is.later break_escapes (references ∷ []) break_escape_calls (break-escapes-read-in g text m (inlines_play_break_escapes g text) between_texts)
       (λ s ss first none r. omega arith)
       (λ s ss first.
-      let white : is_white s.byte ≡ false = grind (arith, nat_tests) in
       let tick : is_backtick s.byte ≡ false = grind (arith, nat_tests) in
       let n = break_escape_calls (bytes_of (s ∷ ss)) in
       let o = (break_escapes {R = Unit {0}} {D = Unit {0}}).grammar.front (bytes_of (s ∷ ss)) in
-      found-paid n s ss o (break-escapes-apart.some s.byte (bytes_of ss)) (break-escape-within s.byte (bytes_of ss)) (none-run s ss white tick o)
+      found-paid n s ss o (break-escapes-apart.some s.byte (bytes_of ss)) (break-escape-within s.byte (bytes_of ss)) (none-run s ss tick o)
       (weaker (λ (i : Found). n ≤ item_length i + 1) (λ (i : Found). n ≤ 7 * item_length i + 28) (λ i h. omega (arith, h)) o (break-escape-paid s.byte (bytes_of ss))))
 
-  references-are-paid : Paid references white_constructs
+  references-are-paid : Paid references []
   references-are-paid =
-      reads-within g text m between_texts x budget inline-down is.later references white_constructs reference_calls (references-read-in g text m (inlines_play_references g text) between_texts)
+      reads-within g text m between_texts x budget inline-down is.later references [] reference_calls (references-read-in g text m (inlines_play_references g text) between_texts)
       (λ s ss first none r. omega arith)
       (λ s ss first.
-      let white : is_white s.byte ≡ false = grind (arith, nat_tests) in
       let tick : is_backtick s.byte ≡ false = grind (arith, nat_tests) in
       let n = reference_calls (bytes_of (s ∷ ss)) in
       let o = (references {R = Unit {0}} {D = Unit {0}}).grammar.front (bytes_of (s ∷ ss)) in
       let some = references-apart.some s.byte (bytes_of ss) in
-      found-paid n s ss o some (reference-within s.byte (bytes_of ss)) (none-run s ss white tick o)
+      found-paid n s ss o some (reference-within s.byte (bytes_of ss)) (none-run s ss tick o)
       (weaker (λ (i : Found). 0 < item_length i) (λ (i : Found). n ≤ 7 * item_length i + 28) (λ i h. omega (arith, h)) o some))
-
-  trailing-breaks-are-paid : Paid then_white (white_spaces ∷ [])
-  trailing-breaks-are-paid =
-      reads-within g text m between_texts x budget inline-down is.later then_white (white_spaces ∷ []) trailing_break_calls (trailing-breaks-read-in g text m (inlines_play_trailing_breaks g text) between_texts)
-      (λ s ss first none r. (let looked = trailing-break-looked (bytes_of (s ∷ ss)) in omega (arith, looked)))
-      (λ s ss first.
-      let bytes = bytes_of (s ∷ ss) in
-      let n = trailing_break_calls bytes in
-      let o = then_white.grammar.front bytes in
-      found-paid n s ss o (trailing-breaks-apart.some s.byte (bytes_of ss)) (trailing-break-within s.byte (bytes_of ss))
-      (weaker (λ (i : Found). prefix_len is_white bytes ≤ item_length i) (λ (i : Found). front_run bytes ≤ item_length i) (λ i h. omega (arith, h, white-run s.byte (bytes_of ss) first)) o (trailing-whole bytes))
-      (weaker (λ (i : Found). n ≤ item_length i + 1) (λ (i : Found). n ≤ 7 * item_length i + 28) (λ i h. omega (arith, h)) o (trailing-break-paid s.byte (bytes_of ss))))
-
-  white-spaces-are-paid : Paid white_spaces []
-  white-spaces-are-paid =
-      reads-within g text m between_texts x budget inline-down is.later white_spaces [] white_calls (white-spaces-read-in g text m (inlines_play_white_spaces g text) between_texts)
-      (λ s ss first none r. omega arith)
-      (λ s ss first.
-      let bytes = bytes_of (s ∷ ss) in
-      let n = white_calls bytes in
-      let o = (white_spaces {R = Unit {0}} {D = Unit {0}}).grammar.front bytes in
-      let paid = white-space-paid s.byte (bytes_of ss) in
-      found-paid n s ss o (white-spaces-apart.some s.byte (bytes_of ss)) (white-space-within s.byte (bytes_of ss))
-      (weaker (λ (i : Found). n ≤ item_length i + 1) (λ (i : Found). front_run bytes ≤ item_length i) (λ i h. omega (arith, h, white-run s.byte (bytes_of ss) first)) o paid)
-      (weaker (λ (i : Found). n ≤ item_length i + 1) (λ (i : Found). n ≤ 7 * item_length i + 28) (λ i h. omega (arith, h)) o paid))
 
   -- ---- the constructs that remember
   -- How one of them is decided, by what it may cost and by what the other may: what is known holds, the other costs what it did, and its calls are paid
@@ -249,7 +206,7 @@ module _ (g : Given) (text : Text) (memory : TextMemory) (is : IsTextMemory memo
       let size = item_length item in
       (ended_after : Bool) × (after : Local Unit Unit) × memory.sound (p + size) (remembered after) × ((l : List Seat) → other (remembered after) l ≡ other (remembered local) l)
       × (spent after + own (remembered after) (drop size (s ∷ ss)) ≤ spent local + own (remembered local) (s ∷ ss) + (7 * size + 28))
-      × (0 < size) × (size ≤ length (s ∷ ss)) × (front_run (bytes_of (s ∷ ss)) ≤ size)
+      × (0 < size) × (size ≤ length (s ∷ ss)) × (backticks (bytes_of (s ∷ ss)) ≤ size)
       × Leads g text m k cs st (between_items (p + size) Nothing ended_after (events ++ item_events g.bytes (item, take size (s ∷ ss))) after) [] (Next TextBefore)
 
   abbrev pub RemembersSo : (own other : Potential) → (toll : List ℕ → ℕ) → Construct Found TextByte Unit Unit → Type 0
@@ -314,32 +271,30 @@ module _ (g : Given) (text : Text) (memory : TextMemory) (is : IsTextMemory memo
       marks_are = reads-budgeted g text m between_texts x budget inline-down then_tags behind_marks marks-paid;
       tags_are = reads-budgeted g text m between_texts x budget inline-down html_tags (then_breaks ∷ behind_escapes) tags-are-paid;
       escapes_are = reads-budgeted g text m between_texts x budget inline-down then_breaks behind_escapes escapes-are-paid;
-      break_escapes_are = reads-budgeted g text m between_texts x budget inline-down break_escapes (references ∷ white_constructs) break-escapes-are-paid;
-      references_are = reads-budgeted g text m between_texts x budget inline-down references white_constructs references-are-paid;
-      trailing_breaks_are = reads-budgeted g text m between_texts x budget inline-down then_white (white_spaces ∷ []) trailing-breaks-are-paid;
-      white_spaces_are = reads-budgeted g text m between_texts x budget inline-down white_spaces [] white-spaces-are-paid;
+      break_escapes_are = reads-budgeted g text m between_texts x budget inline-down break_escapes (references ∷ []) break-escapes-are-paid;
+      references_are = reads-budgeted g text m between_texts x budget inline-down references [] references-are-paid;
       data_is = λ p ended events local s ss here plain knows.
           let bytes = bytes_of (s ∷ ss) in
-          let item = run_or_part on bytes in
+          let item = joined_other on bytes in
           let at = subst (TriesNone text on x budget (remembered local) (spent local)) here knows.1 in
-          let inside : item_length item ≤ length (s ∷ ss) = omega (arith, part-within on s.byte (bytes_of ss), length-map (s ∷ ss) (λ (s : Seat). s.byte)) in
-          adds-paid g text m between_texts x budget inline-down is.later (part_calls bytes (item_length item)) TextBeforeData p ended events local s ss item here knows.0 at.1
-          (pays-enough (part_calls bytes (item_length item)) (item_length item) (s ∷ ss) (some-other on s.byte (bytes_of ss)) inside (data-run on s.byte (bytes_of ss) plain at.0) (omega arith))
+          let inside : item_length item ≤ length (s ∷ ss) = omega (arith, other-within on s.byte (bytes_of ss), length-map (s ∷ ss) (λ (s : Seat). s.byte)) in
+          adds-paid g text m between_texts x budget inline-down is.later (part_calls (item_length item)) TextBeforeData p ended events local s ss item here knows.0 at.1
+          (pays-enough (part_calls (item_length item)) (item_length item) (s ∷ ss) (some-other on s.byte (bytes_of ss)) inside (data-run on s.byte (bytes_of ss) plain) (omega arith))
           (data-read-in g text p ended events local s ss here plain);
       skips = λ cs p local s ss here none knows.
           let bytes = bytes_of (s ∷ ss) in
           let r = remembered local in
           let at = subst (λ l. Tries text on x budget cs r (spent local) l) here knows.1 in
-          let there : run_or_part on bytes ≡ inline_item_at on bytes = sym none ∙ at.0 in
+          let there : joined_other on bytes ≡ joined_item_at on bytes = sym none ∙ at.0 in
           (knows.0, subst (TriesNone text on x budget r (spent local)) (sym here) (there, omega (arith, at.1, try-none x.potentials inline-down (inline_toll (s ∷ ss)) (length cs) r s ss)));
       own_is = λ p ended events local s ss here own knows.
           let bytes = bytes_of (s ∷ ss) in
           let r = remembered local in
-          let item = run_or_part on bytes in
+          let item = joined_other on bytes in
           let paid = subst (λ l. spent local + (total x.potentials r l + x.fixed l) ≤ budget) here knows.1 in
-          let inside : item_length item ≤ length (s ∷ ss) = omega (arith, part-within on s.byte (bytes_of ss), length-map (s ∷ ss) (λ (s : Seat). s.byte)) in
-          adds-paid g text m between_texts x budget inline-down is.later (item_length item + 2) TextBefore p ended events local s ss item here knows.0 (omega (arith, paid, total-down x.potentials inline-down r s ss))
-          (pays-enough (item_length item + 2) (item_length item) (s ∷ ss) (some-other on s.byte (bytes_of ss)) inside (omega (arith, own-run on s.byte (bytes_of ss) own)) (omega arith))
+          let inside : item_length item ≤ length (s ∷ ss) = omega (arith, other-within on s.byte (bytes_of ss), length-map (s ∷ ss) (λ (s : Seat). s.byte)) in
+          adds-paid g text m between_texts x budget inline-down is.later (part_calls (item_length item)) TextBefore p ended events local s ss item here knows.0 (omega (arith, paid, total-down x.potentials inline-down r s ss))
+          (pays-enough (part_calls (item_length item)) (item_length item) (s ∷ ss) (some-other on s.byte (bytes_of ss)) inside (omega (arith, own-run on s.byte (bytes_of ss) own)) (omega arith))
           (own-read-in g text p ended events local s ss here own);
     }
 
@@ -361,7 +316,7 @@ module _ (g : Given) (text : Text) (memory : TextMemory) (is : IsTextMemory memo
         let rest : length l + n ≡ length text.seats = omega (arith, length-drop n text.seats, inside) in
         let bytes : length (bytes_of l) ≡ length l = length-map l (λ (s : Seat). s.byte) in
         let paid : spent after + (total x.potentials r l + x.fixed l) ≤ budget =
-        omega (arith, enough, none, once.calls, read.1.calls, rest, bytes, tags-ahead-within (bytes_of l), from-less-within (bytes_of l), behind-white-within (bytes_of l), is.code_within r l, is.marks_within r l) in
+        omega (arith, enough, none, once.calls, read.1.calls, rest, bytes, tags-ahead-within (bytes_of l), from-less-within (bytes_of l), is.code_within r l, is.marks_within r l) in
         let knows : known.knows tt (0 + n) after = (
           subst (x.sound (0 + n)) (sym alike) (is.later 0 (0 + n) r further (is.begins flag)),
           subst (λ r'. spent after + (total x.potentials r' (drop (0 + n) text.seats) + x.fixed (drop (0 + n) text.seats)) ≤ budget) (sym alike)

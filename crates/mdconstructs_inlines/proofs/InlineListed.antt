@@ -1,12 +1,13 @@
--- The machine of inline text is the list of its constructs, whatever is known while it reads: of that it needs how each construct, data, line endings
--- and runs are read.
-use Rattle.mdconstructs_inlines.proofs.Prelude.{◌≡◌, ℕ, ◌+◌, ◌≤◌, ◌&&◌, ◌||◌, List, [], ◌∷◌, ◌++◌, Bool, true, false, refl, sym, ap, ◌∙◌, subst, arith, drop, length, take, flat_map, prefix_len, length-drop, and-false, eqb-true, nat_tests, Constructs, Event, Name, SpaceOrTab, Next, Retry, TextBefore, TextBeforeData, TextBeforeHardBreakEscape, TextBeforeHtml, TextBeforeEmail, TextBeforeTag, TextBeforeWhiteSpace, Seat, Byte, Nothing, Configuration, Local, sight, Given, Text, class_of, is_white, counts, row_step, autolinks, is_line_feed, remembered_code_spans, Construct, Found, between_texts, first_there, grammars_of, some_first, tried_at, escapes, item_length, bytes_of, leaf, TextByte, backslash, less, text_byte, white, item_events, AreApart, none-there, AddsFrom, AreTried, IsKept, IsListed, IsTried, Knowledge, Reads, ReadsFrom, items-read, listed, cut-same, spent, EndsWith, Plays, between_items, emails, html_marks, html_tags, break_escapes, trailing_breaks, white_spaces, references, white-class, begins_run, inline_grammars, inline_item_at, read_events, run_or_part, behind_autolinks, behind_emails, behind_escapes, behind_marks, inline_before_rows, inline_constructs, white_constructs, is_delimiter}
-use Rattle.mdconstructs_inlines.proofs.InlineApart.{behind-autolinks-apart, behind-emails-apart, behind-escapes-apart, behind-marks-apart, inline-apart, or-parts, some-other, white-apart}
+-- The machine of inline text is the list of its constructs with a mark, whatever is known while it reads: of that it needs how each construct, data, line
+-- endings, runs and white space are read.
+use Rattle.mdconstructs_inlines.proofs.Prelude.{◌≡◌, ℕ, ◌+◌, ◌≤◌, ◌&&◌, ◌||◌, List, [], ◌∷◌, ◌++◌, Bool, true, false, refl, sym, ap, ◌∙◌, subst, arith, drop, length, take, flat_map, prefix_len, length-drop, and-false, eqb-true, nat_tests, Constructs, Event, Name, SpaceOrTab, Next, Retry, TextBefore, TextBeforeData, TextBeforeHardBreakEscape, TextBeforeHtml, TextBeforeEmail, TextBeforeTag, Seat, Byte, Nothing, Configuration, Local, sight, Given, Text, class_of, is_white, counts, row_step, autolinks, is_line_feed, remembered_code_spans, Construct, Found, between_texts, first_there, grammars_of, some_first, tried_at, escapes, item_length, bytes_of, leaf, TextByte, backslash, less, text_byte, item_events, AreApart, none-there, AddsFrom, AreTried, IsKept, IsListed, IsTried, Knowledge, Reads, ReadsFrom, items-read, listed, cut-same, spent, EndsWith, Plays, between_items, emails, html_marks, html_tags, break_escapes, references, begins_run, read_events, behind_autolinks, behind_emails, behind_escapes, behind_marks, inline_before_rows, inline_constructs, is_delimiter, marked_grammars}
+use Rattle.mdconstructs_inlines.proofs.InlineApart.{behind-autolinks-apart, behind-emails-apart, behind-escapes-apart, behind-marks-apart, inline-apart, or-parts}
+use Rattle.mdconstructs_inlines.proofs.JoinedItems.{joined-same, joined_item_at, joined_other, some-other}
 use Rattle.mdconstructs_inlines.proofs.PartReads.{is_own}
 use Rattle.mdconstructs_inlines.proofs.Playing.{inlines_play, tried-between}
 
 -- at the byte of a construct no run begins
-no-delimiter : (b : ℕ) → some_first inline_grammars b ≡ true → is_delimiter b ≡ false
+no-delimiter : (b : ℕ) → some_first marked_grammars b ≡ true → is_delimiter b ≡ false
 no-delimiter b h = grind (arith, nat_tests)
 
 -- the constructs as they stand in the list, each with the name of the state that follows it
@@ -15,9 +16,6 @@ then_data = remembered_code_spans
 
 abbrev pub then_breaks : Construct Found TextByte Unit Unit
 then_breaks = record escapes { otherwise = TextBeforeHardBreakEscape }
-
-abbrev pub then_white : Construct Found TextByte Unit Unit
-then_white = record trailing_breaks { otherwise = TextBeforeWhiteSpace }
 
 abbrev pub then_tags : Construct Found TextByte Unit Unit
 then_tags = record html_marks { otherwise = TextBeforeTag }
@@ -34,7 +32,7 @@ module _ (g : Given) (text : Text) (known : Knowledge Found TextByte (Unit {0}))
   ReadsBefore c cs = Reads g text (inlines_play g text).step between_texts text_byte item_length (item_events g.bytes) known tt c cs
 
   -- What is read, with what is known: before an item all constructs may be tried, and no more calls are counted than so many; each construct; data, and
-  -- where nothing of the constructs is there that may still be tried; line endings and runs
+  -- where nothing of the constructs is there that may still be tried; line endings, runs and white space
   pub record ReadsParts (within : ℕ) : Type 0 where
     pub begins : (p : ℕ) (local : Local Unit Unit) (s : Seat) (ss : List Seat) → drop p text.seats ≡ s ∷ ss → is_own g.options.constructs s.byte ≡ false → known.knows tt p local → known.tries tt inline_constructs p local
     pub counted : (p : ℕ) (local : Local Unit Unit) → known.knows tt p local → spent (counts local) ≤ within
@@ -44,14 +42,12 @@ module _ (g : Given) (text : Text) (known : Knowledge Found TextByte (Unit {0}))
     pub marks_are : ReadsBefore then_tags behind_marks
     pub tags_are : ReadsBefore html_tags (then_breaks ∷ behind_escapes)
     pub escapes_are : ReadsBefore then_breaks behind_escapes
-    pub break_escapes_are : ReadsBefore break_escapes (references ∷ white_constructs)
-    pub references_are : ReadsBefore references white_constructs
-    pub trailing_breaks_are : ReadsBefore then_white (white_spaces ∷ [])
-    pub white_spaces_are : ReadsBefore white_spaces []
-    pub data_is : ReadsFrom g text (inlines_play g text).step between_texts text_byte item_length (item_events g.bytes) known tt (known.at_data tt) TextBeforeData (λ b. is_own g.options.constructs b ≡ false) (run_or_part g.options.constructs)
+    pub break_escapes_are : ReadsBefore break_escapes (references ∷ [])
+    pub references_are : ReadsBefore references []
+    pub data_is : ReadsFrom g text (inlines_play g text).step between_texts text_byte item_length (item_events g.bytes) known tt (known.at_data tt) TextBeforeData (λ b. is_own g.options.constructs b ≡ false) (joined_other g.options.constructs)
     pub skips : (cs : List (Construct Found TextByte Unit Unit)) (p : ℕ) (local : Local Unit Unit) (s : Seat) (ss : List Seat) → drop p text.seats ≡ s ∷ ss
-        → first_there (grammars_of cs) g.options.constructs (bytes_of (s ∷ ss)) (run_or_part g.options.constructs (bytes_of (s ∷ ss))) ≡ run_or_part g.options.constructs (bytes_of (s ∷ ss)) → known.tries tt cs p local → known.at_data tt p local
-    pub own_is : ReadsFrom g text (inlines_play g text).step between_texts text_byte item_length (item_events g.bytes) known tt (known.knows tt) TextBefore (λ b. is_own g.options.constructs b ≡ true) (run_or_part g.options.constructs)
+        → first_there (grammars_of cs) g.options.constructs (bytes_of (s ∷ ss)) (joined_other g.options.constructs (bytes_of (s ∷ ss))) ≡ joined_other g.options.constructs (bytes_of (s ∷ ss)) → known.tries tt cs p local → known.at_data tt p local
+    pub own_is : ReadsFrom g text (inlines_play g text).step between_texts text_byte item_length (item_events g.bytes) known tt (known.knows tt) TextBefore (λ b. is_own g.options.constructs b ≡ true) (joined_other g.options.constructs)
 
 module _ (g : Given) (text : Text) (known : Knowledge Found TextByte (Unit {0})) (kept : IsKept g text known) (within : ℕ) (parts : ReadsParts g text known within) where
   abbrev on : Constructs
@@ -60,21 +56,22 @@ module _ (g : Given) (text : Text) (known : Knowledge Found TextByte (Unit {0}))
   abbrev m : Plays g text
   m = inlines_play g text
 
-  own-alone : (b : ℕ) → is_own on b ≡ true → some_first inline_grammars b ≡ false
-  own-alone b h = elim (some_first inline_grammars b) as (λ t. some_first inline_grammars b ≡ t → t ≡ false) [
+  own-alone : (b : ℕ) → is_own on b ≡ true → some_first marked_grammars b ≡ false
+  own-alone b h = elim (some_first marked_grammars b) as (λ t. some_first marked_grammars b ≡ t → t ≡ false) [
     | true ↦ λ e.
         let none : begins_run on b ≡ false = ap (λ t. on.attention && t) (no-delimiter b e) ∙ and-false on.attention in
         let line : is_line_feed b ≡ false = grind (arith, nat_tests) in
-        absurd (let c : false ≡ true = sym (ap (λ t. t || begins_run on b) line ∙ none) ∙ h in cc)
+        let white : is_white b ≡ false = grind (arith, nat_tests) in
+        absurd (let c : false ≡ true = sym (λ i. line i || (none i || white i)) ∙ h in cc)
     | false ↦ λ e. refl
   ] refl
 
   -- ---- the list of constructs
   abbrev Tried : Construct Found TextByte Unit Unit → List (Construct Found TextByte Unit Unit) → Type 0
-  Tried c cs = IsTried g text m.step between_texts text_byte item_length (item_events g.bytes) known (is_own on) (λ n. run_or_part on) tt c cs
+  Tried c cs = IsTried g text m.step between_texts text_byte item_length (item_events g.bytes) known (is_own on) (λ n. joined_other on) tt c cs
 
   abbrev AllTried : List (Construct Found TextByte Unit Unit) → Type 0
-  AllTried cs = AreTried g text m.step between_texts text_byte item_length (item_events g.bytes) known (is_own on) (λ n. run_or_part on) tt cs
+  AllTried cs = AreTried g text m.step between_texts text_byte item_length (item_events g.bytes) known (is_own on) (λ n. joined_other on) tt cs
 
   abbrev Adds : (p : ℕ) (ended : Bool) (events : List Event) (local : Local Unit Unit) → List Seat → Name → Found → Type 0
   Adds p ended events local l name item = AddsFrom g text m.step between_texts text_byte item_length (item_events g.bytes) known tt (between_items p Byte ended events local) (Retry name) p events l item
@@ -86,8 +83,8 @@ module _ (g : Given) (text : Text) (known : Knowledge Found TextByte (Unit {0}))
     reads = reads;
     follows = λ p ended events local s ss here at knows.
         let bytes = bytes_of (s ∷ ss) in
-        let none = none-there text_byte item_length cs apart on s.byte (bytes_of ss) (run_or_part on bytes) (alone s.byte at.1) in
-        subst (λ name. Adds p ended events local (s ∷ ss) name (first_there (grammars_of cs) on bytes (run_or_part on bytes))) (sym is)
+        let none = none-there text_byte item_length cs apart on s.byte (bytes_of ss) (joined_other on bytes) (alone s.byte at.1) in
+        subst (λ name. Adds p ended events local (s ∷ ss) name (first_there (grammars_of cs) on bytes (joined_other on bytes))) (sym is)
         (subst (Adds p ended events local (s ∷ ss) TextBeforeData) (sym none) (parts.data_is p ended events local s ss here at.0 (parts.skips cs p local s ss here none knows)));
   }
 
@@ -97,20 +94,14 @@ module _ (g : Given) (text : Text) (known : Knowledge Found TextByte (Unit {0}))
   then-others c cs w class apart tried has reads = record {
     reads = reads;
     follows = λ p ended events local s ss here at knows.
-        listed g text m.step between_texts text_byte item_length (item_events g.bytes) known (is_own on) (λ n. run_or_part on) kept tt parts.data_is p ended events s ss here at.0 cs tried apart local knows c.otherwise
+        listed g text m.step between_texts text_byte item_length (item_events g.bytes) known (is_own on) (λ n. joined_other on) kept tt parts.data_is p ended events s ss here at.0 cs tried apart local knows c.otherwise
         (has (between_items p Byte ended events local) ∙ ap (λ v. row_step g text (between_items p Byte ended events local) (tried_at between_texts cs v)) (sym (class s.byte at.1)));
   }
 
-  white-tried : AllTried white_constructs
-  white-tried = (
-    then-others then_white (white_spaces ∷ []) white white-class white-apart.1 (then-data white_spaces [] refl tt (λ b h. refl) parts.white_spaces_are, tt) (λ k. refl) parts.trailing_breaks_are,
-    (then-data white_spaces [] refl tt (λ b h. refl) parts.white_spaces_are, tt),
-  )
-
   behind-escapes-tried : AllTried behind_escapes
   behind-escapes-tried = (
-    then-data break_escapes (references ∷ white_constructs) refl behind-escapes-apart.1 (λ b h. (let e : b ≡ 92 = eqb-true b 92 h in rw e refl)) parts.break_escapes_are,
-    (then-data references white_constructs refl white-apart (λ b h. (let e : b ≡ 38 = eqb-true b 38 h in rw e refl)) parts.references_are, white-tried),
+    then-data break_escapes (references ∷ []) refl behind-escapes-apart.1 (λ b h. (let e : b ≡ 92 = eqb-true b 92 h in rw e refl)) parts.break_escapes_are,
+    (then-data references [] refl tt (λ b h. refl) parts.references_are, tt),
   )
 
   behind-marks-tried : AllTried behind_marks
@@ -136,9 +127,12 @@ module _ (g : Given) (text : Text) (known : Knowledge Found TextByte (Unit {0}))
     ),
   )
 
-  pub inlines-listed : IsListed g text m.step between_texts text_byte item_length (item_events g.bytes) known (is_own on) (λ n. run_or_part on) (λ n. inline_constructs) within
+  pub inlines-listed : IsListed g text m.step between_texts text_byte item_length (item_events g.bytes) known (is_own on) (λ n. joined_other on) (λ n. inline_constructs) within
   inlines-listed = record {
-    at_byte = λ n k b at plain. (let (other, none) = or-parts (is_line_feed b) (begins_run on b) plain in tried-between g text k b at other none);
+    at_byte = λ n k b at plain.
+        let (line, rest) = or-parts (is_line_feed b) (begins_run on b || is_white b) plain in
+        let (none, white) = or-parts (begins_run on b) (is_white b) rest in
+        tried-between g text k b at line none white;
     at_end = λ k at. ap (λ o. row_step g text k (inline_before_rows (class_of text_byte (sight g text k).previous) (class_of text_byte o))) at;
     begins = λ n. parts.begins;
     counted = λ n. parts.counted;
@@ -158,7 +152,8 @@ module _ (g : Given) (text : Text) (known : Knowledge Found TextByte (Unit {0}))
       let first = leaf g.bytes SpaceOrTab (take n text.seats) in
       let same : 0 + n ≡ n = omega arith in
       let few : length (drop n text.seats) ≤ length text.seats = omega (arith, length-drop n text.seats) in
-      subst (λ items. EndsWith g text m (between_items (0 + n) Nothing false first local) [] (Next TextBefore) (record { events = first ++ flat_map (item_events g.bytes) items; spent = within }))
-      (cut-same (inline_item_at on) item_length (length text.seats) tt (drop n text.seats))
-      (items-read g text m.step between_texts text_byte item_length (item_events g.bytes) known (is_own on) (λ n. run_or_part on) kept (λ n. inline_constructs) within inlines-listed
-      (length text.seats) (0 + n) tt false first local (drop n text.seats) (ap (λ k. drop k text.seats) same) few knows)
+      subst (λ (es : List Event). EndsWith g text m (between_items (0 + n) Nothing false first local) [] (Next TextBefore) (record { events = first ++ es; spent = within })) (joined-same on g.bytes (length text.seats) (drop n text.seats) few)
+      (subst (λ items. EndsWith g text m (between_items (0 + n) Nothing false first local) [] (Next TextBefore) (record { events = first ++ flat_map (item_events g.bytes) items; spent = within }))
+      (cut-same (joined_item_at on) item_length (length text.seats) tt (drop n text.seats))
+      (items-read g text m.step between_texts text_byte item_length (item_events g.bytes) known (is_own on) (λ n. joined_other on) kept (λ n. inline_constructs) within inlines-listed
+      (length text.seats) (0 + n) tt false first local (drop n text.seats) (ap (λ k. drop k text.seats) same) few knows))

@@ -1,8 +1,8 @@
 -- What the machine of inline text remembers of a text: the backtick strings that were seen, and up to where no mark of raw HTML ends. So each look to the
 -- end is made once, and inline text is read in so many calls.
-use Rattle.mdconstructs_inlines.proofs.Prelude.{◌≡◌, ℕ, ◌+◌, ◌*◌, ◌<◌, ◌≤◌, ◌==◌, List, [], ◌∷◌, Bool, true, false, cond, Option, Some, None, refl, sym, ap, ◌∙◌, subst, arith, length, drop, prefix_len, nat_tests, Event, Name, State, Next, Retry, TextBefore, TextStart, Seat, Byte, Local, start_configuration, Given, IsText, Text, is_white, is_backtick, Found, between_texts, item_length, bytes_of, runs-later, others, OfOption, outer, Remembered, remembered, EndsWith, Plays, between_items, mark-missed, marks-ahead-later, marks-ahead-same, marks-ahead-within, marks-leave-runs, marks_ahead, html-marks-apart, MarksDecided, html-marks-read, known_at, look_calls, looked_over, mark-paid, mark-within, KnowsMarks, marks-later, marks-nothing, marks-same, Mark, of_cdata, of_comment, of_declaration, of_instruction, known_upto, code_memory, CodeDecided, code-ahead-later, code-ahead-within, code_ahead, knows-code-later, knows-no-code, knows_code, remembered-code-read, read_events}
+use Rattle.mdconstructs_inlines.proofs.Prelude.{◌≡◌, ℕ, ◌+◌, ◌*◌, ◌<◌, ◌≤◌, ◌==◌, List, [], ◌∷◌, Bool, true, false, cond, Option, Some, None, refl, sym, ap, ◌∙◌, subst, arith, length, drop, nat_tests, Event, Name, State, Next, Retry, TextBefore, TextStart, Seat, Byte, Local, start_configuration, Given, IsText, Text, is_backtick, Found, between_texts, item_length, bytes_of, runs-later, others, OfOption, outer, Remembered, remembered, EndsWith, Plays, between_items, mark-missed, marks-ahead-later, marks-ahead-same, marks-ahead-within, marks-leave-runs, marks_ahead, html-marks-apart, MarksDecided, html-marks-read, known_at, look_calls, looked_over, mark-paid, mark-within, KnowsMarks, marks-later, marks-nothing, marks-same, Mark, of_cdata, of_comment, of_declaration, of_instruction, known_upto, code_memory, CodeDecided, code-ahead-later, code-ahead-within, code_ahead, knows-code-later, knows-no-code, knows_code, remembered-code-read, read_events}
 use Rattle.mdconstructs_inlines.proofs.Budgets.{Potential, total-drop}
-use Rattle.mdconstructs_inlines.proofs.FrontRuns.{no-run}
+use Rattle.mdconstructs_inlines.proofs.FrontRuns.{no-backticks}
 use Rattle.mdconstructs_inlines.proofs.InlineCalls.{DecidedSo, IsTextMemory, RemembersSo, TextMemory, code-so, code_toll, inline_budget, inlines-within, mark_toll, marks-so}
 use Rattle.mdconstructs_inlines.proofs.InlineListed.{then_data, then_tags}
 use Rattle.mdconstructs_inlines.proofs.Playing.{inlines_play, inlines_play_code_spans, inlines_play_marks}
@@ -61,9 +61,7 @@ module _ (g : Given) (text : Text) (is-text : IsText g text) where
         let after = d.1 in
         let size = item_length item in
         let kept = same-marks local after d.3 in
-        let further : p ≤ p + size = omega arith in
-        let white : is_white s.byte ≡ false = grind (arith, nat_tests) in
-        let none : prefix_len is_white (bytes_of (s ∷ ss)) ≡ 0 = ap (λ t. cond t (1 + prefix_len is_white (bytes_of ss)) 0) white in (
+        let further : p ≤ p + size = omega arith in (
           d.0,
           after,
           (d.2, marks-later text p (p + size) (remembered after) further (marks-same text p (remembered local) (remembered after) kept marks)),
@@ -71,7 +69,7 @@ module _ (g : Given) (text : Text) (is-text : IsText g text) where
           omega (arith, d.4),
           d.5,
           d.6,
-          omega (arith, d.7, none),
+          d.7,
           d.8,
         )
 
@@ -100,7 +98,6 @@ module _ (g : Given) (text : Text) (is-text : IsText g text) where
         let size = item_length item in
         let r = remembered local in
         let further : p ≤ p + size = omega arith in
-        let white : is_white s.byte ≡ false = grind (arith, nat_tests) in
         let tick : is_backtick s.byte ≡ false = grind (arith, nat_tests) in
         let same : marks_ahead (remembered after) (drop size (s ∷ ss)) ≡ marks_ahead r (drop size (s ∷ ss)) = ap (λ r. marks_ahead r (drop size (s ∷ ss))) d.2.same in (
           d.0,
@@ -110,7 +107,7 @@ module _ (g : Given) (text : Text) (is-text : IsText g text) where
           omega (arith, d.2.calls, paid, same, total-drop (marks_ahead ∷ []) (marks-ahead-later, tt) size r (s ∷ ss)),
           some,
           within,
-          omega (arith, no-run s.byte (bytes_of ss) white tick),
+          omega (arith, no-backticks s.byte (bytes_of ss) tick),
           d.3,
         )
 

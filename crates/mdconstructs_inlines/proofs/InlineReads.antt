@@ -21,7 +21,7 @@ reads-inline-text g events sub document =
     )
 
 -- and a run makes no more calls than so many for each virtual byte
-pub inline-text-is-linear : RunsWithin TextStart (λ n. 143 * n + 4)
+pub inline-text-is-linear : RunsWithin TextStart (λ n. 138 * n + 4)
 inline-text-is-linear g resolving events sub document run few =
     let text = whole_text g in
     let is = whole-is-text g document in

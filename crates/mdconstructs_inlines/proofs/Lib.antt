@@ -11,6 +11,7 @@ pub mod InlineListed
 pub mod InlineMemory
 pub mod InlineReads
 pub mod InlinesCounted
+mod JoinedItems
 mod LineReads
 pub mod Looks
 mod PartReads
@@ -25,3 +26,6 @@ pub mod StringCalls
 pub mod StringChains
 pub mod StringReads
 pub mod StringRuns
+mod WhiteBytes
+mod WhitePlays
+mod WhiteReads

@@ -1,6 +1,6 @@
 -- The machine of inline text refuses no document, by the test of its rows; and it looks no further than the byte that waits: its tests take
 -- nothing of the document but the options.
-use Rattle.mdconstructs_inlines.proofs.Prelude.{◌≡◌, ◌&&◌, List, [], ◌∷◌, ◌++◌, true, Option, Some, None, refl, ap, AllByRecursion, ParseOptions, LooksNoFurther, IsAnsweredAlike, tests, tests_of, refusing, RulesRefuseNothing, steps-alike, table-steps, refuse-nothing, autolinks, autolinks_are_on, has_room, has_scheme, passes, code_spans_are_on, sizes_are_equal, escapes, escapes_are_on, TextByte, line_feed, backtick, less, greater, backslash, colon, letter, digit, mark, ampersand, white, punctuation, blank, other, every-append, TextBeforeHardBreakEscape, every-back, every-front, StateRows, states_of, html-on-alike, html-tags-alike, emails, html_marks, html_tags, domain-ends-alike, hyphen-alike, label-alike, label-ends-alike, name-alike, name-ends-alike, break_escapes_are_on, space_waits, trailing_breaks_are_on, at_number_sign, at_semicolon, at_x, value_goes_on, value_is_whole, goes-on-alike, number-sign-alike, on-alike, semicolon-alike, whole-alike, x-alike, remembered_code_spans, inlines_rules, behind_escapes, inline_constructs, inline_start, inlines, own_states, is_delimiter, run_begins, run_goes_on, run_states, string_states}
+use Rattle.mdconstructs_inlines.proofs.Prelude.{◌≡◌, ◌&&◌, List, [], ◌∷◌, ◌++◌, Option, Some, None, refl, ap, AllByRecursion, ParseOptions, LooksNoFurther, IsAnsweredAlike, tests, tests_of, refusing, RulesRefuseNothing, steps-alike, table-steps, refuse-nothing, autolinks, autolinks_are_on, has_room, has_scheme, passes, code_spans_are_on, sizes_are_equal, escapes, escapes_are_on, TextByte, line_feed, backtick, less, greater, backslash, colon, letter, digit, mark, ampersand, white, punctuation, blank, other, every-append, TextBeforeHardBreakEscape, every-back, every-front, StateRows, states_of, html-on-alike, html-tags-alike, emails, html_marks, html_tags, domain-ends-alike, hyphen-alike, label-alike, label-ends-alike, name-alike, name-ends-alike, break_escapes_are_on, space_waits, trailing_breaks_are_on, at_number_sign, at_semicolon, at_x, value_goes_on, value_is_whole, goes-on-alike, number-sign-alike, on-alike, semicolon-alike, whole-alike, x-alike, remembered_code_spans, inlines_rules, behind_escapes, inline_constructs, inline_start, inlines, own_states, is_delimiter, run_begins, run_goes_on, run_states, string_states}
 
 none-refuses : (previous current : Option TextByte) → refusing inlines previous current ≡ []
 none-refuses previous (Some line_feed) = refl
@@ -39,9 +39,6 @@ break-escapes g h s k alike = ap (λ (o : ParseOptions). o.constructs.hard_break
 trailing-breaks : IsAnsweredAlike {R = Unit {0}} {D = Unit {0}} trailing_breaks_are_on
 trailing-breaks g h s k alike = ap (λ (o : ParseOptions). o.constructs.hard_break_trailing) alike.options
 
-always : IsAnsweredAlike {R = Unit {0}} {D = Unit {0}} (λ g s k. true)
-always g h s k alike = refl
-
 space : IsAnsweredAlike {R = Unit {0}} {D = Unit {0}} space_waits
 space g h s k alike = refl
 
@@ -57,21 +54,21 @@ abbrev between_states : List (StateRows TextByte Unit Unit)
 between_states = string_states ++ (run_states ++ inline_start ∷ own_states)
 
 between-alike : (previous current : Option TextByte) → AllByRecursion IsAnsweredAlike (tests between_states previous current)
-between-alike previous None = (break-escapes, (always, (autolinks-on, (html-on-alike, (html-on-alike, (html-on-alike, (html-on-alike, (html-on-alike, tt))))))))
-between-alike previous (Some line_feed) = (goes-on, (break-escapes, (always, (autolinks-on, (html-on-alike, (html-on-alike, (html-on-alike, (html-on-alike, (html-on-alike, tt)))))))))
-between-alike previous (Some backtick) = (goes-on, (code-spans, (break-escapes, (always, (autolinks-on, (html-on-alike, (html-on-alike, (html-on-alike, (html-on-alike, (html-on-alike, tt))))))))))
-between-alike previous (Some less) = (goes-on, (autolinks-on, (autolinks-on, (html-on-alike, (html-on-alike, (break-escapes, (always, (autolinks-on, (html-on-alike, (html-on-alike, (html-on-alike, (html-on-alike, (html-on-alike, tt)))))))))))))
-between-alike previous (Some greater) = (goes-on, (break-escapes, (always, (autolinks-on, (html-on-alike, (html-on-alike, (html-on-alike, (html-on-alike, (html-on-alike, tt)))))))))
-between-alike previous (Some backslash) = (escapes-on, (goes-on, (escapes-on, (break-escapes, (break-escapes, (always, (autolinks-on, (html-on-alike, (html-on-alike, (html-on-alike, (html-on-alike, (html-on-alike, tt))))))))))))
-between-alike previous (Some colon) = (goes-on, (break-escapes, (always, (autolinks-on, (html-on-alike, (html-on-alike, (html-on-alike, (html-on-alike, (html-on-alike, tt)))))))))
-between-alike previous (Some letter) = (goes-on, (break-escapes, (always, (autolinks-on, (html-on-alike, (html-on-alike, (html-on-alike, (html-on-alike, (html-on-alike, tt)))))))))
-between-alike previous (Some digit) = (goes-on, (break-escapes, (always, (autolinks-on, (html-on-alike, (html-on-alike, (html-on-alike, (html-on-alike, (html-on-alike, tt)))))))))
-between-alike previous (Some mark) = (goes-on, (break-escapes, (always, (autolinks-on, (html-on-alike, (html-on-alike, (html-on-alike, (html-on-alike, (html-on-alike, tt)))))))))
-between-alike previous (Some ampersand) = (on-alike, (goes-on, (on-alike, (break-escapes, (always, (autolinks-on, (html-on-alike, (html-on-alike, (html-on-alike, (html-on-alike, (html-on-alike, tt)))))))))))
-between-alike previous (Some white) = (goes-on, (trailing-breaks, (always, (break-escapes, (always, (autolinks-on, (html-on-alike, (html-on-alike, (html-on-alike, (html-on-alike, (html-on-alike, tt)))))))))))
-between-alike previous (Some punctuation) = (goes-on, (begins, (break-escapes, (always, (autolinks-on, (html-on-alike, (html-on-alike, (html-on-alike, (html-on-alike, (html-on-alike, (begins, tt)))))))))))
-between-alike previous (Some blank) = (goes-on, (break-escapes, (always, (autolinks-on, (html-on-alike, (html-on-alike, (html-on-alike, (html-on-alike, (html-on-alike, tt)))))))))
-between-alike previous (Some other) = (goes-on, (break-escapes, (always, (autolinks-on, (html-on-alike, (html-on-alike, (html-on-alike, (html-on-alike, (html-on-alike, tt)))))))))
+between-alike previous None = (break-escapes, (autolinks-on, (html-on-alike, (html-on-alike, (html-on-alike, (html-on-alike, (html-on-alike, tt)))))))
+between-alike previous (Some line_feed) = (goes-on, (break-escapes, (autolinks-on, (html-on-alike, (html-on-alike, (html-on-alike, (html-on-alike, (html-on-alike, (trailing-breaks, (trailing-breaks, tt))))))))))
+between-alike previous (Some backtick) = (goes-on, (code-spans, (break-escapes, (autolinks-on, (html-on-alike, (html-on-alike, (html-on-alike, (html-on-alike, (html-on-alike, tt)))))))))
+between-alike previous (Some less) = (goes-on, (autolinks-on, (autolinks-on, (html-on-alike, (html-on-alike, (break-escapes, (autolinks-on, (html-on-alike, (html-on-alike, (html-on-alike, (html-on-alike, (html-on-alike, tt))))))))))))
+between-alike previous (Some greater) = (goes-on, (break-escapes, (autolinks-on, (html-on-alike, (html-on-alike, (html-on-alike, (html-on-alike, (html-on-alike, tt))))))))
+between-alike previous (Some backslash) = (escapes-on, (goes-on, (escapes-on, (break-escapes, (break-escapes, (autolinks-on, (html-on-alike, (html-on-alike, (html-on-alike, (html-on-alike, (html-on-alike, tt)))))))))))
+between-alike previous (Some colon) = (goes-on, (break-escapes, (autolinks-on, (html-on-alike, (html-on-alike, (html-on-alike, (html-on-alike, (html-on-alike, tt))))))))
+between-alike previous (Some letter) = (goes-on, (break-escapes, (autolinks-on, (html-on-alike, (html-on-alike, (html-on-alike, (html-on-alike, (html-on-alike, tt))))))))
+between-alike previous (Some digit) = (goes-on, (break-escapes, (autolinks-on, (html-on-alike, (html-on-alike, (html-on-alike, (html-on-alike, (html-on-alike, tt))))))))
+between-alike previous (Some mark) = (goes-on, (break-escapes, (autolinks-on, (html-on-alike, (html-on-alike, (html-on-alike, (html-on-alike, (html-on-alike, tt))))))))
+between-alike previous (Some ampersand) = (on-alike, (goes-on, (on-alike, (break-escapes, (autolinks-on, (html-on-alike, (html-on-alike, (html-on-alike, (html-on-alike, (html-on-alike, tt))))))))))
+between-alike previous (Some white) = (goes-on, (space, (break-escapes, (autolinks-on, (html-on-alike, (html-on-alike, (html-on-alike, (html-on-alike, (html-on-alike, (space, (space, (space, (space, (space, tt))))))))))))))
+between-alike previous (Some punctuation) = (goes-on, (begins, (break-escapes, (autolinks-on, (html-on-alike, (html-on-alike, (html-on-alike, (html-on-alike, (html-on-alike, (begins, (begins, (begins, (begins, tt)))))))))))))
+between-alike previous (Some blank) = (goes-on, (break-escapes, (autolinks-on, (html-on-alike, (html-on-alike, (html-on-alike, (html-on-alike, (html-on-alike, tt))))))))
+between-alike previous (Some other) = (goes-on, (break-escapes, (autolinks-on, (html-on-alike, (html-on-alike, (html-on-alike, (html-on-alike, (html-on-alike, tt))))))))
 
 code-spans-alike : (previous current : Option TextByte) → AllByRecursion IsAnsweredAlike (tests (remembered_code_spans {R = Unit {0}} {D = Unit {0}}).states previous current)
 code-spans-alike previous None = (sizes, tt)
@@ -97,7 +94,7 @@ marks-alike previous (Some _) = ((λ g h s k alike. refl), ((λ g h s k alike. r
 -- of backslash escapes and those that follow them
 others-alike : (previous current : Option TextByte) → AllByRecursion IsAnsweredAlike (tests (states_of (record escapes { otherwise = TextBeforeHardBreakEscape } ∷ behind_escapes)) previous current)
 others-alike previous None = tt
-others-alike previous (Some white) = refs (space, (space, (space, tt)))
+others-alike previous (Some white) = refs tt
 others-alike previous (Some _) = refs tt
 
 -- of two lists of states together

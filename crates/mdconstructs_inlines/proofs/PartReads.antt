@@ -1,19 +1,38 @@
--- What is there of inline text where no construct is, data, a run or a line ending, is read in so many calls.
-use Rattle.mdconstructs_inlines.proofs.Prelude.{◌≡◌, ℕ, ◌+◌, ◌&&◌, ◌||◌, List, ◌∷◌, Bool, true, false, cond, refl, sym, ap, ◌∙◌, subst, arith, drop, prefix_len, and-false, eqb-true, nat_tests, Constructs, Event, Name, Retry, TextBefore, TextBeforeData, Seat, Byte, Local, Given, Text, is_white, is_line_feed, Found, between_texts, item_length, bytes_of, AddsItemIn, adds-more, Plays, between_items, begins_run, data_length, data_run, delimiter_run, line_break, run_length, run_or_part, is_delimiter}
-use Rattle.mdconstructs_inlines.proofs.DataBytes.{part_calls}
-use Rattle.mdconstructs_inlines.proofs.DataReads.{reads-data-run-in}
+-- What is there of inline text where no construct with a mark is, data, a run, a line ending or white space, is read in so many calls; data with the white
+-- space behind it with which its line ends.
+use Rattle.mdconstructs_inlines.proofs.Prelude.{◌≡◌, ℕ, ◌+◌, ◌*◌, ◌≤◌, ◌&&◌, ◌||◌, List, ◌∷◌, Bool, true, false, cond, refl, sym, ap, ◌∙◌, subst, arith, drop, prefix_len, and-false, eqb-true, nat_tests, Constructs, Event, Name, Retry, TextBefore, TextBeforeData, Seat, Byte, Local, Given, Text, is_white, is_line_feed, Found, between_texts, item_length, bytes_of, AddsItemIn, adds-more, Plays, between_items, begins_run, delimiter_run, is_white_left, line_break, run_length, is_delimiter}
+use Rattle.mdconstructs_inlines.proofs.DataBytes.{data_joined, joined_part}
+use Rattle.mdconstructs_inlines.proofs.DataReads.{reads-data-run-in, reads-white-data-in}
 use Rattle.mdconstructs_inlines.proofs.InlineApart.{or-parts}
+use Rattle.mdconstructs_inlines.proofs.JoinedItems.{joined_other}
 use Rattle.mdconstructs_inlines.proofs.LineReads.{reads-line-break-in}
-use Rattle.mdconstructs_inlines.proofs.Playing.{inlines_play}
+use Rattle.mdconstructs_inlines.proofs.Playing.{inlines_begin_data, inlines_play}
 use Rattle.mdconstructs_inlines.proofs.RunReads.{reads-run-in}
+use Rattle.mdconstructs_inlines.proofs.WhiteBytes.{found-size, found_white, white-ends, white-goes-on, white-none}
+use Rattle.mdconstructs_inlines.proofs.WhitePlays.{inlines_play_white}
+use Rattle.mdconstructs_inlines.proofs.WhiteReads.{breaks_here, reads-white-end}
 
--- the state between constructs itself reads line endings, and goes on with runs
+-- the state between constructs itself reads line endings and white space, and goes on with runs
 abbrev pub is_own : Constructs → ℕ → Bool
-is_own on b = is_line_feed b || begins_run on b
+is_own on b = is_line_feed b || (begins_run on b || is_white b)
+
+-- in so many calls each of them is read, by how many bytes it has
+abbrev pub part_calls : ℕ → ℕ
+part_calls n = 2 * n + 4
 
 -- a line ending begins no run
 line-is-none : (on : Constructs) (b : ℕ) → is_line_feed b ≡ true → begins_run on b ≡ false
 line-is-none on b h = ap (λ t. on.attention && t) (let e : is_delimiter b ≡ false = grind (arith, nat_tests) in e) ∙ and-false on.attention
+
+-- white space is no line ending, and begins none
+white-is-none : (on : Constructs) (b : ℕ) → is_white b ≡ true → begins_run on b ≡ false
+white-is-none on b h = ap (λ t. on.attention && t) (let e : is_delimiter b ≡ false = grind (arith, nat_tests) in e) ∙ and-false on.attention
+
+run-is-plain : (on : Constructs) (b : ℕ) → begins_run on b ≡ true → is_white b ≡ false
+run-is-plain on b h = elim (is_white b) as (λ t. is_white b ≡ t → t ≡ false) [
+  | true ↦ λ is. absurd (let no : false ≡ true = sym (white-is-none on b is) ∙ h in cc)
+  | false ↦ λ other. refl
+] refl
 
 module _ (g : Given) (text : Text) where
   abbrev on : Constructs
@@ -24,35 +43,68 @@ module _ (g : Given) (text : Text) where
 
   -- what is there at a byte, by whether a run or a line ending is
   abbrev there : Bool → Bool → List ℕ → Found
-  there run line text = cond run (delimiter_run (run_length text)) (cond line (line_break (prefix_len is_white (drop 1 text))) (data_run (data_length on text)))
+  there run line text = cond run (delimiter_run (run_length text)) (cond line (line_break (prefix_len is_white (drop 1 text))) (data_joined on text))
 
   -- from a state an item is read, in so many calls
-  abbrev PartRead : (calls : ℕ → ℕ) → Name → (p : ℕ) (ended : Bool) (events : List Event) (local : Local Unit Unit) → List Seat → Found → Type 0
-  PartRead calls name p ended events local l item = AddsItemIn g text m between_texts (calls (item_length item)) (between_items p Byte ended events local) (Retry name) p events l item
+  abbrev PartRead : Name → (p : ℕ) (ended : Bool) (events : List Event) (local : Local Unit Unit) → List Seat → Found → Type 0
+  PartRead name p ended events local l item = AddsItemIn g text m between_texts (part_calls (item_length item)) (between_items p Byte ended events local) (Retry name) p events l item
+
+  -- more calls may be counted
+  part-more : (n : ℕ) (name : Name) (p : ℕ) (ended : Bool) (events : List Event) (local : Local Unit Unit) (l : List Seat) (item : Found) → n ≤ part_calls (item_length item)
+      → AddsItemIn g text m between_texts n (between_items p Byte ended events local) (Retry name) p events l item → PartRead name p ended events local l item
+  part-more n name p ended events local l item few read = adds-more g text m between_texts n (part_calls (item_length item)) (between_items p Byte ended events local) (Retry name) p events l item few read
 
   -- Data is read
   pub data-read-in : (p : ℕ) (ended : Bool) (events : List Event) (local : Local Unit Unit) (s : Seat) (ss : List Seat) → drop p text.seats ≡ s ∷ ss → is_own on s.byte ≡ false
-      → let bytes = bytes_of (s ∷ ss) in let item = run_or_part on bytes in
-      AddsItemIn g text m between_texts (part_calls bytes (item_length item)) (between_items p Byte ended events local) (Retry TextBeforeData) p events (s ∷ ss) item
+      → PartRead TextBeforeData p ended events local (s ∷ ss) (joined_other on (bytes_of (s ∷ ss)))
   data-read-in p ended events local s ss here plain =
       let bytes = bytes_of (s ∷ ss) in
-      let (other, none) = or-parts (is_line_feed s.byte) (begins_run on s.byte) plain in
-      subst (PartRead (part_calls bytes) TextBeforeData p ended events local (s ∷ ss)) ((λ i. there (sym none i) (sym other i) bytes))
-      (reads-data-run-in g text p ended events local s ss here)
+      let (line, rest) = or-parts (is_line_feed s.byte) (begins_run on s.byte || is_white s.byte) plain in
+      let (run, white) = or-parts (begins_run on s.byte) (is_white s.byte) rest in
+      let is : data_joined on bytes ≡ joined_other on bytes = (λ i. there (sym run i) (sym line i) bytes) ∙ sym (white-none on s.byte (bytes_of ss) (joined_part on bytes) white) in
+      subst (PartRead TextBeforeData p ended events local (s ∷ ss)) is
+      (reads-data-run-in g text m (inlines_play_white g text) (inlines_begin_data g text) p ended events local s ss here)
 
-  -- a line ending and a run in two calls more than they have bytes
+  -- white space is
+  white-read-in : (p : ℕ) (ended : Bool) (events : List Event) (local : Local Unit Unit) (s : Seat) (ss : List Seat) → drop p text.seats ≡ s ∷ ss → is_line_feed s.byte ≡ false → is_white s.byte ≡ true
+      → PartRead TextBefore p ended events local (s ∷ ss) (joined_other on (bytes_of (s ∷ ss)))
+  white-read-in p ended events local s ss here line is =
+      let l = s ∷ ss in
+      let bytes = bytes_of l in
+      let n = prefix_len is_white bytes in
+      let plays = inlines_play_white g text in
+      let part = joined_part on bytes in
+      elim (is_white_left bytes) as (λ t. is_white_left bytes ≡ t → PartRead TextBefore p ended events local l (joined_other on bytes)) [
+        | true ↦ λ left.
+            let breaks = breaks_here g text m plays s ss p here is in
+            let few : n + 1 ≤ 2 * item_length (found_white breaks n) + 4 = omega (arith, found-size breaks n) in
+            subst (PartRead TextBefore p ended events local l) (sym (white-ends on s.byte (bytes_of ss) part is left))
+            (part-more (n + 1) TextBefore p ended events local l (found_white breaks n) few (reads-white-end g text m plays s ss p here is left ended events local))
+        | false ↦ λ left.
+            let part_is : data_joined on bytes ≡ part = (λ i. there (sym (white-is-none on s.byte is) i) (sym line i) bytes) in
+            subst (PartRead TextBefore p ended events local l) (part_is ∙ sym (white-goes-on on s.byte (bytes_of ss) part is left))
+            (reads-white-data-in g text m plays p ended events local s ss here is left)
+      ] refl
+
+  -- and so are a line ending and a run
   pub own-read-in : (p : ℕ) (ended : Bool) (events : List Event) (local : Local Unit Unit) (s : Seat) (ss : List Seat) → drop p text.seats ≡ s ∷ ss → is_own on s.byte ≡ true
-      → let item = run_or_part on (bytes_of (s ∷ ss)) in
-      AddsItemIn g text m between_texts (item_length item + 2) (between_items p Byte ended events local) (Retry TextBefore) p events (s ∷ ss) item
+      → PartRead TextBefore p ended events local (s ∷ ss) (joined_other on (bytes_of (s ∷ ss)))
   own-read-in p ended events local s ss here own =
-      let bytes = bytes_of (s ∷ ss) in
-      let white = prefix_len is_white (bytes_of ss) in
-      elim (is_line_feed s.byte) as (λ t. is_line_feed s.byte ≡ t → (t || begins_run on s.byte) ≡ true → PartRead (λ n. n + 2) TextBefore p ended events local (s ∷ ss) (run_or_part on bytes)) [
-        | true ↦ λ line is.
-            subst (PartRead (λ n. n + 2) TextBefore p ended events local (s ∷ ss)) (λ i. there (sym (line-is-none on s.byte line) i) (sym line i) bytes)
-            (adds-more g text m between_texts (white + 2) (1 + white + 2) (between_items p Byte ended events local) (Retry TextBefore) p events (s ∷ ss) (line_break white) (omega arith)
-            (reads-line-break-in g text p ended events local s ss here (eqb-true s.byte 10 line)))
-        | false ↦ λ other is.
-            subst (PartRead (λ n. n + 2) TextBefore p ended events local (s ∷ ss)) (λ i. there (sym is i) (is_line_feed s.byte) bytes)
-            (reads-run-in g text p ended events local s ss here is)
+      let l = s ∷ ss in
+      let bytes = bytes_of l in
+      let k = prefix_len is_white (bytes_of ss) in
+      let part = joined_part on bytes in
+      elim (is_line_feed s.byte) as (λ t. is_line_feed s.byte ≡ t → (t || (begins_run on s.byte || is_white s.byte)) ≡ true → PartRead TextBefore p ended events local l (joined_other on bytes)) [
+        | true ↦ λ line h.
+            let white : is_white s.byte ≡ false = grind (arith, nat_tests) in
+            let is : line_break k ≡ joined_other on bytes = (λ i. there (sym (line-is-none on s.byte line) i) (sym line i) bytes) ∙ sym (white-none on s.byte (bytes_of ss) part white) in
+            subst (PartRead TextBefore p ended events local l) is
+            (part-more (k + 2) TextBefore p ended events local l (line_break k) (omega arith) (reads-line-break-in g text p ended events local s ss here (eqb-true s.byte 10 line)))
+        | false ↦ λ line h. elim (begins_run on s.byte) as (λ t. begins_run on s.byte ≡ t → (t || is_white s.byte) ≡ true → PartRead TextBefore p ended events local l (joined_other on bytes)) [
+          | true ↦ λ run i.
+              let is : delimiter_run (run_length bytes) ≡ joined_other on bytes = (λ i. there (sym run i) (is_line_feed s.byte) bytes) ∙ sym (white-none on s.byte (bytes_of ss) part (run-is-plain on s.byte run)) in
+              subst (PartRead TextBefore p ended events local l) is
+              (part-more (run_length bytes + 2) TextBefore p ended events local l (delimiter_run (run_length bytes)) (omega arith) (reads-run-in g text p ended events local s ss here run))
+          | false ↦ λ none i. white-read-in p ended events local s ss here line i
+        ] refl h
       ] refl own

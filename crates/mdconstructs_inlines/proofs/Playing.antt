@@ -1,15 +1,16 @@
 -- The machine of inline text does what the rows of constructs say; and between them what bytes say.
-use Rattle.mdconstructs_inlines.proofs.Prelude.{◌≡◌, ◌⊎◌, inl, inr, ℕ, ◌==◌, ◌&&◌, ◌||◌, [], ◌∷◌, Bool, true, false, cond, Option, Some, None, refl, sym, ap, ◌∙◌, arith, nat_tests, Constructs, Data, LineEnding, Next, Retry, AttentionStart, DataInside, SpaceOrTabStart, TextBefore, TextBeforeData, DataOver, DataWhite, TextLineStart, Check, with_local, Configuration, sight, Given, Text, Rows, choose, class_of, consume, enter, exit, row, is_white, counts, row_step, is_line_feed, passes, between_texts, some_begins, tried_at, TextByte, is_line_feed_class, line_feed, punctuation, text_byte, white, PlaysCodeSpans, remembering, line-classed, BeginsData, HasRow, HasRows, Plays, tested, PlaysEmails, MarkPlace, at_cdata, at_comment, at_declaration, at_inside, at_open, mark_name, PlaysMarks, mark_rows, Place, PlaysTags, rows_of, state_of, PlaysBreakEscapes, PlaysTrailingBreaks, PlaysReferences, between-remembered, code_memory, opening-remembered, white-classed, white-class, PlaysWhiteSpaces, is_white_class, begins_run, ends_data, inlines_rules, inline_before_rows, inline_constructs, inline_data_rows, is_delimiter, run_begins}
+use Rattle.mdconstructs_inlines.proofs.Prelude.{◌≡◌, ◌⊎◌, inl, inr, ℕ, ◌==◌, ◌&&◌, ◌||◌, [], ◌∷◌, Bool, true, false, cond, Option, Some, None, refl, sym, ap, ◌∙◌, arith, nat_tests, Constructs, Data, LineEnding, Next, Retry, AttentionStart, DataInside, TextBefore, TextBeforeData, TextLineStart, with_local, Configuration, sight, Given, Text, Rows, class_of, consume, enter, exit, row, is_white, counts, row_step, is_line_feed, passes, between_texts, some_begins, tried_at, TextByte, is_line_feed_class, line_feed, punctuation, text_byte, white, PlaysCodeSpans, remembering, line-classed, BeginsData, HasRow, HasRows, Plays, tested, PlaysEmails, MarkPlace, at_cdata, at_comment, at_declaration, at_inside, at_open, mark_name, PlaysMarks, mark_rows, Place, PlaysTags, rows_of, state_of, PlaysBreakEscapes, PlaysReferences, between-remembered, code_memory, opening-remembered, white-classed, is_white_class, begins_run, ends_data, inlines_rules, inline_before_rows, inline_constructs, inline_data_rows, is_delimiter, run_begins}
 use Rattle.mdconstructs_inline_constructs.proofs.HtmlTags.Places as place
 use Rattle.mdconstructs_inlines.proofs.InlineApart.{marked-classed, punctuation-ends}
 
--- between constructs a run may begin at punctuation, and a line ends at a line feed; at the other classes constructs are tried
-before-class : (w : TextByte) → (w ≡ punctuation) ⊎ ((w ≡ line_feed) ⊎ ((before : Option TextByte) → inline_before_rows before (Some w) ≡ tried_at between_texts inline_constructs w))
+-- between constructs a run may begin at punctuation, a line ends at a line feed, and white space is read; at the other classes constructs are tried
+before-class : (w : TextByte) → (w ≡ punctuation) ⊎ ((w ≡ line_feed) ⊎ ((w ≡ white) ⊎ ((before : Option TextByte) → inline_before_rows before (Some w) ≡ tried_at between_texts inline_constructs w)))
 before-class punctuation = inl refl
 before-class line_feed = inr (inl refl)
-before-class _ = inr (inr (λ before. refl))
+before-class white = inr (inr (inl refl))
+before-class _ = inr (inr (inr (λ before. refl)))
 
--- in data there is a look at white space, and a run may begin at punctuation; at the other classes data ends or goes on
+-- in data the place is noted at white space, and a run may begin at punctuation; at the other classes data ends or goes on
 abbrev ends_or_goes : Bool → Rows Unit Unit
 ends_or_goes ends = cond ends (row (exit Data ∷ []) (Retry TextBefore)) (row (consume ∷ []) (Next DataInside))
 
@@ -39,11 +40,11 @@ module _ (g : Given) (text : Text) where
   behind k = class_of text_byte (sight g text k).previous
 
   -- whether a run begins is said by the byte that waits
-  begins-here : (k : Configuration Unit Unit) (b : ℕ) (t : Bool) → (sight g text k).current ≡ Some b → begins_run on b ≡ t → run_begins g (sight g text k) (with_local k (counts k.local)) ≡ t
+  pub begins-here : (k : Configuration Unit Unit) (b : ℕ) (t : Bool) → (sight g text k).current ≡ Some b → begins_run on b ≡ t → run_begins g (sight g text k) (with_local k (counts k.local)) ≡ t
   begins-here k b t at is = ap (λ o. on.attention && passes is_delimiter o) at ∙ is
 
   -- a byte that is not punctuation begins no run
-  no-run : (b : ℕ) → (text_byte b ≡ punctuation → ⊥) → begins_run on b ≡ false
+  pub no-run : (b : ℕ) → (text_byte b ≡ punctuation → ⊥) → begins_run on b ≡ false
   no-run b other = elim (begins_run on b) as (λ t. begins_run on b ≡ t → t ≡ false) [
     | true ↦ λ e. absurd (other (delimiter-class b (and-second on.attention (is_delimiter b) e)))
     | false ↦ λ e. refl
@@ -59,27 +60,28 @@ module _ (g : Given) (text : Text) where
       ∙ ap (λ w. row_step g text k (inline_before_rows (behind k) (Some w))) (delimiter-class b (and-second on.attention (is_delimiter b) is))
       ∙ tested g text run_begins (row [] (Retry AttentionStart)) (row [] (Retry TextBeforeData)) k true (begins-here k b true at is)
 
-  pub tried-between : (k : Configuration Unit Unit) (b : ℕ) → (sight g text k).current ≡ Some b → is_line_feed b ≡ false → begins_run on b ≡ false
+  pub tried-between : (k : Configuration Unit Unit) (b : ℕ) → (sight g text k).current ≡ Some b → is_line_feed b ≡ false → begins_run on b ≡ false → is_white b ≡ false
       → HasRow g text (inlines_rules g).step k TextBefore (tried_at between_texts inline_constructs (text_byte b))
-  tried-between k b at plain none =
+  tried-between k b at plain none other =
       ap (λ o. row_step g text k (inline_before_rows (behind k) (class_of text_byte o))) at ∙ elim (before-class (text_byte b)) [
         | inl is ↦
             ap (λ w. row_step g text k (inline_before_rows (behind k) (Some w))) is
             ∙ tested g text run_begins (row [] (Retry AttentionStart)) (row [] (Retry TextBeforeData)) k false (begins-here k b false at none)
             ∙ ap (λ w. row_step g text k (tried_at between_texts inline_constructs w)) (sym is)
         | inr (inl is) ↦ absurd (let no : true ≡ false = ap is_line_feed_class (sym is) ∙ line-classed b ∙ plain in cc)
-        | inr (inr tried) ↦ ap (row_step g text k) (tried (behind k))
+        | inr (inr (inl is)) ↦ absurd (let no : true ≡ false = ap is_white_class (sym is) ∙ white-classed b ∙ other in cc)
+        | inr (inr (inr tried)) ↦ ap (row_step g text k) (tried (behind k))
       ]
 
-  -- in data it goes on at a byte that ends none, ends at one that does and at the end, and there is a look at white space
+  -- in data it goes on at a byte that ends none, and ends at one that does and at the end
   data-at : (k : Configuration Unit Unit) (b : ℕ) (t : Bool) → (sight g text k).current ≡ Some b → is_white b ≡ false → ends_data on b ≡ t → HasRow g text (inlines_rules g).step k DataInside (ends_or_goes t)
   data-at k b t at other ends =
       ap (λ o. row_step g text k (inline_data_rows (behind k) (class_of text_byte o))) at ∙ elim (data-class (text_byte b)) [
         | inl is ↦
             ap (λ w. row_step g text k (inline_data_rows (behind k) (Some w))) is
-            ∙ tested g text run_begins (row (exit Data ∷ []) (Retry TextBefore)) (row (consume ∷ []) (Next DataInside)) k t (begins-here k b t at (sym (punctuation-ends on b other is) ∙ ends))
+            ∙ tested g text run_begins (row (exit Data ∷ []) (Retry TextBefore)) (row (consume ∷ []) (Next DataInside)) k t (begins-here k b t at (sym (punctuation-ends on b is) ∙ ends))
         | inr (inl is) ↦ absurd (let no : true ≡ false = ap is_white_class (sym is) ∙ white-classed b ∙ other in cc)
-        | inr (inr rows) ↦ ap (row_step g text k) (rows.1 (behind k) ∙ ap ends_or_goes (marked-classed on b other (no-run b rows.0) ∙ ends))
+        | inr (inr rows) ↦ ap (row_step g text k) (rows.1 (behind k) ∙ ap ends_or_goes (marked-classed on b (no-run b rows.0) ∙ ends))
       ]
 
   pub data-on : (k : Configuration Unit Unit) (b : ℕ) → (sight g text k).current ≡ Some b → is_white b ≡ false → ends_data on b ≡ false → HasRow g text (inlines_rules g).step k DataInside (row (consume ∷ []) (Next DataInside))
@@ -90,11 +92,6 @@ module _ (g : Given) (text : Text) where
 
   pub data-ends-last : (k : Configuration Unit Unit) → (sight g text k).current ≡ None → HasRow g text (inlines_rules g).step k DataInside (row (exit Data ∷ []) (Retry TextBefore))
   data-ends-last k at = ap (λ o. row_step g text k (inline_data_rows (behind k) (class_of text_byte o))) at
-
-  pub data-looks : (k : Configuration Unit Unit) (b : ℕ) → (sight g text k).current ≡ Some b → is_white b ≡ true
-      → HasRow g text (inlines_rules g).step k DataInside (row (choose Check (Next DataOver) (Next DataWhite) ∷ []) (Retry SpaceOrTabStart))
-  data-looks k b at is =
-      ap (λ o. row_step g text k (inline_data_rows (behind k) (class_of text_byte o))) at ∙ ap (λ w. row_step g text k (inline_data_rows (behind k) (Some w))) (white-class b is)
 
   -- the machine reads constructs as others do
   abbrev pub inlines_play : Plays g text
@@ -127,12 +124,6 @@ module _ (g : Given) (text : Text) where
 
   abbrev pub inlines_play_break_escapes : PlaysBreakEscapes g text (inlines_rules g).step
   inlines_play_break_escapes = record { start = λ k. refl; after = λ k. refl }
-
-  abbrev pub inlines_play_trailing_breaks : PlaysTrailingBreaks g text (inlines_rules g).step
-  inlines_play_trailing_breaks = record { start = λ k. refl; after_first = λ k. refl; after_more = λ k. refl }
-
-  abbrev pub inlines_play_white_spaces : PlaysWhiteSpaces g text (inlines_rules g).step
-  inlines_play_white_spaces = record { start = λ k. refl; inside = λ k. refl }
 
   abbrev pub inlines_play_references : PlaysReferences g text inlines_play
   inlines_play_references = record { reference_start = λ k. refl; reference_open = λ k. refl; reference_numeric = λ k. refl; reference_value = λ k. refl }

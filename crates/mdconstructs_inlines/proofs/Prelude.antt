@@ -4,7 +4,7 @@ pub use Rattle.std.proofs.Math.Bool.{and-false, or-false}
 pub use Rattle.std.proofs.Math.Nat.{add_assoc, mul-le-mul_right}
 pub use Rattle.std.proofs.lemmas.Bool.{and_parts, cases_lt, eqb-true, not-false}
 pub use Rattle.std.proofs.lemmas.Bool.Decides.{nat_tests}
-pub use Rattle.std.proofs.lemmas.List.{append-nil, drop-drop, drop-map, length-drop, length-map, take_at}
+pub use Rattle.std.proofs.lemmas.List.{append-nil, drop-take, take-take, drop-drop, drop-map, length-drop, length-map, take_at}
 pub use Rattle.std.proofs.lemmas.List.Elements.{All-from_get_or}
 pub use Rattle.std.proofs.lemmas.List.Sums.{prefix_len-le-length}
 pub use Rattle.std.specs.List.{AllByRecursion, between, flat_map, prefix_len}
@@ -19,12 +19,12 @@ pub use Rattle.markdown_base.specs.declared.event.Content.TheVariants.{String, T
 pub use Rattle.markdown_base.specs.declared.event.Event.{Event}
 pub use Rattle.markdown_base.specs.declared.event.Kind.TheVariants.{Enter, Exit}
 pub use Rattle.markdown_base.specs.declared.event.Name.{Name as EventName}
-pub use Rattle.markdown_base.specs.declared.event.Name.TheVariants.{AttentionSequence, CharacterEscape, CharacterEscapeMarker, CharacterEscapeValue, CharacterReference, CharacterReferenceMarker, CharacterReferenceMarkerHexadecimal, CharacterReferenceMarkerNumeric, CharacterReferenceMarkerSemi, CharacterReferenceValue, Data, LineEnding, SpaceOrTab}
+pub use Rattle.markdown_base.specs.declared.event.Name.TheVariants.{AttentionSequence, CharacterEscape, CharacterEscapeMarker, CharacterEscapeValue, CharacterReference, CharacterReferenceMarker, CharacterReferenceMarkerHexadecimal, CharacterReferenceMarkerNumeric, CharacterReferenceMarkerSemi, CharacterReferenceValue, Data, HardBreakTrailing, LineEnding, SpaceOrTab}
 pub use Rattle.markdown_base.specs.declared.event.Point.{Point}
 pub use Rattle.markdown_base.specs.declared.state.Name.{Name}
 pub use Rattle.markdown_base.specs.declared.state.State.{State}
 pub use Rattle.markdown_base.specs.declared.state.State.TheVariants.{Next, Nok, Ok, Retry}
-pub use Rattle.markdown_base.specs.declared.state.TheConstants.Name.{AttentionInside, AttentionStart, DataInside, DataStart, SpaceOrTabStart, StringBefore, StringBeforeData, StringStart, TextBefore, TextBeforeData, TextBeforeHardBreakEscape, TextBeforeHtml, TextStart}
+pub use Rattle.markdown_base.specs.declared.state.TheConstants.Name.{AttentionInside, AttentionStart, DataInside, DataStart, StringBefore, StringBeforeData, StringStart, TextBefore, TextBeforeData, TextBeforeHardBreakEscape, TextBeforeHtml, TextStart}
 pub use Rattle.markdown_children.proofs.ChildReads.SoFar.{lists-all}
 pub use Rattle.markdown_children.proofs.Parts.Staying.{stays-ready}
 pub use Rattle.markdown_children.specs.Chains.{fitting_starts}
@@ -38,15 +38,16 @@ pub use Rattle.markdown_tokenizer.proofs.Readings.Bounds.{one-end}
 pub use Rattle.markdown_tokenizer.proofs.Readings.Plain.{edited-same}
 pub use Rattle.markdown_tokenizer.specs.Alike.{LooksNoFurther}
 pub use Rattle.markdown_tokenizer.specs.AtPlaces.{AreAtPlaces}
-pub use Rattle.markdown_tokenizer.specs.Calls.{with_local, with_resolvers}
+pub use Rattle.markdown_tokenizer.specs.Calls.{consumed, entered, exited, noting, place_of, with_local, with_resolvers}
 pub use Rattle.markdown_tokenizer.specs.Configuration.{Choice, Configuration, Local, Saved, Step, TokenizerValue, start_configuration}
 pub use Rattle.markdown_tokenizer.specs.Engine.{IsRun, given_by, whole_text}
 pub use Rattle.markdown_tokenizer.specs.Plain.{HaveNoLinks}
 pub use Rattle.markdown_tokenizer.specs.Reading.{EndsIn, Reading, after_choices, fed, more_calls, read, settle, settled_at}
 pub use Rattle.markdown_tokenizer.specs.Resolving.{IsResolved, done, edits_made, found, resolved_by, taken}
-pub use Rattle.markdown_tokenizer.specs.Sight.{Sight, byte_of, end_place, point_or, seat_before, sight}
+pub use Rattle.markdown_tokenizer.specs.Sight.{Sight, byte_of, end_place, point_or, seat_before, sight, sight_in}
 pub use Rattle.markdown_tokenizer.specs.Text.{Given, IsDocument, IsText, Text}
 pub use Rattle.markdown_tokenizer.specs.declared.subtokenize.Subresult.{Subresult}
+pub use Rattle.markdown_tokenizer.specs.declared.tokenizer.noted.Noted.{Noted}
 pub use Rattle.markdown_tokenizer.specs.declared.waiting.AttemptKind.{AttemptKind}
 pub use Rattle.markdown_tokenizer.specs.declared.waiting.AttemptKind.TheVariants.{Attempt, Check}
 pub use Rattle.markdown_tokenizer.specs.declared.waiting.Waits.TheVariants.{Byte, End, Nothing}
@@ -59,11 +60,10 @@ pub use Rattle.mdconstructs_inline_constructs.proofs.Emails.Bytes.{emails-apart}
 pub use Rattle.mdconstructs_inline_constructs.proofs.Emails.Calls.{email-paid, email-within}
 pub use Rattle.mdconstructs_inline_constructs.proofs.Emails.Cuts.{email-built}
 pub use Rattle.mdconstructs_inline_constructs.proofs.Emails.Readings.{PlaysEmails, emails-reads-in}
-pub use Rattle.mdconstructs_inline_constructs.proofs.HardBreaks.Bytes.{break-escapes-apart, trailing-breaks-apart}
-pub use Rattle.mdconstructs_inline_constructs.proofs.HardBreaks.Calls.{break-escape-paid, break-escape-within, break_escape_calls, trailing-break-looked, trailing-break-paid, trailing-break-within, trailing_break_calls}
+pub use Rattle.mdconstructs_inline_constructs.proofs.HardBreaks.Bytes.{break-escapes-apart, trailing-break-some}
+pub use Rattle.mdconstructs_inline_constructs.proofs.HardBreaks.Calls.{break-escape-paid, break-escape-within, break_escape_calls, trailing-break-within}
 pub use Rattle.mdconstructs_inline_constructs.proofs.HardBreaks.Cuts.{break-escape-built, trailing-break-built}
 pub use Rattle.mdconstructs_inline_constructs.proofs.HardBreaks.Escaped.{PlaysBreakEscapes, break-escapes-read-in}
-pub use Rattle.mdconstructs_inline_constructs.proofs.HardBreaks.Trailing.{PlaysTrailingBreaks, trailing-breaks-read-in}
 pub use Rattle.mdconstructs_inline_constructs.proofs.HtmlMarks.Ahead.{mark-missed, marks-ahead-later, marks-ahead-same, marks-ahead-within, marks-leave-runs, marks_ahead}
 pub use Rattle.mdconstructs_inline_constructs.proofs.HtmlMarks.Bytes.{html-mark-built, html-marks-apart}
 pub use Rattle.mdconstructs_inline_constructs.proofs.HtmlMarks.Places.{Mark, MarkPlace, at_cdata, at_comment, at_declaration, at_inside, at_open, mark_name, of_cdata, of_comment, of_declaration, of_instruction}
@@ -83,14 +83,13 @@ pub use Rattle.mdconstructs_inline_constructs.proofs.References.Cuts.{reference-
 pub use Rattle.mdconstructs_inline_constructs.proofs.References.Readings.{PlaysReferences, references-read, references-read-in}
 pub use Rattle.mdconstructs_inline_constructs.proofs.RememberedCode.Memory.{between-remembered, code_memory, opening-remembered}
 pub use Rattle.mdconstructs_inline_constructs.proofs.RememberedCode.Readings.{CodeDecided, code-ahead-later, code-ahead-within, code_ahead, knows-code-later, knows-no-code, knows_code, remembered-code-read}
-pub use Rattle.mdconstructs_inline_constructs.proofs.WhiteSpaces.Bytes.{run-some, white-classed, white-spaces-apart}
-pub use Rattle.mdconstructs_inline_constructs.proofs.WhiteSpaces.Calls.{white-space-paid, white-space-within, white_calls}
+pub use Rattle.mdconstructs_inline_constructs.proofs.WhiteSpaces.Bytes.{is_white_class, run-some, white-classed, white-space-some}
+pub use Rattle.mdconstructs_inline_constructs.proofs.WhiteSpaces.Calls.{white-space-within}
 pub use Rattle.mdconstructs_inline_constructs.proofs.WhiteSpaces.Classes.{white-class}
 pub use Rattle.mdconstructs_inline_constructs.proofs.WhiteSpaces.Cuts.{white-space-built}
-pub use Rattle.mdconstructs_inline_constructs.proofs.WhiteSpaces.Readings.{PlaysWhiteSpaces, after_white, ends-white, fails-white, white-calls, white-spaces-read-in}
 pub use Rattle.mdconstructs_inline_constructs.specs.EmailRows.{email_atext, email_label, email_start, email_value, emails}
 pub use Rattle.mdconstructs_inline_constructs.specs.HardBreak.{hard_break_trailing, trailing_break_at, trailing_size_min}
-pub use Rattle.mdconstructs_inline_constructs.specs.HardBreakRows.{break_escape_after, break_escape_start, break_escapes, break_escapes_are_on, space_waits, trailing_after_first, trailing_after_more, trailing_breaks, trailing_breaks_are_on, trailing_start}
+pub use Rattle.mdconstructs_inline_constructs.specs.HardBreakRows.{break_escape_after, break_escape_start, break_escapes, break_escapes_are_on, trailing_breaks_are_on}
 pub use Rattle.mdconstructs_inline_constructs.specs.HtmlMarkedRows.{cdata_open, comment_open, declaration_open, html_marks, mark_inside, mark_line, mark_open, mark_start, mark_white}
 pub use Rattle.mdconstructs_inline_constructs.specs.HtmlTagRows.{html_tags, html_text_attribute_name, html_text_attribute_name_after, html_text_end, html_text_open, html_text_start, html_text_tag_close, html_text_tag_close_between, html_text_tag_close_start, html_text_tag_open, html_text_tag_open_between, html_text_value_before, html_text_value_quoted, html_text_value_quoted_after, html_text_value_unquoted}
 pub use Rattle.mdconstructs_inline_constructs.specs.HtmlTextRows.{html_line_ending_after, html_line_ending_after_prefix}
@@ -99,17 +98,16 @@ pub use Rattle.mdconstructs_inline_constructs.specs.Reference.{Kind, decimal, he
 pub use Rattle.mdconstructs_inline_constructs.specs.ReferenceRows.{at_number_sign, at_semicolon, at_x, reference_numeric, reference_open, reference_start, reference_value, references, value_goes_on, value_is_whole}
 pub use Rattle.mdconstructs_inline_constructs.specs.RememberedCode.{remembered_between, remembered_chunk, remembered_code_spans, remembered_open}
 pub use Rattle.mdconstructs_inline_constructs.specs.WhiteSpace.{ends_line_at, is_white_left, white_space, white_space_at}
-pub use Rattle.mdconstructs_inline_constructs.specs.WhiteSpaceRows.{is_white_class, white_inside, white_spaces, white_start}
-pub use Rattle.mdconstructs_inlines.specs.InlineEvents.{begins_run, data_length, data_run, delimiter_run, ends_data, ends_data_at, inline_events, inline_grammars, inline_item_at, inline_items, line_break, marked_grammars, read_events, run_length, run_or_part, up_to}
+pub use Rattle.mdconstructs_inlines.specs.InlineEvents.{begins_run, data_length, data_run, delimiter_run, ends_data, ends_data_at, inline_events, inline_grammars, inline_item_at, inline_items, line_break, marked_grammars, read_events, run_length, run_or_part, up_to, white_grammars}
 pub use Rattle.mdconstructs_inlines.specs.InlineRules.{EndsEmphasised, emphasis_edits, inlines_rules}
-pub use Rattle.mdconstructs_inlines.specs.InlineTable.{at_data_break, before_email, before_hard_break_escape, before_html, before_tag, before_white_space, begins_inline, behind_autolinks, behind_emails, behind_escapes, behind_marks, data_over, follows_inline, inline_before, inline_before_rows, inline_constructs, inline_data, inline_data_rows, inline_start, inline_starts, inlines, line_start, line_start_rows, line_white, line_white_rows, own_states, white_constructs, white_data, white_data_rows}
+pub use Rattle.mdconstructs_inlines.specs.InlineTable.{at_data_break, before_email, before_hard_break_escape, before_html, before_tag, begins_inline, behind_autolinks, behind_emails, behind_escapes, behind_marks, break_or_white, data_goes_on, data_over, data_space, data_space_rows, data_spaces, data_spaces_rows, data_white, data_white_rows, follows_inline, inline_before, inline_before_rows, inline_constructs, inline_data, inline_data_rows, inline_start, inline_starts, inlines, line_start, line_start_rows, line_white, line_white_rows, own_states, space_waits, step_by, text_space, text_space_rows, text_spaces, text_spaces_rows, text_white, text_white_rows, white_is_data, white_over, white_states}
 pub use Rattle.mdconstructs_inlines.specs.LawStatements.{MakesEmphasis, ReadsChainsAsInlineText, ReadsChainsAsStrings, ReadsInlineText, ReadsStrings, RunsWithin, StaysReadyAfterInlineText, StaysReadyAfterStrings}
 pub use Rattle.mdconstructs_inlines.specs.Laws.Inlines.{inlines-lawful}
 pub use Rattle.mdconstructs_inlines.specs.Laws.Registered.{before-resolver, goes-on}
 pub use Rattle.mdconstructs_inlines.specs.RunRows.{attention_inside, attention_inside_rows, attention_start, is_byte, is_delimiter, run_begins, run_goes_on, run_states}
 pub use Rattle.mdconstructs_inlines.specs.StringEvents.{is_string_special, string_data, string_events, string_grammars, string_item_at, string_part}
 pub use Rattle.mdconstructs_inlines.specs.StringTable.{between_strings, registers, string_before, string_before_data, string_before_rows, string_constructs, string_data_rows, string_start, string_states}
-pub use Rattle.mdconstructs_inlines.specs.declared.names.TheConstants.{DataOver, DataWhite, TextBeforeEmail, TextBeforeTag, TextBeforeWhiteSpace, TextLineStart, TextLineWhite}
+pub use Rattle.mdconstructs_inlines.specs.declared.names.TheConstants.{DataSpace, DataSpaces, DataWhite, TextBeforeEmail, TextBeforeTag, TextLineStart, TextLineWhite, TextSpace, TextSpaces, TextWhite}
 pub use Rattle.mdconstructs_machines.proofs.LineReads.Rows.{line-ending-read, row_step}
 pub use Rattle.mdconstructs_machines.proofs.LineReads.Steps.{at-front, held}
 pub use Rattle.mdconstructs_machines.specs.Breaks.{is_white}
@@ -142,13 +140,13 @@ pub use Rattle.mdconstructs_text.proofs.Paragraphs.ChainEvents.{all-begin, chain
 pub use Rattle.mdconstructs_text.proofs.Paragraphs.Staying.{each-alone}
 pub use Rattle.mdconstructs_text.proofs.Plain.Items.{AddsItemIn, DecidesIn, ReadsIn, adds-more, adds-of, data-begun, entered_data, reads-begun}
 pub use Rattle.mdconstructs_text.proofs.Plain.Passed.{after-passed}
-pub use Rattle.mdconstructs_text.proofs.Plain.Stretches.{first_byte, goes-back, goes-next, leaf-read, loops, passed, past-at, past-stops, seen, sees, shows}
+pub use Rattle.mdconstructs_text.proofs.Plain.Stretches.{byte-behind, first_byte, past-is, goes-back, goes-next, leaf-read, loops, passed, past-at, past-stops, seen, sees, shows}
 pub use Rattle.mdconstructs_text.proofs.Texts.Apart.{line-classed}
 pub use Rattle.mdconstructs_text.proofs.Texts.Built.{IsBuilt, IsKeptBySpans}
-pub use Rattle.mdconstructs_text.proofs.Texts.Counted.{IsAfter, Remembered, after-call, after-more, after-within, remembered}
-pub use Rattle.mdconstructs_text.proofs.Texts.Cutting.{cut-same, drop-less}
+pub use Rattle.mdconstructs_text.proofs.Texts.Counted.{IsAfter, Remembered, after-call, after-more, after-none, after-within, remembered}
+pub use Rattle.mdconstructs_text.proofs.Texts.Cutting.{cut-enough, cut-same, drop-less}
 pub use Rattle.mdconstructs_text.proofs.Texts.Ends.{ReadsTexts, ReadsTextsFrom, ends-so, holds-at-end}
-pub use Rattle.mdconstructs_text.proofs.Texts.Leads.{Ending, counted-most, ending, leads-unfed, most, spent}
+pub use Rattle.mdconstructs_text.proofs.Texts.Leads.{Ending, leads-step, counted-most, ending, leads-unfed, most, spent}
 pub use Rattle.mdconstructs_text.proofs.Texts.LineEndings.{reads-line-in}
 pub use Rattle.mdconstructs_text.proofs.Texts.Reads.{AddsItem, ReadsItems, nothing-kept, nothing_known, reads-before}
 pub use Rattle.mdconstructs_text.proofs.Texts.Steps.{BeginsData, EndsWith, HasRow, HasRows, Leads, Plays, PlaysData, before_class, between_items, leads-fed, leads-nok, leads-ok, leads-row, leads-seen, leads-tested, tested}
@@ -158,7 +156,7 @@ pub use Rattle.mdconstructs_text.specs.AutolinkRows.{autolink_open, autolink_sch
 pub use Rattle.mdconstructs_text.specs.Bytes.{backticks, has_byte_at, is_backtick, is_line_feed, is_space, passes}
 pub use Rattle.mdconstructs_text.specs.ChainTexts.{chain_text}
 pub use Rattle.mdconstructs_text.specs.CodeSpanRows.{code_spans_are_on, raw_text_after, raw_text_backticks_inside, raw_text_data, raw_text_sequence_close, raw_text_start, sizes_are_equal}
-pub use Rattle.mdconstructs_text.specs.Construct.{Between, Construct, Found, between_texts, first_there, grammars_of, if_on, or_else, some_begins, some_first, states_of, tried_at}
+pub use Rattle.mdconstructs_text.specs.Construct.{Between, Construct, Found, Grammar, between_texts, first_there, grammars_of, if_on, or_else, some_begins, some_first, states_of, tried_at}
 pub use Rattle.mdconstructs_text.specs.Escape.{escape, escape_at}
 pub use Rattle.mdconstructs_text.specs.EscapeRows.{escape_inside, escape_start, escapes, escapes_are_on}
 pub use Rattle.mdconstructs_text.specs.Items.{item_length}

@@ -1,39 +1,39 @@
 -- The table of the machine of inline text: a list of constructs, and delimiter runs, line endings and data between them.
-use Rattle.std.specs.Prelude.{◌||◌, ◌==◌, Bool, cond, List, [], ◌∷◌, ◌++◌, Option, Some, None}
-use Rattle.markdown_base.specs.declared.event.Name.TheVariants.{Data, LineEnding, SpaceOrTab}
+use Rattle.std.specs.Prelude.{◌||◌, ◌==◌, Bool, true, cond, List, [], ◌∷◌, ◌++◌, Option, Some, None}
+use Rattle.markdown_base.specs.declared.event.Name.{Name as EventName}
+use Rattle.markdown_base.specs.declared.event.Name.TheVariants.{Data, HardBreakTrailing, LineEnding, SpaceOrTab}
 use Rattle.markdown_base.specs.declared.state.Name.{Name}
 use Rattle.markdown_base.specs.declared.state.State.TheVariants.{Next, Retry, Ok}
-use Rattle.markdown_base.specs.declared.state.TheConstants.Name.{AttentionStart, DataInside, SpaceOrTabStart, StringBefore, StringStart, TextBefore, TextBeforeData, TextBeforeHardBreakEscape, TextBeforeHtml, TextStart}
-use Rattle.mdconstructs_inlines.specs.declared.names.TheConstants.{DataOver, DataWhite, TextBeforeEmail, TextBeforeTag, TextBeforeWhiteSpace, TextLineStart, TextLineWhite}
-use Rattle.markdown_tokenizer.specs.declared.waiting.AttemptKind.TheVariants.{Check}
-use Rattle.mdconstructs_tables.specs.Rows.{enter, exit, consume, write, choose, Rows, row, when, at_bytes, StateRows, state, Table}
+use Rattle.markdown_base.specs.declared.state.TheConstants.Name.{AttentionStart, DataInside, StringBefore, StringStart, TextBefore, TextBeforeData, TextBeforeHardBreakEscape, TextBeforeHtml, TextStart}
+use Rattle.mdconstructs_inlines.specs.declared.names.TheConstants.{DataSpace, DataSpaces, DataWhite, TextBeforeEmail, TextBeforeTag, TextLineStart, TextLineWhite, TextSpace, TextSpaces, TextWhite}
+use Rattle.markdown_tokenizer.specs.Configuration.{Configuration, Step, TokenizerValue}
+use Rattle.markdown_tokenizer.specs.Sight.{Sight, sight_of}
+use Rattle.markdown_tokenizer.specs.Text.{Given}
+use Rattle.mdconstructs_tables.specs.Rows.{enter, exit, consume, write, note, exit_noted, enter_noted, Rows, row, when, picked, step_of, at_bytes, StateRows, state, Table}
+use Rattle.mdconstructs_tables.specs.RowInvariant.{CanEndNoted}
 use Rattle.mdconstructs_tables.specs.Numbers.{Price, by_left, by_class, numbers}
 use Rattle.mdconstructs_machines.specs.Tables.{counts}
+use Rattle.mdconstructs_text.specs.Bytes.{is_space, passes}
 use Rattle.mdconstructs_text.specs.AutolinkRows.{autolinks, autolink_prices}
 use Rattle.mdconstructs_text.specs.CodeSpanRows.{code_span_prices}
-use Rattle.mdconstructs_text.specs.Construct.{Construct, Found, between_texts, data_rows, some_begun, some_follows, states_of, tried_at}
+use Rattle.mdconstructs_text.specs.Construct.{Construct, Found, between_texts, data_rows, some_begins, some_begun, some_follows, states_of, tried_at}
 use Rattle.mdconstructs_text.specs.EscapeRows.{escapes, escape_prices}
 use Rattle.mdconstructs_text.specs.TextBytes.{TextByte, backslash, less, line_feed, punctuation, white, text_byte, is_backslash_class, is_backtick_class, is_less_class, is_line_feed_class}
 use Rattle.mdconstructs_text.specs.TextCosts.{text_cost}
 use Rattle.mdconstructs_text.specs.TextTable.{text_before_data, data_at_break}
 use Rattle.mdconstructs_inline_constructs.specs.EmailRows.{emails, email_prices}
-use Rattle.mdconstructs_inline_constructs.specs.HardBreakRows.{break_escapes, break_escape_prices, trailing_breaks, trailing_break_prices}
+use Rattle.mdconstructs_inline_constructs.specs.HardBreakRows.{break_escapes, break_escape_prices, trailing_breaks_are_on}
 use Rattle.mdconstructs_inline_constructs.specs.ReferenceRows.{references, reference_prices}
 use Rattle.mdconstructs_inline_constructs.specs.RememberedCode.{remembered_code_spans}
 use Rattle.mdconstructs_inline_constructs.specs.HtmlMarkedRows.{html_marks, html_mark_prices}
 use Rattle.mdconstructs_inline_constructs.specs.HtmlTagRows.{html_tags, html_tag_prices}
-use Rattle.mdconstructs_inline_constructs.specs.WhiteSpaceRows.{is_white_class, white_spaces, white_space_prices}
 use Rattle.mdconstructs_inlines.specs.RunRows.{run_begins, run_prices, run_states}
 use Rattle.mdconstructs_inlines.specs.StringTable.{registers, string_prices, string_states}
 
 -- ---- the constructs
--- The constructs that begin with white space, as they are read
-abbrev pub white_constructs : List (Construct Found TextByte Unit Unit)
-white_constructs = record trailing_breaks { otherwise = TextBeforeWhiteSpace } ∷ white_spaces ∷ []
-
 -- those that follow backslash escapes
 abbrev pub behind_escapes : List (Construct Found TextByte Unit Unit)
-behind_escapes = break_escapes ∷ references ∷ white_constructs
+behind_escapes = break_escapes ∷ references ∷ []
 
 -- those that follow raw HTML between marks
 abbrev pub behind_marks : List (Construct Found TextByte Unit Unit)
@@ -47,7 +47,7 @@ behind_emails = record html_marks { otherwise = TextBeforeTag } ∷ behind_marks
 abbrev pub behind_autolinks : List (Construct Found TextByte Unit Unit)
 behind_autolinks = record emails { otherwise = TextBeforeHtml } ∷ behind_emails
 
--- The constructs of inline text: what is tried at which byte
+-- The constructs of inline text that are tried, and at which byte. What begins with white space is read without a try.
 abbrev pub inline_constructs : List (Construct Found TextByte Unit Unit)
 inline_constructs = remembered_code_spans ∷ record autolinks { otherwise = TextBeforeEmail } ∷ behind_autolinks
 
@@ -64,10 +64,6 @@ others_state name cs w is_class price =
 abbrev pub before_hard_break_escape : StateRows TextByte Unit Unit
 before_hard_break_escape = others_state TextBeforeHardBreakEscape behind_escapes backslash is_backslash_class (by_left 4 18 0)
 
--- behind a hard break by spaces that is none
-abbrev pub before_white_space : StateRows TextByte Unit Unit
-before_white_space = others_state TextBeforeWhiteSpace (white_spaces ∷ []) white is_white_class (by_left 4 18 0)
-
 -- behind an autolink that is none
 abbrev pub before_email : StateRows TextByte Unit Unit
 before_email = others_state TextBeforeEmail behind_autolinks less is_less_class (by_left 4 18 6)
@@ -81,6 +77,18 @@ abbrev pub before_tag : StateRows TextByte Unit Unit
 before_tag = others_state TextBeforeTag behind_marks less is_less_class (by_left 4 15 2)
 
 -- ---- between constructs
+-- a space waits, and no tab
+abbrev pub space_waits : Given → Sight → Configuration Unit Unit → Bool
+space_waits g s k = passes is_space s.current
+
+-- at white space the place is noted, and a space or a tab is read
+abbrev pub notes_white : (space tabbed : Name) → Rows Unit Unit
+notes_white space tabbed = when space_waits (row (note ∷ consume ∷ []) (Next space)) (row (note ∷ consume ∷ []) (Next tabbed))
+
+-- behind white space a space or a tab is read
+abbrev pub reads_white : (spaces tabbed : Name) → Rows Unit Unit
+reads_white spaces tabbed = when space_waits (row (consume ∷ []) (Next spaces)) (row (consume ∷ []) (Next tabbed))
+
 -- Before a text
 abbrev pub inline_start_rows : (previous current : Option TextByte) → Rows Unit Unit
 inline_start_rows _ _ = row (write registers ∷ []) (Retry TextLineStart)
@@ -110,11 +118,12 @@ abbrev pub line_white : StateRows TextByte Unit Unit
 line_white =
     state TextLineWhite line_white_rows (SpaceOrTab ∷ []) (text_cost (by_left 4 20 8))
 
--- Between constructs: a line ending is read, a run begins, a construct is tried, or data is read
+-- Between constructs: a line ending is read, a run begins, white space is read, a construct is tried, or data is read
 abbrev pub inline_before_rows : (previous current : Option TextByte) → Rows Unit Unit
 inline_before_rows _ None = row [] Ok
 inline_before_rows _ (Some line_feed) = row (enter LineEnding ∷ consume ∷ exit LineEnding ∷ []) (Next TextLineStart)
 inline_before_rows _ (Some punctuation) = when run_begins (row [] (Retry AttentionStart)) (row [] (Retry TextBeforeData))
+inline_before_rows _ (Some white) = notes_white TextSpace TextWhite
 inline_before_rows _ (Some w) = tried_at between_texts inline_constructs w
 
 -- their state: no span is open
@@ -123,10 +132,10 @@ inline_before =
     state TextBefore inline_before_rows [] (text_cost (by_left 4 20 7))
 
 -- ---- data
--- In data. At white space there is a look whether anything else is left of the line
+-- In data. At white space the place is noted: it shows behind it whether it is data
 abbrev pub inline_data_rows : (previous current : Option TextByte) → Rows Unit Unit
 inline_data_rows _ (Some punctuation) = when run_begins (row (exit Data ∷ []) (Retry TextBefore)) (row (consume ∷ []) (Next DataInside))
-inline_data_rows _ (Some white) = row (choose Check (Next DataOver) (Next DataWhite) ∷ []) (Retry SpaceOrTabStart)
+inline_data_rows _ (Some white) = notes_white DataSpace DataWhite
 inline_data_rows previous current = data_rows between_texts is_line_feed_class inline_constructs previous current
 
 -- its state: a data span is open
@@ -134,28 +143,107 @@ abbrev pub inline_data : StateRows TextByte Unit Unit
 inline_data =
     state DataInside inline_data_rows (Data ∷ []) (text_cost (by_left 4 21 10))
 
--- Nothing else is left of the line: data ends
-abbrev pub data_over_rows : (previous current : Option TextByte) → Rows Unit Unit
-data_over_rows _ _ = row (exit Data ∷ []) (Retry TextBefore)
+-- ---- white space
+-- The white space that was read is a span of this name, from the noted place on
+abbrev pub white_over : EventName → Rows Unit Unit
+white_over name = row (enter_noted name ∷ exit name ∷ []) (Retry TextBefore)
 
--- its state: a data span is open
-abbrev pub data_over : StateRows TextByte Unit Unit
-data_over =
-    state DataOver data_over_rows (Data ∷ []) (text_cost (by_left 4 20 8))
+-- the same where data was open before it: data ends there
+abbrev pub data_over : EventName → Rows Unit Unit
+data_over name = row (exit_noted Data ∷ enter_noted name ∷ exit name ∷ []) (Retry TextBefore)
 
--- Something is left: the white space is data
-abbrev pub white_data_rows : (previous current : Option TextByte) → Rows Unit Unit
-white_data_rows _ (Some white) = row (consume ∷ []) (Next DataWhite)
-white_data_rows _ _ = row [] (Retry DataInside)
+-- spaces before a line ending are a hard break, if those are on
+abbrev pub break_or_white : (EventName → Rows Unit Unit) → Rows Unit Unit
+break_or_white over = when trailing_breaks_are_on (over HardBreakTrailing) (over SpaceOrTab)
 
--- what it costs: less at white space, which it reads, than where that ends
-abbrev pub at_white_data : Price TextByte
-at_white_data = by_class (numbers 4 21 21 11) (λ w. cond (is_white_class w) (numbers 4 21 21 12) (numbers 4 29 29 36))
+-- the white space was data, which begins at the noted place
+abbrev pub white_is_data : Rows Unit Unit
+white_is_data = row (enter_noted Data ∷ []) (Retry DataInside)
 
--- its state: a data span is open
-abbrev pub white_data : StateRows TextByte Unit Unit
-white_data =
-    state DataWhite white_data_rows (Data ∷ []) (text_cost at_white_data)
+-- it was data, and so is the byte behind it, unless something else may begin with that
+abbrev pub data_goes_on : TextByte → Rows Unit Unit
+data_goes_on punctuation = when run_begins (row [] (Retry DataInside)) (row (consume ∷ []) (Next DataInside))
+data_goes_on w = cond (some_begins inline_constructs w) (row [] (Retry DataInside)) (row (consume ∷ []) (Next DataInside))
+
+-- the step of these rows in a tokenizer
+abbrev pub step_by : {M : Type 0} → Rows Unit Unit → TokenizerValue M Unit Unit → Step Unit Unit
+step_by rows t = step_of (picked rows t.given (sight_of t) t.configuration) (sight_of t) t.configuration
+
+-- data can end at the noted place, and white space begin there
+abbrev pub CanEndData : {M : Type 0} → TokenizerValue M Unit Unit → Type 0
+CanEndData t = CanEndNoted (Data ∷ []) t
+
+-- Behind one space
+abbrev pub text_space_rows : (previous current : Option TextByte) → Rows Unit Unit
+text_space_rows _ None = white_over SpaceOrTab
+text_space_rows _ (Some line_feed) = white_over SpaceOrTab
+text_space_rows _ (Some white) = reads_white TextSpaces TextWhite
+text_space_rows _ (Some _) = white_is_data
+
+-- behind two spaces or more
+abbrev pub text_spaces_rows : (previous current : Option TextByte) → Rows Unit Unit
+text_spaces_rows _ None = white_over SpaceOrTab
+text_spaces_rows _ (Some line_feed) = break_or_white white_over
+text_spaces_rows _ (Some white) = reads_white TextSpaces TextWhite
+text_spaces_rows _ (Some _) = white_is_data
+
+-- behind white space with a tab
+abbrev pub text_white_rows : (previous current : Option TextByte) → Rows Unit Unit
+text_white_rows _ None = white_over SpaceOrTab
+text_white_rows _ (Some line_feed) = white_over SpaceOrTab
+text_white_rows _ (Some white) = row (consume ∷ []) (Next TextWhite)
+text_white_rows _ (Some _) = white_is_data
+
+-- their states: no span is open, and the place where the white space begins is noted
+abbrev pub text_space : StateRows TextByte Unit Unit
+text_space =
+    record (state TextSpace text_space_rows [] (text_cost (by_left 4 21 11))) { noted = true }
+
+abbrev pub text_spaces : StateRows TextByte Unit Unit
+text_spaces =
+    record (state TextSpaces text_spaces_rows [] (text_cost (by_left 4 21 11))) { noted = true }
+
+abbrev pub text_white : StateRows TextByte Unit Unit
+text_white =
+    record (state TextWhite text_white_rows [] (text_cost (by_left 4 21 11))) { noted = true }
+
+-- In data, behind one space
+abbrev pub data_space_rows : (previous current : Option TextByte) → Rows Unit Unit
+data_space_rows _ None = data_over SpaceOrTab
+data_space_rows _ (Some line_feed) = data_over SpaceOrTab
+data_space_rows _ (Some white) = reads_white DataSpaces DataWhite
+data_space_rows _ (Some w) = data_goes_on w
+
+-- behind two spaces or more
+abbrev pub data_spaces_rows : (previous current : Option TextByte) → Rows Unit Unit
+data_spaces_rows _ None = data_over SpaceOrTab
+data_spaces_rows _ (Some line_feed) = break_or_white data_over
+data_spaces_rows _ (Some white) = reads_white DataSpaces DataWhite
+data_spaces_rows _ (Some w) = data_goes_on w
+
+-- behind white space with a tab
+abbrev pub data_white_rows : (previous current : Option TextByte) → Rows Unit Unit
+data_white_rows _ None = data_over SpaceOrTab
+data_white_rows _ (Some line_feed) = data_over SpaceOrTab
+data_white_rows _ (Some white) = row (consume ∷ []) (Next DataWhite)
+data_white_rows _ (Some w) = data_goes_on w
+
+-- their states: a data span is open, and the place where the white space begins is noted
+abbrev pub data_space : StateRows TextByte Unit Unit
+data_space =
+    record (state DataSpace data_space_rows (Data ∷ []) (text_cost (by_left 4 21 11))) { noted = true }
+
+abbrev pub data_spaces : StateRows TextByte Unit Unit
+data_spaces =
+    record (state DataSpaces data_spaces_rows (Data ∷ []) (text_cost (by_left 4 21 11))) { noted = true }
+
+abbrev pub data_white : StateRows TextByte Unit Unit
+data_white =
+    record (state DataWhite data_white_rows (Data ∷ []) (text_cost (by_left 4 21 11))) { noted = true }
+
+-- the states in white space
+abbrev pub white_states : List (StateRows TextByte Unit Unit)
+white_states = text_space ∷ text_spaces ∷ text_white ∷ data_space ∷ data_spaces ∷ data_white ∷ []
 
 -- a backtick string that begins data costs less at a backtick, too
 abbrev pub at_data_break : Price TextByte
@@ -171,15 +259,14 @@ abbrev pub inline_prices : List (Price TextByte)
 inline_prices =
     string_prices
     ++ (run_prices
-    ++ (by_left 4 20 9 ∷ by_left 4 20 8 ∷ by_left 4 20 8 ∷ by_left 4 20 7 ∷ by_left 4 18 0 ∷ by_left 4 18 0 ∷ by_left 4 18 6 ∷ by_left 4 17 4 ∷ by_left 4 15 2 ∷ by_left 4 13 0 ∷ at_data_break ∷ by_left 4 21 10
-    ∷ by_left 4 20 8
-    ∷ at_white_data
-    ∷ (code_span_prices ++ (autolink_prices ++ (email_prices ++ (html_mark_prices ++ (html_tag_prices ++ (escape_prices ++ (break_escape_prices ++ (reference_prices ++ (trailing_break_prices ++ white_space_prices)))))))))))
+    ++ (by_left 4 20 9 ∷ by_left 4 20 8 ∷ by_left 4 20 8 ∷ by_left 4 20 7 ∷ by_left 4 18 0 ∷ by_left 4 18 6 ∷ by_left 4 17 4 ∷ by_left 4 15 2 ∷ by_left 4 13 0 ∷ at_data_break ∷ by_left 4 21 10
+    ∷ by_left 4 21 11 ∷ by_left 4 21 11 ∷ by_left 4 21 11 ∷ by_left 4 21 11 ∷ by_left 4 21 11 ∷ by_left 4 21 11
+    ∷ (code_span_prices ++ (autolink_prices ++ (email_prices ++ (html_mark_prices ++ (html_tag_prices ++ (escape_prices ++ (break_escape_prices ++ reference_prices)))))))))
 
 -- the states between constructs, but the first
 abbrev pub own_states : List (StateRows TextByte Unit Unit)
 own_states =
-    line_start ∷ line_white ∷ inline_before ∷ before_hard_break_escape ∷ before_white_space ∷ before_email ∷ before_html ∷ before_tag ∷ (data_states ++ (inline_data ∷ data_over ∷ white_data ∷ []))
+    line_start ∷ line_white ∷ inline_before ∷ before_hard_break_escape ∷ before_email ∷ before_html ∷ before_tag ∷ (data_states ++ (inline_data ∷ white_states))
 
 -- the states of inline text but the first
 abbrev pub later_states : List (StateRows TextByte Unit Unit)

@@ -1,16 +1,18 @@
 //! The machine of inline text.
 
-ghost use Rattle.std.specs.Prelude.{◌≡◌, IfOk};
+ghost use Rattle.std.specs.Prelude.{◌≡◌, IfOk, Some};
 ghost use Rattle.markdown_base.specs.Events.{IsBalanced};
 ghost use Rattle.markdown_tokenizer.specs.Calls.{with_local};
+ghost use Rattle.markdown_tokenizer.specs.declared.waiting.Waits.TheVariants.{Byte};
 ghost use Rattle.markdown_tokenizer.specs.Configuration.{at_configuration};
+ghost use Rattle.markdown_tokenizer.specs.Sight.{sight_of};
 ghost use Rattle.mdconstructs_attention.specs.Emphasis.{paired};
 ghost use Rattle.mdconstructs_attention.specs.Places.{ArePlacesInside};
 ghost use Rattle.mdconstructs_attention.specs.RunEdits.{edits_of};
 ghost use Rattle.mdconstructs_attention.specs.Runs.{runs_in};
-ghost use Rattle.mdconstructs_tables.specs.RowInvariant.{DoesAll, IsCallable, step_in};
+ghost use Rattle.mdconstructs_tables.specs.RowInvariant.{CanHoldNoted, DoesAll, IsCallable, step_in};
 ghost use Rattle.mdconstructs_text.specs.TextBytes.{text_byte};
-ghost use Rattle.mdconstructs_inlines.specs.InlineTable.{inline_start, line_start, line_white, inline_before, before_hard_break_escape, before_white_space, before_email, before_html, before_tag, inline_data, data_over, white_data};
+ghost use Rattle.mdconstructs_inlines.specs.InlineTable.{inline_start, line_start, line_white, inline_before, before_hard_break_escape, before_email, before_html, before_tag, inline_data, text_space, text_spaces, text_white, data_space, data_spaces, data_white, space_waits, CanEndData, data_goes_on, data_over, notes_white, reads_white, step_by, white_is_data, white_over};
 ghost use Rattle.mdconstructs_inlines.specs.StringTable.{string_start};
 
 use crate::attention::{attention_inside, attention_start, run_begins};
@@ -24,8 +26,7 @@ use markdown_tokenizer::util::edit_map::EditMap;
 use mdconstructs_attention::emphasis::emphasize;
 use mdconstructs_inline_constructs::email::{email_atext, email_label, email_start, email_value};
 use mdconstructs_inline_constructs::hard_break::{
-    break_escape_after, break_escape_start, break_escapes_are_on, trailing_after_first,
-    trailing_after_more, trailing_breaks_are_on, trailing_start,
+    break_escape_after, break_escape_start, break_escapes_are_on, trailing_breaks_are_on,
 };
 use mdconstructs_inline_constructs::html_marked::{
     cdata_open, comment_open, declaration_open, mark_inside, mark_line, mark_open, mark_start,
@@ -47,7 +48,6 @@ use mdconstructs_inline_constructs::reference::{
 use mdconstructs_inline_constructs::remembered_code::{
     remembered_between, remembered_chunk, remembered_open,
 };
-use mdconstructs_inline_constructs::white_space::{white_inside, white_start};
 use mdconstructs_machines::begin::begin;
 use mdconstructs_tables::marker;
 use mdconstructs_text::autolink::{
@@ -67,7 +67,7 @@ use std::alloc::{AllocError, Global};
 /// sequences. It reads a string, from `StringStart`: backslash escapes and character references, if they are on, line endings, and all else as
 /// data.
 ///
-/// On n virtual bytes a run from `TextStart` takes at most 143 n + 4 calls, and one from `StringStart` 87 n + 2, whatever they are: what was looked for
+/// On n virtual bytes a run from `TextStart` takes at most 138 n + 4 calls, and one from `StringStart` 87 n + 2, whatever they are: what was looked for
 /// in vain is remembered (`inline_text_is_linear`, `strings_are_linear`). The cost that the machine states is a square (`cost_at_the_start`).
 #[derive(Drop)]
 pub struct Inlines {}
@@ -102,15 +102,18 @@ impl Machine for Inlines {
             names::TextLineWhite => line_white(t),
             Name::TextBefore => inline_before(t),
             Name::TextBeforeHardBreakEscape => before_hard_break_escape(t),
-            names::TextBeforeWhiteSpace => before_white_space(t),
             names::TextBeforeEmail => before_email(t),
             Name::TextBeforeHtml => before_html(t),
             names::TextBeforeTag => before_tag(t),
             Name::TextBeforeData => text_before_data(t),
             Name::DataAtBreak => data_at_break(t),
             Name::DataInside => inline_data(t),
-            names::DataOver => data_over(t),
-            names::DataWhite => white_data(t),
+            names::TextSpace => text_space(t),
+            names::TextSpaces => text_spaces(t),
+            names::TextWhite => text_white(t),
+            names::DataSpace => data_space(t),
+            names::DataSpaces => data_spaces(t),
+            names::DataWhite => data_white(t),
             Name::AttentionStart => attention_start(t),
             Name::AttentionInside => attention_inside(t),
             Name::RawTextStart => raw_text_start(t),
@@ -161,11 +164,6 @@ impl Machine for Inlines {
             Name::CharacterReferenceValue => reference_value(t),
             Name::HardBreakEscapeStart => break_escape_start(t),
             Name::HardBreakEscapeAfter => break_escape_after(t),
-            construct_names::HardBreakTrailingStart => trailing_start(t),
-            construct_names::HardBreakTrailingAfterFirst => trailing_after_first(t),
-            construct_names::HardBreakTrailingAfterMore => trailing_after_more(t),
-            Name::SpaceOrTabStart => white_start(t),
-            Name::SpaceOrTabInside => white_inside(t),
             _ => unreachable!(),
         }
     }
@@ -319,20 +317,7 @@ fn inline_before<'a>(t: &mut Tokenizer<'a, Inlines>) -> Result<State, AllocError
             )?;
             Ok(State::Retry(Name::CharacterReferenceStart))
         }
-        Some(b' ' | b'\t') => {
-            if trailing_breaks_are_on(t) {
-                t.attempt(
-                    State::Next(Name::TextBefore),
-                    State::Next(names::TextBeforeWhiteSpace),
-                )?;
-                return Ok(State::Retry(construct_names::HardBreakTrailingStart));
-            }
-            t.attempt(
-                State::Next(Name::TextBefore),
-                State::Next(Name::TextBeforeData),
-            )?;
-            Ok(State::Retry(Name::SpaceOrTabStart))
-        }
+        Some(b' ' | b'\t') => note_white(t, names::TextSpace, names::TextWhite),
         Some(b'*' | b'_') => {
             if run_begins(t) {
                 return Ok(State::Retry(Name::AttentionStart));
@@ -356,18 +341,6 @@ fn before_hard_break_escape<'a>(t: &mut Tokenizer<'a, Inlines>) -> Result<State,
         State::Next(Name::TextBeforeData),
     )?;
     Ok(State::Retry(Name::HardBreakEscapeStart))
-}
-
-/// At white space that is no hard break: it is tried as the end of its line.
-fn before_white_space<'a>(t: &mut Tokenizer<'a, Inlines>) -> Result<State, AllocError>
-    requires { IsCallable text_byte before_white_space t.old }
-    ensures { IfOk result (DoesAll (step_in text_byte before_white_space t.old) t.old t.new) }
-{
-    t.attempt(
-        State::Next(Name::TextBefore),
-        State::Next(Name::TextBeforeData),
-    )?;
-    Ok(State::Retry(Name::SpaceOrTabStart))
 }
 
 /// At `<` that begins no autolink: an email autolink is tried if autolinks are on, or raw HTML if that is, or data is read.
@@ -422,7 +395,7 @@ fn before_tag<'a>(t: &mut Tokenizer<'a, Inlines>) -> Result<State, AllocError>
     Ok(State::Retry(Name::HtmlTextStart))
 }
 
-/// In data. White space may be the end of its line: that is looked at.
+/// In data. White space may be the end of its line, which shows behind it: the place before it is noted.
 fn inline_data<'a>(t: &mut Tokenizer<'a, Inlines>) -> Result<State, AllocError>
     requires { IsCallable text_byte inline_data t.old }
     ensures { IfOk result (DoesAll (step_in text_byte inline_data t.old) t.old t.new) }
@@ -432,10 +405,7 @@ fn inline_data<'a>(t: &mut Tokenizer<'a, Inlines>) -> Result<State, AllocError>
             t.exit(event::Name::Data)?;
             Ok(State::Retry(Name::TextBefore))
         }
-        Some(b' ' | b'\t') => {
-            t.check(State::Next(names::DataOver), State::Next(names::DataWhite))?;
-            Ok(State::Retry(Name::SpaceOrTabStart))
-        }
+        Some(b' ' | b'\t') => note_white(t, names::DataSpace, names::DataWhite),
         Some(b'*' | b'_') => {
             if run_begins(t) {
                 t.exit(event::Name::Data)?;
@@ -451,25 +421,190 @@ fn inline_data<'a>(t: &mut Tokenizer<'a, Inlines>) -> Result<State, AllocError>
     }
 }
 
-/// In data, before white space that is the end of its line.
-fn data_over<'a>(t: &mut Tokenizer<'a, Inlines>) -> Result<State, AllocError>
-    requires { IsCallable text_byte data_over t.old }
-    ensures { IfOk result (DoesAll (step_in text_byte data_over t.old) t.old t.new) }
-{
-    t.exit(event::Name::Data)?;
-    Ok(State::Retry(Name::TextBefore))
-}
-
-/// In white space of data.
-fn white_data<'a>(t: &mut Tokenizer<'a, Inlines>) -> Result<State, AllocError>
-    requires { IsCallable text_byte white_data t.old }
-    ensures { IfOk result (DoesAll (step_in text_byte white_data t.old) t.old t.new) }
+/// In data, behind one space.
+fn data_space<'a>(t: &mut Tokenizer<'a, Inlines>) -> Result<State, AllocError>
+    requires { IsCallable text_byte data_space t.old }
+    ensures { IfOk result (DoesAll (step_in text_byte data_space t.old) t.old t.new) }
 {
     match t.current() {
+        None | Some(b'\n') => end_data(t, event::Name::SpaceOrTab),
+        Some(b' ' | b'\t') => read_white(t, names::DataSpaces, names::DataWhite),
+        Some(byte) => data_goes_on(t, byte),
+    }
+}
+
+/// In data, behind two spaces or more.
+fn data_spaces<'a>(t: &mut Tokenizer<'a, Inlines>) -> Result<State, AllocError>
+    requires { IsCallable text_byte data_spaces t.old }
+    ensures { IfOk result (DoesAll (step_in text_byte data_spaces t.old) t.old t.new) }
+{
+    match t.current() {
+        None => end_data(t, event::Name::SpaceOrTab),
+        Some(b'\n') => {
+            if trailing_breaks_are_on(t) {
+                return end_data(t, event::Name::HardBreakTrailing);
+            }
+            end_data(t, event::Name::SpaceOrTab)
+        }
+        Some(b' ' | b'\t') => read_white(t, names::DataSpaces, names::DataWhite),
+        Some(byte) => data_goes_on(t, byte),
+    }
+}
+
+/// In data, behind white space with a tab.
+fn data_white<'a>(t: &mut Tokenizer<'a, Inlines>) -> Result<State, AllocError>
+    requires { IsCallable text_byte data_white t.old }
+    ensures { IfOk result (DoesAll (step_in text_byte data_white t.old) t.old t.new) }
+{
+    match t.current() {
+        None | Some(b'\n') => end_data(t, event::Name::SpaceOrTab),
         Some(b' ' | b'\t') => {
             t.consume();
             Ok(State::Next(names::DataWhite))
         }
-        _ => Ok(State::Retry(Name::DataInside)),
+        Some(byte) => data_goes_on(t, byte),
     }
+}
+
+/// Data ends where white space begins that is the end of its line; and that is a span under this name.
+fn end_data<'a>(t: &mut Tokenizer<'a, Inlines>, white: event::Name) -> Result<State, AllocError>
+    requires { CanEndData t.old }
+    ensures { IfOk result (DoesAll (step_by (data_over white) t.old) t.old t.new) }
+{
+    let place = t.noted();
+    t.exit_at(event::Name::Data, place.exit)?;
+    begin_white(t, white)
+}
+
+/// White space that is the end of its line is a span under this name, from where it begins.
+fn begin_white<'a>(t: &mut Tokenizer<'a, Inlines>, white: event::Name) -> Result<State, AllocError>
+    requires { CanHoldNoted t.old }
+    ensures { IfOk result (DoesAll (step_by (white_over white) t.old) t.old t.new) }
+{
+    let place = t.noted();
+    t.enter_at(white, place.enter)?;
+    t.exit(white)?;
+    Ok(State::Retry(Name::TextBefore))
+}
+
+/// Behind one space, with no data before it.
+fn text_space<'a>(t: &mut Tokenizer<'a, Inlines>) -> Result<State, AllocError>
+    requires { IsCallable text_byte text_space t.old }
+    ensures { IfOk result (DoesAll (step_in text_byte text_space t.old) t.old t.new) }
+{
+    match t.current() {
+        None | Some(b'\n') => begin_white(t, event::Name::SpaceOrTab),
+        Some(b' ' | b'\t') => read_white(t, names::TextSpaces, names::TextWhite),
+        Some(_) => data_at_noted(t),
+    }
+}
+
+/// Behind two spaces or more, with no data before them.
+fn text_spaces<'a>(t: &mut Tokenizer<'a, Inlines>) -> Result<State, AllocError>
+    requires { IsCallable text_byte text_spaces t.old }
+    ensures { IfOk result (DoesAll (step_in text_byte text_spaces t.old) t.old t.new) }
+{
+    match t.current() {
+        None => begin_white(t, event::Name::SpaceOrTab),
+        Some(b'\n') => {
+            if trailing_breaks_are_on(t) {
+                return begin_white(t, event::Name::HardBreakTrailing);
+            }
+            begin_white(t, event::Name::SpaceOrTab)
+        }
+        Some(b' ' | b'\t') => read_white(t, names::TextSpaces, names::TextWhite),
+        Some(_) => data_at_noted(t),
+    }
+}
+
+/// Behind white space with a tab, with no data before it.
+fn text_white<'a>(t: &mut Tokenizer<'a, Inlines>) -> Result<State, AllocError>
+    requires { IsCallable text_byte text_white t.old }
+    ensures { IfOk result (DoesAll (step_in text_byte text_white t.old) t.old t.new) }
+{
+    match t.current() {
+        None | Some(b'\n') => begin_white(t, event::Name::SpaceOrTab),
+        Some(b' ' | b'\t') => {
+            t.consume();
+            Ok(State::Next(names::TextWhite))
+        }
+        Some(_) => data_at_noted(t),
+    }
+}
+
+/// Data begins with white space that is not the end of its line, where that begins.
+fn data_at_noted<'a>(t: &mut Tokenizer<'a, Inlines>) -> Result<State, AllocError>
+    requires { CanHoldNoted t.old }
+    ensures { IfOk result (DoesAll (step_by white_is_data t.old) t.old t.new) }
+{
+    let place = t.noted();
+    t.enter_at(event::Name::Data, place.enter)?;
+    Ok(State::Retry(Name::DataInside))
+}
+
+/// At white space: its place is noted, and it is read, to a state behind a space or to one behind a tab.
+#[inline(always)]
+fn note_white<'a>(
+    t: &mut Tokenizer<'a, Inlines>,
+    space: Name,
+    tabbed: Name,
+) -> Result<State, AllocError>
+    requires { t.old.configuration.waiting ≡ Byte }
+    ensures { IfOk result (DoesAll (step_by (notes_white space tabbed) t.old) t.old t.new) }
+{
+    let is_space = space_waits(t);
+    t.note();
+    t.consume();
+    if is_space {
+        return Ok(State::Next(space));
+    }
+    Ok(State::Next(tabbed))
+}
+
+/// At white space behind other: it is read, to a state behind spaces or to one behind a tab.
+#[inline(always)]
+fn read_white<'a>(
+    t: &mut Tokenizer<'a, Inlines>,
+    spaces: Name,
+    tabbed: Name,
+) -> Result<State, AllocError>
+    requires { t.old.configuration.waiting ≡ Byte }
+    ensures { IfOk result (DoesAll (step_by (reads_white spaces tabbed) t.old) t.old t.new) }
+{
+    let is_space = space_waits(t);
+    t.consume();
+    if is_space {
+        return Ok(State::Next(spaces));
+    }
+    Ok(State::Next(tabbed))
+}
+
+/// In data behind white space, at a byte that goes on in its line: it is data, or something else may begin there.
+#[inline(always)]
+fn data_goes_on<'a>(t: &mut Tokenizer<'a, Inlines>, byte: u8) -> Result<State, AllocError>
+    requires waits { t.old.configuration.waiting ≡ Byte }
+    requires byte { (sight_of t.old).current ≡ Some byte }
+    ensures { IfOk result (DoesAll (step_by (data_goes_on (text_byte byte)) t.old) t.old t.new) }
+{
+    match byte {
+        b'`' | b'<' | b'\\' | b'&' => Ok(State::Retry(Name::DataInside)),
+        b'*' | b'_' => {
+            if run_begins(t) {
+                return Ok(State::Retry(Name::DataInside));
+            }
+            t.consume();
+            Ok(State::Next(Name::DataInside))
+        }
+        _ => {
+            t.consume();
+            Ok(State::Next(Name::DataInside))
+        }
+    }
+}
+
+/// Whether a space waits, and no tab.
+fn space_waits<'a>(t: &Tokenizer<'a, Inlines>) -> bool
+    ensures { result ≡ space_waits t.now.given (sight_of t.now) t.now.configuration }
+{
+    t.current() == Some(b' ')
 }

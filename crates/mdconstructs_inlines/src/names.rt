@@ -9,17 +9,26 @@ pub const TextLineStart: Name = Name { number: 1_200 };
 /// Text: in white space at the beginning of a line.
 pub const TextLineWhite: Name = Name { number: 1_201 };
 
-/// Text: at white space that is no hard break. It is tried as the end of its line.
-pub const TextBeforeWhiteSpace: Name = Name { number: 1_202 };
-
 /// Text: at `<` that begins no autolink around an absolute URI. An email autolink is tried.
-pub const TextBeforeEmail: Name = Name { number: 1_203 };
+pub const TextBeforeEmail: Name = Name { number: 1_202 };
 
 /// Text: at `<` that begins no raw HTML between marks. A tag is tried.
-pub const TextBeforeTag: Name = Name { number: 1_204 };
+pub const TextBeforeTag: Name = Name { number: 1_203 };
 
-/// Data: at white space with which its line ends, so that data ends.
-pub const DataOver: Name = Name { number: 1_205 };
+/// Text: behind one space, with no data before it. The place before it is noted.
+pub const TextSpace: Name = Name { number: 1_204 };
 
-/// Data: at white space behind which its line goes on, so that it is data.
-pub const DataWhite: Name = Name { number: 1_206 };
+/// Text: behind two spaces or more, with no data before them. The place before them is noted.
+pub const TextSpaces: Name = Name { number: 1_205 };
+
+/// Text: behind white space with a tab, with no data before it. The place before it is noted.
+pub const TextWhite: Name = Name { number: 1_206 };
+
+/// Data: behind one space. The place before it is noted.
+pub const DataSpace: Name = Name { number: 1_207 };
+
+/// Data: behind two spaces or more. The place before them is noted.
+pub const DataSpaces: Name = Name { number: 1_208 };
+
+/// Data: behind white space with a tab. The place before it is noted.
+pub const DataWhite: Name = Name { number: 1_209 };

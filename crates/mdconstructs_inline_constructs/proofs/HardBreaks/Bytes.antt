@@ -1,6 +1,5 @@
 -- Hard breaks by their bytes: they begin with a backslash, or with white space, and are a byte at least.
-use Rattle.mdconstructs_inline_constructs.proofs.Prelude.{◌≡◌, ℕ, ◌+◌, ◌<◌, ◌==◌, ◌&&◌, ◌∷◌, List, Bool, true, false, cond, Some, None, ap, refl, arith, prefix_len, nat_le, nat_tests, is_white, IsApart, OfOption, only-there, when-there, escapes-apart, has_byte_at, is_line_feed, is_space, Found, item_length, text_byte, hard_break_escape, hard_break_trailing, trailing_break_at, break_escapes, trailing_breaks}
-use Rattle.mdconstructs_inline_constructs.proofs.WhiteSpaces.Bytes.{white-classed}
+use Rattle.mdconstructs_inline_constructs.proofs.Prelude.{◌≡◌, ℕ, ◌<◌, ◌==◌, ◌&&◌, ◌∷◌, List, Bool, true, false, cond, Some, None, ap, refl, arith, prefix_len, nat_le, nat_tests, IsApart, OfOption, only-there, when-there, escapes-apart, has_byte_at, is_line_feed, is_space, Found, item_length, text_byte, hard_break_escape, hard_break_trailing, trailing_break_at, break_escapes}
 
 abbrev IsSome : Found → Type 0
 IsSome item = 0 < item_length item
@@ -19,15 +18,5 @@ two-some n t = elim (nat_le 2 n) as (λ b. nat_le 2 n ≡ b → OfOption IsSome 
   | false ↦ λ e. tt
 ] refl
 
--- at another byte than white space none is
-none-trailing : (b : ℕ) (bs : List ℕ) → is_white b ≡ false → trailing_break_at (b ∷ bs) ≡ None
-none-trailing b bs h =
-    let space : is_space b ≡ false = grind (arith, nat_tests) in
-    ap (λ t. let n = cond t (1 + prefix_len is_space bs) 0 in cond (nat_le 2 n && has_byte_at (b ∷ bs) n is_line_feed) (Some (hard_break_trailing n)) None) space
-
-pub trailing-breaks-apart : IsApart text_byte item_length trailing_breaks
-trailing-breaks-apart = record {
-  classed = white-classed;
-  nowhere = none-trailing;
-  some = λ b bs. (let n = prefix_len is_space (b ∷ bs) in two-some n (has_byte_at (b ∷ bs) n is_line_feed));
-}
+pub trailing-break-some : (b : ℕ) (bs : List ℕ) → OfOption IsSome (trailing_break_at (b ∷ bs))
+trailing-break-some b bs = (let n = prefix_len is_space (b ∷ bs) in two-some n (has_byte_at (b ∷ bs) n is_line_feed))

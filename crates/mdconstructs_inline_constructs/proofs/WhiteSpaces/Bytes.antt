@@ -1,5 +1,10 @@
 -- White space at the end of a line, by its bytes: it begins with a space or a tab, and is a byte at least.
-use Rattle.mdconstructs_inline_constructs.proofs.Prelude.{◌≡◌, ℕ, ◌+◌, ◌<◌, ◌&&◌, ◌∷◌, List, Bool, true, false, cond, Some, None, sym, ap, refl, arith, prefix_len, nat_tests, is_white, IsApart, OfOption, only-there, when-there, Found, item_length, by-class, text_byte, is_white_left, white_space, is_white_class, white_spaces}
+use Rattle.mdconstructs_inline_constructs.proofs.Prelude.{◌≡◌, ℕ, ◌+◌, ◌<◌, ◌&&◌, ◌∷◌, List, Bool, true, false, cond, Some, None, sym, ap, refl, arith, prefix_len, nat_tests, is_white, OfOption, when-there, Found, item_length, by-class, text_byte, TextByte, is_white_left, white, white_space, white_space_at}
+
+-- the class of white space
+abbrev pub is_white_class : TextByte → Bool
+is_white_class white = true
+is_white_class _ = false
 
 pub white-classed : (b : ℕ) → is_white_class (text_byte b) ≡ is_white b
 white-classed b =
@@ -16,9 +21,5 @@ space-some : (b : ℕ) (bs : List ℕ) (t : Bool) → is_white b ≡ t → OfOpt
 space-some b bs true h = when-there (λ (item : Found). 0 < item_length item) (is_white_left (b ∷ bs)) (Some (white_space (prefix_len is_white (b ∷ bs)))) (run-some b bs h)
 space-some b bs false h = tt
 
-pub white-spaces-apart : IsApart text_byte item_length white_spaces
-white-spaces-apart = record {
-  classed = white-classed;
-  nowhere = λ b bs h. only-there (is_white b && is_white_left (b ∷ bs)) (Some (white_space (prefix_len is_white (b ∷ bs)))) (ap (λ t. t && is_white_left (b ∷ bs)) h);
-  some = λ b bs. space-some b bs (is_white b) refl;
-}
+pub white-space-some : (b : ℕ) (bs : List ℕ) → OfOption (λ (item : Found). 0 < item_length item) (white_space_at (b ∷ bs))
+white-space-some b bs = space-some b bs (is_white b) refl

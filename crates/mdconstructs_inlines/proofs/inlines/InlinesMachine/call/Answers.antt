@@ -1,4 +1,4 @@
-use Rattle.mdconstructs_inlines.proofs.Prelude.{refl, rules, counts, callable, never-called, autolink_start, autolink_open, autolink_scheme, autolink_url, raw_text_start, raw_text_data, raw_text_sequence_close, raw_text_after, raw_text_backticks_inside, escape_start, escape_inside, by_left, text_byte, text_cost, text_before_data, data_at_break, email_start, email_atext, email_label, email_value, cdata_open, comment_open, declaration_open, mark_inside, mark_line, mark_open, mark_start, mark_white, html_text_start, html_text_open, html_text_tag_close_start, html_text_tag_close, html_text_tag_close_between, html_text_tag_open, html_text_tag_open_between, html_text_attribute_name, html_text_attribute_name_after, html_text_value_before, html_text_value_quoted, html_text_value_quoted_after, html_text_value_unquoted, html_text_end, html_line_ending_after, html_line_ending_after_prefix, break_escape_start, break_escape_after, trailing_start, trailing_after_first, trailing_after_more, white_start, white_inside, remembered_between, remembered_chunk, remembered_open, reference_start, reference_open, reference_numeric, reference_value, string_start, string_before, string_before_data, attention_start, attention_inside, inline_start, line_start, line_white, inline_before, before_hard_break_escape, before_white_space, before_email, before_html, before_tag, inline_data, data_over, white_data, at_data_break, inlines}
+use Rattle.mdconstructs_inlines.proofs.Prelude.{refl, rules, counts, callable, never-called, autolink_start, autolink_open, autolink_scheme, autolink_url, raw_text_start, raw_text_data, raw_text_sequence_close, raw_text_after, raw_text_backticks_inside, escape_start, escape_inside, by_left, text_byte, text_cost, text_before_data, data_at_break, email_start, email_atext, email_label, email_value, cdata_open, comment_open, declaration_open, mark_inside, mark_line, mark_open, mark_start, mark_white, html_text_start, html_text_open, html_text_tag_close_start, html_text_tag_close, html_text_tag_close_between, html_text_tag_open, html_text_tag_open_between, html_text_attribute_name, html_text_attribute_name_after, html_text_value_before, html_text_value_quoted, html_text_value_quoted_after, html_text_value_unquoted, html_text_end, html_line_ending_after, html_line_ending_after_prefix, break_escape_start, break_escape_after, remembered_between, remembered_chunk, remembered_open, reference_start, reference_open, reference_numeric, reference_value, string_start, string_before, string_before_data, attention_start, attention_inside, inline_start, line_start, line_white, inline_before, before_hard_break_escape, before_email, before_html, before_tag, inline_data, text_space, text_spaces, text_white, data_space, data_spaces, data_white, at_data_break, inlines}
 use Rattle.mdconstructs_inlines.proofs.Priced.{at-any-cost}
 use Rattle.mdconstructs_inlines.specs.StringTable.{string_data}
 use Rattle.mdconstructs_inlines.proofs.inlines.InlinesMachine.call.Goals as goal
@@ -17,6 +17,24 @@ data_at_break-requires c = at-any-cost text_byte data_at_break (text_cost at_dat
 
 pub inline_data-requires : goal.inline_data-requires
 inline_data-requires c = callable inlines counts c.args.name inline_data _ _ (search rules) refl c.requires.invariant.holds c.begin.ensures
+
+pub text_space-requires : goal.text_space-requires
+text_space-requires c = callable inlines counts c.args.name text_space _ _ (search rules) refl c.requires.invariant.holds c.begin.ensures
+
+pub text_spaces-requires : goal.text_spaces-requires
+text_spaces-requires c = callable inlines counts c.args.name text_spaces _ _ (search rules) refl c.requires.invariant.holds c.begin.ensures
+
+pub text_white-requires : goal.text_white-requires
+text_white-requires c = callable inlines counts c.args.name text_white _ _ (search rules) refl c.requires.invariant.holds c.begin.ensures
+
+pub data_space-requires : goal.data_space-requires
+data_space-requires c = callable inlines counts c.args.name data_space _ _ (search rules) refl c.requires.invariant.holds c.begin.ensures
+
+pub data_spaces-requires : goal.data_spaces-requires
+data_spaces-requires c = callable inlines counts c.args.name data_spaces _ _ (search rules) refl c.requires.invariant.holds c.begin.ensures
+
+pub data_white-requires : goal.data_white-requires
+data_white-requires c = callable inlines counts c.args.name data_white _ _ (search rules) refl c.requires.invariant.holds c.begin.ensures
 
 pub attention_start-requires : goal.attention_start-requires
 attention_start-requires c = callable inlines counts c.args.name attention_start _ _ (search rules) refl c.requires.invariant.holds c.begin.ensures
@@ -75,35 +93,11 @@ line_white-requires c = callable inlines counts c.args.name line_white _ _ (sear
 pub before_hard_break_escape-requires : goal.before_hard_break_escape-requires
 before_hard_break_escape-requires c = callable inlines counts c.args.name before_hard_break_escape _ _ (search rules) refl c.requires.invariant.holds c.begin.ensures
 
-pub before_white_space-requires : goal.before_white_space-requires
-before_white_space-requires c = callable inlines counts c.args.name before_white_space _ _ (search rules) refl c.requires.invariant.holds c.begin.ensures
-
-pub data_over-requires : goal.data_over-requires
-data_over-requires c = callable inlines counts c.args.name data_over _ _ (search rules) refl c.requires.invariant.holds c.begin.ensures
-
-pub white_data-requires : goal.white_data-requires
-white_data-requires c = callable inlines counts c.args.name white_data _ _ (search rules) refl c.requires.invariant.holds c.begin.ensures
-
 pub break_escape_start-requires : goal.break_escape_start-requires
 break_escape_start-requires c = callable inlines counts c.args.name break_escape_start _ _ (search rules) refl c.requires.invariant.holds c.begin.ensures
 
 pub break_escape_after-requires : goal.break_escape_after-requires
 break_escape_after-requires c = callable inlines counts c.args.name break_escape_after _ _ (search rules) refl c.requires.invariant.holds c.begin.ensures
-
-pub trailing_start-requires : goal.trailing_start-requires
-trailing_start-requires c = callable inlines counts c.args.name trailing_start _ _ (search rules) refl c.requires.invariant.holds c.begin.ensures
-
-pub trailing_after_first-requires : goal.trailing_after_first-requires
-trailing_after_first-requires c = callable inlines counts c.args.name trailing_after_first _ _ (search rules) refl c.requires.invariant.holds c.begin.ensures
-
-pub trailing_after_more-requires : goal.trailing_after_more-requires
-trailing_after_more-requires c = callable inlines counts c.args.name trailing_after_more _ _ (search rules) refl c.requires.invariant.holds c.begin.ensures
-
-pub white_start-requires : goal.white_start-requires
-white_start-requires c = callable inlines counts c.args.name white_start _ _ (search rules) refl c.requires.invariant.holds c.begin.ensures
-
-pub white_inside-requires : goal.white_inside-requires
-white_inside-requires c = callable inlines counts c.args.name white_inside _ _ (search rules) refl c.requires.invariant.holds c.begin.ensures
 
 pub string_start-requires : goal.string_start-requires
 string_start-requires c = callable inlines counts c.args.name string_start _ _ (search rules) refl c.requires.invariant.holds c.begin.ensures
