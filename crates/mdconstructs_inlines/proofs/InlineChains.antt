@@ -1,5 +1,6 @@
 -- Chains of text are read as inline text; and what is read leaves other chains ready.
-use Rattle.mdconstructs_inlines.proofs.Prelude.{Some, arith, refl, sym, ap, ◌∙◌, subst, AllByRecursion, TextContent, Next, TextStart, IsBalanced, fitting_starts, lists, IsReady, lists-all, stays-ready, edited, start_configuration, HaveNoLinks, Given, Text, emphasis-can-be-made, chain_text, all-begin, chains-read, children-events, each-alone, ReadsTexts, ends-so, inline_events, read_events, emphasis_edits, inlines_rules, ReadsChainsAsInlineText, StaysReadyAfterInlineText}
+use Rattle.mdconstructs_inlines.proofs.Prelude.{Some, arith, refl, sym, ap, ◌∙◌, subst, AllByRecursion, TextContent, TextStart, IsBalanced, fitting_starts, lists, IsReady, lists-all, stays-ready, edited, HaveNoLinks, Given, Text, emphasis-can-be-made, chain_text, all-begin, chains-read, children-events, each-alone, ReadsTexts, inline_events, read_events, emphasis_edits, inlines_rules, ReadsChainsAsInlineText, StaysReadyAfterInlineText}
+use Rattle.mdconstructs_inlines.proofs.Counted.{ends-as-counted}
 use Rattle.mdconstructs_inlines.proofs.InlineBuilt.{read-alone, read-balanced}
 use Rattle.mdconstructs_inlines.proofs.InlineMemory.{inlines-read}
 use Rattle.mdconstructs_inlines.proofs.InlineReads.{text_ending}
@@ -8,7 +9,7 @@ use Rattle.mdconstructs_inlines.proofs.Resolved.{resolved-so}
 -- what is read of any text, once all is resolved
 pub reads-texts : (g : Given) → ReadsTexts g inlines_rules (inline_events g)
 reads-texts g text is flag r ends well final sub resolved =
-    let read = (ends-so g text (inlines_rules g).step (start_configuration flag) (Next TextStart) (text_ending g text) (inlines-read g text is flag) r ends).1 in
+    let read = (ends-as-counted g text flag TextStart (text_ending g text) (inlines-read g text is flag) r ends).1 in
     (resolved-so g TextStart (0, omega arith, (cc)) text is flag r ends well final sub resolved).1 ∙ ap (λ es. edited (emphasis_edits g es) es) read
     ∙ (emphasis-can-be-made g.bytes (read_events g text) (read-balanced g text) (read-alone g text)).1
 

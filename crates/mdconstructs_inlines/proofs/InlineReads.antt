@@ -1,6 +1,7 @@
 -- What reading inline text from its start ends in: its items are read one by one, in so many calls. And so it is what its definition says, and read in
 -- linear time.
-use Rattle.mdconstructs_inlines.proofs.Prelude.{◌+◌, ◌*◌, ◌∙◌, ap, arith, false, length, Next, TextStart, Configuration, start_configuration, whole_text, Given, Text, with_emphasis, ends-so, Ending, whole-is-text, read_events, inlines_rules, ReadsInlineText, RunsWithin}
+use Rattle.mdconstructs_inlines.proofs.Prelude.{◌+◌, ◌*◌, ◌∙◌, ap, arith, false, length, TextStart, Configuration, whole_text, Given, Text, with_emphasis, Ending, whole-is-text, read_events, ReadsInlineText, RunsWithin}
+use Rattle.mdconstructs_inlines.proofs.Counted.{ends-as-counted}
 use Rattle.mdconstructs_inlines.proofs.InlineCalls.{inline_budget}
 use Rattle.mdconstructs_inlines.proofs.InlineMemory.{inlines-read}
 use Rattle.mdconstructs_inlines.proofs.InlinesCounted.{calls-within}
@@ -15,7 +16,7 @@ pub reads-inline-text : ReadsInlineText
 reads-inline-text g events sub document =
     let text = whole_text g in
     let is = whole-is-text g document in
-    let read = ends-so g text (inlines_rules g).step (start_configuration false) (Next TextStart) (text_ending g text) (inlines-read g text is false) in (
+    let read = ends-as-counted g text false TextStart (text_ending g text) (inlines-read g text is false) in (
       λ run. makes-emphasis g events sub document run ∙ ap (with_emphasis g.bytes) (read run.result run.ends).1,
       λ run. run.events ∙ ap (λ (k : Configuration Unit Unit). k.events) run.resolved.0 ∙ (read run.result run.ends).1,
     )

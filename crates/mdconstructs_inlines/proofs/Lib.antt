@@ -1,5 +1,6 @@
 pub mod Budgets
 pub mod CallsCounted
+mod Counted
 mod DataBytes
 mod DataReads
 mod FrontRuns

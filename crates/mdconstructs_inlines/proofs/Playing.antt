@@ -1,6 +1,7 @@
 -- The machine of inline text does what the rows of constructs say; and between them what bytes say.
-use Rattle.mdconstructs_inlines.proofs.Prelude.{◌≡◌, ◌⊎◌, inl, inr, ℕ, ◌==◌, ◌&&◌, ◌||◌, [], ◌∷◌, Bool, true, false, cond, Option, Some, None, refl, sym, ap, ◌∙◌, arith, nat_tests, Constructs, Data, LineEnding, Next, Retry, AttentionStart, DataInside, TextBefore, TextBeforeData, TextLineStart, with_local, Configuration, sight, Given, Text, Rows, class_of, consume, enter, exit, row, is_white, counts, row_step, is_line_feed, passes, between_texts, some_begins, tried_at, TextByte, is_line_feed_class, line_feed, punctuation, text_byte, white, PlaysCodeSpans, remembering, line-classed, BeginsData, HasRow, HasRows, Plays, tested, PlaysEmails, MarkPlace, at_cdata, at_comment, at_declaration, at_inside, at_open, mark_name, PlaysMarks, mark_rows, Place, PlaysTags, rows_of, state_of, PlaysBreakEscapes, PlaysReferences, between-remembered, code_memory, opening-remembered, white-classed, is_white_class, begins_run, ends_data, inlines_rules, inline_before_rows, inline_constructs, inline_data_rows, is_delimiter, run_begins}
+use Rattle.mdconstructs_inlines.proofs.Prelude.{◌≡◌, ◌⊎◌, inl, inr, ℕ, ◌==◌, ◌&&◌, ◌||◌, [], ◌∷◌, Bool, true, false, cond, Option, Some, None, refl, sym, ap, ◌∙◌, arith, nat_tests, Constructs, Data, LineEnding, Next, Retry, AttentionStart, DataInside, TextBefore, TextBeforeData, TextLineStart, with_local, Configuration, sight, Given, Text, Rows, class_of, consume, enter, exit, row, is_white, counts, row_step, is_line_feed, passes, between_texts, some_begins, tried_at, TextByte, is_line_feed_class, line_feed, punctuation, text_byte, white, PlaysCodeSpans, remembering, line-classed, BeginsData, HasRow, HasRows, Plays, tested, PlaysEmails, MarkPlace, at_cdata, at_comment, at_declaration, at_inside, at_open, mark_name, PlaysMarks, mark_rows, Place, PlaysTags, rows_of, state_of, PlaysBreakEscapes, PlaysReferences, between-remembered, code_memory, opening-remembered, white-classed, is_white_class, begins_run, ends_data, inline_before_rows, inline_constructs, inline_data_rows, is_delimiter, run_begins}
 use Rattle.mdconstructs_inline_constructs.proofs.HtmlTags.Places as place
+use Rattle.mdconstructs_inlines.proofs.Counted.{counted_step}
 use Rattle.mdconstructs_inlines.proofs.InlineApart.{marked-classed, punctuation-ends}
 
 -- between constructs a run may begin at punctuation, a line ends at a line feed, and white space is read; at the other classes constructs are tried
@@ -51,17 +52,17 @@ module _ (g : Given) (text : Text) where
   ] refl
 
   -- between constructs a line ending is read, a run begins, or constructs are tried
-  pub line-row : (k : Configuration Unit Unit) → (sight g text k).current ≡ Some 10 → HasRow g text (inlines_rules g).step k TextBefore (row (enter LineEnding ∷ consume ∷ exit LineEnding ∷ []) (Next TextLineStart))
+  pub line-row : (k : Configuration Unit Unit) → (sight g text k).current ≡ Some 10 → HasRow g text (counted_step g) k TextBefore (row (enter LineEnding ∷ consume ∷ exit LineEnding ∷ []) (Next TextLineStart))
   line-row k at = ap (λ o. row_step g text k (inline_before_rows (behind k) (class_of text_byte o))) at
 
-  pub runs-begin : (k : Configuration Unit Unit) (b : ℕ) → (sight g text k).current ≡ Some b → begins_run on b ≡ true → HasRow g text (inlines_rules g).step k TextBefore (row [] (Retry AttentionStart))
+  pub runs-begin : (k : Configuration Unit Unit) (b : ℕ) → (sight g text k).current ≡ Some b → begins_run on b ≡ true → HasRow g text (counted_step g) k TextBefore (row [] (Retry AttentionStart))
   runs-begin k b at is =
       ap (λ o. row_step g text k (inline_before_rows (behind k) (class_of text_byte o))) at
       ∙ ap (λ w. row_step g text k (inline_before_rows (behind k) (Some w))) (delimiter-class b (and-second on.attention (is_delimiter b) is))
       ∙ tested g text run_begins (row [] (Retry AttentionStart)) (row [] (Retry TextBeforeData)) k true (begins-here k b true at is)
 
   pub tried-between : (k : Configuration Unit Unit) (b : ℕ) → (sight g text k).current ≡ Some b → is_line_feed b ≡ false → begins_run on b ≡ false → is_white b ≡ false
-      → HasRow g text (inlines_rules g).step k TextBefore (tried_at between_texts inline_constructs (text_byte b))
+      → HasRow g text (counted_step g) k TextBefore (tried_at between_texts inline_constructs (text_byte b))
   tried-between k b at plain none other =
       ap (λ o. row_step g text k (inline_before_rows (behind k) (class_of text_byte o))) at ∙ elim (before-class (text_byte b)) [
         | inl is ↦
@@ -74,7 +75,7 @@ module _ (g : Given) (text : Text) where
       ]
 
   -- in data it goes on at a byte that ends none, and ends at one that does and at the end
-  data-at : (k : Configuration Unit Unit) (b : ℕ) (t : Bool) → (sight g text k).current ≡ Some b → is_white b ≡ false → ends_data on b ≡ t → HasRow g text (inlines_rules g).step k DataInside (ends_or_goes t)
+  data-at : (k : Configuration Unit Unit) (b : ℕ) (t : Bool) → (sight g text k).current ≡ Some b → is_white b ≡ false → ends_data on b ≡ t → HasRow g text (counted_step g) k DataInside (ends_or_goes t)
   data-at k b t at other ends =
       ap (λ o. row_step g text k (inline_data_rows (behind k) (class_of text_byte o))) at ∙ elim (data-class (text_byte b)) [
         | inl is ↦
@@ -84,19 +85,19 @@ module _ (g : Given) (text : Text) where
         | inr (inr rows) ↦ ap (row_step g text k) (rows.1 (behind k) ∙ ap ends_or_goes (marked-classed on b (no-run b rows.0) ∙ ends))
       ]
 
-  pub data-on : (k : Configuration Unit Unit) (b : ℕ) → (sight g text k).current ≡ Some b → is_white b ≡ false → ends_data on b ≡ false → HasRow g text (inlines_rules g).step k DataInside (row (consume ∷ []) (Next DataInside))
+  pub data-on : (k : Configuration Unit Unit) (b : ℕ) → (sight g text k).current ≡ Some b → is_white b ≡ false → ends_data on b ≡ false → HasRow g text (counted_step g) k DataInside (row (consume ∷ []) (Next DataInside))
   data-on k b at other ends = data-at k b false at other ends
 
-  pub data-ends : (k : Configuration Unit Unit) (b : ℕ) → (sight g text k).current ≡ Some b → is_white b ≡ false → ends_data on b ≡ true → HasRow g text (inlines_rules g).step k DataInside (row (exit Data ∷ []) (Retry TextBefore))
+  pub data-ends : (k : Configuration Unit Unit) (b : ℕ) → (sight g text k).current ≡ Some b → is_white b ≡ false → ends_data on b ≡ true → HasRow g text (counted_step g) k DataInside (row (exit Data ∷ []) (Retry TextBefore))
   data-ends k b at other ends = data-at k b true at other ends
 
-  pub data-ends-last : (k : Configuration Unit Unit) → (sight g text k).current ≡ None → HasRow g text (inlines_rules g).step k DataInside (row (exit Data ∷ []) (Retry TextBefore))
+  pub data-ends-last : (k : Configuration Unit Unit) → (sight g text k).current ≡ None → HasRow g text (counted_step g) k DataInside (row (exit Data ∷ []) (Retry TextBefore))
   data-ends-last k at = ap (λ o. row_step g text k (inline_data_rows (behind k) (class_of text_byte o))) at
 
-  -- the machine reads constructs as others do
+  -- the twin that counts its calls reads constructs as others do
   abbrev pub inlines_play : Plays g text
   inlines_play = record {
-    step = (inlines_rules g).step;
+    step = counted_step g;
     autolink_start = λ k. refl;
     autolink_open = λ k. refl;
     autolink_scheme = λ k. refl;
@@ -122,7 +123,7 @@ module _ (g : Given) (text : Text) where
   abbrev pub inlines_begin_data : BeginsData g text inlines_play
   inlines_begin_data = record { text_before_data = λ k. refl; data_at_break = λ k. refl }
 
-  abbrev pub inlines_play_break_escapes : PlaysBreakEscapes g text (inlines_rules g).step
+  abbrev pub inlines_play_break_escapes : PlaysBreakEscapes g text (counted_step g)
   inlines_play_break_escapes = record { start = λ k. refl; after = λ k. refl }
 
   abbrev pub inlines_play_references : PlaysReferences g text inlines_play
@@ -131,7 +132,7 @@ module _ (g : Given) (text : Text) where
   abbrev pub inlines_play_emails : PlaysEmails g text inlines_play
   inlines_play_emails = record { email_start = λ k. refl; email_atext = λ k. refl; email_label = λ k. refl; email_value = λ k. refl }
 
-  pub tag-places : (s : Place) → HasRows g text (inlines_rules g).step (state_of s) (rows_of s)
+  pub tag-places : (s : Place) → HasRows g text (counted_step g) (state_of s) (rows_of s)
   tag-places place.opened = λ k. refl
   tag-places place.closed = λ k. refl
   tag-places place.closing_name = λ k. refl
@@ -147,15 +148,15 @@ module _ (g : Given) (text : Text) where
   tag-places place.bare = λ k. refl
   tag-places place.slashed = λ k. refl
 
-  abbrev pub inlines_play_tags : PlaysTags g text (inlines_rules g).step
+  abbrev pub inlines_play_tags : PlaysTags g text (counted_step g)
   inlines_play_tags = record { start = λ k. refl; places = tag-places; after_line = λ k. refl; in_white = λ k. refl }
 
-  pub mark-places : (s : MarkPlace) → HasRows g text (inlines_rules g).step (mark_name s) (mark_rows s)
+  pub mark-places : (s : MarkPlace) → HasRows g text (counted_step g) (mark_name s) (mark_rows s)
   mark-places at_open = λ k. refl
   mark-places at_declaration = λ k. refl
   mark-places at_comment = λ k. refl
   mark-places (at_cdata n) = λ k. refl
   mark-places (at_inside kind n) = λ k. refl
 
-  abbrev pub inlines_play_marks : PlaysMarks g text (inlines_rules g).step
+  abbrev pub inlines_play_marks : PlaysMarks g text (counted_step g)
   inlines_play_marks = record { start = λ k. refl; places = mark-places; after_line = λ k. refl; in_white = λ k. refl }

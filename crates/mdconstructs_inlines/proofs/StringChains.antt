@@ -1,5 +1,6 @@
 -- What a run makes of a string; and chains of strings, which are read as strings, and leave other chains ready.
-use Rattle.mdconstructs_inlines.proofs.Prelude.{◌≡◌, Bool, List, Some, false, true, arith, refl, sym, ap, ◌∙◌, subst, AllByRecursion, String, Event, Next, StringStart, IsBalanced, fitting_starts, lists, IsReady, lists-all, stays-ready, edited, Subresult, Configuration, start_configuration, IsRun, whole_text, HaveNoLinks, Given, IsDocument, chain_text, all-begin, chains-read-from, children-events, each-alone, ending, ReadsTextsFrom, ends-so, whole-is-text, emphasis_edits, inlines_rules, ReadsChainsAsStrings, ReadsStrings, StaysReadyAfterStrings, string_events}
+use Rattle.mdconstructs_inlines.proofs.Prelude.{◌≡◌, Bool, List, Some, false, true, arith, refl, sym, ap, ◌∙◌, subst, AllByRecursion, String, Event, StringStart, IsBalanced, fitting_starts, lists, IsReady, lists-all, stays-ready, edited, Subresult, Configuration, IsRun, whole_text, HaveNoLinks, Given, IsDocument, chain_text, all-begin, chains-read-from, children-events, each-alone, ending, ReadsTextsFrom, whole-is-text, emphasis_edits, inlines_rules, ReadsChainsAsStrings, ReadsStrings, StaysReadyAfterStrings, string_events}
+use Rattle.mdconstructs_inlines.proofs.Counted.{ends-as-counted}
 use Rattle.mdconstructs_inlines.proofs.Resolved.{resolved-so}
 use Rattle.mdconstructs_inlines.proofs.StringReads.{strings-from-start}
 use Rattle.mdconstructs_inlines.proofs.StringRuns.{calm-same, string-alone, string-calm}
@@ -7,7 +8,7 @@ use Rattle.mdconstructs_inlines.proofs.StringRuns.{calm-same, string-alone, stri
 -- what is read of any string, once all is resolved
 pub reads-strings-of : (g : Given) → ReadsTextsFrom StringStart g inlines_rules (string_events g)
 reads-strings-of g text is flag r ends well final sub resolved =
-    let read = (ends-so g text (inlines_rules g).step (start_configuration flag) (Next StringStart) (ending (string_events g text)) (strings-from-start g text flag) r ends).1 in
+    let read = (ends-as-counted g text flag StringStart (ending (string_events g text)) (strings-from-start g text flag) r ends).1 in
     (resolved-so g StringStart (1, omega arith, (cc)) text is flag r ends well final sub resolved).1 ∙ ap (λ es. edited (emphasis_edits g es) es) read
     ∙ calm-same g (string_events g text) (string-calm g text) (string-alone g text)
 
@@ -16,7 +17,7 @@ run-reads g events sub document true run =
     run.events ∙ reads-strings-of g (whole_text g) (whole-is-text g document) false run.result run.ends run.well run.final sub run.resolved
 run-reads g events sub document false run =
     let text = whole_text g in
-    let read = ends-so g text (inlines_rules g).step (start_configuration false) (Next StringStart) (ending (string_events g text)) (strings-from-start g text false) run.result run.ends in
+    let read = ends-as-counted g text false StringStart (ending (string_events g text)) (strings-from-start g text false) run.result run.ends in
     run.events ∙ ap (λ (k : Configuration Unit Unit). k.events) run.resolved.0 ∙ read.1
 
 pub reads-strings : ReadsStrings

@@ -11,8 +11,8 @@ use Rattle.markdown_tokenizer.specs.Sight.{Sight, sight_of}
 use Rattle.markdown_tokenizer.specs.Text.{Given}
 use Rattle.mdconstructs_tables.specs.Rows.{enter, exit, consume, write, note, exit_noted, enter_noted, Rows, row, when, picked, step_of, at_bytes, StateRows, state, Table}
 use Rattle.mdconstructs_tables.specs.RowInvariant.{CanEndNoted}
+use Rattle.mdconstructs_tables.specs.Over.{unchanged}
 use Rattle.mdconstructs_tables.specs.Numbers.{Price, by_left, by_class, numbers}
-use Rattle.mdconstructs_machines.specs.Tables.{counts}
 use Rattle.mdconstructs_text.specs.Bytes.{is_space, passes}
 use Rattle.mdconstructs_text.specs.AutolinkRows.{autolinks, autolink_prices}
 use Rattle.mdconstructs_text.specs.CodeSpanRows.{code_span_prices}
@@ -280,9 +280,9 @@ inline_states = string_states ++ (run_states ++ inline_start ∷ later_states)
 abbrev pub inline_starts : List Name
 inline_starts = TextStart ∷ StringStart ∷ []
 
--- their table: each call is counted
+-- their table
 abbrev pub inlines : Table TextByte Unit Unit
-inlines = record { class = text_byte; first = counts; states = inline_states; starts = inline_starts }
+inlines = record { class = text_byte; first = unchanged; states = inline_states; starts = inline_starts }
 
 -- the states that begin a construct: they are called only if the construct is tried
 abbrev pub begins_inline : Name → Option TextByte → Bool

@@ -10,7 +10,8 @@ ghost use Rattle.mdconstructs_attention.specs.Emphasis.{paired};
 ghost use Rattle.mdconstructs_attention.specs.Places.{ArePlacesInside};
 ghost use Rattle.mdconstructs_attention.specs.RunEdits.{edits_of};
 ghost use Rattle.mdconstructs_attention.specs.Runs.{runs_in};
-ghost use Rattle.mdconstructs_tables.specs.RowInvariant.{CanHoldNoted, DoesAll, IsCallable, step_in};
+ghost use Rattle.mdconstructs_tables.specs.Over.{unchanged};
+ghost use Rattle.mdconstructs_tables.specs.RowInvariant.{CanHoldNoted, DoesAll, IsCallable, begun, step_in};
 ghost use Rattle.mdconstructs_text.specs.TextBytes.{text_byte};
 ghost use Rattle.mdconstructs_inlines.specs.InlineTable.{inline_start, line_start, line_white, inline_before, before_hard_break_escape, before_email, before_html, before_tag, inline_data, text_space, text_spaces, text_white, data_space, data_spaces, data_white, space_waits, CanEndData, data_goes_on, data_over, notes_white, reads_white, step_by, white_is_data, white_over};
 ghost use Rattle.mdconstructs_inlines.specs.StringTable.{string_start};
@@ -48,7 +49,6 @@ use mdconstructs_inline_constructs::reference::{
 use mdconstructs_inline_constructs::remembered_code::{
     remembered_between, remembered_chunk, remembered_open,
 };
-use mdconstructs_machines::begin::begin;
 use mdconstructs_tables::marker;
 use mdconstructs_text::autolink::{
     autolink_open, autolink_scheme, autolink_start, autolink_url, autolinks_are_on,
@@ -181,6 +181,14 @@ impl Machine for Inlines {
     }
 
     ghost lawful = { λ _ g. inlines-lawful g };
+}
+
+/// Begins a call: counts it, and does nothing else.
+#[inline(always)]
+fn begin<'a>(t: &mut Tokenizer<'a, Inlines>)
+    ensures { t.new ≡ begun unchanged t.old }
+{
+    t.tick();
 }
 
 /// The edits that put emphasis in place of delimiter runs.

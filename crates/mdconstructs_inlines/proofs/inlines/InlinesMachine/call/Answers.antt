@@ -1,220 +1,221 @@
-use Rattle.mdconstructs_inlines.proofs.Prelude.{refl, rules, counts, callable, never-called, autolink_start, autolink_open, autolink_scheme, autolink_url, raw_text_start, raw_text_data, raw_text_sequence_close, raw_text_after, raw_text_backticks_inside, escape_start, escape_inside, by_left, text_byte, text_cost, text_before_data, data_at_break, email_start, email_atext, email_label, email_value, cdata_open, comment_open, declaration_open, mark_inside, mark_line, mark_open, mark_start, mark_white, html_text_start, html_text_open, html_text_tag_close_start, html_text_tag_close, html_text_tag_close_between, html_text_tag_open, html_text_tag_open_between, html_text_attribute_name, html_text_attribute_name_after, html_text_value_before, html_text_value_quoted, html_text_value_quoted_after, html_text_value_unquoted, html_text_end, html_line_ending_after, html_line_ending_after_prefix, break_escape_start, break_escape_after, remembered_between, remembered_chunk, remembered_open, reference_start, reference_open, reference_numeric, reference_value, string_start, string_before, string_before_data, attention_start, attention_inside, inline_start, line_start, line_white, inline_before, before_hard_break_escape, before_email, before_html, before_tag, inline_data, text_space, text_spaces, text_white, data_space, data_spaces, data_white, at_data_break, inlines}
+use Rattle.mdconstructs_inlines.proofs.Prelude.{refl, rules, callable, never-called, autolink_start, autolink_open, autolink_scheme, autolink_url, raw_text_start, raw_text_data, raw_text_sequence_close, raw_text_after, raw_text_backticks_inside, escape_start, escape_inside, by_left, text_byte, text_cost, text_before_data, data_at_break, email_start, email_atext, email_label, email_value, cdata_open, comment_open, declaration_open, mark_inside, mark_line, mark_open, mark_start, mark_white, html_text_start, html_text_open, html_text_tag_close_start, html_text_tag_close, html_text_tag_close_between, html_text_tag_open, html_text_tag_open_between, html_text_attribute_name, html_text_attribute_name_after, html_text_value_before, html_text_value_quoted, html_text_value_quoted_after, html_text_value_unquoted, html_text_end, html_line_ending_after, html_line_ending_after_prefix, break_escape_start, break_escape_after, remembered_between, remembered_chunk, remembered_open, reference_start, reference_open, reference_numeric, reference_value, string_start, string_before, string_before_data, attention_start, attention_inside, inline_start, line_start, line_white, inline_before, before_hard_break_escape, before_email, before_html, before_tag, inline_data, text_space, text_spaces, text_white, data_space, data_spaces, data_white, at_data_break, inlines}
+use Rattle.mdconstructs_tables.specs.Over.{unchanged}
 use Rattle.mdconstructs_inlines.proofs.Priced.{at-any-cost}
 use Rattle.mdconstructs_inlines.specs.StringTable.{string_data}
 use Rattle.mdconstructs_inlines.proofs.inlines.InlinesMachine.call.Goals as goal
 
 pub inline_start-requires : goal.inline_start-requires
-inline_start-requires c = callable inlines counts c.args.name inline_start _ _ (search rules) refl c.requires.invariant.holds c.begin.ensures
+inline_start-requires c = callable inlines unchanged c.args.name inline_start _ _ (search rules) refl c.requires.invariant.holds c.begin.ensures
 
 pub inline_before-requires : goal.inline_before-requires
-inline_before-requires c = callable inlines counts c.args.name inline_before _ _ (search rules) refl c.requires.invariant.holds c.begin.ensures
+inline_before-requires c = callable inlines unchanged c.args.name inline_before _ _ (search rules) refl c.requires.invariant.holds c.begin.ensures
 
 pub text_before_data-requires : goal.text_before_data-requires
-text_before_data-requires c = at-any-cost text_byte text_before_data (text_cost (by_left 4 13 0)) _ (callable inlines counts c.args.name (record text_before_data { cost = text_cost (by_left 4 13 0) }) _ _ (search rules) refl c.requires.invariant.holds c.begin.ensures)
+text_before_data-requires c = at-any-cost text_byte text_before_data (text_cost (by_left 4 13 0)) _ (callable inlines unchanged c.args.name (record text_before_data { cost = text_cost (by_left 4 13 0) }) _ _ (search rules) refl c.requires.invariant.holds c.begin.ensures)
 
 pub data_at_break-requires : goal.data_at_break-requires
-data_at_break-requires c = at-any-cost text_byte data_at_break (text_cost at_data_break) _ (callable inlines counts c.args.name (record data_at_break { cost = text_cost at_data_break }) _ _ (search rules) refl c.requires.invariant.holds c.begin.ensures)
+data_at_break-requires c = at-any-cost text_byte data_at_break (text_cost at_data_break) _ (callable inlines unchanged c.args.name (record data_at_break { cost = text_cost at_data_break }) _ _ (search rules) refl c.requires.invariant.holds c.begin.ensures)
 
 pub inline_data-requires : goal.inline_data-requires
-inline_data-requires c = callable inlines counts c.args.name inline_data _ _ (search rules) refl c.requires.invariant.holds c.begin.ensures
+inline_data-requires c = callable inlines unchanged c.args.name inline_data _ _ (search rules) refl c.requires.invariant.holds c.begin.ensures
 
 pub text_space-requires : goal.text_space-requires
-text_space-requires c = callable inlines counts c.args.name text_space _ _ (search rules) refl c.requires.invariant.holds c.begin.ensures
+text_space-requires c = callable inlines unchanged c.args.name text_space _ _ (search rules) refl c.requires.invariant.holds c.begin.ensures
 
 pub text_spaces-requires : goal.text_spaces-requires
-text_spaces-requires c = callable inlines counts c.args.name text_spaces _ _ (search rules) refl c.requires.invariant.holds c.begin.ensures
+text_spaces-requires c = callable inlines unchanged c.args.name text_spaces _ _ (search rules) refl c.requires.invariant.holds c.begin.ensures
 
 pub text_white-requires : goal.text_white-requires
-text_white-requires c = callable inlines counts c.args.name text_white _ _ (search rules) refl c.requires.invariant.holds c.begin.ensures
+text_white-requires c = callable inlines unchanged c.args.name text_white _ _ (search rules) refl c.requires.invariant.holds c.begin.ensures
 
 pub data_space-requires : goal.data_space-requires
-data_space-requires c = callable inlines counts c.args.name data_space _ _ (search rules) refl c.requires.invariant.holds c.begin.ensures
+data_space-requires c = callable inlines unchanged c.args.name data_space _ _ (search rules) refl c.requires.invariant.holds c.begin.ensures
 
 pub data_spaces-requires : goal.data_spaces-requires
-data_spaces-requires c = callable inlines counts c.args.name data_spaces _ _ (search rules) refl c.requires.invariant.holds c.begin.ensures
+data_spaces-requires c = callable inlines unchanged c.args.name data_spaces _ _ (search rules) refl c.requires.invariant.holds c.begin.ensures
 
 pub data_white-requires : goal.data_white-requires
-data_white-requires c = callable inlines counts c.args.name data_white _ _ (search rules) refl c.requires.invariant.holds c.begin.ensures
+data_white-requires c = callable inlines unchanged c.args.name data_white _ _ (search rules) refl c.requires.invariant.holds c.begin.ensures
 
 pub attention_start-requires : goal.attention_start-requires
-attention_start-requires c = callable inlines counts c.args.name attention_start _ _ (search rules) refl c.requires.invariant.holds c.begin.ensures
+attention_start-requires c = callable inlines unchanged c.args.name attention_start _ _ (search rules) refl c.requires.invariant.holds c.begin.ensures
 
 pub attention_inside-requires : goal.attention_inside-requires
-attention_inside-requires c = callable inlines counts c.args.name attention_inside _ _ (search rules) refl c.requires.invariant.holds c.begin.ensures
+attention_inside-requires c = callable inlines unchanged c.args.name attention_inside _ _ (search rules) refl c.requires.invariant.holds c.begin.ensures
 
 pub raw_text_start-requires : goal.raw_text_start-requires
-raw_text_start-requires c = callable inlines counts c.args.name raw_text_start _ _ (search rules) refl c.requires.invariant.holds c.begin.ensures
+raw_text_start-requires c = callable inlines unchanged c.args.name raw_text_start _ _ (search rules) refl c.requires.invariant.holds c.begin.ensures
 
 pub remembered_open-requires : goal.remembered_open-requires
-remembered_open-requires c = callable inlines counts c.args.name remembered_open _ _ (search rules) refl c.requires.invariant.holds c.begin.ensures
+remembered_open-requires c = callable inlines unchanged c.args.name remembered_open _ _ (search rules) refl c.requires.invariant.holds c.begin.ensures
 
 pub remembered_between-requires : goal.remembered_between-requires
-remembered_between-requires c = callable inlines counts c.args.name remembered_between _ _ (search rules) refl c.requires.invariant.holds c.begin.ensures
+remembered_between-requires c = callable inlines unchanged c.args.name remembered_between _ _ (search rules) refl c.requires.invariant.holds c.begin.ensures
 
 pub raw_text_data-requires : goal.raw_text_data-requires
-raw_text_data-requires c = callable inlines counts c.args.name raw_text_data _ _ (search rules) refl c.requires.invariant.holds c.begin.ensures
+raw_text_data-requires c = callable inlines unchanged c.args.name raw_text_data _ _ (search rules) refl c.requires.invariant.holds c.begin.ensures
 
 pub raw_text_sequence_close-requires : goal.raw_text_sequence_close-requires
-raw_text_sequence_close-requires c = callable inlines counts c.args.name raw_text_sequence_close _ _ (search rules) refl c.requires.invariant.holds c.begin.ensures
+raw_text_sequence_close-requires c = callable inlines unchanged c.args.name raw_text_sequence_close _ _ (search rules) refl c.requires.invariant.holds c.begin.ensures
 
 pub raw_text_after-requires : goal.raw_text_after-requires
-raw_text_after-requires c = callable inlines counts c.args.name raw_text_after _ _ (search rules) refl c.requires.invariant.holds c.begin.ensures
+raw_text_after-requires c = callable inlines unchanged c.args.name raw_text_after _ _ (search rules) refl c.requires.invariant.holds c.begin.ensures
 
 pub remembered_chunk-requires : goal.remembered_chunk-requires
-remembered_chunk-requires c = callable inlines counts c.args.name remembered_chunk _ _ (search rules) refl c.requires.invariant.holds c.begin.ensures
+remembered_chunk-requires c = callable inlines unchanged c.args.name remembered_chunk _ _ (search rules) refl c.requires.invariant.holds c.begin.ensures
 
 pub raw_text_backticks_inside-requires : goal.raw_text_backticks_inside-requires
-raw_text_backticks_inside-requires c = callable inlines counts c.args.name raw_text_backticks_inside _ _ (search rules) refl c.requires.invariant.holds c.begin.ensures
+raw_text_backticks_inside-requires c = callable inlines unchanged c.args.name raw_text_backticks_inside _ _ (search rules) refl c.requires.invariant.holds c.begin.ensures
 
 pub autolink_start-requires : goal.autolink_start-requires
-autolink_start-requires c = callable inlines counts c.args.name autolink_start _ _ (search rules) refl c.requires.invariant.holds c.begin.ensures
+autolink_start-requires c = callable inlines unchanged c.args.name autolink_start _ _ (search rules) refl c.requires.invariant.holds c.begin.ensures
 
 pub autolink_open-requires : goal.autolink_open-requires
-autolink_open-requires c = callable inlines counts c.args.name autolink_open _ _ (search rules) refl c.requires.invariant.holds c.begin.ensures
+autolink_open-requires c = callable inlines unchanged c.args.name autolink_open _ _ (search rules) refl c.requires.invariant.holds c.begin.ensures
 
 pub autolink_scheme-requires : goal.autolink_scheme-requires
-autolink_scheme-requires c = callable inlines counts c.args.name autolink_scheme _ _ (search rules) refl c.requires.invariant.holds c.begin.ensures
+autolink_scheme-requires c = callable inlines unchanged c.args.name autolink_scheme _ _ (search rules) refl c.requires.invariant.holds c.begin.ensures
 
 pub autolink_url-requires : goal.autolink_url-requires
-autolink_url-requires c = callable inlines counts c.args.name autolink_url _ _ (search rules) refl c.requires.invariant.holds c.begin.ensures
+autolink_url-requires c = callable inlines unchanged c.args.name autolink_url _ _ (search rules) refl c.requires.invariant.holds c.begin.ensures
 
 pub escape_start-requires : goal.escape_start-requires
-escape_start-requires c = callable inlines counts c.args.name escape_start _ _ (search rules) refl c.requires.invariant.holds c.begin.ensures
+escape_start-requires c = callable inlines unchanged c.args.name escape_start _ _ (search rules) refl c.requires.invariant.holds c.begin.ensures
 
 pub escape_inside-requires : goal.escape_inside-requires
-escape_inside-requires c = callable inlines counts c.args.name escape_inside _ _ (search rules) refl c.requires.invariant.holds c.begin.ensures
+escape_inside-requires c = callable inlines unchanged c.args.name escape_inside _ _ (search rules) refl c.requires.invariant.holds c.begin.ensures
 
 pub line_start-requires : goal.line_start-requires
-line_start-requires c = callable inlines counts c.args.name line_start _ _ (search rules) refl c.requires.invariant.holds c.begin.ensures
+line_start-requires c = callable inlines unchanged c.args.name line_start _ _ (search rules) refl c.requires.invariant.holds c.begin.ensures
 
 pub line_white-requires : goal.line_white-requires
-line_white-requires c = callable inlines counts c.args.name line_white _ _ (search rules) refl c.requires.invariant.holds c.begin.ensures
+line_white-requires c = callable inlines unchanged c.args.name line_white _ _ (search rules) refl c.requires.invariant.holds c.begin.ensures
 
 pub before_hard_break_escape-requires : goal.before_hard_break_escape-requires
-before_hard_break_escape-requires c = callable inlines counts c.args.name before_hard_break_escape _ _ (search rules) refl c.requires.invariant.holds c.begin.ensures
+before_hard_break_escape-requires c = callable inlines unchanged c.args.name before_hard_break_escape _ _ (search rules) refl c.requires.invariant.holds c.begin.ensures
 
 pub break_escape_start-requires : goal.break_escape_start-requires
-break_escape_start-requires c = callable inlines counts c.args.name break_escape_start _ _ (search rules) refl c.requires.invariant.holds c.begin.ensures
+break_escape_start-requires c = callable inlines unchanged c.args.name break_escape_start _ _ (search rules) refl c.requires.invariant.holds c.begin.ensures
 
 pub break_escape_after-requires : goal.break_escape_after-requires
-break_escape_after-requires c = callable inlines counts c.args.name break_escape_after _ _ (search rules) refl c.requires.invariant.holds c.begin.ensures
+break_escape_after-requires c = callable inlines unchanged c.args.name break_escape_after _ _ (search rules) refl c.requires.invariant.holds c.begin.ensures
 
 pub string_start-requires : goal.string_start-requires
-string_start-requires c = callable inlines counts c.args.name string_start _ _ (search rules) refl c.requires.invariant.holds c.begin.ensures
+string_start-requires c = callable inlines unchanged c.args.name string_start _ _ (search rules) refl c.requires.invariant.holds c.begin.ensures
 
 pub string_before-requires : goal.string_before-requires
-string_before-requires c = callable inlines counts c.args.name string_before _ _ (search rules) refl c.requires.invariant.holds c.begin.ensures
+string_before-requires c = callable inlines unchanged c.args.name string_before _ _ (search rules) refl c.requires.invariant.holds c.begin.ensures
 
 pub string_before_data-requires : goal.string_before_data-requires
-string_before_data-requires c = callable inlines counts c.args.name string_before_data _ _ (search rules) refl c.requires.invariant.holds c.begin.ensures
+string_before_data-requires c = callable inlines unchanged c.args.name string_before_data _ _ (search rules) refl c.requires.invariant.holds c.begin.ensures
 
 pub string_data-requires : goal.string_data-requires
-string_data-requires c = callable inlines counts c.args.name string_data _ _ (search rules) refl c.requires.invariant.holds c.begin.ensures
+string_data-requires c = callable inlines unchanged c.args.name string_data _ _ (search rules) refl c.requires.invariant.holds c.begin.ensures
 
 pub reference_start-requires : goal.reference_start-requires
-reference_start-requires c = callable inlines counts c.args.name reference_start _ _ (search rules) refl c.requires.invariant.holds c.begin.ensures
+reference_start-requires c = callable inlines unchanged c.args.name reference_start _ _ (search rules) refl c.requires.invariant.holds c.begin.ensures
 
 pub reference_open-requires : goal.reference_open-requires
-reference_open-requires c = callable inlines counts c.args.name reference_open _ _ (search rules) refl c.requires.invariant.holds c.begin.ensures
+reference_open-requires c = callable inlines unchanged c.args.name reference_open _ _ (search rules) refl c.requires.invariant.holds c.begin.ensures
 
 pub reference_numeric-requires : goal.reference_numeric-requires
-reference_numeric-requires c = callable inlines counts c.args.name reference_numeric _ _ (search rules) refl c.requires.invariant.holds c.begin.ensures
+reference_numeric-requires c = callable inlines unchanged c.args.name reference_numeric _ _ (search rules) refl c.requires.invariant.holds c.begin.ensures
 
 pub reference_value-requires : goal.reference_value-requires
-reference_value-requires c = callable inlines counts c.args.name reference_value _ _ (search rules) refl c.requires.invariant.holds c.begin.ensures
+reference_value-requires c = callable inlines unchanged c.args.name reference_value _ _ (search rules) refl c.requires.invariant.holds c.begin.ensures
 
 pub before_email-requires : goal.before_email-requires
-before_email-requires c = callable inlines counts c.args.name before_email _ _ (search rules) refl c.requires.invariant.holds c.begin.ensures
+before_email-requires c = callable inlines unchanged c.args.name before_email _ _ (search rules) refl c.requires.invariant.holds c.begin.ensures
 
 pub before_html-requires : goal.before_html-requires
-before_html-requires c = callable inlines counts c.args.name before_html _ _ (search rules) refl c.requires.invariant.holds c.begin.ensures
+before_html-requires c = callable inlines unchanged c.args.name before_html _ _ (search rules) refl c.requires.invariant.holds c.begin.ensures
 
 pub email_start-requires : goal.email_start-requires
-email_start-requires c = callable inlines counts c.args.name email_start _ _ (search rules) refl c.requires.invariant.holds c.begin.ensures
+email_start-requires c = callable inlines unchanged c.args.name email_start _ _ (search rules) refl c.requires.invariant.holds c.begin.ensures
 
 pub email_atext-requires : goal.email_atext-requires
-email_atext-requires c = callable inlines counts c.args.name email_atext _ _ (search rules) refl c.requires.invariant.holds c.begin.ensures
+email_atext-requires c = callable inlines unchanged c.args.name email_atext _ _ (search rules) refl c.requires.invariant.holds c.begin.ensures
 
 pub email_label-requires : goal.email_label-requires
-email_label-requires c = callable inlines counts c.args.name email_label _ _ (search rules) refl c.requires.invariant.holds c.begin.ensures
+email_label-requires c = callable inlines unchanged c.args.name email_label _ _ (search rules) refl c.requires.invariant.holds c.begin.ensures
 
 pub email_value-requires : goal.email_value-requires
-email_value-requires c = callable inlines counts c.args.name email_value _ _ (search rules) refl c.requires.invariant.holds c.begin.ensures
+email_value-requires c = callable inlines unchanged c.args.name email_value _ _ (search rules) refl c.requires.invariant.holds c.begin.ensures
 
 pub html_text_start-requires : goal.html_text_start-requires
-html_text_start-requires c = callable inlines counts c.args.name html_text_start _ _ (search rules) refl c.requires.invariant.holds c.begin.ensures
+html_text_start-requires c = callable inlines unchanged c.args.name html_text_start _ _ (search rules) refl c.requires.invariant.holds c.begin.ensures
 
 pub html_text_open-requires : goal.html_text_open-requires
-html_text_open-requires c = callable inlines counts c.args.name html_text_open _ _ (search rules) refl c.requires.invariant.holds c.begin.ensures
+html_text_open-requires c = callable inlines unchanged c.args.name html_text_open _ _ (search rules) refl c.requires.invariant.holds c.begin.ensures
 
 pub html_text_tag_close_start-requires : goal.html_text_tag_close_start-requires
-html_text_tag_close_start-requires c = callable inlines counts c.args.name html_text_tag_close_start _ _ (search rules) refl c.requires.invariant.holds c.begin.ensures
+html_text_tag_close_start-requires c = callable inlines unchanged c.args.name html_text_tag_close_start _ _ (search rules) refl c.requires.invariant.holds c.begin.ensures
 
 pub html_text_tag_close-requires : goal.html_text_tag_close-requires
-html_text_tag_close-requires c = callable inlines counts c.args.name html_text_tag_close _ _ (search rules) refl c.requires.invariant.holds c.begin.ensures
+html_text_tag_close-requires c = callable inlines unchanged c.args.name html_text_tag_close _ _ (search rules) refl c.requires.invariant.holds c.begin.ensures
 
 pub html_text_tag_close_between-requires : goal.html_text_tag_close_between-requires
-html_text_tag_close_between-requires c = callable inlines counts c.args.name html_text_tag_close_between _ _ (search rules) refl c.requires.invariant.holds c.begin.ensures
+html_text_tag_close_between-requires c = callable inlines unchanged c.args.name html_text_tag_close_between _ _ (search rules) refl c.requires.invariant.holds c.begin.ensures
 
 pub html_text_tag_open-requires : goal.html_text_tag_open-requires
-html_text_tag_open-requires c = callable inlines counts c.args.name html_text_tag_open _ _ (search rules) refl c.requires.invariant.holds c.begin.ensures
+html_text_tag_open-requires c = callable inlines unchanged c.args.name html_text_tag_open _ _ (search rules) refl c.requires.invariant.holds c.begin.ensures
 
 pub html_text_tag_open_between-requires : goal.html_text_tag_open_between-requires
-html_text_tag_open_between-requires c = callable inlines counts c.args.name html_text_tag_open_between _ _ (search rules) refl c.requires.invariant.holds c.begin.ensures
+html_text_tag_open_between-requires c = callable inlines unchanged c.args.name html_text_tag_open_between _ _ (search rules) refl c.requires.invariant.holds c.begin.ensures
 
 pub html_text_attribute_name-requires : goal.html_text_attribute_name-requires
-html_text_attribute_name-requires c = callable inlines counts c.args.name html_text_attribute_name _ _ (search rules) refl c.requires.invariant.holds c.begin.ensures
+html_text_attribute_name-requires c = callable inlines unchanged c.args.name html_text_attribute_name _ _ (search rules) refl c.requires.invariant.holds c.begin.ensures
 
 pub html_text_attribute_name_after-requires : goal.html_text_attribute_name_after-requires
-html_text_attribute_name_after-requires c = callable inlines counts c.args.name html_text_attribute_name_after _ _ (search rules) refl c.requires.invariant.holds c.begin.ensures
+html_text_attribute_name_after-requires c = callable inlines unchanged c.args.name html_text_attribute_name_after _ _ (search rules) refl c.requires.invariant.holds c.begin.ensures
 
 pub html_text_value_before-requires : goal.html_text_value_before-requires
-html_text_value_before-requires c = callable inlines counts c.args.name html_text_value_before _ _ (search rules) refl c.requires.invariant.holds c.begin.ensures
+html_text_value_before-requires c = callable inlines unchanged c.args.name html_text_value_before _ _ (search rules) refl c.requires.invariant.holds c.begin.ensures
 
 pub html_text_value_quoted-requires : goal.html_text_value_quoted-requires
-html_text_value_quoted-requires c = callable inlines counts c.args.name html_text_value_quoted _ _ (search rules) refl c.requires.invariant.holds c.begin.ensures
+html_text_value_quoted-requires c = callable inlines unchanged c.args.name html_text_value_quoted _ _ (search rules) refl c.requires.invariant.holds c.begin.ensures
 
 pub html_text_value_quoted_after-requires : goal.html_text_value_quoted_after-requires
-html_text_value_quoted_after-requires c = callable inlines counts c.args.name html_text_value_quoted_after _ _ (search rules) refl c.requires.invariant.holds c.begin.ensures
+html_text_value_quoted_after-requires c = callable inlines unchanged c.args.name html_text_value_quoted_after _ _ (search rules) refl c.requires.invariant.holds c.begin.ensures
 
 pub html_text_value_unquoted-requires : goal.html_text_value_unquoted-requires
-html_text_value_unquoted-requires c = callable inlines counts c.args.name html_text_value_unquoted _ _ (search rules) refl c.requires.invariant.holds c.begin.ensures
+html_text_value_unquoted-requires c = callable inlines unchanged c.args.name html_text_value_unquoted _ _ (search rules) refl c.requires.invariant.holds c.begin.ensures
 
 pub html_text_end-requires : goal.html_text_end-requires
-html_text_end-requires c = callable inlines counts c.args.name html_text_end _ _ (search rules) refl c.requires.invariant.holds c.begin.ensures
+html_text_end-requires c = callable inlines unchanged c.args.name html_text_end _ _ (search rules) refl c.requires.invariant.holds c.begin.ensures
 
 pub html_line_ending_after-requires : goal.html_line_ending_after-requires
-html_line_ending_after-requires c = callable inlines counts c.args.name html_line_ending_after _ _ (search rules) refl c.requires.invariant.holds c.begin.ensures
+html_line_ending_after-requires c = callable inlines unchanged c.args.name html_line_ending_after _ _ (search rules) refl c.requires.invariant.holds c.begin.ensures
 
 pub html_line_ending_after_prefix-requires : goal.html_line_ending_after_prefix-requires
-html_line_ending_after_prefix-requires c = callable inlines counts c.args.name html_line_ending_after_prefix _ _ (search rules) refl c.requires.invariant.holds c.begin.ensures
+html_line_ending_after_prefix-requires c = callable inlines unchanged c.args.name html_line_ending_after_prefix _ _ (search rules) refl c.requires.invariant.holds c.begin.ensures
 
 pub before_tag-requires : goal.before_tag-requires
-before_tag-requires c = callable inlines counts c.args.name before_tag _ _ (search rules) refl c.requires.invariant.holds c.begin.ensures
+before_tag-requires c = callable inlines unchanged c.args.name before_tag _ _ (search rules) refl c.requires.invariant.holds c.begin.ensures
 
 pub mark_start-requires : goal.mark_start-requires
-mark_start-requires c = callable inlines counts c.args.name mark_start _ _ (search rules) refl c.requires.invariant.holds c.begin.ensures
+mark_start-requires c = callable inlines unchanged c.args.name mark_start _ _ (search rules) refl c.requires.invariant.holds c.begin.ensures
 
 pub mark_open-requires : goal.mark_open-requires
-mark_open-requires c = callable inlines counts c.args.name mark_open _ _ (search rules) refl c.requires.invariant.holds c.begin.ensures
+mark_open-requires c = callable inlines unchanged c.args.name mark_open _ _ (search rules) refl c.requires.invariant.holds c.begin.ensures
 
 pub declaration_open-requires : goal.declaration_open-requires
-declaration_open-requires c = callable inlines counts c.args.name declaration_open _ _ (search rules) refl c.requires.invariant.holds c.begin.ensures
+declaration_open-requires c = callable inlines unchanged c.args.name declaration_open _ _ (search rules) refl c.requires.invariant.holds c.begin.ensures
 
 pub comment_open-requires : goal.comment_open-requires
-comment_open-requires c = callable inlines counts c.args.name comment_open _ _ (search rules) refl c.requires.invariant.holds c.begin.ensures
+comment_open-requires c = callable inlines unchanged c.args.name comment_open _ _ (search rules) refl c.requires.invariant.holds c.begin.ensures
 
 pub cdata_open-requires : goal.cdata_open-requires
-cdata_open-requires c = callable inlines counts c.args.name cdata_open _ _ (search rules) refl c.requires.invariant.holds c.begin.ensures
+cdata_open-requires c = callable inlines unchanged c.args.name cdata_open _ _ (search rules) refl c.requires.invariant.holds c.begin.ensures
 
 pub mark_inside-requires : goal.mark_inside-requires
-mark_inside-requires c = callable inlines counts c.args.name mark_inside _ _ (search rules) refl c.requires.invariant.holds c.begin.ensures
+mark_inside-requires c = callable inlines unchanged c.args.name mark_inside _ _ (search rules) refl c.requires.invariant.holds c.begin.ensures
 
 pub mark_line-requires : goal.mark_line-requires
-mark_line-requires c = callable inlines counts c.args.name mark_line _ _ (search rules) refl c.requires.invariant.holds c.begin.ensures
+mark_line-requires c = callable inlines unchanged c.args.name mark_line _ _ (search rules) refl c.requires.invariant.holds c.begin.ensures
 
 pub mark_white-requires : goal.mark_white-requires
-mark_white-requires c = callable inlines counts c.args.name mark_white _ _ (search rules) refl c.requires.invariant.holds c.begin.ensures
+mark_white-requires c = callable inlines unchanged c.args.name mark_white _ _ (search rules) refl c.requires.invariant.holds c.begin.ensures
 
 pub unreachable-requires : goal.unreachable-requires
 unreachable-requires c = never-called inlines c.args.name c.args.t.now (search rules) c.requires.invariant.holds
