@@ -23,7 +23,7 @@ module _ (g : Given) (events : List Event) (document : IsDocument g) (wanted : C
   Begins c = begins (Some wanted) events c ≡ true
 
   -- the text of a chain is a text
-  is-text : (c : ℕ) → Begins c → IsText g (chain_text g events c)
+  pub is-text : (c : ℕ) → Begins c → IsText g (chain_text g events c)
   is-text c b =
       let fit = begins-fits g.tab g.bytes (Some wanted) events ready c b in
       let whole = whole-from g.tab g.bytes (Some wanted) events ready c fit in
