@@ -412,7 +412,7 @@ module _ {W R D : Type 0} (table : Table W R D) (g : Given) where
         record { begins = λ waits. absurd (cc); later = λ waits. absurd (cc); soon = λ waits. absurd (cc) },
         moved (named table.states name) (began_unfed table.class g text k.position) (λ state. began_at None state s) text text k choices End true
             (λ state any q b. fed-end state.begun s any q (sym (or-false (upto (fresh_fed state.begun || any) s.exit_place q))
-            ∙ subst (λ o. (upto (fresh_fed state.begun || any) s.exit_place q || (is_fresh_byte state.begun o && before_next g text k.position q)) ≡ true) none b))) (λ w is. is) (λ n fed. (refl, n)) (λ base h. h) (λ h. h) h.1,
+            ∙ subst (λ o. (upto (fresh_fed state.begun || any) s.exit_place q || (is_fresh_byte state.begun o && before_next g text k.position q)) ≡ true) none b)) (λ w is. is) (λ n fed. (refl, n)) (λ base h. h) (λ h. h) h.1,
       )
 
   pub starts-at : (o : Option (StateRows W R D)) (p : Point) (where_to : StateRows W R D → Bool → Point → Bool) (flag : Bool) → may_start table.states o ≡ true
