@@ -15,6 +15,7 @@ pub mod InlinesCounted
 mod JoinedItems
 mod LineReads
 pub mod Looks
+mod OverBytes
 mod PartReads
 mod Playing
 mod Prelude

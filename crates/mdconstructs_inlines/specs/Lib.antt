@@ -4,6 +4,7 @@ pub mod InlineTable
 pub mod LawStatements
 pub mod Laws
 pub mod Registered
+pub mod Over
 pub mod RunRows
 pub mod StringEvents
 pub mod StringTable

@@ -18,9 +18,10 @@ ghost use Rattle.mdconstructs_inlines.specs.StringTable.{string_start};
 
 use crate::attention::{attention_inside, attention_start, run_begins};
 use crate::names;
+use crate::over::{in_code, in_data, in_string};
 use crate::strings::{string_before, string_before_data, string_data};
 use markdown_tokenizer::event::{self, Event};
-use markdown_tokenizer::state::{Machine, MachineTypes, Name, State};
+use markdown_tokenizer::state::{ByteSet, Machine, MachineTypes, Name, State, no_bytes};
 use markdown_tokenizer::subtokenize::Subresult;
 use markdown_tokenizer::tokenizer::{Fault, Tokenizer};
 use markdown_tokenizer::util::edit_map::EditMap;
@@ -83,6 +84,17 @@ impl Machine for Inlines {
     ghost use Rattle.mdconstructs_inlines.specs.Laws.Inlines.{inlines-lawful};
 
     ghost rules = { λ _. inlines_rules };
+
+    /// Data reads over all bytes but those that may end it.
+    #[inline(always)]
+    fn reads_over(&self, name: Name) -> &'static ByteSet {
+        match name {
+            Name::DataInside => in_data(),
+            Name::DataStart => in_string(),
+            Name::RawTextData => in_code(),
+            _ => no_bytes(),
+        }
+    }
 
     /// Calls the state of this name. Where the Rust crate has no name for a state, `names` has it, here and in the crates whose state it is.
     fn call<'a>(

@@ -5,5 +5,6 @@ mod attention;
 pub mod inlines;
 pub mod laws;
 pub mod names;
+mod over;
 pub mod read;
 mod strings;

@@ -1,0 +1,93 @@
+-- Data of inline text, of strings and of code spans reads over the bytes that cannot end it.
+use Rattle.std.proofs.Common.{◌<◌, get_or}
+use Rattle.std.proofs.lemmas.Bool.{and_parts, ltb-true, not-true, or_parts}
+use Rattle.std.specs.Prelude.{nat_lt}
+use Rattle.markdown_base.specs.declared.state.TheConstants.Name.{RawTextData}
+use Rattle.markdown_tokenizer.proofs.ByteSets.{pass_all, passed}
+use Rattle.markdown_tokenizer.specs.Over.{ReadsOver, step_over}
+use Rattle.mdconstructs_inlines.proofs.Prelude.{◌≡◌, ◌⊎◌, inl, inr, ℕ, ◌&&◌, ◌||◌, List, [], ◌∷◌, Bool, true, false, cond, Option, Some, refl, ap, ◌∙◌, subst, sym, and-false, passes, exit, Retry, TextBefore, Data, Name, Next, DataInside, DataStart, Given, Configuration, Sight, sight, Step, consume, row, picked, StateRows, is_white, is_line_feed, some_begins, some_first, raw_text_data, TextByte, is_line_feed_class, text_byte, line_feed, backtick, less, backslash, ampersand, white, punctuation, line-classed, white-classed, is_white_class, begins_run, ends_data, marked_grammars, inline_constructs, inline_data, inline_data_rows, is_delimiter, inlines_rules, inlines, is_string_special}
+use Rattle.mdconstructs_tables.proofs.Tables.Over.{picked-read-over}
+use Rattle.mdconstructs_tables.specs.Over.{PicksOver}
+use Rattle.mdconstructs_tables.specs.Rows.{Row, named}
+use Rattle.mdconstructs_text.specs.Bytes.{is_backtick}
+use Rattle.mdconstructs_text.specs.CodeSpanRows.{raw_text_data_rows}
+use Rattle.mdconstructs_text.specs.Laws.Classes.{tick-classed}
+use Rattle.mdconstructs_text.specs.TextBytes.{is_backtick_class}
+use Rattle.mdconstructs_inlines.proofs.InlineApart.{marked-classed}
+use Rattle.mdconstructs_inlines.proofs.StringReads.{string-special-classed, string_data_row}
+use Rattle.mdconstructs_inlines.specs.Over.{AllPass, is_in_code, is_in_data, is_in_string}
+use Rattle.mdconstructs_inlines.specs.StringTable.{string_data}
+
+-- each byte of a set is above CR and passes a test, if that is tried on each
+pub all-pass : (test : ℕ → Bool) (set : List Bool) → pass_all (λ byte. nat_lt 13 byte && test byte) set ≡ true → AllPass test set
+all-pass test set all byte e =
+    let both = and_parts (nat_lt 13 byte) (test byte) (passed (λ n. nat_lt 13 n && test n) set all byte e) in
+    (ltb-true 13 byte both.0, both.1)
+
+-- the state of a name reads over a byte
+abbrev IsOver : Name → ℕ → Type 0
+IsOver name byte = (g : Given) → ReadsOver g (inlines_rules g) name byte
+
+-- it does if its rows in the table pick the row that consumes the byte
+reads-over : (state : StateRows TextByte Unit Unit) (name : Name) (byte : ℕ) → named inlines.states name ≡ Some state → PicksOver state name text_byte byte
+    → (other : Name) → other.number ≡ name.number → IsOver other byte
+reads-over state name byte there over other is =
+    subst (λ n. IsOver (record { number = n }) byte) (sym is)
+    (λ g text k choices n ready holds same current.
+    subst (λ n. (inlines_rules g).step (sight g text k) k n ≡ step_over k n) (sym same) (picked-read-over inlines state name byte (λ local. refl) there over g (sight g text k) k current))
+
+-- ---- data of inline text
+
+-- the classes at which it goes on, whatever the byte before: all that begin no line ending and no construct, but punctuation, with which a run may begin
+data-goes-on : (w : TextByte) → (is_line_feed_class w || some_begins inline_constructs w) ≡ false → is_white_class w ≡ false
+    → (w ≡ punctuation) ⊎ ((before : Option TextByte) → inline_data_rows before (Some w) ≡ row (consume ∷ []) (Next DataInside))
+data-goes-on line_feed h i = absurd (cc)
+data-goes-on backtick h i = absurd (cc)
+data-goes-on less h i = absurd (cc)
+data-goes-on backslash h i = absurd (cc)
+data-goes-on ampersand h i = absurd (cc)
+data-goes-on white h i = absurd (cc)
+data-goes-on punctuation h i = inl refl
+data-goes-on _ h i = inr (λ before. refl)
+
+data-picks : (byte : ℕ) → is_in_data byte ≡ true → PicksOver inline_data DataInside text_byte byte
+data-picks byte is before g s k current =
+    let on = g.options.constructs in
+    let (white_byte, others) = or_parts (is_white byte) (is_line_feed byte || (some_first marked_grammars byte || is_delimiter byte)) (not-true _ is) in
+    let (line, marks) = or_parts (is_line_feed byte) (some_first marked_grammars byte || is_delimiter byte) others in
+    let (marked, delimiter) = or_parts (some_first marked_grammars byte) (is_delimiter byte) marks in
+    let run : begins_run on byte ≡ false = ap (λ t. on.attention && t) delimiter ∙ and-false on.attention in
+    let ends : ends_data on byte ≡ false = λ i. line i || (marked i || run i) in
+    let ending : Row Unit Unit = record { acts = exit Data ∷ []; answer = Retry TextBefore } in
+    let going : Row Unit Unit = record { acts = consume ∷ []; answer = Next DataInside } in
+    elim (data-goes-on (text_byte byte) (marked-classed on byte white_byte run ∙ ends) (white-classed byte ∙ white_byte)) [
+      | inl class ↦
+          ap (λ w. picked (inline_data_rows before (Some w)) g s k) class ∙ ap (λ (o : Option ℕ). cond (on.attention && passes is_delimiter o) ending going) current ∙ ap (λ t. cond t ending going) run
+      | inr rows ↦ ap (λ r. picked r g s k) (rows before)
+    ]
+
+pub data-over : (byte : ℕ) → is_in_data byte ≡ true → (name : Name) → name.number ≡ DataInside.number → IsOver name byte
+data-over byte is = reads-over inline_data DataInside byte refl (data-picks byte is)
+
+-- ---- data of strings
+
+string-picks : (byte : ℕ) → is_in_string byte ≡ true → PicksOver (string_data {R = Unit {0}} {D = Unit {0}}) DataStart text_byte byte
+string-picks byte is before g s k current = ap (λ t. picked (string_data_row t) g s k) (string-special-classed byte ∙ not-true (is_string_special byte) is)
+
+pub string-over : (byte : ℕ) → is_in_string byte ≡ true → (name : Name) → name.number ≡ DataStart.number → IsOver name byte
+string-over byte is = reads-over string_data DataStart byte refl (string-picks byte is)
+
+-- ---- data of code spans
+
+code-goes-on : (w : TextByte) → is_line_feed_class w ≡ false → is_backtick_class w ≡ false → (before : Option TextByte) → raw_text_data_rows {R = Unit {0}} {D = Unit {0}} before (Some w) ≡ row (consume ∷ []) (Next RawTextData)
+code-goes-on line_feed h i = absurd (cc)
+code-goes-on backtick h i = absurd (cc)
+code-goes-on _ h i = λ before. refl
+
+code-picks : (byte : ℕ) → is_in_code byte ≡ true → PicksOver (raw_text_data {R = Unit {0}} {D = Unit {0}}) RawTextData text_byte byte
+code-picks byte is before g s k current =
+    let (line, tick) = or_parts (is_line_feed byte) (is_backtick byte) (not-true _ is) in
+    ap (λ r. picked r g s k) (code-goes-on (text_byte byte) (line-classed byte ∙ line) (tick-classed byte ∙ tick) before)
+
+pub code-over : (byte : ℕ) → is_in_code byte ≡ true → (name : Name) → name.number ≡ RawTextData.number → IsOver name byte
+code-over byte is = reads-over raw_text_data RawTextData byte refl (code-picks byte is)

@@ -1,0 +1,17 @@
+use Rattle.std.proofs.Common.{◌∙◌, sym}
+use Rattle.std.proofs.lemmas.Bool.{false≢true}
+use Rattle.mdconstructs_inlines.proofs.Prelude.{rules}
+use Rattle.mdconstructs_inlines.proofs.OverBytes.{code-over, data-over, string-over}
+use Rattle.mdconstructs_inlines.proofs.inlines.InlinesMachine.reads_over.Goals as goal
+
+pub returns-in-DataInside : goal.returns-in-DataInside
+returns-in-DataInside c = λ byte e. let is = c.in_data.ensures byte e in (is.0, data-over byte is.1 c.args.name (search rules))
+
+pub returns-in-DataStart : goal.returns-in-DataStart
+returns-in-DataStart c = λ byte e. let is = c.in_string.ensures byte e in (is.0, string-over byte is.1 c.args.name (search rules))
+
+pub returns-in-RawTextData : goal.returns-in-RawTextData
+returns-in-RawTextData c = λ byte e. let is = c.in_code.ensures byte e in (is.0, code-over byte is.1 c.args.name (search rules))
+
+pub returns-in_default : goal.returns-in_default
+returns-in_default c = λ byte e. absurd (false≢true (sym (c.no_bytes.ensures byte) ∙ e))

@@ -1,0 +1,24 @@
+-- Bytes that states of inline text read over, whatever the options are.
+use Rattle.std.specs.Prelude.{◌≡◌, ◌<◌, ℕ, ◌||◌, not, Bool, true, false, List, get_or}
+use Rattle.mdconstructs_machines.specs.Breaks.{is_white}
+use Rattle.mdconstructs_text.specs.Bytes.{is_backtick, is_line_feed}
+use Rattle.mdconstructs_text.specs.Construct.{some_first}
+use Rattle.mdconstructs_inlines.specs.InlineEvents.{marked_grammars}
+use Rattle.mdconstructs_inlines.specs.RunRows.{is_delimiter}
+use Rattle.mdconstructs_inlines.specs.StringEvents.{is_string_special}
+
+-- data goes on at the byte: it is no white space, and no line ending, no construct and no delimiter run may begin with it
+abbrev pub is_in_data : ℕ → Bool
+is_in_data byte = not (is_white byte || (is_line_feed byte || (some_first marked_grammars byte || is_delimiter byte)))
+
+-- data of a string does
+abbrev pub is_in_string : ℕ → Bool
+is_in_string byte = not (is_string_special byte)
+
+-- data of a code span does
+abbrev pub is_in_code : ℕ → Bool
+is_in_code byte = not (is_line_feed byte || is_backtick byte)
+
+-- the bytes of a set are above CR, and pass a test
+abbrev pub AllPass : (ℕ → Bool) → List Bool → Type 0
+AllPass test set = (byte : ℕ) → get_or set byte false ≡ true → (13 < byte) × (test byte ≡ true)
