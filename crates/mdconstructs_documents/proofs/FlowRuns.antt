@@ -1,5 +1,5 @@
 -- A run over a document returns the events of its leaf blocks, and these are well formed.
-use Rattle.mdconstructs_documents.proofs.Prelude.{◌≡◌, ◌∙◌, ℕ, List, true, false, refl, subst, sym, arith, Event, FlowStart, Given, IsDocument, virtual, flow_rules, AreFlowEvents, ParseOptions, document, IsRun, IsWellFormed, whole_text, Subresult, blocks-are-formed, flow-ends, has-room, FlowIsRead, flow_events}
+use Rattle.mdconstructs_documents.proofs.Prelude.{◌≡◌, ◌∙◌, ℕ, List, true, false, refl, subst, sym, arith, Event, FlowStart, Given, IsDocument, virtual, flow_rules, AreFlowEvents, ParseOptions, document, IsRun, IsWellFormed, whole_text, Subresult, blocks-are-formed, whole-is-text, flow-ends, has-room, FlowIsRead, flow_events}
 
 module _ (read : FlowIsRead) (g : Given) (is : IsDocument g) where
   abbrev blocks_events : List Event
@@ -11,4 +11,4 @@ module _ (read : FlowIsRead) (g : Given) (is : IsDocument g) where
 
 -- the events of leaf blocks of a document are well formed
 pub flow-formed : (options : ParseOptions) (bytes : List ℕ) → IsDocument (document options bytes) → (events : List Event) → AreFlowEvents options bytes events → IsWellFormed (document options bytes) events
-flow-formed options bytes is events are = subst (IsWellFormed (document options bytes)) (sym are) (blocks-are-formed.blocks (document options bytes) is)
+flow-formed options bytes is events are = subst (IsWellFormed (document options bytes)) (sym are) (blocks-are-formed.blocks (document options bytes) (whole_text (document options bytes)) (whole-is-text (document options bytes) is))

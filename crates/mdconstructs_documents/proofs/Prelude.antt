@@ -99,22 +99,23 @@ pub use Rattle.mdconstructs_documents.specs.declared.ranges.ByteRange.{ByteRange
 pub use Rattle.mdconstructs_flow.proofs.NoRefusals.{flow-refuses-nothing}
 pub use Rattle.mdconstructs_flow.specs.FlowKnows.{flow_rules}
 pub use Rattle.mdconstructs_flow_read.proofs.Lines.Rooms.{has-room}
-pub use Rattle.mdconstructs_flow_read.proofs.Lines.WholeLines.{IsWhole, body-and-last, part-behind, text-and-ending, three-parts, whole-lines}
+pub use Rattle.mdconstructs_flow_read.proofs.Lines.WholeLines.{IsWhole, body-and-last, part-behind, text-and-ending, three-parts, whole-behind, whole-lines, whole-part, whole-text}
 pub use Rattle.mdconstructs_flow_read.proofs.Marks.BlocksFormed.{blocks-are-formed}
-pub use Rattle.mdconstructs_flow_read.proofs.Marks.ChunksJoin.{blocks-join}
+pub use Rattle.mdconstructs_flow_read.proofs.Marks.ChunksJoin.{blocks-join, blocks-meet}
+pub use Rattle.mdconstructs_flow_read.proofs.Marks.Courses.{Course, Place, Track, across-none, course-every, course-here, course-on, course-place, course-upto, line-splits, line-track, text-course, track-on, track-place}
 pub use Rattle.mdconstructs_flow_read.proofs.Marks.Cuts.{leaf-blocks-lines}
 pub use Rattle.mdconstructs_flow_read.proofs.Marks.FullBlocks.{IsFull, StartsText, leaf-blocks-full}
 pub use Rattle.mdconstructs_flow_read.proofs.Marks.LeafSpans.{flow-accounts, setext-body, spans-blocks, spans-of-around}
 pub use Rattle.mdconstructs_flow_read.proofs.Marks.MarkAccounts.{AreSpans, Begins, accounts-kept, bare, linked-spans}
 pub use Rattle.mdconstructs_flow_read.proofs.Marks.MarkChunks.{AreSingle, IsPlain, IsSingle, single-block-marks, single-both, single-data, single-end, single-fenced, single-last, single-leaf, single-sequence, single-span, single-underline}
-pub use Rattle.mdconstructs_flow_read.proofs.Marks.MarkForms.{Formed, Forms, Place, Track, forms-kept, name-closed, tight-linked, track-on, track-place, track-upto, whole-formed, whole-track}
+pub use Rattle.mdconstructs_flow_read.proofs.Marks.MarkForms.{Formed, name-closed, tight-linked, FormsOver, order-from, over-kept, text-formed}
 pub use Rattle.mdconstructs_flow_read.proofs.Marks.MarkSpans.{IsKeptBySpans, line-on, over, text-by-chunks}
 pub use Rattle.mdconstructs_flow_read.proofs.Marks.ToldEdits.{first-linked, mark_at}
 pub use Rattle.mdconstructs_flow_read.proofs.Whole.FlowEnds.{flow-ends}
 pub use Rattle.mdconstructs_flow_read.proofs.Whole.WholeFlow.{whole-flow-is-read}
 pub use Rattle.mdconstructs_flow_read.specs.BlockLines.{block_lines}
 pub use Rattle.mdconstructs_flow_read.specs.BlocksRead.{block_seats, last_ending}
-pub use Rattle.mdconstructs_flow_read.specs.ChunksJoin.{ChunksJoin}
+pub use Rattle.mdconstructs_flow_read.specs.ChunksJoin.{AcrossGap, AtOnce, ChunksMeet}
 pub use Rattle.mdconstructs_flow_read.specs.FlowRead.{FlowIsRead}
 pub use Rattle.mdconstructs_flow_read.specs.LeafBlocks.{LeafBlock, Line, atx_heading, blank_line, break_line, fenced_code, html_block, indented_code, leaf_blocks, paragraph, setext_heading}
 pub use Rattle.mdconstructs_flow_read.specs.LeafEvents.{Chunk, Mark, alone, block_around, block_span, body, chunk_span, code_fenced_around, fence_around, fenced_marks, flow_events, heading_around, last_end, leaf_block_marks, leaf_blocks_marks, line_end, linked_from, span_marks, string_chunk, text_chunk, text_marks, underline_marks}

@@ -1,5 +1,5 @@
--- Each virtual byte of a document is in one innermost span of the events of leaf blocks with inline text.
-use Rattle.mdconstructs_documents.proofs.Prelude.{ℕ, ◌<◌, List, [], ◌∷◌, ◌++◌, None, append_assoc, map, sym, subst, append-nil, AllByRecursion, flat_map, Constructs, Event, Point, Seat, end_after, point, virtual, every-back, every-front, empty_text, emphasis-can-be-made, AccountFor, lines_in, read-alone, read-balanced, read_events, string_seat_events, AreSpans, Begins, accounts-kept, Track, track-on, whole-track, IsKeptBySpans, leaf_blocks, Mark, document, options_with, InlinesAccount, block_texts, inline_seat_events, read_marks}
+-- Each virtual byte of a text is in one innermost span of the events of leaf blocks with inline text.
+use Rattle.mdconstructs_documents.proofs.Prelude.{ℕ, List, [], ◌∷◌, ◌++◌, None, append_assoc, map, sym, subst, append-nil, AllByRecursion, flat_map, Constructs, Event, Point, Seat, end_after, point, every-back, every-front, empty_text, emphasis-can-be-made, AccountFor, lines_in, read-alone, read-balanced, read_events, string_seat_events, shown, AcrossGap, Course, course-every, course-on, text-course, AreSpans, Begins, accounts-kept, IsKeptBySpans, leaf_blocks, Mark, document, options_with, InlinesAccount, block_texts, inline_seat_events, read_marks}
 use Rattle.mdconstructs_documents.proofs.Emphasis.Follow.{Opens}
 use Rattle.mdconstructs_documents.proofs.Emphasis.InlineRuns.{inline-runs}
 use Rattle.mdconstructs_documents.proofs.Emphasis.Pairs.{HaveAtoms, pairs-of-atoms, shut-account}
@@ -16,30 +16,30 @@ begins-marks [] h = tt
 begins-marks (e ∷ es) h = h
 
 module _ (t : ℕ) (bytes : List ℕ) (on : Constructs) where
-  -- marks over virtual bytes of a document, wherever these are
+  -- marks over virtual bytes of a text, wherever these are
   abbrev SpansThere : List Mark → List Seat → Type 0
-  SpansThere marks seats = AllByRecursion (Steps bytes) seats → (p : Point) (rest : List Seat) → Track t bytes p (seats ++ rest) → AreSpans bytes marks seats
+  SpansThere marks seats = AllByRecursion (Steps bytes) seats → (p : Point) (rest : List Seat) → Course AcrossGap t bytes p (seats ++ rest) → AreSpans bytes marks seats
 
   both-there : (xs ys : List Mark) (a b : List Seat) → SpansThere xs a → SpansThere ys b → SpansThere (xs ++ ys) (a ++ b)
-  both-there xs ys a b f g steps p rest track =
+  both-there xs ys a b f g steps p rest course =
       let k = accounts-kept bytes in
-      let whole = subst (Track t bytes p) (append_assoc a b rest) track in
-      k.both (f (every-front (Steps bytes) a b steps) p (b ++ rest) whole) (g (every-back (Steps bytes) a b steps) (end_after p a) rest (track-on t bytes p a (b ++ rest) whole))
+      let whole = subst (Course AcrossGap t bytes p) (append_assoc a b rest) course in
+      k.both (f (every-front (Steps bytes) a b steps) p (b ++ rest) whole) (g (every-back (Steps bytes) a b steps) (end_after p a) rest (course-on AcrossGap t bytes p a (b ++ rest) whole))
 
   kept : IsKeptBySpans bytes SpansThere
   kept =
       let k = accounts-kept bytes in
       record {
-        none = λ steps p rest track. k.none;
+        none = λ steps p rest course. k.none;
         both = λ {xs} {ys} {a} {b} f g. both-there xs ys a b f g;
-        leaf = λ n s ss steps p rest track. k.leaf n s ss;
-        datum = λ c s ss steps p rest track. k.datum c s ss;
-        text = λ lines starts steps p rest track. k.text lines starts;
-        around = λ n s ss inside other f steps p rest track. k.around n s ss inside other (f steps p rest track);
+        leaf = λ n s ss w steps p rest course. k.leaf n s ss w;
+        datum = λ c s ss w steps p rest course. k.datum c s ss w;
+        text = λ lines starts w steps p rest course. k.text lines starts w;
+        around = λ n s ss inside other f steps p rest course. k.around n s ss inside other (f steps p rest course);
       }
 
   inline-spans : (seats : List Seat) → SpansThere (read_marks (inline_seat_events on bytes) bytes seats) seats
-  inline-spans seats steps p rest track =
+  inline-spans seats steps p rest course =
       let g = document (options_with on 4) bytes in
       let text = record (empty_text (point 1 1 0 0)) { seats = seats } in
       let es = read_events g text in
@@ -49,7 +49,7 @@ module _ (t : ℕ) (bytes : List ℕ) (on : Constructs) where
       let cut = inline-runs bytes on seats in
       let atoms = cut.0.atoms in
       let have : HaveAtoms bytes es atoms = subst (λ l. HaveAtoms bytes l atoms) (sym cut.0.are) (pairs-of-atoms bytes atoms) in
-      let runs = runs-tracked bytes t atoms p rest (subst (λ l. Track t bytes p (l ++ rest)) cut.0.all track) (subst (AllByRecursion (Steps bytes)) cut.0.all steps) cut.1 in
+      let runs = runs-tracked bytes t atoms p rest (subst (λ l. Course AcrossGap t bytes p (l ++ rest)) cut.0.all course) (subst (AllByRecursion (Steps bytes)) cut.0.all steps) cut.1 in
       let account : AccountFor read bytes seats = subst (AccountFor read bytes) (sym cut.0.all) (emphasis-accounts bytes es atoms balanced have runs) in
       record {
         begins = begins-marks read (balanced-opens made.2);
@@ -57,14 +57,14 @@ module _ (t : ℕ) (bytes : List ℕ) (on : Constructs) where
       }
 
 pub inlines-account : InlinesAccount
-inlines-account g is =
+inlines-account g text is =
     let on = g.options.constructs in
     let reads = inline_seat_events on g.bytes in
-    let seats = virtual g.tab g.bytes in
-    let wide : 0 < g.tab = is.tab.0 in
-    let p = point 1 1 0 0 in
     let strings = string_seat_events on g.bytes in
+    let seats = text.seats in
+    let p = shown g.bytes text.start in
+    let course = text-course g text is in
+    let steps = course-every AcrossGap g.tab g.bytes (Steps g.bytes) (steps-virtual g.bytes g.tab) p seats course in
     linked-account g.bytes (flat_map (block_texts reads strings g.bytes) (leaf_blocks on (lines_in seats))) seats
     (texts-keep on reads strings g.bytes (SpansThere g.tab g.bytes on) (kept g.tab g.bytes on) (inline-spans g.tab g.bytes on)
-    (λ string steps p rest track. cut-spans g.bytes strings (string-cut on g.bytes) string) seats (steps-virtual g.bytes g.tab) p []
-    (subst (Track g.tab g.bytes p) (sym (append-nil seats)) (whole-track g.tab g.bytes wide)))
+    (λ string steps p rest course. cut-spans g.bytes strings (string-cut on g.bytes) string) seats steps p [] (subst (Course AcrossGap g.tab g.bytes p) (sym (append-nil seats)) course))

@@ -1,10 +1,10 @@
--- Delimiter runs among atoms, by their virtual bytes: in a document they go byte by byte, and two that adjoin have different markers.
-use Rattle.mdconstructs_documents.proofs.Prelude.{◌≡◌, ℕ, ◌==◌, Bool, true, false, List, [], ◌∷◌, ◌++◌, append_assoc, refl, sym, ap, ◌∙◌, subst, ◌||◌, slice_get, AllByRecursion, eqb-true, Point, shown, Seat, end_after, every-back, every-front, later, same, is_star_byte, Atom, atom_seats, seats_of, is_delimiter, Track, track-on, track-place}
+use Rattle.mdconstructs_documents.proofs.Prelude.{◌≡◌, ℕ, ◌==◌, Bool, true, false, List, [], ◌∷◌, ◌++◌, append_assoc, refl, sym, ap, ◌∙◌, subst, ◌||◌, slice_get, AllByRecursion, eqb-true, Point, shown, Seat, end_after, every-back, every-front, later, same, is_star_byte, Atom, atom_seats, seats_of, is_delimiter, Track, track-place, append-nil, AcrossGap, Course, course-on, line-track}
 use Rattle.std.proofs.Math.Bool.{or-false}
+-- Delimiter runs among atoms, by their virtual bytes: in a text they go byte by byte, and two that adjoin have different markers.
 use Rattle.mdconstructs_documents.proofs.Emphasis.Follow.{FollowFrom}
 use Rattle.mdconstructs_documents.proofs.Emphasis.RunAtoms.{AreWholeRuns, Differs, is_run}
 use Rattle.mdconstructs_documents.proofs.Emphasis.Runs.{AreRuns, HasOther}
-use Rattle.mdconstructs_documents.proofs.FlowTexts.InlineSteps.{AreDelimiters, Steps}
+use Rattle.mdconstructs_documents.proofs.FlowTexts.InlineSteps.{AreDelimiters, Steps, delimiters-whole}
 
 -- two delimiters that are not equal are different markers
 markers-differ : (x y : ℕ) → is_delimiter x ≡ true → is_delimiter y ≡ true → (x ≡ y → ⊥) → same (x == 42) (y == 42) ≡ false
@@ -36,19 +36,22 @@ module _ (bytes : List ℕ) where
     follow-track p [] rest track steps are = tt
     follow-track p (s ∷ ss) rest track steps are =
         let step = steps.0 are.0 in
-        let end : s.end ≡ later 1 p = step.0 ∙ ap (later 1) (sym step.1 ∙ track.1) in
-        let there = track-place t bytes s.end (ss ++ rest) track.3 in
-        (track.1, there.is_shown ∙ end, subst (λ q. FollowFrom bytes q ss) end (follow-track s.end ss rest track.3 steps.1 are.1))
+        let end : s.end ≡ later 1 p = step.0 ∙ ap (later 1) (sym step.1 ∙ track.1.meets) in
+        let there = track-place t bytes s.end (ss ++ rest) track.2 in
+        (track.1.meets, there.is_shown ∙ end, subst (λ q. FollowFrom bytes q ss) end (follow-track s.end ss rest track.2 steps.1 are.1))
 
-    pub runs-tracked : (atoms : List Atom) (p : Point) (rest : List Seat) → Track t bytes p (seats_of atoms ++ rest) → AllByRecursion (Steps bytes) (seats_of atoms) → AreWholeRuns atoms → AreRuns bytes atoms
-    runs-tracked [] p rest track steps whole = tt
-    runs-tracked (a ∷ atoms) p rest track steps whole =
+    pub runs-tracked : (atoms : List Atom) (p : Point) (rest : List Seat) → Course AcrossGap t bytes p (seats_of atoms ++ rest) → AllByRecursion (Steps bytes) (seats_of atoms) → AreWholeRuns atoms → AreRuns bytes atoms
+    runs-tracked [] p rest course steps whole = tt
+    runs-tracked (a ∷ atoms) p rest course steps whole =
         let l = atom_seats a in
         let more = seats_of atoms in
-        let here = subst (Track t bytes p) (append_assoc l more rest) track in
+        let o = shown bytes a.first.point in
+        let here = subst (Course AcrossGap t bytes p) (append_assoc l more rest) course in
         let front = every-front (Steps bytes) l more steps in
         let back = every-back (Steps bytes) l more steps in (
-          λ is. subst (λ q. FollowFrom bytes q l) (sym here.1) (follow-track p l (more ++ rest) here front (whole.0 is)),
+          λ is.
+              let there = line-track t bytes p a.first a.others (more ++ rest) (delimiters-whole l (whole.0 is)) here in
+              follow-track o l [] (subst (Track t bytes o) (sym (append-nil l)) there) front (whole.0 is),
           other-marker a atoms front.0 back whole.0 whole.2 whole.1,
-          runs-tracked atoms (end_after p l) rest (track-on t bytes p l (more ++ rest) here) back whole.2,
+          runs-tracked atoms (end_after p l) rest (course-on AcrossGap t bytes p l (more ++ rest) here) back whole.2,
         )

@@ -1,5 +1,6 @@
--- Lists of events in which each chunk stands directly before the one that it is linked to: their chains can be read.
-use Rattle.mdconstructs_documents.proofs.Prelude.{◌≡◌, ℕ, ◌+◌, ◌<◌, List, Option, Some, None, length, ◌⊎◌, inl, inr, refl, sym, ◌∙◌, subst, arith, get_or_from_slice_get, slice_get_within, slice_get, option_and_then, AllByRecursion, every-get, Content, Event, IsBalanced, empty, IsVoidTight, IsInOrder, IsPointOf, AreMutual, IsChunk, IsLinkedEnter, content_of, next_of, IsReady, place_at, AreAtPlaces, ChunksJoin, place-at-event}
+use Rattle.mdconstructs_documents.proofs.Prelude.{◌≡◌, ℕ, ◌+◌, ◌<◌, List, Option, Some, None, length, ◌⊎◌, inl, inr, refl, sym, ◌∙◌, subst, arith, get_or_from_slice_get, slice_get_within, slice_get, option_and_then, AllByRecursion, every-get, Content, Event, IsBalanced, empty, IsVoidTight, IsInOrder, IsPointOf, AreMutual, IsChunk, IsLinkedEnter, content_of, next_of, IsReady, place_at, AreAtPlaces, place-at-event, AcrossGap, ChunksMeet}
+-- Lists of events in which each chunk stands directly before the one that it is linked to, with a gap between their places at most: their chains
+-- can be read.
 use Rattle.markdown_base.specs.declared.event.Content.TheVariants.{Flow}
 use Rattle.markdown_edits.specs.Links.{content_at}
 use Rattle.mdconstructs_text.proofs.Paragraphs.ChainEvents.{is-content}
@@ -14,7 +15,7 @@ MayBegin e = (e.link ≡ None) ⊎ IsLinkedEnter e
 pub record IsDirectlyBefore (es : List Event) (k d : ℕ) : Type 0 where
   pub next : d ≡ k + 2
   pub within : d < length es
-  pub place : place_at es d ≡ place_at es (k + 1)
+  pub place : AcrossGap (place_at es (k + 1)) (place_at es d)
   pub content : content_at es d ≡ content_at es k
 
 -- Each chunk that is linked to another stands directly before it
@@ -22,14 +23,14 @@ pub record AreAdjoined (es : List Event) : Type 0 where
   pub each : AllByRecursion MayBegin es
   pub pairs : (k d : ℕ) → next_of es k ≡ Some d → IsDirectlyBefore es k d
 
--- chunks that join are so
-pub joined-adjoined : (es : List Event) → ChunksJoin es → AreAdjoined es
-joined-adjoined es h = record {
+-- chunks that meet are so
+pub met-adjoined : (es : List Event) → ChunksMeet AcrossGap es → AreAdjoined es
+met-adjoined es h = record {
   each = h.each;
   pairs = λ k d is. let next = h.next k d is in record {
     next = next.is;
     within = slice_get_within es d next.behind next.behind_at;
-    place = place-at-event es d next.behind next.behind_at ∙ next.place ∙ sym (place-at-event es (k + 1) next.exit next.exit_at);
+    place = subst (AcrossGap (place_at es (k + 1))) (sym (place-at-event es d next.behind next.behind_at)) (subst (λ p. AcrossGap p next.behind.point) (sym (place-at-event es (k + 1) next.exit next.exit_at)) next.place);
     content = next.content;
   };
 }
@@ -73,11 +74,9 @@ module _ (t : ℕ) (bytes : List ℕ) (es : List Event) (h : AreAdjoined es) (ba
         let at = is-content wanted (content_at es k) fit in
         let pair = h.pairs k d is in
         let next = pair.next in
-        let c = chunk-at k wanted at in
-        let behind = chunk-at d wanted (pair.content ∙ at) in
         record {
-          forward = stand-in-order bytes es order (k + 1) d c.exit behind.enter (omega (arith, next)) c.exit_at behind.enter_at;
-          in_line = inl (sym pair.place);
+          forward = pair.place.forward;
+          in_line = pair.place.in_line;
           balanced = subst IsBalanced (sym (between-none es (k + 2) d next)) empty;
           no_link = λ m least most. absurd (omega (arith, next, least, most));
         };

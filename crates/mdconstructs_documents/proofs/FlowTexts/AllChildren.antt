@@ -1,20 +1,17 @@
 -- What the machine of inline text reads of all chains of leaf blocks at once: of each text its inline text, and of each string its events.
-use Rattle.mdconstructs_documents.proofs.Prelude.{◌≡◌, ℕ, List, [], ◌∷◌, true, Option, Some, None, length, map, refl, sym, ap, ◌∙◌, ◌&&◌, is_none, AllByRecursion, range_with_len, and_parts, ParseOptions, Content, StringContent, TextContent, Event, StringStart, TextStart, begins, content_at, fits, fitting_starts, some_fits, with_children, AreChildren, Child, IsChild, IsSubtokenized, lists, previous_of, every-all, every-kept, Subresult, Given, IsDocument, flow_events, reads-texts, reads-strings-of, inline_events, inlines_rules, string_events, string_seat_events, children-events, chain_text, AreFlowInlines, document, virtual_bytes, inline_seat_events}
+use Rattle.mdconstructs_documents.proofs.Prelude.{◌≡◌, ℕ, List, [], ◌∷◌, true, Option, Some, None, length, map, refl, sym, ap, ◌∙◌, ◌&&◌, is_none, AllByRecursion, range_with_len, and_parts, Content, StringContent, TextContent, Event, StringStart, TextStart, begins, content_at, fits, fitting_starts, some_fits, with_children, AreChildren, Child, IsChild, IsSubtokenized, lists, previous_of, every-all, every-kept, Subresult, Given, IsText, Text, flow_events, reads-texts, reads-strings-of, inline_events, inlines_rules, string_events, string_seat_events, children-events, chain_text, flow_inlines, inline_seat_events}
 use Rattle.mdconstructs_documents.proofs.FlowChains.Ready.{flow-ready}
 use Rattle.mdconstructs_documents.proofs.FlowTexts.BlockSegments.{by_content}
 use Rattle.mdconstructs_documents.proofs.FlowTexts.Textual.{by-content}
 use Rattle.mdconstructs_documents.proofs.FlowTexts.Whole.{all-inlines-are-read}
 
-module _ (options : ParseOptions) (bytes : List ℕ) (is : IsDocument (document options bytes)) where
-  abbrev g : Given
-  g = document options bytes
-
+module _ (g : Given) (text : Text) (is : IsText g text) where
   abbrev flat : List Event
-  flat = flow_events options.constructs bytes (virtual_bytes options bytes)
+  flat = flow_events g.options.constructs g.bytes text.seats
 
   -- what the chain that begins at an index is read as
   abbrev read_at : ℕ → List Event
-  read_at c = by_content bytes (inline_seat_events options.constructs bytes) (string_seat_events options.constructs bytes) (content_at flat c) (chain_text g flat c).seats
+  read_at c = by_content g.bytes (inline_seat_events g.options.constructs g.bytes) (string_seat_events g.options.constructs g.bytes) (content_at flat c) (chain_text g flat c).seats
 
   abbrev Begins : ℕ → Type 0
   Begins c = begins None flat c ≡ true
@@ -28,14 +25,14 @@ module _ (options : ParseOptions) (bytes : List ℕ) (is : IsDocument (document 
 
   one-child : (c : ℕ) (child : Child) → IsChild g inlines_rules flat c child → Begins c → child.events ≡ read_at c
   one-child c child one b =
-      let reads_as : Option Content → List Event = λ o. by_content bytes (inline_seat_events options.constructs bytes) (string_seat_events options.constructs bytes) o (chain_text g flat c).seats in
-      by-content g c (and_parts (fits None flat c) (is_none (previous_of flat c)) b).0
+      let reads_as : Option Content → List Event = λ o. by_content g.bytes (inline_seat_events g.options.constructs g.bytes) (string_seat_events g.options.constructs g.bytes) o (chain_text g flat c).seats in
+      by-content g text c (and_parts (fits None flat c) (is_none (previous_of flat c)) b).0
       (λ at.
-      let all = children-events g flat is TextContent (flow-ready g is TextContent (λ e. absurd (cc))) TextStart refl inlines_rules (inline_events g) (reads-texts g) (c ∷ []) (child ∷ []) (begins-one TextContent c at refl b, tt) (one, tt) in
+      let all = children-events g flat is.document TextContent (flow-ready g text is TextContent (λ e. absurd (cc))) TextStart refl inlines_rules (inline_events g) (reads-texts g) (c ∷ []) (child ∷ []) (begins-one TextContent c at refl b, tt) (one, tt) in
       let here : child.events ≡ inline_events g (chain_text g flat c) = cc in
       here ∙ sym (ap reads_as at))
       (λ at.
-      let all = children-events g flat is StringContent (flow-ready g is StringContent (λ e. absurd (cc))) StringStart refl inlines_rules (string_events g) (reads-strings-of g) (c ∷ []) (child ∷ []) (begins-one StringContent c at refl b, tt) (one, tt) in
+      let all = children-events g flat is.document StringContent (flow-ready g text is StringContent (λ e. absurd (cc))) StringStart refl inlines_rules (string_events g) (reads-strings-of g) (c ∷ []) (child ∷ []) (begins-one StringContent c at refl b, tt) (one, tt) in
       let here : child.events ≡ string_events g (chain_text g flat c) = cc in
       here ∙ sym (ap reads_as at))
 
@@ -50,6 +47,6 @@ module _ (options : ParseOptions) (bytes : List ℕ) (is : IsDocument (document 
       let indices = range_with_len 0 (length flat) in
       every-kept (λ k. Unit {0}) Begins (begins None flat) (λ k u e. e) indices (every-all (λ k. Unit {0}) (λ k. tt) indices)
 
-  -- with all children the list is what is read of the document
-  pub all-children : (new : List Event) (sub : Subresult) → IsSubtokenized g inlines_rules None flat new sub → AreFlowInlines options bytes new
-  all-children new sub h = h.events ∙ ap (with_children None flat) (each-child (fitting_starts None flat) h.children all-begin h.read) ∙ all-inlines-are-read options bytes is
+  -- with all children the list is what is read of the text
+  pub all-children : (new : List Event) (sub : Subresult) → IsSubtokenized g inlines_rules None flat new sub → new ≡ flow_inlines g.options.constructs g.bytes text.seats
+  all-children new sub h = h.events ∙ ap (with_children None flat) (each-child (fitting_starts None flat) h.children all-begin h.read) ∙ all-inlines-are-read g text is

@@ -1,5 +1,5 @@
 -- The marks of leaf blocks are cut into segments over their lines: the lines of a text are one chain, and so is each string.
-use Rattle.mdconstructs_documents.proofs.Prelude.{◌≡◌, ℕ, ◌+◌, ◌-◌, List, [], ◌∷◌, ◌++◌, Bool, true, false, not, inl, inr, Option, None, Some, length, take, drop, refl, sym, ap, ◌∙◌, subst, arith, AllByRecursion, flat_map, prefix_len, flat_map-append, append-nil, Constructs, Content, Event, Seat, lets_through, every-back, every-front, lines-are-all, HaveNoLinks, is_white, all_of, ending_of, line_text, lines_in, IsFull, StartsText, leaf-blocks-full, leaf-blocks-lines, setext-body, block_lines, AreSingle, IsPlain, single-block-marks, single-both, single-data, single-end, single-fenced, single-last, single-leaf, single-sequence, single-span, single-underline, line-on, IsWhole, body-and-last, part-behind, text-and-ending, three-parts, whole-lines, block_seats, last_ending, Line, LeafBlock, blank_line, break_line, atx_heading, paragraph, setext_heading, indented_code, fenced_code, html_block, leaf_blocks, Mark, alone, block_around, block_span, body, chunk_span, code_fenced_around, fence_around, fenced_marks, heading_around, last_end, leaf_block_marks, leaf_blocks_marks, line_end, string_chunk, text_chunk, text_marks, underline_marks, Fence, heading_text, indent, run, unindented, block_texts, read_marks}
+use Rattle.mdconstructs_documents.proofs.Prelude.{◌≡◌, ℕ, ◌+◌, ◌-◌, List, [], ◌∷◌, ◌++◌, Bool, true, false, not, inl, inr, Option, None, Some, length, take, drop, refl, sym, ap, ◌∙◌, subst, arith, AllByRecursion, flat_map, prefix_len, flat_map-append, append-nil, Constructs, Content, Event, Seat, lets_through, every-back, every-front, lines-are-all, HaveNoLinks, is_white, all_of, ending_of, line_text, lines_in, IsFull, StartsText, leaf-blocks-full, leaf-blocks-lines, setext-body, block_lines, AreSingle, IsPlain, single-block-marks, single-both, single-data, single-end, single-fenced, single-last, single-leaf, single-sequence, single-span, single-underline, line-on, IsWhole, body-and-last, part-behind, text-and-ending, three-parts, whole-behind, whole-lines, whole-part, whole-text, block_seats, last_ending, Line, LeafBlock, blank_line, break_line, atx_heading, paragraph, setext_heading, indented_code, fenced_code, html_block, leaf_blocks, Mark, alone, block_around, block_span, body, chunk_span, code_fenced_around, fence_around, fenced_marks, heading_around, last_end, leaf_block_marks, leaf_blocks_marks, line_end, string_chunk, text_chunk, text_marks, underline_marks, Fence, heading_text, indent, run, unindented, block_texts, read_marks}
 use Rattle.markdown_base.specs.declared.event.Content.TheVariants as content
 use Rattle.markdown_base.specs.declared.event.Name.{Name}
 use Rattle.markdown_base.specs.declared.event.Name.TheVariants as name
@@ -31,6 +31,12 @@ full-chunks [] h = tt
 full-chunks (line ∷ []) h = (full-text line h.0, tt)
 full-chunks (line ∷ next ∷ lines) h = (full-line line h.0, full-chunks (next ∷ lines) h.1)
 
+-- and each is in one line
+whole-chunks : (lines : List Line) → AllByRecursion IsWhole lines → AllByRecursion IsWhole (chunks_of lines)
+whole-chunks [] h = tt
+whole-chunks (line ∷ []) h = (whole-text line, tt)
+whole-chunks (line ∷ next ∷ lines) h = (h.0, whole-chunks (next ∷ lines) h.1)
+
 module _ (bytes : List ℕ) where
   text-chain : (p : Bool) (lines : List Line) → text_marks bytes p lines ≡ chain_marks content.Text bytes p (chunks_of lines)
   text-chain p [] = refl
@@ -51,18 +57,18 @@ module _ (wanted : Option Content) (bytes : List ℕ) (reads : Option Content �
   over {f} {d} b e h = subst (Are f d) e h
 
   -- virtual bytes that are a chunk of their own
-  segments-chunk : (of : Content) → lets_through wanted of ≡ true → IsTextual of → (seats : List Seat) → Are (chunk_span bytes (alone of) name.Data seats []) (read_marks (reads (Some of)) bytes seats) seats
-  segments-chunk of lets textual [] = segments-chain wanted bytes reads of lets textual [] tt
-  segments-chunk of lets textual (s ∷ ss) =
+  segments-chunk : (of : Content) → lets_through wanted of ≡ true → IsTextual of → (seats : List Seat) → IsWhole seats → Are (chunk_span bytes (alone of) name.Data seats []) (read_marks (reads (Some of)) bytes seats) seats
+  segments-chunk of lets textual [] w = segments-chain wanted bytes reads of lets textual [] tt tt
+  segments-chunk of lets textual (s ∷ ss) w =
       let t = s ∷ ss in
       let same : in_line (t ∷ []) ≡ t = append-nil t in
-      over t same (subst (λ d. Are (chunk_span bytes (alone of) name.Data t []) d (in_line (t ∷ []))) (ap (read_marks (reads (Some of)) bytes) same) (segments-chain wanted bytes reads of lets textual (t ∷ []) (tt, tt)))
+      over t same (subst (λ d. Are (chunk_span bytes (alone of) name.Data t []) d (in_line (t ∷ []))) (ap (read_marks (reads (Some of)) bytes) same) (segments-chain wanted bytes reads of lets textual (t ∷ []) (tt, tt) (w, tt)))
 
   -- the lines of a text
-  segments-lines : lets_through wanted content.Text ≡ true → (lines : List Line) → AllByRecursion StartsText lines
+  segments-lines : lets_through wanted content.Text ≡ true → (lines : List Line) → AllByRecursion StartsText lines → AllByRecursion IsWhole lines
       → Are (text_marks bytes false lines) (read_marks (reads (Some content.Text)) bytes (body lines)) (body lines)
-  segments-lines lets lines h =
-      let are = segments-chain wanted bytes reads content.Text lets (inl refl) (chunks_of lines) (full-chunks lines h) in
+  segments-lines lets lines h w =
+      let are = segments-chain wanted bytes reads content.Text lets (inl refl) (chunks_of lines) (full-chunks lines h) (whole-chunks lines w) in
       over (body lines) (chunks-body lines)
       (subst (λ d. Are (text_marks bytes false lines) d (in_line (chunks_of lines))) (ap (read_marks (reads (Some content.Text)) bytes) (chunks-body lines))
       (subst (λ f. Are f (read_marks (reads (Some content.Text)) bytes (in_line (chunks_of lines))) (in_line (chunks_of lines))) (sym (text-chain bytes false lines)) are))
@@ -80,11 +86,11 @@ module _ (wanted : Option Content) (bytes : List ℕ) (reads : Option Content �
   segments-block n true lines whole h = segments-around wanted bytes reads n (all_of lines) h
 
   -- two ways to read texts, lines of text, and strings
-  module _ (text text2 : List Seat → List Mark) (texts : (seats : List Seat) → Are (text seats) (text2 seats) seats) (rows rows2 : List Line → List Mark)
-      (lines_of_text : (lines : List Line) → AllByRecursion StartsText lines → Are (rows lines) (rows2 lines) (body lines)) (string string2 : List Seat → List Mark)
-      (strings : (seats : List Seat) → Are (string seats) (string2 seats) seats) where
-    segments-heading : (seats : List Seat) → Are (heading_around bytes text seats) (heading_around bytes text2 seats) seats
-    segments-heading seats =
+  module _ (text text2 : List Seat → List Mark) (texts : (seats : List Seat) → IsWhole seats → Are (text seats) (text2 seats) seats) (rows rows2 : List Line → List Mark)
+      (lines_of_text : (lines : List Line) → AllByRecursion StartsText lines → AllByRecursion IsWhole lines → Are (rows lines) (rows2 lines) (body lines)) (string string2 : List Seat → List Mark)
+      (strings : (seats : List Seat) → IsWhole seats → Are (string seats) (string2 seats) seats) where
+    segments-heading : (seats : List Seat) → IsWhole seats → Are (heading_around bytes text seats) (heading_around bytes text2 seats) seats
+    segments-heading seats w =
         let t = bytes_of seats in
         let signs = indent t + run 35 (unindented t) in
         let start = signs + indent (drop signs t) in
@@ -92,7 +98,7 @@ module _ (wanted : Option Content) (bytes : List ℕ) (reads : Option Content �
         let part = take (end - start) (drop start seats) in
         over seats (three-parts start end seats (omega arith))
         (segments-both wanted bytes reads (segments-single _ (take start seats) (single-sequence Other bytes name.HeadingAtxSequence (run 35 (unindented t)) (take start seats)))
-        (segments-both wanted bytes reads (segments-around wanted bytes reads name.HeadingAtxText part (texts part))
+        (segments-both wanted bytes reads (segments-around wanted bytes reads name.HeadingAtxText part (texts part (whole-part (end - start) start seats w)))
         (segments-single _ (drop end seats) (single-sequence Other bytes name.HeadingAtxSequence (run 35 (unindented (drop end t))) (drop end seats)))))
 
     segments-setext : (rank : ℕ) (lines : List Line) (below : Line) → AllByRecursion StartsText lines → AllByRecursion IsWhole (lines ++ below ∷ [])
@@ -103,11 +109,11 @@ module _ (wanted : Option Content) (bytes : List ℕ) (reads : Option Content �
         let under = single-span Other bytes name.HeadingSetextUnderline t _ (single-underline Other bytes t) in
         segments-block name.HeadingSetext false (lines ++ below ∷ []) whole
         (over (body (lines ++ below ∷ [])) is
-        (segments-both wanted bytes reads (segments-around wanted bytes reads name.HeadingSetextText (body lines) (lines_of_text lines full))
+        (segments-both wanted bytes reads (segments-around wanted bytes reads name.HeadingSetextText (body lines) (lines_of_text lines full (every-front IsWhole lines (below ∷ []) whole)))
         (segments-both wanted bytes reads (segments-last lines) (segments-single (underline_marks bytes t) t under))))
 
-    segments-fence : (size : ℕ) (seats : List Seat) → Are (fence_around bytes string size seats) (fence_around bytes string2 size seats) seats
-    segments-fence size seats =
+    segments-fence : (size : ℕ) (seats : List Seat) → IsWhole seats → Are (fence_around bytes string size seats) (fence_around bytes string2 size seats) seats
+    segments-fence size seats w =
         let t = bytes_of seats in
         let signs = indent t + size in
         let start = signs + indent (drop signs t) in
@@ -120,13 +126,13 @@ module _ (wanted : Option Content) (bytes : List ℕ) (reads : Option Content �
         segments-around wanted bytes reads name.CodeFencedFence seats
         (over seats all
         (segments-both wanted bytes reads (segments-single _ (take start seats) (single-sequence Other bytes name.CodeFencedFenceSequence size (take start seats)))
-        (segments-both wanted bytes reads (segments-around wanted bytes reads name.CodeFencedFenceInfo info (strings info))
-        (segments-both wanted bytes reads (segments-single _ gap (single-leaf Other bytes name.SpaceOrTab gap)) (segments-around wanted bytes reads name.CodeFencedFenceMeta meta (strings meta))))))
+        (segments-both wanted bytes reads (segments-around wanted bytes reads name.CodeFencedFenceInfo info (strings info (whole-part (word - start) start seats w)))
+        (segments-both wanted bytes reads (segments-single _ gap (single-leaf Other bytes name.SpaceOrTab gap)) (segments-around wanted bytes reads name.CodeFencedFenceMeta meta (strings meta (whole-behind rest seats w)))))))
 
     -- an opening fence, and marks that are kept
     fence-on : (f : Fence) (line : Line) (marks : List Mark) (behind whole : List Seat) → AreSingle Other marks → line_text line ++ behind ≡ whole
         → Are (fence_around bytes string f.size (line_text line) ++ marks) (fence_around bytes string2 f.size (line_text line) ++ marks) whole
-    fence-on f line marks behind whole h e = over whole e (segments-both wanted bytes reads (segments-fence f.size (line_text line)) (segments-single marks behind h))
+    fence-on f line marks behind whole h e = over whole e (segments-both wanted bytes reads (segments-fence f.size (line_text line) (whole-text line)) (segments-single marks behind h))
 
     segments-code-fenced : (f : Fence) (is_closed : Bool) (lines : List Line) → AllByRecursion IsWhole lines
         → Are (code_fenced_around bytes string f is_closed lines) (code_fenced_around bytes string2 f is_closed lines) (block_seats (not is_closed) lines)
@@ -146,8 +152,8 @@ module _ (wanted : Option Content) (bytes : List ℕ) (reads : Option Content �
     segments-of : (block : LeafBlock) → IsFull block → AllByRecursion IsWhole (block_lines block) → Are (block_around bytes text rows string block) (block_around bytes text2 rows2 string2 block) (all_of (block_lines block))
     segments-of (blank_line line) full whole = segments-plain (blank_line line) tt
     segments-of (break_line line) full whole = segments-plain (break_line line) tt
-    segments-of (atx_heading line) full whole = segments-block name.HeadingAtx false (line ∷ []) whole (segments-heading (line_text line))
-    segments-of (paragraph lines) full whole = segments-block name.Paragraph false lines whole (lines_of_text lines full)
+    segments-of (atx_heading line) full whole = segments-block name.HeadingAtx false (line ∷ []) whole (segments-heading (line_text line) (whole-text line))
+    segments-of (paragraph lines) full whole = segments-block name.Paragraph false lines whole (lines_of_text lines full whole)
     segments-of (setext_heading rank lines below) full whole = segments-setext rank lines below full.0 whole
     segments-of (indented_code lines) full whole = segments-plain (indented_code lines) tt
     segments-of (fenced_code f is_closed lines) full whole = segments-block name.CodeFenced (not is_closed) lines whole (segments-code-fenced f is_closed lines whole)
@@ -190,7 +196,7 @@ module _ (bytes : List ℕ) (texts strings : List Seat → List Event) where
       let wanted : Option Content = Some content.Text in
       let reads : Option Content → List Seat → List Event = λ o. texts in
       segments-all wanted bytes reads (text_chunk bytes) (read_marks texts bytes) (segments-chunk wanted bytes reads content.Text refl (inl refl)) (text_marks bytes false) (λ lines. read_marks texts bytes (body lines)) (segments-lines wanted bytes reads refl)
-      (string_chunk bytes) (string_chunk bytes) (λ seats. segments-single wanted bytes reads (string_chunk bytes seats) seats (single-data (IsOther wanted) bytes content.String refl name.Data seats)) on seats
+      (string_chunk bytes) (string_chunk bytes) (λ seats w. segments-single wanted bytes reads (string_chunk bytes seats) seats (single-data (IsOther wanted) bytes content.String refl name.Data seats)) on seats
 
   -- then strings, where the events of texts stay
   pub string-segments : ((seats : List Seat) → HaveNoLinks (texts seats)) → (on : Constructs) (seats : List Seat)
@@ -200,7 +206,7 @@ module _ (bytes : List ℕ) (texts strings : List Seat → List Event) where
       let reads : Option Content → List Seat → List Event = λ o. strings in
       let read = read_marks texts bytes in
       let stays : (l : List Seat) → AreSegments wanted bytes reads (read l) (read l) l = λ l. segments-kept wanted bytes reads (read l) l (kept-events wanted (texts l) (unlinked l)) in
-      segments-all wanted bytes reads read read stays (λ lines. read (body lines)) (λ lines. read (body lines)) (λ lines h. stays (body lines)) (string_chunk bytes) (read_marks strings bytes)
+      segments-all wanted bytes reads read read (λ l w. stays l) (λ lines. read (body lines)) (λ lines. read (body lines)) (λ lines h w. stays (body lines)) (string_chunk bytes) (read_marks strings bytes)
       (segments-chunk wanted bytes reads content.String refl (inr refl)) on seats
 
   -- chains of texts and of strings at once

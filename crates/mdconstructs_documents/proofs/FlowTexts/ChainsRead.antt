@@ -1,5 +1,5 @@
--- A list whose marks are cut into segments over a document: with the texts of its chains it has the texts of its segments.
-use Rattle.mdconstructs_documents.proofs.Prelude.{◌≡◌, ℕ, ◌+◌, ◌<◌, ◌≤◌, List, [], ◌∷◌, ◌++◌, false, Option, Some, None, append_assoc, length, map, refl, sym, ap, ◌∙◌, subst, arith, option_map, AllByRecursion, flat_map, every-append, relinked, with_ends, Content, Event, Link, Seat, virtual, untagged, chain_of, content_at, fitting_starts, chain_changes, child_changes, first_chunk, part_changes, with_children, divided_over, parts, text_of_chain, place_at, woven-pass, AreApart, Change, Tagged, placed, placed_end, placed_in, woven, HaveNoLinks, Given, chain-seats, chain_text, first-linked, mark_at, Mark, linked_from}
+use Rattle.mdconstructs_documents.proofs.Prelude.{◌≡◌, ℕ, ◌+◌, ◌<◌, ◌≤◌, List, [], ◌∷◌, ◌++◌, false, Option, Some, None, length, map, refl, sym, ap, ◌∙◌, subst, arith, option_map, AllByRecursion, flat_map, every-append, relinked, with_ends, Content, Event, Link, Seat, untagged, chain_of, content_at, fitting_starts, chain_changes, child_changes, first_chunk, part_changes, with_children, divided_over, parts, text_of_chain, place_at, woven-pass, AreApart, Change, Tagged, placed, placed_end, placed_in, woven, HaveNoLinks, Given, chain-seats, chain_text, first-linked, mark_at, Mark, linked_from, Point, end_after, AcrossGap, Course, course-on, IsWhole}
+-- A list whose marks are cut into segments over a text: with the texts of its chains it has the texts of its segments.
 use Rattle.mdconstructs_documents.proofs.FlowTexts.Chained.{two_for, indices, IsAt, starts_in, kept-at}
 use Rattle.mdconstructs_documents.proofs.FlowTexts.Changes.{after-texts, changes-apart, changes_of, kept-room, marks_of, starts-are, starts_of, texts_of}
 use Rattle.mdconstructs_documents.proofs.FlowTexts.Chunks.{chain-content, chain-is, chain-next, chain-room, chain-seats-are}
@@ -48,48 +48,48 @@ module _ (wanted : Option Content) (g : Given) (reads : Option Content → List 
     abbrev changes_at : List ℕ → List Event → List Change
     changes_at ks child = part_changes (first_chunk ks) 0 ks (parts (map (λ k. place_at events (k + 1)) ks) child)
 
-    one-chain : (of : Content) (i : ℕ) (c : List Seat) (cs : List (List Seat)) (rest : List Mark) → AllByRecursion HasByte (c ∷ cs) → IsAt events i (chain_marks of g.bytes false (c ∷ cs) ++ rest) → i ≤ length events
-        → (pre more : List Seat) → virtual g.tab g.bytes ≡ pre ++ (in_line (c ∷ cs) ++ more)
+    one-chain : (of : Content) (i : ℕ) (c : List Seat) (cs : List (List Seat)) (rest : List Mark) → AllByRecursion HasByte (c ∷ cs) → AllByRecursion IsWhole (c ∷ cs) → IsAt events i (chain_marks of g.bytes false (c ∷ cs) ++ rest) → i ≤ length events
+        → (o : Point) (more : List Seat) → Course AcrossGap g.tab g.bytes o (in_line (c ∷ cs) ++ more)
         → changes_at (chain_of events i) (chain_read events i) ≡ changes_at (indices i (c ∷ cs)) (reads (Some of) (in_line (c ∷ cs)))
-    one-chain of i c cs rest h at l pre more whole =
+    one-chain of i c cs rest h w at l o more course =
         let room = chain-room of g events i false (c ∷ cs) rest h at l in
         let less = few (c ∷ cs) in
         let are : chain_of events i ≡ indices i (c ∷ cs) = chain-is of g events (length events) i false c cs rest (omega (arith, room, less)) h at in
         let seats : (text_of_chain g events (chain_of events i)).seats ≡ in_line (c ∷ cs) =
-        ap (λ (ks : List ℕ). (text_of_chain g events ks).seats) are ∙ chain-seats g events i (indices (i + 2) cs) ∙ chain-seats-are of g events some i false (c ∷ cs) rest h at pre more whole in
+        ap (λ (ks : List ℕ). (text_of_chain g events ks).seats) are ∙ chain-seats g events i (indices (i + 2) cs) ∙ chain-seats-are of g events some i false (c ∷ cs) rest h w at o more course in
         let content : content_at events i ≡ Some of = chain-content of g events i false c cs rest h at in
         λ j. changes_at (are j) (reads (content j) (seats j))
 
     changes-are : (i : ℕ) (segments : List Segment) → AllByRecursion (IsGood wanted) segments → IsAt events i (marks_of wanted g reads events segments) → i ≤ length events
-        → (pre : List Seat) → virtual g.tab g.bytes ≡ pre ++ flat_map seats_of segments
+        → (o : Point) → Course AcrossGap g.tab g.bytes o (flat_map seats_of segments)
         → flat_map chain_changes (divided_over events (starts_of wanted g reads events i segments) (map (chain_read events) (starts_of wanted g reads events i segments))) ≡ changes_of wanted g reads events i segments
-    changes-are i [] good at l pre whole = refl
-    changes-are i (kept marks seats ∷ segments) good at l pre whole =
-        changes-are (i + length marks) segments good.1 (kept-at events i marks (marks_of wanted g reads events segments) at) (kept-room events i marks (marks_of wanted g reads events segments) at l) (pre ++ seats)
-        (whole ∙ sym (append_assoc pre seats (flat_map seats_of segments)))
-    changes-are i (chain of [] ∷ segments) good at l pre whole =
+    changes-are i [] good at l o course = refl
+    changes-are i (kept marks seats ∷ segments) good at l o course =
+        changes-are (i + length marks) segments good.1 (kept-at events i marks (marks_of wanted g reads events segments) at) (kept-room events i marks (marks_of wanted g reads events segments) at l) (end_after o seats)
+        (course-on AcrossGap g.tab g.bytes o seats (flat_map seats_of segments) course)
+    changes-are i (chain of [] ∷ segments) good at l o course =
         let same : i ≡ i + 0 = omega arith in
-        changes-are i segments good.1 at l pre whole ∙ ap (λ k. changes_of wanted g reads events k segments) same
-    changes-are i (chain of (c ∷ cs) ∷ segments) good at l pre whole =
+        changes-are i segments good.1 at l o course ∙ ap (λ k. changes_of wanted g reads events k segments) same
+    changes-are i (chain of (c ∷ cs) ∷ segments) good at l o course =
         let rest = marks_of wanted g reads events segments in
         let more = flat_map seats_of segments in
         let t = in_line (c ∷ cs) in
         let next = chain-next of g events i false (c ∷ cs) rest good.0.2 at in
         let room = chain-room of g events i false (c ∷ cs) rest good.0.2 at l in
-        let others = changes-are (i + two_for (c ∷ cs)) segments good.1 next room (pre ++ t) (whole ∙ sym (append_assoc pre t more)) in
-        λ j. one-chain of i c cs rest good.0.2 at l pre more whole j ++ others j
+        let others = changes-are (i + two_for (c ∷ cs)) segments good.1 next room (end_after o t) (course-on AcrossGap g.tab g.bytes o t more course) in
+        λ j. one-chain of i c cs rest good.0.2 good.0.3 at l o more course j ++ others j
 
   -- the list with the texts of its chains
-  pub texts-read : 0 < g.tab → (segments : List Segment) → AllByRecursion (IsGood wanted) segments → virtual g.tab g.bytes ≡ flat_map seats_of segments
+  pub texts-read : 0 < g.tab → (segments : List Segment) → AllByRecursion (IsGood wanted) segments → (o : Point) → Course AcrossGap g.tab g.bytes o (flat_map seats_of segments)
       → let events = linked_from 0 (marks_of wanted g reads [] segments) in with_children wanted events (map (chain_read events) (fitting_starts wanted events)) ≡ linked_from 0 (texts_of wanted g reads [] segments)
-  texts-read some segments good whole =
+  texts-read some segments good o course =
       let marks = marks_of wanted g reads [] segments in
       let events : List Event = linked_from 0 marks in
       let n = length events in
       let starts : fitting_starts wanted events ≡ starts_of wanted g reads events 0 segments = ap (starts_in wanted events 0) (linked-length 0 marks) ∙ starts-are wanted g reads events 0 segments good refl in
       let ws : List Change = changes_of wanted g reads events 0 segments in
       let are : child_changes wanted events (map (chain_read events) (fitting_starts wanted events)) ≡ ws =
-      ap (λ (cs : List ℕ). flat_map chain_changes (divided_over events cs (map (chain_read events) cs))) starts ∙ changes-are some events 0 segments good refl (omega arith) [] whole in
+      ap (λ (cs : List ℕ). flat_map chain_changes (divided_over events cs (map (chain_read events) cs))) starts ∙ changes-are some events 0 segments good refl (omega arith) o course in
       let z : n ≡ 0 + n = omega arith in
       let apart : AreApart 0 ws (0 + n) = subst (AreApart 0 ws) z (changes-apart wanted g reads events 0 segments good refl (omega arith)) in
       let ts = woven ws 0 events in

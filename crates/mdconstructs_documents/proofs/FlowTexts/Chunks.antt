@@ -1,5 +1,5 @@
 -- The chunks of one chain, whose marks stand in a list from an index on: where they are, and the virtual bytes that they are over.
-use Rattle.mdconstructs_documents.proofs.Prelude.{◌≡◌, ℕ, zero, suc, ◌+◌, ◌<◌, ◌≤◌, List, [], ◌∷◌, ◌++◌, Bool, true, false, Option, Some, None, append_assoc, length, refl, sym, ap, ◌∙◌, subst, arith, slice_get_within, filter, slice_get, AllByRecursion, flat_map, Content, Event, Enter, Exit, Seat, end_after, virtual, begins, chain_from, content_at, lets_through, place_at, IsChain, Given, event, chunk_seats, origin, chain-from, place-shown, range-of, place-at-event, mark_at, Mark}
+use Rattle.mdconstructs_documents.proofs.Prelude.{◌≡◌, ℕ, zero, suc, ◌+◌, ◌<◌, ◌≤◌, List, [], ◌∷◌, ◌++◌, Bool, true, false, Option, Some, None, append_assoc, length, refl, ap, ◌∙◌, subst, arith, slice_get_within, filter, slice_get, AllByRecursion, flat_map, Content, Event, Enter, Exit, Point, Seat, end_after, virtual, begins, chain_from, content_at, lets_through, place_at, IsChain, Given, AcrossGap, Course, course-on, line-splits, IsWhole, event, chunk_seats, origin, chain-from, place-shown, range-of, place-at-event, mark_at, Mark}
 use Rattle.markdown_base.specs.declared.event.Name.TheVariants as name
 use Rattle.markdown_base.specs.Places.{in_range}
 use Rattle.mdconstructs_documents.proofs.FlowTexts.Chained.{two_for, indices, IsAt, first-at, next-at, starts_in}
@@ -114,13 +114,15 @@ module _ (of : Content) (g : Given) (events : List Event) where
         let to : place_at events (i + 1) ≡ end_after q t = place-at-event events (i + 1) (exit_of s ss) c.exit ∙ place-shown g.tab g.bytes q t more run in
         (λ j. filter (in_range (from j) (to j)) (virtual g.tab g.bytes)) ∙ range-of g.tab g.bytes some pre t more whole
 
-    pub chain-seats-are : (i : ℕ) (p : Bool) (cs : List (List Seat)) (rest : List Mark) → AllByRecursion HasByte cs → IsAt events i (chain_marks of g.bytes p cs ++ rest)
-        → (pre more : List Seat) → virtual g.tab g.bytes ≡ pre ++ (in_line cs ++ more) → flat_map (chunk_seats g events) (indices i cs) ≡ in_line cs
-    chain-seats-are i p [] rest h at pre more whole = refl
-    chain-seats-are i p ([] ∷ cs) rest h at pre more whole = absurd h.0
-    chain-seats-are i p ((s ∷ ss) ∷ cs) rest h at pre more whole =
+    -- those of each are next to each other in the document, as they are of one line
+    pub chain-seats-are : (i : ℕ) (p : Bool) (cs : List (List Seat)) (rest : List Mark) → AllByRecursion HasByte cs → AllByRecursion IsWhole cs → IsAt events i (chain_marks of g.bytes p cs ++ rest)
+        → (o : Point) (more : List Seat) → Course AcrossGap g.tab g.bytes o (in_line cs ++ more) → flat_map (chunk_seats g events) (indices i cs) ≡ in_line cs
+    chain-seats-are i p [] rest h w at o more course = refl
+    chain-seats-are i p ([] ∷ cs) rest h w at o more course = absurd h.0
+    chain-seats-are i p ((s ∷ ss) ∷ cs) rest h w at o more course =
         let t = s ∷ ss in
         let c = chunk-at i p s ss cs rest at in
-        let here : virtual g.tab g.bytes ≡ pre ++ (t ++ (in_line cs ++ more)) = whole ∙ ap (λ l. pre ++ l) (append_assoc t (in_line cs) more) in
-        let then = here ∙ sym (append_assoc pre t (in_line cs ++ more)) in
-        (λ j. one-chunk i p s ss cs rest c pre (in_line cs ++ more) here j ++ chain-seats-are (i + 2) true cs rest h.1 c.next (pre ++ t) more then j)
+        let here : Course AcrossGap g.tab g.bytes o (t ++ (in_line cs ++ more)) = subst (Course AcrossGap g.tab g.bytes o) (append_assoc t (in_line cs) more) course in
+        let then = course-on AcrossGap g.tab g.bytes o t (in_line cs ++ more) here in
+        let (after, splits) = line-splits g.tab g.bytes some o s ss (in_line cs ++ more) w.0 here in
+        (λ j. one-chunk i p s ss cs rest c here.1.seat.front after splits j ++ chain-seats-are (i + 2) true cs rest h.1 w.1 c.next (end_after s.end ss) more then j)

@@ -1,5 +1,5 @@
 -- The events of leaf blocks with their texts are well formed: balanced, void spans empty, at places, and in order of these.
-use Rattle.mdconstructs_documents.proofs.Prelude.{◌≡◌, ℕ, List, [], ◌∷◌, ◌++◌, true, false, Some, append_assoc, refl, sym, ap, ◌∙◌, subst, AllByRecursion, every-append, end-after-append, stands-self, Constructs, Event, Kind, Enter, Exit, Point, is_void, shown, stands_before, Seat, end_after, names_after_all-append, names_after_all, event, leaf, span, Atom, IsCut, all_at, atom_events, atom_seats, events_of, seats_of, string-built, string_seat_events, AreTight, Formed, Forms, InOrder, Place, Track, name-closed, order-both, tight-both, track-on, track-place, track-upto, read_marks}
+use Rattle.mdconstructs_documents.proofs.Prelude.{◌≡◌, ℕ, List, [], ◌∷◌, ◌++◌, true, false, Some, append_assoc, refl, sym, ap, ◌∙◌, subst, AllByRecursion, every-append, end-after-append, stands-self, Constructs, Event, Kind, Enter, Exit, Point, is_void, shown, stands_before, Seat, end_after, names_after_all-append, names_after_all, event, leaf, span, Atom, IsCut, all_at, atom_events, atom_seats, events_of, seats_of, string-built, string_seat_events, AcrossGap, Course, across-none, course-here, course-on, course-place, course-upto, AreTight, Formed, FormsOver, InOrder, Place, name-closed, order-both, order-from, tight-both, read_marks}
 use Rattle.markdown_base.specs.declared.event.Name.{Name}
 use Rattle.mdconstructs_text.proofs.Texts.Built.{IsKeptBySpans}
 use Rattle.mdconstructs_documents.proofs.FlowTexts.Accounts.{bare-marks}
@@ -72,36 +72,43 @@ module _ (t : ℕ) (bytes : List ℕ) where
       let last : stands_before q (shown bytes s) ≡ false = subst (λ x. stands_before q x ≡ false) (sym to) (stands-self q) in
       record { order = (first, (second, last)); places = (subst (Place t bytes) (sym from) here, (subst (Place t bytes) (sym to) there, tt)) }
 
-  ordered-atom : (p : Point) (a : Atom) (rest : List Seat) → Track t bytes p (atom_seats a ++ rest) → Ordered p (atom_events bytes a) (end_after p (atom_seats a))
-  ordered-atom p a rest track =
+  -- events between two places are between an earlier place and the second, too
+  ordered-from : (o p : Point) (es : List Event) (q : Point) → stands_before p o ≡ false → Ordered p es q → Ordered o es q
+  ordered-from o p es q later h = record { order = order-from o p es q later h.order; places = h.places }
+
+  ordered-atom : (o : Point) (a : Atom) (rest : List Seat) → Course AcrossGap t bytes o (atom_seats a ++ rest) → Ordered o (atom_events bytes a) (end_after o (atom_seats a))
+  ordered-atom o a rest course =
+      let p = shown bytes a.first.point in
       let q = end_after a.first.end a.others in
-      let there = track-place t bytes q rest (track-on t bytes p (atom_seats a) rest track) in
-      let upto = track-upto t bytes p (atom_seats a) rest track in
+      let here = course.1.seat.here in
+      let there = course-place AcrossGap t bytes q rest (course-on AcrossGap t bytes o (atom_seats a) rest course) in
+      let upto = course-upto AcrossGap t bytes p (atom_seats a) rest (course-here AcrossGap t bytes across-none o a.first (a.others ++ rest) course) in
       let exits = all_at bytes Exit q a.exits in
       let pair = event bytes Enter a.name a.first.point ∷ event bytes Exit a.name q ∷ [] in
-      ordered-both p (all_at bytes Enter a.first.point a.enters) p (pair ++ exits) q (ordered-at Enter a.first.point p a.enters track.1 track.0)
-      (ordered-both p pair q exits q (ordered-pair p q a.first.point q a.name track.1 there.is_shown upto track.0 there) (ordered-at Exit q q a.exits there.is_shown there))
+      ordered-from o p (atom_events bytes a) q course.1.later
+      (ordered-both p (all_at bytes Enter a.first.point a.enters) p (pair ++ exits) q (ordered-at Enter a.first.point p a.enters refl here)
+      (ordered-both p pair q exits q (ordered-pair p q a.first.point q a.name refl there.is_shown upto here there) (ordered-at Exit q q a.exits there.is_shown there)))
 
-  pub ordered-atoms : (p : Point) (atoms : List Atom) (rest : List Seat) → Track t bytes p (seats_of atoms ++ rest) → Ordered p (events_of bytes atoms) (end_after p (seats_of atoms))
-  ordered-atoms p [] rest track = record { order = stands-self p; places = tt }
-  ordered-atoms p (a ∷ atoms) rest track =
+  pub ordered-atoms : (p : Point) (atoms : List Atom) (rest : List Seat) → Course AcrossGap t bytes p (seats_of atoms ++ rest) → Ordered p (events_of bytes atoms) (end_after p (seats_of atoms))
+  ordered-atoms p [] rest course = record { order = stands-self p; places = tt }
+  ordered-atoms p (a ∷ atoms) rest course =
       let seats = seats_of atoms in
-      let whole = subst (Track t bytes p) (append_assoc (atom_seats a) seats rest) track in
+      let whole = subst (Course AcrossGap t bytes p) (append_assoc (atom_seats a) seats rest) course in
       let m = end_after p (atom_seats a) in
-      let more = ordered-atoms m atoms rest (track-on t bytes p (atom_seats a) (seats ++ rest) whole) in
+      let more = ordered-atoms m atoms rest (course-on AcrossGap t bytes p (atom_seats a) (seats ++ rest) whole) in
       subst (Ordered p (events_of bytes (a ∷ atoms))) (sym (end-after-append p (atom_seats a) seats))
       (ordered-both p (atom_events bytes a) m (events_of bytes atoms) (end_after m seats) (ordered-atom p a (seats ++ rest) whole) more)
 
   -- ---- what texts and strings are read as: it is cut into innermost spans, and what spans keep holds of it
   pub read-forms : (reads : List Seat → List Event) → ((seats : List Seat) → IsCut bytes (reads seats) seats)
-      → ((P : List Event → Type 0) → IsKeptBySpans bytes P → (seats : List Seat) → P (reads seats)) → (seats : List Seat) → Forms t bytes (read_marks reads bytes seats) seats
-  read-forms reads cuts built seats p rest track =
+      → ((P : List Event → Type 0) → IsKeptBySpans bytes P → (seats : List Seat) → P (reads seats)) → (seats : List Seat) → FormsOver AcrossGap t bytes (read_marks reads bytes seats) seats
+  read-forms reads cuts built seats p rest course =
       let es = reads seats in
       let cut = cuts seats in
-      let ordered = ordered-atoms p cut.atoms rest (subst (λ l. Track t bytes p (l ++ rest)) cut.all track) in
+      let ordered = ordered-atoms p cut.atoms rest (subst (λ l. Course AcrossGap t bytes p (l ++ rest)) cut.all course) in
       let placed = subst (λ l. Ordered p l (end_after p seats)) (sym cut.are) (subst (λ l. Ordered p (events_of bytes cut.atoms) (end_after p l)) (sym cut.all) ordered) in
       subst (λ l. Formed t bytes p l (end_after p seats)) (sym (bare-marks es))
       (record { balanced = built LeaveNames (names-kept bytes) seats; tight = built AreTight (tight-kept bytes) seats; order = placed.order; places = placed.places })
 
-  pub string-forms : (on : Constructs) (seats : List Seat) → Forms t bytes (read_marks (string_seat_events on bytes) bytes seats) seats
+  pub string-forms : (on : Constructs) (seats : List Seat) → FormsOver AcrossGap t bytes (read_marks (string_seat_events on bytes) bytes seats) seats
   string-forms on = read-forms (string_seat_events on bytes) (string-cut on bytes) (λ P kept. string-built bytes P kept on)

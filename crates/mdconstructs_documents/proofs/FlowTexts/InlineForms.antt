@@ -1,5 +1,5 @@
 -- The events of leaf blocks with inline text are well formed: balanced, void spans empty, at places, and in order of these.
-use Rattle.mdconstructs_documents.proofs.Prelude.{ℕ, List, ◌++◌, sym, subst, AllByRecursion, flat_map, Constructs, ParseOptions, Event, Seat, end_after, point, virtual, names_after_balanced, every-back, every-front, IsWellFormed, IsDocument, empty_text, emphasis-can-be-made, lines_in, events_of, read-alone, read-balanced, read_events, string_seat_events, Formed, Forms, Track, forms-kept, whole-formed, IsKeptBySpans, leaf_blocks, Mark, AreFlowInlines, document, options_with, InlinesAreFormed, block_texts, inline_seat_events, read_marks}
+use Rattle.mdconstructs_documents.proofs.Prelude.{ℕ, List, ◌++◌, sym, subst, AllByRecursion, flat_map, Constructs, ParseOptions, Event, Seat, end_after, point, names_after_balanced, every-back, every-front, IsWellFormed, IsDocument, empty_text, emphasis-can-be-made, lines_in, events_of, read-alone, read-balanced, read_events, string_seat_events, shown, whole_text, whole-is-text, AcrossGap, Course, across-none, course-every, text-course, Formed, FormsOver, over-kept, text-formed, IsKeptBySpans, leaf_blocks, Mark, AreFlowInlines, document, options_with, InlinesAreFormed, block_texts, inline_seat_events, read_marks}
 use Rattle.mdconstructs_documents.proofs.FlowTexts.Accounts.{bare-marks}
 use Rattle.mdconstructs_documents.proofs.FlowTexts.Forms.{Ordered, ordered-atoms, string-forms}
 use Rattle.mdconstructs_documents.proofs.FlowTexts.InlineCuts.{inline-cut}
@@ -12,22 +12,22 @@ use Rattle.mdconstructs_documents.proofs.FlowTexts.Spans.{texts-keep}
 module _ (t : ℕ) (bytes : List ℕ) (on : Constructs) where
   -- what holds of marks over virtual bytes whose delimiters go byte by byte
   abbrev Formed_so : List Mark → List Seat → Type 0
-  Formed_so marks seats = AllByRecursion (Steps bytes) seats → Forms t bytes marks seats
+  Formed_so marks seats = AllByRecursion (Steps bytes) seats → FormsOver AcrossGap t bytes marks seats
 
   kept : IsKeptBySpans bytes Formed_so
   kept =
-      let k = forms-kept t bytes in
+      let k = over-kept AcrossGap across-none t bytes in
       record {
         none = λ h. k.none;
         both = λ {xs} {ys} {a} {b} f g h. k.both (f (every-front (Steps bytes) a b h)) (g (every-back (Steps bytes) a b h));
-        leaf = λ n s ss h. k.leaf n s ss;
-        datum = λ c s ss h. k.datum c s ss;
-        text = λ lines starts h. k.text lines starts;
+        leaf = λ n s ss w h. k.leaf n s ss w;
+        datum = λ c s ss w h. k.datum c s ss w;
+        text = λ lines starts w h. k.text lines starts w;
         around = λ n s ss inside other f h. k.around n s ss inside other (f h);
       }
 
   inline-forms : (seats : List Seat) → Formed_so (read_marks (inline_seat_events on bytes) bytes seats) seats
-  inline-forms seats steps p rest track =
+  inline-forms seats steps p rest course =
       let g = document (options_with on 4) bytes in
       let text = record (empty_text (point 1 1 0 0)) { seats = seats } in
       let es = read_events g text in
@@ -35,21 +35,22 @@ module _ (t : ℕ) (bytes : List ℕ) (on : Constructs) where
       let made = emphasis-can-be-made bytes es balanced (read-alone g text) in
       let cut = inline-cut bytes on seats in
       let q = end_after p seats in
-      let ordered = ordered-atoms t bytes p cut.atoms rest (subst (λ l. Track t bytes p (l ++ rest)) cut.all track) in
+      let ordered = ordered-atoms t bytes p cut.atoms rest (subst (λ l. Course AcrossGap t bytes p (l ++ rest)) cut.all course) in
       let placed = subst (λ l. Ordered t bytes p l q) (sym cut.are) (subst (λ l. Ordered t bytes p (events_of bytes cut.atoms) (end_after p l)) (sym cut.all) ordered) in
-      let whole = ordered-emphasis t bytes es balanced (all-steps t bytes on p seats rest track steps) p q placed in
+      let whole = ordered-emphasis t bytes es balanced (all-steps t bytes on p seats rest course steps) p q placed in
       subst (λ l. Formed t bytes p l q) (sym (bare-marks (inline_seat_events on bytes seats)))
       (record { balanced = λ st. names_after_balanced made.2 st; tight = inline-tight on bytes seats; order = whole.order; places = whole.places })
 
 pub inlines-formed : InlinesAreFormed
-inlines-formed g is =
+inlines-formed g text is =
     let on = g.options.constructs in
     let texts = inline_seat_events on g.bytes in
     let strings = string_seat_events on g.bytes in
-    let seats = virtual g.tab g.bytes in
-    whole-formed g is (flat_map (block_texts texts strings g.bytes) (leaf_blocks on (lines_in seats)))
-    (texts-keep on texts strings g.bytes (Formed_so g.tab g.bytes on) (kept g.tab g.bytes on) (inline-forms g.tab g.bytes on) (λ l steps. string-forms g.tab g.bytes on l) seats (steps-virtual g.bytes g.tab))
+    let steps = course-every AcrossGap g.tab g.bytes (Steps g.bytes) (steps-virtual g.bytes g.tab) (shown g.bytes text.start) text.seats (text-course g text is) in
+    text-formed g text is (flat_map (block_texts texts strings g.bytes) (leaf_blocks on (lines_in text.seats)))
+    (texts-keep on texts strings g.bytes (Formed_so g.tab g.bytes on) (kept g.tab g.bytes on) (inline-forms g.tab g.bytes on) (λ l steps. string-forms g.tab g.bytes on l) text.seats steps)
 
 -- so what is read of a document is well formed
 pub inlines-well-formed : (options : ParseOptions) (bytes : List ℕ) → IsDocument (document options bytes) → (events : List Event) → AreFlowInlines options bytes events → IsWellFormed (document options bytes) events
-inlines-well-formed options bytes is events are = subst (IsWellFormed (document options bytes)) (sym are) (inlines-formed (document options bytes) is)
+inlines-well-formed options bytes is events are =
+    let g = document options bytes in subst (IsWellFormed g) (sym are) (inlines-formed g (whole_text g) (whole-is-text g is))

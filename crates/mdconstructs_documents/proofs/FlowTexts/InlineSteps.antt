@@ -1,5 +1,5 @@
 -- Delimiter runs of inline text go byte by byte: none goes over a tab or a line ending; and no other item has an attention sequence.
-use Rattle.mdconstructs_documents.proofs.Prelude.{◌≡◌, ℕ, zero, suc, ◌+◌, ◌-◌, ◌==◌, true, false, cond, List, [], ◌∷◌, ◌++◌, Option, Some, None, append_assoc, length, take, drop, refl, sym, ap, ◌∙◌, subst, arith, is_ascii_punctuation, ◌&&◌, nat_le, nat_lt, not, option_map, slice_get, AllByRecursion, between, flat_map, prefix_len, eqb-true, take-append-drop, and-right, every-append, Constructs, Event, Enter, Exit, AttentionSequence, Autolink, AutolinkEmail, AutolinkMarker, AutolinkProtocol, CharacterEscape, CharacterEscapeMarker, CharacterEscapeValue, CharacterReference, CharacterReferenceMarker, CharacterReferenceMarkerHexadecimal, CharacterReferenceMarkerNumeric, CharacterReferenceMarkerSemi, CharacterReferenceValue, CodeText, CodeTextData, CodeTextSequence, Data, HardBreakEscape, HardBreakTrailing, HtmlText, HtmlTextData, LineEnding, SpaceOrTab, Point, is_enter, same_name, shown, Seat, begins_with_lf, end_after, in_tab, point, tab_width, virtual, virtual_from, shown-other, every-back, every-front, drop-first, and-left, later, is_white, event, leaf, span, EachThere, OfOption, there-holds, when-there, autolink, autolink_at, autolink_to, uri, backticks, has_byte_at, is_backslash, is_backtick, is_greater_than, is_less_than, is_line_feed, is_space, before_backtick_string, code_span, code_span_at, pieces, Found, Grammar, escape, escape_at, item_length, Part, line_ending, plain_run, bytes_of, cut, part_events, item_events, reference-holds, decimal, hexadecimal, mark_events, marks, named, reference_at, email, email_at, email_with, is_at_sign, is_atext, is_domain, is_domain_byte, html-there, marked, tag_length, html_of, piece_at, piece_events, piece_length, break_escape_at, hard_break_escape, hard_break_trailing, trailing_break_at, is_white_left, white_space, white_space_at, items-built, begins_run, data_length, data_run, delimiter_run, inline_grammars, inline_item_at, inline_items, line_break, run_length, run_or_part, is_delimiter, Place, Track, track-on, track-place}
+use Rattle.mdconstructs_documents.proofs.Prelude.{◌≡◌, inl, ℕ, zero, suc, ◌+◌, ◌-◌, ◌==◌, true, false, cond, List, [], ◌∷◌, ◌++◌, Option, Some, None, append_assoc, length, take, drop, refl, sym, ap, ◌∙◌, subst, arith, nat_tests, append-nil, is_ascii_punctuation, ◌&&◌, nat_le, nat_lt, not, option_map, slice_get, AllByRecursion, between, flat_map, prefix_len, eqb-true, take-append-drop, and-right, every-append, Constructs, Event, Enter, Exit, AttentionSequence, Autolink, AutolinkEmail, AutolinkMarker, AutolinkProtocol, CharacterEscape, CharacterEscapeMarker, CharacterEscapeValue, CharacterReference, CharacterReferenceMarker, CharacterReferenceMarkerHexadecimal, CharacterReferenceMarkerNumeric, CharacterReferenceMarkerSemi, CharacterReferenceValue, CodeText, CodeTextData, CodeTextSequence, Data, HardBreakEscape, HardBreakTrailing, HtmlText, HtmlTextData, LineEnding, SpaceOrTab, Point, is_enter, same_name, shown, Seat, begins_with_lf, end_after, in_tab, point, tab_width, virtual, virtual_from, shown-other, every-back, every-front, drop-first, and-left, later, is_white, event, leaf, span, EachThere, OfOption, there-holds, when-there, autolink, autolink_at, autolink_to, uri, backticks, has_byte_at, is_backslash, is_backtick, is_greater_than, is_less_than, is_line_feed, is_space, before_backtick_string, code_span, code_span_at, pieces, Found, Grammar, escape, escape_at, item_length, Part, line_ending, plain_run, bytes_of, cut, part_events, item_events, reference-holds, decimal, hexadecimal, mark_events, marks, named, reference_at, email, email_at, email_with, is_at_sign, is_atext, is_domain, is_domain_byte, html-there, marked, tag_length, html_of, piece_at, piece_events, piece_length, break_escape_at, hard_break_escape, hard_break_trailing, trailing_break_at, is_white_left, white_space, white_space_at, items-built, begins_run, data_length, data_run, delimiter_run, inline_grammars, inline_item_at, inline_items, line_break, run_length, run_or_part, is_delimiter, AcrossGap, Course, IsWhole, Place, Track, course-on, line-track, track-on, track-place}
 use Rattle.markdown_base.specs.declared.event.Name.{Name}
 use Rattle.mdconstructs_tables.proofs.Looks.Left.{at-front}
 use Rattle.mdconstructs_text.proofs.Texts.Built.{IsKeptBySpans}
@@ -79,6 +79,14 @@ run-delimiters s ss h =
     let one : suc n ≡ 1 + n = omega arith in
     subst (λ k. AreDelimiters (take k (s ∷ ss))) one (h, taken-like s.byte ss h)
 
+-- no delimiter is a line ending
+no-line-feed : (b : ℕ) → is_delimiter b ≡ true → (b == 10) ≡ false
+no-line-feed b h = grind (arith, nat_tests)
+
+pub delimiters-whole : (l : List Seat) → AreDelimiters l → IsWhole l
+delimiters-whole [] h = tt
+delimiters-whole (s ∷ ss) h = inl (no-line-feed s.byte h.0, delimiters-whole ss h.1)
+
 module _ (t : ℕ) (bytes : List ℕ) where
   walk-one : (p : Point) (n : ℕ) → Place t bytes p → Walk t bytes (later 1 p) n → Walk t bytes p (suc n)
   walk-one p n here more zero l = subst (Place t bytes) (sym (later-none p)) here
@@ -91,8 +99,8 @@ module _ (t : ℕ) (bytes : List ℕ) where
       (sym (later-none p), λ k l. let none : 0 ≡ k = omega (arith, l) in subst (λ j. Place t bytes (later j p)) none (subst (Place t bytes) (sym (later-none p)) (track-place t bytes p rest track)))
   walk-track p (s ∷ ss) rest track steps are =
       let step = steps.0 are.0 in
-      let end : s.end ≡ later 1 p = step.0 ∙ ap (later 1) (sym step.1 ∙ track.1) in
-      let more = walk-track s.end ss rest track.3 steps.1 are.1 in
+      let end : s.end ≡ later 1 p = step.0 ∙ ap (later 1) (sym step.1 ∙ track.1.meets) in
+      let more = walk-track s.end ss rest track.2 steps.1 are.1 in
       let one : 1 + length ss ≡ length (s ∷ ss) = omega arith in (
         more.0 ∙ ap (later (length ss)) end ∙ later-later (length ss) 1 p ∙ ap (λ n. later n p) one,
         walk-one p (length ss) track.0 (subst (λ x. Walk t bytes x (length ss)) end more.1),
@@ -112,8 +120,16 @@ module _ (t : ℕ) (bytes : List ℕ) where
       let walk = walk-track p (s ∷ ss) rest track steps are in
       let end : shown bytes q ≡ later n p = there.is_shown ∙ walk.0 in
       let between = subst (λ (b : Point). let m = b.index - p.index in (later m p ≡ b) × Walk t bytes p m) (sym end) (steps-between p n walk.1) in
-      let both = subst (λ (a : Point). let m = (shown bytes q).index - a.index in (later m a ≡ shown bytes q) × Walk t bytes a m) (sym track.1) between in
+      let both = subst (λ (a : Point). let m = (shown bytes q).index - a.index in (later m a ≡ shown bytes q) × Walk t bytes a m) (sym track.1.meets) between in
       ((λ is. both), (tt, tt))
+
+  -- and so it is in any text, as no gap is in a run
+  runs-step : (p : Point) (l rest : List Seat) → Course AcrossGap t bytes p (l ++ rest) → AllByRecursion (Steps bytes) l → AreDelimiters l → RunsStep t bytes (leaf bytes AttentionSequence l)
+  runs-step p [] rest course steps are = tt
+  runs-step p (s ∷ ss) rest course steps are =
+      let l = s ∷ ss in
+      let o = shown bytes s.point in
+      run-steps o l [] (subst (Track t bytes o) (sym (append-nil l)) (line-track t bytes p s ss rest (delimiters-whole l are) course)) steps are
 
   -- ---- events without attention sequences
   abbrev IsOther : Event → Type 0
@@ -300,8 +316,8 @@ module _ (t : ℕ) (bytes : List ℕ) where
     free-option l None h = tt
     free-option l (Some found) h = free-item l found h
 
-    part-track : (p : Point) (m : ℕ) (l rest : List Seat) → Track t bytes p (l ++ rest) → Track t bytes p (take m l ++ (drop m l ++ rest))
-    part-track p m l rest track = subst (Track t bytes p) (append_assoc (take m l) (drop m l) rest) (subst (λ x. Track t bytes p (x ++ rest)) (sym (take-append-drop m l)) track)
+    part-course : (p : Point) (m : ℕ) (l rest : List Seat) → Course AcrossGap t bytes p (l ++ rest) → Course AcrossGap t bytes p (take m l ++ (drop m l ++ rest))
+    part-course p m l rest course = subst (Course AcrossGap t bytes p) (append_assoc (take m l) (drop m l) rest) (subst (λ x. Course AcrossGap t bytes p (x ++ rest)) (sym (take-append-drop m l)) course)
 
     steps-taken : (m : ℕ) (l : List Seat) → AllByRecursion (Steps bytes) l → AllByRecursion (Steps bytes) (take m l)
     steps-taken m l h = every-front (Steps bytes) (take m l) (drop m l) (subst (AllByRecursion (Steps bytes)) (sym (take-append-drop m l)) h)
@@ -309,14 +325,14 @@ module _ (t : ℕ) (bytes : List ℕ) where
     steps-left : (m : ℕ) (l : List Seat) → AllByRecursion (Steps bytes) l → AllByRecursion (Steps bytes) (drop m l)
     steps-left m l h = every-back (Steps bytes) (take m l) (drop m l) (subst (AllByRecursion (Steps bytes)) (sym (take-append-drop m l)) h)
 
-    other-steps : (p : Point) (s : Seat) (ss rest : List Seat) → Track t bytes p ((s ∷ ss) ++ rest) → AllByRecursion (Steps bytes) (s ∷ ss) → ItemSteps (s ∷ ss) (run_or_part on (bytes_of (s ∷ ss)))
-    other-steps p s ss rest track steps =
+    other-steps : (p : Point) (s : Seat) (ss rest : List Seat) → Course AcrossGap t bytes p ((s ∷ ss) ++ rest) → AllByRecursion (Steps bytes) (s ∷ ss) → ItemSteps (s ∷ ss) (run_or_part on (bytes_of (s ∷ ss)))
+    other-steps p s ss rest course steps =
         let l = s ∷ ss in
         let n = run_length (bytes_of l) in
         let line = line_break (prefix_len is_white (bytes_of ss)) in
         let datum = data_run (data_length on (bytes_of l)) in
         elim (begins_run on s.byte) as (λ x. (begins_run on s.byte) ≡ x → ItemSteps l (cond x (delimiter_run n) (cond (is_line_feed s.byte) line datum))) [
-          | true ↦ λ is. run-steps p (take n l) (drop n l ++ rest) (part-track p n l rest track) (steps-taken n l steps) (run-delimiters s ss (and-right on.attention (is_delimiter s.byte) is))
+          | true ↦ λ is. runs-step p (take n l) (drop n l ++ rest) (part-course p n l rest course) (steps-taken n l steps) (run-delimiters s ss (and-right on.attention (is_delimiter s.byte) is))
           | false ↦ λ is. elim (is_line_feed s.byte) as (λ x. ItemSteps l (cond x line datum)) [
             | true ↦ free-item l line (free-line-break (prefix_len is_white (bytes_of ss)))
             | false ↦ free-item l datum (λ seats. free-leaf Data seats refl)
@@ -327,27 +343,27 @@ module _ (t : ℕ) (bytes : List ℕ) where
     free-there l [] text h = tt
     free-there l (grammar ∷ grammars) text h = (free-option l (grammar.front text) h.0, free-there l grammars text h.1)
 
-    item-steps : (p : Point) (s : Seat) (ss rest : List Seat) → Track t bytes p ((s ∷ ss) ++ rest) → AllByRecursion (Steps bytes) (s ∷ ss) → ItemSteps (s ∷ ss) (inline_item_at on (bytes_of (s ∷ ss)))
-    item-steps p s ss rest track steps =
+    item-steps : (p : Point) (s : Seat) (ss rest : List Seat) → Course AcrossGap t bytes p ((s ∷ ss) ++ rest) → AllByRecursion (Steps bytes) (s ∷ ss) → ItemSteps (s ∷ ss) (inline_item_at on (bytes_of (s ∷ ss)))
+    item-steps p s ss rest course steps =
         let l = s ∷ ss in
-        let text = bytes_of l in there-holds (ItemSteps l) inline_grammars on text (run_or_part on text) (free-there l inline_grammars text (free-each text)) (other-steps p s ss rest track steps)
+        let text = bytes_of l in there-holds (ItemSteps l) inline_grammars on text (run_or_part on text) (free-there l inline_grammars text (free-each text)) (other-steps p s ss rest course steps)
 
-    items-steps : (n : ℕ) (p : Point) (l rest : List Seat) → Track t bytes p (l ++ rest) → AllByRecursion (Steps bytes) l → RunsStep t bytes (flat_map (item_events bytes) (cut (inline_item_at on) item_length n l))
-    items-steps zero p l rest track steps = tt
-    items-steps (suc n) p [] rest track steps = tt
-    items-steps (suc n) p (s ∷ ss) rest track steps =
+    items-steps : (n : ℕ) (p : Point) (l rest : List Seat) → Course AcrossGap t bytes p (l ++ rest) → AllByRecursion (Steps bytes) l → RunsStep t bytes (flat_map (item_events bytes) (cut (inline_item_at on) item_length n l))
+    items-steps zero p l rest course steps = tt
+    items-steps (suc n) p [] rest course steps = tt
+    items-steps (suc n) p (s ∷ ss) rest course steps =
         let l = s ∷ ss in
         let item = inline_item_at on (bytes_of l) in
         let m = item_length item in
         let behind = drop m l in
-        let others = items-steps n (end_after p (take m l)) behind rest (track-on t bytes p (take m l) (behind ++ rest) (part-track p m l rest track)) (steps-left m l steps) in
-        steps-both (item_events bytes (item, take m l)) (flat_map (item_events bytes) (cut (inline_item_at on) item_length n behind)) (item-steps p s ss rest track steps) others (items-built bytes Opens opens-kept on n behind)
+        let others = items-steps n (end_after p (take m l)) behind rest (course-on AcrossGap t bytes p (take m l) (behind ++ rest) (part-course p m l rest course)) (steps-left m l steps) in
+        steps-both (item_events bytes (item, take m l)) (flat_map (item_events bytes) (cut (inline_item_at on) item_length n behind)) (item-steps p s ss rest course steps) others (items-built bytes Opens opens-kept on n behind)
 
     -- and so it is with the events of all items
-    pub all-steps : (p : Point) (l rest : List Seat) → Track t bytes p (l ++ rest) → AllByRecursion (Steps bytes) l → RunsStep t bytes (flat_map (item_events bytes) (inline_items on l))
-    all-steps p l rest track steps =
+    pub all-steps : (p : Point) (l rest : List Seat) → Course AcrossGap t bytes p (l ++ rest) → AllByRecursion (Steps bytes) l → RunsStep t bytes (flat_map (item_events bytes) (inline_items on l))
+    all-steps p l rest course steps =
         let n = prefix_len is_white (bytes_of l) in
         let behind = drop n l in
         let first = leaf bytes SpaceOrTab (take n l) in
-        let others = items-steps (length l) (end_after p (take n l)) behind rest (track-on t bytes p (take n l) (behind ++ rest) (part-track p n l rest track)) (steps-left n l steps) in
+        let others = items-steps (length l) (end_after p (take n l)) behind rest (course-on AcrossGap t bytes p (take n l) (behind ++ rest) (part-course p n l rest course)) (steps-left n l steps) in
         steps-both first (flat_map (item_events bytes) (cut (inline_item_at on) item_length (length l) behind)) (free-steps first (free-leaf SpaceOrTab (take n l) refl)) others (items-built bytes Opens opens-kept on (length l) behind)

@@ -1,5 +1,5 @@
 -- Marks, cut into segments: chains of chunks that pass a filter, which adjoin, and marks that are kept.
-use Rattle.mdconstructs_documents.proofs.Prelude.{◌≡◌, ℕ, List, [], ◌∷◌, ◌++◌, Bool, true, false, Option, Some, None, map, refl, ◌⊎◌, sym, ◌∙◌, flat_map-append, append-nil, AllByRecursion, flat_map, every-append, Content, Event, Enter, Exit, Seat, end_after, lets_through, HaveNoLinks, event, IsSingle, Mark, chunk_span, span_marks, read_marks}
+use Rattle.mdconstructs_documents.proofs.Prelude.{◌≡◌, ℕ, List, [], ◌∷◌, ◌++◌, Bool, true, false, Option, Some, None, map, refl, ◌⊎◌, sym, ◌∙◌, flat_map-append, append-nil, AllByRecursion, flat_map, every-append, Content, Event, Enter, Exit, Seat, end_after, lets_through, HaveNoLinks, event, IsSingle, IsWhole, Mark, chunk_span, span_marks, read_marks}
 use Rattle.markdown_base.specs.declared.event.Content.TheVariants as content
 use Rattle.markdown_base.specs.declared.event.Name.{Name}
 use Rattle.markdown_base.specs.declared.event.Name.TheVariants as name
@@ -32,7 +32,7 @@ HasByte (s ∷ ss) = Unit {0}
 
 abbrev pub IsGood : (wanted : Option Content) → Segment → Type 0
 IsGood wanted (kept marks seats) = AllByRecursion (IsKept wanted) marks
-IsGood wanted (chain c chunks) = (lets_through wanted c ≡ true) × IsTextual c × AllByRecursion HasByte chunks
+IsGood wanted (chain c chunks) = (lets_through wanted c ≡ true) × IsTextual c × AllByRecursion HasByte chunks × AllByRecursion IsWhole chunks
 
 -- the virtual bytes of chunks, one behind another
 abbrev pub in_line : List (List Seat) → List Seat
@@ -84,14 +84,14 @@ module _ (wanted : Option Content) (bytes : List ℕ) where
     pub segments-kept : (marks : List Mark) (seats : List Seat) → AllByRecursion (IsKept wanted) marks → AreSegments marks marks seats
     segments-kept marks seats h = record { segments = kept marks seats ∷ []; flat_is = sym (append-nil marks); deep_is = sym (append-nil marks); seats_is = sym (append-nil seats); good = (h, tt) }
 
-    pub segments-chain : (c : Content) → lets_through wanted c ≡ true → IsTextual c → (chunks : List (List Seat)) → AllByRecursion HasByte chunks
+    pub segments-chain : (c : Content) → lets_through wanted c ≡ true → IsTextual c → (chunks : List (List Seat)) → AllByRecursion HasByte chunks → AllByRecursion IsWhole chunks
         → AreSegments (chain_marks c bytes false chunks) (read_marks (reads (Some c)) bytes (in_line chunks)) (in_line chunks)
-    segments-chain c lets textual chunks h = record {
+    segments-chain c lets textual chunks h whole = record {
       segments = chain c chunks ∷ [];
       flat_is = sym (append-nil (chain_marks c bytes false chunks));
       deep_is = sym (append-nil (read_marks (reads (Some c)) bytes (in_line chunks)));
       seats_is = sym (append-nil (in_line chunks));
-      good = ((lets, textual, h), tt);
+      good = ((lets, textual, h, whole), tt);
     }
 
     -- a span around segments

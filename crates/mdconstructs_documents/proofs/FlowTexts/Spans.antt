@@ -8,4 +8,4 @@ module _ (on : Constructs) (texts strings : List Seat → List Event) (bytes : L
       let lines = lines_in seats in
       over bytes P kept seats (lines-are-all seats)
       (spans-blocks on bytes P kept (block_texts texts strings bytes)
-      (spans-of-around bytes P kept (read_marks texts bytes) keeps (λ lines. read_marks texts bytes (body lines)) (λ lines h. keeps (body lines)) (read_marks strings bytes) keeps_string) (length lines) lines (omega arith) (leaf-blocks-full on seats) (whole-lines seats))
+      (spans-of-around bytes P kept (read_marks texts bytes) (λ l w. keeps l) (λ lines. read_marks texts bytes (body lines)) (λ lines h w. keeps (body lines)) (read_marks strings bytes) (λ l w. keeps_string l)) (length lines) lines (omega arith) (leaf-blocks-full on seats) (whole-lines seats))

@@ -1,5 +1,5 @@
 -- Each chunk of leaf blocks is of texts or of strings: so all their chains can be read, and a machine that may start with both may start with each.
-use Rattle.mdconstructs_documents.proofs.Prelude.{◌≡◌, ℕ, ◌+◌, List, [], ◌∷◌, Bool, true, false, Some, None, inl, inr, refl, sym, ap, ◌∙◌, subst, none-some, same_Some, Contains, option_map, slice_get, AllByRecursion, flat_map, option_and_then, every-append, every-get, every-map, Content, StringContent, TextContent, Event, Link, Name, StringStart, TextStart, Seat, virtual, by_option, content_at, fits, some_fits, IsReady, StartAmong, start_name, content_of, Given, IsDocument, first-linked, mark_at, Mark, flow_events, linked_from}
+use Rattle.mdconstructs_documents.proofs.Prelude.{◌≡◌, ℕ, ◌+◌, List, [], ◌∷◌, Bool, true, false, Some, None, inl, inr, refl, sym, ap, ◌∙◌, subst, none-some, same_Some, Contains, option_map, slice_get, AllByRecursion, flat_map, option_and_then, every-append, every-get, every-map, Content, StringContent, TextContent, Event, Link, Name, StringStart, TextStart, Seat, by_option, content_at, fits, some_fits, IsReady, StartAmong, start_name, content_of, Given, IsText, Text, first-linked, mark_at, Mark, flow_events, linked_from}
 use Rattle.mdconstructs_documents.proofs.FlowChains.Ready.{flow-ready}
 use Rattle.mdconstructs_documents.proofs.FlowTexts.BlockSegments.{all-segments}
 use Rattle.mdconstructs_documents.proofs.FlowTexts.Segments.{HasByte, IsGood, IsKept, IsTextual, Segment, chain, chain_marks, flat_of, kept}
@@ -42,13 +42,13 @@ all-linked i (m ∷ marks) h = subst (AllByRecursion HasTextual) (sym (first-lin
 abbrev pub AreTextual : List Event → Type 0
 AreTextual events = (k : ℕ) (c : Content) → content_at events k ≡ Some c → IsTextual c
 
-module _ (g : Given) where
+module _ (g : Given) (text : Text) where
   abbrev flat : List Event
-  flat = flow_events g.options.constructs g.bytes (virtual g.tab g.bytes)
+  flat = flow_events g.options.constructs g.bytes text.seats
 
   pub flow-textual : AreTextual flat
   flow-textual k c is =
-      let h = all-segments g.bytes (λ seats. []) (λ seats. []) g.options.constructs (virtual g.tab g.bytes) in
+      let h = all-segments g.bytes (λ seats. []) (λ seats. []) g.options.constructs text.seats in
       let all = subst (λ (marks : List Mark). AllByRecursion HasTextual (linked_from 0 marks)) (sym h.flat_is) (all-linked 0 (flat_map (flat_of g.bytes) h.segments) (of-segments g.bytes h.segments h.good)) in
       by_option (slice_get flat k)
       (λ n. absurd (none-some c (sym (ap (option_and_then content_of) n) ∙ is)))
@@ -63,18 +63,18 @@ module _ (g : Given) where
         | inr e ↦ string (at ∙ ap Some e)
       ])
 
-  pub each-ready : IsDocument g → IsReady g.tab g.bytes None flat
-  each-ready document =
-      let text = flow-ready g document TextContent (λ e. absurd (cc)) in
-      let string = flow-ready g document StringContent (λ e. absurd (cc)) in
+  pub each-ready : IsText g text → IsReady g.tab g.bytes None flat
+  each-ready is =
+      let texts = flow-ready g text is TextContent (λ e. absurd (cc)) in
+      let string = flow-ready g text is StringContent (λ e. absurd (cc)) in
       record {
-        balanced = text.balanced;
-        chunks = text.chunks;
-        joined = text.joined;
-        forward = text.forward;
-        one_content = text.one_content;
-        readable = λ k fit. by-content k fit (λ e. text.readable k (ap (some_fits (Some TextContent)) e)) (λ e. string.readable k (ap (some_fits (Some StringContent)) e));
-        gaps = λ k d fit next. by-content k fit (λ e. text.gaps k d (ap (some_fits (Some TextContent)) e) next) (λ e. string.gaps k d (ap (some_fits (Some StringContent)) e) next);
+        balanced = texts.balanced;
+        chunks = texts.chunks;
+        joined = texts.joined;
+        forward = texts.forward;
+        one_content = texts.one_content;
+        readable = λ k fit. by-content k fit (λ e. texts.readable k (ap (some_fits (Some TextContent)) e)) (λ e. string.readable k (ap (some_fits (Some StringContent)) e));
+        gaps = λ k d fit next. by-content k fit (λ e. texts.gaps k d (ap (some_fits (Some TextContent)) e) next) (λ e. string.gaps k d (ap (some_fits (Some StringContent)) e) next);
       }
 
 -- a machine that may start with texts and with strings may start with each chain
