@@ -145,6 +145,7 @@ pub use Rattle.mdconstructs_flow_read.specs.LooksFind
 pub use Rattle.mdconstructs_flow_read.specs.SeenKinds
 pub use Rattle.mdconstructs_flow_read.specs.ToldChunks
 pub use Rattle.mdconstructs_flow_read.specs.ToldMarks
+pub use Rattle.mdconstructs_documents.specs.BlockChains
 pub use Rattle.mdconstructs_documents.specs.ByteRanges
 pub use Rattle.mdconstructs_documents.specs.Choices
 pub use Rattle.mdconstructs_documents.specs.Documents

@@ -8,7 +8,7 @@ pub use mdconstructs_documents::laws::{
     chains_of_leaf_blocks_can_be_read, inline_texts_and_strings_are_read_at_once,
     inline_texts_in_their_blocks_account_for_each_byte,
     inline_texts_in_their_blocks_are_well_formed, inline_texts_stand_in_their_blocks,
-    innermost_spans_tile_documents,
+    innermost_spans_tile_documents, leaf_blocks_can_be_read_next, reads_chains_as_leaf_blocks,
 };
 pub use mdconstructs_flow::laws::{
     cost_at_the_start as flow_cost_at_the_start, no_document_is_refused as flow_refuses_no_document,

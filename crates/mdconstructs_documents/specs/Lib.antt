@@ -1,3 +1,4 @@
+pub mod BlockChains
 pub mod ByteRanges
 pub mod Choices
 pub mod Documents

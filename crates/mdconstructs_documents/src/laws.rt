@@ -1,5 +1,6 @@
 //! The laws about documents. Each is a function that does nothing; its contract is the law.
 
+ghost use Rattle.mdconstructs_documents.specs.BlockChains.{LeafBlocksCanBeReadNext, LeafBlocksOfTextsAreReadable, ReadsChainsAsLeafBlocks};
 ghost use Rattle.mdconstructs_documents.specs.Documents.{ChainsAreReadable};
 ghost use Rattle.mdconstructs_documents.specs.FlowTextLaws.{InlinesAccount, InlinesAreFormed, InlinesAreRead, InlinesAreReadAtOnce};
 ghost use Rattle.mdconstructs_documents.specs.Tiles.{TilesDocuments};
@@ -19,9 +20,21 @@ pub fn innermost_spans_tile_documents()
 }
 
 /// The events that `Flow` makes of a document have chains of text that can be read: `ready` returns true for them, and `subtokenize` may
-/// be called.
+/// be called. So have those of any text, and no void span of them goes over a gap.
 pub fn chains_of_leaf_blocks_can_be_read()
-    ensures { ChainsAreReadable }
+    ensures documents { ChainsAreReadable }
+    ensures texts { LeafBlocksOfTextsAreReadable }
+{}
+
+/// Of a list whose chains of content can be read, `subtokenize` with `Flow` replaces each chain by the leaf blocks of its text: what a definition
+/// without states says of the text's lines.
+pub fn reads_chains_as_leaf_blocks()
+    ensures { ReadsChainsAsLeafBlocks }
+{}
+
+/// That list is then ready for text and for strings, and for whatever else it was ready before, without a test.
+pub fn leaf_blocks_can_be_read_next()
+    ensures { LeafBlocksCanBeReadNext }
 {}
 
 /// Where the texts of leaf blocks are read as inline text, each stands in its block, and so does emphasis: the list with the events of each
