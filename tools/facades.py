@@ -29,6 +29,7 @@ NAMED = {
     ("mdconstructs_flow_read", "proofs", "Looks"): "LineLooks",
     ("mdconstructs_flow_read", "proofs", "Paragraphs"): "LeafParagraphs",
     ("mdconstructs_flow", "specs", "Flow"): "FlowStates",
+    ("mdconstructs_inlines", "specs", "Over"): "InlinesOver",
     ("mdconstructs_flow", "specs", "LawStatements"): "FlowLawStatements",
     ("mdconstructs_flow", "specs", "Laws"): "FlowLaws",
     ("mdconstructs_flow", "specs", "Over"): "FlowOver",

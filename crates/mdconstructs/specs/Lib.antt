@@ -24,6 +24,7 @@ pub use Rattle.mdconstructs_tables.specs.Plans
 pub use Rattle.mdconstructs_tables.specs.Quiet
 pub use Rattle.mdconstructs_tables.specs.Refusals
 pub use Rattle.mdconstructs_tables.specs.Stretches
+pub use Rattle.mdconstructs_tables.specs.Twins
 pub use Rattle.mdconstructs_tables.specs.Unlinked
 pub use Rattle.mdconstructs_machines.specs.Costs
 pub use Rattle.mdconstructs_machines.specs.Back
@@ -99,6 +100,7 @@ pub use Rattle.mdconstructs_inlines.specs.InlineTable
 pub use Rattle.mdconstructs_inlines.specs.LawStatements as InlineLawStatements
 pub use Rattle.mdconstructs_inlines.specs.Laws as InlineLaws
 pub use Rattle.mdconstructs_inlines.specs.Registered
+pub use Rattle.mdconstructs_inlines.specs.Over as InlinesOver
 pub use Rattle.mdconstructs_inlines.specs.RunRows
 pub use Rattle.mdconstructs_inlines.specs.StringEvents
 pub use Rattle.mdconstructs_inlines.specs.StringTable
