@@ -1,7 +1,7 @@
 -- How the machine of inline text reads data: up to a byte that something else may begin with; or up to white space with which its line ends, and then that
 -- too; and in how many calls.
 use Rattle.mdconstructs_text.proofs.Plain.Stretches.{past}
-use Rattle.mdconstructs_inlines.proofs.Prelude.{◌≡◌, ℕ, zero, suc, ◌+◌, ◌-◌, ◌*◌, ◌<◌, ◌≤◌, ◌&&◌, ◌||◌, List, [], ◌∷◌, ◌++◌, Bool, true, false, cond, Some, refl, sym, ap, ◌∙◌, subst, arith, append-nil, append_assoc, length, take, take-take, drop, drop-take, drop-drop, drop-map, length-drop, length-map, prefix_len, slice_get, drop-next, Constructs, Event, Exit, EventName, Data, Name, Next, Retry, DataInside, TextBefore, TextBeforeData, Seat, Byte, Nothing, Configuration, Local, byte_of, end_place, sight, Given, Text, at-front, is_white, counts, AddsItemIn, adds-more, BeginsData, data-begun, entered_data, goes-back, goes-next, leaf-read, past-is, past-stops, first_byte, shows, IsAfter, after-call, after-more, after-within, Ending, EndsWith, Leads, Plays, between_items, passes, between_texts, bytes_of, event, first_plain, item_events, item_length, leaf, leads-step, run-some, is_white_left, Found, consumed, entered, exited, data_length, ends_data, ends_data_at, up_to}
+use Rattle.mdconstructs_inlines.proofs.Prelude.{as_asked, ◌≡◌, ℕ, zero, suc, ◌+◌, ◌-◌, ◌*◌, ◌<◌, ◌≤◌, ◌&&◌, ◌||◌, List, [], ◌∷◌, ◌++◌, Bool, true, false, cond, Some, refl, sym, ap, ◌∙◌, subst, arith, append-nil, append_assoc, length, take, take-take, drop, drop-take, drop-drop, drop-map, length-drop, length-map, prefix_len, slice_get, drop-next, Constructs, Event, Exit, EventName, Data, Name, Next, Retry, DataInside, TextBefore, TextBeforeData, Seat, Byte, Nothing, Configuration, Local, byte_of, end_place, sight, Given, Text, at-front, is_white, counts, AddsItemIn, adds-more, BeginsData, data-begun, entered_data, goes-back, goes-next, leaf-read, past-is, past-stops, first_byte, shows, IsAfter, after-call, after-more, after-within, Ending, EndsWith, Leads, Plays, between_items, passes, between_texts, bytes_of, event, first_plain, item_events, item_length, leaf, leads-step, run-some, is_white_left, Found, consumed, entered, exited, data_length, ends_data, ends_data_at, up_to}
 use Rattle.mdconstructs_inlines.proofs.DataBytes.{data-within, data_joined, white-data, white_behind}
 use Rattle.mdconstructs_inlines.proofs.InlineApart.{white-plain}
 use Rattle.mdconstructs_inlines.proofs.WhiteBytes.{White, found-size, found_white, no_item, over-white, white-ends, white-last, white-none}
@@ -60,7 +60,7 @@ module _ (g : Given) (text : Text) (m : Plays g text) {plain inside : White → 
         after,
         after-call local,
         λ es h.
-            leads-step g text m.step k [] name (record { configuration = exited Data (sight g text k).exit_place (counted g text m k); choices = []; answer = Retry TextBefore }) stops es
+            leads-step as_asked g text m.step k [] name (record { configuration = exited Data (sight g text k).exit_place (counted g text m k); choices = []; answer = Retry TextBefore }) stops es
             (goes-back g text m l [] q (with_end events q) after [] TextBefore at es
             (subst (λ n. EndsWith g text m (between_items n Nothing false (with_end events q) after) [] (Next TextBefore) es) place
             (subst (λ xs. EndsWith g text m (between_items (q + 0 + 0) Nothing false xs after) [] (Next TextBefore) es) same
@@ -83,7 +83,7 @@ module _ (g : Given) (text : Text) (m : Plays g text) {plain inside : White → 
         after-within (1 + (n + item_length (white_at (drop n ss)) + 2)) (1 + n + item_length (white_at (drop (1 + n) (s ∷ ss))) + 2) local read.1 few
             (after-more 1 (n + item_length (white_at (drop n ss)) + 2) local (counts local) read.1 (after-call local) read.2),
         λ es h.
-            leads-step g text m.step k [] name (record { configuration = consumed (counted g text m k); choices = []; answer = Next DataInside }) reads es
+            leads-step as_asked g text m.step k [] name (record { configuration = consumed (counted g text m k); choices = []; answer = Next DataInside }) reads es
             (goes-next g text m ss in_data (q + 1) events (counts local) [] DataInside next es
             (read.3 es
             (subst (λ j. EndsWith g text m (reached events j (drop n ss) read.0 read.1) [] (Next TextBefore) es) (sym place)
@@ -131,7 +131,7 @@ module _ (g : Given) (text : Text) (m : Plays g text) {plain inside : White → 
               read.1,
               after-within (1 + 1) (0 + item_length (white_at r) + 2) local read.1 (omega arith) (after-more 1 1 local after read.1 (after-call local) read.2),
               λ es h.
-                  leads-step g text m.step k [] (inside w) (record { configuration = counted g text m k; choices = []; answer = Retry DataInside }) (plays.data_special w k t.byte (waits t ts q at) other line ends) es (read.3 es h),
+                  leads-step as_asked g text m.step k [] (inside w) (record { configuration = counted g text m k; choices = []; answer = Retry DataInside }) (plays.data_special w k t.byte (waits t ts q at) other line ends) es (read.3 es h),
             )
         | false ↦ λ ends.
             let there : ends_data_at on (bytes_of r) ≡ false = (λ i. ends i || (other i && is_white_left (bytes_of r))) in

@@ -93,7 +93,7 @@ pub use Rattle.mdconstructs_inline_constructs.specs.HardBreakRows.{break_escape_
 pub use Rattle.mdconstructs_inline_constructs.specs.HtmlMarkedRows.{cdata_open, comment_open, declaration_open, html_marks, mark_inside, mark_line, mark_open, mark_start, mark_white}
 pub use Rattle.mdconstructs_inline_constructs.specs.HtmlTagRows.{html_tags, html_text_attribute_name, html_text_attribute_name_after, html_text_end, html_text_open, html_text_start, html_text_tag_close, html_text_tag_close_between, html_text_tag_close_start, html_text_tag_open, html_text_tag_open_between, html_text_value_before, html_text_value_quoted, html_text_value_quoted_after, html_text_value_unquoted}
 pub use Rattle.mdconstructs_inline_constructs.specs.HtmlTextRows.{html_line_ending_after, html_line_ending_after_prefix}
-pub use Rattle.mdconstructs_inline_constructs.specs.Laws.Email.{domain-ends-alike, hyphen-alike, label-alike, label-ends-alike, name-alike, name-ends-alike}
+pub use Rattle.mdconstructs_inline_constructs.proofs.Emails.Alike.{domain-ends-alike, hyphen-alike, label-alike, label-ends-alike, name-alike, name-ends-alike}
 pub use Rattle.mdconstructs_inline_constructs.specs.Reference.{Kind, decimal, hexadecimal, mark_events, marks, named, reference, reference_at}
 pub use Rattle.mdconstructs_inline_constructs.specs.ReferenceRows.{at_number_sign, at_semicolon, at_x, reference_numeric, reference_open, reference_start, reference_value, references, value_goes_on, value_is_whole}
 pub use Rattle.mdconstructs_inline_constructs.specs.RememberedCode.{remembered_between, remembered_chunk, remembered_code_spans, remembered_open}
@@ -108,6 +108,7 @@ pub use Rattle.mdconstructs_inlines.specs.RunRows.{attention_inside, attention_i
 pub use Rattle.mdconstructs_inlines.specs.StringEvents.{is_string_special, string_data, string_events, string_grammars, string_item_at, string_part}
 pub use Rattle.mdconstructs_inlines.specs.StringTable.{between_strings, registers, string_before, string_before_data, string_before_rows, string_constructs, string_data_rows, string_start, string_states}
 pub use Rattle.mdconstructs_inlines.specs.declared.names.TheConstants.{DataSpace, DataSpaces, DataWhite, TextBeforeEmail, TextBeforeTag, TextLineStart, TextLineWhite, TextSpace, TextSpaces, TextWhite}
+pub use Rattle.mdconstructs_machines.proofs.LineReads.Onward.{leads-step, leads-unfed}
 pub use Rattle.mdconstructs_machines.proofs.LineReads.Rows.{line-ending-read, row_step}
 pub use Rattle.mdconstructs_machines.proofs.LineReads.Steps.{at-front, held}
 pub use Rattle.mdconstructs_machines.specs.Breaks.{is_white}
@@ -146,7 +147,7 @@ pub use Rattle.mdconstructs_text.proofs.Texts.Built.{IsBuilt, IsKeptBySpans}
 pub use Rattle.mdconstructs_text.proofs.Texts.Counted.{IsAfter, Remembered, after-call, after-more, after-none, after-within, remembered}
 pub use Rattle.mdconstructs_text.proofs.Texts.Cutting.{cut-enough, cut-same, drop-less}
 pub use Rattle.mdconstructs_text.proofs.Texts.Ends.{ReadsTexts, ReadsTextsFrom, ends-so, holds-at-end}
-pub use Rattle.mdconstructs_text.proofs.Texts.Leads.{Ending, leads-step, counted-most, ending, leads-unfed, most, spent}
+pub use Rattle.mdconstructs_text.proofs.Texts.Leads.{Ending, as_asked, counted-most, ending, most, spent}
 pub use Rattle.mdconstructs_text.proofs.Texts.LineEndings.{reads-line-in}
 pub use Rattle.mdconstructs_text.proofs.Texts.Reads.{AddsItem, ReadsItems, nothing-kept, nothing_known, reads-before}
 pub use Rattle.mdconstructs_text.proofs.Texts.Steps.{BeginsData, EndsWith, HasRow, HasRows, Leads, Plays, PlaysData, before_class, between_items, leads-fed, leads-nok, leads-ok, leads-row, leads-seen, leads-tested, tested}

@@ -1,5 +1,5 @@
 -- A start that registers the resolver and goes on with a state between items is read as that state is.
-use Rattle.mdconstructs_inlines.proofs.Prelude.{◌≡◌, [], ◌∷◌, Bool, true, false, refl, subst, length, nat_lt, Name, Next, Retry, Nothing, with_local, Configuration, Local, start_configuration, fed, Given, Text, row, write, counts, seen, IsAfter, after-call, Ending, leads-unfed, EndsWith, HasRow, Plays, between_items, leads-fed, leads-row, registers}
+use Rattle.mdconstructs_inlines.proofs.Prelude.{as_asked, ◌≡◌, [], ◌∷◌, Bool, true, false, refl, subst, length, nat_lt, Name, Next, Retry, Nothing, with_local, Configuration, Local, start_configuration, fed, Given, Text, row, write, counts, seen, IsAfter, after-call, Ending, leads-unfed, EndsWith, HasRow, Plays, between_items, leads-fed, leads-row, registers}
 
 -- what states share at the start
 abbrev pub start_local : Bool → Local Unit Unit
@@ -18,7 +18,7 @@ module _ (g : Given) (text : Text) (m : Plays g text) where
       elim (nat_lt 0 (length text.seats)) as (λ b. k1.local ≡ registers (with_local (seen b k) (counts (seen b k).local))) [ true ↦ refl | false ↦ refl ] in
       let once = after-call k.local in
       let called : EndsWith g text m (fed text k1) [] (Retry name) es =
-      leads-unfed g text m.step k1 [] name es (between k1.local (record { calls = once.calls; same = once.same })) in
+      leads-unfed as_asked g text m.step k1 [] name es (between k1.local (record { calls = once.calls; same = once.same })) in
       leads-fed g text m k [] start es
       (leads-row g text m (row (write registers ∷ []) (Retry name)) (fed text k) [] start es (has (fed text k))
       (subst (λ l. EndsWith g text m (with_local (fed text k) l) [] (Retry name) es) local_is (subst (λ k. EndsWith g text m k [] (Retry name) es) same called)))

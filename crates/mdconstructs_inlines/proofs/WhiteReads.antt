@@ -1,6 +1,6 @@
 -- How the machine of inline text reads white space: its place is noted, and behind it there is a span from that place on, or data.
 use Rattle.mdconstructs_text.proofs.Plain.Stretches.{past}
-use Rattle.mdconstructs_inlines.proofs.Prelude.{◌≡◌, ℕ, suc, ◌+◌, ◌<◌, ◌≤◌, not, List, [], ◌∷◌, ◌++◌, Bool, true, false, cond, Option, Some, None, refl, sym, ap, ◌∙◌, subst, arith, append_assoc, length, take, drop, length-map, prefix_len-le-length, prefix_len, slice_get, drop-next, Event, Enter, Exit, EventName, Data, Name, State, Next, Retry, DataInside, TextBefore, Seat, Byte, Nothing, Local, Configuration, byte_of, end_place, sight, Given, Text, with_local, is_white, counts, at-front, held, first_byte, goes-back, goes-next, leaf-read, past-at, past-stops, sees, shows, passes, IsAfter, after-call, after-more, after-none, after-within, EndsWith, Leads, Plays, between_items, bytes_of, event, leaf, is_line_feed, is_space, ends_data, has_byte_at, is_white_left, leads-step, byte-behind, AddsItemIn, entered_data, between_texts, Ending, item_length, item_events, Point, sight_in, consumed, entered, exited, noting, place_of, Noted}
+use Rattle.mdconstructs_inlines.proofs.Prelude.{as_asked, ◌≡◌, ℕ, suc, ◌+◌, ◌<◌, ◌≤◌, not, List, [], ◌∷◌, ◌++◌, Bool, true, false, cond, Option, Some, None, refl, sym, ap, ◌∙◌, subst, arith, append_assoc, length, take, drop, length-map, prefix_len-le-length, prefix_len, slice_get, drop-next, Event, Enter, Exit, EventName, Data, Name, State, Next, Retry, DataInside, TextBefore, Seat, Byte, Nothing, Local, Configuration, byte_of, end_place, sight, Given, Text, with_local, is_white, counts, at-front, held, first_byte, goes-back, goes-next, leaf-read, past-at, past-stops, sees, shows, passes, IsAfter, after-call, after-more, after-none, after-within, EndsWith, Leads, Plays, between_items, bytes_of, event, leaf, is_line_feed, is_space, ends_data, has_byte_at, is_white_left, leads-step, byte-behind, AddsItemIn, entered_data, between_texts, Ending, item_length, item_events, Point, sight_in, consumed, entered, exited, noting, place_of, Noted}
 use Rattle.mdconstructs_inlines.proofs.WhiteBytes.{White, breaks_line, first_white, found_white, further, white_name, whole}
 
 -- the place that was noted
@@ -96,7 +96,7 @@ module _ (g : Given) (text : Text) (m : Plays g text) where
                 after-more 1 (prefix_len is_white (bytes_of ss)) local (counts local) more.0 (after-call local) more.1,
                 more.2,
                 λ es h.
-                    leads-step g text m.step k [] (names w) (record { configuration = consumed (counted g text m k); choices = []; answer = Next (names v) }) (on w k s.byte (ap byte_of (at-front text.seats q s ss at)) e) es
+                    leads-step as_asked g text m.step k [] (names w) (record { configuration = consumed (counted g text m k); choices = []; answer = Next (names v) }) (on w k s.byte (ap byte_of (at-front text.seats q s ss at)) e) es
                     (goes-next g text m ss stack (q + 1) events (counts local) [] (names v) next es (more.3 es h)),
               )
           | false ↦ λ e i.
@@ -191,7 +191,7 @@ module _ (g : Given) (text : Text) (m : Plays g text) where
           after-within (1 + prefix_len is_white (bytes_of ss)) n local more.0 total (after-more 1 (prefix_len is_white (bytes_of ss)) local (noted_here local) more.0 (after-noted local) more.1),
           more.2,
           λ es h.
-              leads-step g text m.step k [] name (record { configuration = consumed (noting (place_of (sight g text k)) (counted g text m k)); choices = []; answer = Next (names v) }) (begins k s.byte (ap byte_of (at-front text.seats q s ss here)) is) es
+              leads-step as_asked g text m.step k [] name (record { configuration = consumed (noting (place_of (sight g text k)) (counted g text m k)); choices = []; answer = Next (names v) }) (begins k s.byte (ap byte_of (at-front text.seats q s ss here)) is) es
               (goes-next g text m ss stack (q + 1) events (noted_here local) [] (names v) next es (more.3 es h)),
         )
 
@@ -210,7 +210,7 @@ module _ (g : Given) (text : Text) (m : Plays g text) where
           after-more n 1 local read.0 (counts read.0) read.1 (after-call read.0),
           λ es h.
               read.3 es
-              (leads-step g text m.step k [] (plain all_white) (record { configuration = exited name (sight g text k).exit_place (entered name None (noted_in k.local).enter (counted g text m k)); choices = []; answer = Retry TextBefore }) does es
+              (leads-step as_asked g text m.step k [] (plain all_white) (record { configuration = exited name (sight g text k).exit_place (entered name None (noted_in k.local).enter (counted g text m k)); choices = []; answer = Retry TextBefore }) does es
               (subst (λ xs. EndsWith g text m (shows rest [] (q + n) xs (counts read.0)) [] (Retry TextBefore) es) (sym made)
               (goes-back g text m rest [] (q + n) (events ++ leaf g.bytes name (take n l)) (counts read.0) [] TextBefore rest-at es (as-found breaks_here n q events l (counts read.0) es h)))),
         )
@@ -236,7 +236,7 @@ module _ (g : Given) (text : Text) (m : Plays g text) where
           after-more n 1 local read.0 (counts read.0) read.1 (after-call read.0),
           λ es h.
               read.3 es
-              (leads-step g text m.step k [] (inside all_white)
+              (leads-step as_asked g text m.step k [] (inside all_white)
               (record { configuration = exited name (sight g text k).exit_place (entered name None noted.enter (exited Data noted.exit (counted g text m k))); choices = []; answer = Retry TextBefore }) does es
               (subst (λ xs. EndsWith g text m (shows rest [] (q + n) xs (counts read.0)) [] (Retry TextBefore) es) (sym made)
               (goes-back g text m rest [] (q + n) (before ++ leaf g.bytes name (take n l)) (counts read.0) [] TextBefore rest-at es h))),
@@ -262,6 +262,6 @@ module _ (g : Given) (text : Text) (m : Plays g text) where
           after-more n 1 local read.0 (counts read.0) read.1 (after-call read.0),
           λ es h.
               read.3 es
-              (leads-step g text m.step k [] (plain all_white) (record { configuration = entered Data None noted.enter (counted g text m k); choices = []; answer = Retry DataInside }) does es
+              (leads-step as_asked g text m.step k [] (plain all_white) (record { configuration = entered Data None noted.enter (counted g text m k); choices = []; answer = Retry DataInside }) does es
               (subst (λ (x : Noted). EndsWith g text m (shows rest (Data ∷ []) (q + n) (begun x.enter) (counts read.0)) [] (Retry DataInside) es) (sym read.2) h)),
         )
