@@ -109,6 +109,7 @@ pub use Rattle.mdconstructs_flow_read.proofs.Marks.LeafSpans.{flow-accounts, set
 pub use Rattle.mdconstructs_flow_read.proofs.Marks.MarkAccounts.{AreSpans, Begins, accounts-kept, bare, linked-spans}
 pub use Rattle.mdconstructs_flow_read.proofs.Marks.MarkChunks.{AreSingle, IsPlain, IsSingle, single-block-marks, single-both, single-data, single-end, single-fenced, single-last, single-leaf, single-sequence, single-span, single-underline}
 pub use Rattle.mdconstructs_flow_read.proofs.Marks.MarkForms.{Formed, name-closed, tight-linked, FormsOver, order-from, over-kept, text-formed}
+pub use Rattle.mdconstructs_flow_read.proofs.Marks.Courses.{Place, Track, track-on, track-place, track-upto, whole-track}
 pub use Rattle.mdconstructs_flow_read.proofs.Marks.MarkSpans.{IsKeptBySpans, line-on, over, text-by-chunks}
 pub use Rattle.mdconstructs_flow_read.proofs.Marks.ToldEdits.{first-linked, mark_at}
 pub use Rattle.mdconstructs_flow_read.proofs.Whole.FlowEnds.{flow-ends}
