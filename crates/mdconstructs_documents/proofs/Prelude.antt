@@ -17,7 +17,7 @@ pub use Rattle.markdown_base.proofs.Common.{and-right, drop-next, every-append, 
 pub use Rattle.markdown_base.proofs.Facts.Bools.{and-left}
 pub use Rattle.markdown_base.proofs.PointAt.{point-of_reached}
 pub use Rattle.markdown_base.proofs.Seats.{end-after-append, stands-self}
-pub use Rattle.markdown_base.proofs.Orders.{AreTight, InOrder, order-both, tight-at, tight-both}
+pub use Rattle.markdown_base.proofs.Orders.{AreTight, InOrder, order-both, order-from, tight-at, tight-both}
 pub use Rattle.markdown_base.specs.Events.{IsBalanced, IsInOrder, IsVoidTight, empty, is_enter, is_void, relinked, same_name, with_ends}
 pub use Rattle.markdown_base.specs.Lines.{HasNoLineEnding, is_line_start}
 pub use Rattle.markdown_base.specs.Places.{IsPointOf, IsShown, denotes_same, point_at, shown, stands_before}
@@ -108,7 +108,7 @@ pub use Rattle.mdconstructs_flow_read.proofs.Marks.FullBlocks.{IsFull, StartsTex
 pub use Rattle.mdconstructs_flow_read.proofs.Marks.LeafSpans.{flow-accounts, setext-body, spans-blocks, spans-of-around}
 pub use Rattle.mdconstructs_flow_read.proofs.Marks.MarkAccounts.{AreSpans, Begins, accounts-kept, bare, linked-spans}
 pub use Rattle.mdconstructs_flow_read.proofs.Marks.MarkChunks.{AreSingle, IsPlain, IsSingle, single-block-marks, single-both, single-data, single-end, single-fenced, single-last, single-leaf, single-sequence, single-span, single-underline}
-pub use Rattle.mdconstructs_flow_read.proofs.Marks.MarkForms.{Formed, name-closed, tight-linked, FormsOver, order-from, over-kept, text-formed}
+pub use Rattle.mdconstructs_flow_read.proofs.Marks.MarkForms.{Formed, name-closed, tight-linked, FormsOver, over-kept, text-formed}
 pub use Rattle.mdconstructs_flow_read.proofs.Marks.Courses.{Place, Track, track-on, track-place, track-upto, whole-track}
 pub use Rattle.mdconstructs_flow_read.proofs.Marks.MarkSpans.{IsKeptBySpans, line-on, over, text-by-chunks}
 pub use Rattle.mdconstructs_flow_read.proofs.Marks.ToldEdits.{first-linked, mark_at}
