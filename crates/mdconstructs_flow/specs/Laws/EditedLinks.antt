@@ -97,7 +97,7 @@ module _ (ws : List Change) (xs : List Event) (new : AreNew ws) (unlinked : AddN
       let got = slice_get-map moved (woven ws 0 xs) i in
       elim (slice_get (woven ws 0 xs) i) as (λ o. slice_get (woven ws 0 xs) i ≡ o → (n : ℕ) × (place_after ws xs n ≡ Some i)) [
         | None ↦ λ e. absurd (none-some j (ap (λ o. option_and_then (λ (e : Event). option_and_then end e.link) o) (sym (got ∙ ap (option_map moved) e)) ∙ h))
-        | Some t ↦ λ e. elim (found ws has_no ws new unlinked 0 xs i t e) [
+        | Some t ↦ λ e. elim (found ws (has_no ws new) unlinked 0 xs i t e) [
           | inl none ↦ absurd (none-some j (sym (none-linked end (placed_end (woven ws 0 xs) t.identity) t.event none) ∙ ap (λ o. option_and_then (λ (e : Event). option_and_then end e.link) o) (sym (got ∙ ap (option_map moved) e)) ∙ h))
           | inr q ↦ (q.0, q.3)
         ]
