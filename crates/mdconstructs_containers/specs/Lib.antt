@@ -1,0 +1,4 @@
+pub mod Letters
+pub mod Prefixes
+pub mod Rows
+pub mod Skeleton

@@ -1,0 +1,4 @@
+//! Containers of a document: block quotes, lists and items, and what of each line is in them.
+#![tactic(auto)]
+
+pub mod laws;
