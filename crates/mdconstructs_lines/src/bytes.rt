@@ -4,6 +4,7 @@ ghost use Rattle.std.specs.Prelude.{◌≡◌, ◌≤◌, ◌-◌, ℕ, length, 
 ghost use Rattle.mdconstructs_machines.specs.Breaks.{is_white};
 ghost use Rattle.mdconstructs_flow_read.specs.LineWords.{indent, unindented, is_blank_line, begins_with, run};
 
+/// Whether a byte is a space or a tab.
 pub(crate) fn is_white(byte: u8) -> bool
     ensures { result ≡ is_white byte }
 {
@@ -11,7 +12,7 @@ pub(crate) fn is_white(byte: u8) -> bool
 }
 
 /// The columns of white space that come first.
-pub(crate) fn indent(t: &[u8]) -> usize
+pub fn indent(t: &[u8]) -> usize
     ensures value { result ≡ indent t.now }
     ensures within { result ≤ length t.now }
 {
@@ -19,7 +20,7 @@ pub(crate) fn indent(t: &[u8]) -> usize
 }
 
 /// A line behind the white space that comes first.
-pub(crate) fn unindented(t: &[u8]) -> &[u8]
+pub fn unindented(t: &[u8]) -> &[u8]
     ensures value { result.now ≡ unindented t.now }
     ensures len { length result.now ≡ length t.now - indent t.now }
 {
@@ -27,7 +28,7 @@ pub(crate) fn unindented(t: &[u8]) -> &[u8]
 }
 
 /// A line from a column on.
-pub(crate) fn behind(t: &[u8], index: usize) -> &[u8]
+pub fn behind(t: &[u8], index: usize) -> &[u8]
     requires { index ≤ length t.now }
     ensures value { result.now ≡ drop index t.now }
     ensures len { length result.now ≡ length t.now - index }
@@ -36,7 +37,7 @@ pub(crate) fn behind(t: &[u8], index: usize) -> &[u8]
 }
 
 /// A line up to a column.
-pub(crate) fn front(t: &[u8], index: usize) -> &[u8]
+pub fn front(t: &[u8], index: usize) -> &[u8]
     requires { index ≤ length t.now }
     ensures value { result.now ≡ take index t.now }
     ensures len { length result.now ≡ index }
@@ -45,7 +46,7 @@ pub(crate) fn front(t: &[u8], index: usize) -> &[u8]
 }
 
 /// There is only white space, or nothing.
-pub(crate) fn is_blank_line(t: &[u8]) -> bool
+pub fn is_blank_line(t: &[u8]) -> bool
     ensures { result ≡ is_blank_line t.now }
 {
     t.iter().all(|byte| is_white(*byte))

@@ -1,7 +1,7 @@
 //! What a line is, and which containers it goes on with or begins, by plain code over its bytes.
 #![tactic(auto)]
 
-mod bytes;
+pub mod bytes;
 pub mod containers;
 pub mod html;
 pub mod kinds;
