@@ -1,4 +1,7 @@
 //! Containers of a document: block quotes, lists and items, and what of each line is in them.
 #![tactic(auto)]
 
+pub mod going;
 pub mod laws;
+pub mod leaves;
+pub mod rows;

@@ -1,0 +1,2 @@
+pub mod GoingLemmas
+pub mod RowLemmas

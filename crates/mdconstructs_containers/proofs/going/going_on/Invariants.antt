@@ -1,0 +1,14 @@
+use Rattle.std.proofs.Common.{◌≡◌, ◌+◌, ◌≤◌, length, drop, map}
+use Rattle.mdconstructs_flow_read.specs.LineKinds.{indent}
+use Rattle.mdconstructs_containers.specs.Prefixes.{going_on, columns_of}
+use Rattle.mdconstructs_containers.specs.Views.{open_of}
+use Rattle.mdconstructs_containers.proofs.going.going_on.Given as goal
+
+abbrev pub invariant-loop-entry : goal.invariant-loop-entry
+invariant-loop-entry l = record {
+  many : length (going_on (map open_of l.stack) l.number l.t) ≡ l.entry-index + length (going_on (map open_of (drop l.entry-index l.stack)) l.number (drop l.at l.t));
+  columns : columns_of (going_on (map open_of l.stack) l.number l.t) ≡ l.at + columns_of (going_on (map open_of (drop l.entry-index l.stack)) l.number (drop l.at l.t));
+  count : l.many ≡ l.entry-index;
+  within : l.at ≤ length l.t;
+  first : l.first ≡ l.at + indent (drop l.at l.t);
+}

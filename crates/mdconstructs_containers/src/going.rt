@@ -1,0 +1,130 @@
+//! Which open containers go on with a line, and which begin in it.
+
+ghost use Rattle.std.specs.Prelude.{◌≡◌, ◌≤◌, IfOk, IfSome, map, length, take, drop, option_map};
+ghost use Rattle.mdconstructs_lines.specs.Containers.{goes_on, begins};
+ghost use Rattle.mdconstructs_flow_read.specs.LineKinds.{indent};
+ghost use Rattle.mdconstructs_lines.specs.Views.{prefix_of};
+ghost use Rattle.mdconstructs_containers.specs.Prefixes.{going_on, columns_of, beginning, with_list};
+ghost use Rattle.mdconstructs_containers.specs.Views.{open_of, begun_of, takes_place};
+
+use markdown_base::configuration::Constructs;
+use mdconstructs_lines::bytes::{behind, indent, unindented};
+use mdconstructs_lines::containers::{Container, Prefix, begins, first_from, goes_on};
+use mdconstructs_lines::kinds::is_thematic_break;
+use std::alloc::AllocError;
+
+/// A container that is open.
+#[derive(Clone, Copy)]
+pub struct Open {
+    /// The container.
+    pub container: Container,
+    /// Of an item: the number of the line that begins its list.
+    pub list: usize,
+}
+
+/// Containers that go on with a line.
+#[derive(Clone, Copy)]
+pub struct Going {
+    /// How many of them.
+    pub many: usize,
+    /// The columns of their prefixes.
+    pub columns: usize,
+}
+
+/// The columns of the prefix with which an open container goes on with a line's rest, if it does. `columns` of white space come first.
+fn goes_on_open(entry: &Open, number: usize, t: &[u8], columns: usize) -> Option<usize>
+    requires columns { columns ≡ indent t.now }
+    requires within { columns ≤ length t.now }
+    ensures value { result ≡ goes_on (open_of entry.now) number t.now }
+    ensures within { IfSome result (λ n. n ≤ length t.now) }
+{
+    goes_on(&entry.container, number, t, columns)
+}
+
+/// Which of these containers go on with a line, from the outermost on.
+pub fn going_on(stack: &[Open], number: usize, t: &[u8]) -> Going
+    ensures many { result.many ≡ length (going_on (map open_of stack.now) number t.now) }
+    ensures columns { result.columns ≡ columns_of (going_on (map open_of stack.now) number t.now) }
+    ensures few { result.many ≤ length stack.now }
+    ensures within { result.columns ≤ length t.now }
+{
+    let mut at = 0;
+    let mut first = indent(t);
+    let mut many = 0;
+    for entry in stack {
+        let Some(size) = goes_on_open(entry, number, behind(t, at), first - at) else {
+            return Going { many, columns: at };
+        };
+        first = first_from(t, at, at + size, first);
+        at += size;
+        many += 1;
+    }
+    Going { many, columns: at }
+}
+
+/// The containers that begin with a line's rest go to a list. Returns the columns of their prefixes.
+pub fn beginning(
+    on: &Constructs,
+    number: usize,
+    in_paragraph: bool,
+    t: &[u8],
+    begun: &mut Vec<Prefix>,
+) -> Result<usize, AllocError>
+    ensures begun { IfOk result (λ _. map (prefix_of number) begun.new.items ≡ beginning on.now (length t.now) number in_paragraph t.now) }
+    ensures columns { IfOk result (λ n. n ≡ columns_of (beginning on.now (length t.now) number in_paragraph t.now)) }
+    ensures within { IfOk result (λ n. n ≤ length t.now) }
+{
+    begun.clear();
+    let mut at = 0;
+    let mut may_go_on = in_paragraph;
+    while let Some(prefix) = begins_at(on, number, may_go_on, behind(t, at)) {
+        begun.push(prefix)?;
+        at += prefix.size;
+        may_go_on = false;
+    }
+    Ok(at)
+}
+
+/// The container that begins with a line's rest, if one does.
+fn begins_at(on: &Constructs, number: usize, in_paragraph: bool, t: &[u8]) -> Option<Prefix>
+    ensures value { option_map (prefix_of number) result ≡ begins on.now number in_paragraph t.now }
+    ensures some { IfSome result (λ p. 1 ≤ p.size) }
+    ensures within { IfSome result (λ p. p.size ≤ length t.now) }
+{
+    let is_break = on.thematic_break && is_thematic_break(unindented(t));
+    begins(on, number, in_paragraph, t, indent(t), is_break)
+}
+
+/// The number of the line that begins the list of the first of these containers: it goes on with a list if it takes the place of an item with
+/// the same marker.
+pub fn list_of_first(before: &[Open], number: usize, begun: &[Prefix]) -> usize
+    ensures { begun_of result number begun.now ≡ with_list (map open_of before.now) (map (prefix_of number) begun.now) }
+{
+    match (before, begun) {
+        ([old, ..], [new, ..]) if takes_place(&old.container, &new.container) => old.list,
+        _ => number,
+    }
+}
+
+/// Whether an item takes the place of another, with the same marker.
+fn takes_place(old: &Container, new: &Container) -> bool
+    ensures { result ≡ takes_place old.now new.now }
+{
+    !old.is_quote && !new.is_quote && old.marker == new.marker
+}
+
+/// The first of open containers.
+pub fn first_of(stack: &[Open], many: usize) -> &[Open]
+    requires { many ≤ length stack.now }
+    ensures { result.now ≡ take many stack.now }
+{
+    &stack[..many]
+}
+
+/// Open containers behind the first.
+pub fn rest_of(stack: &[Open], many: usize) -> &[Open]
+    requires { many ≤ length stack.now }
+    ensures { result.now ≡ drop many stack.now }
+{
+    &stack[many..]
+}

@@ -1,0 +1,164 @@
+//! Which leaf block may go on behind a line.
+
+ghost use Rattle.std.specs.Prelude.{◌≡◌};
+ghost use Rattle.mdconstructs_flow_read.specs.LeafBlocks.{interrupts};
+ghost use Rattle.mdconstructs_flow_read.specs.LineKinds.{line_kind};
+ghost use Rattle.mdconstructs_lines.specs.Views.{kind_of};
+ghost use Rattle.mdconstructs_containers.specs.Rows.{is_paragraph, is_raw, holds_ending, opened_by, leaf_after, open_paragraph};
+ghost use Rattle.mdconstructs_containers.specs.Views.{leaf_of};
+
+use markdown_base::configuration::Constructs;
+use mdconstructs_lines::bytes::is_blank_line;
+use mdconstructs_lines::html::{HtmlKind, ends, waits_for_blank};
+use mdconstructs_lines::kinds::{Fence, LineKind, closes, line_kind, underline_rank};
+
+/// The leaf block that may go on behind a line.
+#[derive(Clone, Copy)]
+pub enum Leaf {
+    /// None.
+    Closed,
+    /// A paragraph.
+    Paragraph,
+    /// Fenced code, with its opening fence.
+    Fenced(Fence),
+    /// HTML of this kind.
+    Html(HtmlKind),
+}
+
+/// Whether the leaf block is a paragraph.
+pub fn is_paragraph(leaf: Leaf) -> bool
+    ensures { result ≡ is_paragraph (leaf_of leaf) }
+{
+    match leaf {
+        Leaf::Paragraph => true,
+        _ => false,
+    }
+}
+
+/// Whether no container begins in lines of the leaf block.
+pub fn is_raw(leaf: Leaf) -> bool
+    ensures { result ≡ is_raw (leaf_of leaf) }
+{
+    match leaf {
+        Leaf::Fenced(_) | Leaf::Html(_) => true,
+        _ => false,
+    }
+}
+
+/// Whether the leaf block goes on over blank lines, and holds the line ending that ends its containers.
+pub fn holds_ending(leaf: Leaf) -> bool
+    ensures { result ≡ holds_ending (leaf_of leaf) }
+{
+    match leaf {
+        Leaf::Fenced(_) => true,
+        Leaf::Html(kind) => !waits_for_blank(kind),
+        _ => false,
+    }
+}
+
+/// The leaf block that a line opens, where none goes on.
+fn opened_by(on: &Constructs, kind: LineKind, t: &[u8]) -> Leaf
+    ensures { leaf_of result ≡ opened_by on.now (kind_of kind) t.now }
+{
+    match kind {
+        LineKind::Fence(fence) => Leaf::Fenced(fence),
+        LineKind::Html(kind) => opened_by_html(on, kind, t),
+        LineKind::Text => Leaf::Paragraph,
+        _ => Leaf::Closed,
+    }
+}
+
+/// As `opened_by`, of HTML.
+fn opened_by_html(on: &Constructs, kind: HtmlKind, t: &[u8]) -> Leaf
+    ensures { leaf_of result ≡ opened_by on.now (kind_of (LineKind.Html kind)) t.now }
+{
+    if ends(kind, t) {
+        Leaf::Closed
+    } else {
+        Leaf::Html(kind)
+    }
+}
+
+/// Whether a line ends a paragraph before it, by what it is.
+fn interrupts(kind: LineKind) -> bool
+    ensures { result ≡ interrupts (kind_of kind) }
+{
+    match kind {
+        LineKind::Text | LineKind::Indented => false,
+        LineKind::Html(kind) => html_interrupts(kind),
+        _ => true,
+    }
+}
+
+/// As `interrupts`, of HTML.
+fn html_interrupts(kind: HtmlKind) -> bool
+    ensures { result ≡ interrupts (kind_of (LineKind.Html kind)) }
+{
+    match kind {
+        HtmlKind::AnyTag => false,
+        _ => true,
+    }
+}
+
+/// Whether a line interrupts a paragraph before it, so that it cannot go on with it lazily.
+pub fn interrupts_paragraph(on: &Constructs, t: &[u8]) -> bool
+    ensures { result ≡ interrupts (line_kind on.now t.now) }
+{
+    interrupts(line_kind(on, t))
+}
+
+/// The leaf block that a line opens, where none goes on.
+fn opened(on: &Constructs, t: &[u8]) -> Leaf
+    ensures { leaf_of result ≡ opened_by on.now (line_kind on.now t.now) t.now }
+{
+    opened_by(on, line_kind(on, t), t)
+}
+
+/// What may go on behind a line, where a paragraph may go on before it.
+fn behind_paragraph(on: &Constructs, t: &[u8]) -> Leaf
+    ensures { leaf_of result ≡ leaf_after on.now open_paragraph t.now }
+{
+    if underline_rank(on, t).is_some() {
+        return Leaf::Closed;
+    }
+    let kind = line_kind(on, t);
+    if interrupts(kind) {
+        opened_by(on, kind, t)
+    } else {
+        Leaf::Paragraph
+    }
+}
+
+/// What may go on behind a line, where HTML goes on before it.
+fn behind_html(on: &Constructs, html: HtmlKind, t: &[u8]) -> Leaf
+    ensures { leaf_of result ≡ leaf_after on.now (leaf_of (Leaf.Html html)) t.now }
+{
+    let is_last = if waits_for_blank(html) {
+        is_blank_line(t)
+    } else {
+        ends(html, t)
+    };
+    if is_last {
+        Leaf::Closed
+    } else {
+        Leaf::Html(html)
+    }
+}
+
+/// What may go on behind a line, by what may go on before it.
+pub fn leaf_after(on: &Constructs, leaf: Leaf, t: &[u8]) -> Leaf
+    ensures { leaf_of result ≡ leaf_after on.now (leaf_of leaf) t.now }
+{
+    match leaf {
+        Leaf::Closed => opened(on, t),
+        Leaf::Paragraph => behind_paragraph(on, t),
+        Leaf::Fenced(fence) => {
+            if closes(on, fence, t) {
+                Leaf::Closed
+            } else {
+                leaf
+            }
+        }
+        Leaf::Html(html) => behind_html(on, html, t),
+    }
+}

@@ -1,0 +1,266 @@
+//! Lines with their containers: how a line is read needs of the lines before it only which containers are open and which leaf block may go on.
+
+ghost use Rattle.std.specs.Prelude.{◌≡◌, ◌≤◌, ◌+◌, ◌++◌, ◌==◌, ◌||◌, ◌&&◌, not, cond, IfOk, [], length, map, take, drop};
+ghost use Rattle.markdown_base.specs.declared.configuration.Constructs.{Constructs};
+ghost use Rattle.mdconstructs_flow_read.specs.LeafBlocks.{Line, text_of};
+ghost use Rattle.mdconstructs_flow_read.specs.LineKinds.{is_blank_line};
+ghost use Rattle.mdconstructs_lines.specs.Views.{prefix_of};
+ghost use Rattle.mdconstructs_containers.specs.Prefixes.{going_on, beginning, with_list, columns_of, containers_of};
+ghost use Rattle.mdconstructs_containers.specs.Rows.{Row as RowOf, is_raw, has_none, is_paragraph, holds_ending, is_lazily, leaf_after, closed, open_paragraph, row_of, known_after};
+ghost use Rattle.mdconstructs_containers.specs.Views.{leaf_of, open_of, begun_of, before_of, IsRow};
+
+use crate::going::{Going, Open, beginning, first_of, going_on, list_of_first, rest_of};
+use crate::leaves::{Leaf, holds_ending, interrupts_paragraph, is_paragraph, is_raw, leaf_after};
+use markdown_base::configuration::Constructs;
+use mdconstructs_lines::bytes::{behind, is_blank_line};
+use mdconstructs_lines::containers::Prefix;
+use std::alloc::{AllocError, Global};
+
+/// What is known before a line.
+#[derive(Drop)]
+pub struct Before {
+    /// The containers of the last line that was not left blank.
+    pub stack: Vec<Open>,
+    /// How many of them went on since.
+    pub depth: usize,
+    /// The leaf block that may go on.
+    pub leaf: Leaf,
+}
+
+/// A line with its containers.
+#[derive(Drop)]
+pub struct Row {
+    /// How many containers go on with it.
+    pub many: usize,
+    /// The columns of their prefixes.
+    pub going: usize,
+    /// The containers that begin in it.
+    pub begun: Vec<Prefix>,
+    /// The number of the line that begins the list of the first of these.
+    pub list: usize,
+    /// The columns of all prefixes.
+    pub columns: usize,
+    /// Only white space is behind them.
+    pub is_blank: bool,
+    /// It goes on with a paragraph, though not with its containers.
+    pub is_lazy: bool,
+    /// It goes on with the stretch of lines before.
+    pub stays: bool,
+    /// It is left blank: the lines behind it say in which containers it stands.
+    pub is_left_blank: bool,
+    /// The leaf block that may go on behind it.
+    pub leaf: Leaf,
+}
+
+/// Containers that begin in a line, and the columns of their prefixes.
+#[derive(Drop)]
+struct Begun {
+    prefixes: Vec<Prefix>,
+    columns: usize,
+}
+
+/// The containers that begin with a line's rest: none, if all open ones go on and what may go on with them is raw.
+fn begun_in(
+    alloc: Global,
+    on: &Constructs,
+    number: usize,
+    leaf: Leaf,
+    all_go_on: bool,
+    t: &[u8],
+) -> Result<Begun, AllocError>
+    ensures prefixes { IfOk result (λ b. map (prefix_of number) b.prefixes.items ≡ cond (all_go_on && is_raw (leaf_of leaf)) [] (beginning on.now (length t.now) number (all_go_on && is_paragraph (leaf_of leaf)) t.now)) }
+    ensures columns { IfOk result (λ b. b.columns ≡ columns_of (map (prefix_of number) b.prefixes.items)) }
+    ensures within { IfOk result (λ b. b.columns ≤ length t.now) }
+{
+    let mut prefixes = Vec::new(alloc);
+    if all_go_on && is_raw(leaf) {
+        return Ok(Begun {
+            prefixes,
+            columns: 0,
+        });
+    }
+    let in_paragraph = all_go_on && is_paragraph(leaf);
+    let columns = beginning(on, number, in_paragraph, t, &mut prefixes)?;
+    Ok(Begun { prefixes, columns })
+}
+
+/// Whether a line goes on lazily with a paragraph: not all containers go on, none begins, and it begins no other block.
+fn is_lazily(
+    on: &Constructs,
+    before: &Before,
+    all_go_on: bool,
+    none_begins: bool,
+    rest: &[u8],
+) -> bool
+    ensures { result ≡ is_lazily on.now (before_of before.now) all_go_on none_begins rest.now }
+{
+    !all_go_on && none_begins && is_paragraph(before.leaf) && !interrupts_paragraph(on, rest)
+}
+
+/// The leaf block that may go on behind a line.
+fn leaf_behind(
+    on: &Constructs,
+    leaf: Leaf,
+    stays: bool,
+    is_lazy: bool,
+    is_left_blank: bool,
+    rest: &[u8],
+) -> Leaf
+    ensures { leaf_of result ≡ cond is_left_blank closed (cond is_lazy open_paragraph (leaf_after on.now (cond stays (leaf_of leaf) closed) rest.now)) }
+{
+    if is_left_blank {
+        Leaf::Closed
+    } else if is_lazy {
+        Leaf::Paragraph
+    } else if stays {
+        leaf_after(on, leaf, rest)
+    } else {
+        leaf_after(on, Leaf::Closed, rest)
+    }
+}
+
+/// Which of the containers that went on so far go on with a line.
+fn going_in(before: &Before, number: usize, t: &[u8]) -> Going
+    requires { before.now.depth ≤ length before.now.stack.items }
+    ensures many { result.many ≡ length (going_on (take before.now.depth (map open_of before.now.stack.items)) number t.now) }
+    ensures columns { result.columns ≡ columns_of (going_on (take before.now.depth (map open_of before.now.stack.items)) number t.now) }
+    ensures few { result.many ≤ length before.now.stack.items }
+    ensures within { result.columns ≤ length t.now }
+{
+    going_on(first_of(before.stack.as_slice(), before.depth), number, t)
+}
+
+/// The number of the line that begins the list of the first container that begins in a line, where so many go on.
+fn list_in(before: &Before, many: usize, number: usize, begun: &[Prefix]) -> usize
+    requires { many ≤ length before.now.stack.items }
+    ensures { begun_of result number begun.now ≡ with_list (drop many (map open_of before.now.stack.items)) (map (prefix_of number) begun.now) }
+{
+    list_of_first(rest_of(before.stack.as_slice(), many), number, begun)
+}
+
+/// A line with its containers, by those that go on and those that begin.
+fn row_with(
+    on: &Constructs,
+    before: &Before,
+    going: Going,
+    begun: Begun,
+    list: usize,
+    t: &[u8],
+) -> Row
+    requires within { going.columns + begun.columns ≤ length t.now }
+    ensures many { result.many ≡ going.many }
+    ensures going { result.going ≡ going.columns }
+    ensures list { result.list ≡ list }
+    ensures begun { result.begun.items ≡ begun.prefixes.items }
+    ensures columns { result.columns ≡ going.columns + begun.columns }
+    ensures is_lazy { result.is_lazy ≡ is_lazily on.now (before_of before.now) (going.many == before.now.depth) (has_none begun.prefixes.items) (drop (going.columns + begun.columns) t.now) }
+    ensures stays { result.stays ≡ (has_none begun.prefixes.items && (result.is_lazy || ((going.many == before.now.depth) && (length before.now.stack.items == before.now.depth)))) }
+    ensures is_blank { result.is_blank ≡ is_blank_line (drop (going.columns + begun.columns) t.now) }
+    ensures is_left_blank { result.is_left_blank ≡ (result.is_blank && (has_none begun.prefixes.items && not (result.stays && holds_ending (leaf_of before.now.leaf)))) }
+    ensures leaf { leaf_of result.leaf ≡ cond result.is_left_blank closed (cond result.is_lazy open_paragraph (leaf_after on.now (cond result.stays (leaf_of before.now.leaf) closed) (drop (going.columns + begun.columns) t.now))) }
+{
+    let all_go_on = going.many == before.depth;
+    let columns = going.columns + begun.columns;
+    let rest = behind(t, columns);
+    let none_begins = has_none(begun.prefixes.as_slice());
+    let is_lazy = is_lazily(on, before, all_go_on, none_begins, rest);
+    let is_whole = before.stack.len() == before.depth;
+    let stays = none_begins && (is_lazy || all_go_on && is_whole);
+    let is_blank = is_blank_line(rest);
+    let is_left_blank = is_blank && none_begins && !(stays && holds_ending(before.leaf));
+    let leaf = leaf_behind(on, before.leaf, stays, is_lazy, is_left_blank, rest);
+    Row {
+        many: going.many,
+        going: going.columns,
+        begun: begun.prefixes,
+        list,
+        columns,
+        is_blank,
+        is_lazy,
+        stays,
+        is_left_blank,
+        leaf,
+    }
+}
+
+/// Whether there are no prefixes.
+fn has_none(prefixes: &[Prefix]) -> bool
+    ensures { result ≡ has_none prefixes.now }
+{
+    prefixes.is_empty()
+}
+
+impl Before {
+    /// Nothing is known before the first line.
+    pub fn new(alloc: Global) -> Before
+        ensures stack { result.stack.items ≡ [] }
+        ensures depth { result.depth ≡ 0 }
+        ensures leaf { leaf_of result.leaf ≡ closed }
+    {
+        Before {
+            stack: Vec::new(alloc),
+            depth: 0,
+            leaf: Leaf::Closed,
+        }
+    }
+
+    /// A line with its containers, by its number and its bytes.
+    pub fn row(
+        &self,
+        alloc: Global,
+        on: &Constructs,
+        number: usize,
+        t: &[u8],
+    ) -> Result<Row, AllocError>
+        requires { self.now.depth ≤ length self.now.stack.items }
+        ensures row { IfOk result (λ r. (line : Line) → text_of line ≡ t.now → IsRow number r (row_of on.now (before_of self.now) number line)) }
+        ensures within { IfOk result (λ r. r.columns ≤ length t.now) }
+    {
+        let going = going_in(self, number, t);
+        let all_go_on = going.many == self.depth;
+        let after = behind(t, going.columns);
+        let begun = begun_in(alloc, on, number, self.leaf, all_go_on, after)?;
+        let list = list_in(self, going.many, number, begun.prefixes.as_slice());
+        Ok(row_with(on, self, going, begun, list, t))
+    }
+
+    /// What is known behind a line.
+    pub fn go_behind(&mut self, number: usize, row: &Row) -> Result<(), AllocError>
+        ensures known { IfOk result (λ _. (on : Constructs) → (r : RowOf) → IsRow number row.now r → containers_of r.went_on ≡ take row.now.many (map open_of self.old.stack.items) → before_of self.new ≡ known_after on (before_of self.old) r) }
+        ensures depth { IfOk result (λ _. self.old.depth ≤ length self.old.stack.items → row.now.many ≤ length self.old.stack.items → self.new.depth ≤ length self.new.stack.items) }
+    {
+        if row.is_left_blank {
+            self.depth = row.many;
+            self.leaf = Leaf::Closed;
+            return Ok(());
+        }
+        self.leaf = row.leaf;
+        if row.is_lazy {
+            return Ok(());
+        }
+        self.stack.truncate(row.many);
+        open_all(&mut self.stack, row.list, number, row.begun.as_slice())?;
+        self.depth = self.stack.len();
+        Ok(())
+    }
+}
+
+/// Containers that begin are open: the first stands in this list, the others in lists that begin with them.
+fn open_all(
+    stack: &mut Vec<Open>,
+    list: usize,
+    number: usize,
+    begun: &[Prefix],
+) -> Result<(), AllocError>
+    ensures { IfOk result (λ _. map open_of stack.new.items ≡ map open_of stack.old.items ++ containers_of (begun_of list number begun.now)) }
+{
+    let mut of_list = list;
+    for prefix in begun {
+        stack.push(Open {
+            container: prefix.container,
+            list: of_list,
+        })?;
+        of_list = number;
+    }
+    Ok(())
+}
