@@ -1,2 +1,4 @@
 pub mod GoingLemmas
 pub mod RowLemmas
+pub mod SeatLemmas
+pub mod WritingLemmas

@@ -5,3 +5,4 @@ pub mod going;
 pub mod laws;
 pub mod leaves;
 pub mod rows;
+pub mod writing;

@@ -1,0 +1,209 @@
+//! Events of containers, and chunks of lines.
+
+ghost use Rattle.std.specs.Prelude.{◌≡◌, ◌≤◌, ◌+◌, ◌++◌, ◌∷◌, [], cond, true, false, IfOk, ℕ, List, length};
+ghost use Rattle.markdown_base.specs.declared.event.Kind.TheVariants.{Enter, Exit};
+ghost use Rattle.markdown_base.specs.declared.event.Name.TheVariants.{SpaceOrTab};
+ghost use Rattle.markdown_base.specs.Virtual.{Seat};
+ghost use Rattle.mdconstructs_flow_read.specs.LeafBlocks.{bytes_of};
+ghost use Rattle.mdconstructs_flow_read.specs.LineKinds.{indent};
+ghost use Rattle.mdconstructs_lines.specs.Lines.{place_after};
+ghost use Rattle.mdconstructs_lines.specs.Views.{container_of};
+ghost use Rattle.mdconstructs_containers.specs.SeatPlaces.{AreSeatsAt, events_of};
+ghost use Rattle.mdconstructs_containers.specs.Skeleton.{begun_marks, going_marks};
+ghost use Rattle.mdconstructs_containers.specs.PlaceEvents.{HasColumns, event_at, span_at, quote_prefix_at, item_prefix_at};
+
+use markdown_base::configuration::TabSize;
+use markdown_base::event::{Event, Kind, Name, Point};
+use mdconstructs_lines::bytes::indent;
+use mdconstructs_lines::containers::Container;
+use mdconstructs_lines::places::moved;
+use std::alloc::AllocError;
+
+/// Enters a span.
+pub fn enter(events: &mut Vec<Event>, name: Name, point: Point) -> Result<(), AllocError>
+    ensures { IfOk result (λ _. events.new.items ≡ events.old.items ++ event_at Enter name point ∷ []) }
+{
+    events.push(Event {
+        kind: Kind::Enter,
+        name,
+        point,
+        link: None,
+    })?;
+    Ok(())
+}
+
+/// Exits a span.
+pub fn exit(events: &mut Vec<Event>, name: Name, point: Point) -> Result<(), AllocError>
+    ensures { IfOk result (λ _. events.new.items ≡ events.old.items ++ event_at Exit name point ∷ []) }
+{
+    events.push(Event {
+        kind: Kind::Exit,
+        name,
+        point,
+        link: None,
+    })?;
+    Ok(())
+}
+
+/// A span over so many columns from a place on, if there are any. Returns the place behind it.
+pub fn span(
+    events: &mut Vec<Event>,
+    bytes: &[u8],
+    tab: TabSize,
+    name: Name,
+    place: Point,
+    columns: usize,
+) -> Result<Point, AllocError>
+    requires { HasColumns tab bytes.now place columns }
+    ensures events { IfOk result (λ _. events.new.items ≡ events.old.items ++ span_at tab bytes.now name place columns) }
+    ensures place { IfOk result (λ p. p ≡ place_after tab bytes.now place columns) }
+{
+    if columns == 0 {
+        return Ok(place);
+    }
+    let end = moved(bytes, tab, place, columns);
+    enter(events, name, place)?;
+    exit(events, name, end)?;
+    Ok(end)
+}
+
+/// White space, if there is any. Returns the place behind it.
+pub fn white(
+    events: &mut Vec<Event>,
+    bytes: &[u8],
+    tab: TabSize,
+    place: Point,
+    columns: usize,
+) -> Result<Point, AllocError>
+    requires { HasColumns tab bytes.now place columns }
+    ensures events { IfOk result (λ _. events.new.items ≡ events.old.items ++ span_at tab bytes.now SpaceOrTab place columns) }
+    ensures place { IfOk result (λ p. p ≡ place_after tab bytes.now place columns) }
+{
+    span(events, bytes, tab, Name::SpaceOrTab, place, columns)
+}
+
+/// The prefix with which a quote goes on or begins, by its virtual bytes. Returns the place behind it.
+pub fn quote_prefix(
+    events: &mut Vec<Event>,
+    bytes: &[u8],
+    tab: TabSize,
+    place: Point,
+    t: &[u8],
+) -> Result<Point, AllocError>
+    requires columns { HasColumns tab bytes.now place (length t.now) }
+    requires marker { indent t.now + 1 ≤ length t.now }
+    ensures events { IfOk result (λ _. events.new.items ≡ events.old.items ++ quote_prefix_at tab bytes.now place t.now) }
+    ensures place { IfOk result (λ p. p ≡ place_after tab bytes.now place (length t.now)) }
+{
+    let columns = indent(t);
+    let start = white(events, bytes, tab, place, columns)?;
+    enter(events, Name::BlockQuotePrefix, start)?;
+    let marked = span(events, bytes, tab, Name::BlockQuoteMarker, start, 1)?;
+    let end = white(events, bytes, tab, marked, t.len() - columns - 1)?;
+    exit(events, Name::BlockQuotePrefix, end)?;
+    Ok(end)
+}
+
+/// The prefix with which an item begins, by its virtual bytes and its number of digits. Returns the place behind it.
+pub fn item_prefix(
+    events: &mut Vec<Event>,
+    bytes: &[u8],
+    tab: TabSize,
+    place: Point,
+    digits: usize,
+    t: &[u8],
+) -> Result<Point, AllocError>
+    requires columns { HasColumns tab bytes.now place (length t.now) }
+    requires marker { indent t.now + digits + 1 ≤ length t.now }
+    ensures events { IfOk result (λ _. events.new.items ≡ events.old.items ++ item_prefix_at tab bytes.now digits place t.now) }
+    ensures place { IfOk result (λ p. p ≡ place_after tab bytes.now place (length t.now)) }
+{
+    let columns = indent(t);
+    let start = white(events, bytes, tab, place, columns)?;
+    enter(events, Name::ListItemPrefix, start)?;
+    let counted = span(events, bytes, tab, Name::ListItemValue, start, digits)?;
+    let marked = span(events, bytes, tab, Name::ListItemMarker, counted, 1)?;
+    let end = white(events, bytes, tab, marked, t.len() - columns - digits - 1)?;
+    exit(events, Name::ListItemPrefix, end)?;
+    Ok(end)
+}
+
+/// As [`going_prefix`], by places.
+fn going_prefix_at(
+    events: &mut Vec<Event>,
+    bytes: &[u8],
+    tab: TabSize,
+    place: Point,
+    c: &Container,
+    t: &[u8],
+) -> Result<Point, AllocError>
+    requires columns { HasColumns tab bytes.now place (length t.now) }
+    requires marker { c.now.is_quote ≡ true → indent t.now + 1 ≤ length t.now }
+    ensures events { IfOk result (λ _. events.new.items ≡ events.old.items ++ cond c.now.is_quote (quote_prefix_at tab bytes.now place t.now) (span_at tab bytes.now SpaceOrTab place (length t.now))) }
+    ensures place { IfOk result (λ p. p ≡ place_after tab bytes.now place (length t.now)) }
+{
+    if c.is_quote {
+        quote_prefix(events, bytes, tab, place, t)
+    } else {
+        white(events, bytes, tab, place, t.len())
+    }
+}
+
+/// The prefix with which a container goes on, by its virtual bytes. Returns the place behind it.
+pub fn going_prefix(
+    events: &mut Vec<Event>,
+    bytes: &[u8],
+    tab: TabSize,
+    place: Point,
+    c: &Container,
+    t: &[u8],
+) -> Result<Point, AllocError>
+    requires columns { HasColumns tab bytes.now place (length t.now) }
+    requires marker { c.now.is_quote ≡ true → indent t.now + 1 ≤ length t.now }
+    ensures marks { IfOk result (λ _. (list : ℕ) → (seats : List Seat) → AreSeatsAt tab bytes.now place seats → t.now ≡ bytes_of seats → events.new.items ≡ events.old.items ++ events_of (going_marks bytes.now (container_of list c.now) seats)) }
+    ensures place { IfOk result (λ p. p ≡ place_after tab bytes.now place (length t.now)) }
+{
+    let end = going_prefix_at(events, bytes, tab, place, c, t)?;
+    Ok(end)
+}
+
+/// As [`begun_prefix`], by places.
+fn begun_prefix_at(
+    events: &mut Vec<Event>,
+    bytes: &[u8],
+    tab: TabSize,
+    place: Point,
+    c: &Container,
+    t: &[u8],
+) -> Result<Point, AllocError>
+    requires columns { HasColumns tab bytes.now place (length t.now) }
+    requires quote { c.now.is_quote ≡ true → indent t.now + 1 ≤ length t.now }
+    requires item { c.now.is_quote ≡ false → indent t.now + c.now.digits + 1 ≤ length t.now }
+    ensures events { IfOk result (λ _. events.new.items ≡ events.old.items ++ cond c.now.is_quote (quote_prefix_at tab bytes.now place t.now) (item_prefix_at tab bytes.now c.now.digits place t.now)) }
+    ensures place { IfOk result (λ p. p ≡ place_after tab bytes.now place (length t.now)) }
+{
+    if c.is_quote {
+        quote_prefix(events, bytes, tab, place, t)
+    } else {
+        item_prefix(events, bytes, tab, place, c.digits, t)
+    }
+}
+
+/// The prefix with which a container begins, by its virtual bytes. Returns the place behind it.
+pub fn begun_prefix(
+    events: &mut Vec<Event>,
+    bytes: &[u8],
+    tab: TabSize,
+    place: Point,
+    c: &Container,
+    t: &[u8],
+) -> Result<Point, AllocError>
+    requires columns { HasColumns tab bytes.now place (length t.now) }
+    requires quote { c.now.is_quote ≡ true → indent t.now + 1 ≤ length t.now }
+    requires item { c.now.is_quote ≡ false → indent t.now + c.now.digits + 1 ≤ length t.now }
+    ensures marks { IfOk result (λ _. (list : ℕ) → (seats : List Seat) → AreSeatsAt tab bytes.now place seats → t.now ≡ bytes_of seats → events.new.items ≡ events.old.items ++ events_of (begun_marks bytes.now (container_of list c.now) seats)) }
+    ensures place { IfOk result (λ p. p ≡ place_after tab bytes.now place (length t.now)) }
+{
+    let end = begun_prefix_at(events, bytes, tab, place, c, t)?;
+    Ok(end)
+}
