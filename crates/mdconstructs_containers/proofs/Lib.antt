@@ -1,3 +1,4 @@
+pub mod AheadLemmas
 pub mod GoingLemmas
 pub mod RowLemmas
 pub mod SeatLemmas

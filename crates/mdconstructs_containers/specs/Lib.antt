@@ -1,3 +1,4 @@
+pub mod Ahead
 pub mod Letters
 pub mod PlaceEvents
 pub mod Prefixes

@@ -1,8 +1,10 @@
 //! Containers of a document: block quotes, lists and items, and what of each line is in them.
 #![tactic(auto)]
 
+pub mod ahead;
 pub mod going;
 pub mod laws;
 pub mod leaves;
 pub mod rows;
+pub mod spans;
 pub mod writing;

@@ -1,0 +1,58 @@
+-- Lemmas on what is known of a line from the lines behind it.
+use Rattle.std.proofs.Common.{◌≡◌, ℕ, zero, suc, ◌+◌, ◌-◌, ◌<◌, ◌≤◌, Bool, true, false, cond, List, [], ◌∷◌, length, drop, get_or, refl, sym, ap, ◌∙◌, subst, arith}
+use Rattle.std.specs.Prelude.{not, nat_le}
+use Rattle.mdconstructs_containers.specs.declared.ahead.Ahead.{Ahead}
+use Rattle.mdconstructs_containers.specs.declared.spans.RowAt.{RowAt}
+use Rattle.mdconstructs_containers.specs.Rows.{Row, has_none}
+use Rattle.mdconstructs_containers.specs.Skeleton.{further, going_on_at, list_begun, list_at}
+use Rattle.mdconstructs_containers.specs.Views.{IsRow}
+use Rattle.mdconstructs_containers.specs.Ahead.{AreRows, ahead_of}
+
+pub rows_length : (xs : List RowAt) (all : List Row) → AreRows xs all → length xs ≡ length all
+rows_length [] [] h = refl
+rows_length [] (r ∷ rs) h = absurd h
+rows_length (x ∷ xs) [] h = absurd h
+rows_length (x ∷ xs) (r ∷ rs) h = ap suc (rows_length xs rs h.1)
+
+-- nothing is behind the last line
+pub rows_end : (xs : List RowAt) (all : List Row) (n : ℕ) → AreRows xs all → n ≡ length xs → drop n all ≡ []
+rows_end [] [] zero h e = refl
+rows_end [] [] (suc n) h e = refl
+rows_end [] (r ∷ rs) n h e = absurd h
+rows_end (x ∷ xs) [] n h e = absurd h
+rows_end (x ∷ xs) (r ∷ rs) zero h e = absurd (omega arith)
+rows_end (x ∷ xs) (r ∷ rs) (suc n) h e = rows_end xs rs n h.1 (omega arith)
+
+-- A line at an index, and the lines behind it
+pub record IsRowAt (d : RowAt) (xs : List RowAt) (all : List Row) (i : ℕ) : Type 0 where
+  pub row : Row
+  pub is : IsRow (get_or xs i d).span.number (get_or xs i d).row row
+  pub rest : drop i all ≡ row ∷ drop (suc i) all
+
+pub row_at : (d : RowAt) (xs : List RowAt) (all : List Row) (i : ℕ) → AreRows xs all → i < length xs → IsRowAt d xs all i
+row_at d [] all i h w = absurd (omega arith)
+row_at d (x ∷ xs) [] i h w = absurd h
+row_at d (x ∷ xs) (r ∷ rs) zero h w = record { row = r; is = h.0; rest = refl }
+row_at d (x ∷ xs) (r ∷ rs) (suc i) h w = let more = row_at d xs rs i h.1 (omega arith) in record { row = more.row; is = more.is; rest = more.rest }
+
+pub ahead_left : (r : Row) (more : List Row) (a : Ahead) (f : ℕ) → r.is_left_blank ≡ true → a ≡ ahead_of more → f ≡ cond (nat_le 1 a.further) (suc a.further) 0
+    → record { further = f; many = a.many; has_list = a.has_list } ≡ ahead_of (r ∷ more)
+ahead_left r more a f left ea ef =
+    (λ k. record { further = ef k; many = a.many; has_list = a.has_list })
+    ∙ (λ k. record { further = cond (nat_le 1 (ea k).further) (suc (ea k).further) 0; many = (ea k).many; has_list = (ea k).has_list })
+    ∙ (λ k. record {
+      further = cond (sym left k) (cond (nat_le 1 (further more)) (suc (further more)) 0) (cond r.stays (suc (further more)) 0);
+      many = cond (sym left k) (going_on_at more) (length r.went_on);
+      has_list = not (has_none (cond (sym left k) (list_at more) (list_begun r.begun)));
+    })
+
+pub ahead_other : (r : Row) (more : List Row) (a : Ahead) (f m : ℕ) (has : Bool) → r.is_left_blank ≡ false → a ≡ ahead_of more → f ≡ cond r.stays (suc a.further) 0 → m ≡ length r.went_on → has ≡ not (has_none (list_begun r.begun))
+    → record { further = f; many = m; has_list = has } ≡ ahead_of (r ∷ more)
+ahead_other r more a f m has left ea ef em eh =
+    (λ k. record { further = ef k; many = em k; has_list = eh k })
+    ∙ (λ k. record { further = cond r.stays (suc (ea k).further) 0; many = length r.went_on; has_list = not (has_none (list_begun r.begun)) })
+    ∙ (λ k. record {
+      further = cond (sym left k) (cond (nat_le 1 (further more)) (suc (further more)) 0) (cond r.stays (suc (further more)) 0);
+      many = cond (sym left k) (going_on_at more) (length r.went_on);
+      has_list = not (has_none (cond (sym left k) (list_at more) (list_begun r.begun)));
+    })

@@ -1,0 +1,84 @@
+//! What is known of a line from the lines behind it.
+
+ghost use Rattle.std.specs.Prelude.{◌≡◌, ◌≤◌, ◌<◌, ◌+◌, ◌-◌, ◌^◌, ℕ, List, ◌∷◌, suc, cond, not, IfOk, length, drop, slice_index_or};
+ghost use Rattle.mdconstructs_containers.specs.Rows.{Row as RowOf, has_none};
+ghost use Rattle.mdconstructs_containers.specs.Skeleton.{list_begun};
+ghost use Rattle.mdconstructs_containers.specs.Ahead.{AreRows, ahead_of};
+ghost use Rattle.mdconstructs_containers.specs.Views.{IsRow};
+ghost use Rattle.mdconstructs_containers.specs.declared.ahead.Ahead.{Ahead};
+
+use crate::rows::Row;
+use crate::spans::RowAt;
+use std::alloc::{AllocError, Global};
+
+/// What is known of a line from those behind it.
+#[derive(Clone, Copy)]
+pub struct Ahead {
+    /// How many of them the stretch has in which it stands.
+    pub further: usize,
+    /// How many containers go on at the first that is not left blank.
+    pub many: usize,
+    /// At that line a list goes on in which no item is open.
+    pub has_list: bool,
+}
+
+/// Whether the first container that begins in a line goes on with a list.
+pub fn goes_on_with_list(row: &Row) -> bool
+    ensures { (number : ℕ) → (r : RowOf) → IsRow number row.now r → result ≡ not (has_none (list_begun r.begun)) }
+{
+    match row.begun.as_slice() {
+        [first, ..] => !first.container.is_quote && row.list < first.container.line,
+        [] => false,
+    }
+}
+
+/// One line more, if the line is in the stretch.
+fn further_if(is_in: bool, further: usize) -> usize
+    requires room { further + 1 < 2 ^ 64 }
+    ensures value { result ≡ cond is_in (suc further) 0 }
+    ensures few { result ≤ further + 1 }
+{
+    if is_in { further + 1 } else { 0 }
+}
+
+/// What is known from a line and those behind it.
+fn ahead_with(row: &Row, behind: Ahead) -> Ahead
+    requires room { behind.further + 1 < 2 ^ 64 }
+    ensures value { (number : ℕ) → (r : RowOf) → (more : List RowOf) → IsRow number row.now r → behind ≡ ahead_of more → result ≡ ahead_of (r ∷ more) }
+    ensures few { result.further ≤ behind.further + 1 }
+{
+    if row.is_left_blank {
+        let across = further_if(behind.further >= 1, behind.further);
+        return Ahead {
+            further: across,
+            many: behind.many,
+            has_list: behind.has_list,
+        };
+    }
+    let further = further_if(row.stays, behind.further);
+    let has_list = goes_on_with_list(row);
+    Ahead {
+        further,
+        many: row.many,
+        has_list,
+    }
+}
+
+/// What is known of each line from those behind it; that of the last line comes first.
+pub fn aheads_of(alloc: Global, rows: &[RowAt]) -> Result<Vec<Ahead>, AllocError>
+    ensures len { IfOk result (λ a. length a.items ≡ length rows.now) }
+    ensures aheads { IfOk result (λ a. (all : List RowOf) → AreRows rows.now all → (d : Ahead) → (k : ℕ) → k < length rows.now → slice_index_or a.items k d ≡ ahead_of (drop (length rows.now - k) all)) }
+{
+    let mut aheads = Vec::new(alloc);
+    let mut ahead = Ahead {
+        further: 0,
+        many: 0,
+        has_list: false,
+    };
+    for n in 0..rows.len() {
+        aheads.push(ahead)?;
+        let last = rows.len() - 1 - n;
+        ahead = ahead_with(&rows[last].row, ahead);
+    }
+    Ok(aheads)
+}
