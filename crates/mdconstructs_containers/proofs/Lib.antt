@@ -1,4 +1,6 @@
 pub mod AheadLemmas
+pub mod ChainLemmas
+pub mod FrameLemmas
 pub mod GoingLemmas
 pub mod RowLemmas
 pub mod SeatLemmas

@@ -1,4 +1,6 @@
 pub mod Ahead
+pub mod Chunks
+pub mod Frames
 pub mod Letters
 pub mod PlaceEvents
 pub mod Prefixes

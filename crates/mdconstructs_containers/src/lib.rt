@@ -2,6 +2,8 @@
 #![tactic(auto)]
 
 pub mod ahead;
+pub mod chunks;
+pub mod frames;
 pub mod going;
 pub mod laws;
 pub mod leaves;
