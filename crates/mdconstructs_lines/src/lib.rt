@@ -5,4 +5,5 @@ pub mod bytes;
 pub mod containers;
 pub mod html;
 pub mod kinds;
+pub mod laws;
 pub mod places;

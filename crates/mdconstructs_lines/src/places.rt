@@ -3,7 +3,7 @@
 ghost use Rattle.std.specs.Prelude.{◌^◌, ◌≡◌, ◌≤◌, ◌<◌, ◌+◌, ◌++◌, ℕ, length, take, drop, IfOk, not};
 ghost use Rattle.std.specs.List.{prefix_len};
 ghost use Rattle.markdown_base.specs.Virtual.{tab_width};
-ghost use Rattle.mdconstructs_lines.specs.Lines.{is_in_tab, next_place, place_after, is_in_line, seat_bytes, expanded, line_bytes};
+ghost use Rattle.mdconstructs_lines.specs.Lines.{is_in_tab, next_place, place_after, is_in_line, seat_bytes, ending_size, expanded, line_bytes};
 
 use crate::bytes::{behind, front};
 use markdown_base::configuration::TabSize;
@@ -70,6 +70,19 @@ pub fn read_line(
     let n = line_size(rest);
     expand(line, tab.get(), front(rest, n))?;
     Ok(start + n)
+}
+
+/// The index behind the line ending at an index. CR LF is one line ending; at the document's end there is none.
+pub fn behind_ending(bytes: &[u8], end: usize) -> usize
+    requires inside { end ≤ length bytes.now }
+    ensures value { result ≡ end + ending_size (drop end bytes.now) }
+    ensures within { result ≤ length bytes.now }
+{
+    match behind(bytes, end) {
+        [b'\r', b'\n', ..] => end + 2,
+        [_, ..] => end + 1,
+        [] => end,
+    }
 }
 
 /// The place behind the virtual byte at a place.
