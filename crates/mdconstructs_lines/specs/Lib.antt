@@ -1,3 +1,4 @@
+pub mod Breaks
 pub mod Containers
 pub mod Lines
 pub mod Views

@@ -1,6 +1,7 @@
 //! What a line is, and which containers it goes on with or begins, by plain code over its bytes.
 #![tactic(auto)]
 
+pub mod breaks;
 pub mod bytes;
 pub mod containers;
 pub mod html;

@@ -1,0 +1,24 @@
+-- A byte more is a step of the walk.
+use Rattle.std.proofs.Common.{◌≡◌, ◌∙◌, sym, ap, arith, refl}
+use Rattle.mdconstructs_lines.proofs.BreakLemmas.{walk_start, walk_step, step_counts, walk_end, walk_all}
+use Rattle.mdconstructs_lines.proofs.breaks.walk_over.Goals as goal
+
+pub loop-n-init : goal.loop-n-init
+loop-n-init c = record { same = walk_start c.args.t.now; reach = refl; marks = omega arith }
+
+pub returns-in-None : goal.returns-in-None
+returns-in-None c = let i = c.loop-n.invariant in walk_end c.args.t.now c.loop-n.n c.loop-n.w (omega arith) i.same i.reach (sym c.in-None.is ∙ c.with_byte.ensures)
+
+pub loop-n-preserved : goal.loop-n-preserved
+loop-n-preserved c =
+    let i = c.loop-n.invariant in
+    let longer = sym c.in-Some.is ∙ c.with_byte.ensures in
+    let counts = step_counts c.args.t.now c.loop-n.n c.loop-n.w (omega arith) i.same i.reach c.in-Some.longer i.marks longer in
+    record {
+      same = walk_step c.args.t.now c.loop-n.n c.loop-n.w (omega arith) i.same i.reach c.in-Some.longer longer;
+      reach = counts.0;
+      marks = counts.1;
+    }
+
+pub returns : goal.returns
+returns c = walk_all c.args.t.now c.loop-n.n c.loop-n.w (omega arith) c.loop-n.invariant.same
