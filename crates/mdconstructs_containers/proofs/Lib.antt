@@ -1,5 +1,6 @@
 pub mod AheadLemmas
 pub mod ChainLemmas
+pub mod DocumentRows
 pub mod FrameLemmas
 pub mod GoingLemmas
 pub mod RowLemmas

@@ -7,6 +7,7 @@ pub mod frames;
 pub mod going;
 pub mod laws;
 pub mod leaves;
+pub mod lines;
 pub mod rows;
 pub mod spans;
 pub mod writing;

@@ -1,0 +1,75 @@
+//! The lines of a document, with their containers.
+
+ghost use Rattle.std.specs.Prelude.{◌≡◌, ◌≤◌, ◌<◌, ◌+◌, IfOk, length, drop};
+ghost use Rattle.markdown_base.specs.Virtual.{virtual};
+ghost use Rattle.mdconstructs_machines.specs.LineEvents.{lines_in};
+ghost use Rattle.mdconstructs_lines.specs.Lines.{line_at, line_length};
+ghost use Rattle.mdconstructs_containers.specs.Ahead.{AreRows};
+ghost use Rattle.mdconstructs_containers.specs.Rows.{row_of, known_after, rows};
+ghost use Rattle.mdconstructs_containers.specs.Views.{before_of, IsRow};
+
+use crate::rows::Before;
+use crate::spans::{RowAt, Span};
+use markdown_base::configuration::{Constructs, TabSize};
+use mdconstructs_lines::places::{behind_ending, read_line};
+use std::alloc::{AllocError, Global};
+
+/// The line with this number and this beginning, with its containers. What is known before it becomes what is known behind it. `line` is
+/// room for its bytes.
+fn next_row(
+    alloc: Global,
+    bytes: &[u8],
+    tab: TabSize,
+    on: &Constructs,
+    before: &mut Before,
+    line: &mut Vec<u8>,
+    number: usize,
+    start: usize,
+) -> Result<RowAt, AllocError>
+    requires inside { start < length bytes.now }
+    requires depth { before.old.depth ≤ length before.old.stack.items }
+    ensures number { IfOk result (λ at. at.span.number ≡ number) }
+    ensures row { IfOk result (λ at. IsRow number at.row (row_of on.now (before_of before.old) number (line_at tab number start (drop start bytes.now)))) }
+    ensures before { IfOk result (λ _. before_of before.new ≡ known_after on.now (before_of before.old) (row_of on.now (before_of before.old) number (line_at tab number start (drop start bytes.now)))) }
+    ensures next { IfOk result (λ at. at.span.next ≡ start + line_length (drop start bytes.now)) }
+    ensures more { IfOk result (λ at. start < at.span.next) }
+    ensures within { IfOk result (λ at. at.span.next ≤ length bytes.now) }
+    ensures depth { IfOk result (λ _. before.new.depth ≤ length before.new.stack.items) }
+{
+    let end = read_line(line, bytes, tab, start)?;
+    let next = behind_ending(bytes, end);
+    let row = before.row(alloc, on, number, line.as_slice())?;
+    before.go_behind(number, &row)?;
+    let span = Span {
+        number,
+        start,
+        end,
+        next,
+        size: line.len(),
+    };
+    Ok(RowAt { span, row })
+}
+
+/// The lines of a document, with their containers.
+pub fn rows_of(
+    alloc: Global,
+    bytes: &[u8],
+    tab: TabSize,
+    on: &Constructs,
+) -> Result<Vec<RowAt>, AllocError>
+    ensures { IfOk result (λ found. AreRows found.items (rows on.now (lines_in (virtual tab bytes.now)))) }
+{
+    let tab_size = tab.get();
+    prove!(tab_size >= 1);
+    let mut found = Vec::new(alloc);
+    let mut before = Before::new(alloc);
+    let mut line = Vec::new(alloc);
+    let mut start = 0;
+    while start < bytes.len() {
+        let number = found.len() + 1;
+        let at = next_row(alloc, bytes, tab, on, &mut before, &mut line, number, start)?;
+        start = at.span.next;
+        found.push(at)?;
+    }
+    Ok(found)
+}
