@@ -1,16 +1,17 @@
 //! Which open containers go on with a line, and which begin in it.
 
-ghost use Rattle.std.specs.Prelude.{◌≡◌, ◌≤◌, IfOk, IfSome, map, length, take, drop, option_map};
+ghost use Rattle.std.specs.Prelude.{◌≡◌, ◌≤◌, ◌+◌, ◌-◌, ◌&&◌, IfOk, IfSome, map, length, take, drop, option_map};
 ghost use Rattle.mdconstructs_lines.specs.Containers.{goes_on, begins};
-ghost use Rattle.mdconstructs_flow_read.specs.LineKinds.{indent};
+ghost use Rattle.mdconstructs_flow_read.specs.LineKinds.{indent, is_thematic_break, unindented};
+ghost use Rattle.mdconstructs_lines.specs.Breaks.{has_break};
 ghost use Rattle.mdconstructs_lines.specs.Views.{prefix_of};
 ghost use Rattle.mdconstructs_containers.specs.Prefixes.{going_on, columns_of, beginning, with_list};
 ghost use Rattle.mdconstructs_containers.specs.Views.{open_of, begun_of, takes_place};
 
 use markdown_base::configuration::Constructs;
-use mdconstructs_lines::bytes::{behind, indent, unindented};
+use mdconstructs_lines::breaks::{Breaks, breaks_in};
+use mdconstructs_lines::bytes::{behind, indent};
 use mdconstructs_lines::containers::{Container, Prefix, begins, first_from, goes_on};
-use mdconstructs_lines::kinds::is_thematic_break;
 use std::alloc::AllocError;
 
 /// A container that is open.
@@ -75,9 +76,10 @@ pub fn beginning(
     ensures within { IfOk result (λ n. n ≤ length t.now) }
 {
     begun.clear();
+    let breaks = breaks_in(on, t);
     let mut at = 0;
     let mut may_go_on = in_paragraph;
-    while let Some(prefix) = begins_at(on, number, may_go_on, behind(t, at)) {
+    while let Some(prefix) = begins_at(on, number, may_go_on, t, at, breaks) {
         begun.push(prefix)?;
         at += prefix.size;
         may_go_on = false;
@@ -85,14 +87,31 @@ pub fn beginning(
     Ok(at)
 }
 
-/// The container that begins with a line's rest, if one does.
-fn begins_at(on: &Constructs, number: usize, in_paragraph: bool, t: &[u8]) -> Option<Prefix>
-    ensures value { option_map (prefix_of number) result ≡ begins on.now number in_paragraph t.now }
+/// The container that begins at a column of a line's rest, if one does.
+fn begins_at(
+    on: &Constructs,
+    number: usize,
+    in_paragraph: bool,
+    t: &[u8],
+    at: usize,
+    breaks: Breaks,
+) -> Option<Prefix>
+    requires within { at ≤ length t.now }
+    requires breaks { has_break breaks (at + indent (drop at t.now)) ≡ on.now.thematic_break && is_thematic_break (unindented (drop at t.now)) }
+    ensures value { option_map (prefix_of number) result ≡ begins on.now number in_paragraph (drop at t.now) }
     ensures some { IfSome result (λ p. 1 ≤ p.size) }
-    ensures within { IfSome result (λ p. p.size ≤ length t.now) }
+    ensures within { IfSome result (λ p. p.size ≤ length t.now - at) }
 {
-    let is_break = on.thematic_break && is_thematic_break(unindented(t));
-    begins(on, number, in_paragraph, t, indent(t), is_break)
+    let rest = behind(t, at);
+    let columns = indent(rest);
+    begins(
+        on,
+        number,
+        in_paragraph,
+        rest,
+        columns,
+        breaks.has(at + columns),
+    )
 }
 
 /// The number of the line that begins the list of the first of these containers: it goes on with a list if it takes the place of an item with
