@@ -6,3 +6,4 @@ pub mod GoingLemmas
 pub mod RowLemmas
 pub mod SeatLemmas
 pub mod WritingLemmas
+pub mod Examples

@@ -1,6 +1,7 @@
 pub mod Ahead
 pub mod Chunks
 pub mod Frames
+pub mod Examples
 pub mod Letters
 pub mod PlaceEvents
 pub mod Prefixes

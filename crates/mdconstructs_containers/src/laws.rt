@@ -1,1 +1,13 @@
 //! Laws about containers. Each is a function that does nothing; its contract is the law.
+
+ghost use Rattle.std.specs.Prelude.{◌≡◌};
+ghost use Rattle.mdconstructs_containers.specs.Examples.{skeletons_of, given_for, a_few, without_containers, quotes, items, quotes_and_items};
+
+/// The skeletons of seventy documents: which events there are, and where.
+pub fn skeletons_of_documents()
+    ensures few { skeletons_of a_few ≡ given_for a_few }
+    ensures no_containers { skeletons_of without_containers ≡ given_for without_containers }
+    ensures quotes { skeletons_of quotes ≡ given_for quotes }
+    ensures items { skeletons_of items ≡ given_for items }
+    ensures both { skeletons_of quotes_and_items ≡ given_for quotes_and_items }
+{}
