@@ -1,6 +1,7 @@
 -- The definition computes the events of each example.
-use Rattle.std.proofs.Common.{◌≡◌, refl}
+use Rattle.std.proofs.Common.{◌≡◌, map, refl}
 use Rattle.mdconstructs_containers.specs.Examples.{skeletons_of, given_for, a_few, without_containers, quotes, items, quotes_and_items}
+use Rattle.mdconstructs_containers.specs.ListExamples.{lists, read_of}
 
 pub few : skeletons_of a_few ≡ given_for a_few
 few = refl
@@ -16,3 +17,6 @@ of-items = refl
 
 pub of-both : skeletons_of quotes_and_items ≡ given_for quotes_and_items
 of-both = refl
+
+pub of-lists : map (λ l. read_of l.document) lists ≡ lists
+of-lists = refl

@@ -1,9 +1,12 @@
 pub mod Ahead
 pub mod Chunks
 pub mod Frames
+pub mod Blocks
 pub mod Examples
 pub mod Letters
 pub mod PlaceEvents
+pub mod ListExamples
+pub mod Lists
 pub mod Prefixes
 pub mod Rows
 pub mod SeatPlaces

@@ -1,7 +1,8 @@
 //! Laws about containers. Each is a function that does nothing; its contract is the law.
 
-ghost use Rattle.std.specs.Prelude.{◌≡◌};
+ghost use Rattle.std.specs.Prelude.{◌≡◌, map};
 ghost use Rattle.mdconstructs_containers.specs.Examples.{skeletons_of, given_for, a_few, without_containers, quotes, items, quotes_and_items};
+ghost use Rattle.mdconstructs_containers.specs.ListExamples.{lists, read_of};
 
 /// The skeletons of seventy documents: which events there are, and where.
 pub fn skeletons_of_documents()
@@ -10,4 +11,9 @@ pub fn skeletons_of_documents()
     ensures quotes { skeletons_of quotes ≡ given_for quotes }
     ensures items { skeletons_of items ≡ given_for items }
     ensures both { skeletons_of quotes_and_items ≡ given_for quotes_and_items }
+{}
+
+/// Of the blocks of six documents it is told whether a list is loose, what its marker is, and with which number it starts.
+pub fn lists_of_documents()
+    ensures { map (λ l. read_of l.document) lists ≡ lists }
 {}
