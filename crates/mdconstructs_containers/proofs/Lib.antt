@@ -7,3 +7,4 @@ pub mod RowLemmas
 pub mod SeatLemmas
 pub mod WritingLemmas
 pub mod Examples
+pub mod TightMarks

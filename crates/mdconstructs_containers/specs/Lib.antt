@@ -12,3 +12,4 @@ pub mod Rows
 pub mod SeatPlaces
 pub mod Skeleton
 pub mod Views
+pub mod SkeletonLaws

@@ -3,6 +3,7 @@
 ghost use Rattle.std.specs.Prelude.{◌≡◌, map};
 ghost use Rattle.mdconstructs_containers.specs.Examples.{skeletons_of, given_for, a_few, without_containers, quotes, items, quotes_and_items};
 ghost use Rattle.mdconstructs_containers.specs.ListExamples.{lists, read_of};
+ghost use Rattle.mdconstructs_containers.specs.SkeletonLaws.{SkeletonsAreVoidTight, SkeletonsHaveChunks};
 
 /// The skeletons of seventy documents: which events there are, and where.
 pub fn skeletons_of_documents()
@@ -16,4 +17,11 @@ pub fn skeletons_of_documents()
 /// Of the blocks of six documents it is told whether a list is loose, what its marker is, and with which number it starts.
 pub fn lists_of_documents()
     ensures { map (λ l. read_of l.document) lists ≡ lists }
+{}
+
+/// Void spans of skeletons are empty: each is entered, and exited at once. Each event with a link is such a span's enter.
+#[tactic(auto, using(crate::proofs::TightMarks::skeletons_are_void_tight, crate::proofs::TightMarks::skeletons_have_chunks))]
+pub fn void_spans_of_skeletons_are_empty()
+    ensures empty { SkeletonsAreVoidTight }
+    ensures chunks { SkeletonsHaveChunks }
 {}
