@@ -7,4 +7,5 @@ pub mod RowLemmas
 pub mod SeatLemmas
 pub mod WritingLemmas
 pub mod Examples
+pub mod LetterPlaces
 pub mod TightMarks

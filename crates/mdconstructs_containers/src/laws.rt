@@ -1,7 +1,9 @@
 //! Laws about containers. Each is a function that does nothing; its contract is the law.
 
-ghost use Rattle.std.specs.Prelude.{◌≡◌, map};
+ghost use Rattle.std.specs.Prelude.{◌≡◌, ℕ, List, map};
+ghost use Rattle.markdown_tokenizer.specs.Text.{Given};
 ghost use Rattle.mdconstructs_containers.specs.Examples.{skeletons_of, given_for, a_few, without_containers, quotes, items, quotes_and_items};
+ghost use Rattle.mdconstructs_containers.specs.Letters.{ArePlainFrom, LettersKeepPlaces, LettersKeepTexts};
 ghost use Rattle.mdconstructs_containers.specs.ListExamples.{lists, read_of};
 ghost use Rattle.mdconstructs_containers.specs.SkeletonLaws.{SkeletonsAreVoidTight, SkeletonsHaveChunks};
 
@@ -17,6 +19,12 @@ pub fn skeletons_of_documents()
 /// Of the blocks of six documents it is told whether a list is loose, what its marker is, and with which number it starts.
 pub fn lists_of_documents()
     ensures { map (λ l. read_of l.document) lists ≡ lists }
+{}
+
+/// Letters in place of bytes that are no tab and no part of a line ending keep all places, and texts but for these bytes.
+pub fn letters_keep_places()
+    ensures places { (t : ℕ) → (at : List ℕ) → (bytes : List ℕ) → ArePlainFrom 0 at bytes → LettersKeepPlaces t at bytes }
+    ensures texts { (at : List ℕ) → (g : Given) → ArePlainFrom 0 at g.bytes → LettersKeepTexts at g }
 {}
 
 /// Void spans of skeletons are empty: each is entered, and exited at once. Each event with a link is such a span's enter.
