@@ -2,11 +2,14 @@
 use Rattle.mdtests.proofs.Prelude.{ℕ, List, Bool, Option, Some, None, Point, State, Next, Retry, Ok, Nok, Error, Given, Text, Configuration, Choice, StateRows, named, IsStateAt, LineByte, wrap, wrap_rules, Resolver, with_definition}
 
 module _ (refuse : Bool) (g : Given) (text : Text) (k : Configuration Resolver Unit) (choices : List Choice) (label : List ℕ) where
-  at-state : (o : Option (StateRows LineByte Resolver Unit)) (where_to : StateRows LineByte Resolver Unit → Point → Bool) → IsStateAt wrap g text o where_to k choices → IsStateAt wrap g text o where_to (with_definition k label) choices
+  at-state : (o : Option (StateRows LineByte Resolver Unit)) (where_to : StateRows LineByte Resolver Unit → (any : Bool) → Point → Bool) → IsStateAt wrap g text o where_to k choices → IsStateAt wrap g text o where_to (with_definition k label) choices
   at-state None where_to h = absurd h
   at-state (Some state) where_to h = record {
     base = h.base;
     spans = record { stack = h.spans.stack; began = h.spans.began; void = h.spans.void; below = h.spans.below; needs = h.spans.needs; called = h.spans.called };
+    noted = λ is.
+        let (before, places) = h.noted is in
+        (record { position = before.position; read = before.read; at = record { is = before.at.is; began = before.at.began }; exit_before = before.exit_before; enter_before = before.enter_before }, places);
     waiting = h.waiting;
   }
 
