@@ -9,10 +9,12 @@ at-any-cost class state cost t h = record {
     in_order = h.called.in_order;
     base = h.called.base;
     spans = let o = h.called.spans in record { stack = o.stack; began = o.began; void = o.void; below = o.below; needs = o.needs; called = o.called };
+    noted = h.called.noted;
   };
   byte = h.byte;
   stands = h.stands;
   marks = h.marks;
   ends = h.ends;
   ends_read = h.ends_read;
+  ends_noted = h.ends_noted;
 }
