@@ -7,5 +7,6 @@ pub mod RowLemmas
 pub mod SeatLemmas
 pub mod WritingLemmas
 pub mod Examples
+pub mod LetterLemmas
 pub mod LetterPlaces
 pub mod TightMarks

@@ -11,3 +11,4 @@ pub mod lines;
 pub mod rows;
 pub mod spans;
 pub mod writing;
+pub mod letters;
