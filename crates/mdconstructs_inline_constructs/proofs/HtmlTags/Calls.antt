@@ -169,13 +169,13 @@ thrice (b ∷ bs) =
     let ih = thrice bs in
     elim (b == 60) as (λ t. (b == 60) ≡ t → cond t (reach outside bs) 0 + from_tags bs + (cond t 0 (1 + reach (turned outside b) bs) + (reach single (b ∷ bs) + reach double (b ∷ bs))) ≤ 3 * suc (length bs)) [
       | true ↦ λ e.
-          let single_on : reach single (b ∷ bs) ≡ 1 + reach single bs = ap (λ t. 1 + reach (cond t outside single) bs) (unlike (λ b. b == 60) 39 b refl e) in
-          let double_on : reach double (b ∷ bs) ≡ 1 + reach double bs = ap (λ t. 1 + reach (cond t outside double) bs) (unlike (λ b. b == 60) 34 b refl e) in
+          let single_on : reach single (b ∷ bs) ≡ 1 + reach single bs = ap (λ t. 1 + reach (cond t outside single) bs) (unlike (λ b. b == 60) 39 refl b e) in
+          let double_on : reach double (b ∷ bs) ≡ 1 + reach double bs = ap (λ t. 1 + reach (cond t outside double) bs) (unlike (λ b. b == 60) 34 refl b e) in
           omega (arith, ih, single_on, double_on)
       | false ↦ λ e. elim (b == 34) as (λ t. (b == 34) ≡ t → 0 + from_tags bs + ((1 + reach (cond t double (cond (b == 39) single outside)) bs)
           + ((1 + reach (cond (b == 39) outside single) bs) + (1 + reach (cond t outside double) bs))) ≤ 3 * suc (length bs)) [
             | true ↦ λ i.
-                let single_on : reach (cond (b == 39) outside single) bs ≡ reach single bs = ap (λ t. reach (cond t outside single) bs) (unlike (λ b. b == 34) 39 b refl i) in
+                let single_on : reach (cond (b == 39) outside single) bs ≡ reach single bs = ap (λ t. reach (cond t outside single) bs) (unlike (λ b. b == 34) 39 refl b i) in
                 omega (arith, ih, single_on)
             | false ↦ λ i. elim (b == 39) as (λ t. 0 + from_tags bs + ((1 + reach (cond t single outside) bs) + ((1 + reach (cond t outside single) bs) + (1 + reach double bs))) ≤ 3 * suc (length bs)) [
               | true ↦ omega (arith, ih)
