@@ -1,5 +1,6 @@
 -- Code spans, as the machine of texts reads them.
 pub mod Bytes
+pub mod Classes
 pub mod Cuts
 pub mod Found
 pub mod FoundParts

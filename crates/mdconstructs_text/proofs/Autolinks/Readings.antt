@@ -1,5 +1,5 @@
 -- Autolinks, as the machine of texts reads them: if one is there, it is read whole, with its events; if not, what was tried leaves nothing.
-use Rattle.mdconstructs_text.proofs.Prelude.{by-class, Between, IsText, autolinks, at-front, ◌≡◌, ℕ, ◌+◌, ◌<◌, ◌≤◌, ◌∷◌, [], List, Bool, true, false, cond, refl, sym, ◌∙◌, ap, subst, Option, Some, None, inl, inr, arith, take, drop, nat_le, ◌&&◌, ◌==◌, and-false, and-true, cases_lt, eqb-true, lt-ltb, drop-drop, drop-map, is_ascii_alphabetic, prefix_len, drop-next, Event, Autolink, AutolinkProtocol, Name, Next, Retry, AutolinkStart, AutolinkOpen, AutolinkSchemeInsideOrEmailAtext, AutolinkUrlInside, Seat, Nothing, Byte, Given, Text, Configuration, Local, Choice, byte_of, counts, Found, autolink, passes, has_byte_at, is_scheme_byte, is_allowed, uri, autolink_to, autolink_at, is_colon, is_greater_than, bytes_of, Rows, TextByte, text_byte, class_of, row, Nok, row_step, sight, held, has_room, has_scheme, autolink_open_rows, autolink_scheme_rows, autolink_url_rows, nat_tests, consume, enter, exit, AutolinkMarker, letter, scheme_goes_on, zero, suc, length-prefix_len, list_all, is_scheme, more_than}
+use Rattle.mdconstructs_text.proofs.Prelude.{by-class, Between, IsText, autolinks, at-front, ◌≡◌, ℕ, ◌+◌, ◌<◌, ◌≤◌, ◌∷◌, [], List, Bool, true, false, cond, refl, sym, ◌∙◌, ap, subst, Option, Some, None, inl, inr, arith, take, drop, nat_le, ◌&&◌, ◌==◌, and-false, and-true, cases_lt, eqb-true, lt-ltb, drop-drop, drop-map, is_ascii_alphabetic, prefix_len, drop-next, Event, Autolink, AutolinkProtocol, Name, Next, Retry, AutolinkStart, AutolinkOpen, AutolinkSchemeInsideOrEmailAtext, AutolinkUrlInside, Seat, Nothing, Byte, Given, Text, Configuration, Local, Choice, byte_of, counts, Found, autolink, passes, has_byte_at, is_scheme_byte, is_allowed, uri, autolink_to, autolink_at, is_colon, is_greater_than, bytes_of, Rows, TextByte, text_byte, class_of, row, Nok, row_step, sight, held, has_room, has_scheme, autolink_open_rows, autolink_scheme_rows, autolink_url_rows, nat_tests, consume, enter, exit, AutolinkMarker, letter, zero, suc, length-prefix_len, list_all, is_scheme, more_than}
 use Rattle.std.proofs.lemmas.Bool.{le-leb, lt-leb, le-ltb}
 use Rattle.markdown_base.specs.declared.event.Name.{Name as EventName}
 use Rattle.mdconstructs_text.proofs.Texts.Steps.{Plays, between_items, leads-row, leads-seen, leads-tested, leads-ok, before_class}
@@ -9,6 +9,7 @@ use Rattle.mdconstructs_text.proofs.Plain.Items.{DecidesIn, ReadsIn, TriedIn, de
 use Rattle.mdconstructs_text.proofs.Plain.Passed.{after-passed}
 use Rattle.mdconstructs_text.proofs.CodeSpans.Parts.{size_b, with_b, grows_b, more-is}
 use Rattle.mdconstructs_text.proofs.Autolinks.Calls.{link_calls, looked-once, scheme-allowed}
+use Rattle.mdconstructs_text.proofs.Autolinks.Classes.{scheme-class, scheme-refused}
 use Rattle.mdconstructs_text.proofs.Autolinks.Events.{IsJoined, begun_marked, ended_marked, marked-events, marked-front}
 use Rattle.mdconstructs_text.proofs.Autolinks.Places.{text-joined}
 use Rattle.mdconstructs_text.proofs.Texts.Counted.{after-call, after-more, after-sized}
@@ -28,22 +29,6 @@ open-refused before None h = refl
 open-refused before (Some b) h =
     by-class (λ w. autolink_open_rows {R = Unit} {D = Unit} before (Some w) ≡ row [] Nok) b
     (λ e. refl) (λ e. refl) (λ e. refl) (λ e. refl) (λ e. refl) (λ e. refl) (λ e. absurd (cc)) (λ e f. refl) (λ e. refl) (λ e. refl) (λ e. refl) (λ o e. refl) (λ o e. refl) (λ o n e. refl)
-
--- it goes on at the bytes of schemes, and may end at a colon
-scheme-class : (before : Option TextByte) (b : ℕ) → is_scheme_byte b ≡ true → autolink_scheme_rows {R = Unit} {D = Unit} before (Some (text_byte b)) ≡ scheme_goes_on
-scheme-class before b h =
-    by-class (λ w. autolink_scheme_rows {R = Unit} {D = Unit} before (Some w) ≡ scheme_goes_on) b
-    (λ e. absurd (grind (arith, nat_tests))) (λ e. absurd (grind (arith, nat_tests))) (λ e. absurd (grind (arith, nat_tests))) (λ e. absurd (grind (arith, nat_tests)))
-    (λ e. absurd (grind (arith, nat_tests))) (λ e. absurd (grind (arith, nat_tests))) (λ e. refl) (λ e f. refl) (λ e. refl) (λ e. absurd (grind (arith, nat_tests))) (λ e. absurd (grind (arith, nat_tests)))
-    (λ o e. absurd (grind (arith, nat_tests, o))) (λ o e. absurd (grind (arith, nat_tests, o))) (λ o n e. absurd (grind (arith, nat_tests, o)))
-
--- any other byte refuses it, and so does the end
-scheme-refused : (before : Option TextByte) (o : Option ℕ) → passes is_scheme_byte o ≡ false → passes (λ b. b == 58) o ≡ false → autolink_scheme_rows {R = Unit} {D = Unit} before (class_of text_byte o) ≡ row [] Nok
-scheme-refused before None h i = refl
-scheme-refused before (Some b) h i =
-    by-class (λ w. autolink_scheme_rows {R = Unit} {D = Unit} before (Some w) ≡ row [] Nok) b
-    (λ e. refl) (λ e. refl) (λ e. refl) (λ e. refl) (λ e. refl) (λ e. absurd (cc))
-    (λ e. absurd (grind (arith, nat_tests))) (λ e f. absurd (grind (arith, nat_tests))) (λ e. absurd (grind (arith, nat_tests))) (λ e. refl) (λ e. refl) (λ o e. refl) (λ o e. refl) (λ o n e. refl)
 
 -- behind the scheme all allowed bytes are read, and it may end at `>`
 link-class : (before : Option TextByte) (b : ℕ) → is_allowed b ≡ true → autolink_url_rows {R = Unit} {D = Unit} before (Some (text_byte b)) ≡ row (consume ∷ []) (Next AutolinkUrlInside)

@@ -1,9 +1,10 @@
 -- The pieces of a code span, as the machine of texts reads them: line endings, data, and runs that do not close it.
-use Rattle.mdconstructs_text.proofs.Prelude.{by-class, at-front, ◌≡◌, ℕ, suc, ◌+◌, ◌^◌, ◌<◌, ◌≤◌, ◌∷◌, ◌++◌, [], List, Bool, true, false, cond, not, ◌==◌, ◌||◌, refl, sym, ◌∙◌, ap, subst, Option, Some, None, arith, nat_tests, not-true, not-false, max, length, take, drop, slice_get, append_assoc, take_at, drop-drop, drop-map, drop-next, length-drop, length-map, prefix_len-le-length, prefix_len, position_or_len, Event, Enter, Exit, CodeText, CodeTextSequence, CodeTextData, LineEnding, Next, Retry, RawTextBetween, RawTextData, RawTextSequenceClose, RawTextAfter, RawTextBackticksStart, RawTextBackticksInside, Seat, Nothing, Byte, Attempt, Given, Text, Local, Choice, byte_of, point_or, end_or, end_place, class_of, counts, passes, Part, line_ending, plain_run, is_line_feed, is_backtick, is_backtick_or_line_feed, backticks, part_length, plain_length, bytes_of, row, enter, exit, consume, event, leaf, part_events, held, TextByte, backtick, line_feed, text_byte, more_than, sizes_are_equal, raw_text_between_rows, raw_text_data_rows, raw_text_sequence_close_rows, raw_text_backticks_inside_rows, line-ending-read}
+use Rattle.mdconstructs_text.proofs.Prelude.{at-front, ◌≡◌, ℕ, suc, ◌+◌, ◌^◌, ◌<◌, ◌≤◌, ◌∷◌, ◌++◌, [], List, Bool, true, false, cond, not, ◌==◌, ◌||◌, refl, sym, ◌∙◌, ap, subst, Option, Some, None, arith, nat_tests, not-true, not-false, max, length, take, drop, slice_get, append_assoc, take_at, drop-drop, drop-map, drop-next, length-drop, length-map, prefix_len-le-length, prefix_len, position_or_len, Event, Enter, Exit, CodeText, CodeTextSequence, CodeTextData, LineEnding, Next, Retry, RawTextBetween, RawTextData, RawTextSequenceClose, RawTextAfter, RawTextBackticksStart, RawTextBackticksInside, Seat, Nothing, Byte, Attempt, Given, Text, Local, Choice, byte_of, point_or, end_or, end_place, class_of, counts, passes, Part, line_ending, plain_run, is_line_feed, is_backtick, is_backtick_or_line_feed, backticks, part_length, plain_length, bytes_of, row, exit, event, leaf, part_events, held, TextByte, backtick, line_feed, text_byte, more_than, sizes_are_equal, raw_text_data_rows, raw_text_sequence_close_rows, raw_text_backticks_inside_rows, line-ending-read}
 use Rattle.markdown_base.specs.declared.event.Name.{Name as EventName}
 use Rattle.mdconstructs_text.proofs.Texts.Steps.{Plays, EndsWith, Leads, leads-seen, leads-tested, leads-nok, before_class}
 use Rattle.mdconstructs_text.proofs.Plain.Classes.{tick-class, run-ended}
 use Rattle.mdconstructs_text.proofs.Plain.Stretches.{shows, first_byte, past, passed, past-is, past-at, past-stops, passed-keeps, passed-counts, goes-next, class-rows, sees, loops, leaf-read}
+use Rattle.mdconstructs_text.proofs.CodeSpans.Classes.{at-data}
 use Rattle.mdconstructs_text.proofs.CodeSpans.Found.{first_run}
 use Rattle.mdconstructs_text.proofs.CodeSpans.FoundParts.{piece_of}
 use Rattle.mdconstructs_text.proofs.CodeSpans.Plays.{PlaysCodeSpans, Remembering, before_chunk_rows, between_rows}
@@ -51,17 +52,6 @@ is_code_byte b = not (is_backtick_or_line_feed b)
 
 abbrev pub data_length : List ℕ → ℕ
 data_length bytes = position_or_len is_backtick_or_line_feed bytes
-
--- data begins, and is read
-abbrev AtData : Option TextByte → TextByte → Type 0
-AtData b w = (raw_text_between_rows {R = Unit} {D = Unit} b (Some w) ≡ row (enter CodeTextData ∷ []) (Retry RawTextData)) × (raw_text_data_rows {R = Unit} {D = Unit} b (Some w) ≡ row (consume ∷ []) (Next RawTextData))
-
--- at each byte of data
-at-data : (before : Option TextByte) (b : ℕ) → is_backtick_or_line_feed b ≡ false → AtData before (text_byte b)
-at-data before b h =
-    by-class (AtData before) b
-    (λ e. absurd (grind (arith, nat_tests))) (λ e. absurd (grind (arith, nat_tests))) (λ e. (refl, refl)) (λ e. (refl, refl)) (λ e. (refl, refl)) (λ e. (refl, refl)) (λ e. (refl, refl)) (λ e f. (refl, refl)) (λ e. (refl, refl)) (λ e. (refl, refl)) (λ e. (refl, refl))
-    (λ o e. (refl, refl)) (λ o e. (refl, refl)) (λ o n e. (refl, refl))
 
 -- line endings are of the class of LF
 line-feed-class : (b : ℕ) → is_line_feed b ≡ true → text_byte b ≡ line_feed

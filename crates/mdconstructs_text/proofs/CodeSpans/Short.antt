@@ -1,6 +1,6 @@
 -- The virtual bytes of a text can be counted, and so can the runs of backticks among them.
 use Rattle.markdown_base.proofs.SeatCounts.{virtual-length}
-use Rattle.mdconstructs_text.proofs.Prelude.{◌≡◌, ℕ, ◌+◌, ◌-◌, ◌*◌, ◌^◌, ◌<◌, ◌≤◌, ◌∷◌, ◌++◌, [], List, Bool, true, false, cond, not, ◌&&◌, ◌||◌, refl, sym, ◌∙◌, ap, subst, inl, inr, arith, length, drop, length-drop, is_backtick, length-append, and_parts, filter, list_all, AllByRecursion, or-leads, Point, Seat, virtual, stands_before, denotes_same, in_range, Given, Text, Piece, pushed, passed, IsText, empty_text, followed_by, followed_by_all, FitsAfter, CanFollow, after-before, before-upto, every-all, filter-same, same-before, count_by-le-length, length-filter}
+use Rattle.mdconstructs_text.proofs.Prelude.{◌≡◌, ℕ, ◌+◌, ◌*◌, ◌^◌, ◌<◌, ◌≤◌, ◌∷◌, ◌++◌, [], List, Bool, true, false, cond, not, ◌&&◌, ◌||◌, refl, sym, ◌∙◌, ap, subst, inl, inr, arith, length, drop, length-drop, is_backtick, length-append, and_parts, filter, list_all, AllByRecursion, or-leads, Point, Seat, virtual, stands_before, denotes_same, in_range, Given, Text, Piece, pushed, passed, IsText, empty_text, followed_by, followed_by_all, FitsAfter, CanFollow, after-before, before-upto, every-all, filter-same, same-before, count_by-le-length, length-filter}
 use Rattle.mdconstructs_text.proofs.CodeSpans.Walks.{RunsAreShort}
 use Rattle.mdconstructs_text.proofs.CodeSpans.Parts.{count-within}
 

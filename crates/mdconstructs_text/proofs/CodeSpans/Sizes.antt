@@ -1,5 +1,5 @@
 -- How long a code span is: it is no longer than the text, and has its opening backtick string in it.
-use Rattle.mdconstructs_text.proofs.Prelude.{◌≡◌, ℕ, ◌-◌, ◌<◌, ◌≤◌, ◌∷◌, List, false, Option, Some, None, refl, sym, ap, subst, arith, length, drop, option_map, length-drop, prefix_len-le-length, is_backtick, backticks, code_span, code_span_at, item_length}
+use Rattle.mdconstructs_text.proofs.Prelude.{◌≡◌, ℕ, ◌<◌, ◌≤◌, ◌∷◌, List, false, Option, Some, None, refl, sym, ap, subst, arith, length, drop, option_map, length-drop, prefix_len-le-length, is_backtick, backticks, code_span, code_span_at, item_length}
 use Rattle.mdconstructs_text.proofs.CodeSpans.Found.{code-span-found, first-run-is, first_run}
 use Rattle.mdconstructs_text.proofs.CodeSpans.Parts.{run-positive}
 use Rattle.mdconstructs_text.proofs.Constructs.Apart.{OfOption}

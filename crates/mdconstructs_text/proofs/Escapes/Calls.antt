@@ -1,5 +1,5 @@
 -- How many calls backslash escapes take: one at the backslash, and one behind it.
-use Rattle.mdconstructs_text.proofs.Prelude.{◌≡◌, ℕ, ◌&&◌, ◌≤◌, ◌∷◌, List, Some, refl, arith, length, has_byte_at, is_ascii_punctuation, is_backslash, escape, escape_at, Found, item_length, Local, counts}
+use Rattle.mdconstructs_text.proofs.Prelude.{ℕ, ◌&&◌, ◌≤◌, ◌∷◌, List, Some, refl, arith, length, has_byte_at, is_ascii_punctuation, is_backslash, escape, escape_at, Found, item_length, Local, counts}
 use Rattle.mdconstructs_text.proofs.Autolinks.Calls.{byte-within}
 use Rattle.mdconstructs_text.proofs.Constructs.Apart.{OfOption, when-so, when-there}
 use Rattle.mdconstructs_text.proofs.Texts.Counted.{IsAfter}
