@@ -60,7 +60,7 @@ data-picks byte is before g s k current =
     let ends : ends_data on byte ≡ false = λ i. line i || (marked i || run i) in
     let ending : Row Unit Unit = record { acts = exit Data ∷ []; answer = Retry TextBefore } in
     let going : Row Unit Unit = record { acts = consume ∷ []; answer = Next DataInside } in
-    elim (data-goes-on (text_byte byte) (marked-classed on byte white_byte run ∙ ends) (white-classed byte ∙ white_byte)) [
+    elim (data-goes-on (text_byte byte) (marked-classed on byte run ∙ ends) (white-classed byte ∙ white_byte)) [
       | inl class ↦
           ap (λ w. picked (inline_data_rows before (Some w)) g s k) class ∙ ap (λ (o : Option ℕ). cond (on.attention && passes is_delimiter o) ending going) current ∙ ap (λ t. cond t ending going) run
       | inr rows ↦ ap (λ r. picked r g s k) (rows before)
