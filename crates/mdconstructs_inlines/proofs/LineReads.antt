@@ -12,7 +12,7 @@ module _ (before : Option TextByte) where
       by-class (λ w. line_start_rows before (Some w) ≡ row [] (Retry TextBefore)) b
       (λ e. refl) (λ e. refl) (λ e. refl) (λ e. refl) (λ e. refl) (λ e. refl) (λ e. refl) (λ e f. refl) (λ e. refl) (λ e. refl) (λ e. absurd (cc)) (λ o e. refl) (λ o e. refl) (λ o n e. refl)
 
-  white-ends : (o : Option ℕ) → passes is_white o ≡ false → line_white_rows before (class_of text_byte o) ≡ row (exit SpaceOrTab ∷ []) (Retry TextBefore)
+  pub white-ends : (o : Option ℕ) → passes is_white o ≡ false → line_white_rows before (class_of text_byte o) ≡ row (exit SpaceOrTab ∷ []) (Retry TextBefore)
   white-ends None h = refl
   white-ends (Some b) h =
       by-class (λ w. line_white_rows before (Some w) ≡ row (exit SpaceOrTab ∷ []) (Retry TextBefore)) b
