@@ -4,6 +4,7 @@ pub mod Following
 pub mod Picked
 pub mod Pieces
 pub mod Reads
+pub mod Refused
 pub mod Rows
 pub mod Through
 pub mod Walks
