@@ -1,7 +1,7 @@
 -- What a walk over the end of a line found is what thematic breaks are there.
 use Rattle.std.proofs.Common.{◌≡◌, ◌≢◌, ℕ, zero, suc, ◌+◌, ◌-◌, ◌<◌, ◌≤◌, Bool, true, false, cond, List, [], ◌∷◌, length, drop, get_or, refl, sym, ap, ◌∙◌, arith, eqb-true, eq-eqb, ne_eqb, le-leb, le-ltb, lt-ltb}
 use Rattle.std.proofs.lemmas.Bool.{eqb-false, false≢true, leb-true, leb-false, lt-leb, ltb-true, ltb-false}
-use Rattle.std.specs.Prelude.{◌==◌, ◌&&◌, ◌||◌, not, nat_le, nat_lt, filter, Option, None, Some, is_some, unwrap_or}
+use Rattle.std.specs.Prelude.{◌==◌, ◌&&◌, ◌||◌, nat_le, nat_lt, filter, None, Some, is_some, unwrap_or}
 use Rattle.std.specs.List.{list_all, prefix_len}
 use Rattle.std.proofs.lemmas.List.{drop_more, drop-drop, get_or-drop, length-drop}
 use Rattle.std.proofs.Math.Dec.{leb-suc-zero}

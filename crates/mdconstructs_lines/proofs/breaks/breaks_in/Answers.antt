@@ -1,5 +1,4 @@
 -- What the walk found is told of each column.
-use Rattle.std.proofs.Common.{◌≡◌}
 use Rattle.mdconstructs_lines.proofs.BreakLemmas.{reach_within, least_within, breaks_none, breaks_told}
 use Rattle.mdconstructs_lines.proofs.breaks.breaks_in.Goals as goal
 

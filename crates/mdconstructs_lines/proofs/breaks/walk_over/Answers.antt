@@ -1,5 +1,5 @@
 -- A byte more is a step of the walk.
-use Rattle.std.proofs.Common.{◌≡◌, ◌∙◌, sym, ap, arith, refl}
+use Rattle.std.proofs.Common.{◌∙◌, sym, arith, refl}
 use Rattle.mdconstructs_lines.proofs.BreakLemmas.{walk_start, walk_step, step_counts, walk_end, walk_all}
 use Rattle.mdconstructs_lines.proofs.breaks.walk_over.Goals as goal
 
