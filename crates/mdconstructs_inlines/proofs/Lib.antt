@@ -1,4 +1,5 @@
 pub mod Budgets
+mod Called
 pub mod CallsCounted
 mod Counted
 mod DataBytes
