@@ -1,12 +1,12 @@
 pub mod AheadLemmas
 pub mod ChainLemmas
 pub mod DocumentRows
+pub mod Examples
 pub mod FrameLemmas
 pub mod GoingLemmas
-pub mod RowLemmas
-pub mod SeatLemmas
-pub mod WritingLemmas
-pub mod Examples
 pub mod LetterLemmas
 pub mod LetterPlaces
+pub mod RowLemmas
+pub mod SeatLemmas
 pub mod TightMarks
+pub mod WritingLemmas
