@@ -2,6 +2,7 @@
 pub mod ByteSets
 pub mod Called
 pub mod Dashes
+mod DidSteps
 pub mod HeadingEdits
 pub mod NoRefusals
 mod QuietLooks
