@@ -1,5 +1,5 @@
 -- Lemmas on what is known of a line from the lines behind it.
-use Rattle.std.proofs.Common.{◌≡◌, ℕ, zero, suc, ◌+◌, ◌-◌, ◌<◌, ◌≤◌, Bool, true, false, cond, List, [], ◌∷◌, length, drop, get_or, refl, sym, ap, ◌∙◌, subst, arith}
+use Rattle.std.proofs.Common.{◌≡◌, ℕ, zero, suc, ◌<◌, Bool, true, false, cond, List, [], ◌∷◌, length, drop, get_or, refl, sym, ap, ◌∙◌, arith}
 use Rattle.std.specs.Prelude.{not, nat_le}
 use Rattle.mdconstructs_containers.specs.declared.ahead.Ahead.{Ahead}
 use Rattle.mdconstructs_containers.specs.declared.spans.RowAt.{RowAt}

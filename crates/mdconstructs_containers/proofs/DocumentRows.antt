@@ -1,11 +1,11 @@
 -- Lemmas on the lines of a document, with their containers.
 use Rattle.std.proofs.Common.{◌≡◌, ℕ, zero, suc, ◌+◌, ◌-◌, ◌<◌, ◌≤◌, Bool, true, false, cond, List, [], ◌∷◌, ◌++◌, length, take, drop, map, min, length-drop, length-take, refl, sym, ap, ◌∙◌, subst, arith, append_assoc}
-use Rattle.std.specs.Prelude.{◌==◌, ◌&&◌, not, filter, Option, Some, None}
+use Rattle.std.specs.Prelude.{◌==◌, ◌&&◌, filter, Option, Some, None}
 use Rattle.std.specs.List.{prefix_len}
 use Rattle.std.proofs.lemmas.List.{append-nil, drop-drop}
 use Rattle.markdown_base.specs.declared.configuration.Constructs.{Constructs}
 use Rattle.markdown_base.specs.Virtual.{Seat, virtual, virtual_from, begins_with_lf}
-use Rattle.mdconstructs_machines.specs.LineEvents.{lines_in, line_text}
+use Rattle.mdconstructs_machines.specs.LineEvents.{lines_in}
 use Rattle.mdconstructs_flow_read.specs.LeafBlocks.{Line, text_of}
 use Rattle.mdconstructs_lines.specs.Containers.{Container, Prefix, goes_on}
 use Rattle.mdconstructs_lines.specs.Lines.{line_at, line_length, line_bytes, text_seats, ending_seats, ending_size, is_in_line, is_no_ending}

@@ -1,18 +1,17 @@
 -- Letters keep places.
 use Rattle.std.proofs.Common.{◌≡◌, ℕ, zero, suc, ◌+◌, Bool, true, false, cond, List, [], ◌∷◌, ◌++◌, ◌-◌, get_or, refl, sym, ap, ◌∙◌, eqb-true}
 use Rattle.std.proofs.lemmas.Bool.{false≢true}
-use Rattle.std.specs.Prelude.{◌==◌, ◌&&◌, ◌||◌, not, filter, map, slice_index}
+use Rattle.std.specs.Prelude.{◌==◌, ◌&&◌, ◌||◌, not, filter, map}
 use Rattle.std.specs.List.{flat_map, list_all, list_any}
 use Rattle.std.proofs.lemmas.List.{map-append}
-use Rattle.markdown_base.specs.declared.event.Event.{Event}
 use Rattle.markdown_base.specs.declared.event.Point.{Point}
-use Rattle.markdown_base.specs.Places.{denotes_same, follows_cr, in_range, is_upto, points, shown, stands_before}
-use Rattle.markdown_base.specs.Virtual.{Seat, begins_with_lf, document_end, end_after, end_in_tab, in_tab, line_feed, other_byte, point, tab_width, virtual, virtual_from}
+use Rattle.markdown_base.specs.Places.{denotes_same, follows_cr, in_range, shown, stands_before}
+use Rattle.markdown_base.specs.Virtual.{Seat, begins_with_lf, end_after, end_in_tab, in_tab, line_feed, other_byte, point, tab_width, virtual, virtual_from}
 use Rattle.markdown_tokenizer.specs.Text.{Given, Piece, Text, followed_by, followed_by_all, passed, pushed, empty_text}
 use Rattle.markdown_children.specs.Chains.{chain_of}
 use Rattle.markdown_children.specs.Children.{first_chunk}
 use Rattle.markdown_children.specs.Ready.{place_at}
-use Rattle.markdown_children.specs.Reads.{pieces_of, text_from}
+use Rattle.markdown_children.specs.Reads.{pieces_of}
 use Rattle.mdconstructs_containers.specs.Letters.{ArePlainFrom, LettersKeepPlaces, LettersKeepTexts, is_plain, letter, lettered_from, lettered_seat, lettered_text, with_letters}
 
 -- a plain byte is none of these

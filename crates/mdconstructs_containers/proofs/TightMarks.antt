@@ -3,7 +3,6 @@ use Rattle.std.proofs.Common.{◌≡◌, ℕ, zero, suc, ◌+◌, Bool, true, fa
 use Rattle.std.specs.Prelude.{Option, None, Some, is_some, not, map, nat_le, option_map, reverse, slice_get, unwrap_or, ◌==◌}
 use Rattle.std.specs.List.{flat_map}
 use Rattle.std.proofs.lemmas.Bool.{false≢true}
-use Rattle.markdown_base.specs.declared.configuration.Constructs.{Constructs}
 use Rattle.markdown_base.specs.declared.event.Content.TheVariants as content
 use Rattle.markdown_base.specs.declared.event.Event.{Event}
 use Rattle.markdown_base.specs.declared.event.Content.{Content}
@@ -24,7 +23,7 @@ use Rattle.mdconstructs_flow_read.specs.LineKinds.{indent}
 use Rattle.mdconstructs_lines.specs.Containers.{Container, Item, Prefix, item, quote}
 use Rattle.mdconstructs_containers.specs.Prefixes.{columns_of}
 use Rattle.mdconstructs_containers.specs.Rows.{Row, has_none, rows}
-use Rattle.mdconstructs_containers.specs.Skeleton.{Frame, Part, Piece, begin_of, behind_marks, begun_all, begun_marks, chained_from, chunks_of, end_of, ending_marks, enters_of, exits, going_marks, inside_of, is_held, joined_pieces, last_line, list_name, next_chunk, part_marks, parts, parts_marks, piece_of, pieces_of, prefixes_marks, shared, skeleton}
+use Rattle.mdconstructs_containers.specs.Skeleton.{Frame, Part, Piece, begin_of, behind_marks, begun_all, begun_marks, chained_from, chunks_of, end_of, ending_marks, enters_of, exits, going_marks, inside_of, is_held, joined_pieces, last_line, list_name, part_marks, parts, parts_marks, pieces_of, prefixes_marks, shared}
 use Rattle.mdconstructs_containers.specs.SkeletonLaws.{SkeletonsAreVoidTight, SkeletonsHaveChunks}
 
 -- an exit of this name comes next

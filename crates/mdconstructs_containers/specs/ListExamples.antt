@@ -1,7 +1,6 @@
 -- Lists of some documents: whether they are loose, their markers and the numbers that they start with.
-use Rattle.std.specs.Prelude.{ℕ, Bool, true, false, List, [], ◌∷◌, Option, None, Some, codes, drop, map}
+use Rattle.std.specs.Prelude.{ℕ, Bool, true, false, List, [], ◌∷◌, Option, None, Some, codes, drop}
 use Rattle.markdown_base.specs.Presets.{default_parse_options}
-use Rattle.markdown_tokenizer.specs.Text.{Given}
 use Rattle.mdconstructs_containers.specs.Blocks.{document_blocks}
 use Rattle.mdconstructs_containers.specs.Lists.{is_loose, list_marker, list_start}
 

@@ -1,6 +1,6 @@
 -- What is said of a list by its events, from behind its enter on: whether it is loose, its marker and the number it starts with (CommonMark 0.31,
 -- 5.3).
-use Rattle.std.specs.Prelude.{ℕ, zero, suc, ◌+◌, ◌-◌, ◌*◌, ◌==◌, ◌&&◌, ◌||◌, nat_le, Bool, true, false, cond, List, [], ◌∷◌, drop, take_while, slice_index, Option, None, Some, option_map}
+use Rattle.std.specs.Prelude.{ℕ, zero, suc, ◌+◌, ◌-◌, ◌*◌, ◌==◌, ◌&&◌, ◌||◌, nat_le, Bool, false, cond, List, [], ◌∷◌, drop, take_while, slice_index, Option, None, Some, option_map}
 use Rattle.std.specs.List.{list_any}
 use Rattle.markdown_base.specs.declared.event.Event.{Event}
 use Rattle.markdown_base.specs.declared.event.Kind.{Kind}

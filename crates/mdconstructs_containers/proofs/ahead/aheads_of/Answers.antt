@@ -1,9 +1,8 @@
-use Rattle.std.proofs.Common.{◌≡◌, ◌<◌, ◌≤◌, ◌+◌, ◌-◌, ℕ, suc, List, [], ◌∷◌, ◌++◌, ◌⊎◌, length, drop, get_or, ap, sym, ◌∙◌, inl, inr, ⊎_elim, arith}
+use Rattle.std.proofs.Common.{◌≡◌, ◌<◌, ◌≤◌, ◌+◌, ◌-◌, ℕ, suc, List, [], ◌∷◌, ◌++◌, ◌⊎◌, length, drop, get_or, ap, sym, ◌∙◌, inl, inr, arith}
 use Rattle.std.proofs.lemmas.List.{length_push, get_or_append_left, get_or_push}
 use Rattle.std.proofs.lemmas.Bool.{cases_lt}
 use Rattle.mdconstructs_containers.specs.declared.ahead.Ahead.{Ahead}
-use Rattle.mdconstructs_containers.specs.Rows.{Row}
-use Rattle.mdconstructs_containers.specs.Ahead.{AreRows, ahead_of}
+use Rattle.mdconstructs_containers.specs.Ahead.{ahead_of}
 use Rattle.mdconstructs_containers.proofs.AheadLemmas.{rows_end, row_at}
 use Rattle.mdconstructs_containers.proofs.ahead.aheads_of.Goals as goal
 

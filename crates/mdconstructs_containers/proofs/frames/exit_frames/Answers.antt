@@ -1,5 +1,4 @@
 use Rattle.std.proofs.Common.{◌<◌, length, ◌∙◌, arith}
-use Rattle.markdown_base.specs.declared.event.Event.{Event}
 use Rattle.mdconstructs_containers.proofs.FrameLemmas.{frame_enough, frame_front, frame_events, frames_end}
 use Rattle.mdconstructs_containers.proofs.frames.exit_frames.Goals as goal
 

@@ -1,4 +1,4 @@
-use Rattle.std.proofs.Common.{◌≡◌, ◌≤◌, ◌++◌, ◌-◌, length, take, drop}
+use Rattle.std.proofs.Common.{◌≡◌, ◌≤◌, ◌++◌, length, take, drop}
 use Rattle.mdconstructs_containers.specs.Frames.{exits_at}
 use Rattle.mdconstructs_containers.proofs.frames.exit_frames.Given as goal
 

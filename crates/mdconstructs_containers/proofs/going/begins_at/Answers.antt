@@ -1,4 +1,4 @@
-use Rattle.std.proofs.Common.{◌≡◌, ◌≤◌, ◌+◌, ◌∙◌, ℕ, List, length, drop, ap, sym, subst}
+use Rattle.std.proofs.Common.{◌≤◌, ◌+◌, ◌∙◌, ℕ, ap, sym, subst}
 use Rattle.std.specs.Prelude.{◌&&◌, IfSome}
 use Rattle.mdconstructs_flow_read.specs.LineKinds.{indent, is_thematic_break, unindented}
 use Rattle.mdconstructs_lines.specs.Breaks.{has_break}

@@ -1,4 +1,4 @@
-use Rattle.std.proofs.Common.{◌≡◌, drop, length, take, map, sym, ap, refl, ◌∙◌, arith, subst, ◌≤◌}
+use Rattle.std.proofs.Common.{◌≡◌, drop, length, sym, refl, ◌∙◌, arith, ◌≤◌}
 use Rattle.std.proofs.lemmas.List.{length-map}
 use Rattle.mdconstructs_flow_read.specs.LeafBlocks.{text_of}
 use Rattle.mdconstructs_lines.specs.Lines.{line_at}

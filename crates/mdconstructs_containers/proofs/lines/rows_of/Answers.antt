@@ -1,4 +1,4 @@
-use Rattle.std.proofs.Common.{◌≡◌, ◌<◌, ℕ, length, drop, map, ap, sym, subst, ◌+◌, ◌-◌, ◌∙◌, suc, arith, length-drop}
+use Rattle.std.proofs.Common.{◌≡◌, ◌<◌, ℕ, length, drop, map, ap, subst, ◌+◌, ◌∙◌, suc, arith, length-drop}
 use Rattle.std.proofs.lemmas.List.{drop_all, length_push}
 use Rattle.markdown_base.specs.Virtual.{virtual}
 use Rattle.mdconstructs_machines.specs.LineEvents.{lines_in}
