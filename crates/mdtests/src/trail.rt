@@ -5,13 +5,11 @@ ghost use Rattle.mdconstructs.specs.RowInvariant.{DoesAll, IsCallable, step_in};
 ghost use Rattle.mdtests.specs.Trail.{data_inside, text_before, text_start, trail_byte, white_inside};
 
 use crate::machines::lines_by;
-use crate::pushed::read_by;
-use crate::shown::{assert_shown, point_of, push_events};
-use markdown::configuration::TabSize;
-use markdown::event::{self, Point};
+use crate::shown::assert_shown;
+use markdown::event;
 use markdown::state::{Machine, MachineTypes, Name, State};
 use markdown::subtokenize::Subresult;
-use markdown::tokenizer::{AfterGap, Fault, Tokenizer, follow_on};
+use markdown::tokenizer::{Fault, Tokenizer};
 use mdconstructs::marker;
 use std::alloc::{AllocError, Global};
 
@@ -182,22 +180,4 @@ fn white_space_ends_data_where_it_began(rt: HostRuntime) -> Result<(), AllocErro
         assert_shown(&rt, read, want)?;
     }
     Ok(())
-}
-
-/// White space begins behind a gap, where its first byte is.
-#[test]
-fn white_space_begins_behind_a_gap(rt: HostRuntime) -> Result<(), AllocError> {
-    let bytes = b"a\n>  ";
-    let tab = TabSize::default();
-    let ranges: [AfterGap; 2] = [
-        (None, (0, 0), (2, 0)),
-        (point_of((3, 0), Some((2, 2))), (3, 0), (5, 0)),
-    ];
-    assert!(rt; follow_on(bytes, tab, Point::START, &ranges));
-    let seen = read_by(rt.alloc(), &Trail {}, Name::TextStart, bytes, tab, &ranges)?;
-    let mut text = String::new(rt.alloc());
-    push_events(&mut text, seen.events.as_slice())?;
-    let want =
-        "Data 1:1 (0+0) to 1:2 (1+0); LineEnding 1:2 (1+0) to 2:1 (2+0); SpaceOrTab 2:2 (3+0) to 2:4 (5+0)";
-    assert_shown(&rt, Ok(text), want)
 }
