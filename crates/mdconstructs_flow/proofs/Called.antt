@@ -1,14 +1,10 @@
--- What the machine knows where a chunk of a paragraph begins, and where an underline may end; and that a byte that is seen waits.
+-- What the machine knows where a chunk of a paragraph begins, and where an underline may end.
 use Rattle.std.proofs.Common.{◌≡◌, ℕ, List, [], ◌∷◌, true, false, Some, refl, subst, arith}
 use Rattle.markdown_base.specs.declared.event.Event.{Event}
 use Rattle.markdown_base.specs.declared.state.State.TheVariants.{Retry}
 use Rattle.markdown_base.specs.declared.state.TheConstants.Name.{ParagraphStart, HeadingSetextAfter}
 use Rattle.markdown_base.specs.declared.event.Name.TheVariants.{HeadingSetextUnderline}
 use Rattle.markdown_tokenizer.specs.Configuration.{Configuration, Local, Choice}
-use Rattle.markdown_tokenizer.specs.Sight.{current_of}
-use Rattle.markdown_tokenizer.specs.Text.{Text}
-use Rattle.markdown_tokenizer.specs.declared.waiting.Waits.{Waits}
-use Rattle.markdown_tokenizer.specs.declared.waiting.Waits.TheVariants.{Byte, End, Nothing}
 use Rattle.mdconstructs_tables.specs.Quiet.{is_one_of}
 use Rattle.mdconstructs_machines.specs.Paragraphs.{HasChunk}
 use Rattle.mdconstructs_flow.specs.FlowKnows.{looks, Place, before_chunk, in_underline, place_at, KnowsChunk, KnowsEdits, IsBehindParagraph, knows_flow}
@@ -38,9 +34,3 @@ can-end k h = record {
   order = omega (arith, h.first_is, h.last_is);
   within = exit-within (HeadingSetextUnderline ∷ []) k.events k.local.map k.local.tokenize_state.end k.local.tokenize_state.start h;
 }
-
--- a byte that is seen waits
-pub byte-waits : (text : Text) (p : ℕ) (waits : Waits) (b : ℕ) → current_of text p waits ≡ Some b → waits ≡ Byte
-byte-waits text p Nothing b h = absurd (cc)
-byte-waits text p Byte b h = refl
-byte-waits text p End b h = absurd (cc)

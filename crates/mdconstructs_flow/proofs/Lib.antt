@@ -2,7 +2,6 @@
 pub mod ByteSets
 pub mod Called
 pub mod Dashes
-mod DidSteps
 pub mod HeadingEdits
 pub mod NoRefusals
 mod QuietLooks

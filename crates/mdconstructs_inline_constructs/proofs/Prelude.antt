@@ -64,7 +64,7 @@ pub use Rattle.mdconstructs_references.proofs.Parts.{no_characters}
 pub use Rattle.mdconstructs_references.proofs.Tables.{all_are_short}
 pub use Rattle.mdconstructs_references.specs.References.{name_from}
 pub use Rattle.mdconstructs_tables.proofs.GrowingTexts.{last-more}
-pub use Rattle.mdconstructs_tables.proofs.Rows.Calls.{can-exit, can-mark, then}
+pub use Rattle.mdconstructs_tables.proofs.Rows.Calls.{byte-waits, can-exit, can-mark, then}
 pub use Rattle.mdconstructs_tables.specs.NoFurther.{IsAnsweredAlike, tests}
 pub use Rattle.mdconstructs_tables.specs.RowInvariant.{DoesAll, IsCallable}
 pub use Rattle.mdconstructs_tables.specs.RowTest.{allows_all, start_shape}

@@ -1,5 +1,4 @@
 pub mod Budgets
-mod Called
 pub mod CallsCounted
 mod Counted
 mod DataBytes

@@ -1,4 +1,5 @@
 -- The machine of inline text does what the rows of constructs say; and between them what bytes say.
+use Rattle.markdown_base.proofs.Common.{and-right}
 use Rattle.mdconstructs_inlines.proofs.Prelude.{◌≡◌, ◌⊎◌, inl, inr, ℕ, ◌==◌, ◌&&◌, ◌||◌, [], ◌∷◌, Bool, true, false, cond, Option, Some, None, refl, sym, ap, ◌∙◌, arith, nat_tests, Constructs, Data, LineEnding, Next, Retry, AttentionStart, DataInside, TextBefore, TextBeforeData, TextLineStart, with_local, Configuration, sight, Given, Text, Rows, class_of, consume, enter, exit, row, is_white, counts, row_step, is_line_feed, passes, between_texts, some_begins, tried_at, TextByte, is_line_feed_class, line_feed, punctuation, text_byte, white, PlaysCodeSpans, remembering, line-classed, BeginsData, HasRow, HasRows, Plays, tested, PlaysEmails, MarkPlace, at_cdata, at_comment, at_declaration, at_inside, at_open, mark_name, PlaysMarks, mark_rows, Place, PlaysTags, rows_of, state_of, PlaysBreakEscapes, PlaysReferences, between-remembered, code_memory, opening-remembered, white-classed, is_white_class, begins_run, ends_data, inline_before_rows, inline_constructs, inline_data_rows, is_delimiter, run_begins}
 use Rattle.mdconstructs_inline_constructs.proofs.HtmlTags.Places as place
 use Rattle.mdconstructs_inlines.proofs.Counted.{counted_step}
@@ -28,10 +29,6 @@ delimiter-class b h = elim (b == 42) as (λ t. (b == 42) ≡ t → (t || ((b == 
   | false ↦ λ e i. let same : b ≡ 95 = grind (arith, nat_tests) in ap text_byte same
 ] refl h
 
-and-second : (x y : Bool) → (x && y) ≡ true → y ≡ true
-and-second true y h = h
-and-second false y h = absurd (cc)
-
 module _ (g : Given) (text : Text) where
   abbrev on : Constructs
   on = g.options.constructs
@@ -47,7 +44,7 @@ module _ (g : Given) (text : Text) where
   -- a byte that is not punctuation begins no run
   pub no-run : (b : ℕ) → (text_byte b ≡ punctuation → ⊥) → begins_run on b ≡ false
   no-run b other = elim (begins_run on b) as (λ t. begins_run on b ≡ t → t ≡ false) [
-    | true ↦ λ e. absurd (other (delimiter-class b (and-second on.attention (is_delimiter b) e)))
+    | true ↦ λ e. absurd (other (delimiter-class b (and-right on.attention (is_delimiter b) e)))
     | false ↦ λ e. refl
   ] refl
 
@@ -58,7 +55,7 @@ module _ (g : Given) (text : Text) where
   pub runs-begin : (k : Configuration Unit Unit) (b : ℕ) → (sight g text k).current ≡ Some b → begins_run on b ≡ true → HasRow g text (counted_step g) k TextBefore (row [] (Retry AttentionStart))
   runs-begin k b at is =
       ap (λ o. row_step g text k (inline_before_rows (behind k) (class_of text_byte o))) at
-      ∙ ap (λ w. row_step g text k (inline_before_rows (behind k) (Some w))) (delimiter-class b (and-second on.attention (is_delimiter b) is))
+      ∙ ap (λ w. row_step g text k (inline_before_rows (behind k) (Some w))) (delimiter-class b (and-right on.attention (is_delimiter b) is))
       ∙ tested g text run_begins (row [] (Retry AttentionStart)) (row [] (Retry TextBeforeData)) k true (begins-here k b true at is)
 
   pub tried-between : (k : Configuration Unit Unit) (b : ℕ) → (sight g text k).current ≡ Some b → is_line_feed b ≡ false → begins_run on b ≡ false → is_white b ≡ false

@@ -3,7 +3,7 @@ use Rattle.mdconstructs_inlines.proofs.Prelude.{◌≡◌, ℕ, suc, ◌+◌, �
 use Rattle.mdconstructs_inlines.proofs.InlinesCounted.{calls-within}
 use Rattle.mdconstructs_inlines.proofs.Playing.{inlines_play, inlines_play_references}
 use Rattle.mdconstructs_inlines.proofs.Starts.{from-registering-in, start_local}
-use Rattle.mdconstructs_inlines.proofs.StringReads.{ReadsBefore, ReadsKnown, data-read-in, line-read-in, some-read, string-apart, string_escapes, string_references, strings-listed}
+use Rattle.mdconstructs_inlines.proofs.StringReads.{ReadsBefore, ReadsKnown, data-read-in, line-read-in, some-part, string-apart, string_escapes, string_references, strings-listed}
 
 -- how many calls a construct of strings takes at most
 abbrev pub most_tried : ℕ
@@ -83,13 +83,13 @@ module _ (g : Given) (text : Text) (budget : ℕ) where
       → ReadsKnown g text within_budget Knows StringBeforeData (λ b. is_line_feed b ≡ false) string_part
   data-paid Knows pays p ended events local s ss here plain knows =
       let item = string_part (bytes_of (s ∷ ss)) in
-      part-paid StringBeforeData p ended events local s ss here (pays p local knows) item (some-read g text s.byte (bytes_of ss))
+      part-paid StringBeforeData p ended events local s ss here (pays p local knows) item (some-part s.byte (bytes_of ss))
       (omega (arith, string-part-within s.byte (bytes_of ss), length-map ss (λ x. x.byte))) (data-read-in g text p ended events local s ss here plain)
 
   pub line-paid : ReadsKnown g text within_budget (within_budget.knows tt) StringBefore (λ b. is_line_feed b ≡ true) string_part
   line-paid p ended events local s ss here line knows =
       let item = string_part (bytes_of (s ∷ ss)) in
-      part-paid StringBefore p ended events local s ss here (omega (arith, knows)) item (some-read g text s.byte (bytes_of ss))
+      part-paid StringBefore p ended events local s ss here (omega (arith, knows)) item (some-part s.byte (bytes_of ss))
       (omega (arith, string-part-within s.byte (bytes_of ss), length-map ss (λ x. x.byte))) (line-read-in g text p ended events local s ss here line)
 
 module _ (g : Given) (text : Text) where

@@ -23,6 +23,10 @@ string-special-classed b = λ i. line-classed b i || begins-classed text_byte it
 abbrev pub string_data_row : Bool → Rows Unit Unit
 string_data_row ends = cond ends (row (exit Data ∷ []) (Retry StringBefore)) (row (consume ∷ []) (Next DataStart))
 
+-- the part that stands there has a byte
+pub some-part : (b : ℕ) (bs : List ℕ) → 0 < item_length (string_part (b ∷ bs))
+some-part b bs = elim (is_line_feed b) as (λ t. 0 < item_length (cond t (part line_ending) (string_data (b ∷ bs)))) [ true ↦ omega arith | false ↦ omega arith ]
+
 module _ (g : Given) (text : Text) where
   abbrev m : Plays g text
   m = inlines_play g text
@@ -99,9 +103,6 @@ module _ (g : Given) (text : Text) where
         (sym (none-there text_byte item_length cs apart g.options.constructs s.byte (bytes_of ss) (string_part (bytes_of (s ∷ ss))) (alone s.byte at.1)))
         (reads p ended events local s ss here at.0 knows)
 
-  pub some-read : (b : ℕ) (bs : List ℕ) → 0 < item_length (string_part (b ∷ bs))
-  some-read b bs = elim (is_line_feed b) as (λ t. 0 < item_length (cond t (part line_ending) (string_data (b ∷ bs)))) [ true ↦ omega arith | false ↦ omega arith ]
-
   -- the list of constructs, whatever is known
   pub strings-listed : (known : Knowledge Found TextByte (Unit {0})) (within : ℕ)
       → ((p : ℕ) (local : Local Unit Unit) (s : Seat) (ss : List Seat) → drop p text.seats ≡ s ∷ ss → is_line_feed s.byte ≡ false → known.knows tt p local → known.tries tt string_constructs p local)
@@ -128,7 +129,7 @@ module _ (g : Given) (text : Text) where
     );
     reads_data = λ n. data-is;
     reads_lines = λ n. line-is;
-    some = λ n b bs. some-read b bs;
+    some = λ n b bs. some-part b bs;
   }
 
   -- nothing needs to be known

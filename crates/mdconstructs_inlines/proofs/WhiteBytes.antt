@@ -1,4 +1,5 @@
 -- White space in inline text, by its bytes: whether it is spaces alone, what is there of the constructs that begin with it, and how data goes over it.
+use Rattle.std.proofs.lemmas.Bool.{le-leb}
 use Rattle.mdconstructs_inlines.proofs.Prelude.{◌≡◌, ◌⊎◌, inl, inr, ℕ, suc, ◌+◌, ◌&&◌, ◌||◌, not, List, [], ◌∷◌, Bool, true, false, cond, Option, Some, None, refl, sym, ap, ◌∙◌, arith, and-false, nat_tests, drop, prefix_len, nat_le, slice_get, Constructs, EventName, HardBreakTrailing, SpaceOrTab, Seat, is_white, has_byte_at, is_line_feed, is_space, passes, Found, first_there, if_on, or_else, item_length, leaf, item_events, or-none, hard_break_trailing, trailing_break_at, is_white_left, white_space, white_space_at, ends_data_at, up_to, white_grammars}
 use Rattle.mdconstructs_inlines.proofs.InlineApart.{white-plain}
 
@@ -47,9 +48,6 @@ both-spaces : (t : Bool) → cond t spaces spaces ≡ spaces
 both-spaces true = refl
 both-spaces false = refl
 
-one-is-some : (n : ℕ) → nat_le 1 (suc n) ≡ true
-one-is-some n = grind (arith, nat_tests)
-
 two-is-one-more : (n : ℕ) → nat_le 2 (suc n) ≡ nat_le 1 n
 two-is-one-more n = elim (nat_le 1 n) as (λ t. nat_le 1 n ≡ t → nat_le 2 (suc n) ≡ t) [ true ↦ λ e. grind (arith, nat_tests) | false ↦ λ e. grind (arith, nat_tests) ] refl
 
@@ -66,7 +64,7 @@ spaces-or-tab w next (b ∷ bs) =
           elim (spaces-or-tab spaces (λ s. refl) bs) [
             | inl (same, is) ↦ inl (
               ps ∙ ap suc same ∙ sym pw,
-              more ∙ is ∙ both-spaces (nat_le 1 k) ∙ sym (ap (λ n. cond (nat_le 1 n) spaces w) ps ∙ ap (λ t. cond t spaces w) (one-is-some k)),
+              more ∙ is ∙ both-spaces (nat_le 1 k) ∙ sym (ap (λ n. cond (nat_le 1 n) spaces w) ps ∙ ap (λ t. cond t spaces w) (le-leb 1 (suc k) (omega arith))),
             )
             | inr (is, none) ↦ inr (more ∙ is, ap (λ n. has_byte_at (b ∷ bs) n is_line_feed) ps ∙ none)
           ]

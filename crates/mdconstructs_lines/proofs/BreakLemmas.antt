@@ -1,4 +1,5 @@
 -- What a walk over the end of a line found is what thematic breaks are there.
+use Rattle.std.proofs.Math.Bool.{or-true}
 use Rattle.std.proofs.Common.{◌≡◌, ◌≢◌, ℕ, zero, suc, ◌+◌, ◌-◌, ◌<◌, ◌≤◌, Bool, true, false, cond, List, [], ◌∷◌, length, drop, get_or, refl, sym, ap, ◌∙◌, arith, eqb-true, eq-eqb, ne_eqb, le-leb, le-ltb, lt-ltb}
 use Rattle.std.proofs.lemmas.Bool.{eqb-false, false≢true, leb-true, leb-false, lt-leb, ltb-true, ltb-false}
 use Rattle.std.specs.Prelude.{◌==◌, ◌&&◌, ◌||◌, nat_le, nat_lt, filter, None, Some, is_some, unwrap_or}
@@ -125,10 +126,6 @@ and_false : (x : Bool) → (x && false) ≡ false
 and_false true = refl
 and_false false = refl
 
-or_true : (x : Bool) → (x || true) ≡ true
-or_true true = refl
-or_true false = refl
-
 module _ (b : ℕ) (bs : List ℕ) (w : Walk) (s : Seen w bs) where
   -- the walk stopped before
   stopped : w.reach < length bs → Seen w (b ∷ bs)
@@ -153,7 +150,7 @@ module _ (b : ℕ) (bs : List ℕ) (w : Walk) (s : Seen w bs) where
     many = s.many;
     kind = s.kind;
     white = λ e none. ap (λ x. x && list_all is_white bs) is ∙ s.white whole_walk none;
-    only = λ e some. ap (λ x. ((b == w.mark) || x) && list_all (is_mark_or_white w.mark) bs) is ∙ ap (λ x. x && list_all (is_mark_or_white w.mark) bs) (or_true (b == w.mark)) ∙ s.only whole_walk some;
+    only = λ e some. ap (λ x. ((b == w.mark) || x) && list_all (is_mark_or_white w.mark) bs) is ∙ ap (λ x. x && list_all (is_mark_or_white w.mark) bs) (or-true (b == w.mark)) ∙ s.only whole_walk some;
     count = λ e some. differs (b == w.mark) refl some ∙ s.count whole_walk some;
     other = λ h. absurd (omega (arith, h, whole_walk));
   }

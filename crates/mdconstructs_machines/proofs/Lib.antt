@@ -2,6 +2,7 @@
 pub mod BlockReads
 pub mod Breaks
 pub mod ChunkEnters
+pub mod Columns
 pub mod Innermost
 pub mod LineExamples
 pub mod LineReads

@@ -11,25 +11,25 @@ by-row class state w t t' answer is h =
 -- what holds when a machine is called is what its state requires
 module _ {M : Type 0} where
   pub lines_called : (t : TokenizerValue M Unit Unit) → IsCalled lines counts t
-  lines_called = is-called lines counts
+  lines_called = is-called lines counts (λ local. refl)
 
   pub paragraphs_called : (t : TokenizerValue M Unit Unit) → IsCalled paragraphs counts t
-  paragraphs_called = is-called paragraphs counts
+  paragraphs_called = is-called paragraphs counts (λ local. refl)
 
   pub peek_called : (t : TokenizerValue M Unit Unit) → IsCalled peek counts t
-  peek_called = is-called peek counts
+  peek_called = is-called peek counts (λ local. refl)
 
   pub deep_called : (t : TokenizerValue M Unit Unit) → IsCalled deep counts t
-  deep_called = is-called deep counts
+  deep_called = is-called deep counts (λ local. refl)
 
   pub back_called : (t : TokenizerValue M Unit Unit) → IsCalled back counts t
-  back_called = is-called back counts
+  back_called = is-called back counts (λ local. refl)
 
   pub save_called : (t : TokenizerValue M Unit Unit) → IsCalled save counts t
-  save_called = is-called save counts
+  save_called = is-called save counts (λ local. refl)
 
   pub words_called : (t : TokenizerValue M Unit Unit) → IsCalled words counts t
-  words_called = is-called words counts
+  words_called = is-called words counts (λ local. refl)
 
   pub wrap_called : (t : TokenizerValue M Resolver Unit) → IsCalled wrap counts t
-  wrap_called = is-called wrap counts
+  wrap_called = is-called wrap counts (λ local. refl)

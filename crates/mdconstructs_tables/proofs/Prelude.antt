@@ -61,6 +61,6 @@ pub use Rattle.mdconstructs_tables.specs.PlainTables.{ArePlain, IsPlainTable, ar
 pub use Rattle.mdconstructs_tables.specs.PlainWrites.{RowsWritePlain, StatesWritePlain, WritePlain, WritesPlain}
 pub use Rattle.mdconstructs_tables.specs.Plans.{AllKeepKnown, HoldsPlanned, IsSound, KeepsKnowledge, KeepsKnown, KnownBehind, Plan, planned_rules}
 pub use Rattle.mdconstructs_tables.specs.Refusals.{RulesRefuseNothing, act_refuses, is_message, refusing, rows_refuse}
-pub use Rattle.mdconstructs_tables.specs.RowInvariant.{CanEndNoted, CanHoldNoted, IsNotedAt, IsNotedBefore, KnowsNoted, before_next, began_in, began_there, began_unfed, AnyGoesBack, AnyWait, ArePaid, AreWaiting, AreWithin, Began, CanEnd, EndsWithEnter, GoesBack, HoldsAt, IsAtState, IsBelow, IsCallable, IsFed, IsOpen, IsSaved, IsSavedIn, IsStateAt, MayEnd, PaysRows, SightIsInOrder, Stands, and_of_own, answer_end, answer_price, at_most, began_at, begun, choice_price, chosen_price, class_at, class_in, ends_at, events_saved, exit_place_at, first_end, goes_on_price, is_read, next_price, once_read, outline, own_cost, position_of, price_by, retry_price, row_price, since, state_price, table_cost, table_holds, table_price, table_rules, upto, waiting_or_below, waiting_price}
+pub use Rattle.mdconstructs_tables.specs.RowInvariant.{CanEndNoted, CanHoldNoted, IsNotedAt, IsNotedBefore, KnowsNoted, WhereNoted, before_next, began_in, began_there, began_unfed, AnyGoesBack, AnyWait, ArePaid, AreWaiting, AreWithin, Began, CanEnd, EndsWithEnter, GoesBack, HoldsAt, IsAtState, IsBelow, IsCallable, IsFed, IsOpen, IsSaved, IsSavedIn, IsStateAt, MayEnd, PaysRows, SightIsInOrder, Stands, and_of_own, answer_end, answer_price, at_most, began_at, begun, choice_price, chosen_price, class_at, class_in, ends_at, events_saved, exit_place_at, first_end, goes_on_price, is_read, next_price, once_read, outline, own_cost, position_of, price_by, retry_price, row_price, since, state_price, table_cost, table_holds, table_price, table_rules, upto, waiting_or_below, waiting_price}
 pub use Rattle.mdconstructs_tables.specs.RowTest.{Noting, is_noted_before, noted_before, noted_here, noted_if, read_on, unnoted, goes_on_fresh, is_fresh_byte, may_go_on_there, Frame, Shape, Stage, after, after_all, all_rows, allows, allows_all, answer_calls, at_stage, byte_read, byte_waits, calls_at, calls_le, calls_or, choice_calls, chosen_calls, counts_answer, counts_choices, end_waits, fed_calls, feeds, first_stage, fits_answer, fits_calls, fits_choice, fits_choices, fits_row, frame_of, fresh_at, fresh_fed, is_at, is_bare, is_behind, is_by_bytes, is_byte_waiting, is_called, is_called_at, is_counted, is_early, is_end, is_fresh, is_fresh_fed, is_last, is_some, is_void_last, larger, later_stage, may_fail, may_go_back, may_go_on, may_start, needs_choice, needs_failing, never, next_calls, pays_row, plus, same_names, saves, start_shape, waits_in}
 pub use Rattle.mdconstructs_tables.specs.Rows.{Act, Begun, Called, Calls, Cost, Needs, Row, Rows, StateRows, Table, a_choice_for_ok, anywhere, at_a_byte, at_byte, at_bytes, at_bytes_or_end, before, by_bytes, choice_made_at, choose, chooses, class_of, consume, does, done, enter, enter_noted, enters, exit, exit_noted, here, links, named, note, nothing, own, past, picked, row, row_at, seen_after, shown_sight, step_at, step_of, table_step, when, with_choice_of, writes}

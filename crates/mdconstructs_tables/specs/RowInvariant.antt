@@ -218,14 +218,18 @@ pub record IsNotedBefore {R D : Type 0} (g : Given) (text : Text) (now : Point) 
   pub exit_before : stands_before k.local.noted.exit now ≡ true
   pub enter_before : stands_before k.local.noted.enter now ≡ true
 
+-- what is asked of a state only if it is called where a place was noted
+abbrev pub WhereNoted : (is_noted : Bool) → Type 0 → Type 0
+WhereNoted false asked = Unit {0}
+WhereNoted true asked = asked
+
 -- a state that says so is called where a place was noted before
 abbrev pub KnowsNoted : {W R D : Type 0} → Given → Text → StateRows W R D → Configuration R D → Type 0
-KnowsNoted g text state k = state.noted ≡ true → IsNotedBefore g text (exit_place_at g text k.position) k × ArePlaces g k.local.noted
+KnowsNoted g text state k = WhereNoted state.noted (IsNotedBefore g text (exit_place_at g text k.position) k × ArePlaces g k.local.noted)
 
--- A call began: it is counted, and the machine's own fields were written, but not the place that is noted
+-- A call began: it is counted, and the machine's own fields were written
 abbrev pub begun : {M R D : Type 0} → (Local R D → Local R D) → TokenizerValue M R D → TokenizerValue M R D
-begun first t =
-    record t { configuration = with_local t.configuration (record (first t.configuration.local) { noted = t.configuration.local.noted }); calls = t.calls + 1 }
+begun first t = record t { configuration = with_local t.configuration (first t.configuration.local); calls = t.calls + 1 }
 
 -- A state did a step: it returned the step's state, the step's choices wait above the old ones, and the configuration is the step's
 pub record DoesAll {M R D : Type 0} (s : Step R D) (old new : TokenizerValue M R D) (answer : State) : Type 0 where
@@ -276,7 +280,7 @@ pub record IsCallable {M W R D : Type 0} (class : ℕ → W) (state : StateRows 
   pub marks : t.configuration.waiting ≡ Byte → IsMarkable t
   pub ends : are_allowed class state t (map exit (reverse state.spans)) ≡ true → CanEnd (reverse state.spans) t
   pub ends_read : are_allowed class state t (consume ∷ map exit (reverse state.spans)) ≡ true → CanEnd (reverse state.spans) (once_read t)
-  pub ends_noted : state.noted ≡ true → are_allowed class state t (map exit_noted (reverse state.spans)) ≡ true → CanEndNoted (reverse state.spans) t
+  pub ends_noted : WhereNoted state.noted (are_allowed class state t (map exit_noted (reverse state.spans)) ≡ true → CanEndNoted (reverse state.spans) t)
 
 -- the step of a state in a tokenizer
 abbrev pub step_in : {M W R D : Type 0} → (class : ℕ → W) → StateRows W R D → TokenizerValue M R D → Step R D

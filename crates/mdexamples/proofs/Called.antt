@@ -8,7 +8,7 @@ use Rattle.mdexamples.specs.Headings.{headings}
 use Rattle.mdexamples.specs.Labels.{labels}
 
 pub headings_called : (t : TokenizerValue Headings Unit Unit) → IsCalled headings counts t
-headings_called = is-called headings counts
+headings_called = is-called headings counts (λ local. refl)
 
 pub labels_called : (t : TokenizerValue Labels Unit Unit) → IsCalled labels counts t
-labels_called = is-called labels counts
+labels_called = is-called labels counts (λ local. refl)

@@ -1,8 +1,6 @@
 -- What strings are read as is cut into innermost spans.
+use Rattle.mdconstructs_inlines.proofs.StringReads.{some-part}
 use Rattle.mdconstructs_documents.proofs.Prelude.{◌≡◌, ℕ, ◌+◌, ◌<◌, ◌==◌, true, false, cond, not, List, ◌∷◌, refl, take, drop, length, arith, position_or_len, Constructs, Data, LineEnding, Seat, there-holds, IsCut, cut-leaf, ItemCut, cuts, one-taken, plain-add, plain-line, run-behind, escapes-apart, escape-cut, item_length, bytes_of, line_ending, part, item_events, references-apart, reference-cut, is_string_special, string_data, string_grammars, string_item_at, string_part, string_seat_events}
-
-some-part : (b : ℕ) (bs : List ℕ) → 0 < item_length (string_part (b ∷ bs))
-some-part b bs = elim (b == 10) as (λ t. 0 < item_length (cond t (part line_ending) (string_data (b ∷ bs)))) [ true ↦ omega arith | false ↦ omega arith ]
 
 some-item : (on : Constructs) (b : ℕ) (bs : List ℕ) → 0 < item_length (string_item_at on (b ∷ bs))
 some-item on b bs = there-holds (λ item. 0 < item_length item) string_grammars on (b ∷ bs) (string_part (b ∷ bs)) (escapes-apart.some b bs, (references-apart.some b bs, tt)) (some-part b bs)

@@ -1,4 +1,5 @@
 -- The course of a text: each of its virtual bytes is shown where the one before it ends, or behind a gap from there.
+use Rattle.mdconstructs_machines.proofs.Columns.{end-column}
 use Rattle.mdconstructs_flow_read.proofs.Prelude.{◌≡◌, ◌⊎◌, ◌==◌, ℕ, suc, ◌+◌, ◌-◌, ◌^◌, ◌<◌, ◌≤◌, Bool, List, [], ◌∷◌, ◌++◌, true, false, inl, inr, Contains, AllByRecursion, All-contains, All-from_recursion, every-append, every-back, every-map, append_assoc, refl, sym, ap, ◌∙◌, subst, arith, append-nil, length, length-append, filter, end-after-one, stands-self, Point, IsPointOf, IsShown, denotes_same, is_line_ending, shown, stands_before, Seat, end_after, point, virtual, upto-upto, IsChain, whole-chain, after-is-point, chain-at, chain-upto, Given, Text, IsText, Piece, pushed, passed, CanFollow, FitsAfter, empty_text, followed_by, followed_by_all, AcrossGap, AtOnce}
 use Rattle.std.proofs.lemmas.Bool.{cond_both}
 use Rattle.std.proofs.lemmas.List.{append_cancel_left, append_cancel_right}
@@ -42,10 +43,6 @@ module _ (t : ℕ) (bytes : List ℕ) where
     pub first : (v : Seat) → Contains (virtual t bytes) v → stands_before v.point (shown bytes s.point) ≡ false → (v ≡ s) ⊎ (stands_before v.point s.end ≡ false)
     pub in_line : is_line_ending s ≡ false → 1 < s.end.column
 
-  end-column : (byte : ℕ) (p : Point) (goes : Bool) → (byte == 10) ≡ false → goes_on t byte p ≡ goes → (end_at t byte p).column ≡ suc p.column
-  end-column byte p true e f = rw (e, f) refl
-  end-column byte p false e f = rw (e, f) refl
-
   chain-seat : (wide : 0 < t) (front : List Seat) (s : Seat) (rest : List Seat) → virtual t bytes ≡ front ++ s ∷ rest → let p = end_after (point 1 1 0 0) front in IsChain t bytes p (s ∷ rest) → Place p → IsSeat s
   chain-seat wide front s rest e c place =
       let p = end_after (point 1 1 0 0) front in
@@ -67,7 +64,7 @@ module _ (t : ℕ) (bytes : List ℕ) where
         onward = ap (λ q. stands_before s.end q) is ∙ chain-upto t bytes p (s ∷ []) rest c;
         first = λ v among. All-contains P (virtual t bytes) v (All-from_recursion P (virtual t bytes) (subst (AllByRecursion P) (sym e) all)) among;
         in_line = λ plain.
-            let column : s.end.column ≡ suc s.point.column = ap (λ (q : Point). q.column) (sym c.1.end_is) ∙ end-column s.byte s.point (goes_on t s.byte s.point) plain refl in
+            let column : s.end.column ≡ suc s.point.column = ap (λ (q : Point). q.column) (sym c.1.end_is) ∙ end-column t s.byte s.point (goes_on t s.byte s.point) plain refl in
             omega (arith, column, c.1.seat_bounds.first);
       }
 

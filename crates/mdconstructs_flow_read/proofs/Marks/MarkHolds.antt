@@ -1,4 +1,5 @@
 -- Void spans of leaf blocks are each in one line, so they hold bytes of the text alone: none goes over a gap.
+use Rattle.std.proofs.lemmas.Bool.{not-true}
 use Rattle.mdconstructs_flow_read.proofs.Prelude.{◌≡◌, ℕ, ◌+◌, List, [], ◌∷◌, ◌++◌, Bool, true, false, not, Option, Some, None, inl, inr, append_assoc, append-nil, refl, sym, ◌∙◌, subst, arith, Contains, recursion_from_All, All-contains_itself, AllByRecursion, and_parts, every-front, every-back, map-append, Event, Enter, Exit, Point, is_void, shown, stands_before, Seat, end_after, virtual, lines_in, event, Given, Text, IsText, AcrossGap, Chunk, Mark, alone, chunk_span, leaf_blocks, leaf_blocks_marks, linked_from, flow_events}
 use Rattle.markdown_base.specs.declared.event.Name.{Name}
 use Rattle.markdown_base.specs.declared.event.Name.TheVariants as name
@@ -59,17 +60,13 @@ module _ (t : ℕ) (bytes : List ℕ) (In : Seat → Type 0) where
       subst HoldEach (sym (map-append (λ (m : Mark). m.0) xs ys))
       (hold-both (bare xs) (bare ys) (h p (b ++ rest) whole (every-front In a b inside)) (k (end_after p a) rest (course-on AcrossGap t bytes p a (b ++ rest) whole) (every-back In a b inside)))
 
-  not-before : (b : Bool) → not b ≡ true → b ≡ false
-  not-before true h = absurd (cc)
-  not-before false h = refl
-
   holds-pair : (chunk : Option Chunk) (n : Name) (s : Seat) (ss : List Seat) → IsWhole (s ∷ ss) → HoldsOver (chunk_span bytes chunk n (s ∷ ss) []) (s ∷ ss)
   holds-pair chunk n s ss w p rest course inside =
       let q = end_after s.end ss in
       let there : Place t bytes q = course-place AcrossGap t bytes q rest (course-on AcrossGap t bytes p (s ∷ ss) rest course) in
       let holds : Holds (shown bytes s.point) (shown bytes q) = λ v among between.
       let parts = and_parts (not (stands_before v.point (shown bytes s.point))) (stands_before v.point (shown bytes q)) between in
-      line-holds p s ss rest w course inside v among (not-before (stands_before v.point (shown bytes s.point)) parts.0) (subst (λ r. stands_before v.point r ≡ true) there.is_shown parts.1) in
+      line-holds p s ss rest w course inside v among (not-true (stands_before v.point (shown bytes s.point)) parts.0) (subst (λ r. stands_before v.point r ≡ true) there.is_shown parts.1) in
       ((λ enters void. holds), ((λ enters void. absurd (let no : Exit ≡ Enter = enters in cc)), tt))
 
   holds-around : (n : Name) (s : Seat) (ss : List Seat) (inside : List Mark) → is_void n ≡ false → HoldsOver inside (s ∷ ss) → HoldsOver (chunk_span bytes None n (s ∷ ss) inside) (s ∷ ss)

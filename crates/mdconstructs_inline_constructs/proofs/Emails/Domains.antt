@@ -1,4 +1,5 @@
 -- Domains, read byte by byte: labels with dots between them, up to `>`.
+use Rattle.std.proofs.Math.Bool.{or-true}
 use Rattle.markdown_base.proofs.Facts.Bools.{cond-same}
 use Rattle.mdconstructs_inline_constructs.proofs.Prelude.{before_first, between_dots, is_domain_byte, is_dot, is_hyphen, is_domain_label, is_label_byte, ends_with, has_byte_at, is_greater_than, Bool, List, None, Option, Some, [], ap, arith, cond, false, inl, inr, length, length-append, nat_le, nat_lt, not, refl, suc, sym, take, true, ℕ, ◌&&◌, ◌++◌, ◌+◌, ◌<◌, ◌||◌, ◌∙◌, ◌∷◌, ◌≡◌, ◌≤◌, and-false, and-true, and_parts, cases_lt, le-leb, le-ltb, lt-leb, lt-ltb, nat_tests, append-nil, append_assoc, is_ascii_alphanumeric, list_all, prefix_len}
 
@@ -116,10 +117,6 @@ more-there : (t : Bool) (d : ℕ) → more (cond t (Some d) None) ≡ cond t (So
 more-there true d = refl
 more-there false d = refl
 
-either : (t : Bool) → (t || true) ≡ true
-either true = refl
-either false = refl
-
 -- what is said behind a byte of a label, and behind a dot
 at-label-byte : (read : List ℕ) (b : ℕ) (bs : List ℕ) → is_label_byte b ≡ true → is_dot b ≡ false → rest_is read (b ∷ bs) ≡ more (rest_is (read ++ b ∷ []) bs)
 at-label-byte read b bs label other =
@@ -137,7 +134,7 @@ at-label-byte read b bs label other =
 at-dot : (hyphen : Bool) (n : ℕ) (read : List ℕ) (b : ℕ) (bs : List ℕ) → IsBegun hyphen n read → is_dot b ≡ true → rest_is read (b ∷ bs) ≡ cond (nat_lt 0 n && not hyphen) (more (rest_is [] bs)) None
 at-dot hyphen n read b bs begun dot =
     let d = prefix_len is_domain_byte bs in
-    let domain : is_domain_byte b ≡ true = ap (λ t. is_label_byte b || t) dot ∙ either (is_label_byte b) in
+    let domain : is_domain_byte b ≡ true = ap (λ t. is_label_byte b || t) dot ∙ or-true (is_label_byte b) in
     let one : 1 + d ≡ suc d = omega arith in
     let pieces : between_dots (take (1 + d) (b ∷ bs)) ≡ [] ∷ between_dots (take d bs) =
     ap (λ n. between_dots (take n (b ∷ bs))) one ∙ ap (λ t. cond t ([] ∷ between_dots (take d bs)) (before_first b (between_dots (take d bs)))) dot in
@@ -204,7 +201,7 @@ domain-left hyphen n read (b ∷ bs) begun =
         | true ↦ λ y.
             let d : is_dot b ≡ false = grind (arith, nat_tests) in
             let e : is_greater_than b ≡ false = grind (arith, nat_tests) in
-            let label : is_label_byte b ≡ true = ap (λ t. is_ascii_alphanumeric b || t) y ∙ either (is_ascii_alphanumeric b) in
+            let label : is_label_byte b ≡ true = ap (λ t. is_ascii_alphanumeric b || t) y ∙ or-true (is_ascii_alphanumeric b) in
             (λ i. all false true (d i) (e i) (nat_lt n 63) (nat_lt 0 n))
             ∙ elim (cases_lt 0 n) [
               | inl some ↦ ap (λ z. all false true false false (nat_lt n 63) z) (lt-ltb 0 n some)

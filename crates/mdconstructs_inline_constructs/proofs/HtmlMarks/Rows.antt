@@ -3,7 +3,7 @@ use Rattle.markdown_base.proofs.Facts.Numbers.{unlike}
 use Rattle.mdconstructs_inline_constructs.proofs.Prelude.{HtmlTextData, SpaceOrTab, Name, Next, Nok, Retry, HtmlTextCommentOpenInside, HtmlTextDeclarationOpen, HtmlTextMarkInside, HtmlTextMarkLine, HtmlTextMarkStart, HtmlTextMarkWhite, Seat, with_local, Configuration, Local, Step, Sight, sight, byte_of, current_of, point_of, point_or, Given, Text, row_step, is_white, counts, cdata_open_rows, comment_open_rows, declaration_open_rows, ends_cdata_mark, in_cdata_mark, in_mark, look_rows, mark_begun, mark_ends, mark_fails, mark_inside_rows, mark_line_rows, mark_open_rows, mark_start_rows, mark_white_rows, closed_by, no_cdata, no_comment, no_declaration, no_instruction, none_upto, stopped_at, html_goes_on, no_html, sees, Act, Rows, class_of, consume, enter, exit, row, when, write, writes, IsAfter, Remembered, after-call, remembered, HasRow, HasRows, tested, has_byte_at, is_greater_than, passes, TextByte, line_feed, text_byte, more_than, size_b_grows, size_b_is, Bool, List, None, Option, Some, [], ap, arith, cond, false, nat_le, not, refl, slice_get, subst, suc, sym, true, zero, ℕ, ◌&&◌, ◌+◌, ◌<◌, ◌==◌, ◌∙◌, ◌∷◌, ◌≡◌, and_parts, eqb-true, lt-ltb, is_ascii_alphabetic, codes, nat_lt}
 use Rattle.mdconstructs_inline_constructs.proofs.HtmlMarks.Places.{Mark, MarkPlace, at_cdata, at_comment, at_declaration, at_inside, at_open, cdata-few, cdata-line, inside-line, kind_fails, mark_byte, mark_gives_up, mark_move, mark_name, mark_times, marks-go-through-lines, nothing_before, of_cdata, of_comment, of_declaration, of_instruction, opens, opens_unless}
 use Rattle.mdconstructs_inline_constructs.proofs.HtmlMarks.Picked.{look-others}
-use Rattle.mdconstructs_inline_constructs.proofs.HtmlTexts.Calls.{byte-waits}
+use Rattle.mdconstructs_tables.proofs.Rows.Calls.{byte-waits}
 use Rattle.mdconstructs_inline_constructs.proofs.HtmlTexts.Pieces.{is_no_line_feed}
 use Rattle.mdconstructs_inline_constructs.proofs.HtmlTexts.Reads.{PlaysHtml, Writes, called, written-counts, line_row_of, row_of, stop_acts, wrote}
 use Rattle.mdconstructs_inline_constructs.proofs.HtmlTexts.Rows.{at-seen, by-byte, other-rows}

@@ -1,11 +1,5 @@
 -- What the code of states in data of raw HTML may do: read a line ending, and end.
-use Rattle.mdconstructs_inline_constructs.proofs.Prelude.{◌≡◌, ℕ, [], ◌∷◌, Option, Some, refl, ap, HtmlText, HtmlTextData, Name, exited, TokenizerValue, at_configuration, current_of, sight_of, Text, Waits, Byte, End, Nothing, can-exit, can-mark, IsCallable, allows_all, start_shape, Rows, class_of, consume, exit, TextByte, line_feed, text_byte, CanEndHtml, CanEndHtmlLine, html_state}
-
--- a byte that is seen waits
-pub byte-waits : (text : Text) (p : ℕ) (waits : Waits) (b : ℕ) → current_of text p waits ≡ Some b → waits ≡ Byte
-byte-waits text p Nothing b h = absurd (cc)
-byte-waits text p Byte b h = refl
-byte-waits text p End b h = absurd (cc)
+use Rattle.mdconstructs_inline_constructs.proofs.Prelude.{byte-waits, ◌≡◌, ℕ, [], ◌∷◌, Option, Some, refl, ap, HtmlText, HtmlTextData, Name, exited, TokenizerValue, at_configuration, sight_of, Byte, can-exit, can-mark, IsCallable, allows_all, start_shape, Rows, class_of, consume, exit, TextByte, line_feed, text_byte, CanEndHtml, CanEndHtmlLine, html_state}
 
 module _ {M R D : Type 0} (name : Name) (rows : (previous current : Option TextByte) → Rows R D) (t : TokenizerValue M R D) (can : IsCallable text_byte (html_state name rows) t) where
   pub waits-at : (b : ℕ) → (sight_of t).current ≡ Some b → t.configuration.waiting ≡ Byte

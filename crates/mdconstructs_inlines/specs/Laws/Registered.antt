@@ -1,7 +1,8 @@
 -- Machines with one resolver keep what they know, and the resolver keeps the law of resolvers.
 use Rattle.std.proofs.Common.{◌≡◌, inl, inr, List, [], ◌∷◌, Bool, true, false, cond, not, Option, Some, None, refl, sym, ◌∙◌, subst}
 use Rattle.std.specs.Prelude.{All, filter, map}
-use Rattle.std.proofs.lemmas.Bool.{and_parts}
+use Rattle.std.proofs.lemmas.Bool.{and_parts, not-true}
+use Rattle.markdown_base.proofs.Facts.Lists.{none-left}
 use Rattle.std.proofs.lemmas.List.Elements.{All-weaker}
 use Rattle.markdown_base.specs.declared.event.Event.{Event}
 use Rattle.markdown_base.specs.declared.state.Name.{Name}
@@ -60,17 +61,6 @@ module _ {R D : Type 0} (r : R) where
   goes-back (Some saved) Attempt Nok k h = (no-links-take saved.events k.events h.0, h.1, h.2)
   goes-back saved Attempt answer k h = h
 
--- a list that a test leaves empty
-none-left : {A B : Type 0} (test : A → Bool) (f : A → B) (x : A) (xs : List A) → map f (filter (λ y. not (test y)) (x ∷ xs)) ≡ [] → (test x ≡ true) × (map f (filter (λ y. not (test y)) xs) ≡ [])
-none-left test f x xs h = elim (test x) as (λ t. map f (cond (not t) (x ∷ filter (λ y. not (test y)) xs) (filter (λ y. not (test y)) xs)) ≡ [] → (t ≡ true) × (map f (filter (λ y. not (test y)) xs) ≡ [])) [
-  | true ↦ λ h. (refl, h)
-  | false ↦ λ h. absurd (let e : f x ∷ map f (filter (λ y. not (test y)) xs) ≡ [] = h in cc)
-] h
-
-is-false : (b : Bool) → not b ≡ true → b ≡ false
-is-false true h = absurd (cc)
-is-false false h = refl
-
 module _ {W R D : Type 0} (table : Table W R D) (early : Name → Option W → Bool) (falling : Name → Bool) (starts : List Name) (r : R) (edits : Given → List Event → List Edit)
     (ends : Given → Text → List Event → Type 0) where
   abbrev plan : Plan W R D
@@ -108,7 +98,7 @@ module _ {W R D : Type 0} (table : Table W R D) (early : Name → Option W → B
         λ b w. ((none-left (λ (y : StateRows W R D). all_rows is_linkless (y.rows b w)) (λ (y : StateRows W R D). y.name) state states (h b w).0).1, behind-rows RegistersNothing (state.rows b w) (RegisterNothing states b w) (h b w).1) in (
           (λ g text k choices b w well before here known.
               each-keeps g text (sight g text k) (with_local k (table.first k.local)) choices
-              (called-keeps (sight g text k) k (goes-on k choices (Retry state.name) (is-false (is_first starts (Retry state.name)) one) known.known)) (state.rows b w) (RegisterNothing states b w) (is b w) (h b w).1),
+              (called-keeps (sight g text k) k (goes-on k choices (Retry state.name) (not-true (is_first starts (Retry state.name)) one) known.known)) (state.rows b w) (RegisterNothing states b w) (is b w) (h b w).1),
           states-keep states more others,
         )
 

@@ -1,5 +1,5 @@
 -- What the prover finds by itself in the code of a machine: a state that is called may be called.
-use Rattle.mdconstructs_tables.proofs.Prelude.{◌≡◌, ◌==◌, ℕ, List, [], ◌∷◌, true, false, cond, Option, Some, ◌⊎◌, inl, inr, refl, sym, ap, ◌∙◌, arith, nat_tests, Name, Retry, CanExit, Local, TokenizerValue, sight_of, marked, enter, exit, consume, StateRows, Table, class_of, named, table_holds, begun, IsCallable, EventName}
+use Rattle.mdconstructs_tables.proofs.Prelude.{◌≡◌, ◌==◌, ℕ, List, [], ◌∷◌, true, false, cond, Option, Some, ◌⊎◌, inl, inr, refl, sym, ap, ◌∙◌, arith, nat_tests, Name, Retry, CanExit, Local, TokenizerValue, sight_of, marked, enter, exit, consume, StateRows, Table, class_of, named, table_holds, begun, IsCallable, EventName, KeepsNoted}
 use Rattle.mdconstructs_tables.proofs.Rows.Calls.{are_allowed, callable, can-exit}
 
 -- one of these states has the name, and can be called
@@ -14,7 +14,7 @@ IsCalled table first t =
     (begun first t ≡ begun first t)
     × ((name : Name) → table_holds table t.given t.text t.configuration t.choices (Retry name) → IsOneCallable table.class table.states name (begun first t))
 
-module _ {M W R D : Type 0} (table : Table W R D) (first : Local R D → Local R D) (t : TokenizerValue M R D) where
+module _ {M W R D : Type 0} (table : Table W R D) (first : Local R D → Local R D) (kept : KeepsNoted first) (t : TokenizerValue M R D) where
   one-callable : (name : Name) (states : List (StateRows W R D)) → named table.states name ≡ named states name → table_holds table t.given t.text t.configuration t.choices (Retry name)
       → IsOneCallable table.class states name (begun first t)
   one-callable name [] is h = rw is at h.1.2
@@ -22,7 +22,7 @@ module _ {M W R D : Type 0} (table : Table W R D) (first : Local R D → Local R
       (λ b. (name.number == state.name.number) ≡ b → named table.states name ≡ cond b (Some state) (named states name) → IsOneCallable table.class (state ∷ states) name (begun first t)) [
         | true ↦ λ test found.
             let same : name.number ≡ state.name.number = grind (arith, nat_tests) in
-            inl (same, callable table first name state t (begun first t) same (ap (λ n. named table.states (record { number = n })) (sym same) ∙ found) h refl)
+            inl (same, callable table first kept name state t (begun first t) same (ap (λ n. named table.states (record { number = n })) (sym same) ∙ found) h refl)
         | false ↦ λ test found. inr (one-callable name states found h)
       ] refl is
 

@@ -1,13 +1,22 @@
 -- What the code of a state may do where it is called, from the test of its acts.
 use Rattle.mdconstructs_tables.proofs.Prelude.{◌≡◌, ◌≢◌, ◌==◌, ℕ, suc, ◌+◌, ◌<◌, ◌&&◌, ◌||◌, not, List, [], ◌∷◌, ◌++◌, Bool, true, false, Option, Some, None, length, map, refl, sym, ap, ◌∙◌, subst, arith, append_assoc, length-append, All, IfSome, reverse, last_or, nat_tests, All-head, All-tail, All-weaker, and_parts, slice_get_past, Event, Enter, Name, Retry, open_events, open_events_from-unlinked, option_map, is_void, stands_before, or-leads, Waits, Nothing, Byte, End, Text, Configuration, Local, TokenizerValue, Sight, sight, sight_of, byte_of, current_of, seat_before, CanExit, IsAsFar, Point, upto, not-true, All-nil, All-cons, IsNoted, ArePlaces, CanHoldNoted, CanEndNoted, IsNotedBefore, noting, noted_if, is_noted_before, unlinked, Act, enters, exit, exit_noted, note, consume, writes, done, shown_sight, with_choice_of, StateRows, Called, Table, class_of, does, chooses, named, Stage, byte_read, Shape, is_last, allows_all, after, after_all, start_shape, is_called_at, is_some, since, IsFed, class_in, begun, IsBelow, table_holds, IsAtState, once_read, CanEnd, IsCallable, IsMarkable, cond-false, IfSome_then, EventName}
+use Rattle.std.specs.Prelude.{IfOk}
+use Rattle.std.specs.declared.result.Result.{Result}
+use Rattle.std.specs.declared.result.Result.TheVariants as result
 use Rattle.markdown_base.specs.Places.{shown}
+use Rattle.markdown_base.specs.declared.state.State.{State}
+use Rattle.markdown_tokenizer.specs.Configuration.{Step}
+use Rattle.markdown_tokenizer.specs.Lawful.{DidStep}
+use Rattle.mdconstructs_tables.specs.Fitting.{KeepsNoted}
+use Rattle.mdconstructs_tables.specs.RowInvariant.{DoesAll, step_in}
+use Rattle.mdconstructs_tables.specs.Rows.{step_at, table_step}
 use Rattle.markdown_tokenizer.specs.Calls.{with_local}
 use Rattle.markdown_tokenizer.specs.Sight.{next_place}
-use Rattle.mdconstructs_tables.proofs.Rows.Laws.{Waited, reached, sight_at, HasShape, noted-there, below_all, is-last, last-above, last-long, to-before, left-at, here-at, has-after-all, does-then, chooses-then, allows-parts}
+use Rattle.mdconstructs_tables.proofs.Rows.Laws.{Waited, reached, sight_at, HasShape, noted-there, of-noted, where-noted, below_all, is-last, last-above, last-long, to-before, left-at, here-at, has-after-all, does-then, chooses-then, allows-parts}
 use Rattle.mdconstructs_tables.proofs.GrowingTexts.{last-more, next-is-left, open-more}
 use Rattle.markdown_tokenizer.proofs.Positions.Order.{after-before, later-later}
 use Rattle.mdconstructs_tables.proofs.Markers.{stack-below}
-use Rattle.mdconstructs_tables.proofs.Tables.Holding.{called-fed, met-at, read-before, ahead-at, start-sight, begins}
+use Rattle.mdconstructs_tables.proofs.Tables.Holding.{called-fed, met-at, read-before, ahead-at, start-sight, begins, noted-kept}
 
 -- what holds of the last of the events without their links holds of the last
 last-unlinked : (P : Event → Type 0) (o : Option Event) (es : List Event) (e : Event) → ((x : Event) → o ≡ Some x → P (unlinked x)) → All P (map unlinked es) → last_or o es ≡ Some e → P (unlinked e)
@@ -249,6 +258,12 @@ never-at-end class called End p ended text h never at =
     let fed = called-fed called ended None past in
     absurd (let e : true ≡ false = sym fed ∙ never in cc)
 
+-- a byte that is seen waits
+pub byte-waits : (text : Text) (p : ℕ) (waits : Waits) (b : ℕ) → current_of text p waits ≡ Some b → waits ≡ Byte
+byte-waits text p Nothing b h = absurd (cc)
+byte-waits text p Byte b h = refl
+byte-waits text p End b h = absurd (cc)
+
 -- what the code of a state may do follows where it is called
 allowed : {M W R D : Type 0} (class : ℕ → W) (state : StateRows W R D) (t : TokenizerValue M R D) → IsAtState class state t → IsCallable class state t
 allowed class state t can =
@@ -268,14 +283,15 @@ allowed class state t can =
       };
       ends = λ fit. can-end class state before waits t can refl refl [] names t fit refl;
       ends_read = λ fit. can-end class state before waits t can refl refl (consume ∷ []) names (once_read t) fit refl;
-      ends_noted = λ noted fit.
-          let start : is_noted_before (noted_if state.noted) ≡ true = rw noted refl in can-end-noted class state before waits t can refl refl [] names fit start (can.noted noted).1;
+      ends_noted = where-noted state.noted (λ noted fit.
+          let start : is_noted_before (noted_if state.noted) ≡ true = rw noted refl in can-end-noted class state before waits t can refl refl [] names fit start (of-noted state.noted noted can.noted).1);
     }
 
 -- what holds when a machine is called is what its state requires
-pub callable : {M W R D : Type 0} (table : Table W R D) (first : Local R D → Local R D) (name : Name) (state : StateRows W R D) (t t' : TokenizerValue M R D) → name.number ≡ state.name.number
-    → named table.states state.name ≡ Some state → table_holds table t.given t.text t.configuration t.choices (Retry name) → t' ≡ begun first t → IsCallable table.class state t'
-callable table first name state t t' same is h began =
+pub callable : {M W R D : Type 0} (table : Table W R D) (first : Local R D → Local R D) (kept : KeepsNoted first) (name : Name) (state : StateRows W R D) (t t' : TokenizerValue M R D)
+    → name.number ≡ state.name.number → named table.states state.name ≡ Some state → table_holds table t.given t.text t.configuration t.choices (Retry name) → t' ≡ begun first t → IsCallable table.class state t'
+callable table first kept name state t t' same is h began =
+    let k = t.configuration in
     let one : named table.states name ≡ Some state = ap (λ n. named table.states (record { number = n })) same ∙ is in
     let there = rw one at h.1.2 in
     let o = there.spans in
@@ -285,10 +301,24 @@ callable table first name state t t' same is h began =
       in_order = h.1.1;
       base = there.base;
       spans = record { stack = o.stack; began = o.began; void = o.void; below = o.below; needs = o.needs; called = o.called };
-      noted = λ n.
-          let (h, places) = there.noted n in
-          (record { position = h.position; read = h.read; at = record { is = h.at.is; began = h.at.began }; exit_before = h.exit_before; enter_before = h.enter_before }, places);
+      noted = where-noted state.noted (λ n. noted-kept table t.given t.text k (first k.local) (kept k.local) (of-noted state.noted n there.noted));
     }))
+
+-- a step that was done once the call was counted
+as-step : {M R D E : Type 0} (s : Step R D) (first : Local R D → Local R D) (t new : TokenizerValue M R D) (r : Result State E) → IfOk r (DoesAll s (begun first t) new) → IfOk r (DidStep t new s)
+as-step s first t new (result.Ok a) h = record { answered = h.answered; became = h.became }
+as-step s first t new (result.Err e) h = h
+
+-- the step that the state did is the step of the table
+pub did-step : {M W R D E : Type 0} (table : Table W R D) (name : Name) (state : StateRows W R D) (t t' new : TokenizerValue M R D) (r : Result State E) → name.number ≡ state.name.number
+    → named table.states state.name ≡ Some state → t' ≡ begun table.first t → IfOk r (DoesAll (step_in table.class state t') t' new)
+    → IfOk r (DidStep t new (table_step table t.given (sight_of t) t.configuration name))
+did-step {R = R} {D = D} table name state t t' new r same is began h =
+    let one : named table.states name ≡ Some state = ap (λ n. named table.states (record { number = n })) same ∙ is in
+    let start = begun table.first t in
+    let there : IfOk r (DoesAll (step_in table.class state start) start new) = subst (λ u. IfOk r (DoesAll (step_in table.class state u) u new)) began h in
+    subst (λ (o : Option (StateRows _ R D)). IfOk r (DidStep t new (step_at table t.given o (sight_of t) (with_local t.configuration (table.first t.configuration.local))))) (sym one)
+    (as-step (step_in table.class state start) (table.first) t new r there)
 
 -- a name is none of the states'
 abbrev pub IsNoneOf : {W R D : Type 0} → List (StateRows W R D) → Name → Type 0

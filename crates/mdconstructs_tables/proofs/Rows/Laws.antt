@@ -1,7 +1,7 @@
 -- What a row keeps: lemmas for the laws of tables.
 use Rattle.std.specs.List.{AllByRecursion}
 use Rattle.mdconstructs_tables.proofs.Markers.{stack-below}
-use Rattle.mdconstructs_tables.proofs.Prelude.{is_void, ◌&&◌, ◌||◌, ◌≡◌, ℕ, suc, ◌+◌, ◌-◌, ◌<◌, ◌≤◌, not, List, [], ◌∷◌, ◌++◌, Bool, true, false, Option, Some, None, length, length-map, map, refl, sym, ap, ◌∙◌, subst, arith, take, append_assoc, length-append, All, last_or, and_from, and_parts, append-nil, map-append, All-push, All-take, All-weaker, All-cons, Event, Enter, Exit, Point, State, Nok, open_events, unlinked, stands_before, stands-self, Nothing, Byte, AttemptKind, Attempt, Check, Given, Text, Configuration, Choice, Sight, sight, consumed, linked-unlinked, IsAsFar, SavesEvents, same_name-true, before-upto, Act, enters, exit, consume, links, writes, choose, note, exit_noted, enter_noted, past, done, seen_after, choice_made_at, with_choice_of, does, chooses, Link, Noting, unnoted, noted_here, noted_before, is_noted_before, read_on, place_of, sight_in, IsNotedAt, IsNotedBefore, Stage, end_waits, byte_waits, byte_read, Shape, is_byte_waiting, is_end, is_last, allows, after, allows_all, after_all, same_names, may_fail, outline, EndsWithEnter, Began, upto, since, AnyGoesBack, MayEnd, IsBelow, EventName}
+use Rattle.mdconstructs_tables.proofs.Prelude.{WhereNoted, is_void, ◌&&◌, ◌||◌, ◌≡◌, ℕ, suc, ◌+◌, ◌-◌, ◌<◌, ◌≤◌, not, List, [], ◌∷◌, ◌++◌, Bool, true, false, Option, Some, None, length, length-map, map, refl, sym, ap, ◌∙◌, subst, arith, take, append_assoc, length-append, All, last_or, and_from, and_parts, append-nil, map-append, All-push, All-take, All-weaker, All-cons, Event, Enter, Exit, Point, State, Nok, open_events, unlinked, stands_before, stands-self, Nothing, Byte, AttemptKind, Attempt, Check, Given, Text, Configuration, Choice, Sight, sight, consumed, linked-unlinked, IsAsFar, SavesEvents, same_name-true, before-upto, Act, enters, exit, consume, links, writes, choose, note, exit_noted, enter_noted, past, done, seen_after, choice_made_at, with_choice_of, does, chooses, Link, Noting, unnoted, noted_here, noted_before, is_noted_before, read_on, place_of, sight_in, IsNotedAt, IsNotedBefore, Stage, end_waits, byte_waits, byte_read, Shape, is_byte_waiting, is_end, is_last, allows, after, allows_all, after_all, same_names, may_fail, outline, EndsWithEnter, Began, upto, since, AnyGoesBack, MayEnd, IsBelow, EventName}
 use Rattle.mdconstructs_tables.proofs.GrowingTexts.{open-more, last-more, next-is-left}
 
 -- What the tests of equality say
@@ -160,6 +160,15 @@ began-exit to events name q link passes h =
     let e : Event = record { kind = Exit; name = name; point = q; link = link } in
     let P : Event → Type 0 = λ e. to false e.point ≡ true in
     (subst (All P) (sym (open-more [] events e)) (All-take P (length (open_events events) - 1) (open_events events) h.0), All-push (λ e. to true e.point ≡ true) events e h.1 passes)
+
+-- what is asked only where a place was noted
+pub where-noted : {A : Type 0} (noted : Bool) → (noted ≡ true → A) → WhereNoted noted A
+where-noted false f = tt
+where-noted true f = f refl
+
+pub of-noted : {A : Type 0} (noted : Bool) → noted ≡ true → WhereNoted noted A → A
+of-noted false is h = absurd (cc)
+of-noted true is h = h
 
 -- what the test of what is noted says
 pub noted-there : {R D : Type 0} (n : Noting) (g : Given) (text : Text) (s : Sight) (k : Configuration R D) → is_noted_before n ≡ true → HasNoted n g text s k → IsNotedBefore g text s.exit_place k

@@ -1,7 +1,7 @@
 -- The invariant of a table: if it holds before a call, it holds at the state returned, once that is fed, when a choice ends, and when the
 -- text goes on.
-use Rattle.mdconstructs_tables.proofs.Prelude.{◌≡◌, ◌≢◌, ℕ, zero, suc, ◌≤◌, ◌&&◌, ◌||◌, not, List, [], ◌∷◌, ◌++◌, Bool, true, false, Option, Some, None, length, get_or, map, refl, sym, ap, ◌∙◌, subst, arith, ◌⊎◌, inl, inr, take, drop, All, IfSome, nat_lt, last_or, ltb-true, ltb-false, and_from, and_parts, not-true, append-nil, take-append-drop, take-map, slice_get_past, All-nil, All-tail, Point, Name, State, Next, Retry, Ok, Nok, Error, unlinked, stands_before, or-leads, Waits, Nothing, Byte, End, AttemptKind, Attempt, Check, Given, Text, IsText, empty_text, Configuration, Local, Choice, Saved, start_configuration, is_noted_before, noted_if, place_of, IsNotedBefore, ArePlaces, KnowsNoted, Sight, sight, sight_in, current_of, seat_before, byte_of, consumed, with_local, fed, unfed, restored, settled_at, IsAsFar, begins-before_end, began-before_next, ends-before_next, upto-before, Row, Begun, before, at_byte, here, Called, anywhere, at_a_byte, at_bytes, at_bytes_or_end, Needs, nothing, a_choice_for_ok, StateRows, Table, class_of, does, chooses, row_at, named, is_void_last, same_names, saves, Stage, end_waits, byte_waits, byte_read, Shape, Frame, after_all, is_at, is_end, is_fresh, is_fresh_fed, fresh_at, fresh_fed, needs_choice, needs_failing, is_called_at, is_some, may_go_on, may_go_on_there, may_go_back, goes_on_fresh, is_fresh_byte, fits_choice, fits_answer, fits_calls, start_shape, first_stage, is_bare, may_start, outline, EndsWithEnter, Began, upto, since, before_next, began_there, began_in, began_unfed, IsOpen, SightIsInOrder, IsFed, exit_place_at, class_in, is_read, AnyWait, GoesBack, AnyGoesBack, MayEnd, IsSavedIn, IsSaved, position_of, events_saved, IsBelow, AreWaiting, began_at, IsStateAt, HoldsAt, EventName}
-use Rattle.mdconstructs_tables.proofs.Rows.Laws.{same_names-true, Waited, reached, IsSeenAhead, sight_at, HasShape, HasNoted, noted-there, left-since, to-upto, began-on, left-at}
+use Rattle.mdconstructs_tables.proofs.Prelude.{◌≡◌, ◌≢◌, ℕ, zero, suc, ◌≤◌, ◌&&◌, ◌||◌, not, List, [], ◌∷◌, ◌++◌, Bool, true, false, Option, Some, None, length, get_or, map, refl, sym, ap, ◌∙◌, subst, arith, ◌⊎◌, inl, inr, take, drop, All, IfSome, nat_lt, last_or, ltb-true, ltb-false, and_from, and_parts, not-true, append-nil, take-append-drop, take-map, slice_get_past, All-nil, All-tail, Point, Name, State, Next, Retry, Ok, Nok, Error, unlinked, stands_before, or-leads, Waits, Nothing, Byte, End, AttemptKind, Attempt, Check, Given, Text, IsText, empty_text, Configuration, Local, Choice, Saved, start_configuration, is_noted_before, noted_if, place_of, IsNotedBefore, ArePlaces, KnowsNoted, WhereNoted, Sight, sight, sight_in, current_of, seat_before, byte_of, consumed, with_local, fed, unfed, restored, settled_at, IsAsFar, begins-before_end, began-before_next, ends-before_next, upto-before, Row, Begun, before, at_byte, here, Called, anywhere, at_a_byte, at_bytes, at_bytes_or_end, Needs, nothing, a_choice_for_ok, StateRows, Table, class_of, does, chooses, row_at, named, is_void_last, same_names, saves, Stage, end_waits, byte_waits, byte_read, Shape, Frame, after_all, is_at, is_end, is_fresh, is_fresh_fed, fresh_at, fresh_fed, needs_choice, needs_failing, is_called_at, is_some, may_go_on, may_go_on_there, may_go_back, goes_on_fresh, is_fresh_byte, fits_choice, fits_answer, fits_calls, start_shape, first_stage, is_bare, may_start, outline, EndsWithEnter, Began, upto, since, before_next, began_there, began_in, began_unfed, IsOpen, SightIsInOrder, IsFed, exit_place_at, class_in, is_read, AnyWait, GoesBack, AnyGoesBack, MayEnd, IsSavedIn, IsSaved, position_of, events_saved, IsBelow, AreWaiting, began_at, IsStateAt, HoldsAt, EventName}
+use Rattle.mdconstructs_tables.proofs.Rows.Laws.{same_names-true, Waited, reached, IsSeenAhead, sight_at, HasShape, HasNoted, noted-there, left-since, to-upto, began-on, left-at, of-noted, where-noted}
 use Rattle.std.proofs.lemmas.Bool.{or_right}
 use Rattle.std.proofs.Math.Bool.{or-false}
 use Rattle.mdconstructs_tables.proofs.GrowingTexts.{seat-at, Extends, sight-kept, waits-longer}
@@ -61,29 +61,34 @@ module _ {W R D : Type 0} (table : Table W R D) (g : Given) where
   read-before text (suc q) h = let (s, is) = seat-at text q (omega arith) in rw is refl
 
   -- what a state knows of the place that was noted
-  noted-first : (noted : Bool) (text : Text) (k : Configuration R D) (local : Local R D) → local.noted ≡ k.local.noted
-      → (noted ≡ true → IsNotedBefore g text (exit_place_at g text k.position) k × ArePlaces g k.local.noted) → HasNoted (noted_if noted) g text (sight g text k) (with_local k local)
-  noted-first false text k local same knows = tt
-  noted-first true text k local same knows =
-      let h = (knows refl).0 in
-      record {
-        position = h.position;
-        read = h.read;
-        at = record { is = same ∙ h.at.is; began = subst (λ n. Began (λ any. upto any n.exit) (outline k)) (sym same) h.at.began };
-        exit_before = subst (λ n. stands_before n.exit (exit_place_at g text k.position) ≡ true) (sym same) h.exit_before;
-        enter_before = subst (λ n. stands_before n.enter (exit_place_at g text k.position) ≡ true) (sym same) h.enter_before;
-      }
-
-  -- the same of a configuration with another place in the text, or with other choices
   abbrev pub Notes : Text → (now : Point) → Configuration R D → Type 0
   Notes text now k = IsNotedBefore g text now k × ArePlaces g k.local.noted
+
+  -- it stays known if other fields are written
+  pub noted-kept : (text : Text) (k : Configuration R D) (local : Local R D) → local.noted ≡ k.local.noted → Notes text (exit_place_at g text k.position) k → Notes text (exit_place_at g text k.position) (with_local k local)
+  noted-kept text k local same (h, places) = (
+    record {
+      position = h.position;
+      read = h.read;
+      at = record { is = same ∙ h.at.is; began = subst (λ n. Began (λ any. upto any n.exit) (outline k)) (sym same) h.at.began };
+      exit_before = subst (λ n. stands_before n.exit (exit_place_at g text k.position) ≡ true) (sym same) h.exit_before;
+      enter_before = subst (λ n. stands_before n.enter (exit_place_at g text k.position) ≡ true) (sym same) h.enter_before;
+    },
+    subst (ArePlaces g) (sym same) places,
+  )
+
+  noted-first : (noted : Bool) (text : Text) (k : Configuration R D) (local : Local R D) → local.noted ≡ k.local.noted
+      → WhereNoted noted (Notes text (exit_place_at g text k.position) k) → HasNoted (noted_if noted) g text (sight g text k) (with_local k local)
+  noted-first false text k local same knows = tt
+  noted-first true text k local same knows = (noted-kept text k local same knows).0
+
+  -- or if the text goes on, and something waits
 
   pub noted-fed : (text : Text) (now : Point) (k : Configuration R D) (waits : Waits) (ended : Bool) → Notes text now k
       → Notes text now (record { position = k.position; waiting = waits; ended = ended; events = k.events; stack = k.stack; local = k.local })
   noted-fed text now k waits ended (h, places) =
       (record { position = h.position; read = h.read; at = record { is = h.at.is; began = h.at.began }; exit_before = h.exit_before; enter_before = h.enter_before }, places)
 
-  -- if the text goes on
   noted-longer : (text more : Text) (k : Configuration R D) → Extends text more → k.position ≤ length text.seats → Notes text (exit_place_at g text k.position) k → Notes more (exit_place_at g more k.position) k
   noted-longer text more k e inside (h, places) =
       let same = ap place_of (sym (sight-kept g text more h.position e (omega (arith, h.read, inside)))) in
@@ -165,7 +170,7 @@ module _ {W R D : Type 0} (table : Table W R D) (g : Given) where
           needs = ((λ n. any.0 (or-leads _ within needs ((reads state.needs).0 n))), (λ n. any.1 (or-leads _ failing fails ((reads state.needs).1 n))));
           called = called-more state.called ended k.ended waits (class_in table.class text k.position) byte end bytes;
         };
-        noted = λ n. notes (or-leads state.noted noted knows n);
+        noted = where-noted state.noted (λ n. notes (or-leads state.noted noted knows n));
         waiting = waiting;
       }
 
@@ -313,7 +318,7 @@ module _ {W R D : Type 0} (table : Table W R D) (g : Given) where
       record {
         base = h.base;
         spans = record { stack = o.stack; began = began-on (from state) (to state) (outline k) (f state) o.began; void = o.void; below = o.below; needs = o.needs; called = called };
-        noted = λ n. noted-fed more (exit_place_at g more k.position) k waits ended (note (h.noted n));
+        noted = where-noted state.noted (λ n. noted-fed more (exit_place_at g more k.position) k waits ended (note (of-noted state.noted n h.noted)));
         waiting = wait h.base h.waiting;
       }
 
@@ -434,7 +439,7 @@ module _ {W R D : Type 0} (table : Table W R D) (g : Given) where
           needs = (none, λ n. none (needs-one state.needs false n));
           called = byte;
         };
-        noted = λ n. absurd (let none = not-true state.noted unnoted in let e : true ≡ false = sym n ∙ none in cc);
+        noted = where-noted state.noted (λ n. absurd (let none = not-true state.noted unnoted in let e : true ≡ false = sym n ∙ none in cc));
         waiting = refl;
       }
 

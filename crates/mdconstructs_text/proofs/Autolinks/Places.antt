@@ -1,4 +1,5 @@
 -- In a text, a virtual byte that is no line ending ends where the next is shown: gaps are only at the starts of lines.
+use Rattle.mdconstructs_machines.proofs.Columns.{end-column}
 use Rattle.mdconstructs_text.proofs.Prelude.{AllByRecursion, ◌≡◌, ℕ, zero, suc, ◌+◌, ◌<◌, ◌==◌, List, [], ◌∷◌, ◌++◌, Bool, true, false, cond, Some, refl, sym, ap, ◌∙◌, subst, arith, inl, inr, slice_get, filter, not, ◌&&◌, append-nil, filter-append, every-append, every-filter, filter-none, end-after-append, Point, Seat, point, virtual, end_after, stands_before, shown, is_upto, denotes_same, rest_at, IsPlace, goes_on, end_at, Given, Text, Piece, pushed, passed, IsText, empty_text, followed_by, followed_by_all, FitsAfter, CanFollow, not-before, every-all, filter-every, filter-same, rest-later, IsChain, whole-chain, chain-at, chain-split, place-of-point, upto-order, upto-self, left_of, text-splits, range-empty, shown-column, same-shown}
 use Rattle.std.proofs.Common.{append_assoc}
 use Rattle.markdown_tokenizer.specs.Text.{in_range}
@@ -51,17 +52,12 @@ module _ (bytes : List ℕ) where
   joined-at (x ∷ xs) p (suc i) s r h e f plain = joined-at xs p i s r h.1 e f plain
 
 module _ (t : ℕ) (bytes : List ℕ) where
-  -- a virtual byte that is no line ending ends a column further on
-  end-column : (byte : ℕ) (p : Point) (c : Bool) → (byte == 10) ≡ false → goes_on t byte p ≡ c → (end_at t byte p).column ≡ suc p.column
-  end-column byte p true e f = rw (e, f) refl
-  end-column byte p false e f = rw (e, f) refl
-
   -- so it does not end at the start of a line
   pub chain-in-line : (p : Point) (xs : List Seat) → IsChain t bytes p xs → AllByRecursion EndsInLine xs
   chain-in-line p [] c = tt
   chain-in-line p (s ∷ ss) c = (
     (λ plain.
-        let column : s.end.column ≡ suc s.point.column = ap (λ (q : Point). q.column) (sym c.1.end_is) ∙ end-column s.byte s.point (goes_on t s.byte s.point) plain refl in
+        let column : s.end.column ≡ suc s.point.column = ap (λ (q : Point). q.column) (sym c.1.end_is) ∙ end-column t s.byte s.point (goes_on t s.byte s.point) plain refl in
         omega (arith, column, c.1.seat_bounds.first)),
     chain-in-line s.end ss c.2,
   )

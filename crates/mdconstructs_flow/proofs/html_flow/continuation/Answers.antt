@@ -5,7 +5,7 @@ use Rattle.mdconstructs_tables.specs.Rows.{class_of, exit}
 use Rattle.mdconstructs_tables.proofs.Rows.Calls.{can-mark}
 use Rattle.mdconstructs_flow.specs.FlowBytes.{flow_byte, line_feed}
 use Rattle.mdconstructs_flow.specs.HtmlFlow.{html_flow_continuation}
-use Rattle.mdconstructs_flow.proofs.Called.{byte-waits}
+use Rattle.mdconstructs_tables.proofs.Rows.Calls.{byte-waits}
 use Rattle.mdconstructs_flow.proofs.html_flow.continuation.Goals as goal
 
 pub marker-requires : goal.marker-requires

@@ -1,4 +1,4 @@
-use Rattle.mdconstructs_inline_constructs.proofs.HtmlTexts.Calls.{byte-waits}
+use Rattle.mdconstructs_tables.proofs.Rows.Calls.{byte-waits}
 use Rattle.mdconstructs_inline_constructs.proofs.Prelude.{◌≡◌, cond, [], ◌∷◌, Some, refl, sym, ap, ◌∙◌, subst, Autolink, AutolinkEmail, AutolinkMarker, Next, Ok, Nok, AutolinkEmailLabel, AutolinkEmailValue, sight_of, can-exit, can-mark, then, DoesAll, Row, class_of, enter, exit, consume, write, picked, step_of, text_byte, size_b_is, size_b_grows, domain_ends, email_label, email_label_rows, label_ends, label_goes_on, label_has_hyphen}
 use Rattle.mdconstructs_tables.specs.Markers.{marked}
 use Rattle.mdconstructs_inline_constructs.proofs.email.email_label.Goals as goal

@@ -1,4 +1,4 @@
-use Rattle.mdconstructs_inline_constructs.proofs.HtmlTexts.Calls.{byte-waits}
+use Rattle.mdconstructs_tables.proofs.Rows.Calls.{byte-waits}
 use Rattle.mdconstructs_inline_constructs.proofs.Prelude.{◌≡◌, ◌∙◌, [], ◌∷◌, Some, refl, sym, ap, CharacterReference, CharacterReferenceMarkerSemi, CharacterReferenceValue, sight_of, class_of, consume, enter, exit, can-exit, can-mark, text_byte, reference_value}
 use Rattle.mdconstructs_tables.specs.Markers.{marked}
 use Rattle.mdconstructs_inline_constructs.proofs.reference.reference_value.Goals as goal
