@@ -13,6 +13,7 @@ pub use Rattle.mdconstructs_tables.proofs.Unlinked
 pub use Rattle.mdconstructs_machines.proofs.BlockReads
 pub use Rattle.mdconstructs_machines.proofs.Breaks
 pub use Rattle.mdconstructs_machines.proofs.ChunkEnters
+pub use Rattle.mdconstructs_machines.proofs.Columns
 pub use Rattle.mdconstructs_machines.proofs.Innermost
 pub use Rattle.mdconstructs_machines.proofs.LineExamples
 pub use Rattle.mdconstructs_machines.proofs.LineReads
