@@ -1,5 +1,5 @@
 -- What a state did, by the row that its table has for what waits; and what holds where a machine is called.
-use Rattle.mdconstructs_machines.proofs.Prelude.{◌≡◌, ℕ, Option, subst, sym, State, TokenizerValue, sight_of, StateRows, class_of, picked, step_of, DoesAll, step_in, counts, lines, paragraphs, peek, deep, back, save, words, wrap, IsCalled, is-called, Resolver}
+use Rattle.mdconstructs_machines.proofs.Prelude.{◌≡◌, ℕ, Option, refl, subst, sym, State, TokenizerValue, sight_of, StateRows, class_of, picked, step_of, DoesAll, step_in, counts, lines, paragraphs, peek, deep, back, save, words, wrap, IsCalled, is-called, Resolver}
 
 -- the row of what waits says what the state does
 pub by-row : {M W R D : Type 0} (class : ℕ → W) (state : StateRows W R D) (w : Option W) (t t' : TokenizerValue M R D) (answer : State) → class_of class (sight_of t).current ≡ w

@@ -1,4 +1,5 @@
 -- What holds when a machine is called is what its state requires.
+use Rattle.std.proofs.Common.{refl}
 use Rattle.markdown.specs.Configuration.{TokenizerValue}
 use Rattle.mdconstructs.specs.Tables.{counts}
 use Rattle.mdconstructs.proofs.Rows.Called.{IsCalled, is-called}
