@@ -44,7 +44,7 @@ pub use Rattle.mdconstructs_inline_constructs.specs.EmailRows.{domain_ends, emai
 pub use Rattle.mdconstructs_inline_constructs.specs.HardBreak.{break_escape_at, hard_break_escape, hard_break_trailing, trailing_break_at}
 pub use Rattle.mdconstructs_inline_constructs.specs.HardBreakRows.{break_escape_after_rows, break_escape_start_rows, break_escapes}
 pub use Rattle.mdconstructs_inline_constructs.specs.HtmlMarked.{and_before, starts_with, either_there, html_mark_grammar, marked, through}
-pub use Rattle.mdconstructs_inline_constructs.specs.HtmlMarkedRows.{cdata_open_rows, closed_by, comment_open_rows, declaration_open_rows, ends_cdata_mark, html_marks, in_cdata_mark, in_mark, look_rows, mark_begun, mark_ends, mark_fails, mark_inside_rows, mark_line_ends, mark_line_rows, mark_open_rows, mark_start_rows, mark_white_rows, no_cdata, no_comment, no_declaration, no_instruction, none_upto, stopped_at}
+pub use Rattle.mdconstructs_inline_constructs.specs.HtmlMarkedRows.{cdata_open_rows, closed_by, comment_open_rows, declaration_open_rows, ends_cdata_mark, html_marks, in_cdata_mark, in_mark, inside_rows, is_mark_byte, look_rows, mark_ends, mark_fails, mark_line_ends, mark_line_rows, mark_open_rows, mark_start_rows, mark_white_rows, no_cdata, no_comment, no_declaration, no_instruction, none_upto, stopped_at}
 pub use Rattle.mdconstructs_inline_constructs.specs.HtmlTag.{begins_attribute_name, behind, past_attribute, behind_attributes, behind_closing, behind_one, behind_opening, past_quote, behind_tag, past_value, html_tag_grammar, is_attribute_name_byte, is_double_quote, is_equals_sign, is_single_quote, is_slash, is_tag_name_byte, is_tag_white, is_unquoted, tag_length}
 pub use Rattle.mdconstructs_inline_constructs.specs.HtmlTagRows.{html_tags, html_text_attribute_name_after_rows, html_text_attribute_name_rows, html_text_end_rows, html_text_open_rows, html_text_start_rows, html_text_tag_close_between_rows, html_text_tag_close_rows, html_text_tag_close_start_rows, html_text_tag_open_between_rows, html_text_tag_open_rows, html_text_value_before_rows, html_text_value_quoted_after_rows, html_text_value_quoted_rows, html_text_value_unquoted_rows, quote_is, quote_waits}
 pub use Rattle.mdconstructs_inline_constructs.specs.HtmlText.{Piece, data_run, has_blank_line, html, html_of, line_break, piece_at, piece_events, piece_length}
@@ -53,7 +53,7 @@ pub use Rattle.mdconstructs_inline_constructs.specs.Reference.{Kind, body_at, de
 pub use Rattle.mdconstructs_inline_constructs.specs.ReferenceRows.{at_number_sign, at_semicolon, at_x, going_on, is_ampersand_class, is_whole, marker_is, may_go_on, name_behind, reference_numeric_rows, reference_open_rows, reference_start_rows, reference_value, reference_value_rows, references, references_are_on, value_begins, value_goes_on, value_grows, value_is_whole}
 pub use Rattle.mdconstructs_inline_constructs.specs.RememberedCode.{all_runs_seen, index_of, is_ahead, is_hopeless, is_seen_from, later_of, remembered_between_rows, remembered_chunk_rows, remembered_open_rows, runs_of, seen_at, unseen, with_run, with_run_at}
 pub use Rattle.mdconstructs_inline_constructs.specs.WhiteSpace.{is_white_left, white_space, white_space_at}
-pub use Rattle.mdconstructs_inline_constructs.specs.declared.names.TheConstants.{HtmlTextMarkInside, HtmlTextMarkLine, HtmlTextMarkOpen, HtmlTextMarkStart, HtmlTextMarkWhite}
+pub use Rattle.mdconstructs_inline_constructs.specs.declared.names.TheConstants.{HtmlTextMarkClose, HtmlTextMarkInside, HtmlTextMarkLine, HtmlTextMarkOpen, HtmlTextMarkStart, HtmlTextMarkWhite}
 pub use Rattle.mdconstructs_machines.proofs.LineReads.Rows.{row_step}
 pub use Rattle.mdconstructs_machines.proofs.LineReads.Onward.{leads-step}
 pub use Rattle.mdconstructs_machines.proofs.LineReads.Steps.{at-front, held, place-behind}

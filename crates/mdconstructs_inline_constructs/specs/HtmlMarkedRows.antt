@@ -1,10 +1,10 @@
 -- Rows that read raw HTML between marks.
-use Rattle.std.specs.Prelude.{ℕ, ◌-◌, ◌^◌, ◌==◌, ◌&&◌, nat_le, nat_lt, Bool, cond, false, List, [], ◌∷◌, Option, Some, None, codes}
+use Rattle.std.specs.Prelude.{ℕ, ◌-◌, ◌^◌, ◌==◌, ◌&&◌, ◌||◌, nat_le, nat_lt, Bool, cond, false, List, [], ◌∷◌, Option, Some, None, codes}
 use Rattle.std.specs.Char.{is_ascii_alphabetic}
 use Rattle.markdown_base.specs.declared.event.Name.TheVariants.{HtmlText, HtmlTextData, LineEnding, SpaceOrTab}
 use Rattle.markdown_base.specs.declared.state.State.TheVariants.{Next, Retry, Nok}
 use Rattle.markdown_base.specs.declared.state.TheConstants.Name.{TextBeforeData, HtmlTextDeclarationOpen, HtmlTextCdataOpenInside, HtmlTextCommentOpenInside}
-use Rattle.mdconstructs_inline_constructs.specs.declared.names.TheConstants.{HtmlTextMarkInside, HtmlTextMarkLine, HtmlTextMarkOpen, HtmlTextMarkStart, HtmlTextMarkWhite}
+use Rattle.mdconstructs_inline_constructs.specs.declared.names.TheConstants.{HtmlTextMarkClose, HtmlTextMarkInside, HtmlTextMarkLine, HtmlTextMarkOpen, HtmlTextMarkStart, HtmlTextMarkWhite}
 use Rattle.markdown_tokenizer.specs.Text.{Given}
 use Rattle.markdown_tokenizer.specs.Configuration.{Configuration, Local}
 use Rattle.markdown_tokenizer.specs.Sight.{Sight}
@@ -24,6 +24,10 @@ abbrev pub stopped_at : (current : Option ℕ) → (index : ℕ) → ℕ
 stopped_at None index = 2 ^ 64 - 1
 stopped_at (Some b) index = index
 
+-- the byte of which closing marks have so many: `-`, `?`, `]`; and NUL for declarations, whose closing mark has none
+abbrev pub is_mark_byte : ℕ → Bool
+is_mark_byte byte = (byte == 0) || ((byte == 45) || ((byte == 63) || (byte == 93)))
+
 -- The kinds, by what their closing mark is: so many of a byte, and `>`. How many of them are directly before is counted.
 module _ {R D : Type 0} where
   -- raw HTML is open, up to `>` behind so many of a byte, of which these were read
@@ -36,11 +40,7 @@ module _ {R D : Type 0} where
 
   -- its byte waits
   abbrev pub in_mark : Given → Sight → Configuration R D → Bool
-  in_mark g s k = passes (λ byte. byte == k.local.tokenize_state.marker) s.current
-
-  -- one of its bytes was read
-  abbrev pub mark_begun : Given → Sight → Configuration R D → Bool
-  mark_begun g s k = nat_lt 0 k.local.tokenize_state.size_b
+  in_mark g s k = passes (λ byte. is_mark_byte byte && (byte == k.local.tokenize_state.marker)) s.current
 
   -- the byte of `CDATA[` that comes behind so many waits, or its last byte
   abbrev pub in_cdata_mark : Given → Sight → Configuration R D → Bool
@@ -120,7 +120,7 @@ module _ {R D : Type 0} where
 
   -- behind `<!-`: the mark of a comment. Its two `-` may be those of the closing mark
   abbrev pub comment_open_rows : (previous current : Option TextByte) → Rows R D
-  comment_open_rows = html_rows no_html (when (sees (λ b. b == 45)) (when no_comment no_html (row (write (closed_by 45 2 2) ∷ consume ∷ []) (Next HtmlTextMarkInside))) no_html)
+  comment_open_rows = html_rows no_html (when (sees (λ b. b == 45)) (when no_comment no_html (row (write (closed_by 45 2 2) ∷ consume ∷ []) (Next HtmlTextMarkClose))) no_html)
 
   abbrev pub comment_open : StateRows TextByte R D
   comment_open = html_state HtmlTextCommentOpenInside comment_open_rows
@@ -139,16 +139,17 @@ module _ {R D : Type 0} where
   abbrev pub mark_line_ends : Rows R D
   mark_line_ends = row (exit HtmlTextData ∷ enter LineEnding ∷ consume ∷ exit LineEnding ∷ write (size_b_is 0) ∷ []) (Next HtmlTextMarkLine)
 
-  -- behind the opening mark: the end, a byte of the closing mark, or any other; and at a line feed data ends
-  abbrev pub mark_inside_rows : (previous current : Option TextByte) → Rows R D
-  mark_inside_rows =
-      look_rows mark_line_ends
-      (when mark_ends html_ends
-      (when in_mark (row (write size_b_grows ∷ consume ∷ []) (Next HtmlTextMarkInside))
-      (when mark_begun (row (write (size_b_is 0) ∷ consume ∷ []) (Next HtmlTextMarkInside)) (html_goes_on HtmlTextMarkInside))))
+  -- behind the opening mark: the end, a byte of the closing mark, or any other, as these rows say; and at a line feed data ends
+  abbrev pub inside_rows : (others : Rows R D) → (previous current : Option TextByte) → Rows R D
+  inside_rows others = look_rows mark_line_ends (when mark_ends html_ends (when in_mark (row (write size_b_grows ∷ consume ∷ []) (Next HtmlTextMarkClose)) others))
 
+  -- where no byte of the closing mark is directly before, any other byte is read, and nothing is written
   abbrev pub mark_inside : StateRows TextByte R D
-  mark_inside = html_state HtmlTextMarkInside mark_inside_rows
+  mark_inside = html_state HtmlTextMarkInside (inside_rows (html_goes_on HtmlTextMarkInside))
+
+  -- behind some of them nothing of the closing mark is before any other byte
+  abbrev pub mark_close : StateRows TextByte R D
+  mark_close = html_state HtmlTextMarkClose (inside_rows (row (write (size_b_is 0) ∷ consume ∷ []) (Next HtmlTextMarkInside)))
 
   -- behind a line feed white space or data begins. A line feed would make a blank line
   abbrev pub mark_line_rows : (previous current : Option TextByte) → Rows R D
@@ -168,7 +169,7 @@ module _ {R D : Type 0} where
 
 -- What its states cost: each reads a byte or ends, or begins data behind a line ending
 abbrev pub html_mark_prices : List (Price TextByte)
-html_mark_prices = by_left 0 2 1 ∷ by_left 0 2 1 ∷ by_left 0 2 1 ∷ by_left 0 2 1 ∷ by_left 0 2 1 ∷ by_left 0 2 1 ∷ by_left 0 2 2 ∷ by_left 0 2 2 ∷ []
+html_mark_prices = by_left 0 2 1 ∷ by_left 0 2 1 ∷ by_left 0 2 1 ∷ by_left 0 2 1 ∷ by_left 0 2 1 ∷ by_left 0 2 1 ∷ by_left 0 2 1 ∷ by_left 0 2 2 ∷ by_left 0 2 2 ∷ []
 
 -- How raw HTML between marks is read
 abbrev pub html_marks : {R D : Type 0} → Construct Found TextByte R D
@@ -177,7 +178,7 @@ html_marks = record {
   begins = is_less_class;
   start = HtmlTextMarkStart;
   otherwise = TextBeforeData;
-  states = mark_start ∷ mark_open ∷ declaration_open ∷ comment_open ∷ cdata_open ∷ mark_inside ∷ mark_line ∷ mark_white ∷ [];
+  states = mark_start ∷ mark_open ∷ declaration_open ∷ comment_open ∷ cdata_open ∷ mark_inside ∷ mark_close ∷ mark_line ∷ mark_white ∷ [];
   begun = λ name w. name.number == HtmlTextMarkStart.number;
   follows = λ name. false;
 }

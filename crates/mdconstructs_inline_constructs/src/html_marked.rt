@@ -7,8 +7,9 @@
 //! cdata       = "<![CDATA[" *any "]]>"
 //! ```
 //!
-//! Each ends with the first closing mark behind its opening mark (CommonMark, "Raw HTML"). One state reads all four: a closing
-//! mark is so many of a byte, and `>`, and how many of that byte are directly before is counted.
+//! Each ends with the first closing mark behind its opening mark (CommonMark, "Raw HTML"). A closing mark is so many of a byte, and `>`.
+//! Two states read all four kinds: one where none of that byte is directly before, and one behind some of it, whose number is counted. The
+//! first one writes nothing at bytes that are in no closing mark, so it can read over them.
 //!
 //! A look that fails is remembered: an index of the document, for each kind. No mark of the kind that begins before it ends, so none is looked
 //! for there again. It is kept in `start` (comments), `end` (instructions), `space_or_tab_min` (declarations) and `space_or_tab_max` (CDATA).
@@ -22,7 +23,7 @@ ghost use Rattle.mdconstructs_tables.specs.RowInvariant.{DoesAll, IsCallable, st
 ghost use Rattle.mdconstructs_tables.specs.Rows.{picked, step_of};
 ghost use Rattle.mdconstructs_text.specs.TextBytes.{text_byte};
 ghost use Rattle.mdconstructs_inline_constructs.specs.HtmlTextRows.{CanEndHtmlLine};
-ghost use Rattle.mdconstructs_inline_constructs.specs.HtmlMarkedRows.{cdata_open, closed_by, comment_open, declaration_open, ends_cdata_mark, in_cdata_mark, in_mark, mark_begun, mark_ends, mark_fails, mark_inside, mark_line, mark_line_ends, mark_open, mark_start, mark_white, no_cdata, no_comment, no_declaration, no_instruction, none_upto, stopped_at};
+ghost use Rattle.mdconstructs_inline_constructs.specs.HtmlMarkedRows.{cdata_open, closed_by, comment_open, declaration_open, ends_cdata_mark, in_cdata_mark, in_mark, is_mark_byte, mark_close, mark_ends, mark_fails, mark_inside, mark_line, mark_line_ends, mark_open, mark_start, mark_white, no_cdata, no_comment, no_declaration, no_instruction, none_upto, stopped_at};
 
 use crate::html_text::html_ends;
 use crate::names;
@@ -107,7 +108,7 @@ pub fn comment_open<'a, M: MachineTypes>(t: &mut Tokenizer<'a, M>) -> Result<Sta
             }
             set_closing(t, b'-', 2, 2);
             t.consume();
-            Ok(State::Next(names::HtmlTextMarkInside))
+            Ok(State::Next(names::HtmlTextMarkClose))
         }
         _ => Ok(State::Nok),
     }
@@ -140,7 +141,7 @@ pub fn cdata_open<'a, M: MachineTypes>(t: &mut Tokenizer<'a, M>) -> Result<State
     }
 }
 
-/// Behind the opening mark.
+/// Behind the opening mark, where no byte of the closing mark is directly before.
 pub fn mark_inside<'a, M: MachineTypes>(t: &mut Tokenizer<'a, M>) -> Result<State, AllocError>
     requires { IsCallable text_byte mark_inside t.old }
     ensures { IfOk result (DoesAll (step_in text_byte mark_inside t.old) t.old t.new) }
@@ -154,16 +155,36 @@ pub fn mark_inside<'a, M: MachineTypes>(t: &mut Tokenizer<'a, M>) -> Result<Stat
             } else if in_mark(t) {
                 add_to_size_b(t);
                 t.consume();
-                Ok(State::Next(names::HtmlTextMarkInside))
-            } else if mark_begun(t) {
-                set_size_b(t, 0);
-                t.consume();
-                Ok(State::Next(names::HtmlTextMarkInside))
+                Ok(State::Next(names::HtmlTextMarkClose))
             } else {
                 t.consume();
                 Ok(State::Next(names::HtmlTextMarkInside))
             }
         }
+    }
+}
+
+/// Behind bytes of the closing mark, or behind those of an opening mark that may be of it.
+pub fn mark_close<'a, M: MachineTypes>(t: &mut Tokenizer<'a, M>) -> Result<State, AllocError>
+    requires { IsCallable text_byte mark_close t.old }
+    ensures { IfOk result (DoesAll (step_in text_byte mark_close t.old) t.old t.new) }
+{
+    match t.current() {
+        Some(b'\n') => mark_line_ends(t),
+        Some(_) => {
+            if mark_ends(t) {
+                html_ends(t)
+            } else if in_mark(t) {
+                add_to_size_b(t);
+                t.consume();
+                Ok(State::Next(names::HtmlTextMarkClose))
+            } else {
+                set_size_b(t, 0);
+                t.consume();
+                Ok(State::Next(names::HtmlTextMarkInside))
+            }
+        }
+        _ => mark_fails(t),
     }
 }
 
@@ -229,15 +250,15 @@ fn in_mark<'a, M: MachineTypes>(t: &Tokenizer<'a, M>) -> bool
 {
     match t.current() {
         None => false,
-        Some(byte) => byte == t.tokenize_state.marker,
+        Some(byte) => is_mark_byte(byte) && byte == t.tokenize_state.marker,
     }
 }
 
-/// Whether a byte of the closing mark was read.
-fn mark_begun<'a, M: MachineTypes>(t: &Tokenizer<'a, M>) -> bool
-    ensures { result ≡ mark_begun t.now.given (sight_of t.now) t.now.configuration }
+/// Whether closing marks of some kind begin with this byte. That of a declaration is `>` alone, and keeps NUL.
+fn is_mark_byte(byte: u8) -> bool
+    ensures { result ≡ is_mark_byte byte }
 {
-    t.tokenize_state.size_b > 0
+    matches!(byte, 0 | b'-' | b'?' | b']')
 }
 
 /// Whether the byte of `CDATA` waits that comes behind so many.

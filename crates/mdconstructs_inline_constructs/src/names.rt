@@ -9,7 +9,7 @@ pub const HtmlTextMarkStart: Name = Name { number: 1_100 };
 /// Raw HTML between marks: after `<`.
 pub const HtmlTextMarkOpen: Name = Name { number: 1_101 };
 
-/// Raw HTML between marks: after the opening mark, up to the closing mark.
+/// Raw HTML between marks: after the opening mark, where no byte of the closing mark is directly before.
 pub const HtmlTextMarkInside: Name = Name { number: 1_102 };
 
 /// Raw HTML between marks: after a line ending.
@@ -17,3 +17,6 @@ pub const HtmlTextMarkLine: Name = Name { number: 1_103 };
 
 /// Raw HTML between marks: in white space after a line ending.
 pub const HtmlTextMarkWhite: Name = Name { number: 1_104 };
+
+/// Raw HTML between marks: after bytes of the closing mark.
+pub const HtmlTextMarkClose: Name = Name { number: 1_105 };

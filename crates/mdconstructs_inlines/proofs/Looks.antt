@@ -89,7 +89,7 @@ emails-alike previous (Some _) = (name-ends-alike, (name-alike, (label-alike, (h
 marks-alike : (previous current : Option TextByte) → AllByRecursion IsAnsweredAlike (tests (html_marks {R = Unit {0}} {D = Unit {0}}).states previous current)
 marks-alike previous None = tt
 marks-alike previous (Some line_feed) = tt
-marks-alike previous (Some _) = ((λ g h s k alike. refl), ((λ g h s k alike. refl), ((λ g h s k alike. refl), ((λ g h s k alike. refl), ((λ g h s k alike. refl), ((λ g h s k alike. refl), ((λ g h s k alike. refl), ((λ g h s k alike. refl), ((λ g h s k alike. refl), ((λ g h s k alike. refl), ((λ g h s k alike. refl), ((λ g h s k alike. refl), ((λ g h s k alike. refl), ((λ g h s k alike. refl), ((λ g h s k alike. refl), ((λ g h s k alike. refl), ((λ g h s k alike. refl), tt)))))))))))))))))
+marks-alike previous (Some _) = ((λ g h s k alike. refl), ((λ g h s k alike. refl), ((λ g h s k alike. refl), ((λ g h s k alike. refl), ((λ g h s k alike. refl), ((λ g h s k alike. refl), ((λ g h s k alike. refl), ((λ g h s k alike. refl), ((λ g h s k alike. refl), ((λ g h s k alike. refl), ((λ g h s k alike. refl), ((λ g h s k alike. refl), ((λ g h s k alike. refl), ((λ g h s k alike. refl), ((λ g h s k alike. refl), ((λ g h s k alike. refl), ((λ g h s k alike. refl), ((λ g h s k alike. refl), tt))))))))))))))))))
 
 -- of backslash escapes and those that follow them
 others-alike : (previous current : Option TextByte) → AllByRecursion IsAnsweredAlike (tests (states_of (record escapes { otherwise = TextBeforeHardBreakEscape } ∷ behind_escapes)) previous current)

@@ -1,21 +1,26 @@
--- Data of inline text, of strings and of code spans reads over the bytes that cannot end it.
+-- Data of inline text, of strings and of code spans reads over the bytes that cannot end it, and raw HTML between marks over those of no closing mark.
 use Rattle.std.proofs.Common.{◌<◌, get_or}
 use Rattle.std.proofs.lemmas.Bool.{and_parts, ltb-true, not-true, or_parts}
-use Rattle.std.specs.Prelude.{nat_lt}
+use Rattle.std.specs.Prelude.{◌==◌, nat_le, nat_lt}
 use Rattle.markdown_base.specs.declared.state.TheConstants.Name.{RawTextData}
 use Rattle.markdown_tokenizer.proofs.ByteSets.{pass_all, passed}
 use Rattle.markdown_tokenizer.specs.Over.{ReadsOver, step_over}
 use Rattle.mdconstructs_inlines.proofs.Prelude.{◌≡◌, ◌⊎◌, inl, inr, ℕ, ◌&&◌, ◌||◌, List, [], ◌∷◌, Bool, true, false, cond, Option, Some, refl, ap, ◌∙◌, subst, sym, and-false, passes, exit, Retry, TextBefore, Data, Name, Next, DataInside, DataStart, Given, Configuration, Sight, sight, Step, consume, row, picked, StateRows, is_white, is_line_feed, some_begins, some_first, raw_text_data, TextByte, is_line_feed_class, text_byte, line_feed, backtick, less, backslash, ampersand, white, punctuation, line-classed, white-classed, is_white_class, begins_run, ends_data, marked_grammars, inline_constructs, inline_data, inline_data_rows, is_delimiter, inlines_rules, inlines, is_string_special}
 use Rattle.mdconstructs_tables.proofs.Tables.Over.{picked-read-over}
 use Rattle.mdconstructs_tables.specs.Over.{PicksOver}
-use Rattle.mdconstructs_tables.specs.Rows.{Row, named}
-use Rattle.mdconstructs_text.specs.Bytes.{is_backtick}
+use Rattle.mdconstructs_tables.specs.Rows.{Row, Rows, named, when, write}
+use Rattle.mdconstructs_text.specs.Bytes.{is_backtick, is_greater_than}
 use Rattle.mdconstructs_text.specs.CodeSpanRows.{raw_text_data_rows}
 use Rattle.mdconstructs_text.specs.Laws.Classes.{tick-classed}
 use Rattle.mdconstructs_text.specs.TextBytes.{is_backtick_class}
+use Rattle.mdconstructs_inline_constructs.proofs.HtmlMarks.Picked.{look-others}
+use Rattle.mdconstructs_inline_constructs.specs.HtmlMarkedRows.{in_mark, is_mark_byte, mark_ends, mark_inside, mark_line_ends}
+use Rattle.mdconstructs_inline_constructs.specs.HtmlTextRows.{html_ends, html_goes_on}
+use Rattle.mdconstructs_inline_constructs.specs.declared.names.TheConstants.{HtmlTextMarkClose, HtmlTextMarkInside}
+use Rattle.mdconstructs_text.specs.TextSizes.{size_b_grows}
 use Rattle.mdconstructs_inlines.proofs.InlineApart.{marked-classed}
 use Rattle.mdconstructs_inlines.proofs.StringReads.{string-special-classed, string_data_row}
-use Rattle.mdconstructs_inlines.specs.Over.{AllPass, is_in_code, is_in_data, is_in_string}
+use Rattle.mdconstructs_inlines.specs.Over.{AllPass, is_in_code, is_in_data, is_in_marks, is_in_string}
 use Rattle.mdconstructs_inlines.specs.StringTable.{string_data}
 
 -- each byte of a set is above CR and passes a test, if that is tried on each
@@ -91,3 +96,22 @@ code-picks byte is before g s k current =
 
 pub code-over : (byte : ℕ) → is_in_code byte ≡ true → (name : Name) → name.number ≡ RawTextData.number → IsOver name byte
 code-over byte is = reads-over raw_text_data RawTextData byte refl (code-picks byte is)
+
+-- ---- raw HTML between marks
+
+abbrev marks : Rows Unit Unit
+marks = when in_mark (row (write size_b_grows ∷ consume ∷ []) (Next HtmlTextMarkClose)) (html_goes_on HtmlTextMarkInside)
+
+mark-picks : (byte : ℕ) → is_in_marks byte ≡ true → PicksOver (mark_inside {R = Unit {0}} {D = Unit {0}}) HtmlTextMarkInside text_byte byte
+mark-picks byte is before g s k current =
+    let sizes = k.local.tokenize_state in
+    let (line, others) = or_parts (is_line_feed byte) (is_greater_than byte || is_mark_byte byte) (not-true _ is) in
+    let (last, other) = or_parts (is_greater_than byte) (is_mark_byte byte) others in
+    let ends : mark_ends g s k ≡ false = (λ i. passes is_greater_than (current i) && nat_le sizes.size_c sizes.size_b) ∙ (λ i. last i && nat_le sizes.size_c sizes.size_b) in
+    let among : in_mark g s k ≡ false = (λ i. passes (λ b. is_mark_byte b && (b == sizes.marker)) (current i)) ∙ (λ i. other i && (byte == sizes.marker)) in
+    ap (λ r. picked r g s k) (look-others mark_line_ends (when mark_ends html_ends marks) before byte line)
+    ∙ ap (λ t. cond t (picked html_ends g s k) (picked marks g s k)) ends
+    ∙ ap (λ t. cond t (picked (row (write size_b_grows ∷ consume ∷ []) (Next HtmlTextMarkClose)) g s k) (picked (html_goes_on HtmlTextMarkInside) g s k)) among
+
+pub mark-over : (byte : ℕ) → is_in_marks byte ≡ true → (name : Name) → name.number ≡ HtmlTextMarkInside.number → IsOver name byte
+mark-over byte is = reads-over mark_inside HtmlTextMarkInside byte refl (mark-picks byte is)

@@ -1,6 +1,6 @@
 -- The machine of inline text does what the rows of constructs say; and between them what bytes say.
 use Rattle.markdown_base.proofs.Common.{and-right}
-use Rattle.mdconstructs_inlines.proofs.Prelude.{◌≡◌, ◌⊎◌, inl, inr, ℕ, ◌==◌, ◌&&◌, ◌||◌, [], ◌∷◌, Bool, true, false, cond, Option, Some, None, refl, sym, ap, ◌∙◌, arith, nat_tests, Constructs, Data, LineEnding, Next, Retry, AttentionStart, DataInside, TextBefore, TextBeforeData, TextLineStart, with_local, Configuration, sight, Given, Text, Rows, class_of, consume, enter, exit, row, is_white, counts, row_step, is_line_feed, passes, between_texts, some_begins, tried_at, TextByte, is_line_feed_class, line_feed, punctuation, text_byte, white, PlaysCodeSpans, remembering, line-classed, BeginsData, HasRow, HasRows, Plays, tested, PlaysEmails, MarkPlace, at_cdata, at_comment, at_declaration, at_inside, at_open, mark_name, PlaysMarks, mark_rows, Place, PlaysTags, rows_of, state_of, PlaysBreakEscapes, PlaysReferences, between-remembered, code_memory, opening-remembered, white-classed, is_white_class, begins_run, ends_data, inline_before_rows, inline_constructs, inline_data_rows, is_delimiter, run_begins}
+use Rattle.mdconstructs_inlines.proofs.Prelude.{◌≡◌, ◌⊎◌, inl, inr, ℕ, zero, suc, ◌==◌, ◌&&◌, ◌||◌, [], ◌∷◌, Bool, true, false, cond, Option, Some, None, refl, sym, ap, ◌∙◌, arith, nat_tests, Constructs, Data, LineEnding, Next, Retry, AttentionStart, DataInside, TextBefore, TextBeforeData, TextLineStart, with_local, Configuration, sight, Given, Text, Rows, class_of, consume, enter, exit, row, is_white, counts, row_step, is_line_feed, passes, between_texts, some_begins, tried_at, TextByte, is_line_feed_class, line_feed, punctuation, text_byte, white, PlaysCodeSpans, remembering, line-classed, BeginsData, HasRow, HasRows, Plays, tested, PlaysEmails, MarkPlace, at_cdata, at_comment, at_declaration, at_inside, at_open, mark_name, PlaysMarks, mark_rows, Place, PlaysTags, rows_of, state_of, PlaysBreakEscapes, PlaysReferences, between-remembered, code_memory, opening-remembered, white-classed, is_white_class, begins_run, ends_data, inline_before_rows, inline_constructs, inline_data_rows, is_delimiter, run_begins}
 use Rattle.mdconstructs_inline_constructs.proofs.HtmlTags.Places as place
 use Rattle.mdconstructs_inlines.proofs.Counted.{counted_step}
 use Rattle.mdconstructs_inlines.proofs.InlineApart.{marked-classed, punctuation-ends}
@@ -153,7 +153,8 @@ module _ (g : Given) (text : Text) where
   mark-places at_declaration = λ k. refl
   mark-places at_comment = λ k. refl
   mark-places (at_cdata n) = λ k. refl
-  mark-places (at_inside kind n) = λ k. refl
+  mark-places (at_inside kind zero) = λ k. refl
+  mark-places (at_inside kind (suc n)) = λ k. refl
 
   abbrev pub inlines_play_marks : PlaysMarks g text (counted_step g)
   inlines_play_marks = record { start = λ k. refl; places = mark-places; after_line = λ k. refl; in_white = λ k. refl }

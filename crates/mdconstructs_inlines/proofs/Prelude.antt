@@ -90,7 +90,7 @@ pub use Rattle.mdconstructs_inline_constructs.proofs.WhiteSpaces.Cuts.{white-spa
 pub use Rattle.mdconstructs_inline_constructs.specs.EmailRows.{email_atext, email_label, email_start, email_value, emails}
 pub use Rattle.mdconstructs_inline_constructs.specs.HardBreak.{hard_break_trailing, trailing_break_at, trailing_size_min}
 pub use Rattle.mdconstructs_inline_constructs.specs.HardBreakRows.{break_escape_after, break_escape_start, break_escapes, break_escapes_are_on, trailing_breaks_are_on}
-pub use Rattle.mdconstructs_inline_constructs.specs.HtmlMarkedRows.{cdata_open, comment_open, declaration_open, html_marks, mark_inside, mark_line, mark_open, mark_start, mark_white}
+pub use Rattle.mdconstructs_inline_constructs.specs.HtmlMarkedRows.{cdata_open, comment_open, declaration_open, html_marks, mark_close, mark_inside, mark_line, mark_open, mark_start, mark_white}
 pub use Rattle.mdconstructs_inline_constructs.specs.HtmlTagRows.{html_tags, html_text_attribute_name, html_text_attribute_name_after, html_text_end, html_text_open, html_text_start, html_text_tag_close, html_text_tag_close_between, html_text_tag_close_start, html_text_tag_open, html_text_tag_open_between, html_text_value_before, html_text_value_quoted, html_text_value_quoted_after, html_text_value_unquoted}
 pub use Rattle.mdconstructs_inline_constructs.specs.HtmlTextRows.{html_line_ending_after, html_line_ending_after_prefix}
 pub use Rattle.mdconstructs_inline_constructs.proofs.Emails.Alike.{domain-ends-alike, hyphen-alike, label-alike, label-ends-alike, name-alike, name-ends-alike}

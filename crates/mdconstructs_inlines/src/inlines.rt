@@ -18,7 +18,7 @@ ghost use Rattle.mdconstructs_inlines.specs.StringTable.{string_start};
 
 use crate::attention::{attention_inside, attention_start, run_begins};
 use crate::names;
-use crate::over::{in_code, in_data, in_string};
+use crate::over::{in_code, in_data, in_marks, in_string};
 use crate::strings::{string_before, string_before_data, string_data};
 use markdown_tokenizer::event::{self, Event};
 use markdown_tokenizer::state::{ByteSet, Machine, MachineTypes, Name, State, no_bytes};
@@ -31,8 +31,8 @@ use mdconstructs_inline_constructs::hard_break::{
     break_escape_after, break_escape_start, break_escapes_are_on, trailing_breaks_are_on,
 };
 use mdconstructs_inline_constructs::html_marked::{
-    cdata_open, comment_open, declaration_open, mark_inside, mark_line, mark_open, mark_start,
-    mark_white,
+    cdata_open, comment_open, declaration_open, mark_close, mark_inside, mark_line, mark_open,
+    mark_start, mark_white,
 };
 use mdconstructs_inline_constructs::html_tag::{
     html_text_attribute_name, html_text_attribute_name_after, html_text_end, html_text_open,
@@ -85,13 +85,14 @@ impl Machine for Inlines {
 
     ghost rules = { λ _. inlines_rules };
 
-    /// Data reads over all bytes but those that may end it.
+    /// Data reads over all bytes but those that may end it, and raw HTML between marks over all but those of closing marks.
     #[inline(always)]
     fn reads_over(&self, name: Name) -> &'static ByteSet {
         match name {
             Name::DataInside => in_data(),
             Name::DataStart => in_string(),
             Name::RawTextData => in_code(),
+            construct_names::HtmlTextMarkInside => in_marks(),
             _ => no_bytes(),
         }
     }
@@ -150,6 +151,7 @@ impl Machine for Inlines {
             Name::HtmlTextCommentOpenInside => comment_open(t),
             Name::HtmlTextCdataOpenInside => cdata_open(t),
             construct_names::HtmlTextMarkInside => mark_inside(t),
+            construct_names::HtmlTextMarkClose => mark_close(t),
             construct_names::HtmlTextMarkLine => mark_line(t),
             construct_names::HtmlTextMarkWhite => mark_white(t),
             Name::HtmlTextStart => html_text_start(t),

@@ -1,6 +1,6 @@
 //! Bytes that states of inline text read over: at them a call only consumes the byte, and the engine need not make it. Each is above CR.
 
-ghost use Rattle.mdconstructs_inlines.specs.Over.{AllPass, is_in_code, is_in_data, is_in_string};
+ghost use Rattle.mdconstructs_inlines.specs.Over.{AllPass, is_in_code, is_in_data, is_in_marks, is_in_string};
 
 use markdown_tokenizer::state::ByteSet;
 
@@ -89,4 +89,33 @@ pub(crate) fn in_code() -> &'static ByteSet
     ensures { AllPass is_in_code result.now }
 {
     &IN_CODE
+}
+
+/// The bytes of raw HTML between marks that are in no closing mark.
+static IN_MARKS: ByteSet = [
+    false, false, false, false, false, false, false, false, false, false, false, false, false,
+    false, true, true, true, true, true, true, true, true, true, true, true, true, true, true, true,
+    true, true, true, true, true, true, true, true, true, true, true, true, true, true, true, true,
+    false, true, true, true, true, true, true, true, true, true, true, true, true, true, true, true,
+    true, false, false, true, true, true, true, true, true, true, true, true, true, true, true,
+    true, true, true, true, true, true, true, true, true, true, true, true, true, true, true, true,
+    true, false, true, true, true, true, true, true, true, true, true, true, true, true, true, true,
+    true, true, true, true, true, true, true, true, true, true, true, true, true, true, true, true,
+    true, true, true, true, true, true, true, true, true, true, true, true, true, true, true, true,
+    true, true, true, true, true, true, true, true, true, true, true, true, true, true, true, true,
+    true, true, true, true, true, true, true, true, true, true, true, true, true, true, true, true,
+    true, true, true, true, true, true, true, true, true, true, true, true, true, true, true, true,
+    true, true, true, true, true, true, true, true, true, true, true, true, true, true, true, true,
+    true, true, true, true, true, true, true, true, true, true, true, true, true, true, true, true,
+    true, true, true, true, true, true, true, true, true, true, true, true, true, true, true, true,
+    true, true, true, true, true, true, true, true, true, true, true, true, true, true, true, true,
+    true, true, true, true,
+];
+
+/// The bytes of raw HTML between marks that are in no closing mark. A state with none of a closing mark before it stays there.
+#[inline(always)]
+pub(crate) fn in_marks() -> &'static ByteSet
+    ensures { AllPass is_in_marks result.now }
+{
+    &IN_MARKS
 }

@@ -1,5 +1,5 @@
 -- Places in raw HTML between marks, from byte to byte; and how many bytes there are from each on.
-use Rattle.mdconstructs_inline_constructs.proofs.Prelude.{Name, HtmlTextCdataOpenInside, HtmlTextCommentOpenInside, HtmlTextDeclarationOpen, HtmlTextMarkInside, HtmlTextMarkOpen, Configuration, Local, Sight, is_white, closed_by, none_upto, stopped_at, has_byte_at, more_than, size_b_grows, size_b_is, Bool, List, None, Option, Some, [], ap, arith, cond, false, inl, inr, nat_le, refl, subst, suc, sym, true, zero, ℕ, ◌&&◌, ◌+◌, ◌<◌, ◌==◌, ◌^◌, ◌∙◌, ◌∷◌, ◌≡◌, ◌≤◌, and-false, cases_lt, nat_tests, is_ascii_alphabetic, codes}
+use Rattle.mdconstructs_inline_constructs.proofs.Prelude.{Name, HtmlTextCdataOpenInside, HtmlTextCommentOpenInside, HtmlTextDeclarationOpen, HtmlTextMarkClose, HtmlTextMarkInside, HtmlTextMarkOpen, Configuration, Local, Sight, is_white, closed_by, none_upto, stopped_at, has_byte_at, more_than, size_b_grows, size_b_is, Bool, List, None, Option, Some, [], ap, arith, cond, false, inl, inr, nat_le, refl, subst, suc, sym, true, zero, ℕ, ◌&&◌, ◌+◌, ◌<◌, ◌==◌, ◌^◌, ◌∙◌, ◌∷◌, ◌≡◌, ◌≤◌, and-false, cases_lt, nat_tests, is_ascii_alphabetic, codes}
 use Rattle.mdconstructs_inline_constructs.proofs.HtmlMarks.Marks.{left-enough, left_to_mark}
 use Rattle.mdconstructs_inline_constructs.proofs.HtmlTexts.Walks.{GoesThroughLines, IsThrough, Move, OfLine, Stop, done, goes, moved, one_further, refused, run}
 
@@ -72,7 +72,16 @@ mark_name at_open = HtmlTextMarkOpen
 mark_name at_declaration = HtmlTextDeclarationOpen
 mark_name at_comment = HtmlTextCommentOpenInside
 mark_name (at_cdata n) = HtmlTextCdataOpenInside
-mark_name (at_inside kind n) = HtmlTextMarkInside
+mark_name (at_inside kind zero) = HtmlTextMarkInside
+mark_name (at_inside kind (suc n)) = HtmlTextMarkClose
+
+-- behind some bytes of the closing mark it is the other one
+name-behind : (kind : Mark) (n : ℕ) → 0 < n → mark_name (at_inside kind n) ≡ HtmlTextMarkClose
+name-behind kind zero h = absurd (omega (arith, h))
+name-behind kind (suc n) h = refl
+
+pub name-more : (kind : Mark) (n : ℕ) → mark_name (at_inside kind (more_than n)) ≡ HtmlTextMarkClose
+name-more kind n = let some : 0 < more_than n = omega arith in name-behind kind (more_than n) some
 
 -- what is written where the end or a blank line stops a look: its kind does not end up to there. An opening mark is just not there
 abbrev pub kind_fails : Mark → Sight → Configuration Unit Unit → Local Unit Unit

@@ -1,7 +1,7 @@
 -- The states of raw HTML between marks do at each byte what it does at their places.
 use Rattle.markdown_base.proofs.Facts.Numbers.{unlike}
-use Rattle.mdconstructs_inline_constructs.proofs.Prelude.{HtmlTextData, SpaceOrTab, Name, Next, Nok, Retry, HtmlTextCommentOpenInside, HtmlTextDeclarationOpen, HtmlTextMarkInside, HtmlTextMarkLine, HtmlTextMarkStart, HtmlTextMarkWhite, Seat, with_local, Configuration, Local, Step, Sight, sight, byte_of, current_of, point_of, point_or, Given, Text, row_step, is_white, counts, cdata_open_rows, comment_open_rows, declaration_open_rows, ends_cdata_mark, in_cdata_mark, in_mark, look_rows, mark_begun, mark_ends, mark_fails, mark_inside_rows, mark_line_rows, mark_open_rows, mark_start_rows, mark_white_rows, closed_by, no_cdata, no_comment, no_declaration, no_instruction, none_upto, stopped_at, html_goes_on, no_html, sees, Act, Rows, class_of, consume, enter, exit, row, when, write, writes, IsAfter, Remembered, after-call, remembered, HasRow, HasRows, tested, has_byte_at, is_greater_than, passes, TextByte, line_feed, text_byte, more_than, size_b_grows, size_b_is, Bool, List, None, Option, Some, [], ap, arith, cond, false, nat_le, not, refl, slice_get, subst, suc, sym, true, zero, ℕ, ◌&&◌, ◌+◌, ◌<◌, ◌==◌, ◌∙◌, ◌∷◌, ◌≡◌, and_parts, eqb-true, lt-ltb, is_ascii_alphabetic, codes, nat_lt}
-use Rattle.mdconstructs_inline_constructs.proofs.HtmlMarks.Places.{Mark, MarkPlace, at_cdata, at_comment, at_declaration, at_inside, at_open, cdata-few, cdata-line, inside-line, kind_fails, mark_byte, mark_gives_up, mark_move, mark_name, mark_times, marks-go-through-lines, nothing_before, of_cdata, of_comment, of_declaration, of_instruction, opens, opens_unless}
+use Rattle.mdconstructs_inline_constructs.proofs.Prelude.{HtmlTextData, SpaceOrTab, Name, Next, Nok, Retry, HtmlTextCommentOpenInside, HtmlTextDeclarationOpen, HtmlTextMarkInside, HtmlTextMarkLine, HtmlTextMarkStart, HtmlTextMarkWhite, Seat, with_local, Configuration, Local, Step, Sight, sight, byte_of, current_of, point_of, point_or, Given, Text, row_step, is_white, counts, cdata_open_rows, comment_open_rows, declaration_open_rows, ends_cdata_mark, in_cdata_mark, in_mark, inside_rows, is_mark_byte, look_rows, mark_ends, mark_fails, mark_line_ends, mark_line_rows, mark_open_rows, mark_start_rows, mark_white_rows, closed_by, no_cdata, no_comment, no_declaration, no_instruction, none_upto, stopped_at, html_ends, html_goes_on, no_html, sees, Act, Rows, class_of, consume, enter, exit, row, when, write, writes, IsAfter, Remembered, after-call, remembered, HasRow, HasRows, tested, has_byte_at, is_greater_than, passes, TextByte, line_feed, text_byte, more_than, size_b_grows, size_b_is, Bool, List, None, Option, Some, [], ap, arith, cond, false, nat_le, not, refl, slice_get, subst, suc, sym, true, zero, ℕ, ◌&&◌, ◌+◌, ◌<◌, ◌==◌, ◌∙◌, ◌∷◌, ◌≡◌, and_parts, eqb-true, nat_tests, is_ascii_alphabetic, codes, nat_lt}
+use Rattle.mdconstructs_inline_constructs.proofs.HtmlMarks.Places.{Mark, MarkPlace, at_cdata, at_comment, at_declaration, at_inside, at_open, cdata-few, cdata-line, inside-line, kind_fails, mark_byte, mark_gives_up, mark_move, mark_name, mark_times, name-more, marks-go-through-lines, nothing_before, of_cdata, of_comment, of_declaration, of_instruction, opens, opens_unless}
 use Rattle.mdconstructs_inline_constructs.proofs.HtmlMarks.Picked.{look-others}
 use Rattle.mdconstructs_tables.proofs.Rows.Calls.{byte-waits}
 use Rattle.mdconstructs_inline_constructs.proofs.HtmlTexts.Pieces.{is_no_line_feed}
@@ -15,7 +15,7 @@ mark_rows at_open = mark_open_rows
 mark_rows at_declaration = declaration_open_rows
 mark_rows at_comment = comment_open_rows
 mark_rows (at_cdata n) = cdata_open_rows
-mark_rows (at_inside kind n) = mark_inside_rows
+mark_rows (at_inside kind n) = inside_rows (row_of mark_name (nothing_before kind n))
 
 -- A machine that reads raw HTML between marks: its states have these rows
 pub record PlaysMarks (g : Given) (text : Text) (step : Sight → Configuration Unit Unit → Name → Step Unit Unit) : Type 0 where
@@ -53,7 +53,8 @@ FollowsMark at_open local = ⊥
 FollowsMark at_declaration local = ⊥
 FollowsMark at_comment local = ⊥
 FollowsMark (at_cdata n) local = ⊥
-FollowsMark (at_inside kind n) local = IsMarkOpen kind n local
+FollowsMark (at_inside kind zero) local = IsMarkOpen kind 0 local
+FollowsMark (at_inside kind (suc n)) local = ⊥
 
 -- nothing of the closing mark is before
 abbrev pub mark_returns : MarkPlace → Writes
@@ -64,7 +65,8 @@ mark-counted at_open local h = absurd h
 mark-counted at_declaration local h = absurd h
 mark-counted at_comment local h = absurd h
 mark-counted (at_cdata n) local h = absurd h
-mark-counted (at_inside kind n) local h = h
+mark-counted (at_inside kind zero) local h = h
+mark-counted (at_inside kind (suc n)) local h = absurd h
 
 -- The look that begins at a position of the text, by what is remembered of the kinds
 module _ (text : Text) (from : ℕ) (known : Mark → Bool) where
@@ -84,7 +86,8 @@ module _ (text : Text) (from : ℕ) (known : Mark → Bool) where
   mark-known at_declaration q local h = absurd h
   mark-known at_comment q local h = absurd h
   mark-known (at_cdata n) q local h = absurd h
-  mark-known (at_inside kind n) q local h = h
+  mark-known (at_inside kind zero) q local h = h
+  mark-known (at_inside kind (suc n)) q local h = absurd h
 
   -- what a move writes, and what is known behind it
   abbrev Keeps : MarkPlace → Move MarkPlace → Type 0
@@ -168,7 +171,7 @@ look-stopped others before (Some b) h = elim (b == 10) as (λ t. (b == 10) ≡ t
 abbrev line_row : Move MarkPlace → Rows Unit Unit
 line_row move = line_row_of mark_name mark_returns HtmlTextMarkLine move
 
-nothing-line : (kind : Mark) (n : ℕ) (previous : Option TextByte) → mark_inside_rows previous (Some line_feed) ≡ line_row (nothing_before kind n)
+nothing-line : (kind : Mark) (n : ℕ) (previous : Option TextByte) → mark_rows (at_inside kind n) previous (Some line_feed) ≡ line_row (nothing_before kind n)
 nothing-line kind zero previous = refl
 nothing-line kind (suc n) previous = refl
 
@@ -178,6 +181,17 @@ line-rows known at_declaration previous = refl
 line-rows known at_comment previous = refl
 line-rows known (at_cdata n) previous = ap line_row (sym (cdata-line known n))
 line-rows known (at_inside kind n) previous = nothing-line kind n previous ∙ ap line_row (sym (inside-line known kind n))
+
+-- each kind's byte is one of closing marks
+mark-byte : (kind : Mark) (b : ℕ) → (is_mark_byte b && (b == mark_byte kind)) ≡ (b == mark_byte kind)
+mark-byte of_comment b = grind (arith, nat_tests)
+mark-byte of_instruction b = grind (arith, nat_tests)
+mark-byte of_declaration b = grind (arith, nat_tests)
+mark-byte of_cdata b = grind (arith, nat_tests)
+
+-- the rows behind an opening mark, with the state behind a byte of the closing mark
+abbrev inside_rows_at : Name → (others : Rows Unit Unit) → (previous current : Option TextByte) → Rows Unit Unit
+inside_rows_at name others = look_rows mark_line_ends (when mark_ends html_ends (when in_mark (row (write size_b_grows ∷ consume ∷ []) (Next name)) others))
 
 module _ (g : Given) (text : Text) (step : Sight → Configuration Unit Unit → Name → Step Unit Unit) (m : PlaysMarks g text step) where
   abbrev Has : Configuration Unit Unit → Name → Rows Unit Unit → Type 0
@@ -190,14 +204,6 @@ module _ (g : Given) (text : Text) (step : Sight → Configuration Unit Unit →
     by-known test one other others t is rest =
         tested g text test (row_of mark_name one) others k t is
         ∙ elim t as (λ t. row_step g text k (cond t (row_of mark_name one) others) ≡ row_step g text k (row_of mark_name (cond t one other))) [ true ↦ refl | false ↦ rest ]
-
-    abbrev nothing_rows : Rows Unit Unit
-    nothing_rows = when mark_begun (row (write (size_b_is 0) ∷ consume ∷ []) (Next HtmlTextMarkInside)) (row (consume ∷ []) (Next HtmlTextMarkInside))
-
-    nothing-rows : (kind : Mark) (n : ℕ) → k.local.tokenize_state.size_b ≡ n → row_step g text k nothing_rows ≡ row_step g text k (row_of mark_name (nothing_before kind n))
-    nothing-rows kind zero is = tested g text mark_begun (row (write (size_b_is 0) ∷ consume ∷ []) (Next HtmlTextMarkInside)) (row (consume ∷ []) (Next HtmlTextMarkInside)) k false (ap (nat_lt 0) is)
-    nothing-rows kind (suc n) is =
-        tested g text mark_begun (row (write (size_b_is 0) ∷ consume ∷ []) (Next HtmlTextMarkInside)) (row (consume ∷ []) (Next HtmlTextMarkInside)) k true (ap (nat_lt 0) is ∙ lt-ltb 0 (suc n) (omega arith))
 
     -- one of two rows by the byte that waits, each that of a move
     by-byte-move : (test : ℕ → Bool) (x y : Rows Unit Unit) (one other : Move MarkPlace) → row_step g text k x ≡ row_step g text k (row_of mark_name one) → row_step g text k y ≡ row_step g text k (row_of mark_name other)
@@ -275,12 +281,15 @@ module _ (g : Given) (text : Text) (step : Sight → Configuration Unit Unit →
         let s = sight g text k in
         let one : (passes is_greater_than s.current && nat_le k.local.tokenize_state.size_c k.local.tokenize_state.size_b) ≡ ((b == 62) && nat_le (mark_times kind) n) =
         λ i. passes is_greater_than (waits i) && nat_le (knows.1 i) (knows.2 i) in
-        let two : passes (λ c. c == k.local.tokenize_state.marker) s.current ≡ (b == mark_byte kind) = λ i. passes (λ c. c == knows.0 i) (waits i) in
-        let more = cond (b == mark_byte kind) (goes (Some size_b_grows) (at_inside kind (more_than n))) (nothing_before kind n) in
-        let marks = when in_mark (row_of mark_name (goes (Some size_b_grows) (at_inside kind (more_than n)))) nothing_rows in
-        ap (row_step g text k) (look-others (line_row (goes None (at_inside kind 0))) (when mark_ends (row_of mark_name done) marks) previous b plain)
-        ∙ by-known mark_ends done more marks ((b == 62) && nat_le (mark_times kind) n) one
-        (by-known in_mark (goes (Some size_b_grows) (at_inside kind (more_than n))) (nothing_before kind n) nothing_rows (b == mark_byte kind) two (nothing-rows kind n knows.2))
+        let two : passes (λ c. is_mark_byte c && (c == k.local.tokenize_state.marker)) s.current ≡ (b == mark_byte kind) =
+        (λ i. passes (λ c. is_mark_byte c && (c == knows.0 i)) (waits i)) ∙ mark-byte kind b in
+        let grows = goes (Some size_b_grows) (at_inside kind (more_than n)) in
+        let nothing = row_of mark_name (nothing_before kind n) in
+        let marks = when in_mark (row_of mark_name grows) nothing in
+        ap (row_step g text k) (ap (λ name. inside_rows_at name nothing previous (Some (text_byte b))) (sym (name-more kind n)))
+        ∙ ap (row_step g text k) (look-others mark_line_ends (when mark_ends html_ends marks) previous b plain)
+        ∙ by-known mark_ends done (cond (b == mark_byte kind) grows (nothing_before kind n)) marks ((b == 62) && nat_le (mark_times kind) n) one
+        (by-known in_mark grows (nothing_before kind n) nothing (b == mark_byte kind) two refl)
 
   -- where a look stops, that its kind does not end up to there is written
   stop-step : (kind : Mark) (k : Configuration Unit Unit) → k.local.tokenize_state.marker ≡ mark_byte kind → row_step g text k mark_fails ≡ row_step g text k (row (stop_acts (Some (kind_fails kind))) Nok)
@@ -303,7 +312,8 @@ module _ (g : Given) (text : Text) (step : Sight → Configuration Unit Unit →
     stops at_declaration k h follows = absurd follows
     stops at_comment k h follows = absurd follows
     stops (at_cdata i) k h follows = absurd follows
-    stops (at_inside kind i) k h follows =
+    stops (at_inside kind (suc i)) k h follows = absurd follows
+    stops (at_inside kind zero) k h follows =
         has k ∙ ap (row_step g text k) (look-stopped others (class_of text_byte (sight g text k).previous) (sight g text k).current h) ∙ stop-step kind k follows.0
 
     whites : (k : Configuration Unit Unit) (b : ℕ) → (sight g text k).current ≡ Some b → is_white b ≡ true → Has k n white
@@ -316,7 +326,8 @@ module _ (g : Given) (text : Text) (step : Sight → Configuration Unit Unit →
     begins at_declaration k b waits plain w follows = absurd follows
     begins at_comment k b waits plain w follows = absurd follows
     begins (at_cdata i) k b waits plain w follows = absurd follows
-    begins (at_inside kind i) k b waits plain w follows =
+    begins (at_inside kind (suc i)) k b waits plain w follows = absurd follows
+    begins (at_inside kind zero) k b waits plain w follows =
         at-seen g text step n (look_rows mark_fails others) others k (Some b) has waits (look-others mark_fails others (class_of text_byte (sight g text k).previous) b plain)
         ∙ by-byte g text k is_white white (row acts (Retry HtmlTextMarkInside)) b false waits w
 

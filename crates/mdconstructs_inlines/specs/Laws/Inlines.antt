@@ -34,7 +34,7 @@ tested previous _ = refl
 pub inlines-late : IsLate inlines begins_inline follows_inline
 inlines-late =
     numbered-late inlines is_backtick_class inline_prices begins_inline follows_inline (record {
-      priced = (refl, (refl, (refl, (refl, (refl, (refl, (refl, (refl, (refl, (refl, (refl, (refl, (refl, (refl, (refl, (refl, (refl, (refl, (refl, (refl, (refl, (refl, (refl, (refl, (refl, (refl, (refl, (refl, (refl, (refl, (refl, (refl, (refl, (refl, (refl, (refl, (refl, (refl, (refl, (refl, (refl, (refl, (refl, (refl, (refl, (refl, (refl, (refl, (refl, (refl, (refl, (refl, (refl, (refl, (refl, (refl, (refl, (refl, (refl, (refl, (refl, (refl, (refl, (refl, (refl, (refl, (refl, (refl, (refl, (refl, (refl, tt)))))))))))))))))))))))))))))))))))))))))))))))))))))))))))))))))))))));
+      priced = (refl, (refl, (refl, (refl, (refl, (refl, (refl, (refl, (refl, (refl, (refl, (refl, (refl, (refl, (refl, (refl, (refl, (refl, (refl, (refl, (refl, (refl, (refl, (refl, (refl, (refl, (refl, (refl, (refl, (refl, (refl, (refl, (refl, (refl, (refl, (refl, (refl, (refl, (refl, (refl, (refl, (refl, (refl, (refl, (refl, (refl, (refl, (refl, (refl, (refl, (refl, (refl, (refl, (refl, (refl, (refl, (refl, (refl, (refl, (refl, (refl, (refl, (refl, (refl, (refl, (refl, (refl, (refl, (refl, (refl, (refl, (refl, tt))))))))))))))))))))))))))))))))))))))))))))))))))))))))))))))))))))))));
       falls = refl;
       tested = tested;
       kept = λ local. refl;
@@ -63,13 +63,13 @@ linkless-strings b (Some line_feed) = (refl, tt)
 linkless-strings b _ = (refl, tt)
 
 linkless : (b w : Option TextByte) → (link_makers later_states b w ≡ []) × RegisterNothing later_states b w
-linkless b None = (refl, ((λ s k. (refl, refl)), ((λ s k. (refl, refl)), ((λ s k. (refl, refl)), ((λ s k. (refl, refl)), ((λ s k. (refl, refl)), ((λ s k. (refl, refl)), ((λ s k. (refl, refl)), ((λ s k. (refl, refl)), tt)))))))))
-linkless b (Some line_feed) = (refl, ((λ s k. (refl, refl)), ((λ s k. (refl, refl)), ((λ s k. (refl, refl)), ((λ s k. (refl, refl)), ((λ s k. (refl, refl)), ((λ s k. (refl, refl)), ((λ s k. (refl, refl)), ((λ s k. (refl, refl)), ((λ s k. (refl, refl)), ((λ s k. (refl, refl)), ((λ s k. (refl, refl)), ((λ s k. (refl, refl)), ((λ s k. (refl, refl)), ((λ s k. (refl, refl)), ((λ s k. (refl, refl)), ((λ s k. (refl, refl)), ((λ s k. (refl, refl)), ((λ s k. (refl, refl)), ((λ s k. (refl, refl)), ((λ s k. (refl, refl)), ((λ s k. (refl, refl)), ((λ s k. (refl, refl)), ((λ s k. (refl, refl)), ((λ s k. (refl, refl)), ((λ s k. (refl, refl)), ((λ s k. (refl, refl)), ((λ s k. (refl, refl)), ((λ s k. (refl, refl)), ((λ s k. (refl, refl)), tt))))))))))))))))))))))))))))))
-linkless b (Some backtick) = (refl, ((λ s k. (refl, refl)), ((λ s k. (refl, refl)), ((λ s k. (refl, refl)), ((λ s k. (refl, refl)), ((λ s k. (refl, refl)), ((λ s k. (refl, refl)), ((λ s k. (refl, refl)), ((λ s k. (refl, refl)), ((λ s k. (refl, refl)), ((λ s k. (refl, refl)), ((λ s k. (refl, refl)), ((λ s k. (refl, refl)), ((λ s k. (refl, refl)), ((λ s k. (refl, refl)), ((λ s k. (refl, refl)), ((λ s k. (refl, refl)), ((λ s k. (refl, refl)), ((λ s k. (refl, refl)), ((λ s k. (refl, refl)), ((λ s k. (refl, refl)), ((λ s k. (refl, refl)), ((λ s k. (refl, refl)), ((λ s k. (refl, refl)), ((λ s k. (refl, refl)), ((λ s k. (refl, refl)), ((λ s k. (refl, refl)), ((λ s k. (refl, refl)), ((λ s k. (refl, refl)), ((λ s k. (refl, refl)), tt))))))))))))))))))))))))))))))
-linkless b (Some letter) = (refl, ((λ s k. (refl, refl)), ((λ s k. (refl, refl)), ((λ s k. (refl, refl)), ((λ s k. (refl, refl)), ((λ s k. (refl, refl)), ((λ s k. (refl, refl)), ((λ s k. (refl, refl)), ((λ s k. (refl, refl)), ((λ s k. (refl, refl)), ((λ s k. (refl, refl)), ((λ s k. (refl, refl)), ((λ s k. (refl, refl)), ((λ s k. (refl, refl)), ((λ s k. (refl, refl)), ((λ s k. (refl, refl)), ((λ s k. (refl, refl)), ((λ s k. (refl, refl)), ((λ s k. (refl, refl)), ((λ s k. (refl, refl)), ((λ s k. (refl, refl)), ((λ s k. (refl, refl)), ((λ s k. (refl, refl)), ((λ s k. (refl, refl)), ((λ s k. (refl, refl)), ((λ s k. (refl, refl)), ((λ s k. (refl, refl)), ((λ s k. (refl, refl)), ((λ s k. (refl, refl)), tt)))))))))))))))))))))))))))))
-linkless b (Some digit) = (refl, ((λ s k. (refl, refl)), ((λ s k. (refl, refl)), ((λ s k. (refl, refl)), ((λ s k. (refl, refl)), ((λ s k. (refl, refl)), ((λ s k. (refl, refl)), ((λ s k. (refl, refl)), ((λ s k. (refl, refl)), ((λ s k. (refl, refl)), ((λ s k. (refl, refl)), ((λ s k. (refl, refl)), ((λ s k. (refl, refl)), ((λ s k. (refl, refl)), ((λ s k. (refl, refl)), ((λ s k. (refl, refl)), ((λ s k. (refl, refl)), ((λ s k. (refl, refl)), ((λ s k. (refl, refl)), ((λ s k. (refl, refl)), ((λ s k. (refl, refl)), ((λ s k. (refl, refl)), ((λ s k. (refl, refl)), ((λ s k. (refl, refl)), ((λ s k. (refl, refl)), ((λ s k. (refl, refl)), ((λ s k. (refl, refl)), ((λ s k. (refl, refl)), tt))))))))))))))))))))))))))))
-linkless b (Some mark) = (refl, ((λ s k. (refl, refl)), ((λ s k. (refl, refl)), ((λ s k. (refl, refl)), ((λ s k. (refl, refl)), ((λ s k. (refl, refl)), ((λ s k. (refl, refl)), ((λ s k. (refl, refl)), ((λ s k. (refl, refl)), ((λ s k. (refl, refl)), ((λ s k. (refl, refl)), ((λ s k. (refl, refl)), ((λ s k. (refl, refl)), ((λ s k. (refl, refl)), ((λ s k. (refl, refl)), ((λ s k. (refl, refl)), ((λ s k. (refl, refl)), ((λ s k. (refl, refl)), ((λ s k. (refl, refl)), ((λ s k. (refl, refl)), ((λ s k. (refl, refl)), ((λ s k. (refl, refl)), ((λ s k. (refl, refl)), ((λ s k. (refl, refl)), ((λ s k. (refl, refl)), ((λ s k. (refl, refl)), ((λ s k. (refl, refl)), ((λ s k. (refl, refl)), tt))))))))))))))))))))))))))))
-linkless b (Some _) = (refl, ((λ s k. (refl, refl)), ((λ s k. (refl, refl)), ((λ s k. (refl, refl)), ((λ s k. (refl, refl)), ((λ s k. (refl, refl)), ((λ s k. (refl, refl)), ((λ s k. (refl, refl)), ((λ s k. (refl, refl)), ((λ s k. (refl, refl)), ((λ s k. (refl, refl)), ((λ s k. (refl, refl)), ((λ s k. (refl, refl)), ((λ s k. (refl, refl)), ((λ s k. (refl, refl)), ((λ s k. (refl, refl)), ((λ s k. (refl, refl)), ((λ s k. (refl, refl)), ((λ s k. (refl, refl)), ((λ s k. (refl, refl)), ((λ s k. (refl, refl)), ((λ s k. (refl, refl)), ((λ s k. (refl, refl)), ((λ s k. (refl, refl)), ((λ s k. (refl, refl)), ((λ s k. (refl, refl)), ((λ s k. (refl, refl)), tt)))))))))))))))))))))))))))
+linkless b None = (refl, ((λ s k. (refl, refl)), ((λ s k. (refl, refl)), ((λ s k. (refl, refl)), ((λ s k. (refl, refl)), ((λ s k. (refl, refl)), ((λ s k. (refl, refl)), ((λ s k. (refl, refl)), ((λ s k. (refl, refl)), ((λ s k. (refl, refl)), tt))))))))))
+linkless b (Some line_feed) = (refl, ((λ s k. (refl, refl)), ((λ s k. (refl, refl)), ((λ s k. (refl, refl)), ((λ s k. (refl, refl)), ((λ s k. (refl, refl)), ((λ s k. (refl, refl)), ((λ s k. (refl, refl)), ((λ s k. (refl, refl)), ((λ s k. (refl, refl)), ((λ s k. (refl, refl)), ((λ s k. (refl, refl)), ((λ s k. (refl, refl)), ((λ s k. (refl, refl)), ((λ s k. (refl, refl)), ((λ s k. (refl, refl)), ((λ s k. (refl, refl)), ((λ s k. (refl, refl)), ((λ s k. (refl, refl)), ((λ s k. (refl, refl)), ((λ s k. (refl, refl)), ((λ s k. (refl, refl)), ((λ s k. (refl, refl)), ((λ s k. (refl, refl)), ((λ s k. (refl, refl)), ((λ s k. (refl, refl)), ((λ s k. (refl, refl)), ((λ s k. (refl, refl)), ((λ s k. (refl, refl)), ((λ s k. (refl, refl)), ((λ s k. (refl, refl)), tt)))))))))))))))))))))))))))))))
+linkless b (Some backtick) = (refl, ((λ s k. (refl, refl)), ((λ s k. (refl, refl)), ((λ s k. (refl, refl)), ((λ s k. (refl, refl)), ((λ s k. (refl, refl)), ((λ s k. (refl, refl)), ((λ s k. (refl, refl)), ((λ s k. (refl, refl)), ((λ s k. (refl, refl)), ((λ s k. (refl, refl)), ((λ s k. (refl, refl)), ((λ s k. (refl, refl)), ((λ s k. (refl, refl)), ((λ s k. (refl, refl)), ((λ s k. (refl, refl)), ((λ s k. (refl, refl)), ((λ s k. (refl, refl)), ((λ s k. (refl, refl)), ((λ s k. (refl, refl)), ((λ s k. (refl, refl)), ((λ s k. (refl, refl)), ((λ s k. (refl, refl)), ((λ s k. (refl, refl)), ((λ s k. (refl, refl)), ((λ s k. (refl, refl)), ((λ s k. (refl, refl)), ((λ s k. (refl, refl)), ((λ s k. (refl, refl)), ((λ s k. (refl, refl)), ((λ s k. (refl, refl)), tt)))))))))))))))))))))))))))))))
+linkless b (Some letter) = (refl, ((λ s k. (refl, refl)), ((λ s k. (refl, refl)), ((λ s k. (refl, refl)), ((λ s k. (refl, refl)), ((λ s k. (refl, refl)), ((λ s k. (refl, refl)), ((λ s k. (refl, refl)), ((λ s k. (refl, refl)), ((λ s k. (refl, refl)), ((λ s k. (refl, refl)), ((λ s k. (refl, refl)), ((λ s k. (refl, refl)), ((λ s k. (refl, refl)), ((λ s k. (refl, refl)), ((λ s k. (refl, refl)), ((λ s k. (refl, refl)), ((λ s k. (refl, refl)), ((λ s k. (refl, refl)), ((λ s k. (refl, refl)), ((λ s k. (refl, refl)), ((λ s k. (refl, refl)), ((λ s k. (refl, refl)), ((λ s k. (refl, refl)), ((λ s k. (refl, refl)), ((λ s k. (refl, refl)), ((λ s k. (refl, refl)), ((λ s k. (refl, refl)), ((λ s k. (refl, refl)), ((λ s k. (refl, refl)), tt))))))))))))))))))))))))))))))
+linkless b (Some digit) = (refl, ((λ s k. (refl, refl)), ((λ s k. (refl, refl)), ((λ s k. (refl, refl)), ((λ s k. (refl, refl)), ((λ s k. (refl, refl)), ((λ s k. (refl, refl)), ((λ s k. (refl, refl)), ((λ s k. (refl, refl)), ((λ s k. (refl, refl)), ((λ s k. (refl, refl)), ((λ s k. (refl, refl)), ((λ s k. (refl, refl)), ((λ s k. (refl, refl)), ((λ s k. (refl, refl)), ((λ s k. (refl, refl)), ((λ s k. (refl, refl)), ((λ s k. (refl, refl)), ((λ s k. (refl, refl)), ((λ s k. (refl, refl)), ((λ s k. (refl, refl)), ((λ s k. (refl, refl)), ((λ s k. (refl, refl)), ((λ s k. (refl, refl)), ((λ s k. (refl, refl)), ((λ s k. (refl, refl)), ((λ s k. (refl, refl)), ((λ s k. (refl, refl)), ((λ s k. (refl, refl)), tt)))))))))))))))))))))))))))))
+linkless b (Some mark) = (refl, ((λ s k. (refl, refl)), ((λ s k. (refl, refl)), ((λ s k. (refl, refl)), ((λ s k. (refl, refl)), ((λ s k. (refl, refl)), ((λ s k. (refl, refl)), ((λ s k. (refl, refl)), ((λ s k. (refl, refl)), ((λ s k. (refl, refl)), ((λ s k. (refl, refl)), ((λ s k. (refl, refl)), ((λ s k. (refl, refl)), ((λ s k. (refl, refl)), ((λ s k. (refl, refl)), ((λ s k. (refl, refl)), ((λ s k. (refl, refl)), ((λ s k. (refl, refl)), ((λ s k. (refl, refl)), ((λ s k. (refl, refl)), ((λ s k. (refl, refl)), ((λ s k. (refl, refl)), ((λ s k. (refl, refl)), ((λ s k. (refl, refl)), ((λ s k. (refl, refl)), ((λ s k. (refl, refl)), ((λ s k. (refl, refl)), ((λ s k. (refl, refl)), ((λ s k. (refl, refl)), tt)))))))))))))))))))))))))))))
+linkless b (Some _) = (refl, ((λ s k. (refl, refl)), ((λ s k. (refl, refl)), ((λ s k. (refl, refl)), ((λ s k. (refl, refl)), ((λ s k. (refl, refl)), ((λ s k. (refl, refl)), ((λ s k. (refl, refl)), ((λ s k. (refl, refl)), ((λ s k. (refl, refl)), ((λ s k. (refl, refl)), ((λ s k. (refl, refl)), ((λ s k. (refl, refl)), ((λ s k. (refl, refl)), ((λ s k. (refl, refl)), ((λ s k. (refl, refl)), ((λ s k. (refl, refl)), ((λ s k. (refl, refl)), ((λ s k. (refl, refl)), ((λ s k. (refl, refl)), ((λ s k. (refl, refl)), ((λ s k. (refl, refl)), ((λ s k. (refl, refl)), ((λ s k. (refl, refl)), ((λ s k. (refl, refl)), ((λ s k. (refl, refl)), ((λ s k. (refl, refl)), ((λ s k. (refl, refl)), tt))))))))))))))))))))))))))))
 
 rows-keep : AllKeepKnown inline_plan inlines.states
 rows-keep =

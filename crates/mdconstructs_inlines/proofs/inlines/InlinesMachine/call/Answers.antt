@@ -1,4 +1,4 @@
-use Rattle.mdconstructs_inlines.proofs.Prelude.{refl, rules, callable, never-called, autolink_start, autolink_open, autolink_scheme, autolink_url, raw_text_start, raw_text_data, raw_text_sequence_close, raw_text_after, raw_text_backticks_inside, escape_start, escape_inside, by_left, text_byte, text_cost, text_before_data, data_at_break, email_start, email_atext, email_label, email_value, cdata_open, comment_open, declaration_open, mark_inside, mark_line, mark_open, mark_start, mark_white, html_text_start, html_text_open, html_text_tag_close_start, html_text_tag_close, html_text_tag_close_between, html_text_tag_open, html_text_tag_open_between, html_text_attribute_name, html_text_attribute_name_after, html_text_value_before, html_text_value_quoted, html_text_value_quoted_after, html_text_value_unquoted, html_text_end, html_line_ending_after, html_line_ending_after_prefix, break_escape_start, break_escape_after, remembered_between, remembered_chunk, remembered_open, reference_start, reference_open, reference_numeric, reference_value, string_start, string_before, string_before_data, attention_start, attention_inside, inline_start, line_start, line_white, inline_before, before_hard_break_escape, before_email, before_html, before_tag, inline_data, text_space, text_spaces, text_white, data_space, data_spaces, data_white, at_data_break, inlines}
+use Rattle.mdconstructs_inlines.proofs.Prelude.{refl, rules, callable, never-called, autolink_start, autolink_open, autolink_scheme, autolink_url, raw_text_start, raw_text_data, raw_text_sequence_close, raw_text_after, raw_text_backticks_inside, escape_start, escape_inside, by_left, text_byte, text_cost, text_before_data, data_at_break, email_start, email_atext, email_label, email_value, cdata_open, comment_open, declaration_open, mark_close, mark_inside, mark_line, mark_open, mark_start, mark_white, html_text_start, html_text_open, html_text_tag_close_start, html_text_tag_close, html_text_tag_close_between, html_text_tag_open, html_text_tag_open_between, html_text_attribute_name, html_text_attribute_name_after, html_text_value_before, html_text_value_quoted, html_text_value_quoted_after, html_text_value_unquoted, html_text_end, html_line_ending_after, html_line_ending_after_prefix, break_escape_start, break_escape_after, remembered_between, remembered_chunk, remembered_open, reference_start, reference_open, reference_numeric, reference_value, string_start, string_before, string_before_data, attention_start, attention_inside, inline_start, line_start, line_white, inline_before, before_hard_break_escape, before_email, before_html, before_tag, inline_data, text_space, text_spaces, text_white, data_space, data_spaces, data_white, at_data_break, inlines}
 use Rattle.mdconstructs_tables.specs.Over.{unchanged}
 use Rattle.mdconstructs_tables.proofs.Rows.Calls.{did-step}
 use Rattle.mdconstructs_inlines.proofs.Priced.{at-any-cost}
@@ -212,6 +212,9 @@ cdata_open-requires c = callable inlines unchanged (λ local. refl) c.args.name 
 pub mark_inside-requires : goal.mark_inside-requires
 mark_inside-requires c = callable inlines unchanged (λ local. refl) c.args.name mark_inside _ _ (search rules) refl c.requires.invariant.holds c.begin.ensures
 
+pub mark_close-requires : goal.mark_close-requires
+mark_close-requires c = callable inlines unchanged (λ local. refl) c.args.name mark_close _ _ (search rules) refl c.requires.invariant.holds c.begin.ensures
+
 pub mark_line-requires : goal.mark_line-requires
 mark_line-requires c = callable inlines unchanged (λ local. refl) c.args.name mark_line _ _ (search rules) refl c.requires.invariant.holds c.begin.ensures
 
@@ -313,6 +316,9 @@ returns-in-HtmlTextCdataOpenInside c = record { call_is_step = did-step inlines 
 
 pub returns-in-HtmlTextMarkInside : goal.returns-in-HtmlTextMarkInside
 returns-in-HtmlTextMarkInside c = record { call_is_step = did-step inlines c.args.name mark_inside _ _ _ _ (search rules) refl c.begin.ensures c.mark_inside.ensures }
+
+pub returns-in-HtmlTextMarkClose : goal.returns-in-HtmlTextMarkClose
+returns-in-HtmlTextMarkClose c = record { call_is_step = did-step inlines c.args.name mark_close _ _ _ _ (search rules) refl c.begin.ensures c.mark_close.ensures }
 
 pub returns-in-HtmlTextMarkLine : goal.returns-in-HtmlTextMarkLine
 returns-in-HtmlTextMarkLine c = record { call_is_step = did-step inlines c.args.name mark_line _ _ _ _ (search rules) refl c.begin.ensures c.mark_line.ensures }

@@ -1,7 +1,7 @@
 use Rattle.std.proofs.Common.{◌∙◌, sym}
 use Rattle.std.proofs.lemmas.Bool.{false≢true}
 use Rattle.mdconstructs_inlines.proofs.Prelude.{rules}
-use Rattle.mdconstructs_inlines.proofs.OverBytes.{code-over, data-over, string-over}
+use Rattle.mdconstructs_inlines.proofs.OverBytes.{code-over, data-over, mark-over, string-over}
 use Rattle.mdconstructs_inlines.proofs.inlines.InlinesMachine.reads_over.Goals as goal
 
 pub returns-in-DataInside : goal.returns-in-DataInside
@@ -15,3 +15,6 @@ returns-in-RawTextData c = λ byte e. let is = c.in_code.ensures byte e in (is.0
 
 pub returns-in_default : goal.returns-in_default
 returns-in_default c = λ byte e. absurd (false≢true (sym (c.no_bytes.ensures byte) ∙ e))
+
+pub returns-in-HtmlTextMarkInside : goal.returns-in-HtmlTextMarkInside
+returns-in-HtmlTextMarkInside c = λ byte e. let is = c.in_marks.ensures byte e in (is.0, mark-over byte is.1 c.args.name (search rules))
