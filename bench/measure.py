@@ -11,8 +11,9 @@ The last table has calls of the static library in place of runs: the instruction
 record of each event, and of what mdevents does to make the events, without reading its input and without printing.
 
 A table has whole documents, the pages of docs joined, by `flow`: instructions with printing; choices and allocations by how often their
-functions are called; peak memory beside the memory of the final events. States are compiled into the loop, so their calls cannot be
-counted from outside. If a program cmark is on the path, its instructions for the same bytes stand beside.
+functions are called; peak memory beside the memory of the final events. States are compiled into the loop, so calls are counted by how
+often it jumps to a state by its table: those that the compiler joined to the state before are not among them. If a program cmark is on
+the path, its instructions for the same bytes stand beside.
 
 usage: measure.py MDEVENTS MDBENCH ARCHIVE [OTHER]. ARCHIVE is archive.c with the static library. OTHER reads a document from standard
 input and writes the events of the machine of lines, as mdevents does without options.
@@ -183,6 +184,25 @@ def grow(programs, folder):
         print(f"| {what} | {few:,} | {many:,} | {many / few:.1f} |", flush=True)
 
 
+def dispatched(program, options, document, counts):
+    """How often a run jumps by a table to a state. In the loop of each machine it is the jump with the most targets."""
+    wanted = ["--dump-instr=yes", "--collect-jumps=yes", "--compress-pos=no", "--compress-strings=no", f"--callgrind-out-file={counts}"]
+    valgrind("callgrind", wanted, program, options, document)
+    jumps, function, jump = {}, "", None
+    with open(counts) as profile:
+        for line in profile:
+            if line.startswith("fn="):
+                function = line[3:].strip()
+            elif found := re.match(r"jump=(\d+) (0x[0-9a-f]+)", line):
+                jump = found
+            elif jump and (place := re.match(r"0x[0-9a-f]+", line)):
+                if "Tokenizer::run_states" in function:
+                    of_loop = jumps.setdefault(function, {})
+                    of_loop.setdefault(place[0], {})[jump[2]] = int(jump[1])
+                jump = None
+    return sum(sum(max(of_loop.values(), key=len).values()) for of_loop in jumps.values())
+
+
 def called(program, options, document, counts):
     """How often a run calls what ends a choice, and what allocates."""
     valgrind("callgrind", [f"--callgrind-out-file={counts}"], program, options, document)
@@ -214,18 +234,19 @@ def documents(program, folder):
             with open(page, "rb") as it:
                 text.write(it.read())
     size = os.path.getsize(document)
-    print(f"| The pages of docs, {size:,} bytes | Instructions/byte | Choices/byte | Allocations/byte | Peak heap, KiB | Its events, KiB |")
-    print("|---|---|---|---|---|---|")
+    print(f"| The pages of docs, {size:,} bytes | Instructions/byte | Calls/byte | Choices/byte | Allocations/byte | Peak heap, KiB | Its events, KiB |")
+    print("|---|---|---|---|---|---|---|")
     for options in ("--machine flow", "--machine flow --deep"):
         words = options.split()
         whole, _ = instructions(program, words, document, counts)
+        calls = dispatched(program, words, document, counts)
         choices, allocations = called(program, words, document, counts)
         with open(document) as text:
             lines = subprocess.run([program, *words], stdin=text, capture_output=True, check=True).stdout.count(b"\n")
         heap = peak(program, words, document, counts) // 1024
-        print(f"| {options} | {whole / size:.1f} | {choices / size:.2f} | {allocations / size:.4f} | {heap:,} | {lines * EVENT // 1024:,} |", flush=True)
+        print(f"| {options} | {whole / size:.1f} | {calls / size:.2f} | {choices / size:.2f} | {allocations / size:.4f} | {heap:,} | {lines * EVENT // 1024:,} |", flush=True)
     if shutil.which("cmark"):
-        print(f"| cmark, to HTML | {instructions(shutil.which('cmark'), [], document, counts)[0] / size:.1f} | | | {peak(shutil.which('cmark'), [], document, counts) // 1024:,} | |")
+        print(f"| cmark, to HTML | {instructions(shutil.which('cmark'), [], document, counts)[0] / size:.1f} | | | | {peak(shutil.which('cmark'), [], document, counts) // 1024:,} | |")
 
 
 def main(program, folder):
