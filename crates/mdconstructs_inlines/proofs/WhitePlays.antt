@@ -1,6 +1,7 @@
 -- The machine of inline text reads white space by the rows of its states.
 use Rattle.markdown_tokenizer.specs.Sight.{sight_of}
 use Rattle.mdconstructs_inlines.proofs.Prelude.{TokenizerValue, step_by, ◌≡◌, ◌⊎◌, inl, inr, ℕ, ◌&&◌, ◌||◌, [], ◌∷◌, Bool, true, false, cond, Option, Some, None, refl, sym, ap, ◌∙◌, Constructs, Next, Retry, DataInside, TextBefore, DataWhite, Configuration, sight, Given, Text, Rows, class_of, consume, row, is_white, row_step, is_line_feed, passes, some_begins, TextByte, is_line_feed_class, line_feed, punctuation, text_byte, white, line-classed, HasRow, Plays, tested, white-class, begins_run, ends_data, inline_before_rows, inline_constructs, inline_data_rows, run_begins, not, subst, eqb-true, EventName, HardBreakTrailing, SpaceOrTab, Name, note, is_space, by-class, break_or_white, data_goes_on, data_over, data_space_rows, data_spaces_rows, data_white_rows, text_space_rows, text_spaces_rows, text_white_rows, white_is_data, white_over, space_waits, trailing_breaks_are_on, some_first, marked_grammars, DataSpace, DataSpaces, TextSpace, TextSpaces, TextWhite, when}
+use Rattle.std.specs.Prelude.{is_some}
 use Rattle.mdconstructs_text.specs.TextBytes as class
 use Rattle.mdconstructs_inlines.proofs.InlineApart.{marked-classed, or-parts, punctuation-ends}
 use Rattle.mdconstructs_inlines.proofs.Playing.{begins-here, data-ends, data-ends-last, data-on, inlines_play, no-run}
@@ -48,7 +49,16 @@ in-data-other one_space before b none line = other-class (λ c. data_space_rows 
 in-data-other spaces before b none line = other-class (λ c. data_spaces_rows before (Some c) ≡ data_goes_on c) b none line refl refl refl refl refl refl refl refl refl refl refl refl
 in-data-other tabbed before b none line = other-class (λ c. data_white_rows before (Some c) ≡ data_goes_on c) b none line refl refl refl refl refl refl refl refl refl refl refl refl
 
--- so it is the step of a state in data
+-- so it is the step of a state with no data before it
+at-other : (w : White) (before : Option TextByte) (o : Option ℕ) → is_some o ≡ true → passes is_white o ≡ false → passes is_line_feed o ≡ false → text_rows w before (class_of text_byte o) ≡ white_is_data
+at-other w before None some none line = absurd (cc)
+at-other w before (Some b) some none line = text-other w before b none line
+
+pub noted-step : {M : Type 0} (w : White) (t : TokenizerValue M Unit Unit) → is_some (sight_of t).current ≡ true → passes is_white (sight_of t).current ≡ false → passes is_line_feed (sight_of t).current ≡ false
+    → step_by (text_rows w (class_of text_byte (sight_of t).previous) (class_of text_byte (sight_of t).current)) t ≡ step_by white_is_data t
+noted-step w t some none line = ap (λ rows. step_by rows t) (at-other w (class_of text_byte (sight_of t).previous) (sight_of t).current some none line)
+
+-- and of a state in data
 pub seen-step : {M : Type 0} (w : White) (t : TokenizerValue M Unit Unit) (b : ℕ) → (sight_of t).current ≡ Some b → is_white b ≡ false → is_line_feed b ≡ false
     → step_by (rows_in_data w (class_of text_byte (sight_of t).previous) (class_of text_byte (sight_of t).current)) t ≡ step_by (data_goes_on (text_byte b)) t
 seen-step w t b at none line =
