@@ -6,6 +6,7 @@ pub mod FrameLemmas
 pub mod GoingLemmas
 pub mod LetterLemmas
 pub mod LetterPlaces
+pub mod PlainLetters
 pub mod RowLemmas
 pub mod SeatLemmas
 pub mod TightMarks

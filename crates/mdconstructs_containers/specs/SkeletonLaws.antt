@@ -3,9 +3,14 @@ use Rattle.std.specs.Prelude.{◌≡◌, ℕ, List, Some}
 use Rattle.markdown_base.specs.declared.configuration.Constructs.{Constructs}
 use Rattle.markdown_base.specs.declared.event.Content.{Content}
 use Rattle.markdown_base.specs.Events.{IsVoidTight}
-use Rattle.markdown_base.specs.Virtual.{Seat}
+use Rattle.markdown_base.specs.Virtual.{Seat, virtual}
 use Rattle.markdown_edits.specs.Links.{IsChunk, content_at}
+use Rattle.mdconstructs_containers.specs.Letters.{ArePlainFrom, lazy_underlines}
 use Rattle.mdconstructs_containers.specs.Skeleton.{skeleton}
+
+-- A lazy underline's first mark is no tab and no part of a line ending, so the letter in its place keeps all places
+abbrev pub LazyLettersArePlain : Type 0
+LazyLettersArePlain = (on : Constructs) (t : ℕ) (bytes : List ℕ) → ArePlainFrom 0 (lazy_underlines on (virtual t bytes)) bytes
 
 -- Void spans of a skeleton are empty, whatever constructs are on
 abbrev pub SkeletonsAreVoidTight : Type 0

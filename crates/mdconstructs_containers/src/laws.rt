@@ -5,7 +5,7 @@ ghost use Rattle.markdown_tokenizer.specs.Text.{Given};
 ghost use Rattle.mdconstructs_containers.specs.Examples.{skeletons_of, given_for, a_few, without_containers, quotes, items, quotes_and_items};
 ghost use Rattle.mdconstructs_containers.specs.Letters.{ArePlainFrom, LettersKeepPlaces, LettersKeepTexts};
 ghost use Rattle.mdconstructs_containers.specs.ListExamples.{lists, read_of};
-ghost use Rattle.mdconstructs_containers.specs.SkeletonLaws.{SkeletonsAreVoidTight, SkeletonsHaveChunks};
+ghost use Rattle.mdconstructs_containers.specs.SkeletonLaws.{LazyLettersArePlain, SkeletonsAreVoidTight, SkeletonsHaveChunks};
 
 /// The skeletons of seventy documents: which events there are, and where.
 pub fn skeletons_of_documents()
@@ -25,6 +25,12 @@ pub fn lists_of_documents()
 pub fn letters_keep_places()
     ensures places { (t : ℕ) → (at : List ℕ) → (bytes : List ℕ) → ArePlainFrom 0 at bytes → LettersKeepPlaces t at bytes }
     ensures texts { (at : List ℕ) → (g : Given) → ArePlainFrom 0 at g.bytes → LettersKeepTexts at g }
+{}
+
+/// The letters with which leaf blocks are read of lazy underlines stand at bytes that are no tab and no part of a line ending.
+#[tactic(auto, using(crate::proofs::PlainLetters::lazy_letters_are_plain))]
+pub fn lazy_letters_are_plain()
+    ensures { LazyLettersArePlain }
 {}
 
 /// Void spans of skeletons are empty: each is entered, and exited at once. Each event with a link is such a span's enter.
