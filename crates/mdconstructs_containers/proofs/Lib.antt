@@ -9,5 +9,6 @@ pub mod LetterPlaces
 pub mod PlainLetters
 pub mod RowLemmas
 pub mod SeatLemmas
+pub mod SkeletonChains
 pub mod TightMarks
 pub mod WritingLemmas

@@ -1,12 +1,12 @@
 -- A letter for a lazy underline stands where a mark of the underline is: that is no tab, and no part of a line ending.
 use Rattle.std.proofs.Common.{◌≡◌, ℕ, zero, suc, ◌+◌, ◌-◌, ◌≤◌, Bool, true, false, cond, List, [], ◌∷◌, ◌++◌, take, drop, map, get_or, refl, sym, ap, ◌∙◌, subst, arith, inl, inr, ◌⊎◌, ⊎_elim}
-use Rattle.std.specs.Prelude.{◌==◌, ◌&&◌, ◌||◌, not, is_some, Option, None, Some}
+use Rattle.std.specs.Prelude.{◌==◌, ◌&&◌, ◌||◌, not, is_some, None, Some}
 use Rattle.std.specs.List.{AllByRecursion, flat_map, list_any}
 use Rattle.std.proofs.lemmas.Bool.{false≢true, eqb-true}
 use Rattle.std.proofs.lemmas.List.{drop-drop}
 use Rattle.markdown_base.proofs.Common.{every-append, every-map}
 use Rattle.markdown_base.specs.declared.configuration.Constructs.{Constructs}
-use Rattle.markdown_base.specs.Virtual.{Seat, begins_with_lf, end_in_tab, in_tab, line_feed, other_byte, point, tab_width, virtual, virtual_from}
+use Rattle.markdown_base.specs.Virtual.{Seat, begins_with_lf, in_tab, line_feed, other_byte, tab_width, virtual, virtual_from}
 use Rattle.mdconstructs_machines.specs.LineEvents.{is_line_ending, joined, line_text, lines_in}
 use Rattle.mdconstructs_flow_read.proofs.Lines.WholeLines.{IsWhole, whole-lines}
 use Rattle.mdconstructs_flow_read.specs.LeafBlocks.{Line, text_of}
