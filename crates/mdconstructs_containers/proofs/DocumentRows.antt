@@ -112,13 +112,13 @@ rows_init on t bytes xs b n ex eb en =
     (subst (λ (c : Before). AreRowsBefore [] (rows_left on t bytes c n 0) (rows on (lines_in (virtual t bytes)))) (sym eb)
     (subst (λ (m : ℕ). AreRowsBefore [] (rows_left on t bytes (nothing_known on) m 0) (rows on (lines_in (virtual t bytes)))) (sym en) here))
 
-take_of_take : {A : Type 0} (m n : ℕ) (xs : List A) → m ≤ length (take n xs) → take m (take n xs) ≡ take m xs
+pub take_of_take : {A : Type 0} (m n : ℕ) (xs : List A) → m ≤ length (take n xs) → take m (take n xs) ≡ take m xs
 take_of_take zero n xs h = refl
 take_of_take (suc m) zero xs h = absurd (omega arith)
 take_of_take (suc m) (suc n) [] h = refl
 take_of_take (suc m) (suc n) (x ∷ xs) h = ap (λ l. x ∷ l) (take_of_take m n xs (omega arith))
 
-going_few : (cs : List Container) (number : ℕ) (t : List ℕ) → length (going_on cs number t) ≤ length cs
+pub going_few : (cs : List Container) (number : ℕ) (t : List ℕ) → length (going_on cs number t) ≤ length cs
 going_few [] number t = omega arith
 going_few (c ∷ cs) number t = by (goes_on c number t) (λ n. going_few cs number (drop n t))
   where

@@ -2,11 +2,13 @@ pub mod AheadLemmas
 pub mod ChainLemmas
 pub mod DocumentRows
 pub mod Examples
+pub mod FrameFacts
 pub mod FrameLemmas
 pub mod GoingLemmas
 pub mod LetterLemmas
 pub mod LetterPlaces
 pub mod PlainLetters
+pub mod RowFacts
 pub mod RowLemmas
 pub mod SeatLemmas
 pub mod SkeletonChains

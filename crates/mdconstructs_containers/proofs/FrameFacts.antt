@@ -1,0 +1,776 @@
+-- Which spans of containers are open from part to part of a document: those that the next part begins in stay open, and it enters the others.
+use Rattle.std.proofs.Common.{◌≡◌, ℕ, zero, suc, ◌+◌, ◌<◌, ◌≤◌, Bool, true, false, cond, List, [], ◌∷◌, ◌++◌, length, take, drop, map, refl, sym, ap, ◌∙◌, subst, arith, append_assoc, inl, inr, ◌⊎◌, eq-eqb, ne_eqb}
+use Rattle.std.specs.Prelude.{◌==◌, ◌&&◌, ◌||◌, not, nat_le, nat_lt, reverse}
+use Rattle.std.specs.List.{AllByRecursion, flat_map}
+use Rattle.std.proofs.lemmas.Bool.{false≢true, eqb-true}
+use Rattle.std.proofs.lemmas.Bool.Decides.{nat_tests}
+use Rattle.std.proofs.lemmas.Grind.{flat_map-append}
+use Rattle.std.proofs.lemmas.List.{append-nil, length-take, reverse-append, reverse-reverse, length-drop, length-map, length-reverse, take_all, take-append-le, drop-append-le, take-append-drop}
+use Rattle.markdown_base.proofs.Common.{every-append, every-map}
+use Rattle.markdown_base.specs.Events.{same_name}
+use Rattle.markdown_base.specs.declared.configuration.Constructs.{Constructs}
+use Rattle.markdown_base.specs.declared.event.Name.TheVariants as name
+use Rattle.markdown_edits.proofs.Balanced.{same_name-refl}
+use Rattle.mdconstructs_flow_read.specs.LeafBlocks.{Line, interrupts, text_of}
+use Rattle.mdconstructs_flow_read.specs.LineKinds.{indent, indented, blank as blank_kind, is_far, kind_of_rest, line_kind, unindented}
+use Rattle.markdown_tokenizer.proofs.Positions.Order.{every-back}
+use Rattle.mdconstructs_lines.specs.Containers.{Container, Prefix, item, quote}
+use Rattle.mdconstructs_containers.proofs.DocumentRows.{take_of_take}
+use Rattle.mdconstructs_containers.proofs.RowFacts.{BeganBefore, BeginHere, BeginsIn, BeginsList, IsFront, begun_are, every_front, front_all, front_append, front_more, front_none, front_trans, went_are, went_within}
+use Rattle.mdconstructs_containers.specs.Prefixes.{containers_of}
+use Rattle.mdconstructs_containers.specs.Rows.{Before, Row, closed, has_none, holds_ending, is_paragraph, known_after, leaf_after, nothing_known, open_paragraph, opened_by, row_of, rows_from}
+use Rattle.mdconstructs_containers.specs.Skeleton.{Frame, frames_at, frames_of, further, going_on_at, left_in, list_at, list_begun, list_name, shared, standing}
+
+-- ---- frames that two lists share
+
+pub shared_front : (ps xs ys : List Frame) → shared (ps ++ xs) (ps ++ ys) ≡ length ps + shared xs ys
+shared_front [] xs ys = omega arith
+shared_front (p ∷ ps) xs ys =
+    let more = shared_front ps xs ys in
+    (λ k. cond (same_name-refl p.name k && eq-eqb p.line p.line refl k) (suc (shared (ps ++ xs) (ps ++ ys))) 0) ∙ omega (arith, more)
+
+shared_none : (xs : List Frame) → shared xs [] ≡ 0
+shared_none [] = refl
+shared_none (x ∷ xs) = refl
+
+-- those that began before share none with those that begin here
+shared_apart : (n : ℕ) (xs : List Frame) (y : Frame) (ys : List Frame) → AllByRecursion (λ (f : Frame). f.line < n) xs → y.line ≡ n → shared xs (y ∷ ys) ≡ 0
+shared_apart n [] y ys h e = refl
+shared_apart n (x ∷ xs) y ys h e =
+    let less = h.0 in
+    let other : (x.line == y.line) ≡ false = ne_eqb x.line y.line (λ same. omega (arith, less, same, e)) in
+    by (same_name x.name y.name) (x.line == y.line) other
+  where
+    by : (a b : Bool) → b ≡ false → cond (a && b) (suc (shared xs ys)) 0 ≡ 0
+    by true true e = absurd (false≢true (sym e))
+    by true false e = refl
+    by false b e = refl
+
+pub take_front : {A : Type 0} (xs ys : List A) (k : ℕ) → k ≡ length xs → (take k (xs ++ ys) ≡ xs) × (drop k (xs ++ ys) ≡ ys)
+take_front [] ys zero e = (refl, refl)
+take_front [] ys (suc k) e = absurd (omega (arith, e))
+take_front (x ∷ xs) ys zero e = absurd (omega (arith, e))
+take_front (x ∷ xs) ys (suc k) e = let rest = take_front xs ys k (omega (arith, e)) in (ap (λ l. x ∷ l) rest.0, rest.1)
+
+-- ---- frames that containers enter
+
+abbrev pub entered : Container → List Frame
+entered (quote line) = record { name = name.BlockQuote; line = line } ∷ []
+entered (item i) = cond (i.list == i.line) (record { name = list_name i; line = i.list } ∷ []) [] ++ record { name = name.ListItem; line = i.line } ∷ []
+
+abbrev pub all_entered : List Prefix → List Frame
+all_entered [] = []
+all_entered (p ∷ ps) = entered p.container ++ all_entered ps
+
+-- with its list, if it begins that
+enters_all : (n : ℕ) (c : Container) → BeginsIn n c × BeginsList c → frames_of c ≡ entered c
+enters_all n (quote line) h = refl
+enters_all n (item i) h = ap (λ b. cond b (record { name = list_name i; line = i.list } ∷ []) [] ++ record { name = name.ListItem; line = i.line } ∷ []) (sym (eq-eqb i.list i.line h.1))
+
+each_entered : (n : ℕ) (ps : List Prefix) → AllByRecursion (λ (q : Prefix). BeginsIn n q.container × BeginsList q.container) ps → flat_map frames_of (containers_of ps) ≡ all_entered ps
+each_entered n [] h = refl
+each_entered n (p ∷ ps) h = (λ k. enters_all n p.container h.0 k ++ each_entered n ps h.1 k)
+
+-- a list that began before is not entered
+begun_entered : (n : ℕ) (ps : List Prefix) → BeginHere n ps → flat_map frames_of (containers_of ps) ≡ list_begun ps ++ all_entered ps
+begun_entered n [] h = refl
+begun_entered n (p ∷ ps) h = by p.container h.0 (each_entered n ps h.1)
+  where
+    by : (c : Container) → BeginsIn n c → flat_map frames_of (containers_of ps) ≡ all_entered ps
+        → frames_of c ++ flat_map frames_of (containers_of ps)
+        ≡ (elim c as (λ _. List Frame) [ quote line ↦ [] | item i ↦ cond (nat_lt i.list i.line) (record { name = list_name i; line = i.list } ∷ []) [] ]) ++ (entered c ++ all_entered ps)
+    by (quote line) k rest = ap (λ (l : List Frame). record { name = name.BlockQuote; line = line } ∷ l) rest
+    by (item i) k rest = choose (nat_lt i.list i.line) (i.list == i.line) tests
+      where
+        later : i.list ≤ i.line
+        later = k.1.list
+
+        tests : ((nat_lt i.list i.line ≡ true) × ((i.list == i.line) ≡ false)) ⊎ ((nat_lt i.list i.line ≡ false) × ((i.list == i.line) ≡ true))
+        tests = let le = later in grind (arith, nat_tests)
+
+        choose : (x y : Bool) → ((x ≡ true) × (y ≡ false)) ⊎ ((x ≡ false) × (y ≡ true))
+            → record { name = list_name i; line = i.list } ∷ record { name = name.ListItem; line = i.line } ∷ flat_map frames_of (containers_of ps)
+            ≡ cond x (record { name = list_name i; line = i.list } ∷ []) [] ++ ((cond y (record { name = list_name i; line = i.list } ∷ []) [] ++ record { name = name.ListItem; line = i.line } ∷ []) ++ all_entered ps)
+        choose true true t = elim t [ inl l ↦ absurd (false≢true (sym l.1)) | inr r ↦ absurd (false≢true (sym r.0)) ]
+        choose false false t = elim t [ inl l ↦ absurd (false≢true l.0) | inr r ↦ absurd (false≢true r.1) ]
+        choose true false t = ap (λ (l : List Frame). record { name = list_name i; line = i.list } ∷ record { name = name.ListItem; line = i.line } ∷ l) rest
+        choose false true t = ap (λ (l : List Frame). record { name = list_name i; line = i.list } ∷ record { name = name.ListItem; line = i.line } ∷ l) rest
+
+shared_entered : (n : ℕ) (ps : List Prefix) (xs : List Frame) → BeginHere n ps → AllByRecursion (λ (f : Frame). f.line < n) xs → shared xs (all_entered ps) ≡ 0
+shared_entered n [] xs h old = shared_none xs
+shared_entered n (p ∷ ps) xs h old = by p.container h.0
+  where
+    by : (c : Container) → BeginsIn n c → shared xs (entered c ++ all_entered ps) ≡ 0
+    by (quote line) k = shared_apart n xs (record { name = name.BlockQuote; line = line }) (all_entered ps) old k
+    by (item i) k = choose (i.list == i.line) refl
+      where
+        choose : (x : Bool) → (i.list == i.line) ≡ x → shared xs ((cond x (record { name = list_name i; line = i.list } ∷ []) [] ++ record { name = name.ListItem; line = i.line } ∷ []) ++ all_entered ps) ≡ 0
+        choose true e = shared_apart n xs (record { name = list_name i; line = i.list }) (record { name = name.ListItem; line = i.line } ∷ all_entered ps) old (eqb-true i.list i.line e ∙ k.0)
+        choose false e = shared_apart n xs (record { name = name.ListItem; line = i.line }) (all_entered ps) old k.0
+
+-- Spans at a part, by those before it: some are kept, the others before it ended, and what begins in its first line is entered
+pub record Turn (before after : List Frame) (begun : List Prefix) : Type 0 where
+  pub kept : List Frame
+  pub ended : List Frame
+  pub before_are : before ≡ kept ++ ended
+  pub after_are : after ≡ kept ++ all_entered begun
+  pub many : shared before after ≡ length kept
+
+turns : (n : ℕ) (before after kept : List Frame) (begun : List Prefix) → BeginHere n begun → AllByRecursion (λ (f : Frame). f.line < n) before → IsFront kept before → after ≡ kept ++ all_entered begun → Turn before after begun
+turns n before after kept begun h old front e =
+    let ended = front.0 in
+    let apart = shared_entered n begun ended h (every-back (λ (f : Frame). f.line < n) kept ended (subst (AllByRecursion (λ (f : Frame). f.line < n)) front.1 old)) in
+    let all = shared_front kept ended (all_entered begun) in
+    record { kept = kept; ended = ended; before_are = front.1; after_are = e; many = (λ k. shared (front.1 k) (e k)) ∙ omega (arith, apart, all) }
+
+-- ---- containers that blank lines stand in
+
+-- containers from the innermost on, but for items among the first that do not go on
+abbrev pub keep : ℕ → List Container → List Container
+keep g [] = []
+keep g (quote line ∷ cs) = quote line ∷ cs
+keep g (item i ∷ cs) = cond (nat_le g (length cs)) (keep g cs) (item i ∷ cs)
+
+left_is_keep : (g n : ℕ) (cs : List Container) → AllByRecursion (BeganBefore n) cs → left_in g n cs ≡ keep g cs
+left_is_keep g n [] h = refl
+left_is_keep g n (quote line ∷ cs) h = refl
+left_is_keep g n (item i ∷ cs) h =
+    let less = h.0.0 in
+    let before : nat_lt i.line n ≡ true = grind (arith, nat_tests) in
+    by (nat_le g (length cs)) (nat_lt i.line n) before (left_is_keep g n cs h.1)
+  where
+    by : (x y : Bool) → y ≡ true → left_in g n cs ≡ keep g cs → cond (x && y) (left_in g n cs) (item i ∷ cs) ≡ cond x (keep g cs) (item i ∷ cs)
+    by true true e rest = rest
+    by true false e rest = absurd (false≢true e)
+    by false y e rest = refl
+
+abbrev IsBack : List Container → List Container → Type 0
+IsBack xs ys = (ws : List Container) × (ys ≡ ws ++ xs)
+
+keep_back : (g : ℕ) (cs : List Container) → IsBack (keep g cs) cs
+keep_back g [] = ([], refl)
+keep_back g (quote line ∷ cs) = ([], refl)
+keep_back g (item i ∷ cs) = by (nat_le g (length cs)) (keep_back g cs)
+  where
+    by : (x : Bool) → IsBack (keep g cs) cs → IsBack (cond x (keep g cs) (item i ∷ cs)) (item i ∷ cs)
+    by true h = (item i ∷ h.0, ap (λ l. item i ∷ l) h.1)
+    by false h = ([], refl)
+
+keep_more : (g : ℕ) (zs cs : List Container) → IsBack (keep g cs) (keep g (zs ++ cs))
+keep_more g [] cs = ([], refl)
+keep_more g (quote line ∷ zs) cs = let back = keep_back g cs in (quote line ∷ (zs ++ back.0), ap (λ l. quote line ∷ (zs ++ l)) back.1 ∙ ap (λ l. quote line ∷ l) (sym (append_assoc zs back.0 (keep g cs))))
+keep_more g (item i ∷ zs) cs = by (nat_le g (length (zs ++ cs))) (keep_more g zs cs)
+  where
+    by : (x : Bool) → IsBack (keep g cs) (keep g (zs ++ cs)) → IsBack (keep g cs) (cond x (keep g (zs ++ cs)) (item i ∷ (zs ++ cs)))
+    by true h = h
+    by false h = let back = keep_back g cs in (item i ∷ (zs ++ back.0), ap (λ l. item i ∷ (zs ++ l)) back.1 ∙ ap (λ l. item i ∷ l) (sym (append_assoc zs back.0 (keep g cs))))
+
+keep_long : (g : ℕ) (cs : List Container) → g ≤ length cs → g ≤ length (keep g cs)
+keep_long g [] h = h
+keep_long g (quote line ∷ cs) h = h
+keep_long g (item i ∷ cs) h = by (keep_long g cs) (nat_le g (length cs)) refl
+  where
+    by : (g ≤ length cs → g ≤ length (keep g cs)) → (x : Bool) → nat_le g (length cs) ≡ x → g ≤ length (cond x (keep g cs) (item i ∷ cs))
+    by rest true e = let le : g ≤ length cs = grind (arith, nat_tests) in rest le
+    by rest false e = h
+
+-- the same from the outermost on
+abbrev pub kept_of : ℕ → List Container → List Container
+kept_of g cs = reverse (keep g (reverse cs))
+
+kept_front : (g : ℕ) (cs : List Container) → IsFront (kept_of g cs) cs
+kept_front g cs = let back = keep_back g (reverse cs) in (reverse back.0, sym (reverse-reverse cs) ∙ ap reverse back.1 ∙ reverse-append back.0 (keep g (reverse cs)))
+
+kept_more : (g : ℕ) (xs ys : List Container) → IsFront xs ys → IsFront (kept_of g xs) (kept_of g ys)
+kept_more g xs ys h =
+    let back = keep_more g (reverse h.0) (reverse xs) in
+    (reverse back.0, ap (λ (l : List Container). reverse (keep g (reverse l))) h.1 ∙ ap (λ (l : List Container). reverse (keep g l)) (reverse-append xs h.0) ∙ ap reverse back.1 ∙ reverse-append back.0 (keep g (reverse xs)))
+
+kept_long : (g : ℕ) (cs : List Container) → g ≤ length cs → g ≤ length (kept_of g cs)
+kept_long g cs h =
+    let a = length-reverse cs in
+    let b = length-reverse (keep g (reverse cs)) in
+    let long = keep_long g (reverse cs) (omega (arith, h, a)) in
+    omega (arith, long, b)
+
+flat_front : (xs ys : List Container) → IsFront xs ys → IsFront (flat_map frames_of xs) (flat_map frames_of ys)
+flat_front xs ys h = (flat_map frames_of h.0, ap (flat_map frames_of) h.1 ∙ flat_map-append frames_of xs h.0)
+
+front_take : {A : Type 0} (xs ys : List A) → IsFront xs ys → take (length xs) ys ≡ xs
+front_take xs ys h = ap (take (length xs)) h.1 ∙ (take_front xs h.0 (length xs) refl).0
+
+-- ---- lines of containers
+
+began_more : (n : ℕ) (c : Container) → BeganBefore n c → BeganBefore (suc n) c
+began_more n (quote line) h = omega (arith, h)
+began_more n (item i) h = let less = h.0 in (omega (arith, less), h.1)
+
+began_later : (n m : ℕ) → n ≤ m → (c : Container) → BeganBefore n c → BeganBefore m c
+began_later n m le (quote line) h = omega (arith, h, le)
+began_later n m le (item i) h = let less = h.0 in (omega (arith, less, le), h.1)
+
+begins_before : (n : ℕ) (c : Container) → BeginsIn n c → BeganBefore (suc n) c
+begins_before n (quote line) h = omega (arith, h)
+begins_before n (item i) h = let is = h.0 in (omega (arith, is), h.1)
+
+begun_before : (n : ℕ) (ps : List Prefix) → BeginHere n ps → AllByRecursion (BeganBefore (suc n)) (containers_of ps)
+begun_before n [] h = tt
+begun_before n (p ∷ ps) h = (begins_before n p.container h.0, rest ps h.1)
+  where
+    rest : (qs : List Prefix) → AllByRecursion (λ (q : Prefix). BeginsIn n q.container × BeginsList q.container) qs → AllByRecursion (BeganBefore (suc n)) (containers_of qs)
+    rest [] k = tt
+    rest (q ∷ qs) k = (begins_before n q.container k.0.0, rest qs k.1)
+
+frames_before : (n : ℕ) (c : Container) → BeganBefore n c → AllByRecursion (λ (f : Frame). f.line < n) (frames_of c)
+frames_before n (quote line) h = (h, tt)
+frames_before n (item i) h = let less = h.0 in let list = h.1.list in (omega (arith, less, list), (less, tt))
+
+all_before : (n : ℕ) (cs : List Container) → AllByRecursion (BeganBefore n) cs → AllByRecursion (λ (f : Frame). f.line < n) (flat_map frames_of cs)
+all_before n [] h = tt
+all_before n (c ∷ cs) h = every-append (λ (f : Frame). f.line < n) (frames_of c) (flat_map frames_of cs) (frames_before n c h.0) (all_before n cs h.1)
+
+every_reverse : (P : Container → Type 0) (cs : List Container) → AllByRecursion P cs → AllByRecursion P (reverse cs)
+every_reverse P [] h = tt
+every_reverse P (c ∷ cs) h = subst (AllByRecursion P) (sym (reverse-append (c ∷ []) cs)) (every-append P (reverse cs) (c ∷ []) (every_reverse P cs h.1) (h.0, tt))
+
+pub none_is : {A : Type 0} (xs : List A) → has_none xs ≡ true → xs ≡ []
+none_is [] h = refl
+none_is (x ∷ xs) h = absurd (false≢true h)
+
+-- ---- in which containers a line stands
+
+standing_blank : (r : Row) (behind : List Row) → r.is_blank ≡ true → has_none r.begun ≡ true → AllByRecursion (BeganBefore r.number) (containers_of r.went_on) → standing r behind ≡ kept_of (going_on_at behind) (containers_of r.went_on)
+standing_blank r behind blank none old =
+    let all : containers_of r.went_on ++ containers_of r.begun ≡ containers_of r.went_on = ap (λ l. containers_of r.went_on ++ containers_of l) (none_is r.begun none) ∙ append-nil (containers_of r.went_on) in
+    (λ k. cond (blank k) (reverse (left_in (going_on_at behind) r.number (reverse (all k)))) (all k))
+    ∙ ap reverse (left_is_keep (going_on_at behind) r.number (reverse (containers_of r.went_on)) (every_reverse (BeganBefore r.number) (containers_of r.went_on) old))
+
+pub standing_other : (r : Row) (behind : List Row) → r.is_blank ≡ false → standing r behind ≡ containers_of r.went_on ++ containers_of r.begun
+standing_other r behind other =
+    let all = containers_of r.went_on ++ containers_of r.begun in
+    ap (λ b. cond b (reverse (left_in (going_on_at behind) r.number (reverse all))) all) other
+
+left_begun : (g n : ℕ) (zs cs : List Container) → AllByRecursion (BeginsIn n) zs → has_none zs ≡ false → left_in g n (zs ++ cs) ≡ zs ++ cs
+left_begun g n [] cs h e = absurd (false≢true (sym e))
+left_begun g n (quote line ∷ zs) cs h e = refl
+left_begun g n (item i ∷ zs) cs h e =
+    let is = h.0.0 in
+    let here : nat_lt i.line n ≡ false = grind (arith, nat_tests) in
+    by (nat_le g (length (zs ++ cs))) (nat_lt i.line n) here
+  where
+    by : (x y : Bool) → y ≡ false → cond (x && y) (left_in g n (zs ++ cs)) (item i ∷ (zs ++ cs)) ≡ item i ∷ (zs ++ cs)
+    by true true f = absurd (false≢true (sym f))
+    by true false f = refl
+    by false y f = refl
+
+begun_in : (n : ℕ) (ps : List Prefix) → BeginHere n ps → AllByRecursion (BeginsIn n) (containers_of ps)
+begun_in n [] h = tt
+begun_in n (p ∷ ps) h = (h.0, rest ps h.1)
+  where
+    rest : (qs : List Prefix) → AllByRecursion (λ (q : Prefix). BeginsIn n q.container × BeginsList q.container) qs → AllByRecursion (BeginsIn n) (containers_of qs)
+    rest [] k = tt
+    rest (q ∷ qs) k = (k.0.0, rest qs k.1)
+
+none_reverse : (c : Container) (cs : List Container) → has_none (reverse (c ∷ cs)) ≡ false
+none_reverse c cs = ap has_none (reverse-append (c ∷ []) cs) ∙ by (reverse cs)
+  where
+    by : (zs : List Container) → has_none (zs ++ c ∷ []) ≡ false
+    by [] = refl
+    by (z ∷ zs) = refl
+
+some_begun : (ps : List Prefix) → has_none ps ≡ false → has_none (reverse (containers_of ps)) ≡ false
+some_begun [] e = absurd (false≢true (sym e))
+some_begun (p ∷ ps) e = none_reverse p.container (containers_of ps)
+
+standing_begun : (r : Row) (behind : List Row) → BeginHere r.number r.begun → has_none r.begun ≡ false → standing r behind ≡ containers_of r.went_on ++ containers_of r.begun
+standing_begun r behind h some =
+    let went = containers_of r.went_on in
+    let begun = containers_of r.begun in
+    let turned : left_in (going_on_at behind) r.number (reverse (went ++ begun)) ≡ reverse (went ++ begun) =
+    (λ k. left_in (going_on_at behind) r.number (reverse-append went begun k))
+    ∙ left_begun (going_on_at behind) r.number (reverse begun) (reverse went) (every_reverse (BeginsIn r.number) begun (begun_in r.number r.begun h)) (some_begun r.begun some)
+    ∙ sym (reverse-append went begun) in
+    by r.is_blank (ap reverse turned ∙ reverse-reverse (went ++ begun))
+  where
+    by : (x : Bool) → reverse (left_in (going_on_at behind) r.number (reverse (containers_of r.went_on ++ containers_of r.begun))) ≡ containers_of r.went_on ++ containers_of r.begun
+        → cond x (reverse (left_in (going_on_at behind) r.number (reverse (containers_of r.went_on ++ containers_of r.begun)))) (containers_of r.went_on ++ containers_of r.begun) ≡ containers_of r.went_on ++ containers_of r.begun
+    by true e = e
+    by false e = refl
+
+-- ---- what a line is behind the lines before it
+
+right_part : (x y : Bool) → (x && y) ≡ true → y ≡ true
+right_part true y h = h
+right_part false y h = absurd (false≢true h)
+
+left_part : (x y : Bool) → (x && y) ≡ true → x ≡ true
+left_part true y h = refl
+left_part false y h = absurd (false≢true h)
+
+not_is : (x : Bool) → not x ≡ true → x ≡ false
+not_is true h = absurd (false≢true h)
+not_is false h = refl
+
+module _ (on : Constructs) (b : Before) (n : ℕ) (line : Line) where
+  abbrev r : Row
+  r = row_of on b n line
+
+  abbrev none : Bool
+  none = has_none r.begun
+
+  abbrev all_go_on : Bool
+  all_go_on = length r.went_on == b.depth
+
+  left_is : r.is_left_blank ≡ true → (r.is_blank ≡ true) × (none ≡ true)
+  left_is h = let rest = right_part r.is_blank (none && not (r.stays && holds_ending b.leaf)) h in (left_part r.is_blank (none && not (r.stays && holds_ending b.leaf)) h, left_part none (not (r.stays && holds_ending b.leaf)) rest)
+
+  stays_is : r.stays ≡ true → none ≡ true
+  stays_is h = left_part none (r.is_lazy || (all_go_on && (length b.stack == b.depth))) h
+
+  lazy_is : r.is_lazy ≡ true → (none ≡ true) × (is_paragraph b.leaf ≡ true)
+  lazy_is h =
+      let kind = interrupts (line_kind on (drop r.columns (text_of line))) in
+      let rest = right_part (not all_go_on) (none && (is_paragraph b.leaf && not kind)) h in
+      (left_part none (is_paragraph b.leaf && not kind) rest, left_part (is_paragraph b.leaf) (not kind) (right_part none (is_paragraph b.leaf && not kind) rest))
+
+  lazy_stays : r.is_lazy ≡ true → r.stays ≡ true
+  lazy_stays h = (λ k. (lazy_is h).0 k && (h k || (all_go_on && (length b.stack == b.depth))))
+
+  -- a line that stays, and not lazily, stands in all containers
+  stays_in : r.stays ≡ true → r.is_lazy ≡ false → (all_go_on ≡ true) × ((length b.stack == b.depth) ≡ true)
+  stays_in h lazy =
+      let rest = right_part none (r.is_lazy || (all_go_on && (length b.stack == b.depth))) h in
+      let both : (all_go_on && (length b.stack == b.depth)) ≡ true = ap (λ x. x || (all_go_on && (length b.stack == b.depth))) (sym lazy) ∙ rest in
+      (left_part all_go_on (length b.stack == b.depth) both, right_part all_go_on (length b.stack == b.depth) both)
+
+  stays_all : r.stays ≡ true → r.is_lazy ≡ false → containers_of r.went_on ++ containers_of r.begun ≡ b.stack
+  stays_all h lazy =
+      let both = stays_in h lazy in
+      let a : length r.went_on ≡ b.depth = eqb-true (length r.went_on) b.depth both.0 in
+      let c : length b.stack ≡ b.depth = eqb-true (length b.stack) b.depth both.1 in
+      ap (λ l. containers_of r.went_on ++ containers_of l) (none_is r.begun (stays_is h)) ∙ append-nil (containers_of r.went_on) ∙ went_are on b n line ∙ take_all (length r.went_on) b.stack (omega (arith, a, c))
+
+  -- a line at which no stretch goes on is not lazy, and is left blank if it is blank and nothing begins in it
+  fresh : (behind : List Row) → (b.leaf ≡ closed) ⊎ (further (r ∷ behind) ≡ 0) → r.is_left_blank ≡ false → (r.is_lazy ≡ false) × ((r.is_blank ≡ false) ⊎ (none ≡ false))
+  fresh behind h left =
+      let free : (r.stays ≡ false) ⊎ (b.leaf ≡ closed) = elim h [ inl leaf ↦ inr leaf | inr stop ↦ inl (stops r.stays (ap (λ x. cond x (cond (nat_le 1 (further behind)) (suc (further behind)) 0) (cond r.stays (suc (further behind)) 0)) (sym left) ∙ stop)) ] in
+      (not_lazy free r.is_lazy refl, not_blank free r.is_blank none refl refl left)
+    where
+      stops : (x : Bool) → cond x (suc (further behind)) 0 ≡ 0 → x ≡ false
+      stops true e = absurd (omega (arith, e))
+      stops false e = refl
+
+      not_lazy : (r.stays ≡ false) ⊎ (b.leaf ≡ closed) → (x : Bool) → r.is_lazy ≡ x → r.is_lazy ≡ false
+      not_lazy free true e = absurd (elim free [ inl out ↦ false≢true (sym out ∙ lazy_stays e) | inr leaf ↦ false≢true (sym (ap is_paragraph leaf) ∙ (lazy_is e).1) ])
+      not_lazy free false e = e
+
+      held : (r.stays ≡ false) ⊎ (b.leaf ≡ closed) → (x : Bool) → (r.stays && holds_ending b.leaf) ≡ x → x ≡ false
+      held free true e = absurd (elim free [ inl out ↦ false≢true (sym out ∙ left_part r.stays (holds_ending b.leaf) e) | inr leaf ↦ false≢true (sym (ap holds_ending leaf) ∙ right_part r.stays (holds_ending b.leaf) e) ])
+      held free false e = refl
+
+      not_blank : (r.stays ≡ false) ⊎ (b.leaf ≡ closed) → (x y : Bool) → r.is_blank ≡ x → none ≡ y → (r.is_blank && (none && not (r.stays && holds_ending b.leaf))) ≡ false → (r.is_blank ≡ false) ⊎ (none ≡ false)
+      not_blank free false y ex ey e = inl ex
+      not_blank free true false ex ey e = inr ey
+      not_blank free true true ex ey e = absurd (false≢true (sym e ∙ (λ k. ex k && (ey k && not (held free (r.stays && holds_ending b.leaf) refl k)))))
+
+  -- ---- what is known behind it
+
+  known_left : r.is_left_blank ≡ true → known_after on b r ≡ record b { depth = length r.went_on; leaf = closed }
+  known_left h = ap (λ x. cond x (record b { depth = length r.went_on; leaf = closed }) (cond r.is_lazy (record b { leaf = r.leaf }) (record { stack = containers_of r.went_on ++ containers_of r.begun; depth = length (containers_of r.went_on ++ containers_of r.begun); leaf = r.leaf }))) h
+
+  known_other : r.is_left_blank ≡ false → r.is_lazy ≡ false → known_after on b r ≡ record { stack = containers_of r.went_on ++ containers_of r.begun; depth = length (containers_of r.went_on ++ containers_of r.begun); leaf = r.leaf }
+  known_other h k = (λ i. cond (h i) (record b { depth = length r.went_on; leaf = closed }) (cond (k i) (record b { leaf = r.leaf }) (record { stack = containers_of r.went_on ++ containers_of r.begun; depth = length (containers_of r.went_on ++ containers_of r.begun); leaf = r.leaf })))
+
+  -- a line that a stretch goes on with leaves the stack as it is
+  stack_stays : (r.is_left_blank ≡ true) ⊎ (r.stays ≡ true) → (known_after on b r).stack ≡ b.stack
+  stack_stays h = by r.is_left_blank r.is_lazy refl refl h
+    where
+      by : (x y : Bool) → r.is_left_blank ≡ x → r.is_lazy ≡ y → (x ≡ true) ⊎ (r.stays ≡ true)
+          → (cond x (record b { depth = length r.went_on; leaf = closed }) (cond y (record b { leaf = r.leaf }) (record { stack = containers_of r.went_on ++ containers_of r.begun; depth = length (containers_of r.went_on ++ containers_of r.begun); leaf = r.leaf }))).stack ≡ b.stack
+      by true y ex ey k = refl
+      by false true ex ey k = refl
+      by false false ex ey k = elim k [ inl out ↦ absurd (false≢true out) | inr stays ↦ stays_all stays ey ]
+
+  -- behind a blank line in which containers begin no leaf block is open
+  begun_leaf : r.is_left_blank ≡ false → r.is_lazy ≡ false → r.is_blank ≡ true → none ≡ false → (known_after on b r).leaf ≡ closed
+  begun_leaf left lazy blank some =
+      let rest = drop r.columns (text_of line) in
+      let stays : r.stays ≡ false = ap (λ x. x && (r.is_lazy || (all_go_on && (length b.stack == b.depth)))) some in
+      ap (λ (x : Before). x.leaf) (known_other left lazy)
+      ∙ (λ k. cond (left k) closed (cond (lazy k) open_paragraph (leaf_after on (cond (stays k) b.leaf closed) rest)))
+      ∙ (λ k. opened_by on (cond (blank k) blank_kind (cond (is_far on rest) indented (kind_of_rest on (indent rest) (unindented rest)))) rest)
+
+  -- containers of the stack began in this line or before
+  old_after : AllByRecursion (BeganBefore n) b.stack → AllByRecursion (BeganBefore (suc n)) (known_after on b r).stack
+  old_after old = by r.is_left_blank r.is_lazy (every-map (BeganBefore n) (BeganBefore (suc n)) (began_more n) b.stack old)
+    where
+      by : (x y : Bool) → AllByRecursion (BeganBefore (suc n)) b.stack
+          → AllByRecursion (BeganBefore (suc n)) (cond x (record b { depth = length r.went_on; leaf = closed }) (cond y (record b { leaf = r.leaf }) (record { stack = containers_of r.went_on ++ containers_of r.begun; depth = length (containers_of r.went_on ++ containers_of r.begun); leaf = r.leaf }))).stack
+      by true y more = more
+      by false true more = more
+      by false false more =
+          every-append (BeganBefore (suc n)) (containers_of r.went_on) (containers_of r.begun) (subst (AllByRecursion (BeganBefore (suc n))) (sym (went_are on b n line)) (every_front (BeganBefore (suc n)) (length r.went_on) b.stack more))
+          (begun_before n r.begun (begun_are on b n line old).0)
+
+-- a list that began before has at most one frame
+short_list : (ps : List Prefix) → length (list_begun ps) ≤ 1
+short_list [] = omega arith
+short_list (p ∷ ps) = by p.container
+  where
+    one : (f : Frame) (x : Bool) → length (cond x (f ∷ []) []) ≤ 1
+    one f true = omega arith
+    one f false = omega arith
+
+    by : (c : Container) → length (elim c as (λ _. List Frame) [ quote line ↦ [] | item i ↦ cond (nat_lt i.list i.line) (record { name = list_name i; line = i.list } ∷ []) [] ]) ≤ 1
+    by (quote line) = omega arith
+    by (item i) = one (record { name = list_name i; line = i.list }) (nat_lt i.list i.line)
+
+abbrev head_or : Frame → List Frame → Frame
+head_or f [] = f
+head_or f (g ∷ gs) = g
+
+front_one : (f x : Frame) (fs ys zs : List Frame) → f ∷ (fs ++ ys) ≡ x ∷ zs → IsFront (x ∷ []) (f ∷ fs)
+front_one f x fs ys zs e = (fs, ap (λ l. head_or f l ∷ fs) e)
+
+short_front : (xs ys : List Frame) (c : Container) → length xs ≤ 1 → IsFront xs (frames_of c ++ ys) → IsFront xs (frames_of c)
+short_front [] ys c h front = front_none (frames_of c)
+short_front (x ∷ y ∷ xs) ys c h front = absurd (omega (arith, h))
+short_front (x ∷ []) ys (quote line) h front = front_one (record { name = name.BlockQuote; line = line }) x [] ys front.0 front.1
+short_front (x ∷ []) ys (item i) h front = front_one (record { name = list_name i; line = i.list }) x (record { name = name.ListItem; line = i.line } ∷ []) ys front.0 front.1
+
+every_fore : (P : Frame → Type 0) (xs ys : List Frame) → AllByRecursion P (xs ++ ys) → AllByRecursion P xs
+every_fore P [] ys h = tt
+every_fore P (x ∷ xs) ys h = (h.0, every_fore P xs ys h.1)
+
+front_every : (P : Frame → Type 0) (xs ys : List Frame) → IsFront xs ys → AllByRecursion P ys → AllByRecursion P xs
+front_every P xs ys front h = every_fore P xs front.0 (subst (AllByRecursion P) front.1 h)
+
+module _ (on : Constructs) where
+  going_few_at : (b : Before) (n : ℕ) (ls : List Line) → going_on_at (rows_from on b n ls) ≤ b.depth
+  going_few_at b n [] = omega arith
+  going_few_at b n (l ∷ ls) = by (row_of on b n l).is_left_blank refl (going_few_at (known_after on b (row_of on b n l)) (suc n) ls) (went_within on b n l).0
+    where
+      by : (x : Bool) → (row_of on b n l).is_left_blank ≡ x → going_on_at (rows_from on (known_after on b (row_of on b n l)) (suc n) ls) ≤ (known_after on b (row_of on b n l)).depth → length (row_of on b n l).went_on ≤ b.depth
+          → cond x (going_on_at (rows_from on (known_after on b (row_of on b n l)) (suc n) ls)) (length (row_of on b n l).went_on) ≤ b.depth
+      by true e h w = let depth : (known_after on b (row_of on b n l)).depth ≡ length (row_of on b n l).went_on = ap (λ (x : Before). x.depth) (known_left on b n l e) in omega (arith, h, w, depth)
+      by false e h w = w
+
+  list_short : (rs : List Row) → length (list_at rs) ≤ 1
+  list_short [] = omega arith
+  list_short (r ∷ behind) = by r.is_left_blank (list_short behind) (short_list r.begun)
+    where
+      by : (x : Bool) → length (list_at behind) ≤ 1 → length (list_begun r.begun) ≤ 1 → length (cond x (list_at behind) (list_begun r.begun)) ≤ 1
+      by true h k = h
+      by false h k = k
+
+  -- the list that goes on is that of the first container that does not
+  list_behind : (b : Before) (n : ℕ) (ls : List Line) → AllByRecursion (BeganBefore n) b.stack → let rs = rows_from on b n ls in IsFront (list_at rs) (flat_map frames_of (drop (going_on_at rs) b.stack))
+  list_behind b n [] old = front_none (flat_map frames_of b.stack)
+  list_behind b n (l ∷ ls) old = by (row_of on b n l).is_left_blank refl (list_behind (known_after on b (row_of on b n l)) (suc n) ls (old_after on b n l old)) (begun_are on b n l old).1
+    where
+      by : (x : Bool) → (row_of on b n l).is_left_blank ≡ x
+          → let behind = rows_from on (known_after on b (row_of on b n l)) (suc n) ls in
+          IsFront (list_at behind) (flat_map frames_of (drop (going_on_at behind) (known_after on b (row_of on b n l)).stack))
+          → IsFront (list_begun (row_of on b n l).begun) (flat_map frames_of (drop (length (row_of on b n l).went_on) b.stack))
+          → IsFront (cond x (list_at behind) (list_begun (row_of on b n l).begun)) (flat_map frames_of (drop (cond x (going_on_at behind) (length (row_of on b n l).went_on)) b.stack))
+      by true e h k =
+          let behind = rows_from on (known_after on b (row_of on b n l)) (suc n) ls in
+          let same : (known_after on b (row_of on b n l)).stack ≡ b.stack = ap (λ (x : Before). x.stack) (known_left on b n l e) in
+          subst (λ (cs : List Container). IsFront (list_at behind) (flat_map frames_of (drop (going_on_at behind) cs))) same h
+      by false e h k = k
+
+  flat_parts : (g : ℕ) (cs : List Container) → flat_map frames_of (take g cs) ++ flat_map frames_of (drop g cs) ≡ flat_map frames_of cs
+  flat_parts g cs = sym (flat_map-append frames_of (take g cs) (drop g cs)) ∙ ap (flat_map frames_of) (take-append-drop g cs)
+
+  -- frames that a later line goes on with
+  abbrev pub needed_at : List Container → List Row → List Frame
+  needed_at stack rs = flat_map frames_of (take (going_on_at rs) stack) ++ list_at rs
+
+  needed_front : (b : Before) (n : ℕ) (ls : List Line) → AllByRecursion (BeganBefore n) b.stack → IsFront (needed_at b.stack (rows_from on b n ls)) (flat_map frames_of b.stack)
+  needed_front b n ls old =
+      let rs = rows_from on b n ls in
+      let g = going_on_at rs in
+      let more = front_more (flat_map frames_of (take g b.stack)) (list_at rs) (flat_map frames_of (drop g b.stack)) (list_behind b n ls old) in
+      subst (IsFront (needed_at b.stack rs)) (flat_parts g b.stack) more
+
+  -- also of fewer containers, if they are more than go on
+  needed_in : (rs : List Row) (stack cs : List Container) → IsFront cs stack → going_on_at rs < length cs → IsFront (list_at rs) (flat_map frames_of (drop (going_on_at rs) stack)) → IsFront (needed_at stack rs) (flat_map frames_of cs)
+  needed_in rs stack cs front less list = by (drop (going_on_at rs) cs) refl
+    where
+      by : (ds : List Container) → drop (going_on_at rs) cs ≡ ds → IsFront (needed_at stack rs) (flat_map frames_of cs)
+      by [] e = absurd (let none : length (drop (going_on_at rs) cs) ≡ 0 = ap length e in let left = length-drop (going_on_at rs) cs in omega (arith, none, left, less))
+      by (d ∷ ds) e =
+          let k = going_on_at rs in
+          let same_front : take k cs ≡ take k stack = sym (take-append-le k cs front.0 (omega (arith, less))) ∙ ap (take k) (sym front.1) in
+          let rest : drop k stack ≡ d ∷ (ds ++ front.0) = ap (drop k) front.1 ∙ drop-append-le k cs front.0 (omega (arith, less)) ∙ ap (λ l. l ++ front.0) e in
+          let one : IsFront (list_at rs) (frames_of d) = short_front (list_at rs) (flat_map frames_of (ds ++ front.0)) d (list_short rs) (subst (λ (l : List Container). IsFront (list_at rs) (flat_map frames_of l)) rest list) in
+          let all : IsFront (list_at rs) (flat_map frames_of (drop k cs)) =
+          subst (λ (l : List Container). IsFront (list_at rs) (flat_map frames_of l)) (sym e) (front_trans (list_at rs) (frames_of d) (frames_of d ++ flat_map frames_of ds) one (front_append (frames_of d) (flat_map frames_of ds))) in
+          let more = front_more (flat_map frames_of (take k cs)) (list_at rs) (flat_map frames_of (drop k cs)) all in
+          subst (λ (l : List Container). IsFront (flat_map frames_of l ++ list_at rs) (flat_map frames_of cs)) same_front (subst (IsFront (flat_map frames_of (take k cs) ++ list_at rs)) (flat_parts k cs) more)
+
+  -- Spans that are open before a line: those of the containers that blank lines may stand in, and those that a later line goes on with
+  pub record AreOpen (fs : List Frame) (b : Before) (n : ℕ) (ls : List Line) : Type 0 where
+    pub old : AllByRecursion (BeganBefore n) b.stack
+    pub before : AllByRecursion (λ (f : Frame). f.line < n) fs
+    pub deep : IsFront (flat_map frames_of (kept_of (going_on_at (rows_from on b n ls)) (take b.depth b.stack))) fs
+    pub needed : IsFront (needed_at b.stack (rows_from on b n ls)) fs
+    pub none_open : (b.leaf ≡ closed) ⊎ (further (rows_from on b n ls) ≡ 0)
+
+  -- all containers are open
+  all_are_open : (fs : List Frame) (b : Before) (n : ℕ) (ls : List Line) → fs ≡ flat_map frames_of b.stack → AllByRecursion (BeganBefore n) b.stack → (b.leaf ≡ closed) ⊎ (further (rows_from on b n ls) ≡ 0) → AreOpen fs b n ls
+  all_are_open fs b n ls e old free =
+      let g = going_on_at (rows_from on b n ls) in
+      let some = take b.depth b.stack in
+      let whole : IsFront some b.stack = (drop b.depth b.stack, sym (take-append-drop b.depth b.stack)) in
+      let deep = flat_front (kept_of g some) b.stack (front_trans (kept_of g some) some b.stack (kept_front g some) whole) in
+      record {
+        old = old;
+        before = subst (AllByRecursion (λ (f : Frame). f.line < n)) (sym e) (all_before n b.stack old);
+        deep = subst (IsFront (flat_map frames_of (kept_of g some))) (sym e) deep;
+        needed = subst (IsFront (needed_at b.stack (rows_from on b n ls))) (sym e) (needed_front b n ls old);
+        none_open = free;
+      }
+
+  pub none_are_open : (ls : List Line) → AreOpen [] (nothing_known on) 1 ls
+  none_are_open ls = all_are_open [] (nothing_known on) 1 ls refl tt (inl refl)
+
+  -- ---- stretches
+
+  -- So many lines with which a stretch goes on: nothing begins in them, and the containers stay; behind them none goes on
+  record Stretch (b : Before) (n : ℕ) (ls : List Line) (k : ℕ) : Type 0 where
+    state : Before
+    number : ℕ
+    lines : List Line
+    rest : drop k (rows_from on b n ls) ≡ rows_from on state number lines
+    all : ls ≡ map (λ (r : Row). r.line) (take k (rows_from on b n ls)) ++ lines
+    same : state.stack ≡ b.stack
+    later : n ≤ number
+    none_begin : AllByRecursion (λ (r : Row). has_none r.begun ≡ true) (take k (rows_from on b n ls))
+    done : further (drop k (rows_from on b n ls)) ≡ 0
+
+  no_stretch : (b : Before) (n : ℕ) (ls : List Line) (k : ℕ) → k ≡ 0 → further (rows_from on b n ls) ≡ k → Stretch b n ls k
+  no_stretch b n ls zero e f = record { state = b; number = n; lines = ls; rest = refl; all = refl; same = refl; later = omega arith; none_begin = tt; done = f }
+  no_stretch b n ls (suc k) e f = absurd (omega (arith, e))
+
+  one_stretch : (b : Before) (n : ℕ) (l : Line) (ls : List Line) (k : ℕ) → let r = row_of on b n l in ((r.is_left_blank ≡ true) ⊎ (r.stays ≡ true)) → has_none r.begun ≡ true → Stretch (known_after on b r) (suc n) ls k → Stretch b n (l ∷ ls) (suc k)
+  one_stretch b n l ls k goes none s =
+      let later = s.later in
+      record {
+        state = s.state;
+        number = s.number;
+        lines = s.lines;
+        rest = s.rest;
+        all = ap (λ (x : List Line). l ∷ x) s.all;
+        same = s.same ∙ stack_stays on b n l goes;
+        later = omega (arith, later);
+        none_begin = (none, s.none_begin);
+        done = s.done;
+      }
+
+  stretches : (b : Before) (n : ℕ) (ls : List Line) → Stretch b n ls (further (rows_from on b n ls))
+  stretches b n [] = no_stretch b n [] 0 refl refl
+  stretches b n (l ∷ ls) =
+      by (row_of on b n l).is_left_blank (nat_le 1 (further (rows_from on (known_after on b (row_of on b n l)) (suc n) ls))) (row_of on b n l).stays refl refl refl (stretches (known_after on b (row_of on b n l)) (suc n) ls)
+    where
+      by : (x y z : Bool) → let r = row_of on b n l in let m = further (rows_from on (known_after on b r) (suc n) ls) in r.is_left_blank ≡ x → nat_le 1 m ≡ y → r.stays ≡ z
+          → Stretch (known_after on b r) (suc n) ls m → Stretch b n (l ∷ ls) (cond x (cond y (suc m) 0) (cond z (suc m) 0))
+      by true true z ex ey ez s = one_stretch b n l ls (further (rows_from on (known_after on b (row_of on b n l)) (suc n) ls)) (inl ex) (left_is on b n l ex).1 s
+      by true false z ex ey ez s =
+          let r = row_of on b n l in
+          let m = further (rows_from on (known_after on b r) (suc n) ls) in
+          no_stretch b n (l ∷ ls) 0 refl (λ k. cond (ex k) (cond (ey k) (suc m) 0) (cond r.stays (suc m) 0))
+      by false y true ex ey ez s = one_stretch b n l ls (further (rows_from on (known_after on b (row_of on b n l)) (suc n) ls)) (inr ez) (stays_is on b n l ez) s
+      by false y false ex ey ez s =
+          let r = row_of on b n l in
+          let m = further (rows_from on (known_after on b r) (suc n) ls) in
+          no_stretch b n (l ∷ ls) 0 refl (λ k. cond (ex k) (cond (nat_le 1 m) (suc m) 0) (cond (ez k) (suc m) 0))
+
+  -- ---- one part
+
+  -- The lines behind a part, of which so many are in it: nothing begins in those, and before the others these spans are open
+  pub record IsBehind (fs : List Frame) (b : Before) (n : ℕ) (ls : List Line) (k : ℕ) : Type 0 where
+    pub state : Before
+    pub number : ℕ
+    pub lines : List Line
+    pub rest : drop k (rows_from on b n ls) ≡ rows_from on state number lines
+    pub all : ls ≡ map (λ (r : Row). r.line) (take k (rows_from on b n ls)) ++ lines
+    pub none_begin : AllByRecursion (λ (r : Row). has_none r.begun ≡ true) (take k (rows_from on b n ls))
+    pub are_open : AreOpen fs state number lines
+
+  -- A part: the spans turn to those in which it stands, and these are open behind it
+  pub record IsPart (fs : List Frame) (b : Before) (n : ℕ) (l : Line) (ls : List Line) : Type 0 where
+    pub turn : let r = row_of on b n l in Turn fs (frames_at r (rows_from on (known_after on b r) (suc n) ls)) r.begun
+    pub behind : let r = row_of on b n l in let rs = rows_from on (known_after on b r) (suc n) ls in IsBehind (frames_at r rs) (known_after on b r) (suc n) ls (cond r.is_blank 0 (further rs))
+    pub stands : let r = row_of on b n l in let rs = rows_from on (known_after on b r) (suc n) ls in (r.is_blank ≡ false) ⊎ (has_none r.begun ≡ false) → standing r rs ≡ containers_of r.went_on ++ containers_of r.begun
+
+  module _ (fs : List Frame) (b : Before) (n : ℕ) (l : Line) (ls : List Line) (h : AreOpen fs b n (l ∷ ls)) where
+    abbrev head : Row
+    head = row_of on b n l
+
+    abbrev next : Before
+    next = known_after on b head
+
+    abbrev others : List Row
+    others = rows_from on next (suc n) ls
+
+    begin_here : BeginHere n head.begun
+    begin_here = (begun_are on b n l h.old).0
+
+    stands_in_all : (head.is_blank ≡ false) ⊎ (has_none head.begun ≡ false) → standing head others ≡ containers_of head.went_on ++ containers_of head.begun
+    stands_in_all e = elim e [ inl other ↦ standing_other head others other | inr some ↦ standing_begun head others begin_here some ]
+
+    abbrev went : List Container
+    went = containers_of head.went_on
+
+    abbrev g : ℕ
+    g = going_on_at others
+
+    -- the containers that go on
+    went_in : IsFront went b.stack
+    went_in = (drop (length head.went_on) b.stack, sym (take-append-drop (length head.went_on) b.stack) ∙ ap (λ (cs : List Container). cs ++ drop (length head.went_on) b.stack) (sym (went_are on b n l)))
+
+    went_deep : IsFront went (take b.depth b.stack)
+    went_deep =
+        let few = went_within on b n l in
+        let size = length-take b.depth b.stack in
+        let same : take (length head.went_on) (take b.depth b.stack) ≡ went = take_of_take (length head.went_on) b.depth b.stack (omega (arith, few.0, few.1, size)) ∙ sym (went_are on b n l) in
+        (drop (length head.went_on) (take b.depth b.stack), sym (take-append-drop (length head.went_on) (take b.depth b.stack)) ∙ ap (λ (cs : List Container). cs ++ drop (length head.went_on) (take b.depth b.stack)) same)
+
+    -- no line behind it is in the part
+    at_once : (gs : List Frame) → AreOpen gs next (suc n) ls → IsBehind gs next (suc n) ls 0
+    at_once gs k = record { state = next; number = suc n; lines = ls; rest = refl; all = refl; none_begin = tt; are_open = k }
+
+    -- a line that is left blank
+    module _ (left : head.is_left_blank ≡ true) where
+      abbrev stand : List Container
+      stand = kept_of g went
+
+      blank_stands : standing head others ≡ stand
+      blank_stands =
+          standing_blank head others (left_is on b n l left).0 (left_is on b n l left).1 (subst (AllByRecursion (BeganBefore n)) (sym (went_are on b n l)) (every_front (BeganBefore n) (length head.went_on) b.stack h.old))
+
+      abbrev blank_frames : Bool → List Frame
+      blank_frames y = flat_map frames_of stand ++ cond y (list_at others) []
+
+      frames_are_blank : frames_at head others ≡ blank_frames (length stand == g)
+      frames_are_blank = (λ k. flat_map frames_of (blank_stands k) ++ cond (left k && (length (blank_stands k) == g)) (list_at others) [])
+
+      blank_needed : IsFront (needed_at b.stack others) fs
+      blank_needed = subst (λ x. IsFront (flat_map frames_of (take (cond x g (length head.went_on)) b.stack) ++ cond x (list_at others) (list_begun head.begun)) fs) left h.needed
+
+      blank_deep : IsFront (flat_map frames_of stand) fs
+      blank_deep =
+          front_trans (flat_map frames_of stand) (flat_map frames_of (kept_of g (take b.depth b.stack))) fs (flat_front stand (kept_of g (take b.depth b.stack)) (kept_more g went (take b.depth b.stack) went_deep))
+          (subst (λ x. IsFront (flat_map frames_of (kept_of (cond x g (length head.went_on)) (take b.depth b.stack))) fs) left h.deep)
+
+      stand_in : IsFront stand b.stack
+      stand_in = front_trans stand went b.stack (kept_front g went) went_in
+
+      just_needed : (length stand == g) ≡ true → needed_at b.stack others ≡ flat_map frames_of stand ++ list_at others
+      just_needed e =
+          let size : length stand ≡ g = eqb-true (length stand) g e in
+          let same : take g b.stack ≡ stand = ap (λ k. take k b.stack) (sym size) ∙ front_take stand b.stack stand_in in
+          ap (λ (cs : List Container). flat_map frames_of cs ++ list_at others) same
+
+      blank_front : (y : Bool) → (length stand == g) ≡ y → IsFront (blank_frames y) fs
+      blank_front true e = subst (λ (xs : List Frame). IsFront xs fs) (just_needed e) blank_needed
+      blank_front false e = subst (λ (xs : List Frame). IsFront xs fs) (sym (append-nil (flat_map frames_of stand))) blank_deep
+
+      known : next ≡ record b { depth = length head.went_on; leaf = closed }
+      known = known_left on b n l left
+
+      blank_still : (y : Bool) → (length stand == g) ≡ y → IsFront (needed_at b.stack others) (blank_frames y)
+      blank_still true e = subst (λ (xs : List Frame). IsFront (needed_at b.stack others) xs) (just_needed e) (front_all (needed_at b.stack others))
+      blank_still false e =
+          let few = going_few_at next (suc n) ls in
+          let depth : next.depth ≡ length head.went_on = ap (λ (x : Before). x.depth) known in
+          let size : length went ≡ length head.went_on = length-map head.went_on (λ (p : Prefix). p.container) in
+          let long = kept_long g went (omega (arith, few, depth, size)) in
+          let less : g < length stand = grind (arith, nat_tests) in
+          let list = subst (λ (x : Before). IsFront (list_at others) (flat_map frames_of (drop g x.stack))) known (list_behind next (suc n) ls (old_after on b n l h.old)) in
+          subst (IsFront (needed_at b.stack others)) (sym (append-nil (flat_map frames_of stand))) (needed_in others b.stack stand stand_in less list)
+
+      blank_open : AreOpen (frames_at head others) next (suc n) ls
+      blank_open =
+          let y = length stand == g in
+          let gs = blank_frames y in
+          let same : take (length head.went_on) b.stack ≡ went = sym (went_are on b n l) in
+          let deep : IsFront (flat_map frames_of (kept_of g (take (length head.went_on) b.stack))) gs =
+          subst (λ (cs : List Container). IsFront (flat_map frames_of (kept_of g cs)) gs) (sym same) (front_append (flat_map frames_of stand) (cond y (list_at others) [])) in
+          subst (λ (xs : List Frame). AreOpen xs next (suc n) ls) (sym frames_are_blank)
+          (record {
+            old = old_after on b n l h.old;
+            before = every-map (λ (f : Frame). f.line < n) (λ (f : Frame). f.line < suc n) (λ f less. omega (arith, less)) gs (front_every (λ (f : Frame). f.line < n) gs fs (blank_front y refl) h.before);
+            deep = subst (λ (x : Before). IsFront (flat_map frames_of (kept_of g (take x.depth x.stack))) gs) (sym known) deep;
+            needed = subst (λ (x : Before). IsFront (needed_at x.stack others) gs) (sym known) (blank_still y refl);
+            none_open = inl (ap (λ (x : Before). x.leaf) known);
+          })
+
+      blank_turn : Turn fs (frames_at head others) head.begun
+      blank_turn =
+          let y = length stand == g in
+          let gs = blank_frames y in
+          let none : head.begun ≡ [] = none_is head.begun (left_is on b n l left).1 in
+          turns n fs (frames_at head others) gs head.begun begin_here h.before (blank_front y refl) (frames_are_blank ∙ sym (append-nil gs) ∙ ap (λ (ps : List Prefix). gs ++ all_entered ps) (sym none))
+
+      blank_part : IsPart fs b n l ls
+      blank_part = record {
+        turn = blank_turn;
+        behind = subst (λ x. IsBehind (frames_at head others) next (suc n) ls (cond x 0 (further others))) (sym (left_is on b n l left).0) (at_once (frames_at head others) blank_open);
+        stands = stands_in_all;
+      }
+
+    -- any other line
+    module _ (left : head.is_left_blank ≡ false) where
+      abbrev all_in : List Container
+      all_in = went ++ containers_of head.begun
+
+      is_fresh : (head.is_lazy ≡ false) × ((head.is_blank ≡ false) ⊎ (has_none head.begun ≡ false))
+      is_fresh = fresh on b n l others h.none_open left
+
+      frames_are_all : frames_at head others ≡ flat_map frames_of all_in
+      frames_are_all =
+          let stands = stands_in_all is_fresh.1 in
+          (λ k. flat_map frames_of (stands k) ++ cond (left k && (length (stands k) == g)) (list_at others) []) ∙ append-nil (flat_map frames_of all_in)
+
+      all_known : next.stack ≡ all_in
+      all_known = ap (λ (x : Before). x.stack) (known_other on b n l left is_fresh.0)
+
+      all_turn : Turn fs (frames_at head others) head.begun
+      all_turn =
+          let kept = flat_map frames_of went ++ list_begun head.begun in
+          let front = subst (λ x. IsFront (flat_map frames_of (take (cond x g (length head.went_on)) b.stack) ++ cond x (list_at others) (list_begun head.begun)) fs) left h.needed in
+          let here : IsFront kept fs = subst (λ (cs : List Container). IsFront (flat_map frames_of cs ++ list_begun head.begun) fs) (sym (went_are on b n l)) front in
+          turns n fs (frames_at head others) kept head.begun begin_here h.before here
+          (frames_are_all ∙ flat_map-append frames_of went (containers_of head.begun) ∙ ap (λ (xs : List Frame). flat_map frames_of went ++ xs) (begun_entered n head.begun begin_here)
+          ∙ sym (append_assoc (flat_map frames_of went) (list_begun head.begun) (all_entered head.begun)))
+
+      behind_all : (x : Bool) → head.is_blank ≡ x → IsBehind (frames_at head others) next (suc n) ls (cond x 0 (further others))
+      behind_all true blank =
+          let some : has_none head.begun ≡ false = elim is_fresh.1 [ inl other ↦ absurd (false≢true (sym other ∙ blank)) | inr some ↦ some ] in
+          at_once (frames_at head others) (all_are_open (frames_at head others) next (suc n) ls (frames_are_all ∙ ap (flat_map frames_of) (sym all_known)) (old_after on b n l h.old) (inl (begun_leaf on b n l left is_fresh.0 blank some)))
+      behind_all false other =
+          let s = stretches next (suc n) ls in
+          let later = s.later in
+          let old = every-map (BeganBefore (suc n)) (BeganBefore s.number) (began_later (suc n) s.number later) next.stack (old_after on b n l h.old) in
+          record {
+            state = s.state;
+            number = s.number;
+            lines = s.lines;
+            rest = s.rest;
+            all = s.all;
+            none_begin = s.none_begin;
+            are_open = all_are_open (frames_at head others) s.state s.number s.lines (frames_are_all ∙ ap (flat_map frames_of) (sym (s.same ∙ all_known))) (subst (AllByRecursion (BeganBefore s.number)) (sym s.same) old)
+                (inr (ap further (sym s.rest) ∙ s.done));
+          }
+
+      other_part : IsPart fs b n l ls
+      other_part = record { turn = all_turn; behind = behind_all head.is_blank refl; stands = stands_in_all }
+
+    pub is_part : IsPart fs b n l ls
+    is_part = by head.is_left_blank refl
+      where
+        by : (x : Bool) → head.is_left_blank ≡ x → IsPart fs b n l ls
+        by true left = blank_part left
+        by false left = other_part left
