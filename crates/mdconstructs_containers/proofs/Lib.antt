@@ -7,9 +7,14 @@ pub mod FrameLemmas
 pub mod GoingLemmas
 pub mod LetterLemmas
 pub mod LetterPlaces
+pub mod PartGoes
+pub mod PartSpans
+pub mod Pieces
 pub mod PlainLetters
+pub mod PrefixSpans
 pub mod RowFacts
 pub mod RowLemmas
+pub mod SeatFacts
 pub mod SeatLemmas
 pub mod SkeletonChains
 pub mod TightMarks
