@@ -17,5 +17,6 @@ pub mod RowLemmas
 pub mod SeatFacts
 pub mod SeatLemmas
 pub mod SkeletonChains
+pub mod SkeletonReady
 pub mod TightMarks
 pub mod WritingLemmas

@@ -5,7 +5,7 @@ ghost use Rattle.markdown_tokenizer.specs.Text.{Given};
 ghost use Rattle.mdconstructs_containers.specs.Examples.{skeletons_of, given_for, a_few, without_containers, quotes, items, quotes_and_items};
 ghost use Rattle.mdconstructs_containers.specs.Letters.{ArePlainFrom, LettersKeepPlaces, LettersKeepTexts};
 ghost use Rattle.mdconstructs_containers.specs.ListExamples.{lists, read_of};
-ghost use Rattle.mdconstructs_containers.specs.SkeletonLaws.{LazyLettersArePlain, SkeletonsAreVoidTight, SkeletonsHaveChunks};
+ghost use Rattle.mdconstructs_containers.specs.SkeletonLaws.{LazyLettersArePlain, SkeletonsAreFormed, SkeletonsAreReady, SkeletonsAreVoidTight, SkeletonsHaveChunks, SkeletonsHaveTextInGaps};
 
 /// The skeletons of seventy documents: which events there are, and where.
 pub fn skeletons_of_documents()
@@ -38,4 +38,16 @@ pub fn lazy_letters_are_plain()
 pub fn void_spans_of_skeletons_are_empty()
     ensures empty { SkeletonsAreVoidTight }
     ensures chunks { SkeletonsHaveChunks }
+{}
+
+/// The skeleton of a document is well formed: balanced, void spans empty, at places of the document, and in order of these.
+pub fn skeletons_are_well_formed()
+    ensures { SkeletonsAreFormed }
+{}
+
+/// The chains of a document's skeleton can be read: each chunk that is linked to another stands before it, and between the two is text of one
+/// line, from its beginning on, with whole spans over it.
+pub fn chains_of_skeletons_can_be_read()
+    ensures ready { SkeletonsAreReady }
+    ensures gaps { SkeletonsHaveTextInGaps }
 {}

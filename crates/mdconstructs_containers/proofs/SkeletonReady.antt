@@ -1,0 +1,170 @@
+-- The skeleton of a document is well formed, and its chains can be read.
+use Rattle.markdown_base.proofs.Orders.{InOrder, order-pairs}
+use Rattle.std.proofs.Common.{◌≡◌, ℕ, zero, suc, ◌+◌, true, false, List, [], ◌∷◌, refl, sym, ap, ◌∙◌, subst, arith, inr}
+use Rattle.std.specs.Prelude.{Option, None, Some, is_some, slice_get}
+use Rattle.std.specs.List.{AllByRecursion, between}
+use Rattle.std.proofs.lemmas.Bool.{false≢true}
+use Rattle.std.proofs.lemmas.Bool.Decides.{nat_tests}
+use Rattle.std.proofs.lemmas.List.Elements.{All-from_recursion}
+use Rattle.markdown_base.proofs.Common.{every-map}
+use Rattle.markdown_base.specs.declared.event.Content.{Content}
+use Rattle.markdown_base.specs.declared.event.Content.TheVariants as content
+use Rattle.markdown_base.specs.declared.event.Event.{Event}
+use Rattle.markdown_base.specs.declared.event.Name.{Name}
+use Rattle.markdown_base.specs.declared.event.Point.{Point}
+use Rattle.markdown_base.specs.Places.{IsPointOf, IsShown, stands_before}
+use Rattle.markdown_base.specs.Virtual.{Seat, end_after, point, virtual}
+use Rattle.markdown_edits.proofs.Balanced.{balanced_from_open}
+use Rattle.markdown_edits.specs.Links.{content_at, next_of}
+use Rattle.markdown_edits.specs.OpenNames.{names_after, names_after_all}
+use Rattle.markdown_tokenizer.specs.Engine.{IsWellFormed}
+use Rattle.markdown_tokenizer.specs.Text.{Given, IsDocument}
+use Rattle.markdown_children.specs.Chains.{fits, some_fits}
+use Rattle.markdown_children.specs.Ready.{IsGap, IsReadable, IsReady, IsShownPlace, place_at}
+use Rattle.mdconstructs_machines.proofs.BlockReads.Accounts.{lines-are-all}
+use Rattle.mdconstructs_machines.specs.LineEvents.{all_of, lines_in}
+use Rattle.mdconstructs_flow_read.proofs.Marks.Courses.{Place, Track, whole-track}
+use Rattle.mdconstructs_flow_read.proofs.Marks.MarkAccounts.{bare}
+use Rattle.mdconstructs_flow_read.specs.LeafEvents.{Mark}
+use Rattle.mdconstructs_containers.proofs.PartGoes.{all_parts_go}
+use Rattle.mdconstructs_containers.proofs.PartSpans.{Goes}
+use Rattle.mdconstructs_containers.proofs.SeatFacts.{document_lines, lines_end}
+use Rattle.mdconstructs_containers.proofs.SkeletonChains.{IsNext, goes_forward, has_one_content, idle, joined_both, next_in, one_content_of}
+use Rattle.mdconstructs_containers.proofs.TightMarks.{skeletons_are_void_tight, skeletons_have_chunks}
+use Rattle.mdconstructs_containers.specs.Blocks.{document_skeleton}
+use Rattle.mdconstructs_containers.specs.Rows.{rows}
+use Rattle.mdconstructs_containers.specs.Skeleton.{chained_from, parts, parts_marks}
+use Rattle.mdconstructs_containers.specs.SkeletonLaws.{SkeletonsAreFormed, SkeletonsAreReady, SkeletonsHaveTextInGaps}
+
+-- ---- links change no name and no place
+
+names_chained : (o : Option (List Name)) (i : ℕ) (previous : Option ℕ) (ms : List Mark) → names_after_all o (chained_from i previous ms) ≡ names_after_all o (bare ms)
+names_chained None i previous ms = refl
+names_chained (Some st) i previous [] = refl
+names_chained (Some st) i previous ((e, None) ∷ ms) = names_chained (names_after e.kind e.name st) (suc i) previous ms
+names_chained (Some st) i previous ((e, Some chunk) ∷ ms) = names_chained (names_after e.kind e.name st) (suc i) (Some i) ms
+
+order_chained : (p : Point) (i : ℕ) (previous : Option ℕ) (ms : List Mark) (q : Point) → InOrder p (bare ms) q → InOrder p (chained_from i previous ms) q
+order_chained p i previous [] q h = h
+order_chained p i previous ((e, None) ∷ ms) q h = (h.0, order_chained e.point (suc i) previous ms q h.1)
+order_chained p i previous ((e, Some chunk) ∷ ms) q h = (h.0, order_chained e.point (suc i) (Some i) ms q h.1)
+
+places_chained : (P : Point → Type 0) (i : ℕ) (previous : Option ℕ) (ms : List Mark) → AllByRecursion (λ (e : Event). P e.point) (bare ms) → AllByRecursion (λ (e : Event). P e.point) (chained_from i previous ms)
+places_chained P i previous [] h = tt
+places_chained P i previous ((e, None) ∷ ms) h = (h.0, places_chained P (suc i) previous ms h.1)
+places_chained P i previous ((e, Some chunk) ∷ ms) h = (h.0, places_chained P (suc i) (Some i) ms h.1)
+
+-- ---- places by index
+
+place_there : (P : Point → Type 0) (es : List Event) (k : ℕ) (e : Event) → AllByRecursion (λ (x : Event). P x.point) es → slice_get es k ≡ Some e → P (place_at es k)
+place_there P [] zero e h at = absurd (false≢true (ap is_some at))
+place_there P [] (suc k) e h at = absurd (false≢true (ap is_some at))
+place_there P (x ∷ xs) zero e h at = h.0
+place_there P (x ∷ xs) (suc k) e h at = place_there P xs k e h.1 at
+
+next_place : (p : Point) (es : List Event) (q : Point) (k : ℕ) (e : Event) → InOrder p es q → slice_get es (k + 1) ≡ Some e → stands_before (place_at es (k + 1)) (place_at es k) ≡ false
+next_place p [] q zero e h at = absurd (false≢true (ap is_some at))
+next_place p [] q (suc k) e h at = absurd (false≢true (ap is_some (ap (slice_get []) (let one : suc (k + 1) ≡ suc k + 1 = omega arith in one) ∙ at)))
+next_place p (x ∷ []) q zero e h at = absurd (false≢true (ap is_some at))
+next_place p (x ∷ y ∷ xs) q zero e h at = h.1.0
+next_place p (x ∷ xs) q (suc k) e h at =
+    let one : suc k + 1 ≡ suc (k + 1) = omega arith in
+    ap (λ n. stands_before (place_at (x ∷ xs) n) (place_at xs k)) one ∙ next_place x.point xs q k e h.1 (sym (ap (slice_get (x ∷ xs)) one) ∙ at)
+
+some_content : (wanted : Option Content) (o : Option Content) → some_fits wanted o ≡ true → (c : Content) × (o ≡ Some c)
+some_content wanted None h = absurd (false≢true h)
+some_content wanted (Some c) h = (c, refl)
+
+no_behind : (p q : Point) → stands_before p q ≡ true → stands_before q p ≡ false
+no_behind p q h = grind (arith, nat_tests)
+
+-- ---- a document
+
+module _ (g : Given) (is : IsDocument g) where
+  abbrev seats : List Seat
+  seats = virtual g.tab g.bytes
+
+  abbrev marks : List Mark
+  marks = parts_marks g.bytes (parts (rows g.options.constructs (lines_in seats)))
+
+  abbrev es : List Event
+  es = document_skeleton g
+
+  abbrev start : Point
+  start = point 1 1 0 0
+
+  abbrev finish : Point
+  finish = end_after start (all_of (lines_in seats))
+
+  document_goes : Goes g.tab g.bytes [] start marks [] finish
+  document_goes =
+      all_parts_go g.tab g.bytes g.options.constructs (lines_in seats) start (document_lines g.tab g.bytes) (lines_end seats)
+      (subst (Track g.tab g.bytes start) (sym (lines-are-all seats)) (whole-track g.tab g.bytes is.tab.0))
+
+  in_order : InOrder start es finish
+  in_order = order_chained start 0 None marks finish document_goes.order
+
+  places : AllByRecursion (λ (e : Event). Place g.tab g.bytes e.point) es
+  places = places_chained (Place g.tab g.bytes) 0 None marks document_goes.places
+
+  formed : IsWellFormed g es
+  formed = record {
+    balanced = balanced_from_open es (names_chained (Some []) 0 None marks ∙ document_goes.names);
+    void_tight = skeletons_are_void_tight g.options.constructs g.bytes seats;
+    at_places = All-from_recursion (λ (e : Event). IsPointOf g.tab g.bytes e.point) es (every-map (λ (e : Event). Place g.tab g.bytes e.point) (λ (e : Event). IsPointOf g.tab g.bytes e.point) (λ e h. h.is_point) es places);
+    in_order = (
+      order-pairs start es finish in_order,
+      All-from_recursion (λ (e : Event). IsShown g.bytes e.point) es (every-map (λ (e : Event). Place g.tab g.bytes e.point) (λ (e : Event). IsShown g.bytes e.point) (λ e h. h.is_shown) es places),
+    );
+  }
+
+  shown_place : (k : ℕ) (e : Event) → slice_get es k ≡ Some e → IsShownPlace g.tab g.bytes (place_at es k)
+  shown_place k e at = let place = place_there (Place g.tab g.bytes) es k e places at in (place.is_point, place.is_shown)
+
+  next : (k d : ℕ) → next_of es k ≡ Some d → IsNext es 0 k d
+  next = next_in marks document_goes.runs
+
+  readable : (wanted : Option Content) (k : ℕ) → fits wanted es k ≡ true → IsReadable g.tab g.bytes es k
+  readable wanted k h =
+      let (c, at) = some_content wanted (content_at es k) h in
+      let chunk = skeletons_have_chunks g.options.constructs g.bytes seats k c at in
+      let same = one_content_of 0 k c None marks idle document_goes.runs at in
+      record {
+        content = λ flow. other (sym (ap Some same) ∙ sym at ∙ flow);
+        from = shown_place k chunk.enter chunk.enter_at;
+        to = shown_place (k + 1) chunk.exit chunk.exit_at;
+        forward = next_place start es finish k chunk.exit in_order chunk.exit_at;
+      }
+    where
+      other : Some content.Content ≡ Some content.Flow → ⊥
+      other e = cc
+
+  gap : (k d : ℕ) → next_of es k ≡ Some d → IsGap es k d
+  gap k d at =
+      let n = next k d at in
+      record {
+        forward = no_behind (place_at es (k + 1)) (place_at es d) n.further.later;
+        in_line = inr (n.further.begins, n.further.line);
+        balanced = balanced_from_open (between (k + 2) d es) n.balanced;
+        no_link = n.none;
+      }
+
+  ready : (wanted : Option Content) → IsReady g.tab g.bytes wanted es
+  ready wanted = record {
+    balanced = formed.balanced;
+    chunks = skeletons_have_chunks g.options.constructs g.bytes seats;
+    joined = joined_both marks document_goes.runs;
+    forward = goes_forward marks document_goes.runs;
+    one_content = has_one_content marks document_goes.runs;
+    readable = readable wanted;
+    gaps = λ k d fit at. gap k d at;
+  }
+
+pub skeletons_are_formed : SkeletonsAreFormed
+skeletons_are_formed g is = formed g is
+
+pub skeletons_are_ready : SkeletonsAreReady
+skeletons_are_ready g is wanted = ready g is wanted
+
+pub skeletons_have_text_in_gaps : SkeletonsHaveTextInGaps
+skeletons_have_text_in_gaps g is wanted k d fit at = inr (next g is k d at).further.later
