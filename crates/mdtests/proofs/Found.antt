@@ -1,4 +1,5 @@
 -- The invariant of the machine that wraps says nothing of definitions.
+use Rattle.mdconstructs_tables.proofs.Rows.Laws.{of-noted, where-noted}
 use Rattle.mdtests.proofs.Prelude.{ℕ, List, Bool, Option, Some, None, Point, State, Next, Retry, Ok, Nok, Error, Given, Text, Configuration, Choice, StateRows, named, IsStateAt, LineByte, wrap, wrap_rules, Resolver, with_definition}
 
 module _ (refuse : Bool) (g : Given) (text : Text) (k : Configuration Resolver Unit) (choices : List Choice) (label : List ℕ) where
@@ -7,9 +8,9 @@ module _ (refuse : Bool) (g : Given) (text : Text) (k : Configuration Resolver U
   at-state (Some state) where_to h = record {
     base = h.base;
     spans = record { stack = h.spans.stack; began = h.spans.began; void = h.spans.void; below = h.spans.below; needs = h.spans.needs; called = h.spans.called };
-    noted = λ is.
-        let (before, places) = h.noted is in
-        (record { position = before.position; read = before.read; at = record { is = before.at.is; began = before.at.began }; exit_before = before.exit_before; enter_before = before.enter_before }, places);
+    noted = where-noted state.noted (λ is.
+        let (before, places) = of-noted state.noted is h.noted in
+        (record { position = before.position; read = before.read; at = record { is = before.at.is; began = before.at.began }; exit_before = before.exit_before; enter_before = before.enter_before }, places));
     waiting = h.waiting;
   }
 
