@@ -1,12 +1,15 @@
 -- Lemmas on what is known of a line from the lines behind it.
 use Rattle.std.proofs.Common.{◌≡◌, ℕ, zero, suc, ◌<◌, Bool, true, false, cond, List, [], ◌∷◌, length, drop, get_or, refl, sym, ap, ◌∙◌, arith}
-use Rattle.std.specs.Prelude.{not, nat_le}
+use Rattle.std.specs.Prelude.{nat_le, nat_lt, Option, Some, None}
 use Rattle.mdconstructs_containers.specs.declared.ahead.Ahead.{Ahead}
+use Rattle.mdconstructs_lines.specs.Containers.{Prefix, Container, quote, item, Item}
+use Rattle.mdconstructs_containers.specs.declared.frames.Frame.{Frame}
 use Rattle.mdconstructs_containers.specs.declared.spans.RowAt.{RowAt}
-use Rattle.mdconstructs_containers.specs.Rows.{Row, has_none}
-use Rattle.mdconstructs_containers.specs.Skeleton.{further, going_on_at, list_begun, list_at}
+use Rattle.mdconstructs_containers.specs.Rows.{Row}
+use Rattle.mdconstructs_containers.specs.Skeleton.{Frame as Span, further, going_on_at, list_begun, list_at, list_name}
 use Rattle.mdconstructs_containers.specs.Views.{IsRow}
-use Rattle.mdconstructs_containers.specs.Ahead.{AreRows, ahead_of}
+use Rattle.mdconstructs_containers.specs.Ahead.{AreRows, ahead_of, frame_ahead, frame_before, frame_begun}
+use Rattle.mdconstructs_containers.specs.Frames.{frames_in}
 
 pub rows_length : (xs : List RowAt) (all : List Row) → AreRows xs all → length xs ≡ length all
 rows_length [] [] h = refl
@@ -36,23 +39,44 @@ row_at d (x ∷ xs) (r ∷ rs) zero h w = record { row = r; is = h.0; rest = ref
 row_at d (x ∷ xs) (r ∷ rs) (suc i) h w = let more = row_at d xs rs i h.1 (omega arith) in record { row = more.row; is = more.is; rest = more.rest }
 
 pub ahead_left : (r : Row) (more : List Row) (a : Ahead) (f : ℕ) → r.is_left_blank ≡ true → a ≡ ahead_of more → f ≡ cond (nat_le 1 a.further) (suc a.further) 0
-    → record { further = f; many = a.many; has_list = a.has_list } ≡ ahead_of (r ∷ more)
+    → record { further = f; many = a.many; list = a.list } ≡ ahead_of (r ∷ more)
 ahead_left r more a f left ea ef =
-    (λ k. record { further = ef k; many = a.many; has_list = a.has_list })
-    ∙ (λ k. record { further = cond (nat_le 1 (ea k).further) (suc (ea k).further) 0; many = (ea k).many; has_list = (ea k).has_list })
+    (λ k. record { further = ef k; many = a.many; list = a.list })
+    ∙ (λ k. record { further = cond (nat_le 1 (ea k).further) (suc (ea k).further) 0; many = (ea k).many; list = (ea k).list })
     ∙ (λ k. record {
       further = cond (sym left k) (cond (nat_le 1 (further more)) (suc (further more)) 0) (cond r.stays (suc (further more)) 0);
       many = cond (sym left k) (going_on_at more) (length r.went_on);
-      has_list = not (has_none (cond (sym left k) (list_at more) (list_begun r.begun)));
+      list = cond (sym left k) (frame_ahead more) (frame_begun r.begun);
     })
 
-pub ahead_other : (r : Row) (more : List Row) (a : Ahead) (f m : ℕ) (has : Bool) → r.is_left_blank ≡ false → a ≡ ahead_of more → f ≡ cond r.stays (suc a.further) 0 → m ≡ length r.went_on → has ≡ not (has_none (list_begun r.begun))
-    → record { further = f; many = m; has_list = has } ≡ ahead_of (r ∷ more)
-ahead_other r more a f m has left ea ef em eh =
-    (λ k. record { further = ef k; many = em k; has_list = eh k })
-    ∙ (λ k. record { further = cond r.stays (suc (ea k).further) 0; many = length r.went_on; has_list = not (has_none (list_begun r.begun)) })
+pub ahead_other : (r : Row) (more : List Row) (a : Ahead) (f m : ℕ) (list : Option Frame) → r.is_left_blank ≡ false → a ≡ ahead_of more → f ≡ cond r.stays (suc a.further) 0 → m ≡ length r.went_on → list ≡ frame_begun r.begun
+    → record { further = f; many = m; list = list } ≡ ahead_of (r ∷ more)
+ahead_other r more a f m list left ea ef em eh =
+    (λ k. record { further = ef k; many = em k; list = eh k })
+    ∙ (λ k. record { further = cond r.stays (suc (ea k).further) 0; many = length r.went_on; list = frame_begun r.begun })
     ∙ (λ k. record {
       further = cond (sym left k) (cond (nat_le 1 (further more)) (suc (further more)) 0) (cond r.stays (suc (further more)) 0);
       many = cond (sym left k) (going_on_at more) (length r.went_on);
-      has_list = not (has_none (cond (sym left k) (list_at more) (list_begun r.begun)));
+      list = cond (sym left k) (frame_ahead more) (frame_begun r.begun);
     })
+
+-- the list that goes on, as the definition says it
+list_of_item : (i : Item) (b : Bool) → cond b (record { name = list_name i; line = i.list } ∷ []) [] ≡ frames_in (cond b (Some (record { name = list_name i; line = i.list })) None)
+list_of_item i true = refl
+list_of_item i false = refl
+
+list_of_begun : (ps : List Prefix) → list_begun ps ≡ frames_in (frame_begun ps)
+list_of_begun [] = refl
+list_of_begun (p ∷ ps) = by p.container
+  where
+    by : (c : Container) → (elim c as (λ x. List Span) [ quote line ↦ [] | item i ↦ cond (nat_lt i.list i.line) (record { name = list_name i; line = i.list } ∷ []) [] ]) ≡ frames_in (frame_before c)
+    by (quote line) = refl
+    by (item i) = list_of_item i (nat_lt i.list i.line)
+
+pub list_ahead : (rows : List Row) → list_at rows ≡ frames_in (frame_ahead rows)
+list_ahead [] = refl
+list_ahead (row ∷ behind) = by row.is_left_blank (list_ahead behind)
+  where
+    by : (b : Bool) → list_at behind ≡ frames_in (frame_ahead behind) → cond b (list_at behind) (list_begun row.begun) ≡ frames_in (cond b (frame_ahead behind) (frame_begun row.begun))
+    by true e = e
+    by false e = list_of_begun row.begun

@@ -1,29 +1,16 @@
 -- Lemmas on chunks behind marks.
-use Rattle.std.proofs.Common.{◌≡◌, ℕ, zero, suc, ◌+◌, ◌<◌, true, cond, List, [], ◌∷◌, ◌++◌, length, set, get_or, refl, ap, ◌∙◌, arith}
+use Rattle.std.proofs.Common.{◌≡◌, ℕ, zero, suc, ◌+◌, ◌<◌, cond, List, [], ◌∷◌, ◌++◌, length, set, get_or, refl, ap, ◌∙◌, arith}
 use Rattle.std.specs.Prelude.{Option, Some, None}
 use Rattle.markdown_base.specs.declared.event.Event.{Event}
 use Rattle.mdconstructs_flow_read.specs.LeafEvents.{Chunk, Mark}
 use Rattle.mdconstructs_containers.specs.Skeleton.{next_chunk, chained_from}
 use Rattle.mdconstructs_containers.specs.Chunks.{with_next, set_next}
+use Rattle.mdconstructs_containers.specs.Written.{NoChunk, IsWaiting}
 
 pub set_next_at : (es : List Event) (i n : ℕ) (d : Event) → i < length es → set es i (with_next n (get_or es i d)) ≡ set_next i n es
 set_next_at [] i n d h = absurd (omega arith)
 set_next_at (e ∷ es) zero n d h = refl
 set_next_at (e ∷ es) (suc i) n d h = ap (λ (l : List Event). e ∷ l) (set_next_at es i n d (omega arith))
-
--- no mark begins a chunk
-abbrev pub NoChunk : List Mark → Type 0
-NoChunk [] = Unit {0}
-NoChunk ((x, None) ∷ ms) = NoChunk ms
-NoChunk ((x, Some d) ∷ ms) = ⊥
-
--- the last chunk of marks is at this index, and waits for the next
-abbrev pub IsWaiting : List Mark → ℕ → Type 0
-IsWaiting [] j = ⊥
-IsWaiting ((x, None) ∷ ms) zero = ⊥
-IsWaiting ((x, None) ∷ ms) (suc j) = IsWaiting ms j
-IsWaiting ((x, Some d) ∷ ms) zero = (d.has_next ≡ true) × NoChunk ms
-IsWaiting ((x, Some d) ∷ ms) (suc j) = IsWaiting ms j
 
 -- the event of a chunk that is the last one
 abbrev pub last_event : Event → Chunk → Option ℕ → Event

@@ -15,10 +15,11 @@ use Rattle.mdconstructs_containers.proofs.GoingLemmas.{prefix_within, going_fron
 use Rattle.mdconstructs_containers.specs.Prefixes.{going_on, containers_of}
 use Rattle.mdconstructs_containers.specs.Rows.{Before, Row, row_of, known_after, rows, rows_from, nothing_known}
 use Rattle.mdconstructs_containers.specs.Ahead.{AreRows}
+use Rattle.mdconstructs_containers.specs.Spans.{IsPlaced, ArePlaced}
 use Rattle.mdconstructs_containers.specs.Views.{IsRow}
 
 -- the front of a line has no line ending
-filter_front : (xs ys : List Seat) → filter is_no_ending (take (prefix_len is_no_ending xs) xs ++ ys) ≡ take (prefix_len is_no_ending xs) xs ++ filter is_no_ending ys
+pub filter_front : (xs ys : List Seat) → filter is_no_ending (take (prefix_len is_no_ending xs) xs ++ ys) ≡ take (prefix_len is_no_ending xs) xs ++ filter is_no_ending ys
 filter_front [] ys = refl
 filter_front (x ∷ xs) ys = by (is_no_ending x) refl (filter_front xs ys)
   where
@@ -29,7 +30,7 @@ filter_front (x ∷ xs) ys = by (is_no_ending x) refl (filter_front xs ys)
         (λ k. filter is_no_ending (take (on k) (x ∷ xs) ++ ys)) ∙ ap (λ b. cond b (x ∷ filter is_no_ending (take (prefix_len is_no_ending xs) xs ++ ys)) (filter is_no_ending (take (prefix_len is_no_ending xs) xs ++ ys))) e ∙ ap (λ l. x ∷ l) h ∙ (λ k. take (sym on k) (x ∷ xs) ++ filter is_no_ending ys)
     by false e h = refl
 
-ending_is_none : (line column index size : ℕ) → filter is_no_ending (ending_seats line column index size) ≡ []
+pub ending_is_none : (line column index size : ℕ) → filter is_no_ending (ending_seats line column index size) ≡ []
 ending_is_none line column index zero = refl
 ending_is_none line column index (suc k) = refl
 
@@ -157,3 +158,11 @@ end_within bytes start end h e =
     let d : length (drop start bytes) ≡ length bytes - start = length-drop start bytes in
     let w : prefix_len is_in_line (drop start bytes) ≤ length (drop start bytes) = prefix_within is_in_line (drop start bytes) in
     omega arith
+
+-- one line more is placed
+pub placed_push : (t : ℕ) (bytes : List ℕ) (n start : ℕ) (xs ys : List RowAt) (x : RowAt) (mid : ℕ) → ys ≡ xs ++ x ∷ [] → ArePlaced t bytes n start xs mid → IsPlaced t bytes (n + length xs) mid x → ArePlaced t bytes n start ys x.span.next
+placed_push t bytes n start xs ys x mid e w p = subst (λ (l : List RowAt). ArePlaced t bytes n start l x.span.next) (sym e) (by n start xs w p)
+  where
+    by : (n start : ℕ) (xs : List RowAt) → ArePlaced t bytes n start xs mid → IsPlaced t bytes (n + length xs) mid x → ArePlaced t bytes n start (xs ++ x ∷ []) x.span.next
+    by n start [] w p = let same : n + 0 ≡ n = omega arith in (subst (λ (k : ℕ). IsPlaced t bytes n k x) (sym w) (subst (λ (k : ℕ). IsPlaced t bytes k mid x) same p), refl)
+    by n start (y ∷ ys) w p = let same : n + suc (length ys) ≡ suc n + length ys = omega arith in (w.0, by (suc n) y.span.next ys w.1 (subst (λ (k : ℕ). IsPlaced t bytes k mid x) same p))

@@ -27,7 +27,7 @@ prefix_within p (x ∷ xs) = by (p x) (prefix_within p xs)
     by false e = omega arith
 
 -- a byte that is there
-begins_some : (byte : ℕ) (t : List ℕ) → begins_with byte t ≡ true → 1 ≤ length t
+pub begins_some : (byte : ℕ) (t : List ℕ) → begins_with byte t ≡ true → 1 ≤ length t
 begins_some byte [] e = absurd (cc)
 begins_some byte (b ∷ bs) e = omega arith
 

@@ -26,7 +26,7 @@ module _ (t : ℕ) (bytes : List ℕ) where
   place_front p k = let e : 1 + k ≡ suc k = omega arith in place_add t bytes p 1 k ∙ ap (place_after t bytes p) e
 
   -- the place is shown at itself
-  here : (p : Point) (ss : List Seat) → AreSeatsAt t bytes p ss → shown bytes p ≡ p
+  pub here : (p : Point) (ss : List Seat) → AreSeatsAt t bytes p ss → shown bytes p ≡ p
   here p [] h = h
   here p (s ∷ ss) h = h.0
 

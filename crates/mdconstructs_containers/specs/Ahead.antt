@@ -1,9 +1,11 @@
 -- What is known of lines from the lines behind them, as the code keeps it.
-use Rattle.std.specs.Prelude.{not, List, [], ◌∷◌}
+use Rattle.std.specs.Prelude.{nat_lt, cond, List, [], ◌∷◌, Option, Some, None}
+use Rattle.mdconstructs_lines.specs.Containers.{Container, Prefix, quote, item}
 use Rattle.mdconstructs_containers.specs.declared.ahead.Ahead.{Ahead}
+use Rattle.mdconstructs_containers.specs.declared.frames.Frame.{Frame}
 use Rattle.mdconstructs_containers.specs.declared.spans.RowAt.{RowAt}
-use Rattle.mdconstructs_containers.specs.Rows.{Row, has_none}
-use Rattle.mdconstructs_containers.specs.Skeleton.{further, going_on_at, list_at}
+use Rattle.mdconstructs_containers.specs.Rows.{Row}
+use Rattle.mdconstructs_containers.specs.Skeleton.{further, going_on_at, list_name}
 use Rattle.mdconstructs_containers.specs.Views.{IsRow}
 
 -- lines with their containers, one by one
@@ -13,6 +15,20 @@ AreRows [] (r ∷ rs) = ⊥
 AreRows (x ∷ xs) [] = ⊥
 AreRows (x ∷ xs) (r ∷ rs) = IsRow x.span.number x.row r × AreRows xs rs
 
+-- the list of a container that is an item and not the first of it
+abbrev pub frame_before : Container → Option Frame
+frame_before (quote line) = None
+frame_before (item i) = cond (nat_lt i.list i.line) (Some (record { name = list_name i; line = i.list })) None
+
+abbrev pub frame_begun : List Prefix → Option Frame
+frame_begun [] = None
+frame_begun (p ∷ ps) = frame_before p.container
+
+-- the list that goes on at the next line that is not left blank, if one does in which no item is open (`list_at`)
+abbrev pub frame_ahead : List Row → Option Frame
+frame_ahead [] = None
+frame_ahead (row ∷ behind) = cond row.is_left_blank (frame_ahead behind) (frame_begun row.begun)
+
 -- what these lines tell of the line before them
 abbrev pub ahead_of : List Row → Ahead
-ahead_of behind = record { further = further behind; many = going_on_at behind; has_list = not (has_none (list_at behind)) }
+ahead_of behind = record { further = further behind; many = going_on_at behind; list = frame_ahead behind }

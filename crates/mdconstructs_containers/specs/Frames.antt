@@ -1,5 +1,5 @@
 -- Spans of containers that are open, as the code keeps them.
-use Rattle.std.specs.Prelude.{ℕ, nat_le, cond, List, map, reverse}
+use Rattle.std.specs.Prelude.{ℕ, nat_le, cond, List, [], ◌∷◌, Option, Some, None, map, reverse}
 use Rattle.markdown_base.specs.declared.event.Event.{Event}
 use Rattle.markdown_base.specs.declared.event.Kind.TheVariants.{Exit}
 use Rattle.markdown_base.specs.declared.event.Name.{Name}
@@ -20,3 +20,8 @@ list_name_of digits = cond (nat_le 1 digits) name.ListOrdered name.ListUnordered
 -- spans end at a place, the innermost first
 abbrev pub exits_at : Point → List Frame → List Event
 exits_at place frames = map (λ f. event_at Exit f.name place) (reverse frames)
+
+-- the span of a list that goes on, if one does
+abbrev pub frames_in : Option Frame → List skeleton.Frame
+frames_in None = []
+frames_in (Some f) = frame_of f ∷ []

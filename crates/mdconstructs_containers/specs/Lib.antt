@@ -6,10 +6,15 @@ pub mod Frames
 pub mod Letters
 pub mod ListExamples
 pub mod Lists
+pub mod Parts
 pub mod PlaceEvents
 pub mod Prefixes
+pub mod Rest
 pub mod Rows
 pub mod SeatPlaces
 pub mod Skeleton
 pub mod SkeletonLaws
+pub mod Spans
+pub mod Stretches
 pub mod Views
+pub mod Written

@@ -1,14 +1,16 @@
 //! What is known of a line from the lines behind it.
 
-ghost use Rattle.std.specs.Prelude.{◌≡◌, ◌≤◌, ◌<◌, ◌+◌, ◌-◌, ◌^◌, ℕ, List, ◌∷◌, suc, cond, not, IfOk, length, drop, slice_index_or};
-ghost use Rattle.mdconstructs_containers.specs.Rows.{Row as RowOf, has_none};
-ghost use Rattle.mdconstructs_containers.specs.Skeleton.{list_begun};
-ghost use Rattle.mdconstructs_containers.specs.Ahead.{AreRows, ahead_of};
+ghost use Rattle.std.specs.Prelude.{◌≡◌, ◌≤◌, ◌<◌, ◌+◌, ◌-◌, ◌^◌, ℕ, List, ◌∷◌, suc, cond, IfOk, length, drop, slice_index_or};
+ghost use Rattle.mdconstructs_lines.specs.Views.{container_of};
+ghost use Rattle.mdconstructs_containers.specs.Rows.{Row as RowOf};
+ghost use Rattle.mdconstructs_containers.specs.Ahead.{AreRows, ahead_of, frame_before, frame_begun};
 ghost use Rattle.mdconstructs_containers.specs.Views.{IsRow};
 ghost use Rattle.mdconstructs_containers.specs.declared.ahead.Ahead.{Ahead};
 
+use crate::frames::{Frame, list_name};
 use crate::rows::Row;
 use crate::spans::RowAt;
+use mdconstructs_lines::containers::Container;
 use std::alloc::{AllocError, Global};
 
 /// What is known of a line from those behind it.
@@ -18,17 +20,31 @@ pub struct Ahead {
     pub further: usize,
     /// How many containers go on at the first that is not left blank.
     pub many: usize,
-    /// At that line a list goes on in which no item is open.
-    pub has_list: bool,
+    /// The list that goes on at that line, if one does in which no item is open.
+    pub list: Option<Frame>,
 }
 
-/// Whether the first container that begins in a line goes on with a list.
-pub fn goes_on_with_list(row: &Row) -> bool
-    ensures { (number : ℕ) → (r : RowOf) → IsRow number row.now r → result ≡ not (has_none (list_begun r.begun)) }
+/// The list with which the first container that begins in a line goes on, if there is one.
+pub(crate) fn list_before(row: &Row) -> Option<Frame>
+    ensures { (number : ℕ) → (r : RowOf) → IsRow number row.now r → result ≡ frame_begun r.begun }
 {
     match row.begun.as_slice() {
-        [first, ..] => !first.container.is_quote && row.list < first.container.line,
-        [] => false,
+        [first, ..] => list_of(&first.container, row.list),
+        [] => None,
+    }
+}
+
+/// The list that a line began, if a container is an item and began in a later one.
+fn list_of(c: &Container, list: usize) -> Option<Frame>
+    ensures { result ≡ frame_before (container_of list c.now) }
+{
+    if !c.is_quote && list < c.line {
+        Some(Frame {
+            name: list_name(c),
+            line: list,
+        })
+    } else {
+        None
     }
 }
 
@@ -52,15 +68,15 @@ fn ahead_with(row: &Row, behind: Ahead) -> Ahead
         return Ahead {
             further: across,
             many: behind.many,
-            has_list: behind.has_list,
+            list: behind.list,
         };
     }
     let further = further_if(row.stays, behind.further);
-    let has_list = goes_on_with_list(row);
+    let list = list_before(row);
     Ahead {
         further,
         many: row.many,
-        has_list,
+        list,
     }
 }
 
@@ -73,7 +89,7 @@ pub fn aheads_of(alloc: Global, rows: &[RowAt]) -> Result<Vec<Ahead>, AllocError
     let mut ahead = Ahead {
         further: 0,
         many: 0,
-        has_list: false,
+        list: None,
     };
     for n in 0..rows.len() {
         aheads.push(ahead)?;

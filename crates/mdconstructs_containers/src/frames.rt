@@ -1,12 +1,17 @@
 //! Spans of containers that are open.
 
-ghost use Rattle.std.specs.Prelude.{◌≡◌, ◌≤◌, ◌++◌, IfOk, length, take, drop};
-ghost use Rattle.mdconstructs_containers.specs.Frames.{exits_at, list_name_of};
+ghost use Rattle.std.specs.Prelude.{◌≡◌, ◌≤◌, ◌++◌, ◌==◌, ◌&&◌, [], ◌∷◌, IfOk, length, take, drop, map};
+ghost use Rattle.std.specs.List.{flat_map};
+ghost use Rattle.markdown_base.specs.Events.{same_name};
+ghost use Rattle.mdconstructs_containers.specs.Frames.{exits_at, frame_of, frames_in, list_name_of};
+ghost use Rattle.mdconstructs_containers.specs.Skeleton.{frames_of, shared};
+ghost use Rattle.mdconstructs_containers.specs.Views.{open_of};
 
+use crate::going::Open;
 use crate::writing::exit;
 use markdown_base::event::{Event, Name, Point};
 use mdconstructs_lines::containers::Container;
-use std::alloc::AllocError;
+use std::alloc::{AllocError, Global};
 
 /// A span that is open: a quote, a list or an item.
 #[derive(Clone, Copy)]
@@ -46,4 +51,68 @@ pub fn exit_frames(
         exit(events, frame.name, place)?;
     }
     Ok(())
+}
+
+/// The spans of a container: a quote, or an item in its list.
+fn push_frames_of(frames: &mut Vec<Frame>, entry: &Open) -> Result<(), AllocError>
+    ensures { IfOk result (λ _. map frame_of frames.new.items ≡ map frame_of frames.old.items ++ frames_of (open_of entry.now)) }
+{
+    let c = &entry.container;
+    if c.is_quote {
+        return push_frame(frames, Name::BlockQuote, c.line);
+    }
+    push_frame(frames, list_name(c), entry.list)?;
+    push_frame(frames, Name::ListItem, c.line)
+}
+
+fn push_frame(frames: &mut Vec<Frame>, name: Name, line: usize) -> Result<(), AllocError>
+    ensures { IfOk result (λ _. frames.new.items ≡ frames.old.items ++ record { name = name; line = line } ∷ []) }
+{
+    frames.push(Frame { name, line })?;
+    Ok(())
+}
+
+/// The spans of containers, from the outermost on.
+fn push_frames(frames: &mut Vec<Frame>, stack: &[Open]) -> Result<(), AllocError>
+    ensures { IfOk result (λ _. map frame_of frames.new.items ≡ map frame_of frames.old.items ++ flat_map frames_of (map open_of stack.now)) }
+{
+    for entry in stack {
+        push_frames_of(frames, entry)?;
+    }
+    Ok(())
+}
+
+/// The spans of containers, and of a list that goes on behind them, if there is one.
+pub(crate) fn frames_with(
+    alloc: Global,
+    stack: &[Open],
+    list: Option<Frame>,
+) -> Result<Vec<Frame>, AllocError>
+    ensures { IfOk result (λ frames. map frame_of frames.items ≡ flat_map frames_of (map open_of stack.now) ++ frames_in list) }
+{
+    let mut frames = Vec::new(alloc);
+    push_frames(&mut frames, stack)?;
+    if let Some(frame) = list {
+        frames.push(frame)?;
+    }
+    Ok(frames)
+}
+
+/// Two spans are the same: they have one name, and begin in one line.
+fn is_same(f: Frame, g: Frame) -> bool
+    ensures { result ≡ (same_name f.name g.name && (f.line == g.line)) }
+{
+    f.name == g.name && f.line == g.line
+}
+
+/// How many spans two lines share, from the outermost on.
+pub(crate) fn shared(fs: &[Frame], gs: &[Frame]) -> usize
+    ensures value { result ≡ shared (map frame_of fs.now) (map frame_of gs.now) }
+    ensures few { result ≤ length fs.now }
+{
+    let mut n = 0;
+    while n < fs.len() && n < gs.len() && is_same(fs[n], gs[n]) {
+        n += 1;
+    }
+    n
 }

@@ -33,7 +33,7 @@ pub struct Going {
 }
 
 /// The columns of the prefix with which an open container goes on with a line's rest, if it does. `columns` of white space come first.
-fn goes_on_open(entry: &Open, number: usize, t: &[u8], columns: usize) -> Option<usize>
+pub(crate) fn goes_on_open(entry: &Open, number: usize, t: &[u8], columns: usize) -> Option<usize>
     requires columns { columns ≡ indent t.now }
     requires within { columns ≤ length t.now }
     ensures value { result ≡ goes_on (open_of entry.now) number t.now }

@@ -6,6 +6,7 @@ ghost use Rattle.mdconstructs_machines.specs.LineEvents.{lines_in};
 ghost use Rattle.mdconstructs_lines.specs.Lines.{line_at, line_length};
 ghost use Rattle.mdconstructs_containers.specs.Ahead.{AreRows};
 ghost use Rattle.mdconstructs_containers.specs.Rows.{row_of, known_after, rows};
+ghost use Rattle.mdconstructs_containers.specs.Spans.{IsPlaced, ArePlaced};
 ghost use Rattle.mdconstructs_containers.specs.Views.{before_of, IsRow};
 
 use crate::rows::Before;
@@ -29,6 +30,7 @@ fn next_row(
     requires inside { start < length bytes.now }
     requires depth { before.old.depth ≤ length before.old.stack.items }
     ensures number { IfOk result (λ at. at.span.number ≡ number) }
+    ensures placed { IfOk result (λ at. IsPlaced tab bytes.now number start at) }
     ensures row { IfOk result (λ at. IsRow number at.row (row_of on.now (before_of before.old) number (line_at tab number start (drop start bytes.now)))) }
     ensures before { IfOk result (λ _. before_of before.new ≡ known_after on.now (before_of before.old) (row_of on.now (before_of before.old) number (line_at tab number start (drop start bytes.now)))) }
     ensures next { IfOk result (λ at. at.span.next ≡ start + line_length (drop start bytes.now)) }
@@ -57,7 +59,8 @@ pub fn rows_of(
     tab: TabSize,
     on: &Constructs,
 ) -> Result<Vec<RowAt>, AllocError>
-    ensures { IfOk result (λ found. AreRows found.items (rows on.now (lines_in (virtual tab bytes.now)))) }
+    ensures rows { IfOk result (λ found. AreRows found.items (rows on.now (lines_in (virtual tab bytes.now)))) }
+    ensures placed { IfOk result (λ found. ArePlaced tab bytes.now 1 0 found.items (length bytes.now)) }
 {
     let tab_size = tab.get();
     prove!(tab_size >= 1);

@@ -246,7 +246,7 @@ impl Before {
 }
 
 /// Containers that begin are open: the first stands in this list, the others in lists that begin with them.
-fn open_all(
+pub(crate) fn open_all(
     stack: &mut Vec<Open>,
     list: usize,
     number: usize,

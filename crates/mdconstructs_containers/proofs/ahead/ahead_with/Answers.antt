@@ -7,5 +7,5 @@ returns-then-row-clause-value c = λ number r more is same. ahead_left r more c.
 
 pub returns-clause-value : goal.returns-clause-value
 returns-clause-value c = λ number r more is same.
-    ahead_other r more c.args.behind c.further_if-further.result c.args.row.now.many c.goes_on_with_list-has_list.result (sym is.is_left_blank ∙ c.if-row.false) same
-    (c.further_if-further.ensures.value ∙ (λ k. cond (is.stays k) (suc c.args.behind.further) 0)) is.many (c.goes_on_with_list-has_list.ensures number r is)
+    ahead_other r more c.args.behind c.further_if-further.result c.args.row.now.many c.list_before-list.result (sym is.is_left_blank ∙ c.if-row.false) same
+    (c.further_if-further.ensures.value ∙ (λ k. cond (is.stays k) (suc c.args.behind.further) 0)) is.many (c.list_before-list.ensures number r is)

@@ -1,4 +1,4 @@
-use Rattle.std.proofs.Common.{◌≡◌, drop, length, sym, refl, ◌∙◌, arith, ◌≤◌}
+use Rattle.std.proofs.Common.{◌≡◌, ℕ, List, ap, drop, length, sym, refl, ◌∙◌, arith, ◌≤◌}
 use Rattle.std.proofs.lemmas.List.{length-map}
 use Rattle.mdconstructs_flow_read.specs.LeafBlocks.{text_of}
 use Rattle.mdconstructs_lines.specs.Lines.{line_at}
@@ -19,8 +19,18 @@ returns c =
     let is : IsRow c.args.number c.in_ok-row.row r = c.in_ok-row.ensures.row line text in
     let next = next_is c.args.bytes.now c.args.start c.in_ok-end.end c.behind_ending-next.result c.in_ok-end.ensures.end c.behind_ending-next.ensures.value in
     let few : c.in_ok-row.row.many ≤ length c.args.before.now.stack.items = omega (arith, went_few c.args.on.now b c.args.number line c.in_ok-row.row.many is.many, length-map c.args.before.now.stack.items open_of) in
+    let size : c.len.result ≡ length c.read_line.new.line.items = omega (arith, c.len.ensures, c.read_line.new.line.ok) in
     record {
       number = refl;
+      placed = record {
+        number_is = refl;
+        start_is = refl;
+        inside = c.requires.inside;
+        end_is = c.in_ok-end.ensures.end;
+        next_is = c.behind_ending-next.ensures.value;
+        size_is = size ∙ ap (λ (l : List ℕ). length l) (c.in_ok-end.ensures.seats c.args.number);
+        columns = omega (arith, c.in_ok-row.ensures.within, size, ap (λ (l : List ℕ). length l) c.as_slice.ensures.value);
+      };
       row = is;
       before = c.in_ok-go_behind.ensures.known c.args.on.now r is (went_front c.args.on.now b c.args.number line c.in_ok-row.row.many is.many);
       next = next;

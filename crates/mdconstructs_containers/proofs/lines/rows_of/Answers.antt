@@ -1,10 +1,12 @@
-use Rattle.std.proofs.Common.{◌≡◌, ◌<◌, ℕ, length, drop, map, ap, subst, ◌+◌, ◌∙◌, suc, arith, length-drop}
+use Rattle.std.proofs.Common.{◌≡◌, ◌<◌, ℕ, List, length, drop, map, refl, sym, ap, subst, ◌+◌, ◌∙◌, suc, arith, length-drop}
 use Rattle.std.proofs.lemmas.List.{drop_all, length_push}
 use Rattle.markdown_base.specs.Virtual.{virtual}
 use Rattle.mdconstructs_machines.specs.LineEvents.{lines_in}
 use Rattle.mdconstructs_containers.specs.Rows.{nothing_known, rows}
+use Rattle.mdconstructs_containers.specs.declared.spans.RowAt.{RowAt}
+use Rattle.mdconstructs_containers.specs.Spans.{IsPlaced, ArePlaced}
 use Rattle.mdconstructs_containers.specs.Views.{before_of, open_of}
-use Rattle.mdconstructs_containers.proofs.DocumentRows.{AreRowsBefore, rows_left, rows_init, rows_more, rows_all}
+use Rattle.mdconstructs_containers.proofs.DocumentRows.{AreRowsBefore, rows_left, placed_push, rows_init, rows_more, rows_all}
 use Rattle.mdconstructs_containers.proofs.lines.rows_of.Goals as goal
 
 pub loop-start-init : goal.loop-start-init
@@ -15,6 +17,7 @@ loop-start-init c =
     record {
       within = omega arith;
       depth = omega (arith, e.depth);
+      placed = subst (λ (l : List RowAt). ArePlaced c.args.tab c.args.bytes.now 1 0 l 0) (sym c.new-found.ensures.items) refl;
       found = rows_init c.args.on.now c.args.tab c.args.bytes.now c.new-found.result.items (before_of c.new-before.result) (length c.new-found.result.items + 1) c.new-found.ensures.items none first;
     }
 
@@ -27,10 +30,13 @@ loop-start-preserved c =
     let number : length xs + 1 ≡ c.len-number.result + 1 = omega (arith, c.len-number.ensures, c.loop-start.found.ok) in
     let left : 0 < length (drop c.loop-start.start c.args.bytes.now) = omega (arith, length-drop c.loop-start.start c.args.bytes.now) in
     let further : length c.push.new.self.items + 1 ≡ suc (c.len-number.result + 1) = omega (arith, ap length c.in_ok-push.ensures.items, length_push xs c.in_ok-at.at, number) in
+    let one : c.len-number.result + 1 ≡ 1 + length xs = omega (arith, number) in
     let so_far = subst (λ (n : ℕ). AreRowsBefore xs (rows_left c.args.on.now c.args.tab c.args.bytes.now (before_of c.loop-start.before) n c.loop-start.start) all) number i.found in
     record {
       within = c.in_ok-at.ensures.within;
       depth = c.in_ok-at.ensures.depth;
+      placed = placed_push c.args.tab c.args.bytes.now 1 0 xs c.push.new.self.items c.in_ok-at.at c.loop-start.start c.in_ok-push.ensures.items i.placed
+          (subst (λ (n : ℕ). IsPlaced c.args.tab c.args.bytes.now n c.loop-start.start c.in_ok-at.at) one c.in_ok-at.ensures.placed);
       found = rows_more c.args.on.now c.args.tab c.args.bytes.now some xs c.push.new.self.items c.in_ok-at.at (before_of c.loop-start.before) (before_of c.next_row.new.before) (c.len-number.result + 1) (length c.push.new.self.items + 1)
           c.loop-start.start c.in_ok-at.at.span.next all c.in_ok-push.ensures.items left c.in_ok-at.ensures.next c.in_ok-at.ensures.number further c.in_ok-at.ensures.row c.in_ok-at.ensures.before so_far;
     }
@@ -38,5 +44,9 @@ loop-start-preserved c =
 pub returns : goal.returns
 returns c =
     let none = drop_all c.loop-start.start c.args.bytes.now (omega arith) in
-    rows_all c.args.on.now c.args.tab c.args.bytes.now c.loop-start.found.items (before_of c.loop-start.before) (length c.loop-start.found.items + 1) c.loop-start.start (rows c.args.on.now (lines_in (virtual c.args.tab c.args.bytes.now)))
-    none c.loop-start.invariant.found
+    let all : c.loop-start.start ≡ length c.args.bytes.now = omega (arith, c.loop-start.invariant.within) in
+    record {
+      rows = rows_all c.args.on.now c.args.tab c.args.bytes.now c.loop-start.found.items (before_of c.loop-start.before) (length c.loop-start.found.items + 1) c.loop-start.start (rows c.args.on.now (lines_in (virtual c.args.tab c.args.bytes.now)))
+          none c.loop-start.invariant.found;
+      placed = subst (ArePlaced c.args.tab c.args.bytes.now 1 0 c.loop-start.found.items) all c.loop-start.invariant.placed;
+    }

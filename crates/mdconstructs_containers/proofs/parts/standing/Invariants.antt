@@ -1,0 +1,14 @@
+use Rattle.std.proofs.Common.{◌≡◌, ◌≤◌, length, take, map}
+use Rattle.std.specs.Prelude.{reverse}
+use Rattle.mdconstructs_containers.specs.Skeleton.{left_in}
+use Rattle.mdconstructs_containers.specs.Views.{open_of}
+use Rattle.mdconstructs_containers.proofs.parts.standing.Given as goal
+
+abbrev pub invariant-loop-n : goal.invariant-loop-n
+invariant-loop-n l = record {
+  within : l.n ≤ length l.stack;
+  same : left_in l.many l.number (reverse (map open_of l.stack)) ≡ left_in l.many l.number (reverse (map open_of (take l.n l.stack)));
+}
+
+abbrev pub decreases-loop-n : goal.decreases-loop-n
+decreases-loop-n l = l.n

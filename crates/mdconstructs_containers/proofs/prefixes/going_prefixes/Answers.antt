@@ -1,0 +1,41 @@
+use Rattle.std.proofs.Common.{◌≡◌, ◌<◌, ◌≤◌, ◌+◌, List, length, ap, drop, arith, ◌∙◌}
+use Rattle.markdown_base.specs.Virtual.{Seat}
+use Rattle.mdconstructs_machines.specs.Breaks.{is_white}
+use Rattle.mdconstructs_flow_read.specs.LineKinds.{indent}
+use Rattle.mdconstructs_lines.specs.Containers.{Prefix}
+use Rattle.mdconstructs_lines.specs.Lines.{place_after}
+use Rattle.mdconstructs_containers.specs.Prefixes.{columns_of}
+use Rattle.mdconstructs_containers.proofs.GoingLemmas.{prefix_within, going_columns, going_end}
+use Rattle.mdconstructs_containers.proofs.PrefixLemmas.{quote_fits, going_written, going_none}
+use Rattle.mdconstructs_containers.proofs.WritingLemmas.{columns_behind, place_chain}
+use Rattle.mdconstructs_containers.proofs.prefixes.going_prefixes.Goals as goal
+
+pub loop-entry-preserved : goal.loop-entry-preserved
+loop-entry-preserved c =
+    let i = c.loop-entry.invariant in
+    let stack = c.args.stack.now in
+    let h : c.loop-entry.entry-index < length stack = omega arith in
+    record {
+      marks = λ seats are is.
+          going_written c.args.tab c.args.bytes.now c.args.start c.args.t.now seats are is stack c.args.number c.loop-entry.entry-index c.loop-entry.at c.in-Some.size _ c.behind-rest.result.now c.front-part.result.now c.loop-entry.place
+          c.loop-entry.events.items c.going_prefix.new.events.items _ h c.behind-rest.ensures.value c.in-Some.ensures.value c.front-part.ensures.value i.place i.within
+          (λ ss s b. c.in_ok-place.ensures.marks _ ss s b) (i.marks seats are is);
+      columns = let m = going_columns stack c.args.number c.args.t.now c.behind-rest.result.now c.loop-entry.entry-index c.loop-entry.at _ h c.behind-rest.ensures.value c.in-Some.size c.in-Some.ensures.value in omega (arith, i.columns, m);
+      within = omega (arith, c.in-Some.ensures.within, c.behind-rest.ensures.len, i.within);
+      first = c.first_from-first.ensures.value;
+      place = place_chain c.args.tab c.args.bytes.now c.args.start c.loop-entry.place c.in_ok-place.place c.loop-entry.at c.in-Some.size i.place (c.in_ok-place.ensures.place ∙ ap (place_after c.args.tab c.args.bytes.now c.loop-entry.place) c.front-part.ensures.len);
+    }
+
+pub goes_on_open-requires-clause-within : goal.goes_on_open-requires-clause-within
+goes_on_open-requires-clause-within c =
+    let w : indent (drop c.loop-entry.at c.args.t.now) ≤ length (drop c.loop-entry.at c.args.t.now) = prefix_within is_white (drop c.loop-entry.at c.args.t.now) in
+    let l : length c.behind-rest.result.now ≡ length (drop c.loop-entry.at c.args.t.now) = ap length c.behind-rest.ensures.value in
+    omega (arith, c.loop-entry.invariant.first)
+
+pub going_prefix-requires : goal.going_prefix-requires
+going_prefix-requires c =
+    let i = c.loop-entry.invariant in
+    record {
+      columns = columns_behind c.args.tab c.args.bytes.now c.args.start c.loop-entry.place (length c.args.t.now) c.loop-entry.at (length c.front-part.result.now) i.place c.requires.columns (omega (arith, c.front-part.ensures.len, c.in-Some.ensures.within, c.behind-rest.ensures.len, i.within));
+      marker = quote_fits _ c.args.number _ c.behind-rest.result.now c.front-part.result.now c.in-Some.size c.in-Some.ensures.value c.front-part.ensures.value;
+    }

@@ -1,0 +1,11 @@
+use Rattle.std.proofs.Common.{◌≡◌, ◌++◌, drop}
+use Rattle.std.specs.List.{flat_map}
+use Rattle.mdconstructs_containers.specs.Letters.{lazy_underline}
+use Rattle.mdconstructs_containers.proofs.LazyLemmas.{HasLeft}
+use Rattle.mdconstructs_containers.proofs.skeleton.letters_of.Given as goal
+
+abbrev pub invariant-loop-at : goal.invariant-loop-at
+invariant-loop-at g l = record {
+  left : HasLeft l.tab l.bytes (drop l.at-index l.rows) (drop l.at-index g.all);
+  letters : l.letters.items ++ flat_map (lazy_underline l.on) (drop l.at-index g.all) ≡ flat_map (lazy_underline l.on) g.all;
+}

@@ -1,0 +1,138 @@
+use Rattle.std.proofs.Common.{◌≡◌, ◌⊎◌, inl, inr, ℕ, ◌+◌, ◌-◌, ◌<◌, ◌≤◌, ◌^◌, ◌*◌, Bool, true, false, cond, List, [], ◌∷◌, ◌++◌, length, take, drop, map, min, length-take, refl, sym, ap, ◌∙◌, subst, arith}
+use Rattle.std.specs.Prelude.{◌==◌, ◌&&◌, not, Some, None}
+use Rattle.std.specs.List.{flat_map}
+use Rattle.markdown_base.specs.declared.event.Event.{Event}
+use Rattle.markdown_base.specs.Virtual.{point}
+use Rattle.mdconstructs_flow_read.specs.LeafEvents.{Mark}
+use Rattle.mdconstructs_lines.specs.Containers.{Container}
+use Rattle.mdconstructs_containers.specs.declared.frames.Frame.{Frame}
+use Rattle.mdconstructs_containers.specs.declared.going.Open.{Open}
+use Rattle.mdconstructs_containers.specs.declared.spans.RowAt.{RowAt}
+use Rattle.mdconstructs_containers.specs.Ahead.{ahead_of}
+use Rattle.mdconstructs_containers.specs.Frames.{frame_of, frames_in}
+use Rattle.mdconstructs_containers.specs.Parts.{open_behind}
+use Rattle.mdconstructs_containers.specs.Rest.{AreLeft, ending_to, exits_to, rest_marks}
+use Rattle.mdconstructs_containers.specs.Rows.{Row, holds_ending}
+use Rattle.mdconstructs_containers.specs.SeatPlaces.{events_of}
+use Rattle.mdconstructs_containers.specs.Skeleton.{behind_marks, frames_at, frames_of, further, inside_of, is_held, parts, shared}
+use Rattle.mdconstructs_containers.specs.Stretches.{HasFurther, InStretch, end_at, last_at}
+use Rattle.mdconstructs_containers.specs.Views.{leaf_of, open_of}
+use Rattle.mdconstructs_containers.specs.Written.{Written}
+use Rattle.mdconstructs_containers.proofs.PartFacts.{lines_few, the_columns, the_fits, the_going, the_inside, the_lazy, the_left, the_row, the_sum, the_went}
+use Rattle.mdconstructs_containers.proofs.PartWritten.{begin_small, blank_columns, ends_is, few_of, frames_is, further_left, going_of, last_number, last_size, left_behind, own_of, rest_is, stretch_begins, write_begin, write_blank}
+use Rattle.mdconstructs_containers.proofs.RestLemmas.{part_of}
+use Rattle.mdconstructs_containers.proofs.skeleton.write_part.Goals as goal
+
+by_blank : {P : Type 0} (b : Bool) → (b ≡ true → P) → (b ≡ false → P) → P
+by_blank true f g = f refl
+by_blank false f g = g refl
+
+pub begin_part-requires : goal.begin_part-requires
+begin_part-requires c =
+    let some : 0 < c.args.tab = omega (arith, c.get-tab_size.ensures.least, c.get-tab_size.ensures.columns) in
+    let stack = map open_of c.args.stack.now.items in
+    let p = c.requires.part in
+    record {
+      inside = the_inside c.args.tab c.args.bytes.now some c.requires.limit stack c.args.first.now c.args.behind.now p.row p.rows p.left;
+      columns = the_columns c.args.tab c.args.bytes.now some c.requires.limit stack c.args.first.now c.args.behind.now p.row p.rows p.left;
+      going = the_going c.args.tab c.args.bytes.now some c.requires.limit stack c.args.first.now c.args.behind.now p.row p.rows p.left;
+      fits = the_fits c.args.tab c.args.bytes.now some c.requires.limit stack c.args.first.now c.args.behind.now p.row p.rows p.left;
+      sum = the_sum c.args.tab c.args.bytes.now some c.requires.limit stack c.args.first.now c.args.behind.now p.row p.rows p.left;
+    }
+
+pub slice_bounds-more-end : goal.slice_bounds-more-end
+slice_bounds-more-end c =
+    let some : 0 < c.args.tab = omega (arith, c.get-tab_size.ensures.least, c.get-tab_size.ensures.columns) in
+    let p = c.requires.part in
+    let few = lines_few c.args.tab c.args.bytes.now some c.requires.limit (map open_of c.args.stack.now.items) c.args.first.now c.args.behind.now p.row p.rows p.left c.args.ahead p.ahead_is in
+    omega (arith, few, c.lines_of-lines.ensures, length-take c.lines_of-lines.result c.args.behind.now)
+
+pub end_of_part-end-requires : goal.end_of_part-end-requires
+end_of_part-end-requires c =
+    let some : 0 < c.args.tab = omega (arith, c.get-tab_size.ensures.least, c.get-tab_size.ensures.columns) in
+    let p = c.requires.part in
+    let first = c.args.first.now in
+    let behind = c.args.behind.now in
+    record {
+      size = subst (λ (n : ℕ). (last_at first (take n behind)).span.size + 1 < 2 ^ 64) (sym c.lines_of-lines.ensures) (last_size c.args.tab c.args.bytes.now some c.requires.limit (map open_of c.args.stack.now.items) first behind p.row p.rows p.left c.args.ahead p.ahead_is);
+      number = subst (λ (n : ℕ). (last_at first (take n behind)).span.number + 1 < 2 ^ 64) (sym c.lines_of-lines.ensures) (last_number c.args.tab c.args.bytes.now some c.requires.limit (map open_of c.args.stack.now.items) first behind p.row p.rows p.left c.args.ahead p.ahead_is);
+    }
+
+pub fill_part-requires : goal.fill_part-requires
+fill_part-requires c =
+    let t = c.args.tab in
+    let bytes = c.args.bytes.now in
+    let some : 0 < c.args.tab = omega (arith, c.get-tab_size.ensures.least, c.get-tab_size.ensures.columns) in
+    let stack = map open_of c.args.stack.now.items in
+    let p = c.requires.part in
+    let first = c.args.first.now in
+    let behind = c.args.behind.now in
+    let the = the_row t bytes some c.requires.limit stack first behind p.row p.rows p.left in
+    let went = the_went t bytes some c.requires.limit stack first behind p.row p.rows p.left in
+    let own_all = c.in_ok-all.ensures.many p.row the went (the_left t bytes some c.requires.limit stack first behind p.row p.rows p.left) (the_lazy t bytes some c.requires.limit stack first behind p.row p.rows p.left) in
+    let own_is = own_of c.open_in.new.stack.items c.first_of-own.result.now c.as_slice.result.now c.in_ok-all.all c.first_of-own.ensures c.as_slice.ensures.value in
+    let going_is = going_of c.first_of-own.result.now c.first_of-going.result.now c.least.result (min c.standing-stands.result first.row.many) c.first_of-going.ensures c.least.ensures in
+    let stack_is = ap (map open_of) c.as_slice-3.ensures.value ∙ c.in_ok-all.ensures.stack p.row the went in
+    record {
+      limit = c.requires.limit;
+      within = λ b. begin_small t bytes some c.requires.limit stack first behind p.row p.rows p.left c.args.ahead p.ahead_is (map open_of c.open_in.new.stack.items) (map open_of c.first_of-own.result.now) c.in_ok-all.all c.standing-stands.result own_is own_all
+          c.standing-stands.ensures.value (few_of c.first_of-own.result.now c.standing-stands.result c.standing-stands.ensures.few) (map open_of c.first_of-going.result.now) going_is c.in_ok-begin.begin c.in_ok-begin.ensures.columns c.in_ok-begin.ensures.place;
+      columns = λ b. blank_columns t bytes some c.requires.limit stack first behind p.row p.rows p.left c.args.ahead p.ahead_is (map open_of c.open_in.new.stack.items) (map open_of c.first_of-own.result.now) c.in_ok-all.all c.standing-stands.result own_is own_all
+          c.standing-stands.ensures.value (few_of c.first_of-own.result.now c.standing-stands.result c.standing-stands.ensures.few) (map open_of c.first_of-going.result.now) going_is c.in_ok-begin.begin c.in_ok-begin.ensures.columns c.in_ok-begin.ensures.place;
+      further = λ b. subst (λ (n : ℕ). HasFurther t bytes (map open_of c.as_slice-3.result.now) (take n behind)) (sym c.lines_of-lines.ensures)
+          (further_left t bytes some c.requires.limit stack first behind p.row p.rows p.left c.args.ahead p.ahead_is (map open_of c.as_slice-3.result.now) stack_is);
+    }
+
+pub returns : goal.returns
+returns c =
+    let t = c.args.tab in
+    let bytes = c.args.bytes.now in
+    let some : 0 < c.args.tab = omega (arith, c.get-tab_size.ensures.least, c.get-tab_size.ensures.columns) in
+    let limit = c.requires.limit in
+    let stack = map open_of c.args.stack.now.items in
+    let first = c.args.first.now in
+    let behind = c.args.behind.now in
+    let ahead = c.args.ahead in
+    let next = map frame_of c.in_ok-next.next.items in
+    let p = c.requires.part in
+    record {
+      few = let few = lines_few t bytes some limit stack first behind p.row p.rows p.left ahead p.ahead_is in omega (arith, few, c.lines_of-lines.ensures);
+      left = λ r rs left ae.
+          subst (λ (n : ℕ). AreLeft bytes t (map open_of c.open_in.new.stack.items) (drop n behind) (drop n rs)) (sym c.lines_of-lines.ensures)
+          (left_behind t bytes some limit stack first behind r rs left ahead ae (map open_of c.open_in.new.stack.items) (c.in_ok-all.ensures.stack r (the_row t bytes some limit stack first behind r rs left) (the_went t bytes some limit stack first behind r rs left)));
+      written = λ r rs all left ae w.
+          let the = the_row t bytes some limit stack first behind r rs left in
+          let went = the_went t bytes some limit stack first behind r rs left in
+          let open_now = map open_of c.open_in.new.stack.items in
+          let own = map open_of c.first_of-own.result.now in
+          let stands = c.standing-stands.result in
+          let own_all = c.in_ok-all.ensures.many r the went (the_left t bytes some limit stack first behind r rs left) (the_lazy t bytes some limit stack first behind r rs left) in
+          let own_is = own_of c.open_in.new.stack.items c.first_of-own.result.now c.as_slice.result.now c.in_ok-all.all c.first_of-own.ensures c.as_slice.ensures.value in
+          let few = few_of c.first_of-own.result.now stands c.standing-stands.ensures.few in
+          let going = map open_of c.first_of-going.result.now in
+          let going_is = going_of c.first_of-own.result.now c.first_of-going.result.now c.least.result (min stands first.row.many) c.first_of-going.ensures c.least.ensures in
+          let open_is = c.in_ok-all.ensures.stack r the went in
+          let shown_is : map open_of c.first_of.result.now ≡ take stands own = going_of c.first_of-own.result.now c.first_of.result.now stands stands c.first_of.ensures refl in
+          let frames : next ≡ frames_at r rs = c.in_ok-next.ensures ∙ (λ k. flat_map frames_of (shown_is k) ++ frames_in c.list_behind-list.result)
+          ∙ frames_is t bytes some limit stack first behind r rs left ahead ae open_now own c.in_ok-all.all stands own_is own_all c.standing-stands.ensures.value few (frames_in c.list_behind-list.result) c.list_behind-list.ensures in
+          let old = map frame_of c.args.frames.now.items in
+          let exits = c.in_ok-end_part.ensures ∙ ap (λ (l : List Frame). c.args.events.now.items ++ (events_of (exits_to (drop (shared old (map frame_of l)) old) c.args.end.place) ++ events_of (ending_to c.args.end))) c.as_slice-2.ensures.value in
+          let rest = behind_marks bytes (part_of r rs) (parts (drop (cond r.is_blank 0 (further rs)) rs)) in
+          let begun = write_begin t bytes some limit stack first behind r rs left ahead ae open_now own c.in_ok-all.all stands own_is own_all c.standing-stands.ensures.value few going going_is
+          c.args.events.now.items c.end_part.new.events.items c.begin_part.new.events.items old next c.args.end all frames exits c.in_ok-begin.ensures.marks w in
+          let e = c.end_of_part-end.result in
+          let n : c.lines_of-lines.result ≡ cond first.row.is_blank 0 ahead.further = c.lines_of-lines.ensures in
+          let place = c.end_of_part-end.ensures.place ∙ (λ k. end_at (not first.row.is_blank && holds_ending (leaf_of (last_at first (take (n k) behind)).row.leaf)) (last_at first (take (n k) behind))) in
+          let ending = c.end_of_part-end.ensures.behind ∙ (λ k. cond (not first.row.is_blank && holds_ending (leaf_of (last_at first (take (n k) behind)).row.leaf)) None (cond ((last_at first (take (n k) behind)).span.end == (last_at first (take (n k) behind)).span.next) None (Some (point ((last_at first (take (n k) behind)).span.number + 1) 1 (last_at first (take (n k) behind)).span.next 0)))) in
+          let ends = ends_is t bytes some limit stack first behind r rs left ahead ae e c.end_of_part-end.ensures.is_blank place ending in
+          let is_left = rest_is t bytes some limit stack first behind r rs left ahead ae e c.end_of_part-end.ensures.is_blank place ending next frames in
+          let filled : Written c.fill_part.new.events.items None false rest all = by_blank first.row.is_blank
+          (λ b. write_blank t bytes some limit stack first behind r rs left ahead ae open_now own c.in_ok-all.all stands own_is own_all c.standing-stands.ensures.value few going going_is c.in_ok-begin.begin c.in_ok-begin.ensures.columns c.in_ok-begin.ensures.place
+          c.begin_part.new.events.items c.fill_part.new.events.items rest all b (c.in_ok-fill_part.ensures.blank b) begun)
+          (λ b. c.in_ok-fill_part.ensures.stretch b (is_held (part_of r rs)) rest all
+          (subst (λ (m : ℕ). InStretch t bytes (map open_of c.as_slice-3.result.now) (is_held (part_of r rs)) c.begin_part.new.events.items None c.in_ok-begin.begin.place e.place (take m behind) rest all) (sym n)
+          (subst (λ (s : List Container). InStretch t bytes s (is_held (part_of r rs)) c.begin_part.new.events.items None c.in_ok-begin.begin.place e.place (take (cond first.row.is_blank 0 ahead.further) behind) rest all) (sym (ap (map open_of) c.as_slice-3.ensures.value))
+          (stretch_begins t bytes some limit stack first behind r rs left ahead ae open_now own c.in_ok-all.all stands own_is own_all c.standing-stands.ensures.value few going going_is c.in_ok-begin.begin c.in_ok-begin.ensures.columns c.in_ok-begin.ensures.place open_is
+          c.begin_part.new.events.items e.place rest all b ends begun)))) in
+          subst (λ (m : ℕ). Written c.fill_part.new.events.items None false (rest_marks bytes next e (parts (drop m rs))) all) (sym n) (subst (λ (ms : List Mark). Written c.fill_part.new.events.items None false ms all) is_left filled);
+    }

@@ -1,0 +1,18 @@
+use Rattle.std.proofs.Common.{◌≡◌, ◌≤◌, ◌-◌, length, drop, map}
+use Rattle.std.specs.Prelude.{false, None}
+use Rattle.mdconstructs_containers.specs.Frames.{frame_of}
+use Rattle.mdconstructs_containers.specs.Rest.{AreLeft, rest_marks}
+use Rattle.mdconstructs_containers.specs.Skeleton.{parts, parts_marks}
+use Rattle.mdconstructs_containers.specs.Views.{open_of}
+use Rattle.mdconstructs_containers.specs.Written.{Written}
+use Rattle.mdconstructs_containers.proofs.skeleton.write_parts.Given as goal
+
+abbrev pub invariant-loop-i : goal.invariant-loop-i
+invariant-loop-i g l = record {
+  within : l.i ≤ length l.rows;
+  left : AreLeft l.bytes l.tab (map open_of l.stack.items) (drop l.i l.rows) (drop l.i g.all);
+  written : Written l.events.items None false (rest_marks l.bytes (map frame_of l.frames.items) l.end (parts (drop l.i g.all))) (parts_marks l.bytes (parts g.all));
+}
+
+abbrev pub decreases-loop-i : goal.decreases-loop-i
+decreases-loop-i g l = length l.rows - l.i

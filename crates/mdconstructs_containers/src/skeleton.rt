@@ -1,0 +1,406 @@
+//! The skeleton of a document: the events of its containers, and a chain of chunks for each stretch of lines that leaf blocks are read from.
+
+ghost use Rattle.std.specs.Prelude.{◌≡◌, ◌≤◌, ◌<◌, ◌+◌, ◌-◌, ◌^◌, ◌++◌, ◌==◌, ◌&&◌, not, min, cond, ℕ, Bool, true, false, List, [], ◌∷◌, Some, None, is_some, IfOk, length, drop, map, slice_index_or};
+ghost use Rattle.std.specs.List.{flat_map};
+ghost use Rattle.markdown_base.specs.declared.event.Name.TheVariants.{SpaceOrTab};
+ghost use Rattle.markdown_base.specs.Virtual.{virtual, IsWithinLimit, Seat, point};
+ghost use Rattle.mdconstructs_flow_read.specs.LeafBlocks.{bytes_of};
+ghost use Rattle.mdconstructs_flow_read.specs.LeafEvents.{Mark};
+ghost use Rattle.mdconstructs_flow_read.specs.LineKinds.{indent, underline_rank};
+ghost use Rattle.mdconstructs_lines.specs.Lines.{line_bytes, place_after};
+ghost use Rattle.mdconstructs_containers.specs.declared.ahead.Ahead.{Ahead};
+ghost use Rattle.mdconstructs_containers.specs.Ahead.{ahead_of};
+ghost use Rattle.mdconstructs_containers.specs.Frames.{frame_of, frames_in};
+ghost use Rattle.mdconstructs_containers.specs.Letters.{lazy_underline, lazy_underlines};
+ghost use Rattle.mdconstructs_containers.specs.PlaceEvents.{HasColumns, span_at};
+ghost use Rattle.mdconstructs_containers.specs.Prefixes.{columns_of, going_on};
+ghost use Rattle.mdconstructs_containers.specs.Rest.{AreLeft, HasPart, ending_to, exits_to, rest_marks};
+ghost use Rattle.mdconstructs_containers.specs.Rows.{Row as RowOf, has_none, holds_ending};
+ghost use Rattle.mdconstructs_containers.specs.SeatPlaces.{AreInside, AreSeatsAt, events_of};
+ghost use Rattle.mdconstructs_containers.specs.Skeleton.{begun_all, chained_from, parts, parts_marks, prefixes_marks, shared, skeleton};
+ghost use Rattle.mdconstructs_containers.specs.Spans.{AreRowsIn};
+ghost use Rattle.mdconstructs_containers.specs.Stretches.{HasFurther, InStretch, end_at, last_at};
+ghost use Rattle.mdconstructs_containers.specs.Views.{begun_of, leaf_of, open_of};
+ghost use Rattle.mdconstructs_containers.specs.Written.{Written};
+
+use crate::ahead::{Ahead, aheads_of};
+use crate::frames::{Frame, exit_frames, frames_with, shared};
+use crate::going::{Open, first_of};
+use crate::lines::rows_of;
+use crate::parts::{PartEnd, open_in, part_end, standing, write_ending};
+use crate::prefixes::{At, begun_prefixes};
+use crate::rows::Row;
+use crate::spans::{RowAt, Span, start_of};
+use crate::stretches::{prefixes_of, stretch};
+use crate::writing::white;
+use markdown_base::configuration::{Constructs, TabSize};
+use markdown_base::event::{Event, Point};
+use mdconstructs_lines::bytes::{behind, indent};
+use mdconstructs_lines::kinds::underline_rank;
+use mdconstructs_lines::places::{moved, read_line};
+use std::alloc::{AllocError, Global};
+
+/// The skeleton of a document.
+#[derive(Drop)]
+pub struct Skeleton {
+    /// Its events.
+    pub events: Vec<Event>,
+    /// The indices of the first marks of lazy underlines.
+    pub letters: Vec<usize>,
+}
+
+/// The containers that begin in a line, with their prefixes, if any do. `at` is behind the prefixes of those that go on, and `t` are the line's
+/// virtual bytes. Returns the place behind all prefixes.
+fn begun_of(
+    events: &mut Vec<Event>,
+    bytes: &[u8],
+    tab: TabSize,
+    at: At,
+    span: Span,
+    row: &Row,
+    t: &[u8],
+) -> Result<At, AllocError>
+    requires columns { HasColumns tab bytes.now (point span.number 1 span.start 0) (length t.now) }
+    requires going { row.now.going ≤ length t.now }
+    requires inside { AreInside row.now.begun.items (drop row.now.going t.now) }
+    requires sum { row.now.columns ≡ row.now.going + columns_of (begun_of row.now.list span.number row.now.begun.items) }
+    requires place { at.place ≡ place_after tab bytes.now (point span.number 1 span.start 0) at.columns }
+    ensures marks { IfOk result (λ _. (seats : List Seat) → AreSeatsAt tab bytes.now (point span.number 1 span.start 0) seats → t.now ≡ bytes_of seats → events.new.items ≡ events.old.items ++ events_of (begun_all bytes.now (begun_of row.now.list span.number row.now.begun.items) (drop row.now.going seats))) }
+    ensures columns { IfOk result (λ p. p.columns ≡ cond (has_none row.now.begun.items) at.columns row.now.columns) }
+    ensures place { IfOk result (λ p. p.place ≡ place_after tab bytes.now (point span.number 1 span.start 0) p.columns) }
+{
+    if row.begun.is_empty() {
+        return Ok(at);
+    }
+    let start = moved(bytes, tab, start_of(span), row.going);
+    let place = begun_prefixes(
+        events,
+        bytes,
+        tab,
+        start,
+        row.list,
+        span.number,
+        row.begun.as_slice(),
+        behind(t, row.going),
+    )?;
+    Ok(At {
+        place,
+        columns: row.columns,
+    })
+}
+
+/// Between two parts: the spans end that the next part is not in, and the line ending comes.
+fn end_part(
+    events: &mut Vec<Event>,
+    frames: &mut Vec<Frame>,
+    end: PartEnd,
+    next: &[Frame],
+) -> Result<(), AllocError>
+    ensures { IfOk result (λ _. events.new.items ≡ events.old.items ++ (events_of (exits_to (drop (shared (map frame_of frames.old.items) (map frame_of next.now)) (map frame_of frames.old.items)) end.place) ++ events_of (ending_to end))) }
+{
+    let many = shared(frames.as_slice(), next);
+    exit_frames(events, frames, many, end.place)?;
+    write_ending(events, end)?;
+    Ok(())
+}
+
+/// The list that goes on behind a line, if the line is left blank and stands in all containers that go on.
+fn list_behind(row: &Row, ahead: Ahead, stands: usize) -> Option<Frame>
+    ensures { frames_in result ≡ cond (row.now.is_left_blank && (stands == ahead.many)) (frames_in ahead.list) [] }
+{
+    if row.is_left_blank && stands == ahead.many {
+        ahead.list
+    } else {
+        None
+    }
+}
+
+/// The prefixes of a part's first line: those of its first containers, and those of containers that begin in it. Returns the place behind them.
+fn begin_part(
+    events: &mut Vec<Event>,
+    bytes: &[u8],
+    tab: TabSize,
+    stack: &[Open],
+    at: &RowAt,
+    line: &mut Vec<u8>,
+) -> Result<At, AllocError>
+    requires inside { at.now.span.start ≤ length bytes.now }
+    requires columns { let s = at.now.span in HasColumns tab bytes.now (point s.number 1 s.start 0) (length (line_bytes tab s.number 1 s.start (drop s.start bytes.now))) }
+    requires going { let s = at.now.span in at.now.row.going ≤ length (line_bytes tab s.number 1 s.start (drop s.start bytes.now)) }
+    requires fits { let s = at.now.span in AreInside at.now.row.begun.items (drop at.now.row.going (line_bytes tab s.number 1 s.start (drop s.start bytes.now))) }
+    requires sum { at.now.row.columns ≡ at.now.row.going + columns_of (begun_of at.now.row.list at.now.span.number at.now.row.begun.items) }
+    ensures marks { let s = at.now.span in let t = line_bytes tab s.number 1 s.start (drop s.start bytes.now) in IfOk result (λ _. (seats : List Seat) → AreSeatsAt tab bytes.now (point s.number 1 s.start 0) seats → t ≡ bytes_of seats → events.new.items ≡ events.old.items ++ (events_of (prefixes_marks bytes.now (going_on (map open_of stack.now) s.number t) seats) ++ events_of (begun_all bytes.now (begun_of at.now.row.list s.number at.now.row.begun.items) (drop at.now.row.going seats)))) }
+    ensures columns { let s = at.now.span in IfOk result (λ p. p.columns ≡ cond (has_none at.now.row.begun.items) (columns_of (going_on (map open_of stack.now) s.number (line_bytes tab s.number 1 s.start (drop s.start bytes.now)))) at.now.row.columns) }
+    ensures place { let s = at.now.span in IfOk result (λ p. p.place ≡ place_after tab bytes.now (point s.number 1 s.start 0) p.columns) }
+{
+    let behind = prefixes_of(events, bytes, tab, stack, at, line)?;
+    let begin = begun_of(
+        events,
+        bytes,
+        tab,
+        behind,
+        at.span,
+        &at.row,
+        line.as_slice(),
+    )?;
+    Ok(begin)
+}
+
+/// A part that is written: how many further lines it has, and where it ends.
+#[derive(Clone, Copy)]
+struct Part {
+    lines: usize,
+    end: PartEnd,
+}
+
+/// The lesser of two numbers.
+fn least(m: usize, n: usize) -> usize
+    ensures { result ≡ min m n }
+{
+    if m < n { m } else { n }
+}
+
+/// How many further lines a part has: a blank line has none.
+fn lines_of(row: &Row, ahead: Ahead) -> usize
+    ensures { result ≡ cond row.now.is_blank 0 ahead.further }
+{
+    if row.is_blank { 0 } else { ahead.further }
+}
+
+/// Where a part ends, by its first line and those behind it.
+fn end_of_part(first: &RowAt, more: &[RowAt]) -> PartEnd
+    requires size { (last_at first.now more.now).span.size + 1 < 2 ^ 64 }
+    requires number { (last_at first.now more.now).span.number + 1 < 2 ^ 64 }
+    ensures is_blank { result.is_blank ≡ first.now.row.is_blank }
+    ensures place { let last = last_at first.now more.now in result.place ≡ end_at (not first.now.row.is_blank && holds_ending (leaf_of last.row.leaf)) last }
+    ensures behind { let last = last_at first.now more.now in result.behind ≡ cond (not first.now.row.is_blank && holds_ending (leaf_of last.row.leaf)) None (cond (last.span.end == last.span.next) None (Some (point (last.span.number + 1) 1 last.span.next 0))) }
+{
+    match more {
+        [.., last] => part_end(first.row.is_blank, last),
+        [] => part_end(first.row.is_blank, first),
+    }
+}
+
+/// What is in a part, behind the prefixes of its first line: white space of a blank line, or the chunks of a stretch.
+fn fill_part(
+    events: &mut Vec<Event>,
+    bytes: &[u8],
+    tab: TabSize,
+    stack: &[Open],
+    begin: At,
+    first: &RowAt,
+    more: &[RowAt],
+    end: Point,
+    line: &mut Vec<u8>,
+) -> Result<(), AllocError>
+    requires limit { IsWithinLimit tab bytes.now }
+    requires within { first.now.row.is_blank ≡ true → begin.columns ≤ first.now.span.size }
+    requires columns { first.now.row.is_blank ≡ true → HasColumns tab bytes.now begin.place (first.now.span.size - begin.columns) }
+    requires further { first.now.row.is_blank ≡ false → HasFurther tab bytes.now (map open_of stack.now) more.now }
+    ensures blank { IfOk result (λ _. first.now.row.is_blank ≡ true → events.new.items ≡ events.old.items ++ span_at tab bytes.now SpaceOrTab begin.place (first.now.span.size - begin.columns)) }
+    ensures stretch { IfOk result (λ _. first.now.row.is_blank ≡ false → (is_held : Bool) → (rest : List Mark) → (all : List Mark) → InStretch tab bytes.now (map open_of stack.now) is_held events.old.items None begin.place end more.now rest all → Written events.new.items None false rest all) }
+{
+    if first.row.is_blank {
+        white(
+            events,
+            bytes,
+            tab,
+            begin.place,
+            first.span.size - begin.columns,
+        )?;
+        return Ok(());
+    }
+    stretch(events, bytes, tab, stack, begin.place, more, end, line)?;
+    Ok(())
+}
+
+/// The part that begins at a line, behind one that ends so and stands in these spans, which become those of the part.
+fn write_part(
+    alloc: Global,
+    events: &mut Vec<Event>,
+    bytes: &[u8],
+    tab: TabSize,
+    stack: &mut Vec<Open>,
+    frames: &mut Vec<Frame>,
+    first: &RowAt,
+    behind: &[RowAt],
+    ahead: Ahead,
+    end: PartEnd,
+    line: &mut Vec<u8>,
+) -> Result<Part, AllocError>
+    requires limit { IsWithinLimit tab bytes.now }
+    requires part { HasPart bytes.now tab (map open_of stack.old.items) ahead first.now behind.now }
+    ensures few { IfOk result (λ p. p.lines ≤ length behind.now) }
+    ensures left { IfOk result (λ p. (r : RowOf) → (rs : List RowOf) → AreLeft bytes.now tab (map open_of stack.old.items) (first.now ∷ behind.now) (r ∷ rs) → ahead ≡ ahead_of rs → AreLeft bytes.now tab (map open_of stack.new.items) (drop p.lines behind.now) (drop p.lines rs)) }
+    ensures written { IfOk result (λ p. (r : RowOf) → (rs : List RowOf) → (all : List Mark) → AreLeft bytes.now tab (map open_of stack.old.items) (first.now ∷ behind.now) (r ∷ rs) → ahead ≡ ahead_of rs → Written events.old.items None false (rest_marks bytes.now (map frame_of frames.old.items) end (parts (r ∷ rs))) all → Written events.new.items None false (rest_marks bytes.now (map frame_of frames.new.items) p.end (parts (drop p.lines rs))) all) }
+{
+    let tab_size = tab.get();
+    prove!(tab_size >= 1);
+    let row = &first.row;
+    let number = first.span.number;
+    let all = open_in(stack, number, row)?;
+    let own = first_of(stack.as_slice(), all);
+    let stands = standing(own, row.is_blank, ahead.many, number);
+    let list = list_behind(row, ahead, stands);
+    let next = frames_with(alloc, first_of(own, stands), list)?;
+    end_part(events, frames, end, next.as_slice())?;
+    *frames = next;
+    let going = first_of(own, least(stands, row.many));
+    let begin = begin_part(events, bytes, tab, going, first, line)?;
+    let lines = lines_of(row, ahead);
+    let more = &behind[..lines];
+    let end = end_of_part(first, more);
+    fill_part(
+        events,
+        bytes,
+        tab,
+        stack.as_slice(),
+        begin,
+        first,
+        more,
+        end.place,
+        line,
+    )?;
+    Ok(Part { lines, end })
+}
+
+/// The events of a skeleton, by the lines of a document and what lies ahead of each; that of the last line comes first.
+fn write_parts(
+    alloc: Global,
+    bytes: &[u8],
+    tab: TabSize,
+    rows: &[RowAt],
+    aheads: &[Ahead],
+) -> Result<Vec<Event>, AllocError>
+    ghost all: { List RowOf }
+    requires limit { IsWithinLimit tab bytes.now }
+    requires rows { AreRowsIn tab bytes.now [] 1 0 rows.now all }
+    requires len { length aheads.now ≡ length rows.now }
+    requires aheads { (d : Ahead) → (k : ℕ) → k < length rows.now → slice_index_or aheads.now k d ≡ ahead_of (drop (length rows.now - k) all) }
+    ensures { IfOk result (λ events. events.items ≡ chained_from 0 None (parts_marks bytes.now (parts all))) }
+{
+    let mut events = Vec::new(alloc);
+    let mut stack = Vec::new(alloc);
+    let mut frames = Vec::new(alloc);
+    let mut line = Vec::new(alloc);
+    let mut end = PartEnd {
+        is_blank: false,
+        place: Point {
+            line: 1,
+            column: 1,
+            index: 0,
+            vs: 0,
+        },
+        behind: None,
+    };
+    let mut i = 0;
+    while i < rows.len() {
+        let part = write_part(
+            alloc,
+            &mut events,
+            bytes,
+            tab,
+            &mut stack,
+            &mut frames,
+            &rows[i],
+            &rows[i + 1..],
+            aheads[rows.len() - 1 - i],
+            end,
+            &mut line,
+        )?;
+        end = part.end;
+        i += 1 + part.lines;
+    }
+    end_part(&mut events, &mut frames, end, &[])?;
+    Ok(events)
+}
+
+/// The index of the first mark of a lazy underline goes to a list, if the line is one. `line` is room for its bytes.
+fn push_letter(
+    letters: &mut Vec<usize>,
+    bytes: &[u8],
+    tab: TabSize,
+    on: &Constructs,
+    at: &RowAt,
+    line: &mut Vec<u8>,
+) -> Result<(), AllocError>
+    requires inside { at.now.span.start ≤ length bytes.now }
+    requires columns { let s = at.now.span in HasColumns tab bytes.now (point s.number 1 s.start 0) (length (line_bytes tab s.number 1 s.start (drop s.start bytes.now))) }
+    requires within { let s = at.now.span in at.now.row.columns ≤ length (line_bytes tab s.number 1 s.start (drop s.start bytes.now)) }
+    ensures { let s = at.now.span in let rest = drop at.now.row.columns (line_bytes tab s.number 1 s.start (drop s.start bytes.now)) in IfOk result (λ _. letters.new.items ≡ letters.old.items ++ cond (at.now.row.is_lazy && is_some (underline_rank on.now rest)) ((place_after tab bytes.now (point s.number 1 s.start 0) (at.now.row.columns + indent rest)).index ∷ []) []) }
+{
+    if !at.row.is_lazy {
+        return Ok(());
+    }
+    read_line(line, bytes, tab, at.span.start)?;
+    let rest = behind(line.as_slice(), at.row.columns);
+    if underline_rank(on, rest).is_some() {
+        let columns = at.row.columns + indent(rest);
+        letters.push(moved(bytes, tab, start_of(at.span), columns).index)?;
+    }
+    Ok(())
+}
+
+/// The indices of the first marks of lazy underlines.
+fn letters_of(
+    alloc: Global,
+    bytes: &[u8],
+    tab: TabSize,
+    on: &Constructs,
+    rows: &[RowAt],
+) -> Result<Vec<usize>, AllocError>
+    ghost all: { List RowOf }
+    requires limit { IsWithinLimit tab bytes.now }
+    requires rows { AreRowsIn tab bytes.now [] 1 0 rows.now all }
+    ensures { IfOk result (λ letters. letters.items ≡ flat_map (lazy_underline on.now) all) }
+{
+    let tab_size = tab.get();
+    prove!(tab_size >= 1);
+    let mut letters = Vec::new(alloc);
+    let mut line = Vec::new(alloc);
+    for at in rows {
+        push_letter(&mut letters, bytes, tab, on, at, &mut line)?;
+    }
+    Ok(letters)
+}
+
+/// The skeleton of a document, by its lines and what lies ahead of each; that of the last line comes first.
+fn skeleton_by(
+    alloc: Global,
+    bytes: &[u8],
+    tab: TabSize,
+    on: &Constructs,
+    rows: &[RowAt],
+    aheads: &[Ahead],
+) -> Result<Skeleton, AllocError>
+    ghost all: { List RowOf }
+    requires limit { IsWithinLimit tab bytes.now }
+    requires rows { AreRowsIn tab bytes.now [] 1 0 rows.now all }
+    requires len { length aheads.now ≡ length rows.now }
+    requires aheads { (d : Ahead) → (k : ℕ) → k < length rows.now → slice_index_or aheads.now k d ≡ ahead_of (drop (length rows.now - k) all) }
+    ensures events { IfOk result (λ s. s.events.items ≡ chained_from 0 None (parts_marks bytes.now (parts all))) }
+    ensures letters { IfOk result (λ s. s.letters.items ≡ flat_map (lazy_underline on.now) all) }
+{
+    let events = write_parts(alloc, bytes, tab, rows, aheads)?;
+    let letters = letters_of(alloc, bytes, tab, on, rows)?;
+    Ok(Skeleton { events, letters })
+}
+
+/// The skeleton of a document. Fails only for want of memory.
+pub fn skeleton_of(
+    alloc: Global,
+    bytes: &[u8],
+    tab: TabSize,
+    on: &Constructs,
+) -> Result<Skeleton, AllocError>
+    requires limit { IsWithinLimit tab bytes.now }
+    ensures events { IfOk result (λ s. s.events.items ≡ skeleton on.now bytes.now (virtual tab bytes.now)) }
+    ensures letters { IfOk result (λ s. s.letters.items ≡ lazy_underlines on.now (virtual tab bytes.now)) }
+{
+    let tab_size = tab.get();
+    prove!(tab_size >= 1);
+    let rows = rows_of(alloc, bytes, tab, on)?;
+    let aheads = aheads_of(alloc, rows.as_slice())?;
+    let skeleton = skeleton_by(alloc, bytes, tab, on, rows.as_slice(), aheads.as_slice())?;
+    Ok(skeleton)
+}
