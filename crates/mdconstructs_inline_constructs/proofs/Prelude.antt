@@ -46,7 +46,7 @@ pub use Rattle.mdconstructs_inline_constructs.specs.HardBreakRows.{break_escape_
 pub use Rattle.mdconstructs_inline_constructs.specs.HtmlMarked.{and_before, starts_with, either_there, html_mark_grammar, marked, through}
 pub use Rattle.mdconstructs_inline_constructs.specs.HtmlMarkedRows.{cdata_open_rows, closed_by, comment_open_rows, declaration_open_rows, ends_cdata_mark, html_marks, in_cdata_mark, in_mark, inside_rows, is_mark_byte, look_rows, mark_ends, mark_fails, mark_line_ends, mark_line_rows, mark_open_rows, mark_start_rows, mark_white_rows, no_cdata, no_comment, no_declaration, no_instruction, none_upto, stopped_at}
 pub use Rattle.mdconstructs_inline_constructs.specs.HtmlTag.{begins_attribute_name, behind, past_attribute, behind_attributes, behind_closing, behind_one, behind_opening, past_quote, behind_tag, past_value, html_tag_grammar, is_attribute_name_byte, is_double_quote, is_equals_sign, is_single_quote, is_slash, is_tag_name_byte, is_tag_white, is_unquoted, tag_length}
-pub use Rattle.mdconstructs_inline_constructs.specs.HtmlTagRows.{html_tags, html_text_attribute_name_after_rows, html_text_attribute_name_rows, html_text_end_rows, html_text_open_rows, html_text_start_rows, html_text_tag_close_between_rows, html_text_tag_close_rows, html_text_tag_close_start_rows, html_text_tag_open_between_rows, html_text_tag_open_rows, html_text_value_before_rows, html_text_value_quoted_after_rows, html_text_value_quoted_rows, html_text_value_unquoted_rows, quote_is, quote_waits}
+pub use Rattle.mdconstructs_inline_constructs.specs.HtmlTagRows.{html_tags, html_text_attribute_name_after_rows, html_text_attribute_name_rows, html_text_end_rows, html_text_open_rows, html_text_start_rows, html_text_tag_close_between_rows, html_text_tag_close_rows, html_text_tag_close_start_rows, html_text_tag_open_between_rows, html_text_tag_open_rows, html_text_value_before_rows, html_text_value_quoted_after_rows, html_text_value_quoted_rows, html_text_value_unquoted_rows, is_quote, quote_is, quote_waits}
 pub use Rattle.mdconstructs_inline_constructs.specs.HtmlText.{Piece, data_run, has_blank_line, html, html_of, line_break, piece_at, piece_events, piece_length}
 pub use Rattle.mdconstructs_inline_constructs.specs.HtmlTextRows.{CanEndHtml, CanEndHtmlLine, follows_line_ending, html_ends, html_following, html_goes_on, html_is_on, html_line_begins, html_line_ending_after_prefix_rows, html_line_ending_after_rows, html_line_ends, html_rows, html_state, is_following, no_html, sees}
 pub use Rattle.mdconstructs_inline_constructs.specs.Reference.{Kind, body_at, decimal, hexadecimal, is_number_sign, is_semicolon, is_value, is_value_byte, is_x, mark_events, marks, named, number_at, reference, reference_at, value_at}

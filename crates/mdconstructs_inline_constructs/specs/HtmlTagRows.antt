@@ -1,5 +1,5 @@
 -- Rows that read tags.
-use Rattle.std.specs.Prelude.{ℕ, ◌==◌, Bool, false, List, [], ◌∷◌, Option}
+use Rattle.std.specs.Prelude.{ℕ, ◌==◌, ◌&&◌, ◌||◌, Bool, false, List, [], ◌∷◌, Option}
 use Rattle.std.specs.Char.{is_ascii_alphabetic}
 use Rattle.markdown_base.specs.declared.event.Name.TheVariants.{HtmlText, HtmlTextData}
 use Rattle.markdown_base.specs.declared.state.State.TheVariants.{Next}
@@ -20,9 +20,13 @@ use Rattle.mdconstructs_inline_constructs.specs.HtmlTag.{is_slash, is_equals_sig
 abbrev pub quote_is : {R D : Type 0} → ℕ → Configuration R D → Local R D
 quote_is quote k = record k.local { tokenize_state = record k.local.tokenize_state { marker = quote } }
 
+-- a quotation mark
+abbrev pub is_quote : ℕ → Bool
+is_quote byte = is_double_quote byte || is_single_quote byte
+
 -- the quotation mark that was kept waits
 abbrev pub quote_waits : {R D : Type 0} → Given → Sight → Configuration R D → Bool
-quote_waits g s k = passes (λ b. b == k.local.tokenize_state.marker) s.current
+quote_waits g s k = passes (λ b. is_quote b && (b == k.local.tokenize_state.marker)) s.current
 
 -- Tag: it begins with `<`
 abbrev pub html_text_start_rows : {R D : Type 0} → (previous current : Option TextByte) → Rows R D

@@ -17,7 +17,7 @@ ghost use Rattle.markdown_tokenizer.specs.Sight.{sight_of};
 ghost use Rattle.mdconstructs_tables.specs.RowInvariant.{DoesAll, IsCallable, step_in};
 ghost use Rattle.mdconstructs_text.specs.TextBytes.{text_byte};
 ghost use Rattle.mdconstructs_inline_constructs.specs.HtmlTag.{begins_attribute_name, is_unquoted};
-ghost use Rattle.mdconstructs_inline_constructs.specs.HtmlTagRows.{quote_is, quote_waits, html_text_start, html_text_value_quoted, html_text_open, html_text_tag_close_start, html_text_tag_close, html_text_tag_close_between, html_text_tag_open, html_text_tag_open_between, html_text_attribute_name, html_text_attribute_name_after, html_text_value_before, html_text_value_quoted_after, html_text_value_unquoted, html_text_end};
+ghost use Rattle.mdconstructs_inline_constructs.specs.HtmlTagRows.{is_quote, quote_is, quote_waits, html_text_start, html_text_value_quoted, html_text_open, html_text_tag_close_start, html_text_tag_close, html_text_tag_close_between, html_text_tag_open, html_text_tag_open_between, html_text_attribute_name, html_text_attribute_name_after, html_text_value_before, html_text_value_quoted_after, html_text_value_unquoted, html_text_end};
 
 use crate::html_text::{html_ends, html_line_ends};
 use markdown_tokenizer::event;
@@ -356,8 +356,15 @@ fn quote_waits<'a, M: MachineTypes>(t: &Tokenizer<'a, M>) -> bool
 {
     match t.current() {
         None => false,
-        Some(byte) => byte == t.tokenize_state.marker,
+        Some(byte) => is_quote(byte) && byte == t.tokenize_state.marker,
     }
+}
+
+/// Whether a byte is a quotation mark.
+fn is_quote(byte: u8) -> bool
+    ensures { result ≡ is_quote byte }
+{
+    matches!(byte, b'"' | b'\'')
 }
 
 /// Whether a value with no quotes may have the byte.

@@ -1,26 +1,31 @@
--- Data of inline text, of strings and of code spans reads over the bytes that cannot end it, and raw HTML between marks over those of no closing mark.
+-- Data of inline text, of strings and of code spans reads over the bytes that cannot end it, and so do URIs, raw HTML between marks, and values in quotes.
 use Rattle.std.proofs.Common.{◌<◌, get_or}
 use Rattle.std.proofs.lemmas.Bool.{and_parts, ltb-true, not-true, or_parts}
 use Rattle.std.specs.Prelude.{◌==◌, nat_le, nat_lt}
-use Rattle.markdown_base.specs.declared.state.TheConstants.Name.{RawTextData}
+use Rattle.markdown_base.specs.declared.state.TheConstants.Name.{AutolinkUrlInside, HtmlTextTagOpenAttributeValueQuoted, HtmlTextTagOpenAttributeValueQuotedAfter, RawTextData}
 use Rattle.markdown_tokenizer.proofs.ByteSets.{pass_all, passed}
 use Rattle.markdown_tokenizer.specs.Over.{ReadsOver, step_over}
 use Rattle.mdconstructs_inlines.proofs.Prelude.{◌≡◌, ◌⊎◌, inl, inr, ℕ, ◌&&◌, ◌||◌, List, [], ◌∷◌, Bool, true, false, cond, Option, Some, refl, ap, ◌∙◌, subst, sym, and-false, passes, exit, Retry, TextBefore, Data, Name, Next, DataInside, DataStart, Given, Configuration, Sight, sight, Step, consume, row, picked, StateRows, is_white, is_line_feed, some_begins, some_first, raw_text_data, TextByte, is_line_feed_class, text_byte, line_feed, backtick, less, backslash, ampersand, white, punctuation, line-classed, white-classed, is_white_class, begins_run, ends_data, marked_grammars, inline_constructs, inline_data, inline_data_rows, is_delimiter, inlines_rules, inlines, is_string_special}
 use Rattle.mdconstructs_tables.proofs.Tables.Over.{picked-read-over}
 use Rattle.mdconstructs_tables.specs.Over.{PicksOver}
 use Rattle.mdconstructs_tables.specs.Rows.{Row, Rows, named, when, write}
+use Rattle.mdconstructs_text.proofs.Autolinks.Readings.{link-class}
+use Rattle.mdconstructs_text.specs.Autolink.{is_allowed}
+use Rattle.mdconstructs_text.specs.AutolinkRows.{autolink_url}
 use Rattle.mdconstructs_text.specs.Bytes.{is_backtick, is_greater_than}
 use Rattle.mdconstructs_text.specs.CodeSpanRows.{raw_text_data_rows}
 use Rattle.mdconstructs_text.specs.Laws.Classes.{tick-classed}
 use Rattle.mdconstructs_text.specs.TextBytes.{is_backtick_class}
 use Rattle.mdconstructs_inline_constructs.proofs.HtmlMarks.Picked.{look-others}
+use Rattle.mdconstructs_inline_constructs.proofs.HtmlTexts.Rows.{other-rows}
 use Rattle.mdconstructs_inline_constructs.specs.HtmlMarkedRows.{in_mark, is_mark_byte, mark_ends, mark_inside, mark_line_ends}
-use Rattle.mdconstructs_inline_constructs.specs.HtmlTextRows.{html_ends, html_goes_on}
+use Rattle.mdconstructs_inline_constructs.specs.HtmlTagRows.{html_text_value_quoted, is_quote, quote_waits}
+use Rattle.mdconstructs_inline_constructs.specs.HtmlTextRows.{html_ends, html_goes_on, html_line_ends}
 use Rattle.mdconstructs_inline_constructs.specs.declared.names.TheConstants.{HtmlTextMarkClose, HtmlTextMarkInside}
 use Rattle.mdconstructs_text.specs.TextSizes.{size_b_grows}
 use Rattle.mdconstructs_inlines.proofs.InlineApart.{marked-classed}
 use Rattle.mdconstructs_inlines.proofs.StringReads.{string-special-classed, string_data_row}
-use Rattle.mdconstructs_inlines.specs.Over.{AllPass, is_in_code, is_in_data, is_in_marks, is_in_string}
+use Rattle.mdconstructs_inlines.specs.Over.{AllPass, is_in_code, is_in_data, is_in_marks, is_in_quotes, is_in_string}
 use Rattle.mdconstructs_inlines.specs.StringTable.{string_data}
 
 -- each byte of a set is above CR and passes a test, if that is tried on each
@@ -115,3 +120,22 @@ mark-picks byte is before g s k current =
 
 pub mark-over : (byte : ℕ) → is_in_marks byte ≡ true → (name : Name) → name.number ≡ HtmlTextMarkInside.number → IsOver name byte
 mark-over byte is = reads-over mark_inside HtmlTextMarkInside byte refl (mark-picks byte is)
+
+-- ---- values in quotes
+
+quote-picks : (byte : ℕ) → is_in_quotes byte ≡ true → PicksOver (html_text_value_quoted {R = Unit {0}} {D = Unit {0}}) HtmlTextTagOpenAttributeValueQuoted text_byte byte
+quote-picks byte is before g s k current =
+    let (line, other) = or_parts (is_line_feed byte) (is_quote byte) (not-true _ is) in
+    let after : Rows Unit Unit = html_goes_on HtmlTextTagOpenAttributeValueQuotedAfter in
+    let inside : Rows Unit Unit = html_goes_on HtmlTextTagOpenAttributeValueQuoted in
+    let waits : quote_waits g s k ≡ false = (λ i. passes (λ b. is_quote b && (b == k.local.tokenize_state.marker)) (current i)) ∙ (λ i. other i && (byte == k.local.tokenize_state.marker)) in
+    ap (λ r. picked r g s k) (other-rows (html_line_ends HtmlTextTagOpenAttributeValueQuoted.number) (when quote_waits after inside) before byte line)
+    ∙ ap (λ t. cond t (picked after g s k) (picked inside g s k)) waits
+
+pub quote-over : (byte : ℕ) → is_in_quotes byte ≡ true → (name : Name) → name.number ≡ HtmlTextTagOpenAttributeValueQuoted.number → IsOver name byte
+quote-over byte is = reads-over html_text_value_quoted HtmlTextTagOpenAttributeValueQuoted byte refl (quote-picks byte is)
+
+-- ---- URIs of autolinks
+
+pub uri-over : (byte : ℕ) → is_allowed byte ≡ true → (name : Name) → name.number ≡ AutolinkUrlInside.number → IsOver name byte
+uri-over byte is = reads-over autolink_url AutolinkUrlInside byte refl (λ before g s k current. ap (λ r. picked r g s k) (link-class before byte is))

@@ -4,6 +4,7 @@ use Rattle.mdconstructs_machines.specs.Breaks.{is_white}
 use Rattle.mdconstructs_text.specs.Bytes.{is_backtick, is_greater_than, is_line_feed}
 use Rattle.mdconstructs_text.specs.Construct.{some_first}
 use Rattle.mdconstructs_inline_constructs.specs.HtmlMarkedRows.{is_mark_byte}
+use Rattle.mdconstructs_inline_constructs.specs.HtmlTagRows.{is_quote}
 use Rattle.mdconstructs_inlines.specs.InlineEvents.{marked_grammars}
 use Rattle.mdconstructs_inlines.specs.RunRows.{is_delimiter}
 use Rattle.mdconstructs_inlines.specs.StringEvents.{is_string_special}
@@ -23,6 +24,10 @@ is_in_code byte = not (is_line_feed byte || is_backtick byte)
 -- raw HTML between marks does, where nothing of its closing mark is directly before: it is no line ending, and in no closing mark
 abbrev pub is_in_marks : ℕ → Bool
 is_in_marks byte = not (is_line_feed byte || (is_greater_than byte || is_mark_byte byte))
+
+-- so does a value in quotes: it is no line ending and no quotation mark
+abbrev pub is_in_quotes : ℕ → Bool
+is_in_quotes byte = not (is_line_feed byte || is_quote byte)
 
 -- the bytes of a set are above CR, and pass a test
 abbrev pub AllPass : (ℕ → Bool) → List Bool → Type 0

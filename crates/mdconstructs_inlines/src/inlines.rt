@@ -18,7 +18,7 @@ ghost use Rattle.mdconstructs_inlines.specs.StringTable.{string_start};
 
 use crate::attention::{attention_inside, attention_start, run_begins};
 use crate::names;
-use crate::over::{in_code, in_data, in_marks, in_string};
+use crate::over::{in_code, in_data, in_marks, in_quotes, in_string, in_uri};
 use crate::strings::{string_before, string_before_data, string_data};
 use markdown_tokenizer::event::{self, Event};
 use markdown_tokenizer::state::{ByteSet, Machine, MachineTypes, Name, State, no_bytes};
@@ -85,14 +85,16 @@ impl Machine for Inlines {
 
     ghost rules = { λ _. inlines_rules };
 
-    /// Data reads over all bytes but those that may end it, and raw HTML between marks over all but those of closing marks.
+    /// Data reads over all bytes but those that may end it; and so do URIs of autolinks, raw HTML between marks, and values in quotes.
     #[inline(always)]
     fn reads_over(&self, name: Name) -> &'static ByteSet {
         match name {
             Name::DataInside => in_data(),
             Name::DataStart => in_string(),
             Name::RawTextData => in_code(),
+            Name::AutolinkUrlInside => in_uri(),
             construct_names::HtmlTextMarkInside => in_marks(),
+            Name::HtmlTextTagOpenAttributeValueQuoted => in_quotes(),
             _ => no_bytes(),
         }
     }

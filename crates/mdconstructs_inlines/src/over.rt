@@ -1,6 +1,7 @@
 //! Bytes that states of inline text read over: at them a call only consumes the byte, and the engine need not make it. Each is above CR.
 
-ghost use Rattle.mdconstructs_inlines.specs.Over.{AllPass, is_in_code, is_in_data, is_in_marks, is_in_string};
+ghost use Rattle.mdconstructs_inlines.specs.Over.{AllPass, is_in_code, is_in_data, is_in_marks, is_in_quotes, is_in_string};
+ghost use Rattle.mdconstructs_text.specs.Autolink.{is_allowed};
 
 use markdown_tokenizer::state::ByteSet;
 
@@ -118,4 +119,62 @@ pub(crate) fn in_marks() -> &'static ByteSet
     ensures { AllPass is_in_marks result.now }
 {
     &IN_MARKS
+}
+
+/// The bytes of a value in quotes that end no such value.
+static IN_QUOTES: ByteSet = [
+    false, false, false, false, false, false, false, false, false, false, false, false, false,
+    false, true, true, true, true, true, true, true, true, true, true, true, true, true, true,
+    true, true, true, true, true, true, false, true, true, true, true, false, true, true, true,
+    true, true, true, true, true, true, true, true, true, true, true, true, true, true, true, true,
+    true, true, true, true, true, true, true, true, true, true, true, true, true, true, true, true,
+    true, true, true, true, true, true, true, true, true, true, true, true, true, true, true, true,
+    true, true, true, true, true, true, true, true, true, true, true, true, true, true, true, true,
+    true, true, true, true, true, true, true, true, true, true, true, true, true, true, true, true,
+    true, true, true, true, true, true, true, true, true, true, true, true, true, true, true, true,
+    true, true, true, true, true, true, true, true, true, true, true, true, true, true, true, true,
+    true, true, true, true, true, true, true, true, true, true, true, true, true, true, true, true,
+    true, true, true, true, true, true, true, true, true, true, true, true, true, true, true, true,
+    true, true, true, true, true, true, true, true, true, true, true, true, true, true, true, true,
+    true, true, true, true, true, true, true, true, true, true, true, true, true, true, true, true,
+    true, true, true, true, true, true, true, true, true, true, true, true, true, true, true, true,
+    true, true, true, true, true, true, true, true, true, true, true, true, true, true, true, true,
+    true, true, true, true, true,
+];
+
+/// The bytes of a value in quotes that end no such value. A state that reads them stays in the value.
+#[inline(always)]
+pub(crate) fn in_quotes() -> &'static ByteSet
+    ensures { AllPass is_in_quotes result.now }
+{
+    &IN_QUOTES
+}
+
+/// The bytes of an absolute URI behind its scheme and colon.
+static IN_URI: ByteSet = [
+    false, false, false, false, false, false, false, false, false, false, false, false, false,
+    false, false, false, false, false, false, false, false, false, false, false, false, false,
+    false, false, false, false, false, false, false, true, true, true, true, true, true, true,
+    true, true, true, true, true, true, true, true, true, true, true, true, true, true, true, true,
+    true, true, true, true, false, true, false, true, true, true, true, true, true, true, true,
+    true, true, true, true, true, true, true, true, true, true, true, true, true, true, true, true,
+    true, true, true, true, true, true, true, true, true, true, true, true, true, true, true, true,
+    true, true, true, true, true, true, true, true, true, true, true, true, true, true, true, true,
+    true, true, true, true, true, true, true, true, false, true, true, true, true, true, true,
+    true, true, true, true, true, true, true, true, true, true, true, true, true, true, true, true,
+    true, true, true, true, true, true, true, true, true, true, true, true, true, true, true, true,
+    true, true, true, true, true, true, true, true, true, true, true, true, true, true, true, true,
+    true, true, true, true, true, true, true, true, true, true, true, true, true, true, true, true,
+    true, true, true, true, true, true, true, true, true, true, true, true, true, true, true, true,
+    true, true, true, true, true, true, true, true, true, true, true, true, true, true, true, true,
+    true, true, true, true, true, true, true, true, true, true, true, true, true, true, true, true,
+    true, true, true, true, true, true, true, true, true, true,
+];
+
+/// The bytes of an absolute URI behind its scheme and colon. A state that reads them stays in the URI.
+#[inline(always)]
+pub(crate) fn in_uri() -> &'static ByteSet
+    ensures { AllPass is_allowed result.now }
+{
+    &IN_URI
 }

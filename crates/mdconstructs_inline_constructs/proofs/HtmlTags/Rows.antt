@@ -1,6 +1,6 @@
 -- The states of tags do at each byte what it does at their places.
 use Rattle.markdown_base.proofs.Facts.Numbers.{unlike}
-use Rattle.mdconstructs_inline_constructs.proofs.Prelude.{◌≡◌, ℕ, ◌==◌, List, [], ◌∷◌, ◌++◌, Bool, true, false, cond, Option, Some, None, refl, ap, ◌∙◌, subst, is_ascii_alphabetic, HtmlTextData, SpaceOrTab, Name, Next, Retry, Nok, HtmlTextStart, HtmlTextOpen, HtmlTextTagCloseStart, HtmlTextTagClose, HtmlTextTagCloseBetween, HtmlTextTagOpen, HtmlTextTagOpenBetween, HtmlTextTagOpenAttributeName, HtmlTextTagOpenAttributeNameAfter, HtmlTextTagOpenAttributeValueBefore, HtmlTextTagOpenAttributeValueQuoted, HtmlTextTagOpenAttributeValueQuotedAfter, HtmlTextTagOpenAttributeValueUnquoted, HtmlTextEnd, HtmlTextLineEndingAfter, HtmlTextLineEndingAfterPrefix, Configuration, Local, Step, Sight, sight, Given, Text, row_step, is_white, counts, Act, Rows, row, when, enter, exit, consume, class_of, is_greater_than, passes, TextByte, text_byte, IsAfter, after-call, HasRow, HasRows, tested, is_slash, is_equals_sign, is_double_quote, is_single_quote, is_tag_white, is_tag_name_byte, begins_attribute_name, is_attribute_name_byte, is_unquoted, quote_is, quote_waits, html_text_start_rows, html_text_open_rows, html_text_tag_close_start_rows, html_text_tag_close_rows, html_text_tag_close_between_rows, html_text_tag_open_rows, html_text_tag_open_between_rows, html_text_attribute_name_rows, html_text_attribute_name_after_rows, html_text_value_before_rows, html_text_value_quoted_rows, html_text_value_quoted_after_rows, html_text_value_unquoted_rows, html_text_end_rows, html_following, html_line_begins, html_line_ends, html_rows, sees, html_line_ending_after_rows, html_line_ending_after_prefix_rows, follows_line_ending}
+use Rattle.mdconstructs_inline_constructs.proofs.Prelude.{◌≡◌, ℕ, ◌==◌, ◌&&◌, arith, nat_tests, is_quote, List, [], ◌∷◌, ◌++◌, Bool, true, false, cond, Option, Some, None, refl, ap, ◌∙◌, subst, is_ascii_alphabetic, HtmlTextData, SpaceOrTab, Name, Next, Retry, Nok, HtmlTextStart, HtmlTextOpen, HtmlTextTagCloseStart, HtmlTextTagClose, HtmlTextTagCloseBetween, HtmlTextTagOpen, HtmlTextTagOpenBetween, HtmlTextTagOpenAttributeName, HtmlTextTagOpenAttributeNameAfter, HtmlTextTagOpenAttributeValueBefore, HtmlTextTagOpenAttributeValueQuoted, HtmlTextTagOpenAttributeValueQuotedAfter, HtmlTextTagOpenAttributeValueUnquoted, HtmlTextEnd, HtmlTextLineEndingAfter, HtmlTextLineEndingAfterPrefix, Configuration, Local, Step, Sight, sight, Given, Text, row_step, is_white, counts, Act, Rows, row, when, enter, exit, consume, class_of, is_greater_than, passes, TextByte, text_byte, IsAfter, after-call, HasRow, HasRows, tested, is_slash, is_equals_sign, is_double_quote, is_single_quote, is_tag_white, is_tag_name_byte, begins_attribute_name, is_attribute_name_byte, is_unquoted, quote_is, quote_waits, html_text_start_rows, html_text_open_rows, html_text_tag_close_start_rows, html_text_tag_close_rows, html_text_tag_close_between_rows, html_text_tag_open_rows, html_text_tag_open_between_rows, html_text_attribute_name_rows, html_text_attribute_name_after_rows, html_text_value_before_rows, html_text_value_quoted_rows, html_text_value_quoted_after_rows, html_text_value_unquoted_rows, html_text_end_rows, html_following, html_line_begins, html_line_ends, html_rows, sees, html_line_ending_after_rows, html_line_ending_after_prefix_rows, follows_line_ending}
 use Rattle.mdconstructs_inline_constructs.proofs.HtmlTexts.Pieces.{is_no_line_feed}
 use Rattle.mdconstructs_inline_constructs.proofs.HtmlTexts.Reads.{PlaysHtml, called, written-counts, row_of, line_row_of, wrote, Writes}
 use Rattle.mdconstructs_inline_constructs.proofs.HtmlTexts.Rows.{other-rows, stopped-rows, at-seen, at-cases, by-byte, followed, line-begun}
@@ -189,11 +189,11 @@ module _ (g : Given) (text : Text) (step : Sight → Configuration Unit Unit →
 
   module _ (k : Configuration Unit Unit) (b : ℕ) (waits : (sight g text k).current ≡ Some b) where
     -- a value in quotes goes on, or ends
-    quotes : (q : ℕ) (one other : Move Place) (previous : Option TextByte) → (b == 10) ≡ false → k.local.tokenize_state.marker ≡ q
+    quotes : (q : ℕ) (one other : Move Place) (previous : Option TextByte) → (b == 10) ≡ false → (is_quote b && (b == q)) ≡ (b == q) → k.local.tokenize_state.marker ≡ q
         → row_step g text k (html_rows (html_line_ends 201) (when quote_waits (row_of state_of one) (row_of state_of other)) previous (Some (text_byte b))) ≡ row_step g text k (row_of state_of (cond (b == q) one other))
-    quotes q one other previous plain knows =
+    quotes q one other previous plain mark knows =
         ap (row_step g text k) (other-rows (html_line_ends 201) (when quote_waits (row_of state_of one) (row_of state_of other)) previous b plain)
-        ∙ tested g text quote_waits (row_of state_of one) (row_of state_of other) k (b == q) (ap (passes (λ c. c == k.local.tokenize_state.marker)) waits ∙ ap (λ m. b == m) knows)
+        ∙ tested g text quote_waits (row_of state_of one) (row_of state_of other) k (b == q) (ap (passes (λ c. is_quote c && (c == k.local.tokenize_state.marker))) waits ∙ ap (λ m. is_quote b && (b == m)) knows ∙ mark)
         ∙ elim (b == q) as (λ t. row_step g text k (cond t (row_of state_of one) (row_of state_of other)) ≡ row_step g text k (row_of state_of (cond t one other))) [ true ↦ refl | false ↦ refl ]
 
     -- the bytes of each place
@@ -207,8 +207,8 @@ module _ (g : Given) (text : Text) (step : Sight → Configuration Unit Unit →
     byte-rows name previous plain knows = at-cases g text state_of k b waits (html_line_ends 199) ((is_attribute_name_byte, goes None name) ∷ (is_tag_white, goes None named) ∷ (is_equals_sign, goes None value) ∷ (is_slash, goes None slashed) ∷ (is_greater_than, done) ∷ []) previous plain
     byte-rows named previous plain knows = at-cases g text state_of k b waits (html_line_ends 199) ((is_tag_white, goes None named) ∷ (is_equals_sign, goes None value) ∷ (begins_attribute_name, goes None name) ∷ (is_slash, goes None slashed) ∷ (is_greater_than, done) ∷ []) previous plain
     byte-rows value previous plain knows = at-cases g text state_of k b waits (html_line_ends 200) ((is_tag_white, goes None value) ∷ (is_double_quote, goes (Some (quote_is 34)) double_quoted) ∷ (is_single_quote, goes (Some (quote_is 39)) single_quoted) ∷ (is_unquoted, goes None bare) ∷ []) previous plain
-    byte-rows double_quoted previous plain knows = quotes 34 (goes None after) (goes None double_quoted) previous plain knows
-    byte-rows single_quoted previous plain knows = quotes 39 (goes None after) (goes None single_quoted) previous plain knows
+    byte-rows double_quoted previous plain knows = quotes 34 (goes None after) (goes None double_quoted) previous plain (grind (arith, nat_tests)) knows
+    byte-rows single_quoted previous plain knows = quotes 39 (goes None after) (goes None single_quoted) previous plain (grind (arith, nat_tests)) knows
     byte-rows after previous plain knows = at-cases g text state_of k b waits (html_line_ends 197) ((is_tag_white, goes None before) ∷ (is_slash, goes None slashed) ∷ (is_greater_than, done) ∷ []) previous plain
     byte-rows bare previous plain knows = at-cases g text state_of k b waits (html_line_ends 197) ((is_unquoted, goes None bare) ∷ (is_tag_white, goes None before) ∷ (is_greater_than, done) ∷ []) previous plain
     byte-rows slashed previous plain knows = at-cases g text state_of k b waits (row [] Nok) ((is_greater_than, done) ∷ []) previous plain

@@ -31,7 +31,7 @@ open-refused before (Some b) h =
     (λ e. refl) (λ e. refl) (λ e. refl) (λ e. refl) (λ e. refl) (λ e. refl) (λ e. absurd (cc)) (λ e f. refl) (λ e. refl) (λ e. refl) (λ e. refl) (λ o e. refl) (λ o e. refl) (λ o n e. refl)
 
 -- behind the scheme all allowed bytes are read, and it may end at `>`
-link-class : (before : Option TextByte) (b : ℕ) → is_allowed b ≡ true → autolink_url_rows {R = Unit} {D = Unit} before (Some (text_byte b)) ≡ row (consume ∷ []) (Next AutolinkUrlInside)
+pub link-class : (before : Option TextByte) (b : ℕ) → is_allowed b ≡ true → autolink_url_rows {R = Unit} {D = Unit} before (Some (text_byte b)) ≡ row (consume ∷ []) (Next AutolinkUrlInside)
 link-class before b h =
     by-class (λ w. autolink_url_rows {R = Unit} {D = Unit} before (Some w) ≡ row (consume ∷ []) (Next AutolinkUrlInside)) b
     (λ e. absurd (grind (arith, nat_tests))) (λ e. refl) (λ e. absurd (grind (arith, nat_tests))) (λ e. absurd (grind (arith, nat_tests)))
