@@ -14,7 +14,7 @@ import sys
 TOP = os.path.dirname(os.path.dirname(os.path.realpath(__file__)))
 PARTS = {
     "markdown": ["markdown_base", "markdown_edits", "markdown_tokenizer", "markdown_children"],
-    "mdconstructs": ["mdconstructs_tables", "mdconstructs_machines", "mdconstructs_text", "mdconstructs_attention", "mdconstructs_references", "mdconstructs_inline_constructs", "mdconstructs_inlines", "mdconstructs_flow", "mdconstructs_flow_read", "mdconstructs_documents", "mdconstructs_rests"],
+    "mdconstructs": ["mdconstructs_tables", "mdconstructs_machines", "mdconstructs_text", "mdconstructs_attention", "mdconstructs_references", "mdconstructs_inline_constructs", "mdconstructs_inlines", "mdconstructs_flow", "mdconstructs_flow_read", "mdconstructs_lines", "mdconstructs_containers", "mdconstructs_documents", "mdconstructs_rests"],
 }
 NAMED = {
     ("markdown_children", "specs", "LawStatements"): "ChildrenLawStatements",
@@ -43,6 +43,16 @@ NAMED = {
     ("mdconstructs_references", "proofs", "Parts"): "ReferenceParts",
     ("mdconstructs_references", "proofs", "Orders"): "ReferenceOrders",
     ("mdconstructs_references", "proofs", "Searches"): "ReferenceSearches",
+    ("mdconstructs_lines", "specs", "Breaks"): "LineBreaks",
+    ("mdconstructs_lines", "specs", "Lines"): "LineFunctions",
+    ("mdconstructs_lines", "specs", "Views"): "ContainerViews",
+    ("mdconstructs_containers", "specs", "Chunks"): "ContentChunks",
+    ("mdconstructs_containers", "specs", "Parts"): "ContainerParts",
+    ("mdconstructs_containers", "specs", "Spans"): "ContainerSpans",
+    ("mdconstructs_containers", "specs", "Stretches"): "ContainerStretches",
+    ("mdconstructs_containers", "specs", "Rows"): "ContainerRows",
+    ("mdconstructs_containers", "specs", "Views"): "RowViews",
+    ("mdconstructs_containers", "proofs", "Examples"): "SkeletonExamples",
     ("mdconstructs_text", "specs", "Laws"): "TextLaws",
     ("mdconstructs_text", "proofs", "NoFurther"): "TextNoFurther",
     ("mdconstructs_text", "proofs", "NoRefusals"): "TextNoRefusals",

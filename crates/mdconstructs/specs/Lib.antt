@@ -147,9 +147,34 @@ pub use Rattle.mdconstructs_flow_read.specs.LooksFind
 pub use Rattle.mdconstructs_flow_read.specs.SeenKinds
 pub use Rattle.mdconstructs_flow_read.specs.ToldChunks
 pub use Rattle.mdconstructs_flow_read.specs.ToldMarks
+pub use Rattle.mdconstructs_lines.specs.Breaks as LineBreaks
+pub use Rattle.mdconstructs_lines.specs.Containers
+pub use Rattle.mdconstructs_lines.specs.Lines as LineFunctions
+pub use Rattle.mdconstructs_lines.specs.Views as ContainerViews
+pub use Rattle.mdconstructs_containers.specs.Ahead
+pub use Rattle.mdconstructs_containers.specs.Blocks
+pub use Rattle.mdconstructs_containers.specs.Chunks as ContentChunks
+pub use Rattle.mdconstructs_containers.specs.Examples
+pub use Rattle.mdconstructs_containers.specs.Frames
+pub use Rattle.mdconstructs_containers.specs.Letters
+pub use Rattle.mdconstructs_containers.specs.ListExamples
+pub use Rattle.mdconstructs_containers.specs.Lists
+pub use Rattle.mdconstructs_containers.specs.Parts as ContainerParts
+pub use Rattle.mdconstructs_containers.specs.PlaceEvents
+pub use Rattle.mdconstructs_containers.specs.Prefixes
+pub use Rattle.mdconstructs_containers.specs.Rest
+pub use Rattle.mdconstructs_containers.specs.Rows as ContainerRows
+pub use Rattle.mdconstructs_containers.specs.SeatPlaces
+pub use Rattle.mdconstructs_containers.specs.Skeleton
+pub use Rattle.mdconstructs_containers.specs.SkeletonLaws
+pub use Rattle.mdconstructs_containers.specs.Spans as ContainerSpans
+pub use Rattle.mdconstructs_containers.specs.Stretches as ContainerStretches
+pub use Rattle.mdconstructs_containers.specs.Views as RowViews
+pub use Rattle.mdconstructs_containers.specs.Written
 pub use Rattle.mdconstructs_documents.specs.BlockChains
 pub use Rattle.mdconstructs_documents.specs.ByteRanges
 pub use Rattle.mdconstructs_documents.specs.Choices
+pub use Rattle.mdconstructs_documents.specs.DocumentEvents
 pub use Rattle.mdconstructs_documents.specs.Documents
 pub use Rattle.mdconstructs_documents.specs.FlowTextLaws
 pub use Rattle.mdconstructs_documents.specs.FlowTexts

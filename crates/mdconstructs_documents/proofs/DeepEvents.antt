@@ -23,6 +23,10 @@ module _ {R D : Type 0} (rules : Given → Rules R D) (nothing : RulesRefuseNoth
       ⊎_elim (λ (run : IsRunRefused (document options bytes) rules false start m). no-run-refused rules nothing (document options bytes) false start m run)
       (λ (child : (flat : List Event) × Gives rules start options bytes flat × HasRefusedChild rules options bytes (Some TextContent) flat m). no-child-refused (document options bytes) child.0 child.2.1.chain m child.2.1.refused) h
 
+  -- nor is any child of a list
+  pub no-children-refused : (options : ParseOptions) (bytes : List ℕ) (wanted : Option Content) (old : List Event) (m : Message) → ¬ HasRefusedChild rules options bytes wanted old m
+  no-children-refused options bytes wanted old m h = no-child-refused (document options bytes) old h.1.chain m h.1.refused
+
 -- a run from the start of paragraphs has chains that can be read
 pub all-ready : (rules : Given → Rules Unit Unit) → HasReadableChains rules FlowStart → (options : ParseOptions) (bytes : List ℕ) → IsDocument (document options bytes) → ¬ GivesUnready rules FlowStart options bytes
 all-ready rules readable options bytes is h = h.2 (readable (document options bytes) h.0 h.1.0 is h.1.1)
@@ -52,7 +56,7 @@ with-texts options bytes is events h =
 module _ (options : ParseOptions) (bytes : List ℕ) where
   -- no child is refused
   pub no-inline-refused : (wanted : Option Content) (old : List Event) (m : Message) → ¬ HasRefusedChild inlines_rules options bytes wanted old m
-  no-inline-refused wanted old m h = no-child-refused inlines_rules inlines-refuse-nothing (document options bytes) old h.1.chain m h.1.refused
+  no-inline-refused wanted old m h = no-children-refused inlines_rules inlines-refuse-nothing options bytes wanted old m h
 
   -- of leaf blocks, all chains of which are read at once
   module _ (is : IsDocument (document options bytes)) (flat : List Event) (are : AreFlowEvents options bytes flat) where

@@ -5,7 +5,7 @@ mod FlowRuns
 mod FlowTexts
 mod FlowTiles
 mod Formed
+mod InContainers
 mod Prelude
 mod RangeReads
-mod Tight
 mod Tiled

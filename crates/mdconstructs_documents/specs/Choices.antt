@@ -2,7 +2,7 @@
 use Rattle.std.specs.Prelude.{ℕ, ◌≤◌, IfSome, ◌&&◌, not, Bool, true, false, Option, Some, None, cond}
 use Rattle.mdconstructs_documents.specs.declared.choice.Choice.{Choice}
 use Rattle.mdconstructs_documents.specs.declared.choice.Which.{Which}
-use Rattle.mdconstructs_documents.specs.declared.choice.Which.TheVariants.{Lines, Paragraphs, Peek, Deep, Back, Save, Text, Flow}
+use Rattle.mdconstructs_documents.specs.declared.choice.Which.TheVariants.{Lines, Paragraphs, Peek, Deep, Back, Save, Text, Flow, Document}
 
 -- whether a machine links chunks of text
 abbrev pub links_text : Which → Bool
@@ -14,6 +14,7 @@ links_text Back = false
 links_text Save = false
 links_text Text = true
 links_text Flow = true
+links_text Document = true
 
 -- the choice of a cut, of `--deep`, of a machine and of a tab size, if they are accepted together: `--deep` only with a machine that links
 abbrev pub choice_together : Option ℕ → Bool → Which → ℕ → Option Choice

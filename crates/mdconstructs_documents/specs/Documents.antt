@@ -16,10 +16,12 @@ use Rattle.mdconstructs_machines.specs.LineEvents.{line_events, data_events, bac
 use Rattle.mdconstructs_machines.specs.ParagraphEvents.{paragraph_events}
 use Rattle.mdconstructs_text.specs.ParagraphTexts.{paragraph_texts}
 use Rattle.mdconstructs_text.specs.TextEvents.{seat_events}
+use Rattle.mdconstructs_containers.specs.Blocks.{document_blocks}
+use Rattle.mdconstructs_documents.specs.DocumentEvents.{document_events}
 use Rattle.mdconstructs_documents.specs.FlowTexts.{flow_inlines}
 use Rattle.mdconstructs_documents.specs.declared.choice.Choice.{Choice}
 use Rattle.mdconstructs_documents.specs.declared.choice.Which.{Which}
-use Rattle.mdconstructs_documents.specs.declared.choice.Which.TheVariants.{Lines, Paragraphs, Peek, Deep, Back, Save, Text, Flow}
+use Rattle.mdconstructs_documents.specs.declared.choice.Which.TheVariants.{Lines, Paragraphs, Peek, Deep, Back, Save, Text, Flow, Document}
 
 -- the default options with these constructs, and with tab stops at every `t` columns
 abbrev pub options_with : Constructs → (t : ℕ) → ParseOptions
@@ -47,6 +49,14 @@ module _ (options : ParseOptions) (bytes : List ℕ) where
   abbrev pub AreFlowInlines : List Event → Type 0
   AreFlowInlines events = events ≡ flow_inlines options.constructs bytes virtual_bytes
 
+  -- Containers and the leaf blocks in them
+  abbrev pub AreDocumentBlocks : List Event → Type 0
+  AreDocumentBlocks events = events ≡ document_blocks (document options bytes)
+
+  -- and with their texts read as inline text, and strings as strings
+  abbrev pub AreDocumentEvents : List Event → Type 0
+  AreDocumentEvents events = events ≡ document_events (document options bytes)
+
 -- the chains of text of what is read of a document as leaf blocks can be read
 abbrev pub ChainsAreReadable : Type 0
 ChainsAreReadable = (options : ParseOptions) (bytes : List ℕ) (events : List Event) → IsDocument (document options bytes) → AreFlowEvents options bytes events → IsReadable options bytes events
@@ -65,6 +75,8 @@ AreEventsOf false Text options bytes events = events ≡ paragraph_events bytes 
 AreEventsOf true Text options bytes events = events ≡ paragraph_texts (seat_events options.constructs bytes) bytes (virtual_bytes options bytes)
 AreEventsOf false Flow options bytes events = AreFlowEvents options bytes events
 AreEventsOf true Flow options bytes events = AreFlowInlines options bytes events
+AreEventsOf false Document options bytes events = AreDocumentBlocks options bytes events
+AreEventsOf true Document options bytes events = AreDocumentEvents options bytes events
 
 -- the places at which a document is cut: none, or every n-th of its virtual bytes
 abbrev pub cut_places : Choice → List ℕ → List (ℕ × ℕ)

@@ -1,6 +1,7 @@
 pub mod BlockChains
 pub mod ByteRanges
 pub mod Choices
+pub mod DocumentEvents
 pub mod Documents
 pub mod FlowTextLaws
 pub mod FlowTexts

@@ -25,6 +25,8 @@ pub enum Which {
     /// `flow`: the leaf blocks of CommonMark. In paragraphs and headings is inline text, with emphasis; in info strings
     /// of fenced code are escapes and character references.
     Flow,
+    /// `document`: block quotes and lists, and the leaf blocks in them, as `flow` reads these.
+    Document,
 }
 
 /// How a document is read.
@@ -33,7 +35,7 @@ pub struct Choice {
     /// The document is cut after each this many virtual bytes, at least 1. `None`: it is not cut.
     pub cut: Option<usize>,
     /// Whether the chunks of text that the machine links are read too, and replaced by their events. Only the machines
-    /// `paragraphs`, `text` and `flow` link any.
+    /// `paragraphs`, `text`, `flow` and `document` link any.
     pub deep: bool,
     /// The machine that reads.
     pub machine: Which,
@@ -46,7 +48,7 @@ pub fn links_text(machine: Which) -> bool
     ensures { result ≡ links_text machine }
 {
     match machine {
-        Which::Paragraphs | Which::Text | Which::Flow => true,
+        Which::Paragraphs | Which::Text | Which::Flow | Which::Document => true,
         Which::Lines | Which::Peek | Which::Deep | Which::Back | Which::Save => false,
     }
 }

@@ -7,10 +7,11 @@ ghost use Rattle.markdown_tokenizer.specs.Engine.{AreCuts, IsWellFormed, given_b
 ghost use Rattle.markdown_tokenizer.specs.Text.{IsDocument};
 ghost use Rattle.mdconstructs_text.specs.TextEvents.{text_events};
 ghost use Rattle.mdconstructs_documents.specs.Choices.{CanCut};
-ghost use Rattle.mdconstructs_documents.specs.Documents.{document, options_with, cut_places, AreEventsOf, AreFlowEvents, AreFlowInlines};
+ghost use Rattle.mdconstructs_documents.specs.Documents.{document, options_with, cut_places, AreEventsOf, AreDocumentEvents, AreFlowEvents, AreFlowInlines};
 
 use crate::choice::{Choice, Which};
 use crate::making::{Unmade, read_by, read_deep_by, read_resolved_by, with_ready_children};
+use crate::nested::{read_blocks, read_nested_events};
 use markdown_base::configuration::{Constructs, ParseOptions, TabSize};
 use markdown_base::event::Event;
 use markdown_base::state::Name;
@@ -70,6 +71,26 @@ pub fn read_document(
     ensures formed { IfOk result (λ events. IsWellFormed (document options.now bytes.now) events.items) }
 {
     match read_flow_and_inlines(alloc, bytes, options, cuts) {
+        Ok(events) => Ok(events),
+        Err(Unmade::Fault(Fault::Memory)) => Err(AllocError),
+        Err(_) => unreachable!(),
+    }
+}
+
+/// The events of a document with its block quotes and lists: in these stand its leaf blocks, and each text of these is read as inline text.
+///
+/// The events are what a definition without states says of the document's lines (CommonMark, "Container blocks", "Leaf blocks" and "Inlines",
+/// without what the machines do not read yet). They are well formed, as those of [`read_document`]. It fails only if it runs out of memory.
+pub fn read_nested(
+    alloc: Global,
+    bytes: &[u8],
+    options: &ParseOptions,
+) -> Result<Vec<Event>, AllocError>
+    requires limit { IsWithinLimit options.now.tab_size bytes.now }
+    ensures events { IfOk result (λ events. AreDocumentEvents options.now bytes.now events.items) }
+    ensures formed { IfOk result (λ events. IsWellFormed (document options.now bytes.now) events.items) }
+{
+    match read_nested_events(alloc, bytes, options) {
         Ok(events) => Ok(events),
         Err(Unmade::Fault(Fault::Memory)) => Err(AllocError),
         Err(_) => unreachable!(),
@@ -148,6 +169,8 @@ fn read_as(
         Which::Text => read_by(alloc, &Text {}, Name::FlowStart, bytes, options, cuts),
         Which::Flow if choice.deep => read_flow_and_inlines(alloc, bytes, options, cuts),
         Which::Flow => read_flow(alloc, bytes, options, cuts),
+        Which::Document if choice.deep => read_nested_events(alloc, bytes, options),
+        Which::Document => read_blocks(alloc, bytes, options),
     }
 }
 

@@ -6,4 +6,5 @@ pub mod documents;
 pub mod laws;
 pub mod limit;
 mod making;
+mod nested;
 pub mod ranges;

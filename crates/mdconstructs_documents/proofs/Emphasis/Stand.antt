@@ -9,13 +9,13 @@ use Rattle.mdconstructs_tables.proofs.Looks.Left.{at-front}
 
 module _ (bytes : List ℕ) where
   -- where a run stands there are its enter and its exit
-  abbrev StandsAt : List Event → Standing → Type 0
+  abbrev pub StandsAt : List Event → Standing → Type 0
   StandsAt events s = (e f : Event) × (slice_get events s.index ≡ Some e) × (slice_get events (s.index + 1) ≡ Some f) × IsRunOf bytes s e f
 
-  abbrev AllStand : List Event → List Run → Type 0
+  abbrev pub AllStand : List Event → List Run → Type 0
   AllStand events rs = AllByRecursion (StandsAt events) (map standing rs)
 
-  runs-stand : (events ys : List Event) (j depth : ℕ) (before : Option ℕ) → drop j events ≡ ys → AllStand events (runs_from bytes j depth before ys)
+  pub runs-stand : (events ys : List Event) (j depth : ℕ) (before : Option ℕ) → drop j events ≡ ys → AllStand events (runs_from bytes j depth before ys)
   runs-stand events [] j depth before at = tt
   runs-stand events (e ∷ []) j depth before at = tt
   runs-stand events (e ∷ f ∷ es) j depth before at =
@@ -36,7 +36,7 @@ module _ (bytes : List ℕ) where
       ]
 
   module _ (events : List Event) (texts : ℕ → List Event) (rest : List Event) where
-    runs-are : (i : ℕ) (rs : List Run) (xs : List Event) → HasRunsAt texts rest i (map index_of rs) xs → drop i events ≡ xs → AllStand events rs → AreBalanced texts rest (map index_of rs) → RunsAre bytes texts rest rs xs
+    pub runs-are : (i : ℕ) (rs : List Run) (xs : List Event) → HasRunsAt texts rest i (map index_of rs) xs → drop i events ≡ xs → AllStand events rs → AreBalanced texts rest (map index_of rs) → RunsAre bytes texts rest rs xs
     runs-are i [] xs has at stand balanced = has
     runs-are i (r ∷ rs) xs has at stand balanced =
         let e = has.0 in

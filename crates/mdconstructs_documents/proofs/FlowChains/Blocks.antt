@@ -31,7 +31,7 @@ module _ (g : Given) (text : Text) where
   held-first e f [] at h = absurd h
   held-first e f (x ∷ es) at h = subst (Held e) (same_Some x f at) h
 
-  held-at : (es : List Event) → HoldEach g.tab g.bytes (Contains text.seats) es → HoldsOnlyText g text es
+  pub held-at : (es : List Event) → HoldEach g.tab g.bytes (Contains text.seats) es → HoldsOnlyText g text es
   held-at [] h n e f at next enters void = absurd (none-some e at)
   held-at (x ∷ es) h zero e f at next enters void =
       let same = same_Some x e at in

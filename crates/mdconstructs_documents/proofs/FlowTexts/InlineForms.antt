@@ -11,7 +11,7 @@ use Rattle.mdconstructs_documents.proofs.FlowTexts.Spans.{texts-keep}
 -- ---- inline text
 module _ (t : ℕ) (bytes : List ℕ) (on : Constructs) where
   -- what holds of marks over virtual bytes whose delimiters go byte by byte
-  abbrev Formed_so : List Mark → List Seat → Type 0
+  abbrev pub Formed_so : List Mark → List Seat → Type 0
   Formed_so marks seats = AllByRecursion (Steps bytes) seats → FormsOver AcrossGap t bytes marks seats
 
   kept : IsKeptBySpans bytes Formed_so
@@ -26,7 +26,7 @@ module _ (t : ℕ) (bytes : List ℕ) (on : Constructs) where
         around = λ n s ss inside other f h. k.around n s ss inside other (f h);
       }
 
-  inline-forms : (seats : List Seat) → Formed_so (read_marks (inline_seat_events on bytes) bytes seats) seats
+  pub inline-forms : (seats : List Seat) → Formed_so (read_marks (inline_seat_events on bytes) bytes seats) seats
   inline-forms seats steps p rest course =
       let g = document (options_with on 4) bytes in
       let text = record (empty_text (point 1 1 0 0)) { seats = seats } in

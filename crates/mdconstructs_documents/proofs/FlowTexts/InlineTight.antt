@@ -4,11 +4,11 @@ use Rattle.markdown_base.specs.declared.event.Name.{Name}
 use Rattle.mdconstructs_documents.proofs.FlowTexts.Forms.{tight-kept}
 
 -- ---- what comes in place of a run
-outer-holds : (s : Bool) → is_void (outer_name s) ≡ false
+pub outer-holds : (s : Bool) → is_void (outer_name s) ≡ false
 outer-holds true = refl
 outer-holds false = refl
 
-inner-holds : (s : Bool) → is_void (inner_name s) ≡ false
+pub inner-holds : (s : Bool) → is_void (inner_name s) ≡ false
 inner-holds true = refl
 inner-holds false = refl
 
@@ -53,7 +53,7 @@ tight-place r es h =
     subst AreTight same (tight-closings r.start r.closed (left ++ (opened ++ es)) (tight-data p r.left (opened ++ es) (tight-openings q r.opened es h)))
 
 -- ---- what is between runs
-tight-back : (xs ys : List Event) → AreTight (xs ++ ys) → AreTight ys
+pub tight-back : (xs ys : List Event) → AreTight (xs ++ ys) → AreTight ys
 tight-back [] ys h = h
 tight-back (x ∷ xs) ys h = tight-back xs ys h.1
 

@@ -1,7 +1,10 @@
-use Rattle.mdconstructs_documents.proofs.Prelude.{false, FlowStart, TextStart, StringStart, back-reads, deep-reads, lines-read, peek-reads, save-reads, paragraphs-by-blocks, text-by-blocks, line_events, data_events, back_events, save_events, paragraph_events, IfOk-weaker, no-run-refused, lines_rules, paragraphs_rules, peek_rules, deep_rules, back_rules, save_rules, lines-refuse-nothing, paragraphs-refuse-nothing, peek-refuses-nothing, deep-refuses-nothing, back-refuses-nothing, save-refuses-nothing, text_rules, text-refuses-nothing, paragraphs-readable, text-readable}
+use Rattle.mdconstructs_documents.proofs.Prelude.{false, subst, AreEventsOf, options_with, FlowStart, TextStart, StringStart, back-reads, deep-reads, lines-read, peek-reads, save-reads, paragraphs-by-blocks, text-by-blocks, line_events, data_events, back_events, save_events, paragraph_events, IfOk-weaker, no-run-refused, lines_rules, paragraphs_rules, peek_rules, deep_rules, back_rules, save_rules, lines-refuse-nothing, paragraphs-refuse-nothing, peek-refuses-nothing, deep-refuses-nothing, back-refuses-nothing, save-refuses-nothing, text_rules, text-refuses-nothing, paragraphs-readable, text-readable}
+use Rattle.std.specs.Prelude.{IfOk}
+use Rattle.mdconstructs_documents.specs.Documents.{AreDocumentEvents}
 use Rattle.mdconstructs_documents.proofs.DeepEvents.{only-memory, none-refused-deep, all-ready, flat-events, with-data, with-texts}
 use Rattle.mdconstructs_documents.proofs.FlowRuns.{flow-formed}
 use Rattle.mdconstructs_documents.proofs.Formed.{data-well-formed, run-formed, texts-well-formed}
+use Rattle.mdconstructs_documents.proofs.InContainers.Chosen.{deep-document}
 use Rattle.mdconstructs_documents.proofs.documents.read_as.Goals as goal
 
 pub returns-in-Lines-clause-events : goal.returns-in-Lines-clause-events
@@ -52,8 +55,22 @@ returns-in-Text-2-clause-events c =
 pub returns-in-Flow-clause-events : goal.returns-in-Flow-clause-events
 returns-in-Flow-clause-events c = rw (c.in-Flow.is, c.if-choice-3.true) (rw c.options_with.ensures at c.read_flow_and_inlines.ensures.events)
 
+pub returns-in-Flow-2-clause-events : goal.returns-in-Flow-2-clause-events
+returns-in-Flow-2-clause-events c = rw (c.in-Flow-2.is, c.if-choice-3.false) (rw c.options_with.ensures at c.read_flow.ensures.events)
+
+pub returns-in-Document-clause-events : goal.returns-in-Document-clause-events
+returns-in-Document-clause-events c =
+    let bytes = c.args.bytes.now in
+    let options = options_with c.args.constructs c.args.choice.now.tab in
+    let deep = c.args.choice.now.deep in
+    let which = c.args.choice.now.machine in
+    let read : IfOk c.read_nested_events.result (λ events. AreDocumentEvents options bytes events.items) =
+    subst (λ o. IfOk c.read_nested_events.result (λ events. AreDocumentEvents o bytes events.items)) c.options_with.ensures c.read_nested_events.ensures.events in
+    IfOk-weaker c.read_nested_events.result (λ events. AreDocumentEvents options bytes events.items) (λ events. AreEventsOf deep which options bytes events.items)
+    (λ events h. deep-document deep which c.in-Document.is c.if-choice-4.true options bytes events.items h) read
+
 pub returns-clause-events : goal.returns-clause-events
-returns-clause-events c = rw (c.in-Flow-2.is, c.if-choice-3.false) (rw c.options_with.ensures at c.read_flow.ensures.events)
+returns-clause-events c = rw (c.in-Document-2.is, c.if-choice-4.false) (rw c.options_with.ensures at c.read_blocks.ensures.events)
 
 pub returns-in-Lines-clause-formed : goal.returns-in-Lines-clause-formed
 returns-in-Lines-clause-formed c = IfOk-weaker c.read_by.result _ _ (λ events h. run-formed _ lines_rules FlowStart events.items h.0 h.1) (rw c.options_with.ensures at c.read_by.ensures.events)
@@ -76,8 +93,14 @@ returns-in-Save-clause-formed c = IfOk-weaker c.read_by-in-Save.result _ _ (λ e
 pub returns-in-Text-2-clause-formed : goal.returns-in-Text-2-clause-formed
 returns-in-Text-2-clause-formed c = IfOk-weaker c.read_by-in-Text-2.result _ _ (λ events h. run-formed _ text_rules FlowStart events.items h.0 h.1) (rw c.options_with.ensures at c.read_by-in-Text-2.ensures.events)
 
+pub returns-in-Document-clause-formed : goal.returns-in-Document-clause-formed
+returns-in-Document-clause-formed c = rw c.options_with.ensures at c.read_nested_events.ensures.formed
+
 pub returns-clause-formed : goal.returns-clause-formed
-returns-clause-formed c =
+returns-clause-formed c = rw c.options_with.ensures at c.read_blocks.ensures.formed
+
+pub returns-in-Flow-2-clause-formed : goal.returns-in-Flow-2-clause-formed
+returns-in-Flow-2-clause-formed c =
     let document = rw c.options_with.ensures at c.read_flow.ensures.document in
     IfOk-weaker c.read_flow.result _ _ (λ events h. flow-formed _ c.args.bytes.now document events.items h) (rw c.options_with.ensures at c.read_flow.ensures.events)
 
@@ -123,5 +146,11 @@ returns-in-Text-clause-err c = only-memory c.read_deep_by-in-Text.result (λ m e
 pub returns-in-Text-2-clause-err : goal.returns-in-Text-2-clause-err
 returns-in-Text-2-clause-err c = only-memory c.read_by-in-Text-2.result (λ m e. no-run-refused text_rules text-refuses-nothing _ false _ m (c.read_by-in-Text-2.ensures.message m e)) c.read_by-in-Text-2.ensures.ready c.read_by-in-Text-2.ensures.cause
 
+pub returns-in-Flow-2-clause-err : goal.returns-in-Flow-2-clause-err
+returns-in-Flow-2-clause-err c = c.read_flow.ensures.err
+
+pub returns-in-Document-clause-err : goal.returns-in-Document-clause-err
+returns-in-Document-clause-err c = c.read_nested_events.ensures.err
+
 pub returns-clause-err : goal.returns-clause-err
-returns-clause-err c = c.read_flow.ensures.err
+returns-clause-err c = c.read_blocks.ensures.err

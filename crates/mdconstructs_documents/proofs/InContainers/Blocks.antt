@@ -1,0 +1,61 @@
+-- The blocks of a document: what the machine of leaf blocks makes of its skeleton, and that their texts and strings can be read.
+use Rattle.mdconstructs_documents.proofs.Prelude.{◌≡◌, ℕ, List, [], ◌∷◌, Option, Some, true, map, subst, AllByRecursion, Content, Event, ParseOptions, begins, fitting_starts, IsReady, HasChildren, Given, IsDocument, document, flow_events, flow_rules, virtual, chain_text}
+use Rattle.std.specs.List.{AllZip}
+use Rattle.markdown_base.specs.declared.event.Content.TheVariants as content
+use Rattle.markdown_children.proofs.Parts.GoingOn.{goes-on}
+use Rattle.markdown_children.specs.NextContent.{CanBeReadNext, IsReadyNext}
+use Rattle.mdconstructs_documents.proofs.InContainers.Skeletons.{SkeletonLaws}
+use Rattle.mdconstructs_containers.specs.Blocks.{document_blocks, document_skeleton, with_lazy_letters}
+use Rattle.mdconstructs_containers.specs.Letters.{lazy_underlines, with_letters}
+use Rattle.mdconstructs_text.proofs.Paragraphs.ChainEvents.{all-begin, is-text}
+use Rattle.mdconstructs_documents.specs.Documents.{AreDocumentBlocks}
+use Rattle.mdconstructs_documents.proofs.FlowChains.Blocks.{blocks-read-next, chains-read-blocks}
+use Rattle.mdconstructs_documents.proofs.InContainers.Letters.{lettered-document, ready-back, ready-there}
+
+module _ (laws : SkeletonLaws) (g : Given) (is : IsDocument g) where
+  -- where letters stand
+  abbrev pub at : List ℕ
+  at = lazy_underlines g.options.constructs (virtual g.tab g.bytes)
+
+  -- the document that leaf blocks are read of, and the skeleton
+  abbrev pub shown : Given
+  shown = with_lazy_letters g
+
+  abbrev pub bare : List Event
+  bare = document_skeleton g
+
+  pub shown-is : IsDocument shown
+  shown-is = lettered-document at g (laws.plain g is) is
+
+  pub shown-ready : (wanted : Option Content) → IsReady g.tab g.bytes wanted bare → IsReady g.tab shown.bytes wanted bare
+  shown-ready wanted h = ready-there at g (laws.plain g is) wanted bare h
+
+  pub content-ready : IsReady g.tab shown.bytes (Some content.Content) bare
+  content-ready = shown-ready (Some content.Content) (laws.ready g is)
+
+  -- the leaf blocks of the chain that begins at an index
+  abbrev pub blocks_at : ℕ → List Event
+  blocks_at c = flow_events g.options.constructs shown.bytes (chain_text shown bare c).seats
+
+  each-can : (next : Option Content) (cs : List ℕ) → AllByRecursion (λ c. begins (Some content.Content) bare c ≡ true) cs → AllZip (λ c child. CanBeReadNext shown next (chain_text shown bare c) child) cs (map blocks_at cs)
+  each-can next [] b = tt
+  each-can next (c ∷ cs) b =
+      (blocks-read-next shown (chain_text shown bare c) next (is-text shown bare shown-is content.Content content-ready c b.0), each-can next cs b.1)
+
+  pub all-can : (next : Option Content) → let cs = fitting_starts (Some content.Content) bare in AllZip (λ c child. CanBeReadNext shown next (chain_text shown bare c) child) cs (map blocks_at cs)
+  all-can next = each-can next (fitting_starts (Some content.Content) bare) (all-begin shown bare shown-is content.Content content-ready)
+
+  pub blocks-next : (next : Option Content) → IsReady g.tab g.bytes next bare → IsReadyNext shown (Some content.Content) next bare (map blocks_at (fitting_starts (Some content.Content) bare))
+  blocks-next next h = goes-on shown (Some content.Content) next bare shown-is content-ready (shown-ready next h) (laws.gaps g is) (map blocks_at (fitting_starts (Some content.Content) bare)) (all-can next)
+
+  -- the blocks are ready for whatever the skeleton is ready for
+  pub blocks-ready : (next : Option Content) → IsReady g.tab g.bytes next bare → IsReady g.tab g.bytes next (document_blocks g)
+  blocks-ready next h = ready-back at g (laws.plain g is) next (document_blocks g) (blocks-next next h).ready
+
+-- what the machine makes of the skeleton, over the document with letters
+pub blocks-are : SkeletonLaws → (options : ParseOptions) (bytes : List ℕ) → IsDocument (document options bytes) → (read : List ℕ) → read ≡ with_letters (lazy_underlines options.constructs (virtual options.tab_size bytes)) bytes
+    → (events new : List Event) → events ≡ document_skeleton (document options bytes) → HasChildren flow_rules options read (Some content.Content) events new → AreDocumentBlocks options bytes new
+blocks-are laws options bytes is read same events new from h =
+    let g = document options bytes in
+    let k = subst (λ (es : List Event). HasChildren flow_rules options (shown laws g is).bytes (Some content.Content) es new) from (subst (λ (bs : List ℕ). HasChildren flow_rules options bs (Some content.Content) events new) same h) in
+    chains-read-blocks (shown laws g is) (bare laws g is) new k.1.0 (shown-is laws g is) (content-ready laws g is) k.1.1

@@ -1,0 +1,69 @@
+use Rattle.mdconstructs_documents.proofs.InContainers.Skeletons.{skeleton-laws}
+use Rattle.mdconstructs_documents.proofs.Prelude.{◌≡◌, ◌∙◌, [], ◌∷◌, List, length, ℕ, Some, ap, arith, sym, subst, refl, IfOk-weaker, virtual, IsReady, IsWellFormed, document}
+use Rattle.markdown_base.specs.declared.event.Content.TheVariants as content
+use Rattle.mdconstructs_containers.specs.Blocks.{document_blocks, document_skeleton}
+use Rattle.mdconstructs_containers.specs.Letters.{lazy_underlines, with_letters}
+use Rattle.mdconstructs_containers.proofs.LetterLemmas.{no_letters}
+use Rattle.mdconstructs_documents.proofs.InContainers.Blocks.{blocks-are, content-ready}
+use Rattle.mdconstructs_documents.proofs.InContainers.BlocksFormed.{blocks-well}
+use Rattle.mdconstructs_documents.proofs.InContainers.Letters.{lettered-limit}
+use Rattle.mdconstructs_documents.proofs.nested.read_blocks.Goals as goal
+
+-- a list of no bytes
+empty-list : (l : List ℕ) → length l ≡ 0 → l ≡ []
+empty-list [] h = refl
+empty-list (x ∷ xs) h = absurd (omega (arith, h))
+
+pub with_leaf_blocks-requires-clause-ready : goal.with_leaf_blocks-requires-clause-ready
+with_leaf_blocks-requires-clause-ready c =
+    subst (IsReady c.args.options.now.tab_size c.args.bytes.now (Some content.Content)) (sym c.in_ok-skeleton.ensures.events)
+    (skeleton-laws.ready (document c.args.options.now c.args.bytes.now) c.is_document.ensures)
+
+pub returns-then-is_empty-clause-events : goal.returns-then-is_empty-clause-events
+returns-then-is_empty-clause-events c =
+    let bytes = c.args.bytes.now in
+    let zero : length c.as_slice-letters.result.now ≡ 0 = grind arith in
+    let none : c.as_slice-letters.result.now ≡ [] = empty-list c.as_slice-letters.result.now zero in
+    let at = lazy_underlines c.args.options.now.constructs (virtual c.args.options.now.tab_size bytes) in
+    let no : [] ≡ at = sym none ∙ c.as_slice-letters.ensures.value ∙ c.in_ok-skeleton.ensures.letters in
+    let same : bytes ≡ with_letters at bytes = sym (no_letters bytes) ∙ ap (λ l. with_letters l bytes) no in
+    IfOk-weaker c.with_leaf_blocks.result _ _ (λ new h.
+    blocks-are skeleton-laws c.args.options.now bytes c.is_document.ensures bytes same c.in_ok-skeleton.skeleton.events.items new.items c.in_ok-skeleton.ensures.events h) c.with_leaf_blocks.ensures.events
+
+pub with_leaf_blocks-requires-2-clause-limit : goal.with_leaf_blocks-requires-2-clause-limit
+with_leaf_blocks-requires-2-clause-limit c =
+    let bytes = c.args.bytes.now in
+    let at = lazy_underlines c.args.options.now.constructs (virtual c.args.options.now.tab_size bytes) in
+    let letters = c.as_slice-letters.ensures.value ∙ c.in_ok-skeleton.ensures.letters in
+    let same : c.as_slice.result.now ≡ with_letters at bytes = c.as_slice.ensures.value ∙ c.in_ok-shown.ensures ∙ ap (λ l. with_letters l bytes) letters in
+    rw same (lettered-limit at c.args.options.now.tab_size bytes c.requires.limit)
+
+pub with_leaf_blocks-requires-2-clause-ready : goal.with_leaf_blocks-requires-2-clause-ready
+with_leaf_blocks-requires-2-clause-ready c =
+    let bytes = c.args.bytes.now in
+    let g = document c.args.options.now bytes in
+    let at = lazy_underlines c.args.options.now.constructs (virtual c.args.options.now.tab_size bytes) in
+    let letters = c.as_slice-letters.ensures.value ∙ c.in_ok-skeleton.ensures.letters in
+    let same : c.as_slice.result.now ≡ with_letters at bytes = c.as_slice.ensures.value ∙ c.in_ok-shown.ensures ∙ ap (λ l. with_letters l bytes) letters in
+    let ready = content-ready skeleton-laws g c.is_document.ensures in
+    let there = subst (λ bs. IsReady g.tab bs (Some content.Content) (document_skeleton g)) (sym same) ready in
+    subst (IsReady g.tab c.as_slice.result.now (Some content.Content)) (sym c.in_ok-skeleton.ensures.events) there
+
+pub returns-clause-events : goal.returns-clause-events
+returns-clause-events c =
+    let bytes = c.args.bytes.now in
+    let at = lazy_underlines c.args.options.now.constructs (virtual c.args.options.now.tab_size bytes) in
+    let letters = c.as_slice-letters.ensures.value ∙ c.in_ok-skeleton.ensures.letters in
+    let same : c.as_slice.result.now ≡ with_letters at bytes = c.as_slice.ensures.value ∙ c.in_ok-shown.ensures ∙ ap (λ l. with_letters l bytes) letters in
+    IfOk-weaker c.with_leaf_blocks-2.result _ _ (λ new h.
+    blocks-are skeleton-laws c.args.options.now bytes c.is_document.ensures c.as_slice.result.now same c.in_ok-skeleton.skeleton.events.items new.items c.in_ok-skeleton.ensures.events h) c.with_leaf_blocks-2.ensures.events
+
+pub returns-then-is_empty-clause-formed : goal.returns-then-is_empty-clause-formed
+returns-then-is_empty-clause-formed c =
+    let g = document c.args.options.now c.args.bytes.now in
+    IfOk-weaker c.with_leaf_blocks.result _ _ (λ new (are : new.items ≡ document_blocks g). subst (IsWellFormed g) (sym are) (blocks-well skeleton-laws g c.is_document.ensures)) (returns-then-is_empty-clause-events c)
+
+pub returns-clause-formed : goal.returns-clause-formed
+returns-clause-formed c =
+    let g = document c.args.options.now c.args.bytes.now in
+    IfOk-weaker c.with_leaf_blocks-2.result _ _ (λ new (are : new.items ≡ document_blocks g). subst (IsWellFormed g) (sym are) (blocks-well skeleton-laws g c.is_document.ensures)) (returns-clause-events c)

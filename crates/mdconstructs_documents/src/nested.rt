@@ -1,0 +1,138 @@
+//! Documents with block quotes and lists: first these, with a chain of chunks for each stretch of lines, and then the leaf blocks of each chain.
+
+ghost use Rattle.std.specs.Prelude.{◌≡◌, IfErr, IfOk, Some, None};
+ghost use Rattle.markdown_base.specs.declared.event.Content.TheVariants as content;
+ghost use Rattle.markdown_base.specs.Virtual.{IsWithinLimit};
+ghost use Rattle.markdown_children.specs.Ready.{IsReady};
+ghost use Rattle.markdown_tokenizer.specs.declared.tokenizer.fault.Fault.TheVariants.{Memory};
+ghost use Rattle.markdown_tokenizer.specs.Engine.{IsWellFormed};
+ghost use Rattle.markdown_tokenizer.specs.Text.{IsDocument};
+ghost use Rattle.mdconstructs_flow.specs.FlowKnows.{flow_rules};
+ghost use Rattle.mdconstructs_inlines.specs.InlineRules.{inlines_rules};
+ghost use Rattle.mdconstructs_documents.specs.Documents.{document, AreDocumentBlocks, AreDocumentEvents};
+ghost use Rattle.mdconstructs_documents.specs.Runs.{HasChildren};
+
+use crate::making::{Unmade, with_ready_children};
+use markdown_base::configuration::ParseOptions;
+use markdown_base::event::{Content, Event};
+use mdconstructs_containers::letters::with_letters;
+use mdconstructs_containers::skeleton::skeleton_of;
+use mdconstructs_flow::flow::Flow;
+use mdconstructs_inlines::inlines::Inlines;
+use std::alloc::Global;
+
+/// The containers of a document, and the leaf blocks in them.
+///
+/// Where a line that only goes on with a paragraph looks as an underline, leaf blocks are read of a copy of the document, with a letter for the
+/// underline's first byte. All places of it are the same.
+pub(crate) fn read_blocks(
+    alloc: Global,
+    bytes: &[u8],
+    options: &ParseOptions,
+) -> Result<Vec<Event>, Unmade>
+    requires limit { IsWithinLimit options.now.tab_size bytes.now }
+    ensures events { IfOk result (λ events. AreDocumentBlocks options.now bytes.now events.items) }
+    ensures err { IfErr result (λ unmade. unmade ≡ Unmade.Fault Memory) }
+    ensures formed { IfOk result (λ events. IsWellFormed (document options.now bytes.now) events.items) }
+    ensures document { IsDocument (document options.now bytes.now) }
+{
+    is_document(bytes, options);
+    let skeleton = skeleton_of(alloc, bytes, options.tab_size, &options.constructs)?;
+    let letters = skeleton.letters.as_slice();
+    if letters.is_empty() {
+        return with_leaf_blocks(alloc, bytes, options, skeleton.events);
+    }
+    let shown = with_letters(alloc, bytes, letters)?;
+    with_leaf_blocks(alloc, shown.as_slice(), options, skeleton.events)
+}
+
+/// Bytes within the limit, with options, are a document.
+fn is_document(bytes: &[u8], options: &ParseOptions)
+    requires limit { IsWithinLimit options.now.tab_size bytes.now }
+    ensures { IsDocument (document options.now bytes.now) }
+{
+    let _columns = options.tab_size.get();
+}
+
+/// The events with the leaf blocks of each chain of content in place of its chunks.
+fn with_leaf_blocks(
+    alloc: Global,
+    bytes: &[u8],
+    options: &ParseOptions,
+    events: Vec<Event>,
+) -> Result<Vec<Event>, Unmade>
+    requires limit { IsWithinLimit options.now.tab_size bytes.now }
+    requires ready { IsReady options.now.tab_size bytes.now (Some content.Content) events.items }
+    ensures events { IfOk result (λ new. HasChildren flow_rules options.now bytes.now (Some content.Content) events.items new.items) }
+    ensures err { IfErr result (λ unmade. unmade ≡ Unmade.Fault Memory) }
+{
+    with_ready_children(
+        alloc,
+        &Flow {},
+        bytes,
+        options,
+        events,
+        Some(&Content::Content),
+    )
+}
+
+/// The events of a document with its containers: first its blocks, and then their texts and strings.
+pub(crate) fn read_nested_events(
+    alloc: Global,
+    bytes: &[u8],
+    options: &ParseOptions,
+) -> Result<Vec<Event>, Unmade>
+    requires limit { IsWithinLimit options.now.tab_size bytes.now }
+    ensures events { IfOk result (λ events. AreDocumentEvents options.now bytes.now events.items) }
+    ensures err { IfErr result (λ unmade. unmade ≡ Unmade.Fault Memory) }
+    ensures formed { IfOk result (λ events. IsWellFormed (document options.now bytes.now) events.items) }
+    ensures document { IsDocument (document options.now bytes.now) }
+{
+    let events = read_blocks(alloc, bytes, options)?;
+    let events = with_inline_text(alloc, bytes, options, events)?;
+    with_strings_read(alloc, bytes, options, events)
+}
+
+/// The events with the inline text of each chain of text in place of its chunks.
+fn with_inline_text(
+    alloc: Global,
+    bytes: &[u8],
+    options: &ParseOptions,
+    events: Vec<Event>,
+) -> Result<Vec<Event>, Unmade>
+    requires limit { IsWithinLimit options.now.tab_size bytes.now }
+    requires ready { IsReady options.now.tab_size bytes.now (Some content.Text) events.items }
+    ensures events { IfOk result (λ new. HasChildren inlines_rules options.now bytes.now (Some content.Text) events.items new.items) }
+    ensures err { IfErr result (λ unmade. unmade ≡ Unmade.Fault Memory) }
+{
+    with_ready_children(
+        alloc,
+        &Inlines {},
+        bytes,
+        options,
+        events,
+        Some(&Content::Text),
+    )
+}
+
+/// The events with those of each string in place of its chunk.
+fn with_strings_read(
+    alloc: Global,
+    bytes: &[u8],
+    options: &ParseOptions,
+    events: Vec<Event>,
+) -> Result<Vec<Event>, Unmade>
+    requires limit { IsWithinLimit options.now.tab_size bytes.now }
+    requires ready { IsReady options.now.tab_size bytes.now (Some content.String) events.items }
+    ensures events { IfOk result (λ new. HasChildren inlines_rules options.now bytes.now (Some content.String) events.items new.items) }
+    ensures err { IfErr result (λ unmade. unmade ≡ Unmade.Fault Memory) }
+{
+    with_ready_children(
+        alloc,
+        &Inlines {},
+        bytes,
+        options,
+        events,
+        Some(&Content::String),
+    )
+}
