@@ -7,7 +7,7 @@ use Rattle.std.specs.Str.{bytes_eq}
 use Rattle.std.specs.Str.Parse.{digits_value}
 use Rattle.mdconstructs.specs.declared.choice.Choice.{Choice}
 use Rattle.mdconstructs.specs.declared.choice.Which.{Which}
-use Rattle.mdconstructs.specs.declared.choice.Which.TheVariants.{Lines, Paragraphs, Peek, Deep, Back, Save, Text, Flow}
+use Rattle.mdconstructs.specs.declared.choice.Which.TheVariants.{Lines, Paragraphs, Peek, Deep, Back, Save, Text, Flow, Document}
 use Rattle.mdconstructs.specs.Choices.{choice_together}
 
 -- the number of an argument of decimal digits, if it is above 0 and fits `usize`
@@ -21,7 +21,7 @@ which_of name =
     (cond (bytes_eq name (codes "paragraphs")) (Some Paragraphs)
     (cond (bytes_eq name (codes "peek")) (Some Peek)
     (cond (bytes_eq name (codes "deep")) (Some Deep) (cond (bytes_eq name (codes "back")) (Some Back) (cond (bytes_eq name (codes "save")) (Some Save)
-    (cond (bytes_eq name (codes "text")) (Some Text) (cond (bytes_eq name (codes "flow")) (Some Flow) None)))))))
+    (cond (bytes_eq name (codes "text")) (Some Text) (cond (bytes_eq name (codes "flow")) (Some Flow) (cond (bytes_eq name (codes "document")) (Some Document) None))))))))
 
 -- the tab size of an argument: its number, if that is at most 16
 abbrev pub tab_size_of : List ℕ → Option ℕ

@@ -16,7 +16,7 @@ pub const USAGE: &str = "usage: mdevents [--cut n] [--deep] [--machine name] [--
 
 /// Reads the arguments after the program's name: `--cut` with a number, `--deep`, `--machine` with a name, and `--tab` with a
 /// number from 1 to 16. They come in any order, each at most once. The default machine is `lines`, and the default tab size 4.
-/// `--deep` is accepted only with the machines `paragraphs`, `text` and `flow`. Returns `None` if the arguments are not accepted;
+/// `--deep` is accepted only with the machines `paragraphs`, `text`, `flow` and `document`. Returns `None` if the arguments are not accepted;
 /// [`USAGE`] is then shown.
 pub fn read_words(words: &[String]) -> Option<Choice>
     ensures chosen { result ≡ choice_of_words (map string_bytes words.now) }
@@ -146,6 +146,8 @@ fn read_which(name: &str) -> Option<Which>
         Some(Which::Text)
     } else if name == "flow" {
         Some(Which::Flow)
+    } else if name == "document" {
+        Some(Which::Document)
     } else {
         None
     }
