@@ -14,8 +14,9 @@ usage: tools/commonmark.py SPEC PROGRAM [--machine NAME] [--failing] [--example 
   --self-test     the HTML of a few lists of events that are written by hand; no SPEC, no PROGRAM
 
 The renderer knows no Markdown: it sees the names and places of events, and the bytes between places. A name without a rule makes the
-example wrong. Two rules are of code spans, as no event says these: white space at the start of a line in it is left out; and one that
-begins and ends with a space loses both, unless it is all spaces.
+example wrong. Three rules are of what no event says: white space at the start of a line in a code span is left out; a code span that
+begins and ends with a space loses both, unless it is all spaces; and a list is loose if a blank line is between two blocks of an item, or
+between two items.
 """
 
 import argparse
@@ -32,7 +33,7 @@ EVENT = re.compile(r"(enter|exit) (\w+) \d+:(\d+) \((\d+)\+(\d+)\)")
 TAB = 4  # CommonMark's distance between tab stops
 BLANKS = " \t"
 # These hold no text that is shown.
-SILENT = {"SpaceOrTab", "BlankLineEnding", "LineEnding"}
+SILENT = {"SpaceOrTab", "BlankLineEnding", "LineEnding", "BlockQuotePrefix", "ListItemPrefix"}
 MARKERS = {"AutolinkMarker", "CharacterEscapeMarker", "EmphasisSequence", "StrongSequence", "SpaceOrTab"}
 
 Place = collections.namedtuple("Place", "column index vs")
@@ -168,8 +169,10 @@ def lines_of(document, spans, data):
 
 
 def fenced(document, span):
-    """The HTML of fenced code: the first line is a fence, and the last one may be."""
+    """The HTML of fenced code: the first line is a fence, and the last one may be. White space before that one is an item's."""
     inside = [it for it in span.inner if it.name != "CodeFencedFence"]
+    if span.inner[-1].name == "CodeFencedFence" and inside and inside[-1].name == "SpaceOrTab":
+        inside.pop()
     info = "".join(inline(document, it.inner) for it in found(span, "CodeFencedFenceInfo"))
     attribute = f' class="language-{info}"' if info else ""
     return f"<pre><code{attribute}>{escaped(lines_of(document, inside[1:], 'CodeFlowChunk'))}</code></pre>\n"
@@ -181,9 +184,57 @@ def heading(document, span, name, level):
     return f"<h{level}>{text}</h{level}>\n"
 
 
+def is_apart(spans):
+    """Whether a blank line is between two blocks: behind the beginning of its line is only white space or a prefix."""
+    is_begun = is_line = is_blank = False
+    for span in spans:
+        if span.name in ("LineEnding", "BlankLineEnding"):
+            is_blank |= is_line and is_begun
+            is_line = True
+        elif span.name not in SILENT:
+            if is_blank:
+                return True
+            is_begun, is_line = True, span.end.column == 1
+    return False
+
+
+def prefixless(span):
+    """A leaf block without the prefixes of quotes."""
+    return span._replace(inner=[prefixless(it) for it in span.inner if it.name != "BlockQuotePrefix"])
+
+
+def listed(document, span):
+    """The HTML of a list. Where it is tight, a paragraph of an item has no tag of its own."""
+    items = [it for it in span.inner if it.name == "ListItem"]
+    is_tight = not is_apart(span.inner) and not any(is_apart(it.inner) for it in items)
+    made = "".join(f"<li>{item(document, it, is_tight)}</li>\n" for it in items)
+    if span.name == "ListUnordered":
+        return f"<ul>\n{made}</ul>\n"
+    number = int(bytes_of(document, found(items[0], "ListItemValue")[0]))
+    start = "" if number == 1 else f' start="{number}"'
+    return f"<ol{start}>\n{made}</ol>\n"
+
+
+def item(document, span, is_tight):
+    """The HTML of what is in an item."""
+    made, is_text = "", True
+    for inner in span.inner:
+        if inner.name in SILENT:
+            continue
+        was_text, is_text = is_text, is_tight and inner.name == "Paragraph"
+        html_of_it = inline(document, prefixless(inner).inner) if is_text else block(document, inner)
+        made += ("" if is_text and was_text or made.endswith("\n") else "\n") + html_of_it
+    return made
+
+
 def block(document, span):
-    """The HTML of an outermost span."""
+    """The HTML of a block."""
     name = span.name
+    if name == "BlockQuote":
+        return f"<blockquote>\n{''.join(block(document, it) for it in span.inner)}</blockquote>\n"
+    if name in ("ListOrdered", "ListUnordered"):
+        return listed(document, span)
+    span = prefixless(span)
     if name == "Paragraph":
         return f"<p>{inline(document, span.inner)}</p>\n"
     if name == "HeadingAtx":
@@ -279,6 +330,16 @@ BY_HAND = [
      " -HtmlText 19:4 -Paragraph 19:4", "<p><code>a b</code>&lt;*<br />\n<b></p>\n"),
     ("<a:\xe9&>", "+Paragraph 0:1 +Autolink 0:1 =AutolinkMarker 0:1 1:2 =AutolinkProtocol 1:2 6:7 =AutolinkMarker 6:7 7:8 -Autolink 7:8 -Paragraph 7:8",
      '<p><a href="a:%C3%A9&amp;">a:\xe9&amp;</a></p>\n'),
+    ("- a\n- > b\n", "+ListUnordered 0:1 +ListItem 0:1 +ListItemPrefix 0:1 =ListItemMarker 0:1 1:2 =SpaceOrTab 1:2 2:3 -ListItemPrefix 2:3 +Paragraph 2:3"
+     " =Data 2:3 3:4 -Paragraph 3:4 -ListItem 3:4 =LineEnding 3:4 4:1 +ListItem 4:1 +ListItemPrefix 4:1 =ListItemMarker 4:1 5:2 =SpaceOrTab 5:2 6:3"
+     " -ListItemPrefix 6:3 +BlockQuote 6:3 +BlockQuotePrefix 6:3 =BlockQuoteMarker 6:3 7:4 =SpaceOrTab 7:4 8:5 -BlockQuotePrefix 8:5 +Paragraph 8:5"
+     " =Data 8:5 9:6 -Paragraph 9:6 -BlockQuote 9:6 -ListItem 9:6 -ListUnordered 9:6 =LineEnding 9:6 10:1",
+     "<ul>\n<li>a</li>\n<li>\n<blockquote>\n<p>b</p>\n</blockquote>\n</li>\n</ul>\n"),
+    # a blank line between two items, and a list that starts with 2
+    ("2. a\n\n3. b", "+ListOrdered 0:1 +ListItem 0:1 +ListItemPrefix 0:1 =ListItemValue 0:1 1:2 =ListItemMarker 1:2 2:3 =SpaceOrTab 2:3 3:4 -ListItemPrefix 3:4"
+     " +Paragraph 3:4 =Data 3:4 4:5 -Paragraph 4:5 -ListItem 4:5 =LineEnding 4:5 5:1 =BlankLineEnding 5:1 6:1 +ListItem 6:1 +ListItemPrefix 6:1"
+     " =ListItemValue 6:1 7:2 =ListItemMarker 7:2 8:3 =SpaceOrTab 8:3 9:4 -ListItemPrefix 9:4 +Paragraph 9:4 =Data 9:4 10:5 -Paragraph 10:5 -ListItem 10:5"
+     " -ListOrdered 10:5", '<ol start="2">\n<li>\n<p>a</p>\n</li>\n<li>\n<p>b</p>\n</li>\n</ol>\n'),
     ("a", "+Paragraph 0:1 =Peek 0:1 1:2 -Paragraph 1:2", None),
     ("a", "+Paragraph 0:1 =Data 0:1 1:2", None),
 ]
