@@ -12,5 +12,6 @@ pub mod Once
 pub mod Weaves
 pub mod Written
 pub mod Untorn
+pub mod TextGaps
 pub mod GoingOn
 pub mod Example

@@ -6,7 +6,7 @@ use Rattle.std.proofs.lemmas.Bool.{false≢true, eqb-true}
 use Rattle.std.proofs.lemmas.Bool.Decides.{nat_tests}
 use Rattle.std.proofs.lemmas.Grind.{flat_map-append}
 use Rattle.std.proofs.lemmas.List.{append-nil, length-take, reverse-append, reverse-reverse, length-drop, length-map, length-reverse, take_all, take-append-le, drop-append-le, take-append-drop}
-use Rattle.markdown_base.proofs.Common.{every-append, every-map}
+use Rattle.markdown_base.proofs.Common.{every-append, every-map, and-right}
 use Rattle.markdown_base.specs.Events.{same_name}
 use Rattle.markdown_base.specs.declared.configuration.Constructs.{Constructs}
 use Rattle.markdown_base.specs.declared.event.Name.TheVariants as name
@@ -20,6 +20,7 @@ use Rattle.mdconstructs_containers.proofs.RowFacts.{BeganBefore, BeginHere, Begi
 use Rattle.mdconstructs_containers.specs.Prefixes.{containers_of}
 use Rattle.mdconstructs_containers.specs.Rows.{Before, Row, closed, has_none, holds_ending, is_paragraph, known_after, leaf_after, nothing_known, open_paragraph, opened_by, row_of, rows_from}
 use Rattle.mdconstructs_containers.specs.Skeleton.{Frame, frames_at, frames_of, further, going_on_at, left_in, list_at, list_begun, list_name, shared, standing}
+use Rattle.markdown_base.proofs.Facts.Bools.{and-left}
 
 -- ---- frames that two lists share
 
@@ -29,7 +30,7 @@ shared_front (p ∷ ps) xs ys =
     let more = shared_front ps xs ys in
     (λ k. cond (same_name-refl p.name k && eq-eqb p.line p.line refl k) (suc (shared (ps ++ xs) (ps ++ ys))) 0) ∙ omega (arith, more)
 
-shared_none : (xs : List Frame) → shared xs [] ≡ 0
+pub shared_none : (xs : List Frame) → shared xs [] ≡ 0
 shared_none [] = refl
 shared_none (x ∷ xs) = refl
 
@@ -299,18 +300,6 @@ standing_begun r behind h some =
 
 -- ---- what a line is behind the lines before it
 
-right_part : (x y : Bool) → (x && y) ≡ true → y ≡ true
-right_part true y h = h
-right_part false y h = absurd (false≢true h)
-
-left_part : (x y : Bool) → (x && y) ≡ true → x ≡ true
-left_part true y h = refl
-left_part false y h = absurd (false≢true h)
-
-not_is : (x : Bool) → not x ≡ true → x ≡ false
-not_is true h = absurd (false≢true h)
-not_is false h = refl
-
 module _ (on : Constructs) (b : Before) (n : ℕ) (line : Line) where
   abbrev r : Row
   r = row_of on b n line
@@ -322,16 +311,16 @@ module _ (on : Constructs) (b : Before) (n : ℕ) (line : Line) where
   all_go_on = length r.went_on == b.depth
 
   left_is : r.is_left_blank ≡ true → (r.is_blank ≡ true) × (none ≡ true)
-  left_is h = let rest = right_part r.is_blank (none && not (r.stays && holds_ending b.leaf)) h in (left_part r.is_blank (none && not (r.stays && holds_ending b.leaf)) h, left_part none (not (r.stays && holds_ending b.leaf)) rest)
+  left_is h = let rest = and-right r.is_blank (none && not (r.stays && holds_ending b.leaf)) h in (and-left r.is_blank (none && not (r.stays && holds_ending b.leaf)) h, and-left none (not (r.stays && holds_ending b.leaf)) rest)
 
   stays_is : r.stays ≡ true → none ≡ true
-  stays_is h = left_part none (r.is_lazy || (all_go_on && (length b.stack == b.depth))) h
+  stays_is h = and-left none (r.is_lazy || (all_go_on && (length b.stack == b.depth))) h
 
   lazy_is : r.is_lazy ≡ true → (none ≡ true) × (is_paragraph b.leaf ≡ true)
   lazy_is h =
       let kind = interrupts (line_kind on (drop r.columns (text_of line))) in
-      let rest = right_part (not all_go_on) (none && (is_paragraph b.leaf && not kind)) h in
-      (left_part none (is_paragraph b.leaf && not kind) rest, left_part (is_paragraph b.leaf) (not kind) (right_part none (is_paragraph b.leaf && not kind) rest))
+      let rest = and-right (not all_go_on) (none && (is_paragraph b.leaf && not kind)) h in
+      (and-left none (is_paragraph b.leaf && not kind) rest, and-left (is_paragraph b.leaf) (not kind) (and-right none (is_paragraph b.leaf && not kind) rest))
 
   lazy_stays : r.is_lazy ≡ true → r.stays ≡ true
   lazy_stays h = (λ k. (lazy_is h).0 k && (h k || (all_go_on && (length b.stack == b.depth))))
@@ -339,9 +328,9 @@ module _ (on : Constructs) (b : Before) (n : ℕ) (line : Line) where
   -- a line that stays, and not lazily, stands in all containers
   stays_in : r.stays ≡ true → r.is_lazy ≡ false → (all_go_on ≡ true) × ((length b.stack == b.depth) ≡ true)
   stays_in h lazy =
-      let rest = right_part none (r.is_lazy || (all_go_on && (length b.stack == b.depth))) h in
+      let rest = and-right none (r.is_lazy || (all_go_on && (length b.stack == b.depth))) h in
       let both : (all_go_on && (length b.stack == b.depth)) ≡ true = ap (λ x. x || (all_go_on && (length b.stack == b.depth))) (sym lazy) ∙ rest in
-      (left_part all_go_on (length b.stack == b.depth) both, right_part all_go_on (length b.stack == b.depth) both)
+      (and-left all_go_on (length b.stack == b.depth) both, and-right all_go_on (length b.stack == b.depth) both)
 
   stays_all : r.stays ≡ true → r.is_lazy ≡ false → containers_of r.went_on ++ containers_of r.begun ≡ b.stack
   stays_all h lazy =
@@ -365,7 +354,7 @@ module _ (on : Constructs) (b : Before) (n : ℕ) (line : Line) where
       not_lazy free false e = e
 
       held : (r.stays ≡ false) ⊎ (b.leaf ≡ closed) → (x : Bool) → (r.stays && holds_ending b.leaf) ≡ x → x ≡ false
-      held free true e = absurd (elim free [ inl out ↦ false≢true (sym out ∙ left_part r.stays (holds_ending b.leaf) e) | inr leaf ↦ false≢true (sym (ap holds_ending leaf) ∙ right_part r.stays (holds_ending b.leaf) e) ])
+      held free true e = absurd (elim free [ inl out ↦ false≢true (sym out ∙ and-left r.stays (holds_ending b.leaf) e) | inr leaf ↦ false≢true (sym (ap holds_ending leaf) ∙ and-right r.stays (holds_ending b.leaf) e) ])
       held free false e = refl
 
       not_blank : (r.stays ≡ false) ⊎ (b.leaf ≡ closed) → (x y : Bool) → r.is_blank ≡ x → none ≡ y → (r.is_blank && (none && not (r.stays && holds_ending b.leaf))) ≡ false → (r.is_blank ≡ false) ⊎ (none ≡ false)

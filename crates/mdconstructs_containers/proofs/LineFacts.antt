@@ -59,10 +59,6 @@ module _ (bytes : List ℕ) where
       let here : ((slice_index bytes p.index == 10) && follows_cr bytes p.index) ≡ false = subst (IsOutside bytes) (sym e) h in
       λ k. cond (here k) (record { line = p.line; column = p.column; index = p.index - 1; vs = p.vs }) p
 
-  and_false : (a : Bool) → (a && false) ≡ false
-  and_false true = refl
-  and_false false = refl
-
   pub outside_zero : IsOutside bytes 0
   outside_zero = and_false (slice_index bytes 0 == 10)
 

@@ -178,11 +178,6 @@ pub begun_columns_are : (list number : ℕ) (xs : List CodePrefix) (u : List ℕ
 begun_columns_are list number [] u h = tt
 begun_columns_are list number (x ∷ xs) u h = (inside_some x u h.0, have_columns number xs (drop x.size u) h.1)
 
-pub columns_take : (k : ℕ) (ps : List Prefix) → columns_of (take k ps) ≤ columns_of ps
-columns_take zero ps = omega arith
-columns_take (suc k) [] = omega arith
-columns_take (suc k) (p ∷ ps) = let h = columns_take k ps in omega (arith, h, columns_more [] p ps, columns_more [] p (take k ps))
-
 pub take_min : {A : Type 0} (m n : ℕ) (xs : List A) → length xs ≡ n → take (min m n) xs ≡ take m xs
 take_min m n xs e = by (cases_lt m n)
   where

@@ -30,6 +30,7 @@ use Rattle.mdconstructs_containers.proofs.SeatFacts.{LineIs, LinesEnd, SeatEnds,
 use Rattle.mdconstructs_containers.specs.Prefixes.{columns_of, containers_of}
 use Rattle.mdconstructs_containers.specs.Rows.{Before, Row, has_none, holds_ending, known_after, nothing_known, row_of, rows, rows_from}
 use Rattle.mdconstructs_containers.specs.Skeleton.{Frame, Part, Piece, begin_of, begun_all, behind_marks, chunks_of, end_of, ending_marks, exits, frames_at, further, inside_of, is_held, joined_pieces, last_line, last_of, part_marks, parts, parts_in, parts_marks, piece_of, pieces_of, prefixes_marks, shared, standing}
+use Rattle.mdconstructs_flow_read.proofs.Marks.LeafSpans.{text-shorter}
 
 -- ---- the virtual bytes of a part
 
@@ -59,9 +60,6 @@ text_first : (held : Bool) (r : Row) (more : List Row) → IsWhole r.line → Is
 text_first true r [] w = (ending_of r.line, line_front r.line w)
 text_first false r [] w = ([], sym (append-nil (line_text r.line)))
 text_first held r (next ∷ more) w = (ending_of r.line ++ seats_of held next more, ap (λ l. l ++ seats_of held next more) (line_front r.line w) ∙ append_assoc (line_text r.line) (ending_of r.line) (seats_of held next more))
-
-pub text_within : (line : Line) → IsWhole line → length (line_text line) ≤ length line
-text_within line w = let size = ap length (line_front line w) in let both = length-append (line_text line) (ending_of line) in omega (arith, size, both)
 
 module _ (t : ℕ) (bytes : List ℕ) where
   -- ---- its pieces
@@ -122,7 +120,7 @@ module _ (t : ℕ) (bytes : List ℕ) where
   pieces_over held r [] h hs nones ends = ([], sym (append-nil (drop r.columns (cond held r.line (line_text r.line)))), tt, refl)
   pieces_over held r (next ∷ more) h hs nones ends =
       let few = columns_few r h in
-      let size = text_within r.line h.line.whole in (
+      let size = text-shorter r.line h.line.whole in (
         seats_of held next more,
         drop-append-le r.columns r.line (seats_of held next more) (omega (arith, few, size)),
         ends_any (drop r.columns r.line) (pieces_of bytes held next more) (behind_ends r.line r.columns h.line ends.0 few),
@@ -256,7 +254,7 @@ module _ (t : ℕ) (bytes : List ℕ) where
             let whole : line ++ rest ≡ take c line ++ (drop c line ++ rest) = ap (λ l. l ++ rest) (sym (take-append-drop c line)) ∙ append_assoc (take c line) (drop c line) rest in
             let track1 : Track t bytes a (drop c line ++ rest) = track-on t bytes p (take c line) (drop c line ++ rest) (subst (Track t bytes p) whole track) in
             let left : length (drop c line) ≡ length line - c = length-drop c line in
-            let size = text_within line h.first.line.whole in
+            let size = text-shorter line h.first.line.whole in
             let within = h.first.within in
             let begun = begun_goes t bytes r.begun kept a (drop c line) rest h.first.sizes (omega (arith, left, size, within)) (whole-behind c line h.first.line.whole) track1 in
             let end : end_after a (take (columns_of r.begun) (drop c line)) ≡ end_after p (take r.columns line) =

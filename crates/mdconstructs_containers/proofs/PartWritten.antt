@@ -45,11 +45,12 @@ use Rattle.mdconstructs_containers.proofs.RunLemmas.{behind_line, line_parts, si
 use Rattle.mdconstructs_containers.proofs.SeatLemmas.{seats_drop, span_is_all}
 use Rattle.mdconstructs_containers.proofs.StretchLemmas.{columns_small, first_is, kept_some, went_again, went_small, row_bytes, row_columns, row_kept, row_run, row_seats}
 use Rattle.mdconstructs_containers.proofs.WrittenLemmas.{write_plain}
-use Rattle.mdconstructs_containers.proofs.PartFacts.{begun_columns_are, columns_take, line_size, lines_is, next_few, next_outside, row, split_at, take_min, text_from, the_columns, the_fits, the_going, the_row, the_sum, the_went}
+use Rattle.mdconstructs_containers.proofs.PartFacts.{begun_columns_are, line_size, lines_is, next_few, next_outside, row, split_at, take_min, text_from, the_columns, the_fits, the_going, the_row, the_sum, the_went}
 use Rattle.mdconstructs_containers.proofs.RowLemmas.{has_none_begun}
 use Rattle.mdconstructs_containers.proofs.WritingLemmas.{columns_behind}
 use Rattle.mdconstructs_containers.proofs.WrittenLemmas.{end_chunks, plain_append}
 use Rattle.std.proofs.lemmas.Nat.{mul-le}
+use Rattle.mdconstructs_containers.proofs.PartSpans.{columns_front}
 
 -- where a line ends, as the code says it
 pub end_at_is : (b : Bool) (x : RowAt) → cond b (cond (x.span.end == x.span.next) (point x.span.number (x.span.size + 1) x.span.end 0) (point (x.span.number + 1) 1 x.span.next 0)) (point x.span.number (x.span.size + 1) x.span.end 0) ≡ end_at b x
@@ -179,7 +180,7 @@ module _ (t : ℕ) (bytes : List ℕ) (some : 0 < t) (limit : t * length bytes +
           ∙ take_min stands first.row.many r.went_on went_size ∙ ap (λ n. take n r.went_on) (sym stands_size)
 
       text_long : columns_of (take (length (standing r rs)) r.went_on) ≤ length (line_text r.line)
-      text_long = omega (arith, columns_take (length (standing r rs)) r.went_on, went_small t bytes some limit stack left.number left.start first r the left.outside)
+      text_long = omega (arith, columns_front (length (standing r rs)) r.went_on, went_small t bytes some limit stack left.number left.start first r the left.outside)
 
       whole : r.line ≡ line_text r.line ++ ending_of r.line
       whole = line_parts t bytes some limit left.number left.start first the.placed r.line the.line left.outside

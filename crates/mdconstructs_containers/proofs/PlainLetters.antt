@@ -3,7 +3,7 @@ use Rattle.std.proofs.Common.{◌≡◌, ℕ, zero, suc, ◌+◌, ◌-◌, ◌�
 use Rattle.std.specs.Prelude.{◌==◌, ◌&&◌, ◌||◌, not, is_some, None, Some}
 use Rattle.std.specs.List.{AllByRecursion, flat_map, list_any}
 use Rattle.std.proofs.lemmas.Bool.{false≢true, eqb-true}
-use Rattle.std.proofs.lemmas.List.{drop-drop}
+use Rattle.std.proofs.lemmas.List.{drop-drop, take-append-drop}
 use Rattle.markdown_base.proofs.Common.{every-append, every-map}
 use Rattle.markdown_base.specs.declared.configuration.Constructs.{Constructs}
 use Rattle.markdown_base.specs.Virtual.{Seat, begins_with_lf, in_tab, line_feed, other_byte, tab_width, virtual, virtual_from}
@@ -14,6 +14,7 @@ use Rattle.mdconstructs_flow_read.specs.LineKinds.{begins_with, indent, is_blank
 use Rattle.mdconstructs_containers.specs.Letters.{ArePlainFrom, is_plain, lazy_underline, lazy_underlines}
 use Rattle.mdconstructs_containers.specs.Rows.{Before, Row, known_after, nothing_known, rest_of, row_of, rows, rows_from}
 use Rattle.mdconstructs_containers.specs.SkeletonLaws.{LazyLettersArePlain}
+use Rattle.markdown_tokenizer.proofs.Positions.Order.{every-front, every-back}
 
 -- a mark of an underline
 abbrev is_mark : ℕ → Bool
@@ -71,16 +72,6 @@ pub rows_each : (P : Line → Type 0) (on : Constructs) (b : Before) (number : �
 rows_each P on b number [] h = tt
 rows_each P on b number (l ∷ ls) h = (h.0, rows_each P on (known_after on b (row_of on b number l)) (suc number) ls h.1)
 
-every_drop : (P : Seat → Type 0) (n : ℕ) (ss : List Seat) → AllByRecursion P ss → AllByRecursion P (drop n ss)
-every_drop P zero ss h = h
-every_drop P (suc n) [] h = tt
-every_drop P (suc n) (s ∷ ss) h = every_drop P n ss h.1
-
-every_take : (P : Seat → Type 0) (n : ℕ) (ss : List Seat) → AllByRecursion P ss → AllByRecursion P (take n ss)
-every_take P zero ss h = tt
-every_take P (suc n) [] h = tt
-every_take P (suc n) (s ∷ ss) h = (h.0, every_take P n ss h.1)
-
 pub every_both : {A : Type 0} (P Q : A → Type 0) (xs : List A) → AllByRecursion P xs → AllByRecursion Q xs → AllByRecursion (λ x. P x × Q x) xs
 every_both P Q [] h k = tt
 every_both P Q (x ∷ xs) h k = ((h.0, k.0), every_both P Q xs h.1 k.1)
@@ -126,6 +117,12 @@ module _ (on : Constructs) where
         let at = k.0 (ap is_mark (eqb-true s.byte m h.0) ∙ is) in
         (ap (λ i. is_plain (get_or bytes i 0)) (sym none) ∙ at.1, marked m is ss h.1 k.1)
 
+    -- what holds of each virtual byte of a line holds of one of them
+    one_at : (n : ℕ) (line : Line) → AllByRecursion (AtMark bytes 0) line → AllByRecursion (AtMark bytes 0) (take 1 (drop n line))
+    one_at n line h =
+        let behind = every-back (AtMark bytes 0) (take n line) (drop n line) (subst (AllByRecursion (AtMark bytes 0)) (sym (take-append-drop n line)) h) in
+        every-front (AtMark bytes 0) (take 1 (drop n line)) (drop 1 (drop n line)) (subst (AllByRecursion (AtMark bytes 0)) (sym (take-append-drop 1 (drop n line))) behind)
+
     -- a line is whole, and its marks are plain
     abbrev IsMarked : Line → Type 0
     IsMarked line = IsWhole line × AllByRecursion (AtMark bytes 0) line
@@ -137,7 +134,7 @@ module _ (on : Constructs) where
         here m e is =
             let n = row.columns + indent (rest_of row) in
             let there : begins_with m (drop n (text_of row.line)) ≡ true = ap (begins_with m) (sym (drop-drop (indent (rest_of row)) row.columns (text_of row.line))) ∙ e in
-            marked m is (take 1 (drop n row.line)) (text_byte m row.line n h.0 there) (every_take (AtMark bytes 0) 1 (drop n row.line) (every_drop (AtMark bytes 0) n row.line h.1))
+            marked m is (take 1 (drop n row.line)) (text_byte m row.line n h.0 there) (one_at n row.line h.1)
 
         by : (x y : Bool) → is_some (underline_rank on (rest_of row)) ≡ y → AllByRecursion IsPlainAt (cond (x && y) (map (λ (s : Seat). s.point.index) (take 1 (drop (row.columns + indent (rest_of row)) row.line))) [])
         by false y e = tt

@@ -32,6 +32,7 @@ use Rattle.mdconstructs_containers.proofs.GoingLemmas.{going_front}
 use Rattle.mdconstructs_containers.proofs.JoinLemmas.{join_is}
 use Rattle.mdconstructs_containers.proofs.RunLemmas.{behind_line}
 use Rattle.mdconstructs_containers.proofs.WrittenLemmas.{plain_append, write_end, write_plain}
+use Rattle.mdconstructs_containers.proofs.FrameFacts.{shared_none}
 
 -- ---- parts
 
@@ -203,16 +204,12 @@ module _ (t : ℕ) (bytes : List ℕ) (stack : List Container) (all : List Row) 
   none_left [] h = refl
   none_left (q ∷ qs) h = absurd h.are
 
-shared_none_of : (fs : List Frame) → shared fs [] ≡ 0
-shared_none_of [] = refl
-shared_none_of (f ∷ fs) = refl
-
 -- behind the last part
 pub write_last : (bytes : List ℕ) (es new : List Event) (fs : List Frame) (e : PartEnd) (rs : List Row) (all : List Mark) → rs ≡ [] → new ≡ es ++ (events_of (exits_to (drop (shared fs []) fs) e.place) ++ events_of (ending_to e))
     → Written es None false (rest_marks bytes fs e (parts rs)) all → new ≡ chained_from 0 None all
 write_last bytes es new fs e (r ∷ rs) all none wrote w = absurd (cc)
 write_last bytes es new fs e [] all none wrote w =
     let ns = exits_to fs e.place ++ ending_to e in
-    let is : new ≡ es ++ events_of ns = wrote ∙ (λ k. es ++ (events_of (exits_to (drop (shared_none_of fs k) fs) e.place) ++ events_of (ending_to e))) ∙ ap (λ l. es ++ l) (sym (map-append (λ (m : Mark). m.0) (exits_to fs e.place) (ending_to e))) in
+    let is : new ≡ es ++ events_of ns = wrote ∙ (λ k. es ++ (events_of (exits_to (drop (shared_none fs k) fs) e.place) ++ events_of (ending_to e))) ∙ ap (λ l. es ++ l) (sym (map-append (λ (m : Mark). m.0) (exits_to fs e.place) (ending_to e))) in
     let plain : NoChunk ns = plain_append (exits_to fs e.place) (ending_to e) (plain_map (λ (f : Frame). event_at Exit f.name e.place) (reverse fs)) (plain_map (λ (x : Event). x) (ending_at e)) in
     write_end new None false all (write_plain es new None false ns [] all plain is (subst (λ (m : List Mark). Written es None false m all) (sym (append-nil ns)) w))

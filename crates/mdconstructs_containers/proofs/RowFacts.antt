@@ -16,6 +16,7 @@ use Rattle.mdconstructs_containers.proofs.GoingLemmas.{begins_within, goes_on_wi
 use Rattle.mdconstructs_containers.specs.Prefixes.{beginning, columns_of, containers_of, going_on, in_place_of, with_list}
 use Rattle.mdconstructs_containers.specs.Rows.{Before, Row, is_paragraph, is_raw, row_of}
 use Rattle.mdconstructs_containers.specs.Skeleton.{Frame, frames_of, list_begun, list_name}
+use Rattle.markdown_base.proofs.Common.{and-right}
 
 -- ---- fronts of lists
 
@@ -82,16 +83,12 @@ module _ (r : List ℕ) where
           by false false true ex ey ez h = sym (ap is_ordered (eqb-true m 45 ez))
           by false false false ex ey ez h = absurd (false≢true h)
 
-      right : (x y : Bool) → (x && y) ≡ true → y ≡ true
-      right true y h = h
-      right false y h = absurd (false≢true h)
-
       by : (n m : ℕ) → cond (n == 0) ((m == 42) || ((m == 43) || (m == 45))) (nat_le n 9 && ((m == 46) || (m == 41))) ≡ true → nat_le 1 n ≡ is_ordered m
       by zero m h = unordered m h
       by (suc n) m h =
           let some : (suc n == 0) ≡ false = ne_eqb (suc n) 0 (λ e. omega (arith, e)) in
           let one : nat_le 1 (suc n) ≡ true = grind (arith, nat_tests) in
-          one ∙ sym (right (nat_le (suc n) 9) (is_ordered m) (sym (ap (λ b. cond b ((m == 42) || ((m == 43) || (m == 45))) (nat_le (suc n) 9 && ((m == 46) || (m == 41)))) some) ∙ h))
+          one ∙ sym (and-right (nat_le (suc n) 9) (is_ordered m) (sym (ap (λ b. cond b ((m == 42) || ((m == 43) || (m == 45))) (nat_le (suc n) 9 && ((m == 46) || (m == 41)))) some) ∙ h))
 
 module _ (on : Constructs) (n : ℕ) where
   begins_here : (in_paragraph : Bool) (t : List ℕ) (p : Prefix) → begins on n in_paragraph t ≡ Some p → BeginsIn n p.container × BeginsList p.container

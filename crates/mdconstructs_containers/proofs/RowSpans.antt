@@ -24,6 +24,9 @@ use Rattle.mdconstructs_containers.specs.Views.{begun_of, IsRow}
 use Rattle.mdconstructs_containers.proofs.DocumentRows.{rows_left, rows_left_step, rows_left_end, take_of_take, going_few, went_few, next_is}
 use Rattle.mdconstructs_containers.proofs.GoingLemmas.{begins_within}
 use Rattle.mdconstructs_containers.proofs.PrefixLemmas.{prefix_take}
+use Rattle.markdown_base.proofs.Common.{and-right}
+use Rattle.markdown_base.proofs.Facts.Bools.{and-left}
+use Rattle.mdconstructs_containers.proofs.FrameFacts.{none_is}
 
 -- ---- prefixes with which containers begin have their bytes
 
@@ -113,18 +116,6 @@ going_again (c ∷ cs) number t = by (goes_on c number t) refl (λ n. going_agai
     by None e h = refl
     by (Some n) e h = more n (goes_on c number t) e (h n)
 
-none_of : {A : Type 0} (xs : List A) → has_none xs ≡ true → xs ≡ []
-none_of [] e = refl
-none_of (x ∷ xs) e = absurd (false≢true e)
-
-and_left : (a b : Bool) → (a && b) ≡ true → a ≡ true
-and_left true b e = refl
-and_left false b e = absurd (false≢true e)
-
-and_right : (a b : Bool) → (a && b) ≡ true → b ≡ true
-and_right true b e = e
-and_right false b e = absurd (false≢true e)
-
 cond_fitting : (b : Bool) (ps : List Prefix) (t : List ℕ) → AreFitting ps t → AreFitting (cond b [] ps) t
 cond_fitting true ps t h = tt
 cond_fitting false ps t h = h
@@ -150,10 +141,10 @@ module _ (on : Constructs) (b : Before) (number : ℕ) (line : Line) where
   whole : row.stays ≡ true → row.is_lazy ≡ false → length row.went_on ≡ length b.stack
   whole s l =
       let went = going_on (take b.depth b.stack) number (text_of line) in
-      let rest = and_right (has_none row.begun) (row.is_lazy || ((length went == b.depth) && (length b.stack == b.depth))) s in
+      let rest = and-right (has_none row.begun) (row.is_lazy || ((length went == b.depth) && (length b.stack == b.depth))) s in
       let both : ((length went == b.depth) && (length b.stack == b.depth)) ≡ true = (λ k. sym l k || ((length went == b.depth) && (length b.stack == b.depth))) ∙ rest in
-      let first = eqb-true (length went) b.depth (and_left (length went == b.depth) (length b.stack == b.depth) both) in
-      let second = eqb-true (length b.stack) b.depth (and_right (length went == b.depth) (length b.stack == b.depth) both) in
+      let first = eqb-true (length went) b.depth (and-left (length went == b.depth) (length b.stack == b.depth) both) in
+      let second = eqb-true (length b.stack) b.depth (and-right (length went == b.depth) (length b.stack == b.depth) both) in
       first ∙ sym second
 
   pub row_facts : (t : ℕ) (bytes : List ℕ) (start : ℕ) (x : RowAt) → line ≡ line_at t number start (drop start bytes) → IsRow number x.row row → IsPlaced t bytes number start x → IsRowIn t bytes b.stack number start x row
@@ -164,9 +155,9 @@ module _ (on : Constructs) (b : Before) (number : ℕ) (line : Line) where
     went = went_again x.row.many is.many;
     many = went_few on b number line x.row.many is.many;
     sum = refl;
-    stays = λ e. none_of row.begun (and_left (has_none row.begun) _ e);
-    left = λ e. none_of row.begun (and_left (has_none row.begun) _ (and_right _ _ e));
-    lazy = λ e. none_of row.begun (and_left (has_none row.begun) _ (and_right _ _ e));
+    stays = λ e. none_is row.begun (and-left (has_none row.begun) _ e);
+    left = λ e. none_is row.begun (and-left (has_none row.begun) _ (and-right _ _ e));
+    lazy = λ e. none_is row.begun (and-left (has_none row.begun) _ (and-right _ _ e));
     whole = λ s l. is.many ∙ whole s l;
     fits = subst (λ (n : ℕ). AreInside x.row.begun.items (drop n (text_of line))) (sym is.going) (begun_inside x.row.list number x.row.begun.items _ (subst (λ (l : List Prefix). AreFitting l (drop (columns_of row.went_on) (text_of line))) (sym is.begun) begun_fitting));
   }

@@ -136,7 +136,7 @@ drop_text line c w few =
 -- ---- places
 
 -- a place before another, which is not behind a third
-before_upto : (p q r : Point) → stands_before p q ≡ true → stands_before r q ≡ false → stands_before p r ≡ true
+pub before_upto : (p q r : Point) → stands_before p q ≡ true → stands_before r q ≡ false → stands_before p r ≡ true
 before_upto p q r h k = grind (arith, nat_tests)
 
 upto_before : (p q r : Point) → stands_before q p ≡ false → stands_before q r ≡ true → stands_before p r ≡ true

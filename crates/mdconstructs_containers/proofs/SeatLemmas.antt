@@ -20,11 +20,9 @@ use Rattle.mdconstructs_containers.specs.Skeleton.{going_marks, begun_marks}
 use Rattle.mdconstructs_containers.specs.PlaceEvents.{event_at, span_at, quote_prefix_at, item_prefix_at}
 use Rattle.mdconstructs_containers.specs.SeatPlaces.{AreSeatsAt, events_of}
 use Rattle.mdconstructs_containers.proofs.WritingLemmas.{place_add}
+use Rattle.mdconstructs_containers.proofs.SpanLemmas.{place_front}
 
 module _ (t : ℕ) (bytes : List ℕ) where
-  place_front : (p : Point) (k : ℕ) → place_after t bytes (next_place t bytes p) k ≡ place_after t bytes p (suc k)
-  place_front p k = let e : 1 + k ≡ suc k = omega arith in place_add t bytes p 1 k ∙ ap (place_after t bytes p) e
-
   -- the place is shown at itself
   pub here : (p : Point) (ss : List Seat) → AreSeatsAt t bytes p ss → shown bytes p ≡ p
   here p [] h = h
@@ -34,12 +32,12 @@ module _ (t : ℕ) (bytes : List ℕ) where
   pub seats_end : (p : Point) (ss : List Seat) (n : ℕ) → AreSeatsAt t bytes p ss → n ≤ length ss → end_after p (take n ss) ≡ place_after t bytes p n
   seats_end p ss zero h w = refl
   seats_end p [] (suc n) h w = absurd (omega arith)
-  seats_end p (s ∷ ss) (suc n) h w = seats_end s.end ss n h.3 (omega arith) ∙ ap (λ q. place_after t bytes q n) h.2 ∙ place_front p n
+  seats_end p (s ∷ ss) (suc n) h w = seats_end s.end ss n h.3 (omega arith) ∙ ap (λ q. place_after t bytes q n) h.2 ∙ place_front t bytes p n
 
   pub seats_drop : (p : Point) (ss : List Seat) (n : ℕ) → AreSeatsAt t bytes p ss → n ≤ length ss → AreSeatsAt t bytes (place_after t bytes p n) (drop n ss)
   seats_drop p ss zero h w = h
   seats_drop p [] (suc n) h w = absurd (omega arith)
-  seats_drop p (s ∷ ss) (suc n) h w = subst (λ (q : Point). AreSeatsAt t bytes q (drop n ss)) (ap (λ q. place_after t bytes q n) h.2 ∙ place_front p n) (seats_drop s.end ss n h.3 (omega arith))
+  seats_drop p (s ∷ ss) (suc n) h w = subst (λ (q : Point). AreSeatsAt t bytes q (drop n ss)) (ap (λ q. place_after t bytes q n) h.2 ∙ place_front t bytes p n) (seats_drop s.end ss n h.3 (omega arith))
 
   seats_shown : (p : Point) (ss : List Seat) (n : ℕ) → AreSeatsAt t bytes p ss → n ≤ length ss → shown bytes (place_after t bytes p n) ≡ place_after t bytes p n
   seats_shown p ss n h w = here (place_after t bytes p n) (drop n ss) (seats_drop p ss n h w)

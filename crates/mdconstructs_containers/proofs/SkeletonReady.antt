@@ -35,6 +35,7 @@ use Rattle.mdconstructs_containers.specs.Blocks.{document_skeleton}
 use Rattle.mdconstructs_containers.specs.Rows.{rows}
 use Rattle.mdconstructs_containers.specs.Skeleton.{chained_from, parts, parts_marks}
 use Rattle.mdconstructs_containers.specs.SkeletonLaws.{SkeletonsAreFormed, SkeletonsAreReady, SkeletonsHaveTextInGaps}
+use Rattle.markdown_tokenizer.proofs.Inside.Made.{before-upto}
 
 -- ---- links change no name and no place
 
@@ -74,9 +75,6 @@ next_place p (x ∷ xs) q (suc k) e h at =
 some_content : (wanted : Option Content) (o : Option Content) → some_fits wanted o ≡ true → (c : Content) × (o ≡ Some c)
 some_content wanted None h = absurd (false≢true h)
 some_content wanted (Some c) h = (c, refl)
-
-no_behind : (p q : Point) → stands_before p q ≡ true → stands_before q p ≡ false
-no_behind p q h = grind (arith, nat_tests)
 
 -- ---- a document
 
@@ -121,9 +119,6 @@ module _ (g : Given) (is : IsDocument g) where
   shown_place : (k : ℕ) (e : Event) → slice_get es k ≡ Some e → IsShownPlace g.tab g.bytes (place_at es k)
   shown_place k e at = let place = place_there (Place g.tab g.bytes) es k e places at in (place.is_point, place.is_shown)
 
-  next : (k d : ℕ) → next_of es k ≡ Some d → IsNext es 0 k d
-  next = next_in marks document_goes.runs
-
   readable : (wanted : Option Content) (k : ℕ) → fits wanted es k ≡ true → IsReadable g.tab g.bytes es k
   readable wanted k h =
       let (c, at) = some_content wanted (content_at es k) h in
@@ -141,9 +136,9 @@ module _ (g : Given) (is : IsDocument g) where
 
   gap : (k d : ℕ) → next_of es k ≡ Some d → IsGap es k d
   gap k d at =
-      let n = next k d at in
+      let n = next_in marks document_goes.runs k d at in
       record {
-        forward = no_behind (place_at es (k + 1)) (place_at es d) n.further.later;
+        forward = before-upto (place_at es (k + 1)) (place_at es d) n.further.later;
         in_line = inr (n.further.begins, n.further.line);
         balanced = balanced_from_open (between (k + 2) d es) n.balanced;
         no_link = n.none;
@@ -167,4 +162,4 @@ pub skeletons_are_ready : SkeletonsAreReady
 skeletons_are_ready g is wanted = ready g is wanted
 
 pub skeletons_have_text_in_gaps : SkeletonsHaveTextInGaps
-skeletons_have_text_in_gaps g is wanted k d fit at = inr (next g is k d at).further.later
+skeletons_have_text_in_gaps g is wanted k d fit at = inr (next_in (marks g is) (document_goes g is).runs k d at).further.later

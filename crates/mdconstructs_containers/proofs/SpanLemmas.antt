@@ -111,12 +111,13 @@ module _ (t : ℕ) (bytes : List ℕ) where
   course_seats stop p [] h last = last p h.0 h.1
   course_seats stop p (s ∷ ss) h last = (shown_plain p h.3, h.0, h.1, course_seats stop s.end ss h.4 last)
 
+  -- a place so many seats on, counted from the next place
+  pub place_front : (p : Point) (k : ℕ) → place_after t bytes (next_place t bytes p) k ≡ place_after t bytes p (suc k)
+  place_front p zero = refl
+  place_front p (suc k) = ap (next_place t bytes) (place_front p k)
+
   -- a place that is so many columns on is before the end
   pub course_inside : (stop : ℕ) (p : Point) (ss : List Seat) (k : ℕ) → Course stop p ss → k < length ss → (place_after t bytes p k).index < stop
   course_inside stop p [] k h w = absurd (omega arith)
   course_inside stop p (s ∷ ss) zero h w = h.2
   course_inside stop p (s ∷ ss) (suc k) h w = subst (λ (q : Point). q.index < stop) (ap (λ q. place_after t bytes q k) h.1 ∙ place_front p k) (course_inside stop s.end ss k h.4 (omega arith))
-    where
-      place_front : (p : Point) (k : ℕ) → place_after t bytes (next_place t bytes p) k ≡ place_after t bytes p (suc k)
-      place_front p zero = refl
-      place_front p (suc k) = ap (next_place t bytes) (place_front p k)

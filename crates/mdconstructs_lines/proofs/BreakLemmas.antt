@@ -122,7 +122,7 @@ record Seen (w : Walk) (r : List ℕ) : Type 0 where
   pub count : w.reach ≡ length r → 1 ≤ w.marks → length (filter (λ b. b == w.mark) r) ≡ w.marks
   pub other : w.reach < length r → (m : ℕ) → is_break_mark m ≡ true → list_all (is_mark_or_white m) r ≡ false
 
-and_false : (x : Bool) → (x && false) ≡ false
+pub and_false : (x : Bool) → (x && false) ≡ false
 and_false true = refl
 and_false false = refl
 

@@ -13,7 +13,7 @@ use Rattle.markdown_children.proofs.Parts.Untorn.{none-cut}
 use Rattle.markdown_children.proofs.Parts.Weaves.{content-kept, EndsInChunkEnter, IsCutNowhere, AreCutNowhere, IsPut, put-chains, Between, exit-place, between-chunks, gap-balanced, gap-free}
 
 -- ---- lists
-no-content : (xs : List Event) → HaveNoLinks xs → (k : ℕ) → content_at xs k ≡ None
+pub no-content : (xs : List Event) → HaveNoLinks xs → (k : ℕ) → content_at xs k ≡ None
 no-content [] h k = refl
 no-content (x ∷ xs) h zero = ap (option_map (λ (l : Link). l.content)) h.0
 no-content (x ∷ xs) h (suc k) = no-content xs h.1 k
@@ -51,13 +51,13 @@ moved-list (suc r) a b xs ys f l h =
     rw (drop-at xs a (relinked f y.0) x, drop-at ys b y.0 y.1) (ap (λ es. relinked f y.0 ∷ es) rest)
 
 -- an event with an end of its link has a content
-linked-content : (o : Option Event) (d : ℕ) → option_and_then (λ (e : Event). option_and_then (λ (l : Link). l.next) e.link) o ≡ Some d → (c : Content) × (option_and_then content_of o ≡ Some c)
+pub linked-content : (o : Option Event) (d : ℕ) → option_and_then (λ (e : Event). option_and_then (λ (l : Link). l.next) e.link) o ≡ Some d → (c : Content) × (option_and_then content_of o ≡ Some c)
 linked-content None d e = absurd (none-some d e)
 linked-content (Some x) d e = by_option x.link (λ none. absurd (none-some d (rw none at e))) (λ l is. (l.content, rw is refl))
 
 -- ---- lists without links
 -- a balanced list without links is ready
-alone-ready : (tab : ℕ) (bytes : List ℕ) (next : Option Content) (xs : List Event) → IsBalanced xs → HaveNoLinks xs → IsReady tab bytes next xs
+pub alone-ready : (tab : ℕ) (bytes : List ℕ) (next : Option Content) (xs : List Event) → IsBalanced xs → HaveNoLinks xs → IsReady tab bytes next xs
 alone-ready tab bytes next xs balanced alone =
     let none : (k : ℕ) → content_at xs k ≡ None = no-content xs alone in
     let never : (k : ℕ) → fits next xs k ≡ true → ⊥ = λ k h. let c = some_content next (content_at xs k) h in none-some c.0 (sym (none k) ∙ c.1) in
@@ -141,7 +141,7 @@ module _ (tab : ℕ) (bytes : List ℕ) (wanted : Option Content) (events : List
   abbrev ws : List Change
   ws = child_changes wanted events children
 
-  abbrev new : List Event
+  abbrev pub new : List Event
   new = with_children wanted events children
 
   -- the new place of an event of the list
@@ -243,7 +243,7 @@ module _ (tab : ℕ) (bytes : List ℕ) (wanted : Option Content) (events : List
         let zj : p + (i - n) ≡ j = omega arith in
         ap after zi ∙ along (i - n) (omega arith) ∙ ap Some zj
 
-    far : q ≡ p + (m - n)
+    pub far : q ≡ p + (m - n)
     far = same_Some q (p + (m - n)) (sym at_m ∙ along-to m (p + (m - n)) (omega arith) (omega arith) (omega arith))
 
     apart-by : n + 2 ≤ m
@@ -264,20 +264,20 @@ module _ (tab : ℕ) (bytes : List ℕ) (wanted : Option Content) (events : List
         same-content (n + (i - p)) i at ∙ gap.no_link (n + (i - p)) (omega arith) (omega (arith, far, two))
 
   -- ---- where linked events come from
-  abbrev ts : List Tagged
+  abbrev pub ts : List Tagged
   ts = woven ws 0 events
 
-  abbrev child : ℕ → List Event
+  abbrev pub child : ℕ → List Event
   child = child_of tab bytes wanted events ready children
 
   -- An event of a list has a name, and so a place in the new list. The list is ready, and so are its chunks and gaps in the new list
-  record IsOrigin (next : Option Content) (name : ℕ → Identity) (list : List Event) : Type 0 where
-    is_ready : IsReady tab bytes next list
-    at : (n p : ℕ) → place_in (name n) ts ≡ Some p → slice_get new p ≡ option_map (relinked (λ k. place_in (name k) ts)) (slice_get list n)
-    exit : (n p : ℕ) → IsChunk list n → place_in (name n) ts ≡ Some p → place_in (name (n + 1)) ts ≡ Some (p + 1)
-    order : (n m p q : ℕ) → IsChunk list n → IsChunk list m → n < m → place_in (name n) ts ≡ Some p → place_in (name m) ts ≡ Some q → p < q
-    balanced : (n m p q : ℕ) → IsChunk list n → IsChunk list m → IsGap list n m → n < m → place_in (name n) ts ≡ Some p → place_in (name m) ts ≡ Some q → IsBalanced (between (p + 2) q new)
-    free : (n m p q : ℕ) → IsChunk list n → IsChunk list m → IsGap list n m → n < m → place_in (name n) ts ≡ Some p → place_in (name m) ts ≡ Some q → (i : ℕ) → p + 2 ≤ i → i < q → content_at new i ≡ None
+  pub record IsOrigin (next : Option Content) (name : ℕ → Identity) (list : List Event) : Type 0 where
+    pub is_ready : IsReady tab bytes next list
+    pub at : (n p : ℕ) → place_in (name n) ts ≡ Some p → slice_get new p ≡ option_map (relinked (λ k. place_in (name k) ts)) (slice_get list n)
+    pub exit : (n p : ℕ) → IsChunk list n → place_in (name n) ts ≡ Some p → place_in (name (n + 1)) ts ≡ Some (p + 1)
+    pub order : (n m p q : ℕ) → IsChunk list n → IsChunk list m → n < m → place_in (name n) ts ≡ Some p → place_in (name m) ts ≡ Some q → p < q
+    pub balanced : (n m p q : ℕ) → IsChunk list n → IsChunk list m → IsGap list n m → n < m → place_in (name n) ts ≡ Some p → place_in (name m) ts ≡ Some q → IsBalanced (between (p + 2) q new)
+    pub free : (n m p q : ℕ) → IsChunk list n → IsChunk list m → IsGap list n m → n < m → place_in (name n) ts ≡ Some p → place_in (name m) ts ≡ Some q → (i : ℕ) → p + 2 ≤ i → i < q → content_at new i ≡ None
 
   -- an event of a child is at its place
   child-at : (c n p : ℕ) → place_in (of_child c n) ts ≡ Some p → slice_get new p ≡ option_map (relinked (λ k. place_in (of_child c k) ts)) (slice_get (child c) n)
@@ -290,7 +290,7 @@ module _ (tab : ℕ) (bytes : List ℕ) (wanted : Option Content) (events : List
 
   module _ (next : Option Content) (other : IsReady tab bytes next events) (kids : AllByRecursion (IsReady tab bytes next) children)
       (cut : AreCutNowhere tab bytes wanted events ready (fitting_starts wanted events) children) where
-    list-origin : IsOrigin next of_list events
+    pub list-origin : IsOrigin next of_list events
     list-origin = record {
       is_ready = other;
       at = at-place;
@@ -318,7 +318,7 @@ module _ (tab : ℕ) (bytes : List ℕ) (wanted : Option Content) (events : List
         let inside = slice_get_within (child c) m last.enter last.enter_at in
         between-chunks c (child c) ts (all-once tab bytes wanted events ready children) n m p q (put c n first.enter first.enter_at) first (chunks-apart (child c) n m first last l) inside e f
 
-    child-origin : (c : ℕ) → IsOrigin next (of_child c) (child c)
+    pub child-origin : (c : ℕ) → IsOrigin next (of_child c) (child c)
     child-origin c =
         let once = all-once tab bytes wanted events ready children in
         record {
@@ -367,10 +367,10 @@ module _ (tab : ℕ) (bytes : List ℕ) (wanted : Option Content) (events : List
 
     -- what an event keeps
     module _ (name : ℕ → Identity) (list : List Event) (origin : IsOrigin next name list) where
-      kept-content : (n p : ℕ) → place_in (name n) ts ≡ Some p → content_at new p ≡ content_at list n
+      pub kept-content : (n p : ℕ) → place_in (name n) ts ≡ Some p → content_at new p ≡ content_at list n
       kept-content n p e = ap (option_and_then content_of) (origin.at n p e) ∙ content-moved (λ k. place_in (name k) ts) (slice_get list n)
 
-      kept-place : (n p : ℕ) → place_in (name n) ts ≡ Some p → place_at new p ≡ place_at list n
+      pub kept-place : (n p : ℕ) → place_in (name n) ts ≡ Some p → place_at new p ≡ place_at list n
       kept-place n p e = ap (λ o. unwrap_or o (point 1 1 0 0)) (ap (option_map (λ (x : Event). x.point)) (origin.at n p e) ∙ point-moved (λ k. place_in (name k) ts) (slice_get list n))
 
       kept-chunk : (n p : ℕ) → IsChunk list n → place_in (name n) ts ≡ Some p → IsChunk new p
@@ -411,7 +411,7 @@ module _ (tab : ℕ) (bytes : List ℕ) (wanted : Option Content) (events : List
           }
 
       -- the next chunk comes from the same list
-      kept-next : (n p q : ℕ) → place_in (name n) ts ≡ Some p → next_of new p ≡ Some q → (m : ℕ) × (next_of list n ≡ Some m) × (place_in (name m) ts ≡ Some q)
+      pub kept-next : (n p q : ℕ) → place_in (name n) ts ≡ Some p → next_of new p ≡ Some q → (m : ℕ) × (next_of list n ≡ Some m) × (place_in (name m) ts ≡ Some q)
       kept-next n p q at e =
           let f : ℕ → Option ℕ = λ i. place_in (name i) ts in
           let moved : option_and_then f (next_of list n) ≡ Some q =

@@ -39,10 +39,10 @@ last-of (e ∷ []) h = record { n = 0; e = e; long = refl; at = refl; enter = h.
 last-of (e ∷ f ∷ es) h = let l = last-of (f ∷ es) h in record { n = suc l.n; e = l.e; long = ap suc l.long; at = l.at; enter = l.enter; void = l.void }
 
 -- leading events pass a test, and the next one does not
-front-more : (test : Event → Bool) (x : Event) (es : List Event) → test x ≡ true → take_while test (x ∷ es) ≡ x ∷ take_while test es
+pub front-more : (test : Event → Bool) (x : Event) (es : List Event) → test x ≡ true → take_while test (x ∷ es) ≡ x ∷ take_while test es
 front-more test x es t = take_while-cons test x es ∙ ap (λ b. cond b (x ∷ take_while test es) []) t
 
-front-none : (test : Event → Bool) (x : Event) (es : List Event) → test x ≡ false → take_while test (x ∷ es) ≡ []
+pub front-none : (test : Event → Bool) (x : Event) (es : List Event) → test x ≡ false → take_while test (x ∷ es) ≡ []
 front-none test x es t = take_while-cons test x es ∙ ap (λ b. cond b (x ∷ take_while test es) []) t
 
 passes-at : (test : Event → Bool) (es : List Event) (n : ℕ) (e : Event) → slice_get (take_while test es) n ≡ Some e → test e ≡ true
@@ -54,7 +54,7 @@ passes-at test (x ∷ es) (suc n) e at = by_test (test x)
     (λ t. passes-at test es n e (ap (λ (l : List Event). slice_get l (suc n)) (sym (front-more test x es t)) ∙ at))
     (λ t. absurd (none-some e (ap (λ (l : List Event). slice_get l (suc n)) (sym (front-none test x es t)) ∙ at)))
 
-fails-next : (test : Event → Bool) (es : List Event) (f : Event) → slice_get (drop (length (take_while test es)) es) 0 ≡ Some f → test f ≡ false
+pub fails-next : (test : Event → Bool) (es : List Event) (f : Event) → slice_get (drop (length (take_while test es)) es) 0 ≡ Some f → test f ≡ false
 fails-next test [] f at = absurd (none-some f at)
 fails-next test (x ∷ es) f at = by_test (test x)
     (λ t. fails-next test es f (ap (λ (l : List Event). slice_get (drop (length l) (x ∷ es)) 0) (sym (front-more test x es t)) ∙ at))

@@ -17,7 +17,7 @@ later-none p =
     let index : p.index + 0 ≡ p.index = omega arith in
     λ i. record p { column = column i; index = index i }
 
-upto-later : (n : ℕ) (p : Point) → stands_before (later n p) p ≡ false
+pub upto-later : (n : ℕ) (p : Point) → stands_before (later n p) p ≡ false
 upto-later n p = grind (arith, nat_tests)
 
 -- ---- events of a list, by what is left of it

@@ -6,12 +6,12 @@ use Rattle.std.proofs.lemmas.List.Elements.{All-contains_itself, All-from_recurs
 use Rattle.markdown_base.proofs.Orders.{upto-upto}
 use Rattle.markdown_base.specs.declared.event.Name.{Name}
 use Rattle.markdown_edits.proofs.Balanced.{same_name-true}
-use Rattle.mdconstructs_documents.proofs.InContainers.ChunksStay.{alone-ready}
+use Rattle.markdown_children.proofs.Parts.Staying.{alone-ready}
 use Rattle.markdown_children.specs.NextContent.{CanBeReadNext, HoldsOnlyText}
 use Rattle.markdown_children.specs.Ready.{IsShownPlace}
 use Rattle.std.proofs.lemmas.Bool.{not-true}
 use Rattle.mdconstructs_flow_read.proofs.Marks.MarkHolds.{HoldEach, Holds}
-use Rattle.mdconstructs_documents.proofs.InContainers.PairHolds.{hold-both, holds-pair}
+use Rattle.mdconstructs_flow_read.proofs.Marks.MarkHolds.{hold-both, holds-pair}
 use Rattle.mdconstructs_documents.proofs.InContainers.TextsFormed.{string-orderly}
 use Rattle.mdconstructs_inlines.specs.InlineEvents.{inline_events}
 use Rattle.mdconstructs_inlines.specs.StringEvents.{string_events}
@@ -29,6 +29,7 @@ use Rattle.mdconstructs_documents.proofs.FlowTexts.InlineOrder.{later-later}
 use Rattle.mdconstructs_documents.proofs.FlowTexts.InlineSteps.{Steps, steps-virtual}
 use Rattle.mdconstructs_documents.proofs.FlowTexts.InlineTight.{AreBalanced, fresh-balanced, inline-tight, inner-holds, outer-holds, run-in-place, tight-back}
 use Rattle.mdconstructs_documents.proofs.FlowTexts.Strings.{string-cut}
+use Rattle.mdconstructs_containers.proofs.SeatFacts.{before_upto}
 
 -- a list with no line ending but at its end is in one line
 one-whole : (l : List Seat) → OneLine l → IsWhole l
@@ -38,12 +39,6 @@ one-whole (s ∷ []) h = elim (cases_Bool (is_line_ending s)) [
   | inr on ↦ inl (on, tt)
 ]
 one-whole (s ∷ r ∷ rs) h = inl (h.0, one-whole (r ∷ rs) h.1)
-
-upto-later : (n : ℕ) (p : Point) → stands_before (later n p) p ≡ false
-upto-later n p = grind (arith, nat_tests)
-
-before-later : (a q p : Point) → stands_before a q ≡ true → stands_before p q ≡ false → stands_before a p ≡ true
-before-later a q p h k = grind (arith, nat_tests)
 
 module _ (t : ℕ) (bytes : List ℕ) (In : Seat → Type 0) where
   abbrev Range : Point → Point → Type 0
@@ -99,17 +94,17 @@ module _ (t : ℕ) (bytes : List ℕ) (In : Seat → Type 0) where
   holds-within p a b q first last h v among between =
       let parts = and_parts (not (stands_before v.point a)) (stands_before v.point b) between in
       let from : stands_before v.point p ≡ false = upto-upto p a v.point first (not-true (stands_before v.point a) parts.0) in
-      let to : stands_before v.point q ≡ true = before-later v.point b q parts.1 last in
+      let to : stands_before v.point q ≡ true = before_upto v.point b q parts.1 last in
       h v among (λ i. not (from i) && to i)
 
-  abbrev Walk : Point → ℕ → Type 0
-  Walk p n = Range p (later n p)
+  abbrev HoldLater : Point → ℕ → Type 0
+  HoldLater p n = Range p (later n p)
 
-  walk-front : (p : Point) (m n : ℕ) → Walk p (m + n) → Walk p m
-  walk-front p m n h = holds-within p p (later m p) (later (m + n) p) (stands-self p) (subst (λ q. stands_before q (later m p) ≡ false) (later-later n m p) (upto-later n (later m p))) h
+  later-front : (p : Point) (m n : ℕ) → HoldLater p (m + n) → HoldLater p m
+  later-front p m n h = holds-within p p (later m p) (later (m + n) p) (stands-self p) (subst (λ q. stands_before q (later m p) ≡ false) (later-later n m p) (upto-later n (later m p))) h
 
-  walk-on : (p : Point) (m n : ℕ) → Walk p (m + n) → Walk (later m p) n
-  walk-on p m n h =
+  later-on : (p : Point) (m n : ℕ) → HoldLater p (m + n) → HoldLater (later m p) n
+  later-on p m n h =
       subst (Range (later m p)) (sym (later-later n m p)) (holds-within p (later m p) (later (m + n) p) (later (m + n) p) (upto-later m p) (stands-self (later (m + n) p)) h)
 
   hold-enter : (n : Name) (p : Point) (es : List Event) → is_void n ≡ false → Each es → Each (unlinked_event Enter n p ∷ es)
@@ -121,7 +116,7 @@ module _ (t : ℕ) (bytes : List ℕ) (In : Seat → Type 0) where
   hold-pair : (n : Name) (p q : Point) (es : List Event) → Range p q → Each es → Each (unlinked_event Enter n p ∷ unlinked_event Exit n q ∷ es)
   hold-pair n p q es r h = ((λ enters void. r), hold-exit n q es h)
 
-  closings-hold : (p : Point) (ss : List Bool) (es : List Event) → Walk p (markers_of_all ss) → Each es → Each (closings p ss ++ es)
+  closings-hold : (p : Point) (ss : List Bool) (es : List Event) → HoldLater p (markers_of_all ss) → Each es → Each (closings p ss ++ es)
   closings-hold p [] es walk h = h
   closings-hold p (s ∷ ss) es walk h =
       let m = markers_of s in
@@ -129,9 +124,9 @@ module _ (t : ℕ) (bytes : List ℕ) (In : Seat → Type 0) where
       let more = closings q ss ++ es in
       let behind = unlinked_event Exit (outer_name s) q ∷ more in
       hold-exit (inner_name s) p (unlinked_event Enter (sequence_name s) p ∷ unlinked_event Exit (sequence_name s) q ∷ behind)
-      (hold-pair (sequence_name s) p q behind (walk-front p m (markers_of_all ss) walk) (hold-exit (outer_name s) q more (closings-hold q ss es (walk-on p m (markers_of_all ss) walk) h)))
+      (hold-pair (sequence_name s) p q behind (later-front p m (markers_of_all ss) walk) (hold-exit (outer_name s) q more (closings-hold q ss es (later-on p m (markers_of_all ss) walk) h)))
 
-  openings-hold : (p : Point) (ss : List Bool) (es : List Event) → Walk p (markers_of_all ss) → Each es → Each (openings p ss ++ es)
+  openings-hold : (p : Point) (ss : List Bool) (es : List Event) → HoldLater p (markers_of_all ss) → Each es → Each (openings p ss ++ es)
   openings-hold p [] es walk h = h
   openings-hold p (s ∷ ss) es walk h =
       let m = markers_of s in
@@ -139,13 +134,13 @@ module _ (t : ℕ) (bytes : List ℕ) (In : Seat → Type 0) where
       let more = openings q ss ++ es in
       let behind = unlinked_event Enter (inner_name s) q ∷ more in
       hold-enter (outer_name s) p (unlinked_event Enter (sequence_name s) p ∷ unlinked_event Exit (sequence_name s) q ∷ behind) (outer-holds s)
-      (hold-pair (sequence_name s) p q behind (walk-front p m (markers_of_all ss) walk) (hold-enter (inner_name s) q more (inner-holds s) (openings-hold q ss es (walk-on p m (markers_of_all ss) walk) h)))
+      (hold-pair (sequence_name s) p q behind (later-front p m (markers_of_all ss) walk) (hold-enter (inner_name s) q more (inner-holds s) (openings-hold q ss es (later-on p m (markers_of_all ss) walk) h)))
 
-  data-hold : (p : Point) (n : ℕ) (es : List Event) → Walk p n → Each es → Each (data_of p n ++ es)
+  data-hold : (p : Point) (n : ℕ) (es : List Event) → HoldLater p n → Each es → Each (data_of p n ++ es)
   data-hold p zero es walk h = h
   data-hold p (suc n) es walk h = hold-pair Data p (later (suc n) p) es walk h
 
-  place-holds : (r : Run) (es : List Event) → Walk r.start (markers r) → Each es → Each (in_place r ++ es)
+  place-holds : (r : Run) (es : List Event) → HoldLater r.start (markers r) → Each es → Each (in_place r ++ es)
   place-holds r es walk h =
       let a = markers_of_all r.closed in
       let b = r.left in
@@ -154,12 +149,12 @@ module _ (t : ℕ) (bytes : List ℕ) (In : Seat → Type 0) where
       let q = later b p in
       let left = data_of p b in
       let opened = openings q r.opened in
-      let behind = walk-on r.start a (b + c) walk in
+      let behind = later-on r.start a (b + c) walk in
       let same : closings r.start r.closed ++ (left ++ (opened ++ es)) ≡ in_place r ++ es =
       sym (append_assoc (closings r.start r.closed) (left ++ opened) es ∙ ap (λ l. closings r.start r.closed ++ l) (append_assoc left opened es)) in
       subst Each same
-      (closings-hold r.start r.closed (left ++ (opened ++ es)) (walk-front r.start a (b + c) walk)
-      (data-hold p b (opened ++ es) (walk-front p b c behind) (openings-hold q r.opened es (walk-on p b c behind) h)))
+      (closings-hold r.start r.closed (left ++ (opened ++ es)) (later-front r.start a (b + c) walk)
+      (data-hold p b (opened ++ es) (later-front p b c behind) (openings-hold q r.opened es (later-on p b c behind) h)))
 
   -- ---- emphasis in place of runs
   hold-front : (xs ys : List Event) → Shut xs → Each (xs ++ ys) → Each xs
@@ -195,7 +190,7 @@ module _ (t : ℕ) (bytes : List ℕ) (In : Seat → Type 0) where
         let range : Range e.point f.point = pair.0 kinds.0 (subst (λ (n : Name). is_void n ≡ true) (sym name) refl) in
         let end : f.point ≡ later (markers r) r.start =
         ap (λ (q : Event × Event). q.1.point) cut.here_is ∙ follow-end bytes r.start a.first a.others follow.1 ∙ ap (λ n. later n r.start) follow.0 in
-        let walk : Walk r.start (markers r) = subst (Range r.start) end (subst (λ q. Range q f.point) (sym run.start) range) in
+        let walk : HoldLater r.start (markers r) = subst (Range r.start) end (subst (λ q. Range q f.point) (sym run.start) range) in
         let others = runs-hold rs more back has.6 cut.back_is those.2 pair.1.1 in
         let behind = events_of_runs texts rs ++ rest in
         let front = hold-front text (e ∷ f ∷ more) (balanced-shut has.4) all in

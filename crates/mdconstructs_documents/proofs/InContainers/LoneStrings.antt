@@ -1,6 +1,6 @@
 -- A string of leaf blocks is one chunk: no chunk of it is linked to a next one.
 use Rattle.mdconstructs_documents.proofs.Prelude.{◌≡◌, ℕ, ◌+◌, List, [], ◌∷◌, Bool, true, false, cond, Some, None, refl, sym, ap, ◌∙◌, subst, none-some, same_Some, slice_get, AllByRecursion, flat_map, option_and_then, every-append, every-get, every-map, Content, StringContent, TextContent, Event, Link, Constructs, Seat, by_option, content_at, content_of, first-linked, mark_at, Mark, flow_events, linked_from}
-use Rattle.mdconstructs_documents.proofs.InContainers.TextGaps.{HasLoneChunks}
+use Rattle.markdown_children.proofs.Parts.TextGaps.{HasLoneChunks}
 use Rattle.mdconstructs_text.proofs.Paragraphs.ChainEvents.{is-content}
 use Rattle.mdconstructs_documents.proofs.FlowTexts.BlockSegments.{text-segments}
 use Rattle.mdconstructs_documents.proofs.FlowTexts.Segments.{HasByte, IsGood, IsKept, Segment, chain, chain_marks, flat_of, kept}

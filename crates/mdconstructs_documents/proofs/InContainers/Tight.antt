@@ -3,8 +3,8 @@ use Rattle.mdconstructs_documents.proofs.Prelude.{◌≡◌, ℕ, ◌<◌, List,
 use Rattle.std.specs.List.{AllZip}
 use Rattle.markdown_base.specs.declared.event.Content.TheVariants as content
 use Rattle.markdown_children.proofs.Parts.InShape.{children_fit}
-use Rattle.mdconstructs_documents.proofs.InContainers.ChunksStay.{alone-ready, each-ready}
-use Rattle.mdconstructs_documents.proofs.InContainers.TextGaps.{HasLoneChunks, alone-lone, lone-untorn, stay-lone, text-in-gaps}
+use Rattle.markdown_children.proofs.Parts.Staying.{alone-ready, each-ready}
+use Rattle.markdown_children.proofs.Parts.TextGaps.{HasLoneChunks, alone-lone, lone-untorn, stay-lone, text-in-gaps}
 use Rattle.markdown_children.proofs.Parts.Untorn.{none-cut, none-torn}
 use Rattle.markdown_children.specs.LawStatements.{NoneTorn}
 use Rattle.markdown_children.specs.NextContent.{CanBeReadNext, HasTextInGaps, HoldsOnlyText}

@@ -30,7 +30,7 @@ whole-behind (suc n) [] h = tt
 whole-behind (suc n) (s ∷ ss) (inl h) = whole-behind n ss h.1
 whole-behind (suc n) (s ∷ ss) (inr h) = whole-behind n ss (subst IsWhole (sym h.1) tt)
 
-none-taken : (n : ℕ) → take {A = Seat} n [] ≡ []
+pub none-taken : (n : ℕ) → take {A = Seat} n [] ≡ []
 none-taken zero = refl
 none-taken (suc n) = refl
 

@@ -39,10 +39,10 @@ whole-dropped zero lines h = h
 whole-dropped (suc n) [] h = tt
 whole-dropped (suc n) (line ∷ lines) h = whole-dropped n lines h.1
 
-module _ (bytes : List ℕ) (P : List Mark → List Seat → Type 0) (kept : IsKeptBySpans bytes P) where
-  text-shorter : (line : Line) → IsWhole line → length (line_text line) ≤ length line
-  text-shorter line h = let long = ap length (text-and-ending line h) in omega (arith, long, length-append (line_text line) (ending_of line))
+pub text-shorter : (line : Line) → IsWhole line → length (line_text line) ≤ length line
+text-shorter line h = let long = ap length (text-and-ending line h) in omega (arith, long, length-append (line_text line) (ending_of line))
 
+module _ (bytes : List ℕ) (P : List Mark → List Seat → Type 0) (kept : IsKeptBySpans bytes P) where
   -- a setext heading, by what its text is read as
   pub spans-setext-around : (lines : List Line) (below : Line) (inside : List Mark) → P inside (body lines) → AllByRecursion IsWhole (lines ++ below ∷ [])
       → P (block_span bytes name.HeadingSetext false (lines ++ below ∷ []) (span_marks bytes name.HeadingSetextText (body lines) inside ++ (last_end bytes lines ++ underline_marks bytes (line_text below)))) (all_of (lines ++ below ∷ []))

@@ -26,16 +26,16 @@ module _ (t : ℕ) (bytes : List ℕ) (In : Seat → Type 0) where
   HoldEach [] = Unit {0}
   HoldEach (e ∷ es) = (e.kind ≡ Enter → is_void e.name ≡ true → HoldsFirst e.point es) × HoldEach es
 
-  first-both : (p : Point) (xs ys : List Event) → HoldsFirst p xs → HoldsFirst p (xs ++ ys)
+  pub first-both : (p : Point) (xs ys : List Event) → HoldsFirst p xs → HoldsFirst p (xs ++ ys)
   first-both p [] ys h = absurd h
   first-both p (x ∷ xs) ys h = h
 
-  hold-both : (xs ys : List Event) → HoldEach xs → HoldEach ys → HoldEach (xs ++ ys)
+  pub hold-both : (xs ys : List Event) → HoldEach xs → HoldEach ys → HoldEach (xs ++ ys)
   hold-both [] ys h k = k
   hold-both (x ∷ xs) ys h k = ((λ enters void. first-both x.point xs ys (h.0 enters void)), hold-both xs ys h.1 k)
 
   -- virtual bytes of one line have no gap between them
-  line-holds : (p : Point) (s : Seat) (ss rest : List Seat) → IsWhole (s ∷ ss) → Course AcrossGap t bytes p (s ∷ (ss ++ rest)) → AllByRecursion In (s ∷ ss)
+  pub line-holds : (p : Point) (s : Seat) (ss rest : List Seat) → IsWhole (s ∷ ss) → Course AcrossGap t bytes p (s ∷ (ss ++ rest)) → AllByRecursion In (s ∷ ss)
       → (v : Seat) → Contains (virtual t bytes) v → stands_before v.point (shown bytes s.point) ≡ false → stands_before v.point (end_after s.end ss) ≡ true → In v
   line-holds p s [] rest w course inside v among from to = elim (course.1.seat.first v among from) [
     | inl same ↦ subst In (sym same) inside.0
@@ -60,7 +60,7 @@ module _ (t : ℕ) (bytes : List ℕ) (In : Seat → Type 0) where
       subst HoldEach (sym (map-append (λ (m : Mark). m.0) xs ys))
       (hold-both (bare xs) (bare ys) (h p (b ++ rest) whole (every-front In a b inside)) (k (end_after p a) rest (course-on AcrossGap t bytes p a (b ++ rest) whole) (every-back In a b inside)))
 
-  holds-pair : (chunk : Option Chunk) (n : Name) (s : Seat) (ss : List Seat) → IsWhole (s ∷ ss) → HoldsOver (chunk_span bytes chunk n (s ∷ ss) []) (s ∷ ss)
+  pub holds-pair : (chunk : Option Chunk) (n : Name) (s : Seat) (ss : List Seat) → IsWhole (s ∷ ss) → HoldsOver (chunk_span bytes chunk n (s ∷ ss) []) (s ∷ ss)
   holds-pair chunk n s ss w p rest course inside =
       let q = end_after s.end ss in
       let there : Place t bytes q = course-place AcrossGap t bytes q rest (course-on AcrossGap t bytes p (s ∷ ss) rest course) in

@@ -105,7 +105,7 @@ module _ (Meets : (exit behind : Point) → Type 0) where
   each-begins i ((e, Some k) ∷ ms) (an_exit c) h = absurd h
   each-begins i ((e, Some k) ∷ ms) (a_chunk c p) h = (inr (record { enter = h.3.0; void = h.3.1; linked = refl }), each-begins (i + 1) ms (next_due k) h.4)
 
-  alone-unlinked : (e : Event) (ms : List Mark) (d : Due) → Runs ((e, None) ∷ ms) d → e.link ≡ None
+  pub alone-unlinked : (e : Event) (ms : List Mark) (d : Due) → Runs ((e, None) ∷ ms) d → e.link ≡ None
   alone-unlinked e ms nothing h = h.0
   alone-unlinked e ms (an_exit c) h = h.0
   alone-unlinked e ms (a_chunk c p) h = absurd h

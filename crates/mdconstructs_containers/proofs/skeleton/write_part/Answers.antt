@@ -22,10 +22,7 @@ use Rattle.mdconstructs_containers.proofs.PartFacts.{lines_few, the_columns, the
 use Rattle.mdconstructs_containers.proofs.PartWritten.{begin_small, blank_columns, ends_is, few_of, frames_is, further_left, going_of, last_number, last_size, left_behind, own_of, rest_is, stretch_begins, write_begin, write_blank}
 use Rattle.mdconstructs_containers.proofs.RestLemmas.{part_of}
 use Rattle.mdconstructs_containers.proofs.skeleton.write_part.Goals as goal
-
-by_blank : {P : Type 0} (b : Bool) → (b ≡ true → P) → (b ≡ false → P) → P
-by_blank true f g = f refl
-by_blank false f g = g refl
+use Rattle.markdown_children.proofs.ChainOrder.Following.{by_test}
 
 pub begin_part-requires : goal.begin_part-requires
 begin_part-requires c =
@@ -126,7 +123,7 @@ returns c =
           let ending = c.end_of_part-end.ensures.behind ∙ (λ k. cond (not first.row.is_blank && holds_ending (leaf_of (last_at first (take (n k) behind)).row.leaf)) None (cond ((last_at first (take (n k) behind)).span.end == (last_at first (take (n k) behind)).span.next) None (Some (point ((last_at first (take (n k) behind)).span.number + 1) 1 (last_at first (take (n k) behind)).span.next 0)))) in
           let ends = ends_is t bytes some limit stack first behind r rs left ahead ae e c.end_of_part-end.ensures.is_blank place ending in
           let is_left = rest_is t bytes some limit stack first behind r rs left ahead ae e c.end_of_part-end.ensures.is_blank place ending next frames in
-          let filled : Written c.fill_part.new.events.items None false rest all = by_blank first.row.is_blank
+          let filled : Written c.fill_part.new.events.items None false rest all = by_test first.row.is_blank
           (λ b. write_blank t bytes some limit stack first behind r rs left ahead ae open_now own c.in_ok-all.all stands own_is own_all c.standing-stands.ensures.value few going going_is c.in_ok-begin.begin c.in_ok-begin.ensures.columns c.in_ok-begin.ensures.place
           c.begin_part.new.events.items c.fill_part.new.events.items rest all b (c.in_ok-fill_part.ensures.blank b) begun)
           (λ b. c.in_ok-fill_part.ensures.stretch b (is_held (part_of r rs)) rest all

@@ -35,23 +35,11 @@ use Rattle.markdown_children.proofs.Parts.InShape.{source, IsSourced, child-all,
 use Rattle.markdown_children.proofs.Parts.Kept.{joined-parts}
 use Rattle.markdown_children.proofs.Parts.Once.{once-place}
 use Rattle.markdown_children.proofs.Parts.Placed.{change_place, change_place-behind, change_place-chain, change_place-pass}
-use Rattle.mdconstructs_documents.proofs.InContainers.ChunksStay.{IsOrigin, child, kept-content, child-origin, far, kept-next, kept-place, linked-content, list-origin, new, no-content, ts}
+use Rattle.markdown_children.proofs.Parts.Staying.{IsOrigin, child, kept-content, child-origin, far, kept-next, kept-place, linked-content, list-origin, new, no-content, ts}
+use Rattle.markdown_children.proofs.Parts.Untorn.{front-more, front-none, fails-next}
 use Rattle.markdown_children.proofs.Parts.Weaves.{AreCutNowhere}
 use Rattle.std.proofs.Common.{cond}
 use Rattle.std.proofs.lemmas.List.Sums.{take_while-cons}
-
--- leading events pass a test, and the next one does not
-front-more : (test : Event → Bool) (x : Event) (es : List Event) → test x ≡ true → take_while test (x ∷ es) ≡ x ∷ take_while test es
-front-more test x es t = take_while-cons test x es ∙ ap (λ b. cond b (x ∷ take_while test es) []) t
-
-front-none : (test : Event → Bool) (x : Event) (es : List Event) → test x ≡ false → take_while test (x ∷ es) ≡ []
-front-none test x es t = take_while-cons test x es ∙ ap (λ b. cond b (x ∷ take_while test es) []) t
-
-fails-next : (test : Event → Bool) (es : List Event) (f : Event) → slice_get (drop (length (take_while test es)) es) 0 ≡ Some f → test f ≡ false
-fails-next test [] f at = absurd (none-some f at)
-fails-next test (x ∷ es) f at = by_test (test x)
-    (λ t. fails-next test es f (ap (λ (l : List Event). slice_get (drop (length l) (x ∷ es)) 0) (sym (front-more test x es t)) ∙ at))
-    (λ t. ap test (sym (same_Some x f (ap (λ (l : List Event). slice_get (drop (length l) (x ∷ es)) 0) (sym (front-none test x es t)) ∙ at))) ∙ t)
 
 -- no chunk of this content is linked to a next one
 abbrev pub HasLoneChunks : Option Content → List Event → Type 0
