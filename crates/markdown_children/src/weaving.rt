@@ -16,15 +16,23 @@ use markdown_base::event::Event;
 use markdown_tokenizer::tokenizer::Fault;
 use std::alloc::{AllocError, Global};
 
-/// Makes room for so many events more. If there is not enough, the list grows by a quarter at least, so that little of its memory is unused, or,
-/// if there is not so much memory, by these alone. If it runs out of memory, nothing changes.
+/// A list of so many events grows by a sixteenth, and a shorter one by a quarter.
+const MANY: usize = 16384;
+
+/// Makes room for so many events more. If there is not enough, the list grows by a quarter at least, and from [`MANY`] events on by a sixteenth,
+/// so that little of its memory is unused, or, if there is not so much memory, by these alone. If it runs out of memory, nothing changes.
 fn make_room(woven: &mut Vec<Event>, more: usize) -> Result<(), AllocError>
     ensures { woven.new.items ≡ woven.old.items }
 {
     if more <= woven.capacity() - woven.len() {
         return Ok(());
     }
-    match woven.reserve_exact(more.max(woven.len() / 4)) {
+    let least = if woven.len() < MANY {
+        woven.len() / 4
+    } else {
+        woven.len() / 16
+    };
+    match woven.reserve_exact(more.max(least)) {
         Ok(()) => Ok(()),
         Err(_) => woven.reserve_exact(more),
     }

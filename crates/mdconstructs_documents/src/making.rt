@@ -162,6 +162,7 @@ pub(crate) fn with_ready_children<M: Machine>(
     let Some(parse_state) = ParseState::new(bytes, options, machine) else {
         unreachable!();
     };
+    events.shrink_to_fit();
     subtokenize(alloc, &mut events, &parse_state, wanted)?;
     Ok(events)
 }

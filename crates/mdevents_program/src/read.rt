@@ -28,6 +28,7 @@ pub fn read_to_end<R: Read>(alloc: Global, reader: &mut R, tab: TabSize) -> Resu
 {
     let mut bytes = Vec::new(alloc);
     'reading: while read_more(reader, &mut bytes, tab)? {}
+    bytes.shrink_to_fit();
     Ok(bytes)
 }
 
