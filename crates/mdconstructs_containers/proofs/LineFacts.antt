@@ -17,6 +17,7 @@ use Rattle.mdconstructs_containers.specs.Stretches.{IsOutside}
 use Rattle.mdconstructs_containers.proofs.DocumentRows.{filter_front, ending_is_none}
 use Rattle.mdconstructs_containers.proofs.GoingLemmas.{prefix_within}
 use Rattle.mdconstructs_containers.proofs.SpanLemmas.{Course, course_from, course_end, course_seats, course_inside}
+use Rattle.mdconstructs_lines.proofs.BreakLemmas.{and_false}
 
 -- ---- text and line ending
 

@@ -15,7 +15,6 @@ use Rattle.markdown_children.specs.Ready.{place_at}
 use Rattle.mdconstructs_flow_read.proofs.Marks.MarkAccounts.{bare}
 use Rattle.mdconstructs_flow_read.specs.LeafEvents.{Chunk, Mark}
 use Rattle.mdconstructs_containers.specs.Skeleton.{chained_from, next_chunk}
-use Rattle.mdconstructs_flow_read.proofs.Marks.MarkRuns.{alone-unlinked}
 
 -- a chunk's exit is at the beginning of a line, and the chunk behind it stands later in that line
 pub record IsFurther (p q : Point) : Type 0 where
@@ -184,6 +183,11 @@ next_first i d x ((e, None) ∷ ms) c h is =
     behind j (suc zero) from to rest = absurd (omega (arith, from))
     behind j (suc (suc m)) from to rest = rest m (omega (arith, to))
 
+alone_unlinked : (d : Due) (e : Event) (ms : List Mark) → Runs ((e, None) ∷ ms) d → e.link ≡ None
+alone_unlinked idle e ms h = h.0
+alone_unlinked an_exit e ms h = h.0
+alone_unlinked (a_chunk p o) e ms h = h.0
+
 abbrev waits : Due → Bool
 waits idle = false
 waits an_exit = true
@@ -208,7 +212,7 @@ no_previous_of e es d none is = false≢true (ap is_some (sym (ap (λ l. previou
 pub next_found : (i k d : ℕ) (previous : Option ℕ) (ms : List Mark) (due : Due) → Runs ms due → next_of (chained_from i previous ms) k ≡ Some d → (j : ℕ) × (d ≡ i + j) × IsNext (chained_from i previous ms) i k j
 next_found i zero d previous [] due h is = absurd (false≢true (ap is_some is))
 next_found i (suc k) d previous [] due h is = absurd (false≢true (ap is_some is))
-next_found i zero d previous ((e, None) ∷ ms) due h is = absurd (no_next_of e (chained_from (suc i) previous ms) d (alone-unlinked e ms due h) is)
+next_found i zero d previous ((e, None) ∷ ms) due h is = absurd (no_next_of e (chained_from (suc i) previous ms) d (alone_unlinked due e ms h) is)
 next_found i (suc k) d previous ((e, None) ∷ ms) due h is =
     let (f, rest, same) = behind_alone e ms due h in
     let (j, at, n) = next_found (suc i) k d previous ms f rest is in
@@ -236,7 +240,7 @@ pub previous_found : (i j p : ℕ) (previous : Option ℕ) (ms : List Mark) (w :
     → ((waits w ≡ true) × IsFirst i j p previous ms) ⊎ IsNextOf (chained_from i previous ms) i j p
 previous_found i zero p previous [] w h is = absurd (false≢true (ap is_some is))
 previous_found i (suc j) p previous [] w h is = absurd (false≢true (ap is_some is))
-previous_found i zero p previous ((e, None) ∷ ms) w h is = absurd (no_previous_of e (chained_from (suc i) previous ms) p (alone-unlinked e ms w h) is)
+previous_found i zero p previous ((e, None) ∷ ms) w h is = absurd (no_previous_of e (chained_from (suc i) previous ms) p (alone_unlinked w e ms h) is)
 previous_found i (suc j) p previous ((e, None) ∷ ms) w h is =
     let (f, rest, same) = behind_alone e ms w h in
     let on : suc i + j ≡ i + suc j = omega arith in
@@ -265,7 +269,7 @@ previous_found i (suc j) p previous ((e, Some c) ∷ ms) w h is =
 pub one_content_of : (i k : ℕ) (c : Content) (previous : Option ℕ) (ms : List Mark) (due : Due) → Runs ms due → content_at (chained_from i previous ms) k ≡ Some c → c ≡ content.Content
 one_content_of i zero c previous [] due h is = absurd (false≢true (ap is_some is))
 one_content_of i (suc k) c previous [] due h is = absurd (false≢true (ap is_some is))
-one_content_of i zero c previous ((e, None) ∷ ms) due h is = absurd (false≢true (ap is_some (sym (bare_content e (chained_from (suc i) previous ms) (alone-unlinked e ms due h)) ∙ is)))
+one_content_of i zero c previous ((e, None) ∷ ms) due h is = absurd (false≢true (ap is_some (sym (bare_content e (chained_from (suc i) previous ms) (alone_unlinked due e ms h)) ∙ is)))
 one_content_of i (suc k) c previous ((e, None) ∷ ms) due h is = let (f, rest, same) = behind_alone e ms due h in one_content_of (suc i) k c previous ms f rest is
 one_content_of i zero c previous ((e, Some x) ∷ ms) due h is = sym (ap (λ (o : Option Content). unwrap_or o c) is) ∙ (chunk_is e x ms due h).0
 one_content_of i (suc k) c previous ((e, Some x) ∷ ms) due h is = one_content_of (suc i) k c (Some i) ms (next_due x.has_next) (chunk_is e x ms due h).1 is

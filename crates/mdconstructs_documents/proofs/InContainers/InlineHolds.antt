@@ -25,7 +25,7 @@ use Rattle.mdconstructs_documents.proofs.FlowChains.Blocks.{held-at}
 use Rattle.mdconstructs_documents.proofs.FlowTexts.Accounts.{bare-marks}
 use Rattle.mdconstructs_documents.proofs.FlowTexts.Forms.{string-forms, tight-kept}
 use Rattle.mdconstructs_documents.proofs.FlowTexts.InlineForms.{inline-forms}
-use Rattle.mdconstructs_documents.proofs.FlowTexts.InlineOrder.{later-later}
+use Rattle.mdconstructs_documents.proofs.FlowTexts.InlineOrder.{later-later, upto-later}
 use Rattle.mdconstructs_documents.proofs.FlowTexts.InlineSteps.{Steps, steps-virtual}
 use Rattle.mdconstructs_documents.proofs.FlowTexts.InlineTight.{AreBalanced, fresh-balanced, inline-tight, inner-holds, outer-holds, run-in-place, tight-back}
 use Rattle.mdconstructs_documents.proofs.FlowTexts.Strings.{string-cut}
