@@ -1,36 +1,173 @@
 #!/usr/bin/env python3
 """Compares, for random documents, the HTML that tools/commonmark.py makes of printed events with that of cmark, byte for byte. The
 documents are made of pieces that are hard beside one another: markers, indentation, tabs, blank lines, lazy lines, underlines, fences, HTML.
-Prints how many are the same, how many are passed over, as cmark finds in them what the machine does not read, and of the others the first
-ones that differ.
 
-usage: tools/random_documents.py PROGRAM COUNT [--seed S] [--machine NAME] [--cmark CMARK] [--show K] [--pieces N]
+Each difference is explained by name. A document that differs is made smaller, by lines and then by bytes, while it differs. The smallest
+one tells the cause: one of CAUSES whose shape it has, and that is the only one, as nothing differs if it is taken out. The cause is then
+taken out of the whole document, and if that still differs, the next one is sought. So a document may count in more than one row.
+
+It prints a row for each cause: how many documents, the smallest one, who is right, and by which words. The status is 1 if a difference has
+no name; its document is shown.
+
+usage: tools/random_documents.py PROGRAM COUNT [--seed S] [--machine NAME] [--cmark CMARK] [--show K] [--pieces N] [--jobs J]
   PROGRAM         mdevents, or what prints events as it does
   COUNT           how many documents
   --seed S        the seed of the first one; without it, 1
   --machine NAME  the machine that reads them; without it, document
   --cmark CMARK   cmark's program; without it, the one on the path. Debian's package cmark has it
-  --show K        the first K that differ; without it, 5
+  --show K        the first K that differ, each with its causes; without it, none
   --pieces N      at most N pieces in a document; without it, 24
+  --jobs J        so many documents at once; without it, 1
 """
 
 import argparse
+import collections
+import multiprocessing
 import os
 import random
+import re
 import sys
 
 sys.path.insert(0, os.path.dirname(os.path.realpath(__file__)))
-import commonmark
 import real_files
 
 CONTAINERS = ["> ", ">", "- ", "* ", "+ ", "1. ", "2) ", "10. ", "-\n", "  ", "   ", "\t", "\n> ", "\n- ", "\n  ", "\n\t", "\n\n", "\n\n  ", "\n\n    "]
 LINES = ["a", "b c", "\n", "\n", "\n===", "\n---", "\n    ", "# ", "```\n", "~~~", "<div>", "<!--", "-->", "***", "`", "*x*", "\\", "&amp;"]
+
+MARKER = rb"(?:[-+*]|\d{1,9}[.)])"
+OPEN = rb"(?:```|~~~|<!--)"
+BREAK = rb"(?m)(?:(?:\*[ \t]*){3,}|(?:-[ \t]*){3,}|(?:_[ \t]*){3,})(?=\n[ \t>]*$)"
+# a comment by 0.31 that is none by 0.30
+COMMENT = rb"<!--(?=-?>|(?:(?!-->)[^\0])*?--(?:[^>]|->))"
+INFO = rb"((?:```|~~~)[^\n]*\\)(?=&)"
+DECLARATION = rb"<!(?=[a-z])"
+
+
+def put(by, found):
+    """What puts something in place of what is found."""
+    return lambda document: re.sub(found, by, document)
+
+
+# Why a document may differ. `shape` is found in a smallest document, and `mended` makes of any one a document without the cause. `words`
+# say by CommonMark 0.30, where no other is named, who is right: the events here, or cmark.
+Cause = collections.namedtuple("Cause", "name right words shape mended")
+CAUSES = [
+    Cause("an item begins with two blank lines, the second of white space", "here",
+          "5.2: at most one blank line is at an item's beginning; 2.1: a line of white space is blank",
+          MARKER + rb"[ \t]*\n[ \t>]*[ \t]\n", put(rb"\1", rb"(?m)^([ \t>]*?)[ \t]+$")),
+    Cause("a comment in a text has `--` in it, or is `<!-->` or `<!--->`", "here by 0.31, cmark by 0.30", "6.6, which 0.31 changes",
+          rb"[^\s>]\s*" + COMMENT, put(rb"<! ", COMMENT)),
+    Cause("an open fence, or open HTML, ends with a last line that has no ending, and a prefix alone", "open",
+          "2.1: the end of the file may end a line, also one of no bytes; but no such line is in the examples of 4.5",
+          OPEN + rb"[^\0]*\n[ \t>]+\Z", put(rb"\n", rb"(?<!\n)\Z")),
+    Cause("a tab is in part of a prefix, and in part a fence's indentation", "here", "2.2: where spaces help to define blocks, a tab is as if it were spaces",
+          rb"\t(?:```|~~~)", lambda document: document.expandtabs(4)),
+    Cause("a tab and two spaces are before a line ending", "cmark", "6.7: a line ending behind two spaces is a hard break",
+          rb"\t {2,}\n", put(rb"", rb"[ \t]*\t(?= {2,}\n)")),
+    Cause("a blank line is behind a thematic break in an item", "here", "5.3: a list is loose if an item has a blank line between two blocks",
+          BREAK, put(rb"#", BREAK)),
+    Cause("HTML that ends with its item has a blank line at its end", "open",
+          "4.6: HTML goes on to the end of its container; 5.3: blank lines between items make a list loose; no words say which of the two it is",
+          rb"<!--\n[ \t>]*\n", put(rb"<! ", rb"<!--")),
+    Cause("a lazy line begins with white space", "here",
+          "5.1, 5.2: a lazy line is as if its markers were there; 4.8: white space before a line of a paragraph is left out",
+          rb"\n[ \t>]*[ \t]\S", put(rb"\1", rb"(?<=\n)((?: {0,3}>)*)[ \t]+(?=\S)")),
+    Cause("an escaped `&` begins what would be a reference, in an info string", "here", "2.4: what is escaped has not its meaning for Markdown",
+          INFO, put(rb"\1 ", INFO)),
+    Cause("a declaration begins with a small letter", "here", "4.6: `<!` and an ASCII letter", DECLARATION, put(rb"<! ", DECLARATION)),
+]
 
 
 def one(generator, pieces):
     """A random document."""
     made = [generator.choice(generator.choice((CONTAINERS, CONTAINERS, LINES))) for _ in range(generator.randint(1, pieces))]
     return "".join(made).encode()
+
+
+class Beside:
+    """The program beside cmark."""
+
+    def __init__(self, program, machine, cmark):
+        self.program, self.machine, self.cmark, self.known = program, machine, cmark, {}
+
+    def both(self, document):
+        """The HTML of both."""
+        return real_files.ours(document, self.program, self.machine), real_files.by_cmark(self.cmark, document, "html")
+
+    def differ(self, document):
+        """Whether it is read otherwise; not if cmark finds in it what the machine does not read."""
+        if document not in self.known:
+            made, wanted = self.both(document)
+            self.known[document] = made != wanted and not self.is_passed(document)
+        return self.known[document]
+
+    def is_passed(self, document):
+        """Whether cmark finds in it what the machine does not read."""
+        tags = real_files.by_cmark(self.cmark, document, "xml")
+        return "<link " in tags or "<image " in tags
+
+    def smallest(self, document, others):
+        """A document of which no line and no byte can go, so that it still differs, and not by the other causes alone."""
+        before = None
+        while before != document:
+            before = document
+            for split in (lambda it: it.splitlines(True), lambda it: [it[at : at + 1] for at in range(len(it))]):
+                document = self.shorter(split(document), others)
+        return document
+
+    def shorter(self, parts, others):
+        """A document without parts that can go: halves first, then quarters, and so on."""
+        size = len(parts)
+        while size > 0:
+            at = 0
+            while at < len(parts):
+                rest = parts[:at] + parts[at + size :]
+                shorter = b"".join(rest)
+                if self.differ(shorter) and all(self.differ(it.mended(shorter)) for it in others):
+                    parts = rest
+                else:
+                    at += size
+            size //= 2
+        return b"".join(parts)
+
+    def cause(self, smallest):
+        """The cause of a smallest document, if it has a name."""
+        fit = (it for it in CAUSES if re.search(it.shape, smallest) and not self.differ(it.mended(smallest)))
+        return next(fit, None)
+
+    def explained(self, document):
+        """The causes by which a document differs, each with a smallest document. If one has no name, it is the last one, and None."""
+        causes, others = [], []
+        while self.differ(document):
+            smallest = self.smallest(document, others)
+            cause = self.cause(smallest)
+            if cause is None:
+                return [*causes, (None, smallest)]
+            rest = cause.mended(document)
+            if rest == document:
+                others.append(cause)  # it came in as bytes went
+            else:
+                causes.append((cause.name, smallest))
+                document = rest
+        return causes
+
+
+def reading(task):
+    """Whether a document is the same, whether it is passed over, and the causes by which it differs."""
+    beside, document = task
+    made, wanted = beside.both(document)
+    if made == wanted:
+        return True, False, []
+    if beside.is_passed(document):
+        return False, True, []
+    return False, False, beside.explained(document)
+
+
+def show(beside, document, causes):
+    """Prints a document that differs, with its causes."""
+    print(repr(document))
+    for name, smallest in causes:
+        print(f"  {name or 'NO NAME'}: {smallest!r}: {real_files.first_difference(*beside.both(smallest))}", flush=True)
 
 
 def main():
@@ -40,24 +177,31 @@ def main():
     parser.add_argument("--seed", type=int, default=1, help=argparse.SUPPRESS)
     parser.add_argument("--machine", default="document", help=argparse.SUPPRESS)
     parser.add_argument("--cmark", default="cmark", help=argparse.SUPPRESS)
-    parser.add_argument("--show", type=int, default=5, help=argparse.SUPPRESS)
+    parser.add_argument("--show", type=int, default=0, help=argparse.SUPPRESS)
     parser.add_argument("--pieces", type=int, default=24, help=argparse.SUPPRESS)
+    parser.add_argument("--jobs", type=int, default=1, help=argparse.SUPPRESS)
     words = parser.parse_args()
-    generator, same, passed, differ = random.Random(words.seed), 0, 0, 0
-    for _ in range(words.count):
-        document = one(generator, words.pieces)
-        made, wanted = real_files.ours(document, words.program, words.machine), real_files.by_cmark(words.cmark, document, "html")
-        if made == wanted:
-            same += 1
-            continue
-        tags = real_files.by_cmark(words.cmark, document, "xml")
-        if "<link " in tags or "<image " in tags:
-            passed += 1
-            continue
-        differ += 1
-        if differ <= words.show:
-            print(f"{document!r}\n  {real_files.first_difference(made, wanted)}", flush=True)
-    print(f"{same} of {words.count} are the same, {passed} passed over, {differ} differ; seed {words.seed}")
+    generator = random.Random(words.seed)
+    documents = [one(generator, words.pieces) for _ in range(words.count)]
+    beside = Beside(words.program, words.machine, words.cmark)
+    same = passed = differ = 0
+    times, least = collections.Counter(), {}
+    with multiprocessing.Pool(words.jobs) as pool:
+        readings = pool.imap(reading, ((beside, it) for it in documents), chunksize=50)
+        for document, (is_same, is_passed, causes) in zip(documents, readings):
+            same, passed, differ = same + is_same, passed + is_passed, differ + bool(causes)
+            if causes and (differ <= words.show or causes[-1][0] is None):
+                show(beside, document, causes)
+            times.update({name for name, _ in causes})
+            for name, smallest in causes:
+                least[name] = min(least.get(name, smallest), smallest, key=lambda it: (len(it), it))
+    print("| Documents | Cause | Smallest | Right | By |")
+    print("|---|---|---|---|---|")
+    for cause in CAUSES:
+        if times[cause.name]:
+            print(f"| {times[cause.name]} | {cause.name} | {least[cause.name]!r} | {cause.right} | {cause.words} |")
+    print(f"{same} of {words.count} are the same, {passed} passed over, {differ} differ, {times[None]} by a cause without a name; seed {words.seed}")
+    sys.exit(times[None] > 0)
 
 
 if __name__ == "__main__":
