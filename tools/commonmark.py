@@ -126,6 +126,8 @@ class Inline:
         """The text of a code span."""
         is_line_start, code = False, ""
         for span in spans:
+            if span.name == "SpaceOrTab":  # the indentation of an item
+                continue
             if span.name not in ("CodeTextSequence", "CodeTextData", "LineEnding"):
                 raise NoRule(f"no rule for {span.name} in a code span")
             if span.name != "CodeTextSequence":
@@ -169,9 +171,9 @@ def lines_of(document, spans, data):
 
 
 def fenced(document, span):
-    """The HTML of fenced code: the first line is a fence, and the last one may be. White space before that one is an item's."""
+    """The HTML of fenced code: the first line is a fence, and the last one may be. White space before that one is of items."""
     inside = [it for it in span.inner if it.name != "CodeFencedFence"]
-    if span.inner[-1].name == "CodeFencedFence" and inside and inside[-1].name == "SpaceOrTab":
+    while span.inner[-1].name == "CodeFencedFence" and inside and inside[-1].name == "SpaceOrTab":
         inside.pop()
     info = "".join(inline(document, it.inner) for it in found(span, "CodeFencedFenceInfo"))
     attribute = f' class="language-{info}"' if info else ""
