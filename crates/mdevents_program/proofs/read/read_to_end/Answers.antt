@@ -23,4 +23,4 @@ returns-in_err-read_more-clause-within_else g c =
 pub returns-clause-all : goal.returns-clause-all
 returns-clause-all g c =
     let (piece, is, taken) = c.in_ok-read_more.ensures.appends in
-    rw is (Consumes-trans _ _ _ _ _ c.reading.invariant.taken taken)
+    rw (c.shrink_to_fit.ensures.items, is) (Consumes-trans _ _ _ _ _ c.reading.invariant.taken taken)
