@@ -11,6 +11,8 @@ pub mod LazyLemmas
 pub mod LetterLemmas
 pub mod LetterPlaces
 pub mod LineFacts
+pub mod ListLemmas
+pub mod ListNumbers
 pub mod PartFacts
 pub mod PartGoes
 pub mod PartLemmas

@@ -5,6 +5,7 @@ pub mod Examples
 pub mod Frames
 pub mod Letters
 pub mod ListExamples
+pub mod ListWalks
 pub mod Lists
 pub mod Parts
 pub mod PlaceEvents

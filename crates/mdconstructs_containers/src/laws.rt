@@ -16,7 +16,7 @@ pub fn skeletons_of_documents()
     ensures both { skeletons_of quotes_and_items ≡ given_for quotes_and_items }
 {}
 
-/// Of the blocks of six documents it is told whether a list is loose, what its marker is, and with which number it starts.
+/// Of the blocks of ten documents it is told whether each list is loose, what its marker is, and with which number it starts.
 pub fn lists_of_documents()
     ensures { map (λ l. read_of l.document) lists ≡ lists }
 {}

@@ -9,6 +9,7 @@ pub mod laws;
 pub mod leaves;
 pub mod letters;
 pub mod lines;
+pub mod lists;
 pub mod parts;
 pub mod prefixes;
 pub mod rows;

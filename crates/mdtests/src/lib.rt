@@ -25,6 +25,8 @@ mod kept;
 #[cfg(test)]
 mod labels;
 #[cfg(test)]
+mod lists;
+#[cfg(test)]
 mod looping;
 #[cfg(test)]
 mod machines;

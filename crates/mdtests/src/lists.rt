@@ -1,0 +1,155 @@
+//! Lists of whole documents: whether they are loose, the kind of their markers and the numbers that they start with, worked by hand.
+
+use markdown::configuration::ParseOptions;
+use markdown::event::Event;
+use mdconstructs::read_nested;
+use mdconstructs_containers::lists::Marker::{Dash, Parenthesis, Period, Plus, Star};
+use mdconstructs_containers::lists::{
+    Marker, is_loose, item_spread, list_spread, marker_of, start_of,
+};
+use std::alloc::{AllocError, Global};
+
+/// What is said of a list: whether it is loose, whether two of its items have a blank line between them, the kind of its markers, and its
+/// number.
+type Said = (bool, bool, Option<Marker>, Option<u32>);
+
+/// What is said of each list of a document's events, in order of their enters.
+fn said_of(alloc: Global, bytes: &[u8], events: &[Event]) -> Result<Vec<Said>, AllocError> {
+    let mut all = Vec::new(alloc);
+    for at in 0..events.len() {
+        if let (Some(loose), Some(spread)) = (is_loose(events, at), list_spread(events, at)) {
+            let marker = marker_of(bytes, events, at);
+            all.push((loose, spread, marker, start_of(bytes, events, at)))?;
+        }
+    }
+    Ok(all)
+}
+
+/// For each item of a document's events, whether two of its blocks have a blank line between them.
+fn items_of(alloc: Global, events: &[Event]) -> Result<Vec<bool>, AllocError> {
+    let mut all = Vec::new(alloc);
+    for at in 0..events.len() {
+        if let Some(spread) = item_spread(events, at) {
+            all.push(spread)?;
+        }
+    }
+    Ok(all)
+}
+
+/// The events of a short document.
+fn events_of(alloc: Global, bytes: &[u8]) -> Result<Vec<Event>, AllocError> {
+    if bytes.len() > 99 {
+        return Err(AllocError);
+    }
+    read_nested(alloc, bytes, &ParseOptions::default())
+}
+
+/// A document, what is said of its lists, and for each of its items whether two blocks have a blank line between them.
+const DOCUMENTS: &[(&[u8], &[Said], &[bool])] = &[
+    (b"a\n", &[], &[]),
+    (
+        b"- a\n- b",
+        &[(false, false, Some(Dash), None)],
+        &[false, false],
+    ),
+    (
+        b"+ a\n\n+ b",
+        &[(true, true, Some(Plus), None)],
+        &[false, false],
+    ),
+    // the line of an empty item is no blank line
+    (
+        b"* a\n*\n* b",
+        &[(false, false, Some(Star), None)],
+        &[false, false, false],
+    ),
+    (
+        b"* a\n*\n\n* b",
+        &[(true, true, Some(Star), None)],
+        &[false, false, false],
+    ),
+    (
+        b"1. a\n\n   b\n2. c",
+        &[(true, false, Some(Period), Some(1))],
+        &[true, false],
+    ),
+    (b"- # a\n  b", &[(false, false, Some(Dash), None)], &[false]),
+    // two blocks of an item of an item, and of a quote
+    (
+        b"- a\n  - b\n\n    c\n- d",
+        &[
+            (false, false, Some(Dash), None),
+            (true, false, Some(Dash), None),
+        ],
+        &[false, true, false],
+    ),
+    (
+        b"- > a\n  >\n  > b\n- c",
+        &[(false, false, Some(Dash), None)],
+        &[false, false],
+    ),
+    // a blank line that ends a quote, or is in code, is not between two blocks
+    (
+        b"- a\n  > b\n  >\n- c",
+        &[(false, false, Some(Dash), None)],
+        &[false, false],
+    ),
+    (
+        b"- ```\n\n  ```\n- a",
+        &[(false, false, Some(Dash), None)],
+        &[false, false],
+    ),
+    // a quote ends with the line before a blank line, though code in it is open
+    (
+        b"- > ```\n\n- a",
+        &[(true, true, Some(Dash), None)],
+        &[false, false],
+    ),
+    // the first number counts, and no number of another list
+    (
+        b"007) a\n3) b",
+        &[(false, false, Some(Parenthesis), Some(7))],
+        &[false, false],
+    ),
+    (
+        b"999999999. a",
+        &[(false, false, Some(Period), Some(999_999_999))],
+        &[false],
+    ),
+    (
+        b"- a\n1. b",
+        &[
+            (false, false, Some(Dash), None),
+            (false, false, Some(Period), Some(1)),
+        ],
+        &[false, false],
+    ),
+];
+
+#[test]
+fn lists_are_as_worked_by_hand(rt: HostRuntime) -> Result<(), AllocError> {
+    let alloc = rt.alloc();
+    for &(document, lists, items) in DOCUMENTS {
+        let events = events_of(alloc, document)?;
+        let said = said_of(alloc, document, events.as_slice())?;
+        assert!(rt; said.as_slice() == lists);
+        assert!(rt; items_of(alloc, events.as_slice())?.as_slice() == items);
+    }
+    Ok(())
+}
+
+#[test]
+fn only_an_enter_of_a_list_says_something(rt: HostRuntime) -> Result<(), AllocError> {
+    let document = b"- a";
+    let events = events_of(rt.alloc(), document)?;
+    let events = events.as_slice();
+    assert!(rt; is_loose(events, 0) == Some(false));
+    for at in 1..events.len() + 1 {
+        assert!(rt; is_loose(events, at).is_none());
+        assert!(rt; list_spread(events, at).is_none());
+        assert!(rt; marker_of(document, events, at).is_none());
+        assert!(rt; start_of(document, events, at).is_none());
+    }
+    assert!(rt; item_spread(events, 0).is_none());
+    Ok(())
+}
