@@ -13,6 +13,7 @@ pub mod LetterPlaces
 pub mod LineFacts
 pub mod ListLemmas
 pub mod ListNumbers
+pub mod ListSeenLemmas
 pub mod PartFacts
 pub mod PartGoes
 pub mod PartLemmas

@@ -5,6 +5,8 @@ pub mod Examples
 pub mod Frames
 pub mod Letters
 pub mod ListExamples
+pub mod ListSeen
+pub mod ListShapes
 pub mod ListWalks
 pub mod Lists
 pub mod Parts

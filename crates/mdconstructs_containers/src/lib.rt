@@ -9,6 +9,7 @@ pub mod laws;
 pub mod leaves;
 pub mod letters;
 pub mod lines;
+pub mod list_shapes;
 pub mod lists;
 pub mod parts;
 pub mod prefixes;

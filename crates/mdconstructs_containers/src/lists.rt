@@ -25,11 +25,11 @@ pub enum Marker {
     Parenthesis,
 }
 
-const LISTS: [Name; 2] = [Name::ListOrdered, Name::ListUnordered];
+pub(crate) const LISTS: [Name; 2] = [Name::ListOrdered, Name::ListUnordered];
 
-const ITEMS: [Name; 1] = [Name::ListItem];
+pub(crate) const ITEMS: [Name; 1] = [Name::ListItem];
 
-const BLOCKS: [Name; 11] = [
+pub(crate) const BLOCKS: [Name; 11] = [
     Name::BlockQuote,
     Name::ListOrdered,
     Name::ListUnordered,
@@ -58,7 +58,7 @@ enum Known {
 }
 
 /// Whether a name is one of the names.
-fn is_wanted(names: &[Name], name: Name) -> bool
+pub(crate) fn is_wanted(names: &[Name], name: Name) -> bool
     ensures { result ≡ is_wanted names.now name }
 {
     names.contains(&name)
@@ -156,7 +156,7 @@ fn is_spread(events: &[Event], names: &[Name]) -> bool
 }
 
 /// Whether an event is the enter of an item.
-fn is_item(event: &Event) -> bool
+pub(crate) fn is_item(event: &Event) -> bool
     ensures { result ≡ is_item event.now }
 {
     event.kind == Kind::Enter && event.name == Name::ListItem
@@ -234,7 +234,8 @@ pub fn item_spread(events: &[Event], at: usize) -> Option<bool>
     Some(is_spread(inside, &BLOCKS))
 }
 
-/// Whether the list whose enter is at an index is loose. None if no list is entered there. It walks over the list at most three times.
+/// Whether the list whose enter is at an index is loose. None if no list is entered there. It walks over the list at most three
+/// times; `lists_of` of `list_shapes` says it of all lists in one walk.
 pub fn is_loose(events: &[Event], at: usize) -> Option<bool>
     ensures { result ≡ option_map is_loose (behind_enter list_names at events.now) }
 {

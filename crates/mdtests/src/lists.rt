@@ -3,6 +3,7 @@
 use markdown::configuration::ParseOptions;
 use markdown::event::Event;
 use mdconstructs::read_nested;
+use mdconstructs_containers::list_shapes::{ListShape, lists_of};
 use mdconstructs_containers::lists::Marker::{Dash, Parenthesis, Period, Plus, Star};
 use mdconstructs_containers::lists::{
     Marker, is_loose, item_spread, list_spread, marker_of, start_of,
@@ -23,6 +24,22 @@ fn said_of(alloc: Global, bytes: &[u8], events: &[Event]) -> Result<Vec<Said>, A
         }
     }
     Ok(all)
+}
+
+/// The same of what is said of all lists at once. None if it is another list's than that at its index.
+fn said_at_once(
+    alloc: Global,
+    events: &[Event],
+    shapes: &[ListShape],
+) -> Result<Option<Vec<Said>>, AllocError> {
+    let mut all = Vec::new(alloc);
+    for shape in shapes {
+        if is_loose(events, shape.at) != Some(shape.is_loose) {
+            return Ok(None);
+        }
+        all.push((shape.is_loose, shape.is_spread, shape.marker, shape.start))?;
+    }
+    Ok(Some(all))
 }
 
 /// For each item of a document's events, whether two of its blocks have a blank line between them.
@@ -133,6 +150,12 @@ fn lists_are_as_worked_by_hand(rt: HostRuntime) -> Result<(), AllocError> {
         let events = events_of(alloc, document)?;
         let said = said_of(alloc, document, events.as_slice())?;
         assert!(rt; said.as_slice() == lists);
+        let shapes = lists_of(alloc, document, events.as_slice())?;
+        let Some(at_once) = said_at_once(alloc, events.as_slice(), shapes.as_slice())? else {
+            assert!(rt; false);
+            continue;
+        };
+        assert!(rt; at_once.as_slice() == lists);
         assert!(rt; items_of(alloc, events.as_slice())?.as_slice() == items);
     }
     Ok(())
@@ -151,5 +174,29 @@ fn only_an_enter_of_a_list_says_something(rt: HostRuntime) -> Result<(), AllocEr
         assert!(rt; start_of(document, events, at).is_none());
     }
     assert!(rt; item_spread(events, 0).is_none());
+    Ok(())
+}
+
+#[test]
+fn shapes_say_where_lists_are(rt: HostRuntime) -> Result<(), AllocError> {
+    let alloc = rt.alloc();
+    let document = b"> 3. - a";
+    let events = events_of(alloc, document)?;
+    let shapes = lists_of(alloc, document, events.as_slice())?;
+    let outer = ListShape {
+        at: 7,
+        is_loose: false,
+        is_spread: false,
+        marker: Some(Period),
+        start: Some(3),
+    };
+    let inner = ListShape {
+        at: 17,
+        is_loose: false,
+        is_spread: false,
+        marker: Some(Dash),
+        start: None,
+    };
+    assert!(rt; shapes.as_slice() == [outer, inner].as_slice());
     Ok(())
 }
