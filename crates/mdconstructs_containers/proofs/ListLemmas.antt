@@ -15,7 +15,7 @@ use Rattle.markdown_edits.specs.SpanWalks.{is_wanted}
 use Rattle.mdconstructs_containers.specs.declared.lists.Known.{Known}
 use Rattle.mdconstructs_containers.specs.declared.lists.Known.TheVariants.{Apart, Ended, Nothing}
 use Rattle.mdconstructs_containers.specs.Lists.{Met, block_names, directly_by, directly_from, is_apart, is_apart_behind, is_blank_behind, is_spread}
-use Rattle.mdconstructs_containers.specs.ListWalks.{apart_from, depth_after, depth_at, is_found, is_item, known_after, known_behind}
+use Rattle.mdconstructs_containers.specs.ListWalks.{apart_from, depth_next, depth_at, is_found, is_item, known_next, known_behind}
 
 -- The parts of a span from an event on
 module _ (e : Event) (es : List Event) where
@@ -26,10 +26,10 @@ module _ (e : Event) (es : List Event) where
   rest d = directly_from d es
 
   -- the event is of a span directly in it
-  part_first : (d : ℕ) → depth_at e.kind d ≡ Some 0 → directly_from d (e ∷ es) ≡ here ∷ directly_from (depth_after e.kind 0) es
+  part_first : (d : ℕ) → depth_at e.kind d ≡ Some 0 → directly_from d (e ∷ es) ≡ here ∷ directly_from (depth_next e.kind 0) es
   part_first d h = by e.kind d h
     where
-      by : (k : Kind) (d : ℕ) → depth_at k d ≡ Some 0 → directly_by k d here rest ≡ here ∷ rest (depth_after k 0)
+      by : (k : Kind) (d : ℕ) → depth_at k d ≡ Some 0 → directly_by k d here rest ≡ here ∷ rest (depth_next k 0)
       by Enter zero h = refl
       by Enter (suc d) h = let q : suc d ≡ 0 = cc in absurd (omega arith)
       by Exit zero h = absurd (cc)
@@ -37,10 +37,10 @@ module _ (e : Event) (es : List Event) where
       by Exit (suc (suc d)) h = let q : suc d ≡ 0 = cc in absurd (omega arith)
 
   -- the event is of a span further in
-  part_passed : (d n : ℕ) → depth_at e.kind d ≡ Some n → 0 < n → directly_from d (e ∷ es) ≡ directly_from (depth_after e.kind n) es
+  part_passed : (d n : ℕ) → depth_at e.kind d ≡ Some n → 0 < n → directly_from d (e ∷ es) ≡ directly_from (depth_next e.kind n) es
   part_passed d n h m = by e.kind d h
     where
-      by : (k : Kind) (d : ℕ) → depth_at k d ≡ Some n → directly_by k d here rest ≡ rest (depth_after k n)
+      by : (k : Kind) (d : ℕ) → depth_at k d ≡ Some n → directly_by k d here rest ≡ rest (depth_next k n)
       by Enter zero h = let q : 0 ≡ n = cc in absurd (omega arith)
       by Enter (suc d) h = let q : suc d ≡ n = cc in ap rest (omega arith)
       by Exit zero h = absurd (cc)
@@ -93,7 +93,7 @@ module _ (names : List Name) where
         by false = refl
     next_other Apart q = ap (λ w. (w || list_any is_one es) || is_apart names (e ∷ es)) q ∙ ap (λ b. list_any is_one es || b) (other q)
 
-    apart_next : (known : Known) → is_found names known e ≡ false → apart_from names known (e ∷ es) ≡ apart_from names (known_after names known e) es
+    apart_next : (known : Known) → is_found names known e ≡ false → apart_from names known (e ∷ es) ≡ apart_from names (known_next names known e) es
     apart_next known h = by (is_one e) refl
       where
         after : Bool → Known
@@ -109,23 +109,23 @@ module _ (names : List Name) where
 
   module _ (e : Event) (es : List Event) (known : Known) (d n : ℕ) where
     spread_next : depth_at e.kind d ≡ Some n → n ≡ 0 → is_found names known e ≡ false
-        → spread_from known d (e ∷ es) ≡ spread_from (known_after names known e) (depth_after e.kind n) es
+        → spread_from known d (e ∷ es) ≡ spread_from (known_next names known e) (depth_next e.kind n) es
     spread_next h z f =
         ap (λ ms. apart_from names known (map (λ m. m.event) ms)) (part_first e es d (h ∙ ap Some z))
-        ∙ apart_next e (map (λ m. m.event) (directly_from (depth_after e.kind 0) es)) known f
-        ∙ ap (λ v. spread_from (known_after names known e) (depth_after e.kind v) es) (sym z)
+        ∙ apart_next e (map (λ m. m.event) (directly_from (depth_next e.kind 0) es)) known f
+        ∙ ap (λ v. spread_from (known_next names known e) (depth_next e.kind v) es) (sym z)
 
-    spread_passes : depth_at e.kind d ≡ Some n → 0 < n → spread_from known d (e ∷ es) ≡ spread_from known (depth_after e.kind n) es
+    spread_passes : depth_at e.kind d ≡ Some n → 0 < n → spread_from known d (e ∷ es) ≡ spread_from known (depth_next e.kind n) es
     spread_passes h m = ap (λ ms. apart_from names known (map (λ m. m.event) ms)) (part_passed e es d n h m)
 
   -- one event on, whether or not it is of a span directly in it
   pub spread_step : (e : Event) (es : List Event) (known : Known) (d n : ℕ) → depth_at e.kind d ≡ Some n → ((n == 0) && is_found names known e) ≡ false
-      → spread_from known d (e ∷ es) ≡ spread_from (cond (n == 0) (known_after names known e) known) (depth_after e.kind n) es
+      → spread_from known d (e ∷ es) ≡ spread_from (cond (n == 0) (known_next names known e) known) (depth_next e.kind n) es
   spread_step e es known d zero h f = spread_next e es known d 0 h refl f
   spread_step e es known d (suc n) h f =
       let q : (suc n == 0) ≡ false = grind (arith, nat_tests) in
       spread_passes e es known d (suc n) h (omega arith)
-      ∙ sym (ap (λ b. spread_from (cond b (known_after names known e) known) (depth_after e.kind (suc n)) es) q)
+      ∙ sym (ap (λ b. spread_from (cond b (known_next names known e) known) (depth_next e.kind (suc n)) es) q)
 
 -- Items with a blank line between two of their blocks
 abbrev pub spread_items_from : ℕ → List Event → Bool

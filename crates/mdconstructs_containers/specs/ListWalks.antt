@@ -19,9 +19,9 @@ depth_at Exit zero = None
 depth_at Exit (suc depth) = Some depth
 
 -- how many are open behind it
-abbrev pub depth_after : Kind → ℕ → ℕ
-depth_after Enter around = around + 1
-depth_after Exit around = around
+abbrev pub depth_next : Kind → ℕ → ℕ
+depth_next Enter around = around + 1
+depth_next Exit around = around
 
 -- what is known behind an event of no span of the names
 abbrev pub known_behind : Known → Event → Known
@@ -29,8 +29,8 @@ known_behind Nothing e = Nothing
 known_behind (Ended end) e = cond (is_blank_behind end e) Apart (Ended end)
 known_behind Apart e = Apart
 
-abbrev pub known_after : List Name → Known → Event → Known
-known_after names known e = cond (is_wanted names e.name) (Ended e.point) (known_behind known e)
+abbrev pub known_next : List Name → Known → Event → Known
+known_next names known e = cond (is_wanted names e.name) (Ended e.point) (known_behind known e)
 
 -- a blank line came, and this is another span of the names
 abbrev pub is_found : List Name → Known → Event → Bool

@@ -5,7 +5,7 @@
 ghost use Rattle.std.specs.Prelude.{◌≡◌, ◌≤◌, ◌<◌, ◌+◌, ◌==◌, ◌&&◌, ℕ, IfSome, MatchOption, None, Some, cond, drop, length, option_and_then, option_map, slice_index};
 ghost use Rattle.std.specs.List.{list_any, prefix_len};
 ghost use Rattle.markdown_edits.specs.SpanWalks.{is_wanted};
-ghost use Rattle.mdconstructs_containers.specs.ListWalks.{depth_after, depth_at, is_found, is_item, known_after};
+ghost use Rattle.mdconstructs_containers.specs.ListWalks.{depth_next, depth_at, is_found, is_item, known_next};
 ghost use Rattle.mdconstructs_containers.specs.Lists.{behind_enter, block_names, digits_at, first_in, in_first_prefix, is_blank_behind, is_digit, is_loose, is_spread, item_names, items_in, list_marker, list_names, list_start, marker_of, number_of};
 
 use markdown_base::event::{Event, Kind, Name, Point};
@@ -76,9 +76,9 @@ fn depth_at(kind: Kind, depth: usize) -> Option<usize>
 }
 
 /// How many spans are open behind an enter or exit, by how many are open around its span.
-fn depth_after(kind: Kind, around: usize) -> usize
+fn depth_next(kind: Kind, around: usize) -> usize
     requires { around < usize.MAX }
-    ensures value { result ≡ depth_after kind around }
+    ensures value { result ≡ depth_next kind around }
     ensures few { result ≤ around + 1 }
 {
     match kind {
@@ -97,8 +97,8 @@ fn is_blank_behind(end: Point, event: &Event) -> bool
 }
 
 /// What is known behind a part of a span.
-fn known_after(names: &[Name], known: Known, event: &Event) -> Known
-    ensures { result ≡ known_after names.now known event.now }
+fn known_next(names: &[Name], known: Known, event: &Event) -> Known
+    ensures { result ≡ known_next names.now known event.now }
 {
     if is_wanted(names, event.name) {
         return Known::Ended(event.point);
@@ -117,10 +117,10 @@ fn known_after(names: &[Name], known: Known, event: &Event) -> Known
 
 /// What is known behind an event of a span in so many others: only parts of the span itself count.
 fn known_behind(names: &[Name], known: Known, event: &Event, around: usize) -> Known
-    ensures { result ≡ cond (around == 0) (known_after names.now known event.now) known }
+    ensures { result ≡ cond (around == 0) (known_next names.now known event.now) known }
 {
     if around == 0 {
-        known_after(names, known, event)
+        known_next(names, known, event)
     } else {
         known
     }
@@ -150,7 +150,7 @@ fn is_spread(events: &[Event], names: &[Name]) -> bool
             return true;
         }
         known = known_behind(names, known, event, around);
-        depth = depth_after(event.kind, around);
+        depth = depth_next(event.kind, around);
     }
     false
 }
@@ -174,7 +174,7 @@ fn has_spread_item(events: &[Event]) -> bool
         if around == 0 && is_item(event) && is_spread(&events[i + 1..], &BLOCKS) {
             return true;
         }
-        depth = depth_after(event.kind, around);
+        depth = depth_next(event.kind, around);
     }
     false
 }
@@ -189,7 +189,7 @@ fn first_in(events: &[Event], name: Name) -> Option<(Event, &[Event])>
         if around == 0 && event.name == name {
             return Some((*event, &events[i + 1..]));
         }
-        depth = depth_after(event.kind, around);
+        depth = depth_next(event.kind, around);
     }
     None
 }

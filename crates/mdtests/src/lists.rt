@@ -58,7 +58,8 @@ fn events_of(alloc: Global, bytes: &[u8]) -> Result<Vec<Event>, AllocError> {
     if bytes.len() > 99 {
         return Err(AllocError);
     }
-    read_nested(alloc, bytes, &ParseOptions::default())
+    let options = ParseOptions::default();
+    read_nested(alloc, bytes, &options)
 }
 
 /// A document, what is said of its lists, and for each of its items whether two blocks have a blank line between them.

@@ -2,7 +2,7 @@ use Rattle.std.proofs.Common.{◌+◌, ◌<◌, length, drop, get_or, cond, sym,
 use Rattle.std.specs.Prelude.{◌==◌}
 use Rattle.std.proofs.lemmas.List.{at_drop_more}
 use Rattle.markdown_base.proofs.SliceLemmas.{filler}
-use Rattle.mdconstructs_containers.specs.ListWalks.{known_after}
+use Rattle.mdconstructs_containers.specs.ListWalks.{known_next}
 use Rattle.mdconstructs_containers.proofs.ListLemmas.{spread_from, spread_step}
 use Rattle.mdconstructs_containers.proofs.lists.is_spread.Goals as goal
 
@@ -17,9 +17,9 @@ loop-event-preserved c =
     let found = sym c.is_found.ensures ∙ c.if-is_found.false in
     record {
       same =
-          ap (λ k. spread_from names k c.depth_after-depth.result rest) c.known_behind-known.ensures
-          ∙ ap (λ d. spread_from names (cond (c.in-Some.around == 0) (known_after names c.loop-event.known e) c.loop-event.known) d rest) c.depth_after-depth.ensures.value
+          ap (λ k. spread_from names k c.depth_next-depth.result rest) c.known_behind-known.ensures
+          ∙ ap (λ d. spread_from names (cond (c.in-Some.around == 0) (known_next names c.loop-event.known e) c.loop-event.known) d rest) c.depth_next-depth.ensures.value
           ∙ sym (at_drop_more (spread_from names c.loop-event.known c.loop-event.depth) events i filler h ∙ spread_step names e rest c.loop-event.known c.loop-event.depth c.in-Some.around (sym c.in-Some.ensures.value) found)
           ∙ c.loop-event.invariant.same;
-      room = omega (arith, c.in-Some.ensures.few, c.depth_after-depth.ensures.few);
+      room = omega (arith, c.in-Some.ensures.few, c.depth_next-depth.ensures.few);
     }
