@@ -5,7 +5,6 @@ ghost use Rattle.markdown.specs.Presets.{default_parse_options};
 ghost use Rattle.markdown.specs.Engine.{given_by};
 ghost use Rattle.markdown.specs.Virtual.{IsWithinLimit};
 
-use crate::machines::lines_by;
 use crate::shown::assert_shown;
 use markdown::configuration::ParseOptions;
 use markdown::event::{Event, Kind, Point};
@@ -18,6 +17,7 @@ use mdexamples::labels::Labels;
 use mdexamples::spans::code_spans;
 use mdexamples::text_lines::TextLines;
 use mdexamples::texts::texts_of_spans;
+use mdtests_base::documents::lines_by;
 use std::alloc::{AllocError, Global};
 
 /// The code spans of a document that is pushed in ranges of this size.

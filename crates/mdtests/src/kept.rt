@@ -4,12 +4,13 @@ ghost use Rattle.std.specs.Prelude.{[], ◌∷◌};
 ghost use Rattle.markdown.specs.Engine.{AreCuts};
 ghost use Rattle.markdown.specs.Virtual.{IsWithinLimit};
 
-use crate::shown::{assert_shown, shown};
+use crate::shown::assert_shown;
 use markdown::configuration::ParseOptions;
 use markdown::parser::ParseState;
 use markdown::state::Name;
 use mdconstructs::Paragraphs;
 use mdexamples::kept::{read_changed, read_up_to};
+use mdtests_base::shown::shown;
 use std::alloc::{AllocError, Global};
 
 /// The events of a document that was changed behind its second byte, read on from there by what was kept of the old one.

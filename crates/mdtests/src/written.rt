@@ -22,21 +22,6 @@ pub fn choice(cut: usize, deep: bool, machine: Which, tab: TabSize) -> Choice
     }
 }
 
-/// A beginning, and then a line, this many times.
-pub(crate) fn repeated(
-    alloc: Global,
-    before: &[u8],
-    line: &[u8],
-    count: usize,
-) -> Result<Vec<u8>, AllocError> {
-    let mut text = Vec::new(alloc);
-    text.extend_from_slice(before)?;
-    for _ in 0..count {
-        text.extend_from_slice(line)?;
-    }
-    Ok(text)
-}
-
 /// What is written for a beginning, and then a line, this many times.
 fn of_lines(
     alloc: Global,

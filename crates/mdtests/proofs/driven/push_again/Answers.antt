@@ -1,4 +1,0 @@
-use Rattle.mdtests.proofs.driven.push_again.Goals as goal
-
-pub push-requires : goal.push-requires
-push-requires g c = record { range = λ e. absurd (cc); holds = λ e. absurd (cc) }

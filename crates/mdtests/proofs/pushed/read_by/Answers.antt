@@ -1,5 +1,0 @@
-use Rattle.mdtests.proofs.Prelude.{given_of, start-is-point}
-use Rattle.mdtests.proofs.pushed.read_by.Goals as goal
-
-pub new-tokenizer-requires : goal.new-tokenizer-requires
-new-tokenizer-requires g c = record { place = start-is-point (given_of c.in-Some.parse_state) c.in-Some.parse_state.tab_size.0 }

@@ -1,0 +1,11 @@
+//! Tests of the plain code of inline text: labels and other parts of links, character references, emphasis.
+#![tactic(auto)]
+
+#[cfg(test)]
+mod emphasis;
+#[cfg(test)]
+mod labels;
+#[cfg(test)]
+mod references;
+#[cfg(test)]
+mod shown;

@@ -1,0 +1,2 @@
+pub mod StarEdits
+mod Prelude
