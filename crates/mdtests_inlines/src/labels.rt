@@ -1,9 +1,19 @@
-//! Labels of links: which are the same, and link reference definitions at the front of a text.
+//! Labels of links: what one is and which are the same; link reference definitions at the front of a text; resources; their parts.
 
-use mdconstructs_labels::definitions::definitions_in;
+ghost use Rattle.std.specs.Prelude.{◌≡◌, ◌<◌};
+
+use mdconstructs_labels::definitions::{
+    Definition, Front, Stretch, definition_at, definition_counted, definitions_counted,
+    definitions_in,
+};
 use mdconstructs_labels::labels::Labels;
-use mdconstructs_labels::normalised;
-use std::alloc::AllocError;
+use mdconstructs_labels::resources::{Resource, resource_at, resource_counted};
+use mdconstructs_labels::tails::{destination_size, gap, label_size, title_size};
+use mdconstructs_labels::{is_label, is_label_counted, normalised};
+use mdconstructs_turns::Turns;
+use std::alloc::{AllocError, Global};
+use std::marker::Brand;
+use std::sync::ledger::{Blank, Ledger};
 
 /// Two labels, and whether one defines the other: case, white space, a letter whose upper case is two, and bytes that are no UTF-8.
 const ALIKE: &[(&[u8], &[u8], bool)] = &[
@@ -52,5 +62,208 @@ fn definitions_stand_at_the_front(rt: HostRuntime) {
         let front = definitions_in(text);
         assert_eq!(rt; front.count, *count);
         assert_eq!(rt; front.end, *end);
+    }
+}
+
+/// A label with this many letters, each two bytes or one.
+fn letters(alloc: Global, letter: &[u8], count: usize) -> Result<Vec<u8>, AllocError> {
+    let mut label = Vec::new(alloc);
+    for _ in 0..count {
+        label.extend_from_slice(letter)?;
+    }
+    Ok(label)
+}
+
+/// What may stand between the brackets of a label, and what may not: nothing, white space alone, a bracket that is not escaped.
+const LABELS: &[(&[u8], bool)] = &[
+    (b"a", true),
+    (b" a\n", true),
+    (b"a\\]", true),
+    (b"\\[", true),
+    (b"\\\\", true),
+    (b"", false),
+    (b" \t\n", false),
+    (b"a]", false),
+    (b"[a", false),
+    (b"\\\\]", false),
+];
+
+/// A label has at most 999 characters.
+#[test]
+fn labels_are_short_and_have_no_brackets(rt: HostRuntime) -> Result<(), AllocError> {
+    for (bytes, is_one) in LABELS {
+        assert_eq!(rt; is_label(bytes), *is_one);
+    }
+    for (letter, count, is_one) in [
+        (b"a".as_slice(), 999, true),
+        (b"a".as_slice(), 1000, false),
+        (b"\xC3\xA4".as_slice(), 999, true),
+        (b"\xC3\xA4".as_slice(), 1000, false),
+    ] {
+        let label = letters(rt.alloc(), letter, count)?;
+        assert_eq!(rt; is_label(label.as_slice()), is_one);
+    }
+    Ok(())
+}
+
+/// The size of the label, the destination and the title that a text begins with, if it begins with one, and of white space.
+type Sizes = (Option<usize>, Option<usize>, Option<usize>, usize);
+
+/// The sizes of what a text begins with. The turns of loops are counted on.
+fn sizes_counted<L: Ledger>(bytes: &[u8], turns: &mut Turns<L>) -> Sizes {
+    (
+        label_size(bytes, turns),
+        destination_size(bytes, turns),
+        title_size(bytes, turns),
+        gap(bytes, turns),
+    )
+}
+
+/// The sizes of what a text begins with.
+fn sizes<L: Ledger>(bytes: &[u8], blank: Blank) -> Sizes
+    requires name { blank.name ≡ L.name }
+    requires parts { blank.parts ≡ L.parts }
+    requires some { 0 < blank.parts }
+{
+    let mut turns = Turns::<L>::new(blank);
+    sizes_counted(bytes, &mut turns)
+}
+
+/// Texts, and the sizes of what they begin with. A label is read behind its `[`. Escaped marks end nothing. A destination without `<` ends
+/// at white space, and its parentheses are balanced; one with `<` ends in its line. A title may go over lines, but over no blank one.
+/// White space has one line ending at most.
+const SIZES: &[(&[u8], Sizes)] = &[
+    (b"", (None, None, None, 0)),
+    (b"a]b", (Some(1), Some(3), None, 0)),
+    (b"a\\]]", (Some(3), Some(4), None, 0)),
+    (b"[a]]", (None, Some(4), None, 0)),
+    (b"a\n\nb]", (None, Some(1), None, 0)),
+    (b"<a b>c", (None, Some(5), None, 0)),
+    (b"<>", (None, Some(2), None, 0)),
+    (b"<a\nb>", (None, None, None, 0)),
+    (b"<a<b>", (None, None, None, 0)),
+    (b"a(b)c d", (None, Some(5), None, 0)),
+    (b"a)b", (None, Some(1), None, 0)),
+    (b"a(b", (None, None, None, 0)),
+    (b"'a' b", (None, Some(3), Some(3), 0)),
+    (b"\"a\\\"\"", (None, Some(5), Some(5), 0)),
+    (b"(a)", (None, Some(3), Some(3), 0)),
+    (b"(a(b)", (None, None, None, 0)),
+    (b"'a\nb'", (None, Some(2), Some(5), 0)),
+    (b"'a\n\nb'", (None, Some(2), None, 0)),
+    (b" \n b", (None, None, None, 3)),
+    (b"\n\nb", (None, None, None, 1)),
+];
+
+#[test]
+fn parts_of_links_have_their_sizes(rt: HostRuntime) {
+    for (text, want) in SIZES {
+        assert_eq!(rt; sizes::<Brand>(text, Blank::new(1)), *want);
+    }
+}
+
+/// A stretch of a text, as tests write it: the index of its first byte, and its size.
+type Written = (usize, usize);
+
+/// A stretch, as tests write it.
+fn written(stretch: Stretch) -> Written {
+    (stretch.from, stretch.size)
+}
+
+/// The parts of a definition: its label, its destination, its title, and its size.
+fn parts_of(definition: Definition) -> (Written, Written, Option<Written>, usize) {
+    let Definition {
+        label,
+        destination,
+        title,
+        size,
+    } = definition;
+    (
+        written(label),
+        written(destination),
+        title.map(written),
+        size,
+    )
+}
+
+/// Texts of CommonMark, "Link reference definitions", and the parts of the definition that each begins with, if it begins with one.
+const DEFINITIONS: &[(&[u8], Option<(Written, Written, Option<Written>, usize)>)] = &[
+    (
+        b"[foo]: /url \"title\"",
+        Some(((0, 5), (7, 4), Some((12, 7)), 19)),
+    ),
+    (b"[foo]:\n/url\na", Some(((0, 5), (7, 4), None, 11))),
+    (b"[foo]: <>", Some(((0, 5), (7, 2), None, 9))),
+    (
+        b"[foo]: /url\n\"title\" ok",
+        Some(((0, 5), (7, 4), None, 11)),
+    ),
+    (b"[foo]: /url \"title\" ok", None),
+    (b"[foo]:", None),
+    (b"[foo]: <bar>(baz)", None),
+];
+
+/// What a text begins with, with the turns of loops counted: a definition, definitions, and a resource; and whether it is a label.
+fn counted<L: Ledger>(
+    bytes: &[u8],
+    blank: Blank,
+) -> (Option<Definition>, Front, Option<Resource>, bool)
+    requires name { blank.name ≡ L.name }
+    requires parts { blank.parts ≡ L.parts }
+    requires some { 0 < blank.parts }
+{
+    let mut turns = Turns::<L>::new(blank);
+    (
+        definition_counted(bytes, &mut turns),
+        definitions_counted(bytes, &mut turns),
+        resource_counted(bytes, &mut turns),
+        is_label_counted(bytes, &mut turns),
+    )
+}
+
+#[test]
+fn definitions_have_their_parts(rt: HostRuntime) {
+    for (text, want) in DEFINITIONS {
+        assert_eq!(rt; definition_at(text).map(parts_of), *want);
+        let (definition, front, resource, is_label) = counted::<Brand>(text, Blank::new(1));
+        assert_eq!(rt; definition.map(parts_of), *want);
+        assert_eq!(rt; front.count, if want.is_some() { 1 } else { 0 });
+        assert!(rt; resource.is_none() && !is_label);
+    }
+}
+
+/// The parts of a resource: its destination, its title, and its size.
+fn parts_within(resource: Resource) -> (Option<Written>, Option<Written>, usize) {
+    let Resource {
+        destination,
+        title,
+        size,
+    } = resource;
+    (destination.map(written), title.map(written), size)
+}
+
+/// Texts of CommonMark, "Inline link", and the parts of the resource that each begins with, if it begins with one.
+const RESOURCES: &[(&[u8], Option<(Option<Written>, Option<Written>, usize)>)] = &[
+    (b"(/uri \"title\")a", Some((Some((1, 4)), Some((6, 7)), 14))),
+    (b"()", Some((None, None, 2))),
+    (b"(</my uri>)", Some((Some((1, 9)), None, 11))),
+    (b"(foo(and(bar)))", Some((Some((1, 13)), None, 15))),
+    (
+        b"(   /uri\n  \"title\"  )",
+        Some((Some((4, 4)), Some((11, 7)), 21)),
+    ),
+    (b"(/my uri)", None),
+    (b"(</my\nuri>)", None),
+    (b"(/uri\"title\"", None),
+    (b" (/uri)", None),
+];
+
+#[test]
+fn resources_have_their_parts(rt: HostRuntime) {
+    for (text, want) in RESOURCES {
+        assert_eq!(rt; resource_at(text).map(parts_within), *want);
+        let (definition, front, resource, _) = counted::<Brand>(text, Blank::new(1));
+        assert_eq!(rt; resource.map(parts_within), *want);
+        assert!(rt; definition.is_none() && front.end == 0);
     }
 }
