@@ -1,8 +1,10 @@
-//! Tests of the program and of the examples, as a caller sees them, and the surface of the libraries.
+//! Tests of the program, of whole documents and of the examples, as a caller sees them, and the surface of the libraries.
 #![tactic(auto)]
 
 #[cfg(test)]
 mod calls;
+#[cfg(test)]
+mod documents;
 #[cfg(test)]
 mod examples;
 #[cfg(test)]

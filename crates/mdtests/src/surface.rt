@@ -1,9 +1,10 @@
 //! The surface: each item that the libraries offer, by the path under which a caller finds it. A path that is gone is an error here.
 //! The program's own items are at the root of `mdevents`, and no crate can import from a program.
 //!
-//! Each call that takes memory and returns something is made with ample memory, and what it returns is compared. Clones are in
-//! `values`, `cuts_every` and what is of slices and locations in `places`, `read_document`, `read_text`, `read_inline_text` and `run` in
-//! `machines`, and the rest in the module of its name, or for `Tokenizer` in `driven`, `ranges` and `tokenizer`.
+//! Each call that takes memory and returns something is made with ample memory, and what it returns is compared. Of `mdtests_engine`, clones
+//! are in `values`, `cuts_every` and what is of slices and locations in `places`. `run` and `read_text` are in `machines` of
+//! `mdtests_machines`; `read_document` and what else reads documents are in `documents`, and `read_inline_text` is called by `mdcases`. The
+//! rest is in the module of its name, or for `Tokenizer` in `tokenizer`, and in `driven` and `pushed` of `mdtests_base`.
 
 use markdown::configuration::{CompileOptions, Constructs, Options, ParseOptions, TabSize};
 use markdown::event::{Content, Event, Kind, Link, Name, Point, VOID_EVENTS};

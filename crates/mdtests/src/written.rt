@@ -5,6 +5,7 @@ ghost use Rattle.mdconstructs.specs.Choices.{CanCut};
 use markdown::configuration::TabSize;
 use mdevents_program::arguments::{Choice, Which};
 use mdevents_program::program::write_events;
+use mdtests_base::documents::repeated;
 use std::alloc::{AllocError, Global};
 
 pub const TWO_LINES: &[u8] =
