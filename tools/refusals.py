@@ -1,22 +1,31 @@
 #!/usr/bin/env python3
-"""Makes one allocation fail in each test of mdtests: the first one, then the second, and so on, up to a given number (default 20).
-Prints a row for each: how many tests passed, and how many ended as memory ran out.
+"""Makes one allocation fail in each test of mdtests and of the other crates of tests, `mdtests_..`: the first one, then the second,
+and so on, up to a given number (default 20). Prints a row for each: how many tests passed, and how many ended as memory ran out.
 
-Some tests must pass whichever allocation fails: the module no_memory, and the test that memory is no fault of the reader. The other
+Some tests must pass whichever allocation fails: the modules no_memory, and the test that memory is no fault of the reader. The other
 tests of the program may fail, as they compare without showing. Any other test passes, ends in AllocError, or shows "out of memory" in
 what it compares. The status is 1 if anything else is seen. Needs rt.
 """
 
+import glob
 import os
 import re
 import subprocess
 import sys
 
-CRATE = os.path.join(os.path.dirname(os.path.abspath(__file__)), "../crates/mdtests")
+CRATES = os.path.join(os.path.dirname(os.path.abspath(__file__)), "../crates")
 # What the names of the tests begin with that have to pass, and of those that compare without showing.
-PASSES = ("no_memory::", "calls::memory_is_no_fault_of_the_reader")
-SILENT = ("calls::", "written::")
+PASSES = ("mdtests_engine::no_memory::", "mdtests_machines::no_memory::", "mdtests::calls::memory_is_no_fault_of_the_reader")
+SILENT = ("mdtests::calls::", "mdtests::written::")
 REFUSED = re.compile(r"Error: AllocError|left: .*out of memory|\bmemory\b")
+
+
+def crates():
+    """The crates of tests."""
+    for folder in sorted(glob.glob(f"{CRATES}/mdtests*")):
+        sources = glob.glob(f"{folder}/src/**/*.rt", recursive=True)
+        if any("#[test]" in open(path, encoding="utf-8").read() for path in sources):
+            yield os.path.basename(folder)
 
 
 def blocks(said):
@@ -27,11 +36,17 @@ def blocks(said):
         yield name, word == "ok", rest
 
 
+def ran(crate, number):
+    """Runs the tests of a crate, with the growth of this number refused in each: as `blocks`, with the crate before each name."""
+    words = ["rt", "try", "--test", "--seconds", "400", "--fail-alloc", str(number)]
+    it = subprocess.run(words, cwd=f"{CRATES}/{crate}", capture_output=True, text=True, errors="replace")
+    return [(f"{crate}::{name}", passed, rest) for name, passed, rest in blocks(it.stdout + it.stderr)]
+
+
 def refuse(number):
     """Refuses the growth of this number in each test: how many passed, how many did not, and what is seen and may not be."""
-    words = ["rt", "try", "--test", "--seconds", "400", "--fail-alloc", str(number)]
-    ran = subprocess.run(words, cwd=CRATE, capture_output=True, text=True, errors="replace")
-    tests = list(blocks(ran.stdout + ran.stderr))
+    found = {crate: ran(crate, number) for crate in crates()}
+    tests = [test for of_crate in found.values() for test in of_crate]
     failed = [(name, rest) for name, passed, rest in tests if not passed]
     other = [
         name
@@ -39,6 +54,7 @@ def refuse(number):
         if name.startswith(PASSES) or not name.startswith(SILENT) and not REFUSED.search(rest)
     ]
     other += [f"no test {it} ran" for it in PASSES if not any(name.startswith(it) for name, _, _ in tests)]
+    other += [f"no test of {crate} ran" for crate, of_crate in found.items() if not of_crate]
     return len(tests) - len(failed), len(failed), other
 
 
