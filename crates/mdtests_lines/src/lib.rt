@@ -1,5 +1,9 @@
-//! Tests of the functions of lines, which no machine calls yet. They are in no crate of other tests, so that a change there proves little anew.
+//! Tests of lines and containers, which plain code reads. They are in no crate of other tests, so that a change there proves little anew.
 #![tactic(auto)]
 
 #[cfg(test)]
+mod containers;
+#[cfg(test)]
 mod lines;
+#[cfg(test)]
+mod shown;
