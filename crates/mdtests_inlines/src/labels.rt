@@ -119,14 +119,19 @@ fn sizes_counted<L: Ledger>(bytes: &[u8], turns: &mut Turns<L>) -> Sizes {
     )
 }
 
-/// The sizes of what a text begins with.
-fn sizes<L: Ledger>(bytes: &[u8], blank: Blank) -> Sizes
+/// The sizes of what a text begins with, counted from nothing.
+fn sizes_from<L: Ledger>(bytes: &[u8], blank: Blank) -> Sizes
     requires name { blank.name ≡ L.name }
     requires parts { blank.parts ≡ L.parts }
     requires some { 0 < blank.parts }
 {
     let mut turns = Turns::<L>::new(blank);
     sizes_counted(bytes, &mut turns)
+}
+
+/// The sizes of what a text begins with.
+fn sizes(bytes: &[u8]) -> Sizes {
+    sizes_from::<Brand>(bytes, Blank::new(1))
 }
 
 /// Texts, and the sizes of what they begin with. A label is read behind its `[`. Escaped marks end nothing. A destination without `<` ends
@@ -158,7 +163,7 @@ const SIZES: &[(&[u8], Sizes)] = &[
 #[test]
 fn parts_of_links_have_their_sizes(rt: HostRuntime) {
     for (text, want) in SIZES {
-        assert_eq!(rt; sizes::<Brand>(text, Blank::new(1)), *want);
+        assert_eq!(rt; sizes(text), *want);
     }
 }
 
@@ -203,11 +208,11 @@ const DEFINITIONS: &[(&[u8], Option<(Written, Written, Option<Written>, usize)>)
     (b"[foo]: <bar>(baz)", None),
 ];
 
-/// What a text begins with, with the turns of loops counted: a definition, definitions, and a resource; and whether it is a label.
-fn counted<L: Ledger>(
-    bytes: &[u8],
-    blank: Blank,
-) -> (Option<Definition>, Front, Option<Resource>, bool)
+/// What a text begins with: a definition, definitions, and a resource; and whether it is a label.
+type Found = (Option<Definition>, Front, Option<Resource>, bool);
+
+/// What a text begins with, with the turns of loops counted from nothing.
+fn counted_from<L: Ledger>(bytes: &[u8], blank: Blank) -> Found
     requires name { blank.name ≡ L.name }
     requires parts { blank.parts ≡ L.parts }
     requires some { 0 < blank.parts }
@@ -221,11 +226,16 @@ fn counted<L: Ledger>(
     )
 }
 
+/// What a text begins with, with the turns of loops counted.
+fn counted(bytes: &[u8]) -> Found {
+    counted_from::<Brand>(bytes, Blank::new(1))
+}
+
 #[test]
 fn definitions_have_their_parts(rt: HostRuntime) {
     for (text, want) in DEFINITIONS {
         assert_eq!(rt; definition_at(text).map(parts_of), *want);
-        let (definition, front, resource, is_label) = counted::<Brand>(text, Blank::new(1));
+        let (definition, front, resource, is_label) = counted(text);
         assert_eq!(rt; definition.map(parts_of), *want);
         assert_eq!(rt; front.count, if want.is_some() { 1 } else { 0 });
         assert!(rt; resource.is_none() && !is_label);
@@ -262,7 +272,7 @@ const RESOURCES: &[(&[u8], Option<(Option<Written>, Option<Written>, usize)>)] =
 fn resources_have_their_parts(rt: HostRuntime) {
     for (text, want) in RESOURCES {
         assert_eq!(rt; resource_at(text).map(parts_within), *want);
-        let (definition, front, resource, _) = counted::<Brand>(text, Blank::new(1));
+        let (definition, front, resource, _) = counted(text);
         assert_eq!(rt; resource.map(parts_within), *want);
         assert!(rt; definition.is_none() && front.end == 0);
     }
