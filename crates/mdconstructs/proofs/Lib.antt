@@ -102,6 +102,9 @@ pub use Rattle.mdconstructs_containers.proofs.LazyLemmas
 pub use Rattle.mdconstructs_containers.proofs.LetterLemmas
 pub use Rattle.mdconstructs_containers.proofs.LetterPlaces
 pub use Rattle.mdconstructs_containers.proofs.LineFacts
+pub use Rattle.mdconstructs_containers.proofs.ListLemmas
+pub use Rattle.mdconstructs_containers.proofs.ListNumbers
+pub use Rattle.mdconstructs_containers.proofs.ListSeenLemmas
 pub use Rattle.mdconstructs_containers.proofs.PartFacts
 pub use Rattle.mdconstructs_containers.proofs.PartGoes
 pub use Rattle.mdconstructs_containers.proofs.PartLemmas

@@ -158,6 +158,9 @@ pub use Rattle.mdconstructs_containers.specs.Examples
 pub use Rattle.mdconstructs_containers.specs.Frames
 pub use Rattle.mdconstructs_containers.specs.Letters
 pub use Rattle.mdconstructs_containers.specs.ListExamples
+pub use Rattle.mdconstructs_containers.specs.ListSeen
+pub use Rattle.mdconstructs_containers.specs.ListShapes
+pub use Rattle.mdconstructs_containers.specs.ListWalks
 pub use Rattle.mdconstructs_containers.specs.Lists
 pub use Rattle.mdconstructs_containers.specs.Parts as ContainerParts
 pub use Rattle.mdconstructs_containers.specs.PlaceEvents

@@ -13,6 +13,7 @@ pub mod emphasis;
 pub mod laws;
 pub mod references;
 
+pub use mdconstructs_containers::{list_shapes, lists};
 pub use mdconstructs_documents::choice::{Choice, Which};
 pub use mdconstructs_documents::documents::{
     events_of, options_with, read_document, read_nested, text_events_of,

@@ -2,12 +2,10 @@
 
 use markdown::configuration::ParseOptions;
 use markdown::event::Event;
+use mdconstructs::list_shapes::{ListShape, lists_of};
+use mdconstructs::lists::Marker::{Dash, Parenthesis, Period, Plus, Star};
+use mdconstructs::lists::{Marker, is_loose, item_spread, list_spread, marker_of, start_of};
 use mdconstructs::read_nested;
-use mdconstructs_containers::list_shapes::{ListShape, lists_of};
-use mdconstructs_containers::lists::Marker::{Dash, Parenthesis, Period, Plus, Star};
-use mdconstructs_containers::lists::{
-    Marker, is_loose, item_spread, list_spread, marker_of, start_of,
-};
 use std::alloc::{AllocError, Global};
 
 /// What is said of a list: whether it is loose, whether two of its items have a blank line between them, the kind of its markers, and its
