@@ -6,6 +6,7 @@ pub mod Examples
 pub mod FrameFacts
 pub mod FrameLemmas
 pub mod GoingLemmas
+pub mod Innermost
 pub mod JoinLemmas
 pub mod LazyLemmas
 pub mod LetterLemmas

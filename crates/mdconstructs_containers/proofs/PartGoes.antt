@@ -14,6 +14,7 @@ use Rattle.markdown_base.specs.Virtual.{Seat, end_after}
 use Rattle.markdown_tokenizer.proofs.Positions.Order.{every-back}
 use Rattle.mdconstructs_flow_read.proofs.Lines.WholeLines.{IsWhole, text-and-ending, whole-behind, whole-ending, whole-text}
 use Rattle.mdconstructs_flow_read.proofs.Marks.Courses.{Track, track-on, track-place}
+use Rattle.mdconstructs_flow_read.proofs.Marks.MarkAccounts.{AreSpans, accounts-kept}
 use Rattle.mdconstructs_flow_read.proofs.Marks.MarkForms.{Forms, forms-kept}
 use Rattle.mdconstructs_flow_read.proofs.Marks.MarkSpans.{no-spans}
 use Rattle.mdconstructs_flow_read.specs.LeafBlocks.{Line, bytes_of, text_of}
@@ -24,7 +25,7 @@ use Rattle.mdconstructs_lines.specs.Containers.{Prefix}
 use Rattle.mdconstructs_containers.proofs.FrameFacts.{AreOpen, IsPart, all_entered, is_part, none_are_open, none_is, take_front}
 use Rattle.mdconstructs_containers.proofs.PartSpans.{Goes, RowFits, begun_goes, columns_front, exits_go, goes_both, goes_none, goes_over, goes_spanned, rows_fit}
 use Rattle.mdconstructs_containers.proofs.Pieces.{AreJoined, EndsLine, IsPrefixOver, Over, OverFrom, chunks_run, chunks_spanned, pieces_joined}
-use Rattle.mdconstructs_containers.proofs.PrefixSpans.{leaf_is_unlinked, leaf_over, prefixes_none, prefixes_over, prefixes_unlinked, take_more}
+use Rattle.mdconstructs_containers.proofs.PrefixSpans.{leaf_is_unlinked, leaf_over, prefixes_kept, prefixes_none, prefixes_over, prefixes_unlinked, take_more}
 use Rattle.mdconstructs_containers.proofs.RowFacts.{IsFront, every_front}
 use Rattle.mdconstructs_containers.proofs.SeatFacts.{LineIs, LinesEnd, SeatEnds, behind_ends, drop_text, line_front, take_text, text_only}
 use Rattle.mdconstructs_containers.specs.Prefixes.{columns_of, containers_of}
@@ -51,7 +52,7 @@ all_seats true r [] w = refl
 all_seats false r [] w = text-and-ending r.line w ∙ sym (append-nil r.line)
 all_seats held r (next ∷ more) w = append_assoc r.line (seats_of held next more) (ending_seats held next more) ∙ ap (λ l. r.line ++ l) (all_seats held next more w)
 
-last_fits : (r : Row) (more : List Row) → RowFits r → AllByRecursion RowFits more → RowFits (last_of r more)
+pub last_fits : (r : Row) (more : List Row) → RowFits r → AllByRecursion RowFits more → RowFits (last_of r more)
 last_fits r [] h k = h
 last_fits r (next ∷ more) h k = last_fits next more k.0 k.1
 
@@ -74,6 +75,7 @@ module _ (t : ℕ) (bytes : List ℕ) where
       subst (λ k. IsPrefixOver t bytes (prefixes_marks bytes r.went_on r.line) (take k r.line)) is
       (record {
         forms = prefixes_over bytes t r.went_on r.line h.line.whole;
+        spans = prefixes_kept bytes (AreSpans bytes) (accounts-kept bytes) r.went_on r.line h.line.whole;
         unlinked = prefixes_unlinked bytes r.went_on r.line;
         none = prefixes_none bytes r.went_on r.line;
         in_line = text_only r.line (columns_of r.went_on) h.line.whole (omega (arith, within));
@@ -103,19 +105,19 @@ module _ (t : ℕ) (bytes : List ℕ) where
       let whole : r.line ++ rest ≡ take r.columns r.line ++ (drop r.columns r.line ++ rest) = ap (λ l. l ++ rest) (sym (take-append-drop r.columns r.line)) ∙ append_assoc (take r.columns r.line) (drop r.columns r.line) rest in
       (take r.columns r.line, rest, whole, prefix_over r h none, ends_any (drop r.columns r.line) (pieces_of bytes held next more) (behind_ends r.line r.columns h.line ends.0 (columns_few r h)), rows_over held next more hs.0 hs.1 nones.0 nones.1 ends.1)
 
-  abbrev first_piece : (held : Bool) → Row → List Row → Piece bytes
+  abbrev pub first_piece : (held : Bool) → Row → List Row → Piece bytes
   first_piece held r [] = piece_of bytes held r
   first_piece held r (next ∷ more) = piece_of bytes true r
 
-  abbrev other_pieces : (held : Bool) → List Row → List (Piece bytes)
+  abbrev pub other_pieces : (held : Bool) → List Row → List (Piece bytes)
   other_pieces held [] = []
   other_pieces held (next ∷ more) = pieces_of bytes held next more
 
-  pieces_split : (held : Bool) (r : Row) (more : List Row) → pieces_of bytes held r more ≡ first_piece held r more ∷ other_pieces held more
+  pub pieces_split : (held : Bool) (r : Row) (more : List Row) → pieces_of bytes held r more ≡ first_piece held r more ∷ other_pieces held more
   pieces_split held r [] = refl
   pieces_split held r (next ∷ more) = refl
 
-  pieces_over : (held : Bool) (r : Row) (more : List Row) → RowFits r → AllByRecursion RowFits more → AllByRecursion (λ (x : Row). has_none x.begun ≡ true) more → LinesEnd (lines_of (r ∷ more))
+  pub pieces_over : (held : Bool) (r : Row) (more : List Row) → RowFits r → AllByRecursion RowFits more → AllByRecursion (λ (x : Row). has_none x.begun ≡ true) more → LinesEnd (lines_of (r ∷ more))
       → OverFrom t bytes (first_piece held r more) (other_pieces held more) (drop r.columns (seats_of held r more))
   pieces_over held r [] h hs nones ends = ([], sym (append-nil (drop r.columns (cond held r.line (line_text r.line)))), tt, refl)
   pieces_over held r (next ∷ more) h hs nones ends =
@@ -152,8 +154,8 @@ module _ (t : ℕ) (bytes : List ℕ) where
   piece_some false r [] h other = text_is_some r h other
   piece_some held r (next ∷ more) h other = line_is_some r h other
 
-  no_prefix : IsPrefixOver t bytes [] []
-  no_prefix = record { forms = no-spans bytes (Forms t bytes) (forms-kept t bytes); unlinked = tt; none = refl; in_line = tt; ends = tt }
+  pub no_prefix : IsPrefixOver t bytes [] []
+  no_prefix = record { forms = no-spans bytes (Forms t bytes) (forms-kept t bytes); spans = no-spans bytes (AreSpans bytes) (accounts-kept bytes); unlinked = tt; none = refl; in_line = tt; ends = tt }
 
   -- the chunks of pieces
   chunks_go : (fs : List Frame) (a : Point) (js : List (Piece bytes)) (before : List Mark) (seats first rest : List Seat) → AreJoined t bytes js before seats first → has_none first ≡ false → Track t bytes a (seats ++ rest)
@@ -187,7 +189,7 @@ module _ (t : ℕ) (bytes : List ℕ) where
     m = length part.stands
 
     -- the columns in front of what is in it
-    abbrev cut : ℕ
+    abbrev pub cut : ℕ
     cut = cond (has_none r.begun) (columns_of (take m r.went_on)) r.columns
 
     abbrev seats : List Seat
@@ -197,17 +199,17 @@ module _ (t : ℕ) (bytes : List ℕ) where
     ending = ending_seats (is_held part) r part.more
 
     -- all its prefixes are in front, unless it is blank and nothing begins in it
-    all_in_front : (r.is_blank ≡ false) ⊎ (has_none r.begun ≡ false) → take m r.went_on ≡ r.went_on
+    pub all_in_front : (r.is_blank ≡ false) ⊎ (has_none r.begun ≡ false) → take m r.went_on ≡ r.went_on
     all_in_front e =
         let size = ap length (h.stands e) in
         let both = length-append (containers_of r.went_on) (containers_of r.begun) in
         let went = length-map r.went_on (λ (p : Prefix). p.container) in
         take_all m r.went_on (omega (arith, size, both, went))
 
-    abbrev front_marks : List Mark
+    abbrev pub front_marks : List Mark
     front_marks = prefixes_marks bytes (take m r.went_on) line ++ begun_all bytes r.begun (drop (columns_of r.went_on) line)
 
-    cut_few : cut ≤ length (line_text line)
+    pub cut_few : cut ≤ length (line_text line)
     cut_few =
         let few = columns_front m r.went_on in
         let within = h.first.within in
@@ -218,7 +220,7 @@ module _ (t : ℕ) (bytes : List ℕ) where
         by true few within all = omega arith
         by false few within all = all
 
-    cut_is : r.is_blank ≡ false → cut ≡ r.columns
+    pub cut_is : r.is_blank ≡ false → cut ≡ r.columns
     cut_is other =
         let same = all_in_front (inl other) in
         by (has_none r.begun) refl (ap columns_of same)
@@ -262,7 +264,7 @@ module _ (t : ℕ) (bytes : List ℕ) where
             subst (Goes t bytes kept p front_marks (kept ++ all_entered r.begun)) end
             (goes_both t bytes kept p ms kept a (begun_all bytes r.begun (drop c line)) (kept ++ all_entered r.begun) (end_after a (take (columns_of r.begun) (drop c line))) went begun)
 
-    blank_seats : r.is_blank ≡ true → seats ≡ line_text line
+    pub blank_seats : r.is_blank ≡ true → seats ≡ line_text line
     blank_seats e = (λ k. seats_of (not (e k) && holds_ending (last_of r part.more).leaf) r (h.alone e k))
 
     -- what is behind them
@@ -292,11 +294,11 @@ module _ (t : ℕ) (bytes : List ℕ) where
     whole_last : IsWhole (last_line bytes part)
     whole_last = (last_fits r part.more h.first h.others).line.whole
 
-    all_are : seats ++ ending ≡ all_of (lines_of (r ∷ part.more))
+    pub all_are : seats ++ ending ≡ all_of (lines_of (r ∷ part.more))
     all_are = all_seats (is_held part) r part.more whole_last
 
     -- from the prefixes on
-    front_is : take cut seats ≡ take cut line
+    pub front_is : take cut seats ≡ take cut line
     front_is =
         let front = text_first (is_held part) r part.more h.first.line.whole in
         ap (take cut) front.1 ∙ take-append-le cut (line_text line) front.0 cut_few ∙ sym (take_text line cut h.first.line.whole cut_few)
@@ -356,30 +358,30 @@ module _ (t : ℕ) (bytes : List ℕ) where
     lines_end_front (x ∷ []) ys h = tt
     lines_end_front (x ∷ y ∷ xs) ys h = (h.0, lines_end_front (y ∷ xs) ys h.1)
 
-    lines_end_behind : (xs ys : List Line) → LinesEnd (xs ++ ys) → LinesEnd ys
+    pub lines_end_behind : (xs ys : List Line) → LinesEnd (xs ++ ys) → LinesEnd ys
     lines_end_behind [] ys h = h
     lines_end_behind (x ∷ []) [] h = tt
     lines_end_behind (x ∷ []) (y ∷ ys) h = h.1
     lines_end_behind (x ∷ z ∷ xs) ys h = lines_end_behind (z ∷ xs) ys h.1
 
-    rows_length : (b : Before) (n : ℕ) (ls : List Line) → length (rows_from on b n ls) ≡ length ls
+    pub rows_length : (b : Before) (n : ℕ) (ls : List Line) → length (rows_from on b n ls) ≡ length ls
     rows_length b n [] = refl
     rows_length b n (l ∷ ls) = ap suc (rows_length (known_after on b (row_of on b n l)) (suc n) ls)
 
     module _ (b : Before) (n : ℕ) (l : Line) (ls : List Line) where
-      abbrev head : Row
+      abbrev pub head : Row
       head = row_of on b n l
 
-      abbrev behind : List Row
+      abbrev pub behind : List Row
       behind = rows_from on (known_after on b head) (suc n) ls
 
-      abbrev many : ℕ
+      abbrev pub many : ℕ
       many = cond head.is_blank 0 (further behind)
 
-      abbrev part_at : Part
+      abbrev pub part_at : Part
       part_at = record { first = head; more = take many behind; frames = frames_at head behind; stands = standing head behind }
 
-      part_fits : (fs : List Frame) → IsPart on fs b n l ls → AllByRecursion LineIs (l ∷ ls) → LinesEnd (l ∷ ls) → PartIs part_at
+      pub part_fits : (fs : List Frame) → IsPart on fs b n l ls → AllByRecursion LineIs (l ∷ ls) → LinesEnd (l ∷ ls) → PartIs part_at
       part_fits fs is lines ends =
           let fit = rows_fit on b n (l ∷ ls) lines in
           record {
@@ -391,7 +393,7 @@ module _ (t : ℕ) (bytes : List ℕ) where
             alone = λ e. ap (λ x. take (cond x 0 (further behind)) behind) e;
           }
 
-      all_lines : (fs : List Frame) (is : IsPart on fs b n l ls) → PartIs part_at
+      pub all_lines : (fs : List Frame) (is : IsPart on fs b n l ls) → PartIs part_at
           → all_of (l ∷ ls) ≡ seats_of (is_held part_at) head (take many behind) ++ (ending_seats (is_held part_at) head (take many behind) ++ all_of is.behind.lines)
       all_lines fs is fits =
           let xs = lines_of (take many behind) in

@@ -18,7 +18,7 @@ use Rattle.markdown_base.specs.Virtual.{Seat, end_after, point}
 use Rattle.markdown_edits.proofs.Balanced.{names_after_all-append, same_name-refl}
 use Rattle.markdown_edits.specs.OpenNames.{names_after_all}
 use Rattle.mdconstructs_flow_read.proofs.Marks.Courses.{Place, Track, track-on, track-place, track-upto}
-use Rattle.mdconstructs_flow_read.proofs.Marks.MarkAccounts.{bare}
+use Rattle.mdconstructs_flow_read.proofs.Marks.MarkAccounts.{AreSpans, bare}
 use Rattle.mdconstructs_flow_read.proofs.Marks.MarkForms.{Formed, Forms}
 use Rattle.mdconstructs_flow_read.specs.LeafEvents.{Chunk, Mark, chunk_span}
 use Rattle.mdconstructs_machines.specs.LineEvents.{is_line_ending}
@@ -74,6 +74,7 @@ module _ (t : ℕ) (bytes : List ℕ) where
   -- a prefix's marks over its virtual bytes, which are in one line
   pub record IsPrefixOver (before : List Mark) (skip : List Seat) : Type 0 where
     pub forms : Forms t bytes before skip
+    pub spans : AreSpans bytes before skip
     pub unlinked : Unlinked before
     pub none : has_none before ≡ has_none skip
     pub in_line : AllByRecursion (λ (s : Seat). is_line_ending s ≡ false) skip

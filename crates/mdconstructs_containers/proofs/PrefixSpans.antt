@@ -9,7 +9,7 @@ use Rattle.markdown_base.specs.declared.event.Name.TheVariants as name
 use Rattle.markdown_base.specs.Virtual.{Seat}
 use Rattle.mdconstructs_flow_read.proofs.Lines.WholeLines.{IsWhole, whole-behind, whole-front, whole-part, none-taken}
 use Rattle.mdconstructs_flow_read.proofs.Marks.MarkForms.{Forms, forms-kept}
-use Rattle.mdconstructs_flow_read.proofs.Marks.MarkSpans.{no-spans, over, spans-around, spans-both, spans-leaf}
+use Rattle.mdconstructs_flow_read.proofs.Marks.MarkSpans.{IsKeptBySpans, no-spans, over, spans-around, spans-both, spans-leaf}
 use Rattle.mdconstructs_flow_read.specs.LeafBlocks.{bytes_of}
 use Rattle.mdconstructs_flow_read.specs.LeafEvents.{Mark, leaf_marks, span_marks, white}
 use Rattle.mdconstructs_flow_read.specs.LineKinds.{indent}
@@ -87,50 +87,50 @@ module _ (bytes : List ℕ) where
       by [] ys h = leaf_none name.SpaceOrTab ys ∙ h refl
       by (x ∷ xs) ys h = refl
 
-  module _ (t : ℕ) where
-    abbrev InForms : List Mark → List Seat → Type 0
-    InForms = Forms t bytes
+  -- ---- what is kept by spans holds of prefixes over their virtual bytes
 
-    going_forms : (c : Container) (ss : List Seat) → IsWhole ss → InForms (going_marks bytes c ss) ss
-    going_forms (quote line) ss w =
-        let kept = forms-kept t bytes in
+  module _ (P : List Mark → List Seat → Type 0) (kept : IsKeptBySpans bytes P) where
+    going_kept : (c : Container) (ss : List Seat) → IsWhole ss → P (going_marks bytes c ss) ss
+    going_kept (quote line) ss w =
         let n = indent (bytes_of ss) in
         let one : suc n ≡ n + 1 = omega arith in
-        over bytes InForms kept ss (take-append-drop n ss)
-        (spans-both bytes InForms kept (spans-leaf bytes InForms kept name.SpaceOrTab (take n ss) (whole-front n ss w))
-        (spans-around bytes InForms kept name.BlockQuotePrefix (drop n ss) _ refl
-        (over bytes InForms kept (drop n ss) (ap (λ k. take 1 (drop n ss) ++ drop k ss) one ∙ next_part n 1 ss)
-        (spans-both bytes InForms kept (spans-leaf bytes InForms kept name.BlockQuoteMarker (take 1 (drop n ss)) (whole-part 1 n ss w)) (spans-leaf bytes InForms kept name.SpaceOrTab (drop (suc n) ss) (whole-behind (suc n) ss w))))))
-    going_forms (item i) ss w = spans-leaf bytes InForms (forms-kept t bytes) name.SpaceOrTab ss w
+        over bytes P kept ss (take-append-drop n ss)
+        (spans-both bytes P kept (spans-leaf bytes P kept name.SpaceOrTab (take n ss) (whole-front n ss w))
+        (spans-around bytes P kept name.BlockQuotePrefix (drop n ss) _ refl
+        (over bytes P kept (drop n ss) (ap (λ k. take 1 (drop n ss) ++ drop k ss) one ∙ next_part n 1 ss)
+        (spans-both bytes P kept (spans-leaf bytes P kept name.BlockQuoteMarker (take 1 (drop n ss)) (whole-part 1 n ss w)) (spans-leaf bytes P kept name.SpaceOrTab (drop (suc n) ss) (whole-behind (suc n) ss w))))))
+    going_kept (item i) ss w = spans-leaf bytes P kept name.SpaceOrTab ss w
 
-    begun_forms : (c : Container) (ss : List Seat) → IsWhole ss → InForms (begun_marks bytes c ss) ss
-    begun_forms (quote line) ss w = going_forms (quote line) ss w
-    begun_forms (item i) ss w =
-        let kept = forms-kept t bytes in
+    pub begun_kept : (c : Container) (ss : List Seat) → IsWhole ss → P (begun_marks bytes c ss) ss
+    begun_kept (quote line) ss w = going_kept (quote line) ss w
+    begun_kept (item i) ss w =
         let n = indent (bytes_of ss) in
         let d = i.digits in
         let one : suc (n + d) ≡ (n + d) + 1 = omega arith in
-        over bytes InForms kept ss (take-append-drop n ss)
-        (spans-both bytes InForms kept (spans-leaf bytes InForms kept name.SpaceOrTab (take n ss) (whole-front n ss w))
-        (spans-around bytes InForms kept name.ListItemPrefix (drop n ss) _ refl
-        (over bytes InForms kept (drop n ss) (ap (λ l. take d (drop n ss) ++ l) (ap (λ k. take 1 (drop (n + d) ss) ++ drop k ss) one ∙ next_part (n + d) 1 ss) ∙ next_part n d ss)
-        (spans-both bytes InForms kept (spans-leaf bytes InForms kept name.ListItemValue (take d (drop n ss)) (whole-part d n ss w))
-        (spans-both bytes InForms kept (spans-leaf bytes InForms kept name.ListItemMarker (take 1 (drop (n + d) ss)) (whole-part 1 (n + d) ss w)) (spans-leaf bytes InForms kept name.SpaceOrTab (drop (suc (n + d)) ss) (whole-behind (suc (n + d)) ss w)))))))
+        over bytes P kept ss (take-append-drop n ss)
+        (spans-both bytes P kept (spans-leaf bytes P kept name.SpaceOrTab (take n ss) (whole-front n ss w))
+        (spans-around bytes P kept name.ListItemPrefix (drop n ss) _ refl
+        (over bytes P kept (drop n ss) (ap (λ l. take d (drop n ss) ++ l) (ap (λ k. take 1 (drop (n + d) ss) ++ drop k ss) one ∙ next_part (n + d) 1 ss) ∙ next_part n d ss)
+        (spans-both bytes P kept (spans-leaf bytes P kept name.ListItemValue (take d (drop n ss)) (whole-part d n ss w))
+        (spans-both bytes P kept (spans-leaf bytes P kept name.ListItemMarker (take 1 (drop (n + d) ss)) (whole-part 1 (n + d) ss w)) (spans-leaf bytes P kept name.SpaceOrTab (drop (suc (n + d)) ss) (whole-behind (suc (n + d)) ss w)))))))
 
-    pub begun_over : (c : Container) (ss : List Seat) → IsWhole ss → InForms (begun_marks bytes c ss) ss
-    begun_over = begun_forms
-
-    pub leaf_over : (n : Name) (ss : List Seat) → IsWhole ss → InForms (leaf_marks bytes n ss) ss
-    leaf_over n ss w = spans-leaf bytes InForms (forms-kept t bytes) n ss w
-
-    -- ---- prefixes
-
-    pub prefixes_over : (ps : List Prefix) (ss : List Seat) → IsWhole ss → InForms (prefixes_marks bytes ps ss) (take (columns_of ps) ss)
-    prefixes_over [] ss w = no-spans bytes InForms (forms-kept t bytes)
-    prefixes_over (p ∷ ps) ss w =
+    pub prefixes_kept : (ps : List Prefix) (ss : List Seat) → IsWhole ss → P (prefixes_marks bytes ps ss) (take (columns_of ps) ss)
+    prefixes_kept [] ss w = no-spans bytes P kept
+    prefixes_kept (p ∷ ps) ss w =
         let all : columns_of (p ∷ ps) ≡ p.size + columns_of ps = sum_by-cons (λ (q : Prefix). q.size) p ps in
-        over bytes InForms (forms-kept t bytes) (take (columns_of (p ∷ ps)) ss) (take_more p.size (columns_of ps) ss ∙ ap (λ k. take k ss) (sym all))
-        (spans-both bytes InForms (forms-kept t bytes) (going_forms p.container (take p.size ss) (whole-front p.size ss w)) (prefixes_over ps (drop p.size ss) (whole-behind p.size ss w)))
+        over bytes P kept (take (columns_of (p ∷ ps)) ss) (take_more p.size (columns_of ps) ss ∙ ap (λ k. take k ss) (sym all))
+        (spans-both bytes P kept (going_kept p.container (take p.size ss) (whole-front p.size ss w)) (prefixes_kept ps (drop p.size ss) (whole-behind p.size ss w)))
+
+  -- so they are whole spans
+  module _ (t : ℕ) where
+    pub begun_over : (c : Container) (ss : List Seat) → IsWhole ss → Forms t bytes (begun_marks bytes c ss) ss
+    begun_over = begun_kept (Forms t bytes) (forms-kept t bytes)
+
+    pub leaf_over : (n : Name) (ss : List Seat) → IsWhole ss → Forms t bytes (leaf_marks bytes n ss) ss
+    leaf_over n ss w = spans-leaf bytes (Forms t bytes) (forms-kept t bytes) n ss w
+
+    pub prefixes_over : (ps : List Prefix) (ss : List Seat) → IsWhole ss → Forms t bytes (prefixes_marks bytes ps ss) (take (columns_of ps) ss)
+    prefixes_over = prefixes_kept (Forms t bytes) (forms-kept t bytes)
 
   pub prefixes_unlinked : (ps : List Prefix) (ss : List Seat) → Unlinked (prefixes_marks bytes ps ss)
   prefixes_unlinked [] ss = tt

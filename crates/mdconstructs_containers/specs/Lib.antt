@@ -17,6 +17,7 @@ pub mod Rows
 pub mod SeatPlaces
 pub mod Skeleton
 pub mod SkeletonLaws
+pub mod SkeletonSpans
 pub mod Spans
 pub mod Stretches
 pub mod Views

@@ -6,6 +6,7 @@ ghost use Rattle.mdconstructs_containers.specs.Examples.{skeletons_of, given_for
 ghost use Rattle.mdconstructs_containers.specs.Letters.{ArePlainFrom, LettersKeepPlaces, LettersKeepTexts};
 ghost use Rattle.mdconstructs_containers.specs.ListExamples.{lists, read_of};
 ghost use Rattle.mdconstructs_containers.specs.SkeletonLaws.{LazyLettersArePlain, SkeletonsAreFormed, SkeletonsAreReady, SkeletonsAreVoidTight, SkeletonsHaveChunks, SkeletonsHaveTextInGaps};
+ghost use Rattle.mdconstructs_containers.specs.SkeletonSpans.{SkeletonsAccount};
 
 /// The skeletons of seventy documents: which events there are, and where.
 pub fn skeletons_of_documents()
@@ -50,4 +51,10 @@ pub fn skeletons_are_well_formed()
 pub fn chains_of_skeletons_can_be_read()
     ensures ready { SkeletonsAreReady }
     ensures gaps { SkeletonsHaveTextInGaps }
+{}
+
+/// Each virtual byte of a document is in exactly one innermost span of its skeleton: none is lost between the prefixes of a line and its chunk,
+/// and no container is entered without its prefix.
+pub fn innermost_spans_of_skeletons_account_for_documents()
+    ensures { SkeletonsAccount }
 {}

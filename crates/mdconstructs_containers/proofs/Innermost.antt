@@ -1,0 +1,3 @@
+-- The innermost spans of skeletons account for documents.
+pub mod Parts
+pub mod Spans
