@@ -294,7 +294,7 @@ module _ (t : ℕ) (bytes : List ℕ) where
     whole_last : IsWhole (last_line bytes part)
     whole_last = (last_fits r part.more h.first h.others).line.whole
 
-    pub all_are : seats ++ ending ≡ all_of (lines_of (r ∷ part.more))
+    all_are : seats ++ ending ≡ all_of (lines_of (r ∷ part.more))
     all_are = all_seats (is_held part) r part.more whole_last
 
     -- from the prefixes on

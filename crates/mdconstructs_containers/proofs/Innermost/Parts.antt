@@ -1,8 +1,7 @@
 -- The marks of a document's parts account for all its virtual bytes.
-use Rattle.std.proofs.Common.{◌≡◌, ℕ, zero, suc, ◌+◌, ◌-◌, ◌≤◌, Bool, true, false, cond, List, [], ◌∷◌, ◌++◌, length, take, drop, refl, sym, ap, ◌∙◌, subst, arith, append_assoc, inl, inr, ◌⊎◌}
+use Rattle.std.proofs.Common.{◌≡◌, ℕ, zero, suc, ◌+◌, ◌-◌, ◌≤◌, Bool, true, false, cond, List, [], ◌∷◌, ◌++◌, length, take, drop, refl, sym, ap, ◌∙◌, subst, arith, append_assoc, inr}
 use Rattle.std.specs.List.{AllByRecursion}
 use Rattle.std.specs.Prelude.{None}
-use Rattle.std.proofs.lemmas.Bool.{false≢true}
 use Rattle.std.proofs.lemmas.List.{append-nil, length-append, length-drop, take-append-drop}
 use Rattle.markdown_base.specs.declared.configuration.Constructs.{Constructs}
 use Rattle.markdown_base.specs.declared.event.Name.TheVariants as name
@@ -18,14 +17,14 @@ use Rattle.mdconstructs_machines.proofs.BlockReads.Accounts.{lines-are-all}
 use Rattle.mdconstructs_machines.specs.Innermost.{AccountFor}
 use Rattle.mdconstructs_machines.specs.LineEvents.{all_of, ending_of, line_text, lines_in}
 use Rattle.mdconstructs_lines.specs.Containers.{Prefix}
-use Rattle.mdconstructs_containers.proofs.FrameFacts.{AreOpen, IsPart, is_part, none_are_open, none_is}
+use Rattle.mdconstructs_containers.proofs.FrameFacts.{AreOpen, is_part, none_are_open, none_is}
 use Rattle.mdconstructs_containers.proofs.Innermost.Spans.{Accounts, both_account, begun_spans, chained_spans, exits_account, pieces_spans}
-use Rattle.mdconstructs_containers.proofs.PartGoes.{PartIs, all_are, all_in_front, all_lines, blank_seats, cut, cut_few, cut_is, ending_seats, first_piece, front_is, front_marks, last_fits, lines_end_behind, lines_of, no_prefix, other_pieces, part_at, part_fits, pieces_over, pieces_split, rows_length, seats_of, behind, head}
+use Rattle.mdconstructs_containers.proofs.PartGoes.{PartIs, all_in_front, all_lines, blank_seats, cut, cut_few, cut_is, ending_seats, first_piece, front_is, front_marks, last_fits, lines_end_behind, lines_of, no_prefix, other_pieces, part_at, part_fits, pieces_over, pieces_split, rows_length, seats_of, behind, head}
 use Rattle.mdconstructs_containers.proofs.Pieces.{AreJoined, Over, pieces_joined}
 use Rattle.mdconstructs_containers.proofs.PrefixSpans.{prefixes_kept, take_more}
 use Rattle.mdconstructs_containers.proofs.SeatFacts.{LineIs, LinesEnd, document_lines, drop_text, lines_end}
 use Rattle.mdconstructs_containers.specs.Prefixes.{columns_of}
-use Rattle.mdconstructs_containers.specs.Rows.{Before, Row, has_none, holds_ending, known_after, nothing_known, rows, rows_from}
+use Rattle.mdconstructs_containers.specs.Rows.{Before, Row, has_none, known_after, nothing_known, rows, rows_from}
 use Rattle.mdconstructs_containers.specs.Skeleton.{Part, Piece, begun_all, behind_marks, chunks_of, end_of, ending_marks, exits, inside_of, is_held, joined_pieces, last_of, part_marks, parts, parts_in, parts_marks, pieces_of, prefixes_marks, shared}
 use Rattle.mdconstructs_containers.specs.SkeletonSpans.{SkeletonsAccount}
 
