@@ -98,7 +98,8 @@ enum limecove_machine {
     LIMECOVE_BACK = 4,
     LIMECOVE_SAVE = 5,
     LIMECOVE_TEXT = 6,
-    LIMECOVE_FLOW = 7
+    LIMECOVE_FLOW = 7,
+    LIMECOVE_DOCUMENT = 8
 };
 
 /* What a span is. */
@@ -407,7 +408,7 @@ struct limecove_options {
     uint64_t constructs; /* the sum of the bits of limecove_construct that are on */
     size_t cut;          /* after how many virtual bytes the document is cut each time, which changes no event; 0 for never */
     uint32_t machine;    /* of limecove_machine */
-    uint32_t deep;       /* if it is not 0, the chunks that LIMECOVE_PARAGRAPHS, LIMECOVE_TEXT or LIMECOVE_FLOW links are read too */
+    uint32_t deep;       /* if it is not 0, the chunks that LIMECOVE_PARAGRAPHS, LIMECOVE_TEXT, LIMECOVE_FLOW or LIMECOVE_DOCUMENT links are read too */
 };
 
 /* A range of a document. Ranges can be read as one text if none runs backwards or past the end, and each begins where the one before it

@@ -62,9 +62,9 @@ static inline size_t ranges_of_lines(const uint8_t *document, size_t len, struct
     return count;
 }
 
-/* A way to read: one of the eight machines, paragraphs, text or flow with their texts, text by limecove_read_text and limecove_open_text, or
- * the lines without quote marks by limecove_read_text_in and limecove_open_text_in. */
-#define WAYS 13
+/* A way to read: one of the nine machines, paragraphs, text, flow or document with their texts, text by limecove_read_text and
+ * limecove_open_text, or the lines without quote marks by limecove_read_text_in and limecove_open_text_in. */
+#define WAYS 15
 #define MOST_LINES 180
 
 /* The options of each way but the last two. */
@@ -74,10 +74,10 @@ static inline struct limecove_options options_of(size_t way, struct limecove_tex
     options.constructs = text.constructs;
     options.cut = cut;
     options.machine = (uint32_t)way;
-    options.deep = way >= 8;
-    if (way >= 8)
-        options.machine = way == 8 ? LIMECOVE_PARAGRAPHS : way == 9 ? LIMECOVE_TEXT : LIMECOVE_FLOW;
-    if (options.machine == LIMECOVE_FLOW)
+    options.deep = way >= 9;
+    if (way >= 9)
+        options.machine = way == 9 ? LIMECOVE_PARAGRAPHS : way == 10 ? LIMECOVE_TEXT : way == 11 ? LIMECOVE_FLOW : LIMECOVE_DOCUMENT;
+    if (options.machine == LIMECOVE_FLOW || options.machine == LIMECOVE_DOCUMENT)
         options.constructs = LIMECOVE_ALL_CONSTRUCTS;
     return options;
 }
@@ -86,9 +86,9 @@ static inline struct limecove_answer read_so(size_t way, const uint8_t *document
                                       struct limecove_record *records, size_t room) {
     struct limecove_options options = options_of(way, text, cut);
     struct limecove_byte_range ranges[MOST_LINES];
-    if (way == 11)
+    if (way == 13)
         return limecove_read_text(document, len, &text, records, room);
-    if (way == 12)
+    if (way == 14)
         return limecove_read_text_in(document, len, ranges, ranges_of_lines(document, len, ranges), &text, records, room);
     return limecove_read(document, len, &options, records, room);
 }
@@ -97,9 +97,9 @@ static inline struct limecove_answer open_so(size_t way, const uint8_t *document
                                       struct limecove_reading *reading) {
     struct limecove_options options = options_of(way, text, cut);
     struct limecove_byte_range ranges[MOST_LINES];
-    if (way == 11)
+    if (way == 13)
         return limecove_open_text(document, len, &text, reading);
-    if (way == 12)
+    if (way == 14)
         return limecove_open_text_in(document, len, ranges, ranges_of_lines(document, len, ranges), &text, reading);
     return limecove_open(document, len, &options, reading);
 }

@@ -12,7 +12,7 @@
 #include <unistd.h>
 
 #define MOST 4096
-static const char *const machines[] = {"lines", "paragraphs", "peek", "deep", "back", "save", "text", "flow"};
+static const char *const machines[] = {"lines", "paragraphs", "peek", "deep", "back", "save", "text", "flow", "document"};
 static char printed[1 << 20];
 
 /* What the program prints of a document. It is short, so it fits the pipe. */
@@ -70,11 +70,11 @@ static int has_mutual_links(const struct limecove_record *records, size_t count)
 }
 
 /* Whether the links are these: without `deep`, the texts of a paragraph are one chain for the two machines that link text; else there is
- * none. Those of leaf blocks are mutual. */
+ * none. Those of leaf blocks are mutual, in containers too. */
 static int has_links(const struct limecove_record *records, size_t count, const struct limecove_options *options) {
     int links = !options->deep && (options->machine == LIMECOVE_PARAGRAPHS || options->machine == LIMECOVE_TEXT);
     size_t last = LIMECOVE_NO_INDEX;
-    if (options->machine == LIMECOVE_FLOW && !options->deep)
+    if ((options->machine == LIMECOVE_FLOW || options->machine == LIMECOVE_DOCUMENT) && !options->deep)
         return has_mutual_links(records, count);
     for (size_t i = 0; i < count; i++) {
         const struct limecove_record *it = &records[i];
@@ -246,7 +246,7 @@ int main(int argc, char **argv) {
     for (long n = atol(argv[2]); n > 0; n--) {
         size_t len;
         uint8_t *document = random_document(&len);
-        struct limecove_options options = options_of(below(11), random_text_options(), below(5));
+        struct limecove_options options = options_of(below(13), random_text_options(), below(5));
         options.tab_size = 1 + below(16);
         compare(argv[1], document, len, &options);
         free(document);

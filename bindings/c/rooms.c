@@ -50,7 +50,7 @@ static void refused(void) {
     options[0].size = texts[0].size = 32;
     options[1].tab_size = texts[1].tab_size = 17;
     options[2].constructs = texts[2].constructs = LIMECOVE_ALL_CONSTRUCTS + 1;
-    options[3].machine = 8;
+    options[3].machine = 9;
     options[4].machine = UINT32_MAX;
     options[5].machine = LIMECOVE_LINES;
     memset(&record, 0xa5, sizeof record);

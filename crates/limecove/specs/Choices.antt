@@ -8,7 +8,7 @@ use Rattle.markdown.specs.Presets.{default_constructs}
 use Rattle.markdown.specs.Text.{Given}
 use Rattle.mdconstructs.specs.declared.choice.Choice.{Choice}
 use Rattle.mdconstructs.specs.declared.choice.Which.{Which}
-use Rattle.mdconstructs.specs.declared.choice.Which.TheVariants.{Lines, Paragraphs, Peek, Deep, Back, Save, Text, Flow}
+use Rattle.mdconstructs.specs.declared.choice.Which.TheVariants.{Lines, Paragraphs, Peek, Deep, Back, Save, Text, Flow, Document}
 use Rattle.mdconstructs.specs.Choices.{choice_together}
 use Rattle.mdconstructs.specs.Documents.{options_with}
 use Rattle.limecove.specs.declared.choose.Options.{Options}
@@ -19,7 +19,7 @@ abbrev pub machine_of : ℕ → Option Which
 machine_of n =
     cond (nat_eq n 0) (Some Lines)
     (cond (nat_eq n 1) (Some Paragraphs)
-    (cond (nat_eq n 2) (Some Peek) (cond (nat_eq n 3) (Some Deep) (cond (nat_eq n 4) (Some Back) (cond (nat_eq n 5) (Some Save) (cond (nat_eq n 6) (Some Text) (cond (nat_eq n 7) (Some Flow) None)))))))
+    (cond (nat_eq n 2) (Some Peek) (cond (nat_eq n 3) (Some Deep) (cond (nat_eq n 4) (Some Back) (cond (nat_eq n 5) (Some Save) (cond (nat_eq n 6) (Some Text) (cond (nat_eq n 7) (Some Flow) (cond (nat_eq n 8) (Some Document) None))))))))
 
 -- the tab size of a number: itself, from 1 to 16; 0 is 4
 abbrev pub tab_of : ℕ → Option ℕ

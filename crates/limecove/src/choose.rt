@@ -71,9 +71,10 @@ pub struct Options {
     /// After how many virtual bytes the document is cut each time. If it is 0, the document is not cut.
     pub cut: usize,
     /// The machine that reads: 0 for lines, 1 for paragraphs, 2 for peek, 3 for deep, 4 for back, 5 for save, 6 for text, 7 for
-    /// flow.
+    /// flow, 8 for document.
     pub machine: u32,
-    /// If it is not 0, the chunks of text that the machine links are read too. Only paragraphs, text and flow link any.
+    /// If it is not 0, the chunks of text that the machine links are read too. Only paragraphs, text, flow and document
+    /// link any.
     pub deep: u32,
 }
 
@@ -176,6 +177,7 @@ fn machine_of(number: u32) -> Option<Which>
         5 => Some(Which::Save),
         6 => Some(Which::Text),
         7 => Some(Which::Flow),
+        8 => Some(Which::Document),
         _ => None,
     }
 }

@@ -153,6 +153,24 @@ fn no_heading() -> [Record; 4] {
     ]
 }
 
+/// Of `> a`, as a block quote with a paragraph.
+fn quote() -> [Record; 12] {
+    [
+        at(0, Name::BlockQuote, 1, 1, 0),
+        at(0, Name::BlockQuotePrefix, 1, 1, 0),
+        at(0, Name::BlockQuoteMarker, 1, 1, 0),
+        at(1, Name::BlockQuoteMarker, 1, 2, 1),
+        at(0, Name::SpaceOrTab, 1, 2, 1),
+        at(1, Name::SpaceOrTab, 1, 3, 2),
+        at(1, Name::BlockQuotePrefix, 1, 3, 2),
+        at(0, Name::Paragraph, 1, 3, 2),
+        at(0, Name::Data, 1, 3, 2),
+        at(1, Name::Data, 1, 4, 3),
+        at(1, Name::Paragraph, 1, 4, 3),
+        at(1, Name::BlockQuote, 1, 4, 3),
+    ]
+}
+
 /// Whether a call returned that it read a document of this many events, and wrote these records: as many as fit below `room`,
 /// and nothing after them. There is memory, so a call that runs out of it fails the test.
 fn holds(answer: Answer, events: &[Record], room: usize, records: &[Record]) -> bool {
@@ -231,7 +249,7 @@ fn readings_keep_their_events(rt: HostRuntime) {
     assert!(rt; keeps(rt.alloc(), none, &mut reading, &[]));
     let text = limecove_open_text(rt.alloc(), b"`a`", &TEXT, &mut reading);
     assert!(rt; keeps(rt.alloc(), text, &mut reading, &code()));
-    let many = limecove_open(rt.alloc(), b"a", &by(8, 0), &mut reading);
+    let many = limecove_open(rt.alloc(), b"a", &by(9, 0), &mut reading);
     assert!(rt; many == refused(NO_SUCH_MACHINE) && reading.is_open == 0);
     let more = TextOptions {
         constructs: ALL_CONSTRUCTS + 1,
@@ -258,6 +276,15 @@ fn documents_are_read_by_blocks(rt: HostRuntime) {
     };
     assert!(rt; reads(rt.alloc(), b"# a", &all, &heading()));
     assert!(rt; reads(rt.alloc(), b"# a", &by(7, 1), &no_heading()));
+}
+
+/// The machine of documents reads block quotes, also where the document is to be cut; that of leaf blocks has none.
+#[test]
+fn documents_are_read_with_containers(rt: HostRuntime) {
+    assert!(rt; reads(rt.alloc(), b"> a", &by(8, 1), &quote()));
+    let cut = Options { cut: 1, ..by(8, 1) };
+    assert!(rt; reads(rt.alloc(), b"> a", &cut, &quote()));
+    assert!(rt; reads(rt.alloc(), b"> a", &by(7, 1), &no_heading()));
 }
 
 #[test]
@@ -405,8 +432,8 @@ fn refused_options() -> [(Options, u32); 6] {
         (size, OTHER_SIZE),
         (tabs, NO_SUCH_TAB_SIZE),
         (constructs, NO_SUCH_CONSTRUCT),
-        (by(8, 0), NO_SUCH_MACHINE),
-        (by(8, 1), NO_SUCH_MACHINE),
+        (by(9, 0), NO_SUCH_MACHINE),
+        (by(9, 1), NO_SUCH_MACHINE),
         (by(0, 1), LINKS_NO_TEXT),
     ]
 }

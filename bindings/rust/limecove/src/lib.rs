@@ -278,7 +278,10 @@ impl Options {
 impl Machine {
     /// Whether it links chunks of text, which can be read too.
     pub const fn links_text(self) -> bool {
-        matches!(self, Machine::Paragraphs | Machine::Text | Machine::Flow)
+        matches!(
+            self,
+            Machine::Paragraphs | Machine::Text | Machine::Flow | Machine::Document
+        )
     }
 }
 

@@ -26,6 +26,8 @@ pub enum Machine {
     /// of fenced code are escapes and character references.
     #[default]
     Flow = 7,
+    /// `document`: block quotes and lists, and the leaf blocks in them, as `flow` reads these.
+    Document = 8,
 }
 
 impl Machine {
@@ -39,6 +41,7 @@ impl Machine {
         Machine::Save,
         Machine::Text,
         Machine::Flow,
+        Machine::Document,
     ];
 
     /// As it is declared.
@@ -52,6 +55,7 @@ impl Machine {
             Machine::Save => "Save",
             Machine::Text => "Text",
             Machine::Flow => "Flow",
+            Machine::Document => "Document",
         }
     }
 }

@@ -53,7 +53,7 @@ impl Random {
     }
 }
 
-/// The ways in which the program reads: each machine, and three with their texts.
+/// The ways in which the program reads: each machine, and four with their texts.
 fn ways() -> Vec<(Machine, bool)> {
     let mut ways: Vec<_> = Machine::ALL
         .iter()
@@ -63,6 +63,7 @@ fn ways() -> Vec<(Machine, bool)> {
         (Machine::Paragraphs, true),
         (Machine::Text, true),
         (Machine::Flow, true),
+        (Machine::Document, true),
     ]);
     ways
 }
