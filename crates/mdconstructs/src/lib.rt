@@ -16,7 +16,7 @@ pub mod references;
 pub use mdconstructs_containers::{list_shapes, lists};
 pub use mdconstructs_documents::choice::{Choice, Which};
 pub use mdconstructs_documents::documents::{
-    events_of, options_with, read_document, read_nested, text_events_of,
+    events_of, options_with, read_document, read_leaf_blocks, text_events_of,
 };
 pub use mdconstructs_documents::limit::limit_of;
 pub use mdconstructs_documents::{choice, documents, limit, ranges};

@@ -53,13 +53,37 @@ pub fn events_of(
     }
 }
 
-/// The events of a document: its leaf blocks, each text of them read as inline text, so that emphasis stands in its block. The document
-/// is cut at these places, which leave no trace in the events.
+/// The events of a document: its block quotes and lists, the leaf blocks in them, and each text of these read as inline text, so that emphasis
+/// stands in its block.
+///
+/// The events are what a definition without states says of the document's lines (CommonMark, "Container blocks", "Leaf blocks" and "Inlines",
+/// without what the machines do not read yet). They are well formed: balanced, each void span empty, at places of the document, and in order
+/// of these. It fails only if it runs out of memory.
+///
+/// The document is there whole, and no cuts are chosen: lines are read by plain code, which takes no ranges, and each chain of chunks is read
+/// from these. [`read_leaf_blocks`] takes cuts.
+pub fn read_document(
+    alloc: Global,
+    bytes: &[u8],
+    options: &ParseOptions,
+) -> Result<Vec<Event>, AllocError>
+    requires limit { IsWithinLimit options.now.tab_size bytes.now }
+    ensures events { IfOk result (λ events. AreDocumentEvents options.now bytes.now events.items) }
+    ensures formed { IfOk result (λ events. IsWellFormed (document options.now bytes.now) events.items) }
+{
+    match read_nested_events(alloc, bytes, options) {
+        Ok(events) => Ok(events),
+        Err(Unmade::Fault(Fault::Memory)) => Err(AllocError),
+        Err(_) => unreachable!(),
+    }
+}
+
+/// The events of a document as leaf blocks alone: a marker of a block quote or list is text there. Each text of them is read as inline text.
+/// The document is cut at these places, which leave no trace in the events.
 ///
 /// The events are what a definition without states says of the document's lines (CommonMark, "Leaf blocks" and "Inlines", without what
-/// the machines do not read yet). They are well formed: balanced, each void span empty, at places of the document, and in order of these.
-/// It fails only if it runs out of memory.
-pub fn read_document(
+/// the machines do not read yet). They are well formed, as those of [`read_document`]. It fails only if it runs out of memory.
+pub fn read_leaf_blocks(
     alloc: Global,
     bytes: &[u8],
     options: &ParseOptions,
@@ -71,26 +95,6 @@ pub fn read_document(
     ensures formed { IfOk result (λ events. IsWellFormed (document options.now bytes.now) events.items) }
 {
     match read_flow_and_inlines(alloc, bytes, options, cuts) {
-        Ok(events) => Ok(events),
-        Err(Unmade::Fault(Fault::Memory)) => Err(AllocError),
-        Err(_) => unreachable!(),
-    }
-}
-
-/// The events of a document with its block quotes and lists: in these stand its leaf blocks, and each text of these is read as inline text.
-///
-/// The events are what a definition without states says of the document's lines (CommonMark, "Container blocks", "Leaf blocks" and "Inlines",
-/// without what the machines do not read yet). They are well formed, as those of [`read_document`]. It fails only if it runs out of memory.
-pub fn read_nested(
-    alloc: Global,
-    bytes: &[u8],
-    options: &ParseOptions,
-) -> Result<Vec<Event>, AllocError>
-    requires limit { IsWithinLimit options.now.tab_size bytes.now }
-    ensures events { IfOk result (λ events. AreDocumentEvents options.now bytes.now events.items) }
-    ensures formed { IfOk result (λ events. IsWellFormed (document options.now bytes.now) events.items) }
-{
-    match read_nested_events(alloc, bytes, options) {
         Ok(events) => Ok(events),
         Err(Unmade::Fault(Fault::Memory)) => Err(AllocError),
         Err(_) => unreachable!(),
@@ -190,7 +194,7 @@ fn read_flow(
     read_resolved_by(alloc, &Flow {}, Name::FlowStart, bytes, options, cuts, true)
 }
 
-/// As [`read_document`], with the reason for which there are no events.
+/// As [`read_leaf_blocks`], with the reason for which there are no events.
 fn read_flow_and_inlines(
     alloc: Global,
     bytes: &[u8],

@@ -3,7 +3,7 @@
 //!
 //! Each call that takes memory and returns something is made with ample memory, and what it returns is compared. Of `mdtests_engine`, clones
 //! are in `values`, `cuts_every` and what is of slices and locations in `places`. `run` and `read_text` are in `machines` of
-//! `mdtests_machines`; `read_document` and what else reads documents are in `documents`, and `read_inline_text` is called by `mdcases`. The
+//! `mdtests_machines`; `read_document`, `read_leaf_blocks` and what else reads documents are in `documents`, and `read_inline_text` is called by `mdcases`. The
 //! rest is in the module of its name, or for `Tokenizer` in `tokenizer`, and in `driven` and `pushed` of `mdtests_base`.
 
 use markdown::configuration::{CompileOptions, Constructs, Options, ParseOptions, TabSize};
@@ -35,5 +35,6 @@ use markdown::{
 use mdconstructs::chunks::{connect, disconnect, is_connected, last_event, link_chunk};
 use mdconstructs::{
     Back, Choice, Deep, Fail, Inlines, Lines, Paragraphs, Peek, Save, Text, Which, Words, Wrap,
-    events_of, limit_of, options_with, read_document, read_inline_text, read_text,
+    events_of, limit_of, options_with, read_document, read_inline_text, read_leaf_blocks,
+    read_text,
 };
