@@ -1,16 +1,21 @@
 -- Documents with containers: their blocks, and the texts of these.
+pub mod AtOnce
 pub mod Blocks
 pub mod BlocksFormed
 pub mod Chosen
 pub mod InlineHolds
 pub mod InlinePlaces
+pub mod KeptChains
 pub mod Letters
 pub mod LoneStrings
+pub mod Merged
 pub mod Order
 pub mod Ordered
 pub mod Parts
 pub mod Places
 pub mod Ranges
+pub mod Removed
+pub mod Rising
 pub mod Skeletons
 pub mod Texts
 pub mod TextsFormed

@@ -1,18 +1,27 @@
 -- Inner: what a run of a machine returns, for private functions. No public clause cites this file.
-use Rattle.std.specs.Prelude.{◌⊎◌, ℕ, Bool, Contains, IfSome, List, Option, Some, false}
+use Rattle.std.specs.Prelude.{◌≡◌, ◌⊎◌, ℕ, Bool, Contains, IfSome, List, Option, Some, false}
 use Rattle.markdown_base.specs.declared.configuration.ParseOptions.{ParseOptions}
 use Rattle.markdown_base.specs.declared.event.Content.{Content}
-use Rattle.markdown_base.specs.declared.event.Content.TheVariants.{Text as TextContent}
+use Rattle.markdown_base.specs.declared.event.Content.TheVariants.{Content as ContentOfBlocks, String as StringContent, Text as TextContent}
 use Rattle.markdown_base.specs.declared.event.Event.{Event}
 use Rattle.markdown_base.specs.declared.message.Message.{Message}
 use Rattle.markdown_base.specs.declared.state.Name.{Name}
 use Rattle.markdown_tokenizer.specs.declared.subtokenize.Subresult.{Subresult}
 use Rattle.markdown_tokenizer.specs.Engine.{IsRun, IsRunRefused}
+use Rattle.markdown_children.specs.Chains.{content_at}
 use Rattle.markdown_children.specs.Ready.{IsReady}
 use Rattle.markdown_children.specs.Reads.{IsSubtokenized, IsSubtokenizeRefused, start_name}
 use Rattle.markdown_tokenizer.specs.Rules.{Rules}
 use Rattle.markdown_tokenizer.specs.Text.{Given}
 use Rattle.mdconstructs_documents.specs.Documents.{document}
+
+-- each chunk of a list is of content
+abbrev pub HasOnlyContent : List Event → Type 0
+HasOnlyContent events = (k : ℕ) (c : Content) → content_at events k ≡ Some c → c ≡ ContentOfBlocks
+
+-- each chunk of a list is of text, or of a string
+abbrev pub HasOnlyTexts : List Event → Type 0
+HasOnlyTexts events = (k : ℕ) (c : Content) → content_at events k ≡ Some c → (c ≡ TextContent) ⊎ (c ≡ StringContent)
 
 -- a machine
 module _ {R D : Type 0} (rules : Given → Rules R D) (options : ParseOptions) (bytes : List ℕ) where

@@ -1,7 +1,6 @@
 //! Documents with block quotes and lists: first these, with a chain of chunks for each stretch of lines, and then the leaf blocks of each chain.
 
-ghost use Rattle.std.specs.Prelude.{◌≡◌, IfErr, IfOk, Some, None};
-ghost use Rattle.markdown_base.specs.declared.event.Content.TheVariants as content;
+ghost use Rattle.std.specs.Prelude.{◌≡◌, IfErr, IfOk, None};
 ghost use Rattle.markdown_base.specs.Virtual.{IsWithinLimit};
 ghost use Rattle.markdown_children.specs.Ready.{IsReady};
 ghost use Rattle.markdown_tokenizer.specs.declared.tokenizer.fault.Fault.TheVariants.{Memory};
@@ -10,11 +9,11 @@ ghost use Rattle.markdown_tokenizer.specs.Text.{IsDocument};
 ghost use Rattle.mdconstructs_flow.specs.FlowKnows.{flow_rules};
 ghost use Rattle.mdconstructs_inlines.specs.InlineRules.{inlines_rules};
 ghost use Rattle.mdconstructs_documents.specs.Documents.{document, AreDocumentBlocks, AreDocumentEvents};
-ghost use Rattle.mdconstructs_documents.specs.Runs.{HasChildren};
+ghost use Rattle.mdconstructs_documents.specs.Runs.{HasChildren, HasOnlyContent, HasOnlyTexts};
 
 use crate::making::{Unmade, with_ready_children};
 use markdown_base::configuration::ParseOptions;
-use markdown_base::event::{Content, Event};
+use markdown_base::event::Event;
 use mdconstructs_containers::letters::with_letters;
 use mdconstructs_containers::skeleton::skeleton_of;
 use mdconstructs_flow::flow::Flow;
@@ -54,7 +53,7 @@ fn is_document(bytes: &[u8], options: &ParseOptions)
     let _columns = options.tab_size.get();
 }
 
-/// The events with the leaf blocks of each chain of content in place of its chunks.
+/// The events with the leaf blocks of each chain of content in place of its chunks. All chains are of content, so all are read at once.
 fn with_leaf_blocks(
     alloc: Global,
     bytes: &[u8],
@@ -62,18 +61,12 @@ fn with_leaf_blocks(
     events: Vec<Event>,
 ) -> Result<Vec<Event>, Unmade>
     requires limit { IsWithinLimit options.now.tab_size bytes.now }
-    requires ready { IsReady options.now.tab_size bytes.now (Some content.Content) events.items }
-    ensures events { IfOk result (λ new. HasChildren flow_rules options.now bytes.now (Some content.Content) events.items new.items) }
+    requires content { HasOnlyContent events.items }
+    requires ready { IsReady options.now.tab_size bytes.now None events.items }
+    ensures events { IfOk result (λ new. HasChildren flow_rules options.now bytes.now None events.items new.items) }
     ensures err { IfErr result (λ unmade. unmade ≡ Unmade.Fault Memory) }
 {
-    with_ready_children(
-        alloc,
-        &Flow {},
-        bytes,
-        options,
-        events,
-        Some(&Content::Content),
-    )
+    with_ready_children(alloc, &Flow {}, bytes, options, events, None)
 }
 
 /// The events of a document with its containers: first its blocks, and then their texts and strings.
@@ -89,11 +82,11 @@ pub(crate) fn read_nested_events(
     ensures document { IsDocument (document options.now bytes.now) }
 {
     let events = read_blocks(alloc, bytes, options)?;
-    let events = with_inline_text(alloc, bytes, options, events)?;
-    with_strings_read(alloc, bytes, options, events)
+    with_inline_text(alloc, bytes, options, events)
 }
 
-/// The events with the inline text of each chain of text in place of its chunks.
+/// The events with the inline text of each chain of text, and the events of each string, in place of their chunks. All chains are texts or
+/// strings, so all are read at once.
 fn with_inline_text(
     alloc: Global,
     bytes: &[u8],
@@ -101,38 +94,10 @@ fn with_inline_text(
     events: Vec<Event>,
 ) -> Result<Vec<Event>, Unmade>
     requires limit { IsWithinLimit options.now.tab_size bytes.now }
-    requires ready { IsReady options.now.tab_size bytes.now (Some content.Text) events.items }
-    ensures events { IfOk result (λ new. HasChildren inlines_rules options.now bytes.now (Some content.Text) events.items new.items) }
+    requires texts { HasOnlyTexts events.items }
+    requires ready { IsReady options.now.tab_size bytes.now None events.items }
+    ensures events { IfOk result (λ new. HasChildren inlines_rules options.now bytes.now None events.items new.items) }
     ensures err { IfErr result (λ unmade. unmade ≡ Unmade.Fault Memory) }
 {
-    with_ready_children(
-        alloc,
-        &Inlines {},
-        bytes,
-        options,
-        events,
-        Some(&Content::Text),
-    )
-}
-
-/// The events with those of each string in place of its chunk.
-fn with_strings_read(
-    alloc: Global,
-    bytes: &[u8],
-    options: &ParseOptions,
-    events: Vec<Event>,
-) -> Result<Vec<Event>, Unmade>
-    requires limit { IsWithinLimit options.now.tab_size bytes.now }
-    requires ready { IsReady options.now.tab_size bytes.now (Some content.String) events.items }
-    ensures events { IfOk result (λ new. HasChildren inlines_rules options.now bytes.now (Some content.String) events.items new.items) }
-    ensures err { IfErr result (λ unmade. unmade ≡ Unmade.Fault Memory) }
-{
-    with_ready_children(
-        alloc,
-        &Inlines {},
-        bytes,
-        options,
-        events,
-        Some(&Content::String),
-    )
+    with_ready_children(alloc, &Inlines {}, bytes, options, events, None)
 }

@@ -1,5 +1,5 @@
 -- Chains of one content: what begins one, and the state that it is read with.
-use Rattle.mdconstructs_documents.proofs.Prelude.{◌≡◌, List, Option, Some, None, subst, Contains, IfSome, is_none, and_parts, Content, Event, Name, content_at, fits, StartAmong, start_name, previous_of}
+use Rattle.mdconstructs_documents.proofs.Prelude.{◌≡◌, ℕ, ◌∙◌, ap, sym, List, Option, Some, None, subst, none-some, option_and_then, Contains, IfSome, is_none, and_parts, Content, Event, Name, by_option, content_at, fits, StartAmong, start_name, previous_of}
 use Rattle.mdconstructs_text.proofs.Paragraphs.ChainEvents.{is-content}
 
 when-some : (o : Option Name) (P : Name → Type 0) (name : Name) → IfSome o P → o ≡ Some name → P name
@@ -13,3 +13,12 @@ may-start content starts events h c name begin is =
     let at = is-content content (content_at events c) fit.0 in
     let start : start_name content ≡ Some name = rw at at is in
     when-some (start_name content) (λ start. Contains starts start) name h start
+
+-- if all chunks are of the content, it may start with each chain
+pub may-start-all : (content : Content) (starts : List Name) (events : List Event) → ((k : ℕ) (c : Content) → content_at events k ≡ Some c → c ≡ content) → IfSome (start_name content) (λ start. Contains starts start)
+    → StartAmong starts None events
+may-start-all content starts events only h c name begin is = by_option (content_at events c)
+    (λ n. absurd (none-some name (sym (ap (option_and_then start_name) n) ∙ is)))
+    (λ k at.
+    let start : start_name content ≡ Some name = sym (ap (option_and_then start_name) (at ∙ ap Some (only c k at))) ∙ is in
+    when-some (start_name content) (λ start. Contains starts start) name h start)

@@ -2,6 +2,7 @@
 use Rattle.mdconstructs_documents.proofs.Prelude.{◌≡◌, ℕ, ◌+◌, List, [], ◌∷◌, Bool, true, false, Some, None, inl, inr, refl, sym, ap, ◌∙◌, subst, none-some, same_Some, Contains, option_map, slice_get, AllByRecursion, flat_map, option_and_then, every-append, every-get, every-map, Content, StringContent, TextContent, Event, Link, Name, StringStart, TextStart, Seat, by_option, content_at, fits, some_fits, IsReady, StartAmong, start_name, content_of, Given, IsText, Text, first-linked, mark_at, Mark, flow_events, linked_from}
 use Rattle.mdconstructs_documents.proofs.FlowChains.Ready.{flow-ready}
 use Rattle.mdconstructs_documents.proofs.FlowTexts.BlockSegments.{all-segments}
+use Rattle.mdconstructs_documents.specs.Runs.{HasOnlyTexts}
 use Rattle.mdconstructs_documents.proofs.FlowTexts.Segments.{HasByte, IsGood, IsKept, IsTextual, Segment, chain, chain_marks, flat_of, kept}
 
 -- a mark without a chunk, or with one of texts or strings
@@ -38,30 +39,26 @@ all-linked : (i : ℕ) (marks : List Mark) → AllByRecursion IsOfText marks →
 all-linked i [] h = tt
 all-linked i (m ∷ marks) h = subst (AllByRecursion HasTextual) (sym (first-linked i m marks)) (at-mark i m h.0, all-linked (i + 1) marks h.1)
 
--- each chunk of the list is of texts or strings
-abbrev pub AreTextual : List Event → Type 0
-AreTextual events = (k : ℕ) (c : Content) → content_at events k ≡ Some c → IsTextual c
+-- what is linked in such a list is one of both
+pub by-content : (events : List Event) → HasOnlyTexts events → {P : Type 0} (k : ℕ) → fits None events k ≡ true → (content_at events k ≡ Some TextContent → P) → (content_at events k ≡ Some StringContent → P) → P
+by-content events are k fit text string = by_option (content_at events k)
+    (λ n. absurd (let no : false ≡ true = sym (ap (some_fits None) n) ∙ fit in cc))
+    (λ c at. elim (are k c at) [
+      | inl e ↦ text (at ∙ ap Some e)
+      | inr e ↦ string (at ∙ ap Some e)
+    ])
 
 module _ (g : Given) (text : Text) where
   abbrev flat : List Event
   flat = flow_events g.options.constructs g.bytes text.seats
 
-  pub flow-textual : AreTextual flat
+  pub flow-textual : HasOnlyTexts flat
   flow-textual k c is =
       let h = all-segments g.bytes (λ seats. []) (λ seats. []) g.options.constructs text.seats in
       let all = subst (λ (marks : List Mark). AllByRecursion HasTextual (linked_from 0 marks)) (sym h.flat_is) (all-linked 0 (flat_map (flat_of g.bytes) h.segments) (of-segments g.bytes h.segments h.good)) in
       by_option (slice_get flat k)
       (λ n. absurd (none-some c (sym (ap (option_and_then content_of) n) ∙ is)))
       (λ e at. every-get HasTextual flat k e all at c (sym (ap (option_and_then content_of) at) ∙ is))
-
-  -- what is linked is one of both
-  pub by-content : {P : Type 0} (k : ℕ) → fits None flat k ≡ true → (content_at flat k ≡ Some TextContent → P) → (content_at flat k ≡ Some StringContent → P) → P
-  by-content k fit text string = by_option (content_at flat k)
-      (λ n. absurd (let no : false ≡ true = sym (ap (some_fits None) n) ∙ fit in cc))
-      (λ c at. elim (flow-textual k c at) [
-        | inl e ↦ text (at ∙ ap Some e)
-        | inr e ↦ string (at ∙ ap Some e)
-      ])
 
   pub each-ready : IsText g text → IsReady g.tab g.bytes None flat
   each-ready is =
@@ -73,12 +70,12 @@ module _ (g : Given) (text : Text) where
         joined = texts.joined;
         forward = texts.forward;
         one_content = texts.one_content;
-        readable = λ k fit. by-content k fit (λ e. texts.readable k (ap (some_fits (Some TextContent)) e)) (λ e. string.readable k (ap (some_fits (Some StringContent)) e));
-        gaps = λ k d fit next. by-content k fit (λ e. texts.gaps k d (ap (some_fits (Some TextContent)) e) next) (λ e. string.gaps k d (ap (some_fits (Some StringContent)) e) next);
+        readable = λ k fit. by-content flat flow-textual k fit (λ e. texts.readable k (ap (some_fits (Some TextContent)) e)) (λ e. string.readable k (ap (some_fits (Some StringContent)) e));
+        gaps = λ k d fit next. by-content flat flow-textual k fit (λ e. texts.gaps k d (ap (some_fits (Some TextContent)) e) next) (λ e. string.gaps k d (ap (some_fits (Some StringContent)) e) next);
       }
 
 -- a machine that may start with texts and with strings may start with each chain
-pub may-start-each : (starts : List Name) → Contains starts TextStart → Contains starts StringStart → (events : List Event) → AreTextual events → StartAmong starts None events
+pub may-start-each : (starts : List Name) → Contains starts TextStart → Contains starts StringStart → (events : List Event) → HasOnlyTexts events → StartAmong starts None events
 may-start-each starts text string events are c name begin is = by_option (content_at events c)
     (λ n. absurd (none-some name (sym (ap (option_and_then start_name) n) ∙ is)))
     (λ k at. elim (are c k at) [

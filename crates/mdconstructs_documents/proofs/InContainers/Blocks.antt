@@ -1,8 +1,12 @@
 -- The blocks of a document: what the machine of leaf blocks makes of its skeleton, and that their texts and strings can be read.
-use Rattle.mdconstructs_documents.proofs.Prelude.{◌≡◌, ℕ, List, [], ◌∷◌, Option, Some, true, map, subst, AllByRecursion, Content, Event, ParseOptions, begins, fitting_starts, IsReady, HasChildren, Given, IsDocument, document, flow_events, flow_rules, virtual, chain_text}
+use Rattle.mdconstructs_documents.proofs.Prelude.{◌≡◌, ◌↔◌, ◌&&◌, ◌∙◌, ℕ, List, [], ◌∷◌, Option, Some, None, true, length, map, refl, sym, ap, subst, flat_map, is_none, range_with_len, AllByRecursion, Content, Event, ParseOptions, by_option, begins, fits, some_fits, content_at, previous_of, fitting_starts, chain_changes, divided_over, AreChildren, IsSubtokenized, lists, IsReady, HasChildren, Given, IsDocument, Rules, Subresult, document, flow_events, flow_rules, virtual, chain_text}
 use Rattle.std.specs.List.{AllZip}
 use Rattle.markdown_base.specs.declared.event.Content.TheVariants as content
 use Rattle.markdown_children.proofs.Parts.GoingOn.{goes-on}
+use Rattle.markdown_children.specs.LawStatements.{IsTornNowhere}
+use Rattle.markdown_children.specs.Parts.{Divided}
+use Rattle.markdown_edits.specs.Survivors.{KeepsLinks, StaysUnlessRemoved}
+use Rattle.markdown_edits.specs.Woven.{changed}
 use Rattle.markdown_children.specs.NextContent.{CanBeReadNext, IsReadyNext}
 use Rattle.mdconstructs_documents.proofs.InContainers.Skeletons.{SkeletonLaws}
 use Rattle.mdconstructs_containers.specs.Blocks.{document_blocks, document_skeleton, with_lazy_letters}
@@ -11,6 +15,7 @@ use Rattle.mdconstructs_text.proofs.Paragraphs.ChainEvents.{all-begin, is-text}
 use Rattle.mdconstructs_documents.specs.Documents.{AreDocumentBlocks}
 use Rattle.mdconstructs_documents.proofs.FlowChains.Blocks.{blocks-read-next, chains-read-blocks}
 use Rattle.mdconstructs_documents.proofs.InContainers.Letters.{lettered-document, ready-back, ready-there}
+use Rattle.mdconstructs_documents.proofs.InContainers.Rising.{filter-same}
 
 module _ (laws : SkeletonLaws) (g : Given) (is : IsDocument g) where
   -- where letters stand
@@ -52,10 +57,38 @@ module _ (laws : SkeletonLaws) (g : Given) (is : IsDocument g) where
   pub blocks-ready : (next : Option Content) → IsReady g.tab g.bytes next bare → IsReady g.tab g.bytes next (document_blocks g)
   blocks-ready next h = ready-back at g (laws.plain g is) next (document_blocks g) (blocks-next next h).ready
 
+-- if all chains are of a content, those that fit it are all
+module _ {R D : Type 0} (g : Given) (rules : Given → Rules R D) (old new : List Event) (sub : Subresult) (w : Content) (self : some_fits (Some w) (Some w) ≡ true) (only : (k : ℕ) (c : Content) → content_at old k ≡ Some c → c ≡ w) where
+  same-fit : (k : ℕ) → fits None old k ≡ fits (Some w) old k
+  same-fit k = by_option (content_at old k)
+      (λ n. ap (some_fits None) n ∙ sym (ap (some_fits (Some w)) n))
+      (λ c at. ap (some_fits None) at ∙ sym (ap (some_fits (Some w)) (at ∙ ap Some (only k c at)) ∙ self))
+
+  same-starts : fitting_starts None old ≡ fitting_starts (Some w) old
+  same-starts = filter-same (begins None old) (begins (Some w) old) (λ k j. same-fit k j && is_none (previous_of old k)) (range_with_len 0 (length old))
+
+  pub one-content : IsSubtokenized g rules None old new sub → IsSubtokenized g rules (Some w) old new sub
+  one-content h =
+      let kids = lists h.children in
+      record {
+        children = h.children;
+        read = subst (λ cs. AreChildren g rules old cs h.children) same-starts h.read;
+        events = h.events ∙ ap (λ cs. changed (flat_map chain_changes (divided_over old cs kids)) old) same-starts;
+        in_shape = h.in_shape;
+        tight = λ before each torn. h.tight before each (subst (λ cs. AllByRecursion (λ (d : Divided). IsTornNowhere d.chunks d.parts) (divided_over old cs kids)) (sym same-starts) torn);
+        at_places = h.at_places;
+        stays = subst (λ cs. StaysUnlessRemoved (flat_map chain_changes (divided_over old cs kids)) old) same-starts h.stays;
+        links = subst (λ cs. KeepsLinks (flat_map chain_changes (divided_over old cs kids)) old) same-starts h.links;
+        done = subst (λ (cs : List ℕ). (sub.done ≡ true) ↔ (cs ≡ [])) same-starts h.done;
+        definitions = h.definitions;
+        footnotes = h.footnotes;
+      }
+
 -- what the machine makes of the skeleton, over the document with letters
 pub blocks-are : SkeletonLaws → (options : ParseOptions) (bytes : List ℕ) → IsDocument (document options bytes) → (read : List ℕ) → read ≡ with_letters (lazy_underlines options.constructs (virtual options.tab_size bytes)) bytes
-    → (events new : List Event) → events ≡ document_skeleton (document options bytes) → HasChildren flow_rules options read (Some content.Content) events new → AreDocumentBlocks options bytes new
+    → (events new : List Event) → events ≡ document_skeleton (document options bytes) → HasChildren flow_rules options read None events new → AreDocumentBlocks options bytes new
 blocks-are laws options bytes is read same events new from h =
     let g = document options bytes in
-    let k = subst (λ (es : List Event). HasChildren flow_rules options (shown laws g is).bytes (Some content.Content) es new) from (subst (λ (bs : List ℕ). HasChildren flow_rules options bs (Some content.Content) events new) same h) in
-    chains-read-blocks (shown laws g is) (bare laws g is) new k.1.0 (shown-is laws g is) (content-ready laws g is) k.1.1
+    let k = subst (λ (es : List Event). HasChildren flow_rules options (shown laws g is).bytes None es new) from (subst (λ (bs : List ℕ). HasChildren flow_rules options bs None events new) same h) in
+    let one = one-content (shown laws g is) flow_rules (bare laws g is) new k.1.0 content.Content refl (laws.of_content g is) k.1.1 in
+    chains-read-blocks (shown laws g is) (bare laws g is) new k.1.0 (shown-is laws g is) (content-ready laws g is) one

@@ -39,19 +39,19 @@ module _ (laws : SkeletonLaws) (g : Given) (is : IsDocument g) where
   abbrev blocks_of : ℕ → List Event
   blocks_of c = blocks_at laws g is c
 
-  abbrev leaves : List (List Event)
+  abbrev pub leaves : List (List Event)
   leaves = map blocks_of (fitting_starts of_content sk)
 
   sk-ready : IsReady g.tab s.bytes of_content sk
   sk-ready = content-ready laws g is
 
-  all-start : AllByRecursion (λ c. begins of_content sk c ≡ true) (fitting_starts of_content sk)
+  pub all-start : AllByRecursion (λ c. begins of_content sk c ≡ true) (fitting_starts of_content sk)
   all-start = all-begin s sk (shown-is laws g is) content.Content sk-ready
 
   for-content : (next : Content) → IsReady g.tab g.bytes (Some next) sk
   for-content next = each-ready g.tab g.bytes sk (laws.all_ready g is) next
 
-  each-leaf : (P : List Event → Type 0) → ((text : Text) → IsText s text → P (flow_events g.options.constructs s.bytes text.seats)) → (cs : List ℕ) → AllByRecursion (λ c. begins of_content sk c ≡ true) cs
+  pub each-leaf : (P : List Event → Type 0) → ((text : Text) → IsText s text → P (flow_events g.options.constructs s.bytes text.seats)) → (cs : List ℕ) → AllByRecursion (λ c. begins of_content sk c ≡ true) cs
       → AllByRecursion P (map blocks_of cs)
   each-leaf P holds [] b = tt
   each-leaf P holds (c ∷ cs) b = (holds (chain_text s sk c) (is-text s sk (shown-is laws g is) content.Content sk-ready c b.0), each-leaf P holds cs b.1)
@@ -100,7 +100,7 @@ module _ (laws : SkeletonLaws) (g : Given) (is : IsDocument g) where
   each-text P holds [] b = tt
   each-text P holds (c ∷ cs) b = (holds (chain_text g blocks c) (is-text g blocks is TextContent text-ready c b.0), each-text P holds cs b.1)
 
-  all-texts : (P : List Event → Type 0) → ((text : Text) → IsText g text → P (inline_events g text)) → AllByRecursion P texts
+  pub all-texts : (P : List Event → Type 0) → ((text : Text) → IsText g text → P (inline_events g text)) → AllByRecursion P texts
   all-texts P holds = each-text P holds (fitting_starts (Some TextContent) blocks) (all-begin g blocks is TextContent text-ready)
 
   text-alone : (text : Text) → IsText g text → IsReady g.tab g.bytes (Some StringContent) (inline_events g text)
@@ -123,7 +123,7 @@ module _ (laws : SkeletonLaws) (g : Given) (is : IsDocument g) where
           can cs b.1,
         )
 
-    texts-torn : NoneTorn (Some TextContent) blocks texts
+    pub texts-torn : NoneTorn (Some TextContent) blocks texts
     texts-torn =
         let tab = is.tab.0 in
         let some : 0 < g.tab = omega (arith, tab) in

@@ -1,10 +1,10 @@
 use Rattle.mdconstructs_documents.proofs.InContainers.Skeletons.{skeleton-laws}
-use Rattle.mdconstructs_documents.proofs.Prelude.{◌≡◌, ◌∙◌, [], ◌∷◌, List, length, ℕ, Some, ap, arith, sym, subst, refl, IfOk-weaker, virtual, IsReady, IsWellFormed, document}
-use Rattle.markdown_base.specs.declared.event.Content.TheVariants as content
+use Rattle.mdconstructs_documents.proofs.Prelude.{◌≡◌, ◌∙◌, [], ◌∷◌, List, length, ℕ, None, ap, arith, sym, subst, refl, IfOk-weaker, virtual, IsReady, IsWellFormed, document}
+use Rattle.mdconstructs_documents.specs.Runs.{HasOnlyContent}
 use Rattle.mdconstructs_containers.specs.Blocks.{document_blocks, document_skeleton}
 use Rattle.mdconstructs_containers.specs.Letters.{lazy_underlines, with_letters}
 use Rattle.mdconstructs_containers.proofs.LetterLemmas.{no_letters}
-use Rattle.mdconstructs_documents.proofs.InContainers.Blocks.{blocks-are, content-ready}
+use Rattle.mdconstructs_documents.proofs.InContainers.Blocks.{blocks-are, shown-ready}
 use Rattle.mdconstructs_documents.proofs.InContainers.BlocksFormed.{blocks-well}
 use Rattle.mdconstructs_documents.proofs.InContainers.Letters.{lettered-limit}
 use Rattle.mdconstructs_documents.proofs.nested.read_blocks.Goals as goal
@@ -14,10 +14,13 @@ empty-list : (l : List ℕ) → length l ≡ 0 → l ≡ []
 empty-list [] h = refl
 empty-list (x ∷ xs) h = absurd (omega (arith, h))
 
+pub with_leaf_blocks-requires-clause-content : goal.with_leaf_blocks-requires-clause-content
+with_leaf_blocks-requires-clause-content c = subst HasOnlyContent (sym c.in_ok-skeleton.ensures.events) (skeleton-laws.of_content (document c.args.options.now c.args.bytes.now) c.is_document.ensures)
+
 pub with_leaf_blocks-requires-clause-ready : goal.with_leaf_blocks-requires-clause-ready
 with_leaf_blocks-requires-clause-ready c =
-    subst (IsReady c.args.options.now.tab_size c.args.bytes.now (Some content.Content)) (sym c.in_ok-skeleton.ensures.events)
-    (skeleton-laws.ready (document c.args.options.now c.args.bytes.now) c.is_document.ensures)
+    subst (IsReady c.args.options.now.tab_size c.args.bytes.now None) (sym c.in_ok-skeleton.ensures.events)
+    (skeleton-laws.all_ready (document c.args.options.now c.args.bytes.now) c.is_document.ensures)
 
 pub returns-then-is_empty-clause-events : goal.returns-then-is_empty-clause-events
 returns-then-is_empty-clause-events c =
@@ -38,6 +41,9 @@ with_leaf_blocks-requires-2-clause-limit c =
     let same : c.as_slice.result.now ≡ with_letters at bytes = c.as_slice.ensures.value ∙ c.in_ok-shown.ensures ∙ ap (λ l. with_letters l bytes) letters in
     rw same (lettered-limit at c.args.options.now.tab_size bytes c.requires.limit)
 
+pub with_leaf_blocks-requires-2-clause-content : goal.with_leaf_blocks-requires-2-clause-content
+with_leaf_blocks-requires-2-clause-content c = subst HasOnlyContent (sym c.in_ok-skeleton.ensures.events) (skeleton-laws.of_content (document c.args.options.now c.args.bytes.now) c.is_document.ensures)
+
 pub with_leaf_blocks-requires-2-clause-ready : goal.with_leaf_blocks-requires-2-clause-ready
 with_leaf_blocks-requires-2-clause-ready c =
     let bytes = c.args.bytes.now in
@@ -45,9 +51,9 @@ with_leaf_blocks-requires-2-clause-ready c =
     let at = lazy_underlines c.args.options.now.constructs (virtual c.args.options.now.tab_size bytes) in
     let letters = c.as_slice-letters.ensures.value ∙ c.in_ok-skeleton.ensures.letters in
     let same : c.as_slice.result.now ≡ with_letters at bytes = c.as_slice.ensures.value ∙ c.in_ok-shown.ensures ∙ ap (λ l. with_letters l bytes) letters in
-    let ready = content-ready skeleton-laws g c.is_document.ensures in
-    let there = subst (λ bs. IsReady g.tab bs (Some content.Content) (document_skeleton g)) (sym same) ready in
-    subst (IsReady g.tab c.as_slice.result.now (Some content.Content)) (sym c.in_ok-skeleton.ensures.events) there
+    let ready = shown-ready skeleton-laws g c.is_document.ensures None (skeleton-laws.all_ready g c.is_document.ensures) in
+    let there = subst (λ bs. IsReady g.tab bs None (document_skeleton g)) (sym same) ready in
+    subst (IsReady g.tab c.as_slice.result.now None) (sym c.in_ok-skeleton.ensures.events) there
 
 pub returns-clause-events : goal.returns-clause-events
 returns-clause-events c =

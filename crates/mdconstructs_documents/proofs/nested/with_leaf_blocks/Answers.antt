@@ -1,11 +1,12 @@
 use Rattle.markdown_base.specs.declared.event.Content.TheVariants as content
 use Rattle.mdconstructs_documents.proofs.Prelude.{arith, document, refl, flow_rules, flow-refuses-nothing}
 use Rattle.mdconstructs_documents.proofs.DeepEvents.{no-children-refused, only-memory}
-use Rattle.mdconstructs_documents.proofs.FlowChains.Contents.{may-start}
+use Rattle.mdconstructs_documents.proofs.FlowChains.Contents.{may-start-all}
 use Rattle.mdconstructs_documents.proofs.nested.with_leaf_blocks.Goals as goal
 
 pub with_ready_children-requires-clause-start : goal.with_ready_children-requires-clause-start
-with_ready_children-requires-clause-start c = may-start content.Content (flow_rules (document c.args.options.now c.args.bytes.now)).starts c.args.events.items (1, omega arith, refl)
+with_ready_children-requires-clause-start c =
+    may-start-all content.Content (flow_rules (document c.args.options.now c.args.bytes.now)).starts c.args.events.items c.requires.content (1, omega arith, refl)
 
 pub returns-clause-err : goal.returns-clause-err
 returns-clause-err c =
