@@ -8,14 +8,14 @@ use markdown::configuration::{Constructs, ParseOptions, TabSize};
 use mdcases_forms::spans::spans_of;
 use mdconstructs::choice::links_text;
 use mdconstructs::ranges::{ByteRange, are_ranges, text_events_in};
-use mdconstructs::{Which, limit_of, options_with, read_document, read_nested, text_events_of};
+use mdconstructs::{Which, limit_of, options_with, read_document, read_leaf_blocks, text_events_of};
 use std::alloc::{AllocError, Global};
 
 /// The events of a document with its containers.
 fn nested(alloc: Global, bytes: &[u8]) -> Result<String, AllocError>
     requires limit { IsWithinLimit 4 bytes.now }
 {
-    let events = read_nested(alloc, bytes, &ParseOptions::default())?;
+    let events = read_document(alloc, bytes, &ParseOptions::default())?;
     spans_of(alloc, bytes, events.as_slice())
 }
 
@@ -38,7 +38,7 @@ fn containers_have_leaf_blocks_in_them(rt: HostRuntime) -> Result<(), AllocError
 fn leaf_blocks(alloc: Global, bytes: &[u8]) -> Result<String, AllocError>
     requires limit { IsWithinLimit 4 bytes.now }
 {
-    let events = read_document(alloc, bytes, &ParseOptions::default(), &[])?;
+    let events = read_leaf_blocks(alloc, bytes, &ParseOptions::default(), &[])?;
     spans_of(alloc, bytes, events.as_slice())
 }
 

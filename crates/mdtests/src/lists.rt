@@ -5,7 +5,7 @@ use markdown::event::Event;
 use mdconstructs::list_shapes::{ListShape, lists_of};
 use mdconstructs::lists::Marker::{Dash, Parenthesis, Period, Plus, Star};
 use mdconstructs::lists::{Marker, is_loose, item_spread, list_spread, marker_of, start_of};
-use mdconstructs::read_nested;
+use mdconstructs::read_document;
 use std::alloc::{AllocError, Global};
 
 /// What is said of a list: whether it is loose, whether two of its items have a blank line between them, the kind of its markers, and its
@@ -57,7 +57,7 @@ fn events_of(alloc: Global, bytes: &[u8]) -> Result<Vec<Event>, AllocError> {
         return Err(AllocError);
     }
     let options = ParseOptions::default();
-    read_nested(alloc, bytes, &options)
+    read_document(alloc, bytes, &options)
 }
 
 /// A document, what is said of its lists, and for each of its items whether two blocks have a blank line between them.

@@ -98,19 +98,3 @@ fn long_texts_are_read(rt: HostRuntime) -> Result<(), AllocError> {
     }
     Ok(())
 }
-
-/// Block quotes are read of documents, and are text of leaf blocks, though the document is cut after each byte.
-#[test]
-fn documents_have_containers(rt: HostRuntime) -> Result<(), AllocError> {
-    let options = ParseOptions::default();
-    let events = read_document(rt.alloc(), b"> a", &options)?;
-    let want =
-        "enter BlockQuote 1:1 (0+0); enter BlockQuotePrefix 1:1 (0+0); BlockQuoteMarker 1:1 (0+0) to 1:2 (1+0); \
-        SpaceOrTab 1:2 (1+0) to 1:3 (2+0); exit BlockQuotePrefix 1:3 (2+0); enter Paragraph 1:3 (2+0); \
-        Data 1:3 (2+0) to 1:4 (3+0); exit Paragraph 1:4 (3+0); exit BlockQuote 1:4 (3+0)";
-    assert_shown(&rt, shown(rt.alloc(), events.as_slice()), want)?;
-    let cuts = cuts_every(rt.alloc(), b"> a", options.tab_size, 1)?;
-    let events = read_leaf_blocks(rt.alloc(), b"> a", &options, cuts.as_slice())?;
-    let want = "enter Paragraph 1:1 (0+0); Data 1:1 (0+0) to 1:4 (3+0); exit Paragraph 1:4 (3+0)";
-    assert_shown(&rt, shown(rt.alloc(), events.as_slice()), want)
-}
