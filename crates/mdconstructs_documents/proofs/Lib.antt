@@ -6,6 +6,7 @@ mod FlowTexts
 mod FlowTiles
 mod Formed
 mod InContainers
+mod Innermost
 mod Prelude
 mod RangeReads
 mod Tiled

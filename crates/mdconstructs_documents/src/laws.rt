@@ -4,7 +4,7 @@ ghost use Rattle.mdconstructs_documents.specs.BlockChains.{LeafBlocksCanBeReadNe
 ghost use Rattle.mdconstructs_documents.specs.Documents.{ChainsAreReadable};
 ghost use Rattle.mdconstructs_documents.specs.FlowTextLaws.{InlinesAccount, InlinesAreFormed, InlinesAreRead, InlinesAreReadAtOnce};
 ghost use Rattle.mdconstructs_documents.specs.Tiles.{TilesDocuments};
-ghost use Rattle.mdconstructs_documents.specs.declared.choice.Which.TheVariants.{Flow, Lines, Paragraphs, Text};
+ghost use Rattle.mdconstructs_documents.specs.declared.choice.Which.TheVariants.{Document, Flow, Lines, Paragraphs, Text};
 
 use mdconstructs_text::laws::innermost_spans_account_for_children;
 
@@ -18,6 +18,12 @@ pub fn innermost_spans_tile_documents()
 {
     innermost_spans_account_for_children();
 }
+
+/// So do those of a document with block quotes and lists, flat or deep: each virtual byte is in exactly one of them, be it of a container's
+/// prefix, of a leaf block, or of a text; and no container is empty.
+pub fn innermost_spans_tile_documents_with_containers()
+    ensures { TilesDocuments Document }
+{}
 
 /// The events that `Flow` makes of a document have chains of text that can be read: `ready` returns true for them, and `subtokenize` may
 /// be called. So have those of any text, and no void span of them goes over a gap.

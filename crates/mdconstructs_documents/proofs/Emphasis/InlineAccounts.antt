@@ -10,6 +10,7 @@ use Rattle.mdconstructs_documents.proofs.FlowTexts.Accounts.{bare-marks, cut-spa
 use Rattle.mdconstructs_documents.proofs.FlowTexts.InlineSteps.{Steps, steps-virtual}
 use Rattle.mdconstructs_documents.proofs.FlowTexts.Spans.{texts-keep}
 use Rattle.mdconstructs_documents.proofs.FlowTexts.Strings.{string-cut}
+use Rattle.mdconstructs_documents.proofs.Innermost.Lined.{LinedFor}
 
 begins-marks : (es : List Event) → Opens es → Begins (map (λ (e : Event). (e, None)) es)
 begins-marks [] h = tt
@@ -38,19 +39,25 @@ module _ (t : ℕ) (bytes : List ℕ) (on : Constructs) where
         around = λ n s ss inside other f steps p rest course. k.around n s ss inside other (f steps p rest course);
       }
 
-  inline-spans : (seats : List Seat) → SpansThere (read_marks (inline_seat_events on bytes) bytes seats) seats
-  inline-spans seats steps p rest course =
+  -- inline text accounts for such virtual bytes, line by line
+  pub inline-lined : (seats : List Seat) → AllByRecursion (Steps bytes) seats → (p : Point) (rest : List Seat) → Course AcrossGap t bytes p (seats ++ rest) → LinedFor (inline_seat_events on bytes seats) bytes seats
+  inline-lined seats steps p rest course =
       let g = document (options_with on 4) bytes in
       let text = record (empty_text (point 1 1 0 0)) { seats = seats } in
       let es = read_events g text in
-      let read = inline_seat_events on bytes seats in
-      let balanced = read-balanced g text in
-      let made = emphasis-can-be-made bytes es balanced (read-alone g text) in
       let cut = inline-runs bytes on seats in
       let atoms = cut.0.atoms in
       let have : HaveAtoms bytes es atoms = subst (λ l. HaveAtoms bytes l atoms) (sym cut.0.are) (pairs-of-atoms bytes atoms) in
       let runs = runs-tracked bytes t atoms p rest (subst (λ l. Course AcrossGap t bytes p (l ++ rest)) cut.0.all course) (subst (AllByRecursion (Steps bytes)) cut.0.all steps) cut.1 in
-      let account : AccountFor read bytes seats = subst (AccountFor read bytes) (sym cut.0.all) (emphasis-accounts bytes es atoms balanced have runs) in
+      subst (LinedFor (inline_seat_events on bytes seats) bytes) (sym cut.0.all) (emphasis-accounts bytes es atoms (read-balanced g text) have cut.0.lines runs)
+
+  inline-spans : (seats : List Seat) → SpansThere (read_marks (inline_seat_events on bytes) bytes seats) seats
+  inline-spans seats steps p rest course =
+      let g = document (options_with on 4) bytes in
+      let text = record (empty_text (point 1 1 0 0)) { seats = seats } in
+      let read = inline_seat_events on bytes seats in
+      let made = emphasis-can-be-made bytes (read_events g text) (read-balanced g text) (read-alone g text) in
+      let account = (inline-lined seats steps p rest course).account in
       record {
         begins = begins-marks read (balanced-opens made.2);
         account = λ events more h. subst (λ l. AccountFor (l ++ events) bytes (seats ++ more)) (sym (bare-marks read)) (shut-account bytes read events seats more (balanced-shut made.2) account h);

@@ -68,14 +68,14 @@ module _ (bytes : List ℕ) where
   abbrev pub HaveAtoms : List Event → List Atom → Type 0
   HaveAtoms es atoms = innermost_pairs es ≡ map pair_of atoms
 
-  abbrev stretch_of : Atom → Seat × List Seat
+  abbrev pub stretch_of : Atom → Seat × List Seat
   stretch_of a = (a.first, a.others)
 
-  all-stretches : (atoms : List Atom) → flat_map stretch_bytes (map stretch_of atoms) ≡ seats_of atoms
+  pub all-stretches : (atoms : List Atom) → flat_map stretch_bytes (map stretch_of atoms) ≡ seats_of atoms
   all-stretches [] = refl
   all-stretches (a ∷ atoms) = ap (λ l. atom_seats a ++ l) (all-stretches atoms)
 
-  atom-places : (atoms : List Atom) → map places_of (map pair_of atoms) ≡ map (span_over bytes) (map stretch_of atoms)
+  pub atom-places : (atoms : List Atom) → map places_of (map pair_of atoms) ≡ map (span_over bytes) (map stretch_of atoms)
   atom-places [] = refl
   atom-places (a ∷ atoms) = ap (λ l. span_over bytes (stretch_of a) ∷ l) (atom-places atoms)
 

@@ -1,10 +1,11 @@
 -- The runs of a balanced list, with their pairs, stand where their enters and exits do; so emphasis accounts for the virtual bytes of the list.
-use Rattle.mdconstructs_documents.proofs.Prelude.{◌≡◌, ℕ, ◌+◌, ◌-◌, cond, inl, inr, List, [], ◌∷◌, Option, Some, None, length, drop, map, refl, sym, ap, ◌∙◌, subst, arith, ◌==◌, ◌&&◌, slice_get, AllByRecursion, cases_Bool, drop-drop, same_Some, drop-append-add, and-right, drop-next, Event, IsBalanced, beside-in, pairs-keep, pairs-keep-indices, runs-and-texts, Run, paired, Standing, standing, HasRunsAt, index_of, depth_after, index_of_event, is_sequence, run_at, runs_from, runs_in, text_before, text_behind, with_emphasis, AccountFor, Atom, seats_of}
+use Rattle.mdconstructs_documents.proofs.Prelude.{◌≡◌, ℕ, ◌+◌, ◌-◌, cond, inl, inr, List, [], ◌∷◌, Option, Some, None, length, drop, map, refl, sym, ap, ◌∙◌, subst, arith, ◌==◌, ◌&&◌, slice_get, AllByRecursion, cases_Bool, drop-drop, same_Some, drop-append-add, and-right, drop-next, Event, IsBalanced, beside-in, pairs-keep, pairs-keep-indices, runs-and-texts, Run, paired, Standing, standing, HasRunsAt, index_of, depth_after, index_of_event, is_sequence, run_at, runs_from, runs_in, text_before, text_behind, with_emphasis, Atom, InOneLine, seats_of}
 use Rattle.mdconstructs_documents.proofs.Emphasis.Goes.{runs-go}
 use Rattle.mdconstructs_documents.proofs.Emphasis.Pairs.{HaveAtoms}
 use Rattle.mdconstructs_documents.proofs.Emphasis.Runs.{AreRuns, IsRunOf, RunsAre}
 use Rattle.mdconstructs_documents.proofs.FlowTexts.InlineOrder.{found-at}
 use Rattle.mdconstructs_documents.proofs.FlowTexts.InlineTight.{AreBalanced, fresh-balanced}
+use Rattle.mdconstructs_documents.proofs.Innermost.Lined.{LinedFor}
 use Rattle.mdconstructs_tables.proofs.Looks.Left.{at-front}
 
 module _ (bytes : List ℕ) where
@@ -53,9 +54,9 @@ module _ (bytes : List ℕ) where
         let next : drop (r.index + 2) events ≡ more = ap (λ n. drop n events) index ∙ sym (drop-drop (length text + 2) i events) ∙ ap (drop (length text + 2)) here ∙ drop-append-add text pair 2 in
         (e, f, more, has.3, balanced.0, run, runs-are (r.index + 2) rs more has.5 next stand.1 balanced.1)
 
-  -- Of any balanced events with these atoms, emphasis accounts for the virtual bytes of the atoms
-  pub emphasis-accounts : (events : List Event) (atoms : List Atom) → IsBalanced events → HaveAtoms bytes events atoms → AreRuns bytes atoms → AccountFor (with_emphasis bytes events) bytes (seats_of atoms)
-  emphasis-accounts events atoms balanced have runs =
+  -- Of any balanced events with these atoms, each in one line, emphasis accounts for the virtual bytes of the atoms, line by line
+  pub emphasis-accounts : (events : List Event) (atoms : List Atom) → IsBalanced events → HaveAtoms bytes events atoms → AllByRecursion InOneLine atoms → AreRuns bytes atoms → LinedFor (with_emphasis bytes events) bytes (seats_of atoms)
+  emphasis-accounts events atoms balanced have lines runs =
       let rs = runs_in bytes events in
       let texts = text_before events rs in
       let rest = text_behind events rs in
@@ -64,4 +65,4 @@ module _ (bytes : List ℕ) where
       let stand = subst (AllByRecursion (StandsAt events)) (sym (pairs-keep rs)) (runs-stand events events 0 0 None refl) in
       let are = runs-are events texts rest 0 (paired rs) events (subst (λ ks. HasRunsAt texts rest 0 ks events) same has.0) refl stand
       (subst (AreBalanced texts rest) same (fresh-balanced texts rest rs has.1)) in
-      (runs-go bytes texts rest has.2 (paired rs) events atoms are (beside-in bytes events) have runs).account
+      (runs-go bytes texts rest has.2 (paired rs) events atoms are (beside-in bytes events) have lines runs).lined

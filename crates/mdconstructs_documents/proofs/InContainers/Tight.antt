@@ -134,7 +134,7 @@ module _ (laws : SkeletonLaws) (g : Given) (is : IsDocument g) where
         (children_fit g.tab g.bytes (Some TextContent) blocks text-ready texts).tight (blocks-well laws g is).void_tight
         (all-texts IsVoidTight (λ text one. tight-at (inline_events g text) (inline-tight g.options.constructs g.bytes text.seats))) texts-torn
 
-    inlines-lone : HasLoneChunks (Some StringContent) inlines
+    pub inlines-lone : HasLoneChunks (Some StringContent) inlines
     inlines-lone =
         stay-lone g.tab g.bytes (Some TextContent) blocks text-ready texts (Some StringContent) (blocks-ready-for laws g is StringContent) (all-texts (IsReady g.tab g.bytes (Some StringContent)) text-alone)
         (none-cut (Some TextContent) blocks texts texts-torn) blocks-lone (all-texts (HasLoneChunks (Some StringContent)) (λ text one. alone-lone (Some StringContent) (inline_events g text) (inline-alone g text)))
