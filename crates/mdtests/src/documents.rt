@@ -8,7 +8,9 @@ use markdown::configuration::{Constructs, ParseOptions, TabSize};
 use mdcases_forms::spans::spans_of;
 use mdconstructs::choice::links_text;
 use mdconstructs::ranges::{ByteRange, are_ranges, text_events_in};
-use mdconstructs::{Which, limit_of, options_with, read_document, read_leaf_blocks, text_events_of};
+use mdconstructs::{
+    Which, limit_of, options_with, read_document, read_leaf_blocks, text_events_of,
+};
 use std::alloc::{AllocError, Global};
 
 /// The events of a document with its containers.
