@@ -3,7 +3,7 @@
 --
 -- Between two chunks of a chain is nothing, or text from the beginning of a line on. So a child is cut there behind a line ending, and no
 -- innermost span comes between its parts.
-use Rattle.mdconstructs_documents.proofs.Prelude.{◌≡◌, ℕ, ◌+◌, ◌<◌, ◌≤◌, Bool, true, false, inl, inr, ◌⊎◌, List, [], ◌∷◌, ◌++◌, Option, Some, append_assoc, append-nil, length, map, drop, filter, refl, sym, ap, ◌∙◌, subst, arith, AllByRecursion, between, flat_map, range_with_len, cond, every-append, every-back, every-front, every-map, end-after-append, map-append, stands-self, Content, Event, Point, IsBalanced, in_range, shown, stands_before, Seat, end_after, virtual, next_of, Change, Tagged, AreApart, placed_in, woven, woven-pass, after_changes, joined-parts, part_after, untagged, untagged-olds, between-none, chain_of, fits, fitting_starts, chain_changes, child_changes, part_changes, with_children, divided_over, parts, text_of_chain, IsReady, place_at, place-at-event, Given, IsChain, chain-split, AccountFor, innermost_spans, is_enter, span_over, stretch_bytes, chain-seats, chunk_seats, chain-from, origin, place-shown, range-of, chain_text, map-cut}
+use Rattle.mdconstructs_documents.proofs.Prelude.{◌≡◌, ℕ, ◌+◌, ◌<◌, ◌≤◌, true, false, inl, inr, List, [], ◌∷◌, ◌++◌, Option, Some, append_assoc, append-nil, length, map, drop, filter, refl, sym, ap, ◌∙◌, subst, arith, AllByRecursion, between, flat_map, range_with_len, cond, every-append, every-back, every-front, every-map, end-after-append, map-append, stands-self, Content, Event, Point, IsBalanced, in_range, shown, stands_before, Seat, end_after, virtual, next_of, Change, Tagged, AreApart, placed_in, woven, woven-pass, after_changes, part_after, untagged, untagged-olds, between-none, chain_of, fits, fitting_starts, chain_changes, child_changes, part_changes, with_children, divided_over, parts, text_of_chain, IsReady, place_at, place-at-event, Given, IsChain, chain-split, AccountFor, innermost_spans, is_enter, span_over, stretch_bytes, chain-seats, chunk_seats, chain-from, origin, place-shown, range-of, chain_text}
 use Rattle.std.specs.Prelude.{AllPairs}
 use Rattle.markdown_base.proofs.Orders.{upto-upto}
 use Rattle.markdown_children.proofs.ChainOrder.Following.{chunk, fits_next, follow_one_another, starts_fit}
@@ -23,7 +23,7 @@ use Rattle.mdconstructs_documents.proofs.Emphasis.Follow.{Opens}
 use Rattle.mdconstructs_documents.proofs.Emphasis.Pairs.{Shut, shut-account}
 use Rattle.mdconstructs_documents.proofs.Emphasis.Runs.{balanced-opens, balanced-shut, opens-behind}
 use Rattle.mdconstructs_documents.proofs.InContainers.Order.{steady-pairs}
-use Rattle.mdconstructs_documents.proofs.Innermost.Cuts.{Ascends, EndsUpto, IsBehind, StartBehind, ascends-back, cut-stretches, cut-there, opened-account, rest-behind, shut-back}
+use Rattle.mdconstructs_documents.proofs.Innermost.Cuts.{Ascends, EndsUpto, StartBehind, ascends-back, cut-stretches, cut-there, opened-account, rest-behind, shut-back}
 use Rattle.mdconstructs_documents.proofs.Innermost.Lined.{InLine, LinedFor}
 
 -- What a text is read as: it accounts for the text line by line, and is balanced and in order

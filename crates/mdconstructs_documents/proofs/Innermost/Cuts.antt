@@ -1,5 +1,5 @@
 -- Innermost spans of events in order, cut at a place; and stretches of virtual bytes, cut behind a line ending.
-use Rattle.mdconstructs_documents.proofs.Prelude.{◌≡◌, ℕ, Bool, true, false, cond, not, inl, inr, ◌⊎◌, List, [], ◌∷◌, ◌++◌, length, drop, append_assoc, append-nil, refl, sym, ap, ◌∙◌, subst, arith, nat_tests, AllByRecursion, flat_map, every-append, Event, Enter, Point, is_enter, stands_before, Seat, is_line_ending, AccountFor, ended_next, innermost_spans, span_over, stretch_bytes, OneLine, map-append, map, flat_map-append}
+use Rattle.mdconstructs_documents.proofs.Prelude.{◌≡◌, ℕ, Bool, true, false, cond, List, [], ◌∷◌, ◌++◌, length, drop, append_assoc, append-nil, refl, sym, ap, ◌∙◌, subst, AllByRecursion, flat_map, Event, Point, is_enter, stands_before, Seat, AccountFor, ended_next, innermost_spans, span_over, stretch_bytes, OneLine, map-append, flat_map-append}
 use Rattle.markdown_children.specs.Parts.{front_until}
 use Rattle.mdconstructs_text.proofs.DeepSpans.Atoms.{EndsLine}
 use Rattle.mdconstructs_text.proofs.DeepSpans.Chains.{front-at}

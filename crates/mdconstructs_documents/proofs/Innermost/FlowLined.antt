@@ -1,5 +1,5 @@
 -- The events of a text's leaf blocks account for it line by line.
-use Rattle.mdconstructs_documents.proofs.Prelude.{◌≡◌, ℕ, List, [], ◌∷◌, ◌++◌, false, Option, None, append_assoc, append-nil, map-append, none-mapped, flat_map, refl, sym, ap, ◌∙◌, subst, Constructs, Event, Enter, Exit, Seat, end_after, event, span_over, stretch_bytes, lines_in, IsWhole, Begins, bare, linked-spans, IsKeptBySpans, text-by-chunks, Chunk, Mark, alone, chunk_span, flow_events, leaf_blocks, leaf_blocks_marks, linked_from, span_marks}
+use Rattle.mdconstructs_documents.proofs.Prelude.{◌≡◌, ℕ, List, [], ◌∷◌, ◌++◌, false, Option, None, append_assoc, append-nil, map-append, none-mapped, flat_map, refl, sym, ap, ◌∙◌, subst, Constructs, Event, Enter, Exit, Seat, end_after, event, span_over, stretch_bytes, lines_in, IsWhole, Begins, bare, linked-spans, IsKeptBySpans, text-by-chunks, Chunk, Mark, alone, chunk_span, flow_events, leaf_blocks, leaf_blocks_marks, span_marks}
 use Rattle.markdown_base.specs.declared.event.Name.{Name}
 use Rattle.markdown_base.specs.declared.event.Name.TheVariants as name
 use Rattle.mdconstructs_flow_read.proofs.Marks.LeafSpans.{leaf-blocks-keep}

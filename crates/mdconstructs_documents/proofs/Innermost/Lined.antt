@@ -1,5 +1,5 @@
 -- Events that account for virtual bytes, each innermost span of them within one line of these.
-use Rattle.mdconstructs_documents.proofs.Prelude.{◌≡◌, ℕ, zero, suc, false, List, [], ◌∷◌, ◌++◌, inl, inr, take, drop, map, refl, sym, ap, ◌∙◌, subst, AllByRecursion, flat_map, every-append, Event, Enter, Exit, flat_map-append, map-append, shown, Seat, end_after, AccountFor, innermost_spans, span_over, stretch_bytes, is_line_ending, IsWhole, Atom, InOneLine, IsCut, OneLine, seats_of}
+use Rattle.mdconstructs_documents.proofs.Prelude.{◌≡◌, ℕ, zero, suc, List, [], ◌∷◌, ◌++◌, inl, inr, take, drop, map, refl, sym, ap, ◌∙◌, subst, AllByRecursion, every-append, Event, Enter, Exit, flat_map-append, map-append, shown, Seat, end_after, AccountFor, span_over, stretch_bytes, IsWhole, Atom, InOneLine, IsCut, OneLine, seats_of}
 use Rattle.mdconstructs_documents.proofs.Emphasis.Pairs.{HaveAtoms, Shut, all-stretches, atom-places, pairs-of-atoms, places_of, spans-behind, spans-of-pairs, stretch_of}
 
 -- a stretch has no line ending but at its end
