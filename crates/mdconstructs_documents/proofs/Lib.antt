@@ -2,7 +2,7 @@ mod DeepEvents
 mod Emphasis
 mod FlowChains
 mod FlowRuns
-mod FlowTexts
+pub mod FlowTexts
 mod FlowTiles
 mod Formed
 mod InContainers
