@@ -11,4 +11,5 @@ pub mod Rests
 pub mod Sections
 pub mod Shown
 pub mod Virtual
+pub mod WithoutContainers
 mod Prelude

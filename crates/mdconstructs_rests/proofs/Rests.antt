@@ -8,7 +8,7 @@ more-there n all next behind e = let l = ap length e in omega (arith, l, length-
 
 module _ (on : Constructs) where
   -- the front, and the blocks behind it
-  leaf-step : (line : Line) (lines : List Line) → let c = block_of_kind on (kind_of_line on line) line lines in leaf_blocks on (line ∷ lines) ≡ c.0 ∷ leaf_blocks on (drop c.1 (line ∷ lines))
+  pub leaf-step : (line : Line) (lines : List Line) → let c = block_of_kind on (kind_of_line on line) line lines in leaf_blocks on (line ∷ lines) ≡ c.0 ∷ leaf_blocks on (drop c.1 (line ∷ lines))
   leaf-step line lines =
       let c = block_of_kind on (kind_of_line on line) line lines in
       let some = (cut on line lines).some in

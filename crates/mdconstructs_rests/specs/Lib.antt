@@ -2,3 +2,4 @@ pub mod Moved
 pub mod ReadTexts
 pub mod Rests
 pub mod Sections
+pub mod WithoutContainers

@@ -4,6 +4,7 @@ ghost use Rattle.mdconstructs_rests.specs.Moved.{BlocksMove, BlocksOfBoth, Event
 ghost use Rattle.mdconstructs_rests.specs.ReadTexts.{ReadEventsOfBoth};
 ghost use Rattle.mdconstructs_rests.specs.Rests.{RestsCutBlocks, RestsForget, WideRestsCutBlocks};
 ghost use Rattle.mdconstructs_rests.specs.Sections.{FirstLineTells, RestsOfBoth, SectionsGiveEvents};
+ghost use Rattle.mdconstructs_rests.specs.WithoutContainers.{DocumentsWithoutContainers, NoneBeginsWhereOff};
 
 /// At a rest leaf blocks are cut apart.
 pub fn rests_cut_blocks()
@@ -68,4 +69,11 @@ pub fn sections_give_events()
 /// Events of leaf blocks with texts read by any reading that moves are those of the parts, moved.
 pub fn read_events_of_both()
     ensures { ReadEventsOfBoth }
+{}
+
+/// A document in which no line begins a block quote or a list item is read as its leaf blocks are, with their chunks, and with their texts
+/// and strings read. So is each document where block quotes and lists are off.
+pub fn documents_without_containers()
+    ensures read { DocumentsWithoutContainers }
+    ensures off { NoneBeginsWhereOff }
 {}

@@ -1,0 +1,23 @@
+-- Documents without containers: they are read as their leaf blocks are.
+use Rattle.std.specs.Prelude.{◌≡◌, ℕ, Bool, true, false, List}
+use Rattle.std.specs.List.{list_all}
+use Rattle.markdown_base.specs.declared.configuration.ParseOptions.{ParseOptions}
+use Rattle.markdown_tokenizer.specs.Text.{IsDocument}
+use Rattle.mdconstructs_containers.specs.Blocks.{document_blocks}
+use Rattle.mdconstructs_containers.specs.Rows.{has_none, rows}
+use Rattle.mdconstructs_documents.specs.DocumentEvents.{document_events}
+use Rattle.mdconstructs_documents.specs.Documents.{AreFlowEvents, AreFlowInlines, document, virtual_bytes}
+use Rattle.mdconstructs_machines.specs.LineEvents.{lines_in}
+
+-- No line of a document begins a block quote or a list item, so none goes on with one
+abbrev pub begins_no_container : ParseOptions → (bytes : List ℕ) → Bool
+begins_no_container options bytes = list_all (λ row. has_none row.begun) (rows options.constructs (lines_in (virtual_bytes options bytes)))
+
+-- Such a document has the events of its leaf blocks and no others: with its chunks, and with its texts and strings read
+abbrev pub DocumentsWithoutContainers : Type 0
+DocumentsWithoutContainers = (options : ParseOptions) (bytes : List ℕ) → IsDocument (document options bytes) → begins_no_container options bytes ≡ true
+    → AreFlowEvents options bytes (document_blocks (document options bytes)) × AreFlowInlines options bytes (document_events (document options bytes))
+
+-- Where block quotes and lists are off, no line of a document begins one
+abbrev pub NoneBeginsWhereOff : Type 0
+NoneBeginsWhereOff = (options : ParseOptions) (bytes : List ℕ) → options.constructs.block_quote ≡ false → options.constructs.list_item ≡ false → begins_no_container options bytes ≡ true
