@@ -331,8 +331,7 @@ module _ (on : Constructs) where
           let n = kept closed lines in
           let there : nat_le 1 n ≡ true = le-leb 1 n (omega (arith, some, run)) in
           let first : kept closed (line ∷ lines) ≡ cond (nat_le 1 n) (suc n) 0 = (λ i. let n = kept (next i) lines in cond (left i) (cond (nat_le 1 n) (suc n) 0) (suc n)) in
-          let second : cond (nat_le 1 n) (suc n) 0 ≡ suc n = ap (λ b. cond b (suc n) 0) there in
-          (
+          let second : cond (nat_le 1 n) (suc n) 0 ≡ suc n = ap (λ b. cond b (suc n) 0) there in (
             run-more f (kept (leaf_behind (leaf_next closed line) (take f lines)) (drop f lines)) (kept closed (line ∷ lines))
                 (first ∙ second ∙ ap suc (subst (λ l. n ≡ f + kept (leaf_behind l (take f lines)) (drop f lines)) (sym next) run)),
             ap (λ l. leaf_behind l (take f lines)) next ∙ more.1,
