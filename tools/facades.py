@@ -53,6 +53,8 @@ NAMED = {
     ("mdconstructs_containers", "specs", "Rows"): "ContainerRows",
     ("mdconstructs_containers", "specs", "Views"): "RowViews",
     ("mdconstructs_containers", "proofs", "Examples"): "SkeletonExamples",
+    ("mdconstructs_containers", "proofs", "Innermost"): "InnermostInSkeletons",
+    ("mdconstructs_documents", "proofs", "Innermost"): "InnermostInDocuments",
     ("mdconstructs_text", "specs", "Laws"): "TextLaws",
     ("mdconstructs_text", "proofs", "NoFurther"): "TextNoFurther",
     ("mdconstructs_text", "proofs", "NoRefusals"): "TextNoRefusals",

@@ -97,6 +97,7 @@ pub use Rattle.mdconstructs_containers.proofs.Examples as SkeletonExamples
 pub use Rattle.mdconstructs_containers.proofs.FrameFacts
 pub use Rattle.mdconstructs_containers.proofs.FrameLemmas
 pub use Rattle.mdconstructs_containers.proofs.GoingLemmas
+pub use Rattle.mdconstructs_containers.proofs.Innermost as InnermostInSkeletons
 pub use Rattle.mdconstructs_containers.proofs.JoinLemmas
 pub use Rattle.mdconstructs_containers.proofs.LazyLemmas
 pub use Rattle.mdconstructs_containers.proofs.LetterLemmas
@@ -128,6 +129,7 @@ pub use Rattle.mdconstructs_containers.proofs.StretchLemmas
 pub use Rattle.mdconstructs_containers.proofs.TightMarks
 pub use Rattle.mdconstructs_containers.proofs.WritingLemmas
 pub use Rattle.mdconstructs_containers.proofs.WrittenLemmas
+pub use Rattle.mdconstructs_documents.proofs.FlowTexts
 pub use Rattle.mdconstructs_rests.proofs.Both
 pub use Rattle.mdconstructs_rests.proofs.Events
 pub use Rattle.mdconstructs_rests.proofs.Fuel
@@ -140,3 +142,4 @@ pub use Rattle.mdconstructs_rests.proofs.Rests
 pub use Rattle.mdconstructs_rests.proofs.Sections
 pub use Rattle.mdconstructs_rests.proofs.Shown
 pub use Rattle.mdconstructs_rests.proofs.Virtual
+pub use Rattle.mdconstructs_rests.proofs.WithoutContainers

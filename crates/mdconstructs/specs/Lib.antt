@@ -170,6 +170,7 @@ pub use Rattle.mdconstructs_containers.specs.Rows as ContainerRows
 pub use Rattle.mdconstructs_containers.specs.SeatPlaces
 pub use Rattle.mdconstructs_containers.specs.Skeleton
 pub use Rattle.mdconstructs_containers.specs.SkeletonLaws
+pub use Rattle.mdconstructs_containers.specs.SkeletonSpans
 pub use Rattle.mdconstructs_containers.specs.Spans as ContainerSpans
 pub use Rattle.mdconstructs_containers.specs.Stretches as ContainerStretches
 pub use Rattle.mdconstructs_containers.specs.Views as RowViews
@@ -187,3 +188,4 @@ pub use Rattle.mdconstructs_rests.specs.Moved
 pub use Rattle.mdconstructs_rests.specs.ReadTexts
 pub use Rattle.mdconstructs_rests.specs.Rests
 pub use Rattle.mdconstructs_rests.specs.Sections
+pub use Rattle.mdconstructs_rests.specs.WithoutContainers
