@@ -1,0 +1,80 @@
+-- Links and images leave a balanced list balanced, and one without links without them, if emphasis does.
+use Rattle.std.proofs.Common.{◌≡◌, ◌==◌, ◌+◌, ℕ, suc, List, [], ◌∷◌, ◌++◌, Bool, true, false, cond, Option, Some, None, refl}
+use Rattle.std.specs.List.{AllByRecursion}
+use Rattle.std.specs.Prelude.{◌&&◌, slice_get}
+use Rattle.markdown_base.specs.declared.event.Event.{Event}
+use Rattle.markdown_base.specs.declared.event.Kind.TheVariants.{Enter, Exit}
+use Rattle.markdown_base.specs.declared.event.Name.{Name}
+use Rattle.markdown_base.specs.declared.event.Name.TheVariants.{Data}
+use Rattle.markdown_base.specs.declared.event.Point.{Point}
+use Rattle.markdown_base.specs.Events.{IsBalanced, empty, span}
+use Rattle.markdown_edits.proofs.Balanced.{IsBalanced-append}
+use Rattle.markdown_tokenizer.proofs.Readings.Plain.{no-links-append}
+use Rattle.markdown_tokenizer.specs.Plain.{HaveNoLinks}
+use Rattle.mdconstructs_attention.specs.Emphasis.{Run, emphasised, unlinked_event}
+use Rattle.mdconstructs_attention.specs.LawStatements.{AreFresh, LeavesBalanced}
+use Rattle.mdconstructs_attention.specs.Runs.{depth_after, index_of_event, is_sequence, run_at, runs_from, runs_in}
+use Rattle.mdconstructs_links.proofs.Kept.{links-keep}
+use Rattle.mdconstructs_links.proofs.Spans.{spans-balanced, spans-unlinked}
+use Rattle.mdconstructs_links.specs.Kept.{IsFresh, IsKept, LeavesNoLinks}
+use Rattle.mdconstructs_links.specs.Linked.{as_data, last_place, spanning, with_links}
+
+-- ---- the runs of a text are in no pair yet
+
+runs-fresh : (bytes : List ℕ) (i depth : ℕ) (before : Option ℕ) (es : List Event) → AllByRecursion IsFresh (runs_from bytes i depth before es)
+runs-fresh bytes i depth before [] = tt
+runs-fresh bytes i depth before (e ∷ []) = tt
+runs-fresh bytes i depth before (e ∷ f ∷ es) =
+    elim (depth == 0 && is_sequence e f) as (λ t. AllByRecursion IsFresh (cond t (run_at bytes i e f before (index_of_event (slice_get es 0)) ∷ runs_from bytes (i + 2) depth (Some f.point.index) es) (runs_from bytes (i + 1) (depth_after e.kind depth) (Some e.point.index) (f ∷ es)))) [
+      | true ↦ ((refl, refl), runs-fresh bytes (i + 2) depth (Some f.point.index) es)
+      | false ↦ runs-fresh bytes (i + 1) (depth_after e.kind depth) (Some e.point.index) (f ∷ es)
+    ]
+
+are-fresh : (texts : ℕ → List Event) (rs : List Run) → ((k : ℕ) → IsBalanced (texts k)) → AllByRecursion IsFresh rs → AreFresh texts rs
+are-fresh texts [] balanced h = tt
+are-fresh texts (r ∷ rs) balanced h = (h.0.0, h.0.1, balanced r.index, are-fresh texts rs balanced h.1)
+
+-- any place will do
+abbrev Anywhere : Point → Type 0
+Anywhere p = Unit {0}
+
+-- ---- balanced
+
+around-balanced : (name : Name) (start end : Point) (es : List Event) → IsBalanced es → IsBalanced (spanning name start end es)
+around-balanced name start end es h = span (unlinked_event Enter name start) (unlinked_event Exit name end) es [] refl refl refl refl h empty
+
+data-balanced : (es : List Event) → IsBalanced (as_data es)
+data-balanced [] = empty
+data-balanced (e ∷ es) = around-balanced Data e.point (last_place e.point es) [] empty
+
+balanced-is-kept : LeavesBalanced → IsKept Anywhere IsBalanced IsFresh
+balanced-is-kept leaves = record {
+  places = λ e es h. (tt, tt);
+  nothing = empty;
+  together = IsBalanced-append;
+  span_around = λ name start end es n p q h. around-balanced name start end es h;
+  data_of_it = λ es h. data-balanced es;
+  emphasis = λ texts rs rest between fresh behind. leaves texts rs rest (are-fresh texts rs between fresh) behind;
+}
+
+pub links-balanced : LeavesBalanced → (bytes : List ℕ) (es : List Event) → IsBalanced es → IsBalanced (with_links bytes es)
+links-balanced leaves bytes es h = links-keep Anywhere IsBalanced IsFresh (balanced-is-kept leaves) bytes es (spans-balanced es h) (runs-fresh bytes 0 0 None es)
+
+-- ---- without links
+
+data-unlinked : (es : List Event) → HaveNoLinks (as_data es)
+data-unlinked [] = tt
+data-unlinked (e ∷ es) = (refl, (refl, tt))
+
+unlinked-is-kept : LeavesNoLinks → IsKept Anywhere HaveNoLinks IsFresh
+unlinked-is-kept leaves = record {
+  places = λ e es h. (tt, tt);
+  nothing = tt;
+  together = no-links-append;
+  span_around = λ name start end es n p q h. (refl, no-links-append es (unlinked_event Exit name end ∷ []) h (refl, tt));
+  data_of_it = λ es h. data-unlinked es;
+  emphasis = λ texts rs rest between fresh behind. leaves texts rs rest between behind;
+}
+
+pub links-unlinked : LeavesNoLinks → (bytes : List ℕ) (es : List Event) → HaveNoLinks es → HaveNoLinks (with_links bytes es)
+links-unlinked leaves bytes es h = links-keep Anywhere HaveNoLinks IsFresh (unlinked-is-kept leaves) bytes es (spans-unlinked es h) (runs-fresh bytes 0 0 None es)

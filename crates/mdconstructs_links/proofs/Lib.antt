@@ -1,0 +1,4 @@
+mod Examples
+pub mod Kept
+pub mod Leaves
+pub mod Spans

@@ -1,0 +1,105 @@
+-- The outermost spans of a list. Those of a balanced list are balanced, and those of a list without links have none.
+use Rattle.std.proofs.Common.{◌≡◌, ◌==◌, ◌-◌, ◌∙◌, ℕ, zero, suc, List, [], ◌∷◌, ◌++◌, Bool, true, false, cond, Option, Some, None, length, ap, arith, inl, inr, refl, subst, sym}
+use Rattle.std.proofs.Math.Seq.{drop-append_seam, take-append_seam}
+use Rattle.std.proofs.lemmas.Bool.{cases_Bool}
+use Rattle.std.specs.List.{AllByRecursion}
+use Rattle.markdown_base.specs.declared.event.Event.{Event}
+use Rattle.markdown_base.specs.declared.event.Kind.{Kind}
+use Rattle.markdown_base.specs.declared.event.Kind.TheVariants.{Enter, Exit}
+use Rattle.markdown_base.specs.declared.event.Name.{Name}
+use Rattle.markdown_base.specs.Events.{IsBalanced, same_name}
+use Rattle.markdown_edits.proofs.Balanced.{balanced_from_open, names-none, names_after_balanced}
+use Rattle.markdown_edits.specs.OpenNames.{names_after, names_after_all}
+use Rattle.markdown_tokenizer.proofs.Readings.Plain.{no-links-drop, no-links-take}
+use Rattle.markdown_tokenizer.specs.Plain.{HaveNoLinks}
+use Rattle.mdconstructs_attention.specs.Runs.{depth_after}
+use Rattle.std.proofs.lemmas.Option.{same_Some}
+use Rattle.mdconstructs_links.specs.Linked.{span_at, spans_in, outermost_spans}
+
+abbrev cut : Event → List Event → List Event × List Event → Bool → List Event × List Event
+cut e es p t = cond t (e ∷ [], es) (e ∷ p.0, p.1)
+
+-- ---- the first span and what is behind it are the list
+
+pub span-joins : (depth : ℕ) (es : List Event) → (span_at depth es).0 ++ (span_at depth es).1 ≡ es
+span-joins depth [] = refl
+span-joins depth (e ∷ es) =
+    let d = depth_after e.kind depth in
+    elim (d == 0) as (λ t. (cut e es (span_at d es) t).0 ++ (cut e es (span_at d es) t).1 ≡ e ∷ es) [
+      | true ↦ refl
+      | false ↦ ap (λ xs. e ∷ xs) (span-joins d es)
+    ]
+
+-- what fronts and what is left of a list have, its outermost spans have
+pub spans-have : (B : List Event → Type 0) → ((xs ys : List Event) → B (xs ++ ys) → B xs × B ys) → (bound : ℕ) (es : List Event) → B es → AllByRecursion B (spans_in bound es)
+spans-have B parts zero es h = tt
+spans-have B parts (suc bound) [] h = tt
+spans-have B parts (suc bound) (e ∷ es) h =
+    let p = span_at 0 (e ∷ es) in
+    let both = parts p.0 p.1 (subst B (sym (span-joins 0 (e ∷ es))) h) in
+    (both.0, spans-have B parts bound p.1 both.1)
+
+no-links-parts : (xs ys : List Event) → HaveNoLinks (xs ++ ys) → HaveNoLinks xs × HaveNoLinks ys
+no-links-parts xs ys h = (
+  subst HaveNoLinks (take-append_seam xs ys) (no-links-take (length xs) (xs ++ ys) h),
+  subst HaveNoLinks (drop-append_seam xs ys) (no-links-drop (length xs) (xs ++ ys) h),
+)
+
+pub spans-unlinked : (es : List Event) → HaveNoLinks es → AllByRecursion HaveNoLinks (outermost_spans es)
+spans-unlinked es h = spans-have HaveNoLinks no-links-parts (length es) es h
+
+-- ---- the spans of a balanced list are balanced
+
+none-open : (st : List Name) → (length st == 0) ≡ true → st ≡ []
+none-open [] h = refl
+none-open (n ∷ st) h = let never : suc (length st) ≡ 0 = grind (arith, h) in absurd (omega (arith, never))
+
+deeper : (k : Kind) (n : Name) (st st' : List Name) → names_after k n st ≡ Some st' → depth_after k (length st) ≡ length st'
+deeper Enter n st st' h = ap length (same_Some _ _ h)
+deeper Exit n [] st' h = cc
+deeper Exit n (m ∷ st) st' h = exits (same_name m n) h
+  where
+    exits : (t : Bool) → cond t (Some st) None ≡ Some st' → length (m ∷ st) - 1 ≡ length st'
+    exits true k = let same = ap length (same_Some _ _ k) in omega (arith, same)
+    exits false k = cc
+
+goes-on : (o : Option (List Name)) (es : List Event) → names_after_all o es ≡ Some [] → (st : List Name) × (o ≡ Some st)
+goes-on None es h = cc
+goes-on (Some st) es h = (st, refl)
+
+-- the first span ends where nothing is open
+abbrev Closes : List Name → List Event × List Event → Type 0
+Closes st p = (names_after_all (Some st) p.0 ≡ Some []) × (names_after_all (Some []) p.1 ≡ Some [])
+
+span-closes : (depth : ℕ) (es : List Event) (st : List Name) → depth ≡ length st → names_after_all (Some st) es ≡ Some [] → Closes st (span_at depth es)
+span-closes depth [] st deep end = (end, refl)
+span-closes depth (e ∷ es) st deep end =
+    let d = depth_after e.kind depth in
+    let next = goes-on (names_after e.kind e.name st) es end in
+    let deep' : d ≡ length next.0 = ap (depth_after e.kind) deep ∙ deeper e.kind e.name st next.0 next.1 in
+    let end' : names_after_all (Some next.0) es ≡ Some [] = sym (ap (λ o. names_after_all o es) next.1) ∙ end in
+    let more = span-closes d es next.0 deep' end' in
+    elim (cases_Bool (d == 0)) [
+      | inl h ↦
+          let outside = none-open next.0 (subst (λ n. (n == 0) ≡ true) deep' h) in
+          subst (λ t. Closes st (cut e es (span_at d es) t)) (sym h) (
+            names-none (names_after e.kind e.name st) ∙ next.1 ∙ ap Some outside,
+            ap (λ s. names_after_all (Some s) es) (sym outside) ∙ end',
+          )
+      | inr h ↦
+          subst (λ t. Closes st (cut e es (span_at d es) t)) (sym h) (
+            ap (λ o. names_after_all o (span_at d es).0) next.1 ∙ more.0,
+            more.1,
+          )
+    ]
+
+all-balanced : (bound : ℕ) (es : List Event) → names_after_all (Some []) es ≡ Some [] → AllByRecursion IsBalanced (spans_in bound es)
+all-balanced zero es h = tt
+all-balanced (suc bound) [] h = tt
+all-balanced (suc bound) (e ∷ es) h =
+    let p = span_at 0 (e ∷ es) in
+    let closes = span-closes 0 (e ∷ es) [] refl h in
+    (balanced_from_open p.0 closes.0, all-balanced bound p.1 closes.1)
+
+pub spans-balanced : (es : List Event) → IsBalanced es → AllByRecursion IsBalanced (outermost_spans es)
+spans-balanced es h = all-balanced (length es) es (names_after_balanced h [])
