@@ -6,10 +6,10 @@ use Rattle.markdown_base.specs.declared.event.Event.{Event}
 use Rattle.markdown_base.specs.declared.event.Name.{Name}
 use Rattle.markdown_base.specs.declared.event.Name.TheVariants.{Image, Label, LabelEnd, LabelImage, LabelMarker, LabelText, Link}
 use Rattle.markdown_base.specs.declared.event.Point.{Point}
-use Rattle.mdconstructs_attention.specs.Emphasis.{Run, emphasised}
+use Rattle.mdconstructs_attention.specs.Emphasis.{Run}
 use Rattle.mdconstructs_attention.specs.Runs.{runs_in}
 use Rattle.mdconstructs_links.specs.Kept.{IsKept, is_made_of}
-use Rattle.mdconstructs_links.specs.Linked.{Part, run, events, Waiting, SoFar, runs_of_parts, text_before, text_behind, emphasised_parts, last_place, spanning, around, as_data, label_text, made, all_parts, is_named, is_bracket, is_tail, is_run, part_of, opened, failed, ended, added, taken, linked_from, linked_parts, outermost_spans, with_links}
+use Rattle.mdconstructs_links.specs.Linked.{Part, run, events, Waiting, SoFar, runs_of_parts, text_before, text_behind, emphasised_parts, last_place, around, as_data, label_text, made, all_parts, is_named, is_bracket, is_tail, is_run, part_of, opened, failed, ended, added, taken, linked_from, outermost_spans, with_links}
 
 module _ (P : Point → Type 0) (B : List Event → Type 0) (F : Run → Type 0) (kept : IsKept P B F) where
   abbrev IsPart : Part → Type 0

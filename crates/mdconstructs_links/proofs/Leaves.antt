@@ -1,5 +1,5 @@
 -- Links and images leave a balanced list balanced, and one without links without them, if emphasis does.
-use Rattle.std.proofs.Common.{◌≡◌, ◌==◌, ◌+◌, ℕ, suc, List, [], ◌∷◌, ◌++◌, Bool, true, false, cond, Option, Some, None, refl}
+use Rattle.std.proofs.Common.{◌==◌, ◌+◌, ℕ, List, [], ◌∷◌, true, false, cond, Option, Some, None, refl}
 use Rattle.std.specs.List.{AllByRecursion}
 use Rattle.std.specs.Prelude.{◌&&◌, slice_get}
 use Rattle.markdown_base.specs.declared.event.Event.{Event}
@@ -11,9 +11,9 @@ use Rattle.markdown_base.specs.Events.{IsBalanced, empty, span}
 use Rattle.markdown_edits.proofs.Balanced.{IsBalanced-append}
 use Rattle.markdown_tokenizer.proofs.Readings.Plain.{no-links-append}
 use Rattle.markdown_tokenizer.specs.Plain.{HaveNoLinks}
-use Rattle.mdconstructs_attention.specs.Emphasis.{Run, emphasised, unlinked_event}
+use Rattle.mdconstructs_attention.specs.Emphasis.{Run, unlinked_event}
 use Rattle.mdconstructs_attention.specs.LawStatements.{AreFresh, LeavesBalanced}
-use Rattle.mdconstructs_attention.specs.Runs.{depth_after, index_of_event, is_sequence, run_at, runs_from, runs_in}
+use Rattle.mdconstructs_attention.specs.Runs.{depth_after, index_of_event, is_sequence, run_at, runs_from}
 use Rattle.mdconstructs_links.proofs.Kept.{links-keep}
 use Rattle.mdconstructs_links.proofs.Spans.{spans-balanced, spans-unlinked}
 use Rattle.mdconstructs_links.specs.Kept.{IsFresh, IsKept, LeavesNoLinks}
