@@ -68,10 +68,10 @@ goes-on None es h = cc
 goes-on (Some st) es h = (st, refl)
 
 -- the first span ends where nothing is open
-abbrev Closes : List Name → List Event × List Event → Type 0
+abbrev pub Closes : List Name → List Event × List Event → Type 0
 Closes st p = (names_after_all (Some st) p.0 ≡ Some []) × (names_after_all (Some []) p.1 ≡ Some [])
 
-span-closes : (depth : ℕ) (es : List Event) (st : List Name) → depth ≡ length st → names_after_all (Some st) es ≡ Some [] → Closes st (span_at depth es)
+pub span-closes : (depth : ℕ) (es : List Event) (st : List Name) → depth ≡ length st → names_after_all (Some st) es ≡ Some [] → Closes st (span_at depth es)
 span-closes depth [] st deep end = (end, refl)
 span-closes depth (e ∷ es) st deep end =
     let d = depth_after e.kind depth in
