@@ -1,2 +1,4 @@
 //! Links, images and emphasis among events: the brackets of a text, what they make, and the edits that put it in their place.
 #![tactic(auto)]
+
+pub mod laws;
