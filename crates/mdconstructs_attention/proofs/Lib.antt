@@ -1,5 +1,5 @@
 mod AsciiClasses
-mod Balance
+pub mod Balance
 pub mod Beside
 mod Bottoms
 mod Chars

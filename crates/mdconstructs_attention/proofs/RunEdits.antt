@@ -70,7 +70,7 @@ no-links-data : (p : Point) (n : ℕ) → HaveNoLinks (data_of p n)
 no-links-data p zero = tt
 no-links-data p (suc n) = (refl, (refl, tt))
 
-no-links-runs : (texts : ℕ → List Event) (rs : List Run) → ((k : ℕ) → HaveNoLinks (texts k)) → HaveNoLinks (events_of_runs texts rs)
+pub no-links-runs : (texts : ℕ → List Event) (rs : List Run) → ((k : ℕ) → HaveNoLinks (texts k)) → HaveNoLinks (events_of_runs texts rs)
 no-links-runs texts [] h = tt
 no-links-runs texts (r ∷ rs) h =
     let p = later (markers_of_all r.closed) r.start in

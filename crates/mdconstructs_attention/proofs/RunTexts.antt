@@ -12,7 +12,7 @@ HasRuns i (r ∷ rs) xs =
 whole : (pre ys : List Event) (st : List Name) → names_after_all (Some []) pre ≡ Some st → names_after_all (Some st) ys ≡ Some [] → IsBalanced (pre ++ ys)
 whole pre ys st a b = balanced_from_open (pre ++ ys) (names_after_all-append (Some []) pre ys ∙ ap (λ o. names_after_all o ys) a ∙ b)
 
-none-open : (st : List Name) → (length st == 0) ≡ true → st ≡ []
+pub none-open : (st : List Name) → (length st == 0) ≡ true → st ≡ []
 none-open [] h = refl
 none-open (n ∷ st) h = let never : suc (length st) ≡ 0 = grind (arith, h) in absurd (omega (arith, never))
 
@@ -20,7 +20,7 @@ add-zero : (n : ℕ) → n + 0 ≡ n
 add-zero n = omega arith
 
 -- an attention sequence is an enter and an exit of one name
-sequence-is : (k l : Kind) (n m : Name) → ((is_enter k && same_name n AttentionSequence) && (not (is_enter l) && same_name m AttentionSequence)) ≡ true → (k ≡ Enter) × (l ≡ Exit) × (m ≡ n)
+pub sequence-is : (k l : Kind) (n m : Name) → ((is_enter k && same_name n AttentionSequence) && (not (is_enter l) && same_name m AttentionSequence)) ≡ true → (k ≡ Enter) × (l ≡ Exit) × (m ≡ n)
 sequence-is Enter Exit n m h =
     (refl, refl, same_name-true m AttentionSequence (and-right (same_name n AttentionSequence) (same_name m AttentionSequence) h) ∙ sym (same_name-true n AttentionSequence (and-left (same_name n AttentionSequence) (same_name m AttentionSequence) h)))
 sequence-is Enter Enter n m h = absurd (and-false-never (same_name n AttentionSequence) h)
@@ -33,7 +33,7 @@ sequence-leaves e f es st h =
     rw (is.0, is.1, is.2) (ap (λ (t : Bool). names_after_all (cond t (Some st) None) es) (same_name-refl e.name))
 
 -- what is open after an event is as long as its depth
-deeper : (k : Kind) (n : Name) (st st' : List Name) → names_after k n st ≡ Some st' → depth_after k (length st) ≡ length st'
+pub deeper : (k : Kind) (n : Name) (st st' : List Name) → names_after k n st ≡ Some st' → depth_after k (length st) ≡ length st'
 deeper Enter n st st' h = ap length (same_Some _ _ h)
 deeper Exit n [] st' h = cc
 deeper Exit n (m ∷ st) st' h = exits (same_name m n) h
@@ -43,7 +43,7 @@ deeper Exit n (m ∷ st) st' h = exits (same_name m n) h
     exits false k = cc
 
 -- something is open after an event, if all is closed in the end
-goes-on : (o : Option (List Name)) (es : List Event) → names_after_all o es ≡ Some [] → (st : List Name) × (o ≡ Some st)
+pub goes-on : (o : Option (List Name)) (es : List Event) → names_after_all o es ≡ Some [] → (st : List Name) × (o ≡ Some st)
 goes-on None es h = cc
 goes-on (Some st) es h = (st, refl)
 

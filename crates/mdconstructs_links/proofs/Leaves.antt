@@ -1,4 +1,4 @@
--- Links and images leave a balanced list balanced, and one without links without them, if emphasis does.
+-- Links and images leave a balanced list balanced, and one without links without them, as emphasis does.
 use Rattle.std.proofs.Common.{◌==◌, ◌+◌, ℕ, List, [], ◌∷◌, true, false, cond, Option, Some, None, refl}
 use Rattle.std.specs.List.{AllByRecursion}
 use Rattle.std.specs.Prelude.{◌&&◌, slice_get}
@@ -11,13 +11,15 @@ use Rattle.markdown_base.specs.Events.{IsBalanced, empty, span}
 use Rattle.markdown_edits.proofs.Balanced.{IsBalanced-append}
 use Rattle.markdown_tokenizer.proofs.Readings.Plain.{no-links-append}
 use Rattle.markdown_tokenizer.specs.Plain.{HaveNoLinks}
-use Rattle.mdconstructs_attention.specs.Emphasis.{Run, unlinked_event}
-use Rattle.mdconstructs_attention.specs.LawStatements.{AreFresh, LeavesBalanced}
+use Rattle.mdconstructs_attention.specs.Emphasis.{Run, unlinked_event, events_of_runs, paired}
+use Rattle.mdconstructs_attention.specs.LawStatements.{AreFresh}
 use Rattle.mdconstructs_attention.specs.Runs.{depth_after, index_of_event, is_sequence, run_at, runs_from}
 use Rattle.mdconstructs_links.proofs.Kept.{links-keep}
 use Rattle.mdconstructs_links.proofs.Spans.{spans-balanced, spans-unlinked}
 use Rattle.mdconstructs_links.specs.Kept.{IsFresh, IsKept, LeavesNoLinks}
 use Rattle.mdconstructs_links.specs.Linked.{as_data, last_place, spanning, with_links}
+use Rattle.mdconstructs_attention.proofs.Balance.{leaves-balanced}
+use Rattle.mdconstructs_attention.proofs.RunEdits.{no-links-runs}
 
 -- ---- the runs of a text are in no pair yet
 
@@ -47,18 +49,18 @@ data-balanced : (es : List Event) → IsBalanced (as_data es)
 data-balanced [] = empty
 data-balanced (e ∷ es) = around-balanced Data e.point (last_place e.point es) [] empty
 
-balanced-is-kept : LeavesBalanced → IsKept Anywhere IsBalanced IsFresh
-balanced-is-kept leaves = record {
+balanced-is-kept : IsKept Anywhere IsBalanced IsFresh
+balanced-is-kept = record {
   places = λ e es h. (tt, tt);
   nothing = empty;
   together = IsBalanced-append;
   span_around = λ name start end es n p q h. around-balanced name start end es h;
   data_of_it = λ es h. data-balanced es;
-  emphasis = λ texts rs rest between fresh behind. leaves texts rs rest (are-fresh texts rs between fresh) behind;
+  emphasis = λ texts rs rest between fresh behind. leaves-balanced texts rs rest (are-fresh texts rs between fresh) behind;
 }
 
-pub links-balanced : LeavesBalanced → (bytes : List ℕ) (es : List Event) → IsBalanced es → IsBalanced (with_links bytes es)
-links-balanced leaves bytes es h = links-keep Anywhere IsBalanced IsFresh (balanced-is-kept leaves) bytes es (spans-balanced es h) (runs-fresh bytes 0 0 None es)
+pub links-balanced : (bytes : List ℕ) (es : List Event) → IsBalanced es → IsBalanced (with_links bytes es)
+links-balanced bytes es h = links-keep Anywhere IsBalanced IsFresh balanced-is-kept bytes es (spans-balanced es h) (runs-fresh bytes 0 0 None es)
 
 -- ---- without links
 
@@ -66,15 +68,18 @@ data-unlinked : (es : List Event) → HaveNoLinks (as_data es)
 data-unlinked [] = tt
 data-unlinked (e ∷ es) = (refl, (refl, tt))
 
-unlinked-is-kept : LeavesNoLinks → IsKept Anywhere HaveNoLinks IsFresh
-unlinked-is-kept leaves = record {
+leaves-no-links : LeavesNoLinks
+leaves-no-links texts rs rest h k = no-links-append (events_of_runs texts (paired rs)) rest (no-links-runs texts (paired rs) h) k
+
+unlinked-is-kept : IsKept Anywhere HaveNoLinks IsFresh
+unlinked-is-kept = record {
   places = λ e es h. (tt, tt);
   nothing = tt;
   together = no-links-append;
   span_around = λ name start end es n p q h. (refl, no-links-append es (unlinked_event Exit name end ∷ []) h (refl, tt));
   data_of_it = λ es h. data-unlinked es;
-  emphasis = λ texts rs rest between fresh behind. leaves texts rs rest between behind;
+  emphasis = λ texts rs rest between fresh behind. leaves-no-links texts rs rest between behind;
 }
 
-pub links-unlinked : LeavesNoLinks → (bytes : List ℕ) (es : List Event) → HaveNoLinks es → HaveNoLinks (with_links bytes es)
-links-unlinked leaves bytes es h = links-keep Anywhere HaveNoLinks IsFresh (unlinked-is-kept leaves) bytes es (spans-unlinked es h) (runs-fresh bytes 0 0 None es)
+pub links-unlinked : (bytes : List ℕ) (es : List Event) → HaveNoLinks es → HaveNoLinks (with_links bytes es)
+links-unlinked bytes es h = links-keep Anywhere HaveNoLinks IsFresh unlinked-is-kept bytes es (spans-unlinked es h) (runs-fresh bytes 0 0 None es)

@@ -15,7 +15,7 @@ use Rattle.markdown_base.specs.Events.{IsBalanced, is_enter, same_name}
 use Rattle.markdown_edits.proofs.Balanced.{names_after_balanced}
 use Rattle.markdown_edits.specs.OpenNames.{names_after, names_after_all}
 use Rattle.mdconstructs_attention.proofs.PairsKeep.{pairs-keep-indices}
-use Rattle.mdconstructs_attention.proofs.RunTexts.{runs-and-texts}
+use Rattle.mdconstructs_attention.proofs.RunTexts.{runs-and-texts, sequence-is}
 use Rattle.mdconstructs_attention.specs.Emphasis.{Run, emphasised, events_of_runs, paired, run_events}
 use Rattle.mdconstructs_attention.specs.RunEdits.{HasRunsAt, index_of}
 use Rattle.mdconstructs_attention.specs.Runs.{depth_after, index_of_event, is_sequence, run_at, runs_from, runs_in, text_before as text_before_run, text_behind as text_behind_runs, with_emphasis}
@@ -97,11 +97,6 @@ starts Exit n es h = cc
 never-one : {X : Type 0} (k : Kind) (n : Name) → names_after_all (names_after k n []) [] ≡ Some [] → X
 never-one Enter n h = absurd (cc)
 never-one Exit n h = absurd (cc)
-
-sequence-kinds : (k l : Kind) (n m : Name) → ((is_enter k && same_name n AttentionSequence) && (not (is_enter l) && same_name m AttentionSequence)) ≡ true → (k ≡ Enter) × (l ≡ Exit)
-sequence-kinds Enter Exit n m h = (refl, refl)
-sequence-kinds Enter Enter n m h = absurd (and-false-never (same_name n AttentionSequence) h)
-sequence-kinds Exit l n m h = cc
 
 pair-span : (e g : Event) (es : List Event) → e.kind ≡ Enter → g.kind ≡ Exit → span_at 0 (e ∷ g ∷ es) ≡ (e ∷ g ∷ [], es)
 pair-span e g es a b = rw (a, b) refl
@@ -188,7 +183,7 @@ module _ (bytes : List ℕ) where
         let kind = starts e.kind e.name (g ∷ es) end in
         elim (cases_Bool (is_sequence e g)) [
           | inl is ↦
-              let kinds = sequence-kinds e.kind g.kind e.name g.name is in
+              let kinds = sequence-is e.kind g.kind e.name g.name is in
               let r = run_at bytes j e g before (index_of_event (slice_get es 0)) in
               let rs = runs_from bytes (j + 2) 0 (Some g.point.index) es in
               let runs : runs_from bytes j 0 before (e ∷ g ∷ es) ≡ r ∷ rs = rw is refl in

@@ -15,6 +15,7 @@ use Rattle.markdown_tokenizer.specs.Plain.{HaveNoLinks}
 use Rattle.mdconstructs_attention.specs.Runs.{depth_after}
 use Rattle.std.proofs.lemmas.Option.{same_Some}
 use Rattle.mdconstructs_links.specs.Linked.{span_at, spans_in, outermost_spans}
+use Rattle.mdconstructs_attention.proofs.RunTexts.{none-open, deeper, goes-on}
 
 abbrev cut : Event → List Event → List Event × List Event → Bool → List Event × List Event
 cut e es p t = cond t (e ∷ [], es) (e ∷ p.0, p.1)
@@ -49,23 +50,6 @@ pub spans-unlinked : (es : List Event) → HaveNoLinks es → AllByRecursion Hav
 spans-unlinked es h = spans-have HaveNoLinks no-links-parts (length es) es h
 
 -- ---- the spans of a balanced list are balanced
-
-none-open : (st : List Name) → (length st == 0) ≡ true → st ≡ []
-none-open [] h = refl
-none-open (n ∷ st) h = let never : suc (length st) ≡ 0 = grind (arith, h) in absurd (omega (arith, never))
-
-deeper : (k : Kind) (n : Name) (st st' : List Name) → names_after k n st ≡ Some st' → depth_after k (length st) ≡ length st'
-deeper Enter n st st' h = ap length (same_Some _ _ h)
-deeper Exit n [] st' h = cc
-deeper Exit n (m ∷ st) st' h = exits (same_name m n) h
-  where
-    exits : (t : Bool) → cond t (Some st) None ≡ Some st' → length (m ∷ st) - 1 ≡ length st'
-    exits true k = let same = ap length (same_Some _ _ k) in omega (arith, same)
-    exits false k = cc
-
-goes-on : (o : Option (List Name)) (es : List Event) → names_after_all o es ≡ Some [] → (st : List Name) × (o ≡ Some st)
-goes-on None es h = cc
-goes-on (Some st) es h = (st, refl)
 
 -- the first span ends where nothing is open
 abbrev pub Closes : List Name → List Event × List Event → Type 0

@@ -1,8 +1,13 @@
 //! Laws about links and images.
 
-ghost use Rattle.mdconstructs_links.specs.Laws.{IsEmphasisAlone};
+ghost use Rattle.mdconstructs_links.specs.Laws.{IsEmphasisAlone, LinksKeepLists};
 
 /// Of a balanced list of events without brackets links make what emphasis makes, and nothing else.
 pub fn without_brackets_emphasis_alone()
     ensures { IsEmphasisAlone }
+{}
+
+/// Where links, images and emphasis are put in place, a balanced list stays balanced, and a list without links has none.
+pub fn links_keep_lists()
+    ensures { LinksKeepLists }
 {}
