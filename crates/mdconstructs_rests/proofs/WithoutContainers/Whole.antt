@@ -9,7 +9,7 @@ use Rattle.markdown_base.specs.declared.event.Name.{Name}
 use Rattle.markdown_base.specs.declared.event.Name.TheVariants as name
 use Rattle.markdown_base.specs.Events.{EndsBelow}
 use Rattle.markdown_base.specs.Places.{in_range}
-use Rattle.markdown_edits.proofs.Edits.Passes.{woven-nil}
+use Rattle.markdown_edits.proofs.Edits.Passes.{woven-nil, olds}
 use Rattle.markdown_edits.specs.Woven.{Change, changed, placed, placed_in, woven}
 use Rattle.markdown_tokenizer.proofs.Positions.Chains.{IsChain}
 use Rattle.markdown_tokenizer.specs.Engine.{whole_text}
@@ -131,7 +131,7 @@ module _ (g : Given) (is : IsDocument g) where
       let same : marks ++ [] ≡ marks = append-nil marks in
       let starts : fitting_starts wanted events ≡ [] = ap (starts_in wanted events 0) (linked-length 0 marks ∙ ap length (sym same)) ∙ kept-starts wanted events 0 marks [] (plain-kept wanted marks h) (ap (linked_from 0) (sym same)) in
       ap (λ cs. changed (flat_map chain_changes (divided_over events cs (map (child_at events) cs))) events) starts
-      ∙ ap placed (woven-nil 0 events) ∙ placed-unlinked _ 0 events (plain-unlinked 0 marks h)
+      ∙ ap placed (woven-nil 0 events) ∙ placed-unlinked (olds 0 events) 0 events (plain-unlinked 0 marks h)
 
   -- ---- one chunk
   module _ (front back : List Mark) (s : Seat) (ss : List Seat) (h : AllByRecursion IsPlain front) (b : AllByRecursion IsPlain back) where
