@@ -34,6 +34,7 @@ pub use Rattle.mdconstructs_text.proofs.Plain
 pub use Rattle.mdconstructs_text.proofs.Paragraphs as TextParagraphs
 pub use Rattle.mdconstructs_text.proofs.ParagraphTexts
 pub use Rattle.mdconstructs_text.proofs.Texts
+pub use Rattle.mdconstructs_attention.proofs.Balance
 pub use Rattle.mdconstructs_attention.proofs.Beside
 pub use Rattle.mdconstructs_attention.proofs.PairsKeep
 pub use Rattle.mdconstructs_attention.proofs.RunEdits
