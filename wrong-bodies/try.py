@@ -63,6 +63,9 @@ def symbol(place, crate, symbols):
             found.append(it)
         elif place.owner and not place.trait and it == f"{start}::{place.owner}::{place.name}":
             found.append(it)
+    if not found and place.owner and not place.trait:
+        # (a method is named after its type, which may stand in another module than the method)
+        found = [it for it in symbols if it.endswith(f"::{place.owner}::{place.name}")]
     return found[0] if len(found) == 1 else None
 
 
