@@ -390,7 +390,7 @@ module _ (on : Constructs) (b : Before) (n : ℕ) (line : Line) where
       ∙ (λ k. opened_by on (cond (blank k) blank_kind (cond (is_far on rest) indented (kind_of_rest on (indent rest) (unindented rest)))) rest)
 
   -- containers of the stack began in this line or before
-  old_after : AllByRecursion (BeganBefore n) b.stack → AllByRecursion (BeganBefore (suc n)) (known_after on b r).stack
+  pub old_after : AllByRecursion (BeganBefore n) b.stack → AllByRecursion (BeganBefore (suc n)) (known_after on b r).stack
   old_after old = by r.is_left_blank r.is_lazy (every-map (BeganBefore n) (BeganBefore (suc n)) (began_more n) b.stack old)
     where
       by : (x y : Bool) → AllByRecursion (BeganBefore (suc n)) b.stack

@@ -15,6 +15,7 @@ pub mod LineFacts
 pub mod ListLemmas
 pub mod ListNumbers
 pub mod ListSeenLemmas
+pub mod OverLemmas
 pub mod PartFacts
 pub mod PartGoes
 pub mod PartLemmas
@@ -34,7 +35,9 @@ pub mod SeatLemmas
 pub mod SkeletonChains
 pub mod SkeletonReady
 pub mod SpanLemmas
+pub mod StoodLemmas
 pub mod StretchLemmas
+pub mod TextLemmas
 pub mod TightMarks
 pub mod WritingLemmas
 pub mod WrittenLemmas

@@ -1,9 +1,10 @@
 -- Lemmas on prefixes of a line, one written behind the other.
-use Rattle.std.proofs.Common.{◌≡◌, ℕ, zero, suc, ◌+◌, ◌-◌, ◌<◌, ◌≤◌, Bool, true, false, cond, List, [], ◌∷◌, ◌++◌, length, take, drop, map, min, get_or, length-drop, length-take, refl, sym, ap, ◌∙◌, subst, arith, append_assoc}
+use Rattle.std.proofs.Common.{◌≡◌, ℕ, zero, suc, ◌+◌, ◌-◌, ◌<◌, ◌≤◌, Bool, true, false, cond, List, [], ◌∷◌, ◌++◌, length, take, drop, map, min, get_or, length-drop, length-take, refl, sym, ap, ◌∙◌, subst, arith, append_assoc, zero-add}
 use Rattle.std.specs.Prelude.{◌==◌, ◌&&◌, nat_le, Option, Some, None}
 use Rattle.std.specs.List.{prefix_len}
 use Rattle.std.proofs.lemmas.List.{append-nil, drop-drop, drop_more, drop-map, take-map, map-append, length-map}
 use Rattle.std.proofs.lemmas.List.Sums.{sum_by-cons}
+use Rattle.std.proofs.Math.Nat.{min-zero}
 use Rattle.markdown_base.specs.declared.event.Event.{Event}
 use Rattle.markdown_base.specs.declared.event.Kind.TheVariants.{Enter}
 use Rattle.markdown_base.specs.declared.event.Name.TheVariants as name
@@ -96,6 +97,29 @@ module _ (t : ℕ) (bytes : List ℕ) where
 -- no container goes on
 pub going_none : (bytes : List ℕ) (before all : List Event) (ps : List Prefix) (seats : List Seat) → ps ≡ [] → before ++ events_of (prefixes_marks bytes ps seats) ≡ all → before ≡ all
 going_none bytes before all ps seats e h = sym (ap (λ l. before ++ events_of (prefixes_marks bytes l seats)) e ∙ append-nil before) ∙ h
+
+-- nothing is left of the line: items go on with no columns
+nothing_marks : (bytes : List ℕ) (cs : List Container) (number : ℕ) → (prefixes_marks bytes (going_on cs number []) [] ≡ []) × (columns_of (going_on cs number []) ≡ 0)
+nothing_marks bytes [] number = (refl, refl)
+nothing_marks bytes (quote line ∷ cs) number = (refl, refl)
+nothing_marks bytes (item i ∷ cs) number = by (i.is_empty && (number == suc i.line)) (min i.size 0) (min-zero i.size) (nothing_marks bytes cs number)
+  where
+    by : (b : Bool) (n : ℕ) → n ≡ 0 → (prefixes_marks bytes (going_on cs number []) [] ≡ []) × (columns_of (going_on cs number []) ≡ 0)
+        → (prefixes_marks bytes (elim (cond b None (Some n)) as (λ _. List Prefix) [ None ↦ [] | Some m ↦ record { container = item i; size = m } ∷ going_on cs number (drop m []) ]) [] ≡ [])
+        × (columns_of (elim (cond b None (Some n)) as (λ _. List Prefix) [ None ↦ [] | Some m ↦ record { container = item i; size = m } ∷ going_on cs number (drop m []) ]) ≡ 0)
+    by true n e h = (refl, refl)
+    by false n e h =
+        let p : Prefix = record { container = item i; size = 0 } in (
+          (λ k. prefixes_marks bytes (record { container = item i; size = e k } ∷ going_on cs number (drop (e k) [])) []) ∙ h.0,
+          (λ k. columns_of (record { container = item i; size = e k } ∷ going_on cs number (drop (e k) []))) ∙ sum_by-cons (λ (q : Prefix). q.size) p (going_on cs number []) ∙ zero-add (columns_of (going_on cs number [])) ∙ h.1,
+        )
+
+pub nothing_columns : (cs : List Container) (number : ℕ) (t : List ℕ) → t ≡ [] → columns_of (going_on cs number t) ≡ 0
+nothing_columns cs number t e = ap (λ l. columns_of (going_on cs number l)) e ∙ (nothing_marks [] cs number).1
+
+pub going_nothing : (bytes : List ℕ) (cs : List Container) (number : ℕ) (before all : List Event) (t : List ℕ) (seats : List Seat) → t ≡ [] → seats ≡ [] → before ++ events_of (prefixes_marks bytes (going_on cs number t) seats) ≡ all → before ≡ all
+going_nothing bytes cs number before all t seats e f h =
+    sym ((λ k. before ++ events_of (prefixes_marks bytes (going_on cs number (e k)) (f k))) ∙ ap (λ (l : List Mark). before ++ events_of l) (nothing_marks bytes cs number).0 ∙ append-nil before) ∙ h
 
 -- a container begins at a place that is shown at itself
 enters_shown : (bytes : List ℕ) (c : Container) (p : Point) → shown bytes p ≡ p → events_of (enters_of bytes c p) ≡ enters_at c p

@@ -9,6 +9,7 @@ pub mod ListSeen
 pub mod ListShapes
 pub mod ListWalks
 pub mod Lists
+pub mod Over
 pub mod Parts
 pub mod PlaceEvents
 pub mod Prefixes
@@ -19,6 +20,7 @@ pub mod Skeleton
 pub mod SkeletonLaws
 pub mod SkeletonSpans
 pub mod Spans
+pub mod Stood
 pub mod Stretches
 pub mod Views
 pub mod Written

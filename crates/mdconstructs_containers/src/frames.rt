@@ -4,6 +4,7 @@ ghost use Rattle.std.specs.Prelude.{◌≡◌, ◌≤◌, ◌++◌, ◌==◌, �
 ghost use Rattle.std.specs.List.{flat_map};
 ghost use Rattle.markdown_base.specs.Events.{same_name};
 ghost use Rattle.mdconstructs_containers.specs.Frames.{exits_at, frame_of, frames_in, list_name_of};
+ghost use Rattle.mdconstructs_containers.specs.Stood.{IsStood};
 ghost use Rattle.mdconstructs_containers.specs.Skeleton.{frames_of, shared};
 ghost use Rattle.mdconstructs_containers.specs.Views.{open_of};
 
@@ -82,20 +83,63 @@ fn push_frames(frames: &mut Vec<Frame>, stack: &[Open]) -> Result<(), AllocError
     Ok(())
 }
 
-/// The spans of containers, and of a list that goes on behind them, if there is one.
-pub(crate) fn frames_with(
-    alloc: Global,
-    stack: &[Open],
-    list: Option<Frame>,
-) -> Result<Vec<Frame>, AllocError>
-    ensures { IfOk result (λ frames. map frame_of frames.items ≡ flat_map frames_of (map open_of stack.now) ++ frames_in list) }
+/// The spans of containers, from the outermost on, as a list.
+pub(crate) fn frames_from(alloc: Global, stack: &[Open]) -> Result<Vec<Frame>, AllocError>
+    ensures { IfOk result (λ frames. map frame_of frames.items ≡ flat_map frames_of (map open_of stack.now)) }
 {
     let mut frames = Vec::new(alloc);
     push_frames(&mut frames, stack)?;
+    Ok(frames)
+}
+
+/// The span of a list that goes on behind others, if there is one.
+pub(crate) fn push_list(frames: &mut Vec<Frame>, list: Option<Frame>) -> Result<(), AllocError>
+    ensures { IfOk result (λ _. map frame_of frames.new.items ≡ map frame_of frames.old.items ++ frames_in list) }
+{
     if let Some(frame) = list {
         frames.push(frame)?;
     }
-    Ok(frames)
+    Ok(())
+}
+
+/// Spans behind the first.
+pub(crate) fn behind_frames(frames: &[Frame], many: usize) -> &[Frame]
+    requires { many ≤ length frames.now }
+    ensures { result.now ≡ drop many frames.now }
+{
+    &frames[many..]
+}
+
+/// Of a part: in how many of the open containers it stands, and how many spans these have.
+#[derive(Clone, Copy)]
+pub struct Stood {
+    /// The number of containers.
+    pub containers: usize,
+    /// The number of their spans.
+    pub spans: usize,
+}
+
+/// How many spans a container has: an item has its list.
+fn spans_of(entry: &Open) -> usize
+    ensures { result ≡ length (frames_of (open_of entry.now)) }
+{
+    if entry.container.is_quote { 1 } else { 2 }
+}
+
+/// The same of fewer containers: of so many at most.
+pub(crate) fn stood_in(stood: Stood, stack: &[Open], many: usize) -> Stood
+    requires { IsStood stood (map open_of stack.now) }
+    ensures stood { IsStood result (map open_of stack.now) }
+    ensures few { result.containers ≤ many }
+    ensures fewer { result.containers ≤ stood.containers }
+{
+    let mut containers = stood.containers;
+    let mut spans = stood.spans;
+    while containers > many {
+        containers -= 1;
+        spans -= spans_of(&stack[containers]);
+    }
+    Stood { containers, spans }
 }
 
 /// Two spans are the same: they have one name, and begin in one line.

@@ -1,11 +1,12 @@
 //! Which open containers go on with a line, and which begin in it.
 
-ghost use Rattle.std.specs.Prelude.{◌≡◌, ◌≤◌, ◌+◌, ◌-◌, ◌&&◌, IfOk, IfSome, map, length, take, drop, option_map};
+ghost use Rattle.std.specs.Prelude.{◌≡◌, ◌≤◌, ◌+◌, ◌-◌, ◌==◌, ◌&&◌, cond, nat_le, IfOk, IfSome, map, length, take, drop, option_map};
 ghost use Rattle.mdconstructs_lines.specs.Containers.{goes_on, begins};
 ghost use Rattle.mdconstructs_flow_read.specs.LineKinds.{indent, is_thematic_break, unindented};
 ghost use Rattle.mdconstructs_lines.specs.Breaks.{has_break};
 ghost use Rattle.mdconstructs_lines.specs.Views.{prefix_of};
 ghost use Rattle.mdconstructs_containers.specs.Prefixes.{going_on, columns_of, beginning, with_list};
+ghost use Rattle.mdconstructs_containers.specs.Over.{AreBefore, AreOver};
 ghost use Rattle.mdconstructs_containers.specs.Views.{open_of, begun_of, takes_place};
 
 use markdown_base::configuration::Constructs;
@@ -30,6 +31,8 @@ pub struct Going {
     pub many: usize,
     /// The columns of their prefixes.
     pub columns: usize,
+    /// Nothing is left of the line behind the prefix before this one of them.
+    pub over: usize,
 }
 
 /// The columns of the prefix with which an open container goes on with a line's rest, if it does. `columns` of white space come first.
@@ -42,25 +45,60 @@ pub(crate) fn goes_on_open(entry: &Open, number: usize, t: &[u8], columns: usize
     goes_on(&entry.container, number, t, columns)
 }
 
-/// Which of these containers go on with a line, from the outermost on.
-pub fn going_on(stack: &[Open], number: usize, t: &[u8]) -> Going
+/// Which of these containers go on with a line, from the outermost on. Those from `over` on go on over a blank rest, which is known of earlier lines.
+pub(crate) fn going_on(stack: &[Open], number: usize, t: &[u8], over: usize) -> Going
+    requires { AreOver number over (length stack.now) stack.now }
     ensures many { result.many ≡ length (going_on (map open_of stack.now) number t.now) }
     ensures columns { result.columns ≡ columns_of (going_on (map open_of stack.now) number t.now) }
     ensures few { result.many ≤ length stack.now }
     ensures within { result.columns ≤ length t.now }
+    ensures over { AreBefore number stack.now → AreOver (number + 1) result.over result.many stack.now }
 {
+    let whole = t.len();
+    let all = stack.len();
     let mut at = 0;
     let mut first = indent(t);
     let mut many = 0;
+    let mut from = 0;
     for entry in stack {
+        if goes_over(at, whole, many, over) {
+            return Going {
+                many: all,
+                columns: at,
+                over: from,
+            };
+        }
         let Some(size) = goes_on_open(entry, number, behind(t, at), first - at) else {
-            return Going { many, columns: at };
+            return Going {
+                many,
+                columns: at,
+                over: from,
+            };
         };
         first = first_from(t, at, at + size, first);
-        at += size;
         many += 1;
+        from = over_behind(at, whole, from, many);
+        at += size;
     }
-    Going { many, columns: at }
+    Going {
+        many,
+        columns: at,
+        over: from,
+    }
+}
+
+/// Nothing is left of a line, and the open containers from here on are known to go on over that.
+fn goes_over(at: usize, whole: usize, many: usize, over: usize) -> bool
+    ensures { result ≡ ((at == whole) && nat_le over many) }
+{
+    at == whole && over <= many
+}
+
+/// From which container on those that went on did so over nothing, behind one more.
+fn over_behind(at: usize, whole: usize, from: usize, many: usize) -> usize
+    ensures { result ≡ cond (at == whole) from many }
+{
+    if at == whole { from } else { many }
 }
 
 /// The containers that begin with a line's rest go to a list. Returns the columns of their prefixes.

@@ -17,4 +17,5 @@ pub mod rows;
 pub mod skeleton;
 pub mod spans;
 pub mod stretches;
+pub mod texts;
 pub mod writing;

@@ -5,14 +5,16 @@ ghost use Rattle.markdown_base.specs.Virtual.{virtual};
 ghost use Rattle.mdconstructs_machines.specs.LineEvents.{lines_in};
 ghost use Rattle.mdconstructs_lines.specs.Lines.{line_at, line_length};
 ghost use Rattle.mdconstructs_containers.specs.Ahead.{AreRows};
+ghost use Rattle.mdconstructs_containers.specs.Over.{AreBefore, AreOver};
 ghost use Rattle.mdconstructs_containers.specs.Rows.{row_of, known_after, rows};
 ghost use Rattle.mdconstructs_containers.specs.Spans.{IsPlaced, ArePlaced};
 ghost use Rattle.mdconstructs_containers.specs.Views.{before_of, IsRow};
 
 use crate::rows::Before;
 use crate::spans::{RowAt, Span};
+use crate::texts::read_text;
 use markdown_base::configuration::{Constructs, TabSize};
-use mdconstructs_lines::places::{behind_ending, read_line};
+use mdconstructs_lines::places::behind_ending;
 use std::alloc::{AllocError, Global};
 
 /// The line with this number and this beginning, with its containers. What is known before it becomes what is known behind it. `line` is
@@ -29,6 +31,8 @@ fn next_row(
 ) -> Result<RowAt, AllocError>
     requires inside { start < length bytes.now }
     requires depth { before.old.depth ≤ length before.old.stack.items }
+    requires over { AreOver number before.old.over before.old.depth before.old.stack.items }
+    requires began { AreBefore number before.old.stack.items }
     ensures number { IfOk result (λ at. at.span.number ≡ number) }
     ensures placed { IfOk result (λ at. IsPlaced tab bytes.now number start at) }
     ensures row { IfOk result (λ at. IsRow number at.row (row_of on.now (before_of before.old) number (line_at tab number start (drop start bytes.now)))) }
@@ -37,8 +41,9 @@ fn next_row(
     ensures more { IfOk result (λ at. start < at.span.next) }
     ensures within { IfOk result (λ at. at.span.next ≤ length bytes.now) }
     ensures depth { IfOk result (λ _. before.new.depth ≤ length before.new.stack.items) }
+    ensures over { IfOk result (λ _. AreOver (number + 1) before.new.over before.new.depth before.new.stack.items) }
 {
-    let end = read_line(line, bytes, tab, start)?;
+    let end = read_text(line, bytes, tab, start)?;
     let next = behind_ending(bytes, end);
     let row = before.row(alloc, on, number, line.as_slice())?;
     before.go_behind(number, &row)?;

@@ -1,7 +1,8 @@
 //! Parts of a document: blank lines, and stretches of lines that leaf blocks are read from.
 
-ghost use Rattle.std.specs.Prelude.{◌≡◌, ◌≤◌, ◌<◌, ◌+◌, ◌^◌, ◌++◌, ◌==◌, ◌&&◌, not, nat_lt, cond, None, Some, true, IfOk, [], ℕ, length, map, take};
+ghost use Rattle.std.specs.Prelude.{◌≡◌, ◌≤◌, ◌<◌, ◌+◌, ◌^◌, ◌++◌, ◌==◌, ◌&&◌, not, nat_lt, cond, None, Some, true, IfOk, [], ℕ, length, map, max, min, take};
 ghost use Rattle.markdown_base.specs.Virtual.{point};
+ghost use Rattle.mdconstructs_containers.specs.Over.{AreEarlier};
 ghost use Rattle.mdconstructs_containers.specs.Parts.{ending_at, open_behind, stands_in};
 ghost use Rattle.mdconstructs_containers.specs.Prefixes.{containers_of};
 ghost use Rattle.mdconstructs_containers.specs.Rows.{Row as RowOf, holds_ending};
@@ -77,16 +78,34 @@ fn is_earlier_item(entry: &Open, number: usize) -> bool
     !entry.container.is_quote && entry.container.line < number
 }
 
+/// The first container at which to ask whether a blank line stands in it: those from `passed` on are items that began before, which it does not
+/// stand in unless they are among the first `many`.
+fn first_asked(size: usize, passed: usize, many: usize) -> usize
+    ensures { result ≡ min size (max passed many) }
+{
+    let from = if passed < many { many } else { passed };
+    if size < from { size } else { from }
+}
+
 /// In how many of its containers a line stands: a blank line not in the items that began before it and do not go on behind it, where so many
-/// containers go on.
-pub(crate) fn standing(stack: &[Open], is_blank: bool, many: usize, number: usize) -> usize
+/// containers go on. Those from `passed` on are items that began before it.
+pub(crate) fn standing(
+    stack: &[Open],
+    is_blank: bool,
+    many: usize,
+    number: usize,
+    passed: usize,
+) -> usize
+    requires { AreEarlier number passed (length stack.now) (map open_of stack.now) }
     ensures value { take result (map open_of stack.now) ≡ stands_in is_blank many number (map open_of stack.now) }
     ensures few { result ≤ length stack.now }
+    ensures passed { is_blank ≡ true → AreEarlier number result (length stack.now) (map open_of stack.now) }
 {
+    let size = stack.len();
     if !is_blank {
-        return stack.len();
+        return size;
     }
-    let mut n = stack.len();
+    let mut n = first_asked(size, passed, many);
     while n > many && is_earlier_item(&stack[n - 1], number) {
         n -= 1;
     }

@@ -48,7 +48,11 @@ pub(crate) fn going_prefixes(
     let mut place = start;
     let mut at = 0;
     let mut first = indent(t);
+    let whole = t.len();
     for entry in stack {
+        if at == whole {
+            return Ok(At { place, columns: at });
+        }
         let rest = behind(t, at);
         let Some(size) = goes_on_open(entry, number, rest, first - at) else {
             return Ok(At { place, columns: at });

@@ -7,6 +7,7 @@ ghost use Rattle.mdconstructs_flow_read.specs.LineKinds.{is_blank_line};
 ghost use Rattle.mdconstructs_lines.specs.Views.{prefix_of};
 ghost use Rattle.mdconstructs_containers.specs.Prefixes.{going_on, beginning, with_list, columns_of, containers_of};
 ghost use Rattle.mdconstructs_containers.specs.Rows.{Row as RowOf, is_raw, has_none, is_paragraph, holds_ending, is_lazily, leaf_after, closed, open_paragraph, row_of, known_after};
+ghost use Rattle.mdconstructs_containers.specs.Over.{AreBefore, AreOver};
 ghost use Rattle.mdconstructs_containers.specs.Views.{leaf_of, open_of, begun_of, before_of, IsRow};
 
 use crate::going::{Going, Open, beginning, first_of, going_on, list_of_first, rest_of};
@@ -23,6 +24,8 @@ pub struct Before {
     pub stack: Vec<Open>,
     /// How many of them went on since.
     pub depth: usize,
+    /// From this one on those are items that go on over a blank line.
+    pub over: usize,
     /// The leaf block that may go on.
     pub leaf: Leaf,
 }
@@ -34,6 +37,8 @@ pub struct Row {
     pub many: usize,
     /// The columns of their prefixes.
     pub going: usize,
+    /// Nothing is left of the line behind the prefix before this one of them.
+    pub over: usize,
     /// The containers that begin in it.
     pub begun: Vec<Prefix>,
     /// The number of the line that begins the list of the first of these.
@@ -121,13 +126,20 @@ fn leaf_behind(
 
 /// Which of the containers that went on so far go on with a line.
 fn going_in(before: &Before, number: usize, t: &[u8]) -> Going
-    requires { before.now.depth ≤ length before.now.stack.items }
+    requires depth { before.now.depth ≤ length before.now.stack.items }
+    requires over { AreOver number before.now.over before.now.depth before.now.stack.items }
     ensures many { result.many ≡ length (going_on (take before.now.depth (map open_of before.now.stack.items)) number t.now) }
     ensures columns { result.columns ≡ columns_of (going_on (take before.now.depth (map open_of before.now.stack.items)) number t.now) }
     ensures few { result.many ≤ length before.now.stack.items }
     ensures within { result.columns ≤ length t.now }
+    ensures over { AreBefore number before.now.stack.items → AreOver (number + 1) result.over result.many before.now.stack.items }
 {
-    going_on(first_of(before.stack.as_slice(), before.depth), number, t)
+    going_on(
+        first_of(before.stack.as_slice(), before.depth),
+        number,
+        t,
+        before.over,
+    )
 }
 
 /// The number of the line that begins the list of the first container that begins in a line, where so many go on.
@@ -150,6 +162,7 @@ fn row_with(
     requires within { going.columns + begun.columns ≤ length t.now }
     ensures many { result.many ≡ going.many }
     ensures going { result.going ≡ going.columns }
+    ensures over { result.over ≡ going.over }
     ensures list { result.list ≡ list }
     ensures begun { result.begun.items ≡ begun.prefixes.items }
     ensures columns { result.columns ≡ going.columns + begun.columns }
@@ -172,6 +185,7 @@ fn row_with(
     Row {
         many: going.many,
         going: going.columns,
+        over: going.over,
         begun: begun.prefixes,
         list,
         columns,
@@ -195,26 +209,30 @@ impl Before {
     pub fn new(alloc: Global) -> Before
         ensures stack { result.stack.items ≡ [] }
         ensures depth { result.depth ≡ 0 }
+        ensures over { result.over ≡ 0 }
         ensures leaf { leaf_of result.leaf ≡ closed }
     {
         Before {
             stack: Vec::new(alloc),
             depth: 0,
+            over: 0,
             leaf: Leaf::Closed,
         }
     }
 
     /// A line with its containers, by its number and its bytes.
-    pub fn row(
+    pub(crate) fn row(
         &self,
         alloc: Global,
         on: &Constructs,
         number: usize,
         t: &[u8],
     ) -> Result<Row, AllocError>
-        requires { self.now.depth ≤ length self.now.stack.items }
+        requires depth { self.now.depth ≤ length self.now.stack.items }
+        requires over { AreOver number self.now.over self.now.depth self.now.stack.items }
         ensures row { IfOk result (λ r. (line : Line) → text_of line ≡ t.now → IsRow number r (row_of on.now (before_of self.now) number line)) }
         ensures within { IfOk result (λ r. r.columns ≤ length t.now) }
+        ensures over { IfOk result (λ r. AreBefore number self.now.stack.items → AreOver (number + 1) r.over r.many self.now.stack.items) }
     {
         let going = going_in(self, number, t);
         let all_go_on = going.many == self.depth;
@@ -228,9 +246,11 @@ impl Before {
     pub fn go_behind(&mut self, number: usize, row: &Row) -> Result<(), AllocError>
         ensures known { IfOk result (λ _. (on : Constructs) → (r : RowOf) → IsRow number row.now r → containers_of r.went_on ≡ take row.now.many (map open_of self.old.stack.items) → before_of self.new ≡ known_after on (before_of self.old) r) }
         ensures depth { IfOk result (λ _. self.old.depth ≤ length self.old.stack.items → row.now.many ≤ length self.old.stack.items → self.new.depth ≤ length self.new.stack.items) }
+        ensures over { IfOk result (λ _. AreOver number self.old.over self.old.depth self.old.stack.items → AreOver (number + 1) row.now.over row.now.many self.old.stack.items → row.now.many ≤ length self.old.stack.items → AreOver (number + 1) self.new.over self.new.depth self.new.stack.items) }
     {
         if row.is_left_blank {
             self.depth = row.many;
+            self.over = row.over;
             self.leaf = Leaf::Closed;
             return Ok(());
         }
@@ -239,8 +259,15 @@ impl Before {
             return Ok(());
         }
         self.stack.truncate(row.many);
+        if has_none(row.begun.as_slice()) {
+            let kept = self.stack.len();
+            self.depth = kept;
+            self.over = row.over;
+            return Ok(());
+        }
         open_all(&mut self.stack, row.list, number, row.begun.as_slice())?;
         self.depth = self.stack.len();
+        self.over = self.depth;
         Ok(())
     }
 }

@@ -1,6 +1,6 @@
 //! The skeleton of a document: the events of its containers, and a chain of chunks for each stretch of lines that leaf blocks are read from.
 
-ghost use Rattle.std.specs.Prelude.{◌≡◌, ◌≤◌, ◌<◌, ◌+◌, ◌-◌, ◌^◌, ◌++◌, ◌==◌, ◌&&◌, not, min, cond, ℕ, Bool, true, false, List, [], ◌∷◌, Some, None, is_some, IfOk, length, drop, map, slice_index_or};
+ghost use Rattle.std.specs.Prelude.{◌≡◌, ◌≤◌, ◌<◌, ◌+◌, ◌-◌, ◌^◌, ◌++◌, ◌==◌, ◌&&◌, not, min, nat_le, cond, ℕ, Bool, true, false, List, [], ◌∷◌, Some, None, is_some, IfOk, length, drop, map, slice_index_or, take};
 ghost use Rattle.std.specs.List.{flat_map};
 ghost use Rattle.markdown_base.specs.declared.event.Name.TheVariants.{SpaceOrTab};
 ghost use Rattle.markdown_base.specs.Virtual.{virtual, IsWithinLimit, Seat, point};
@@ -12,20 +12,24 @@ ghost use Rattle.mdconstructs_containers.specs.declared.ahead.Ahead.{Ahead};
 ghost use Rattle.mdconstructs_containers.specs.Ahead.{ahead_of};
 ghost use Rattle.mdconstructs_containers.specs.Frames.{frame_of, frames_in};
 ghost use Rattle.mdconstructs_containers.specs.Letters.{lazy_underline, lazy_underlines};
+ghost use Rattle.mdconstructs_containers.specs.Over.{AreEarlier};
 ghost use Rattle.mdconstructs_containers.specs.PlaceEvents.{HasColumns, span_at};
 ghost use Rattle.mdconstructs_containers.specs.Prefixes.{columns_of, going_on};
 ghost use Rattle.mdconstructs_containers.specs.Rest.{AreLeft, HasPart, ending_to, exits_to, rest_marks};
 ghost use Rattle.mdconstructs_containers.specs.Rows.{Row as RowOf, has_none, holds_ending};
 ghost use Rattle.mdconstructs_containers.specs.SeatPlaces.{AreInside, AreSeatsAt, events_of};
-ghost use Rattle.mdconstructs_containers.specs.Skeleton.{begun_all, chained_from, parts, parts_marks, prefixes_marks, shared, skeleton};
+ghost use Rattle.mdconstructs_containers.specs.Skeleton.{begun_all, chained_from, frames_of, parts, parts_marks, prefixes_marks, shared, skeleton};
 ghost use Rattle.mdconstructs_containers.specs.Spans.{AreRowsIn};
+ghost use Rattle.mdconstructs_containers.specs.Stood.{HasSpans, IsStood};
 ghost use Rattle.mdconstructs_containers.specs.Stretches.{HasFurther, InStretch, end_at, last_at};
 ghost use Rattle.mdconstructs_containers.specs.Views.{begun_of, leaf_of, open_of};
 ghost use Rattle.mdconstructs_containers.specs.Written.{Written};
 
 use crate::ahead::{Ahead, aheads_of};
-use crate::frames::{Frame, exit_frames, frames_with, shared};
-use crate::going::{Open, first_of};
+use crate::frames::{
+    Frame, Stood, behind_frames, exit_frames, frames_from, push_list, shared, stood_in,
+};
+use crate::going::{Open, first_of, rest_of};
 use crate::lines::rows_of;
 use crate::parts::{PartEnd, open_in, part_end, standing, write_ending};
 use crate::prefixes::{At, begun_prefixes};
@@ -89,19 +93,51 @@ fn begun_of(
     })
 }
 
-/// Between two parts: the spans end that the next part is not in, and the line ending comes.
+/// Between two parts: the spans end that the next part is not in, and the line ending comes. The next part stands in the first `kept` spans, and
+/// in `next` behind them.
 fn end_part(
     events: &mut Vec<Event>,
     frames: &mut Vec<Frame>,
+    kept: usize,
     end: PartEnd,
     next: &[Frame],
 ) -> Result<(), AllocError>
-    ensures { IfOk result (λ _. events.new.items ≡ events.old.items ++ (events_of (exits_to (drop (shared (map frame_of frames.old.items) (map frame_of next.now)) (map frame_of frames.old.items)) end.place) ++ events_of (ending_to end))) }
+    requires { kept ≤ length frames.old.items }
+    ensures events { IfOk result (λ _. events.new.items ≡ events.old.items ++ (events_of (exits_to (drop (kept + shared (drop kept (map frame_of frames.old.items)) (map frame_of next.now)) (map frame_of frames.old.items)) end.place) ++ events_of (ending_to end))) }
+    ensures frames { IfOk result (λ _. take kept frames.new.items ≡ take kept frames.old.items) }
 {
-    let many = shared(frames.as_slice(), next);
-    exit_frames(events, frames, many, end.place)?;
+    let more = shared(behind_frames(frames.as_slice(), kept), next);
+    exit_frames(events, frames, kept + more, end.place)?;
     write_ending(events, end)?;
     Ok(())
+}
+
+/// The next part comes: the spans become its own. They are those of these containers, and of a list that goes on behind them, if there is one. The
+/// part that ends stands in some of the containers too.
+fn go_to_part(
+    alloc: Global,
+    events: &mut Vec<Event>,
+    frames: &mut Vec<Frame>,
+    kept: Stood,
+    stack: &[Open],
+    list: Option<Frame>,
+    end: PartEnd,
+) -> Result<Stood, AllocError>
+    requires stood { IsStood kept (map open_of stack.now) }
+    requires spans { HasSpans frames.old.items kept (map open_of stack.now) }
+    ensures frames { IfOk result (λ _. map frame_of frames.new.items ≡ flat_map frames_of (map open_of stack.now) ++ frames_in list) }
+    ensures events { IfOk result (λ _. events.new.items ≡ events.old.items ++ (events_of (exits_to (drop (shared (map frame_of frames.old.items) (map frame_of frames.new.items)) (map frame_of frames.old.items)) end.place) ++ events_of (ending_to end))) }
+    ensures stood { IfOk result (λ s. IsStood s (map open_of stack.now)) }
+    ensures containers { IfOk result (λ s. s.containers ≡ length stack.now) }
+{
+    let mut next = frames_from(alloc, rest_of(stack, kept.containers))?;
+    let spans = kept.spans + next.len();
+    push_list(&mut next, list)?;
+    end_part(events, frames, kept.spans, end, next.as_slice())?;
+    frames.truncate(kept.spans);
+    frames.extend_from_slice(next.as_slice())?;
+    let containers = stack.len();
+    Ok(Stood { containers, spans })
 }
 
 /// The list that goes on behind a line, if the line is left blank and stands in all containers that go on.
@@ -113,6 +149,13 @@ fn list_behind(row: &Row, ahead: Ahead, stands: usize) -> Option<Frame>
     } else {
         None
     }
+}
+
+/// No container goes on with a line, of these, and none begins in it.
+fn has_no_prefix(stack: &[Open], row: &Row) -> bool
+    ensures { result ≡ (has_none stack.now && has_none row.now.begun.items) }
+{
+    stack.is_empty() && row.begun.is_empty()
 }
 
 /// The prefixes of a part's first line: those of its first containers, and those of containers that begin in it. Returns the place behind them.
@@ -133,6 +176,10 @@ fn begin_part(
     ensures columns { let s = at.now.span in IfOk result (λ p. p.columns ≡ cond (has_none at.now.row.begun.items) (columns_of (going_on (map open_of stack.now) s.number (line_bytes tab s.number 1 s.start (drop s.start bytes.now)))) at.now.row.columns) }
     ensures place { let s = at.now.span in IfOk result (λ p. p.place ≡ place_after tab bytes.now (point s.number 1 s.start 0) p.columns) }
 {
+    if has_no_prefix(stack, &at.row) {
+        let place = start_of(at.span);
+        return Ok(At { place, columns: 0 });
+    }
     let behind = prefixes_of(events, bytes, tab, stack, at, line)?;
     let begin = begun_of(
         events,
@@ -146,11 +193,46 @@ fn begin_part(
     Ok(begin)
 }
 
-/// A part that is written: how many further lines it has, and where it ends.
+/// A part that is written: how many further lines it has, where it ends, and in how many containers it stands.
 #[derive(Clone, Copy)]
 struct Part {
     lines: usize,
     end: PartEnd,
+    stood: Stood,
+    passed: Passed,
+}
+
+/// Open containers that are items and began before: from one on up to another. A blank line was asked before whether it stands in them.
+#[derive(Clone, Copy)]
+struct Passed {
+    from: usize,
+    to: usize,
+}
+
+/// From where on the open containers of a line are items that began before it, as far as this is known. There are so many of them.
+fn passed_in(passed: Passed, row: &Row, all: usize) -> usize
+    ensures { result ≡ cond (has_none row.now.begun.items && nat_le all passed.to) passed.from all }
+{
+    if row.begun.is_empty() && all <= passed.to {
+        passed.from
+    } else {
+        all
+    }
+}
+
+/// What is known of open containers behind a line that stands in so many of them.
+fn passed_by(row: &Row, stands: usize, all: usize) -> Passed
+    ensures from { result.from ≡ cond (row.now.is_blank && has_none row.now.begun.items) stands 0 }
+    ensures to { result.to ≡ cond (row.now.is_blank && has_none row.now.begun.items) all 0 }
+{
+    if row.is_blank && row.begun.is_empty() {
+        Passed {
+            from: stands,
+            to: all,
+        }
+    } else {
+        Passed { from: 0, to: 0 }
+    }
 }
 
 /// The lesser of two numbers.
@@ -222,6 +304,8 @@ fn write_part(
     tab: TabSize,
     stack: &mut Vec<Open>,
     frames: &mut Vec<Frame>,
+    stood: Stood,
+    passed: Passed,
     first: &RowAt,
     behind: &[RowAt],
     ahead: Ahead,
@@ -230,6 +314,12 @@ fn write_part(
 ) -> Result<Part, AllocError>
     requires limit { IsWithinLimit tab bytes.now }
     requires part { HasPart bytes.now tab (map open_of stack.old.items) ahead first.now behind.now }
+    requires stood { IsStood stood (map open_of stack.old.items) }
+    requires spans { HasSpans frames.old.items stood (map open_of stack.old.items) }
+    requires passed { AreEarlier first.now.span.number passed.from passed.to (map open_of stack.old.items) }
+    ensures passed { IfOk result (λ p. AreEarlier first.now.span.number p.passed.from p.passed.to (map open_of stack.new.items)) }
+    ensures stood { IfOk result (λ p. IsStood p.stood (map open_of stack.new.items)) }
+    ensures spans { IfOk result (λ p. HasSpans frames.new.items p.stood (map open_of stack.new.items)) }
     ensures few { IfOk result (λ p. p.lines ≤ length behind.now) }
     ensures left { IfOk result (λ p. (r : RowOf) → (rs : List RowOf) → AreLeft bytes.now tab (map open_of stack.old.items) (first.now ∷ behind.now) (r ∷ rs) → ahead ≡ ahead_of rs → AreLeft bytes.now tab (map open_of stack.new.items) (drop p.lines behind.now) (drop p.lines rs)) }
     ensures written { IfOk result (λ p. (r : RowOf) → (rs : List RowOf) → (all : List Mark) → AreLeft bytes.now tab (map open_of stack.old.items) (first.now ∷ behind.now) (r ∷ rs) → ahead ≡ ahead_of rs → Written events.old.items None false (rest_marks bytes.now (map frame_of frames.old.items) end (parts (r ∷ rs))) all → Written events.new.items None false (rest_marks bytes.now (map frame_of frames.new.items) p.end (parts (drop p.lines rs))) all) }
@@ -238,13 +328,16 @@ fn write_part(
     prove!(tab_size >= 1);
     let row = &first.row;
     let number = first.span.number;
+    let went = stood_in(stood, stack.as_slice(), row.many);
     let all = open_in(stack, number, row)?;
     let own = first_of(stack.as_slice(), all);
-    let stands = standing(own, row.is_blank, ahead.many, number);
+    let seen = passed_in(passed, row, all);
+    let stands = standing(own, row.is_blank, ahead.many, number, seen);
+    let next_passed = passed_by(row, stands, all);
     let list = list_behind(row, ahead, stands);
-    let next = frames_with(alloc, first_of(own, stands), list)?;
-    end_part(events, frames, end, next.as_slice())?;
-    *frames = next;
+    let shown = first_of(own, stands);
+    let kept = stood_in(went, own, stands);
+    let next = go_to_part(alloc, events, frames, kept, shown, list, end)?;
     let going = first_of(own, least(stands, row.many));
     let begin = begin_part(events, bytes, tab, going, first, line)?;
     let lines = lines_of(row, ahead);
@@ -261,7 +354,12 @@ fn write_part(
         end.place,
         line,
     )?;
-    Ok(Part { lines, end })
+    Ok(Part {
+        lines,
+        end,
+        stood: next,
+        passed: next_passed,
+    })
 }
 
 /// The events of a skeleton, by the lines of a document and what lies ahead of each; that of the last line comes first.
@@ -293,6 +391,11 @@ fn write_parts(
         },
         behind: None,
     };
+    let mut stood = Stood {
+        containers: 0,
+        spans: 0,
+    };
+    let mut passed = Passed { from: 0, to: 0 };
     let mut i = 0;
     while i < rows.len() {
         let part = write_part(
@@ -302,6 +405,8 @@ fn write_parts(
             tab,
             &mut stack,
             &mut frames,
+            stood,
+            passed,
             &rows[i],
             &rows[i + 1..],
             aheads[rows.len() - 1 - i],
@@ -309,9 +414,11 @@ fn write_parts(
             &mut line,
         )?;
         end = part.end;
+        stood = part.stood;
+        passed = part.passed;
         i += 1 + part.lines;
     }
-    end_part(&mut events, &mut frames, end, &[])?;
+    end_part(&mut events, &mut frames, 0, end, &[])?;
     Ok(events)
 }
 

@@ -18,10 +18,10 @@ use crate::chunks::begin_chunk;
 use crate::going::{Open, first_of};
 use crate::prefixes::{At, going_prefixes};
 use crate::spans::{RowAt, start_of};
+use crate::texts::read_text;
 use crate::writing::exit;
 use markdown_base::configuration::TabSize;
 use markdown_base::event::{Event, Name, Point};
-use mdconstructs_lines::places::read_line;
 use std::alloc::AllocError;
 
 /// A chunk from one place to another, linked to the one at an index, if there is one. Returns the index of its enter.
@@ -58,7 +58,7 @@ pub(crate) fn prefixes_of(
     ensures place { let s = at.now.span in IfOk result (λ p. p.place ≡ place_after tab bytes.now (point s.number 1 s.start 0) p.columns) }
 {
     let span = at.span;
-    read_line(line, bytes, tab, span.start)?;
+    read_text(line, bytes, tab, span.start)?;
     going_prefixes(
         events,
         bytes,

@@ -1,9 +1,12 @@
-use Rattle.std.proofs.Common.{◌≡◌, ◌<◌, ◌≤◌, List, length, ap, drop, arith}
+use Rattle.std.proofs.Common.{◌≡◌, ◌<◌, ◌≤◌, ◌+◌, ℕ, cond, List, length, ap, drop, sym, subst, ◌∙◌, arith}
+use Rattle.std.specs.Prelude.{◌==◌}
 use Rattle.mdconstructs_machines.specs.Breaks.{is_white}
 use Rattle.mdconstructs_flow_read.specs.LineKinds.{indent}
 use Rattle.mdconstructs_lines.specs.Containers.{Prefix}
 use Rattle.mdconstructs_containers.specs.Prefixes.{columns_of}
 use Rattle.mdconstructs_containers.proofs.GoingLemmas.{prefix_within, going_step, going_columns, going_end}
+use Rattle.mdconstructs_containers.specs.Over.{AreOver}
+use Rattle.mdconstructs_containers.proofs.OverLemmas.{at_end, over_all, over_columns, over_many, over_more}
 use Rattle.mdconstructs_containers.proofs.going.going_on.Goals as goal
 
 pub goes_on_open-requires-clause-within : goal.goes_on_open-requires-clause-within
@@ -19,12 +22,17 @@ loop-entry-preserved c =
     let s = going_step c.args.stack.now c.args.number c.args.t.now c.behind.result.now c.loop-entry.entry-index c.loop-entry.at _ h c.behind.ensures.value c.in-Some.size c.in-Some.ensures.value in
     let m = going_columns c.args.stack.now c.args.number c.args.t.now c.behind.result.now c.loop-entry.entry-index c.loop-entry.at _ h c.behind.ensures.value c.in-Some.size c.in-Some.ensures.value in
     let n = ap (λ (ps : List Prefix). length ps) s in
+    let count : c.loop-entry.many + 1 ≡ c.loop-entry.entry-index + 1 = omega (arith, i.count) in
     record {
       many = omega (arith, i.many, n);
       columns = omega (arith, i.columns, m);
       count = omega (arith, i.count);
       within = omega (arith, c.in-Some.ensures.within, c.behind.ensures.len, i.within);
       first = c.first_from-first.ensures.value;
+      over = λ before.
+          subst (λ (f : ℕ). AreOver (c.args.number + 1) f (c.loop-entry.entry-index + 1) c.args.stack.now)
+          (sym (c.over_behind-from.ensures ∙ (λ k. cond (c.loop-entry.at == length c.args.t.now) c.loop-entry.from (count k))))
+          (over_more c.args.number c.in-Some.size c.loop-entry.from c.loop-entry.entry-index c.args.stack.now _ c.args.t.now c.behind.result.now c.loop-entry.at h before (i.over before) c.behind.ensures.value c.in-Some.ensures.value);
     }
 
 pub returns-in_default-clause-many : goal.returns-in_default-clause-many
@@ -42,3 +50,25 @@ returns-in_default-clause-columns c =
     let s = going_end c.args.stack.now c.args.number c.args.t.now c.behind.result.now c.loop-entry.entry-index c.loop-entry.at _ h c.behind.ensures.value c.in_default.ensures.value in
     let n = ap columns_of s in
     omega (arith, i.columns, n)
+
+pub returns-in_default-clause-over : goal.returns-in_default-clause-over
+returns-in_default-clause-over c = λ before. subst (λ (n : ℕ). AreOver (c.args.number + 1) c.loop-entry.from n c.args.stack.now) (sym c.loop-entry.invariant.count) (c.loop-entry.invariant.over before)
+
+pub returns-then-goes_over : goal.returns-then-goes_over
+returns-then-goes_over c =
+    let i = c.loop-entry.invariant in
+    let stack = c.args.stack.now in
+    let n = c.loop-entry.entry-index in
+    let here : n < length stack = omega arith in
+    let is = at_end c.loop-entry.at (length c.args.t.now) c.args.over c.loop-entry.many (sym c.goes_over.ensures ∙ c.if-goes_over.true) in
+    let le : c.args.over ≤ n = omega (arith, is.1, i.count) in
+    let none : length c.args.t.now ≤ c.loop-entry.at = omega (arith, is.0) in
+    let many = over_many stack c.args.number c.args.t.now n c.loop-entry.at c.args.over c.requires le none in
+    let columns = over_columns stack c.args.number c.args.t.now n c.loop-entry.at c.args.over c.requires le none in
+    record {
+      many = omega (arith, i.many, many, here);
+      columns = omega (arith, i.columns, columns);
+      few = omega (arith);
+      within = i.within;
+      over = λ before. (over_all c.args.number c.loop-entry.from n c.args.over stack le c.requires (i.over before));
+    }

@@ -1,5 +1,6 @@
 use Rattle.std.proofs.Common.{◌≡◌, ◌+◌, ◌≤◌, length, drop, map}
 use Rattle.mdconstructs_flow_read.specs.LineKinds.{indent}
+use Rattle.mdconstructs_containers.specs.Over.{AreBefore, AreOver}
 use Rattle.mdconstructs_containers.specs.Prefixes.{going_on, columns_of}
 use Rattle.mdconstructs_containers.specs.Views.{open_of}
 use Rattle.mdconstructs_containers.proofs.going.going_on.Given as goal
@@ -11,4 +12,5 @@ invariant-loop-entry l = record {
   count : l.many ≡ l.entry-index;
   within : l.at ≤ length l.t;
   first : l.first ≡ l.at + indent (drop l.at l.t);
+  over : AreBefore l.number l.stack → AreOver (l.number + 1) l.from l.entry-index l.stack;
 }

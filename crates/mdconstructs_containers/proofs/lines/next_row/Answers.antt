@@ -19,7 +19,7 @@ returns c =
     let is : IsRow c.args.number c.in_ok-row.row r = c.in_ok-row.ensures.row line text in
     let next = next_is c.args.bytes.now c.args.start c.in_ok-end.end c.behind_ending-next.result c.in_ok-end.ensures.end c.behind_ending-next.ensures.value in
     let few : c.in_ok-row.row.many ≤ length c.args.before.now.stack.items = omega (arith, went_few c.args.on.now b c.args.number line c.in_ok-row.row.many is.many, length-map c.args.before.now.stack.items open_of) in
-    let size : c.len.result ≡ length c.read_line.new.line.items = omega (arith, c.len.ensures, c.read_line.new.line.ok) in
+    let size : c.len.result ≡ length c.read_text.new.line.items = omega (arith, c.len.ensures, c.read_text.new.line.ok) in
     record {
       number = refl;
       placed = record {
@@ -37,4 +37,5 @@ returns c =
       more = next_more c.args.bytes.now c.args.start c.behind_ending-next.result c.requires.inside next;
       within = c.behind_ending-next.ensures.within;
       depth = c.in_ok-go_behind.ensures.depth c.requires.depth few;
+      over = c.in_ok-go_behind.ensures.over c.requires.over (c.in_ok-row.ensures.over c.requires.began) few;
     }

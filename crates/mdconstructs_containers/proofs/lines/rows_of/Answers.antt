@@ -1,12 +1,19 @@
 use Rattle.std.proofs.Common.{◌≡◌, ◌<◌, ℕ, List, length, drop, map, refl, sym, ap, subst, ◌+◌, ◌∙◌, suc, arith, length-drop}
 use Rattle.std.proofs.lemmas.List.{drop_all, length_push}
+use Rattle.std.specs.List.{AllByRecursion}
 use Rattle.markdown_base.specs.Virtual.{virtual}
 use Rattle.mdconstructs_machines.specs.LineEvents.{lines_in}
-use Rattle.mdconstructs_containers.specs.Rows.{nothing_known, rows}
+use Rattle.mdconstructs_lines.specs.Lines.{line_at}
+use Rattle.mdconstructs_containers.specs.declared.going.Open.{Open}
+use Rattle.mdconstructs_containers.specs.Over.{AreBefore, AreOver}
+use Rattle.mdconstructs_containers.specs.Rows.{Before, nothing_known, rows}
 use Rattle.mdconstructs_containers.specs.declared.spans.RowAt.{RowAt}
 use Rattle.mdconstructs_containers.specs.Spans.{IsPlaced, ArePlaced}
 use Rattle.mdconstructs_containers.specs.Views.{before_of, open_of}
 use Rattle.mdconstructs_containers.proofs.DocumentRows.{AreRowsBefore, rows_left, placed_push, rows_init, rows_more, rows_all}
+use Rattle.mdconstructs_containers.proofs.FrameFacts.{old_after}
+use Rattle.mdconstructs_containers.proofs.OverLemmas.{began_before}
+use Rattle.mdconstructs_containers.proofs.RowFacts.{BeganBefore}
 use Rattle.mdconstructs_containers.proofs.lines.rows_of.Goals as goal
 
 pub loop-start-init : goal.loop-start-init
@@ -17,6 +24,8 @@ loop-start-init c =
     record {
       within = omega arith;
       depth = omega (arith, e.depth);
+      over = λ k d a b. absurd (omega (arith, b, e.depth));
+      began = subst (λ (l : List Open). AllByRecursion (BeganBefore (length c.new-found.result.items + 1)) (map open_of l)) (sym e.stack) tt;
       placed = subst (λ (l : List RowAt). ArePlaced c.args.tab c.args.bytes.now 1 0 l 0) (sym c.new-found.ensures.items) refl;
       found = rows_init c.args.on.now c.args.tab c.args.bytes.now c.new-found.result.items (before_of c.new-before.result) (length c.new-found.result.items + 1) c.new-found.ensures.items none first;
     }
@@ -30,11 +39,17 @@ loop-start-preserved c =
     let number : length xs + 1 ≡ c.len-number.result + 1 = omega (arith, c.len-number.ensures, c.loop-start.found.ok) in
     let left : 0 < length (drop c.loop-start.start c.args.bytes.now) = omega (arith, length-drop c.loop-start.start c.args.bytes.now) in
     let further : length c.push.new.self.items + 1 ≡ suc (c.len-number.result + 1) = omega (arith, ap length c.in_ok-push.ensures.items, length_push xs c.in_ok-at.at, number) in
+    let later : suc (c.len-number.result + 1) ≡ (c.len-number.result + 1) + 1 = omega arith in
     let one : c.len-number.result + 1 ≡ 1 + length xs = omega (arith, number) in
     let so_far = subst (λ (n : ℕ). AreRowsBefore xs (rows_left c.args.on.now c.args.tab c.args.bytes.now (before_of c.loop-start.before) n c.loop-start.start) all) number i.found in
     record {
       within = c.in_ok-at.ensures.within;
       depth = c.in_ok-at.ensures.depth;
+      over = subst (λ (n : ℕ). AreOver n c.next_row.new.before.over c.next_row.new.before.depth c.next_row.new.before.stack.items) (sym (further ∙ later)) c.in_ok-at.ensures.over;
+      began = subst (λ (n : ℕ). AllByRecursion (BeganBefore n) (before_of c.next_row.new.before).stack) (sym further)
+          (subst (λ (b : Before). AllByRecursion (BeganBefore (suc (c.len-number.result + 1))) b.stack) (sym c.in_ok-at.ensures.before)
+          (old_after c.args.on.now (before_of c.loop-start.before) (c.len-number.result + 1) (line_at c.args.tab (c.len-number.result + 1) c.loop-start.start (drop c.loop-start.start c.args.bytes.now))
+          (subst (λ (n : ℕ). AllByRecursion (BeganBefore n) (before_of c.loop-start.before).stack) number i.began)));
       placed = placed_push c.args.tab c.args.bytes.now 1 0 xs c.push.new.self.items c.in_ok-at.at c.loop-start.start c.in_ok-push.ensures.items i.placed
           (subst (λ (n : ℕ). IsPlaced c.args.tab c.args.bytes.now n c.loop-start.start c.in_ok-at.at) one c.in_ok-at.ensures.placed);
       found = rows_more c.args.on.now c.args.tab c.args.bytes.now some xs c.push.new.self.items c.in_ok-at.at (before_of c.loop-start.before) (before_of c.next_row.new.before) (c.len-number.result + 1) (length c.push.new.self.items + 1)
@@ -50,3 +65,13 @@ returns c =
           none c.loop-start.invariant.found;
       placed = subst (ArePlaced c.args.tab c.args.bytes.now 1 0 c.loop-start.found.items) all c.loop-start.invariant.placed;
     }
+
+pub next_row-requires-clause-over : goal.next_row-requires-clause-over
+next_row-requires-clause-over c =
+    let number : length c.loop-start.found.items + 1 ≡ c.len-number.result + 1 = omega (arith, c.len-number.ensures, c.loop-start.found.ok) in
+    subst (λ (n : ℕ). AreOver n c.loop-start.before.over c.loop-start.before.depth c.loop-start.before.stack.items) number c.loop-start.invariant.over
+
+pub next_row-requires-clause-began : goal.next_row-requires-clause-began
+next_row-requires-clause-began c =
+    let number : length c.loop-start.found.items + 1 ≡ c.len-number.result + 1 = omega (arith, c.len-number.ensures, c.loop-start.found.ok) in
+    subst (λ (n : ℕ). AreBefore n c.loop-start.before.stack.items) number (began_before (length c.loop-start.found.items + 1) c.loop-start.before.stack.items c.loop-start.invariant.began)

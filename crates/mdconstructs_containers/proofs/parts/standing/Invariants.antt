@@ -1,5 +1,6 @@
 use Rattle.std.proofs.Common.{◌≡◌, ◌≤◌, length, take, map}
 use Rattle.std.specs.Prelude.{reverse}
+use Rattle.mdconstructs_containers.specs.Over.{AreEarlier}
 use Rattle.mdconstructs_containers.specs.Skeleton.{left_in}
 use Rattle.mdconstructs_containers.specs.Views.{open_of}
 use Rattle.mdconstructs_containers.proofs.parts.standing.Given as goal
@@ -7,6 +8,7 @@ use Rattle.mdconstructs_containers.proofs.parts.standing.Given as goal
 abbrev pub invariant-loop-n : goal.invariant-loop-n
 invariant-loop-n l = record {
   within : l.n ≤ length l.stack;
+  passed : AreEarlier l.number l.n (length l.stack) (map open_of l.stack);
   same : left_in l.many l.number (reverse (map open_of l.stack)) ≡ left_in l.many l.number (reverse (map open_of (take l.n l.stack)));
 }
 

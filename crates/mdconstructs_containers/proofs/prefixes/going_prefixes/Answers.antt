@@ -1,12 +1,14 @@
-use Rattle.std.proofs.Common.{◌≡◌, ◌<◌, ◌≤◌, ◌+◌, List, length, ap, drop, arith, ◌∙◌}
+use Rattle.std.proofs.Common.{◌≡◌, ◌<◌, ◌≤◌, ◌+◌, ℕ, List, [], length, map, ap, drop, arith, ◌∙◌}
+use Rattle.std.proofs.lemmas.List.{drop_all, length-map}
 use Rattle.markdown_base.specs.Virtual.{Seat}
 use Rattle.mdconstructs_machines.specs.Breaks.{is_white}
 use Rattle.mdconstructs_flow_read.specs.LineKinds.{indent}
 use Rattle.mdconstructs_lines.specs.Containers.{Prefix}
 use Rattle.mdconstructs_lines.specs.Lines.{place_after}
 use Rattle.mdconstructs_containers.specs.Prefixes.{columns_of}
+use Rattle.mdconstructs_containers.specs.Views.{open_of}
 use Rattle.mdconstructs_containers.proofs.GoingLemmas.{prefix_within, going_columns, going_end}
-use Rattle.mdconstructs_containers.proofs.PrefixLemmas.{quote_fits, going_written, going_none}
+use Rattle.mdconstructs_containers.proofs.PrefixLemmas.{quote_fits, going_written, going_nothing, nothing_columns}
 use Rattle.mdconstructs_containers.proofs.WritingLemmas.{columns_behind, place_chain}
 use Rattle.mdconstructs_containers.proofs.prefixes.going_prefixes.Goals as goal
 
@@ -39,3 +41,17 @@ going_prefix-requires c =
       columns = columns_behind c.args.tab c.args.bytes.now c.args.start c.loop-entry.place (length c.args.t.now) c.loop-entry.at (length c.front-part.result.now) i.place c.requires.columns (omega (arith, c.front-part.ensures.len, c.in-Some.ensures.within, c.behind-rest.ensures.len, i.within));
       marker = quote_fits _ c.args.number _ c.behind-rest.result.now c.front-part.result.now c.in-Some.size c.in-Some.ensures.value c.front-part.ensures.value;
     }
+
+pub returns-then-at-whole-clause-marks : goal.returns-then-at-whole-clause-marks
+returns-then-at-whole-clause-marks c = λ seats are is.
+    let stack = map open_of (drop c.loop-entry.entry-index c.args.stack.now) in
+    let gone : drop c.loop-entry.at c.args.t.now ≡ [] = drop_all c.loop-entry.at c.args.t.now (omega (arith, c.if-at-whole.true)) in
+    let size : length c.args.t.now ≡ length seats = ap (λ (l : List ℕ). length l) is ∙ length-map seats (λ (s : Seat). s.byte) in
+    let left : drop c.loop-entry.at seats ≡ [] = drop_all c.loop-entry.at seats (omega (arith, c.if-at-whole.true, size)) in
+    going_nothing c.args.bytes.now stack c.args.number c.loop-entry.events.items _ _ _ gone left (c.loop-entry.invariant.marks seats are is)
+
+pub returns-then-at-whole-clause-columns : goal.returns-then-at-whole-clause-columns
+returns-then-at-whole-clause-columns c =
+    let gone : drop c.loop-entry.at c.args.t.now ≡ [] = drop_all c.loop-entry.at c.args.t.now (omega (arith, c.if-at-whole.true)) in
+    let none = nothing_columns (map open_of (drop c.loop-entry.entry-index c.args.stack.now)) c.args.number _ gone in
+    omega (arith, none, c.loop-entry.invariant.columns)

@@ -1,26 +1,33 @@
 use Rattle.std.proofs.Common.{◌≡◌, ◌⊎◌, inl, inr, ℕ, ◌+◌, ◌-◌, ◌<◌, ◌≤◌, ◌^◌, ◌*◌, Bool, true, false, cond, List, [], ◌∷◌, ◌++◌, length, take, drop, map, min, length-take, refl, sym, ap, ◌∙◌, subst, arith}
 use Rattle.std.specs.Prelude.{◌==◌, ◌&&◌, not, Some, None}
 use Rattle.std.specs.List.{flat_map}
+use Rattle.std.proofs.lemmas.List.{append-nil, length-map}
 use Rattle.markdown_base.specs.declared.event.Event.{Event}
 use Rattle.markdown_base.specs.Virtual.{point}
 use Rattle.mdconstructs_flow_read.specs.LeafEvents.{Mark}
-use Rattle.mdconstructs_lines.specs.Containers.{Container}
+use Rattle.mdconstructs_lines.specs.Containers.{Container, Prefix}
 use Rattle.mdconstructs_containers.specs.declared.frames.Frame.{Frame}
 use Rattle.mdconstructs_containers.specs.declared.going.Open.{Open}
 use Rattle.mdconstructs_containers.specs.declared.spans.RowAt.{RowAt}
 use Rattle.mdconstructs_containers.specs.Ahead.{ahead_of}
 use Rattle.mdconstructs_containers.specs.Frames.{frame_of, frames_in}
+use Rattle.mdconstructs_containers.specs.Over.{AreEarlier}
 use Rattle.mdconstructs_containers.specs.Parts.{open_behind}
 use Rattle.mdconstructs_containers.specs.Rest.{AreLeft, ending_to, exits_to, rest_marks}
-use Rattle.mdconstructs_containers.specs.Rows.{Row, holds_ending}
+use Rattle.mdconstructs_containers.specs.Rows.{Row, has_none, holds_ending}
 use Rattle.mdconstructs_containers.specs.SeatPlaces.{events_of}
 use Rattle.mdconstructs_containers.specs.Skeleton.{behind_marks, frames_at, frames_of, further, inside_of, is_held, parts, shared}
+use Rattle.mdconstructs_containers.specs.Prefixes.{containers_of}
+use Rattle.mdconstructs_containers.specs.Stood.{IsStood}
 use Rattle.mdconstructs_containers.specs.Stretches.{HasFurther, InStretch, end_at, last_at}
-use Rattle.mdconstructs_containers.specs.Views.{leaf_of, open_of}
+use Rattle.mdconstructs_containers.specs.Views.{begun_of, leaf_of, open_of}
 use Rattle.mdconstructs_containers.specs.Written.{Written}
-use Rattle.mdconstructs_containers.proofs.PartFacts.{lines_few, the_columns, the_fits, the_going, the_inside, the_lazy, the_left, the_row, the_sum, the_went}
+use Rattle.mdconstructs_containers.proofs.FrameFacts.{none_is}
+use Rattle.mdconstructs_containers.proofs.PartLemmas.{passed_next, passed_own}
+use Rattle.mdconstructs_containers.proofs.PartFacts.{lines_few, the_columns, the_fits, the_going, the_inside, the_lazy, the_left, the_many, the_row, the_sum, the_went}
 use Rattle.mdconstructs_containers.proofs.PartWritten.{begin_small, blank_columns, ends_is, few_of, frames_is, further_left, going_of, last_number, last_size, left_behind, own_of, rest_is, stretch_begins, write_begin, write_blank}
 use Rattle.mdconstructs_containers.proofs.RestLemmas.{part_of}
+use Rattle.mdconstructs_containers.proofs.StoodLemmas.{spans_all, spans_fewer, spans_own, spans_shown, stood_all, stood_own, stood_shown}
 use Rattle.mdconstructs_containers.proofs.skeleton.write_part.Goals as goal
 use Rattle.markdown_children.proofs.ChainOrder.Following.{by_test}
 
@@ -35,6 +42,72 @@ begin_part-requires c =
       going = the_going c.args.tab c.args.bytes.now some c.requires.limit stack c.args.first.now c.args.behind.now p.row p.rows p.left;
       fits = the_fits c.args.tab c.args.bytes.now some c.requires.limit stack c.args.first.now c.args.behind.now p.row p.rows p.left;
       sum = the_sum c.args.tab c.args.bytes.now some c.requires.limit stack c.args.first.now c.args.behind.now p.row p.rows p.left;
+    }
+
+-- the containers of the part before, in the code's slice
+pub stood_in-went-requires : goal.stood_in-went-requires
+stood_in-went-requires c = subst (λ (l : List Open). IsStood c.args.stood (map open_of l)) (sym c.as_slice.ensures.value) c.requires.stood
+
+pub stood_in-kept-requires : goal.stood_in-kept-requires
+stood_in-kept-requires c =
+    let t = c.args.tab in
+    let bytes = c.args.bytes.now in
+    let some : 0 < c.args.tab = omega (arith, c.get-tab_size.ensures.least, c.get-tab_size.ensures.columns) in
+    let stack = map open_of c.args.stack.now.items in
+    let p = c.requires.part in
+    let first = c.args.first.now in
+    let behind = c.args.behind.now in
+    let went = the_went t bytes some c.requires.limit stack first behind p.row p.rows p.left in
+    let own_all = c.in_ok-all.ensures.many p.row (the_row t bytes some c.requires.limit stack first behind p.row p.rows p.left) went (the_left t bytes some c.requires.limit stack first behind p.row p.rows p.left) (the_lazy t bytes some c.requires.limit stack first behind p.row p.rows p.left) in
+    let own_is = own_of c.open_in.new.stack.items c.first_of-own.result.now c.as_slice-2.result.now c.in_ok-all.all c.first_of-own.ensures c.as_slice-2.ensures.value in
+    let before = subst (λ (l : List Open). IsStood c.stood_in-went.result (map open_of l)) c.as_slice.ensures.value c.stood_in-went.ensures.stood in
+    stood_own c.stood_in-went.result stack (map open_of c.first_of-own.result.now) (containers_of p.row.went_on) (containers_of p.row.begun) first.row.many before c.stood_in-went.ensures.few went (own_is ∙ own_all)
+
+pub standing-stands-requires : goal.standing-stands-requires
+standing-stands-requires c =
+    let t = c.args.tab in
+    let bytes = c.args.bytes.now in
+    let some : 0 < c.args.tab = omega (arith, c.get-tab_size.ensures.least, c.get-tab_size.ensures.columns) in
+    let stack = map open_of c.args.stack.now.items in
+    let p = c.requires.part in
+    let first = c.args.first.now in
+    let behind = c.args.behind.now in
+    let the = the_row t bytes some c.requires.limit stack first behind p.row p.rows p.left in
+    let went = the_went t bytes some c.requires.limit stack first behind p.row p.rows p.left in
+    let own_all = c.in_ok-all.ensures.many p.row the went (the_left t bytes some c.requires.limit stack first behind p.row p.rows p.left) (the_lazy t bytes some c.requires.limit stack first behind p.row p.rows p.left) in
+    let own = map open_of c.first_of-own.result.now in
+    let own_is = own_of c.open_in.new.stack.items c.first_of-own.result.now c.as_slice-2.result.now c.in_ok-all.all c.first_of-own.ensures c.as_slice-2.ensures.value in
+    let none_begin : has_none first.row.begun.items ≡ true → own ≡ take first.row.many stack =
+    λ none.
+    let begun : p.row.begun ≡ [] = sym the.begun ∙ ap (begun_of first.row.list first.span.number) (none_is first.row.begun.items none) in
+    own_is ∙ own_all ∙ ap (λ (l : List Prefix). containers_of p.row.went_on ++ containers_of l) begun ∙ append-nil (containers_of p.row.went_on) ∙ went in
+    let few : length own ≤ c.in_ok-all.all = omega (arith, ap (λ (l : List Container). length l) own_is, length-take c.in_ok-all.all (map open_of c.open_in.new.stack.items)) in
+    subst (λ (n : ℕ). AreEarlier first.span.number c.passed_in-seen.result n own) (length-map c.first_of-own.result.now open_of)
+    (passed_own first.span.number c.args.passed.from c.args.passed.to first.row.many c.in_ok-all.all c.passed_in-seen.result stack own (has_none first.row.begun.items) c.requires.passed none_begin few c.passed_in-seen.ensures)
+
+pub go_to_part-requires : goal.go_to_part-requires
+go_to_part-requires c =
+    let t = c.args.tab in
+    let bytes = c.args.bytes.now in
+    let some : 0 < c.args.tab = omega (arith, c.get-tab_size.ensures.least, c.get-tab_size.ensures.columns) in
+    let stack = map open_of c.args.stack.now.items in
+    let p = c.requires.part in
+    let first = c.args.first.now in
+    let behind = c.args.behind.now in
+    let frames = c.args.frames.now.items in
+    let went = the_went t bytes some c.requires.limit stack first behind p.row p.rows p.left in
+    let own_all = c.in_ok-all.ensures.many p.row (the_row t bytes some c.requires.limit stack first behind p.row p.rows p.left) went (the_left t bytes some c.requires.limit stack first behind p.row p.rows p.left) (the_lazy t bytes some c.requires.limit stack first behind p.row p.rows p.left) in
+    let own = map open_of c.first_of-own.result.now in
+    let own_is = own_of c.open_in.new.stack.items c.first_of-own.result.now c.as_slice-2.result.now c.in_ok-all.all c.first_of-own.ensures c.as_slice-2.ensures.value in
+    let before = subst (λ (l : List Open). IsStood c.stood_in-went.result (map open_of l)) c.as_slice.ensures.value c.stood_in-went.ensures.stood in
+    let has = spans_fewer frames c.args.stood c.stood_in-went.result stack c.requires.spans c.requires.stood before c.stood_in-went.ensures.fewer in
+    let own_stood = stood_own c.stood_in-went.result stack own (containers_of p.row.went_on) (containers_of p.row.begun) first.row.many before c.stood_in-went.ensures.few went (own_is ∙ own_all) in
+    let own_has = spans_own c.stood_in-went.result stack own (containers_of p.row.went_on) (containers_of p.row.begun) first.row.many before c.stood_in-went.ensures.few went (own_is ∙ own_all) frames has in
+    let kept_has = spans_fewer frames c.stood_in-went.result c.stood_in-kept.result own own_has own_stood c.stood_in-kept.ensures.stood c.stood_in-kept.ensures.fewer in
+    let shown_is = going_of c.first_of-own.result.now c.first_of-shown.result.now c.standing-stands.result c.standing-stands.result c.first_of-shown.ensures refl in
+    record {
+      stood = stood_shown c.stood_in-kept.result own (map open_of c.first_of-shown.result.now) c.standing-stands.result c.stood_in-kept.ensures.stood c.stood_in-kept.ensures.few shown_is;
+      spans = spans_shown c.stood_in-kept.result own (map open_of c.first_of-shown.result.now) c.standing-stands.result c.stood_in-kept.ensures.stood c.stood_in-kept.ensures.few shown_is frames kept_has;
     }
 
 pub slice_bounds-more-end : goal.slice_bounds-more-end
@@ -67,7 +140,7 @@ fill_part-requires c =
     let the = the_row t bytes some c.requires.limit stack first behind p.row p.rows p.left in
     let went = the_went t bytes some c.requires.limit stack first behind p.row p.rows p.left in
     let own_all = c.in_ok-all.ensures.many p.row the went (the_left t bytes some c.requires.limit stack first behind p.row p.rows p.left) (the_lazy t bytes some c.requires.limit stack first behind p.row p.rows p.left) in
-    let own_is = own_of c.open_in.new.stack.items c.first_of-own.result.now c.as_slice.result.now c.in_ok-all.all c.first_of-own.ensures c.as_slice.ensures.value in
+    let own_is = own_of c.open_in.new.stack.items c.first_of-own.result.now c.as_slice-2.result.now c.in_ok-all.all c.first_of-own.ensures c.as_slice-2.ensures.value in
     let going_is = going_of c.first_of-own.result.now c.first_of-going.result.now c.least.result (min c.standing-stands.result first.row.many) c.first_of-going.ensures c.least.ensures in
     let stack_is = ap (map open_of) c.as_slice-3.ensures.value ∙ c.in_ok-all.ensures.stack p.row the went in
     record {
@@ -90,9 +163,22 @@ returns c =
     let first = c.args.first.now in
     let behind = c.args.behind.now in
     let ahead = c.args.ahead in
-    let next = map frame_of c.in_ok-next.next.items in
+    let next = map frame_of c.go_to_part.new.frames.items in
     let p = c.requires.part in
+    let all_open = map open_of c.open_in.new.stack.items in
+    let all_own = map open_of c.first_of-own.result.now in
+    let all_own_is = own_of c.open_in.new.stack.items c.first_of-own.result.now c.as_slice-2.result.now c.in_ok-all.all c.first_of-own.ensures c.as_slice-2.ensures.value in
+    let all_shown_is = going_of c.first_of-own.result.now c.first_of-shown.result.now c.standing-stands.result c.standing-stands.result c.first_of-shown.ensures refl in
+    let all_size = c.in_ok-next.ensures.containers ∙ sym (length-map c.first_of-shown.result.now open_of) in
+    let all_few : c.in_ok-all.all ≤ length all_open =
+    omega (arith, c.in_ok-all.ensures.few (omega (arith, the_many t bytes some limit stack first behind p.row p.rows p.left, length-map c.args.stack.now.items open_of)), length-map c.open_in.new.stack.items open_of) in
     record {
+      passed = passed_next first.span.number c.standing-stands.result c.in_ok-all.all c.passed_by-next_passed.result.from c.passed_by-next_passed.result.to all_own all_open first.row.is_blank (has_none first.row.begun.items) all_own_is all_few
+          c.passed_by-next_passed.ensures.from c.passed_by-next_passed.ensures.to
+          (λ b. subst (λ (n : ℕ). AreEarlier first.span.number c.standing-stands.result n all_own) (sym (length-map c.first_of-own.result.now open_of)) (c.standing-stands.ensures.passed b));
+      stood = stood_all c.in_ok-next.next all_open all_own (map open_of c.first_of-shown.result.now) c.in_ok-all.all c.standing-stands.result c.in_ok-next.ensures.stood all_size all_own_is all_shown_is;
+      spans = spans_all c.in_ok-next.next all_open all_own (map open_of c.first_of-shown.result.now) c.in_ok-all.all c.standing-stands.result c.in_ok-next.ensures.stood all_size all_own_is all_shown_is c.go_to_part.new.frames.items
+          (frames_in c.list_behind-list.result) c.in_ok-next.ensures.frames;
       few = let few = lines_few t bytes some limit stack first behind p.row p.rows p.left ahead p.ahead_is in omega (arith, few, c.lines_of-lines.ensures);
       left = λ r rs left ae.
           subst (λ (n : ℕ). AreLeft bytes t (map open_of c.open_in.new.stack.items) (drop n behind) (drop n rs)) (sym c.lines_of-lines.ensures)
@@ -104,19 +190,19 @@ returns c =
           let own = map open_of c.first_of-own.result.now in
           let stands = c.standing-stands.result in
           let own_all = c.in_ok-all.ensures.many r the went (the_left t bytes some limit stack first behind r rs left) (the_lazy t bytes some limit stack first behind r rs left) in
-          let own_is = own_of c.open_in.new.stack.items c.first_of-own.result.now c.as_slice.result.now c.in_ok-all.all c.first_of-own.ensures c.as_slice.ensures.value in
+          let own_is = own_of c.open_in.new.stack.items c.first_of-own.result.now c.as_slice-2.result.now c.in_ok-all.all c.first_of-own.ensures c.as_slice-2.ensures.value in
           let few = few_of c.first_of-own.result.now stands c.standing-stands.ensures.few in
           let going = map open_of c.first_of-going.result.now in
           let going_is = going_of c.first_of-own.result.now c.first_of-going.result.now c.least.result (min stands first.row.many) c.first_of-going.ensures c.least.ensures in
           let open_is = c.in_ok-all.ensures.stack r the went in
-          let shown_is : map open_of c.first_of.result.now ≡ take stands own = going_of c.first_of-own.result.now c.first_of.result.now stands stands c.first_of.ensures refl in
-          let frames : next ≡ frames_at r rs = c.in_ok-next.ensures ∙ (λ k. flat_map frames_of (shown_is k) ++ frames_in c.list_behind-list.result)
+          let shown_is : map open_of c.first_of-shown.result.now ≡ take stands own = going_of c.first_of-own.result.now c.first_of-shown.result.now stands stands c.first_of-shown.ensures refl in
+          let frames : next ≡ frames_at r rs = c.in_ok-next.ensures.frames ∙ (λ k. flat_map frames_of (shown_is k) ++ frames_in c.list_behind-list.result)
           ∙ frames_is t bytes some limit stack first behind r rs left ahead ae open_now own c.in_ok-all.all stands own_is own_all c.standing-stands.ensures.value few (frames_in c.list_behind-list.result) c.list_behind-list.ensures in
           let old = map frame_of c.args.frames.now.items in
-          let exits = c.in_ok-end_part.ensures ∙ ap (λ (l : List Frame). c.args.events.now.items ++ (events_of (exits_to (drop (shared old (map frame_of l)) old) c.args.end.place) ++ events_of (ending_to c.args.end))) c.as_slice-2.ensures.value in
+          let exits = c.in_ok-next.ensures.events in
           let rest = behind_marks bytes (part_of r rs) (parts (drop (cond r.is_blank 0 (further rs)) rs)) in
           let begun = write_begin t bytes some limit stack first behind r rs left ahead ae open_now own c.in_ok-all.all stands own_is own_all c.standing-stands.ensures.value few going going_is
-          c.args.events.now.items c.end_part.new.events.items c.begin_part.new.events.items old next c.args.end all frames exits c.in_ok-begin.ensures.marks w in
+          c.args.events.now.items c.go_to_part.new.events.items c.begin_part.new.events.items old next c.args.end all frames exits c.in_ok-begin.ensures.marks w in
           let e = c.end_of_part-end.result in
           let n : c.lines_of-lines.result ≡ cond first.row.is_blank 0 ahead.further = c.lines_of-lines.ensures in
           let place = c.end_of_part-end.ensures.place ∙ (λ k. end_at (not first.row.is_blank && holds_ending (leaf_of (last_at first (take (n k) behind)).row.leaf)) (last_at first (take (n k) behind))) in

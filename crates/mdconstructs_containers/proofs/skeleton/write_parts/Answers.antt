@@ -1,4 +1,4 @@
-use Rattle.std.proofs.Common.{◌≡◌, ℕ, suc, ◌+◌, ◌-◌, ◌<◌, ◌≤◌, false, List, [], ◌∷◌, ◌++◌, length, take, drop, map, get_or, refl, sym, ap, ◌∙◌, subst, arith, length-drop, length-take}
+use Rattle.std.proofs.Common.{◌≡◌, ℕ, zero, suc, ◌+◌, ◌-◌, ◌<◌, ◌≤◌, false, List, [], ◌∷◌, ◌++◌, length, take, drop, map, get_or, refl, sym, ap, ◌∙◌, subst, arith, length-drop, length-take}
 use Rattle.std.specs.Prelude.{None}
 use Rattle.std.proofs.lemmas.List.{drop_all, drop-drop, drop_more, take_rest}
 use Rattle.markdown_base.specs.declared.event.Event.{Event}
@@ -11,12 +11,17 @@ use Rattle.mdconstructs_containers.specs.declared.parts.PartEnd.{PartEnd}
 use Rattle.mdconstructs_containers.specs.declared.spans.RowAt.{RowAt}
 use Rattle.mdconstructs_containers.specs.Ahead.{ahead_of}
 use Rattle.mdconstructs_containers.specs.Frames.{frame_of}
-use Rattle.mdconstructs_containers.specs.Rest.{AreLeft, HasPart, rest_marks}
+use Rattle.mdconstructs_containers.specs.Over.{AreEarlier}
+use Rattle.mdconstructs_containers.specs.Parts.{open_behind}
+use Rattle.mdconstructs_containers.specs.Spans.{AreRowsIn}
+use Rattle.mdconstructs_containers.specs.Rest.{AreLeft, HasPart, ending_to, exits_to, rest_marks}
 use Rattle.mdconstructs_containers.specs.Rows.{Row}
-use Rattle.mdconstructs_containers.specs.Skeleton.{parts, parts_marks}
+use Rattle.mdconstructs_containers.specs.SeatPlaces.{events_of}
+use Rattle.mdconstructs_containers.specs.Skeleton.{parts, parts_marks, shared}
 use Rattle.mdconstructs_containers.specs.Views.{open_of}
 use Rattle.mdconstructs_containers.specs.Written.{Written}
 use Rattle.mdconstructs_containers.proofs.LineFacts.{outside_zero}
+use Rattle.mdconstructs_containers.proofs.PartLemmas.{earlier_later}
 use Rattle.mdconstructs_containers.proofs.RestLemmas.{next_of, none_left, rest_init, write_last}
 use Rattle.mdconstructs_containers.proofs.WrittenLemmas.{write_init}
 use Rattle.mdconstructs_containers.proofs.skeleton.write_parts.Goals as goal
@@ -36,12 +41,25 @@ ahead_at aheads all size i h f =
     let at : size - (size - 1 - i) ≡ i + 1 = omega arith in
     f no_ahead (size - 1 - i) (omega arith) ∙ ap (λ k. ahead_of (drop k all)) at
 
+-- the number of a line is that of its place
+numbers : (t : ℕ) (bytes : List ℕ) (stack : List Container) (number start : ℕ) (xs : List RowAt) (rs : List Row) (k : ℕ) (d : RowAt) → k < length xs → AreRowsIn t bytes stack number start xs rs → (get_or xs k d).span.number ≡ number + k
+numbers t bytes stack number start [] rs k d h are = absurd (omega (arith, h))
+numbers t bytes stack number start (x ∷ xs) [] k d h are = absurd are
+numbers t bytes stack number start (x ∷ xs) (r ∷ rs) zero d h are = omega (arith, are.0.placed.number_is)
+numbers t bytes stack number start (x ∷ xs) (r ∷ rs) (suc k) d h are = let e = numbers t bytes (open_behind stack r) (suc number) x.span.next xs rs k d (omega (arith, h)) are.1 in omega (arith, e)
+
+number_at : (t : ℕ) (bytes : List ℕ) (rows : List RowAt) (all : List Row) (i : ℕ) (x : RowAt) → i < length rows → x ≡ get_or rows i x → AreRowsIn t bytes [] 1 0 rows all → x.span.number ≡ i + 1
+number_at t bytes rows all i x h e are = let n = numbers t bytes [] 1 0 rows all i x h are in ap (λ (y : RowAt). y.span.number) e ∙ omega (arith, n)
+
 pub loop-i-init : goal.loop-i-init
 loop-i-init g c =
     let bytes = c.args.bytes.now in
     record {
       within = omega arith;
       left = subst (λ (l : List Open). AreLeft bytes c.args.tab (map open_of l) c.args.rows.now g.all) (sym c.new-stack.ensures.items) (record { number = 1; start = 0; are = c.requires.1.0; outside = outside_zero bytes; few = omega arith });
+      passed = λ k d a b. absurd (omega (arith, b));
+      stood = record { few = omega arith; spans = refl };
+      spans = refl;
       written = subst (λ (l : List Frame). Written c.new-events.result.items None false (rest_marks bytes (map frame_of l) no_end (parts g.all)) (parts_marks bytes (parts g.all))) (sym c.new-frames.ensures.items)
           (subst (λ (es : List Event). Written es None false (rest_marks bytes [] no_end (parts g.all)) (parts_marks bytes (parts g.all))) (sym c.new-events.ensures.items)
           (subst (λ (m : List Mark). Written [] None false m (parts_marks bytes (parts g.all))) (sym (rest_init bytes (parts g.all) no_end refl)) (write_init (parts_marks bytes (parts g.all)))));
@@ -53,7 +71,7 @@ write_part-requires g c =
     let rows = c.args.rows.now in
     let split = line_at_index rows i c.index-rows-i.result _ c.loop-i-test.true c.index-rows-i.is in
     let next = next_of c.args.tab c.args.bytes.now (map open_of c.loop-i.stack.items) g.all c.index-rows-i.result (take (length rows - (i + 1)) (drop (i + 1) rows)) (drop i rows) i split c.loop-i.invariant.left in
-    record { limit = c.requires.0; part = record { row = next.row; rows = drop (i + 1) g.all; left = next.left; ahead_is = ahead_at c.args.aheads.now g.all (length rows) i c.loop-i-test.true c.requires.1.1.1 } }
+    record { limit = c.requires.0; part = record { row = next.row; rows = drop (i + 1) g.all; left = next.left; ahead_is = ahead_at c.args.aheads.now g.all (length rows) i c.loop-i-test.true c.requires.1.1.1 }; passed = subst (λ (n : ℕ). AreEarlier n c.loop-i.passed.from c.loop-i.passed.to (map open_of c.loop-i.stack.items)) (sym (number_at c.args.tab c.args.bytes.now rows g.all i c.index-rows-i.result c.loop-i-test.true c.index-rows-i.is c.requires.1.0)) c.loop-i.invariant.passed; stood = c.loop-i.invariant.stood; spans = c.loop-i.invariant.spans }
 
 pub loop-i-preserved : goal.loop-i-preserved
 loop-i-preserved g c =
@@ -73,6 +91,10 @@ loop-i-preserved g c =
       within = omega (arith, c.in_ok-part.ensures.few, ap (λ (l : List RowAt). length l) rest, length-drop (i + 1) rows, c.loop-i-test.true);
       left = subst (λ (l : List Row). AreLeft bytes c.args.tab (map open_of c.write_part.new.stack.items) (drop (i + (1 + lines)) rows) l) all_is
           (subst (λ (l : List RowAt). AreLeft bytes c.args.tab (map open_of c.write_part.new.stack.items) l (drop lines (drop (i + 1) g.all))) rows_is (c.in_ok-part.ensures.left next.row (drop (i + 1) g.all) next.left ahead));
+      passed = earlier_later c.index-rows-i.result.span.number (i + (1 + lines) + 1) c.in_ok-part.part.passed.from c.in_ok-part.part.passed.to (map open_of c.write_part.new.stack.items)
+          (omega (arith, number_at c.args.tab bytes rows g.all i c.index-rows-i.result c.loop-i-test.true c.index-rows-i.is c.requires.1.0)) c.in_ok-part.ensures.passed;
+      stood = c.in_ok-part.ensures.stood;
+      spans = c.in_ok-part.ensures.spans;
       written = subst (λ (l : List Row). Written c.write_part.new.events.items None false (rest_marks bytes (map frame_of c.write_part.new.frames.items) c.in_ok-part.part.end (parts l)) (parts_marks bytes (parts g.all))) all_is
           (c.in_ok-part.ensures.written next.row (drop (i + 1) g.all) (parts_marks bytes (parts g.all)) next.left ahead
           (subst (λ (l : List Row). Written c.loop-i.events.items None false (rest_marks bytes (map frame_of c.loop-i.frames.items) c.loop-i.end (parts l)) (parts_marks bytes (parts g.all))) next.is c.loop-i.invariant.written));
@@ -85,4 +107,7 @@ returns g c =
     let bytes = c.args.bytes.now in
     let none : drop i rows ≡ [] = drop_all i rows (omega arith) in
     let gone = none_left c.args.tab bytes (map open_of c.loop-i.stack.items) g.all (drop i g.all) (subst (λ (l : List RowAt). AreLeft bytes c.args.tab (map open_of c.loop-i.stack.items) l (drop i g.all)) none c.loop-i.invariant.left) in
-    write_last bytes c.loop-i.events.items c.end_part.new.events.items (map frame_of c.loop-i.frames.items) c.loop-i.end (drop i g.all) (parts_marks bytes (parts g.all)) gone c.in_ok-end_part.ensures c.loop-i.invariant.written
+    let fs = map frame_of c.loop-i.frames.items in
+    let none_kept : 0 + shared fs [] ≡ shared fs [] = omega arith in
+    let wrote = c.in_ok-end_part.ensures.events ∙ ap (λ n. c.loop-i.events.items ++ (events_of (exits_to (drop n fs) c.loop-i.end.place) ++ events_of (ending_to c.loop-i.end))) none_kept in
+    write_last bytes c.loop-i.events.items c.end_part.new.events.items fs c.loop-i.end (drop i g.all) (parts_marks bytes (parts g.all)) gone wrote c.loop-i.invariant.written

@@ -1,8 +1,10 @@
-use Rattle.std.proofs.Common.{◌≡◌, ◌≤◌, ◌-◌, length, drop, map}
+use Rattle.std.proofs.Common.{◌≡◌, ◌≤◌, ◌+◌, ◌-◌, length, drop, map}
 use Rattle.std.specs.Prelude.{false, None}
 use Rattle.mdconstructs_containers.specs.Frames.{frame_of}
+use Rattle.mdconstructs_containers.specs.Over.{AreEarlier}
 use Rattle.mdconstructs_containers.specs.Rest.{AreLeft, rest_marks}
 use Rattle.mdconstructs_containers.specs.Skeleton.{parts, parts_marks}
+use Rattle.mdconstructs_containers.specs.Stood.{HasSpans, IsStood}
 use Rattle.mdconstructs_containers.specs.Views.{open_of}
 use Rattle.mdconstructs_containers.specs.Written.{Written}
 use Rattle.mdconstructs_containers.proofs.skeleton.write_parts.Given as goal
@@ -11,6 +13,9 @@ abbrev pub invariant-loop-i : goal.invariant-loop-i
 invariant-loop-i g l = record {
   within : l.i ≤ length l.rows;
   left : AreLeft l.bytes l.tab (map open_of l.stack.items) (drop l.i l.rows) (drop l.i g.all);
+  passed : AreEarlier (l.i + 1) l.passed.from l.passed.to (map open_of l.stack.items);
+  stood : IsStood l.stood (map open_of l.stack.items);
+  spans : HasSpans l.frames.items l.stood (map open_of l.stack.items);
   written : Written l.events.items None false (rest_marks l.bytes (map frame_of l.frames.items) l.end (parts (drop l.i g.all))) (parts_marks l.bytes (parts g.all));
 }
 

@@ -1,8 +1,13 @@
-use Rattle.std.proofs.Common.{◌≡◌, ◌++◌, length, map, arith, refl, sym, ◌∙◌}
-use Rattle.std.proofs.lemmas.List.{take-map, length-map}
+use Rattle.std.proofs.Common.{◌≡◌, ◌<◌, ◌≤◌, ◌+◌, ℕ, List, [], ◌++◌, length, map, take, arith, refl, sym, ap, subst, ◌∙◌}
+use Rattle.std.proofs.lemmas.List.{append-nil, take-map, length-map, length-take-le}
+use Rattle.mdconstructs_lines.specs.Containers.{Prefix}
+use Rattle.mdconstructs_containers.specs.declared.going.Open.{Open}
+use Rattle.mdconstructs_containers.specs.Over.{AreOver}
 use Rattle.mdconstructs_containers.specs.Prefixes.{containers_of}
-use Rattle.mdconstructs_containers.specs.Rows.{closed}
+use Rattle.mdconstructs_containers.specs.Rows.{closed, has_none}
 use Rattle.mdconstructs_containers.specs.Views.{before_of, begun_of, leaf_of, open_of}
+use Rattle.mdconstructs_containers.proofs.FrameFacts.{none_is}
+use Rattle.mdconstructs_containers.proofs.OverLemmas.{front_over, over_later}
 use Rattle.mdconstructs_containers.proofs.RowLemmas.{known_blank, known_lazy, known_next}
 use Rattle.mdconstructs_containers.proofs.rows.Before.go_behind.Goals as goal
 
@@ -17,8 +22,33 @@ pub returns-clause-known : goal.returns-clause-known
 returns-clause-known c = λ on r is front.
     let stack : map open_of c.open_all.new.stack.items ≡ containers_of r.went_on ++ containers_of r.begun =
     c.in_ok-open_all.ensures
-    ∙ (λ k. map open_of (c.truncate.ensures.items k) ++ containers_of (begun_of c.args.row.now.list c.args.number (c.as_slice.ensures.value k)))
+    ∙ (λ k. map open_of (c.truncate.ensures.items k) ++ containers_of (begun_of c.args.row.now.list c.args.number (c.as_slice-2.ensures.value k)))
     ∙ (λ k. (sym (take-map open_of c.args.row.now.many c.args.self.now.stack.items) ∙ sym front) k ++ containers_of (is.begun k)) in
     let size : c.len-self.result ≡ length (map open_of c.open_all.new.stack.items) = omega (arith, c.len-self.ensures, c.open_all.new.stack.ok, length-map c.open_all.new.stack.items open_of) in
     known_next on (before_of c.args.self.now) r (map open_of c.open_all.new.stack.items) c.len-self.result (leaf_of c.args.row.now.leaf) (sym is.is_left_blank ∙ c.if-row.false) (sym is.is_lazy ∙ c.if-row-2.false) stack
     size is.leaf
+
+pub returns-then-has_none-clause-known : goal.returns-then-has_none-clause-known
+returns-then-has_none-clause-known c = λ on r is front.
+    let none : c.args.row.now.begun.items ≡ [] = none_is c.args.row.now.begun.items (ap has_none (sym c.as_slice.ensures.value) ∙ sym c.has_none.ensures ∙ c.if-has_none.true) in
+    let begun : r.begun ≡ [] = sym is.begun ∙ ap (begun_of c.args.row.now.list c.args.number) none in
+    let stack : map open_of c.truncate.new.self.items ≡ containers_of r.went_on ++ containers_of r.begun =
+    ap (map open_of) c.truncate.ensures.items ∙ sym (take-map open_of c.args.row.now.many c.args.self.now.stack.items) ∙ sym front ∙ sym (append-nil (containers_of r.went_on)) ∙ ap (λ (l : List Prefix). containers_of r.went_on ++ containers_of l) (sym begun) in
+    let size : c.len-kept.result ≡ length (map open_of c.truncate.new.self.items) = omega (arith, c.len-kept.ensures, c.truncate.new.self.ok, length-map c.truncate.new.self.items open_of) in
+    known_next on (before_of c.args.self.now) r (map open_of c.truncate.new.self.items) c.len-kept.result (leaf_of c.args.row.now.leaf) (sym is.is_left_blank ∙ c.if-row.false) (sym is.is_lazy ∙ c.if-row-2.false) stack
+    size is.leaf
+
+pub returns-then-row-clause-over : goal.returns-then-row-clause-over
+returns-then-row-clause-over c = λ before here few. here
+
+pub returns-then-row-2-clause-over : goal.returns-then-row-2-clause-over
+returns-then-row-2-clause-over c = λ before here few. over_later c.args.number (c.args.number + 1) c.args.self.now.over c.args.self.now.depth c.args.self.now.stack.items (omega arith) before
+
+pub returns-then-has_none-clause-over : goal.returns-then-has_none-clause-over
+returns-then-has_none-clause-over c = λ before here few.
+    let size : c.len-kept.result ≡ c.args.row.now.many = omega (arith, c.len-kept.ensures, c.truncate.new.self.ok, ap (λ (l : List Open). length l) c.truncate.ensures.items, length-take-le c.args.row.now.many c.args.self.now.stack.items few) in
+    subst (λ (n : ℕ). AreOver (c.args.number + 1) c.args.row.now.over n c.truncate.new.self.items) (sym size)
+    (front_over (c.args.number + 1) c.args.row.now.over c.args.row.now.many c.args.row.now.many c.args.self.now.stack.items c.truncate.new.self.items c.truncate.ensures.items (omega arith) here)
+
+pub returns-clause-over : goal.returns-clause-over
+returns-clause-over c = λ before here few k d a b. absurd (omega (arith, a, b))

@@ -1,0 +1,13 @@
+use Rattle.std.proofs.Common.{◌≤◌, map}
+use Rattle.mdconstructs_containers.specs.Stood.{IsStood}
+use Rattle.mdconstructs_containers.specs.Views.{open_of}
+use Rattle.mdconstructs_containers.proofs.frames.stood_in.Given as goal
+
+abbrev pub invariant-loop-containers : goal.invariant-loop-containers
+invariant-loop-containers l = record {
+  is : IsStood (record { containers = l.containers; spans = l.spans }) (map open_of l.stack);
+  fewer : l.containers ≤ l.fn.stood.containers;
+}
+
+abbrev pub decreases-loop-containers : goal.decreases-loop-containers
+decreases-loop-containers l = l.containers

@@ -1,0 +1,61 @@
+//! Lines as virtual bytes. Most have no tab: the virtual bytes of such a line are its bytes.
+
+ghost use Rattle.std.specs.Prelude.{◌≡◌, ◌≤◌, ◌+◌, ℕ, length, take, drop, IfOk};
+ghost use Rattle.std.specs.List.{prefix_len};
+ghost use Rattle.mdconstructs_flow_read.specs.LineWords.{begins_with};
+ghost use Rattle.mdconstructs_lines.specs.Lines.{is_in_line, expanded, line_bytes};
+ghost use Rattle.mdconstructs_containers.specs.Letters.{is_plain};
+
+use markdown_base::configuration::TabSize;
+use mdconstructs_lines::bytes::{behind, front};
+use mdconstructs_lines::places::read_line;
+use std::alloc::AllocError;
+
+/// Whether a byte is no tab, and no part of a line ending.
+fn is_plain(byte: u8) -> bool
+    ensures { result ≡ is_plain byte }
+{
+    byte != b'\t' && byte != b'\n' && byte != b'\r'
+}
+
+/// How many bytes come before a tab or a line ending, or all.
+fn plain_size(t: &[u8]) -> usize
+    ensures value { result ≡ prefix_len is_plain t.now }
+    ensures within { result ≤ length t.now }
+{
+    t.iter().take_while(|byte| is_plain(**byte)).count()
+}
+
+/// A tab comes first.
+fn begins_with_tab(t: &[u8]) -> bool
+    ensures { result ≡ begins_with 9 t.now }
+{
+    match t {
+        [first, ..] => *first == b'\t',
+        [] => false,
+    }
+}
+
+/// A line: its virtual bytes without its line ending go to the list. Returns the index of its line ending, or of the document's end.
+pub(crate) fn read_text(
+    line: &mut Vec<u8>,
+    bytes: &[u8],
+    tab: TabSize,
+    start: usize,
+) -> Result<usize, AllocError>
+    requires inside { start ≤ length bytes.now }
+    ensures text { let rest = drop start bytes.now in IfOk result (λ _. line.new.items ≡ expanded tab 1 (take (prefix_len is_in_line rest) rest)) }
+    ensures seats { (number : ℕ) → IfOk result (λ _. line.new.items ≡ line_bytes tab number 1 start (drop start bytes.now)) }
+    ensures end { IfOk result (λ end. end ≡ start + prefix_len is_in_line (drop start bytes.now)) }
+{
+    let tab_size = tab.get();
+    prove!(tab_size >= 1);
+    let rest = behind(bytes, start);
+    let n = plain_size(rest);
+    if begins_with_tab(behind(rest, n)) {
+        return read_line(line, bytes, tab, start);
+    }
+    line.clear();
+    line.extend_from_slice(front(rest, n))?;
+    Ok(start + n)
+}
