@@ -54,6 +54,7 @@ NAMED = {
     ("mdconstructs_containers", "specs", "Views"): "RowViews",
     ("mdconstructs_containers", "proofs", "Examples"): "SkeletonExamples",
     ("mdconstructs_containers", "proofs", "Innermost"): "InnermostInSkeletons",
+    ("mdconstructs_containers", "specs", "Over"): "ContainersOver",
     ("mdconstructs_documents", "proofs", "Innermost"): "InnermostInDocuments",
     ("mdconstructs_text", "specs", "Laws"): "TextLaws",
     ("mdconstructs_text", "proofs", "NoFurther"): "TextNoFurther",

@@ -107,6 +107,7 @@ pub use Rattle.mdconstructs_containers.proofs.LineFacts
 pub use Rattle.mdconstructs_containers.proofs.ListLemmas
 pub use Rattle.mdconstructs_containers.proofs.ListNumbers
 pub use Rattle.mdconstructs_containers.proofs.ListSeenLemmas
+pub use Rattle.mdconstructs_containers.proofs.OverLemmas
 pub use Rattle.mdconstructs_containers.proofs.PartFacts
 pub use Rattle.mdconstructs_containers.proofs.PartGoes
 pub use Rattle.mdconstructs_containers.proofs.PartLemmas
@@ -126,7 +127,9 @@ pub use Rattle.mdconstructs_containers.proofs.SeatLemmas
 pub use Rattle.mdconstructs_containers.proofs.SkeletonChains
 pub use Rattle.mdconstructs_containers.proofs.SkeletonReady
 pub use Rattle.mdconstructs_containers.proofs.SpanLemmas
+pub use Rattle.mdconstructs_containers.proofs.StoodLemmas
 pub use Rattle.mdconstructs_containers.proofs.StretchLemmas
+pub use Rattle.mdconstructs_containers.proofs.TextLemmas
 pub use Rattle.mdconstructs_containers.proofs.TightMarks
 pub use Rattle.mdconstructs_containers.proofs.WritingLemmas
 pub use Rattle.mdconstructs_containers.proofs.WrittenLemmas

@@ -162,6 +162,7 @@ pub use Rattle.mdconstructs_containers.specs.ListSeen
 pub use Rattle.mdconstructs_containers.specs.ListShapes
 pub use Rattle.mdconstructs_containers.specs.ListWalks
 pub use Rattle.mdconstructs_containers.specs.Lists
+pub use Rattle.mdconstructs_containers.specs.Over as ContainersOver
 pub use Rattle.mdconstructs_containers.specs.Parts as ContainerParts
 pub use Rattle.mdconstructs_containers.specs.PlaceEvents
 pub use Rattle.mdconstructs_containers.specs.Prefixes
@@ -172,6 +173,7 @@ pub use Rattle.mdconstructs_containers.specs.Skeleton
 pub use Rattle.mdconstructs_containers.specs.SkeletonLaws
 pub use Rattle.mdconstructs_containers.specs.SkeletonSpans
 pub use Rattle.mdconstructs_containers.specs.Spans as ContainerSpans
+pub use Rattle.mdconstructs_containers.specs.Stood
 pub use Rattle.mdconstructs_containers.specs.Stretches as ContainerStretches
 pub use Rattle.mdconstructs_containers.specs.Views as RowViews
 pub use Rattle.mdconstructs_containers.specs.Written

@@ -10,13 +10,13 @@ use mdcases_forms::spans::spans_of;
 use mdconstructs_containers::ahead::{Ahead, aheads_of};
 use mdconstructs_containers::chunks::begin_chunk;
 use mdconstructs_containers::frames::{Frame, exit_frames, list_name};
-use mdconstructs_containers::going::{Open, beginning, first_of, going_on, list_of_first, rest_of};
+use mdconstructs_containers::going::{Open, beginning, first_of, list_of_first, rest_of};
 use mdconstructs_containers::leaves::{
     Leaf, holds_ending, interrupts_paragraph, is_paragraph, is_raw, leaf_after,
 };
 use mdconstructs_containers::letters::with_letters;
 use mdconstructs_containers::lines::rows_of;
-use mdconstructs_containers::rows::{Before, Row};
+use mdconstructs_containers::rows::Row;
 use mdconstructs_containers::skeleton::skeleton_of;
 use mdconstructs_containers::spans::{Span, end_of, start_of, text_end_of};
 use mdconstructs_containers::writing::{
@@ -48,18 +48,8 @@ const ITEM: Container = Container {
     is_blank: false,
 };
 
-/// Lines, how many of a quote and an item in it go on with each, and the columns of their prefixes (CommonMark, 5.1 and 5.2).
-const GOING: &[(&[u8], usize, usize)] = &[
-    (b">   a", 2, 4),
-    (b">a", 1, 1),
-    (b"   > a", 1, 5),
-    (b"    > a", 0, 0),
-    (b"a", 0, 0),
-    (b">", 2, 1),
-];
-
 #[test]
-fn containers_go_on_from_the_outermost_on(rt: HostRuntime) {
+fn open_containers_are_cut(rt: HostRuntime) {
     let stack = [
         Open {
             container: QUOTE,
@@ -70,10 +60,6 @@ fn containers_go_on_from_the_outermost_on(rt: HostRuntime) {
             list: 1,
         },
     ];
-    for (line, many, columns) in GOING {
-        let going = going_on(&stack, 2, line);
-        assert_eq!(rt; (going.many, going.columns), (*many, *columns));
-    }
     assert!(rt;
         first_of(&stack, 1)
             .iter()
@@ -207,28 +193,12 @@ fn push_row(text: &mut String, row: &Row) -> Result<(), AllocError> {
     text.push('\n')
 }
 
-/// Appends the line with this number, and keeps what is known behind it.
-fn push_next(
-    alloc: Global,
-    text: &mut String,
-    before: &mut Before,
-    number: usize,
-    line: &[u8],
-) -> Result<(), AllocError> {
-    if before.depth > before.stack.len() {
-        return Err(AllocError);
-    }
-    let row = before.row(alloc, &Constructs::default(), number, line)?;
-    before.go_behind(number, &row)?;
-    push_row(text, &row)
-}
-
-/// These lines, with their containers.
-fn lines_shown(alloc: Global, lines: &[&[u8]]) -> Result<String, AllocError> {
+/// The lines of a document with their containers.
+fn lines_shown(alloc: Global, bytes: &[u8]) -> Result<String, AllocError> {
+    let rows = rows_of(alloc, bytes, TabSize::default(), &Constructs::default())?;
     let mut text = String::new(alloc);
-    let mut before = Before::new(alloc);
-    for (index, line) in lines.iter().enumerate() {
-        push_next(alloc, &mut text, &mut before, index.saturating_add(1), line)?;
+    for at in &rows {
+        push_row(&mut text, &at.row)?;
     }
     Ok(text)
 }
@@ -242,8 +212,7 @@ const ROWS: &str = "0 and 1, 2 columns\n\
 
 #[test]
 fn lines_are_in_containers(rt: HostRuntime) -> Result<(), AllocError> {
-    let lines: [&[u8]; 5] = [b"> a", b"b", b"> - c", b"", b"d"];
-    assert_shown(&rt, lines_shown(rt.alloc(), &lines), ROWS)
+    assert_shown(&rt, lines_shown(rt.alloc(), b"> a\nb\n> - c\n\nd"), ROWS)
 }
 
 /// Appends where a line is: its number, its first byte, its line ending, the next line, and its columns.
