@@ -201,7 +201,7 @@ def try_crate(room, crate, edits, log):
     status, lines = (0, log) if f"rt: {crate} proved" in log else check(room, crate, [])
     if status:
         sys.exit("\n".join(lines[-5:]) + f"\n{crate} itself is not proved")
-    symbols = [m[1] for line in lines if (m := re.match(rf"fn ({crate}::\S+): proved", line))]
+    symbols = sorted({m[1] for line in lines if (m := re.match(rf"fn ({crate}::\S+): proved", line))})
     folder = f"{table.TOP}/crates/{crate}"
     for it in edits:
         names = [symbol(place, crate, symbols) for place in it.found]
