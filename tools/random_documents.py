@@ -56,7 +56,7 @@ CAUSES = [
           "5.2: at most one blank line is at an item's beginning; 2.1: a line of white space is blank",
           MARKER + rb"[ \t]*\n[ \t>]*[ \t]\n", put(rb"\1", rb"(?m)^([ \t>]*?)[ \t]+$")),
     Cause("a comment in a text has `--` in it, or is `<!-->` or `<!--->`", "here by 0.31, cmark by 0.30", "6.6, which 0.31 changes",
-          rb"[^\s>]\s*" + COMMENT, put(rb"<! ", COMMENT)),
+          rb"(?:[^\s>]|\\>)\s*" + COMMENT, put(rb"<! ", COMMENT)),
     Cause("an open fence, or open HTML, ends with a last line that has no ending, and a prefix alone", "open",
           "2.1: the end of the file may end a line, also one of no bytes; but no such line is in the examples of 4.5",
           OPEN + rb"[^\0]*\n[ \t>]+\Z", put(rb"\n", rb"(?<!\n)\Z")),
