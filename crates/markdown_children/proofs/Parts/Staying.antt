@@ -159,7 +159,7 @@ module _ (tab : ℕ) (bytes : List ℕ) (wanted : Option Content) (events : List
       ∙ next-place ws 0 (length events) 0 0 n p (changes_are_apart tab bytes wanted events children ready).apart (omega arith) (omega arith) q (sym (place-is n (omega arith)) ∙ e)
 
   -- each change is at a chunk that fits, which goes
-  abbrev AtChunk : Change → Type 0
+  abbrev pub AtChunk : Change → Type 0
   AtChunk w = Fits wanted events w.index × (w.remove ≡ 2)
 
   parts-at : (c j k : ℕ) (ks : List ℕ) (ps : List (List Event)) (us : List Change) → Fits wanted events k → LeadOnFrom events k ks → AllByRecursion AtChunk us → AllByRecursion AtChunk (part_changes c j (k ∷ ks) ps ++ us)
@@ -175,7 +175,7 @@ module _ (tab : ℕ) (bytes : List ℕ) (wanted : Option Content) (events : List
       subst (λ (ys : List ℕ). AllByRecursion AtChunk (part_changes (first_chunk ys) 0 ys (parts (map (λ k. place_at events (k + 1)) ys) x) ++ rest)) (sym w.0.1)
       (parts-at c 0 c w.0.0 (parts (map (λ k. place_at events (k + 1)) (c ∷ w.0.0)) x) rest f.0 w.0.2 (chains-at cs xs f.1 w.1))
 
-  all-at : AllByRecursion AtChunk ws
+  pub all-at : AllByRecursion AtChunk ws
   all-at = chains-at (fitting_starts wanted events) children (starts_fit tab bytes wanted events ready (range_with_len 0 (length events))) (follow_one_another tab bytes wanted events ready).whole
 
   quiet-at : (m : ℕ) → (Fits wanted events m → ⊥) → Quiet m ws
@@ -199,9 +199,6 @@ module _ (tab : ℕ) (bytes : List ℕ) (wanted : Option Content) (events : List
 
   same-content : (n p : ℕ) → after n ≡ Some p → content_at new p ≡ content_at events n
   same-content n p e = ap (option_and_then content_of) (at-place n p e) ∙ content-moved after (slice_get events n)
-
-  same-place : (n p : ℕ) → after n ≡ Some p → place_at new p ≡ place_at events n
-  same-place n p e = ap (λ o. unwrap_or o (point 1 1 0 0)) (ap (option_map (λ (x : Event). x.point)) (at-place n p e) ∙ point-moved after (slice_get events n))
 
   exit-after : (n p : ℕ) → IsChunk events n → after n ≡ Some p → after (n + 1) ≡ Some (p + 1)
   exit-after n p c e =
