@@ -16,7 +16,7 @@ are-tests : AreTestsOf flow_byte (flow_before_thematic_break_rows {R = Unit {0}}
 are-tests = (feed-is, (rule-is, (blank-is, tt)))
 
 -- a mark is no white space
-mark-no-white : (b : ℕ) → is_break_mark b ≡ true → is_white b ≡ false
+pub mark-no-white : (b : ℕ) → is_break_mark b ≡ true → is_white b ≡ false
 mark-no-white b is = elim (b == 42) as (λ t. (b == 42) ≡ t → (t || ((b == 95) || (b == 45))) ≡ true → is_white b ≡ false) [
   | true ↦ λ e h. ap is_white (eqb-true b 42 e)
   | false ↦ λ e h. elim (b == 95) as (λ t. (b == 95) ≡ t → (t || (b == 45)) ≡ true → is_white b ≡ false) [

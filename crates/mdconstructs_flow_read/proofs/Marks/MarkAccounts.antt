@@ -13,13 +13,12 @@ bare marks = map (λ (m : Mark). m.0) marks
 abbrev HaveSameSpans : List Event → List Event → Type 0
 HaveSameSpans xs ys = ((e : Event) → ended_next e xs ≡ ended_next e ys) × (innermost_spans xs ≡ innermost_spans ys)
 
+pub ended-alike : (e f : Event) (xs : List Event) → e.point ≡ f.point → ended_next e xs ≡ ended_next f xs
+ended-alike e f [] h = refl
+ended-alike e f (x ∷ xs) h = ap (λ p. cond (is_enter x.kind) [] ((p, x.point) ∷ [])) h
+
 same-more : (x e : Event) (xs ys : List Event) → x.kind ≡ e.kind → x.point ≡ e.point → HaveSameSpans xs ys → HaveSameSpans (x ∷ xs) (e ∷ ys)
-same-more x e xs ys kind place h =
-    let ended : ended_next x xs ≡ ended_next e ys = h.0 x ∙ ended-alike x e ys place in ((λ f. rw (kind, place) refl), rw (kind, ended, h.1) refl)
-  where
-    ended-alike : (e f : Event) (xs : List Event) → e.point ≡ f.point → ended_next e xs ≡ ended_next f xs
-    ended-alike e f [] h = refl
-    ended-alike e f (x ∷ xs) h = ap (λ p. cond (is_enter x.kind) [] ((p, x.point) ∷ [])) h
+same-more x e xs ys kind place h = let ended : ended_next x xs ≡ ended_next e ys = h.0 x ∙ ended-alike x e ys place in ((λ f. rw (kind, place) refl), rw (kind, ended, h.1) refl)
 
 same-kind : (i : ℕ) (m : Mark) → (mark_at i m).kind ≡ m.0.kind
 same-kind i (e, None) = refl
@@ -44,7 +43,7 @@ abbrev pub Begins : List Mark → Type 0
 Begins [] = Unit {0}
 Begins (m ∷ ms) = m.0.kind ≡ Enter
 
-begins-both : (xs ys : List Mark) → Begins xs → Begins ys → Begins (xs ++ ys)
+pub begins-both : (xs ys : List Mark) → Begins xs → Begins ys → Begins (xs ++ ys)
 begins-both [] ys h k = k
 begins-both (m ∷ ms) ys h k = h
 
