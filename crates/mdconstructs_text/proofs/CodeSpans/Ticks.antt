@@ -74,7 +74,7 @@ before-index : (i j m n : ℕ) → (nat_lt i m || ((i == m) && nat_lt j n)) ≡ 
 before-index i j m n h = grind (arith, nat_tests)
 
 -- what is left of a list in order, and of one of which all have a property
-drop-order : (bytes : List ℕ) (xs : List Seat) (i : ℕ) → AreInOrder bytes xs → AreInOrder bytes (drop i xs)
+pub drop-order : (bytes : List ℕ) (xs : List Seat) (i : ℕ) → AreInOrder bytes xs → AreInOrder bytes (drop i xs)
 drop-order bytes [] zero h = h
 drop-order bytes [] (suc i) h = h
 drop-order bytes (x ∷ xs) zero h = h

@@ -2,14 +2,13 @@
 --
 -- Between two chunks of a chain is nothing, or a mark at the beginning of a line. Each innermost span of the child is within one line. So a
 -- mark never comes between the enter and the exit of one. So a list that accounts for a document does so with the children of its chains.
-use Rattle.mdconstructs_text.proofs.Prelude.{◌≡◌, ℕ, ◌+◌, ◌<◌, ◌∷◌, ◌++◌, [], List, Bool, true, false, not, Some, inl, inr, sym, ◌∙◌, ap, subst, arith, drop, length, map, between, flat_map, AllByRecursion, flat_map-append, append-nil, append_cancel_left, take_while-cons, every-map, every-front, every-append, end-after-append, Event, Enter, Point, stands_before, shown, Seat, virtual, end_after, next_of, Change, Given, IsChain, later-later, every-back, fits, part_changes, AreSpaced, LeadOnFrom, front_until, parts, joined-parts, IsReady, place_at, fits_next, after_changes, AccountFor, cond, refl, range_with_len, is_enter, Tagged, woven, placed_in, AreApart, woven-pass, chain_of, fitting_starts, chain_changes, child_changes, IsWholeFrom, divided_over, text_of_chain, starts_fit, follow_one_another, changes_are_apart, untagged, untagged-olds, innermost_spans, chain_text, with_read}
+use Rattle.mdconstructs_text.proofs.Prelude.{◌≡◌, ℕ, ◌+◌, ◌<◌, ◌∷◌, ◌++◌, [], List, Bool, true, false, not, Some, inl, inr, sym, ◌∙◌, ap, subst, arith, drop, length, map, between, flat_map, AllByRecursion, flat_map-append, append-nil, append_cancel_left, take_while-cons, every-map, every-front, every-append, end-after-append, Event, Enter, Point, stands_before, shown, Seat, virtual, end_after, next_of, Change, Given, IsChain, later-later, every-back, fits, AreSpaced, LeadOnFrom, front_until, parts, joined-parts, IsReady, place_at, fits_next, after_changes, AccountFor, cond, refl, range_with_len, is_enter, Tagged, woven, placed_in, AreApart, woven-pass, chain_of, fitting_starts, chain_changes, child_changes, IsWholeFrom, divided_over, text_of_chain, starts_fit, follow_one_another, changes_are_apart, untagged, untagged-olds, innermost_spans, chain_text, with_read}
 use Rattle.std.proofs.Common.{append_assoc}
 use Rattle.markdown_base.specs.declared.event.Content.TheVariants.{Text as TextContent}
-use Rattle.markdown_children.proofs.Parts.Kept.{part_after}
 use Rattle.mdconstructs_machines.specs.Spans.{event}
 use Rattle.mdconstructs_text.proofs.Autolinks.Places.{EndsInLine, chain-in-line}
 use Rattle.mdconstructs_text.proofs.DeepSpans.Atoms.{Atom, seats_of, atom_events, events_of, InOneLine, EntersAt, IsCut, span-in, both-account, none-account, atoms-more, open-atoms, cut-atoms}
-use Rattle.mdconstructs_text.proofs.DeepSpans.Chunks.{chunk_seats, chain-seats, Stands, HasChunk, has-chunk, place_behind}
+use Rattle.mdconstructs_text.proofs.DeepSpans.Chunks.{chunk_seats, chain-seats, Stands, HasChunk, has-chunk, from_chunk, no-gap, place_behind, up-to-chunk}
 use Rattle.mdconstructs_text.proofs.DeepSpans.Places.{Upto, origin, atoms-upto, place-before, ends-line, chain-from}
 use Rattle.mdconstructs_text.proofs.Paragraphs.ChunkPairs.{FollowsChunk, IsMark}
 use Rattle.mdconstructs_text.proofs.Paragraphs.ChunksReady.{between-none, between-two}
@@ -37,7 +36,7 @@ module _ (end : Point) where
   front-and-rest es = ap (λ l. front_until end es ++ l) (sym (append-nil (drop (length (front_until end es)) es))) ∙ joined-parts end (end ∷ []) es
 
 -- link ends do not matter
-spans-placed : (ts us : List Tagged) → innermost_spans (placed_in ts us) ≡ innermost_spans (untagged us)
+pub spans-placed : (ts us : List Tagged) → innermost_spans (placed_in ts us) ≡ innermost_spans (untagged us)
 spans-placed ts [] = refl
 spans-placed ts (u ∷ []) = refl
 spans-placed ts (u ∷ v ∷ us) =
@@ -45,10 +44,6 @@ spans-placed ts (u ∷ v ∷ us) =
 
 module _ (g : Given) (some : 0 < g.tab) (events : List Event) (ready : IsReady g.tab g.bytes (Some TextContent) events)
     (pairs : (k d : ℕ) → next_of events k ≡ Some d → FollowsChunk events k d) where
-  -- the events from i on, after changes
-  abbrev pub after : List Change → ℕ → List Event
-  after ws i = after_changes events ws i
-
   -- they account for virtual bytes, and begin with an enter at the first
   abbrev Good : Seat → List Event → List Seat → Type 0
   Good s es seats = AccountFor es g.bytes seats × EntersAt g.bytes s.point es
@@ -59,22 +54,6 @@ module _ (g : Given) (some : 0 < g.tab) (events : List Event) (ready : IsReady g
   over-atoms atoms s ss behind read left es are is h =
       subst (λ l. Good s l ((s ∷ ss) ++ behind)) (ap (λ l. l ++ es) (sym are) ∙ append_assoc read left es)
       (subst (λ l. AccountFor (events_of g.bytes atoms ++ es) g.bytes (l ++ behind)) is (atoms-more g.bytes atoms es behind h), open-atoms g.bytes atoms s ss es is)
-
-  -- from a chunk on, the parts of a child's events, and what is between the chunks and behind them
-  abbrev pub from_chunk : ℕ → List ℕ → List Event → List Change → List Event
-  from_chunk k [] es ws = es ++ after ws (k + 2)
-  from_chunk k (d ∷ ks) es ws =
-      let front = front_until (place_at events (k + 1)) es in
-      front ++ (between (k + 2) d events ++ from_chunk d ks (drop (length front) es) ws)
-
-  pub up-to-chunk : (c j i k : ℕ) (ks more : List ℕ) (es : List Event) (ws : List Change) → AreSpaced i (k ∷ (ks ++ more)) (length events)
-      → after (part_changes c j (k ∷ ks) (parts (map (λ k. place_at events (k + 1)) (k ∷ ks)) es) ++ ws) i ≡ between i k events ++ from_chunk k ks es ws
-  up-to-chunk c j i k [] more es ws spaced = part_after events c j i k [] es [] ws spaced.0
-  up-to-chunk c j i k (d ∷ ks) more es ws spaced =
-      let front = front_until (place_at events (k + 1)) es in
-      let left = drop (length front) es in
-      part_after events c j i k (d ∷ ks) front (parts (map (λ k. place_at events (k + 1)) (d ∷ ks)) left) ws spaced.0
-      ∙ ap (λ l. between i k events ++ (front ++ l)) (up-to-chunk c (j + length front) (k + 2) d ks more left ws spaced.1)
 
   -- What is known of a child before a chunk takes its part: the virtual bytes of the chunk and of the chunks directly before it, the events
   -- that these chunks took, and the atoms of the child from these virtual bytes on
@@ -135,11 +114,7 @@ module _ (g : Given) (some : 0 < g.tab) (events : List Event) (ready : IsReady g
         },
       )
 
-  -- directly behind a chunk no virtual byte is passed
-  no-gap : (k d : ℕ) (front behind : List Seat) → d ≡ k + 2 → (chunk : HasChunk g some events (k + 2) d front behind) → chunk.before ≡ []
-  no-gap k d front behind at chunk = none-account g.bytes chunk.before (subst (λ l. AccountFor l g.bytes chunk.before) (between-none events (k + 2) d at) chunk.gap)
-
-  -- there the next chunk takes its part too
+  -- directly behind a chunk the next one takes its part too
   pub comes-directly : (k d : ℕ) (ks : List ℕ) (read left : List Event) (pre : List Seat) (s : Seat) (ss behind : List Seat) → fits (Some TextContent) events k ≡ true → next_of events k ≡ Some d
       → d ≡ k + 2 → place_at events d ≡ place_at events (k + 1) → Comes k (d ∷ ks) read left pre s ss behind → (chunk : HasChunk g some events (k + 2) d (pre ++ (s ∷ ss)) behind)
       → let front = front_until (place_at events (k + 1)) left in
@@ -150,7 +125,7 @@ module _ (g : Given) (some : 0 < g.tab) (events : List Event) (ready : IsReady g
       let rest = drop (length front) left in
       let fit_next = fits_next g.tab g.bytes (Some TextContent) events ready k d fit next in
       let t = chunk.first ∷ chunk.others in
-      let none = no-gap k d (pre ++ (s ∷ ss)) behind at chunk in
+      let none = no-gap g some events k d (pre ++ (s ∷ ss)) behind at chunk in
       let same : ((pre ++ (s ∷ ss)) ++ chunk.before) ++ t ≡ pre ++ (s ∷ (ss ++ t)) =
       (λ x. ((pre ++ (s ∷ ss)) ++ none x) ++ t) ∙ ap (λ b. b ++ t) (append-nil (pre ++ (s ∷ ss))) ∙ append_assoc pre (s ∷ ss) t in
       let q = place_at events (d + 1) in
@@ -168,15 +143,15 @@ module _ (g : Given) (some : 0 < g.tab) (events : List Event) (ready : IsReady g
   -- from a chunk on, the parts of the child account for what the chunks and the events between them do, if so does what is behind the chain
   through : (k : ℕ) (ks more : List ℕ) (ws : List Change) (read left : List Event) (pre : List Seat) (s : Seat) (ss behind : List Seat) → fits (Some TextContent) events k ≡ true
       → LeadOnFrom events k ks → AreSpaced (k + 2) (ks ++ more) (length events)
-      → ((m : ℕ) → AreSpaced m more (length events) → (pre rest : List Seat) → Stands g some events m pre rest → AccountFor (after ws m) g.bytes rest)
-      → Comes k ks read left pre s ss behind → Good s (read ++ from_chunk k ks left ws) ((s ∷ ss) ++ behind)
+      → ((m : ℕ) → AreSpaced m more (length events) → (pre rest : List Seat) → Stands g some events m pre rest → AccountFor (after_changes events ws m) g.bytes rest)
+      → Comes k ks read left pre s ss behind → Good s (read ++ from_chunk events k ks left ws) ((s ∷ ss) ++ behind)
   through k [] more ws read left pre s ss behind fit lead spaced good h =
-      over-atoms h.atoms s ss behind read left (after ws (k + 2)) h.are (h.seats_are ∙ append-nil (s ∷ ss)) (good (k + 2) spaced (pre ++ (s ∷ ss)) behind h.stands)
+      over-atoms h.atoms s ss behind read left (after_changes events ws (k + 2)) h.are (h.seats_are ∙ append-nil (s ∷ ss)) (good (k + 2) spaced (pre ++ (s ∷ ss)) behind h.stands)
   through k (d ∷ ks) more ws read left pre s ss behind fit lead spaced good h =
       let end = place_at events (k + 1) in
       let front = front_until end left in
       let rest = drop (length front) left in
-      let then = from_chunk d ks rest ws in
+      let then = from_chunk events d ks rest ws in
       let gap = between (k + 2) d events in
       let fit_next = fits_next g.tab g.bytes (Some TextContent) events ready k d fit lead.0 in
       let chunk = has-chunk g some events ready (k + 2) d (pre ++ (s ∷ ss)) behind fit_next spaced.0 h.stands in
@@ -184,7 +159,7 @@ module _ (g : Given) (some : 0 < g.tab) (events : List Event) (ready : IsReady g
       elim (pairs k d lead.0) [
         | inl directly ↦
             let empty : gap ≡ [] = between-none events (k + 2) d directly.0 in
-            let none = no-gap k d (pre ++ (s ∷ ss)) behind directly.0 chunk in
+            let none = no-gap g some events k d (pre ++ (s ∷ ss)) behind directly.0 chunk in
             let more_good = through d ks more ws (read ++ front) rest pre s (ss ++ t) chunk.behind fit_next lead.2 spaced.1 good
             (comes-directly k d ks read left pre s ss behind fit lead.0 directly.0 directly.1 h chunk) in
             let list : (read ++ front) ++ then ≡ read ++ (front ++ (gap ++ then)) = append_assoc read front then ∙ ap (λ l. read ++ (front ++ (l ++ then))) (sym empty) in
@@ -201,7 +176,7 @@ module _ (g : Given) (some : 0 < g.tab) (events : List Event) (ready : IsReady g
     -- chain by chain
     all-chains : (cs : List ℕ) (i : ℕ) → AllByRecursion (λ c. fits (Some TextContent) events c ≡ true) cs → AllByRecursion (IsWholeFrom events) cs
         → AreSpaced i (flat_map (chain_of events) cs) (length events) → (pre rest : List Seat)
-        → Stands g some events i pre rest → AccountFor (after (flat_map chain_changes (divided_over events cs (map of_chain cs))) i) g.bytes rest
+        → Stands g some events i pre rest → AccountFor (after_changes events (flat_map chain_changes (divided_over events cs (map of_chain cs))) i) g.bytes rest
     all-chains [] i fit whole spaced pre rest stands = subst (λ es. AccountFor es g.bytes rest) (sym (untagged-olds i (drop i events))) stands.account
     all-chains (c ∷ cs) i fit whole spaced pre rest stands =
         let ks = whole.0.0 in
@@ -223,9 +198,9 @@ module _ (g : Given) (some : 0 < g.tab) (events : List Event) (ready : IsReady g
           lines = cut.lines;
           upto = tt;
         }) in
-        let all = both-account g.bytes (between i c events) (from_chunk c ks child ws) chunk.before ((chunk.first ∷ chunk.others) ++ chunk.behind) chunk.gap good.0 good.1 in
-        subst (λ ys. AccountFor (after (changes ys ++ ws) i) g.bytes rest) (sym is)
-        (subst (λ es. AccountFor es g.bytes rest) (sym (up-to-chunk c 0 i c ks more child ws apart)) (subst (AccountFor (between i c events ++ from_chunk c ks child ws) g.bytes) (sym chunk.are) all))
+        let all = both-account g.bytes (between i c events) (from_chunk events c ks child ws) chunk.before ((chunk.first ∷ chunk.others) ++ chunk.behind) chunk.gap good.0 good.1 in
+        subst (λ ys. AccountFor (after_changes events (changes ys ++ ws) i) g.bytes rest) (sym is)
+        (subst (λ es. AccountFor es g.bytes rest) (sym (up-to-chunk events c 0 i c ks more child ws apart)) (subst (AccountFor (between i c events ++ from_chunk events c ks child ws) g.bytes) (sym chunk.are) all))
 
     pub with-read-accounts : AccountFor events g.bytes (virtual g.tab g.bytes) → AccountFor (with_read g events of_chain) g.bytes (virtual g.tab g.bytes)
     with-read-accounts h =

@@ -1,11 +1,12 @@
--- Chunks of a list whose events account for a document: each is over its virtual bytes, and the text of a chain has those of its chunks.
-use Rattle.mdconstructs_text.proofs.Prelude.{◌≡◌, ℕ, ◌+◌, ◌<◌, ◌≤◌, ◌∷◌, ◌++◌, [], List, true, false, cond, Some, refl, sym, ◌∙◌, ap, subst, drop, filter, flat_map, append-nil, between, end-after-append, Event, Point, denotes_same, shown, in_range, Seat, virtual, end_after, Given, Text, pushed, passed, empty_text, followed_by, followed_by_all, IsChain, fits, IsReady, place_at, pieces_behind, text_of_chain, chunk, split-at, AccountFor}
+-- Chunks of a list whose events account for a document: each is over its virtual bytes, and the text of a chain has those of its chunks. The parts of
+-- a chain's child stand in place of them.
+use Rattle.mdconstructs_text.proofs.Prelude.{◌≡◌, ℕ, ◌+◌, ◌<◌, ◌≤◌, ◌∷◌, ◌++◌, [], List, true, false, cond, Option, refl, sym, ◌∙◌, ap, subst, drop, filter, length, map, flat_map, append-nil, between, end-after-append, Content, Event, Point, denotes_same, shown, in_range, Seat, virtual, end_after, Given, Text, pushed, passed, empty_text, followed_by, followed_by_all, IsChain, Change, part_changes, AreSpaced, front_until, parts, after_changes, fits, IsReady, place_at, pieces_behind, text_of_chain, chunk, split-at, AccountFor}
 use Rattle.std.proofs.Common.{append_assoc}
-use Rattle.markdown_base.specs.declared.event.Content.TheVariants.{Text as TextContent}
-use Rattle.mdconstructs_text.proofs.DeepSpans.Atoms.{span-in}
+use Rattle.markdown_children.proofs.Parts.Kept.{part_after}
+use Rattle.mdconstructs_text.proofs.DeepSpans.Atoms.{none-account, span-in}
 use Rattle.mdconstructs_text.proofs.DeepSpans.Places.{origin, place-shown, chain-from, range-of}
 use Rattle.mdconstructs_text.proofs.Paragraphs.ChunkPairs.{place-at-event}
-use Rattle.mdconstructs_text.proofs.Paragraphs.ChunksReady.{drop-two}
+use Rattle.mdconstructs_text.proofs.Paragraphs.ChunksReady.{between-none, drop-two}
 
 module _ (g : Given) (events : List Event) where
   -- the virtual bytes of the chunk at an index
@@ -49,9 +50,9 @@ module _ (g : Given) (some : 0 < g.tab) (events : List Event) where
     pub to : place_at events (k + 1) ≡ place_behind ((pre ++ before) ++ (first ∷ others))
     pub next : Stands (k + 2) ((pre ++ before) ++ (first ∷ others)) behind
 
-  pub has-chunk : IsReady g.tab g.bytes (Some TextContent) events → (i k : ℕ) (pre rest : List Seat) → fits (Some TextContent) events k ≡ true → i ≤ k → Stands i pre rest → HasChunk i k pre rest
-  has-chunk ready i k pre rest h l stands =
-      let c = chunk g.tab g.bytes (Some TextContent) events ready k h in
+  pub has-chunk : {wanted : Option Content} → IsReady g.tab g.bytes wanted events → (i k : ℕ) (pre rest : List Seat) → fits wanted events k ≡ true → i ≤ k → Stands i pre rest → HasChunk i k pre rest
+  has-chunk {wanted} ready i k pre rest h l stands =
+      let c = chunk g.tab g.bytes wanted events ready k h in
       let gap = between i k events in
       let is : drop i events ≡ gap ++ c.enter ∷ c.exit ∷ drop (k + 2) events = split-at events i k l ∙ ap (λ ys. gap ++ ys) (drop-two events k c.enter c.exit c.enter_at c.exit_at) in
       let s = span-in g.bytes gap c.enter c.exit (drop (k + 2) events) rest c.linked.enter c.ended.exits (subst (λ es. AccountFor es g.bytes rest) is stands.account) in
@@ -76,3 +77,24 @@ module _ (g : Given) (some : 0 < g.tab) (events : List Event) where
         to = to ∙ sym (end-after-append (origin g.tab g.bytes some) front t);
         next = record { whole = whole ∙ sym (append_assoc front t s.behind); account = s.back };
       }
+
+  -- directly behind a chunk no virtual byte is passed
+  pub no-gap : (k d : ℕ) (front behind : List Seat) → d ≡ k + 2 → (chunk : HasChunk (k + 2) d front behind) → chunk.before ≡ []
+  no-gap k d front behind at chunk = none-account g.bytes chunk.before (subst (λ l. AccountFor l g.bytes chunk.before) (between-none events (k + 2) d at) chunk.gap)
+
+module _ (events : List Event) where
+  -- from a chunk on, the parts of a child's events, and what is between the chunks and behind them
+  abbrev pub from_chunk : ℕ → List ℕ → List Event → List Change → List Event
+  from_chunk k [] es ws = es ++ after_changes events ws (k + 2)
+  from_chunk k (d ∷ ks) es ws =
+      let front = front_until (place_at events (k + 1)) es in
+      front ++ (between (k + 2) d events ++ from_chunk d ks (drop (length front) es) ws)
+
+  pub up-to-chunk : (c j i k : ℕ) (ks more : List ℕ) (es : List Event) (ws : List Change) → AreSpaced i (k ∷ (ks ++ more)) (length events)
+      → after_changes events (part_changes c j (k ∷ ks) (parts (map (λ k. place_at events (k + 1)) (k ∷ ks)) es) ++ ws) i ≡ between i k events ++ from_chunk k ks es ws
+  up-to-chunk c j i k [] more es ws spaced = part_after events c j i k [] es [] ws spaced.0
+  up-to-chunk c j i k (d ∷ ks) more es ws spaced =
+      let front = front_until (place_at events (k + 1)) es in
+      let left = drop (length front) es in
+      part_after events c j i k (d ∷ ks) front (parts (map (λ k. place_at events (k + 1)) (d ∷ ks)) left) ws spaced.0
+      ∙ ap (λ l. between i k events ++ (front ++ l)) (up-to-chunk c (j + length front) (k + 2) d ks more left ws spaced.1)

@@ -11,7 +11,7 @@ use Rattle.markdown_base.specs.declared.event.Content.TheVariants.{Text as TextC
 use Rattle.markdown_base.specs.declared.event.Event.{Event}
 use Rattle.markdown_edits.specs.Links.{content_at, next_of}
 use Rattle.markdown_edits.specs.Woven.{Change}
-use Rattle.markdown_children.proofs.Parts.Kept.{untagged-olds}
+use Rattle.markdown_children.proofs.Parts.Kept.{after_changes, untagged-olds}
 use Rattle.markdown_children.specs.Chains.{begins, chain_of}
 use Rattle.markdown_children.specs.Children.{chain_changes}
 use Rattle.markdown_children.specs.LawStatements.{AreSpaced, IsWholeFrom}
@@ -20,7 +20,7 @@ use Rattle.markdown_children.specs.Ready.{IsReady, place_at}
 use Rattle.markdown_tokenizer.specs.Text.{Given}
 use Rattle.mdconstructs_machines.specs.ParagraphEvents.{Marked, as_linked, begins as begins_chunk, chunk_at, with_links}
 use Rattle.mdconstructs_tables.proofs.Looks.Left.{at-front}
-use Rattle.mdconstructs_text.proofs.DeepSpans.Chains.{after, from_chunk, up-to-chunk}
+use Rattle.mdconstructs_text.proofs.DeepSpans.Chunks.{from_chunk, up-to-chunk}
 use Rattle.mdconstructs_text.proofs.Paragraphs.ChunkPairs.{FollowsChunk}
 
 -- ---- elements of lists at an index
@@ -51,10 +51,6 @@ between-more : (events : List Event) (i b : ℕ) (x : Event) (xs : List Event) �
 between-more events i b x xs here l =
     let one : b - i ≡ suc (b - (i + 1)) = omega (arith, l) in
     (λ k. take (one k) (here k)) ∙ ap (λ ys. x ∷ take (b - (i + 1)) ys) (sym (drop-next events i x xs here))
-
--- a mark with no chunk
-abbrev pub IsPlain : Marked → Type 0
-IsPlain m = (m.1 ≡ None) × (m.0.link ≡ None)
 
 module _ (all : List Marked) where
   abbrev pub events_in : List Event
@@ -127,10 +123,10 @@ module _ (g : Given) (some : 0 < g.tab) (all : List Marked) (ready : IsReady g.t
 
   -- the events from an index on, with the texts of chains
   abbrev pub left_from : List ℕ → ℕ → List Event
-  left_from cs i = after g some events ready pairs (changes cs) i
+  left_from cs i = after_changes events (changes cs) i
 
   abbrev pub from_here : ℕ → List ℕ → List Event → List ℕ → List Event
-  from_here k ks es cs = from_chunk g some events ready pairs k ks es (changes cs)
+  from_here k ks es cs = from_chunk events k ks es (changes cs)
 
   pub left-none : (i : ℕ) → left_from [] i ≡ drop i events
   left-none i = untagged-olds i (drop i events)
@@ -145,7 +141,7 @@ module _ (g : Given) (some : 0 < g.tab) (all : List Marked) (ready : IsReady g.t
       let ws : List Change = changes cs in
       let by : List ℕ → List Change = λ ys. chain_changes (record { chunks = ys; parts = parts (map (λ k. place_at events (k + 1)) ys) child }) in
       let apart : AreSpaced i (c ∷ (ks ++ more)) (length events) = subst (λ (ys : List ℕ). AreSpaced i (ys ++ more) (length events)) w.1 spaced in
-      ap (λ (ys : List ℕ). after g some events ready pairs (by ys ++ ws) i) w.1 ∙ up-to-chunk g some events ready pairs c 0 i c ks more child ws apart
+      ap (λ (ys : List ℕ). after_changes events (by ys ++ ws) i) w.1 ∙ up-to-chunk events c 0 i c ks more child ws apart
 
   abbrev More : ℕ → List ℕ → Type 0
   More i cs = AreSpaced i (flat_map (chain_of events) cs) (length events)

@@ -19,22 +19,22 @@ flow-tests previous None = tt
 flow-tests previous (Some line.line_ending) = ((λ g h s k alike. refl), tt)
 flow-tests previous (Some line.other) = ((λ g h s k alike. refl), ((λ g h s k alike. refl), tt))
 
-sizes : IsAnsweredAlike {R = Unit {0}} {D = Unit {0}} sizes_are_equal
+pub sizes : IsAnsweredAlike {R = Unit {0}} {D = Unit {0}} sizes_are_equal
 sizes g h s k alike = refl
 
-scheme : IsAnsweredAlike {R = Unit {0}} {D = Unit {0}} has_scheme
+pub scheme : IsAnsweredAlike {R = Unit {0}} {D = Unit {0}} has_scheme
 scheme g h s k alike = refl
 
-room : IsAnsweredAlike {R = Unit {0}} {D = Unit {0}} has_room
+pub room : IsAnsweredAlike {R = Unit {0}} {D = Unit {0}} has_room
 room g h s k alike = refl
 
-code-spans : IsAnsweredAlike {R = Unit {0}} {D = Unit {0}} code_spans_are_on
+pub code-spans : IsAnsweredAlike {R = Unit {0}} {D = Unit {0}} code_spans_are_on
 code-spans g h s k alike = ap (λ (o : ParseOptions). o.constructs.code_text) alike.options
 
-autolinks : IsAnsweredAlike {R = Unit {0}} {D = Unit {0}} autolinks_are_on
+pub autolinks : IsAnsweredAlike {R = Unit {0}} {D = Unit {0}} autolinks_are_on
 autolinks g h s k alike = ap (λ (o : ParseOptions). o.constructs.autolink) alike.options
 
-escapes : IsAnsweredAlike {R = Unit {0}} {D = Unit {0}} escapes_are_on
+pub escapes : IsAnsweredAlike {R = Unit {0}} {D = Unit {0}} escapes_are_on
 escapes g h s k alike = ap (λ (o : ParseOptions). o.constructs.character_escape) alike.options
 
 texts-tests : (previous current : Option TextByte) → AllByRecursion IsAnsweredAlike (tests texts.states previous current)
