@@ -1,7 +1,8 @@
 -- In a text, a virtual byte that is no line ending ends where the next is shown: gaps are only at the starts of lines.
 use Rattle.mdconstructs_machines.proofs.Columns.{end-column}
-use Rattle.mdconstructs_text.proofs.Prelude.{AllByRecursion, ◌≡◌, ℕ, zero, suc, ◌+◌, ◌<◌, ◌==◌, List, [], ◌∷◌, ◌++◌, Bool, true, false, cond, Some, refl, sym, ap, ◌∙◌, subst, arith, inl, inr, slice_get, filter, not, ◌&&◌, append-nil, filter-append, every-append, every-filter, filter-none, end-after-append, Point, Seat, point, virtual, end_after, stands_before, shown, is_upto, denotes_same, rest_at, IsPlace, goes_on, end_at, Given, Text, Piece, pushed, passed, IsText, empty_text, followed_by, followed_by_all, FitsAfter, CanFollow, not-before, every-all, filter-every, filter-same, rest-later, IsChain, whole-chain, chain-at, chain-split, place-of-point, upto-order, upto-self, left_of, text-splits, range-empty, shown-column, same-shown}
+use Rattle.mdconstructs_text.proofs.Prelude.{AllByRecursion, ◌≡◌, ℕ, zero, suc, ◌+◌, ◌<◌, ◌==◌, List, [], ◌∷◌, ◌++◌, Bool, true, false, cond, Some, refl, sym, ap, ◌∙◌, subst, arith, inl, inr, slice_get, filter, append_cancel_right, every-append, every-filter, Point, Seat, point, virtual, end_after, shown, is_upto, denotes_same, rest_at, IsPlace, goes_on, Given, Text, Piece, pushed, passed, IsText, empty_text, followed_by, followed_by_all, FitsAfter, CanFollow, IsChain, whole-chain, chain-at, place-of-point, upto-self, left_of, text-splits, range-empty, shown-column, same-shown}
 use Rattle.std.proofs.Common.{append_assoc}
+use Rattle.markdown_tokenizer.proofs.Positions.Lines.{way-chain, way-ends, way-rest}
 use Rattle.markdown_tokenizer.specs.Text.{in_range}
 use Rattle.mdconstructs_text.proofs.Autolinks.Events.{IsJoined}
 
@@ -72,47 +73,17 @@ module _ (t : ℕ) (bytes : List ℕ) where
   chain-joined p [] ys c = tt
   chain-joined p (s ∷ ss) ys c = ((λ e. (chain-at t bytes s.end (ss ++ ys) c.2).shown ∙ sym (chain-begins s.end ss ys c.2)), chain-joined s.end ss ys c.2)
 
-  -- no place is before the first
-  origin-upto : (p : Point) → stands_before p (point 1 1 0 0) ≡ false
-  origin-upto p = not-before p.index p.vs 0 0 (omega arith) refl
-
-  -- the seats before a place
-  before-is : (p : Point) (place : IsPlace t bytes p) → filter (in_range (point 1 1 0 0) p) (virtual t bytes) ≡ place.before
-  before-is p place =
-      let origin = point 1 1 0 0 in
-      let f = λ (s : Seat). stands_before s.point p in
-      filter-same (in_range origin p) f (virtual t bytes) (every-all (λ s. in_range origin p s ≡ f s) (λ s. ap (λ t. not t && f s) (origin-upto s.point)) (virtual t bytes))
-      ∙ ap (filter f) place.splits
-      ∙ filter-append f place.before (rest_at t bytes p)
-      ∙ ap (λ (ys : List Seat). filter f place.before ++ ys) (filter-none f (rest_at t bytes p) (rest-later t bytes p))
-      ∙ append-nil (filter f place.before)
-      ∙ filter-every f place.before place.behind
-
   -- the seats from a place on before another
   module _ (d : 0 < t) (a b : Point) (first : IsPlace t bytes a) (second : IsPlace t bytes b) (upto : is_upto t bytes a b ≡ true) where
     -- the seats before the second are those before the first, and these
     pub before-grows : second.before ≡ first.before ++ left_of t bytes a b
     before-grows =
-        let origin = point 1 1 0 0 in
-        sym (before-is b second)
-        ∙ text-splits t bytes origin a b first (upto-order t bytes origin a (origin-upto a)) upto
-        ∙ ap (λ (xs : List Seat). xs ++ left_of t bytes a b) (before-is a first)
+        let left = left_of t bytes a b in
+        let behind = rest_at t bytes b in
+        append_cancel_right second.before (first.before ++ left) behind
+        (sym second.splits ∙ first.splits ∙ ap (λ (xs : List Seat). first.before ++ xs) (way-rest t bytes d a b first second upto) ∙ sym (append_assoc first.before left behind))
 
-    -- it is a chain
-    way-chain : IsChain t bytes (shown bytes a) (left_of t bytes a b ++ rest_at t bytes b)
-    way-chain =
-        let origin = point 1 1 0 0 in
-        let whole = second.splits ∙ ap (λ (xs : List Seat). xs ++ rest_at t bytes b) before-grows ∙ append_assoc first.before (left_of t bytes a b) (rest_at t bytes b) in
-        let c = chain-split t bytes origin first.before (left_of t bytes a b ++ rest_at t bytes b) (subst (IsChain t bytes origin) whole (whole-chain t bytes d)) in
-        subst (λ (p : Point). IsChain t bytes p (left_of t bytes a b ++ rest_at t bytes b)) (sym first.stands) c
-
-    -- which ends where the second is shown
-    way-ends : shown bytes b ≡ end_after (shown bytes a) (left_of t bytes a b)
-    way-ends =
-        second.stands ∙ ap (end_after (point 1 1 0 0)) before-grows ∙ end-after-append (point 1 1 0 0) first.before (left_of t bytes a b)
-        ∙ ap (λ (p : Point). end_after p (left_of t bytes a b)) (sym first.stands)
-
-    -- it is what a range pushes
+    -- these are what a range pushes
     pub range-is : filter (in_range a b) (virtual t bytes) ≡ left_of t bytes a b
     range-is = text-splits t bytes a a b first (upto-self t bytes a) upto ∙ ap (λ (xs : List Seat). xs ++ left_of t bytes a b) (range-empty t bytes a)
 

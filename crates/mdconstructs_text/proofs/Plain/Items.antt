@@ -73,10 +73,6 @@ module _ (g : Given) (text : Text) (m : Plays g text) (names : Between) where
       (ended_after : Bool) × (after : Local Unit Unit)
       × Leads g text m k cs s (between_items (p + item_length item) Nothing ended_after (events ++ item_events g.bytes (item, take (item_length item) seats)) after) [] (Next names.home)
 
-  -- from the first state of a construct
-  abbrev pub Tried : Name → (nok : Name) (p : ℕ) (ended : Bool) (events : List Event) (local : Local Unit Unit) → List Seat → Option Found → Type 0
-  Tried name nok p ended events local seats o = Decides nok p ended events seats (between_items p Byte ended events local) (outer names.home nok p ended events ∷ []) (Retry name) o
-
   -- so it is decided, by a machine with no memory
   pub decided-so : (nok : Name) (p : ℕ) (ended : Bool) (events : List Event) (seats : List Seat) (k : Configuration Unit Unit) (cs : List Choice) (s : State) (o : Option Found)
       → Decides nok p ended events seats k cs s o → DecidesPart g text m names nok p ended events seats k cs s o

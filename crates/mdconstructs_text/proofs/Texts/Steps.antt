@@ -1,8 +1,7 @@
 -- How the machine of texts reads on, in small steps: to come to an ending it is enough to come to it from further on.
 use Rattle.mdconstructs_machines.proofs.LineReads.Onward.{leads-called as step-called, leads-fed as step-fed, leads-nok as step-nok, leads-ok as step-ok}
-use Rattle.mdconstructs_text.proofs.Prelude.{◌≡◌, ℕ, ◌<◌, ◌∷◌, ◌++◌, [], List, Bool, cond, Option, ap, length, lt-ltb, Event, Name, State, Next, Retry, Ok, Nok, Waits, Nothing, Byte, End, Given, Text, Configuration, Local, Choice, Step, Sight, sight, byte_of, seat_before, fed, settled_at, Rows, when, with_local, counts, subst, sym, ◌∙◌, Some, true, false, class_of, picked, step_of, TextByte, text_byte, text_rules, not, passes, row, enter, exit, consume, Data, LineEnding, TextBeforeData, DataAtBreak, Between, AutolinkStart, AutolinkOpen, AutolinkSchemeInsideOrEmailAtext, AutolinkUrlInside, CharacterEscapeStart, CharacterEscapeInside, text_before_data_rows, data_at_break_rows, autolink_open_rows, autolink_scheme_rows, autolink_url_rows, escape_start_rows, escape_inside_rows}
+use Rattle.mdconstructs_text.proofs.Prelude.{◌≡◌, ℕ, ◌∷◌, ◌++◌, [], List, Bool, cond, Option, ap, Event, Name, State, Next, Retry, Ok, Nok, Waits, Given, Text, Configuration, Local, Choice, Step, Sight, sight, byte_of, seat_before, fed, settled_at, Rows, when, with_local, counts, subst, sym, ◌∙◌, Some, true, false, class_of, picked, step_of, TextByte, text_byte, text_rules, not, passes, row, enter, exit, consume, Data, LineEnding, TextBeforeData, DataAtBreak, Between, AutolinkStart, AutolinkOpen, AutolinkSchemeInsideOrEmailAtext, AutolinkUrlInside, CharacterEscapeStart, CharacterEscapeInside, text_before_data_rows, data_at_break_rows, autolink_open_rows, autolink_scheme_rows, autolink_url_rows, escape_start_rows, escape_inside_rows}
 use Rattle.mdconstructs_text.specs.AutolinkRows.{autolink_start_rows}
-use Rattle.markdown_base.specs.declared.event.Name.{Name as EventName}
 use Rattle.mdconstructs_machines.proofs.LineReads.Steps.{held}
 use Rattle.mdconstructs_text.proofs.Texts.Leads.{Ending, EndsWith as step_ends, Leads as step_leads, as_asked}
 use Rattle.mdconstructs_machines.proofs.LineReads.Rows.{row_step}
@@ -79,11 +78,6 @@ module _ (g : Given) (text : Text) (m : Plays g text) where
 
   pub leads-nok : (k : Configuration Unit Unit) (c : Choice) (cs : List Choice) → Leads g text m k (c ∷ cs) Nok (settled_at c.kind c.saved Nok k) cs c.nok
   leads-nok k c cs e h = step-nok as_asked g text m.step k c cs e h
-
-  -- if a byte is left, it is fed
-  pub fed-is : (p : ℕ) (ended : Bool) (events : List Event) (stack : List EventName) (local : Local Unit Unit) → p < length text.seats
-      → fed text (held stack p Nothing ended events local) ≡ held stack p Byte ended events local
-  fed-is p ended events stack local h = ap (λ b. cond b (held stack p Byte ended events local) (held stack p End true events local)) (lt-ltb p (length text.seats) h)
 
   -- reading on from the step of these rows
   abbrev pub WithRows : Configuration Unit Unit → List Choice → Ending → Rows Unit Unit → Type 0
