@@ -1,7 +1,8 @@
 -- What `subtokenize` gives is what the function of the list gives: a reading needs no larger bound than it makes calls.
-use Rattle.markdown_children.proofs.Prelude.{◌≡◌, ◌+◌, ◌-◌, ◌<◌, ◌≤◌, ℕ, zero, suc, Bool, true, false, List, [], ◌∷◌, ◌++◌, length, take, Option, Some, None, inl, inr, refl, sym, ap, ◌∙◌, subst, arith, flat_map, slice_get, nat_lt, Message, Name, Next, Ok, Error, Event, Enter, Exit, Paragraph, IsBalanced, Given, Text, Configuration, start_configuration, Rules, Reading, resolving, same_from_decides, append-nil, lt-ltb, ltb-true, slice_get_within, fitting_starts, with_children, Child, lists, IsRead, IsChild, IsChildRefused, AreChildren, AllByRecursion, AreAtPlaces, AreMutual, IsInShape, IsVoidTight, IsReady, begins, range_with_len, every-all, ◌⊎◌, IsSomeAnd, ◌↔◌, ◌&&◌, if◌then◌else◌, and_parts, and_from, length-take-le, sameb, Constructs, Content, Kind, BlankLineEnding, Definition, LineEnding, SpaceOrTab, ListItemPrefix, State, Retry, Nok, same_name, Subresult, Choice, Step, Sight, sight, fed, settled_at, more_calls, settle, after_choices, read_step, read, every-kept, more-zero, IsLongestRunTo, depth_after, is_stop, mirror, run_len, same_name-refl, same_name-true, IsLongestRunTo-walk, length-mirror, run_begin, is_of, is_at_first_paragraph, Answer, gives, refuses, endless, with_first, are_none, child_of, read_from, children_at, put_in, AreChildrenOf, EachIsRead, IsJustChildrenOf, IsAtFirstParagraph, IsSubtokenized, IsSubtokenizeRefused, start_at, text_from}
+use Rattle.markdown_children.proofs.Prelude.{◌≡◌, ◌+◌, ◌-◌, ◌<◌, ◌≤◌, ℕ, zero, suc, Bool, true, false, List, [], ◌∷◌, ◌++◌, length, take, Option, Some, None, inl, inr, refl, sym, ap, ◌∙◌, subst, arith, flat_map, slice_get, nat_lt, Message, Name, Next, Ok, Error, Event, Enter, Exit, Paragraph, IsBalanced, Given, Text, Configuration, start_configuration, Rules, Reading, resolving, same_from_decides, append-nil, lt-ltb, ltb-true, fitting_starts, with_children, Child, lists, IsRead, IsChild, IsChildRefused, AreChildren, AllByRecursion, AreAtPlaces, AreMutual, IsInShape, IsVoidTight, IsReady, begins, range_with_len, every-all, ◌⊎◌, IsSomeAnd, ◌↔◌, ◌&&◌, if◌then◌else◌, and_parts, and_from, length-take-le, sameb, Constructs, Content, Kind, BlankLineEnding, Definition, LineEnding, SpaceOrTab, ListItemPrefix, State, Retry, Nok, same_name, Subresult, Choice, Step, Sight, sight, fed, settled_at, more_calls, settle, after_choices, read_step, read, every-kept, more-zero, IsLongestRunTo, depth_after, is_stop, mirror, run_len, same_name-refl, same_name-true, IsLongestRunTo-walk, length-mirror, run_begin, is_of, is_at_first_paragraph, Answer, gives, refuses, endless, with_first, are_none, child_of, read_from, children_at, put_in, AreChildrenOf, EachIsRead, IsJustChildrenOf, IsAtFirstParagraph, IsSubtokenized, IsSubtokenizeRefused, start_at, text_from}
 use Rattle.markdown_base.specs.contracts.event.Kind.{the_type as kinds}
 use Rattle.markdown_base.specs.declared.event.Name.{Name as EventName}
+use Rattle.markdown_edits.proofs.LinkEnds.{some-within}
 use Rattle.markdown_children.proofs.ChildReads.SoFar.{lists-all}
 use Rattle.markdown_children.proofs.Parts.AtPlaces.{with_children_at_places}
 use Rattle.markdown_children.proofs.Parts.InShape.{children_fit}
@@ -112,13 +113,6 @@ of-event kind name None h = absurd h
 of-event kind name (Some e) h =
     and_from (sameb kinds e.kind kind) (same_name e.name name) (ap (λ k. sameb kinds k kind) h.0 ∙ kind-refl kind) (ap (λ n. same_name n name) h.1 ∙ same_name-refl name)
 
-some-within : (es : List Event) (i : ℕ) (P : Event → Type 0) → IsSomeAnd (slice_get es i) P → i < length es
-some-within es i P h = by (slice_get es i) refl h
-  where
-    by : (o : Option Event) → slice_get es i ≡ o → IsSomeAnd o P → i < length es
-    by None is h = absurd h
-    by (Some e) is h = slice_get_within es i e is
-
 abbrev passed : List EventName
 passed = BlankLineEnding ∷ Definition ∷ LineEnding ∷ SpaceOrTab ∷ []
 
@@ -144,7 +138,7 @@ first-decides on events c balanced = (yes, no)
 
     run : 2 < c → IsSomeAnd (slice_get events (c - 1)) (λ e. (e.kind ≡ Enter) × (e.name ≡ Paragraph)) → IsLongestRunTo passed events (c - 2) (run_begin events (c - 2))
     run above there =
-        let l = some-within events (c - 1) (λ e. (e.kind ≡ Enter) × (e.name ≡ Paragraph)) there in
+        let l = some-within (λ e. (e.kind ≡ Enter) × (e.name ≡ Paragraph)) (c - 1) events there in
         run-begins events (c - 2) balanced (omega (arith, l, above))
 
     yes : is_at_first_paragraph on events c ≡ true → IsAtFirstParagraph events c on

@@ -38,8 +38,6 @@ use Rattle.markdown_children.proofs.Parts.Placed.{change_place, change_place-beh
 use Rattle.markdown_children.proofs.Parts.Staying.{IsOrigin, child, kept-content, child-origin, far, kept-next, kept-place, linked-content, list-origin, new, no-content, ts}
 use Rattle.markdown_children.proofs.Parts.Untorn.{front-more, front-none, fails-next}
 use Rattle.markdown_children.proofs.Parts.Weaves.{AreCutNowhere}
-use Rattle.std.proofs.Common.{cond}
-use Rattle.std.proofs.lemmas.List.Sums.{take_while-cons}
 
 -- no chunk of this content is linked to a next one
 abbrev pub HasLoneChunks : Option Content → List Event → Type 0

@@ -1,6 +1,7 @@
 -- The tests of a list that is ready, one by one.
-use Rattle.markdown_children.proofs.Prelude.{◌≡◌, ℕ, zero, suc, ◌+◌, ◌-◌, ◌<◌, ◌≤◌, inl, inr, ⊎_elim, Bool, true, List, [], ◌∷◌, length, length-take, take, drop, Option, Some, None, refl, sym, ◌∙◌, ap, arith, eqb-true, ◌&&◌, ◌||◌, ◌==◌, not, is_none, nat_lt, nat_le, option_map, option_and_then, option_and_then_some, slice_get, between, ltb-true, le-leb, eq-eqb, not-true, not_from_false, and_parts, or_cases, or_left, or_right, none-some, slice_get_within, slice_get_past, sameb, same_true, true_same, Content, Event, Enter, Exit, Link, IsBalanced, is_void, same_name, stands_before, next_of, names_after_all, balanced_from_open, names_after_balanced, same_name-true, same-numbers, place_at, IsChunk, IsGap, is_closed, closes, link_at, is_number, is_void_span, is_chunk, leads_back_to, is_joined_on, leads_on_to, is_joined_back, is_sound, is_sound_at, is_same_point, is_in_line, has_no_link, is_gap, AllBelow, both_true}
+use Rattle.markdown_children.proofs.Prelude.{◌≡◌, ℕ, zero, suc, ◌+◌, ◌-◌, ◌<◌, ◌≤◌, inl, inr, ⊎_elim, Bool, true, List, [], ◌∷◌, length, length-take, drop, Option, Some, None, refl, sym, ◌∙◌, ap, arith, eqb-true, ◌&&◌, ◌||◌, ◌==◌, not, is_none, nat_lt, nat_le, option_map, option_and_then, option_and_then_some, slice_get, between, ltb-true, le-leb, eq-eqb, not-true, not_from_false, and_parts, or_cases, or_left, or_right, none-some, slice_get_within, sameb, same_true, true_same, Content, Event, Enter, Exit, Link, IsBalanced, is_void, same_name, stands_before, next_of, names_after_all, balanced_from_open, names_after_balanced, same_name-true, same-numbers, place_at, IsChunk, IsGap, is_closed, closes, link_at, is_number, is_void_span, is_chunk, leads_back_to, is_joined_on, leads_on_to, is_joined_back, is_sound, is_sound_at, is_same_point, is_in_line, has_no_link, is_gap, AllBelow, both_true}
 use Rattle.markdown_children.proofs.ChainOrder.Following.{by_option}
+use Rattle.markdown_base.proofs.Facts.Lists.{get-dropped, get-take}
 use Rattle.markdown_base.specs.contracts.event.Name.{the_type as names}
 use Rattle.markdown_base.specs.contracts.event.Kind.{the_type as kinds}
 use Rattle.markdown_base.specs.contracts.event.Content.{the_type as contents}
@@ -130,19 +131,8 @@ all-has_no_link : (es : List Event) → ((m : ℕ) → m < length es → link_at
 all-has_no_link [] h = refl
 all-has_no_link (x ∷ es) h = both_true (ap is_none (h 0 (omega arith))) (all-has_no_link es (λ m l. h (suc m) (omega arith)))
 
-slice-drop : (a m : ℕ) (es : List Event) → slice_get (drop a es) m ≡ slice_get es (a + m)
-slice-drop zero m es = let z : m ≡ 0 + m = omega arith in ap (slice_get es) z
-slice-drop (suc a) m [] = slice_get_past [] m (omega arith) ∙ sym (slice_get_past [] (suc a + m) (omega arith))
-slice-drop (suc a) m (x ∷ es) = let s : suc (a + m) ≡ suc a + m = omega arith in slice-drop a m es ∙ ap (slice_get (x ∷ es)) s
-
-slice-take : (n m : ℕ) (es : List Event) → m < n → slice_get (take n es) m ≡ slice_get es m
-slice-take zero m es h = absurd (omega arith)
-slice-take (suc n) m [] h = refl
-slice-take (suc n) zero (x ∷ es) h = refl
-slice-take (suc n) (suc m) (x ∷ es) h = slice-take n m es (omega arith)
-
 get-between : (a b m : ℕ) (es : List Event) → a + m < b → slice_get (between a b es) m ≡ slice_get es (a + m)
-get-between a b m es h = let l : m < b - a = omega arith in slice-take (b - a) m (drop a es) l ∙ slice-drop a m es
+get-between a b m es h = let l : m < b - a = omega arith in get-take (b - a) (drop a es) m l ∙ get-dropped a es m
 
 module _ (events : List Event) where
   -- what passes the test is a gap
