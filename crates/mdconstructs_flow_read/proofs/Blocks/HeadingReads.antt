@@ -17,10 +17,6 @@ module _ (g : Given) (t : Text) where
       → Reads g t k HeadingAtxSequenceOpen run rest (goes g t HeadingAtxSequence (end_after p run)) HeadingAtxAtBreak
   in-signs = in-run g t HeadingAtxSequence HeadingAtxAtBreak HeadingAtxSequenceOpen IsSign NoSign (signs-on g t) (signs-end g t)
 
-  in-white : (run : List Seat) → AllByRecursion IsWhite run → (k : Configuration Unit Unit) (p : Point) (rest : List Seat) → NoBlank rest → IsAt t k p (run ++ rest)
-      → Reads g t k HeadingAtxBefore run rest (goes g t SpaceOrTab (end_after p run)) HeadingAtxAtBreak
-  in-white = in-run g t SpaceOrTab HeadingAtxAtBreak HeadingAtxBefore IsWhite NoBlank (white-on g t) (white-ends g t)
-
   white-piece : (run : List Seat) → AllByRecursion IsWhite run → (k : Configuration Unit Unit) (p : Point) (rest : List Seat) → NoBlank rest → IsAt t k p (run ++ rest)
       → Reads g t k HeadingAtxAtBreak run rest (white g.bytes run) HeadingAtxAtBreak
   white-piece run all k p rest none at = run-piece g t SpaceOrTab HeadingAtxAtBreak HeadingAtxBefore IsWhite NoBlank (white-on g t) (white-ends g t) run all k p rest (white-begins g t k p) none at

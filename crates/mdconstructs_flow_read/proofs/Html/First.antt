@@ -1,5 +1,5 @@
 -- The first line of HTML: white space, which is data of its own, and the rest; and so HTML is read.
-use Rattle.mdconstructs_flow_read.proofs.Prelude.{◌≡◌, ℕ, List, [], ◌∷◌, ◌++◌, Bool, true, false, cond, inl, inr, length, take, refl, sym, ap, ◌∙◌, subst, nat_le, append_assoc, append-nil, AllByRecursion, Event, Enter, HtmlFlow, HtmlFlowData, Point, Retry, FlowBlankLineAfter, HtmlFlowStart, Seat, Local, Given, Text, consume, enter, is_white, all_of, ending_of, line_text, event, blank, AreLines, IsLine, IsReadAs, behind_block, block_seats, Line, bytes_of, text_of, body, indent, unindented, IsInLine}
+use Rattle.mdconstructs_flow_read.proofs.Prelude.{◌≡◌, ℕ, List, [], ◌∷◌, ◌++◌, Bool, true, false, cond, inl, inr, length, refl, sym, ap, ◌∙◌, subst, nat_le, append_assoc, append-nil, AllByRecursion, Event, Enter, HtmlFlow, HtmlFlowData, Point, Retry, FlowBlankLineAfter, HtmlFlowStart, Seat, Local, Given, Text, consume, enter, is_white, all_of, ending_of, line_text, event, blank, AreLines, IsLine, IsReadAs, behind_block, block_seats, Line, bytes_of, text_of, body, indent, unindented, IsInLine}
 use Rattle.mdconstructs_flow_read.proofs.Tags.HtmlNumbers.{html_at}
 use Rattle.mdconstructs_flow_read.proofs.Lines.Fronts.{back, drop-bytes, front, front-all, front-back, prefix-front}
 use Rattle.mdconstructs_flow_read.proofs.Html.Blocks.{is_last}
@@ -43,10 +43,6 @@ first line some =
 white-stays : (kind : ℕ) (white rest : List Seat) → AllByRecursion IsWhite white → through kind inside (bytes_of (white ++ rest)) ≡ through kind inside (bytes_of rest)
 white-stays kind [] rest all = refl
 white-stays kind (s ∷ ss) rest all = ap (λ c. through kind (from_inside kind c) (bytes_of (ss ++ rest))) (white-is-blank s.byte all.0) ∙ white-stays kind ss rest all.1
-
-pub take-front-is : (xs ys : List Seat) → take (length xs) (xs ++ ys) ≡ xs
-take-front-is [] ys = refl
-take-front-is (x ∷ xs) ys = ap (λ l. x ∷ l) (take-front-is xs ys)
 
 -- the line without the white space, before the same lines
 module _ (line : Line) (more : List Line) (are : AreLines (line ∷ more)) (f : First line) where

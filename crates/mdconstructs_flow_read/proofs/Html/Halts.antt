@@ -1,5 +1,5 @@
 -- What the calls at the end of a line of HTML, and at its beginning, come to.
-use Rattle.mdconstructs_flow_read.proofs.Prelude.{◌≡◌, ℕ, suc, ◌+◌, List, [], ◌∷◌, ◌++◌, true, false, Option, Some, None, refl, sym, ap, ◌∙◌, subst, nat_le, append_assoc, append-nil, Event, Kind, Enter, Exit, EventName, HtmlFlow, HtmlFlowData, LineEnding, Point, Name, State, Next, Retry, FlowAfter, FlowBlankLineAfter, HtmlFlowContinuation, HtmlFlowContinuationAfter, HtmlFlowContinuationBefore, HtmlFlowContinuationCdataInside, HtmlFlowContinuationClose, HtmlFlowContinuationCommentInside, HtmlFlowContinuationDeclarationInside, HtmlFlowContinuationRawEndTag, HtmlFlowContinuationRawTagOpen, HtmlFlowContinuationStart, HtmlFlowStart, consumed, entered, exited, Waits, Nothing, Sight, Given, Rows, enter, row, Halt, halt, one_call_more, over, to_come, flow_blank_line_after_rows, FlowByte, blank, cased, is_line_feed, less, line_feed, spelled, flow, html_flow_continuation_after_rows, html_flow_continuation_before_rows, html_flow_continuation_cdata_inside_rows, html_flow_continuation_close_rows, html_flow_continuation_comment_inside_rows, html_flow_continuation_declaration_inside_rows, html_flow_continuation_raw_end_tag_goes_on, html_flow_continuation_raw_end_tag_rows, html_flow_continuation_raw_tag_open_rows, html_flow_continuation_rows, html_flow_continuation_start_rows, html_flow_start_rows}
+use Rattle.mdconstructs_flow_read.proofs.Prelude.{◌≡◌, ℕ, suc, ◌+◌, List, [], ◌∷◌, ◌++◌, true, false, Option, Some, None, refl, sym, ap, ◌∙◌, subst, nat_le, append_assoc, append-nil, Event, Kind, Enter, Exit, EventName, HtmlFlow, HtmlFlowData, LineEnding, Point, Name, State, Next, Retry, FlowAfter, FlowBlankLineAfter, HtmlFlowContinuation, HtmlFlowContinuationAfter, HtmlFlowContinuationBefore, HtmlFlowContinuationCdataInside, HtmlFlowContinuationClose, HtmlFlowContinuationCommentInside, HtmlFlowContinuationDeclarationInside, HtmlFlowContinuationRawEndTag, HtmlFlowContinuationRawTagOpen, HtmlFlowContinuationStart, HtmlFlowStart, consumed, entered, exited, Waits, Nothing, Sight, Given, Rows, enter, row, Halt, halt, one_call_more, over, flow_blank_line_after_rows, FlowByte, cased, is_line_feed, less, line_feed, spelled, flow, html_flow_continuation_after_rows, html_flow_continuation_before_rows, html_flow_continuation_cdata_inside_rows, html_flow_continuation_close_rows, html_flow_continuation_comment_inside_rows, html_flow_continuation_declaration_inside_rows, html_flow_continuation_raw_end_tag_goes_on, html_flow_continuation_raw_end_tag_rows, html_flow_continuation_raw_tag_open_rows, html_flow_continuation_rows, html_flow_continuation_start_rows, html_flow_start_rows}
 use Rattle.mdconstructs_flow_read.proofs.Html.Places.{Place, inside, dashed, bracketed, marked, opened, named, closed, is_closed}
 use Rattle.mdconstructs_flow_read.proofs.Html.Steps.{Config, Kept, counted, current, kind_in, name_of, previous, told, until}
 
@@ -223,13 +223,3 @@ module _ (g : Given) (end : Point) (seen : Sight) where
     waiting = refl;
     kept = record { edits = refl; resolvers = refl; kind = refl };
   }
-
-  -- white space before HTML
-  abbrev pub whitened : Config → Config
-  whitened k = consumed (entered HtmlFlowData None seen.enter_place (entered HtmlFlow None seen.enter_place (counted k)))
-
-  pub white-begins : (k : Config) → k.local.tokenize_state.token_1 ≡ HtmlFlow → now ≡ Some blank → comes k FlowBlankLineAfter ≡ to_come (whitened k) HtmlFlowStart 1
-  white-begins k kind here = ap (λ (o : Option FlowByte). tells 2 k FlowBlankLineAfter (cased flow_blank_line_after_rows before o)) here ∙ rw kind refl
-
-  pub white-goes-on : (k : Config) → now ≡ Some blank → comes k HtmlFlowStart ≡ to_come (consumed (counted k)) HtmlFlowStart 1
-  white-goes-on k here = ap (λ (o : Option FlowByte). tells 2 k HtmlFlowStart (cased html_flow_start_rows before o)) here

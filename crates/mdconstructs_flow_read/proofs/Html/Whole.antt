@@ -1,10 +1,10 @@
 -- HTML is read, from its first line on.
-use Rattle.mdconstructs_flow_read.proofs.Prelude.{◌≡◌, ℕ, suc, ◌||◌, List, [], ◌∷◌, ◌++◌, Bool, true, false, cond, not, Some, length, take, drop, refl, sym, ap, ◌∙◌, subst, nat_le, append_assoc, drop-append_seam, AllByRecursion, Event, Enter, Exit, HtmlFlow, HtmlFlowData, Point, Name, Retry, FlowAfter, FlowBlankLineAfter, HtmlFlowStart, Seat, end_after, byte_of, end_place, seat_before, Given, Text, sight_before, all_of, ending_of, event, flow_byte, AreLines, HtmlIsRead, IsBlockRead, IsFound, IsReadAs, KeepsEdits, behind_block, block_seats, raw, comment, instruction, declaration, cdata, block_tag, any_tag, Line, has_line, lines_through, lines_until, text_of, Mark, body, html_marks, leaf_marks, lines_marks, span_marks, is_blank_line, html, end-after-append}
+use Rattle.mdconstructs_flow_read.proofs.Prelude.{◌≡◌, ℕ, suc, ◌||◌, List, [], ◌∷◌, ◌++◌, Bool, true, false, cond, not, Some, length, take, drop, refl, sym, ap, ◌∙◌, subst, nat_le, append_assoc, drop-append_seam, take-append_seam, AllByRecursion, Event, Enter, Exit, HtmlFlow, HtmlFlowData, Point, Name, Retry, FlowAfter, FlowBlankLineAfter, HtmlFlowStart, Seat, end_after, byte_of, end_place, seat_before, Given, Text, sight_before, all_of, ending_of, event, flow_byte, AreLines, HtmlIsRead, IsBlockRead, IsFound, IsReadAs, KeepsEdits, behind_block, block_seats, raw, comment, instruction, declaration, cdata, block_tag, any_tag, Line, has_line, lines_through, lines_until, text_of, Mark, body, html_marks, leaf_marks, lines_marks, span_marks, is_blank_line, html, end-after-append}
 use Rattle.mdconstructs_flow_read.proofs.Tags.HtmlNumbers.{ends_html}
 use Rattle.mdconstructs_flow_read.proofs.Html.Blocks.{AreRead, count, enters, from-line, further-read, is_last, reads-as, seats-split, stays_open}
 use Rattle.mdconstructs_flow_read.proofs.Html.Counts.{count-through, count-until, open-is}
 use Rattle.mdconstructs_flow_read.proofs.Html.Ends.{ends-are, html-is}
-use Rattle.mdconstructs_flow_read.proofs.Html.First.{First, behind-is, first, last-same, line-is, rest, rest-are, rest-text, seats-are, take-front-is, white-read, white_events}
+use Rattle.mdconstructs_flow_read.proofs.Html.First.{First, behind-is, first, last-same, line-is, rest, rest-are, rest-text, seats-are, white-read, white_events}
 use Rattle.mdconstructs_flow_read.proofs.Html.Halts.{line-begins, start-begins}
 use Rattle.mdconstructs_flow_read.proofs.Html.Reads.{BeginsAt, plain}
 use Rattle.mdconstructs_flow_read.proofs.Html.Steps.{Config, Kept, kept-on, kind_in}
@@ -29,7 +29,7 @@ module _ (g : Given) (line : Line) (more : List Line) (are : AreLines (line ∷ 
       let parts = λ (n : ℕ) (l : Line). leaf_marks g.bytes HtmlFlowData (take n l) ++ inner is_open (drop n l ∷ lines) in
       let n = length f.white in
       ap (λ n. parts n line) f.columns ∙ ap (parts n) (line-is line more are f)
-      ∙ ap (λ l. leaf_marks g.bytes HtmlFlowData l ++ inner is_open (drop n (f.white ++ behind) ∷ lines)) (take-front-is f.white behind)
+      ∙ ap (λ l. leaf_marks g.bytes HtmlFlowData l ++ inner is_open (drop n (f.white ++ behind) ∷ lines)) (take-append_seam f.white behind)
       ∙ ap (λ l. leaf_marks g.bytes HtmlFlowData f.white ++ inner is_open (l ∷ lines)) (drop-append_seam f.white behind)
 
   -- the block begins with the sign

@@ -1,5 +1,5 @@
 -- Reading on from one state is reading on from another, in parts and over a stretch.
-use Rattle.mdconstructs_flow_read.proofs.Prelude.{◌≡◌, ℕ, ◌+◌, List, Bool, drop, refl, sym, ap, ◌∙◌, subst, arith, Name, State, Next, Retry, Seat, fed-ends, Configuration, Choice, Reading, EndsIn, fed, byte_of, end_place, seat_before, Given, Text, LeadsIn, stretches-are-read, waits_at, table_step, stretch, stretch_from, flow}
+use Rattle.mdconstructs_flow_read.proofs.Prelude.{◌≡◌, ℕ, ◌+◌, List, Bool, drop, refl, sym, ap, ◌∙◌, subst, arith, Name, State, Retry, Seat, Configuration, Choice, Reading, EndsIn, byte_of, end_place, seat_before, Given, Text, LeadsIn, stretches-are-read, waits_at, table_step, stretch, stretch_from, flow}
 
 module _ (g : Given) (t : Text) where
   -- with choices that wait, reading on from a state is reading on from another, some calls later
@@ -18,15 +18,6 @@ module _ (g : Given) (t : Text) where
   -- so many calls later
   pub from-leads : (n : ℕ) (k : Configuration Unit Unit) (from : State) (after : Configuration Unit Unit) (to : State) → LeadsIn g (table_step flow g) t n k from after to → Leads k from after to
   from-leads n k from after to h = record { calls = n; leads = λ choices before z e. h choices before z e }
-
-  -- the next byte, or the end, is fed
-  pub leads-fed : (k : Configuration Unit Unit) (name : Name) → Leads k (Next name) (fed t k) (Retry name)
-  leads-fed k name = record {
-    calls = 0;
-    leads = λ choices before z h.
-        let e : before + 0 ≡ before = omega arith in
-        (fed-ends g (table_step flow g) t before k choices name z).0 (subst (λ n. EndsIn g (table_step flow g) t n (fed t k) choices (Retry name) z) e h);
-  }
 
   -- a stretch leads to where it stops
   pub stretch-leads : (until : Name → Bool) (k : Configuration Unit Unit) (name : Name) (l : List Seat) → drop k.position t.seats ≡ l → k.waiting ≡ waits_at l

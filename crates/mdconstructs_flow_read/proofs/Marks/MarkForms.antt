@@ -1,9 +1,9 @@
 -- Marks of spans over a document's virtual bytes are well formed: balanced, void spans empty, at places, and in order of these.
 use Rattle.markdown_base.proofs.Orders.{IsFirstExit, AreTight, tight-both, tight-at, InOrder, order-both, order-from, order-pairs}
-use Rattle.mdconstructs_flow_read.proofs.Prelude.{◌≡◌, ℕ, ◌+◌, List, [], ◌∷◌, ◌++◌, Bool, true, false, cond, Option, Some, None, append_assoc, refl, sym, ap, ◌∙◌, subst, AllByRecursion, map-append, append-nil, All-from_recursion, every-append, every-map, end-after-append, stands-self, Event, Enter, Exit, Point, is_void, same_name, IsPointOf, IsShown, shown, stands_before, Seat, end_after, point, virtual, balanced_from_open, names_after_all-append, same_name-refl, names_after, names_after_all, upto-upto, IsWellFormed, Given, IsDocument, event, Chunk, Mark, alone, linked_from, IsText, Text, AcrossGap, AtOnce}
+use Rattle.mdconstructs_flow_read.proofs.Prelude.{◌≡◌, ℕ, ◌+◌, List, [], ◌∷◌, ◌++◌, Bool, true, false, cond, Option, Some, None, append_assoc, refl, sym, ap, ◌∙◌, subst, AllByRecursion, map-append, append-nil, All-from_recursion, every-append, every-map, end-after-append, stands-self, Event, Enter, Exit, Point, is_void, same_name, IsPointOf, IsShown, shown, stands_before, Seat, end_after, point, balanced_from_open, names_after_all-append, same_name-refl, names_after, names_after_all, IsWellFormed, Given, event, Chunk, Mark, alone, linked_from, IsText, Text, AcrossGap, AtOnce}
 use Rattle.markdown_base.specs.declared.event.Name.{Name}
 use Rattle.markdown_base.specs.declared.event.Name.TheVariants as name
-use Rattle.mdconstructs_flow_read.proofs.Marks.Courses.{Course, Place, Track, course-here, course-on, course-place, course-upto, text-course, whole-track}
+use Rattle.mdconstructs_flow_read.proofs.Marks.Courses.{Course, Place, course-here, course-on, course-place, course-upto, text-course}
 use Rattle.mdconstructs_flow_read.proofs.Marks.MarkAccounts.{bare}
 use Rattle.mdconstructs_flow_read.proofs.Marks.MarkSpans.{IsKeptBySpans, text-by-chunks}
 
@@ -157,13 +157,6 @@ formed-well g p marks q h =
         All-from_recursion (λ (e : Event). IsShown g.bytes e.point) es (every-map (λ (e : Event). Place g.tab g.bytes e.point) (λ (e : Event). IsShown g.bytes e.point) (λ e h. h.is_shown) es places),
       );
     }
-
--- Marks over all virtual bytes of a document are well formed
-pub whole-formed : (g : Given) → IsDocument g → (marks : List Mark) → Forms g.tab g.bytes marks (virtual g.tab g.bytes) → IsWellFormed g (linked_from 0 marks)
-whole-formed g is marks forms =
-    let p = point 1 1 0 0 in
-    let seats = virtual g.tab g.bytes in
-    formed-well g p marks (end_after p seats) (forms p [] (subst (Track g.tab g.bytes p) (sym (append-nil seats)) (whole-track g.tab g.bytes is.tab.0)))
 
 -- and so are those over the virtual bytes of a text
 pub text-formed : (g : Given) (text : Text) → IsText g text → (marks : List Mark) → FormsOver AcrossGap g.tab g.bytes marks text.seats → IsWellFormed g (linked_from 0 marks)
