@@ -1,6 +1,6 @@
 -- What the proofs of this crate cite from below them: words of std, of the crates below and of specs.
 pub use Rattle.std.proofs.Common.{Bool, IfOk, List, None, Option, Some, [], ap, arith, cond, drop, false, inl, inr, le_trans, length, length-append, nat_le, nat_lt, not, one-add, option_map, refl, replicate, rules, slice_get, slice_index_or, slice_set, subst, suc, sym, take, true, zero, ℕ, ◌&&◌, ◌*◌, ◌++◌, ◌+◌, ◌-◌, ◌<◌, ◌==◌, ◌^◌, ◌||◌, ◌∙◌, ◌∷◌, ◌≡◌, ◌≤◌, ◌⊎◌}
-pub use Rattle.std.proofs.Math.Bool.{and-false, and-true}
+pub use Rattle.std.proofs.Math.Bool.{and-false, and-true, and_comm}
 pub use Rattle.std.proofs.Math.Nat.{mul-le-mul_right}
 pub use Rattle.std.proofs.Math.Seq.{take-add, take-append_seam, take-length, take-suc}
 pub use Rattle.std.proofs.lemmas.Bool.{and_parts, cases_lt, eqb-true, le-leb, le-ltb, lt-leb, lt-ltb, ltb-false, ltb-true, not-false, not-true}
@@ -78,6 +78,7 @@ pub use Rattle.mdconstructs_text.proofs.CodeSpans.Parts.{grows_b, more-is, run-p
 pub use Rattle.mdconstructs_text.proofs.CodeSpans.Plays.{PlaysCodeSpans, before_chunk_rows, between_rows, opening_rows}
 pub use Rattle.mdconstructs_text.proofs.CodeSpans.Remembered.{KnowsRuns, Memory, known_runs, knows-as, knows-later, knows-nothing, left-paid, others, read-paid, remembered-code-spans-read, remembering, seen}
 pub use Rattle.mdconstructs_text.proofs.CodeSpans.Sizes.{code-span-within}
+pub use Rattle.mdconstructs_text.proofs.CodeSpans.Ticks.{drop-order}
 pub use Rattle.mdconstructs_text.proofs.Constructs.Apart.{IsApart, OfOption, only-there, when-so, when-there}
 pub use Rattle.mdconstructs_text.proofs.Constructs.Listed.{outer}
 pub use Rattle.mdconstructs_text.proofs.Constructs.Marks.{can-mark-behind}

@@ -48,10 +48,6 @@ last-is [] b = refl
 last-is (x ∷ []) b = refl
 last-is (x ∷ y ∷ ys) b = last-is (y ∷ ys) b
 
-first-kept : (xs ys : List ℕ) → has_byte_at xs 0 is_ascii_alphanumeric ≡ true → has_byte_at (xs ++ ys) 0 is_ascii_alphanumeric ≡ true
-first-kept [] ys h = absurd (cc)
-first-kept (x ∷ xs) ys h = h
-
 -- one byte more of a label was read
 begun-more : (hyphen h : Bool) (n : ℕ) (read : List ℕ) (b : ℕ) → IsBegun hyphen n read → n < 63 → is_label_byte b ≡ true → is_ascii_alphanumeric b ≡ not h → (h ≡ true → 0 < n) → IsBegun h (n + 1) (read ++ b ∷ [])
 begun-more hyphen h n read b begun room label last some = record {

@@ -1,5 +1,5 @@
 -- Email autolinks, as a machine of texts reads them: if one is there, it is read whole, with its events; if not, what was tried leaves nothing.
-use Rattle.mdconstructs_inline_constructs.proofs.Prelude.{drop-next, Seat, Event, Autolink, AutolinkEmail, AutolinkMarker, Name, Next, Nok, Ok, Retry, AutolinkEmailAtSignOrDot, AutolinkEmailAtext, AutolinkEmailLabel, AutolinkEmailValue, with_local, Choice, Configuration, Local, Step, Sight, byte_of, sight, Given, IsText, Text, Byte, Nothing, row_step, at-front, held, counts, email, email_at, email_with, is_at_sign, is_atext, is_domain, is_domain_byte, is_dot, is_hyphen, is_domain_label, domain_ends, email_atext_rows, email_label_rows, email_start_rows, email_value_rows, emails, label_end_rows, label_ends, label_goes_on, label_has_hyphen, label_rows, name_ends, name_goes_on, Rows, class_of, consume, enter, exit, row, when, write, after-sized, link_calls, looked-once, IsJoined, text-joined, grows_b, more-is, size_b, with_b, outer, DecidesIn, ReadsIn, TriedIn, decides-more, decides-within, puts-back, refused, after-passed, byte-behind, first_byte, goes-next, loops, passed, past, past-at, past-stops, shows, IsAfter, after-call, Ending, EndsWith, HasRow, HasRows, Plays, before_class, between_items, leads-ok, leads-row, leads-seen, tested, is_allowed, has_byte_at, is_greater_than, passes, Between, Found, bytes_of, text_byte, more_than, size_b_grows, size_b_is, Bool, List, None, Option, Some, [], ap, arith, cond, drop, false, nat_lt, refl, slice_get, subst, suc, sym, take, true, ℕ, ◌&&◌, ◌++◌, ◌+◌, ◌<◌, ◌==◌, ◌∙◌, ◌∷◌, ◌≡◌, ◌≤◌, and-false, and_parts, eqb-true, lt-ltb, ltb-true, nat_tests, drop-drop, drop-map, is_ascii_alphanumeric, list_all, prefix_len, EventName}
+use Rattle.mdconstructs_inline_constructs.proofs.Prelude.{and_comm, drop-next, Seat, Event, Autolink, AutolinkEmail, AutolinkMarker, Name, Next, Nok, Ok, Retry, AutolinkEmailAtSignOrDot, AutolinkEmailAtext, AutolinkEmailLabel, AutolinkEmailValue, with_local, Choice, Configuration, Local, Step, Sight, byte_of, sight, Given, IsText, Text, Byte, Nothing, row_step, at-front, held, counts, email, email_at, email_with, is_at_sign, is_atext, is_domain, is_domain_byte, is_dot, is_hyphen, is_domain_label, domain_ends, email_atext_rows, email_label_rows, email_start_rows, email_value_rows, emails, label_end_rows, label_ends, label_goes_on, label_has_hyphen, label_rows, name_ends, name_goes_on, Rows, class_of, consume, enter, exit, row, when, write, after-sized, link_calls, looked-once, IsJoined, text-joined, grows_b, more-is, size_b, with_b, outer, DecidesIn, ReadsIn, TriedIn, decides-more, decides-within, puts-back, refused, after-passed, byte-behind, first_byte, goes-next, loops, passed, past, past-at, past-stops, shows, IsAfter, after-call, Ending, EndsWith, HasRow, HasRows, Plays, before_class, between_items, leads-ok, leads-row, leads-seen, tested, is_allowed, has_byte_at, is_greater_than, passes, Between, Found, bytes_of, text_byte, more_than, size_b_grows, size_b_is, Bool, List, None, Option, Some, [], ap, arith, cond, drop, false, nat_lt, refl, slice_get, subst, suc, sym, take, true, ℕ, ◌&&◌, ◌++◌, ◌+◌, ◌<◌, ◌==◌, ◌∙◌, ◌∷◌, ◌≡◌, ◌≤◌, and-false, and_parts, eqb-true, lt-ltb, ltb-true, nat_tests, drop-drop, drop-map, is_ascii_alphanumeric, list_all, prefix_len, EventName}
 use Rattle.mdconstructs_inline_constructs.proofs.Emails.Calls.{alphanumeric-allowed, at-sign-allowed, atext-allowed, dot-allowed, hyphen-allowed}
 use Rattle.mdconstructs_inline_constructs.proofs.Emails.Domains.{domain-left, left_of_domain, more, none-begun, pieces-some}
 use Rattle.mdconstructs_text.proofs.Autolinks.Events.{begun_marked, ended_marked, marked-events, marked-front}
@@ -55,12 +55,6 @@ two-tests : (a b c : Bool) (item : Found) → cond (a && (b && c)) (Some item) N
 two-tests true true c item = refl
 two-tests true false c item = refl
 two-tests false b c item = refl
-
-and-swapped : (a b : Bool) → (a && b) ≡ (b && a)
-and-swapped true true = refl
-and-swapped true false = refl
-and-swapped false true = refl
-and-swapped false false = refl
 
 of-there : (t : Bool) (i d : ℕ) → email_of i (cond t (Some d) None) ≡ cond t (Some (email (i + d))) None
 of-there true i d = refl
@@ -271,7 +265,7 @@ module _ (g : Given) (text : Text) (m : Plays g text) (e : PlaysEmails g text m)
       let has : HasRow g text m.step k AutolinkEmailAtext (email_atext_rows (before_class g text q) (Some (text_byte x.byte))) =
       e.email_atext k ∙ ap (λ o. row_step g text k (email_atext_rows (before_class g text q) (class_of text_byte o))) waits in
       let o = λ (t : Bool). cond t (email_of (n + 1) (left_of_domain false 0 (drop (n + 1) (bytes_of (r ∷ rs))))) None in
-      let swapped : (nat_lt 0 n && is_at_sign x.byte) ≡ (is_at_sign x.byte && nat_lt 0 n) = and-swapped (nat_lt 0 n) (is_at_sign x.byte) in
+      let swapped : (nat_lt 0 n && is_at_sign x.byte) ≡ (is_at_sign x.byte && nat_lt 0 n) = and_comm (nat_lt 0 n) (is_at_sign x.byte) in
       let tests : (passes is_at_sign (byte_of (slice_get text.seats q)) && nat_lt 0 (size_b local)) ≡ (nat_lt 0 n && is_at_sign x.byte) = (λ j. passes is_at_sign (waits j) && size j) ∙ sym swapped in
       elim (nat_lt 0 n && is_at_sign x.byte) as (λ t. (nat_lt 0 n && is_at_sign x.byte) ≡ t → IsDecided (calls_at (x ∷ xs)) q (x ∷ xs) local AutolinkEmailAtext (o t)) [
         | true ↦ λ is.

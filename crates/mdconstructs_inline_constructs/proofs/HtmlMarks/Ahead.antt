@@ -1,10 +1,10 @@
 -- The calls of looks for marks are paid: by the bytes of a mark that is there; and where none is, by the bytes of which it was not yet known that
 -- no mark of the kind ends that begins there.
-use Rattle.mdconstructs_inline_constructs.proofs.Prelude.{drop-at, every-get, every-map, shown, Seat, get-dropped, AreInOrder, Follows, text-order, Configuration, Local, byte_of, point_or, Given, IsText, Text, at-front, is_white, none_upto, stopped_at, Remembered, remembered, spent, bytes_of, AllByRecursion, nat_lt, Bool, List, Some, [], ap, arith, cond, drop, false, inl, inr, length, refl, slice_get, subst, suc, sym, take, true, zero, ℕ, ◌&&◌, ◌*◌, ◌+◌, ◌-◌, ◌<◌, ◌==◌, ◌^◌, ◌∙◌, ◌∷◌, ◌≡◌, ◌≤◌, le-ltb, lt-ltb, ltb-false, drop-drop, length-drop, length-map, slice_get_cases, mul-le-mul_right}
+use Rattle.mdconstructs_inline_constructs.proofs.Prelude.{drop-at, every-get, every-map, shown, Seat, get-dropped, AreInOrder, Follows, text-order, drop-order, Configuration, Local, byte_of, point_or, Given, IsText, Text, at-front, is_white, none_upto, stopped_at, Remembered, remembered, spent, bytes_of, AllByRecursion, nat_lt, Bool, List, Some, [], ap, arith, cond, drop, false, inl, inr, length, refl, slice_get, subst, suc, sym, take, true, zero, ℕ, ◌&&◌, ◌*◌, ◌+◌, ◌-◌, ◌<◌, ◌==◌, ◌^◌, ◌∙◌, ◌∷◌, ◌≡◌, ◌≤◌, le-ltb, lt-ltb, ltb-false, drop-drop, length-drop, length-map, slice_get_cases, mul-le-mul_right}
 use Rattle.mdconstructs_inline_constructs.proofs.HtmlMarks.Fails.{IsLineAt}
 use Rattle.mdconstructs_inline_constructs.proofs.HtmlMarks.Places.{Mark, at_open, mark_byte, mark_move, of_cdata, of_comment, of_declaration, of_instruction}
 use Rattle.mdconstructs_inline_constructs.proofs.HtmlMarks.Readings.{IsWritten, known_at, look_calls, looked_over}
-use Rattle.mdconstructs_inline_constructs.proofs.HtmlMarks.Remembered.{before-index, order-drop, stop_index}
+use Rattle.mdconstructs_inline_constructs.proofs.HtmlMarks.Remembered.{before-index, stop_index}
 use Rattle.mdconstructs_inline_constructs.proofs.HtmlMarks.Rows.{known_upto, knows_of, opening_length}
 use Rattle.mdconstructs_inline_constructs.proofs.HtmlMarks.Strict.{IsPlain, line-behind, text-plain}
 use Rattle.mdconstructs_inline_constructs.proofs.HtmlTexts.Walks.{gone_over, looked, Move, done, goes, refused}
@@ -126,7 +126,7 @@ ahead-first of_cdata r s ss = omega (arith, count-later r.comment s ss, count-la
 
 module _ (g : Given) (text : Text) (is : IsText g text) (p : ℕ) (s : Seat) (ss : List Seat) (here : drop p text.seats ≡ s ∷ ss) where
   order-here : AreInOrder g.bytes (s ∷ ss)
-  order-here = subst (AreInOrder g.bytes) here (order-drop g.bytes p text.seats (text-order g text is).0)
+  order-here = subst (AreInOrder g.bytes) here (drop-order g.bytes text.seats p (text-order g text is).0)
 
   plain-here : AllByRecursion (IsPlain g.bytes) (s ∷ ss)
   plain-here = subst (AllByRecursion (IsPlain g.bytes)) here (every-dropped (IsPlain g.bytes) p text.seats (text-plain g text is))
@@ -143,7 +143,7 @@ module _ (g : Given) (text : Text) (is : IsText g text) (p : ℕ) (s : Seat) (ss
             let behind : c ≤ x.point.index = ltb-false x.point.index c (sym (ap (knows_of r kind) at) ∙ unknown) in
             let rest = drop (suc n) (s ∷ ss) in
             let split : drop n (s ∷ ss) ≡ x ∷ rest = drop-at (s ∷ ss) n x found.2 in
-            let order : AreInOrder g.bytes (x ∷ rest) = subst (AreInOrder g.bytes) split (order-drop g.bytes n (s ∷ ss) order-here) in
+            let order : AreInOrder g.bytes (x ∷ rest) = subst (AreInOrder g.bytes) split (drop-order g.bytes (s ∷ ss) n order-here) in
             let all : count_from c (x ∷ rest) ≡ length (x ∷ rest) =
             count-all c (x ∷ rest) (behind, every-map (Follows x) (λ r. c ≤ r.point.index) (λ r f. (let grows = before-index x.point r.point f.0 in omega (arith, behind, grows))) rest order.1) in
             let counted : count_from c (drop n (s ∷ ss)) ≡ length (drop n (s ∷ ss)) = ap (count_from c) split ∙ all ∙ sym (ap length split) in

@@ -83,10 +83,6 @@ NoneBegins kind [] n = Unit {0}
 NoneBegins kind (b ∷ bs) zero = Unit {0}
 NoneBegins kind (b ∷ bs) (suc n) = ((b == 60) ≡ true → of_kind kind bs ≡ None) × NoneBegins kind bs n
 
-none-at-all : (kind : Mark) (bs : List ℕ) → NoneBegins kind bs 0
-none-at-all kind [] = tt
-none-at-all kind (b ∷ bs) = tt
-
 -- what holds of a move to the place where none of it is before
 nothing-failed : (kind : Mark) (n : ℕ) (P : Move MarkPlace → Type 0) → ((w : Option (Configuration Unit Unit → Local Unit Unit)) → P (goes w (at_inside kind 0))) → P (nothing_before kind n)
 nothing-failed kind zero P h = h None

@@ -1,5 +1,5 @@
 -- What is remembered of marks that do not end: it is right from a position of the text on, and a look that fails adds what is right.
-use Rattle.mdconstructs_inline_constructs.proofs.Prelude.{every-get, shown, stands_before, Seat, Point, get-dropped, shown-upto, AreInOrder, Follows, text-order, Configuration, current_of, point_of, point_or, byte_of, Given, IsText, Text, at-front, none_upto, stopped_at, waits_at, Remembered, remembered, bytes_of, List, None, Option, Some, [], ap, arith, drop, false, inl, inr, refl, slice_get, subst, suc, sym, true, zero, ℕ, ◌+◌, ◌-◌, ◌<◌, ◌==◌, ◌∙◌, ◌∷◌, ◌≡◌, ◌≤◌, cases_lt, ltb-true, nat_tests, drop-drop}
+use Rattle.mdconstructs_inline_constructs.proofs.Prelude.{every-get, shown, stands_before, Seat, Point, get-dropped, shown-upto, AreInOrder, Follows, text-order, drop-order, Configuration, current_of, point_of, point_or, byte_of, Given, IsText, Text, at-front, none_upto, stopped_at, waits_at, Remembered, remembered, bytes_of, List, None, Option, Some, [], ap, arith, drop, false, inl, inr, refl, slice_get, subst, suc, sym, true, zero, ℕ, ◌+◌, ◌-◌, ◌<◌, ◌==◌, ◌∙◌, ◌∷◌, ◌≡◌, ◌≤◌, cases_lt, ltb-true, nat_tests, drop-drop}
 use Rattle.mdconstructs_inline_constructs.proofs.HtmlMarks.Fails.{NoneBegins}
 use Rattle.mdconstructs_inline_constructs.proofs.HtmlMarks.Known.{of_kind}
 use Rattle.mdconstructs_inline_constructs.proofs.HtmlMarks.Places.{Mark, mark_byte, of_cdata, of_comment, of_declaration, of_instruction}
@@ -57,11 +57,6 @@ before-index p q h = grind (arith, nat_tests)
 upto-index : (p q : Point) → stands_before p q ≡ false → q.index ≤ p.index
 upto-index p q h = grind (arith, nat_tests)
 
-pub order-drop : (bytes : List ℕ) (n : ℕ) (l : List Seat) → AreInOrder bytes l → AreInOrder bytes (drop n l)
-order-drop bytes zero l h = h
-order-drop bytes (suc n) [] h = h
-order-drop bytes (suc n) (s ∷ ss) h = order-drop bytes n ss h.2
-
 -- what is among the bytes at the front
 pub begins-among : (kind : Mark) (l : List Seat) (n j : ℕ) (s : Seat) (ss : List Seat) → NoneBegins kind (bytes_of l) n → drop j l ≡ s ∷ ss → j < n → (s.byte == 60) ≡ true → of_kind kind (bytes_of ss) ≡ None
 begins-among kind [] n zero s ss none here less begins = absurd (cc)
@@ -78,7 +73,7 @@ module _ (g : Given) (text : Text) (is : IsText g text) where
   pub later-index : (p : ℕ) (s : Seat) (ss : List Seat) → drop p text.seats ≡ s ∷ ss → (j : ℕ) (r : Seat) → slice_get (s ∷ ss) j ≡ Some r → s.point.index ≤ r.point.index
   later-index p s ss here zero r at = let same : s ≡ r = cc in subst (λ (r : Seat). s.point.index ≤ r.point.index) same (omega arith)
   later-index p s ss here (suc j) r at =
-      let order = subst (AreInOrder g.bytes) here (order-drop g.bytes p text.seats (text-order g text is).0) in
+      let order = subst (AreInOrder g.bytes) here (drop-order g.bytes text.seats p (text-order g text is).0) in
       before-index s.point r.point (every-get (Follows s) ss j r order.1 at).0
 
   -- what is known of the last byte of an opening mark is right of its first one
