@@ -1,6 +1,6 @@
 -- How the machine of inline text reads a line ending with the white space behind it, and the white space that a text begins with; and in how many
 -- calls.
-use Rattle.mdconstructs_inlines.proofs.Prelude.{◌≡◌, ℕ, suc, ◌+◌, ◌≤◌, List, [], ◌∷◌, ◌++◌, Bool, true, false, cond, Option, Some, None, refl, sym, ap, ◌∙◌, subst, arith, append_assoc, length, take, drop, append-nil, length-map, prefix_len-le-length, prefix_len, slice_get, drop-next, Event, Enter, Exit, LineEnding, SpaceOrTab, Next, Retry, TextBefore, TextLineStart, TextLineWhite, Seat, Byte, Nothing, Local, byte_of, end_place, point_or, Given, Text, class_of, consume, enter, exit, row, line-ending-read, at-front, held, is_white, counts, AddsItemIn, adds-of, after-passed, first_byte, goes-back, goes-next, leaf-read, loops, past-at, past-stops, passed, sees, shows, IsAfter, after-call, after-more, after-within, AddsItem, EndsWith, Leads, Plays, before_class, between_items, leads-row, leads-seen, passes, between_texts, by-class, bytes_of, event, leaf, TextByte, text_byte, run-some, white-class, line_break, line_start_rows, line_white_rows}
+use Rattle.mdconstructs_inlines.proofs.Prelude.{◌≡◌, ℕ, suc, ◌+◌, ◌≤◌, List, [], ◌∷◌, ◌++◌, Bool, true, false, cond, Option, Some, None, refl, sym, ap, ◌∙◌, subst, arith, append_assoc, length, take, drop, append-nil, length-map, prefix_len-le-length, prefix_len, slice_get, drop-next, Event, Enter, Exit, LineEnding, SpaceOrTab, Next, Retry, TextBefore, TextLineStart, TextLineWhite, Seat, Byte, Nothing, Local, byte_of, end_place, point_or, Given, Text, class_of, consume, enter, exit, row, line-ending-read, at-front, held, is_white, counts, AddsItemIn, after-passed, first_byte, goes-back, goes-next, leaf-read, loops, past-at, past-stops, passed, sees, shows, IsAfter, after-call, after-more, after-within, EndsWith, Leads, Plays, before_class, between_items, leads-row, leads-seen, passes, between_texts, by-class, bytes_of, event, leaf, TextByte, text_byte, run-some, white-class, line_break, line_start_rows, line_white_rows}
 use Rattle.mdconstructs_text.proofs.Plain.Stretches.{past}
 use Rattle.mdconstructs_inlines.proofs.Playing.{inlines_play, line-row}
 
@@ -21,11 +21,6 @@ module _ (before : Option TextByte) where
 module _ (g : Given) (text : Text) where
   abbrev m : Plays g text
   m = inlines_play g text
-
-  -- From the beginning of a line its white space is read, if there is any
-  abbrev pub StartRead : List Seat → ℕ → List Event → Local Unit Unit → ℕ → Type 0
-  StartRead l q events local n =
-      (after : Local Unit Unit) × Leads g text m (shows l [] q events local) [] (Retry TextLineStart) (between_items (q + n) Nothing false (events ++ leaf g.bytes SpaceOrTab (take n l)) after) [] (Next TextBefore)
 
   -- in a call more than it has bytes
   abbrev pub StartReadIn : List Seat → ℕ → List Event → Local Unit Unit → ℕ → Type 0
@@ -89,9 +84,6 @@ module _ (g : Given) (text : Text) where
         | false ↦ λ other. no-white (s ∷ ss) q events local at other
       ] refl
 
-  pub start-read : (l : List Seat) (q : ℕ) (events : List Event) (local : Local Unit Unit) → drop q text.seats ≡ l → StartRead l q events local (prefix_len is_white (bytes_of l))
-  start-read l q events local at = let read = start-read-in l q events local at in (read.0, read.2)
-
   -- A line ending is read, with the white space behind it, in a call more than they have bytes
   pub reads-line-break-in : (p : ℕ) (ended : Bool) (events : List Event) (local : Local Unit Unit) (s : Seat) (ss : List Seat) → drop p text.seats ≡ s ∷ ss → s.byte ≡ 10
       → AddsItemIn g text m between_texts (prefix_len is_white (bytes_of ss) + 2) (between_items p Byte ended events local) (Retry TextBefore) p events (s ∷ ss) (line_break (prefix_len is_white (bytes_of ss)))
@@ -117,9 +109,3 @@ module _ (g : Given) (text : Text) where
             (subst (λ q. EndsWith g text m (between_items q Nothing false (ending ++ leaf g.bytes SpaceOrTab (take n ss)) read.0) [] (Next TextBefore) es) (sym place)
             (subst (λ l. EndsWith g text m (between_items (p + (1 + n)) Nothing false l read.0) [] (Next TextBefore) es) (sym made) h))))),
       )
-
-  pub reads-line-break : (p : ℕ) (ended : Bool) (events : List Event) (local : Local Unit Unit) (s : Seat) (ss : List Seat) → drop p text.seats ≡ s ∷ ss → s.byte ≡ 10
-      → AddsItem g text m between_texts (between_items p Byte ended events local) (Retry TextBefore) p events (s ∷ ss) (line_break (prefix_len is_white (bytes_of ss)))
-  reads-line-break p ended events local s ss here is =
-      let n = prefix_len is_white (bytes_of ss) in
-      adds-of g text m between_texts (n + 2) (between_items p Byte ended events local) (Retry TextBefore) p events (s ∷ ss) (line_break n) (reads-line-break-in p ended events local s ss here is)

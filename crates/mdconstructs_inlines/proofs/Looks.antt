@@ -1,6 +1,7 @@
 -- The machine of inline text refuses no document, by the test of its rows; and it looks no further than the byte that waits: its tests take
 -- nothing of the document but the options.
-use Rattle.mdconstructs_inlines.proofs.Prelude.{◌≡◌, ◌&&◌, List, [], ◌∷◌, ◌++◌, Option, Some, None, refl, ap, AllByRecursion, ParseOptions, LooksNoFurther, IsAnsweredAlike, tests, tests_of, refusing, RulesRefuseNothing, steps-alike, table-steps, refuse-nothing, autolinks, autolinks_are_on, has_room, has_scheme, passes, code_spans_are_on, sizes_are_equal, escapes, escapes_are_on, TextByte, line_feed, backtick, less, greater, backslash, colon, letter, digit, mark, ampersand, white, punctuation, blank, other, every-append, TextBeforeHardBreakEscape, every-back, every-front, StateRows, states_of, html-on-alike, html-tags-alike, emails, html_marks, html_tags, domain-ends-alike, hyphen-alike, label-alike, label-ends-alike, name-alike, name-ends-alike, break_escapes_are_on, space_waits, trailing_breaks_are_on, at_number_sign, at_semicolon, at_x, value_goes_on, value_is_whole, goes-on-alike, number-sign-alike, on-alike, semicolon-alike, whole-alike, x-alike, remembered_code_spans, inlines_rules, behind_escapes, inline_constructs, inline_start, inlines, own_states, is_delimiter, run_begins, run_goes_on, run_states, string_states}
+use Rattle.mdconstructs_inlines.proofs.Prelude.{◌≡◌, ◌&&◌, List, [], ◌∷◌, ◌++◌, Option, Some, None, refl, ap, AllByRecursion, ParseOptions, LooksNoFurther, IsAnsweredAlike, tests, tests_of, refusing, RulesRefuseNothing, steps-alike, table-steps, refuse-nothing, autolinks, passes, escapes, TextByte, line_feed, backtick, less, greater, backslash, colon, letter, digit, mark, ampersand, white, punctuation, blank, other, every-append, TextBeforeHardBreakEscape, every-back, every-front, StateRows, states_of, html-on-alike, html-tags-alike, emails, html_marks, html_tags, domain-ends-alike, hyphen-alike, label-alike, label-ends-alike, name-alike, name-ends-alike, break_escapes_are_on, space_waits, trailing_breaks_are_on, at_number_sign, at_semicolon, at_x, value_goes_on, value_is_whole, goes-on-alike, number-sign-alike, on-alike, semicolon-alike, whole-alike, x-alike, remembered_code_spans, inlines_rules, behind_escapes, inline_constructs, inline_start, inlines, own_states, is_delimiter, run_begins, run_goes_on, run_states, string_states}
+use Rattle.mdconstructs_text.proofs.Texts.NoFurther.{autolinks as autolinks-on, code-spans, escapes as escapes-on, room, scheme, sizes}
 
 none-refuses : (previous current : Option TextByte) → refusing inlines previous current ≡ []
 none-refuses previous (Some line_feed) = refl
@@ -8,24 +9,6 @@ none-refuses previous _ = refl
 
 pub inlines-refuse-nothing : RulesRefuseNothing inlines_rules
 inlines-refuse-nothing = refuse-nothing inlines_rules (λ g s k name. table-steps inlines none-refuses g s k name) (λ g s k r m e. absurd (cc))
-
-sizes : IsAnsweredAlike {R = Unit {0}} {D = Unit {0}} sizes_are_equal
-sizes g h s k alike = refl
-
-scheme : IsAnsweredAlike {R = Unit {0}} {D = Unit {0}} has_scheme
-scheme g h s k alike = refl
-
-room : IsAnsweredAlike {R = Unit {0}} {D = Unit {0}} has_room
-room g h s k alike = refl
-
-code-spans : IsAnsweredAlike {R = Unit {0}} {D = Unit {0}} code_spans_are_on
-code-spans g h s k alike = ap (λ (o : ParseOptions). o.constructs.code_text) alike.options
-
-autolinks-on : IsAnsweredAlike {R = Unit {0}} {D = Unit {0}} autolinks_are_on
-autolinks-on g h s k alike = ap (λ (o : ParseOptions). o.constructs.autolink) alike.options
-
-escapes-on : IsAnsweredAlike {R = Unit {0}} {D = Unit {0}} escapes_are_on
-escapes-on g h s k alike = ap (λ (o : ParseOptions). o.constructs.character_escape) alike.options
 
 begins : IsAnsweredAlike {R = Unit {0}} {D = Unit {0}} run_begins
 begins g h s k alike = ap (λ (o : ParseOptions). o.constructs.attention && passes is_delimiter s.current) alike.options

@@ -1,5 +1,5 @@
 -- Delimiter runs, as the machine of inline text reads them between items; and in how many calls.
-use Rattle.mdconstructs_inlines.proofs.Prelude.{◌≡◌, ℕ, suc, ◌+◌, ◌≤◌, ◌==◌, List, [], ◌∷◌, ◌++◌, Bool, true, false, cond, Some, refl, sym, ap, ◌∙◌, subst, arith, length, take, drop, eqb-true, append_assoc, length-map, prefix_len-le-length, prefix_len, slice_get, Event, Enter, Exit, EventName, AttentionSequence, Next, Retry, AttentionInside, AttentionStart, TextBefore, Seat, drop-next, Byte, Nothing, Local, byte_of, end_place, point_or, seat_before, sight, Given, Text, row, enter, exit, consume, counts, at-front, passes, between_texts, bytes_of, event, leaf, AddsItemIn, adds-of, shows, first_byte, goes-back, goes-next, leaf-read, sees, IsAfter, after-call, after-more, after-within, AddsItem, Plays, EndsWith, Leads, between_items, leads-row, leads-tested, begins_run, delimiter_run, run_length, is_byte, attention_inside_rows, run_goes_on}
+use Rattle.mdconstructs_inlines.proofs.Prelude.{◌≡◌, ℕ, suc, ◌+◌, ◌≤◌, ◌==◌, List, [], ◌∷◌, ◌++◌, Bool, true, false, cond, Some, refl, sym, ap, ◌∙◌, subst, arith, length, take, drop, eqb-true, append_assoc, length-map, prefix_len-le-length, prefix_len, slice_get, Event, Enter, Exit, EventName, AttentionSequence, Next, Retry, AttentionInside, AttentionStart, TextBefore, Seat, drop-next, Byte, Nothing, Local, byte_of, end_place, point_or, seat_before, sight, Given, Text, row, enter, exit, consume, counts, at-front, passes, between_texts, bytes_of, event, leaf, AddsItemIn, shows, first_byte, goes-back, goes-next, leaf-read, sees, IsAfter, after-call, after-more, after-within, Plays, EndsWith, Leads, between_items, leads-row, leads-tested, begins_run, delimiter_run, run_length, is_byte, attention_inside_rows, run_goes_on}
 use Rattle.mdconstructs_inlines.proofs.Playing.{inlines_play, runs-begin}
 
 -- a run is open
@@ -92,9 +92,3 @@ module _ (g : Given) (text : Text) where
             (subst (λ q. EndsWith g text m (between_items q Nothing false (with_end begun q) read.0) [] (Next TextBefore) es) (sym place)
             (subst (λ l. EndsWith g text m (between_items (p + n) Nothing false l read.0) [] (Next TextBefore) es) (sym made) h))))),
       )
-
-  pub reads-run : (p : ℕ) (ended : Bool) (events : List Event) (local : Local Unit Unit) (s : Seat) (ss : List Seat) → drop p text.seats ≡ s ∷ ss → begins_run g.options.constructs s.byte ≡ true
-      → AddsItem g text m between_texts (between_items p Byte ended events local) (Retry TextBefore) p events (s ∷ ss) (delimiter_run (run_length (bytes_of (s ∷ ss))))
-  reads-run p ended events local s ss here is =
-      let n = run_length (bytes_of (s ∷ ss)) in
-      adds-of g text m between_texts (n + 2) (between_items p Byte ended events local) (Retry TextBefore) p events (s ∷ ss) (delimiter_run n) (reads-run-in p ended events local s ss here is)

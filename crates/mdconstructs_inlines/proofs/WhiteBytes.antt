@@ -1,6 +1,6 @@
 -- White space in inline text, by its bytes: whether it is spaces alone, what is there of the constructs that begin with it, and how data goes over it.
 use Rattle.std.proofs.lemmas.Bool.{le-leb}
-use Rattle.mdconstructs_inlines.proofs.Prelude.{◌≡◌, ◌⊎◌, inl, inr, ℕ, suc, ◌+◌, ◌&&◌, ◌||◌, not, List, [], ◌∷◌, Bool, true, false, cond, Option, Some, None, refl, sym, ap, ◌∙◌, arith, and-false, nat_tests, drop, prefix_len, nat_le, slice_get, Constructs, EventName, HardBreakTrailing, SpaceOrTab, Seat, is_white, has_byte_at, is_line_feed, is_space, passes, Found, first_there, if_on, or_else, item_length, leaf, item_events, or-none, hard_break_trailing, trailing_break_at, is_white_left, white_space, white_space_at, ends_data_at, up_to, white_grammars}
+use Rattle.mdconstructs_inlines.proofs.Prelude.{◌≡◌, ◌⊎◌, inl, inr, ℕ, suc, ◌+◌, ◌&&◌, ◌||◌, not, List, [], ◌∷◌, Bool, true, false, cond, Option, Some, None, refl, sym, ap, ◌∙◌, arith, and-false, nat_tests, drop, prefix_len, nat_le, slice_get, Constructs, EventName, HardBreakTrailing, SpaceOrTab, is_white, has_byte_at, is_line_feed, is_space, passes, Found, first_there, if_on, or_else, item_length, or-none, hard_break_trailing, trailing_break_at, is_white_left, white_space, white_space_at, ends_data_at, up_to, white_grammars}
 use Rattle.mdconstructs_inlines.proofs.InlineApart.{white-plain}
 
 -- What white space was read: one space, more spaces, or some with a tab
@@ -122,10 +122,6 @@ found_white breaks n = cond breaks (hard_break_trailing n) (white_space n)
 pub found-size : (breaks : Bool) (n : ℕ) → item_length (found_white breaks n) ≡ n
 found-size true n = refl
 found-size false n = refl
-
-pub found-events : (breaks : Bool) (n : ℕ) (bytes : List ℕ) (seats : List Seat) → item_events bytes (found_white breaks n, seats) ≡ leaf bytes (white_name breaks) seats
-found-events true n bytes seats = refl
-found-events false n bytes seats = refl
 
 -- nothing: no bytes, and no events
 abbrev pub no_item : Found
