@@ -3,7 +3,7 @@
 ghost use Rattle.std.specs.List.{prefix_len};
 ghost use Rattle.std.specs.Prelude.{ℕ, ◌≡◌, ◌+◌, ◌≤◌, ◌<◌, ◌⊎◌, IfSome, length, true, false};
 ghost use Rattle.mdconstructs_labels.specs.Labels.{hides};
-ghost use Rattle.mdconstructs_labels.specs.Tails.{is_white, ends_raw, begins_with, begins_title, line_ends, bare_behind, is_plain, label_size, enclosed_size, raw_end, behind, is_raw_end, depth_behind, raw_size, destination_size, title_inside, title_end, title_size, gap};
+ghost use Rattle.mdconstructs_labels.specs.Tails.{is_white, ends_raw, begins_with, begins_title, line_ends, bare_behind, is_plain, marked_size, label_size, enclosed_size, raw_end, behind, is_raw_end, depth_behind, raw_size, destination_size, title_end, title_size, gap};
 
 use mdconstructs_turns::Turns;
 use std::sync::ledger::Ledger;
@@ -77,10 +77,10 @@ fn bare_behind(bare: bool, byte: u8) -> bool
     byte == b'\n' || bare && is_white(byte)
 }
 
-/// Behind a `[`: how many bytes a label has, up to its `]`.
+/// Behind the first of two marks: how many bytes come before the second. Between them comes no other first one that is not hidden, and no blank line.
 #[tactic(auto, using(crate::proofs::Steps::sizes))]
-pub fn label_size<L: Ledger>(bytes: &[u8], turns: &mut Turns<L>) -> Option<usize>
-    ensures size { result ≡ label_size false false bytes.now }
+fn marked_size<L: Ledger>(first: u8, last: u8, bytes: &[u8], turns: &mut Turns<L>) -> Option<usize>
+    ensures size { result ≡ marked_size first last false false bytes.now }
     ensures inside { IfSome result (λ n. n < length bytes.now) }
     ensures found { IfSome result (λ n. turns.new ≤ turns.old + n + 1) }
     ensures turns { turns.new ≤ turns.old + length bytes.now }
@@ -91,10 +91,10 @@ pub fn label_size<L: Ledger>(bytes: &[u8], turns: &mut Turns<L>) -> Option<usize
     while next < bytes.len() {
         turns.add_one();
         let byte = bytes[next];
-        if is_plain(b']', hidden, byte) {
+        if is_plain(last, hidden, byte) {
             return Some(next);
         }
-        if is_plain(b'[', hidden, byte) || bare && byte == b'\n' {
+        if is_plain(first, hidden, byte) || bare && byte == b'\n' {
             return None;
         }
         bare = bare_behind(bare, byte);
@@ -102,6 +102,16 @@ pub fn label_size<L: Ledger>(bytes: &[u8], turns: &mut Turns<L>) -> Option<usize
         next += 1;
     }
     None
+}
+
+/// Behind a `[`: how many bytes a label has, up to its `]`.
+pub fn label_size<L: Ledger>(bytes: &[u8], turns: &mut Turns<L>) -> Option<usize>
+    ensures size { result ≡ label_size bytes.now }
+    ensures inside { IfSome result (λ n. n < length bytes.now) }
+    ensures found { IfSome result (λ n. turns.new ≤ turns.old + n + 1) }
+    ensures turns { turns.new ≤ turns.old + length bytes.now }
+{
+    marked_size(b'[', b']', bytes, turns)
 }
 
 /// Behind a `<`: how many bytes a destination has, up to its `>`.
@@ -201,33 +211,6 @@ pub fn destination_size<L: Ledger>(bytes: &[u8], turns: &mut Turns<L>) -> Option
     }
 }
 
-/// Behind the first mark of a title: how many bytes it has, up to the mark that ends it.
-#[tactic(auto, using(crate::proofs::Steps::sizes))]
-fn title_inside<L: Ledger>(close: u8, bytes: &[u8], turns: &mut Turns<L>) -> Option<usize>
-    ensures size { result ≡ title_inside close false false bytes.now }
-    ensures inside { IfSome result (λ n. n < length bytes.now) }
-    ensures found { IfSome result (λ n. turns.new ≤ turns.old + n + 1) }
-    ensures turns { turns.new ≤ turns.old + length bytes.now }
-{
-    let mut next = 0;
-    let mut bare = false;
-    let mut hidden = false;
-    while next < bytes.len() {
-        turns.add_one();
-        let byte = bytes[next];
-        if is_plain(close, hidden, byte) {
-            return Some(next);
-        }
-        if is_plain(b'(', hidden, byte) && close == b')' || bare && byte == b'\n' {
-            return None;
-        }
-        bare = bare_behind(bare, byte);
-        hidden = hides(hidden, byte);
-        next += 1;
-    }
-    None
-}
-
 /// The mark that ends a title which this byte begins, if it begins one.
 fn title_end(byte: u8) -> Option<u8>
     ensures { result ≡ title_end byte }
@@ -254,7 +237,7 @@ pub fn title_size<L: Ledger>(bytes: &[u8], turns: &mut Turns<L>) -> Option<usize
         return None;
     }
     let close = title_end(bytes[0])?;
-    let size = title_inside(close, &bytes[1..], turns)?;
+    let size = marked_size(bytes[0], close, &bytes[1..], turns)?;
     Some(size + 2)
 }
 
