@@ -10,7 +10,7 @@ use Rattle.markdown_tokenizer.specs.Sight.{Sight}
 use Rattle.mdconstructs_tables.specs.Rows.{enter, exit, consume, write, Rows, row, when, here, at_bytes, StateRows, state}
 use Rattle.mdconstructs_tables.specs.Numbers.{Price, by_left}
 use Rattle.mdconstructs_text.specs.Bytes.{is_greater_than, passes}
-use Rattle.mdconstructs_text.specs.Construct.{Found, Construct, tried}
+use Rattle.mdconstructs_text.specs.Construct.{Found, Construct, if_option, tried}
 use Rattle.mdconstructs_text.specs.TextBytes.{TextByte, is_less_class}
 use Rattle.mdconstructs_text.specs.TextCosts.{text_cost}
 use Rattle.mdconstructs_text.specs.TextSizes.{size_b_is, size_b_grows}
@@ -104,6 +104,7 @@ abbrev pub emails : {R D : Type 0} → Construct Found TextByte R D
 emails = record {
   grammar = email_grammar;
   begins = is_less_class;
+  allowed = if_option email_grammar;
   start = AutolinkEmailAtSignOrDot;
   otherwise = TextBeforeData;
   states = email_start ∷ email_atext ∷ email_label ∷ email_value ∷ [];

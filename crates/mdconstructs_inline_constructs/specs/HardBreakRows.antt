@@ -8,7 +8,7 @@ use Rattle.markdown_tokenizer.specs.Configuration.{Configuration}
 use Rattle.markdown_tokenizer.specs.Sight.{Sight}
 use Rattle.mdconstructs_tables.specs.Rows.{enter, exit, consume, Rows, row, at_bytes, StateRows, state}
 use Rattle.mdconstructs_tables.specs.Numbers.{Price, by_left}
-use Rattle.mdconstructs_text.specs.Construct.{Found, Construct, tried}
+use Rattle.mdconstructs_text.specs.Construct.{Found, Construct, if_option, tried}
 use Rattle.mdconstructs_text.specs.TextBytes.{TextByte, line_feed, is_backslash_class}
 use Rattle.mdconstructs_text.specs.TextCosts.{text_cost}
 use Rattle.mdconstructs_inline_constructs.specs.HardBreak.{break_escape_grammar}
@@ -45,6 +45,7 @@ abbrev pub break_escapes : {R D : Type 0} → Construct Found TextByte R D
 break_escapes = record {
   grammar = break_escape_grammar;
   begins = is_backslash_class;
+  allowed = if_option break_escape_grammar;
   start = HardBreakEscapeStart;
   otherwise = TextBeforeData;
   states = break_escape_start ∷ break_escape_after ∷ [];

@@ -12,7 +12,7 @@ use Rattle.mdconstructs_machines.specs.Breaks.{is_white}
 use Rattle.mdconstructs_tables.specs.Rows.{enter, exit, consume, write, writes, Rows, row, when, at_bytes, StateRows, state}
 use Rattle.mdconstructs_tables.specs.Numbers.{Price, by_left}
 use Rattle.mdconstructs_text.specs.Bytes.{is_greater_than, has_byte_at, passes}
-use Rattle.mdconstructs_text.specs.Construct.{Found, Construct, tried}
+use Rattle.mdconstructs_text.specs.Construct.{Found, Construct, if_option, tried}
 use Rattle.mdconstructs_text.specs.TextBytes.{TextByte, line_feed, is_less_class}
 use Rattle.mdconstructs_text.specs.TextCosts.{text_cost}
 use Rattle.mdconstructs_text.specs.TextSizes.{size_b_is, size_b_grows}
@@ -176,6 +176,7 @@ abbrev pub html_marks : {R D : Type 0} → Construct Found TextByte R D
 html_marks = record {
   grammar = html_mark_grammar;
   begins = is_less_class;
+  allowed = if_option html_mark_grammar;
   start = HtmlTextMarkStart;
   otherwise = TextBeforeData;
   states = mark_start ∷ mark_open ∷ declaration_open ∷ comment_open ∷ cdata_open ∷ mark_inside ∷ mark_close ∷ mark_line ∷ mark_white ∷ [];

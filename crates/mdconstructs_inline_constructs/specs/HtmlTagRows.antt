@@ -10,7 +10,7 @@ use Rattle.markdown_tokenizer.specs.Sight.{Sight}
 use Rattle.mdconstructs_tables.specs.Rows.{enter, consume, write, Rows, row, when, at_bytes, StateRows, state}
 use Rattle.mdconstructs_tables.specs.Numbers.{Price, by_left}
 use Rattle.mdconstructs_text.specs.Bytes.{passes, is_greater_than}
-use Rattle.mdconstructs_text.specs.Construct.{Found, Construct, tried}
+use Rattle.mdconstructs_text.specs.Construct.{Found, Construct, if_option, tried}
 use Rattle.mdconstructs_text.specs.TextBytes.{TextByte, is_less_class}
 use Rattle.mdconstructs_text.specs.TextCosts.{text_cost}
 use Rattle.mdconstructs_inline_constructs.specs.HtmlTextRows.{sees, html_rows, no_html, html_goes_on, html_ends, html_line_ends, html_state, html_line_ending_after, html_line_ending_after_prefix}
@@ -174,6 +174,7 @@ abbrev pub html_tags : {R D : Type 0} → Construct Found TextByte R D
 html_tags = record {
   grammar = html_tag_grammar;
   begins = is_less_class;
+  allowed = if_option html_tag_grammar;
   start = HtmlTextStart;
   otherwise = TextBeforeData;
   states =

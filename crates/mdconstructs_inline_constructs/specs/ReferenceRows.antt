@@ -12,7 +12,7 @@ use Rattle.mdconstructs_tables.specs.Rows.{enter, exit, consume, write, writes, 
 use Rattle.mdconstructs_tables.specs.Numbers.{Price, by_left}
 use Rattle.mdconstructs_references.specs.References.{characters_of, name_from}
 use Rattle.mdconstructs_text.specs.Bytes.{has_byte_at, passes}
-use Rattle.mdconstructs_text.specs.Construct.{Found, Construct, tried}
+use Rattle.mdconstructs_text.specs.Construct.{Found, Construct, if_option, tried}
 use Rattle.mdconstructs_text.specs.TextBytes.{TextByte, ampersand}
 use Rattle.mdconstructs_text.specs.TextCosts.{text_cost}
 use Rattle.mdconstructs_text.specs.TextSizes.{more_than}
@@ -142,6 +142,7 @@ abbrev pub references : {R D : Type 0} → Construct Found TextByte R D
 references = record {
   grammar = reference_grammar;
   begins = is_ampersand_class;
+  allowed = if_option reference_grammar;
   start = CharacterReferenceStart;
   otherwise = TextBeforeData;
   states = reference_start ∷ reference_open ∷ reference_numeric ∷ reference_value ∷ [];

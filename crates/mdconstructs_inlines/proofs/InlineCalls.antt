@@ -1,7 +1,7 @@
 -- In how many calls the machine of inline text reads a text: at most so many for each virtual byte. What code spans and raw HTML between marks cost is
 -- said by what is remembered; all else is paid by the bytes that are read, and tags, autolinks and emails by the bytes up to where a look for one ends.
-use Rattle.mdconstructs_inlines.proofs.Prelude.{◌≡◌, ℕ, zero, suc, ◌+◌, ◌*◌, ◌<◌, ◌≤◌, List, [], ◌∷◌, ◌++◌, Bool, true, false, Option, Some, None, refl, sym, ap, ◌∙◌, subst, arith, length, take, drop, nat_tests, length-drop, length-map, prefix_len-le-length, prefix_len, Constructs, Event, Name, State, Next, Retry, TextBefore, TextBeforeData, TextStart, TextLineStart, Seat, Byte, Nothing, Choice, Configuration, Local, start_configuration, Given, IsText, Text, is_white, backticks, is_backtick, Construct, Found, between_texts, item_length, bytes_of, TextByte, item_events, autolinks-apart, autolink-paid, autolink-within, from-less-ahead, from-less-within, from_less, link-missed, link_calls, autolinks-reads-in, OfOption, Knowledge, outer, escapes-apart, escape-paid, escape-within, escape_calls, escapes-reads-in, goes-next, IsAfter, Remembered, after-call, remembered, Ending, spent, EndsWith, Leads, Plays, between_items, break_escapes, html_tags, references, emails-apart, email-paid, email-within, emails-reads-in, break-escapes-apart, break-escape-paid, break-escape-within, break_escape_calls, break-escapes-read-in, html-tags-apart, tag-paid, tag-within, tag-missed, tag_calls, tags-ahead-later, tags-ahead-within, tags_ahead, html-tags-read-in, references-apart, reference-within, reference_calls, references-read-in, read_events, behind_autolinks, behind_emails, behind_escapes, behind_marks, inline_constructs}
-use Rattle.mdconstructs_inlines.proofs.Budgets.{DecidesPaid, GoDown, Pays, Potential, Prices, ReadsPaid, Tries, TriesNone, adds-paid, budget-kept, budgeted, reads-budgeted, reads-within, total, total-behind, total-down, total-drop, try-all, try-none}
+use Rattle.mdconstructs_inlines.proofs.Prelude.{◌≡◌, ℕ, zero, suc, ◌+◌, ◌*◌, ◌<◌, ◌≤◌, List, [], ◌∷◌, ◌++◌, Bool, true, false, Option, Some, None, refl, sym, ap, ◌∙◌, subst, arith, length, take, drop, nat_tests, length-drop, length-map, prefix_len-le-length, prefix_len, Constructs, Event, Name, SpaceOrTab, State, Next, Retry, TextBefore, TextBeforeData, TextStart, TextLineStart, Seat, Byte, Nothing, Choice, Configuration, Local, start_configuration, Given, IsText, Text, is_white, backticks, is_backtick, Construct, Found, between_texts, item_length, bytes_of, leaf, TextByte, item_events, autolinks-apart, autolink-paid, autolink-within, from-less-ahead, from-less-within, from_less, link-missed, link_calls, autolinks-reads-in, OfOption, Knowledge, outer, escapes-apart, escape-paid, escape-within, escape_calls, escapes-reads-in, goes-next, IsAfter, Remembered, after-call, remembered, Ending, spent, EndsWith, Leads, Plays, between_items, break_escapes, html_tags, references, emails-apart, email-paid, email-within, emails-reads-in, break-escapes-apart, break-escape-paid, break-escape-within, break_escape_calls, break-escapes-read-in, html-tags-apart, tag-paid, tag-within, tag-missed, tag_calls, tags-ahead-later, tags-ahead-within, tags_ahead, html-tags-read-in, references-apart, reference-within, reference_calls, references-read-in, read_events, behind_autolinks, behind_emails, behind_escapes, behind_marks, inline_constructs}
+use Rattle.mdconstructs_inlines.proofs.Budgets.{DecidesPaid, GoDown, IsSound, Pays, Potential, Prices, ReadsPaid, Tries, TriesNone, adds-paid, budget-kept, budgeted, reads-budgeted, reads-within, total, total-behind, total-down, total-drop, try-all, try-none}
 use Rattle.mdconstructs_inlines.proofs.FrontRuns.{data-run, no-backticks, own-run}
 use Rattle.mdconstructs_inlines.proofs.InlineListed.{ReadsParts, inlines-from, then_breaks, then_data, then_emails, then_html, then_tags}
 use Rattle.mdconstructs_inlines.proofs.JoinedItems.{joined_item_at, joined_other, other-within, some-other}
@@ -62,14 +62,18 @@ calls_a_byte = 115
 abbrev pub inline_budget : ℕ → ℕ
 inline_budget n = 138 * n + 3
 
-abbrev pub inline_prices : Constructs → TextMemory → Prices
+-- all this depends on no memory of items
+abbrev pub inline_prices : Constructs → TextMemory → Prices (Unit {0})
 inline_prices on x = record {
   potentials = free ∷ free ∷ free ∷ tags_left ∷ x.marks ∷ links_left ∷ links_left ∷ x.code ∷ [];
   toll = inline_toll;
   fixed = λ l. calls_a_byte * length l;
-  sound = x.sound;
-  other = joined_other on;
-  item = joined_item_at on;
+  after = λ m item. m;
+  sound = λ m p events. x.sound p;
+  trying = λ m cs p events. x.sound p;
+  plain = λ item. Unit {0};
+  other = λ m. joined_other on;
+  item = λ m. joined_item_at on;
 }
 
 -- what holds of a thing that is there, where less is asked
@@ -89,7 +93,7 @@ module _ (g : Given) (text : Text) (memory : TextMemory) (is : IsTextMemory memo
   abbrev m : Plays g text
   m = inlines_play g text
 
-  abbrev x : Prices
+  abbrev x : Prices (Unit {0})
   x = inline_prices on memory
 
   pub inline-down : GoDown x.potentials
@@ -98,6 +102,13 @@ module _ (g : Given) (text : Text) (memory : TextMemory) (is : IsTextMemory memo
       let links : (r : Remembered) (s : Seat) (ss : List Seat) → from_less (bytes_of ss) ≤ from_less (bytes_of (s ∷ ss)) = λ r s ss. from-less-ahead s.byte (bytes_of ss) in
       let tags : (r : Remembered) (s : Seat) (ss : List Seat) → tags_ahead (bytes_of ss) ≤ tags_ahead (bytes_of (s ∷ ss)) = λ r s ss. tags-ahead-later s.byte (bytes_of ss) in
       (nothing, (nothing, (nothing, (tags, (is.marks_down, (links, (links, (is.code_down, tt))))))))
+
+  pub inline-sound : IsSound g text x
+  inline-sound = record {
+    passes = λ m c cs p events r s ss here none h. h;
+    holds = λ m cs p events r h. h;
+    later = λ m p events r s ss item here plain h. is.later p (p + item_length item) r (omega arith) h;
+  }
 
   -- ---- what its bytes pay for
   -- an item that has the backtick string at its front whole pays for this many calls
@@ -108,12 +119,12 @@ module _ (g : Given) (text : Text) (memory : TextMemory) (is : IsTextMemory memo
 
   -- a construct that is there pays, if it is long enough
   found-paid : (n : ℕ) (s : Seat) (ss : List Seat) (o : Option Found) → OfOption (λ (i : Found). 0 < item_length i) o → OfOption (λ (i : Found). item_length i ≤ length (bytes_of (s ∷ ss))) o
-      → OfOption (λ (i : Found). backticks (bytes_of (s ∷ ss)) ≤ item_length i) o → OfOption (λ (i : Found). n ≤ 7 * item_length i + 28) o → (item : Found) → o ≡ Some item → Pays text on x budget n (item_length item) (s ∷ ss)
+      → OfOption (λ (i : Found). backticks (bytes_of (s ∷ ss)) ≤ item_length i) o → OfOption (λ (i : Found). n ≤ 7 * item_length i + 28) o → (item : Found) → o ≡ Some item → x.plain item × Pays text on x budget n (item_length item) (s ∷ ss)
   found-paid n s ss None some within run few item there = absurd (cc)
   found-paid n s ss (Some i) some within run few item there =
       let same : i ≡ item = cc in
       let inside : item_length i ≤ length (s ∷ ss) = omega (arith, within, length-map (s ∷ ss) (λ (s : Seat). s.byte)) in
-      subst (λ (i : Found). Pays text on x budget n (item_length i) (s ∷ ss)) same (pays-enough n (item_length i) (s ∷ ss) some inside run (omega (arith, few)))
+      (tt, subst (λ (i : Found). Pays text on x budget n (item_length i) (s ∷ ss)) same (pays-enough n (item_length i) (s ∷ ss) some inside run (omega (arith, few))))
 
   -- where no backtick is
   none-run : (s : Seat) (ss : List Seat) → is_backtick s.byte ≡ false → (o : Option Found) → OfOption (λ (i : Found). backticks (bytes_of (s ∷ ss)) ≤ item_length i) o
@@ -125,11 +136,11 @@ module _ (g : Given) (text : Text) (memory : TextMemory) (is : IsTextMemory memo
   known = budgeted text on x budget
 
   abbrev Paid : Construct Found TextByte Unit Unit → List (Construct Found TextByte Unit Unit) → Type 0
-  Paid c rest = ReadsPaid g text m between_texts x budget inline-down c rest
+  Paid c rest = ReadsPaid g text m between_texts x budget inline-down inline-sound tt c rest
 
   autolinks-are-paid : IsText g text → Paid then_emails behind_autolinks
   autolinks-are-paid is-text =
-      reads-within g text m between_texts x budget inline-down is.later then_emails behind_autolinks link_calls (autolinks-reads-in g text m between_texts is-text)
+      reads-within g text m between_texts x budget inline-down inline-sound tt then_emails behind_autolinks link_calls (autolinks-reads-in g text m between_texts is-text)
       (λ s ss first none r. (let missed = link-missed s.byte (bytes_of ss) first in omega (arith, missed)))
       (λ s ss first.
       let tick : is_backtick s.byte ≡ false = grind (arith, nat_tests) in
@@ -140,7 +151,7 @@ module _ (g : Given) (text : Text) (memory : TextMemory) (is : IsTextMemory memo
 
   emails-are-paid : IsText g text → Paid then_html behind_emails
   emails-are-paid is-text =
-      reads-within g text m between_texts x budget inline-down is.later then_html behind_emails link_calls (emails-reads-in g text m (inlines_play_emails g text) between_texts is-text)
+      reads-within g text m between_texts x budget inline-down inline-sound tt then_html behind_emails link_calls (emails-reads-in g text m (inlines_play_emails g text) between_texts is-text)
       (λ s ss first none r. (let missed = link-missed s.byte (bytes_of ss) first in omega (arith, missed)))
       (λ s ss first.
       let tick : is_backtick s.byte ≡ false = grind (arith, nat_tests) in
@@ -151,7 +162,7 @@ module _ (g : Given) (text : Text) (memory : TextMemory) (is : IsTextMemory memo
 
   tags-are-paid : Paid html_tags (then_breaks ∷ behind_escapes)
   tags-are-paid =
-      reads-within g text m between_texts x budget inline-down is.later html_tags (then_breaks ∷ behind_escapes) tag_calls (html-tags-read-in g text m (inlines_play_tags g text) between_texts)
+      reads-within g text m between_texts x budget inline-down inline-sound tt html_tags (then_breaks ∷ behind_escapes) tag_calls (html-tags-read-in g text m (inlines_play_tags g text) between_texts)
       (λ s ss first none r. (let missed = tag-missed s.byte (bytes_of ss) first in omega (arith, missed)))
       (λ s ss first.
       let tick : is_backtick s.byte ≡ false = grind (arith, nat_tests) in
@@ -162,7 +173,7 @@ module _ (g : Given) (text : Text) (memory : TextMemory) (is : IsTextMemory memo
 
   escapes-are-paid : Paid then_breaks behind_escapes
   escapes-are-paid =
-      reads-within g text m between_texts x budget inline-down is.later then_breaks behind_escapes escape_calls (escapes-reads-in g text m between_texts)
+      reads-within g text m between_texts x budget inline-down inline-sound tt then_breaks behind_escapes escape_calls (escapes-reads-in g text m between_texts)
       (λ s ss first none r. omega arith)
       (λ s ss first.
       let tick : is_backtick s.byte ≡ false = grind (arith, nat_tests) in
@@ -173,7 +184,7 @@ module _ (g : Given) (text : Text) (memory : TextMemory) (is : IsTextMemory memo
 
   break-escapes-are-paid : Paid break_escapes (references ∷ [])
   break-escapes-are-paid =
-      reads-within g text m between_texts x budget inline-down is.later break_escapes (references ∷ []) break_escape_calls (break-escapes-read-in g text m (inlines_play_break_escapes g text) between_texts)
+      reads-within g text m between_texts x budget inline-down inline-sound tt break_escapes (references ∷ []) break_escape_calls (break-escapes-read-in g text m (inlines_play_break_escapes g text) between_texts)
       (λ s ss first none r. omega arith)
       (λ s ss first.
       let tick : is_backtick s.byte ≡ false = grind (arith, nat_tests) in
@@ -184,7 +195,7 @@ module _ (g : Given) (text : Text) (memory : TextMemory) (is : IsTextMemory memo
 
   references-are-paid : Paid references []
   references-are-paid =
-      reads-within g text m between_texts x budget inline-down is.later references [] reference_calls (references-read-in g text m (inlines_play_references g text) between_texts)
+      reads-within g text m between_texts x budget inline-down inline-sound tt references [] reference_calls (references-read-in g text m (inlines_play_references g text) between_texts)
       (λ s ss first none r. omega arith)
       (λ s ss first.
       let tick : is_backtick s.byte ≡ false = grind (arith, nat_tests) in
@@ -226,7 +237,7 @@ module _ (g : Given) (text : Text) (memory : TextMemory) (is : IsTextMemory memo
 
   code-decided : (nok : Name) (p : ℕ) (ended : Bool) (events : List Event) (local : Local Unit Unit) (s : Seat) (ss : List Seat) (cs : List Choice) (st : State) (o : Option Found)
       → DecidedSo memory.code memory.marks code_toll nok p ended events local s ss (between_items p Byte ended events local) cs st o
-      → DecidesPaid g text m between_texts x budget inline-down (then_emails ∷ behind_autolinks) nok p ended events (s ∷ ss) (between_items p Byte ended events local) cs st o
+      → DecidesPaid g text m between_texts x budget inline-down inline-sound tt (then_emails ∷ behind_autolinks) nok p ended events (s ∷ ss) (between_items p Byte ended events local) cs st o
   code-decided nok p ended events local s ss cs st None d = (d.0, d.1, omega (arith, d.2 (s ∷ ss), d.3), d.4)
   code-decided nok p ended events local s ss cs st (Some item) d =
       let size = item_length item in
@@ -236,12 +247,12 @@ module _ (g : Given) (text : Text) (memory : TextMemory) (is : IsTextMemory memo
       (d.0, d.1, d.2, omega (arith, d.3 (drop size l), d.4, pays.1, others), d.8)
 
   pub code-so : RemembersSo memory.code memory.marks code_toll then_data → Paid then_data (then_emails ∷ behind_autolinks)
-  code-so reads nok p ended events local s ss here first sound =
+  code-so reads nok p ended events local s ss here first is_on sound =
       code-decided nok p ended events local s ss (outer TextBefore nok p ended events ∷ []) (Retry then_data.start) (then_data.grammar.front (bytes_of (s ∷ ss))) (reads nok p ended events local s ss here first sound)
 
   marks-decided : (nok : Name) (p : ℕ) (ended : Bool) (events : List Event) (local : Local Unit Unit) (s : Seat) (ss : List Seat) (cs : List Choice) (st : State) (o : Option Found)
       → DecidedSo memory.marks memory.code mark_toll nok p ended events local s ss (between_items p Byte ended events local) cs st o
-      → DecidesPaid g text m between_texts x budget inline-down behind_marks nok p ended events (s ∷ ss) (between_items p Byte ended events local) cs st o
+      → DecidesPaid g text m between_texts x budget inline-down inline-sound tt behind_marks nok p ended events (s ∷ ss) (between_items p Byte ended events local) cs st o
   marks-decided nok p ended events local s ss cs st None d = (d.0, d.1, omega (arith, d.2 ss, d.3), d.4)
   marks-decided nok p ended events local s ss cs st (Some item) d =
       let size = item_length item in
@@ -252,48 +263,48 @@ module _ (g : Given) (text : Text) (memory : TextMemory) (is : IsTextMemory memo
       (d.0, d.1, d.2, omega (arith, d.3 (drop size l), d.4, pays.1, others, tags-ahead-later s.byte (bytes_of ss)), d.8)
 
   pub marks-so : RemembersSo memory.marks memory.code mark_toll then_tags → Paid then_tags behind_marks
-  marks-so reads nok p ended events local s ss here first sound =
+  marks-so reads nok p ended events local s ss here first is_on sound =
       marks-decided nok p ended events local s ss (outer TextBefore nok p ended events ∷ []) (Retry then_tags.start) (then_tags.grammar.front (bytes_of (s ∷ ss))) (reads nok p ended events local s ss here first sound)
 
   -- ---- the sum
   module _ (code-paid : Paid then_data (then_emails ∷ behind_autolinks)) (marks-paid : Paid then_tags behind_marks) (is-text : IsText g text) where
     parts-are : ReadsParts g text known (budget + 1)
     parts-are = record {
-      begins = λ p local s ss here plain knows.
+      begins = λ p events local s ss here plain knows.
           let l = s ∷ ss in
           let r = remembered local in
           let paid = subst (λ l. spent local + (total x.potentials r l + x.fixed l) ≤ budget) here knows.1 in
-          (knows.0, subst (λ l. Tries text on x budget inline_constructs r (spent local) l) (sym here) (refl, omega (arith, paid, try-all x.potentials (inline_toll l) r l)));
-      counted = λ p local knows. (let once = after-call local in omega (arith, once.calls, knows.1));
-      code_spans_are = reads-budgeted g text m between_texts x budget inline-down then_data (then_emails ∷ behind_autolinks) code-paid;
-      autolinks_are = reads-budgeted g text m between_texts x budget inline-down then_emails behind_autolinks (autolinks-are-paid is-text);
-      emails_are = reads-budgeted g text m between_texts x budget inline-down then_html behind_emails (emails-are-paid is-text);
-      marks_are = reads-budgeted g text m between_texts x budget inline-down then_tags behind_marks marks-paid;
-      tags_are = reads-budgeted g text m between_texts x budget inline-down html_tags (then_breaks ∷ behind_escapes) tags-are-paid;
-      escapes_are = reads-budgeted g text m between_texts x budget inline-down then_breaks behind_escapes escapes-are-paid;
-      break_escapes_are = reads-budgeted g text m between_texts x budget inline-down break_escapes (references ∷ []) break-escapes-are-paid;
-      references_are = reads-budgeted g text m between_texts x budget inline-down references [] references-are-paid;
+          (knows.0, subst (λ l. Tries text on x budget tt inline_constructs r (spent local) l) (sym here) (refl, omega (arith, paid, try-all x.potentials (inline_toll l) r l)));
+      counted = λ p events local knows. (let once = after-call local in omega (arith, once.calls, knows.1));
+      code_spans_are = reads-budgeted g text m between_texts x budget inline-down inline-sound tt then_data (then_emails ∷ behind_autolinks) code-paid;
+      autolinks_are = reads-budgeted g text m between_texts x budget inline-down inline-sound tt then_emails behind_autolinks (autolinks-are-paid is-text);
+      emails_are = reads-budgeted g text m between_texts x budget inline-down inline-sound tt then_html behind_emails (emails-are-paid is-text);
+      marks_are = reads-budgeted g text m between_texts x budget inline-down inline-sound tt then_tags behind_marks marks-paid;
+      tags_are = reads-budgeted g text m between_texts x budget inline-down inline-sound tt html_tags (then_breaks ∷ behind_escapes) tags-are-paid;
+      escapes_are = reads-budgeted g text m between_texts x budget inline-down inline-sound tt then_breaks behind_escapes escapes-are-paid;
+      break_escapes_are = reads-budgeted g text m between_texts x budget inline-down inline-sound tt break_escapes (references ∷ []) break-escapes-are-paid;
+      references_are = reads-budgeted g text m between_texts x budget inline-down inline-sound tt references [] references-are-paid;
       data_is = λ p ended events local s ss here plain knows.
           let bytes = bytes_of (s ∷ ss) in
           let item = joined_other on bytes in
-          let at = subst (TriesNone text on x budget (remembered local) (spent local)) here knows.1 in
+          let at = subst (TriesNone text on x budget tt (remembered local) (spent local)) here knows.1 in
           let inside : item_length item ≤ length (s ∷ ss) = omega (arith, other-within on s.byte (bytes_of ss), length-map (s ∷ ss) (λ (s : Seat). s.byte)) in
-          adds-paid g text m between_texts x budget inline-down is.later (part_calls (item_length item)) TextBeforeData p ended events local s ss item here knows.0 at.1
+          adds-paid g text m between_texts x budget inline-down inline-sound tt (part_calls (item_length item)) TextBeforeData p ended events local s ss item here tt knows.0 at.1
           (pays-enough (part_calls (item_length item)) (item_length item) (s ∷ ss) (some-other on s.byte (bytes_of ss)) inside (data-run on s.byte (bytes_of ss) plain) (omega arith))
           (data-read-in g text p ended events local s ss here plain);
-      skips = λ cs p local s ss here none knows.
+      skips = λ cs p events local s ss here none knows.
           let bytes = bytes_of (s ∷ ss) in
           let r = remembered local in
-          let at = subst (λ l. Tries text on x budget cs r (spent local) l) here knows.1 in
+          let at = subst (λ l. Tries text on x budget tt cs r (spent local) l) here knows.1 in
           let there : joined_other on bytes ≡ joined_item_at on bytes = sym none ∙ at.0 in
-          (knows.0, subst (TriesNone text on x budget r (spent local)) (sym here) (there, omega (arith, at.1, try-none x.potentials inline-down (inline_toll (s ∷ ss)) (length cs) r s ss)));
+          (knows.0, subst (TriesNone text on x budget tt r (spent local)) (sym here) (there, omega (arith, at.1, try-none x.potentials inline-down (inline_toll (s ∷ ss)) (length cs) r s ss)));
       own_is = λ p ended events local s ss here own knows.
           let bytes = bytes_of (s ∷ ss) in
           let r = remembered local in
           let item = joined_other on bytes in
           let paid = subst (λ l. spent local + (total x.potentials r l + x.fixed l) ≤ budget) here knows.1 in
           let inside : item_length item ≤ length (s ∷ ss) = omega (arith, other-within on s.byte (bytes_of ss), length-map (s ∷ ss) (λ (s : Seat). s.byte)) in
-          adds-paid g text m between_texts x budget inline-down is.later (part_calls (item_length item)) TextBefore p ended events local s ss item here knows.0 (omega (arith, paid, total-down x.potentials inline-down r s ss))
+          adds-paid g text m between_texts x budget inline-down inline-sound tt (part_calls (item_length item)) TextBefore p ended events local s ss item here tt knows.0 (omega (arith, paid, total-down x.potentials inline-down r s ss))
           (pays-enough (part_calls (item_length item)) (item_length item) (s ∷ ss) (some-other on s.byte (bytes_of ss)) inside (omega (arith, own-run on s.byte (bytes_of ss) own)) (omega arith))
           (own-read-in g text p ended events local s ss here own);
     }
@@ -317,12 +328,12 @@ module _ (g : Given) (text : Text) (memory : TextMemory) (is : IsTextMemory memo
         let bytes : length (bytes_of l) ≡ length l = length-map l (λ (s : Seat). s.byte) in
         let paid : spent after + (total x.potentials r l + x.fixed l) ≤ budget =
         omega (arith, enough, none, once.calls, read.1.calls, rest, bytes, tags-ahead-within (bytes_of l), from-less-within (bytes_of l), is.code_within r l, is.marks_within r l) in
-        let knows : known.knows tt (0 + n) after = (
-          subst (x.sound (0 + n)) (sym alike) (is.later 0 (0 + n) r further (is.begins flag)),
+        let knows : known.knows tt (0 + n) (leaf g.bytes SpaceOrTab (take n text.seats)) after = (
+          subst (memory.sound (0 + n)) (sym alike) (is.later 0 (0 + n) r further (is.begins flag)),
           subst (λ r'. spent after + (total x.potentials r' (drop (0 + n) text.seats) + x.fixed (drop (0 + n) text.seats)) ≤ budget) (sym alike)
               (subst (λ l. spent after + (total x.potentials r l + x.fixed l) ≤ budget) place paid),
         ) in
-        goes-next g text m text.seats [] 0 [] local [] TextLineStart refl e (read.2 e (inlines-from g text known (budget-kept g text m between_texts x budget inline-down) (budget + 1) parts-are after knows))
+        goes-next g text m text.seats [] 0 [] local [] TextLineStart refl e (read.2 e (inlines-from g text known (budget-kept g text m between_texts x budget inline-down inline-sound) (budget + 1) parts-are after knows))
 
     -- So inline text is read item by item from its start, in so many calls
     pub inlines-within : inline_budget (length text.seats) ≤ budget → (flag : Bool) → EndsWith g text m (start_configuration flag) [] (Next TextStart) (record { events = read_events g text; spent = budget + 1 })

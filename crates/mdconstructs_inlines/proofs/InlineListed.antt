@@ -1,6 +1,6 @@
 -- The machine of inline text is the list of its constructs with a mark, whatever is known while it reads: of that it needs how each construct, data, line
 -- endings, runs and white space are read.
-use Rattle.mdconstructs_inlines.proofs.Prelude.{◌≡◌, ℕ, ◌+◌, ◌≤◌, ◌&&◌, ◌||◌, List, [], ◌∷◌, ◌++◌, Bool, true, false, refl, sym, ap, ◌∙◌, subst, arith, drop, length, take, flat_map, prefix_len, length-drop, and-false, eqb-true, nat_tests, Constructs, Event, Name, SpaceOrTab, Next, Retry, TextBefore, TextBeforeData, TextBeforeHardBreakEscape, TextBeforeHtml, TextBeforeEmail, TextBeforeTag, Seat, Byte, Nothing, Configuration, Local, sight, Given, Text, class_of, is_white, counts, row_step, autolinks, is_line_feed, remembered_code_spans, Construct, Found, between_texts, first_there, grammars_of, some_first, tried_at, escapes, item_length, bytes_of, leaf, TextByte, backslash, less, text_byte, item_events, AreApart, none-there, AddsFrom, AreTried, IsKept, IsListed, IsTried, Knowledge, Reads, ReadsFrom, items-read, listed, cut-same, spent, EndsWith, Plays, between_items, emails, html_marks, html_tags, break_escapes, references, begins_run, read_events, behind_autolinks, behind_emails, behind_escapes, behind_marks, inline_before_rows, inline_constructs, is_delimiter, marked_grammars}
+use Rattle.mdconstructs_inlines.proofs.Prelude.{◌≡◌, ℕ, ◌+◌, ◌≤◌, ◌&&◌, ◌||◌, List, [], ◌∷◌, ◌++◌, Bool, true, false, refl, sym, ap, ◌∙◌, subst, arith, drop, length, take, flat_map, prefix_len, length-drop, and-false, eqb-true, nat_tests, Constructs, Event, Name, SpaceOrTab, Next, Retry, TextBefore, TextBeforeData, TextBeforeHardBreakEscape, TextBeforeHtml, TextBeforeEmail, TextBeforeTag, Seat, Byte, Nothing, Configuration, Local, sight, Sight, Given, Text, class_of, is_white, counts, row_step, autolinks, is_line_feed, remembered_code_spans, Construct, Found, between_texts, first_there, grammars_of, some_first, tried_at, escapes, item_length, bytes_of, leaf, TextByte, backslash, less, text_byte, item_events, AreApart, none-there, AddsFrom, AreTried, IsKept, IsListed, IsTried, Knowledge, Reads, ReadsFrom, items-read, listed, cut-same, spent, EndsWith, Plays, between_items, emails, html_marks, html_tags, break_escapes, references, begins_run, read_events, behind_autolinks, behind_emails, behind_escapes, behind_marks, inline_before_rows, inline_constructs, is_delimiter, marked_grammars}
 use Rattle.mdconstructs_inlines.proofs.InlineApart.{behind-autolinks-apart, behind-emails-apart, behind-escapes-apart, behind-marks-apart, inline-apart, or-parts}
 use Rattle.mdconstructs_inlines.proofs.JoinedItems.{joined-same, joined_item_at, joined_other, some-other}
 use Rattle.mdconstructs_inlines.proofs.PartReads.{is_own}
@@ -34,8 +34,8 @@ module _ (g : Given) (text : Text) (known : Knowledge Found TextByte (Unit {0}))
   -- What is read, with what is known: before an item all constructs may be tried, and no more calls are counted than so many; each construct; data, and
   -- where nothing of the constructs is there that may still be tried; line endings, runs and white space
   pub record ReadsParts (within : ℕ) : Type 0 where
-    pub begins : (p : ℕ) (local : Local Unit Unit) (s : Seat) (ss : List Seat) → drop p text.seats ≡ s ∷ ss → is_own g.options.constructs s.byte ≡ false → known.knows tt p local → known.tries tt inline_constructs p local
-    pub counted : (p : ℕ) (local : Local Unit Unit) → known.knows tt p local → spent (counts local) ≤ within
+    pub begins : (p : ℕ) (events : List Event) (local : Local Unit Unit) (s : Seat) (ss : List Seat) → drop p text.seats ≡ s ∷ ss → is_own g.options.constructs s.byte ≡ false → known.knows tt p events local → known.tries tt inline_constructs p events local
+    pub counted : (p : ℕ) (events : List Event) (local : Local Unit Unit) → known.knows tt p events local → spent (counts local) ≤ within
     pub code_spans_are : ReadsBefore then_data (then_emails ∷ behind_autolinks)
     pub autolinks_are : ReadsBefore then_emails behind_autolinks
     pub emails_are : ReadsBefore then_html behind_emails
@@ -45,8 +45,8 @@ module _ (g : Given) (text : Text) (known : Knowledge Found TextByte (Unit {0}))
     pub break_escapes_are : ReadsBefore break_escapes (references ∷ [])
     pub references_are : ReadsBefore references []
     pub data_is : ReadsFrom g text (inlines_play g text).step between_texts text_byte item_length (item_events g.bytes) known tt (known.at_data tt) TextBeforeData (λ b. is_own g.options.constructs b ≡ false) (joined_other g.options.constructs)
-    pub skips : (cs : List (Construct Found TextByte Unit Unit)) (p : ℕ) (local : Local Unit Unit) (s : Seat) (ss : List Seat) → drop p text.seats ≡ s ∷ ss
-        → first_there (grammars_of cs) g.options.constructs (bytes_of (s ∷ ss)) (joined_other g.options.constructs (bytes_of (s ∷ ss))) ≡ joined_other g.options.constructs (bytes_of (s ∷ ss)) → known.tries tt cs p local → known.at_data tt p local
+    pub skips : (cs : List (Construct Found TextByte Unit Unit)) (p : ℕ) (events : List Event) (local : Local Unit Unit) (s : Seat) (ss : List Seat) → drop p text.seats ≡ s ∷ ss
+        → first_there (grammars_of cs) g.options.constructs (bytes_of (s ∷ ss)) (joined_other g.options.constructs (bytes_of (s ∷ ss))) ≡ joined_other g.options.constructs (bytes_of (s ∷ ss)) → known.tries tt cs p events local → known.at_data tt p events local
     pub own_is : ReadsFrom g text (inlines_play g text).step between_texts text_byte item_length (item_events g.bytes) known tt (known.knows tt) TextBefore (λ b. is_own g.options.constructs b ≡ true) (joined_other g.options.constructs)
 
 module _ (g : Given) (text : Text) (known : Knowledge Found TextByte (Unit {0})) (kept : IsKept g text known) (within : ℕ) (parts : ReadsParts g text known within) where
@@ -76,22 +76,28 @@ module _ (g : Given) (text : Text) (known : Knowledge Found TextByte (Unit {0}))
   abbrev Adds : (p : ℕ) (ended : Bool) (events : List Event) (local : Local Unit Unit) → List Seat → Name → Found → Type 0
   Adds p ended events local l name item = AddsFrom g text m.step between_texts text_byte item_length (item_events g.bytes) known tt (between_items p Byte ended events local) (Retry name) p events l item
 
+  -- a construct needs no more than its option
+  abbrev NeedsOption : Construct Found TextByte Unit Unit → Type 0
+  NeedsOption c = (s : Sight) (k : Configuration Unit Unit) → c.allowed g s k ≡ c.grammar.on on
+
   -- data follows a construct, if the others in the list begin at other bytes
-  then-data : (c : Construct Found TextByte Unit Unit) (cs : List (Construct Found TextByte Unit Unit)) → c.otherwise ≡ TextBeforeData → AreApart text_byte item_length cs
+  then-data : (c : Construct Found TextByte Unit Unit) (cs : List (Construct Found TextByte Unit Unit)) → NeedsOption c → c.otherwise ≡ TextBeforeData → AreApart text_byte item_length cs
       → ((b : ℕ) → c.grammar.first b ≡ true → some_first (grammars_of cs) b ≡ false) → ReadsBefore g text known c cs → Tried c cs
-  then-data c cs is apart alone reads = record {
+  then-data c cs option is apart alone reads = record {
+    allows = λ p ended events local s ss here first knows. option _ _;
     reads = reads;
     follows = λ p ended events local s ss here at knows.
         let bytes = bytes_of (s ∷ ss) in
         let none = none-there text_byte item_length cs apart on s.byte (bytes_of ss) (joined_other on bytes) (alone s.byte at.1) in
         subst (λ name. Adds p ended events local (s ∷ ss) name (first_there (grammars_of cs) on bytes (joined_other on bytes))) (sym is)
-        (subst (Adds p ended events local (s ∷ ss) TextBeforeData) (sym none) (parts.data_is p ended events local s ss here at.0 (parts.skips cs p local s ss here none knows)));
+        (subst (Adds p ended events local (s ∷ ss) TextBeforeData) (sym none) (parts.data_is p ended events local s ss here at.0 (parts.skips cs p events local s ss here none knows)));
   }
 
   -- or a state that tries the others
-  then-others : (c : Construct Found TextByte Unit Unit) (cs : List (Construct Found TextByte Unit Unit)) (w : TextByte) → ((b : ℕ) → c.grammar.first b ≡ true → text_byte b ≡ w) → AreApart text_byte item_length cs → AllTried cs
+  then-others : (c : Construct Found TextByte Unit Unit) (cs : List (Construct Found TextByte Unit Unit)) (w : TextByte) → NeedsOption c → ((b : ℕ) → c.grammar.first b ≡ true → text_byte b ≡ w) → AreApart text_byte item_length cs → AllTried cs
       → ((k : Configuration Unit Unit) → m.step (sight g text k) k c.otherwise ≡ row_step g text k (tried_at between_texts cs w)) → ReadsBefore g text known c cs → Tried c cs
-  then-others c cs w class apart tried has reads = record {
+  then-others c cs w option class apart tried has reads = record {
+    allows = λ p ended events local s ss here first knows. option _ _;
     reads = reads;
     follows = λ p ended events local s ss here at knows.
         listed g text m.step between_texts text_byte item_length (item_events g.bytes) known (is_own on) (λ n. joined_other on) kept tt parts.data_is p ended events s ss here at.0 cs tried apart local knows c.otherwise
@@ -100,29 +106,29 @@ module _ (g : Given) (text : Text) (known : Knowledge Found TextByte (Unit {0}))
 
   behind-escapes-tried : AllTried behind_escapes
   behind-escapes-tried = (
-    then-data break_escapes (references ∷ []) refl behind-escapes-apart.1 (λ b h. (let e : b ≡ 92 = eqb-true b 92 h in rw e refl)) parts.break_escapes_are,
-    (then-data references [] refl tt (λ b h. refl) parts.references_are, tt),
+    then-data break_escapes (references ∷ []) (λ s k. refl) refl behind-escapes-apart.1 (λ b h. (let e : b ≡ 92 = eqb-true b 92 h in rw e refl)) parts.break_escapes_are,
+    (then-data references [] (λ s k. refl) refl tt (λ b h. refl) parts.references_are, tt),
   )
 
   behind-marks-tried : AllTried behind_marks
   behind-marks-tried = (
-    then-data html_tags (then_breaks ∷ behind_escapes) refl behind-marks-apart.1 (λ b h. (let e : b ≡ 60 = eqb-true b 60 h in rw e refl)) parts.tags_are,
-    (then-others then_breaks behind_escapes backslash (λ b h. (let e : b ≡ 92 = eqb-true b 92 h in ap text_byte e)) behind-escapes-apart behind-escapes-tried (λ k. refl) parts.escapes_are, behind-escapes-tried),
+    then-data html_tags (then_breaks ∷ behind_escapes) (λ s k. refl) refl behind-marks-apart.1 (λ b h. (let e : b ≡ 60 = eqb-true b 60 h in rw e refl)) parts.tags_are,
+    (then-others then_breaks behind_escapes backslash (λ s k. refl) (λ b h. (let e : b ≡ 92 = eqb-true b 92 h in ap text_byte e)) behind-escapes-apart behind-escapes-tried (λ k. refl) parts.escapes_are, behind-escapes-tried),
   )
 
   behind-emails-tried : AllTried behind_emails
   behind-emails-tried =
-      (then-others then_tags behind_marks less (λ b h. (let e : b ≡ 60 = eqb-true b 60 h in ap text_byte e)) behind-marks-apart behind-marks-tried (λ k. refl) parts.marks_are, behind-marks-tried)
+      (then-others then_tags behind_marks less (λ s k. refl) (λ b h. (let e : b ≡ 60 = eqb-true b 60 h in ap text_byte e)) behind-marks-apart behind-marks-tried (λ k. refl) parts.marks_are, behind-marks-tried)
 
   behind-autolinks-tried : AllTried behind_autolinks
   behind-autolinks-tried =
-      (then-others then_html behind_emails less (λ b h. (let e : b ≡ 60 = eqb-true b 60 h in ap text_byte e)) behind-emails-apart behind-emails-tried (λ k. refl) parts.emails_are, behind-emails-tried)
+      (then-others then_html behind_emails less (λ s k. refl) (λ b h. (let e : b ≡ 60 = eqb-true b 60 h in ap text_byte e)) behind-emails-apart behind-emails-tried (λ k. refl) parts.emails_are, behind-emails-tried)
 
   inline-tried : AllTried inline_constructs
   inline-tried = (
-    then-data then_data (then_emails ∷ behind_autolinks) refl inline-apart.1 (λ b h. (let e : b ≡ 96 = eqb-true b 96 h in rw e refl)) parts.code_spans_are,
+    then-data then_data (then_emails ∷ behind_autolinks) (λ s k. refl) refl inline-apart.1 (λ b h. (let e : b ≡ 96 = eqb-true b 96 h in rw e refl)) parts.code_spans_are,
     (
-      then-others then_emails behind_autolinks less (λ b h. (let e : b ≡ 60 = eqb-true b 60 h in ap text_byte e)) behind-autolinks-apart behind-autolinks-tried (λ k. refl) parts.autolinks_are,
+      then-others then_emails behind_autolinks less (λ s k. refl) (λ b h. (let e : b ≡ 60 = eqb-true b 60 h in ap text_byte e)) behind-autolinks-apart behind-autolinks-tried (λ k. refl) parts.autolinks_are,
       behind-autolinks-tried,
     ),
   )
@@ -145,7 +151,7 @@ module _ (g : Given) (text : Text) (known : Knowledge Found TextByte (Unit {0}))
   }
 
   -- Behind the white space that the text begins with all items are to be read
-  pub inlines-from : (local : Local Unit Unit) → let n = prefix_len is_white (bytes_of text.seats) in known.knows tt (0 + n) local
+  pub inlines-from : (local : Local Unit Unit) → let n = prefix_len is_white (bytes_of text.seats) in known.knows tt (0 + n) (leaf g.bytes SpaceOrTab (take n text.seats)) local
       → EndsWith g text m (between_items (0 + n) Nothing false (leaf g.bytes SpaceOrTab (take n text.seats)) local) [] (Next TextBefore) (record { events = read_events g text; spent = within })
   inlines-from local knows =
       let n = prefix_len is_white (bytes_of text.seats) in

@@ -33,30 +33,30 @@ module _ (g : Given) (text : Text) (budget : ℕ) where
   abbrev pub within_budget : Knowledge Found TextByte (Unit {0})
   within_budget = record {
     after_item = λ n item. n;
-    knows = λ n p local. spent local + calls_a_byte * left p + 1 ≤ budget;
-    tries = λ n cs p local. spent local + calls_a_byte * left p + 41 * length cs + 6 ≤ budget + calls_a_byte;
-    at_data = λ n p local. spent local + calls_a_byte * left p + 5 ≤ budget + calls_a_byte;
+    knows = λ n p events local. spent local + calls_a_byte * left p + 1 ≤ budget;
+    tries = λ n cs p events local. spent local + calls_a_byte * left p + 41 * length cs + 6 ≤ budget + calls_a_byte;
+    at_data = λ n p events local. spent local + calls_a_byte * left p + 5 ≤ budget + calls_a_byte;
   }
 
   pub budget-kept : IsKept g text within_budget
   budget-kept = record {
-    passes = λ n c cs p local s ss here none h. omega (arith, h);
-    to_data = λ n p local h. (let once = after-call local in omega (arith, h, once.calls));
+    passes = λ n c cs p events local s ss here none h. omega (arith, h);
+    to_data = λ n p events local h. (let once = after-call local in omega (arith, h, once.calls));
   }
 
   -- behind an item less is left
   left-less : (p n : ℕ) (s : Seat) (ss : List Seat) → drop p text.seats ≡ s ∷ ss → left (p + n) ≡ length (drop n (s ∷ ss))
   left-less p n s ss here = ap length (sym (drop-drop n p text.seats) ∙ ap (drop n) here)
 
-  module _ (c : Construct Found TextByte Unit Unit) (cs : List (Construct Found TextByte Unit Unit)) (p : ℕ) (local : Local Unit Unit) (s : Seat) (ss : List Seat) (here : drop p text.seats ≡ s ∷ ss)
-      (knows : within_budget.tries tt (c ∷ cs) p local) where
+  module _ (c : Construct Found TextByte Unit Unit) (cs : List (Construct Found TextByte Unit Unit)) (p : ℕ) (events : List Event) (local : Local Unit Unit) (s : Seat) (ss : List Seat) (here : drop p text.seats ≡ s ∷ ss)
+      (knows : within_budget.tries tt (c ∷ cs) p events local) where
     -- a construct that is decided within so many calls leaves the others paid, or is paid by its first byte
-    paid : (n : ℕ) → n ≤ most_tried → (nok : Name) (ended : Bool) (events : List Event) (choices : List Choice) (state : State) (o : Option Found) → OfOption (λ (item : Found). 0 < item_length item) o
+    paid : (n : ℕ) → n ≤ most_tried → (nok : Name) (ended : Bool) (choices : List Choice) (state : State) (o : Option Found) → OfOption (λ (item : Found). 0 < item_length item) o
         → DecidesIn g text m between_strings n nok p ended events (s ∷ ss) (between_items p Byte ended events (counts local)) choices state o
         → DecidesTo g text m.step between_strings text_byte item_length (item_events g.bytes) within_budget tt cs nok p ended events (s ∷ ss) (between_items p Byte ended events (counts local)) choices state o
-    paid n few nok ended events choices state None some d =
+    paid n few nok ended choices state None some d =
         let once = after-call local in (d.0, omega (arith, few, knows, once.calls, d.1.calls), d.2)
-    paid n few nok ended events choices state (Some item) some d =
+    paid n few nok ended choices state (Some item) some d =
         let once = after-call local in
         let size = item_length item in
         let less : left (p + size) ≤ length ss = omega (arith, left-less p size s ss here, drop-less size s ss some) in
@@ -65,12 +65,12 @@ module _ (g : Given) (text : Text) (budget : ℕ) where
 
   pub reads-paid : (c : Construct Found TextByte Unit Unit) (cs : List (Construct Found TextByte Unit Unit)) (calls : List ℕ → ℕ) → ((bs : List ℕ) → calls bs ≤ most_tried) → IsApart text_byte item_length c
       → ReadsIn g text m between_strings calls c → ReadsBefore g text within_budget c cs
-  reads-paid c cs calls few apart reads nok p ended events local s ss here first knows =
-      paid c cs p local s ss here knows (calls (bytes_of (s ∷ ss))) (few (bytes_of (s ∷ ss))) nok ended events _ _ (c.grammar.front (bytes_of (s ∷ ss))) (apart.some s.byte (bytes_of ss))
+  reads-paid c cs calls few apart reads nok p ended events local s ss here first is_on knows =
+      paid c cs p events local s ss here knows (calls (bytes_of (s ∷ ss))) (few (bytes_of (s ∷ ss))) nok ended _ _ (c.grammar.front (bytes_of (s ∷ ss))) (apart.some s.byte (bytes_of ss))
       (reads nok p ended events (counts local) s ss here first)
 
   -- a part is paid by its bytes
-  part-paid : (name : Name) (p : ℕ) (ended : Bool) (events : List Event) (local : Local Unit Unit) (s : Seat) (ss : List Seat) → drop p text.seats ≡ s ∷ ss → within_budget.at_data tt p local
+  part-paid : (name : Name) (p : ℕ) (ended : Bool) (events : List Event) (local : Local Unit Unit) (s : Seat) (ss : List Seat) → drop p text.seats ≡ s ∷ ss → within_budget.at_data tt p events local
       → (item : Found) → 0 < item_length item → item_length item ≤ suc (length ss) → AddsItemIn g text m between_strings (item_length item + 3) (between_items p Byte ended events local) (Retry name) p events (s ∷ ss) item
       → AddsFrom g text m.step between_strings text_byte item_length (item_events g.bytes) within_budget tt (between_items p Byte ended events local) (Retry name) p events (s ∷ ss) item
   part-paid name p ended events local s ss here knows item some short read =
@@ -79,11 +79,11 @@ module _ (g : Given) (text : Text) (budget : ℕ) where
       let now : left p ≡ suc (length ss) = ap length here in
       (read.0, read.1, omega (arith, knows, read.2.calls, rest, now, some), read.3)
 
-  pub data-paid : (Knows : ℕ → Local Unit Unit → Type 0) → ((p : ℕ) (local : Local Unit Unit) → Knows p local → within_budget.at_data tt p local)
+  pub data-paid : (Knows : ℕ → List Event → Local Unit Unit → Type 0) → ((p : ℕ) (events : List Event) (local : Local Unit Unit) → Knows p events local → within_budget.at_data tt p events local)
       → ReadsKnown g text within_budget Knows StringBeforeData (λ b. is_line_feed b ≡ false) string_part
   data-paid Knows pays p ended events local s ss here plain knows =
       let item = string_part (bytes_of (s ∷ ss)) in
-      part-paid StringBeforeData p ended events local s ss here (pays p local knows) item (some-part s.byte (bytes_of ss))
+      part-paid StringBeforeData p ended events local s ss here (pays p events local knows) item (some-part s.byte (bytes_of ss))
       (omega (arith, string-part-within s.byte (bytes_of ss), length-map ss (λ x. x.byte))) (data-read-in g text p ended events local s ss here plain)
 
   pub line-paid : ReadsKnown g text within_budget (within_budget.knows tt) StringBefore (λ b. is_line_feed b ≡ true) string_part
@@ -105,10 +105,10 @@ module _ (g : Given) (text : Text) where
 
   listed-in : IsListed g text plays.step between_strings text_byte item_length (item_events g.bytes) known is_line_feed (λ n. string_part) (λ n. string_constructs) string_budget
   listed-in =
-      strings-listed g text known string_budget (λ p local s ss here plain knows. omega (arith, knows)) (λ p local knows. (let once = after-call local in omega (arith, knows, once.calls)))
+      strings-listed g text known string_budget (λ p events local s ss here plain knows. omega (arith, knows)) (λ p events local knows. (let once = after-call local in omega (arith, knows, once.calls)))
       (reads-paid g text string_budget string_escapes (string_references ∷ []) escape_calls (λ bs. omega arith) string-apart.0 (escapes-reads-in g text plays between_strings))
       (reads-paid g text string_budget string_references [] reference_calls (λ bs. omega arith) string-apart.1.0 (references-read-in g text plays (inlines_play_references g text) between_strings))
-      (λ cs. data-paid g text string_budget (known.tries tt cs) (λ p local h. omega (arith, h))) (data-paid g text string_budget (known.at_data tt) (λ p local h. h)) (line-paid g text string_budget)
+      (λ cs. data-paid g text string_budget (known.tries tt cs) (λ p events local h. omega (arith, h))) (data-paid g text string_budget (known.at_data tt) (λ p events local h. h)) (line-paid g text string_budget)
 
   -- between constructs, before the first byte, all items are to be read
   from-between : (local : Local Unit Unit) → spent local ≤ 1 → EndsWith g text plays (between_items 0 Nothing false [] local) [] (Next StringBefore) (record { events = string_events g text; spent = string_budget })

@@ -88,14 +88,14 @@ module _ (g : Given) (text : Text) where
 
   -- data follows a construct, if the others in the list begin at other bytes
   module _ (known : Knowledge Found TextByte (Unit {0})) where
-    abbrev pub ReadsKnown : (Knows : ℕ → Local Unit Unit → Type 0) → Name → (At : ℕ → Type 0) → (List ℕ → Found) → Type 0
+    abbrev pub ReadsKnown : (Knows : ℕ → List Event → Local Unit Unit → Type 0) → Name → (At : ℕ → Type 0) → (List ℕ → Found) → Type 0
     ReadsKnown Knows name At front = ReadsFrom g text m.step between_strings text_byte item_length (item_events g.bytes) known tt Knows name At front
 
     -- the theorem of a construct before others
     abbrev pub ReadsBefore : Construct Found TextByte Unit Unit → List (Construct Found TextByte Unit Unit) → Type 0
     ReadsBefore c cs = Reads g text m.step between_strings text_byte item_length (item_events g.bytes) known tt c cs
 
-    pub data-follows : (Knows : ℕ → Local Unit Unit → Type 0) → ReadsKnown Knows StringBeforeData (λ b. is_line_feed b ≡ false) string_part
+    pub data-follows : (Knows : ℕ → List Event → Local Unit Unit → Type 0) → ReadsKnown Knows StringBeforeData (λ b. is_line_feed b ≡ false) string_part
         → (c : Construct Found TextByte Unit Unit) (cs : List (Construct Found TextByte Unit Unit)) → AreApart text_byte item_length cs → ((b : ℕ) → c.grammar.first b ≡ true → some_first (grammars_of cs) b ≡ false)
         → ReadsKnown Knows StringBeforeData (λ b. (is_line_feed b ≡ false) × (c.grammar.first b ≡ true)) (λ bs. first_there (grammars_of cs) g.options.constructs bs (string_part bs))
     data-follows Knows reads c cs apart alone p ended events local s ss here at knows =
@@ -105,8 +105,8 @@ module _ (g : Given) (text : Text) where
 
   -- the list of constructs, whatever is known
   pub strings-listed : (known : Knowledge Found TextByte (Unit {0})) (within : ℕ)
-      → ((p : ℕ) (local : Local Unit Unit) (s : Seat) (ss : List Seat) → drop p text.seats ≡ s ∷ ss → is_line_feed s.byte ≡ false → known.knows tt p local → known.tries tt string_constructs p local)
-      → ((p : ℕ) (local : Local Unit Unit) → known.knows tt p local → spent (counts local) ≤ within)
+      → ((p : ℕ) (events : List Event) (local : Local Unit Unit) (s : Seat) (ss : List Seat) → drop p text.seats ≡ s ∷ ss → is_line_feed s.byte ≡ false → known.knows tt p events local → known.tries tt string_constructs p events local)
+      → ((p : ℕ) (events : List Event) (local : Local Unit Unit) → known.knows tt p events local → spent (counts local) ≤ within)
       → ReadsBefore known string_escapes (string_references ∷ []) → ReadsBefore known string_references []
       → ((cs : List (Construct Found TextByte Unit Unit)) → ReadsKnown known (known.tries tt cs) StringBeforeData (λ b. is_line_feed b ≡ false) string_part)
       → ReadsKnown known (known.at_data tt) StringBeforeData (λ b. is_line_feed b ≡ false) string_part → ReadsKnown known (known.knows tt) StringBefore (λ b. is_line_feed b ≡ true) string_part
@@ -122,10 +122,11 @@ module _ (g : Given) (text : Text) where
     apart = λ n. string-apart;
     tried = λ n. (
       record {
+        allows = λ p ended events local s ss here first knows. refl;
         reads = escapes-are;
         follows = data-follows known (known.tries tt (string_references ∷ [])) (follows (string_references ∷ [])) string_escapes (string_references ∷ []) string-apart.1 (λ b h. (let e : b ≡ 92 = eqb-true b 92 h in rw e refl));
       },
-      (record { reads = references-are; follows = data-follows known (known.tries tt []) (follows []) string_references [] tt (λ b h. refl) }, tt),
+      (record { allows = λ p ended events local s ss here first knows. refl; reads = references-are; follows = data-follows known (known.tries tt []) (follows []) string_references [] tt (λ b h. refl) }, tt),
     );
     reads_data = λ n. data-is;
     reads_lines = λ n. line-is;
@@ -135,7 +136,7 @@ module _ (g : Given) (text : Text) where
   -- nothing needs to be known
   listed : IsListed g text m.step between_strings text_byte item_length (item_events g.bytes) nothing_known is_line_feed (λ m. string_part) (λ m. string_constructs) most
   listed =
-      strings-listed nothing_known most (λ p local s ss here plain knows. tt) (λ p local knows. counted-most local)
+      strings-listed nothing_known most (λ p events local s ss here plain knows. tt) (λ p events local knows. counted-most local)
       (reads-before g text m between_strings string_escapes (string_references ∷ []) (escapes-read g text m between_strings))
       (reads-before g text m between_strings string_references [] (references-read g text m (inlines_play_references g text) between_strings)) (λ cs. data-read) data-read line-read
 

@@ -122,7 +122,7 @@ pub use Rattle.mdconstructs_text.specs.EscapeRows.{escape_inside, escape_inside_
 pub use Rattle.mdconstructs_text.specs.Items.{is_special, item_at, item_length, text_grammars}
 pub use Rattle.mdconstructs_text.specs.Laws.Classes.{by-class, tick-classed}
 pub use Rattle.mdconstructs_text.specs.Laws.Rules.{in-paragraphs, in-text, text-lawful}
-pub use Rattle.mdconstructs_text.specs.Parts.{Part, bytes_of, cut, event, leaf, line_ending, part, part_at, part_events, part_length, plain_length, plain_run}
+pub use Rattle.mdconstructs_text.specs.Parts.{Part, bytes_of, cut, cut_remembering, event, leaf, line_ending, part, part_at, part_events, part_length, plain_length, plain_run}
 pub use Rattle.mdconstructs_text.specs.TextBytes.{TextByte, ampersand, backslash, backtick, blank, colon, digit, greater, is_backslash_class, is_backtick_class, is_less_class, is_line_feed_class, is_tick, less, letter, line_feed, mark, other, punctuation, text_byte, white}
 pub use Rattle.mdconstructs_text.specs.TextEvents.{item_events, items, seat_events, text_events}
 pub use Rattle.mdconstructs_text.specs.TextRules.{flow, text_rules}

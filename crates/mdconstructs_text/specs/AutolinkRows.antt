@@ -8,7 +8,7 @@ use Rattle.markdown_tokenizer.specs.Configuration.{Configuration}
 use Rattle.markdown_tokenizer.specs.Sight.{Sight}
 use Rattle.mdconstructs_tables.specs.Rows.{enter, exit, consume, write, Rows, row, when, here, at_bytes, StateRows, state}
 use Rattle.mdconstructs_tables.specs.Numbers.{Price, by_left}
-use Rattle.mdconstructs_text.specs.Construct.{Found, Construct, tried}
+use Rattle.mdconstructs_text.specs.Construct.{Found, Construct, if_option, tried}
 use Rattle.mdconstructs_text.specs.TextBytes.{TextByte, line_feed, less, greater, colon, letter, digit, mark, white, blank, is_less_class}
 use Rattle.mdconstructs_text.specs.TextCosts.{text_cost}
 use Rattle.mdconstructs_text.specs.TextSizes.{size_b_is, size_b_grows}
@@ -86,6 +86,7 @@ abbrev pub autolinks : {R D : Type 0} → Construct Found TextByte R D
 autolinks = record {
   grammar = autolink_grammar;
   begins = is_less_class;
+  allowed = if_option autolink_grammar;
   start = AutolinkStart;
   otherwise = TextBeforeData;
   states = autolink_start ∷ autolink_open ∷ autolink_scheme ∷ autolink_url ∷ [];

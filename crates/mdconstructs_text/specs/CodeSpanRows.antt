@@ -11,7 +11,7 @@ use Rattle.markdown_tokenizer.specs.Configuration.{Configuration}
 use Rattle.markdown_tokenizer.specs.Sight.{Sight}
 use Rattle.mdconstructs_tables.specs.Rows.{enter, exit, consume, write, choose, Rows, row, when, at_byte, at_bytes, StateRows, state}
 use Rattle.mdconstructs_tables.specs.Numbers.{Price, by_left, by_run, by_class, numbers}
-use Rattle.mdconstructs_text.specs.Construct.{Found, Construct, tried}
+use Rattle.mdconstructs_text.specs.Construct.{Found, Construct, if_option, tried}
 use Rattle.mdconstructs_text.specs.TextBytes.{TextByte, line_feed, backtick, is_tick, ends_code_data, is_backtick_class}
 use Rattle.mdconstructs_text.specs.TextCosts.{text_cost}
 use Rattle.mdconstructs_text.specs.TextSizes.{size_b_is, size_c_is, size_b_grows, size_c_grows}
@@ -140,6 +140,7 @@ abbrev pub code_spans : {R D : Type 0} → Construct Found TextByte R D
 code_spans = record {
   grammar = code_span_grammar;
   begins = is_backtick_class;
+  allowed = if_option code_span_grammar;
   start = RawTextStart;
   otherwise = TextBeforeData;
   states =

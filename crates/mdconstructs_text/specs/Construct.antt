@@ -9,6 +9,9 @@ use Rattle.markdown_base.specs.declared.state.State.TheVariants.{Next, Retry, Ok
 use Rattle.markdown_base.specs.declared.state.TheConstants.Name.{TextBefore, TextBeforeData, DataInside}
 use Rattle.markdown_base.specs.Virtual.{Seat}
 use Rattle.markdown_tokenizer.specs.declared.waiting.AttemptKind.TheVariants.{Attempt}
+use Rattle.markdown_tokenizer.specs.Configuration.{Configuration}
+use Rattle.markdown_tokenizer.specs.Sight.{Sight}
+use Rattle.markdown_tokenizer.specs.Text.{Given}
 use Rattle.mdconstructs_tables.specs.Rows.{enter, exit, consume, choose, a_choice, Rows, row, when, StateRows}
 
 -- What is found at the front of a text: how many bytes it has, and its events, by the bytes of the document and the virtual bytes of it
@@ -52,17 +55,22 @@ pub record Between : Type 0 where
 abbrev pub between_texts : Between
 between_texts = record { home = TextBefore; before_data = TextBeforeData; inside = DataInside }
 
--- How a machine reads a construct: what it is; the classes of bytes at which it is tried; its states, of which this one is called first; the
--- state that follows if it is not there; which of its states are called only if it is tried, at which class; and which of them go on once a
--- part of it was there
+-- How a machine reads a construct: what it is; the classes of bytes at which it is tried, and the test by which it is; its states, of which this
+-- one is called first; the state that follows if it is not there; which of its states are called only if it is tried, at which class; and which
+-- of them go on once a part of it was there
 pub record Construct (A W R D : Type 0) : Type 0 where
   pub grammar : Grammar A
   pub begins : W → Bool
+  pub allowed : Given → Sight → Configuration R D → Bool
   pub start : Name
   pub otherwise : Name
   pub states : List (StateRows W R D)
   pub begun : Name → Option W → Bool
   pub follows : Name → Bool
+
+-- a construct that needs nothing but its option is tried if that is on
+abbrev pub if_option : {A R D : Type 0} → Grammar A → Given → Sight → Configuration R D → Bool
+if_option grammar g s k = grammar.on g.options.constructs
 
 -- a state of a construct: it is called if the construct is tried, and so a choice waits
 abbrev pub tried : {W R D : Type 0} → StateRows W R D → StateRows W R D
@@ -94,11 +102,11 @@ module _ {A W R D : Type 0} where
   some_follows [] name = false
   some_follows (c ∷ cs) name = c.follows name || some_follows cs name
 
-  -- a construct is tried if it is on; if not, other rows are taken
+  -- a construct is tried if it is allowed; if not, other rows are taken
   abbrev pub tries : (home : Name) → Construct A W R D → Rows R D → Rows R D
-  tries home c others = when (λ g s k. c.grammar.on g.options.constructs) (row (choose Attempt (Next home) (Next c.otherwise) ∷ []) (Retry c.start)) others
+  tries home c others = when c.allowed (row (choose Attempt (Next home) (Next c.otherwise) ∷ []) (Retry c.start)) others
 
-  -- what is tried at a class of bytes: the first construct that may begin there and is on; if there is none, data is read
+  -- what is tried at a class of bytes: the first construct that may begin there and is allowed; if there is none, data is read
   abbrev pub tried_at : Between → List (Construct A W R D) → W → Rows R D
   tried_at names [] w = row [] (Retry names.before_data)
   tried_at names (c ∷ cs) w = cond (c.begins w) (tries names.home c (tried_at names cs w)) (tried_at names cs w)

@@ -8,7 +8,7 @@ use Rattle.markdown_tokenizer.specs.Configuration.{Configuration}
 use Rattle.markdown_tokenizer.specs.Sight.{Sight}
 use Rattle.mdconstructs_tables.specs.Rows.{enter, exit, consume, Rows, row, at_bytes, StateRows, state}
 use Rattle.mdconstructs_tables.specs.Numbers.{Price, by_left}
-use Rattle.mdconstructs_text.specs.Construct.{Found, Construct, tried}
+use Rattle.mdconstructs_text.specs.Construct.{Found, Construct, if_option, tried}
 use Rattle.mdconstructs_text.specs.TextBytes.{TextByte, backtick, less, greater, backslash, colon, mark, ampersand, punctuation, is_backslash_class}
 use Rattle.mdconstructs_text.specs.TextCosts.{text_cost}
 use Rattle.mdconstructs_text.specs.Escape.{escape_grammar}
@@ -56,6 +56,7 @@ abbrev pub escapes : {R D : Type 0} → Construct Found TextByte R D
 escapes = record {
   grammar = escape_grammar;
   begins = is_backslash_class;
+  allowed = if_option escape_grammar;
   start = CharacterEscapeStart;
   otherwise = TextBeforeData;
   states = escape_start ∷ escape_inside ∷ [];

@@ -21,6 +21,15 @@ cut front size (suc bound) (s ∷ ss) =
     let a = front (bytes_of (s ∷ ss)) in
     (a, take (size a) (s ∷ ss)) ∷ cut front size bound (drop (size a) (s ∷ ss))
 
+-- Virtual bytes, cut from the front with a memory of what was cut before: the element at the front depends on it, and behind each element it is
+-- another
+abbrev pub cut_remembering : {A M : Type 0} → (after : M → A → M) → (front : M → List ℕ → A) → (size : A → ℕ) → ℕ → M → List Seat → List (A × List Seat)
+cut_remembering after front size zero m seats = []
+cut_remembering after front size (suc bound) m [] = []
+cut_remembering after front size (suc bound) m (s ∷ ss) =
+    let a = front m (bytes_of (s ∷ ss)) in
+    (a, take (size a) (s ∷ ss)) ∷ cut_remembering after front size bound (after m a) (drop (size a) (s ∷ ss))
+
 -- A part: a line ending, or a run of this many other bytes
 pub data Part : Type 0 where
   line_ending : Part

@@ -1,5 +1,5 @@
--- Cutting a text into items: the bound of the cut does not matter; and cuts with a memory.
-use Rattle.mdconstructs_text.proofs.Prelude.{[], ◌≡◌, ℕ, zero, suc, ◌<◌, ◌≤◌, ◌∷◌, List, refl, ap, arith, length, take, drop, Seat, bytes_of, cut, length-drop}
+-- Cutting a text into items: the bound of the cut does not matter; nor does a memory that nothing depends on.
+use Rattle.mdconstructs_text.proofs.Prelude.{[], ◌≡◌, ℕ, zero, suc, ◌<◌, ◌≤◌, ◌∷◌, List, refl, ap, arith, length, take, drop, Seat, bytes_of, cut, cut_remembering, length-drop}
 
 -- at least one is dropped
 pub drop-less : {X : Type 0} (n : ℕ) (x : X) (xs : List X) → 0 < n → length (drop n (x ∷ xs)) ≤ length xs
@@ -16,16 +16,8 @@ cut-enough front size positive (suc b) (suc c) (s ∷ ss) h i =
     ap (λ l. (front (bytes_of (s ∷ ss)), take n (s ∷ ss)) ∷ l) (cut-enough front size positive b c (drop n (s ∷ ss)) (omega (arith, less, h)) (omega (arith, less, i)))
 cut-enough front size positive b c seats h i = refl
 
--- Virtual bytes, cut from the front, where what is at the front depends on a memory of what was cut before
-abbrev pub cut_by : {A M : Type 0} → (front : M → List ℕ → A) → (size : A → ℕ) → (after : M → A → M) → ℕ → M → List Seat → List (A × List Seat)
-cut_by front size after zero m seats = []
-cut_by front size after (suc bound) m [] = []
-cut_by front size after (suc bound) m (s ∷ ss) =
-    let a = front m (bytes_of (s ∷ ss)) in
-    (a, take (size a) (s ∷ ss)) ∷ cut_by front size after bound (after m a) (drop (size a) (s ∷ ss))
-
--- if it does not, they are cut alike
-pub cut-same : {A M : Type 0} (front : List ℕ → A) (size : A → ℕ) (bound : ℕ) (m : M) (seats : List Seat) → cut_by (λ m. front) size (λ m a. m) bound m seats ≡ cut front size bound seats
+-- where what is at the front depends on no memory, virtual bytes are cut alike
+pub cut-same : {A M : Type 0} (front : List ℕ → A) (size : A → ℕ) (bound : ℕ) (m : M) (seats : List Seat) → cut_remembering (λ m a. m) (λ m. front) size bound m seats ≡ cut front size bound seats
 cut-same front size zero m seats = refl
 cut-same front size (suc bound) m [] = refl
 cut-same front size (suc bound) m (s ∷ ss) =

@@ -156,15 +156,15 @@ module _ (g : Given) (text : Text) (is-text : IsText g text) where
         ap (λ o. row_step g text k (text_before_rows before (class_of text_byte o))) at
         ∙ ap (λ t. row_step g text k (cond t (row (enter LineEnding ∷ consume ∷ exit LineEnding ∷ []) (Next TextBefore)) (tried_at between_texts text_constructs (text_byte b)))) (line-classed b ∙ plain);
     at_end = λ k at. ap (λ o. row_step g text k (text_before_rows (class_of text_byte (sight g text k).previous) (class_of text_byte o))) at;
-    begins = λ n p local s ss here plain knows. tt;
-    counted = λ n p local knows. counted-most local;
+    begins = λ n p events local s ss here plain knows. tt;
+    counted = λ n p events local knows. counted-most local;
     lines_alone = λ n b h. (let e : b ≡ 10 = eqb-true b 10 h in rw e refl);
     apart = λ n. text-apart;
     tried = λ n. (
-      record { reads = reads-before g text m between_texts code_spans (autolinks ∷ escapes ∷ []) (code-spans-read g text (text_plays g text) (text_plays_code_spans g text) between_texts is-text); follows = data-follows code_spans (autolinks ∷ escapes ∷ []) text-apart.1 (λ b h. (let e : b ≡ 96 = eqb-true b 96 h in rw e refl)) },
+      record { allows = λ p ended events local s ss here first knows. refl; reads = reads-before g text m between_texts code_spans (autolinks ∷ escapes ∷ []) (code-spans-read g text (text_plays g text) (text_plays_code_spans g text) between_texts is-text); follows = data-follows code_spans (autolinks ∷ escapes ∷ []) text-apart.1 (λ b h. (let e : b ≡ 96 = eqb-true b 96 h in rw e refl)) },
       (
-        record { reads = reads-before g text m between_texts autolinks (escapes ∷ []) (autolinks-read g text (text_plays g text) between_texts is-text); follows = data-follows autolinks (escapes ∷ []) text-apart.1.1 (λ b h. (let e : b ≡ 60 = eqb-true b 60 h in rw e refl)) },
-        (record { reads = reads-before g text m between_texts escapes [] (escapes-read g text (text_plays g text) between_texts); follows = data-follows escapes [] tt (λ b h. refl) }, tt),
+        record { allows = λ p ended events local s ss here first knows. refl; reads = reads-before g text m between_texts autolinks (escapes ∷ []) (autolinks-read g text (text_plays g text) between_texts is-text); follows = data-follows autolinks (escapes ∷ []) text-apart.1.1 (λ b h. (let e : b ≡ 60 = eqb-true b 60 h in rw e refl)) },
+        (record { allows = λ p ended events local s ss here first knows. refl; reads = reads-before g text m between_texts escapes [] (escapes-read g text (text_plays g text) between_texts); follows = data-follows escapes [] tt (λ b h. refl) }, tt),
       ),
     );
     reads_data = λ n. data-read;

@@ -5,10 +5,10 @@ use Rattle.mdconstructs_text.proofs.Texts.Steps.{Plays, between_items}
 
 -- nothing is known
 abbrev pub nothing_known : Knowledge Found TextByte (Unit {0})
-nothing_known = record { after_item = λ m item. m; knows = λ m p local. Unit {0}; tries = λ m cs p local. Unit {0}; at_data = λ m p local. Unit {0} }
+nothing_known = record { after_item = λ m item. m; knows = λ m p events local. Unit {0}; tries = λ m cs p events local. Unit {0}; at_data = λ m p events local. Unit {0} }
 
 pub nothing-kept : {g : Given} {text : Text} → IsKept g text nothing_known
-nothing-kept = record { passes = λ m c cs p local s ss here none h. tt; to_data = λ m p local h. tt }
+nothing-kept = record { passes = λ m c cs p events local s ss here none h. tt; to_data = λ m p events local h. tt }
 
 module _ (g : Given) (text : Text) (m : Plays g text) (names : Between) where
   abbrev pub DecidesPart : (nok : Name) (p : ℕ) (ended : Bool) (events : List Event) → List Seat → Configuration Unit Unit → List Choice → State → Option Found → Type 0
@@ -28,13 +28,13 @@ module _ (g : Given) (text : Text) (m : Plays g text) (names : Between) where
 
   pub reads-before : (c : Construct Found TextByte Unit Unit) (rest : List (Construct Found TextByte Unit Unit)) → ReadsPart c
       → Reads g text m.step names text_byte item_length (item_events g.bytes) nothing_known tt c rest
-  reads-before c rest reads nok p ended events local s ss here first knows =
+  reads-before c rest reads nok p ended events local s ss here first is_on knows =
       decided-before rest nok p ended events (s ∷ ss) (between_items p Byte ended events (counts local)) (outer names.home nok p ended events ∷ []) (Retry c.start) (c.grammar.front (bytes_of (s ∷ ss)))
       (reads nok p ended events (counts local) s ss here first tt)
 
   -- the theorem of data, and of line endings
   abbrev pub ReadsItems : Name → (ℕ → Type 0) → (List ℕ → Found) → Type 0
-  ReadsItems name At front = ReadsFrom g text m.step names text_byte item_length (item_events g.bytes) nothing_known tt (λ p local. Unit {0}) name At front
+  ReadsItems name At front = ReadsFrom g text m.step names text_byte item_length (item_events g.bytes) nothing_known tt (λ p events local. Unit {0}) name At front
 
   abbrev pub AddsItem : Configuration Unit Unit → State → (p : ℕ) (events : List Event) → List Seat → Found → Type 0
   AddsItem k s p events seats item = AddsFrom g text m.step names text_byte item_length (item_events g.bytes) nothing_known tt k s p events seats item
