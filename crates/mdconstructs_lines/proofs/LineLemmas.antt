@@ -2,7 +2,6 @@
 use Rattle.std.proofs.Common.{◌≡◌, ℕ, zero, suc, ◌+◌, ◌-◌, ◌<◌, ◌≤◌, Bool, true, false, cond, List, [], ◌∷◌, length, take, drop, get_or, Bor, refl, sym, ap, ◌∙◌, arith, eq-eqb, ne_eqb}
 use Rattle.std.specs.Prelude.{◌==◌, ◌&&◌, ◌||◌, not, nat_le, map, Option, Some, None}
 use Rattle.std.specs.List.{list_all, prefix_len}
-use Rattle.std.specs.Cmp.Lexicographic.{pointwise}
 use Rattle.std.proofs.lemmas.List.{drop_more, drop-drop}
 use Rattle.std.proofs.Math.Dec.{eqb-suc-suc}
 use Rattle.std.proofs.Math.Seq.{drop-length}
@@ -71,13 +70,16 @@ quote_missing q (x ∷ xs) h = by (x == q) (quote_missing q xs) h
     by true e l = absurd (omega arith)
     by false e l = e (omega arith)
 
--- what `starts_with` of slices answers
-pub starts_as_slices : (what t : List ℕ) → pointwise ◌==◌ what (take (length what) t) ≡ starts_with what t
-starts_as_slices [] t = refl
-starts_as_slices (b ∷ bs) [] = refl
-starts_as_slices (b ∷ bs) (c ∷ cs) = ap (λ r. (b == c) && r) (starts_as_slices bs cs)
-
 -- text that is too short
+pub begins_short : (what t : List ℕ) → length t < length what → starts_with what t ≡ false
+begins_short [] t h = absurd (omega arith)
+begins_short (b ∷ bs) [] h = refl
+begins_short (b ∷ bs) (c ∷ cs) h = by (b == c) (begins_short bs cs (omega arith))
+  where
+    by : (s : Bool) → starts_with bs cs ≡ false → (s && starts_with bs cs) ≡ false
+    by true e = e
+    by false e = refl
+
 pub starts_short : (what t : List ℕ) → length t < length what → starts_with what (map lower t) ≡ false
 starts_short [] t h = absurd (omega arith)
 starts_short (b ∷ bs) [] h = refl
@@ -87,8 +89,23 @@ starts_short (b ∷ bs) (c ∷ cs) h = by (b == lower c) (starts_short bs cs (om
     by true e = e
     by false e = refl
 
+drop_past : (xs : List ℕ) (n : ℕ) → length xs ≤ n → drop n xs ≡ []
+drop_past [] zero h = refl
+drop_past [] (suc n) h = refl
+drop_past (x ∷ xs) zero h = absurd (omega arith)
+drop_past (x ∷ xs) (suc n) h = drop_past xs n (omega arith)
+
 -- one byte on
 module _ (what t : List ℕ) (n : ℕ) (w : n < length what) (h : n < length t) where
+  begins_step : starts_with (drop n what) (drop n t) ≡ ((get_or what n 0 == get_or t n 0) && starts_with (drop (n + 1) what) (drop (n + 1) t))
+  begins_step = λ k. starts_with (drop_more what n 0 w k) (drop_more t n 0 h k)
+
+  pub begins_yes : get_or t n 0 ≡ get_or what n 0 → starts_with (drop n what) (drop n t) ≡ starts_with (drop (n + 1) what) (drop (n + 1) t)
+  begins_yes e = begins_step ∙ ap (λ s. s && starts_with (drop (n + 1) what) (drop (n + 1) t)) (eq-eqb _ _ (sym e))
+
+  pub begins_no : (get_or t n 0 ≡ get_or what n 0 → ⊥) → starts_with (drop n what) (drop n t) ≡ false
+  begins_no e = begins_step ∙ ap (λ s. s && starts_with (drop (n + 1) what) (drop (n + 1) t)) (ne_eqb _ _ (λ q. e (sym q)))
+
   starts_step : starts_with (drop n what) (map lower (drop n t)) ≡ ((get_or what n 0 == lower (get_or t n 0)) && starts_with (drop (n + 1) what) (map lower (drop (n + 1) t)))
   starts_step = λ k. starts_with (drop_more what n 0 w k) (map lower (drop_more t n 0 h k))
 
@@ -98,14 +115,11 @@ module _ (what t : List ℕ) (n : ℕ) (w : n < length what) (h : n < length t) 
   pub starts_no : (lower (get_or t n 0) ≡ get_or what n 0 → ⊥) → starts_with (drop n what) (map lower (drop n t)) ≡ false
   starts_no e = starts_step ∙ ap (λ s. s && starts_with (drop (n + 1) what) (map lower (drop (n + 1) t))) (ne_eqb _ _ (λ q. e (sym q)))
 
+pub begins_end : (what t : List ℕ) (n : ℕ) → length what ≤ n → starts_with (drop n what) (drop n t) ≡ true
+begins_end what t n h = ap (λ l. starts_with l (drop n t)) (drop_past what n h)
+
 pub starts_end : (what t : List ℕ) (n : ℕ) → length what ≤ n → starts_with (drop n what) (map lower (drop n t)) ≡ true
-starts_end what t n h = ap (λ l. starts_with l (map lower (drop n t))) (drop_of what n h)
-  where
-    drop_of : (xs : List ℕ) (n : ℕ) → length xs ≤ n → drop n xs ≡ []
-    drop_of [] zero h = refl
-    drop_of [] (suc n) h = refl
-    drop_of (x ∷ xs) zero h = absurd (omega arith)
-    drop_of (x ∷ xs) (suc n) h = drop_of xs n (omega arith)
+starts_end what t n h = ap (λ l. starts_with l (map lower (drop n t))) (drop_past what n h)
 
 -- bytes that a text holds, from an index on
 module _ (what t : List ℕ) (n : ℕ) (h : n < length t) where
@@ -218,3 +232,28 @@ pub line_kind_rest : (on : Constructs) (t r : List ℕ) (columns : ℕ) → is_b
 line_kind_rest on t r columns some near ec er =
     (λ k. kind_of_rest on (ec k) (er k))
     ∙ sym (ap (λ s. cond s blank (cond (is_far on t) indented (kind_of_rest on (indent t) (unindented t)))) some ∙ ap (λ s. cond s indented (kind_of_rest on (indent t) (unindented t))) near)
+
+-- turns of walks
+
+-- behind so many bytes, so much white space is left at least
+pub white_left : (t : List ℕ) (k : ℕ) → indent t ≤ k + indent (drop k t)
+white_left t zero = omega arith
+white_left [] (suc k) = omega arith
+white_left (x ∷ xs) (suc k) = by (is_white x) (white_left xs k)
+  where
+    by : (b : Bool) → indent xs ≤ k + indent (drop k xs) → cond b (1 + indent xs) 0 ≤ suc k + indent (drop k xs)
+    by true e = omega (arith, e)
+    by false e = omega arith
+
+-- a prefix pays for the white space behind its marker, but for what it leaves
+pub item_paid : (r after : List ℕ) (columns n size white : ℕ) → after ≡ drop (n + 1) r → white ≡ indent after → columns + (n + 1) ≤ size
+    → white + (columns + n + 1) ≤ size + indent (drop (size - columns) r)
+item_paid r after columns n size white ea ew least =
+    let k = size - (columns + (n + 1)) in
+    let on : k + (n + 1) ≡ size - columns = omega (arith, least) in
+    let left = white_left after k in
+    let same : indent (drop k after) ≡ indent (drop (size - columns) r) = ap (λ l. indent (drop k l)) ea ∙ ap indent (drop-drop k (n + 1) r) ∙ ap (λ m. indent (drop m r)) on in
+    omega (arith, left, same, ew, least)
+
+pub behind_prefix : (t : List ℕ) (columns size : ℕ) → columns ≤ size → drop (size - columns) (drop columns t) ≡ drop size t
+behind_prefix t columns size h = let on : (size - columns) + columns ≡ size = omega (arith, h) in drop-drop (size - columns) columns t ∙ ap (λ n. drop n t) on

@@ -23,6 +23,45 @@ expanded_step t items text new i h e =
 pub expanded_end : (t : ℕ) (items text : List ℕ) → items ++ expanded t (length items + 1) (drop (length text) text) ≡ items
 expanded_end t items text = ap (λ l. items ++ expanded t (length items + 1) l) (drop-length text) ∙ append-nil items
 
+-- each byte has a virtual byte
+pub seat_some : (t column byte : ℕ) → 0 < t → t ≤ 16 → 1 ≤ length (seat_bytes t column byte)
+seat_some t column byte some most = by (byte == 9)
+  where
+    by : (b : Bool) → 1 ≤ length (cond b (take (tab_width t column) (9 ∷ replicate 15 32)) (byte ∷ []))
+    by true =
+        let least : 1 ≤ tab_width t column = omega (arith, mod-lt (column - 1) some) in
+        let wide : tab_width t column ≤ 16 = omega (arith, most) in
+        let long : length {A = ℕ} (take (tab_width t column) (9 ∷ replicate 15 32)) ≡ tab_width t column = length-take-le (tab_width t column) (9 ∷ replicate 15 32) wide in
+        omega (arith, least, long)
+    by false = omega arith
+
+pub expanded_least : (t column : ℕ) (bs : List ℕ) → 0 < t → t ≤ 16 → length bs ≤ length (expanded t column bs)
+expanded_least t column [] some most = omega arith
+expanded_least t column (b ∷ bs) some most =
+    let sb = seat_bytes t column b in
+    let one = seat_some t column b some most in
+    let more = expanded_least t (column + length sb) bs some most in
+    let all = length-append sb (expanded t (column + length sb) bs) in
+    omega (arith, one, more, all)
+
+-- what was written, and the virtual bytes of one byte more, are no more than all
+pub expanded_more : (t : ℕ) (items text : List ℕ) (i : ℕ) → i < length text → items ++ expanded t (length items + 1) (drop i text) ≡ expanded t 1 text
+    → length items + length (seat_bytes t (length items + 1) (get_or text i 0)) ≤ length (expanded t 1 text)
+expanded_more t items text i h e =
+    let sb = seat_bytes t (length items + 1) (get_or text i 0) in
+    let rest = expanded t (length items + 1 + length sb) (drop (i + 1) text) in
+    let split = ap length (sym (ap (λ l. items ++ expanded t (length items + 1) l) (drop_more text i 0 h)) ∙ e) in
+    let whole = length-append items (sb ++ rest) in
+    let part = length-append sb rest in
+    omega (arith, split, whole, part)
+
+pub expanded_all : (t : ℕ) (items text : List ℕ) (i : ℕ) → items ++ expanded t (length items + 1) (drop i text) ≡ expanded t 1 text
+    → length items ≤ length (expanded t 1 text)
+expanded_all t items text i e =
+    let split = ap length e in
+    let whole = length-append items (expanded t (length items + 1) (drop i text)) in
+    omega (arith, split, whole)
+
 -- the bytes of the widest tab
 abbrev tab_of_16 : List ℕ
 tab_of_16 = 9 ∷ replicate 15 32

@@ -1,5 +1,5 @@
 -- What values of the code mean. Below them are definitions cut into parts, one for each function that computes a part.
-use Rattle.std.specs.Prelude.{ℕ, ◌+◌, cond, false, map, Option, Some, None, ◌&&◌, ◌||◌, nat_le, ◌==◌, not, Bool, List, take, drop, length}
+use Rattle.std.specs.Prelude.{ℕ, suc, ◌+◌, [], ◌∷◌, cond, false, map, Option, Some, None, ◌&&◌, ◌||◌, nat_le, ◌==◌, not, Bool, List, take, drop, length}
 use Rattle.std.specs.Char.{is_ascii_alphanumeric}
 use Rattle.mdconstructs_machines.specs.Breaks.{is_white}
 use Rattle.markdown_base.specs.declared.configuration.Constructs.{Constructs}
@@ -107,3 +107,8 @@ closes_tag t =
 -- a name is this one, in any case
 abbrev pub is_name : (listed name : List ℕ) → Bool
 is_name listed name = starts_with listed (map lower name) && (length listed == length name)
+
+-- how many names there are, and how many bytes they have
+abbrev pub names_size : List (List ℕ) → ℕ
+names_size [] = 0
+names_size (n ∷ ns) = suc (length n + names_size ns)

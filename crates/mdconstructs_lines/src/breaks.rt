@@ -6,6 +6,8 @@ ghost use Rattle.mdconstructs_lines.specs.Breaks.{has_break, is_break_mark, walk
 
 use crate::bytes::is_white;
 use markdown_base::configuration::Constructs;
+use mdconstructs_turns::Turns;
+use std::sync::ledger::Ledger;
 
 /// The columns at which thematic breaks begin in a line, of those that are no white space.
 #[derive(Clone, Copy)]
@@ -72,8 +74,9 @@ fn with_byte(w: Walk, byte: u8) -> Option<Walk>
 }
 
 /// A walk from a line's end on, as far as it goes.
-fn walk_over(t: &[u8]) -> Walk
-    ensures { result ≡ walked t.now }
+fn walk_over<L: Ledger>(t: &[u8], turns: &mut Turns<L>) -> Walk
+    ensures value { result ≡ walked t.now }
+    ensures turns { turns.new ≤ turns.old + length t.now }
 {
     let mut w = Walk {
         mark: 0,
@@ -82,6 +85,7 @@ fn walk_over(t: &[u8]) -> Walk
         least: 0,
     };
     for n in 0..t.len() {
+        turns.add_one();
         match with_byte(w, t[t.len() - 1 - n]) {
             Some(longer) => w = longer,
             None => return w,
@@ -91,13 +95,14 @@ fn walk_over(t: &[u8]) -> Walk
 }
 
 /// Where the rest of a line is a thematic break, if these are on.
-pub fn breaks_in(on: &Constructs, t: &[u8]) -> Breaks
-    ensures { (at : ℕ) → at ≤ length t.now → has_break result (at + indent (drop at t.now)) ≡ on.now.thematic_break && is_thematic_break (unindented (drop at t.now)) }
+pub fn breaks_in<L: Ledger>(on: &Constructs, t: &[u8], turns: &mut Turns<L>) -> Breaks
+    ensures value { (at : ℕ) → at ≤ length t.now → has_break result (at + indent (drop at t.now)) ≡ on.now.thematic_break && is_thematic_break (unindented (drop at t.now)) }
+    ensures turns { turns.new ≤ turns.old + length t.now }
 {
     if !on.thematic_break {
         return Breaks { from: 0, to: 0 };
     }
-    let w = walk_over(t);
+    let w = walk_over(t, turns);
     let from = t.len() - w.reach;
     if w.least == 0 {
         return Breaks { from, to: 0 };

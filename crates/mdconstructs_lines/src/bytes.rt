@@ -1,8 +1,11 @@
 //! The bytes that a line begins with.
 
-ghost use Rattle.std.specs.Prelude.{◌≡◌, ◌≤◌, ◌-◌, ℕ, length, take, drop};
+ghost use Rattle.std.specs.Prelude.{◌≡◌, ◌≤◌, ◌+◌, ◌-◌, ℕ, nat_le, length, take, drop};
 ghost use Rattle.mdconstructs_machines.specs.Breaks.{is_white};
-ghost use Rattle.mdconstructs_flow_read.specs.LineWords.{indent, unindented, is_blank_line, begins_with, run};
+ghost use Rattle.mdconstructs_flow_read.specs.LineWords.{first_passes, indent, unindented, is_blank_line, begins_with, run};
+
+use mdconstructs_turns::Turns;
+use std::sync::ledger::Ledger;
 
 /// Whether a byte is a space or a tab.
 pub(crate) fn is_white(byte: u8) -> bool
@@ -12,19 +15,29 @@ pub(crate) fn is_white(byte: u8) -> bool
 }
 
 /// The columns of white space that come first.
-pub fn indent(t: &[u8]) -> usize
+pub fn indent<L: Ledger>(t: &[u8], turns: &mut Turns<L>) -> usize
     ensures value { result ≡ indent t.now }
     ensures within { result ≤ length t.now }
+    ensures turns { turns.new ≤ turns.old + result + 1 }
 {
-    t.iter().take_while(|byte| is_white(**byte)).count()
+    let mut columns = 0;
+    while columns < t.len() {
+        turns.add_one();
+        if !is_white(t[columns]) {
+            return columns;
+        }
+        columns += 1;
+    }
+    columns
 }
 
 /// A line behind the white space that comes first.
-pub fn unindented(t: &[u8]) -> &[u8]
+pub fn unindented<'a, L: Ledger>(t: &'a [u8], turns: &mut Turns<L>) -> &'a [u8]
     ensures value { result.now ≡ unindented t.now }
     ensures len { length result.now ≡ length t.now - indent t.now }
+    ensures turns { turns.new ≤ turns.old + indent t.now + 1 }
 {
-    behind(t, indent(t))
+    behind(t, indent(t, turns))
 }
 
 /// A line from a column on.
@@ -46,10 +59,19 @@ pub fn front(t: &[u8], index: usize) -> &[u8]
 }
 
 /// There is only white space, or nothing.
-pub fn is_blank_line(t: &[u8]) -> bool
-    ensures { result ≡ is_blank_line t.now }
+pub fn is_blank_line<L: Ledger>(t: &[u8], turns: &mut Turns<L>) -> bool
+    ensures value { result ≡ is_blank_line t.now }
+    ensures turns { turns.new ≤ turns.old + length t.now }
 {
-    t.iter().all(|byte| is_white(*byte))
+    let mut next = 0;
+    while next < t.len() {
+        turns.add_one();
+        if !is_white(t[next]) {
+            return false;
+        }
+        next += 1;
+    }
+    true
 }
 
 /// White space comes first, or there is nothing.
@@ -59,6 +81,17 @@ pub(crate) fn is_white_or_end(t: &[u8]) -> bool
     match t {
         [first, ..] => is_white(*first),
         [] => true,
+    }
+}
+
+/// White space comes first.
+pub(crate) fn begins_white(t: &[u8]) -> bool
+    ensures value { result ≡ first_passes is_white t.now }
+    ensures columns { result ≡ nat_le 1 (indent t.now) }
+{
+    match t {
+        [first, ..] => is_white(*first),
+        [] => false,
     }
 }
 
@@ -73,9 +106,18 @@ pub(crate) fn begins_with(t: &[u8], byte: u8) -> bool
 }
 
 /// How many of this byte come first.
-pub(crate) fn run(t: &[u8], mark: u8) -> usize
+pub(crate) fn run<L: Ledger>(t: &[u8], mark: u8, turns: &mut Turns<L>) -> usize
     ensures value { result ≡ run mark t.now }
     ensures within { result ≤ length t.now }
+    ensures turns { turns.new ≤ turns.old + result + 1 }
 {
-    t.iter().take_while(|byte| **byte == mark).count()
+    let mut next = 0;
+    while next < t.len() {
+        turns.add_one();
+        if t[next] != mark {
+            return next;
+        }
+        next += 1;
+    }
+    next
 }

@@ -1,12 +1,14 @@
 //! Containers: which go on with a line, and which begin in it. The line's rest is its virtual bytes from a column on.
 
-ghost use Rattle.std.specs.Prelude.{◌≡◌, ◌≤◌, ◌<◌, ◌+◌, ℕ, Bool, true, length, drop, Some, None, ◌&&◌, cond, false, option_map, take, suc, ◌^◌, ◌==◌, slice_index, nat_le};
+ghost use Rattle.std.specs.Prelude.{◌≡◌, ◌≤◌, ◌<◌, ◌+◌, ◌-◌, ◌*◌, ℕ, IfSome, Bool, true, length, drop, Some, None, ◌&&◌, cond, false, option_map, take, suc, ◌^◌, ◌==◌, slice_index, nat_le};
 ghost use Rattle.mdconstructs_flow_read.specs.LineKinds.{indent, unindented, is_blank_line, is_thematic_break};
 ghost use Rattle.mdconstructs_lines.specs.Containers.{quote_size, goes_on, digits, is_one, is_marker, padding, item_at, may_begin_item, begins, quote};
 ghost use Rattle.mdconstructs_lines.specs.Views.{container_of, prefix_of, quote_prefix, is_marker_behind, may_stand, prefix_behind, prefix_by, is_past, is_quote_at};
 
-use crate::bytes::{begins_with, behind, front, indent, run};
+use crate::bytes::{begins_white, begins_with, behind, front, indent, run};
 use markdown_base::configuration::Constructs;
+use mdconstructs_turns::Turns;
+use std::sync::ledger::Ledger;
 
 /// A container: a block quote, or a list item.
 #[derive(Clone, Copy)]
@@ -26,16 +28,23 @@ pub struct Container {
 }
 
 /// The first column from another on that is not white space, by such a column of a place before it. So white space is walked over once.
-pub fn first_from(t: &[u8], from: usize, at: usize, first: usize) -> usize
+pub fn first_from<L: Ledger>(
+    t: &[u8],
+    from: usize,
+    at: usize,
+    first: usize,
+    turns: &mut Turns<L>,
+) -> usize
     requires order { from ≤ at }
     requires inside { at ≤ length t.now }
     requires first { first ≡ from + indent (drop from t.now) }
     ensures value { result ≡ at + indent (drop at t.now) }
+    ensures turns { turns.new + first ≤ turns.old + result }
 {
     if at <= first {
         return first;
     }
-    at + indent(behind(t, at))
+    at + indent(behind(t, at), turns)
 }
 
 /// A line's rest has only these columns of white space.
@@ -57,7 +66,7 @@ fn quote_size(t: &[u8], columns: usize) -> usize
     ensures { result ≡ quote_size t.now }
 {
     let after = behind(t, columns + 1);
-    columns + 1 + if indent(after) >= 1 { 1 } else { 0 }
+    columns + 1 + if begins_white(after) { 1 } else { 0 }
 }
 
 /// The columns of the prefix with which a container goes on with a line's rest, if it does. `columns` of white space come first.
@@ -103,18 +112,28 @@ fn item_goes_on(c: &Container, number: usize, t: &[u8], columns: usize) -> Optio
     }
 }
 
-fn digits(t: &[u8]) -> usize
+fn digits<L: Ledger>(t: &[u8], turns: &mut Turns<L>) -> usize
     ensures value { result ≡ digits t.now }
     ensures within { result ≤ length t.now }
+    ensures turns { turns.new ≤ turns.old + result + 1 }
 {
-    t.iter().take_while(|byte| byte.is_ascii_digit()).count()
+    let mut next = 0;
+    while next < t.len() {
+        turns.add_one();
+        if !t[next].is_ascii_digit() {
+            return next;
+        }
+        next += 1;
+    }
+    next
 }
 
 /// The digits are those of one: zeros, and a one behind them.
-fn is_one(t: &[u8]) -> bool
-    ensures { result ≡ is_one t.now }
+fn is_one<L: Ledger>(t: &[u8], turns: &mut Turns<L>) -> bool
+    ensures value { result ≡ is_one t.now }
+    ensures turns { turns.new ≤ turns.old + length t.now + 1 }
 {
-    let n = run(t, b'0');
+    let n = run(t, b'0', turns);
     begins_with(behind(t, n), b'1') && t.len() == n + 1
 }
 
@@ -153,48 +172,68 @@ pub struct Prefix {
 }
 
 /// White space or nothing is behind a marker, and an item may begin there.
-fn may_stand(in_paragraph: bool, n: usize, number: &[u8], after: &[u8], white: usize) -> bool
+fn may_stand<L: Ledger>(
+    in_paragraph: bool,
+    n: usize,
+    number: &[u8],
+    after: &[u8],
+    white: usize,
+    turns: &mut Turns<L>,
+) -> bool
     requires white { white ≡ indent after.now }
     requires within { white ≤ length after.now }
-    ensures { result ≡ may_stand in_paragraph n number.now after.now }
+    ensures value { result ≡ may_stand in_paragraph n number.now after.now }
+    ensures turns { turns.new ≤ turns.old + length number.now + 1 }
 {
     let is_blank = is_all(after, white);
-    (is_blank || white >= 1) && !(in_paragraph && (is_blank || n >= 1 && !is_one(number)))
+    (is_blank || white >= 1) && !(in_paragraph && (is_blank || n >= 1 && !is_one(number, turns)))
 }
 
 /// The item whose number or marker is behind the white space.
 #[tactic(auto, using(crate::proofs::LineLemmas::marker_missing, crate::proofs::LineLemmas::marker_wrong, crate::proofs::LineLemmas::item_none))]
-fn item_at(number: usize, t: &[u8], columns: usize, in_paragraph: bool) -> Option<Prefix>
+fn item_at<L: Ledger>(
+    number: usize,
+    t: &[u8],
+    columns: usize,
+    in_paragraph: bool,
+    turns: &mut Turns<L>,
+) -> Option<Prefix>
     requires columns { columns ≡ indent t.now }
     requires within { columns ≤ length t.now }
-    ensures { option_map (prefix_of number) result ≡ cond (may_begin_item in_paragraph (unindented t.now)) (Some (item_at number t.now)) None }
+    ensures value { option_map (prefix_of number) result ≡ cond (may_begin_item in_paragraph (unindented t.now)) (Some (item_at number t.now)) None }
+    ensures found { IfSome result (λ p. turns.new + columns ≤ turns.old + 2 * p.size + indent (drop p.size t.now) + 1) }
+    ensures turns { turns.new ≤ turns.old + 2 * length t.now + 2 }
 {
     let r = behind(t, columns);
-    let n = digits(r);
+    let n = digits(r, turns);
     if n == r.len() {
         return None;
     }
     if !is_marker(n, r[n]) {
         return None;
     }
-    item_behind(number, columns, in_paragraph, r, n)
+    item_behind(number, columns, in_paragraph, r, n, turns)
 }
 
 /// The item whose number, of so many digits, and marker are here.
-fn item_behind(
+fn item_behind<L: Ledger>(
     number: usize,
     columns: usize,
     in_paragraph: bool,
     r: &[u8],
     n: usize,
+    turns: &mut Turns<L>,
 ) -> Option<Prefix>
     requires within { n < length r.now }
     requires room { columns + length r.now < 2 ^ 63 }
-    ensures { option_map (prefix_of number) result ≡ prefix_behind in_paragraph number columns n (slice_index r.now n) r.now (n + 1) }
+    ensures value { option_map (prefix_of number) result ≡ prefix_behind in_paragraph number columns n (slice_index r.now n) r.now (n + 1) }
+    ensures least { IfSome result (λ p. columns + (n + 1) ≤ p.size) }
+    ensures found { IfSome result (λ p. turns.new + columns ≤ turns.old + p.size + indent (drop (p.size - columns) r.now) + 1) }
+    ensures turns { turns.new ≤ turns.old + length r.now + 1 }
 {
     let after = behind(r, n + 1);
-    let white = indent(after);
-    if may_stand(in_paragraph, n, front(r, n), after, white) {
+    let white = indent(after, turns);
+    if may_stand(in_paragraph, n, front(r, n), after, white, turns) {
         Some(item_of(number, columns + (n + 1), r[n], n, after, white))
     } else {
         None
@@ -213,7 +252,8 @@ fn item_of(
     requires white { white ≡ indent after.now }
     requires within { white ≤ length after.now }
     requires room { front + 4 < 2 ^ 64 }
-    ensures { prefix_of number result ≡ prefix_by number front marker digits after.now }
+    ensures value { prefix_of number result ≡ prefix_by number front marker digits after.now }
+    ensures least { front ≤ result.size }
 {
     let size = front + padding(after, white);
     let is_blank = is_all(after, white);
@@ -253,18 +293,21 @@ fn quote_at(number: usize, t: &[u8], columns: usize) -> Prefix
 }
 
 /// The container that begins with a line's rest, if one does. `columns` of white space come first; `is_break`: the rest is a thematic break.
-pub fn begins(
+pub fn begins<L: Ledger>(
     on: &Constructs,
     number: usize,
     in_paragraph: bool,
     t: &[u8],
     columns: usize,
     is_break: bool,
+    turns: &mut Turns<L>,
 ) -> Option<Prefix>
     requires columns { columns ≡ indent t.now }
     requires within { columns ≤ length t.now }
     requires is_break { is_break ≡ on.now.thematic_break && is_thematic_break (unindented t.now) }
-    ensures { option_map (prefix_of number) result ≡ begins on.now number in_paragraph t.now }
+    ensures value { option_map (prefix_of number) result ≡ begins on.now number in_paragraph t.now }
+    ensures found { IfSome result (λ p. turns.new + columns ≤ turns.old + 2 * p.size + indent (drop p.size t.now) + 1) }
+    ensures turns { turns.new ≤ turns.old + 2 * length t.now + 2 }
 {
     if is_past(on, t, columns, is_break) {
         return None;
@@ -273,7 +316,7 @@ pub fn begins(
         return Some(quote_at(number, t, columns));
     }
     if on.list_item {
-        item_at(number, t, columns, in_paragraph)
+        item_at(number, t, columns, in_paragraph, turns)
     } else {
         None
     }

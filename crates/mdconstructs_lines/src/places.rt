@@ -1,6 +1,6 @@
 //! Lines as virtual bytes.
 
-ghost use Rattle.std.specs.Prelude.{◌^◌, ◌≡◌, ◌≤◌, ◌<◌, ◌+◌, ◌++◌, ℕ, length, take, drop, IfOk, not};
+ghost use Rattle.std.specs.Prelude.{◌^◌, ◌≡◌, ◌≤◌, ◌<◌, ◌+◌, ◌*◌, ◌++◌, ℕ, length, take, drop, replicate, ◌∷◌, IfOk, not};
 ghost use Rattle.std.specs.List.{prefix_len};
 ghost use Rattle.markdown_base.specs.Virtual.{tab_width};
 ghost use Rattle.mdconstructs_lines.specs.Lines.{is_in_tab, next_place, place_after, is_in_line, seat_bytes, ending_size, expanded, line_bytes};
@@ -9,7 +9,9 @@ use crate::bytes::{behind, front};
 use markdown_base::configuration::TabSize;
 use markdown_base::event::Point;
 use markdown_base::util::place::tab_width;
+use mdconstructs_turns::Turns;
 use std::alloc::AllocError;
+use std::sync::ledger::Ledger;
 
 const TAB: [u8; 16] = *b"\t               ";
 
@@ -20,55 +22,96 @@ fn is_in_line(byte: u8) -> bool
 }
 
 /// How many bytes come before a line ending, or all.
-fn line_size(t: &[u8]) -> usize
+fn line_size<L: Ledger>(t: &[u8], turns: &mut Turns<L>) -> usize
     ensures value { result ≡ prefix_len is_in_line t.now }
     ensures within { result ≤ length t.now }
+    ensures turns { turns.new ≤ turns.old + result + 1 }
 {
-    t.iter().take_while(|byte| is_in_line(**byte)).count()
+    let mut next = 0;
+    while next < t.len() {
+        turns.add_one();
+        if !is_in_line(t[next]) {
+            return next;
+        }
+        next += 1;
+    }
+    next
 }
 
 /// The virtual bytes of a byte go to a line.
-fn push_byte(line: &mut Vec<u8>, tab: usize, byte: u8) -> Result<(), AllocError>
+fn push_byte<L: Ledger>(
+    line: &mut Vec<u8>,
+    tab: usize,
+    byte: u8,
+    turns: &mut Turns<L>,
+) -> Result<(), AllocError>
     requires some { 0 < tab }
     requires most { tab ≤ 16 }
-    ensures { IfOk result (λ _. line.new.items ≡ line.old.items ++ seat_bytes tab (length line.old.items + 1) byte) }
+    ensures value { IfOk result (λ _. line.new.items ≡ line.old.items ++ seat_bytes tab (length line.old.items + 1) byte) }
+    ensures turns { turns.new ≤ turns.old + length (seat_bytes tab (length line.old.items + 1) byte) }
 {
     if byte == b'\t' {
-        let width = tab_width(tab, line.len() + 1);
-        return line.extend_from_slice(front(&TAB, width));
+        return push_tab(line, tab_width(tab, line.len() + 1), turns);
     }
+    turns.add_one();
     line.push(byte)?;
     Ok(())
 }
 
+/// A tab of so many columns goes to a line.
+fn push_tab<L: Ledger>(
+    line: &mut Vec<u8>,
+    width: usize,
+    turns: &mut Turns<L>,
+) -> Result<(), AllocError>
+    requires most { width ≤ 16 }
+    ensures value { IfOk result (λ _. line.new.items ≡ line.old.items ++ take width (9 ∷ replicate 15 32)) }
+    ensures turns { turns.new ≤ turns.old + width }
+{
+    for n in 0..width {
+        turns.add_one();
+        line.push(TAB[n])?;
+    }
+    Ok(())
+}
+
 /// A line is these bytes, as virtual bytes.
-fn expand(line: &mut Vec<u8>, tab: usize, text: &[u8]) -> Result<(), AllocError>
+fn expand<L: Ledger>(
+    line: &mut Vec<u8>,
+    tab: usize,
+    text: &[u8],
+    turns: &mut Turns<L>,
+) -> Result<(), AllocError>
     requires some { 0 < tab }
     requires most { tab ≤ 16 }
-    ensures { IfOk result (λ _. line.new.items ≡ expanded tab 1 text.now) }
+    ensures value { IfOk result (λ _. line.new.items ≡ expanded tab 1 text.now) }
+    ensures turns { turns.new ≤ turns.old + 2 * length (expanded tab 1 text.now) }
 {
     line.clear();
     for byte in text {
-        push_byte(line, tab, *byte)?;
+        turns.add_one();
+        push_byte(line, tab, *byte, turns)?;
     }
     Ok(())
 }
 
 /// A line: its virtual bytes without its line ending go to the list. Returns the index of its line ending, or of the document's end.
-pub fn read_line(
+pub fn read_line<L: Ledger>(
     line: &mut Vec<u8>,
     bytes: &[u8],
     tab: TabSize,
     start: usize,
+    turns: &mut Turns<L>,
 ) -> Result<usize, AllocError>
     requires inside { start ≤ length bytes.now }
     ensures text { let rest = drop start bytes.now in IfOk result (λ _. line.new.items ≡ expanded tab 1 (take (prefix_len is_in_line rest) rest)) }
     ensures seats { (number : ℕ) → IfOk result (λ _. line.new.items ≡ line_bytes tab number 1 start (drop start bytes.now)) }
     ensures end { IfOk result (λ end. end ≡ start + prefix_len is_in_line (drop start bytes.now)) }
+    ensures turns { let rest = drop start bytes.now in turns.new ≤ turns.old + 3 * length (expanded tab 1 (take (prefix_len is_in_line rest) rest)) + 1 }
 {
     let rest = behind(bytes, start);
-    let n = line_size(rest);
-    expand(line, tab.get(), front(rest, n))?;
+    let n = line_size(rest, turns);
+    expand(line, tab.get(), front(rest, n), turns)?;
     Ok(start + n)
 }
 
@@ -121,15 +164,23 @@ fn is_in_tab(byte: u8, tab: usize, p: Point) -> bool
 }
 
 /// The place so many columns behind another, in its line.
-pub fn moved(bytes: &[u8], tab: TabSize, place: Point, columns: usize) -> Point
+pub fn moved<L: Ledger>(
+    bytes: &[u8],
+    tab: TabSize,
+    place: Point,
+    columns: usize,
+    turns: &mut Turns<L>,
+) -> Point
     requires inside { (k : ℕ) → k < columns → (place_after tab bytes.now place k).index < length bytes.now }
     requires first { place.vs < place.column }
     requires room { place.column + columns < 2 ^ 64 }
-    ensures { result ≡ place_after tab bytes.now place columns }
+    ensures value { result ≡ place_after tab bytes.now place columns }
+    ensures turns { turns.new ≤ turns.old + columns }
 {
     let tab_size = tab.get();
     let mut p = place;
     for n in 0..columns {
+        turns.add_one();
         p = next_place(bytes, tab_size, p);
     }
     p

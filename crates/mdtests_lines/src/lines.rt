@@ -1,8 +1,11 @@
 //! Kinds of lines, containers that go on or begin, and lines that are read.
 
+ghost use Rattle.std.specs.Prelude.{◌≡◌, ◌<◌, ℕ};
+ghost use Rattle.mdconstructs_flow_read.specs.LineKinds.{indent, is_thematic_break, unindented};
+
 use markdown_base::configuration::{Constructs, TabSize};
 use markdown_base::event::Point;
-use mdconstructs_lines::breaks::breaks_in;
+use mdconstructs_lines::breaks::{Breaks, breaks_in};
 use mdconstructs_lines::bytes::{behind, front, indent, is_blank_line, unindented};
 use mdconstructs_lines::containers::{Container, begins, first_from, goes_on};
 use mdconstructs_lines::html::{HtmlKind, begins as begins_html, ends, html_kind, waits_for_blank};
@@ -11,39 +14,129 @@ use mdconstructs_lines::kinds::{
     is_underline_of_marks, kind_of_rest, line_kind, underline_rank,
 };
 use mdconstructs_lines::places::{behind_ending, moved, read_line};
+use mdconstructs_turns::Turns;
 use std::alloc::AllocError;
+use std::marker::Brand;
+use std::sync::ledger::{Blank, Ledger};
 use std::vec::Vec;
+
+/// What a line is asked for.
+struct Asked {
+    /// The columns of white space that come first.
+    columns: usize,
+    /// There is only white space, or nothing.
+    is_blank: bool,
+    /// It is too far to the right.
+    is_far: bool,
+    /// What it is.
+    kind: LineKind,
+    /// What it is behind two columns.
+    behind_two: LineKind,
+    /// Of an underline.
+    rank: Option<u8>,
+    /// As in `MARKED`.
+    marks: [bool; 5],
+    /// Where its rest is a thematic break.
+    breaks: Breaks,
+    /// The kind of HTML that it begins.
+    html: Option<HtmlKind>,
+}
+
+/// What a line is asked for, counted from nothing.
+fn asked_from<L: Ledger>(on: &Constructs, t: &[u8], blank: Blank) -> Asked
+    requires name { blank.name ≡ L.name }
+    requires parts { blank.parts ≡ L.parts }
+    requires some { 0 < blank.parts }
+{
+    let mut turns = Turns::<L>::new(blank);
+    Asked {
+        columns: indent(t, &mut turns),
+        is_blank: is_blank_line(t, &mut turns),
+        is_far: is_far(on, t, &mut turns),
+        kind: line_kind(on, t, &mut turns),
+        behind_two: kind_of_rest(on, 2, t, &mut turns),
+        rank: underline_rank(on, t, &mut turns),
+        marks: [
+            is_thematic_break(t, &mut turns),
+            is_atx_heading(t, &mut turns),
+            is_underline_of_marks(t, b'=', &mut turns),
+            is_fence_of(t, b'`', &mut turns),
+            is_fence_of(t, b'~', &mut turns),
+        ],
+        breaks: breaks_in(on, t, &mut turns),
+        html: html_kind(t, &mut turns),
+    }
+}
+
+/// What a line is asked for.
+fn asked(on: &Constructs, t: &[u8]) -> Asked {
+    asked_from::<Brand>(on, t, Blank::new(1))
+}
 
 #[test]
 fn lines_have_kinds(rt: HostRuntime) {
     let on = Constructs::default();
-    assert!(rt; matches!(line_kind(&on, b" "), LineKind::Blank));
-    assert!(rt; matches!(line_kind(&on, b"    a"), LineKind::Indented));
-    assert!(rt; matches!(line_kind(&on, b"## a"), LineKind::Heading));
-    assert!(rt; matches!(line_kind(&on, b"#a"), LineKind::Text));
-    assert!(rt; matches!(line_kind(&on, b"<!-- a"), LineKind::Html(HtmlKind::Comment)));
-    assert!(rt; matches!(line_kind(&on, b"- - -"), LineKind::ThematicBreak));
-    assert!(rt; matches!(line_kind(&on, b"==="), LineKind::Text));
+    assert!(rt; matches!(asked(&on, b" ").kind, LineKind::Blank));
+    assert!(rt; matches!(asked(&on, b"    a").kind, LineKind::Indented));
+    assert!(rt; matches!(asked(&on, b"## a").kind, LineKind::Heading));
+    assert!(rt; matches!(asked(&on, b"#a").kind, LineKind::Text));
+    assert!(rt; matches!(asked(&on, b"<!-- a").kind, LineKind::Html(HtmlKind::Comment)));
+    assert!(rt; matches!(asked(&on, b"- - -").kind, LineKind::ThematicBreak));
+    assert!(rt; matches!(asked(&on, b"===").kind, LineKind::Text));
+}
+
+/// Whether a line closes a fence, counted from nothing.
+fn closed_from<L: Ledger>(on: &Constructs, fence: Fence, t: &[u8], blank: Blank) -> bool
+    requires name { blank.name ≡ L.name }
+    requires parts { blank.parts ≡ L.parts }
+    requires some { 0 < blank.parts }
+{
+    closes(on, fence, t, &mut Turns::<L>::new(blank))
+}
+
+/// Whether a line closes a fence.
+fn closed(on: &Constructs, fence: Fence, t: &[u8]) -> bool {
+    closed_from::<Brand>(on, fence, t, Blank::new(1))
 }
 
 #[test]
 fn underlines_have_ranks_and_fences_close(rt: HostRuntime) {
     let on = Constructs::default();
-    assert_eq!(rt; underline_rank(&on, b"=== "), Some(1));
-    assert_eq!(rt; underline_rank(&on, b"--"), Some(2));
-    assert_eq!(rt; underline_rank(&on, b"=-"), None);
+    assert_eq!(rt; asked(&on, b"=== ").rank, Some(1));
+    assert_eq!(rt; asked(&on, b"--").rank, Some(2));
+    assert_eq!(rt; asked(&on, b"=-").rank, None);
     let fence = Fence {
         byte: b'~',
         size: 4,
         indent: 0,
     };
-    assert_eq!(rt; closes(&on, fence, b"~~~~~ "), true);
-    assert_eq!(rt; closes(&on, fence, b"~~~"), false);
+    assert_eq!(rt; closed(&on, fence, b"~~~~~ "), true);
+    assert_eq!(rt; closed(&on, fence, b"~~~"), false);
+}
+
+/// Whether a container begins with a line, counted from nothing.
+fn begun_from<L: Ledger>(in_paragraph: bool, t: &[u8], is_break: bool, blank: Blank) -> bool
+    requires name { blank.name ≡ L.name }
+    requires parts { blank.parts ≡ L.parts }
+    requires some { 0 < blank.parts }
+    requires first { 0 ≡ indent t.now }
+    requires is_break { is_break ≡ is_thematic_break (unindented t.now) }
+{
+    let mut turns = Turns::<L>::new(blank);
+    let on = Constructs::default();
+    begins(&on, 1, in_paragraph, t, 0, is_break, &mut turns).is_some()
+}
+
+/// Whether a container begins with a line.
+fn begun(in_paragraph: bool, t: &[u8], is_break: bool) -> bool
+    requires first { 0 ≡ indent t.now }
+    requires is_break { is_break ≡ is_thematic_break (unindented t.now) }
+{
+    begun_from::<Brand>(in_paragraph, t, is_break, Blank::new(1))
 }
 
 #[test]
 fn containers_go_on_and_begin(rt: HostRuntime) {
-    let on = Constructs::default();
     let quote = Container {
         is_quote: true,
         line: 1,
@@ -54,25 +147,56 @@ fn containers_go_on_and_begin(rt: HostRuntime) {
     };
     assert_eq!(rt; goes_on(&quote, 2, b"> a", 0), Some(2));
     assert_eq!(rt; goes_on(&quote, 2, b"a", 0), None);
-    assert_eq!(rt; begins(&on, 1, false, b"- a", 0, false).is_some(), true);
-    assert_eq!(rt; begins(&on, 1, true, b"2. a", 0, false).is_some(), false);
-    assert_eq!(rt; begins(&on, 1, false, b"---", 0, true).is_some(), false);
+    assert_eq!(rt; begun(false, b"- a", false), true);
+    assert_eq!(rt; begun(true, b"2. a", false), false);
+    assert_eq!(rt; begun(false, b"---", true), false);
+}
+
+/// The index of a line's ending, counted from nothing.
+fn read_from<L: Ledger>(line: &mut Vec<u8>, bytes: &[u8], blank: Blank) -> Result<usize, AllocError>
+    requires name { blank.name ≡ L.name }
+    requires parts { blank.parts ≡ L.parts }
+    requires some { 0 < blank.parts }
+{
+    read_line(line, bytes, TabSize::default(), 0, &mut Turns::<L>::new(blank))
 }
 
 #[test]
 fn lines_are_read_with_their_tabs(rt: HostRuntime) -> Result<(), AllocError> {
     let mut line = Vec::new(rt.alloc());
-    let end = read_line(&mut line, b"a\tb\r\nc", TabSize::default(), 0)?;
+    let end = read_from::<Brand>(&mut line, b"a\tb\r\nc", Blank::new(1))?;
     assert_eq!(rt; end, 3);
     assert_eq!(rt; line.as_slice(), b"a\t  b".as_slice());
     Ok(())
 }
 
+/// The first column behind the marker of a quote that is no white space, and the place behind a letter, counted from nothing.
+fn walked_from<L: Ledger>(blank: Blank) -> (usize, Point)
+    requires name { blank.name ≡ L.name }
+    requires parts { blank.parts ≡ L.parts }
+    requires some { 0 < blank.parts }
+{
+    let mut turns = Turns::<L>::new(blank);
+    (
+        first_from(b">  a", 0, 1, 0, &mut turns),
+        moved(b"ab", TabSize::default(), Point::START, 1, &mut turns),
+    )
+}
+
 #[test]
 fn places_move_over_columns(rt: HostRuntime) {
-    assert_eq!(rt; first_from(b">  a", 0, 1, 0), 3);
-    let place = moved(b"ab", TabSize::default(), Point::START, 1);
+    let (first, place) = walked_from::<Brand>(Blank::new(1));
+    assert_eq!(rt; first, 3);
     assert_eq!(rt; (place.index, place.column), (1, 2));
+}
+
+/// A line behind the white space that comes first, counted from nothing.
+fn unindented_from<'a, L: Ledger>(t: &'a [u8], blank: Blank) -> &'a [u8]
+    requires name { blank.name ≡ L.name }
+    requires parts { blank.parts ≡ L.parts }
+    requires some { 0 < blank.parts }
+{
+    unindented(t, &mut Turns::<L>::new(blank))
 }
 
 /// Of a line: the columns of white space before it, and what is behind these.
@@ -85,10 +209,12 @@ const INDENTS: &[(&[u8], usize, &[u8])] = &[
 
 #[test]
 fn lines_begin_with_white_space(rt: HostRuntime) {
+    let on = Constructs::default();
     for (line, columns, rest) in INDENTS {
-        assert_eq!(rt; indent(line), *columns);
-        assert_eq!(rt; unindented(line), *rest);
-        assert_eq!(rt; is_blank_line(line), rest.is_empty());
+        let found = asked(&on, line);
+        assert_eq!(rt; found.columns, *columns);
+        assert_eq!(rt; unindented_from::<Brand>(line, Blank::new(1)), *rest);
+        assert_eq!(rt; found.is_blank, rest.is_empty());
     }
     assert_eq!(rt; front(b"abc", 1), b"a".as_slice());
     assert_eq!(rt; behind(b"abc", 1), b"bc".as_slice());
@@ -116,15 +242,9 @@ const MARKED: &[(&[u8], [bool; 5])] = &[
 
 #[test]
 fn marks_say_what_a_line_is(rt: HostRuntime) {
+    let on = Constructs::default();
     for (line, want) in MARKED {
-        let found = [
-            is_thematic_break(line),
-            is_atx_heading(line),
-            is_underline_of_marks(line, b'='),
-            is_fence_of(line, b'`'),
-            is_fence_of(line, b'~'),
-        ];
-        assert_eq!(rt; found, *want);
+        assert_eq!(rt; asked(&on, line).marks, *want);
     }
 }
 
@@ -138,13 +258,13 @@ fn lines_may_be_too_far_to_the_right(rt: HostRuntime) {
     };
     assert_eq!(rt;
         [
-            is_far(&on, b"   a"),
-            is_far(&on, b"    a"),
-            is_far(&off, b"    a")
+            asked(&on, b"   a").is_far,
+            asked(&on, b"    a").is_far,
+            asked(&off, b"    a").is_far
         ],
         [false, true, false]
     );
-    let kind = kind_of_rest(&on, 2, b"~~~~ a");
+    let kind = asked(&on, b"~~~~ a").behind_two;
     assert!(rt;
         matches!(
             kind,
@@ -155,19 +275,19 @@ fn lines_may_be_too_far_to_the_right(rt: HostRuntime) {
             })
         )
     );
-    assert!(rt; matches!(kind_of_rest(&on, 0, b"a"), LineKind::Text));
+    assert!(rt; matches!(asked(&on, b"a").behind_two, LineKind::Text));
 }
 
 /// Where the rest of a line is a thematic break: also behind the marker of an item, or of a quote.
 #[test]
 fn thematic_breaks_are_found_behind_markers(rt: HostRuntime) {
     let on = Constructs::default();
-    let breaks = breaks_in(&on, b"> - - -");
+    let breaks = asked(&on, b"> - - -").breaks;
     assert_eq!(rt;
         [breaks.has(0), breaks.has(2), breaks.has(4), breaks.has(6)],
         [false, true, false, false]
     );
-    let breaks = breaks_in(&on, b"- * * * *");
+    let breaks = asked(&on, b"- * * * *").breaks;
     assert_eq!(rt;
         [breaks.has(0), breaks.has(2), breaks.has(4), breaks.has(6)],
         [false, true, true, false]
@@ -210,18 +330,36 @@ fn last_line(kind: HtmlKind) -> &'static [u8] {
     }
 }
 
+/// Whether a line begins HTML of a kind, and whether another ends it, counted from nothing.
+fn bounds_from<L: Ledger>(kind: HtmlKind, line: &[u8], last: &[u8], blank: Blank) -> (bool, bool)
+    requires name { blank.name ≡ L.name }
+    requires parts { blank.parts ≡ L.parts }
+    requires some { 0 < blank.parts }
+{
+    let mut turns = Turns::<L>::new(blank);
+    (
+        begins_html(kind, line, &mut turns),
+        ends(kind, last, &mut turns),
+    )
+}
+
+/// Whether a line begins HTML of a kind, and whether another ends it.
+fn bounds(kind: HtmlKind, line: &[u8], last: &[u8]) -> (bool, bool) {
+    bounds_from::<Brand>(kind, line, last, Blank::new(1))
+}
+
 #[test]
 fn html_begins_and_ends_by_its_kind(rt: HostRuntime) {
+    let on = Constructs::default();
     for (line, kind) in HTML {
-        assert!(rt; begins_html(*kind, line));
-        assert_eq!(rt; html_kind(line).map(condition), Some(condition(*kind)));
+        assert_eq!(rt; asked(&on, line).html.map(condition), Some(condition(*kind)));
         let last = last_line(*kind);
         assert_eq!(rt; waits_for_blank(*kind), last.is_empty());
-        assert_eq!(rt; ends(*kind, last), !last.is_empty());
-        assert!(rt; !ends(*kind, b"a"));
+        assert_eq!(rt; bounds(*kind, line, last), (true, !last.is_empty()));
+        assert_eq!(rt; bounds(*kind, line, b"a"), (true, false));
     }
-    assert!(rt; html_kind(b"<a href='b'> c").is_none());
-    assert!(rt; html_kind(b"<1>").is_none());
+    assert!(rt; asked(&on, b"<a href='b'> c").html.is_none());
+    assert!(rt; asked(&on, b"<1>").html.is_none());
 }
 
 /// CR LF is one line ending.

@@ -1,9 +1,11 @@
-use Rattle.std.proofs.Common.{length}
+use Rattle.std.proofs.Common.{length, ◌+◌, ◌*◌, ◌≤◌}
+use Rattle.mdconstructs_flow_read.specs.LineWords.{indent}
 use Rattle.mdconstructs_lines.proofs.LineLemmas.{IsSameTag}
 use Rattle.mdconstructs_lines.proofs.html.ends_open_tag.Given as goal
 
+-- the white space that comes next may have been walked over
 abbrev pub invariant-loop-more : goal.invariant-loop-more
-invariant-loop-more l = IsSameTag l.t l.rest
+invariant-loop-more g l = IsSameTag l.t l.rest × (l.turns + 7 * length l.rest ≤ l.fn.turns + 7 * length l.t + indent l.rest)
 
 abbrev pub decreases-loop-more : goal.decreases-loop-more
-decreases-loop-more l = length l.rest
+decreases-loop-more g l = length l.rest

@@ -3,8 +3,8 @@ use Rattle.std.specs.Prelude.{◌&&◌}
 use Rattle.mdconstructs_flow_read.specs.HtmlLines.{is_block_name}
 use Rattle.mdconstructs_lines.proofs.html.opens_block.Goals as goal
 
-pub returns-then-starts_with : goal.returns-then-starts_with
-returns-then-starts_with c =
-    c.is_block_name.ensures
+pub returns-then-starts_with-clause-value : goal.returns-then-starts_with-clause-value
+returns-then-starts_with-clause-value g c =
+    c.is_block_name.ensures.value
     ∙ ap is_block_name c.behind.ensures.value
     ∙ ap (λ s. s && is_block_name (drop 1 c.args.r.now)) c.if-starts_with.ensures.value
