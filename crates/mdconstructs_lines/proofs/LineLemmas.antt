@@ -250,10 +250,10 @@ pub item_paid : (r after : List ℕ) (columns n size white : ℕ) → after ≡ 
     → white + (columns + n + 1) ≤ size + indent (drop (size - columns) r)
 item_paid r after columns n size white ea ew least =
     let k = size - (columns + (n + 1)) in
-    let on : k + (n + 1) ≡ size - columns = omega (arith, least) in
+    let on : (n + 1) + k ≡ size - columns = omega (arith, least) in
     let left = white_left after k in
     let same : indent (drop k after) ≡ indent (drop (size - columns) r) = ap (λ l. indent (drop k l)) ea ∙ ap indent (drop-drop k (n + 1) r) ∙ ap (λ m. indent (drop m r)) on in
-    omega (arith, left, same, ew, least)
+    omega (arith, left, same, ew, least, on)
 
 pub behind_prefix : (t : List ℕ) (columns size : ℕ) → columns ≤ size → drop (size - columns) (drop columns t) ≡ drop size t
-behind_prefix t columns size h = let on : (size - columns) + columns ≡ size = omega (arith, h) in drop-drop (size - columns) columns t ∙ ap (λ n. drop n t) on
+behind_prefix t columns size h = let on : columns + (size - columns) ≡ size = omega (arith, h) in drop-drop (size - columns) columns t ∙ ap (λ n. drop n t) on

@@ -44,24 +44,6 @@ expanded_least t column (b ∷ bs) some most =
     let all = length-append sb (expanded t (column + length sb) bs) in
     omega (arith, one, more, all)
 
--- what was written, and the virtual bytes of one byte more, are no more than all
-pub expanded_more : (t : ℕ) (items text : List ℕ) (i : ℕ) → i < length text → items ++ expanded t (length items + 1) (drop i text) ≡ expanded t 1 text
-    → length items + length (seat_bytes t (length items + 1) (get_or text i 0)) ≤ length (expanded t 1 text)
-expanded_more t items text i h e =
-    let sb = seat_bytes t (length items + 1) (get_or text i 0) in
-    let rest = expanded t (length items + 1 + length sb) (drop (i + 1) text) in
-    let split = ap length (sym (ap (λ l. items ++ expanded t (length items + 1) l) (drop_more text i 0 h)) ∙ e) in
-    let whole = length-append items (sb ++ rest) in
-    let part = length-append sb rest in
-    omega (arith, split, whole, part)
-
-pub expanded_all : (t : ℕ) (items text : List ℕ) (i : ℕ) → items ++ expanded t (length items + 1) (drop i text) ≡ expanded t 1 text
-    → length items ≤ length (expanded t 1 text)
-expanded_all t items text i e =
-    let split = ap length e in
-    let whole = length-append items (expanded t (length items + 1) (drop i text)) in
-    omega (arith, split, whole)
-
 -- the bytes of the widest tab
 abbrev tab_of_16 : List ℕ
 tab_of_16 = 9 ∷ replicate 15 32

@@ -35,6 +35,7 @@ pub fn indent<L: Ledger>(t: &[u8], turns: &mut Turns<L>) -> usize
 pub fn unindented<'a, L: Ledger>(t: &'a [u8], turns: &mut Turns<L>) -> &'a [u8]
     ensures value { result.now ≡ unindented t.now }
     ensures len { length result.now ≡ length t.now - indent t.now }
+    ensures within { indent t.now ≤ length t.now }
     ensures turns { turns.new ≤ turns.old + indent t.now + 1 }
 {
     behind(t, indent(t, turns))

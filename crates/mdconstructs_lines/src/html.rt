@@ -287,7 +287,7 @@ fn behind_attribute<'a, L: Ledger>(t: &'a [u8], turns: &mut Turns<L>) -> Option<
     ensures value { option_copied result ≡ behind_attribute t.now }
     ensures within { IfSome result (λ rest. length rest.now ≤ length t.now) }
     ensures found { IfSome result (λ rest. turns.new + length rest.now ≤ turns.old + length t.now + indent rest.now + 3) }
-    ensures turns { turns.new ≤ turns.old + length t.now + 3 }
+    ensures turns { turns.new ≤ turns.old + length t.now + 4 }
 {
     if !begins_attribute(t) {
         return None;
@@ -328,7 +328,7 @@ fn next_in_tag<'a, L: Ledger>(t: &'a [u8], turns: &mut Turns<L>) -> Option<&'a [
     ensures shorter { IfSome result (λ rest. length rest.now < length t.now) }
     ensures white { IfSome result (λ rest. length rest.now + indent t.now ≤ length t.now) }
     ensures found { IfSome result (λ rest. turns.new + length rest.now ≤ turns.old + length t.now + indent rest.now + 4) }
-    ensures turns { turns.new ≤ turns.old + length t.now + 4 }
+    ensures turns { turns.new ≤ turns.old + length t.now + 5 }
 {
     let more = unindented(t, turns);
     if begins_with(more, b'/') || begins_with(more, b'>') {

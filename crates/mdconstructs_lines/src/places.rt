@@ -1,6 +1,6 @@
 //! Lines as virtual bytes.
 
-ghost use Rattle.std.specs.Prelude.{◌^◌, ◌≡◌, ◌≤◌, ◌<◌, ◌+◌, ◌*◌, ◌++◌, ℕ, length, take, drop, replicate, ◌∷◌, IfOk, not};
+ghost use Rattle.std.specs.Prelude.{◌^◌, ◌≡◌, ◌≤◌, ◌<◌, ◌+◌, ◌*◌, ◌++◌, ℕ, length, take, drop, IfOk, not};
 ghost use Rattle.std.specs.List.{prefix_len};
 ghost use Rattle.markdown_base.specs.Virtual.{tab_width};
 ghost use Rattle.mdconstructs_lines.specs.Lines.{is_in_tab, next_place, place_after, is_in_line, seat_bytes, ending_size, expanded, line_bytes};
@@ -38,40 +38,17 @@ fn line_size<L: Ledger>(t: &[u8], turns: &mut Turns<L>) -> usize
     next
 }
 
-/// The virtual bytes of a byte go to a line.
-fn push_byte<L: Ledger>(
-    line: &mut Vec<u8>,
-    tab: usize,
-    byte: u8,
-    turns: &mut Turns<L>,
-) -> Result<(), AllocError>
+/// The virtual bytes of a byte go to a line: sixteen at most, copied at once.
+fn push_byte(line: &mut Vec<u8>, tab: usize, byte: u8) -> Result<(), AllocError>
     requires some { 0 < tab }
     requires most { tab ≤ 16 }
-    ensures value { IfOk result (λ _. line.new.items ≡ line.old.items ++ seat_bytes tab (length line.old.items + 1) byte) }
-    ensures turns { turns.new ≤ turns.old + length (seat_bytes tab (length line.old.items + 1) byte) }
+    ensures { IfOk result (λ _. line.new.items ≡ line.old.items ++ seat_bytes tab (length line.old.items + 1) byte) }
 {
     if byte == b'\t' {
-        return push_tab(line, tab_width(tab, line.len() + 1), turns);
+        let width = tab_width(tab, line.len() + 1);
+        return line.extend_from_slice(front(&TAB, width));
     }
-    turns.add_one();
     line.push(byte)?;
-    Ok(())
-}
-
-/// A tab of so many columns goes to a line.
-fn push_tab<L: Ledger>(
-    line: &mut Vec<u8>,
-    width: usize,
-    turns: &mut Turns<L>,
-) -> Result<(), AllocError>
-    requires most { width ≤ 16 }
-    ensures value { IfOk result (λ _. line.new.items ≡ line.old.items ++ take width (9 ∷ replicate 15 32)) }
-    ensures turns { turns.new ≤ turns.old + width }
-{
-    for n in 0..width {
-        turns.add_one();
-        line.push(TAB[n])?;
-    }
     Ok(())
 }
 
@@ -85,12 +62,12 @@ fn expand<L: Ledger>(
     requires some { 0 < tab }
     requires most { tab ≤ 16 }
     ensures value { IfOk result (λ _. line.new.items ≡ expanded tab 1 text.now) }
-    ensures turns { turns.new ≤ turns.old + 2 * length (expanded tab 1 text.now) }
+    ensures turns { turns.new ≤ turns.old + length text.now }
 {
     line.clear();
     for byte in text {
         turns.add_one();
-        push_byte(line, tab, *byte, turns)?;
+        push_byte(line, tab, *byte)?;
     }
     Ok(())
 }
@@ -107,7 +84,7 @@ pub fn read_line<L: Ledger>(
     ensures text { let rest = drop start bytes.now in IfOk result (λ _. line.new.items ≡ expanded tab 1 (take (prefix_len is_in_line rest) rest)) }
     ensures seats { (number : ℕ) → IfOk result (λ _. line.new.items ≡ line_bytes tab number 1 start (drop start bytes.now)) }
     ensures end { IfOk result (λ end. end ≡ start + prefix_len is_in_line (drop start bytes.now)) }
-    ensures turns { let rest = drop start bytes.now in turns.new ≤ turns.old + 3 * length (expanded tab 1 (take (prefix_len is_in_line rest) rest)) + 1 }
+    ensures turns { let rest = drop start bytes.now in turns.new ≤ turns.old + 2 * length (expanded tab 1 (take (prefix_len is_in_line rest) rest)) + 1 }
 {
     let rest = behind(bytes, start);
     let n = line_size(rest, turns);

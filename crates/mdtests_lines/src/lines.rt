@@ -21,6 +21,7 @@ use std::sync::ledger::{Blank, Ledger};
 use std::vec::Vec;
 
 /// What a line is asked for.
+#[derive(Clone, Copy)]
 struct Asked {
     /// The columns of white space that come first.
     columns: usize,
