@@ -236,7 +236,7 @@ def documents(program, folder):
     size = os.path.getsize(document)
     print(f"| The pages of docs, {size:,} bytes | Instructions/byte | Calls/byte | Choices/byte | Allocations/byte | Peak heap, KiB | Its events, KiB |")
     print("|---|---|---|---|---|---|---|")
-    for options in ("--machine flow", "--machine flow --deep"):
+    for options in ("--machine flow", "--machine flow --deep", "--machine document", "--machine document --deep"):
         words = options.split()
         whole, _ = instructions(program, words, document, counts)
         calls = dispatched(program, words, document, counts)

@@ -4,9 +4,10 @@ text: processor seconds at each length (the least of three runs), and how many t
 if the time is linear, some 4 if it is a square. A text whose reading takes longer than 20 seconds is read no further.
 
 With --count the rows have instructions (callgrind's counts, the same in each run, less those of a run over nothing), for texts of a
-twentieth of those lengths.
+twentieth of those lengths. With --quoted each text is the paragraph of a quote in an item, in lines of 60 bytes, and `document` reads it.
 
-usage: worst.py [--count] [--only NAME] MDEVENTS [CMARK]. CMARK is a program that makes HTML of standard input, timed beside it.
+usage: worst.py [--count] [--quoted] [--only NAME] MDEVENTS [CMARK]. CMARK is a program that makes HTML of standard input, timed beside it.
+Texts that are bad for containers are in tools/bad_texts.py.
 """
 
 import os
@@ -17,7 +18,7 @@ import sys
 import tempfile
 
 LENGTHS = (100_000, 200_000, 400_000)
-OPTIONS = ["--machine", "flow", "--deep"]
+LINE = 60
 LONGEST = 20
 
 
@@ -37,6 +38,12 @@ def growing(mark, between):
 def again(unit, first="a "):
     """A text that begins so, and then repeats a unit. It begins with a word, as `<!--` would begin HTML and `***` a break."""
     return lambda size: (first + unit * (size // len(unit) + 1))[:size]
+
+
+def quoted(text):
+    """The lines of a text behind the prefixes of a quote in an item, each begun with a letter, as a marker would begin a block."""
+    parts = [line[at : at + LINE] for line in text.split("\n") for at in range(0, len(line), LINE)]
+    return "".join(f"{'  ' if number else '- '}> a{part}\n" for number, part in enumerate(parts))
 
 
 TEXTS = {
@@ -125,14 +132,15 @@ def row(name, text, commands, counted, document):
 
 
 def main(words):
-    counted = "--count" in words
-    words = [word for word in words if word != "--count"]
+    counted, in_quote = "--count" in words, "--quoted" in words
+    words = [word for word in words if word not in ("--count", "--quoted")]
     only = ""
     if "--only" in words:
         at = words.index("--only")
         only = words[at + 1]
         del words[at : at + 2]
-    commands = [[words[0], *OPTIONS], *[[other] for other in words[1:]]]
+    options = ["--machine", "document" if in_quote else "flow", "--deep"]
+    commands = [[words[0], *options], *[[other] for other in words[1:]]]
     lengths = [f"{length // 20 if counted else length:,}" for length in LENGTHS]
     heads = lengths + ["Times as much"]
     print(f"| Text | {' | '.join(heads * len(commands))} |")
@@ -141,7 +149,8 @@ def main(words):
         document = os.path.join(scratch, "document")
         for name, text in TEXTS.items():
             if only in name:
-                row(name, text, commands, counted, document)
+                made = (lambda size, text=text: quoted(text(size))) if in_quote else text
+                row(name, made, commands, counted, document)
 
 
 if __name__ == "__main__":
