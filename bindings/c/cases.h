@@ -32,7 +32,8 @@ static inline size_t below(size_t n) {
 
 /* A document of up to 30 pieces, in a block of its very length (of one byte if it is empty). */
 static inline uint8_t *random_document(size_t *len) {
-    static const char *const pieces[] = {"a", "bc", " ", "\t", "\n", "\n", "\r", "\r\n", "`", "``", "<", ">", "<ab:c>", "\\", "\\*", "> ", "\xff", "*"};
+    static const char *const pieces[] = {"a", "bc", " ", "\t", "\n", "\n", "\r", "\r\n", "`", "``", "<", ">", "<ab:c>", "\\", "\\*", "> ", "\xff", "*",
+                                          "- ", "1. ", "  ", "\n\n", "```"};
     char text[30 * 6];
     *len = 0;
     for (size_t n = below(30); n > 0; n--) {

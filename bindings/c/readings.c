@@ -67,7 +67,7 @@ static void refused(void) {
     struct limecove_reading reading = LIMECOVE_NO_READING;
     struct limecove_options options = limecove_default_options();
     struct limecove_text_options text = limecove_default_text_options();
-    options.machine = 8;
+    options.machine = UINT32_MAX;
     text.constructs = LIMECOVE_ALL_CONSTRUCTS + 1;
     struct limecove_answer answer = limecove_open((const uint8_t *)"a", 1, &options, &reading);
     CHECK(answer.code == LIMECOVE_NO_SUCH_MACHINE && answer.count == 0);

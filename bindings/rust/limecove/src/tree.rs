@@ -422,7 +422,8 @@ impl Text {
             match part.name() {
                 Name::LineEnding => self.add_bytes(b" ")?,
                 Name::CodeTextData => self.add_text(text)?,
-                _ => {}
+                // a prefix of a line, which then still starts
+                _ => continue,
             }
             is_start = part.name() == Name::LineEnding;
         }

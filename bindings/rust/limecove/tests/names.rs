@@ -71,7 +71,7 @@ fn machines_have_their_proved_numbers() {
             Some((name.to_string(), number.parse().ok()?))
         })
         .collect();
-    assert_eq!(proved.len(), 8);
+    assert_eq!(proved.len(), 9);
     compare(&proved, Machine::ALL, "LIMECOVE_");
 }
 

@@ -20,7 +20,7 @@ impl Random {
 
     /// A document of up to 40 pieces that the machines tell apart.
     fn document(&mut self) -> Vec<u8> {
-        const PIECES: [&[u8]; 24] = [
+        const PIECES: [&[u8]; 29] = [
             b"a",
             b"bc",
             b" ",
@@ -45,6 +45,11 @@ impl Random {
             b"> ",
             b".",
             b"+",
+            b"- ",
+            b"1. ",
+            b"  ",
+            b"\n\n",
+            b"```",
         ];
         (0..self.below(40))
             .flat_map(|_| PIECES[self.below(PIECES.len() as u64) as usize])

@@ -1,8 +1,8 @@
 //! What trees say of documents that the library reads.
 
 use limecove::{
-    spans_by_start, tokenize, with_ranges, Kind, LineIndex, Name, Options, TabSize, TextOptions,
-    Tree,
+    spans_by_start, tokenize, with_ranges, Kind, LineIndex, Machine, Name, Options, TabSize,
+    TextOptions, Tree,
 };
 
 /// The text of each span of these names, decoded.
@@ -90,6 +90,25 @@ fn code_is_its_lines() {
     let tree = Tree::read(" ```\n\ta", &Options::default().text(two)).unwrap();
     let code = tree.children().next().unwrap().decoded().unwrap();
     assert_eq!(code, b" a\n");
+}
+
+/// What is in quotes and items is decoded as outside of them.
+#[test]
+fn prefixes_are_no_text() {
+    let options = Options::default().machine(Machine::Document);
+    for (document, name, text) in [
+        ("> a\n> b\nc", Name::Paragraph, "a\nb\nc"),
+        ("- > a `b\n  >   c`", Name::Paragraph, "a b c"),
+        ("> ~~~ x\n> a\n>\n> b\n> ~~~", Name::CodeFenced, "a\n\nb\n"),
+        ("1.  ```\n    a\n\tb\n", Name::CodeFenced, "a\nb\n"),
+        (">\t    a\n>\n>\t  b", Name::CodeIndented, "  a\n\nb\n"),
+        ("- a\n  ===", Name::HeadingSetext, "a"),
+    ] {
+        let tree = Tree::read(document, &options).unwrap();
+        let found = tree.nodes().find(|node| node.name() == name).unwrap();
+        let decoded = String::from_utf8(found.decoded().unwrap()).unwrap();
+        assert_eq!(decoded, text, "{:?}", document);
+    }
 }
 
 const DOCUMENT: &str = "# a *b **c** d*\r\n\n~~~ x\r`e\n~~~\nf `g\nh` é\n<!--\n-->\n\n    i\n";
