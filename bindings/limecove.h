@@ -458,7 +458,8 @@ LIMECOVE_INLINE struct limecove_text_options limecove_default_text_options(void)
     return options;
 }
 
-/* The whole document: leaf blocks, inline text with emphasis in them, and tab stops at every 4 columns. */
+/* The whole document: leaf blocks, inline text with emphasis in them, and tab stops at every 4 columns. With LIMECOVE_DOCUMENT as the
+ * machine, block quotes and lists too. */
 LIMECOVE_INLINE struct limecove_options limecove_default_options(void) {
     struct limecove_options options;
     options.size = sizeof options;

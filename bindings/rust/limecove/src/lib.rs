@@ -10,8 +10,8 @@
 //! # Ok::<(), limecove::Error>(())
 //! ```
 //!
-//! What is read are leaf blocks (headings, code, HTML, thematic breaks, paragraphs) and inline text with emphasis. Links, lists and block
-//! quotes are not read yet.
+//! What is read are leaf blocks (headings, code, HTML, thematic breaks, paragraphs) and inline text with emphasis; by
+//! [`Machine::Document`] block quotes and lists too. Links and images are not read yet.
 //!
 //! [`tokenize`] returns events, [`spans`] and [`spans_by_start`] what is between them. [`Tree`] is for linters and the like: the spans as
 //! a tree, with levels of headings, info strings and decoded text. [`LineIndex`] gives the line and the columns of a byte.
@@ -176,6 +176,8 @@ impl TextOptions {
 ///
 /// let events = tokenize("ab", &Options::default().machine(Machine::Lines))?;
 /// assert_eq!(events[1].to_string(), "enter Data 1:1 (0+0)");
+/// let events = tokenize("- a", &Options::default().machine(Machine::Document))?;
+/// assert_eq!(events[1].to_string(), "enter ListItem 1:1 (0+0)");
 /// # Ok::<(), limecove::Error>(())
 /// ```
 #[derive(Clone, Copy, Debug, PartialEq, Eq, Hash)]
