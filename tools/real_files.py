@@ -2,11 +2,12 @@
 """Compares, for each Markdown file under a folder, the HTML that tools/commonmark.py makes of printed events with that of cmark, byte for
 byte. Prints how many files are the same, and of the others which constructs cmark finds in them that the machine does not read.
 
-usage: tools/real_files.py DIR PROGRAM [--machine NAME] [--cmark CMARK] [--differing]
+usage: tools/real_files.py DIR PROGRAM [--machine NAME] [--cmark CMARK] [--no-brackets] [--differing]
   DIR             a folder: its files that end in .md or .markdown, at any depth, links passed over
   PROGRAM         mdevents, or what prints events as it does
   --machine NAME  the machine that reads the files; without it, flow
   --cmark CMARK   cmark's program; without it, the one on the path. Debian's package cmark has it
+  --no-brackets   each `[` is read as `(`, so that no file has links, images and definitions
   --differing     also each file that differs: its name, the constructs, and the first line that differs
 
 Files for a comparison: documentation of Debian's packages, by `apt-get download` and `dpkg -x`, as in usr/share/doc.
@@ -23,8 +24,8 @@ sys.path.insert(0, os.path.dirname(os.path.realpath(__file__)))
 import commonmark
 
 sys.setrecursionlimit(1_000_000)
-# cmark's names of what `flow` does not read, as they begin its XML's tags
-UNREAD = ("list", "block_quote", "link", "image")
+# cmark's names of what a machine does not read, as they begin its XML's tags
+UNREAD = {"flow": ("list", "block_quote", "link", "image"), "document": ("link", "image")}
 
 
 def files_in(folder):
@@ -59,21 +60,22 @@ def main():
     parser = argparse.ArgumentParser(description=__doc__, formatter_class=argparse.RawDescriptionHelpFormatter, usage=argparse.SUPPRESS)
     parser.add_argument("folder", help=argparse.SUPPRESS)
     parser.add_argument("program", help=argparse.SUPPRESS)
-    parser.add_argument("--machine", default="flow", help=argparse.SUPPRESS)
+    parser.add_argument("--machine", default="flow", choices=UNREAD, help=argparse.SUPPRESS)
     parser.add_argument("--cmark", default="cmark", help=argparse.SUPPRESS)
+    parser.add_argument("--no-brackets", action="store_true", help=argparse.SUPPRESS)
     parser.add_argument("--differing", action="store_true", help=argparse.SUPPRESS)
     words = parser.parse_args()
     files, right, size, why = files_in(words.folder), 0, 0, collections.Counter()
     for path in files:
         with open(path, "rb") as it:
-            document = it.read()
+            document = it.read().replace(b"[", b"(") if words.no_brackets else it.read()
         size += len(document)
         made, wanted = ours(document, words.program, words.machine), by_cmark(words.cmark, document, "html")
         if made == wanted:
             right += 1
             continue
         tags = by_cmark(words.cmark, document, "xml")
-        causes = "+".join(it for it in UNREAD if f"<{it} " in tags or f"<{it}>" in tags) or "none of these"
+        causes = "+".join(it for it in UNREAD[words.machine] if f"<{it} " in tags or f"<{it}>" in tags) or "none of these"
         why[causes] += 1
         if words.differing:
             print(f"{os.path.relpath(path, words.folder)}: {causes}: {first_difference(made, wanted)}")
