@@ -10,7 +10,7 @@ are from the fastest of five runs.
 The last table has calls of the static library in place of runs: the instructions of a call of limecove_read, which also writes a
 record of each event, and of what mdevents does to make the events, without reading its input and without printing.
 
-A table has whole documents, the pages of docs joined, by `flow`: instructions with printing; choices and allocations by how often their
+A table has whole documents, the pages of docs joined, by `flow` and `document`: instructions with printing; choices and allocations by how often their
 functions are called; peak memory beside the memory of the final events. States are compiled into the loop, so calls are counted by how
 often it jumps to a state by its table: those that the compiler joined to the state before are not among them. If a program cmark is on
 the path, its instructions for the same bytes stand beside.
@@ -18,7 +18,7 @@ the path, its instructions for the same bytes stand beside.
 usage: measure.py MDEVENTS MDBENCH ARCHIVE [OTHER]. ARCHIVE is archive.c with the static library. OTHER reads a document from standard
 input and writes the events of the machine of lines, as mdevents does without options.
 
-       measure.py --documents MDEVENTS. Only the table of whole documents.
+       measure.py --documents MDEVENTS [COMMIT]. Only the table of whole documents, of the pages as they were at a commit.
 
 glibc copies long stretches by one instruction that callgrind counts once a byte, so that is switched off here.
 """
@@ -225,14 +225,21 @@ def called(program, options, document, counts):
     return choices, allocations
 
 
-def documents(program, folder):
+def pages(commit):
+    """The pages of docs joined, as they are or were at a commit."""
+    if not commit:
+        return b"".join(open(page, "rb").read() for page in sorted(glob.glob(f"{TOP}/docs/*.md")))
+    git = ["git", "-C", TOP]
+    listed = subprocess.run([*git, "ls-tree", "--name-only", commit, "docs/"], capture_output=True, text=True, check=True).stdout.split()
+    return b"".join(subprocess.run([*git, "show", f"{commit}:{page}"], capture_output=True, check=True).stdout for page in sorted(listed) if page.endswith(".md"))
+
+
+def documents(program, folder, commit=None):
     """Prints the table of whole documents."""
     counts = os.path.join(folder, "counts")
     document = os.path.join(folder, "document")
     with open(document, "wb") as text:
-        for page in sorted(glob.glob(f"{TOP}/docs/*.md")):
-            with open(page, "rb") as it:
-                text.write(it.read())
+        text.write(pages(commit))
     size = os.path.getsize(document)
     print(f"| The pages of docs, {size:,} bytes | Instructions/byte | Calls/byte | Choices/byte | Allocations/byte | Peak heap, KiB | Its events, KiB |")
     print("|---|---|---|---|---|---|---|")
@@ -293,7 +300,7 @@ def compare(program, other, folder):
 if __name__ == "__main__":
     with tempfile.TemporaryDirectory() as scratch:
         if sys.argv[1] == "--documents":
-            documents(sys.argv[2], scratch)
+            documents(sys.argv[2], scratch, *sys.argv[3:])
             sys.exit(0)
         main(sys.argv[1], scratch)
         print()
