@@ -11,7 +11,7 @@
 #include <sys/stat.h>
 #include <unistd.h>
 
-static const char *const machines[] = {"lines", "paragraphs", "peek", "deep", "back", "save", "text"};
+static const char *const machines[] = {"lines", "paragraphs", "peek", "deep", "back", "save", "text", "flow", "document"};
 
 /* The bytes of a file, which take none of the heap. */
 static const uint8_t *contents(const char *name, size_t *len) {
@@ -37,7 +37,7 @@ int main(int argc, char **argv) {
             options.deep = 1;
         if (strcmp(argv[i], "--copy") == 0)
             copies = 1;
-        for (uint32_t machine = 0; machine < 7; machine++)
+        for (uint32_t machine = 0; machine < sizeof machines / sizeof *machines; machine++)
             if (strcmp(argv[i], machines[machine]) == 0)
                 options.machine = machine;
     }

@@ -77,6 +77,8 @@ CALLED = [
     ("--machine text --deep", "tabs", TABS),
     ("--machine text --deep", "short", SHORT),
     ("--machine text --deep", "markup", MARKUP),
+    ("--machine flow --deep", "markup", MARKUP),
+    ("--machine document --deep", "quoted", QUOTED),
 ]
 
 # what grows: the program, its options, what is made in it, its line, which is repeated

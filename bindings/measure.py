@@ -34,6 +34,8 @@ WAYS = [
     ("text --deep", "plain"),
     ("text --deep", "short"),
     ("text --deep", "markup"),
+    ("flow --deep", "markup"),
+    ("document --deep", "quoted"),
 ]
 
 
