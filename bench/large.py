@@ -1,6 +1,7 @@
-"""Reads 10,000,000 bytes of each document of measure.py and looks whether anything is lost: mdevents has to end well, and the innermost
-spans that it prints have to adjoin, from the first byte to the last. The machines `peek`, `back` and `save` look over text for which
-they make no events, so of them only the end of the run counts. The machine `deep` is left out, as it makes a square of calls.
+"""Reads 10,000,000 bytes of each document of measure.py, and of some with blocks and containers. It looks whether anything is lost:
+mdevents has to end well, and the innermost spans that it prints have to adjoin, from the first byte to the last. The machines `peek`,
+`back` and `save` look over text for which they make no events, so of them only the end of the run counts. The machine `deep` is left
+out, as it makes a square of calls.
 
 Then it times documents that are long to read: runs of 1, 2, 3 and so on backticks, no two of one length, so that none closes another.
 It prints a row for each: seconds of processor time, and the greatest resident set.
@@ -13,10 +14,16 @@ import subprocess
 import sys
 import tempfile
 
-from measure import RUNS
+from measure import MARKUP, PLAIN, QUOTED, RUNS
 
 SIZE = 10_000_000
-WHOLE = ("lines", "paragraphs", "text")
+WHOLE = ("lines", "paragraphs", "text", "flow", "document")
+BLOCKS = [
+    ("--machine flow --deep", "markup", MARKUP, ()),
+    ("--machine document", "quoted", QUOTED, ()),
+    ("--machine document --deep", "quoted", QUOTED, ()),
+    ("--machine document --deep", "items in items", "- " + PLAIN + "\n  - " + PLAIN, ()),
+]
 
 
 def adjoin(lines):
@@ -58,7 +65,7 @@ def backticks(size):
 def main(program, folder):
     document = os.path.join(folder, "document")
     print("| Options | Document | Bytes | Nothing is lost | Seconds | Resident, MB |\n|---|---|---|---|---|---|")
-    for options, name, line, _ in RUNS:
+    for options, name, line, _ in RUNS + BLOCKS:
         if options == "--machine deep":
             continue
         with open(document, "w") as text:
