@@ -130,10 +130,12 @@ class Inline:
                 continue
             if span.name not in ("CodeTextSequence", "CodeTextData", "LineEnding"):
                 raise NoRule(f"no rule for {span.name} in a code span")
-            if span.name != "CodeTextSequence":
+            if span.name == "CodeTextData":
                 text = bytes_of(self.document, span)
-                code += (text.lstrip(BLANKS) if is_line_start else text).replace("\n", " ")
-                is_line_start = span.name == "LineEnding"
+                code += text.lstrip(BLANKS) if is_line_start else text
+            elif span.name == "LineEnding":
+                code += " "
+            is_line_start = span.name == "LineEnding"
         return code[1:-1] if code[:1] == code[-1:] == " " and code.strip(" ") else code
 
 
