@@ -2,7 +2,7 @@
 //! italic, code is green, addresses of autolinks are blue, raw HTML and references are yellow, and the marks of all are grey. Without
 //! colours it prints the document's bytes, each once and in order.
 
-use limecove::{read_document, Error, Kind, Name};
+use limecove::{tokenize, Error, Kind, Machine, Name, Options};
 use std::io::Write;
 use std::{env, fs, io};
 
@@ -25,6 +25,7 @@ fn style(name: Name) -> Option<usize> {
         Name::AutolinkProtocol | Name::AutolinkEmail => 3,
         Name::HtmlFlowData | Name::HtmlTextData | Name::CharacterReferenceValue => 4,
         Name::AutolinkMarker
+        | Name::BlockQuoteMarker
         | Name::CharacterEscapeMarker
         | Name::CharacterReferenceMarker
         | Name::CharacterReferenceMarkerHexadecimal
@@ -36,6 +37,8 @@ fn style(name: Name) -> Option<usize> {
         | Name::HardBreakEscape
         | Name::HeadingAtxSequence
         | Name::HeadingSetextUnderlineSequence
+        | Name::ListItemMarker
+        | Name::ListItemValue
         | Name::StrongSequence
         | Name::ThematicBreakSequence => 5,
         _ => return None,
@@ -47,7 +50,7 @@ fn highlighted(document: &[u8]) -> Result<Vec<u8>, Error> {
     let (mut shown, mut at) = (Vec::new(), 0);
     // how many spans of each style are open: emphasis may be in emphasis
     let mut open = [0; STYLES.len()];
-    for event in read_document(document)? {
+    for event in tokenize(document, &Options::default().machine(Machine::Document))? {
         if let Some(style) = style(event.name()) {
             let index = event.point().index;
             shown.extend_from_slice(&document[at..index]);
@@ -105,6 +108,10 @@ mod tests {
             "{.~~~} a\n{Cb}\n{.~~~}\n{.***}"
         );
         assert_eq!(marked("<b>\n\nc<d>"), "{H<b>}\n\nc{H<d>}");
+        assert_eq!(
+            marked("> - a\n\n1) `b`"),
+            "{.>} {.-} a\n\n{.1}{.)} {.`}{Cb}{.`}"
+        );
     }
 
     #[test]

@@ -3,7 +3,7 @@
 //!
 //! What is in code, in autolinks and in raw HTML is not looked at: each rule is one of spans.
 
-use limecove::{Error, LineIndex, Name, Options, Tree};
+use limecove::{Error, LineIndex, Machine, Name, Options, Tree};
 use std::collections::HashSet;
 use std::{env, fs, process};
 
@@ -20,7 +20,7 @@ fn is_quoted(name: Name) -> bool {
 
 /// What is wrong in a document, in the order of its bytes: line, column in characters, and what.
 fn findings(document: &str) -> Result<Vec<String>, Error> {
-    let tree = Tree::read(document, &Options::default())?;
+    let tree = Tree::read(document, &Options::default().machine(Machine::Document))?;
     let lines = LineIndex::new(document)?;
     let (mut all, mut quoted, mut last) = (Vec::new(), HashSet::new(), 6);
     for node in tree.nodes() {
@@ -88,6 +88,19 @@ mod tests {
             "4:121: a line of more than 120 characters",
         ];
         assert_eq!(findings(&document).unwrap(), want);
+    }
+
+    #[test]
+    fn quotes_and_items_are_looked_into() {
+        let document = "> a \n> \n-\t# b\n\n\t### c\n\n      d http://e.f\n";
+        let want = [
+            "1:4: blanks at the end of a line",
+            "2:2: blanks at the end of a line",
+            "5:2: a heading that skips a level",
+            "7:9: an address without < and >",
+        ];
+        assert_eq!(findings(document).unwrap(), want);
+        assert_eq!(findings("> ~~~ x\n> c \n> ~~~").unwrap(), [""; 0]);
     }
 
     #[test]
