@@ -2,14 +2,14 @@
 """Compares, for random documents, the HTML that tools/commonmark.py makes of printed events with that of cmark, byte for byte. The
 documents are made of pieces that are hard beside one another: markers, indentation, tabs, blank lines, lazy lines, underlines, fences, HTML.
 
-Each difference is explained by name. A document that differs is made smaller, by lines and then by bytes, while it differs. The smallest
+Each difference is explained by name. A document that differs is made smaller, by lines and then by characters, while it differs. The smallest
 one tells the cause: one of CAUSES whose shape it has, and that is the only one, as nothing differs if it is taken out. The cause is then
 taken out of the whole document, and if that still differs, the next one is sought. So a document may count in more than one row.
 
 It prints a row for each cause: how many documents, the smallest one, who is right, and by which words. The status is 1 if a difference has
 no name; its document is shown.
 
-usage: tools/random_documents.py PROGRAM COUNT [--seed S] [--machine NAME] [--cmark CMARK] [--show K] [--pieces N] [--jobs J]
+usage: tools/random_documents.py PROGRAM COUNT [--seed S] [--machine NAME] [--cmark CMARK] [--show K] [--pieces N] [--wide] [--jobs J]
   PROGRAM         mdevents, or what prints events as it does
   COUNT           how many documents
   --seed S        the seed of the first one; without it, 1
@@ -17,6 +17,7 @@ usage: tools/random_documents.py PROGRAM COUNT [--seed S] [--machine NAME] [--cm
   --cmark CMARK   cmark's program; without it, the one on the path. Debian's package cmark has it
   --show K        the first K that differ, each with its causes; without it, none
   --pieces N      at most N pieces in a document; without it, 24
+  --wide          more kinds of pieces: each kind of HTML, wide and long markers, CR LF, inline text
   --jobs J        so many documents at once; without it, 1
 """
 
@@ -33,9 +34,16 @@ import real_files
 
 CONTAINERS = ["> ", ">", "- ", "* ", "+ ", "1. ", "2) ", "10. ", "-\n", "  ", "   ", "\t", "\n> ", "\n- ", "\n  ", "\n\t", "\n\n", "\n\n  ", "\n\n    "]
 LINES = ["a", "b c", "\n", "\n", "\n===", "\n---", "\n    ", "# ", "```\n", "~~~", "<div>", "<!--", "-->", "***", "`", "*x*", "\\", "&amp;"]
+# what --wide adds
+CONTAINERS_TOO = [">  ", ">\t", "-   ", "-     ", "-\t", "+\n", "0. ", "1.\t", "3.\n", "999999999. ", "1234567890. ", "      ", "\n\n   "]
+LINES_TOO = ["é", "\n", "\r\n", "= =", "#\t", "## a #", "* * *", "- - -", "___\n", "```` \n", "~~~ a b", "``` a", "``", "` `", "_x_", "**", "__"]
+LINES_TOO += ["*a **b*", "\\*", "\\\n", "a  \n", "&#65;", "&nope;", "<a>", "</b>\n", "<b c='", "d'>", "<e@f.g>", "<pre>", "</pre>", "<script>"]
+LINES_TOO += ["</script>", "<!-- a -->", "<?", "?>", "<!A ", "<![CDATA[", "]]>"]
 
 MARKER = rb"(?:[-+*]|\d{1,9}[.)])"
-OPEN = rb"(?:```|~~~|<!--)"
+# what begins HTML that a blank line does not end
+HTML = rb"<(?:!--|\?|!(?=[A-Za-z])|!\[CDATA\[|(?i:pre|script|style|textarea)(?=[\s>]))"
+OPEN = rb"(?:```|~~~|" + HTML + rb")"
 BREAK = rb"(?m)(?:(?:\*[ \t]*){3,}|(?:-[ \t]*){3,}|(?:_[ \t]*){3,})(?=\n[ \t>]*$)"
 # a comment by 0.31 that is none by 0.30
 COMMENT = rb"<!--(?=-?>|(?:(?!-->)[^\0])*?--(?:[^>]|->))"
@@ -68,7 +76,7 @@ CAUSES = [
           BREAK, put(rb"#", BREAK)),
     Cause("HTML that ends with its item has a blank line at its end", "open",
           "4.6: HTML goes on to the end of its container; 5.3: blank lines between items make a list loose; no words say which of the two it is",
-          rb"<!--\n[ \t>]*\n", put(rb"<! ", rb"<!--")),
+          HTML + rb"[^\n]*\n[ \t>]*\n", put(rb"< ", HTML)),
     Cause("a lazy line begins with white space", "here",
           "5.1, 5.2: a lazy line is as if its markers were there; 4.8: white space before a line of a paragraph is left out",
           rb"\n[ \t>]*[ \t]\S", put(rb"\1", rb"(?<=\n)((?: {0,3}>)*)[ \t]+(?=\S)")),
@@ -78,9 +86,15 @@ CAUSES = [
 ]
 
 
-def one(generator, pieces):
+def with_line_feeds(text):
+    """A text whose line endings are each one LF."""
+    return text.replace("\r\n", "\n").replace("\r", "\n")
+
+
+def one(generator, pieces, wide):
     """A random document."""
-    made = [generator.choice(generator.choice((CONTAINERS, CONTAINERS, LINES))) for _ in range(generator.randint(1, pieces))]
+    containers, lines = (CONTAINERS + CONTAINERS_TOO, LINES + LINES_TOO) if wide else (CONTAINERS, LINES)
+    made = [generator.choice(generator.choice((containers, containers, lines))) for _ in range(generator.randint(1, pieces))]
     return "".join(made).encode()
 
 
@@ -103,15 +117,17 @@ class Beside:
 
     def is_passed(self, document):
         """Whether cmark finds in it what the machine does not read."""
+        if b"[" not in document:  # cmark's XML says no more of an autolink than that it is a link
+            return False
         tags = real_files.by_cmark(self.cmark, document, "xml")
         return "<link " in tags or "<image " in tags
 
     def smallest(self, document, others):
-        """A document of which no line and no byte can go, so that it still differs, and not by the other causes alone."""
+        """A document of which no line and no character can go, so that it still differs, and not by the other causes alone."""
         before = None
         while before != document:
             before = document
-            for split in (lambda it: it.splitlines(True), lambda it: [it[at : at + 1] for at in range(len(it))]):
+            for split in (lambda it: it.splitlines(True), lambda it: [one.encode() for one in it.decode()]):
                 document = self.shorter(split(document), others)
         return document
 
@@ -138,6 +154,10 @@ class Beside:
     def explained(self, document):
         """The causes by which a document differs, each with a smallest document. If one has no name, it is the last one, and None."""
         causes, others = [], []
+        plain = with_line_feeds(document.decode()).encode()
+        if [with_line_feeds(it) for it in self.both(document)] != [with_line_feeds(it) for it in self.both(plain)]:
+            return [(None, document)]
+        document = plain
         while self.differ(document):
             smallest = self.smallest(document, others)
             cause = self.cause(smallest)
@@ -179,10 +199,11 @@ def main():
     parser.add_argument("--cmark", default="cmark", help=argparse.SUPPRESS)
     parser.add_argument("--show", type=int, default=0, help=argparse.SUPPRESS)
     parser.add_argument("--pieces", type=int, default=24, help=argparse.SUPPRESS)
+    parser.add_argument("--wide", action="store_true", help=argparse.SUPPRESS)
     parser.add_argument("--jobs", type=int, default=1, help=argparse.SUPPRESS)
     words = parser.parse_args()
     generator = random.Random(words.seed)
-    documents = [one(generator, words.pieces) for _ in range(words.count)]
+    documents = [one(generator, words.pieces, words.wide) for _ in range(words.count)]
     beside = Beside(words.program, words.machine, words.cmark)
     same = passed = differ = 0
     times, least = collections.Counter(), {}
