@@ -1,27 +1,24 @@
 -- Where no bracket is among the events, links leave emphasis alone.
-use Rattle.std.proofs.Common.{◌≡◌, ◌==◌, ◌+◌, ◌<◌, ◌≤◌, ◌∙◌, ℕ, zero, suc, List, [], ◌∷◌, ◌++◌, Bool, true, false, cond, Option, Some, None, ap, append-nil, append_assoc, arith, drop, inl, inr, length, length-append, map, refl, subst, sym, take}
+use Rattle.std.proofs.Common.{◌≡◌, ◌==◌, ◌+◌, ◌≤◌, ◌∙◌, ℕ, zero, suc, List, [], ◌∷◌, ◌++◌, Bool, true, false, cond, Option, Some, None, ap, append-nil, append_assoc, arith, drop, inl, inr, length, length-append, map, refl, subst, sym, take}
 use Rattle.std.proofs.Math.Seq.{drop-append-add, take-append_seam}
 use Rattle.std.proofs.lemmas.Bool.{cases_Bool}
 use Rattle.std.proofs.lemmas.Bool.Decides.{nat_tests}
 use Rattle.std.specs.List.{AllByRecursion}
-use Rattle.std.specs.Prelude.{not, slice_get, ◌&&◌}
-use Rattle.markdown_base.proofs.Common.{and-false-never}
+use Rattle.std.specs.Prelude.{slice_get, ◌&&◌}
 use Rattle.markdown_base.specs.declared.event.Event.{Event}
 use Rattle.markdown_base.specs.declared.event.Kind.{Kind}
 use Rattle.markdown_base.specs.declared.event.Kind.TheVariants.{Enter, Exit}
 use Rattle.markdown_base.specs.declared.event.Name.{Name}
-use Rattle.markdown_base.specs.declared.event.Name.TheVariants.{AttentionSequence, LabelEnd, LabelMarker}
-use Rattle.markdown_base.specs.Events.{IsBalanced, is_enter, same_name}
 use Rattle.markdown_edits.proofs.Balanced.{names_after_balanced}
 use Rattle.markdown_edits.specs.OpenNames.{names_after, names_after_all}
 use Rattle.mdconstructs_attention.proofs.PairsKeep.{pairs-keep-indices}
 use Rattle.mdconstructs_attention.proofs.RunTexts.{runs-and-texts, sequence-is}
-use Rattle.mdconstructs_attention.specs.Emphasis.{Run, emphasised, events_of_runs, paired, run_events}
+use Rattle.mdconstructs_attention.specs.Emphasis.{Run, events_of_runs, paired}
 use Rattle.mdconstructs_attention.specs.RunEdits.{HasRunsAt, index_of}
-use Rattle.mdconstructs_attention.specs.Runs.{depth_after, index_of_event, is_sequence, run_at, runs_from, runs_in, text_before as text_before_run, text_behind as text_behind_runs, with_emphasis}
+use Rattle.mdconstructs_attention.specs.Runs.{depth_after, index_of_event, is_sequence, run_at, runs_from, runs_in, text_before as text_before_run, text_behind as text_behind_runs}
 use Rattle.mdconstructs_links.proofs.Spans.{Closes, span-closes, span-joins}
 use Rattle.mdconstructs_links.specs.Laws.{IsEmphasisAlone, IsNoBracket}
-use Rattle.mdconstructs_links.specs.Linked.{Part, run, events, SoFar, Waiting, runs_of_parts, text_before, text_behind, emphasised_parts, all_parts, is_run, part_of, added, taken, span_at, spans_in, outermost_spans, linked_from, linked_parts, with_links}
+use Rattle.mdconstructs_links.specs.Linked.{Part, run, events, SoFar, runs_of_parts, text_before, text_behind, emphasised_parts, all_parts, is_run, part_of, added, taken, span_at, spans_in, outermost_spans, linked_from, linked_parts}
 
 -- ---- the parts of spans that are no brackets
 
@@ -79,7 +76,7 @@ module _ (f : ℕ → List Event) (rest : List Event) where
   agree since (events es ∷ ps) h = agree (since ++ es) ps h
 
 -- runs have the indices behind where they are looked for
-runs-behind : (bytes : List ℕ) (b i depth : ℕ) (before : Option ℕ) (es : List Event) → b ≤ i → AllByRecursion (λ s. b ≤ s.index) (runs_from bytes i depth before es)
+pub runs-behind : (bytes : List ℕ) (b i depth : ℕ) (before : Option ℕ) (es : List Event) → b ≤ i → AllByRecursion (λ s. b ≤ s.index) (runs_from bytes i depth before es)
 runs-behind bytes b i depth before [] h = tt
 runs-behind bytes b i depth before (e ∷ []) h = tt
 runs-behind bytes b i depth before (e ∷ g ∷ es) h =

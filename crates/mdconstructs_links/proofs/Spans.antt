@@ -1,19 +1,16 @@
 -- The outermost spans of a list. Those of a balanced list are balanced, and those of a list without links have none.
-use Rattle.std.proofs.Common.{◌≡◌, ◌==◌, ◌-◌, ◌∙◌, ℕ, zero, suc, List, [], ◌∷◌, ◌++◌, Bool, true, false, cond, Option, Some, None, length, ap, arith, inl, inr, refl, subst, sym}
+use Rattle.std.proofs.Common.{◌≡◌, ◌==◌, ◌∙◌, ℕ, zero, suc, List, [], ◌∷◌, ◌++◌, Bool, true, false, cond, Some, length, ap, inl, inr, refl, subst, sym}
 use Rattle.std.proofs.Math.Seq.{drop-append_seam, take-append_seam}
 use Rattle.std.proofs.lemmas.Bool.{cases_Bool}
 use Rattle.std.specs.List.{AllByRecursion}
 use Rattle.markdown_base.specs.declared.event.Event.{Event}
-use Rattle.markdown_base.specs.declared.event.Kind.{Kind}
-use Rattle.markdown_base.specs.declared.event.Kind.TheVariants.{Enter, Exit}
 use Rattle.markdown_base.specs.declared.event.Name.{Name}
-use Rattle.markdown_base.specs.Events.{IsBalanced, same_name}
+use Rattle.markdown_base.specs.Events.{IsBalanced}
 use Rattle.markdown_edits.proofs.Balanced.{balanced_from_open, names-none, names_after_balanced}
 use Rattle.markdown_edits.specs.OpenNames.{names_after, names_after_all}
 use Rattle.markdown_tokenizer.proofs.Readings.Plain.{no-links-drop, no-links-take}
 use Rattle.markdown_tokenizer.specs.Plain.{HaveNoLinks}
 use Rattle.mdconstructs_attention.specs.Runs.{depth_after}
-use Rattle.std.proofs.lemmas.Option.{same_Some}
 use Rattle.mdconstructs_links.specs.Linked.{span_at, spans_in, outermost_spans}
 use Rattle.mdconstructs_attention.proofs.RunTexts.{none-open, deeper, goes-on}
 

@@ -1,3 +1,6 @@
 pub mod Kept
+pub mod Laid
 pub mod Laws
+pub mod LinkEdits
 pub mod Linked
+pub mod Pieces

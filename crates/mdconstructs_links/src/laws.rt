@@ -1,6 +1,7 @@
 //! Laws about links and images.
 
 ghost use Rattle.mdconstructs_links.specs.Laws.{IsEmphasisAlone, LinksKeepLists};
+ghost use Rattle.mdconstructs_links.specs.LinkEdits.{LinksCanBeMade};
 
 /// Of a balanced list of events without brackets links make what emphasis makes, and nothing else.
 pub fn without_brackets_emphasis_alone()
@@ -10,4 +11,10 @@ pub fn without_brackets_emphasis_alone()
 /// Where links, images and emphasis are put in place, a balanced list stays balanced, and a list without links has none.
 pub fn links_keep_lists()
     ensures { LinksKeepLists }
+{}
+
+/// In any balanced list without links the edits of its brackets and delimiter runs can be made. They leave the list with links, images and
+/// emphasis in their place, balanced and without links.
+pub fn links_can_be_made()
+    ensures { LinksCanBeMade }
 {}

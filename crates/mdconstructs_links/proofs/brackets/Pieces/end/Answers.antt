@@ -1,0 +1,25 @@
+use Rattle.std.proofs.Common.{◌≡◌, ◌∷◌, [], ◌++◌, ◌∙◌, ap, append-nil, cond, length, refl, rules, sym}
+use Rattle.std.proofs.lemmas.Result.{on_ok_weaker}
+use Rattle.std.specs.Prelude.{nat_lt}
+use Rattle.mdconstructs_links.proofs.Read.{ended-none, ended-some, nothing-there}
+use Rattle.mdconstructs_links.specs.declared.pieces.Fate.TheVariants.{Same}
+use Rattle.mdconstructs_links.specs.Laid.{piece_at}
+use Rattle.mdconstructs_links.proofs.brackets.Pieces.end.Goals as goal
+
+pub returns-in_ok-push-in-None : goal.returns-in_ok-push-in-None
+returns-in_ok-push-in-None g c =
+    let old = c.args.self.now in
+    let none : length old.brackets.items ≡ 0 = search rules in
+    let tails = cond (nat_lt c.args.end c.args.tail) (piece_at c.args.end c.args.tail Same ∷ []) [] in
+    on_ok_weaker c.push_some.result
+    (λ ps. ended-none old c.push_some.new.self c.args.start c.args.end c.args.tail c.requires.order c.requires.tail (nothing-there old.brackets.items none)
+    (c.push_some.ensures.brackets ∙ c.push.ensures.brackets ∙ sym (c.in-None.ensures.items ∙ append-nil c.pop.new.self.items))
+    (c.push_some.ensures.runs ∙ c.push.ensures.runs) (c.push_some.ensures.owners ∙ c.push.ensures.owners)
+    (ps ∙ ap (λ qs. qs ++ tails) c.in_ok-push-in-None.ensures.pieces))
+    c.push_some.ensures.pieces
+
+pub returns-in-Some : goal.returns-in-Some
+returns-in-Some g c =
+    on_ok_weaker c.make.result
+    (λ made. ended-some c.args.self.now c.make.new.self c.args.start c.args.end c.args.tail c.requires.order c.requires.tail (record c.args.self.now { brackets = c.pop.new.self }) c.in-Some.bracket c.in-Some.ensures.items refl refl refl made)
+    c.make.ensures

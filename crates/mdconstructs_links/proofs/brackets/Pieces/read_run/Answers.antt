@@ -1,0 +1,22 @@
+use Rattle.std.proofs.Common.{◌≡◌, ◌∙◌, append-nil, length, rules, subst}
+use Rattle.std.proofs.lemmas.Result.{on_ok_weaker}
+use Rattle.mdconstructs_links.proofs.Read.{nothing-there, read-last, read-run}
+use Rattle.mdconstructs_links.specs.Laid.{IsRead}
+use Rattle.mdconstructs_links.proofs.brackets.Pieces.read_run.Goals as goal
+
+pub returns-in-None : goal.returns-in-None
+returns-in-None c =
+    let old = c.args.self.now in
+    let p = c.push in
+    let left = c.args.left.now.items in
+    let none : length left ≡ 0 = search rules in
+    on_ok_weaker p.result
+    (λ ps es order inside a b k. subst (λ ds. IsRead es old p.new.self left ds c.args.start c.args.end) (c.in-None.ensures.items ∙ append-nil c.pop.new.self.items)
+    (read-last es old p.new.self c.args.start c.args.end order inside p.ensures.runs p.ensures.owners left a b (nothing-there left none) ps p.ensures.brackets))
+    p.ensures.pieces
+
+pub returns-in-Some : goal.returns-in-Some
+returns-in-Some c =
+    on_ok_weaker c.wait.result
+    (λ w es order inside a b k. read-run es c.args.self.now c.wait.new.self c.args.start c.args.end order inside c.args.left.now.items c.pop.new.self.items c.in-Some.run' c.in-Some.ensures.items a b k w.0 w.3 w.1 w.2)
+    c.wait.ensures

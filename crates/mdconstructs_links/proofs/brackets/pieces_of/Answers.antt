@@ -1,0 +1,48 @@
+use Rattle.std.proofs.Common.{◌≤◌, ◌∙◌, ap, arith, length, rules, subst, sym}
+use Rattle.std.specs.List.{AllByRecursion}
+use Rattle.mdconstructs_attention.specs.Runs.{runs_in}
+use Rattle.mdconstructs_links.proofs.Reached.{start_of}
+use Rattle.mdconstructs_links.proofs.Read.{first-reached, reached-fit, reached-many, reached-more, reached-owners, reached-written}
+use Rattle.mdconstructs_links.specs.Laid.{written_of}
+use Rattle.mdconstructs_links.specs.Linked.{outermost_spans}
+use Rattle.mdconstructs_links.specs.Pieces.{Fits}
+use Rattle.mdconstructs_links.proofs.brackets.pieces_of.Goals as goal
+
+pub loop-next-init : goal.loop-next-init
+loop-next-init g c =
+    let n = c.new-all.ensures in (
+      omega arith,
+      first-reached c.args.bytes.now c.args.events.now c.new-all.result c.turned-left.result.items c.in_ok-runs_of.field-0.items c.requires.room n.brackets n.runs n.owners n.pieces c.in_ok-runs_of.ensures c.turned-left.ensures,
+    )
+
+pub step-requires-clause-many : goal.step-requires-clause-many
+step-requires-clause-many g c =
+    let es = c.args.events.now in
+    let l = c.loop-next in
+    reached-owners es (start_of (runs_in c.args.bytes.now es)) (outermost_spans es) l.next l.all l.left.items l.invariant.1
+
+pub loop-next-preserved : goal.loop-next-preserved
+loop-next-preserved g c =
+    let es = c.args.events.now in
+    let l = c.loop-next in (
+      c.in_ok-next.ensures.order.1,
+      reached-more es (start_of (runs_in c.args.bytes.now es)) (outermost_spans es) l.next c.in_ok-next.next l.all c.step.new.self l.left.items c.step.new.left.items l.invariant.1 c.in_ok-next.ensures.stands,
+    )
+
+pub place_runs-requires : goal.place_runs-requires
+place_runs-requires g c =
+    let l = c.loop-next in
+    record { many = reached-many c.args.bytes.now c.args.events.now l.all l.left.items l.next l.invariant.1 c.pair_behind.new.runs.items c.in_ok-pair_behind.ensures }
+
+pub returns-clause-links : goal.returns-clause-links
+returns-clause-links g c =
+    let l = c.loop-next in
+    let end : length c.args.events.now ≤ l.next = search rules in
+    ap (written_of c.args.events.now) c.place_runs.ensures.pieces
+    ∙ reached-written c.args.bytes.now c.args.events.now l.all l.left.items l.next l.invariant.1 c.pair_behind.new.runs.items c.in_ok-pair_behind.ensures end
+
+pub returns-clause-fit : goal.returns-clause-fit
+returns-clause-fit g c =
+    let l = c.loop-next in
+    subst (AllByRecursion (Fits (length c.args.events.now))) (sym c.place_runs.ensures.pieces)
+    (reached-fit c.args.bytes.now c.args.events.now l.all l.left.items l.next l.invariant.1 c.pair_behind.new.runs.items c.in_ok-pair_behind.ensures)

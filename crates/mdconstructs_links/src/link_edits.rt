@@ -1,0 +1,102 @@
+//! The edits that put links, images and emphasis in their place.
+
+ghost use Rattle.std.specs.Prelude.{◌≡◌, ◌+◌, ◌<◌, ◌≤◌, [], length, OnOk};
+ghost use Rattle.markdown_base.specs.Events.{IsBalanced};
+ghost use Rattle.mdconstructs_attention.specs.Places.{ArePlacesInside};
+ghost use Rattle.mdconstructs_links.specs.LinkEdits.{has_brackets, is_of_bracket, link_edits};
+
+use crate::brackets::linked;
+use markdown_base::event::{Event, Name};
+use markdown_edits::edit_map::EditMap;
+use mdconstructs_attention::emphasis::emphasize;
+use mdconstructs_turns::Turns;
+use std::alloc::{AllocError, Global};
+use std::marker::Brand;
+use std::sync::ledger::{Blank, Ledger};
+
+/// Whether a name is of a bracket, of an end or of a `]` alone.
+fn is_of_bracket(name: Name) -> bool
+    ensures { result ≡ is_of_bracket name }
+{
+    name == Name::LabelLink
+        || name == Name::LabelImage
+        || name == Name::LabelEnd
+        || name == Name::LabelMarker
+}
+
+/// Whether a bracket, an end or a `]` alone is among events.
+fn has_brackets<L: Ledger>(events: &[Event], turns: &mut Turns<L>) -> bool
+    ensures brackets { result ≡ has_brackets events.now }
+    ensures turns { turns.new ≤ turns.old + length events.now }
+{
+    let mut next = 0;
+    while next < events.len() {
+        turns.add_one();
+        if is_of_bracket(events[next].name) {
+            return true;
+        }
+        next += 1;
+    }
+    false
+}
+
+/// Puts links, images and emphasis in place of the brackets and the delimiter runs of a list of events.
+///
+/// If no bracket is among the events, one edit for each run does. Else one edit puts all events anew. Returns `AllocError` if it runs
+/// out of memory; then some edits were added.
+pub fn put_links_counted<L: Ledger>(
+    alloc: Global,
+    bytes: &[u8],
+    events: &[Event],
+    edits: &mut EditMap,
+    turns: &mut Turns<L>,
+) -> Result<(), AllocError>
+    requires none { edits.old ≡ [] }
+    requires balanced { IsBalanced events.now }
+    requires room { ArePlacesInside bytes.now events.now }
+    ensures edits { OnOk result (edits.new ≡ link_edits bytes.now events.now) }
+{
+    if !has_brackets(events, turns) {
+        return emphasize(alloc, bytes, events, edits);
+    }
+    let all = linked(alloc, bytes, events, turns)?;
+    edits.add(0, events.len(), all)
+}
+
+/// Puts links, images and emphasis in place, and counts from nothing.
+fn put_links_uncounted<L: Ledger>(
+    alloc: Global,
+    bytes: &[u8],
+    events: &[Event],
+    edits: &mut EditMap,
+    blank: Blank,
+) -> Result<(), AllocError>
+    requires name { blank.name ≡ L.name }
+    requires parts { blank.parts ≡ L.parts }
+    requires some { 0 < blank.parts }
+    requires none { edits.old ≡ [] }
+    requires balanced { IsBalanced events.now }
+    requires room { ArePlacesInside bytes.now events.now }
+    ensures { OnOk result (edits.new ≡ link_edits bytes.now events.now) }
+{
+    let mut turns = Turns::<L>::new(blank);
+    put_links_counted(alloc, bytes, events, edits, &mut turns)
+}
+
+/// Puts links, images and emphasis in place, as `put_links_counted` does.
+///
+/// The edits can be made: they are disjoint, and leave the list balanced and without links, if it was so. Returns `AllocError` if it
+/// runs out of memory; then some edits were added.
+pub fn put_links(
+    alloc: Global,
+    bytes: &[u8],
+    events: &[Event],
+    edits: &mut EditMap,
+) -> Result<(), AllocError>
+    requires none { edits.old ≡ [] }
+    requires balanced { IsBalanced events.now }
+    requires room { ArePlacesInside bytes.now events.now }
+    ensures { OnOk result (edits.new ≡ link_edits bytes.now events.now) }
+{
+    put_links_uncounted::<Brand>(alloc, bytes, events, edits, Blank::new(1))
+}
