@@ -1,0 +1,6 @@
+pub mod Blocks
+pub mod Definitions
+pub mod Examples
+pub mod Rows
+pub mod Sections
+pub mod Skeleton

@@ -1,0 +1,5 @@
+//! Link reference definitions in the skeleton of a document: the paragraphs that begin with definitions, and the events of these.
+#![tactic(auto)]
+
+pub mod laws;
+pub mod texts;
