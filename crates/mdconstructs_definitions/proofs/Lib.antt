@@ -1,2 +1,5 @@
+pub mod Covered
 pub mod Examples
+pub mod Linked
 pub mod TextLemmas
+pub mod Without

@@ -1,5 +1,5 @@
 -- Lemmas on the texts of paragraphs.
-use Rattle.std.proofs.Common.{◌≡◌, ◌==◌, ◌≤◌, ◌∙◌, ℕ, zero, suc, List, [], ◌∷◌, Bool, true, false, ap, arith, cond, drop, filter, length, refl, sym}
+use Rattle.std.proofs.Common.{◌≡◌, ◌==◌, ◌≤◌, ◌∙◌, ℕ, zero, suc, List, [], ◌∷◌, Bool, true, false, ap, arith, cond, drop, filter, length, refl}
 use Rattle.std.proofs.lemmas.Bool.Decides.{nat_tests}
 use Rattle.mdconstructs_containers.specs.Rows.{has_none}
 use Rattle.mdconstructs_labels.specs.Definitions.{rest}

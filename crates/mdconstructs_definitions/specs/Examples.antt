@@ -1,5 +1,8 @@
 -- What the definition makes of some documents.
-use Rattle.std.specs.Prelude.{ℕ, List, [], ◌∷◌, codes, map}
+use Rattle.std.specs.Prelude.{ℕ, suc, List, [], ◌∷◌, codes, map, Some, None}
+use Rattle.markdown_base.specs.declared.event.Content.TheVariants as content
+use Rattle.markdown_base.specs.declared.event.Event.{Event}
+use Rattle.markdown_base.specs.declared.event.Link.{Link}
 use Rattle.markdown_base.specs.declared.event.Name.{Name}
 use Rattle.markdown_base.specs.declared.event.Name.TheVariants.{BlankLineEnding, BlockQuote, BlockQuoteMarker, BlockQuotePrefix, Data, Definition, DefinitionDestination, DefinitionDestinationLiteral, DefinitionDestinationLiteralMarker, DefinitionDestinationRaw, DefinitionDestinationString, DefinitionLabel, DefinitionLabelMarker, DefinitionLabelString, DefinitionMarker, DefinitionTitle, DefinitionTitleMarker, DefinitionTitleString, LineEnding, ListItem, ListItemMarker, ListItemPrefix, ListItemValue, ListOrdered, ListUnordered, SpaceOrTab}
 use Rattle.markdown_base.specs.Presets.{default_constructs}
@@ -642,3 +645,24 @@ definitions_in_containers =
 -- "Matching of labels is case-insensitive", and "consecutive internal spaces, tabs, and line endings" are one space
 abbrev pub labels_of_document : List ℕ → List (List ℕ)
 labels_of_document document = labels default_constructs (virtual 4 document)
+
+-- The events of a skeleton that begin a chunk, by their indices, with their links
+abbrev pub links_from : (index : ℕ) → List Event → List (ℕ × Link)
+links_from i [] = []
+links_from i (e ∷ es) = elim e.link [ None ↦ links_from (suc i) es | Some l ↦ (i, l) ∷ links_from (suc i) es ]
+
+abbrev pub links_of_document : List ℕ → List (ℕ × Link)
+links_of_document document = links_from 0 (skeleton default_constructs document (virtual 4 document))
+
+-- A label and a title of two lines each are strings of two chunks; the text behind them is one
+abbrev pub with_strings : List ℕ
+with_strings = codes "> [a\n> b]: <> 'x\n> y'\n> c\nd\n"
+
+abbrev pub links_of_strings : List (ℕ × Link)
+links_of_strings =
+    (12, record { previous = None; next = Some 20; content = content.String }) ∷
+    (20, record { previous = Some 12; next = None; content = content.String }) ∷
+    (44, record { previous = None; next = Some 52; content = content.String }) ∷
+    (52, record { previous = Some 44; next = None; content = content.String }) ∷
+    (67, record { previous = None; next = None; content = content.Content }) ∷
+    []

@@ -1,7 +1,8 @@
 //! Laws about documents with link reference definitions. Each is a function that does nothing; its contract is the law.
 
 ghost use Rattle.std.specs.Prelude.{◌≡◌, map};
-ghost use Rattle.mdconstructs_definitions.specs.Examples.{read_of, parts_of_definitions, where_definitions_stand, text_behind_definitions, definitions_in_containers};
+ghost use Rattle.mdconstructs_definitions.specs.Examples.{read_of, links_of_document, links_of_strings, with_strings, parts_of_definitions, where_definitions_stand, text_behind_definitions, definitions_in_containers};
+ghost use Rattle.mdconstructs_definitions.specs.Laws.{BlocksCanBeWithout, BlocksNeedBrackets, DefinitionsCanBeOff, DefinitionsNeedBrackets, SectionsHoldLines};
 
 /// What is read of fifty-one documents: the events of their skeletons, the labels that they define, and the bytes that are shown as letters.
 pub fn definitions_of_documents()
@@ -9,4 +10,27 @@ pub fn definitions_of_documents()
     ensures places { map (λ e. read_of e.document) where_definitions_stand ≡ where_definitions_stand }
     ensures text { map (λ e. read_of e.document) text_behind_definitions ≡ text_behind_definitions }
     ensures containers { map (λ e. read_of e.document) definitions_in_containers ≡ definitions_in_containers }
+{}
+
+/// The strings of definitions are chunks, one a line, and those of one string are linked.
+pub fn strings_are_linked()
+    ensures { links_of_document with_strings ≡ links_of_strings }
+{}
+
+/// Where definitions are off, the skeleton, the letters and the blocks of a document are those of containers alone, and no label is defined.
+pub fn definitions_can_be_off()
+    ensures skeleton { DefinitionsCanBeOff }
+    ensures blocks { BlocksCanBeWithout }
+{}
+
+/// Each line of a document is in exactly one section, and sections are in the order of lines.
+pub fn sections_hold_lines()
+    ensures { SectionsHoldLines }
+{}
+
+/// Of a document no line of which has a bracket in front, behind its prefixes and white space, the skeleton, the letters and the blocks are those
+/// of containers alone, and no label is defined.
+pub fn definitions_need_brackets()
+    ensures skeleton { DefinitionsNeedBrackets }
+    ensures blocks { BlocksNeedBrackets }
 {}

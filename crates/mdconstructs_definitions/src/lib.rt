@@ -1,5 +1,6 @@
 //! Link reference definitions in the skeleton of a document: the paragraphs that begin with definitions, and the events of these.
 #![tactic(auto)]
 
+pub mod fronts;
 pub mod laws;
 pub mod texts;

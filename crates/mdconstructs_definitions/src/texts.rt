@@ -5,7 +5,7 @@ ghost use Rattle.mdconstructs_flow_read.specs.LineKinds.{underline_rank};
 ghost use Rattle.mdconstructs_containers.specs.Rows.{is_paragraph};
 ghost use Rattle.mdconstructs_containers.specs.Views.{leaf_of};
 ghost use Rattle.mdconstructs_definitions.specs.Rows.{is_used_up};
-ghost use Rattle.mdconstructs_definitions.specs.Sections.{lines_of};
+ghost use Rattle.mdconstructs_definitions.specs.Sections.{lines_of, lines_defined};
 
 use markdown_base::configuration::Constructs;
 use mdconstructs_containers::leaves::{Leaf, is_paragraph};
@@ -73,4 +73,15 @@ pub fn lines_of(text: &[u8]) -> usize
         [] => 0,
         _ => line_feeds(text) + 1,
     }
+}
+
+/// How many lines have the definitions with which a text begins.
+#[tactic(auto, using(crate::proofs::TextLemmas::fewer_lines))]
+pub fn lines_defined<L: Ledger>(text: &[u8], turns: &mut Turns<L>) -> usize
+    ensures value { result ≡ lines_defined text.now }
+    ensures turns { turns.new ≤ turns.old + 16 * length text.now + 16 }
+{
+    let front = definitions_counted(text, turns);
+    let left = lines_of(&text[front.end..]);
+    lines_of(text) - left
 }
