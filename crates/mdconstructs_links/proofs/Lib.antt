@@ -12,3 +12,4 @@ pub mod Reached
 pub mod LinkEdits
 pub mod Places
 pub mod Read
+pub mod Costs

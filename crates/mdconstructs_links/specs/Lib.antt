@@ -1,3 +1,4 @@
+pub mod Costs
 pub mod Kept
 pub mod Laid
 pub mod Laws

@@ -4,11 +4,14 @@
 //! bracket away. The runs behind a bracket that makes one pair among themselves, when it ends; all others at last. So the runs that are
 //! in no pair yet are a stack too, and those of a link are its top.
 
-ghost use Rattle.std.specs.Prelude.{◌≡◌, ◌<◌, ◌≤◌, ◌++◌, ◌∷◌, [], cond, nat_lt, drop, length, map, reverse, take, IfOk, OnOk};
+ghost use Rattle.std.specs.Prelude.{◌≡◌, ◌+◌, ◌-◌, ◌*◌, ◌<◌, ◌≤◌, ◌++◌, ◌∷◌, [], cond, nat_lt, drop, length, map, reverse, take, IfOk, OnOk};
 ghost use Rattle.std.specs.List.{AllByRecursion};
+ghost use Rattle.mdconstructs_attention.specs.Costs.{markers_left};
 ghost use Rattle.mdconstructs_attention.specs.Emphasis.{paired};
 ghost use Rattle.mdconstructs_attention.specs.Places.{ArePlacesInside};
+ghost use Rattle.mdconstructs_attention.specs.Runs.{runs_in};
 ghost use Rattle.mdconstructs_attention.specs.Searches.{as_run};
+ghost use Rattle.mdconstructs_links.specs.Costs.{pay, to_pay};
 ghost use Rattle.mdconstructs_links.specs.Laid.{GoesOn, IsEnded, IsMade, IsRead, IsRunRead, piece_at, placed_at, with_fate, written_of};
 ghost use Rattle.mdconstructs_links.specs.declared.pieces.Fate.TheVariants.{Waits};
 ghost use Rattle.mdconstructs_links.specs.Linked.{with_links};
@@ -62,7 +65,8 @@ fn pair_behind<L: Ledger>(
     from: usize,
     turns: &mut Turns<L>,
 ) -> Result<(), AllocError>
-    ensures { OnOk result (map as_run runs.new.items ≡ take from (map as_run runs.old.items) ++ paired (drop from (map as_run runs.old.items))) }
+    ensures pairs { OnOk result (map as_run runs.new.items ≡ take from (map as_run runs.old.items) ++ paired (drop from (map as_run runs.old.items))) }
+    ensures linear { turns.new ≤ turns.old + (14 * length (drop from runs.old.items) + 2 * markers_left (map as_run (drop from runs.old.items))) }
 {
     if runs.len() <= from {
         return Ok(());
@@ -101,6 +105,7 @@ impl Pieces {
         ensures runs { self.new.runs.items ≡ take from self.old.runs.items }
         ensures owners { self.new.owners.items ≡ take from self.old.owners.items }
         ensures brackets { self.new.brackets.items ≡ self.old.brackets.items }
+        ensures turns { turns.new + length self.new.runs.items ≡ turns.old + length self.old.runs.items }
     {
         while self.runs.len() > from {
             turns.add_one();
@@ -149,7 +154,8 @@ impl Pieces {
         turns: &mut Turns<L>,
     ) -> Result<(), AllocError>
         requires many { length self.old.owners.items ≡ length self.old.runs.items }
-        ensures { OnOk result (IsMade self.old self.new bracket start end tail) }
+        ensures made { OnOk result (IsMade self.old self.new bracket start end tail) }
+        ensures paid { OnOk result (turns.new + to_pay self.new [] ≤ turns.old + to_pay self.old [] + (1 + (tail - end))) }
     {
         let image = bracket.image;
         let filled = self.pieces.len().saturating_sub(bracket.piece) > 1;
@@ -172,7 +178,8 @@ impl Pieces {
         requires many { length self.old.owners.items ≡ length self.old.runs.items }
         requires order { start < end }
         requires tail { end ≤ tail }
-        ensures { OnOk result (IsEnded self.old self.new start end tail) }
+        ensures ended { OnOk result (IsEnded self.old self.new start end tail) }
+        ensures paid { OnOk result (turns.new + to_pay self.new [] ≤ turns.old + to_pay self.old [] + (1 + (tail - end))) }
     {
         match self.brackets.pop() {
             None => {
@@ -204,7 +211,8 @@ impl Pieces {
         end: usize,
         left: &mut Vec<Delimiters>,
     ) -> Result<(), AllocError>
-        ensures { OnOk result (IsRunRead self.old self.new left.old.items left.new.items start end) }
+        ensures read { OnOk result (IsRunRead self.old self.new left.old.items left.new.items start end) }
+        ensures paid { OnOk result (to_pay self.new left.new.items ≤ to_pay self.old left.old.items + 1) }
     {
         match left.pop() {
             None => self.push(start, end, Fate::Same),
@@ -222,7 +230,8 @@ impl Pieces {
     ) -> Result<(), AllocError>
         requires order { start < end }
         requires inside { end ≤ length events.now }
-        ensures { OnOk result (IsRead events.now self.old self.new left.old.items left.new.items start end) }
+        ensures read { OnOk result (IsRead events.now self.old self.new left.old.items left.new.items start end) }
+        ensures paid { OnOk result (to_pay self.new left.new.items ≤ to_pay self.old left.old.items + 1) }
     {
         let span = &events[start..end];
         if is_bracket(span) {
@@ -255,6 +264,7 @@ impl Pieces {
         requires many { length self.old.owners.items ≡ length self.old.runs.items }
         requires inside { start < length events.now }
         ensures order { IfOk result (λ next. (start < next) × (next ≤ length events.now)) }
+        ensures paid { IfOk result (λ next. turns.new + to_pay self.new left.new.items ≤ turns.old + to_pay self.old left.old.items + 2 * (next - start)) }
         ensures stands { IfOk result (λ next. GoesOn events.now self.old self.new left.old.items left.new.items start next) }
     {
         let end = span_end(events, start, turns);
@@ -282,6 +292,7 @@ fn pieces_of<L: Ledger>(
     requires room { ArePlacesInside bytes.now events.now }
     ensures links { IfOk result (λ pieces. written_of events.now pieces.items ≡ with_links bytes.now events.now) }
     ensures fit { IfOk result (λ pieces. AllByRecursion (Fits (length events.now)) pieces.items) }
+    ensures paid { IfOk result (λ pieces. turns.new + length pieces.items ≤ turns.old + pay (runs_in bytes.now events.now) + 2 * length events.now) }
 {
     let mut left = turned(runs_of(alloc, bytes, events)?);
     let mut all = Pieces::new(alloc);
@@ -302,7 +313,8 @@ pub fn linked<L: Ledger>(
     turns: &mut Turns<L>,
 ) -> Result<Vec<Event>, AllocError>
     requires room { ArePlacesInside bytes.now events.now }
-    ensures { IfOk result (λ out. out.items ≡ with_links bytes.now events.now) }
+    ensures links { IfOk result (λ out. out.items ≡ with_links bytes.now events.now) }
+    ensures linear { OnOk result (turns.new ≤ turns.old + pay (runs_in bytes.now events.now) + 2 * length events.now) }
 {
     let pieces = pieces_of(alloc, bytes, events, turns)?;
     written(alloc, events, pieces.as_slice(), turns)

@@ -1,8 +1,10 @@
 //! The edits that put links, images and emphasis in their place.
 
-ghost use Rattle.std.specs.Prelude.{◌≡◌, ◌+◌, ◌<◌, ◌≤◌, [], length, OnOk};
+ghost use Rattle.std.specs.Prelude.{◌≡◌, ◌+◌, ◌*◌, ◌<◌, ◌≤◌, [], length, OnOk};
 ghost use Rattle.markdown_base.specs.Events.{IsBalanced};
+ghost use Rattle.mdconstructs_attention.specs.Costs.{markers_left};
 ghost use Rattle.mdconstructs_attention.specs.Places.{ArePlacesInside};
+ghost use Rattle.mdconstructs_attention.specs.Runs.{runs_in};
 ghost use Rattle.mdconstructs_links.specs.LinkEdits.{has_brackets, is_of_bracket, link_edits};
 
 use crate::brackets::linked;
@@ -43,7 +45,8 @@ fn has_brackets<L: Ledger>(events: &[Event], turns: &mut Turns<L>) -> bool
 /// Puts links, images and emphasis in place of the brackets and the delimiter runs of a list of events.
 ///
 /// If no bracket is among the events, one edit for each run does. Else one edit puts all events anew. Returns `AllocError` if it runs
-/// out of memory; then some edits were added.
+/// out of memory; then some edits were added. A turn is a look at an event or a run, or a try to make one more pair; those of
+/// `emphasize` are not counted.
 pub fn put_links_counted<L: Ledger>(
     alloc: Global,
     bytes: &[u8],
@@ -55,6 +58,7 @@ pub fn put_links_counted<L: Ledger>(
     requires balanced { IsBalanced events.now }
     requires room { ArePlacesInside bytes.now events.now }
     ensures edits { OnOk result (edits.new ≡ link_edits bytes.now events.now) }
+    ensures linear { OnOk result (turns.new ≤ turns.old + (15 * length (runs_in bytes.now events.now) + 2 * markers_left (runs_in bytes.now events.now)) + 3 * length events.now) }
 {
     if !has_brackets(events, turns) {
         return emphasize(alloc, bytes, events, edits);

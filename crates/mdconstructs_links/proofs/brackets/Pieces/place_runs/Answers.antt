@@ -31,4 +31,5 @@ loop-turns-preserved g c =
           ∙ ap (λ ns. placed_at old.pieces.items (drop from ns) (drop from (ds ++ d ∷ []))) (sym owners)
           ∙ ap (λ xs. placed_at old.pieces.items (drop from old.owners.items) (drop from xs)) (sym runs)
           ∙ kept.4,
+      (let one = c.add_one.ensures in let so_far = kept.5 in omega (arith, a, one, so_far)),
     )

@@ -1,13 +1,14 @@
 use Rattle.std.proofs.Common.{◌≡◌, ◌-◌, ◌∷◌, [], ◌++◌, ◌∙◌, ap, cond, length, rules, sym, take}
 use Rattle.std.proofs.lemmas.Bool.{lt-ltb}
 use Rattle.std.proofs.lemmas.Result.{on_ok_weaker}
+use Rattle.mdconstructs_links.proofs.Costs.{one-more}
 use Rattle.mdconstructs_links.proofs.Read.{read-failed, read-opened, read-other}
-use Rattle.mdconstructs_links.specs.declared.pieces.Fate.TheVariants.{Same}
+use Rattle.mdconstructs_links.specs.declared.pieces.Fate.TheVariants.{AsData, Same}
 use Rattle.mdconstructs_links.specs.Laid.{bracket_at, piece_at}
 use Rattle.mdconstructs_links.proofs.brackets.Pieces.read.Goals as goal
 
-pub returns-then-is_bracket : goal.returns-then-is_bracket
-returns-then-is_bracket c =
+pub returns-then-is_bracket-clause-read : goal.returns-then-is_bracket-clause-read
+returns-then-is_bracket-clause-read c =
     let old = c.args.self.now in
     let p = c.push-then-is_bracket in
     let many_pieces : c.len.result ≡ length old.pieces.items = search rules in
@@ -17,8 +18,8 @@ returns-then-is_bracket c =
     (p.ensures.brackets ∙ c.in_ok-push.ensures.items ∙ (λ i. old.brackets.items ++ bracket_at (many_pieces i) (many_runs i) (c.is_named.ensures i) ∷ [])))
     p.ensures.pieces
 
-pub returns-then-is_named : goal.returns-then-is_named
-returns-then-is_named c =
+pub returns-then-is_named-clause-read : goal.returns-then-is_named-clause-read
+returns-then-is_named-clause-read c =
     let old = c.args.self.now in
     let p = c.push-then-is_named in
     let many : old.brackets.len ≡ length old.brackets.items = search rules in
@@ -27,18 +28,40 @@ returns-then-is_named c =
     (sym c.is_named-2.ensures ∙ c.if-is_named.true) ps (p.ensures.brackets ∙ c.pop.ensures.rest ∙ ap (λ n. take (n - 1) old.brackets.items) many))
     p.ensures.pieces
 
-pub returns-then-is_run : goal.returns-then-is_run
-returns-then-is_run c =
+pub returns-then-is_run-clause-read : goal.returns-then-is_run-clause-read
+returns-then-is_run-clause-read c =
     on_ok_weaker c.read_run.result
     (λ r. r c.args.events.now c.requires.order c.requires.inside (sym c.is_bracket.ensures ∙ c.if-is_bracket.false) (sym c.is_named-2.ensures ∙ c.if-is_named.false) (sym c.is_run.ensures ∙ c.if-is_run.true))
-    c.read_run.ensures
+    c.read_run.ensures.read
 
-pub returns : goal.returns
-returns c =
+pub returns-clause-read : goal.returns-clause-read
+returns-clause-read c =
     let old = c.args.self.now in
     let p = c.push_some in
     on_ok_weaker p.result
     (λ ps. read-other c.args.events.now old p.new.self c.args.start c.args.end c.requires.order c.requires.inside p.ensures.runs p.ensures.owners c.args.left.now.items (sym c.is_bracket.ensures ∙ c.if-is_bracket.false)
     (sym c.is_named-2.ensures ∙ c.if-is_named.false) (sym c.is_run.ensures ∙ c.if-is_run.false)
     (ps ∙ ap (λ t. old.pieces.items ++ cond t (piece_at c.args.start c.args.end Same ∷ []) []) (lt-ltb c.args.start c.args.end c.requires.order)) p.ensures.brackets)
+    p.ensures.pieces
+
+pub returns-then-is_bracket-clause-paid : goal.returns-then-is_bracket-clause-paid
+returns-then-is_bracket-clause-paid c =
+    let p = c.push-then-is_bracket in
+    on_ok_weaker p.result (λ ps. one-more c.args.self.now p.new.self c.args.left.now.items (piece_at c.args.start c.args.end AsData) p.ensures.runs ps) p.ensures.pieces
+
+pub returns-then-is_named-clause-paid : goal.returns-then-is_named-clause-paid
+returns-then-is_named-clause-paid c =
+    let p = c.push-then-is_named in
+    on_ok_weaker p.result (λ ps. one-more c.args.self.now p.new.self c.args.left.now.items (piece_at c.args.start c.args.end AsData) p.ensures.runs ps) p.ensures.pieces
+
+pub returns-then-is_run-clause-paid : goal.returns-then-is_run-clause-paid
+returns-then-is_run-clause-paid c = c.read_run.ensures.paid
+
+pub returns-clause-paid : goal.returns-clause-paid
+returns-clause-paid c =
+    let old = c.args.self.now in
+    let p = c.push_some in
+    on_ok_weaker p.result
+    (λ ps. one-more old p.new.self c.args.left.now.items (piece_at c.args.start c.args.end Same) p.ensures.runs
+    (ps ∙ ap (λ t. old.pieces.items ++ cond t (piece_at c.args.start c.args.end Same ∷ []) []) (lt-ltb c.args.start c.args.end c.requires.order)))
     p.ensures.pieces

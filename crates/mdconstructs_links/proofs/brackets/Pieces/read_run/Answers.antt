@@ -1,11 +1,14 @@
-use Rattle.std.proofs.Common.{◌≡◌, ◌∙◌, append-nil, length, rules, subst}
+use Rattle.std.proofs.Common.{◌≡◌, ◌+◌, ◌≤◌, ◌∙◌, append-nil, length, rules, subst}
 use Rattle.std.proofs.lemmas.Result.{on_ok_weaker}
+use Rattle.mdconstructs_links.proofs.Costs.{one-more, run-waits}
 use Rattle.mdconstructs_links.proofs.Read.{nothing-there, read-last, read-run}
-use Rattle.mdconstructs_links.specs.Laid.{IsRead}
+use Rattle.mdconstructs_links.specs.Costs.{to_pay}
+use Rattle.mdconstructs_links.specs.declared.pieces.Fate.TheVariants.{Same, Waits}
+use Rattle.mdconstructs_links.specs.Laid.{IsRead, piece_at}
 use Rattle.mdconstructs_links.proofs.brackets.Pieces.read_run.Goals as goal
 
-pub returns-in-None : goal.returns-in-None
-returns-in-None c =
+pub returns-in-None-clause-read : goal.returns-in-None-clause-read
+returns-in-None-clause-read c =
     let old = c.args.self.now in
     let p = c.push in
     let left = c.args.left.now.items in
@@ -15,8 +18,23 @@ returns-in-None c =
     (read-last es old p.new.self c.args.start c.args.end order inside p.ensures.runs p.ensures.owners left a b (nothing-there left none) ps p.ensures.brackets))
     p.ensures.pieces
 
-pub returns-in-Some : goal.returns-in-Some
-returns-in-Some c =
+pub returns-in-Some-clause-read : goal.returns-in-Some-clause-read
+returns-in-Some-clause-read c =
     on_ok_weaker c.wait.result
     (λ w es order inside a b k. read-run es c.args.self.now c.wait.new.self c.args.start c.args.end order inside c.args.left.now.items c.pop.new.self.items c.in-Some.run' c.in-Some.ensures.items a b k w.0 w.3 w.1 w.2)
+    c.wait.ensures
+
+pub returns-in-None-clause-paid : goal.returns-in-None-clause-paid
+returns-in-None-clause-paid c =
+    let old = c.args.self.now in
+    let p = c.push in
+    let same = c.in-None.ensures.items ∙ append-nil c.pop.new.self.items in
+    on_ok_weaker p.result
+    (λ ps. subst (λ ds. to_pay p.new.self ds ≤ to_pay old c.args.left.now.items + 1) same (one-more old p.new.self c.args.left.now.items (piece_at c.args.start c.args.end Same) p.ensures.runs ps))
+    p.ensures.pieces
+
+pub returns-in-Some-clause-paid : goal.returns-in-Some-clause-paid
+returns-in-Some-clause-paid c =
+    on_ok_weaker c.wait.result
+    (λ w. run-waits c.args.self.now c.wait.new.self c.args.left.now.items c.pop.new.self.items c.in-Some.run' (piece_at c.args.start c.args.end Waits) c.in-Some.ensures.items w.1 w.0)
     c.wait.ensures
