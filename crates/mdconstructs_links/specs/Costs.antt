@@ -1,4 +1,5 @@
--- Costs of links: what the runs that are in no pair yet may cost, and the pieces that are to be written.
+-- Inner: costs of links: what the runs that are in no pair yet may cost, and the pieces that are to be written. No public contract cites
+-- this file.
 use Rattle.std.specs.Prelude.{ℕ, ◌+◌, ◌*◌, List, length, map}
 use Rattle.mdconstructs_attention.specs.Costs.{markers_left}
 use Rattle.mdconstructs_attention.specs.declared.pairs.Delimiters.{Delimiters}

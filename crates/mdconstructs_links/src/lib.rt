@@ -1,7 +1,7 @@
 //! Links, images and emphasis among events: the brackets of a text, what they make, and the edits that put it in their place.
 #![tactic(auto)]
 
-pub mod brackets;
+mod brackets;
 pub mod laws;
 pub mod link_edits;
-pub mod pieces;
+mod pieces;
