@@ -1,5 +1,5 @@
 -- What a walk over the end of a line found is what thematic breaks are there.
-use Rattle.std.proofs.Math.Bool.{or-true}
+use Rattle.std.proofs.Math.Bool.{or-true, or_comm}
 use Rattle.std.proofs.Common.{◌≡◌, ◌≢◌, ℕ, zero, suc, ◌+◌, ◌-◌, ◌<◌, ◌≤◌, Bool, true, false, cond, List, [], ◌∷◌, length, drop, get_or, refl, sym, ap, ◌∙◌, arith, eqb-true, eq-eqb, ne_eqb, le-leb, le-ltb, lt-ltb}
 use Rattle.std.proofs.lemmas.Bool.{eqb-false, false≢true, leb-true, leb-false, lt-leb, ltb-true, ltb-false}
 use Rattle.std.specs.Prelude.{◌==◌, ◌&&◌, ◌||◌, nat_le, nat_lt, filter, None, Some, is_some, unwrap_or}
@@ -8,9 +8,11 @@ use Rattle.std.proofs.lemmas.List.{drop_more, drop-drop, get_or-drop, length-dro
 use Rattle.std.proofs.Math.Dec.{leb-suc-zero}
 use Rattle.std.proofs.Math.Seq.{drop-length}
 use Rattle.mdconstructs_machines.specs.Breaks.{is_white}
+use Rattle.mdconstructs_flow_read.proofs.Looks.BreakLooks.{mark-no-white}
 use Rattle.mdconstructs_flow_read.specs.LineKinds.{indent, is_break_of_marks, is_thematic_break, unindented}
 use Rattle.mdconstructs_lines.specs.declared.breaks.Walk.{Walk}
 use Rattle.mdconstructs_lines.specs.Breaks.{is_break_mark, walked, with_byte}
+use Rattle.mdconstructs_lines.specs.Views.{is_mark_or_white}
 
 -- ---- the loop's walk is the definition's
 
@@ -78,9 +80,6 @@ walk_all t n w h same = let none : length t - n ≡ 0 = omega (arith, h) in same
 
 -- ---- what the walk knows
 
-abbrev is_mark_or_white : (mark b : ℕ) → Bool
-is_mark_or_white mark b = (b == mark) || is_white b
-
 -- a byte that fails a test is not among those that all pass it
 count_none : (test : ℕ → Bool) (q : ℕ) (r : List ℕ) → test q ≡ false → list_all test r ≡ true → length (filter (λ b. b == q) r) ≡ 0
 count_none test q [] out all = refl
@@ -103,13 +102,7 @@ all_white m (b ∷ bs) h = by (b == m) (is_white b) h (all_white m bs)
 
 -- a mark is no white space
 mark_is_black : (m : ℕ) → is_break_mark m ≡ true → is_white m ≡ false
-mark_is_black m h = by (m == 42) (m == 45) (m == 95) refl refl refl h
-  where
-    by : (x y z : Bool) → (m == 42) ≡ x → (m == 45) ≡ y → (m == 95) ≡ z → (x || (y || z)) ≡ true → is_white m ≡ false
-    by true y z ex ey ez h = ap is_white (eqb-true m 42 ex)
-    by false true z ex ey ez h = ap is_white (eqb-true m 45 ey)
-    by false false true ex ey ez h = ap is_white (eqb-true m 95 ez)
-    by false false false ex ey ez h = absurd (false≢true h)
+mark_is_black m h = mark-no-white m (ap (λ t. (m == 42) || t) (or_comm (m == 95) (m == 45)) ∙ h)
 
 record Seen (w : Walk) (r : List ℕ) : Type 0 where
   pub within : w.reach ≤ length r

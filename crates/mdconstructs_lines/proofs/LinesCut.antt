@@ -3,6 +3,7 @@ use Rattle.std.proofs.Common.{◌≡◌, ◌⊎◌, inl, inr, ℕ, zero, suc, �
 use Rattle.std.specs.Prelude.{◌==◌, ◌&&◌, not}
 use Rattle.std.specs.List.{prefix_len}
 use Rattle.std.proofs.Math.Nat.{mod-lt}
+use Rattle.markdown_base.proofs.SeatCounts.{tab-length}
 use Rattle.markdown_base.specs.Virtual.{Seat, begins_with_lf, end_in_tab, in_tab, point, line_feed, other_byte, tab_width, virtual_from}
 use Rattle.mdconstructs_machines.specs.LineEvents.{is_line_ending, joined, lines_in}
 use Rattle.mdconstructs_lines.specs.Lines.{LinesFollow, ending_seats, ending_size, is_in_line, is_no_ending, line_length}
@@ -38,10 +39,6 @@ tab_before_ending : (n byte line column index vs : ℕ) (ss : List Seat) → not
 tab_before_ending zero byte line column index vs ss e = refl
 tab_before_ending (suc n) byte line column index vs ss e =
     no_ending_first _ (in_tab 32 n line (suc column) index (suc vs) ++ ss) e ∙ ap (λ l. record { byte = byte; point = point line column index vs; end = end_in_tab n line column index vs } ∷ l) (tab_before_ending n 32 line (suc column) index (suc vs) ss refl)
-
-tab_length : (n byte line column index vs : ℕ) → length (in_tab byte n line column index vs) ≡ n
-tab_length zero byte line column index vs = refl
-tab_length (suc n) byte line column index vs = ap suc (tab_length n 32 line (suc column) index (suc vs))
 
 module _ (t : ℕ) (some : 0 < t) where
   -- the first line of bytes from any column on
@@ -121,7 +118,7 @@ module _ (t : ℕ) (some : 0 < t) where
         let w = tab_width t column in
         let some_of : 0 < w = omega (arith, mod-lt (column - 1) some) in
         let behind = virtual_from t line (column + w) (suc index) bs in
-        by_byte _ n e (in_tab 9 w line column index 0) w refl (tab_length w 9 line column index 0) (longer_by_tab w 9 line column index 0 behind _ _ refl some_of after_tab)
+        by_byte _ n e (in_tab 9 w line column index 0) w refl (tab-length 9 w line column index 0) (longer_by_tab w 9 line column index 0 behind _ _ refl some_of after_tab)
         (tab_before_ending w 9 line column index 0 behind refl) en ee
     by_first false false false lf_comes n e elf ecr etab el en ee after_tab after =
         let seat = other_byte b line column index in
