@@ -13,7 +13,7 @@ use Rattle.markdown_base.specs.declared.event.Name.TheVariants as name
 use Rattle.markdown_edits.proofs.Balanced.{same_name-refl}
 use Rattle.mdconstructs_flow_read.specs.LeafBlocks.{Line, interrupts, text_of}
 use Rattle.mdconstructs_flow_read.specs.LineKinds.{indent, indented, blank as blank_kind, is_far, kind_of_rest, line_kind, unindented}
-use Rattle.markdown_tokenizer.proofs.Positions.Order.{every-back}
+use Rattle.markdown_tokenizer.proofs.Positions.Order.{every-back, every-front}
 use Rattle.mdconstructs_lines.specs.Containers.{Container, Prefix, item, quote}
 use Rattle.mdconstructs_containers.proofs.DocumentRows.{take_of_take}
 use Rattle.mdconstructs_containers.proofs.RowFacts.{BeganBefore, BeginHere, BeginsIn, BeginsList, IsFront, begun_are, every_front, front_all, front_append, front_more, front_none, front_trans, went_are, went_within}
@@ -238,6 +238,10 @@ pub none_is : {A : Type 0} (xs : List A) → has_none xs ≡ true → xs ≡ []
 none_is [] h = refl
 none_is (x ∷ xs) h = absurd (false≢true h)
 
+pub some_more : {A : Type 0} (xs ys : List A) → has_none xs ≡ false → has_none (xs ++ ys) ≡ false
+some_more [] ys h = absurd (false≢true (sym h))
+some_more (x ∷ xs) ys h = refl
+
 -- ---- in which containers a line stands
 
 standing_blank : (r : Row) (behind : List Row) → r.is_blank ≡ true → has_none r.begun ≡ true → AllByRecursion (BeganBefore r.number) (containers_of r.went_on) → standing r behind ≡ kept_of (going_on_at behind) (containers_of r.went_on)
@@ -427,12 +431,8 @@ short_front (x ∷ y ∷ xs) ys c h front = absurd (omega (arith, h))
 short_front (x ∷ []) ys (quote line) h front = front_one (record { name = name.BlockQuote; line = line }) x [] ys front.0 front.1
 short_front (x ∷ []) ys (item i) h front = front_one (record { name = list_name i; line = i.list }) x (record { name = name.ListItem; line = i.line } ∷ []) ys front.0 front.1
 
-every_fore : (P : Frame → Type 0) (xs ys : List Frame) → AllByRecursion P (xs ++ ys) → AllByRecursion P xs
-every_fore P [] ys h = tt
-every_fore P (x ∷ xs) ys h = (h.0, every_fore P xs ys h.1)
-
 front_every : (P : Frame → Type 0) (xs ys : List Frame) → IsFront xs ys → AllByRecursion P ys → AllByRecursion P xs
-front_every P xs ys front h = every_fore P xs front.0 (subst (AllByRecursion P) front.1 h)
+front_every P xs ys front h = every-front P xs front.0 (subst (AllByRecursion P) front.1 h)
 
 module _ (on : Constructs) where
   going_few_at : (b : Before) (n : ℕ) (ls : List Line) → going_on_at (rows_from on b n ls) ≤ b.depth

@@ -1,9 +1,8 @@
 -- Lemmas on pieces of a stretch that are joined, and on the marks of prefixes.
-use Rattle.std.proofs.Common.{◌≡◌, ℕ, zero, suc, ◌+◌, ◌-◌, ◌<◌, ◌≤◌, Bool, true, false, cond, List, [], ◌∷◌, ◌++◌, length, take, drop, refl, sym, ap, ◌∙◌, subst, arith, append_assoc, length-drop}
-use Rattle.std.specs.Prelude.{not, None, Some}
+use Rattle.std.proofs.Common.{◌≡◌, ℕ, zero, suc, ◌+◌, ◌-◌, ◌<◌, ◌≤◌, Bool, true, false, cond, List, [], ◌∷◌, ◌++◌, length, take, drop, refl, sym, ap, ◌∙◌, arith, append_assoc, length-drop}
+use Rattle.std.specs.Prelude.{not, Some}
 use Rattle.std.specs.List.{flat_map}
-use Rattle.std.proofs.lemmas.Bool.{false≢true}
-use Rattle.std.proofs.lemmas.List.{append-nil, drop-append-le, take-append-le}
+use Rattle.std.proofs.lemmas.List.{drop-append-le, take-append-le}
 use Rattle.std.proofs.lemmas.List.Sums.{sum_by-cons}
 use Rattle.markdown_base.specs.declared.event.Content.TheVariants as content
 use Rattle.markdown_base.specs.declared.event.Name.{Name}
@@ -19,6 +18,7 @@ use Rattle.mdconstructs_containers.specs.Rows.{Row, has_none}
 use Rattle.mdconstructs_containers.specs.Skeleton.{Piece, chunks_of, going_marks, joined_pieces, pieces_of, prefixes_marks}
 use Rattle.mdconstructs_containers.specs.Stretches.{pieces_from}
 use Rattle.mdconstructs_containers.specs.Written.{NoChunk}
+use Rattle.mdconstructs_containers.proofs.FrameFacts.{some_more}
 use Rattle.mdconstructs_containers.proofs.WrittenLemmas.{plain_append}
 
 module _ (bytes : List ℕ) where
@@ -158,10 +158,6 @@ module _ (bytes : List ℕ) where
   some_span n [] inside h = absurd (omega arith)
   some_span n (s ∷ ss) inside h = refl
 
-  none_left : (xs ys : List Mark) → has_none xs ≡ false → has_none (xs ++ ys) ≡ false
-  none_left [] ys e = absurd (false≢true (sym e))
-  none_left (x ∷ xs) ys e = refl
-
   none_right : (xs ys : List Mark) → has_none ys ≡ false → has_none (xs ++ ys) ≡ false
   none_right [] ys e = e
   none_right (x ∷ xs) ys e = refl
@@ -178,7 +174,7 @@ module _ (bytes : List ℕ) where
 
       by : (n : ℕ) → has_none (white bytes (take n ss) ++ span_marks bytes name.BlockQuotePrefix (drop n ss) (leaf_marks bytes name.BlockQuoteMarker (take 1 (drop n ss)) ++ white bytes (drop (suc n) ss))) ≡ false
       by zero = some_span name.BlockQuotePrefix ss _ h
-      by (suc n) = none_left (white bytes (take (suc n) ss)) _ (some_span name.SpaceOrTab (take (suc n) ss) [] (first n ss h))
+      by (suc n) = some_more (white bytes (take (suc n) ss)) _ (some_span name.SpaceOrTab (take (suc n) ss) [] (first n ss h))
   going_some (item i) ss h = some_span name.SpaceOrTab ss [] h
 
   pub prefixes_some : (ps : List Prefix) (ss : List Seat) → 0 < columns_of ps → columns_of ps ≤ length ss → has_none (prefixes_marks bytes ps ss) ≡ false
@@ -191,7 +187,7 @@ module _ (bytes : List ℕ) where
 
       by : (n : ℕ) → p.size ≡ n → (0 < columns_of ps → columns_of ps ≤ length ss → has_none (prefixes_marks bytes ps ss) ≡ false) → has_none (going_marks bytes p.container (take n ss) ++ prefixes_marks bytes ps (drop n ss)) ≡ false
       by zero e f = none_right (going_marks bytes p.container []) (prefixes_marks bytes ps ss) (f (omega (arith, h, e, columns_more p ps)) (omega (arith, w, e, columns_more p ps)))
-      by (suc n) e f = none_left (going_marks bytes p.container (take (suc n) ss)) _ (going_some p.container (take (suc n) ss) (front n ss (omega (arith, w, e, columns_more p ps))))
+      by (suc n) e f = some_more (going_marks bytes p.container (take (suc n) ss)) _ (going_some p.container (take (suc n) ss) (front n ss (omega (arith, w, e, columns_more p ps))))
 
   -- prefixes see only their columns
   pub prefixes_front : (ps : List Prefix) (xs ys : List Seat) → columns_of ps ≤ length xs → prefixes_marks bytes ps (xs ++ ys) ≡ prefixes_marks bytes ps xs

@@ -22,7 +22,7 @@ letters_of_both n at more (b ∷ bs) =
 pub with_more_letters : (at more bs : List ℕ) → with_letters more (with_letters at bs) ≡ with_letters (at ++ more) bs
 with_more_letters at more bs = letters_of_both 0 at more bs
 
-no_letters_from : (n : ℕ) (bs : List ℕ) → lettered_from n [] bs ≡ bs
+pub no_letters_from : (n : ℕ) (bs : List ℕ) → lettered_from n [] bs ≡ bs
 no_letters_from n [] = refl
 no_letters_from n (b ∷ bs) = ap (λ l. b ∷ l) (no_letters_from (suc n) bs)
 

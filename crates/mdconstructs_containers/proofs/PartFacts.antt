@@ -3,7 +3,7 @@ use Rattle.std.proofs.Common.{◌≡◌, ◌⊎◌, inl, inr, ℕ, zero, suc, �
 use Rattle.std.specs.Prelude.{◌==◌, ◌&&◌, filter, not, Option, Some, None, reverse}
 use Rattle.std.specs.List.{flat_map}
 use Rattle.std.proofs.lemmas.Bool.{cases_lt, false≢true}
-use Rattle.std.proofs.lemmas.List.{append-nil, drop-append-le, length-map, length-take-le, take_all, take-append-le, take-map}
+use Rattle.std.proofs.lemmas.List.{append-nil, drop-append-le, length-map, length-take-le, nil_from_length, take_all, take-append-le, take-map}
 use Rattle.markdown_base.specs.declared.event.Event.{Event}
 use Rattle.markdown_base.specs.declared.event.Name.TheVariants as name
 use Rattle.markdown_base.specs.declared.event.Point.{Point}
@@ -162,13 +162,9 @@ text_from line k parts_are w =
     let p = λ (s : Seat). not (is_line_ending s) in
     let again : line_text (line_text line) ≡ line_text line = filter_again p line in
     let all : line_text line ≡ line_text line ++ line_text (ending_of line) = ap line_text parts_are ∙ filter_both p (line_text line) (ending_of line) ∙ ap (λ (l : List Seat). l ++ line_text (ending_of line)) again in
-    let none : line_text (ending_of line) ≡ [] = empty (line_text (ending_of line)) (omega (arith, ap (λ (l : List Seat). length l) all, length-append (line_text line) (line_text (ending_of line)))) in
+    let none : line_text (ending_of line) ≡ [] = nil_from_length (line_text (ending_of line)) (omega (arith, ap (λ (l : List Seat). length l) all, length-append (line_text line) (line_text (ending_of line)))) in
     ap (λ (l : List Seat). line_text (drop k l)) parts_are ∙ ap line_text (drop-append-le k (line_text line) (ending_of line) w) ∙ filter_both p (drop k (line_text line)) (ending_of line)
     ∙ (λ i. filter_drop p k (line_text line) again i ++ none i) ∙ append-nil (drop k (line_text line))
-  where
-    empty : (ss : List Seat) → length ss ≡ 0 → ss ≡ []
-    empty [] e = refl
-    empty (s ∷ ss) e = absurd (omega (arith, e))
 
 have_columns : (number : ℕ) (xs : List CodePrefix) (u : List ℕ) → AreInside xs u → HaveColumns (map (prefix_of number) xs)
 have_columns number [] u h = tt

@@ -22,7 +22,7 @@ use Rattle.mdconstructs_flow_read.specs.LeafEvents.{Mark, leaf_marks, white}
 use Rattle.mdconstructs_flow_read.specs.LineKinds.{is_blank_line}
 use Rattle.mdconstructs_machines.specs.LineEvents.{all_of, ending_of, line_text}
 use Rattle.mdconstructs_lines.specs.Containers.{Prefix}
-use Rattle.mdconstructs_containers.proofs.FrameFacts.{AreOpen, IsPart, all_entered, is_part, none_are_open, none_is, take_front}
+use Rattle.mdconstructs_containers.proofs.FrameFacts.{AreOpen, IsPart, all_entered, is_part, none_are_open, none_is, take_front, some_more}
 use Rattle.mdconstructs_containers.proofs.PartSpans.{Goes, RowFits, begun_goes, columns_front, exits_go, goes_both, goes_none, goes_over, goes_spanned, rows_fit}
 use Rattle.mdconstructs_containers.proofs.Pieces.{AreJoined, EndsLine, IsPrefixOver, Over, OverFrom, chunks_run, chunks_spanned, pieces_joined}
 use Rattle.mdconstructs_containers.proofs.PrefixSpans.{leaf_is_unlinked, leaf_over, prefixes_kept, prefixes_none, prefixes_over, prefixes_unlinked, take_more}
@@ -32,6 +32,11 @@ use Rattle.mdconstructs_containers.specs.Prefixes.{columns_of, containers_of}
 use Rattle.mdconstructs_containers.specs.Rows.{Before, Row, has_none, holds_ending, known_after, nothing_known, row_of, rows, rows_from}
 use Rattle.mdconstructs_containers.specs.Skeleton.{Frame, Part, Piece, begin_of, begun_all, behind_marks, chunks_of, end_of, ending_marks, exits, frames_at, further, inside_of, is_held, joined_pieces, last_line, last_of, part_marks, parts, parts_in, parts_marks, piece_of, pieces_of, prefixes_marks, shared, standing}
 use Rattle.mdconstructs_flow_read.proofs.Marks.LeafSpans.{text-shorter}
+
+-- no rows have no parts
+pub none_in : (bound : ℕ) → parts_in bound [] ≡ []
+none_in zero = refl
+none_in (suc bound) = refl
 
 -- ---- the virtual bytes of a part
 
@@ -139,10 +144,6 @@ module _ (t : ℕ) (bytes : List ℕ) where
       by : (ss : List Seat) → drop r.columns (line_text r.line) ≡ ss → has_none ss ≡ false
       by [] e = absurd (false≢true (sym other ∙ h.blank ∙ ap is_blank_line (same ∙ ap bytes_of e)))
       by (s ∷ ss) e = refl
-
-  some_more : (xs ys : List Seat) → has_none xs ≡ false → has_none (xs ++ ys) ≡ false
-  some_more [] ys h = absurd (false≢true (sym h))
-  some_more (x ∷ xs) ys h = refl
 
   line_is_some : (r : Row) → RowFits r → r.is_blank ≡ false → has_none (drop r.columns r.line) ≡ false
   line_is_some r h other =
@@ -413,10 +414,6 @@ module _ (t : ℕ) (bytes : List ℕ) where
         let all : end_after q ending ≡ end_after q (ending ++ []) = ap (end_after q) (sym (append-nil ending)) in
         subst (λ (ps : List Part). Goes t bytes part.frames q (behind_marks bytes part ps) [] (end_after q (ending ++ []))) (sym none)
         (subst (Goes t bytes part.frames q (behind_marks bytes part []) []) all (goes_both t bytes part.frames q (exits bytes part.frames (end_of bytes part)) [] q (ending_marks bytes part) [] (end_after q ending) exit end))
-      where
-        none_in : (bound : ℕ) → parts_in bound [] ≡ []
-        none_in zero = refl
-        none_in (suc bound) = refl
     behind_goes zero part fits q b n (l ∷ ls) spans lines ends here few track = absurd (omega (arith, few))
     behind_goes (suc bound) part fits q b n (l ∷ ls) spans lines ends here few track =
         let is = is_part on part.frames b n l ls spans in

@@ -23,6 +23,7 @@ use Rattle.mdconstructs_flow_read.proofs.Marks.MarkForms.{Formed, Forms}
 use Rattle.mdconstructs_flow_read.specs.LeafEvents.{Chunk, Mark, chunk_span}
 use Rattle.mdconstructs_machines.specs.LineEvents.{is_line_ending}
 use Rattle.mdconstructs_machines.specs.Spans.{event}
+use Rattle.mdconstructs_containers.proofs.FrameFacts.{none_is}
 use Rattle.mdconstructs_containers.proofs.SeatFacts.{SeatEnds, ends_in_line, ends_later}
 use Rattle.mdconstructs_containers.proofs.SkeletonChains.{Due, IsFurther, Runs, Unlinked, a_chunk, idle, next_due, unlinked_both, unlinked_gap, unlinked_runs}
 use Rattle.mdconstructs_containers.specs.Rows.{has_none}
@@ -107,10 +108,6 @@ module _ (t : ℕ) (bytes : List ℕ) where
   ends_both xs ys [] h = tt
   ends_both xs ys (q ∷ qs) h = λ p. ap (λ (x : Point). x.column) (end-after-append p xs ys) ∙ h (end_after p xs)
 
-  no_seats : (skip : List Seat) → has_none skip ≡ true → skip ≡ []
-  no_seats [] e = refl
-  no_seats (s ∷ ss) e = absurd (false≢true e)
-
   pub pieces_joined : (p : Piece bytes) (ps : List (Piece bytes)) (seats : List Seat) → OverFrom p ps seats → AreJoined (joined_pieces bytes (p ∷ ps)) p.before seats p.seats
   pieces_joined p [] seats h = (refl, h, tt, ([], sym (append-nil p.seats)))
   pieces_joined p (q ∷ qs) seats h =
@@ -127,7 +124,7 @@ module _ (t : ℕ) (bytes : List ℕ) where
 
           choose : (x : Bool) → has_none r.before ≡ x → AreJoined (cond x (record p { seats = p.seats ++ r.seats } ∷ rs) (p ∷ r ∷ rs)) p.before seats p.seats
           choose true e =
-              let none : skip ≡ [] = no_seats skip (sym prefix.none ∙ ap has_none (sym k.0) ∙ e) in
+              let none : skip ≡ [] = none_is skip (sym prefix.none ∙ ap has_none (sym k.0) ∙ e) in
               let all : seats ≡ (p.seats ++ r.seats) ++ k.1.0 =
               h.1 ∙ ap (λ l. p.seats ++ l) (is ∙ ap (λ l. l ++ (q.seats ++ more)) none ∙ whole) ∙ sym (append_assoc p.seats r.seats k.1.0) in
               (refl, (k.1.0, all, ends_both p.seats r.seats rs k.1.2, k.1.3), k.2, (r.seats, refl))

@@ -213,7 +213,7 @@ module _ (n : ℕ) where
 
 -- ---- a line
 
-every_behind : {A : Type 0} (P : A → Type 0) (k : ℕ) (xs : List A) → AllByRecursion P xs → AllByRecursion P (drop k xs)
+pub every_behind : {A : Type 0} (P : A → Type 0) (k : ℕ) (xs : List A) → AllByRecursion P xs → AllByRecursion P (drop k xs)
 every_behind P zero xs h = h
 every_behind P (suc k) [] h = tt
 every_behind P (suc k) (x ∷ xs) h = every_behind P k xs h.1

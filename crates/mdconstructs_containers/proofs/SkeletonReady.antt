@@ -4,7 +4,6 @@ use Rattle.std.proofs.Common.{◌≡◌, ℕ, zero, suc, ◌+◌, true, false, L
 use Rattle.std.specs.Prelude.{Option, None, Some, is_some, slice_get}
 use Rattle.std.specs.List.{AllByRecursion, between}
 use Rattle.std.proofs.lemmas.Bool.{false≢true}
-use Rattle.std.proofs.lemmas.Bool.Decides.{nat_tests}
 use Rattle.std.proofs.lemmas.List.Elements.{All-from_recursion}
 use Rattle.markdown_base.proofs.Common.{every-map}
 use Rattle.markdown_base.specs.declared.event.Content.{Content}
@@ -19,8 +18,9 @@ use Rattle.markdown_edits.specs.Links.{content_at, next_of}
 use Rattle.markdown_edits.specs.OpenNames.{names_after, names_after_all}
 use Rattle.markdown_tokenizer.specs.Engine.{IsWellFormed}
 use Rattle.markdown_tokenizer.specs.Text.{Given, IsDocument}
-use Rattle.markdown_children.specs.Chains.{fits, some_fits}
+use Rattle.markdown_children.specs.Chains.{fits}
 use Rattle.markdown_children.specs.Ready.{IsGap, IsReadable, IsReady, IsShownPlace, place_at}
+use Rattle.markdown_children.proofs.ChainOrder.Following.{some_content}
 use Rattle.mdconstructs_machines.proofs.BlockReads.Accounts.{lines-are-all}
 use Rattle.mdconstructs_machines.specs.LineEvents.{all_of, lines_in}
 use Rattle.mdconstructs_flow_read.proofs.Marks.Courses.{Place, Track, whole-track}
@@ -29,7 +29,7 @@ use Rattle.mdconstructs_flow_read.specs.LeafEvents.{Mark}
 use Rattle.mdconstructs_containers.proofs.PartGoes.{all_parts_go}
 use Rattle.mdconstructs_containers.proofs.PartSpans.{Goes}
 use Rattle.mdconstructs_containers.proofs.SeatFacts.{document_lines, lines_end}
-use Rattle.mdconstructs_containers.proofs.SkeletonChains.{IsNext, goes_forward, has_one_content, idle, joined_both, next_in, one_content_of}
+use Rattle.mdconstructs_containers.proofs.SkeletonChains.{goes_forward, has_one_content, idle, joined_both, next_in, one_content_of}
 use Rattle.mdconstructs_containers.proofs.TightMarks.{skeletons_are_void_tight, skeletons_have_chunks}
 use Rattle.mdconstructs_containers.specs.Blocks.{document_skeleton}
 use Rattle.mdconstructs_containers.specs.Rows.{rows}
@@ -71,10 +71,6 @@ next_place p (x ∷ y ∷ xs) q zero e h at = h.1.0
 next_place p (x ∷ xs) q (suc k) e h at =
     let one : suc k + 1 ≡ suc (k + 1) = omega arith in
     ap (λ n. stands_before (place_at (x ∷ xs) n) (place_at xs k)) one ∙ next_place x.point xs q k e h.1 (sym (ap (slice_get (x ∷ xs)) one) ∙ at)
-
-some_content : (wanted : Option Content) (o : Option Content) → some_fits wanted o ≡ true → (c : Content) × (o ≡ Some c)
-some_content wanted None h = absurd (false≢true h)
-some_content wanted (Some c) h = (c, refl)
 
 -- ---- a document
 

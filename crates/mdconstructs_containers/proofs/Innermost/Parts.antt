@@ -19,7 +19,7 @@ use Rattle.mdconstructs_machines.specs.LineEvents.{all_of, ending_of, line_text,
 use Rattle.mdconstructs_lines.specs.Containers.{Prefix}
 use Rattle.mdconstructs_containers.proofs.FrameFacts.{AreOpen, is_part, none_are_open, none_is}
 use Rattle.mdconstructs_containers.proofs.Innermost.Spans.{Accounts, both_account, begun_spans, chained_spans, exits_account, pieces_spans}
-use Rattle.mdconstructs_containers.proofs.PartGoes.{PartIs, all_in_front, all_lines, blank_seats, cut, cut_few, cut_is, ending_seats, first_piece, front_is, front_marks, last_fits, lines_end_behind, lines_of, no_prefix, other_pieces, part_at, part_fits, pieces_over, pieces_split, rows_length, seats_of, behind, head}
+use Rattle.mdconstructs_containers.proofs.PartGoes.{PartIs, all_in_front, all_lines, blank_seats, cut, cut_few, cut_is, ending_seats, first_piece, front_is, front_marks, last_fits, lines_end_behind, lines_of, no_prefix, other_pieces, part_at, part_fits, pieces_over, pieces_split, rows_length, seats_of, behind, head, none_in}
 use Rattle.mdconstructs_containers.proofs.Pieces.{AreJoined, Over, pieces_joined}
 use Rattle.mdconstructs_containers.proofs.PrefixSpans.{prefixes_kept, take_more}
 use Rattle.mdconstructs_containers.proofs.SeatFacts.{LineIs, LinesEnd, document_lines, drop_text, lines_end}
@@ -126,10 +126,6 @@ module _ (t : ℕ) (bytes : List ℕ) where
         let ending = ending_seats (is_held part) part.first part.more in
         subst (λ (ps : List Part). Accounts bytes (behind_marks bytes part ps) (ending ++ [])) (sym (none_in bound))
         (subst (Accounts bytes (behind_marks bytes part [])) (sym (append-nil ending)) (both_account bytes (exits bytes part.frames (end_of bytes part)) (ending_marks bytes part) [] ending exit end))
-      where
-        none_in : (bound : ℕ) → parts_in bound [] ≡ []
-        none_in zero = refl
-        none_in (suc bound) = refl
     behind_accounts zero part fits b n (l ∷ ls) spans lines ends few = absurd (omega (arith, few))
     behind_accounts (suc bound) part fits b n (l ∷ ls) spans lines ends few =
         let is = is_part on part.frames b n l ls spans in

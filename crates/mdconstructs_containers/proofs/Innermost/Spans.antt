@@ -12,7 +12,7 @@ use Rattle.markdown_base.specs.declared.event.Point.{Point}
 use Rattle.markdown_base.specs.Events.{is_enter}
 use Rattle.markdown_base.specs.Virtual.{Seat}
 use Rattle.mdconstructs_flow_read.proofs.Lines.WholeLines.{IsWhole, whole-behind, whole-front}
-use Rattle.mdconstructs_flow_read.proofs.Marks.MarkAccounts.{AreSpans, accounts-kept, bare}
+use Rattle.mdconstructs_flow_read.proofs.Marks.MarkAccounts.{AreSpans, accounts-kept, bare, ended-alike}
 use Rattle.mdconstructs_flow_read.proofs.Marks.MarkSpans.{no-spans, over, spans-both}
 use Rattle.mdconstructs_flow_read.specs.LeafEvents.{Chunk, Mark, chunk_span}
 use Rattle.mdconstructs_machines.proofs.Innermost.{enter-more, exit-more, span-more}
@@ -31,16 +31,12 @@ ended_chained x i previous [] = refl
 ended_chained x i previous ((f, None) ∷ ms) = refl
 ended_chained x i previous ((f, Some chunk) ∷ ms) = refl
 
-ended_alike : (x e : Event) (es : List Event) → x.point ≡ e.point → ended_next x es ≡ ended_next e es
-ended_alike x e [] h = refl
-ended_alike x e (f ∷ es) h = ap (λ p. cond (is_enter f.kind) [] ((p, f.point) ∷ [])) h
-
 pub chained_spans : (i : ℕ) (previous : Option ℕ) (ms : List Mark) → innermost_spans (chained_from i previous ms) ≡ innermost_spans (bare ms)
 chained_spans i previous [] = refl
 chained_spans i previous ((e, None) ∷ ms) = (λ k. cond (is_enter e.kind) (ended_chained e (suc i) previous ms k) [] ++ chained_spans (suc i) previous ms k)
 chained_spans i previous ((e, Some chunk) ∷ ms) =
     let x : Event = record e { link = Some (record { previous = cond chunk.has_previous previous None; next = cond chunk.has_next (next_chunk (suc i) ms) None; content = chunk.content }) } in
-    let ended : ended_next x (chained_from (suc i) (Some i) ms) ≡ ended_next e (bare ms) = ended_chained x (suc i) (Some i) ms ∙ ended_alike x e (bare ms) refl in
+    let ended : ended_next x (chained_from (suc i) (Some i) ms) ≡ ended_next e (bare ms) = ended_chained x (suc i) (Some i) ms ∙ ended-alike x e (bare ms) refl in
     (λ k. cond (is_enter e.kind) (ended k) [] ++ chained_spans (suc i) (Some i) ms k)
 
 module _ (bytes : List ℕ) where
