@@ -5,7 +5,7 @@ mod FlowRuns
 pub mod FlowTexts
 mod FlowTiles
 mod Formed
-mod InContainers
+pub mod InContainers
 mod Innermost
 mod Prelude
 mod RangeReads

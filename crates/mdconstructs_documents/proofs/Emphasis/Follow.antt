@@ -2,12 +2,8 @@
 use Rattle.mdconstructs_documents.proofs.Prelude.{◌≡◌, ℕ, zero, suc, ◌+◌, ◌<◌, Bool, true, false, inl, inr, ◌⊎◌, List, [], ◌∷◌, ◌++◌, append_assoc, length, take, drop, refl, sym, ap, ◌∙◌, subst, arith, take-append-drop, Event, Enter, Exit, Data, Point, shown, Seat, end_after, Run, closings, data_of, inner_name, later, markers_of, markers_of_all, openings, outer_name, sequence_name, unlinked_event, markers, in_place, OneLine}
 use Rattle.markdown_base.specs.declared.event.Name.{Name}
 use Rattle.mdconstructs_documents.proofs.FlowTexts.InlineOrder.{later-later, later-none}
+use Rattle.mdconstructs_documents.proofs.FlowTexts.InlineSteps.{Opens}
 use Rattle.mdconstructs_documents.proofs.Innermost.Lined.{LinedFor, lined-enter, lined-exit, lined-span, one-drop, one-take}
-
--- events begin with an enter, if there are any
-abbrev pub Opens : List Event → Type 0
-Opens [] = Unit {0}
-Opens (e ∷ es) = e.kind ≡ Enter
 
 some-markers : (s : Bool) → 0 < markers_of s
 some-markers true = omega arith

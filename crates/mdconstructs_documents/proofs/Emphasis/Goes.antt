@@ -1,6 +1,7 @@
 -- Emphasis accounts for the virtual bytes that its runs and the texts between them do.
 use Rattle.mdconstructs_documents.proofs.Prelude.{◌≡◌, ℕ, ◌<◌, inl, inr, ◌⊎◌, List, [], ◌∷◌, ◌++◌, sym, ap, ◌∙◌, subst, arith, flat_map-append, Event, IsBalanced, Seat, AreBeside, Run, events_of_runs, markers, in_place, AllByRecursion, every-back, every-front, Atom, InOneLine, atom_seats, seats_of}
-use Rattle.mdconstructs_documents.proofs.Emphasis.Follow.{Opens, place-more, place-opens}
+use Rattle.mdconstructs_documents.proofs.Emphasis.Follow.{place-more, place-opens}
+use Rattle.mdconstructs_documents.proofs.FlowTexts.InlineSteps.{Opens}
 use Rattle.mdconstructs_documents.proofs.Emphasis.Pairs.{HaveAtoms}
 use Rattle.mdconstructs_documents.proofs.Emphasis.Runs.{AreRuns, IsFreeBefore, RunsAre, balanced-opens, balanced-shut, beside-others, cut-follows, cut-is-run, cut-star, free-behind, opens-behind, run-cut, runs-behind}
 use Rattle.mdconstructs_documents.proofs.FlowTexts.InlineTight.{run-in-place}

@@ -1,13 +1,12 @@
 -- Each virtual byte of a text is in one innermost span of the events of leaf blocks with inline text.
 use Rattle.mdconstructs_documents.proofs.Prelude.{ℕ, List, [], ◌∷◌, ◌++◌, None, append_assoc, map, sym, subst, append-nil, AllByRecursion, flat_map, Constructs, Event, Point, Seat, end_after, point, every-back, every-front, empty_text, emphasis-can-be-made, AccountFor, lines_in, read-alone, read-balanced, read_events, string_seat_events, shown, AcrossGap, Course, course-every, course-on, text-course, AreSpans, Begins, accounts-kept, IsKeptBySpans, leaf_blocks, Mark, document, options_with, InlinesAccount, block_texts, inline_seat_events, read_marks}
-use Rattle.mdconstructs_documents.proofs.Emphasis.Follow.{Opens}
 use Rattle.mdconstructs_documents.proofs.Emphasis.InlineRuns.{inline-runs}
 use Rattle.mdconstructs_documents.proofs.Emphasis.Pairs.{HaveAtoms, pairs-of-atoms, shut-account}
 use Rattle.mdconstructs_documents.proofs.Emphasis.Tracked.{runs-tracked}
 use Rattle.mdconstructs_documents.proofs.Emphasis.Runs.{balanced-opens, balanced-shut}
 use Rattle.mdconstructs_documents.proofs.Emphasis.Stand.{emphasis-accounts}
 use Rattle.mdconstructs_documents.proofs.FlowTexts.Accounts.{bare-marks, cut-spans, linked-account}
-use Rattle.mdconstructs_documents.proofs.FlowTexts.InlineSteps.{Steps, steps-virtual}
+use Rattle.mdconstructs_documents.proofs.FlowTexts.InlineSteps.{Opens, Steps, steps-virtual}
 use Rattle.mdconstructs_documents.proofs.FlowTexts.Spans.{texts-keep}
 use Rattle.mdconstructs_documents.proofs.FlowTexts.Strings.{string-cut}
 use Rattle.mdconstructs_documents.proofs.Innermost.Lined.{LinedFor}

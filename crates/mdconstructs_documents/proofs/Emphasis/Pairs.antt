@@ -79,10 +79,6 @@ module _ (bytes : List ℕ) where
   atom-places [] = refl
   atom-places (a ∷ atoms) = ap (λ l. span_over bytes (stretch_of a) ∷ l) (atom-places atoms)
 
-  -- so they account for the virtual bytes of these
-  pub atoms-account : (es : List Event) (atoms : List Atom) → HaveAtoms es atoms → AccountFor es bytes (seats_of atoms)
-  atoms-account es atoms h = record { stretches = map stretch_of atoms; are_all = all-stretches atoms; are_innermost = spans-of-pairs es ∙ ap (map places_of) h ∙ atom-places atoms }
-
   -- events that account for virtual bytes, and end with an exit, before others
   pub shut-account : (xs ys : List Event) (seats more : List Seat) → Shut xs → AccountFor xs bytes seats → AccountFor ys bytes more → AccountFor (xs ++ ys) bytes (seats ++ more)
   shut-account xs ys seats more shut h k = record {

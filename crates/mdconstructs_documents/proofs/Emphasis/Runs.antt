@@ -2,7 +2,8 @@
 use Rattle.mdconstructs_documents.proofs.Prelude.{◌≡◌, ℕ, ◌+◌, ◌-◌, Bool, true, false, inl, inr, ◌⊎◌, List, [], ◌∷◌, ◌++◌, length, refl, sym, ap, ◌∙◌, subst, arith, ◌&&◌, not, slice_get, and-right, none-mapped, Event, Kind, Enter, Exit, AttentionSequence, Point, IsBalanced, empty, is_enter, same_name, shown, end_after, and-left, AreBeside, IsBeside, Run, same, Standing, markers, standing, is_sequence, is_star_byte, Atom, MapCut, atom_seats, map-cut}
 use Rattle.markdown_base.specs.declared.event.Name.{Name}
 use Rattle.markdown_base.specs.Events.{span}
-use Rattle.mdconstructs_documents.proofs.Emphasis.Follow.{Follow, FollowFrom, Opens, follow-end}
+use Rattle.mdconstructs_documents.proofs.Emphasis.Follow.{Follow, FollowFrom, follow-end}
+use Rattle.mdconstructs_documents.proofs.FlowTexts.InlineSteps.{Opens}
 use Rattle.mdconstructs_documents.proofs.Emphasis.RunAtoms.{is_run}
 use Rattle.mdconstructs_documents.proofs.Emphasis.Pairs.{HaveAtoms, Shut, innermost_pairs, pair-first, pair_of, pairs-apart}
 

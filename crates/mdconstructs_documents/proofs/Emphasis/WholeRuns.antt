@@ -1,12 +1,8 @@
 -- Virtual bytes that are cut from the front, item by item, into delimiter runs and items that hold none: their runs are as long as can be.
 use Rattle.mdconstructs_documents.proofs.FlowTexts.InlineCuts.{no-endings}
-use Rattle.mdconstructs_documents.proofs.Prelude.{◌≡◌, ℕ, zero, suc, ◌+◌, ◌<◌, ◌≤◌, ◌==◌, true, false, cond, inl, inr, List, [], ◌∷◌, ◌++◌, length, take, drop, Option, Some, None, refl, sym, ◌∙◌, subst, arith, ◌⊎◌, AllByRecursion, flat_map, prefix_len, nat_tests, flat_map-append, append-nil, take-append-drop, every-append, Event, Enter, Exit, AttentionSequence, same_name, Seat, end_after, every-back, every-front, event, EachThere, OfOption, Atom, InOneLine, IsCut, all_at, atom_events, atom_seats, events_of, seats_of, ItemCut, plain-line, drop-less, Found, Grammar, item_length, bytes_of, cut, item_events, delimiter_run, run_length, is_delimiter}
+use Rattle.mdconstructs_documents.proofs.Prelude.{◌≡◌, ℕ, zero, suc, ◌+◌, ◌<◌, ◌≤◌, ◌==◌, true, false, cond, inl, inr, List, [], ◌∷◌, ◌++◌, length, take, drop, Option, Some, None, refl, sym, ◌∙◌, subst, arith, ◌⊎◌, AllByRecursion, flat_map, prefix_len, nat_tests, flat_map-append, append-nil, take-append-drop, every-append, Event, Enter, Exit, AttentionSequence, Seat, end_after, every-back, every-front, event, EachThere, OfOption, Atom, InOneLine, IsCut, all_at, atom_events, atom_seats, events_of, seats_of, ItemCut, plain-line, drop-less, Found, Grammar, item_length, bytes_of, cut, item_events, delimiter_run, run_length, is_delimiter}
 use Rattle.mdconstructs_documents.proofs.Emphasis.RunAtoms.{is_run, Differs, AreWholeRuns}
-use Rattle.mdconstructs_documents.proofs.FlowTexts.InlineSteps.{AreDelimiters, run-delimiters}
-
--- an event is of no attention sequence
-abbrev pub IsOther : Event → Type 0
-IsOther e = same_name e.name AttentionSequence ≡ false
+use Rattle.mdconstructs_documents.proofs.FlowTexts.InlineSteps.{AreDelimiters, IsOther, run-delimiters}
 
 -- an atom is no run
 abbrev IsNoRun : Atom → Type 0

@@ -6,7 +6,7 @@ use Rattle.mdconstructs_documents.proofs.FlowTexts.Segments.{Segment, kept, chai
 use Rattle.mdconstructs_flow_read.proofs.Marks.MarkLists.{linked-append}
 
 -- changes that are apart from an index on are so from one before it
-apart-before : (m i n : ℕ) (ws : List Change) → i ≤ m → AreApart m ws n → AreApart i ws n
+pub apart-before : (m i n : ℕ) (ws : List Change) → i ≤ m → AreApart m ws n → AreApart i ws n
 apart-before m i n [] l h = omega (arith, l, h)
 apart-before m i n (w ∷ ws) l h = let first : m ≤ w.index = h.0 in (omega (arith, l, first), h.1)
 

@@ -1,5 +1,6 @@
 -- Emphasis keeps the order of places: its events stand in their runs, between the events beside these.
 use Rattle.mdconstructs_documents.proofs.Prelude.{◌≡◌, ℕ, zero, suc, ◌+◌, ◌-◌, ◌≤◌, Bool, true, false, cond, inl, inr, List, [], ◌∷◌, ◌++◌, Option, Some, None, length, drop, map, refl, sym, ap, ◌∙◌, subst, arith, ◌==◌, ◌&&◌, slice_get, AllByRecursion, cases_Bool, nat_tests, drop-drop, same_Some, drop-append-add, and-right, drop-next, stands-self, Event, Point, IsBalanced, stands_before, get-dropped, pairs-keep, pairs-keep-indices, runs-and-texts, Run, closings, data_of, events_of_runs, later, markers_of, markers_of_all, openings, paired, Standing, markers, standing, HasRunsAt, in_place, index_of, depth_after, index_of_event, is_sequence, run_at, runs_from, runs_in, text_before, text_behind, with_emphasis, Place}
+use Rattle.markdown_edits.proofs.Edits.Survivors.{slice_get-behind}
 use Rattle.mdconstructs_documents.proofs.FlowTexts.Forms.{Ordered, ordered-both}
 use Rattle.mdconstructs_documents.proofs.FlowTexts.InlineTight.{run-in-place}
 use Rattle.mdconstructs_tables.proofs.Looks.Left.{at-front}
@@ -22,13 +23,9 @@ upto-later n p = grind (arith, nat_tests)
 
 -- ---- events of a list, by what is left of it
 
-get-seam : (xs ys : List Event) (n : ℕ) → slice_get (xs ++ ys) (length xs + n) ≡ slice_get ys n
-get-seam [] ys n = let same : 0 + n ≡ n = omega arith in ap (slice_get ys) same
-get-seam (x ∷ xs) ys n = let same : suc (length xs) + n ≡ suc (length xs + n) = omega arith in ap (slice_get (x ∷ (xs ++ ys))) same ∙ get-seam xs ys n
-
 -- an event behind the text before a run
 pub found-at : (events text : List Event) (i k n : ℕ) (pair : List Event) → drop i events ≡ text ++ pair → k ≡ i + (length text + n) → slice_get events k ≡ slice_get pair n
-found-at events text i k n pair at is = ap (slice_get events) is ∙ sym (get-dropped i events (length text + n)) ∙ ap (λ l. slice_get l (length text + n)) at ∙ get-seam text pair n
+found-at events text i k n pair at is = ap (slice_get events) is ∙ sym (get-dropped i events (length text + n)) ∙ ap (λ l. slice_get l (length text + n)) at ∙ slice_get-behind text pair n
 
 module _ (t : ℕ) (bytes : List ℕ) where
   -- each place up to so many bytes later is one of the document

@@ -13,6 +13,15 @@ use Rattle.mdconstructs_documents.proofs.FlowTexts.InlineOrder.{Next, RunsStep, 
 abbrev pub Steps : List ℕ → Seat → Type 0
 Steps bytes s = is_delimiter s.byte ≡ true → (s.end ≡ later 1 s.point) × (shown bytes s.point ≡ s.point) × (slice_get bytes s.point.index ≡ Some s.byte)
 
+-- an event is of no attention sequence
+abbrev pub IsOther : Event → Type 0
+IsOther e = same_name e.name AttentionSequence ≡ false
+
+-- events begin with an enter, if there are any
+abbrev pub Opens : List Event → Type 0
+Opens [] = Unit {0}
+Opens (e ∷ es) = e.kind ≡ Enter
+
 module _ (bytes : List ℕ) where
   steps-tab : (b n l c i v : ℕ) → is_delimiter b ≡ false → AllByRecursion (Steps bytes) (in_tab b n l c i v)
   steps-tab b zero l c i v other = tt
@@ -132,9 +141,6 @@ module _ (t : ℕ) (bytes : List ℕ) where
       run-steps o l [] (subst (Track t bytes o) (sym (append-nil l)) (line-track t bytes p s ss rest (delimiters-whole l are) course)) steps are
 
   -- ---- events without attention sequences
-  abbrev IsOther : Event → Type 0
-  IsOther e = same_name e.name AttentionSequence ≡ false
-
   free-next : (e : Event) (es : List Event) → IsOther e → Next t bytes e es
   free-next e [] h = tt
   free-next e (f ∷ es) h = λ is.
@@ -272,11 +278,6 @@ module _ (t : ℕ) (bytes : List ℕ) where
   free-each text = (free-code-span text, (free-autolink text, (free-email text, (free-html text (marked text), (free-html text (tag_length text), (free-escape text, (free-break-escape text, (free-reference text, (free-trailing-break text, (free-white-space text, tt))))))))))
 
   -- ---- one item behind another
-  -- events begin with an enter, if there are any
-  abbrev Opens : List Event → Type 0
-  Opens [] = Unit {0}
-  Opens (e ∷ es) = e.kind ≡ Enter
-
   opens-both : (xs ys : List Event) → Opens xs → Opens ys → Opens (xs ++ ys)
   opens-both [] ys h k = k
   opens-both (x ∷ xs) ys h k = h

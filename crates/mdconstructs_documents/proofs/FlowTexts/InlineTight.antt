@@ -1,5 +1,5 @@
 -- Void spans are empty where texts are read as inline text: emphasis leaves each with its exit behind it.
-use Rattle.mdconstructs_documents.proofs.Prelude.{◌≡◌, ℕ, zero, suc, ◌+◌, Bool, true, false, List, [], ◌∷◌, ◌++◌, Option, Some, None, append_assoc, map, refl, sym, ap, ◌∙◌, subst, AllByRecursion, Constructs, Event, Enter, Exit, Data, Point, IsBalanced, is_void, Seat, point, names_after_balanced, names_after, names_after_all, empty_text, pairs-keep-indices, runs-and-texts, Run, closings, data_of, events_of_runs, inner_name, later, markers_of, markers_of_all, openings, outer_name, paired, sequence_name, tail_events, unlinked_event, AreFresh, HasRunsAt, in_place, index_of, runs_in, text_before, text_behind, with_emphasis, bare, Mark, AreTight, tight-both, all-built, read-balanced, read_events, document, options_with, inline_seat_events}
+use Rattle.mdconstructs_documents.proofs.Prelude.{◌≡◌, ℕ, zero, suc, ◌+◌, Bool, true, false, List, [], ◌∷◌, ◌++◌, Option, Some, None, append_assoc, map, refl, sym, ap, ◌∙◌, subst, AllByRecursion, Constructs, Event, Enter, Exit, Data, Point, IsBalanced, is_void, Seat, point, names_after_balanced, names_after, names_after_all, empty_text, pairs-keep-indices, runs-and-texts, Run, closings, data_of, events_of_runs, inner_name, later, markers_of, markers_of_all, openings, outer_name, paired, sequence_name, tail_events, unlinked_event, AreFresh, HasRunsAt, in_place, index_of, runs_in, text_before, text_behind, with_emphasis, AreTight, tight-both, all-built, read-balanced, read_events, document, options_with, inline_seat_events}
 use Rattle.markdown_base.specs.declared.event.Name.{Name}
 use Rattle.mdconstructs_documents.proofs.FlowTexts.Forms.{tight-kept}
 
@@ -108,8 +108,3 @@ inline-tight on bytes seats =
     let g = document (options_with on 4) bytes in
     let text = record (empty_text (point 1 1 0 0)) { seats = seats } in
     tight-emphasis bytes (read_events g text) (read-balanced g text) (all-built bytes AreTight (tight-kept bytes) on seats)
-
--- ---- in their blocks
-module _ (bytes : List ℕ) where
-  abbrev Tight : List Mark → List Seat → Type 0
-  Tight marks seats = AreTight (bare marks)

@@ -1,6 +1,7 @@
 -- A list whose chains are of two contents, which are read as events without links: with the children of all chains at once it is as with those of
 -- one content first, and then of the other.
 use Rattle.std.proofs.Common.{zero-add, ◌≡◌, ◌⊎◌, ℕ, ◌+◌, inl, inr, Bool, true, false, cond, List, [], ◌∷◌, ◌++◌, length, map, Option, Some, None, refl, sym, ◌∙◌, ap, subst}
+use Rattle.std.proofs.Math.Bool.{and_comm}
 use Rattle.std.proofs.lemmas.Bool.{and_parts}
 use Rattle.std.proofs.lemmas.List.{length-map, map-append}
 use Rattle.std.specs.List.{AllByRecursion, range_with_len}
@@ -89,17 +90,11 @@ turns-later f c q j (k ∷ ks) [] h = tt
 turns-later f c q j (k ∷ ks) (p ∷ ps) h =
     ((refl, subst (AllByRecursion IsBare) (sym (untagged-child c j p)) h.0, refl, refl, untagged-child q j p ∙ sym (untagged-child c j p)), turns-later f c q (j + length p) ks ps h.1)
 
-and-swap : (x n : Bool) → (x && n) ≡ (n && x)
-and-swap true true = refl
-and-swap true false = refl
-and-swap false true = refl
-and-swap false false = refl
-
 -- what begins a chain of a content begins a chain, and is of the content
 begins-both : (w : Content) (o : Option Content) (n : Bool) → (some_fits (Some w) o && n) ≡ ((some_fits None o && n) && some_fits (Some w) o)
 begins-both w None true = refl
 begins-both w None false = refl
-begins-both w (Some c) n = and-swap (some_fits (Some w) (Some c)) n
+begins-both w (Some c) n = and_comm (some_fits (Some w) (Some c)) n
 
 children-of : (events : List Event) (read : ℕ → List Event) (cs : List ℕ) → flat_map chain_changes (divided_over events cs (map read cs)) ≡ flat_map (λ c. chain_changes (divided events c (read c))) cs
 children-of events read [] = refl

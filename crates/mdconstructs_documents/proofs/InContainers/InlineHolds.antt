@@ -1,20 +1,15 @@
--- Void spans of inline text and of strings are each in one line of their text: they hold bytes of the text alone, and none goes over a gap.
-use Rattle.mdconstructs_documents.proofs.Prelude.{◌≡◌, ℕ, zero, suc, ◌+◌, Bool, true, false, not, ◌&&◌, inl, inr, None, List, Option, [], ◌∷◌, ◌++◌, append_assoc, append-nil, refl, sym, ap, ◌∙◌, subst, arith, and_parts, nat_tests, AllByRecursion, Contains, every-back, every-front, stands-self, Constructs, Event, Enter, Exit, Data, Point, IsBalanced, AttentionSequence, is_void, is_line_ending, shown, stands_before, Seat, end_after, point, virtual, empty_text, pairs-keep, pairs-keep-indices, runs-and-texts, Run, closings, data_of, events_of_runs, inner_name, later, markers_of, markers_of_all, openings, outer_name, paired, sequence_name, unlinked_event, markers, HasRunsAt, in_place, runs_in, text_before, text_behind, with_emphasis, event, Atom, InOneLine, IsCut, OneLine, all_at, atom_events, atom_seats, events_of, seats_of, all-built, read-balanced, read_events, string-built, string_seat_events, AcrossGap, Course, course-every, course-on, text-course, IsWhole, AreTight, Given, Text, IsText, document, options_with, inline_seat_events, every-map, Content, emphasis-can-be-made, read-alone, inline-alone, string-alone, tight-at, Place}
+-- Void spans of inline text are each in one line of their text: they hold bytes of the text alone, and none goes over a gap.
+use Rattle.mdconstructs_documents.proofs.Prelude.{◌≡◌, ℕ, zero, suc, ◌+◌, Bool, true, false, not, ◌&&◌, inl, inr, None, List, [], ◌∷◌, ◌++◌, append_assoc, append-nil, refl, sym, ap, ◌∙◌, subst, and_parts, AllByRecursion, Contains, every-back, every-front, stands-self, Constructs, Event, Enter, Exit, Data, Point, IsBalanced, AttentionSequence, is_void, is_line_ending, shown, stands_before, Seat, end_after, point, empty_text, pairs-keep, pairs-keep-indices, runs-and-texts, Run, closings, data_of, events_of_runs, inner_name, later, markers_of, markers_of_all, openings, outer_name, paired, sequence_name, unlinked_event, markers, HasRunsAt, in_place, runs_in, text_before, text_behind, with_emphasis, event, Atom, InOneLine, IsCut, OneLine, all_at, atom_events, atom_seats, events_of, seats_of, all-built, read-balanced, read_events, AcrossGap, Course, course-every, course-on, text-course, IsWhole, AreTight, Given, Text, IsText, document, options_with, inline_seat_events}
 use Rattle.std.proofs.lemmas.Bool.{cases_Bool}
-use Rattle.std.specs.Prelude.{All}
-use Rattle.std.proofs.lemmas.List.Elements.{All-contains_itself, All-from_recursion, recursion_from_All}
+use Rattle.std.proofs.lemmas.List.Elements.{All-contains_itself, recursion_from_All}
 use Rattle.markdown_base.proofs.Orders.{upto-upto}
 use Rattle.markdown_base.specs.declared.event.Name.{Name}
 use Rattle.markdown_edits.proofs.Balanced.{same_name-true}
-use Rattle.markdown_children.proofs.Parts.Staying.{alone-ready}
-use Rattle.markdown_children.specs.NextContent.{CanBeReadNext, HoldsOnlyText}
-use Rattle.markdown_children.specs.Ready.{IsShownPlace}
+use Rattle.markdown_children.specs.NextContent.{HoldsOnlyText}
 use Rattle.std.proofs.lemmas.Bool.{not-true}
 use Rattle.mdconstructs_flow_read.proofs.Marks.MarkHolds.{HoldEach, Holds}
 use Rattle.mdconstructs_flow_read.proofs.Marks.MarkHolds.{hold-both, holds-pair}
-use Rattle.mdconstructs_documents.proofs.InContainers.TextsFormed.{string-orderly}
 use Rattle.mdconstructs_inlines.specs.InlineEvents.{inline_events}
-use Rattle.mdconstructs_inlines.specs.StringEvents.{string_events}
 use Rattle.mdconstructs_documents.proofs.Emphasis.Follow.{follow-end}
 use Rattle.mdconstructs_documents.proofs.Emphasis.InlineRuns.{inline-runs}
 use Rattle.mdconstructs_documents.proofs.Emphasis.Pairs.{HaveAtoms, Shut, pairs-of-atoms}
@@ -22,13 +17,10 @@ use Rattle.mdconstructs_documents.proofs.Emphasis.Runs.{AreRuns, RunsAre, balanc
 use Rattle.mdconstructs_documents.proofs.Emphasis.Stand.{StandsAt, runs-are, runs-stand}
 use Rattle.mdconstructs_documents.proofs.Emphasis.Tracked.{runs-tracked}
 use Rattle.mdconstructs_documents.proofs.FlowChains.Blocks.{held-at}
-use Rattle.mdconstructs_documents.proofs.FlowTexts.Accounts.{bare-marks}
-use Rattle.mdconstructs_documents.proofs.FlowTexts.Forms.{string-forms, tight-kept}
-use Rattle.mdconstructs_documents.proofs.FlowTexts.InlineForms.{inline-forms}
+use Rattle.mdconstructs_documents.proofs.FlowTexts.Forms.{tight-kept}
 use Rattle.mdconstructs_documents.proofs.FlowTexts.InlineOrder.{later-later, upto-later}
 use Rattle.mdconstructs_documents.proofs.FlowTexts.InlineSteps.{Steps, steps-virtual}
-use Rattle.mdconstructs_documents.proofs.FlowTexts.InlineTight.{AreBalanced, fresh-balanced, inline-tight, inner-holds, outer-holds, run-in-place, tight-back}
-use Rattle.mdconstructs_documents.proofs.FlowTexts.Strings.{string-cut}
+use Rattle.mdconstructs_documents.proofs.FlowTexts.InlineTight.{AreBalanced, fresh-balanced, inner-holds, outer-holds, run-in-place, tight-back}
 use Rattle.mdconstructs_containers.proofs.SeatFacts.{before_upto}
 
 -- a list with no line ending but at its end is in one line
@@ -221,10 +213,7 @@ module _ (t : ℕ) (bytes : List ℕ) (In : Seat → Type 0) where
       let runs = runs-tracked bytes t atoms p rest (subst (λ l. Course AcrossGap t bytes p (l ++ rest)) cut.0.all course) (subst (AllByRecursion (Steps bytes)) cut.0.all steps) cut.1 in
       emphasis-holds es atoms (read-balanced g text) have runs (cut-holds es seats cut.0 (all-built bytes AreTight (tight-kept bytes) on seats) p rest course inside)
 
-  pub string-holds : (on : Constructs) (seats : List Seat) (p : Point) (rest : List Seat) → Course AcrossGap t bytes p (seats ++ rest) → AllByRecursion In seats → Each (string_seat_events on bytes seats)
-  string-holds on seats p rest course inside = cut-holds (string_seat_events on bytes seats) seats (string-cut on bytes seats) (string-built bytes AreTight (tight-kept bytes) on seats) p rest course inside
-
--- So void spans of what texts are read as hold only text, and it can be read next
+-- So void spans of what texts are read as hold only text
 module _ (g : Given) (text : Text) (is : IsText g text) where
   abbrev start : Point
   start = shown g.bytes text.start
@@ -243,36 +232,3 @@ module _ (g : Given) (text : Text) (is : IsText g text) where
 
   pub inlines-hold-text : HoldsOnlyText g text (inline_events g text)
   inlines-hold-text = held-at g text (inline_events g text) (inline-holds g.tab g.bytes (Contains text.seats) on text.seats start [] own-course own-steps own-seats)
-
-  pub strings-hold-text : HoldsOnlyText g text (string_events g text)
-  strings-hold-text = held-at g text (string_events g text) (string-holds g.tab g.bytes (Contains text.seats) on text.seats start [] own-course own-seats)
-
-  abbrev AtPlace : Event → Type 0
-  AtPlace e = Place g.tab g.bytes e.point
-
-  all-shown : (es : List Event) → AllByRecursion AtPlace es → All (λ (e : Event). IsShownPlace g.tab g.bytes e.point) es
-  all-shown es h =
-      All-from_recursion (λ (e : Event). IsShownPlace g.tab g.bytes e.point) es (every-map AtPlace (λ (e : Event). IsShownPlace g.tab g.bytes e.point) (λ e place. (place.is_point, place.is_shown)) es h)
-
-  pub inlines-read-next : (next : Option Content) → CanBeReadNext g next text (inline_events g text)
-  inlines-read-next next =
-      let es = inline_events g text in
-      let balanced = (emphasis-can-be-made g.bytes (read_events g text) (read-balanced g text) (read-alone g text)).2 in
-      let places = (inline-forms g.tab g.bytes on text.seats own-steps start [] own-course).places in
-      record {
-        ready = alone-ready g.tab g.bytes next es balanced (inline-alone g text);
-        shown = all-shown es (subst (AllByRecursion AtPlace) (bare-marks es) places);
-        tight = tight-at es (inline-tight on g.bytes text.seats);
-        whole = inlines-hold-text;
-      }
-
-  pub strings-read-next : (next : Option Content) → CanBeReadNext g next text (string_events g text)
-  strings-read-next next =
-      let es = string_events g text in
-      let places = (string-forms g.tab g.bytes on text.seats start [] own-course).places in
-      record {
-        ready = alone-ready g.tab g.bytes next es (string-orderly g text is).balanced (string-alone g text);
-        shown = all-shown es (subst (AllByRecursion AtPlace) (bare-marks es) places);
-        tight = tight-at es (string-built g.bytes AreTight (tight-kept g.bytes) on text.seats);
-        whole = strings-hold-text;
-      }

@@ -16,13 +16,14 @@ use Rattle.markdown_edits.specs.Woven.{AreApart, Change, Tagged, as_listed, is_r
 use Rattle.markdown_tokenizer.specs.Plain.{HaveNoLinks}
 use Rattle.markdown_children.proofs.Parts.Kept.{untagged, untagged-olds}
 use Rattle.markdown_children.proofs.Parts.Once.{AreOnce, once-place}
+use Rattle.mdconstructs_documents.proofs.FlowTexts.Changes.{apart-before}
 
 -- the event has no link
 abbrev pub IsBare : Event → Type 0
 IsBare e = e.link ≡ None
 
 -- so it is the same at other places
-bare-same : (e : Event) → IsBare e → (f : ℕ → Option ℕ) → relinked f e ≡ e
+pub bare-same : (e : Event) → IsBare e → (f : ℕ → Option ℕ) → relinked f e ≡ e
 bare-same e h f = ap (λ (o : Option Link). record e { link = option_map (with_ends f) o }) h ∙ ap (λ (o : Option Link). record e { link = o }) (sym h)
 
 pub bare-placed : (ts us : List Tagged) → AllByRecursion IsBare (untagged us) → placed_in ts us ≡ untagged us
@@ -34,10 +35,6 @@ no-links-bare [] h = tt
 no-links-bare (e ∷ es) h = (h.0, no-links-bare es h.1)
 
 -- ---- a pass, event by event
-apart-before : (m i n : ℕ) (ws : List Change) → i ≤ m → AreApart m ws n → AreApart i ws n
-apart-before m i n [] l h = omega (arith, l, h)
-apart-before m i n (w ∷ ws) l h = let first : m ≤ w.index = h.0 in (omega (arith, l, first), h.1)
-
 pass-one : (i n : ℕ) (x : Event) (xs : List Event) (ws : List Change) → AreApart (i + 1) ws n → pass ws i (x ∷ xs) ≡ as_listed i x ∷ pass ws (i + 1) xs
 pass-one i n x xs [] h = refl
 pass-one i n x xs (w ∷ ws) h =

@@ -38,11 +38,6 @@ module _ (At : Point → Type 0) where
   steady-split p [] e ys h = (h.0, h.2)
   steady-split p (x ∷ xs) e ys h = let more = steady-split x.point xs e ys h.2 in ((h.0, h.1, more.0), more.1)
 
-  -- lists that are in order are
-  pub steady-order : (p : Point) (es : List Event) (q : Point) → InOrder p es q → AllByRecursion (λ (e : Event). At e.point) es → Steady p es
-  steady-order p [] q h k = tt
-  steady-order p (e ∷ es) q h k = (h.0, k.0, steady-order e.point es q h.1 k.1)
-
   pub steady-pairs : (e : Event) (es : List Event) → AllPairs (λ (e f : Event). Upto e.point f.point) (e ∷ es) → AllByRecursion (λ (e : Event). At e.point) es → Steady e.point es
   steady-pairs e [] h k = tt
   steady-pairs e (f ∷ es) h k =

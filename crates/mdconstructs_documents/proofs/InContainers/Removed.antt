@@ -1,10 +1,9 @@
 -- What children remove of a list: each chunk that fits, and nothing else; and where events with links come from.
 use Rattle.std.proofs.Common.{◌≡◌, ◌⊎◌, ℕ, ◌+◌, ◌<◌, ◌≤◌, inl, inr, false, true, List, [], ◌∷◌, ◌++◌, length, Option, Some, refl, sym, ◌∙◌, ap, subst, arith}
 use Rattle.std.proofs.lemmas.Bool.{cases_order, eq-eqb, or_left, or_right, le-leb, le-ltb, lt-leb, lt-ltb}
-use Rattle.std.proofs.lemmas.List.Elements.{filter_passes, recursion_from_All}
 use Rattle.std.proofs.lemmas.Option.{none-some, slice_get-map}
 use Rattle.std.specs.Cmp.Derive.{both_true}
-use Rattle.std.specs.List.{AllByRecursion, range_with_len}
+use Rattle.std.specs.List.{AllByRecursion}
 use Rattle.std.specs.Option.{option_and_then, option_map}
 use Rattle.std.specs.Prelude.{◌&&◌, ◌||◌, nat_le, nat_lt, flat_map, slice_get}
 use Rattle.markdown_base.proofs.Common.{every-get, every-map}
@@ -13,8 +12,7 @@ use Rattle.markdown_base.specs.declared.event.Content.{Content}
 use Rattle.markdown_base.specs.declared.event.Event.{Event}
 use Rattle.markdown_edits.specs.Links.{content_of}
 use Rattle.markdown_edits.specs.Woven.{Change, Identity, Tagged, is_removed, is_same, of_addition, of_child, of_list, place_in, placed_end}
-use Rattle.markdown_tokenizer.proofs.Positions.Order.{every-back, every-front}
-use Rattle.markdown_children.specs.Chains.{chain_of, content_at, fits, fitting_chunks, fitting_starts}
+use Rattle.markdown_children.specs.Chains.{chain_of, content_at, fits, fitting_starts}
 use Rattle.markdown_children.specs.Children.{chain_changes, child_changes, first_chunk, part_changes}
 use Rattle.markdown_children.specs.Parts.{divided, divided_over}
 use Rattle.markdown_children.specs.Ready.{IsReady}
@@ -22,7 +20,7 @@ use Rattle.markdown_children.proofs.ChainOrder.Following.{by_option, follow_one_
 use Rattle.markdown_children.proofs.ChainOrder.Spaced.{divided-parts}
 use Rattle.markdown_children.proofs.Parts.InShape.{IsSourced, all-once, all-sourced, child_of, source}
 use Rattle.markdown_children.proofs.Parts.Once.{once-place}
-use Rattle.markdown_children.proofs.Parts.Staying.{new, ts}
+use Rattle.markdown_children.proofs.Parts.Staying.{AtChunk, all-at, new, ts}
 use Rattle.markdown_children.proofs.Parts.Weaves.{content-kept}
 use Rattle.mdconstructs_documents.proofs.InContainers.Rising.{In, in-filter}
 
@@ -65,12 +63,11 @@ clear-test m k h = elim (cases_order k m) [
   ]
 ]
 
-clear-parts : (m c j : ℕ) (ks : List ℕ) (ps : List (List Event)) (ws : List Change) → AllByRecursion (IsClear m) ks → is_removed ws m ≡ false → is_removed (part_changes c j ks ps ++ ws) m ≡ false
-clear-parts m c j [] ps ws h r = r
-clear-parts m c j (k ∷ ks) [] ws h r = r
-clear-parts m c j (k ∷ ks) (p ∷ ps) ws h r =
-    let test = clear-test m k h.0 in
-    let rest = clear-parts m c (j + length p) ks ps ws h.1 r in
+clear-all : (m : ℕ) (ws : List Change) → AllByRecursion (λ (w : Change). IsClear m w.index × (w.remove ≡ 2)) ws → is_removed ws m ≡ false
+clear-all m [] h = refl
+clear-all m (w ∷ ws) h =
+    let test : (nat_le w.index m && nat_lt m (w.index + w.remove)) ≡ false = (λ i. nat_le w.index m && nat_lt m (w.index + h.0.1 i)) ∙ clear-test m w.index h.0.0 in
+    let rest = clear-all m ws h.1 in
     (λ i. test i || rest i)
 
 module _ (events : List Event) where
@@ -83,15 +80,6 @@ module _ (events : List Event) where
       removed-parts m (first_chunk d.chunks) 0 d.chunks d.parts rest (divided-parts events c x)
       (elim (in-append (chain_of events c) (flat_map (chain_of events) cs) m i) [ inl a ↦ inl a | inr b ↦ inr (removed-chains m cs children (omega (arith, l)) b) ])
 
-  clear-chains : (m : ℕ) (cs : List ℕ) (children : List (List Event)) → AllByRecursion (IsClear m) (flat_map (chain_of events) cs) → is_removed (flat_map chain_changes (divided_over events cs children)) m ≡ false
-  clear-chains m [] children h = refl
-  clear-chains m (c ∷ cs) [] h = refl
-  clear-chains m (c ∷ cs) (x ∷ children) h =
-      let d = divided events c x in
-      let rest : List Change = flat_map chain_changes (divided_over events cs children) in
-      clear-parts m (first_chunk d.chunks) 0 d.chunks d.parts rest (every-front (IsClear m) (chain_of events c) (flat_map (chain_of events) cs) h)
-      (clear-chains m cs children (every-back (IsClear m) (chain_of events c) (flat_map (chain_of events) cs) h))
-
 module _ (tab : ℕ) (bytes : List ℕ) (wanted : Option Content) (events : List Event) (ready : IsReady tab bytes wanted events) (children : List (List Event)) where
   pub removed-fits : length (fitting_starts wanted events) ≡ length children → (m : ℕ) → fits wanted events m ≡ true → is_removed (child_changes wanted events children) m ≡ true
   removed-fits l m h =
@@ -102,9 +90,8 @@ module _ (tab : ℕ) (bytes : List ℕ) (wanted : Option Content) (events : List
 
   pub clear-stays : (m : ℕ) → ((k : ℕ) → fits wanted events k ≡ true → IsClear m k) → is_removed (child_changes wanted events children) m ≡ false
   clear-stays m clear =
-      let indices = range_with_len 0 (length events) in
-      let all = every-map (λ k. fits wanted events k ≡ true) (IsClear m) clear (fitting_chunks wanted events) (recursion_from_All (λ k. fits wanted events k ≡ true) (fitting_chunks wanted events) (filter_passes (fits wanted events) indices)) in
-      clear-chains events m (fitting_starts wanted events) children (subst (AllByRecursion (IsClear m)) (sym (follow_one_another tab bytes wanted events ready).in_order) all)
+      clear-all m (child_changes wanted events children)
+      (every-map (AtChunk tab bytes wanted events ready children) (λ (w : Change). IsClear m w.index × (w.remove ≡ 2)) (λ w at. (clear w.index at.0, at.1)) (child_changes wanted events children) (all-at tab bytes wanted events ready children))
 
   -- Where an event comes from that is in a chain of a content: from the list, or from a child
   pub data Origin (p : ℕ) (c : Content) : Type 0 where

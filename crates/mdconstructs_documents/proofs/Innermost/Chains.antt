@@ -3,23 +3,21 @@
 --
 -- Between two chunks of a chain is nothing, or text from the beginning of a line on. So a child is cut there behind a line ending, and no
 -- innermost span comes between its parts.
-use Rattle.mdconstructs_documents.proofs.Prelude.{◌≡◌, ℕ, ◌+◌, ◌<◌, ◌≤◌, true, false, inl, inr, List, [], ◌∷◌, ◌++◌, Option, Some, append_assoc, append-nil, length, map, drop, filter, refl, sym, ap, ◌∙◌, subst, arith, AllByRecursion, between, flat_map, range_with_len, cond, every-append, every-back, every-front, every-map, end-after-append, map-append, stands-self, Content, Event, Point, IsBalanced, in_range, shown, stands_before, Seat, end_after, virtual, next_of, Change, Tagged, AreApart, placed_in, woven, woven-pass, after_changes, part_after, untagged, untagged-olds, between-none, chain_of, fits, fitting_starts, chain_changes, child_changes, part_changes, with_children, divided_over, parts, text_of_chain, IsReady, place_at, place-at-event, Given, IsChain, chain-split, AccountFor, innermost_spans, is_enter, span_over, stretch_bytes, chain-seats, chunk_seats, chain-from, origin, place-shown, range-of, chain_text}
+use Rattle.mdconstructs_documents.proofs.Prelude.{◌≡◌, ℕ, ◌+◌, ◌<◌, true, false, inl, inr, List, [], ◌∷◌, ◌++◌, Option, Some, append_assoc, append-nil, length, map, drop, refl, sym, ap, ◌∙◌, subst, arith, AllByRecursion, between, flat_map, range_with_len, every-append, every-back, every-front, every-map, end-after-append, map-append, stands-self, Content, Event, Point, IsBalanced, shown, stands_before, Seat, end_after, virtual, next_of, Change, Tagged, AreApart, woven, woven-pass, after_changes, untagged, untagged-olds, between-none, chain_of, fits, fitting_starts, chain_changes, child_changes, with_children, divided_over, parts, text_of_chain, IsReady, place_at, Given, IsChain, chain-split, AccountFor, innermost_spans, span_over, stretch_bytes, chain-seats, chunk_seats, chain-from, origin, place-shown, chain_text}
 use Rattle.std.specs.Prelude.{AllPairs}
 use Rattle.markdown_base.proofs.Orders.{upto-upto}
-use Rattle.markdown_children.proofs.ChainOrder.Following.{chunk, fits_next, follow_one_another, starts_fit}
+use Rattle.markdown_children.proofs.ChainOrder.Following.{fits_next, follow_one_another, starts_fit}
 use Rattle.markdown_children.proofs.ChainOrder.Spaced.{changes_are_apart}
-use Rattle.markdown_children.proofs.Parts.Kept.{split-at}
 use Rattle.markdown_children.specs.LawStatements.{AreSpaced, IsWholeFrom, LeadOnFrom}
 use Rattle.markdown_children.specs.NextContent.{HasTextInGaps}
 use Rattle.markdown_children.specs.Parts.{front_until}
 use Rattle.markdown_tokenizer.proofs.Positions.Standing.{chain-upto}
 use Rattle.mdconstructs_text.proofs.Autolinks.Places.{EndsInLine, chain-in-line}
-use Rattle.mdconstructs_text.proofs.DeepSpans.Atoms.{none-account, span-in}
-use Rattle.mdconstructs_text.proofs.DeepSpans.Chains.{front-and-rest, front-at, front-upto}
-use Rattle.mdconstructs_text.proofs.DeepSpans.Chunks.{HasChunk, Stands, place_behind}
+use Rattle.mdconstructs_text.proofs.DeepSpans.Atoms.{none-account}
+use Rattle.mdconstructs_text.proofs.DeepSpans.Chains.{front-and-rest, front-at, front-upto, spans-placed}
+use Rattle.mdconstructs_text.proofs.DeepSpans.Chunks.{HasChunk, Stands, from_chunk, has-chunk, no-gap, place_behind, up-to-chunk}
 use Rattle.mdconstructs_text.proofs.DeepSpans.Places.{Upto as IsUpto, ends-line}
-use Rattle.mdconstructs_text.proofs.Paragraphs.ChunksReady.{drop-two}
-use Rattle.mdconstructs_documents.proofs.Emphasis.Follow.{Opens}
+use Rattle.mdconstructs_documents.proofs.FlowTexts.InlineSteps.{Opens}
 use Rattle.mdconstructs_documents.proofs.Emphasis.Pairs.{Shut, shut-account}
 use Rattle.mdconstructs_documents.proofs.Emphasis.Runs.{balanced-opens, balanced-shut, opens-behind}
 use Rattle.mdconstructs_documents.proofs.InContainers.Order.{steady-pairs}
@@ -31,13 +29,6 @@ pub record IsReadWell (bytes : List ℕ) (es : List Event) (seats : List Seat) :
   pub lined : LinedFor es bytes seats
   pub balanced : IsBalanced es
   pub in_order : AllPairs (λ (e f : Event). stands_before f.point e.point ≡ false) es
-
--- link ends do not matter
-spans-placed : (ts us : List Tagged) → innermost_spans (placed_in ts us) ≡ innermost_spans (untagged us)
-spans-placed ts [] = refl
-spans-placed ts (u ∷ []) = refl
-spans-placed ts (u ∷ v ∷ us) =
-    ap (λ l. cond (is_enter u.event.kind) (cond (is_enter v.event.kind) [] ((u.event.point, v.event.point) ∷ [])) [] ++ l) (spans-placed ts (v ∷ us))
 
 -- stretches of virtual bytes end up to the end of these
 stretches-upto : (t : ℕ) (bytes : List ℕ) (end p : Point) (stretches : List (Seat × List Seat)) (rest : List Seat) → IsChain t bytes p (flat_map stretch_bytes stretches ++ rest) → end_after p (flat_map stretch_bytes stretches) ≡ end
@@ -59,67 +50,18 @@ stretches-start bytes end [] s ss is h = tt
 stretches-start bytes end (a ∷ others) s ss is h = let same : a.0 ≡ s = cc in subst (λ (r : Seat). stands_before end (shown bytes r.point) ≡ true) (sym same) h
 
 module _ (g : Given) (some : 0 < g.tab) (wanted : Option Content) (events : List Event) (ready : IsReady g.tab g.bytes wanted events) (gaps : HasTextInGaps wanted events) where
-  -- a chunk of a list that accounts for the document is over its virtual bytes
-  has-chunk : (i k : ℕ) (pre rest : List Seat) → fits wanted events k ≡ true → i ≤ k → Stands g some events i pre rest → HasChunk g some events i k pre rest
-  has-chunk i k pre rest h l stands =
-      let c = chunk g.tab g.bytes wanted events ready k h in
-      let gap = between i k events in
-      let is : drop i events ≡ gap ++ c.enter ∷ c.exit ∷ drop (k + 2) events = split-at events i k l ∙ ap (λ ys. gap ++ ys) (drop-two events k c.enter c.exit c.enter_at c.exit_at) in
-      let s = span-in g.bytes gap c.enter c.exit (drop (k + 2) events) rest c.linked.enter c.ended.exits (subst (λ es. AccountFor es g.bytes rest) is stands.account) in
-      let t = s.first ∷ s.others in
-      let front = pre ++ s.before in
-      let p = place_behind g some events front in
-      let whole : virtual g.tab g.bytes ≡ front ++ (t ++ s.behind) = stands.whole ∙ ap (λ r. pre ++ r) s.are ∙ sym (append_assoc pre s.before (t ++ s.behind)) in
-      let line : IsChain g.tab g.bytes p (t ++ s.behind) = chain-from g.tab g.bytes some front (t ++ s.behind) whole in
-      let enter_at : place_at events k ≡ c.enter.point = place-at-event events k c.enter c.enter_at in
-      let from : place_at events k ≡ p = enter_at ∙ s.from ∙ line.1.shown_is in
-      let to : place_at events (k + 1) ≡ end_after p t = place-at-event events (k + 1) c.exit c.exit_at ∙ s.to ∙ place-shown g.tab g.bytes p t s.behind line in
-      record {
-        before = s.before;
-        first = s.first;
-        others = s.others;
-        behind = s.behind;
-        are = s.are;
-        gap = s.front;
-        text = (λ j. filter (in_range (from j) (to j)) (virtual g.tab g.bytes)) ∙ range-of g.tab g.bytes some front t s.behind whole;
-        first_shown = sym s.from ∙ sym enter_at;
-        from = from;
-        to = to ∙ sym (end-after-append (origin g.tab g.bytes some) front t);
-        next = record { whole = whole ∙ sym (append_assoc front t s.behind); account = s.back };
-      }
-
-  -- the events from i on, after changes
-  abbrev after : List Change → ℕ → List Event
-  after ws i = after_changes events ws i
-
-  -- from a chunk on, the parts of a child's events, and what is between the chunks and behind them
-  abbrev from_chunk : ℕ → List ℕ → List Event → List Change → List Event
-  from_chunk k [] es ws = es ++ after ws (k + 2)
-  from_chunk k (d ∷ ks) es ws =
-      let front = front_until (place_at events (k + 1)) es in
-      front ++ (between (k + 2) d events ++ from_chunk d ks (drop (length front) es) ws)
-
-  up-to-chunk : (c j i k : ℕ) (ks more : List ℕ) (es : List Event) (ws : List Change) → AreSpaced i (k ∷ (ks ++ more)) (length events)
-      → after (part_changes c j (k ∷ ks) (parts (map (λ k. place_at events (k + 1)) (k ∷ ks)) es) ++ ws) i ≡ between i k events ++ from_chunk k ks es ws
-  up-to-chunk c j i k [] more es ws spaced = part_after events c j i k [] es [] ws spaced.0
-  up-to-chunk c j i k (d ∷ ks) more es ws spaced =
-      let front = front_until (place_at events (k + 1)) es in
-      let left = drop (length front) es in
-      part_after events c j i k (d ∷ ks) front (parts (map (λ k. place_at events (k + 1)) (d ∷ ks)) left) ws spaced.0
-      ∙ ap (λ l. between i k events ++ (front ++ l)) (up-to-chunk c (j + length front) (k + 2) d ks more left ws spaced.1)
-
-  -- they begin with an enter, if the child does
-  opens-through : (k : ℕ) (ks : List ℕ) (e : Event) (es : List Event) (ws : List Change) → fits wanted events k ≡ true → LeadOnFrom events k ks → Opens (e ∷ es) → Opens (from_chunk k ks (e ∷ es) ws)
+  -- the parts of a child's events from a chunk on, and what is behind them, begin with an enter, if the child does
+  opens-through : (k : ℕ) (ks : List ℕ) (e : Event) (es : List Event) (ws : List Change) → fits wanted events k ≡ true → LeadOnFrom events k ks → Opens (e ∷ es) → Opens (from_chunk events k ks (e ∷ es) ws)
   opens-through k [] e es ws fit lead h = h
   opens-through k (d ∷ ks) e es ws fit lead h =
       let end = place_at events (k + 1) in
       let gap = between (k + 2) d events in
       let fit_next = fits_next g.tab g.bytes wanted events ready k d fit lead.0 in
-      elim (stands_before end e.point) as (λ b. stands_before end e.point ≡ b → Opens (from_chunk k (d ∷ ks) (e ∷ es) ws)) [
+      elim (stands_before end e.point) as (λ b. stands_before end e.point ≡ b → Opens (from_chunk events k (d ∷ ks) (e ∷ es) ws)) [
         | true ↦ λ is.
-            subst (λ (front : List Event). Opens (front ++ (gap ++ from_chunk d ks (drop (length front) (e ∷ es)) ws))) (sym (front-at end true e es is))
-            (opens-behind gap (from_chunk d ks (e ∷ es) ws) (ready.gaps k d fit lead.0).balanced (inr (opens-through d ks e es ws fit_next lead.2 h)))
-        | false ↦ λ is. subst (λ (front : List Event). Opens (front ++ (gap ++ from_chunk d ks (drop (length front) (e ∷ es)) ws))) (sym (front-at end false e es is)) h
+            subst (λ (front : List Event). Opens (front ++ (gap ++ from_chunk events d ks (drop (length front) (e ∷ es)) ws))) (sym (front-at end true e es is))
+            (opens-behind gap (from_chunk events d ks (e ∷ es) ws) (ready.gaps k d fit lead.0).balanced (inr (opens-through d ks e es ws fit_next lead.2 h)))
+        | false ↦ λ is. subst (λ (front : List Event). Opens (front ++ (gap ++ from_chunk events d ks (drop (length front) (e ∷ es)) ws))) (sym (front-at end false e es is)) h
       ] refl
 
   -- What is known of a child before a chunk takes its part: the virtual bytes of the chunk and of the chunks directly before it, the events
@@ -185,11 +127,7 @@ module _ (g : Given) (some : 0 < g.tab) (wanted : Option Content) (events : List
             not-same end (place_at events d) same before;
       }
 
-  -- directly behind a chunk no virtual byte is passed
-  no-gap : (k d : ℕ) (front behind : List Seat) → d ≡ k + 2 → (h : HasChunk g some events (k + 2) d front behind) → h.before ≡ []
-  no-gap k d front behind at h = none-account g.bytes h.before (subst (λ l. AccountFor l g.bytes h.before) (between-none events (k + 2) d at) h.gap)
-
-  -- there the next chunk takes its part too
+  -- directly behind a chunk the next one takes its part too
   comes-directly : (k d : ℕ) (ks : List ℕ) (read left : List Event) (pre : List Seat) (s : Seat) (ss behind : List Seat) → fits wanted events k ≡ true → next_of events k ≡ Some d
       → d ≡ k + 2 → Comes k (d ∷ ks) read left pre s ss behind → (h : HasChunk g some events (k + 2) d (pre ++ (s ∷ ss)) behind)
       → let front = front_until (place_at events (k + 1)) left in
@@ -200,7 +138,7 @@ module _ (g : Given) (some : 0 < g.tab) (wanted : Option Content) (events : List
       let rest = drop (length front) left in
       let fit_next = fits_next g.tab g.bytes wanted events ready k d fit next in
       let t = h.first ∷ h.others in
-      let none = no-gap k d (pre ++ (s ∷ ss)) behind at h in
+      let none = no-gap g some events k d (pre ++ (s ∷ ss)) behind at h in
       let same : ((pre ++ (s ∷ ss)) ++ h.before) ++ t ≡ pre ++ (s ∷ (ss ++ t)) =
       (λ x. ((pre ++ (s ∷ ss)) ++ none x) ++ t) ∙ ap (λ b. b ++ t) (append-nil (pre ++ (s ∷ ss))) ∙ append_assoc pre (s ∷ ss) t in
       let q = place_at events (d + 1) in
@@ -220,25 +158,25 @@ module _ (g : Given) (some : 0 < g.tab) (wanted : Option Content) (events : List
   -- from a chunk on, the parts of the child account for what the chunks and the events between them do, if so does what is behind the chain
   through : (k : ℕ) (ks more : List ℕ) (ws : List Change) (read left : List Event) (pre : List Seat) (s : Seat) (ss behind : List Seat) → fits wanted events k ≡ true
       → LeadOnFrom events k ks → AreSpaced (k + 2) (ks ++ more) (length events)
-      → ((m : ℕ) → AreSpaced m more (length events) → (pre rest : List Seat) → Stands g some events m pre rest → AccountFor (after ws m) g.bytes rest)
-      → Comes k ks read left pre s ss behind → AccountFor (read ++ from_chunk k ks left ws) g.bytes ((s ∷ ss) ++ behind)
+      → ((m : ℕ) → AreSpaced m more (length events) → (pre rest : List Seat) → Stands g some events m pre rest → AccountFor (after_changes events ws m) g.bytes rest)
+      → Comes k ks read left pre s ss behind → AccountFor (read ++ from_chunk events k ks left ws) g.bytes ((s ∷ ss) ++ behind)
   through k [] more ws read left pre s ss behind fit lead spaced good c =
       let here = subst (AccountFor (read ++ left) g.bytes) (append-nil (s ∷ ss)) c.lined.account in
-      subst (λ es. AccountFor es g.bytes ((s ∷ ss) ++ behind)) (append_assoc read left (after ws (k + 2)))
-      (shut-account g.bytes (read ++ left) (after ws (k + 2)) (s ∷ ss) behind c.shut here (good (k + 2) spaced (pre ++ (s ∷ ss)) behind c.stands))
+      subst (λ es. AccountFor es g.bytes ((s ∷ ss) ++ behind)) (append_assoc read left (after_changes events ws (k + 2)))
+      (shut-account g.bytes (read ++ left) (after_changes events ws (k + 2)) (s ∷ ss) behind c.shut here (good (k + 2) spaced (pre ++ (s ∷ ss)) behind c.stands))
   through k (d ∷ ks) more ws read left pre s ss behind fit lead spaced good c =
       let end = place_at events (k + 1) in
       let front = front_until end left in
       let rest = drop (length front) left in
-      let then = from_chunk d ks rest ws in
+      let then = from_chunk events d ks rest ws in
       let gap = between (k + 2) d events in
       let fit_next = fits_next g.tab g.bytes wanted events ready k d fit lead.0 in
-      let h = has-chunk (k + 2) d (pre ++ (s ∷ ss)) behind fit_next spaced.0 c.stands in
+      let h = has-chunk g some events ready (k + 2) d (pre ++ (s ∷ ss)) behind fit_next spaced.0 c.stands in
       let t = h.first ∷ h.others in
       elim (gaps k d fit lead.0) [
         | inl directly ↦
             let empty : gap ≡ [] = between-none events (k + 2) d directly in
-            let none = no-gap k d (pre ++ (s ∷ ss)) behind directly h in
+            let none = no-gap g some events k d (pre ++ (s ∷ ss)) behind directly h in
             let more_good = through d ks more ws (read ++ front) rest pre s (ss ++ t) h.behind fit_next lead.2 spaced.1 good (comes-directly k d ks read left pre s ss behind fit lead.0 directly c h) in
             let list : (read ++ front) ++ then ≡ read ++ (front ++ (gap ++ then)) = append_assoc read front then ∙ ap (λ l. read ++ (front ++ (l ++ then))) (sym empty) in
             let bytes_are = append_assoc (s ∷ ss) t h.behind ∙ ap (λ l. (s ∷ ss) ++ l) (sym (h.are ∙ ap (λ b. b ++ (t ++ h.behind)) none)) in
@@ -261,9 +199,9 @@ module _ (g : Given) (some : 0 < g.tab) (wanted : Option Content) (events : List
     -- the parts of a chain's child, from its first chunk on, account for virtual bytes, and begin with an enter
     one-chain : (c : ℕ) (ks more : List ℕ) (ws : List Change) (pre : List Seat) (s : Seat) (ss behind : List Seat) → (child : List Event) → IsReadWell g.bytes child ((s ∷ ss) ++ flat_map (chunk_seats g events) ks)
         → fits wanted events c ≡ true → LeadOnFrom events c ks → AreSpaced (c + 2) (ks ++ more) (length events)
-        → ((m : ℕ) → AreSpaced m more (length events) → (pre rest : List Seat) → Stands g some events m pre rest → AccountFor (after ws m) g.bytes rest)
+        → ((m : ℕ) → AreSpaced m more (length events) → (pre rest : List Seat) → Stands g some events m pre rest → AccountFor (after_changes events ws m) g.bytes rest)
         → Stands g some events (c + 2) (pre ++ (s ∷ ss)) behind → place_at events (c + 1) ≡ place_behind g some events (pre ++ (s ∷ ss))
-        → AccountFor (from_chunk c ks child ws) g.bytes ((s ∷ ss) ++ behind) × Opens (from_chunk c ks child ws)
+        → AccountFor (from_chunk events c ks child ws) g.bytes ((s ∷ ss) ++ behind) × Opens (from_chunk events c ks child ws)
     one-chain c ks more ws pre s ss behind [] read fit lead spaced good stands ends =
         absurd (let none : s ∷ (ss ++ flat_map (chunk_seats g events) ks) ≡ [] = none-account g.bytes ((s ∷ ss) ++ flat_map (chunk_seats g events) ks) read.lined.account in cc)
     one-chain c ks more ws pre s ss behind (e ∷ es) read fit lead spaced good stands ends = (
@@ -284,7 +222,7 @@ module _ (g : Given) (some : 0 < g.tab) (wanted : Option Content) (events : List
 
     all-chains : (cs : List ℕ) (i : ℕ) → AllByRecursion (λ c. fits wanted events c ≡ true) cs → AllByRecursion (IsWholeFrom events) cs → AllByRecursion ReadsChain cs
         → AreSpaced i (flat_map (chain_of events) cs) (length events) → (pre rest : List Seat)
-        → Stands g some events i pre rest → AccountFor (after (flat_map chain_changes (divided_over events cs (map of_chain cs))) i) g.bytes rest
+        → Stands g some events i pre rest → AccountFor (after_changes events (flat_map chain_changes (divided_over events cs (map of_chain cs))) i) g.bytes rest
     all-chains [] i fit whole reads spaced pre rest stands = subst (λ es. AccountFor es g.bytes rest) (sym (untagged-olds i (drop i events))) stands.account
     all-chains (c ∷ cs) i fit whole reads spaced pre rest stands =
         let ks = whole.0.0 in
@@ -294,14 +232,14 @@ module _ (g : Given) (some : 0 < g.tab) (wanted : Option Content) (events : List
         let ws : List Change = flat_map chain_changes (divided_over events cs (map of_chain cs)) in
         let changes : List ℕ → List Change = λ ys. chain_changes (record { chunks = ys; parts = parts (map (λ k. place_at events (k + 1)) ys) child }) in
         let apart : AreSpaced i (c ∷ (ks ++ more)) (length events) = subst (λ (ys : List ℕ). AreSpaced i (ys ++ more) (length events)) is spaced in
-        let h = has-chunk i c pre rest fit.0 apart.0 stands in
+        let h = has-chunk g some events ready i c pre rest fit.0 apart.0 stands in
         let seats : (chain_text g events c).seats ≡ (h.first ∷ h.others) ++ flat_map (chunk_seats g events) ks =
         ap (λ l. (text_of_chain g events l).seats) is ∙ chain-seats g events c ks ∙ ap (λ l. l ++ flat_map (chunk_seats g events) ks) h.text in
         let further = λ (m : ℕ) (spaced : AreSpaced m more (length events)) (p r : List Seat) (there : Stands g some events m p r). all-chains cs m fit.1 whole.1 reads.1 spaced p r there in
         let good = one-chain c ks more ws (pre ++ h.before) h.first h.others h.behind child (subst (IsReadWell g.bytes child) seats reads.0) fit.0 whole.0.2 apart.1 further h.next h.to in
-        let all = opened-account g.bytes (between i c events) (from_chunk c ks child ws) h.before ((h.first ∷ h.others) ++ h.behind) good.1 h.gap good.0 in
-        subst (λ ys. AccountFor (after (changes ys ++ ws) i) g.bytes rest) (sym is)
-        (subst (λ es. AccountFor es g.bytes rest) (sym (up-to-chunk c 0 i c ks more child ws apart)) (subst (AccountFor (between i c events ++ from_chunk c ks child ws) g.bytes) (sym h.are) all))
+        let all = opened-account g.bytes (between i c events) (from_chunk events c ks child ws) h.before ((h.first ∷ h.others) ++ h.behind) good.1 h.gap good.0 in
+        subst (λ ys. AccountFor (after_changes events (changes ys ++ ws) i) g.bytes rest) (sym is)
+        (subst (λ es. AccountFor es g.bytes rest) (sym (up-to-chunk events c 0 i c ks more child ws apart)) (subst (AccountFor (between i c events ++ from_chunk events c ks child ws) g.bytes) (sym h.are) all))
 
     -- The list with the children of its chains accounts for the document
     pub children-account : AllByRecursion ReadsChain (fitting_starts wanted events) → AccountFor events g.bytes (virtual g.tab g.bytes)

@@ -3,11 +3,8 @@ use Rattle.mdconstructs_documents.proofs.Prelude.{◌≡◌, ℕ, List, [], ◌�
 use Rattle.markdown_base.specs.declared.event.Name.{Name}
 use Rattle.markdown_base.specs.declared.event.Name.TheVariants as name
 use Rattle.mdconstructs_flow_read.proofs.Marks.LeafSpans.{leaf-blocks-keep}
+use Rattle.mdconstructs_flow_read.proofs.Marks.MarkAccounts.{begins-both}
 use Rattle.mdconstructs_documents.proofs.Innermost.Lined.{LinedFor, lined-enter, lined-exit, lined-none, lined-span, whole-one}
-
-begins-both : (xs ys : List Mark) → Begins xs → Begins ys → Begins (xs ++ ys)
-begins-both [] ys h k = k
-begins-both (m ∷ ms) ys h k = h
 
 module _ (bytes : List ℕ) where
   -- marks account for virtual bytes line by line, with more behind; and begin with an enter

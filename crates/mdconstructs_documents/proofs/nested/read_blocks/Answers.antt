@@ -1,5 +1,6 @@
 use Rattle.mdconstructs_documents.proofs.InContainers.Skeletons.{skeleton-laws}
-use Rattle.mdconstructs_documents.proofs.Prelude.{◌≡◌, ◌∙◌, [], ◌∷◌, List, length, ℕ, None, ap, arith, sym, subst, refl, IfOk-weaker, virtual, IsReady, IsWellFormed, document}
+use Rattle.mdconstructs_documents.proofs.Prelude.{◌≡◌, ◌∙◌, [], length, None, ap, arith, sym, subst, IfOk-weaker, virtual, IsReady, IsWellFormed, document}
+use Rattle.std.proofs.lemmas.List.{nil_from_length}
 use Rattle.mdconstructs_documents.specs.Runs.{HasOnlyContent}
 use Rattle.mdconstructs_containers.specs.Blocks.{document_blocks, document_skeleton}
 use Rattle.mdconstructs_containers.specs.Letters.{lazy_underlines, with_letters}
@@ -8,11 +9,6 @@ use Rattle.mdconstructs_documents.proofs.InContainers.Blocks.{blocks-are, shown-
 use Rattle.mdconstructs_documents.proofs.InContainers.BlocksFormed.{blocks-well}
 use Rattle.mdconstructs_documents.proofs.InContainers.Letters.{lettered-limit}
 use Rattle.mdconstructs_documents.proofs.nested.read_blocks.Goals as goal
-
--- a list of no bytes
-empty-list : (l : List ℕ) → length l ≡ 0 → l ≡ []
-empty-list [] h = refl
-empty-list (x ∷ xs) h = absurd (omega (arith, h))
 
 pub with_leaf_blocks-requires-clause-content : goal.with_leaf_blocks-requires-clause-content
 with_leaf_blocks-requires-clause-content c = subst HasOnlyContent (sym c.in_ok-skeleton.ensures.events) (skeleton-laws.of_content (document c.args.options.now c.args.bytes.now) c.is_document.ensures)
@@ -26,7 +22,7 @@ pub returns-then-is_empty-clause-events : goal.returns-then-is_empty-clause-even
 returns-then-is_empty-clause-events c =
     let bytes = c.args.bytes.now in
     let zero : length c.as_slice-letters.result.now ≡ 0 = grind arith in
-    let none : c.as_slice-letters.result.now ≡ [] = empty-list c.as_slice-letters.result.now zero in
+    let none : c.as_slice-letters.result.now ≡ [] = nil_from_length c.as_slice-letters.result.now zero in
     let at = lazy_underlines c.args.options.now.constructs (virtual c.args.options.now.tab_size bytes) in
     let no : [] ≡ at = sym none ∙ c.as_slice-letters.ensures.value ∙ c.in_ok-skeleton.ensures.letters in
     let same : bytes ≡ with_letters at bytes = sym (no_letters bytes) ∙ ap (λ l. with_letters l bytes) no in
