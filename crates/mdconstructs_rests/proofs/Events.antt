@@ -1,7 +1,9 @@
 -- The events of leaf blocks of a document are those of its parts.
 use Rattle.mdconstructs_rests.proofs.Prelude.{◌≡◌, ℕ, ◌+◌, ◌≤◌, List, [], ◌∷◌, ◌++◌, Bool, true, false, cond, length, refl, sym, ap, ◌∙◌, subst, arith, map, AllByRecursion, flat_map, flat_map-append, and-left, Constructs, linked-append, linked-length, Line, LeafBlock, blank_line, break_line, atx_heading, paragraph, setext_heading, indented_code, fenced_code, html_block, leaf_blocks, leaf_block_marks, leaf_blocks_marks, linked_from, is_line_ending, joined, lines_in, EventsOfBoth, begins_line, first_at_rest, line_endings, moved_block, moved_event, moved_link, moved_point, block_lines, Seat, virtual, leaf-blocks-lines}
+use Rattle.markdown_tokenizer.proofs.Positions.Order.{every-back, every-front}
+use Rattle.mdconstructs_documents.proofs.FlowTexts.Segments.{HasByte}
 use Rattle.mdconstructs_rests.proofs.Both.{blocks-of-both}
-use Rattle.mdconstructs_rests.proofs.Links.{HasSeat, blocks-link-back, linked-moved}
+use Rattle.mdconstructs_rests.proofs.Links.{blocks-link-back, linked-moved}
 use Rattle.mdconstructs_rests.proofs.MovedMarks.{blocks-marks-moved, mb}
 use Rattle.mdconstructs_rests.proofs.Shown.{shown-behind, shown-front, within}
 
@@ -12,17 +14,9 @@ map-same f h (x ∷ xs) = let e = h x in let r = map-same f h xs in (λ i. e i �
 -- ---- what holds of each line, or each virtual byte, of a document
 
 module _ (P : Line → Type 0) where
-  front : (xs ys : List Line) → AllByRecursion P (xs ++ ys) → AllByRecursion P xs
-  front [] ys h = tt
-  front (x ∷ xs) ys h = (h.0, front xs ys h.1)
-
-  back : (xs ys : List Line) → AllByRecursion P (xs ++ ys) → AllByRecursion P ys
-  back [] ys h = h
-  back (x ∷ xs) ys h = back xs ys h.1
-
   of-blocks : (blocks : List LeafBlock) → AllByRecursion P (flat_map block_lines blocks) → AllByRecursion (λ b. AllByRecursion P (block_lines b)) blocks
   of-blocks [] h = tt
-  of-blocks (b ∷ blocks) h = (front (block_lines b) (flat_map block_lines blocks) h, of-blocks blocks (back (block_lines b) (flat_map block_lines blocks) h))
+  of-blocks (b ∷ blocks) h = (every-front P (block_lines b) (flat_map block_lines blocks) h, of-blocks blocks (every-back P (block_lines b) (flat_map block_lines blocks) h))
 
   pub in-blocks : (on : Constructs) (lines : List Line) → AllByRecursion P lines → AllByRecursion (λ b. AllByRecursion P (block_lines b)) (leaf_blocks on lines)
   in-blocks on lines h = of-blocks (leaf_blocks on lines) (subst (AllByRecursion P) (sym (leaf-blocks-lines on lines)) h)
@@ -43,15 +37,15 @@ module _ (Q : Seat → Type 0) where
       by true k = ((h.0, tt), k)
       by false k = in-joined s (lines_in ss) h.0 k
 
-full-joined : (s : Seat) (lines : List Line) → AllByRecursion HasSeat lines → AllByRecursion HasSeat (joined s lines)
+full-joined : (s : Seat) (lines : List Line) → AllByRecursion HasByte lines → AllByRecursion HasByte (joined s lines)
 full-joined s [] k = (tt, tt)
 full-joined s (line ∷ lines) k = (tt, k.1)
 
-pub full-lines : (seats : List Seat) → AllByRecursion HasSeat (lines_in seats)
+pub full-lines : (seats : List Seat) → AllByRecursion HasByte (lines_in seats)
 full-lines [] = tt
 full-lines (s ∷ ss) = by (is_line_ending s) (full-lines ss)
   where
-    by : (c : Bool) → AllByRecursion HasSeat (lines_in ss) → AllByRecursion HasSeat (cond c ((s ∷ []) ∷ lines_in ss) (joined s (lines_in ss)))
+    by : (c : Bool) → AllByRecursion HasByte (lines_in ss) → AllByRecursion HasByte (cond c ((s ∷ []) ∷ lines_in ss) (joined s (lines_in ss)))
     by true k = (tt, k)
     by false k = full-joined s (lines_in ss) k
 
@@ -130,7 +124,7 @@ events-of-both on t a b h =
     let marks = leaf_blocks_marks b blocks in
     let k = length (linked_from 0 first) in
     let same : 0 + length first ≡ 0 + k = omega (arith, linked-length 0 first) in
-    let back = (blocks-link-back b blocks (in-blocks HasSeat on (lines_in (virtual t b)) (full-lines (virtual t b)))).links in
+    let back = (blocks-link-back b blocks (in-blocks HasByte on (lines_in (virtual t b)) (full-lines (virtual t b)))).links in
     ap (λ bs. linked_from 0 (leaf_blocks_marks (a ++ b) bs)) (blocks-of-both on t a b h)
     ∙ ap (linked_from 0) (flat_map-append (leaf_block_marks (a ++ b)) first_blocks (map (moved_block l n) blocks))
     ∙ (let f = front-marks a b torn on t in let g = behind-marks a b torn on t k in (λ i. linked_from 0 (f i ++ g i)))

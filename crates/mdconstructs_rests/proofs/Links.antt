@@ -2,6 +2,8 @@
 use Rattle.mdconstructs_rests.proofs.Prelude.{◌≡◌, ℕ, zero, suc, ◌+◌, ◌-◌, ◌≤◌, List, [], ◌∷◌, ◌++◌, Bool, true, false, cond, not, length, take, drop, refl, sym, ap, ◌∙◌, arith, Option, Some, None, map, AllByRecursion, flat_map, prefix_len, Event, Exit, event, Name, Line, LeafBlock, blank_line, break_line, atx_heading, paragraph, setext_heading, indented_code, fenced_code, html_block, bytes_of, Chunk, Mark, alone, block_around, block_span, body, break_marks, chunk_span, code_fenced_around, code_marks, fence_around, fenced_marks, heading_around, html_marks, last_end, leaf_blocks_marks, leaf_marks, lines_marks, linked_from, sequence_marks, string_chunk, text_chunk, text_marks, underline_inside, all_of, ending_of, line_text, Fence, heading_text, indent, run, unindented, is_white, moved_event, moved_index, block_lines, Seat, end_after}
 use Rattle.markdown_base.specs.declared.event.Content.TheVariants as content
 use Rattle.markdown_base.specs.declared.event.Name.TheVariants as name
+use Rattle.markdown_tokenizer.proofs.Positions.Order.{every-front}
+use Rattle.mdconstructs_documents.proofs.FlowTexts.Segments.{HasByte}
 
 -- a chunk that has another before it has two marks before it at least, if so many stand before these marks
 abbrev pub LinkBack : ℕ → List Mark → Type 0
@@ -47,11 +49,6 @@ module _ (l n k : ℕ) where
       (λ d. (let w : Event = record { kind = m.kind; name = m.name; point = m.point; link = Some (record { previous = before d; next = behind d; content = chunk.content }) } in w) ∷ rest d)
 
 -- ---- marks of blocks
-
--- a line has a virtual byte
-abbrev pub HasSeat : Line → Type 0
-HasSeat [] = ⊥
-HasSeat (s ∷ ss) = Unit {0}
 
 -- a chunk that has none before it, or no chunk
 abbrev IsFree : Option Chunk → Type 0
@@ -125,7 +122,7 @@ module _ (B : List ℕ) where
   more-texts (line ∷ []) = chunk-back (Some (chunk_with true false)) name.Data (line_text line)
   more-texts (line ∷ next ∷ lines) = back-both 2 (chunk_span B (Some (chunk_with true true)) name.Data line []) (text_marks B true (next ∷ lines)) (chunk-back (Some (chunk_with true true)) name.Data line) (more-texts (next ∷ lines))
 
-  texts : (lines : List Line) → AllByRecursion HasSeat lines → Back (text_marks B false lines)
+  texts : (lines : List Line) → AllByRecursion HasByte lines → Back (text_marks B false lines)
   texts [] h = nothing
   texts (line ∷ []) h = span-back (Some (chunk_with false false)) name.Data (line_text line) [] refl nothing
   texts ([] ∷ next ∷ lines) h = absurd h.0
@@ -168,29 +165,25 @@ module _ (B : List ℕ) where
   htmls is_open [] = nothing
   htmls is_open (line ∷ lines) = let columns = indent (bytes_of (line_text line)) in two _ _ (leaf name.HtmlFlowData (take columns line)) (lines-back (leaf_marks B name.HtmlFlowData) (leaf name.HtmlFlowData) is_open (drop columns line ∷ lines))
 
-  front : (xs ys : List Line) → AllByRecursion HasSeat (xs ++ ys) → AllByRecursion HasSeat xs
-  front [] ys h = tt
-  front (x ∷ xs) ys h = (h.0, front xs ys h.1)
-
   -- blocks, by what their texts and strings are read as
-  module _ (text : List Seat → List Mark) (text-back : (s : List Seat) → Back (text s)) (lines1 : List Line → List Mark) (lines-back1 : (lines : List Line) → AllByRecursion HasSeat lines → Back (lines1 lines))
+  module _ (text : List Seat → List Mark) (text-back : (s : List Seat) → Back (text s)) (lines1 : List Line → List Mark) (lines-back1 : (lines : List Line) → AllByRecursion HasByte lines → Back (lines1 lines))
       (string : List Seat → List Mark) (string-back : (s : List Seat) → Back (string s)) where
-    block : (b : LeafBlock) → AllByRecursion HasSeat (block_lines b) → Back (block_around B text lines1 string b)
+    block : (b : LeafBlock) → AllByRecursion HasByte (block_lines b) → Back (block_around B text lines1 string b)
     block (blank_line line) h = two _ _ (leaf name.SpaceOrTab (line_text line)) (leaf name.BlankLineEnding (ending_of line))
     block (break_line line) h = around name.ThematicBreak false (line ∷ []) _ (breaks (length line) (line_text line))
     block (atx_heading line) h = around name.HeadingAtx false (line ∷ []) _ (heading text text-back (line_text line))
     block (paragraph lines) h = around name.Paragraph false lines _ (lines-back1 lines h)
     block (setext_heading rank lines below) h =
         around name.HeadingSetext false (lines ++ below ∷ []) _
-        (two _ _ (span-back None name.HeadingSetextText (body lines) (lines1 lines) tt (lines-back1 lines (front lines (below ∷ []) h)))
+        (two _ _ (span-back None name.HeadingSetextText (body lines) (lines1 lines) tt (lines-back1 lines (every-front HasByte lines (below ∷ []) h)))
         (two _ _ (last lines) (let t = line_text below in span-back None name.HeadingSetextUnderline t (underline_inside B t) tt (sequence name.HeadingSetextUnderlineSequence (prefix_len (λ c. not (is_white c)) (unindented (bytes_of t))) t))))
     block (indented_code lines) h = around name.CodeIndented false lines _ (lines-back (code_marks B 4) (code 4) false lines)
     block (fenced_code fence is_closed lines) h = around name.CodeFenced (not is_closed) lines _ (code-fenced string string-back fence is_closed lines)
     block (html_block kind is_closed lines) h = around name.HtmlFlow (not is_closed) lines _ (htmls (not is_closed) lines)
 
-    pub around-back : (blocks : List LeafBlock) → AllByRecursion (λ b. AllByRecursion HasSeat (block_lines b)) blocks → Back (flat_map (block_around B text lines1 string) blocks)
+    pub around-back : (blocks : List LeafBlock) → AllByRecursion (λ b. AllByRecursion HasByte (block_lines b)) blocks → Back (flat_map (block_around B text lines1 string) blocks)
     around-back [] h = nothing
     around-back (b ∷ blocks) h = two _ _ (block b h.0) (around-back blocks h.1)
 
-  pub blocks-link-back : (blocks : List LeafBlock) → AllByRecursion (λ b. AllByRecursion HasSeat (block_lines b)) blocks → Back (leaf_blocks_marks B blocks)
+  pub blocks-link-back : (blocks : List LeafBlock) → AllByRecursion (λ b. AllByRecursion HasByte (block_lines b)) blocks → Back (leaf_blocks_marks B blocks)
   blocks-link-back blocks h = around-back (text_chunk B) text-alone (text_marks B false) texts (string_chunk B) strings blocks h

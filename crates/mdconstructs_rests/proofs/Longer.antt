@@ -21,7 +21,7 @@ module _ (test : Line → Bool) where
   ] h
 
 -- a blank line
-abbrev blank_text : Line → Bool
+abbrev pub blank_text : Line → Bool
 blank_text line = is_blank_line (text_of line)
 
 module _ (test : List ℕ → Bool) where

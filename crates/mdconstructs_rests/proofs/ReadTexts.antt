@@ -1,8 +1,9 @@
 -- Documents whose texts are read, too.
 use Rattle.mdconstructs_rests.proofs.Prelude.{◌≡◌, ℕ, ◌+◌, ◌≤◌, List, [], ◌∷◌, ◌++◌, true, length, refl, sym, ap, ◌∙◌, arith, None, map, flat_map, flat_map-append, and-left, Constructs, Event, block_texts, read_marks, linked-append, linked-length, leaf_blocks, Mark, body, linked_from, lines_in, begins_line, first_at_rest, line_endings, moved_block, moved_event, moved_link, moved_point, ReadEventsOfBoth, ReadsMove, Seat, virtual}
+use Rattle.mdconstructs_documents.proofs.FlowTexts.Segments.{HasByte}
 use Rattle.mdconstructs_rests.proofs.Both.{blocks-of-both}
 use Rattle.mdconstructs_rests.proofs.Events.{all-known, block-goes, block-stays, full-lines, goes, in-blocks, in-lines, map-ext, map-same, same-line, stays}
-use Rattle.mdconstructs_rests.proofs.Links.{Back, HasSeat, around-back, linked-moved, nothing, two}
+use Rattle.mdconstructs_rests.proofs.Links.{Back, around-back, linked-moved, nothing, two}
 use Rattle.mdconstructs_rests.proofs.MovedMarks.{Part, around-moved, bodies}
 use Rattle.mdconstructs_rests.proofs.Shown.{shown-behind, shown-front, within}
 
@@ -70,7 +71,7 @@ read-events-of-both texts strings move move_strings on t a b h =
     let k = length (linked_from 0 first) in
     let same : 0 + length first ≡ 0 + k = omega (arith, linked-length 0 first) in
     let back = (around-back b (read_marks (texts b) b) (λ s. bare-back (texts b s)) (λ lines. read_marks (texts b) b (body lines)) (λ lines full. bare-back (texts b (body lines)))
-    (read_marks (strings b) b) (λ s. bare-back (strings b s)) blocks (in-blocks HasSeat on (lines_in (virtual t b)) (full-lines (virtual t b)))).links in
+    (read_marks (strings b) b) (λ s. bare-back (strings b s)) blocks (in-blocks HasByte on (lines_in (virtual t b)) (full-lines (virtual t b)))).links in
     ap (λ bs. linked_from 0 (flat_map whole bs)) (blocks-of-both on t a b h)
     ∙ ap (linked_from 0) (flat_map-append whole first_blocks (map (moved_block l n) blocks))
     ∙ (let f = front a b torn texts strings move move_strings on t in let g = behind a b torn texts strings move move_strings on t k in (λ i. linked_from 0 (f i ++ g i)))

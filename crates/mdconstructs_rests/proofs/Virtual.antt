@@ -130,9 +130,6 @@ module _ (t : ℕ) where
   ended b x (y ∷ a) h line column index = ended-step (x == 10) (x == 13) (y == 10) (x == 9) x line column index (λ line column index. virtual_from t line column index (y ∷ a)) (ended b y a h)
 
 -- what is ended has a line
-joined-append : (s : Seat) (line : List Seat) (lines more : List (List Seat)) → joined s ((line ∷ lines) ++ more) ≡ joined s (line ∷ lines) ++ more
-joined-append s line lines more = refl
-
 has-line : (s next : Seat) (ss : List Seat) (more : List (List Seat)) → joined s (lines_in (next ∷ ss) ++ more) ≡ joined s (lines_in (next ∷ ss)) ++ more
 has-line s next ss more = by (is_line_ending next) (lines_in ss)
   where

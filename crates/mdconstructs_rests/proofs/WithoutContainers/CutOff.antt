@@ -1,7 +1,8 @@
 -- The skeleton of lines in which no container begins, and their leaf blocks: blank lines, one chunk at most, and blank lines; and in place of the
 -- chunk the leaf blocks of its text.
-use Rattle.mdconstructs_rests.proofs.Prelude.{◌≡◌, inl, inr, ℕ, zero, suc, ◌+◌, ◌<◌, ◌≤◌, ◌&&◌, nat_le, List, [], ◌∷◌, ◌++◌, Bool, true, false, cond, not, length, take, drop, length-drop, length-take, refl, sym, ap, ◌∙◌, subst, arith, append_assoc, append-nil, Some, None, map, AllByRecursion, flat_map, flat_map-append, Constructs, Line, LeafBlock, blank_line, Mark, alone, block_of_kind, body, bytes_of, chunk_span, is_blank_line, last_end, leaf_block_marks, leaf_blocks, leaf_blocks_marks, leaf_marks, line_kind, text_of, all_of, ending_of, is_line_ending, joined, line_text, lines_in, Seat, LineKind, blank, indented}
+use Rattle.mdconstructs_rests.proofs.Prelude.{◌≡◌, inl, inr, ℕ, zero, suc, ◌+◌, ◌≤◌, ◌&&◌, nat_le, List, [], ◌∷◌, ◌++◌, Bool, true, false, cond, length, take, drop, refl, sym, ap, ◌∙◌, subst, arith, append_assoc, append-nil, None, map, AllByRecursion, flat_map, flat_map-append, Constructs, Line, blank_line, Mark, alone, block_of_kind, body, bytes_of, chunk_span, is_blank_line, last_end, leaf_block_marks, leaf_blocks, leaf_blocks_marks, leaf_marks, line_kind, text_of, all_of, ending_of, joined, line_text, lines_in, Seat, blank, indented}
 use Rattle.std.proofs.lemmas.List.{take-append-drop}
+use Rattle.markdown_base.proofs.Common.{every-append}
 use Rattle.markdown_base.specs.declared.event.Content.TheVariants as content
 use Rattle.markdown_base.specs.declared.event.Name.{Name}
 use Rattle.markdown_base.specs.declared.event.Name.TheVariants as name
@@ -80,10 +81,6 @@ held-and-last false lines h = body-and-last lines h
 abbrev pub IsPlain : Mark → Type 0
 IsPlain m = (m.1 ≡ None) × (m.0.link ≡ None)
 
-plain-both : (xs ys : List Mark) → AllByRecursion IsPlain xs → AllByRecursion IsPlain ys → AllByRecursion IsPlain (xs ++ ys)
-plain-both [] ys h k = k
-plain-both (x ∷ xs) ys h k = (h.0, plain-both xs ys h.1 k)
-
 module _ (bytes : List ℕ) where
   plain-leaf : (n : Name) (seats : List Seat) → AllByRecursion IsPlain (leaf_marks bytes n seats)
   plain-leaf n [] = tt
@@ -99,11 +96,11 @@ module _ (bytes : List ℕ) where
   plain-held false lines = plain-end lines
 
   plain-blank : (line : Line) → AllByRecursion IsPlain (leaf_block_marks bytes (blank_line line))
-  plain-blank line = plain-both (leaf_marks bytes name.SpaceOrTab (line_text line)) (leaf_marks bytes name.BlankLineEnding (ending_of line)) (plain-leaf name.SpaceOrTab (line_text line)) (plain-leaf name.BlankLineEnding (ending_of line))
+  plain-blank line = every-append IsPlain (leaf_marks bytes name.SpaceOrTab (line_text line)) (leaf_marks bytes name.BlankLineEnding (ending_of line)) (plain-leaf name.SpaceOrTab (line_text line)) (plain-leaf name.BlankLineEnding (ending_of line))
 
   plain-blanks : (lines : List Line) → AllByRecursion IsPlain (leaf_blocks_marks bytes (map blank_line lines))
   plain-blanks [] = tt
-  plain-blanks (line ∷ lines) = plain-both (leaf_block_marks bytes (blank_line line)) (leaf_blocks_marks bytes (map blank_line lines)) (plain-blank line) (plain-blanks lines)
+  plain-blanks (line ∷ lines) = every-append IsPlain (leaf_block_marks bytes (blank_line line)) (leaf_blocks_marks bytes (map blank_line lines)) (plain-blank line) (plain-blanks lines)
 
   module _ (on : Constructs) where
     -- marks of a skeleton, and those of leaf blocks, are the same but for one chunk, in whose place the leaf blocks of its text stand
@@ -140,7 +137,7 @@ module _ (bytes : List ℕ) where
           behind = h.behind;
           skeleton = first ∙ ap (λ l. b ++ l) h.skeleton ∙ sym (append_assoc b h.front (chunk_span bytes (alone content.Content) name.Data h.seats [] ++ h.back));
           blocks = ap (leaf_blocks_marks bytes) (blank-block line lines full) ∙ ap (λ l. b ++ l) h.blocks ∙ sym (append_assoc b h.front (leaf_blocks_marks bytes (leaf_blocks on (lines_in h.seats)) ++ h.back));
-          front_plain = plain-both b h.front (plain-blank line) h.front_plain;
+          front_plain = every-append IsPlain b h.front (plain-blank line) h.front_plain;
           back_plain = h.back_plain;
           whole = ap (λ l. line ++ l) h.whole ∙ sym (append_assoc line h.before (h.seats ++ h.behind));
         }
@@ -177,7 +174,7 @@ module _ (bytes : List ℕ) where
               ∙ ap (λ l. l ++ blanks) (s.marks (omega arith) ∙ ap (λ ls. leaf_blocks_marks bytes (leaf_blocks on ls) ++ end) (sym lines_are))
               ∙ append_assoc inside end blanks;
           front_plain = tt;
-          back_plain = plain-both end blanks (plain-held held mid) (plain-blanks trail);
+          back_plain = every-append IsPlain end blanks (plain-held held mid) (plain-blanks trail);
           whole =
               ap all_of (sym (take-append-drop (suc n) all))
               ∙ flat_map-append (λ (l : Line). l) mid trail

@@ -1,13 +1,15 @@
 -- The leaf block that may go on behind lines, where no container begins; and which of the lines are left blank. The lines of a block are not left
 -- blank, but for a blank line alone, and behind them the leaf is open if the block is.
-use Rattle.mdconstructs_rests.proofs.Prelude.{◌≡◌, ℕ, zero, suc, ◌+◌, ◌<◌, ◌≤◌, ◌&&◌, ◌||◌, nat_le, nat_lt, List, [], ◌∷◌, ◌++◌, Bool, true, false, cond, not, Option, Some, None, length, take, drop, length-take, length-drop, refl, sym, ap, ◌∙◌, subst, arith, leb-true, and-false, and-left, and-right, not-false, or_parts, is_some, drop_all, prefix_len-le-length, Constructs, HtmlKind, ends, waits_for_blank, Line, LeafBlock, blank_line, break_line, atx_heading, paragraph, setext_heading, indented_code, fenced_code, html_block, block_of_kind, content_at, ends_text, interrupts, further_code, has_line, html_block_at, is_blank, is_indented, lines_through, lines_until, text_of, underlined, Fence, LineKind, blank, indented, heading, fence, html, thematic_break, text, closes, is_blank_line, line_kind, underline_rank}
+use Rattle.mdconstructs_rests.proofs.Prelude.{◌≡◌, ℕ, zero, suc, ◌+◌, ◌≤◌, ◌&&◌, ◌||◌, nat_le, List, [], ◌∷◌, ◌++◌, Bool, true, false, cond, not, Option, Some, None, length, take, drop, length-take, refl, sym, ap, ◌∙◌, subst, arith, leb-true, and-false, and-left, and-right, not-false, or_parts, is_some, prefix_len-le-length, Constructs, HtmlKind, ends, waits_for_blank, Line, LeafBlock, break_line, atx_heading, paragraph, setext_heading, fenced_code, html_block, block_of_kind, content_at, ends_text, interrupts, further_code, has_line, is_blank, is_indented, lines_through, lines_until, text_of, underlined, Fence, LineKind, blank, indented, heading, fence, html, thematic_break, text, closes, is_blank_line, line_kind, underline_rank}
 use Rattle.std.proofs.lemmas.Bool.{le-leb}
-use Rattle.mdconstructs_flow_read.proofs.Lines.LineCounts.{has-one-more, has-there, none-left, some-through, through-one-more, through-there, until-one-more, until-there}
+use Rattle.mdconstructs_flow_read.proofs.Lines.LineCounts.{has-one-more, has-there, none-left, some-through, through-one-more, through-there}
 use Rattle.mdconstructs_flow_read.proofs.Lines.TestedKinds.{underline-kind}
 use Rattle.mdconstructs_flow_read.proofs.Marks.FullBlocks.{IsOfText, not-blank}
 use Rattle.mdconstructs_flow_read.specs.HtmlLines.{html_kind, raw, comment, instruction, declaration, cdata, block_tag, any_tag}
 use Rattle.mdconstructs_flow_read.specs.LineKinds.{is_atx_heading, is_fence_of, is_far, is_thematic_break, kind_of_rest, indent, run, unindented}
 use Rattle.mdconstructs_containers.specs.Rows.{Leaf, closed, open_paragraph, open_fence, open_html, holds_ending, leaf_after, opened_by}
+use Rattle.mdconstructs_rests.proofs.Longer.{blank_text}
+use Rattle.mdconstructs_rests.proofs.WithoutContainers.SameTexts.{by_rank}
 
 -- the last of lines
 abbrev pub last_line : List Line → Line
@@ -223,10 +225,6 @@ module _ (on : Constructs) where
     acts = acts-closed (leaf_next closed line) lines next;
     text_is = λ h. none-blank (text_of line) full;
   }
-
-  -- indented code
-  kind-full : (line : Line) (kind : LineKind) → line_kind on (text_of line) ≡ kind → IsOfText kind → is_blank_line (text_of line) ≡ false
-  kind-full line kind e h = not-blank on (text_of line) (subst IsOfText (sym e) h)
 
   indented-full : (t : List ℕ) → is_indented on (line_kind on t) ≡ true → is_blank_line t ≡ false
   indented-full t = elim (is_blank_line t) as (λ b. is_indented on (cond b blank (cond (is_far on t) indented (kind_of_rest on (indent t) (unindented t)))) ≡ true → b ≡ false) [
@@ -445,9 +443,6 @@ module _ (on : Constructs) where
   ends-by-none any_tag t h = refl
   ends-by-none kind t h = absurd (cc)
 
-  abbrev blank_text : Line → Bool
-  blank_text line = is_blank_line (text_of line)
-
   waiting-front : (kind : HtmlKind) (has : Bool) (line : Line) (lines : List Line) → is_blank_line (text_of line) ≡ false → line_kind on (text_of line) ≡ html kind → waits_for_blank kind ≡ true
       → let n = lines_until blank_text (line ∷ lines) in Front (html_block kind (true || has) (take n (line ∷ lines)), n) (line ∷ lines)
   waiting-front kind has line lines full is waits =
@@ -493,9 +488,6 @@ module _ (on : Constructs) where
       goes (html kind) h = tt
       goes thematic_break h = tt
       goes text h = tt
-
-  abbrev by_rank : List Line → Line → Option ℕ → LeafBlock × ℕ
-  by_rank lines next rank = elim rank [ None ↦ (paragraph lines, length lines) | Some rank ↦ (setext_heading rank lines next, suc (length lines)) ]
 
   text-front : (line : Line) (lines : List Line) → is_blank_line (text_of line) ≡ false → line_kind on (text_of line) ≡ text → Front (content_at on (line ∷ lines)) (line ∷ lines)
   text-front line lines full kind = by-behind (drop p lines) refl

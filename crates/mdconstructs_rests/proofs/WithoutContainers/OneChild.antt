@@ -1,35 +1,29 @@
 -- A list with one chain, of one chunk: with a child in its place, whose links lead within the child, these lead as far on as the child stands.
-use Rattle.mdconstructs_rests.proofs.Prelude.{◌≡◌, inl, inr, ℕ, zero, suc, ◌+◌, ◌-◌, ◌<◌, ◌≤◌, List, [], ◌∷◌, ◌++◌, Bool, true, false, cond, length, take, drop, length-append, refl, sym, ap, ◌∙◌, subst, arith, append-nil, map, map-append, AllByRecursion, Option, Some, None, Event, Mark, linked_from}
-use Rattle.std.specs.Prelude.{slice_get, option_map, option_and_then, IfSome}
+use Rattle.mdconstructs_rests.proofs.Prelude.{◌≡◌, ℕ, suc, ◌+◌, ◌-◌, ◌<◌, ◌≤◌, List, [], ◌∷◌, ◌++◌, Bool, true, false, cond, length, take, drop, length-append, refl, sym, ap, ◌∙◌, subst, arith, map, map-append, AllByRecursion, Option, Some, None, Event, Mark, linked_from}
+use Rattle.std.specs.Prelude.{slice_get, option_and_then, IfSome}
 use Rattle.std.proofs.lemmas.Option.{slice_get_within}
 use Rattle.markdown_base.specs.declared.event.Link.{Link}
-use Rattle.markdown_base.specs.Events.{EachEnd, EndsBelow, relinked, with_ends}
+use Rattle.markdown_base.specs.Events.{EachEnd, EndsBelow, relinked}
 use Rattle.markdown_edits.proofs.Edits.FinalPlaces.{length-olds, or_after, place_in-append}
-use Rattle.markdown_edits.proofs.Edits.Passes.{olds, pass, woven-pass}
+use Rattle.markdown_edits.proofs.Edits.Passes.{olds, woven-pass}
 use Rattle.markdown_edits.proofs.Edits.Splices.{relinked-agree}
 use Rattle.markdown_edits.specs.Links.{next_of, previous_of}
-use Rattle.markdown_edits.specs.Woven.{AreApart, Change, Tagged, changed, of_child, of_list, place_in, placed, placed_end, placed_in, woven}
-use Rattle.markdown_children.proofs.Parts.Placed.{length-tagged_child, place_in-child_in, place_in-child_olds}
+use Rattle.markdown_edits.specs.Woven.{AreApart, Change, Tagged, changed, of_child, place_in, placed, placed_end, placed_in, woven}
+use Rattle.markdown_children.proofs.Parts.Placed.{place_in-child_in, place_in-child_olds}
+use Rattle.markdown_children.proofs.Parts.Kept.{untagged-olds}
 use Rattle.markdown_children.specs.Children.{part_changes, tagged_child}
 use Rattle.mdconstructs_flow_read.specs.ChunksJoin.{ChunksMeet}
+use Rattle.mdconstructs_documents.proofs.InContainers.Merged.{IsBare, bare-placed, bare-same}
 use Rattle.mdconstructs_rests.proofs.Links.{LinkBack, back-more}
-use Rattle.mdconstructs_rests.proofs.WithoutContainers.Stretch.{front-dropped, front-taken}
+use Rattle.mdconstructs_rests.proofs.WithoutContainers.Stretch.{front-taken}
 use Rattle.markdown_base.specs.declared.event.Point.{Point}
-
--- no link
-abbrev pub IsUnlinked : Event → Type 0
-IsUnlinked e = e.link ≡ None
 
 -- links that lead so far on
 abbrev pub moved_on : ℕ → Event → Event
 moved_on k e = relinked (λ n. Some (k + n)) e
 
-same-unlinked : (f : ℕ → Option ℕ) (e : Event) → IsUnlinked e → relinked f e ≡ e
-same-unlinked f e h = ap (λ (o : Option Link). record e { link = option_map (with_ends f) o }) h ∙ ap (λ (o : Option Link). record e { link = o }) (sym h)
-
-pub placed-unlinked : (ts : List Tagged) (i : ℕ) (xs : List Event) → AllByRecursion IsUnlinked xs → placed_in ts (olds i xs) ≡ xs
-placed-unlinked ts i [] h = refl
-placed-unlinked ts i (x ∷ xs) h = (λ j. same-unlinked (λ n. place_in (of_list n) ts) x h.0 j ∷ placed-unlinked ts (i + 1) xs h.1 j)
+pub placed-unlinked : (ts : List Tagged) (i : ℕ) (xs : List Event) → AllByRecursion IsBare xs → placed_in ts (olds i xs) ≡ xs
+placed-unlinked ts i xs h = bare-placed ts (olds i xs) (subst (AllByRecursion IsBare) (sym (untagged-olds i xs)) h) ∙ untagged-olds i xs
 
 placed-child : (ts : List Tagged) (k n : ℕ) → ((m : ℕ) → m < n → place_in (of_child k m) ts ≡ Some (k + m)) → (j : ℕ) (es : List Event) → AllByRecursion (EndsBelow n) es → placed_in ts (tagged_child k j es) ≡ map (moved_on k) es
 placed-child ts k n places j [] h = refl
@@ -74,7 +68,7 @@ module _ (front back child : List Event) (c x : Event) where
       place_in-append (of_child k m) (olds 0 front) (tagged_child k 0 child ++ rest)
       ∙ (λ i. or_after (length-olds 0 front i) (place_in-child_olds k m 0 front i) ((place_in-append (of_child k m) (tagged_child k 0 child) rest ∙ ap (λ o. or_after (length (tagged_child k 0 child)) o (place_in (of_child k m) rest)) inside) i))
 
-  pub one-changed : AllByRecursion IsUnlinked front → AllByRecursion IsUnlinked back → AllByRecursion (EndsBelow (length child)) child → changed changes all ≡ front ++ (map (moved_on k) child ++ back)
+  pub one-changed : AllByRecursion IsBare front → AllByRecursion IsBare back → AllByRecursion (EndsBelow (length child)) child → changed changes all ≡ front ++ (map (moved_on k) child ++ back)
   one-changed h g b =
       ap placed woven-is
       ∙ map-append (λ (u : Tagged). relinked (placed_end after u.identity) u.event) (olds 0 front) (tagged_child k 0 child ++ olds (k + 2) back)
@@ -124,7 +118,7 @@ IsFresh m = m.0.link ≡ None
 pub linked-on : (k : ℕ) (marks : List Mark) (i j : ℕ) → j ≡ i + k → LinkBack i marks → AllByRecursion IsFresh marks → linked_from j marks ≡ map (moved_on k) (linked_from i marks)
 linked-on k [] i j e h f = refl
 linked-on k ((v, None) ∷ marks) i j e h f =
-    (λ d. sym (same-unlinked (λ n. Some (k + n)) v f.0) d ∷ linked-on k marks (i + 1) (j + 1) (omega (arith, e)) (back-more (suc i) (i + 1) marks (omega arith) h) f.1 d)
+    (λ d. sym (bare-same v f.0 (λ n. Some (k + n))) d ∷ linked-on k marks (i + 1) (j + 1) (omega (arith, e)) (back-more (suc i) (i + 1) marks (omega arith) h) f.1 d)
 linked-on k ((v, Some chunk) ∷ marks) i j e h f =
     let before = earlier chunk.has_previous h.0 in
     let behind = later chunk.has_next in

@@ -1,23 +1,19 @@
 -- The parts of lines in which no container begins: blank lines, and one stretch at most; and the marks of their skeleton.
-use Rattle.mdconstructs_rests.proofs.Prelude.{◌≡◌, ℕ, zero, suc, ◌+◌, ◌<◌, ◌≤◌, ◌==◌, ◌&&◌, nat_le, List, [], ◌∷◌, ◌++◌, Bool, true, false, cond, not, length, take, drop, length-drop, length-take, refl, sym, ap, ◌∙◌, subst, arith, append_assoc, append-nil, Some, None, map, AllByRecursion, flat_map, Constructs, Line, LeafBlock, blank_line, Chunk, Mark, alone, body, bytes_of, chunk_span, is_blank_line, last_end, leaf_block_marks, leaf_blocks_marks, leaf_marks, and-left, text_of, white, all_of, ending_of, line_text, Seat}
+use Rattle.mdconstructs_rests.proofs.Prelude.{◌≡◌, ℕ, zero, suc, ◌+◌, ◌≤◌, ◌==◌, ◌&&◌, nat_le, List, [], ◌∷◌, ◌++◌, Bool, true, false, cond, not, length, take, drop, length-drop, refl, sym, ap, ◌∙◌, subst, arith, append_assoc, append-nil, map, AllByRecursion, flat_map, Constructs, Line, blank_line, Mark, alone, chunk_span, is_blank_line, last_end, leaf_block_marks, leaf_blocks_marks, leaf_marks, and-left, text_of, white, ending_of, line_text, Seat}
 use Rattle.std.specs.Prelude.{reverse}
 use Rattle.std.proofs.lemmas.Bool.{le-leb}
 use Rattle.markdown_base.specs.declared.event.Content.TheVariants as content
 use Rattle.markdown_base.specs.declared.event.Name.TheVariants as name
 use Rattle.mdconstructs_flow_read.specs.BlocksRead.{block_seats}
 use Rattle.mdconstructs_containers.proofs.JoinLemmas.{join, join_is}
+use Rattle.mdconstructs_containers.proofs.RowFacts.{every_behind}
 use Rattle.mdconstructs_lines.specs.Containers.{Container}
 use Rattle.mdconstructs_containers.specs.Prefixes.{columns_of, containers_of}
-use Rattle.mdconstructs_containers.specs.Rows.{Leaf, Row, closed, has_none, holds_ending}
-use Rattle.mdconstructs_containers.specs.Skeleton.{Frame, Part, Piece, begun_all, behind_marks, chunks_of, end_of, ending_marks, exits, frames_at, frames_of, further, going_on_at, inside_of, is_held, joined_pieces, last_line, last_of, left_in, list_at, list_begun, part_marks, parts, parts_in, parts_marks, piece_of, pieces_of, prefixes_marks, shared, standing}
+use Rattle.mdconstructs_containers.specs.Rows.{Leaf, Row, has_none, holds_ending}
+use Rattle.mdconstructs_containers.specs.Skeleton.{Frame, Part, Piece, begun_all, behind_marks, chunks_of, end_of, ending_marks, exits, frames_at, frames_of, further, going_on_at, inside_of, is_held, joined_pieces, last_line, last_of, left_in, list_at, list_begun, part_marks, parts_in, parts_marks, piece_of, pieces_of, prefixes_marks, shared, standing}
 use Rattle.mdconstructs_rests.proofs.WithoutContainers.Leaves.{is_left, kept, leaf_behind, leaf_next}
 use Rattle.mdconstructs_rests.proofs.WithoutContainers.Leaves as leaves
 use Rattle.mdconstructs_rests.proofs.WithoutContainers.PlainRows.{IsBare, drop-plain, further-plain, last-is, last-leaf, number_on, plain-bare, plain_row, plain_rows, take-plain}
-
-all-rows : (P : Row → Type 0) (n : ℕ) (rows : List Row) → AllByRecursion P rows → AllByRecursion P (drop n rows)
-all-rows P zero rows h = h
-all-rows P (suc n) [] h = tt
-all-rows P (suc n) (row ∷ rows) h = all-rows P n rows h.1
 
 -- a part without spans and prefixes
 pub record IsAlone (part : Part) : Type 0 where
@@ -57,7 +53,7 @@ parts-alone zero rows h = tt
 parts-alone (suc bound) [] h = tt
 parts-alone (suc bound) (row ∷ behind) h =
     let n = cond row.is_blank 0 (further behind) in
-    (record { frames = no-frames row behind h.0 h.1; stands = no-standing row behind h.0; begun = h.0.1 }, parts-alone bound (drop n behind) (all-rows IsBare n behind h.1))
+    (record { frames = no-frames row behind h.0 h.1; stands = no-standing row behind h.0; begun = h.0.1 }, parts-alone bound (drop n behind) (every_behind IsBare n behind h.1))
 
 module _ (bytes : List ℕ) where
   -- what is in a part, and the line ending behind it

@@ -1,14 +1,11 @@
 -- Rows of lines in which no container begins: none has a prefix, and each goes on with the stretch of lines before it.
-use Rattle.mdconstructs_rests.proofs.Prelude.{◌≡◌, ℕ, zero, suc, ◌&&◌, nat_le, List, [], ◌∷◌, ◌++◌, Bool, true, false, cond, not, flat_map, length, take, drop, refl, sym, ap, ◌∙◌, subst, and-left, and-right, AllByRecursion, Constructs, Line, is_blank_line, text_of}
+use Rattle.mdconstructs_rests.proofs.Prelude.{◌≡◌, ℕ, zero, suc, nat_le, List, [], ◌∷◌, ◌++◌, Bool, true, false, cond, flat_map, length, take, drop, refl, ap, ◌∙◌, subst, and-left, and-right, AllByRecursion, Constructs, Line, is_blank_line, text_of}
 use Rattle.std.specs.List.{list_all}
+use Rattle.mdconstructs_containers.proofs.FrameFacts.{none_is}
 use Rattle.mdconstructs_containers.specs.Letters.{lazy_underline}
-use Rattle.mdconstructs_containers.specs.Rows.{Before, Leaf, Row, closed, has_none, holds_ending, known_after, leaf_after, nothing_known, row_of, row_with, rows, rows_from}
+use Rattle.mdconstructs_containers.specs.Rows.{Before, Leaf, Row, closed, has_none, known_after, leaf_after, row_of, row_with, rows, rows_from}
 use Rattle.mdconstructs_containers.specs.Skeleton.{further, last_of}
 use Rattle.mdconstructs_rests.proofs.WithoutContainers.Leaves.{is_left, kept, last_line, leaf_behind, leaf_next}
-
-none-there : {A : Type 0} (xs : List A) → has_none xs ≡ true → xs ≡ []
-none-there [] h = refl
-none-there (x ∷ xs) h = absurd (cc)
 
 -- a row without prefixes
 abbrev pub IsBare : Row → Type 0
@@ -39,7 +36,7 @@ module _ (on : Constructs) where
   plain_before leaf = record { stack = []; depth = 0; leaf = leaf }
 
   row-plain : (leaf : Leaf) (number : ℕ) (line : Line) → has_none (row_of on (plain_before leaf) number line).begun ≡ true → row_of on (plain_before leaf) number line ≡ plain_row leaf number line
-  row-plain leaf number line h = ap (row_with on (plain_before leaf) number line []) (none-there (row_of on (plain_before leaf) number line).begun h)
+  row-plain leaf number line h = ap (row_with on (plain_before leaf) number line []) (none_is (row_of on (plain_before leaf) number line).begun h)
 
   known-plain : (leaf : Leaf) (number : ℕ) (line : Line) → known_after on (plain_before leaf) (plain_row leaf number line) ≡ plain_before (leaf_next on leaf line)
   known-plain leaf number line = by (is_left on leaf line) (leaf_after on leaf (text_of line))

@@ -1,5 +1,6 @@
 -- The leaf block at the front of lines is told by their texts: lines with the same texts, as many as it has at least, begin with the same block.
-use Rattle.mdconstructs_rests.proofs.Prelude.{◌≡◌, ℕ, zero, suc, ◌+◌, ◌<◌, ◌≤◌, ◌&&◌, ◌||◌, nat_le, nat_lt, List, [], ◌∷◌, ◌++◌, Bool, true, false, cond, not, Option, Some, None, length, take, drop, length-take, length-drop, refl, sym, ap, ◌∙◌, subst, arith, lt-ltb, ltb-true, ltb-false, is_some, prefix_len-le-length, Constructs, HtmlKind, ends, waits_for_blank, Line, LeafBlock, blank_line, break_line, atx_heading, paragraph, setext_heading, indented_code, fenced_code, html_block, block_of_kind, content_at, ends_text, interrupts, further_code, has_line, html_block_at, is_blank, is_indented, lines_through, lines_until, text_of, underlined, LineKind, blank, indented, heading, fence, html, thematic_break, text, closes, is_blank_line, line_kind, underline_rank}
+use Rattle.mdconstructs_rests.proofs.Prelude.{◌≡◌, ℕ, zero, suc, ◌+◌, ◌≤◌, ◌&&◌, ◌||◌, nat_le, nat_lt, List, [], ◌∷◌, ◌++◌, Bool, true, false, cond, not, Option, Some, None, length, take, drop, length-take, length-drop, refl, sym, ap, ◌∙◌, subst, arith, lt-ltb, ltb-true, ltb-false, is_some, prefix_len-le-length, Constructs, HtmlKind, ends, waits_for_blank, Line, LeafBlock, blank_line, break_line, atx_heading, paragraph, setext_heading, indented_code, fenced_code, html_block, block_of_kind, content_at, ends_text, interrupts, further_code, has_line, is_blank, is_indented, lines_through, lines_until, text_of, underlined, LineKind, blank, indented, heading, fence, html, thematic_break, text, closes, is_blank_line, line_kind, underline_rank}
+use Rattle.std.proofs.Math.Seq.{take-append_seam}
 use Rattle.std.proofs.lemmas.Bool.{le-leb}
 use Rattle.std.proofs.lemmas.List.{take-append-drop}
 
@@ -84,6 +85,10 @@ module _ (test : List ℕ → Bool) where
             (omega (arith, same, long), (λ i. nat_lt (same i) (long i)))
       ] refl
 
+-- a setext heading over the line behind these, if that is an underline, and else a paragraph; and of how many lines it is
+abbrev pub by_rank : List Line → Line → Option ℕ → LeafBlock × ℕ
+by_rank lines next rank = elim rank [ None ↦ (paragraph lines, length lines) | Some rank ↦ (setext_heading rank lines next, suc (length lines)) ]
+
 module _ (on : Constructs) where
   bounded : (f m : ℕ) → cond (nat_le 1 f) (suc f) 0 ≤ suc m → f ≤ m
   bounded zero m h = omega arith
@@ -105,10 +110,6 @@ module _ (on : Constructs) where
       by false false more few = refl
 
   -- ---- a paragraph or a setext heading
-  front-taken : (ms behind : List Line) → take (length ms) (ms ++ behind) ≡ ms
-  front-taken [] behind = refl
-  front-taken (m ∷ ms) behind = ap (λ l. m ∷ l) (front-taken ms behind)
-
   pub lines-back : (ms : List Line) (n : Line) (behind : List Line) → take (length ms) (take (suc (length ms)) (ms ++ n ∷ behind)) ≡ ms
   lines-back [] n behind = refl
   lines-back (m ∷ ms) n behind = ap (λ l. m ∷ l) (lines-back ms n behind)
@@ -120,25 +121,22 @@ module _ (on : Constructs) where
   abbrev cut_of : LeafBlock → ℕ → LeafBlock × ℕ
   cut_of block n = (block, n)
 
-  abbrev by_rank : List Line → Line → Option ℕ → LeafBlock × ℕ
-  by_rank lines next rank = elim rank [ None ↦ (paragraph lines, length lines) | Some rank ↦ (setext_heading rank lines next, suc (length lines)) ]
-
   -- what a block is with the first of these lines
   abbrev with_front : LeafBlock × ℕ → List Line → LeafBlock × ℕ
   with_front c all = (with_lines c.0 (take c.1 all), c.1)
 
   underlined-agree : (ls ms bx by : List Line) → length ls ≡ length ms → Agree by bx → (underlined on ls bx).1 ≤ length ms + length by → underlined on ms by ≡ with_front (underlined on ls bx) (ms ++ by)
-  underlined-agree ls ms [] [] e h few = ap (λ l. cut_of (paragraph l) (length ms)) (sym (front-taken ms [])) ∙ ap (λ n. cut_of (paragraph (take n (ms ++ []))) n) (sym e)
+  underlined-agree ls ms [] [] e h few = ap (λ l. cut_of (paragraph l) (length ms)) (sym (take-append_seam ms [])) ∙ ap (λ n. cut_of (paragraph (take n (ms ++ []))) n) (sym e)
   underlined-agree ls ms [] (b ∷ by) e h few = absurd h
   underlined-agree ls ms (x ∷ bx) [] e h few = by-none (underline_rank on (text_of x)) few
     where
       by-none : (rank : Option ℕ) → (by_rank ls x rank).1 ≤ length ms + 0 → let u : LeafBlock × ℕ = (paragraph ms, length ms) in u ≡ with_front (by_rank ls x rank) (ms ++ [])
-      by-none None few = ap (λ l. cut_of (paragraph l) (length ms)) (sym (front-taken ms [])) ∙ ap (λ n. cut_of (paragraph (take n (ms ++ []))) n) (sym e)
+      by-none None few = ap (λ l. cut_of (paragraph l) (length ms)) (sym (take-append_seam ms [])) ∙ ap (λ n. cut_of (paragraph (take n (ms ++ []))) n) (sym e)
       by-none (Some rank) few = let more : suc (length ls) ≤ length ms + 0 = few in absurd (omega (arith, more, e))
   underlined-agree ls ms (x ∷ bx) (y ∷ by) e h few = ap (λ t. by_rank ms y (underline_rank on t)) h.0 ∙ by-both (underline_rank on (text_of x))
     where
       by-both : (rank : Option ℕ) → by_rank ms y rank ≡ with_front (by_rank ls x rank) (ms ++ y ∷ by)
-      by-both None = ap (λ l. cut_of (paragraph l) (length ms)) (sym (front-taken ms (y ∷ by))) ∙ ap (λ n. cut_of (paragraph (take n (ms ++ y ∷ by))) n) (sym e)
+      by-both None = ap (λ l. cut_of (paragraph l) (length ms)) (sym (take-append_seam ms (y ∷ by))) ∙ ap (λ n. cut_of (paragraph (take n (ms ++ y ∷ by))) n) (sym e)
       by-both (Some rank) =
           (λ i. cut_of (setext_heading rank (sym (lines-back ms y by) i) (sym (below-back ms y by) i)) (suc (length ms)))
           ∙ ap (λ n. cut_of (setext_heading rank (take n (take (suc n) (ms ++ y ∷ by))) (first_of (drop n (take (suc n) (ms ++ y ∷ by))))) (suc n)) (sym e)

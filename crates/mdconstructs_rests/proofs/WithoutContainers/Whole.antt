@@ -1,8 +1,9 @@
 -- A document in which no container begins is read as its leaf blocks are.
-use Rattle.mdconstructs_rests.proofs.Prelude.{◌≡◌, inl, inr, ℕ, zero, suc, ◌+◌, ◌<◌, ◌≤◌, List, [], ◌∷◌, ◌++◌, Bool, true, false, cond, length, drop, refl, sym, ap, ◌∙◌, subst, arith, append-nil, append_assoc, filter, map, AllByRecursion, flat_map, Option, Some, None, Constructs, Event, Enter, Exit, Point, Line, Mark, alone, chunk_span, event, flow_events, leaf_block_marks, leaf_blocks, leaf_blocks_marks, linked_from, linked-append, linked-length, lines_in, all_of, Seat, end_after, virtual, shown}
-use Rattle.std.specs.List.{list_all, list_any}
-use Rattle.std.specs.Prelude.{◌==◌, slice_get}
+use Rattle.mdconstructs_rests.proofs.Prelude.{◌≡◌, ℕ, suc, ◌+◌, ◌<◌, List, [], ◌∷◌, ◌++◌, true, false, length, refl, sym, ap, ◌∙◌, subst, arith, append-nil, filter, map, AllByRecursion, flat_map, Option, Some, None, Constructs, Event, Enter, Exit, Line, Mark, alone, chunk_span, event, flow_events, leaf_blocks, leaf_blocks_marks, linked_from, linked-append, linked-length, lines_in, Seat, end_after, virtual, shown}
+use Rattle.std.specs.List.{list_all}
+use Rattle.std.specs.Prelude.{slice_get}
 use Rattle.std.proofs.lemmas.Option.{none-some, slice_get_within}
+use Rattle.markdown_base.proofs.Common.{every-append}
 use Rattle.markdown_base.specs.declared.event.Content.{Content}
 use Rattle.markdown_base.specs.declared.event.Content.TheVariants as content
 use Rattle.markdown_base.specs.declared.event.Name.{Name}
@@ -10,12 +11,12 @@ use Rattle.markdown_base.specs.declared.event.Name.TheVariants as name
 use Rattle.markdown_base.specs.Events.{EndsBelow}
 use Rattle.markdown_base.specs.Places.{in_range}
 use Rattle.markdown_edits.proofs.Edits.Passes.{woven-nil, olds}
-use Rattle.markdown_edits.specs.Woven.{Change, changed, placed, placed_in, woven}
+use Rattle.markdown_edits.specs.Woven.{changed, placed}
 use Rattle.markdown_tokenizer.proofs.Positions.Chains.{IsChain}
 use Rattle.markdown_tokenizer.specs.Engine.{whole_text}
-use Rattle.markdown_tokenizer.specs.Text.{Given, Text, IsDocument, IsText}
+use Rattle.markdown_tokenizer.specs.Text.{Given, IsDocument}
 use Rattle.markdown_children.specs.Chains.{begins, chain_of, fitting_starts}
-use Rattle.markdown_children.specs.Children.{chain_changes, child_changes, first_chunk, part_changes, with_children}
+use Rattle.markdown_children.specs.Children.{chain_changes, first_chunk, part_changes, with_children}
 use Rattle.markdown_children.specs.Parts.{divided_over, parts}
 use Rattle.markdown_children.specs.Reads.{text_from, text_of_chain}
 use Rattle.markdown_children.specs.Ready.{IsReady, place_at}
@@ -30,25 +31,27 @@ use Rattle.mdconstructs_flow_read.proofs.Marks.LeafSpans.{leaf-blocks-keep}
 use Rattle.mdconstructs_flow_read.proofs.Marks.MarkSpans.{IsKeptBySpans, text-by-chunks}
 use Rattle.mdconstructs_flow_read.proofs.Marks.ToldEdits.{mark_at}
 use Rattle.mdconstructs_flow_read.specs.ChunksJoin.{AcrossGap}
+use Rattle.mdconstructs_containers.proofs.LetterLemmas.{no_letters_from}
 use Rattle.mdconstructs_containers.proofs.SeatFacts.{document_lines, lines_end}
 use Rattle.mdconstructs_containers.proofs.SkeletonReady.{skeletons_are_ready}
 use Rattle.mdconstructs_containers.specs.Blocks.{document_blocks, document_skeleton, with_lazy_letters}
-use Rattle.mdconstructs_containers.specs.Letters.{lazy_underline, lazy_underlines, letter, lettered_from, with_letters}
+use Rattle.mdconstructs_containers.specs.Letters.{lazy_underline, lazy_underlines, with_letters}
 use Rattle.mdconstructs_containers.specs.Rows.{Row, closed, has_none, rows}
 use Rattle.mdconstructs_containers.specs.Skeleton.{chained_from, parts_in, parts_marks}
 use Rattle.mdconstructs_containers.specs.Skeleton as skeletons
 use Rattle.mdconstructs_documents.proofs.FlowTexts.Chained.{IsAt, first-at, kept-at, kept-starts, next-at, starts_in}
 use Rattle.mdconstructs_documents.proofs.FlowTexts.Chunks.{chain-is, chain-next, chain-starts}
-use Rattle.mdconstructs_documents.proofs.FlowTexts.Segments.{IsKept}
+use Rattle.mdconstructs_documents.proofs.FlowTexts.Segments.{HasByte, IsKept}
 use Rattle.mdconstructs_documents.proofs.FlowTexts.Whole.{inlines-are-read}
+use Rattle.mdconstructs_documents.proofs.InContainers.Merged.{IsBare}
 use Rattle.mdconstructs_documents.specs.DocumentEvents.{document_events}
 use Rattle.mdconstructs_documents.specs.Documents.{document}
 use Rattle.mdconstructs_documents.specs.FlowTexts.{flow_inlines}
 use Rattle.mdconstructs_inlines.specs.LawStatements.{with_inlines, with_strings}
 use Rattle.mdconstructs_rests.proofs.Events.{full-lines, in-blocks}
-use Rattle.mdconstructs_rests.proofs.Links.{HasSeat, blocks-link-back}
+use Rattle.mdconstructs_rests.proofs.Links.{blocks-link-back}
 use Rattle.mdconstructs_rests.proofs.WithoutContainers.CutOff.{IsCutOff, IsPlain, cut-off}
-use Rattle.mdconstructs_rests.proofs.WithoutContainers.OneChild.{IsFresh, IsUnlinked, linked-on, meet-below, moved_on, one-changed, placed-unlinked}
+use Rattle.mdconstructs_rests.proofs.WithoutContainers.OneChild.{IsFresh, linked-on, meet-below, moved_on, one-changed, placed-unlinked}
 use Rattle.mdconstructs_rests.proofs.WithoutContainers.PlainParts.{marks-alone, parts-alone, whole_marks}
 use Rattle.mdconstructs_rests.proofs.WithoutContainers.PlainRows.{all-plain, plain-bare, plain-length, plain-letters, plain_rows}
 use Rattle.mdconstructs_rests.specs.WithoutContainers.{DocumentsWithoutContainers}
@@ -59,7 +62,7 @@ plain-linked i j [] h = refl
 plain-linked i j ((e, None) ∷ ms) h = ap (λ l. e ∷ l) (plain-linked (i + 1) (j + 1) ms h.1)
 plain-linked i j ((e, Some chunk) ∷ ms) h = absurd (none-some chunk (sym h.0.0))
 
-plain-unlinked : (i : ℕ) (ms : List Mark) → AllByRecursion IsPlain ms → AllByRecursion IsUnlinked (linked_from i ms)
+plain-unlinked : (i : ℕ) (ms : List Mark) → AllByRecursion IsPlain ms → AllByRecursion IsBare (linked_from i ms)
 plain-unlinked i [] h = tt
 plain-unlinked i ((e, None) ∷ ms) h = (h.0.1, plain-unlinked (i + 1) ms h.1)
 plain-unlinked i ((e, Some chunk) ∷ ms) h = absurd (none-some chunk (sym h.0.0))
@@ -68,10 +71,6 @@ plain-kept : (wanted : Option Content) (ms : List Mark) → AllByRecursion IsPla
 plain-kept wanted [] h = tt
 plain-kept wanted ((e, None) ∷ ms) h = (h.0.1, plain-kept wanted ms h.1)
 plain-kept wanted ((e, Some chunk) ∷ ms) h = absurd (none-some chunk (sym h.0.0))
-
-plain-both : (xs ys : List Mark) → AllByRecursion IsPlain xs → AllByRecursion IsPlain ys → AllByRecursion IsPlain (xs ++ ys)
-plain-both [] ys h k = k
-plain-both (x ∷ xs) ys h k = (h.0, plain-both xs ys h.1 k)
 
 chained-plain : (i j : ℕ) (p : Option ℕ) (ms : List Mark) → AllByRecursion IsPlain ms → chained_from i p ms ≡ linked_from j ms
 chained-plain i j p [] h = refl
@@ -89,23 +88,15 @@ chained-one i j ((v, None) ∷ front) e x back h k = ap (λ l. v ∷ l) (chained
 chained-one i j ((v, Some chunk) ∷ front) e x back h k = absurd (none-some chunk (sym h.0.0))
 
 -- ---- the events of marks of leaf blocks have no links of their own
-fresh-both : (xs ys : List Mark) → AllByRecursion IsFresh xs → AllByRecursion IsFresh ys → AllByRecursion IsFresh (xs ++ ys)
-fresh-both [] ys h k = k
-fresh-both (x ∷ xs) ys h k = (h.0, fresh-both xs ys h.1 k)
-
 fresh-kept : (bytes : List ℕ) → IsKeptBySpans bytes (λ marks seats. AllByRecursion IsFresh marks)
 fresh-kept bytes = record {
   none = tt;
-  both = λ {xs} {ys} {a} {b} h k. fresh-both xs ys h k;
+  both = λ {xs} {ys} {a} {b} h k. every-append IsFresh xs ys h k;
   leaf = λ n s ss w. (refl, (refl, tt));
   datum = λ c s ss w. (refl, (refl, tt));
-  text = λ lines starts w. text-by-chunks bytes (λ marks seats. AllByRecursion IsFresh marks) tt (λ xs ys a b h k. fresh-both xs ys h k) (λ chunk n s ss w. (refl, (refl, tt))) false lines w;
-  around = λ n s ss inside other h. (refl, fresh-both inside ((event bytes Exit n (end_after s.end ss), None) ∷ []) h (refl, tt));
+  text = λ lines starts w. text-by-chunks bytes (λ marks seats. AllByRecursion IsFresh marks) tt (λ xs ys a b h k. every-append IsFresh xs ys h k) (λ chunk n s ss w. (refl, (refl, tt))) false lines w;
+  around = λ n s ss inside other h. (refl, every-append IsFresh inside ((event bytes Exit n (end_after s.end ss), None) ∷ []) h (refl, tt));
 }
-
-no-letters : (index : ℕ) (bytes : List ℕ) → lettered_from index [] bytes ≡ bytes
-no-letters index [] = refl
-no-letters index (b ∷ bs) = ap (λ l. b ∷ l) (no-letters (suc index) bs)
 
 module _ (g : Given) (is : IsDocument g) where
   abbrev on : Constructs
@@ -208,7 +199,7 @@ module _ (g : Given) (is : IsDocument g) where
           let inside = leaf_blocks_marks g.bytes (leaf_blocks on (lines_in seats)) in
           let events_are : events ≡ fs ++ (enter ∷ exit ∷ bs) = linked-append 0 front rest in
           let long : length fs ≡ k = linked-length 0 front ∙ omega arith in
-          let back_links = (blocks-link-back g.bytes (leaf_blocks on (lines_in seats)) (in-blocks HasSeat on (lines_in seats) (full-lines seats))).links in
+          let back_links = (blocks-link-back g.bytes (leaf_blocks on (lines_in seats)) (in-blocks HasByte on (lines_in seats) (full-lines seats))).links in
           let fresh = leaf-blocks-keep on g.bytes (λ marks seats. AllByRecursion IsFresh marks) (fresh-kept g.bytes) seats in
           let moved : linked_from k inside ≡ map (moved_on k) child = linked-on k inside 0 k (omega arith) back_links fresh in
           ap (λ cs. changed (flat_map chain_changes (divided_over events cs (map (child_at events) cs))) events) starts
@@ -235,7 +226,7 @@ module _ (g : Given) (is : IsDocument g) where
     letters-none = ap (flat_map (lazy_underline on)) rows-are ∙ plain-letters on closed 1 lines
 
     shown-same : with_lazy_letters g ≡ g
-    shown-same = ap (λ (bs : List ℕ). record g { bytes = bs }) (ap (λ at. with_letters at g.bytes) letters-none ∙ no-letters 0 g.bytes)
+    shown-same = ap (λ (bs : List ℕ). record g { bytes = bs }) (ap (λ at. with_letters at g.bytes) letters-none ∙ no_letters_from 0 g.bytes)
 
     marks-are : parts_marks g.bytes (skeletons.parts (rows on lines)) ≡ flat_map (whole_marks g.bytes) (parts_in (length plain) plain)
     marks-are = ap (λ rs. parts_marks g.bytes (skeletons.parts rs)) rows-are ∙ marks-alone g.bytes (parts_in (length plain) plain) (parts-alone (length plain) plain (plain-bare on closed 1 lines))
@@ -247,7 +238,7 @@ module _ (g : Given) (is : IsDocument g) where
     read-by : (front back : List Mark) (seats before behind : List Seat) → AllByRecursion IsPlain front → AllByRecursion IsPlain back → virtual g.tab g.bytes ≡ before ++ (seats ++ behind)
         → document_skeleton g ≡ chained_from 0 None (front ++ (chunk_span g.bytes (alone content.Content) name.Data seats [] ++ back))
         → with_leaves (document_skeleton g) ≡ linked_from 0 (front ++ (leaf_blocks_marks g.bytes (leaf_blocks on (lines_in seats)) ++ back))
-    read-by front back [] before behind h b whole e = ap with_leaves (e ∙ chained-plain 0 0 None (front ++ back) (plain-both front back h b)) ∙ none-read (front ++ back) (plain-both front back h b)
+    read-by front back [] before behind h b whole e = ap with_leaves (e ∙ chained-plain 0 0 None (front ++ back) (every-append IsPlain front back h b)) ∙ none-read (front ++ back) (every-append IsPlain front back h b)
     read-by front back (s ∷ ss) before behind h b whole e =
         let are = e ∙ chained-one 0 0 front (event g.bytes Enter name.Data s.point) (event g.bytes Exit name.Data (end_after s.end ss)) back h b in
         ap with_leaves are ∙ one-read front back s ss h b before behind whole (subst (IsReady g.tab g.bytes wanted) are (skeletons_are_ready g is wanted))
