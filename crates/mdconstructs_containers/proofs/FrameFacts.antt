@@ -314,19 +314,19 @@ module _ (on : Constructs) (b : Before) (n : ℕ) (line : Line) where
   abbrev all_go_on : Bool
   all_go_on = length r.went_on == b.depth
 
-  left_is : r.is_left_blank ≡ true → (r.is_blank ≡ true) × (none ≡ true)
+  pub left_is : r.is_left_blank ≡ true → (r.is_blank ≡ true) × (none ≡ true)
   left_is h = let rest = and-right r.is_blank (none && not (r.stays && holds_ending b.leaf)) h in (and-left r.is_blank (none && not (r.stays && holds_ending b.leaf)) h, and-left none (not (r.stays && holds_ending b.leaf)) rest)
 
-  stays_is : r.stays ≡ true → none ≡ true
+  pub stays_is : r.stays ≡ true → none ≡ true
   stays_is h = and-left none (r.is_lazy || (all_go_on && (length b.stack == b.depth))) h
 
-  lazy_is : r.is_lazy ≡ true → (none ≡ true) × (is_paragraph b.leaf ≡ true)
+  pub lazy_is : r.is_lazy ≡ true → (none ≡ true) × (is_paragraph b.leaf ≡ true)
   lazy_is h =
       let kind = interrupts (line_kind on (drop r.columns (text_of line))) in
       let rest = and-right (not all_go_on) (none && (is_paragraph b.leaf && not kind)) h in
       (and-left none (is_paragraph b.leaf && not kind) rest, and-left (is_paragraph b.leaf) (not kind) (and-right none (is_paragraph b.leaf && not kind) rest))
 
-  lazy_stays : r.is_lazy ≡ true → r.stays ≡ true
+  pub lazy_stays : r.is_lazy ≡ true → r.stays ≡ true
   lazy_stays h = (λ k. (lazy_is h).0 k && (h k || (all_go_on && (length b.stack == b.depth))))
 
   -- a line that stays, and not lazily, stands in all containers

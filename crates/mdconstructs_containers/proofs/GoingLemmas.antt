@@ -9,7 +9,7 @@ use Rattle.mdconstructs_machines.specs.Breaks.{is_white}
 use Rattle.markdown_base.specs.declared.configuration.Constructs.{Constructs}
 use Rattle.mdconstructs_flow_read.specs.LineKinds.{indent, unindented, is_blank_line, is_thematic_break, begins_with}
 use Rattle.mdconstructs_lines.specs.declared.containers.Prefix.{Prefix as CodePrefix}
-use Rattle.mdconstructs_lines.specs.Containers.{Container, quote, item, Prefix, goes_on, begins, quote_size, item_at, is_marker, padding, digits, first_byte}
+use Rattle.mdconstructs_lines.specs.Containers.{Container, quote, item, Prefix, goes_on, begins, quote_size, item_at, is_marker, padding, digits, first_byte, may_begin_item}
 use Rattle.mdconstructs_lines.specs.Views.{prefix_of}
 use Rattle.mdconstructs_containers.specs.declared.going.Open.{Open}
 use Rattle.mdconstructs_containers.specs.declared.going.Open.{Open}
@@ -171,6 +171,24 @@ begins_within on number in_paragraph t q e =
     by false true true l m rest ex em h = let w = quote_within t ex in let size : quote_size t ≡ q.size = ap size_or h in (omega arith, omega arith)
     by false true false l m rest ex em h = item_case number t q l m rest em h
     by false false x l m rest ex em h = item_case number t q l m rest em h
+
+item_front : (number : ℕ) (t : List ℕ) → indent t + 1 ≤ (item_at number t).size
+item_front number t = by (is_blank_line (drop (suc (digits (unindented t))) (unindented t)))
+  where
+    by : (s : Bool) → indent t + 1 ≤ cond s (indent t + suc (digits (unindented t))) (indent t + suc (digits (unindented t)) + padding (drop (suc (digits (unindented t))) (unindented t)))
+    by true = omega arith
+    by false = omega arith
+
+-- the white space is in its prefix, and a marker
+pub begins_front : (on : Constructs) (number : ℕ) (in_paragraph : Bool) (t : List ℕ) (q : Prefix) → begins on number in_paragraph t ≡ Some q → indent t + 1 ≤ q.size
+begins_front on number in_paragraph t q e =
+    by ((on.code_indented && nat_le 4 (indent t)) || (is_blank_line t || (on.thematic_break && is_thematic_break (unindented t)))) (on.block_quote && begins_with 62 (unindented t)) (on.list_item && may_begin_item in_paragraph (unindented t)) e
+  where
+    by : (past b l : Bool) → cond past None (cond b (Some (record { container = quote number; size = quote_size t })) (cond l (Some (item_at number t)) None)) ≡ Some q → indent t + 1 ≤ q.size
+    by true b l h = absurd (cc)
+    by false true l h = let size : quote_size t ≡ q.size = ap size_or h in omega arith
+    by false false true h = let size : (item_at number t).size ≡ q.size = ap size_or h in let front = item_front number t in omega arith
+    by false false false h = absurd (cc)
 
 pub begins_some_size : (on : Constructs) (number : ℕ) (in_paragraph : Bool) (t : List ℕ) (o : Option CodePrefix) → option_map (prefix_of number) o ≡ begins on number in_paragraph t → IfSome o (λ p. 1 ≤ p.size)
 begins_some_size on number in_paragraph t None e = tt

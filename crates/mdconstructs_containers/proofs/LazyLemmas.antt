@@ -58,6 +58,9 @@ module _ (t : ℕ) (bytes : List ℕ) (some : 0 < t) (limit : t * length bytes +
   pub lazy_within : x.row.columns ≤ length (line_bytes t x.span.number 1 x.span.start (drop x.span.start bytes))
   lazy_within = omega (arith, line_size t bytes some limit has.stack x xs r rs has.left, the.placed.columns)
 
+  pub lazy_size : length (line_bytes t x.span.number 1 x.span.start (drop x.span.start bytes)) ≡ x.span.size
+  lazy_size = line_size t bytes some limit has.stack x xs r rs has.left
+
   pub lazy_behind : HasLeft t bytes xs rs
   lazy_behind = record { stack = open_behind has.stack r; left = record { number = suc has.left.number; start = x.span.next; are = has.left.are.1; outside = next_outside t bytes some limit has.stack x xs r rs has.left; few = next_few t bytes some limit has.stack x xs r rs has.left } }
 

@@ -1,5 +1,7 @@
 pub mod AheadLemmas
 pub mod ChainLemmas
+pub mod ColumnLemmas
+pub mod CostLemmas
 pub mod DocumentRows
 pub mod EndLemmas
 pub mod Examples
@@ -16,6 +18,7 @@ pub mod ListLemmas
 pub mod ListNumbers
 pub mod ListSeenLemmas
 pub mod OverLemmas
+pub mod PartCosts
 pub mod PartFacts
 pub mod PartGoes
 pub mod PartLemmas

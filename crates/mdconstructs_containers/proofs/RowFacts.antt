@@ -44,10 +44,11 @@ front_append xs ys = (ys, refl)
 abbrev pub is_ordered : ℕ → Bool
 is_ordered m = (m == 46) || (m == 41)
 
--- an item stands in a list that began no later, and is ordered by its marker
+-- an item stands in a list that began no later, is ordered by its marker, and has columns
 pub record ItemIs (i : Item) : Type 0 where
   pub list : i.list ≤ i.line
   pub ordered : nat_le 1 i.digits ≡ is_ordered i.marker
+  pub sized : 1 ≤ i.size
 
 -- a container began in a line before this one
 abbrev pub BeganBefore : ℕ → Container → Type 0
@@ -100,7 +101,7 @@ module _ (on : Constructs) (n : ℕ) where
       by true q l m rest em h = absurd (false≢true (ap is_some h))
       by false true l m rest em h = subst (λ (x : Option Prefix). BeginsIn n (unwrap_or x p).container × BeginsList (unwrap_or x p).container) h (refl, tt)
       by false false true true true em h =
-          subst (λ (x : Option Prefix). BeginsIn n (unwrap_or x p).container × BeginsList (unwrap_or x p).container) h ((refl, record { list = omega arith; ordered = marker_ordered (unindented t) em }), refl)
+          subst (λ (x : Option Prefix). BeginsIn n (unwrap_or x p).container × BeginsList (unwrap_or x p).container) h ((refl, record { list = omega arith; ordered = marker_ordered (unindented t) em; sized = omega arith }), refl)
       by false false false m rest em h = absurd (false≢true (ap is_some h))
       by false false true false rest em h = absurd (false≢true (ap is_some h))
       by false false true true false em h = absurd (false≢true (ap is_some h))
@@ -171,7 +172,7 @@ module _ (n : ℕ) where
       let markers : old.marker ≡ new.marker = eqb-true old.marker new.marker e in
       let names : list_name new ≡ list_name old =
       ap (λ b. cond b name.ListOrdered name.ListUnordered) (k.1.ordered ∙ ap is_ordered (sym markers) ∙ sym h.1.ordered) in
-      ((here, record { list = omega (arith, before, list, here); ordered = k.1.ordered }), by (nat_lt old.list new.line) names)
+      ((here, record { list = omega (arith, before, list, here); ordered = k.1.ordered; sized = k.1.sized }), by (nat_lt old.list new.line) names)
     where
       by : (x : Bool) → list_name new ≡ list_name old → IsFront (cond x (record { name = list_name new; line = old.list } ∷ []) []) (frames_of (item old))
       by true names = (record { name = name.ListItem; line = old.line } ∷ [], (λ k. record { name = sym names k; line = old.list } ∷ record { name = name.ListItem; line = old.line } ∷ []))

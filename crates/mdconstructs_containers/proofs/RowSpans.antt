@@ -1,7 +1,7 @@
 -- Lemmas on the lines of a document: what the code needs to know of each.
 use Rattle.std.proofs.Common.{◌≡◌, ℕ, zero, suc, ◌+◌, ◌-◌, ◌<◌, ◌≤◌, Bool, true, false, cond, List, [], ◌∷◌, ◌++◌, length, take, drop, map, min, length-take, length-drop, refl, sym, ap, ◌∙◌, subst, arith, eqb-true}
 use Rattle.std.specs.Prelude.{◌==◌, ◌&&◌, ◌||◌, not, nat_le, Option, Some, None}
-use Rattle.std.specs.List.{prefix_len}
+use Rattle.std.specs.List.{AllByRecursion, prefix_len}
 use Rattle.std.proofs.lemmas.Bool.{false≢true}
 use Rattle.std.proofs.lemmas.List.{drop-drop}
 use Rattle.markdown_base.specs.declared.configuration.Constructs.{Constructs}
@@ -19,6 +19,7 @@ use Rattle.mdconstructs_containers.specs.Parts.{open_behind}
 use Rattle.mdconstructs_containers.specs.Prefixes.{going_on, beginning, columns_of, containers_of, in_place_of, with_list}
 use Rattle.mdconstructs_containers.specs.Rows.{Before, Row, closed, has_none, is_paragraph, is_raw, row_of, known_after}
 use Rattle.mdconstructs_containers.specs.SeatPlaces.{AreInside, IsInside}
+use Rattle.mdconstructs_containers.specs.Costs.{HaveSizes}
 use Rattle.mdconstructs_containers.specs.Spans.{IsPlaced, ArePlaced, IsRowIn, AreRowsIn}
 use Rattle.mdconstructs_containers.specs.Views.{begun_of, IsRow}
 use Rattle.mdconstructs_containers.proofs.DocumentRows.{rows_left, rows_left_step, rows_left_end, take_of_take, going_few, went_few, next_is}
@@ -26,7 +27,9 @@ use Rattle.mdconstructs_containers.proofs.GoingLemmas.{begins_within}
 use Rattle.mdconstructs_containers.proofs.PrefixLemmas.{prefix_take}
 use Rattle.markdown_base.proofs.Common.{and-right}
 use Rattle.markdown_base.proofs.Facts.Bools.{and-left}
-use Rattle.mdconstructs_containers.proofs.FrameFacts.{none_is}
+use Rattle.mdconstructs_containers.proofs.CostLemmas.{began_sizes}
+use Rattle.mdconstructs_containers.proofs.FrameFacts.{none_is, old_after}
+use Rattle.mdconstructs_containers.proofs.RowFacts.{BeganBefore}
 
 -- ---- prefixes with which containers begin have their bytes
 
@@ -147,13 +150,14 @@ module _ (on : Constructs) (b : Before) (number : ℕ) (line : Line) where
       let second = eqb-true (length b.stack) b.depth (and-right (length went == b.depth) (length b.stack == b.depth) both) in
       first ∙ sym second
 
-  pub row_facts : (t : ℕ) (bytes : List ℕ) (start : ℕ) (x : RowAt) → line ≡ line_at t number start (drop start bytes) → IsRow number x.row row → IsPlaced t bytes number start x → IsRowIn t bytes b.stack number start x row
-  row_facts t bytes start x el is placed = record {
+  pub row_facts : (t : ℕ) (bytes : List ℕ) (start : ℕ) (x : RowAt) → line ≡ line_at t number start (drop start bytes) → IsRow number x.row row → IsPlaced t bytes number start x → HaveSizes b.stack → IsRowIn t bytes b.stack number start x row
+  row_facts t bytes start x el is placed sizes = record {
     is = is;
     placed = placed;
     line = el;
     went = went_again x.row.many is.many;
     many = went_few on b number line x.row.many is.many;
+    sizes = sizes;
     sum = refl;
     stays = λ e. none_is row.begun (and-left (has_none row.begun) _ e);
     left = λ e. none_is row.begun (and-left (has_none row.begun) _ (and-right _ _ e));
@@ -176,12 +180,12 @@ module _ (on : Constructs) (b : Before) (number : ℕ) (line : Line) where
 head_same : {A : Type 0} (x y : A) (xs ys : List A) → x ∷ xs ≡ y ∷ ys → (x ≡ y) × (xs ≡ ys)
 head_same x y xs ys e = (cc, cc)
 
-pub rows_in : (on : Constructs) (t : ℕ) (bytes : List ℕ) (some : 0 < t) (b : Before) (number start : ℕ) (xs : List RowAt) (all : List Row) → all ≡ rows_left on t bytes b number start → AreRows xs all → ArePlaced t bytes number start xs (length bytes)
+pub rows_in : (on : Constructs) (t : ℕ) (bytes : List ℕ) (some : 0 < t) (b : Before) (number start : ℕ) (xs : List RowAt) (all : List Row) → all ≡ rows_left on t bytes b number start → AreRows xs all → ArePlaced t bytes number start xs (length bytes) → AllByRecursion (BeganBefore number) b.stack
     → AreRowsIn t bytes b.stack number start xs all
-rows_in on t bytes some b number start [] [] e h p = p
-rows_in on t bytes some b number start [] (r ∷ rs) e h p = absurd h
-rows_in on t bytes some b number start (x ∷ xs) [] e h p = absurd h
-rows_in on t bytes some b number start (x ∷ xs) (r ∷ rs) e h p =
+rows_in on t bytes some b number start [] [] e h p began = p
+rows_in on t bytes some b number start [] (r ∷ rs) e h p began = absurd h
+rows_in on t bytes some b number start (x ∷ xs) [] e h p began = absurd h
+rows_in on t bytes some b number start (x ∷ xs) (r ∷ rs) e h p began =
     let line = line_at t number start (drop start bytes) in
     let row = row_of on b number line in
     let left : 0 < length (drop start bytes) = omega (arith, length-drop start bytes, p.0.inside) in
@@ -189,6 +193,6 @@ rows_in on t bytes some b number start (x ∷ xs) (r ∷ rs) e h p =
     let next = next_is bytes start x.span.end x.span.next end p.0.next_is in
     let step = head_same r row rs _ (e ∙ rows_left_step on t bytes some b number start x.span.next left next) in
     let same : IsRow number x.row row = subst (λ (n : ℕ). IsRow n x.row row) p.0.number_is (subst (IsRow x.span.number x.row) step.0 h.0) in
-    let here : IsRowIn t bytes b.stack number start x r = subst (IsRowIn t bytes b.stack number start x) (sym step.0) (row_facts on b number line t bytes start x refl same p.0) in
-    let behind = rows_in on t bytes some (known_after on b row) (suc number) x.span.next xs rs step.1 h.1 p.1 in
+    let here : IsRowIn t bytes b.stack number start x r = subst (IsRowIn t bytes b.stack number start x) (sym step.0) (row_facts on b number line t bytes start x refl same p.0 (began_sizes number b.stack began)) in
+    let behind = rows_in on t bytes some (known_after on b row) (suc number) x.span.next xs rs step.1 h.1 p.1 (old_after on b number line began) in
     (here, subst (λ (s : List Container). AreRowsIn t bytes s (suc number) x.span.next xs rs) (stack_behind on b number line ∙ ap (open_behind b.stack) (sym step.0)) behind)

@@ -23,6 +23,7 @@ use Rattle.mdconstructs_containers.specs.Prefixes.{columns_of, going_on}
 use Rattle.mdconstructs_containers.specs.Rows.{Row, has_none}
 use Rattle.mdconstructs_containers.specs.SeatPlaces.{AreSeatsAt, events_of}
 use Rattle.mdconstructs_containers.specs.Skeleton.{Piece, chunks_of, joined_pieces, prefixes_marks}
+use Rattle.mdconstructs_containers.specs.Costs.{HaveSizes}
 use Rattle.mdconstructs_containers.specs.Spans.{IsPlaced, IsRowIn}
 use Rattle.mdconstructs_containers.specs.Stretches.{AreFurther, HasFurther, InStretch, IsOutside, IsPending, Run, end_at, ends_at, pieces_from}
 use Rattle.mdconstructs_containers.specs.Written.{Written}
@@ -256,6 +257,8 @@ pub record IsFurther (t : ℕ) (bytes : List ℕ) (stack : List Container) (x : 
   pub seats_at : AreSeatsAt t bytes (point x.span.number 1 x.span.start 0) seats
   pub seats_bytes : line_bytes t x.span.number 1 x.span.start (drop x.span.start bytes) ≡ bytes_of seats
   pub behind : HasFurther t bytes stack xs
+  pub sizes : HaveSizes stack
+  pub size : length (line_bytes t x.span.number 1 x.span.start (drop x.span.start bytes)) ≡ x.span.size
 
 pub further_one : (t : ℕ) (bytes : List ℕ) (some : 0 < t) (limit : t * length bytes + 1 < 2 ^ 64) (stack : List Container) (x : RowAt) (xs : List RowAt) → HasFurther t bytes stack (x ∷ xs) → IsFurther t bytes stack x xs
 further_one t bytes some limit stack x xs w = by w.rows w.are
@@ -272,6 +275,8 @@ further_one t bytes some limit stack x xs w = by w.rows w.are
           seats_at = row_seats t bytes some limit stack w.number w.start x r row w.outside;
           seats_bytes = row_bytes t bytes some limit stack w.number w.start x r row w.outside;
           behind = record { number = suc w.number; start = x.span.next; rows = rs; are = are.2; outside = behind_line t bytes some limit w.number w.start x row.placed r.line row.line w.outside };
+          sizes = row.sizes;
+          size = (λ k. length (line_bytes t (row.placed.number_is k) 1 (row.placed.start_is k) (drop (row.placed.start_is k) bytes))) ∙ sym row.placed.size_is;
         }
 
 set_next_length : (i n : ℕ) (es : List Event) → length (set_next i n es) ≡ length es

@@ -1,12 +1,38 @@
 -- Lemmas on lines that have no tab.
-use Rattle.std.proofs.Common.{◌≡◌, ℕ, suc, ◌+◌, Bool, true, false, cond, List, [], ◌∷◌, ◌++◌, length, take, drop, refl, sym, ap, ◌∙◌, arith}
+use Rattle.std.proofs.Common.{◌≡◌, ℕ, suc, ◌+◌, ◌<◌, ◌≤◌, Bool, true, false, cond, List, [], ◌∷◌, ◌++◌, length, take, drop, refl, sym, ap, ◌∙◌, arith}
 use Rattle.std.specs.Prelude.{◌==◌, ◌&&◌, not, replicate}
 use Rattle.std.specs.List.{prefix_len}
 use Rattle.std.proofs.lemmas.Bool.{false≢true}
+use Rattle.std.proofs.lemmas.List.{length-take-le}
 use Rattle.markdown_base.specs.Virtual.{tab_width}
 use Rattle.mdconstructs_flow_read.specs.LineWords.{begins_with}
-use Rattle.mdconstructs_lines.specs.Lines.{expanded, is_in_line, seat_bytes}
+use Rattle.mdconstructs_lines.specs.Lines.{expanded, is_in_line, line_bytes, seat_bytes}
+use Rattle.mdconstructs_lines.proofs.PlaceLemmas.{expanded_is_virtual, expanded_least}
 use Rattle.mdconstructs_containers.specs.Letters.{is_plain}
+use Rattle.mdconstructs_containers.proofs.GoingLemmas.{prefix_within}
+
+plain_few : (bs : List ℕ) → prefix_len is_plain bs ≤ prefix_len is_in_line bs
+plain_few [] = omega arith
+plain_few (b ∷ bs) = by (b == 9) (b == 10) (b == 13) (plain_few bs)
+  where
+    by : (x y z : Bool) → prefix_len is_plain bs ≤ prefix_len is_in_line bs → cond (not x && (not y && not z)) (1 + prefix_len is_plain bs) 0 ≤ cond (not y && not z) (1 + prefix_len is_in_line bs) 0
+    by true y z h = omega arith
+    by false true z h = omega arith
+    by false false true h = omega arith
+    by false false false h = omega (arith, h)
+
+-- a line's size
+pub text_size : (t number start : ℕ) (rest : List ℕ) → 0 < t → t ≤ 16 → length (expanded t 1 (take (prefix_len is_in_line rest) rest)) ≡ length (line_bytes t number 1 start rest)
+text_size t number start rest some most = ap (λ (l : List ℕ). length l) (expanded_is_virtual t some most number 1 start rest)
+
+-- the bytes before a tab are no more than the line's virtual bytes
+pub plain_fits : (t : ℕ) (bs : List ℕ) → 0 < t → t ≤ 16 → prefix_len is_plain bs ≤ length (expanded t 1 (take (prefix_len is_in_line bs) bs))
+plain_fits t bs some most =
+    let few = plain_few bs in
+    let within = prefix_within is_in_line bs in
+    let size = length-take-le (prefix_len is_in_line bs) bs within in
+    let least = expanded_least t 1 (take (prefix_len is_in_line bs) bs) some most in
+    omega (arith, few, size, least)
 
 -- where no tab comes, a line's virtual bytes are its bytes
 pub plain_line : (t : ℕ) (bs : List ℕ) → begins_with 9 (drop (prefix_len is_plain bs) bs) ≡ false

@@ -1,6 +1,7 @@
 pub mod Ahead
 pub mod Blocks
 pub mod Chunks
+pub mod Costs
 pub mod Examples
 pub mod Frames
 pub mod Letters

@@ -5,6 +5,7 @@ use Rattle.mdconstructs_flow_read.specs.LeafBlocks.{text_of}
 use Rattle.mdconstructs_lines.specs.Containers.{Container}
 use Rattle.mdconstructs_lines.specs.Lines.{ending_size, is_in_line, line_at, line_bytes}
 use Rattle.mdconstructs_containers.specs.declared.spans.RowAt.{RowAt}
+use Rattle.mdconstructs_containers.specs.Costs.{HaveSizes}
 use Rattle.mdconstructs_containers.specs.Parts.{open_behind}
 use Rattle.mdconstructs_containers.specs.Prefixes.{columns_of, going_on}
 use Rattle.mdconstructs_containers.specs.Rows.{Row}
@@ -34,6 +35,7 @@ module _ (t : ℕ) (bytes : List ℕ) where
     pub line : r.line ≡ line_at t number start (drop start bytes)
     pub went : r.went_on ≡ going_on (take x.row.many stack) number (text_of r.line)
     pub many : x.row.many ≤ length stack
+    pub sizes : HaveSizes stack
     pub sum : r.columns ≡ columns_of r.went_on + columns_of r.begun
     pub stays : r.stays ≡ true → r.begun ≡ []
     pub left : r.is_left_blank ≡ true → r.begun ≡ []

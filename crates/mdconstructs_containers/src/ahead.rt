@@ -11,7 +11,9 @@ use crate::frames::{Frame, list_name};
 use crate::rows::Row;
 use crate::spans::RowAt;
 use mdconstructs_lines::containers::Container;
+use mdconstructs_turns::Turns;
 use std::alloc::{AllocError, Global};
+use std::sync::ledger::Ledger;
 
 /// What is known of a line from those behind it.
 #[derive(Clone, Copy)]
@@ -81,9 +83,14 @@ fn ahead_with(row: &Row, behind: Ahead) -> Ahead
 }
 
 /// What is known of each line from those behind it; that of the last line comes first.
-pub fn aheads_of(alloc: Global, rows: &[RowAt]) -> Result<Vec<Ahead>, AllocError>
+pub fn aheads_of<L: Ledger>(
+    alloc: Global,
+    rows: &[RowAt],
+    turns: &mut Turns<L>,
+) -> Result<Vec<Ahead>, AllocError>
     ensures len { IfOk result (λ a. length a.items ≡ length rows.now) }
     ensures aheads { IfOk result (λ a. (all : List RowOf) → AreRows rows.now all → (d : Ahead) → (k : ℕ) → k < length rows.now → slice_index_or a.items k d ≡ ahead_of (drop (length rows.now - k) all)) }
+    ensures turns { turns.new ≤ turns.old + length rows.now }
 {
     let mut aheads = Vec::new(alloc);
     let mut ahead = Ahead {
@@ -92,6 +99,7 @@ pub fn aheads_of(alloc: Global, rows: &[RowAt]) -> Result<Vec<Ahead>, AllocError
         list: None,
     };
     for n in 0..rows.len() {
+        turns.add_one();
         aheads.push(ahead)?;
         let last = rows.len() - 1 - n;
         ahead = ahead_with(&rows[last].row, ahead);

@@ -1,6 +1,6 @@
 //! Spans of containers that are open.
 
-ghost use Rattle.std.specs.Prelude.{◌≡◌, ◌≤◌, ◌++◌, ◌==◌, ◌&&◌, [], ◌∷◌, IfOk, length, take, drop, map};
+ghost use Rattle.std.specs.Prelude.{◌≡◌, ◌≤◌, ◌++◌, ◌==◌, ◌&&◌, [], ◌∷◌, IfOk, length, take, drop, map, ◌+◌, min};
 ghost use Rattle.std.specs.List.{flat_map};
 ghost use Rattle.markdown_base.specs.Events.{same_name};
 ghost use Rattle.mdconstructs_containers.specs.Frames.{exits_at, frame_of, frames_in, list_name_of};
@@ -12,7 +12,9 @@ use crate::going::Open;
 use crate::writing::exit;
 use markdown_base::event::{Event, Name, Point};
 use mdconstructs_lines::containers::Container;
+use mdconstructs_turns::Turns;
 use std::alloc::{AllocError, Global};
+use std::sync::ledger::Ledger;
 
 /// A span that is open: a quote, a list or an item.
 #[derive(Clone, Copy)]
@@ -35,17 +37,20 @@ pub fn list_name(c: &Container) -> Name
 }
 
 /// Exits spans until so many are open, the innermost first.
-pub fn exit_frames(
+pub fn exit_frames<L: Ledger>(
     events: &mut Vec<Event>,
     frames: &mut Vec<Frame>,
     many: usize,
     place: Point,
+    turns: &mut Turns<L>,
 ) -> Result<(), AllocError>
     requires { many ≤ length frames.old.items }
     ensures events { IfOk result (λ _. events.new.items ≡ events.old.items ++ exits_at place (drop many frames.old.items)) }
     ensures frames { IfOk result (λ _. frames.new.items ≡ take many frames.old.items) }
+    ensures turns { turns.new + many ≤ turns.old + length frames.old.items }
 {
     while frames.len() > many {
+        turns.add_one();
         let Some(frame) = frames.pop() else {
             return Ok(());
         };
@@ -74,21 +79,32 @@ fn push_frame(frames: &mut Vec<Frame>, name: Name, line: usize) -> Result<(), Al
 }
 
 /// The spans of containers, from the outermost on.
-fn push_frames(frames: &mut Vec<Frame>, stack: &[Open]) -> Result<(), AllocError>
-    ensures { IfOk result (λ _. map frame_of frames.new.items ≡ map frame_of frames.old.items ++ flat_map frames_of (map open_of stack.now)) }
+fn push_frames<L: Ledger>(
+    frames: &mut Vec<Frame>,
+    stack: &[Open],
+    turns: &mut Turns<L>,
+) -> Result<(), AllocError>
+    ensures value { IfOk result (λ _. map frame_of frames.new.items ≡ map frame_of frames.old.items ++ flat_map frames_of (map open_of stack.now)) }
+    ensures turns { turns.new ≤ turns.old + length stack.now }
 {
     for entry in stack {
+        turns.add_one();
         push_frames_of(frames, entry)?;
     }
     Ok(())
 }
 
 /// The spans of containers, from the outermost on, as a list.
-pub(crate) fn frames_from(alloc: Global, stack: &[Open]) -> Result<Vec<Frame>, AllocError>
-    ensures { IfOk result (λ frames. map frame_of frames.items ≡ flat_map frames_of (map open_of stack.now)) }
+pub(crate) fn frames_from<L: Ledger>(
+    alloc: Global,
+    stack: &[Open],
+    turns: &mut Turns<L>,
+) -> Result<Vec<Frame>, AllocError>
+    ensures value { IfOk result (λ frames. map frame_of frames.items ≡ flat_map frames_of (map open_of stack.now)) }
+    ensures turns { turns.new ≤ turns.old + length stack.now }
 {
     let mut frames = Vec::new(alloc);
-    push_frames(&mut frames, stack)?;
+    push_frames(&mut frames, stack, turns)?;
     Ok(frames)
 }
 
@@ -127,15 +143,23 @@ fn spans_of(entry: &Open) -> usize
 }
 
 /// The same of fewer containers: of so many at most.
-pub(crate) fn stood_in(stood: Stood, stack: &[Open], many: usize) -> Stood
+pub(crate) fn stood_in<L: Ledger>(
+    stood: Stood,
+    stack: &[Open],
+    many: usize,
+    turns: &mut Turns<L>,
+) -> Stood
     requires { IsStood stood (map open_of stack.now) }
     ensures stood { IsStood result (map open_of stack.now) }
     ensures few { result.containers ≤ many }
     ensures fewer { result.containers ≤ stood.containers }
+    ensures least { min stood.containers many ≤ result.containers }
+    ensures turns { turns.new + result.containers ≤ turns.old + stood.containers }
 {
     let mut containers = stood.containers;
     let mut spans = stood.spans;
     while containers > many {
+        turns.add_one();
         containers -= 1;
         spans -= spans_of(&stack[containers]);
     }
@@ -150,12 +174,15 @@ fn is_same(f: Frame, g: Frame) -> bool
 }
 
 /// How many spans two lines share, from the outermost on.
-pub(crate) fn shared(fs: &[Frame], gs: &[Frame]) -> usize
+pub(crate) fn shared<L: Ledger>(fs: &[Frame], gs: &[Frame], turns: &mut Turns<L>) -> usize
     ensures value { result ≡ shared (map frame_of fs.now) (map frame_of gs.now) }
     ensures few { result ≤ length fs.now }
+    ensures fewer { result ≤ length gs.now }
+    ensures turns { turns.new ≤ turns.old + result }
 {
     let mut n = 0;
     while n < fs.len() && n < gs.len() && is_same(fs[n], gs[n]) {
+        turns.add_one();
         n += 1;
     }
     n

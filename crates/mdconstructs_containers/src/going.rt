@@ -1,6 +1,6 @@
 //! Which open containers go on with a line, and which begin in it.
 
-ghost use Rattle.std.specs.Prelude.{◌≡◌, ◌≤◌, ◌+◌, ◌-◌, ◌==◌, ◌&&◌, cond, nat_le, IfOk, IfSome, map, length, take, drop, option_map};
+ghost use Rattle.std.specs.Prelude.{◌≡◌, ◌≤◌, ◌+◌, ◌-◌, ◌==◌, ◌&&◌, cond, nat_le, IfOk, IfSome, map, length, take, drop, option_map, ◌*◌, ◌<◌};
 ghost use Rattle.mdconstructs_lines.specs.Containers.{goes_on, begins};
 ghost use Rattle.mdconstructs_flow_read.specs.LineKinds.{indent, is_thematic_break, unindented};
 ghost use Rattle.mdconstructs_lines.specs.Breaks.{has_break};
@@ -8,12 +8,15 @@ ghost use Rattle.mdconstructs_lines.specs.Views.{prefix_of};
 ghost use Rattle.mdconstructs_containers.specs.Prefixes.{going_on, columns_of, beginning, with_list};
 ghost use Rattle.mdconstructs_containers.specs.Over.{AreBefore, AreOver};
 ghost use Rattle.mdconstructs_containers.specs.Views.{open_of, begun_of, takes_place};
+ghost use Rattle.mdconstructs_containers.specs.Costs.{HaveSizes};
 
 use markdown_base::configuration::Constructs;
 use mdconstructs_lines::breaks::{Breaks, breaks_in};
 use mdconstructs_lines::bytes::{behind, indent};
 use mdconstructs_lines::containers::{Container, Prefix, begins, first_from, goes_on};
+use mdconstructs_turns::Turns;
 use std::alloc::AllocError;
+use std::sync::ledger::Ledger;
 
 /// A container that is open.
 #[derive(Clone, Copy)]
@@ -46,21 +49,31 @@ pub(crate) fn goes_on_open(entry: &Open, number: usize, t: &[u8], columns: usize
 }
 
 /// Which of these containers go on with a line, from the outermost on. Those from `over` on go on over a blank rest, which is known of earlier lines.
-pub(crate) fn going_on(stack: &[Open], number: usize, t: &[u8], over: usize) -> Going
-    requires { AreOver number over (length stack.now) stack.now }
+pub(crate) fn going_on<L: Ledger>(
+    stack: &[Open],
+    number: usize,
+    t: &[u8],
+    over: usize,
+    turns: &mut Turns<L>,
+) -> Going
+    requires over { AreOver number over (length stack.now) stack.now }
+    requires sizes { HaveSizes (map open_of stack.now) }
     ensures many { result.many ≡ length (going_on (map open_of stack.now) number t.now) }
     ensures columns { result.columns ≡ columns_of (going_on (map open_of stack.now) number t.now) }
     ensures few { result.many ≤ length stack.now }
     ensures within { result.columns ≤ length t.now }
     ensures over { AreBefore number stack.now → AreOver (number + 1) result.over result.many stack.now }
+    ensures turns { turns.new + result.over ≤ turns.old + over + 3 * length t.now + 2 }
+    ensures full { result.columns < length t.now → turns.new ≤ turns.old + 3 * length t.now + 2 }
 {
     let whole = t.len();
     let all = stack.len();
     let mut at = 0;
-    let mut first = indent(t);
+    let mut first = indent(t, turns);
     let mut many = 0;
     let mut from = 0;
     for entry in stack {
+        turns.add_one();
         if goes_over(at, whole, many, over) {
             return Going {
                 many: all,
@@ -75,7 +88,7 @@ pub(crate) fn going_on(stack: &[Open], number: usize, t: &[u8], over: usize) -> 
                 over: from,
             };
         };
-        first = first_from(t, at, at + size, first);
+        first = first_from(t, at, at + size, first, turns);
         many += 1;
         from = over_behind(at, whole, from, many);
         at += size;
@@ -102,22 +115,25 @@ fn over_behind(at: usize, whole: usize, from: usize, many: usize) -> usize
 }
 
 /// The containers that begin with a line's rest go to a list. Returns the columns of their prefixes.
-pub fn beginning(
+pub fn beginning<L: Ledger>(
     on: &Constructs,
     number: usize,
     in_paragraph: bool,
     t: &[u8],
     begun: &mut Vec<Prefix>,
+    turns: &mut Turns<L>,
 ) -> Result<usize, AllocError>
     ensures begun { IfOk result (λ _. map (prefix_of number) begun.new.items ≡ beginning on.now (length t.now) number in_paragraph t.now) }
     ensures columns { IfOk result (λ n. n ≡ columns_of (beginning on.now (length t.now) number in_paragraph t.now)) }
     ensures within { IfOk result (λ n. n ≤ length t.now) }
+    ensures turns { turns.new ≤ turns.old + 6 * length t.now + 3 }
 {
     begun.clear();
-    let breaks = breaks_in(on, t);
+    let breaks = breaks_in(on, t, turns);
     let mut at = 0;
     let mut may_go_on = in_paragraph;
-    while let Some(prefix) = begins_at(on, number, may_go_on, t, at, breaks) {
+    while let Some(prefix) = begins_at(on, number, may_go_on, t, at, breaks, turns) {
+        turns.add_one();
         begun.push(prefix)?;
         at += prefix.size;
         may_go_on = false;
@@ -126,22 +142,25 @@ pub fn beginning(
 }
 
 /// The container that begins at a column of a line's rest, if one does.
-fn begins_at(
+fn begins_at<L: Ledger>(
     on: &Constructs,
     number: usize,
     in_paragraph: bool,
     t: &[u8],
     at: usize,
     breaks: Breaks,
+    turns: &mut Turns<L>,
 ) -> Option<Prefix>
     requires within { at ≤ length t.now }
     requires breaks { has_break breaks (at + indent (drop at t.now)) ≡ on.now.thematic_break && is_thematic_break (unindented (drop at t.now)) }
     ensures value { option_map (prefix_of number) result ≡ begins on.now number in_paragraph (drop at t.now) }
     ensures some { IfSome result (λ p. 1 ≤ p.size) }
     ensures within { IfSome result (λ p. p.size ≤ length t.now - at) }
+    ensures found { IfSome result (λ p. turns.new + indent (drop at t.now) ≤ turns.old + 3 * p.size + indent (drop (at + p.size) t.now) + 1) }
+    ensures turns { turns.new ≤ turns.old + 3 * (length t.now - at) + 3 }
 {
     let rest = behind(t, at);
-    let columns = indent(rest);
+    let columns = indent(rest, turns);
     begins(
         on,
         number,
@@ -149,6 +168,7 @@ fn begins_at(
         rest,
         columns,
         breaks.has(at + columns),
+        turns,
     )
 }
 

@@ -1,6 +1,6 @@
 //! Which leaf block may go on behind a line.
 
-ghost use Rattle.std.specs.Prelude.{◌≡◌};
+ghost use Rattle.std.specs.Prelude.{◌≡◌, ◌≤◌, ◌+◌, ◌*◌, length};
 ghost use Rattle.mdconstructs_flow_read.specs.LeafBlocks.{interrupts};
 ghost use Rattle.mdconstructs_flow_read.specs.LineKinds.{line_kind};
 ghost use Rattle.mdconstructs_lines.specs.Views.{kind_of};
@@ -11,6 +11,8 @@ use markdown_base::configuration::Constructs;
 use mdconstructs_lines::bytes::is_blank_line;
 use mdconstructs_lines::html::{HtmlKind, ends, waits_for_blank};
 use mdconstructs_lines::kinds::{Fence, LineKind, closes, line_kind, underline_rank};
+use mdconstructs_turns::Turns;
+use std::sync::ledger::Ledger;
 
 /// The leaf block that may go on behind a line.
 #[derive(Clone, Copy)]
@@ -57,22 +59,29 @@ pub fn holds_ending(leaf: Leaf) -> bool
 }
 
 /// The leaf block that a line opens, where none goes on.
-fn opened_by(on: &Constructs, kind: LineKind, t: &[u8]) -> Leaf
-    ensures { leaf_of result ≡ opened_by on.now (kind_of kind) t.now }
+fn opened_by<L: Ledger>(on: &Constructs, kind: LineKind, t: &[u8], turns: &mut Turns<L>) -> Leaf
+    ensures value { leaf_of result ≡ opened_by on.now (kind_of kind) t.now }
+    ensures turns { turns.new ≤ turns.old + 48 * length t.now }
 {
     match kind {
         LineKind::Fence(fence) => Leaf::Fenced(fence),
-        LineKind::Html(kind) => opened_by_html(on, kind, t),
+        LineKind::Html(kind) => opened_by_html(on, kind, t, turns),
         LineKind::Text => Leaf::Paragraph,
         _ => Leaf::Closed,
     }
 }
 
 /// As `opened_by`, of HTML.
-fn opened_by_html(on: &Constructs, kind: HtmlKind, t: &[u8]) -> Leaf
-    ensures { leaf_of result ≡ opened_by on.now (kind_of (LineKind.Html kind)) t.now }
+fn opened_by_html<L: Ledger>(
+    on: &Constructs,
+    kind: HtmlKind,
+    t: &[u8],
+    turns: &mut Turns<L>,
+) -> Leaf
+    ensures value { leaf_of result ≡ opened_by on.now (kind_of (LineKind.Html kind)) t.now }
+    ensures turns { turns.new ≤ turns.old + 48 * length t.now }
 {
-    if ends(kind, t) {
+    if ends(kind, t, turns) {
         Leaf::Closed
     } else {
         Leaf::Html(kind)
@@ -101,42 +110,46 @@ fn html_interrupts(kind: HtmlKind) -> bool
 }
 
 /// Whether a line interrupts a paragraph before it, so that it cannot go on with it lazily.
-pub fn interrupts_paragraph(on: &Constructs, t: &[u8]) -> bool
-    ensures { result ≡ interrupts (line_kind on.now t.now) }
+pub fn interrupts_paragraph<L: Ledger>(on: &Constructs, t: &[u8], turns: &mut Turns<L>) -> bool
+    ensures value { result ≡ interrupts (line_kind on.now t.now) }
+    ensures turns { turns.new ≤ turns.old + 40 * length t.now + 820 }
 {
-    interrupts(line_kind(on, t))
+    interrupts(line_kind(on, t, turns))
 }
 
 /// The leaf block that a line opens, where none goes on.
-fn opened(on: &Constructs, t: &[u8]) -> Leaf
-    ensures { leaf_of result ≡ opened_by on.now (line_kind on.now t.now) t.now }
+fn opened<L: Ledger>(on: &Constructs, t: &[u8], turns: &mut Turns<L>) -> Leaf
+    ensures value { leaf_of result ≡ opened_by on.now (line_kind on.now t.now) t.now }
+    ensures turns { turns.new ≤ turns.old + 88 * length t.now + 820 }
 {
-    opened_by(on, line_kind(on, t), t)
+    opened_by(on, line_kind(on, t, turns), t, turns)
 }
 
 /// What may go on behind a line, where a paragraph may go on before it.
-fn behind_paragraph(on: &Constructs, t: &[u8]) -> Leaf
-    ensures { leaf_of result ≡ leaf_after on.now open_paragraph t.now }
+fn behind_paragraph<L: Ledger>(on: &Constructs, t: &[u8], turns: &mut Turns<L>) -> Leaf
+    ensures value { leaf_of result ≡ leaf_after on.now open_paragraph t.now }
+    ensures turns { turns.new ≤ turns.old + 92 * length t.now + 824 }
 {
-    if underline_rank(on, t).is_some() {
+    if underline_rank(on, t, turns).is_some() {
         return Leaf::Closed;
     }
-    let kind = line_kind(on, t);
+    let kind = line_kind(on, t, turns);
     if interrupts(kind) {
-        opened_by(on, kind, t)
+        opened_by(on, kind, t, turns)
     } else {
         Leaf::Paragraph
     }
 }
 
 /// What may go on behind a line, where HTML goes on before it.
-fn behind_html(on: &Constructs, html: HtmlKind, t: &[u8]) -> Leaf
-    ensures { leaf_of result ≡ leaf_after on.now (leaf_of (Leaf.Html html)) t.now }
+fn behind_html<L: Ledger>(on: &Constructs, html: HtmlKind, t: &[u8], turns: &mut Turns<L>) -> Leaf
+    ensures value { leaf_of result ≡ leaf_after on.now (leaf_of (Leaf.Html html)) t.now }
+    ensures turns { turns.new ≤ turns.old + 48 * length t.now }
 {
     let is_last = if waits_for_blank(html) {
-        is_blank_line(t)
+        is_blank_line(t, turns)
     } else {
-        ends(html, t)
+        ends(html, t, turns)
     };
     if is_last {
         Leaf::Closed
@@ -146,19 +159,20 @@ fn behind_html(on: &Constructs, html: HtmlKind, t: &[u8]) -> Leaf
 }
 
 /// What may go on behind a line, by what may go on before it.
-pub fn leaf_after(on: &Constructs, leaf: Leaf, t: &[u8]) -> Leaf
-    ensures { leaf_of result ≡ leaf_after on.now (leaf_of leaf) t.now }
+pub fn leaf_after<L: Ledger>(on: &Constructs, leaf: Leaf, t: &[u8], turns: &mut Turns<L>) -> Leaf
+    ensures value { leaf_of result ≡ leaf_after on.now (leaf_of leaf) t.now }
+    ensures turns { turns.new ≤ turns.old + 92 * length t.now + 824 }
 {
     match leaf {
-        Leaf::Closed => opened(on, t),
-        Leaf::Paragraph => behind_paragraph(on, t),
+        Leaf::Closed => opened(on, t, turns),
+        Leaf::Paragraph => behind_paragraph(on, t, turns),
         Leaf::Fenced(fence) => {
-            if closes(on, fence, t) {
+            if closes(on, fence, t, turns) {
                 Leaf::Closed
             } else {
                 leaf
             }
         }
-        Leaf::Html(html) => behind_html(on, html, t),
+        Leaf::Html(html) => behind_html(on, html, t, turns),
     }
 }

@@ -1,6 +1,6 @@
 //! Parts of a document: blank lines, and stretches of lines that leaf blocks are read from.
 
-ghost use Rattle.std.specs.Prelude.{◌≡◌, ◌≤◌, ◌<◌, ◌+◌, ◌^◌, ◌++◌, ◌==◌, ◌&&◌, not, nat_lt, cond, None, Some, true, IfOk, [], ℕ, length, map, max, min, take};
+ghost use Rattle.std.specs.Prelude.{◌≡◌, ◌≤◌, ◌<◌, ◌+◌, ◌^◌, ◌++◌, ◌==◌, ◌&&◌, not, nat_lt, cond, None, Some, true, IfOk, [], ℕ, length, map, max, min, take, false};
 ghost use Rattle.markdown_base.specs.Virtual.{point};
 ghost use Rattle.mdconstructs_containers.specs.Over.{AreEarlier};
 ghost use Rattle.mdconstructs_containers.specs.Parts.{ending_at, open_behind, stands_in};
@@ -14,7 +14,9 @@ use crate::rows::{Row, open_all};
 use crate::spans::{RowAt, end_of, text_end_of};
 use crate::writing::{enter, exit};
 use markdown_base::event::{Event, Name, Point};
+use mdconstructs_turns::Turns;
 use std::alloc::AllocError;
+use std::sync::ledger::Ledger;
 
 /// Where a part of a document ends, and its line ending.
 #[derive(Clone, Copy)]
@@ -89,17 +91,22 @@ fn first_asked(size: usize, passed: usize, many: usize) -> usize
 
 /// In how many of its containers a line stands: a blank line not in the items that began before it and do not go on behind it, where so many
 /// containers go on. Those from `passed` on are items that began before it.
-pub(crate) fn standing(
+pub(crate) fn standing<L: Ledger>(
     stack: &[Open],
     is_blank: bool,
     many: usize,
     number: usize,
     passed: usize,
+    turns: &mut Turns<L>,
 ) -> usize
     requires { AreEarlier number passed (length stack.now) (map open_of stack.now) }
     ensures value { take result (map open_of stack.now) ≡ stands_in is_blank many number (map open_of stack.now) }
     ensures few { result ≤ length stack.now }
     ensures passed { is_blank ≡ true → AreEarlier number result (length stack.now) (map open_of stack.now) }
+    ensures least { is_blank ≡ true → min (length stack.now) many ≤ result }
+    ensures below { is_blank ≡ true → result ≤ max passed many }
+    ensures asked { is_blank ≡ true → turns.new + result ≤ turns.old + max passed many }
+    ensures turns { turns.new + result ≤ turns.old + length stack.now }
 {
     let size = stack.len();
     if !is_blank {
@@ -107,22 +114,31 @@ pub(crate) fn standing(
     }
     let mut n = first_asked(size, passed, many);
     while n > many && is_earlier_item(&stack[n - 1], number) {
+        turns.add_one();
         n -= 1;
     }
     n
 }
 
 /// The open containers behind a line. Returns how many of them are containers of the line.
-pub(crate) fn open_in(stack: &mut Vec<Open>, number: usize, row: &Row) -> Result<usize, AllocError>
+pub(crate) fn open_in<L: Ledger>(
+    stack: &mut Vec<Open>,
+    number: usize,
+    row: &Row,
+    turns: &mut Turns<L>,
+) -> Result<usize, AllocError>
     ensures stack { IfOk result (λ _. (r : RowOf) → IsRow number row.now r → containers_of r.went_on ≡ take row.now.many (map open_of stack.old.items) → map open_of stack.new.items ≡ open_behind (map open_of stack.old.items) r) }
     ensures many { IfOk result (λ n. (r : RowOf) → IsRow number row.now r → containers_of r.went_on ≡ take row.now.many (map open_of stack.old.items) → (row.now.is_left_blank ≡ true → r.begun ≡ []) → (row.now.is_lazy ≡ true → r.begun ≡ []) → take n (map open_of stack.new.items) ≡ containers_of r.went_on ++ containers_of r.begun) }
     ensures few { IfOk result (λ n. row.now.many ≤ length stack.old.items → n ≤ length stack.new.items) }
     ensures least { IfOk result (λ n. row.now.many ≤ length stack.old.items → row.now.many ≤ n) }
+    ensures fewer { IfOk result (λ n. n ≤ row.now.many + length row.now.begun.items) }
+    ensures whole { IfOk result (λ n. row.now.is_left_blank ≡ false → row.now.is_lazy ≡ false → n ≡ length stack.new.items) }
+    ensures turns { turns.new ≤ turns.old + length row.now.begun.items }
 {
     if row.is_left_blank || row.is_lazy {
         return Ok(row.many);
     }
     stack.truncate(row.many);
-    open_all(stack, row.list, number, row.begun.as_slice())?;
+    open_all(stack, row.list, number, row.begun.as_slice(), turns)?;
     Ok(stack.len())
 }

@@ -1,6 +1,6 @@
 //! The skeleton of a document: the events of its containers, and a chain of chunks for each stretch of lines that leaf blocks are read from.
 
-ghost use Rattle.std.specs.Prelude.{◌≡◌, ◌≤◌, ◌<◌, ◌+◌, ◌-◌, ◌^◌, ◌++◌, ◌==◌, ◌&&◌, not, min, nat_le, cond, ℕ, Bool, true, false, List, [], ◌∷◌, Some, None, is_some, IfOk, length, drop, map, slice_index_or, take};
+ghost use Rattle.std.specs.Prelude.{◌≡◌, ◌≤◌, ◌<◌, ◌+◌, ◌-◌, ◌^◌, ◌++◌, ◌==◌, ◌&&◌, not, min, nat_le, cond, ℕ, Bool, true, false, List, [], ◌∷◌, Some, None, is_some, IfOk, length, drop, map, slice_index_or, take, ◌*◌};
 ghost use Rattle.std.specs.List.{flat_map};
 ghost use Rattle.markdown_base.specs.declared.event.Name.TheVariants.{SpaceOrTab};
 ghost use Rattle.markdown_base.specs.Virtual.{virtual, IsWithinLimit, Seat, point};
@@ -24,6 +24,7 @@ ghost use Rattle.mdconstructs_containers.specs.Stood.{HasSpans, IsStood};
 ghost use Rattle.mdconstructs_containers.specs.Stretches.{HasFurther, InStretch, end_at, last_at};
 ghost use Rattle.mdconstructs_containers.specs.Views.{begun_of, leaf_of, open_of};
 ghost use Rattle.mdconstructs_containers.specs.Written.{Written};
+ghost use Rattle.mdconstructs_containers.specs.Costs.{ArePaid, FirstIsNotLazy, HaveSizes, IsEnough, columns_in};
 
 use crate::ahead::{Ahead, aheads_of};
 use crate::frames::{
@@ -42,7 +43,10 @@ use markdown_base::event::{Event, Point};
 use mdconstructs_lines::bytes::{behind, indent};
 use mdconstructs_lines::kinds::underline_rank;
 use mdconstructs_lines::places::{moved, read_line};
+use mdconstructs_turns::Turns;
 use std::alloc::{AllocError, Global};
+use std::marker::Brand;
+use std::sync::ledger::{Blank, Ledger};
 
 /// The skeleton of a document.
 #[derive(Drop)]
@@ -55,7 +59,7 @@ pub struct Skeleton {
 
 /// The containers that begin in a line, with their prefixes, if any do. `at` is behind the prefixes of those that go on, and `t` are the line's
 /// virtual bytes. Returns the place behind all prefixes.
-fn begun_of(
+fn begun_of<L: Ledger>(
     events: &mut Vec<Event>,
     bytes: &[u8],
     tab: TabSize,
@@ -63,6 +67,7 @@ fn begun_of(
     span: Span,
     row: &Row,
     t: &[u8],
+    turns: &mut Turns<L>,
 ) -> Result<At, AllocError>
     requires columns { HasColumns tab bytes.now (point span.number 1 span.start 0) (length t.now) }
     requires going { row.now.going ≤ length t.now }
@@ -72,11 +77,12 @@ fn begun_of(
     ensures marks { IfOk result (λ _. (seats : List Seat) → AreSeatsAt tab bytes.now (point span.number 1 span.start 0) seats → t.now ≡ bytes_of seats → events.new.items ≡ events.old.items ++ events_of (begun_all bytes.now (begun_of row.now.list span.number row.now.begun.items) (drop row.now.going seats))) }
     ensures columns { IfOk result (λ p. p.columns ≡ cond (has_none row.now.begun.items) at.columns row.now.columns) }
     ensures place { IfOk result (λ p. p.place ≡ place_after tab bytes.now (point span.number 1 span.start 0) p.columns) }
+    ensures turns { turns.new ≤ turns.old + 3 * length t.now }
 {
     if row.begun.is_empty() {
         return Ok(at);
     }
-    let start = moved(bytes, tab, start_of(span), row.going);
+    let start = moved(bytes, tab, start_of(span), row.going, turns);
     let place = begun_prefixes(
         events,
         bytes,
@@ -86,6 +92,7 @@ fn begun_of(
         span.number,
         row.begun.as_slice(),
         behind(t, row.going),
+        turns,
     )?;
     Ok(At {
         place,
@@ -95,26 +102,28 @@ fn begun_of(
 
 /// Between two parts: the spans end that the next part is not in, and the line ending comes. The next part stands in the first `kept` spans, and
 /// in `next` behind them.
-fn end_part(
+fn end_part<L: Ledger>(
     events: &mut Vec<Event>,
     frames: &mut Vec<Frame>,
     kept: usize,
     end: PartEnd,
     next: &[Frame],
+    turns: &mut Turns<L>,
 ) -> Result<(), AllocError>
     requires { kept ≤ length frames.old.items }
     ensures events { IfOk result (λ _. events.new.items ≡ events.old.items ++ (events_of (exits_to (drop (kept + shared (drop kept (map frame_of frames.old.items)) (map frame_of next.now)) (map frame_of frames.old.items)) end.place) ++ events_of (ending_to end))) }
     ensures frames { IfOk result (λ _. take kept frames.new.items ≡ take kept frames.old.items) }
+    ensures turns { turns.new + kept ≤ turns.old + length frames.old.items }
 {
-    let more = shared(behind_frames(frames.as_slice(), kept), next);
-    exit_frames(events, frames, kept + more, end.place)?;
+    let more = shared(behind_frames(frames.as_slice(), kept), next, turns);
+    exit_frames(events, frames, kept + more, end.place, turns)?;
     write_ending(events, end)?;
     Ok(())
 }
 
 /// The next part comes: the spans become its own. They are those of these containers, and of a list that goes on behind them, if there is one. The
 /// part that ends stands in some of the containers too.
-fn go_to_part(
+fn go_to_part<L: Ledger>(
     alloc: Global,
     events: &mut Vec<Event>,
     frames: &mut Vec<Frame>,
@@ -122,6 +131,7 @@ fn go_to_part(
     stack: &[Open],
     list: Option<Frame>,
     end: PartEnd,
+    turns: &mut Turns<L>,
 ) -> Result<Stood, AllocError>
     requires stood { IsStood kept (map open_of stack.now) }
     requires spans { HasSpans frames.old.items kept (map open_of stack.now) }
@@ -129,11 +139,13 @@ fn go_to_part(
     ensures events { IfOk result (λ _. events.new.items ≡ events.old.items ++ (events_of (exits_to (drop (shared (map frame_of frames.old.items) (map frame_of frames.new.items)) (map frame_of frames.old.items)) end.place) ++ events_of (ending_to end))) }
     ensures stood { IfOk result (λ s. IsStood s (map open_of stack.now)) }
     ensures containers { IfOk result (λ s. s.containers ≡ length stack.now) }
+    ensures paid { IfOk result (λ _. turns.new + length frames.new.items ≤ turns.old + length frames.old.items + 3 * (length stack.now - kept.containers) + 1) }
+    ensures turns { turns.new ≤ turns.old + length frames.old.items + (length stack.now - kept.containers) }
 {
-    let mut next = frames_from(alloc, rest_of(stack, kept.containers))?;
+    let mut next = frames_from(alloc, rest_of(stack, kept.containers), turns)?;
     let spans = kept.spans + next.len();
     push_list(&mut next, list)?;
-    end_part(events, frames, kept.spans, end, next.as_slice())?;
+    end_part(events, frames, kept.spans, end, next.as_slice(), turns)?;
     frames.truncate(kept.spans);
     frames.extend_from_slice(next.as_slice())?;
     let containers = stack.len();
@@ -159,28 +171,31 @@ fn has_no_prefix(stack: &[Open], row: &Row) -> bool
 }
 
 /// The prefixes of a part's first line: those of its first containers, and those of containers that begin in it. Returns the place behind them.
-fn begin_part(
+fn begin_part<L: Ledger>(
     events: &mut Vec<Event>,
     bytes: &[u8],
     tab: TabSize,
     stack: &[Open],
     at: &RowAt,
     line: &mut Vec<u8>,
+    turns: &mut Turns<L>,
 ) -> Result<At, AllocError>
     requires inside { at.now.span.start ≤ length bytes.now }
     requires columns { let s = at.now.span in HasColumns tab bytes.now (point s.number 1 s.start 0) (length (line_bytes tab s.number 1 s.start (drop s.start bytes.now))) }
     requires going { let s = at.now.span in at.now.row.going ≤ length (line_bytes tab s.number 1 s.start (drop s.start bytes.now)) }
     requires fits { let s = at.now.span in AreInside at.now.row.begun.items (drop at.now.row.going (line_bytes tab s.number 1 s.start (drop s.start bytes.now))) }
     requires sum { at.now.row.columns ≡ at.now.row.going + columns_of (begun_of at.now.row.list at.now.span.number at.now.row.begun.items) }
+    requires sizes { HaveSizes (map open_of stack.now) }
     ensures marks { let s = at.now.span in let t = line_bytes tab s.number 1 s.start (drop s.start bytes.now) in IfOk result (λ _. (seats : List Seat) → AreSeatsAt tab bytes.now (point s.number 1 s.start 0) seats → t ≡ bytes_of seats → events.new.items ≡ events.old.items ++ (events_of (prefixes_marks bytes.now (going_on (map open_of stack.now) s.number t) seats) ++ events_of (begun_all bytes.now (begun_of at.now.row.list s.number at.now.row.begun.items) (drop at.now.row.going seats)))) }
     ensures columns { let s = at.now.span in IfOk result (λ p. p.columns ≡ cond (has_none at.now.row.begun.items) (columns_of (going_on (map open_of stack.now) s.number (line_bytes tab s.number 1 s.start (drop s.start bytes.now)))) at.now.row.columns) }
     ensures place { let s = at.now.span in IfOk result (λ p. p.place ≡ place_after tab bytes.now (point s.number 1 s.start 0) p.columns) }
+    ensures turns { let s = at.now.span in turns.new ≤ turns.old + 11 * length (line_bytes tab s.number 1 s.start (drop s.start bytes.now)) + 4 }
 {
     if has_no_prefix(stack, &at.row) {
         let place = start_of(at.span);
         return Ok(At { place, columns: 0 });
     }
-    let behind = prefixes_of(events, bytes, tab, stack, at, line)?;
+    let behind = prefixes_of(events, bytes, tab, stack, at, line, turns)?;
     let begin = begun_of(
         events,
         bytes,
@@ -189,6 +204,7 @@ fn begin_part(
         at.span,
         &at.row,
         line.as_slice(),
+        turns,
     )?;
     Ok(begin)
 }
@@ -264,7 +280,7 @@ fn end_of_part(first: &RowAt, more: &[RowAt]) -> PartEnd
 }
 
 /// What is in a part, behind the prefixes of its first line: white space of a blank line, or the chunks of a stretch.
-fn fill_part(
+fn fill_part<L: Ledger>(
     events: &mut Vec<Event>,
     bytes: &[u8],
     tab: TabSize,
@@ -274,6 +290,7 @@ fn fill_part(
     more: &[RowAt],
     end: Point,
     line: &mut Vec<u8>,
+    turns: &mut Turns<L>,
 ) -> Result<(), AllocError>
     requires limit { IsWithinLimit tab bytes.now }
     requires within { first.now.row.is_blank ≡ true → begin.columns ≤ first.now.span.size }
@@ -281,6 +298,7 @@ fn fill_part(
     requires further { first.now.row.is_blank ≡ false → HasFurther tab bytes.now (map open_of stack.now) more.now }
     ensures blank { IfOk result (λ _. first.now.row.is_blank ≡ true → events.new.items ≡ events.old.items ++ span_at tab bytes.now SpaceOrTab begin.place (first.now.span.size - begin.columns)) }
     ensures stretch { IfOk result (λ _. first.now.row.is_blank ≡ false → (is_held : Bool) → (rest : List Mark) → (all : List Mark) → InStretch tab bytes.now (map open_of stack.now) is_held events.old.items None begin.place end more.now rest all → Written events.new.items None false rest all) }
+    ensures turns { turns.new ≤ turns.old + first.now.span.size + 8 * columns_in more.now }
 {
     if first.row.is_blank {
         white(
@@ -289,15 +307,26 @@ fn fill_part(
             tab,
             begin.place,
             first.span.size - begin.columns,
+            turns,
         )?;
         return Ok(());
     }
-    stretch(events, bytes, tab, stack, begin.place, more, end, line)?;
+    stretch(
+        events,
+        bytes,
+        tab,
+        stack,
+        begin.place,
+        more,
+        end,
+        line,
+        turns,
+    )?;
     Ok(())
 }
 
 /// The part that begins at a line, behind one that ends so and stands in these spans, which become those of the part.
-fn write_part(
+fn write_part<L: Ledger>(
     alloc: Global,
     events: &mut Vec<Event>,
     bytes: &[u8],
@@ -311,6 +340,7 @@ fn write_part(
     ahead: Ahead,
     end: PartEnd,
     line: &mut Vec<u8>,
+    turns: &mut Turns<L>,
 ) -> Result<Part, AllocError>
     requires limit { IsWithinLimit tab bytes.now }
     requires part { HasPart bytes.now tab (map open_of stack.old.items) ahead first.now behind.now }
@@ -323,23 +353,25 @@ fn write_part(
     ensures few { IfOk result (λ p. p.lines ≤ length behind.now) }
     ensures left { IfOk result (λ p. (r : RowOf) → (rs : List RowOf) → AreLeft bytes.now tab (map open_of stack.old.items) (first.now ∷ behind.now) (r ∷ rs) → ahead ≡ ahead_of rs → AreLeft bytes.now tab (map open_of stack.new.items) (drop p.lines behind.now) (drop p.lines rs)) }
     ensures written { IfOk result (λ p. (r : RowOf) → (rs : List RowOf) → (all : List Mark) → AreLeft bytes.now tab (map open_of stack.old.items) (first.now ∷ behind.now) (r ∷ rs) → ahead ≡ ahead_of rs → Written events.old.items None false (rest_marks bytes.now (map frame_of frames.old.items) end (parts (r ∷ rs))) all → Written events.new.items None false (rest_marks bytes.now (map frame_of frames.new.items) p.end (parts (drop p.lines rs))) all) }
+    ensures paid { IfOk result (λ p. (r : RowOf) → (rs : List RowOf) → (budget : ℕ) → AreLeft bytes.now tab (map open_of stack.old.items) (first.now ∷ behind.now) (r ∷ rs) → ahead ≡ ahead_of rs → ArePaid (r ∷ rs) → IsEnough turns.old budget (length frames.old.items) stood.containers passed.from passed.to (length stack.old.items) (r ∷ rs) → IsEnough turns.new (budget + 19 * first.now.span.size + 5 + 8 * columns_in (take p.lines behind.now)) (length frames.new.items) p.stood.containers p.passed.from p.passed.to (length stack.new.items) (drop p.lines rs)) }
+    ensures turns { (r : RowOf) → (rs : List RowOf) → (budget : ℕ) → AreLeft bytes.now tab (map open_of stack.old.items) (first.now ∷ behind.now) (r ∷ rs) → ahead ≡ ahead_of rs → ArePaid (r ∷ rs) → IsEnough turns.old budget (length frames.old.items) stood.containers passed.from passed.to (length stack.old.items) (r ∷ rs) → turns.new ≤ budget + 19 * first.now.span.size + 5 + 8 * columns_in behind.now }
 {
     let tab_size = tab.get();
     prove!(tab_size >= 1);
     let row = &first.row;
     let number = first.span.number;
-    let went = stood_in(stood, stack.as_slice(), row.many);
-    let all = open_in(stack, number, row)?;
+    let went = stood_in(stood, stack.as_slice(), row.many, turns);
+    let all = open_in(stack, number, row, turns)?;
     let own = first_of(stack.as_slice(), all);
     let seen = passed_in(passed, row, all);
-    let stands = standing(own, row.is_blank, ahead.many, number, seen);
+    let stands = standing(own, row.is_blank, ahead.many, number, seen, turns);
     let next_passed = passed_by(row, stands, all);
     let list = list_behind(row, ahead, stands);
     let shown = first_of(own, stands);
-    let kept = stood_in(went, own, stands);
-    let next = go_to_part(alloc, events, frames, kept, shown, list, end)?;
+    let kept = stood_in(went, own, stands, turns);
+    let next = go_to_part(alloc, events, frames, kept, shown, list, end, turns)?;
     let going = first_of(own, least(stands, row.many));
-    let begin = begin_part(events, bytes, tab, going, first, line)?;
+    let begin = begin_part(events, bytes, tab, going, first, line, turns)?;
     let lines = lines_of(row, ahead);
     let more = &behind[..lines];
     let end = end_of_part(first, more);
@@ -353,6 +385,7 @@ fn write_part(
         more,
         end.place,
         line,
+        turns,
     )?;
     Ok(Part {
         lines,
@@ -363,19 +396,23 @@ fn write_part(
 }
 
 /// The events of a skeleton, by the lines of a document and what lies ahead of each; that of the last line comes first.
-fn write_parts(
+fn write_parts<L: Ledger>(
     alloc: Global,
     bytes: &[u8],
     tab: TabSize,
     rows: &[RowAt],
     aheads: &[Ahead],
+    turns: &mut Turns<L>,
 ) -> Result<Vec<Event>, AllocError>
     ghost all: { List RowOf }
     requires limit { IsWithinLimit tab bytes.now }
     requires rows { AreRowsIn tab bytes.now [] 1 0 rows.now all }
     requires len { length aheads.now ≡ length rows.now }
     requires aheads { (d : Ahead) → (k : ℕ) → k < length rows.now → slice_index_or aheads.now k d ≡ ahead_of (drop (length rows.now - k) all) }
-    ensures { IfOk result (λ events. events.items ≡ chained_from 0 None (parts_marks bytes.now (parts all))) }
+    requires first { FirstIsNotLazy all }
+    requires paid { ArePaid all }
+    ensures value { IfOk result (λ events. events.items ≡ chained_from 0 None (parts_marks bytes.now (parts all))) }
+    ensures turns { turns.new ≤ turns.old + 19 * columns_in rows.now }
 {
     let mut events = Vec::new(alloc);
     let mut stack = Vec::new(alloc);
@@ -398,6 +435,7 @@ fn write_parts(
     let mut passed = Passed { from: 0, to: 0 };
     let mut i = 0;
     while i < rows.len() {
+        turns.add_one();
         let part = write_part(
             alloc,
             &mut events,
@@ -412,88 +450,151 @@ fn write_parts(
             aheads[rows.len() - 1 - i],
             end,
             &mut line,
+            turns,
         )?;
         end = part.end;
         stood = part.stood;
         passed = part.passed;
         i += 1 + part.lines;
     }
-    end_part(&mut events, &mut frames, 0, end, &[])?;
+    end_part(&mut events, &mut frames, 0, end, &[], turns)?;
     Ok(events)
 }
 
 /// The index of the first mark of a lazy underline goes to a list, if the line is one. `line` is room for its bytes.
-fn push_letter(
+fn push_letter<L: Ledger>(
     letters: &mut Vec<usize>,
     bytes: &[u8],
     tab: TabSize,
     on: &Constructs,
     at: &RowAt,
     line: &mut Vec<u8>,
+    turns: &mut Turns<L>,
 ) -> Result<(), AllocError>
     requires inside { at.now.span.start ≤ length bytes.now }
     requires columns { let s = at.now.span in HasColumns tab bytes.now (point s.number 1 s.start 0) (length (line_bytes tab s.number 1 s.start (drop s.start bytes.now))) }
     requires within { let s = at.now.span in at.now.row.columns ≤ length (line_bytes tab s.number 1 s.start (drop s.start bytes.now)) }
-    ensures { let s = at.now.span in let rest = drop at.now.row.columns (line_bytes tab s.number 1 s.start (drop s.start bytes.now)) in IfOk result (λ _. letters.new.items ≡ letters.old.items ++ cond (at.now.row.is_lazy && is_some (underline_rank on.now rest)) ((place_after tab bytes.now (point s.number 1 s.start 0) (at.now.row.columns + indent rest)).index ∷ []) []) }
+    ensures value { let s = at.now.span in let rest = drop at.now.row.columns (line_bytes tab s.number 1 s.start (drop s.start bytes.now)) in IfOk result (λ _. letters.new.items ≡ letters.old.items ++ cond (at.now.row.is_lazy && is_some (underline_rank on.now rest)) ((place_after tab bytes.now (point s.number 1 s.start 0) (at.now.row.columns + indent rest)).index ∷ []) []) }
+    ensures turns { let s = at.now.span in turns.new ≤ turns.old + 9 * length (line_bytes tab s.number 1 s.start (drop s.start bytes.now)) + 6 }
 {
     if !at.row.is_lazy {
         return Ok(());
     }
-    read_line(line, bytes, tab, at.span.start)?;
+    let tab_size = tab.get();
+    prove!(tab_size >= 1);
+    read_line(line, bytes, tab, at.span.start, turns)?;
     let rest = behind(line.as_slice(), at.row.columns);
-    if underline_rank(on, rest).is_some() {
-        let columns = at.row.columns + indent(rest);
-        letters.push(moved(bytes, tab, start_of(at.span), columns).index)?;
+    if underline_rank(on, rest, turns).is_some() {
+        let columns = at.row.columns + indent(rest, turns);
+        letters.push(moved(bytes, tab, start_of(at.span), columns, turns).index)?;
     }
     Ok(())
 }
 
 /// The indices of the first marks of lazy underlines.
-fn letters_of(
+fn letters_of<L: Ledger>(
     alloc: Global,
     bytes: &[u8],
     tab: TabSize,
     on: &Constructs,
     rows: &[RowAt],
+    turns: &mut Turns<L>,
 ) -> Result<Vec<usize>, AllocError>
     ghost all: { List RowOf }
     requires limit { IsWithinLimit tab bytes.now }
     requires rows { AreRowsIn tab bytes.now [] 1 0 rows.now all }
-    ensures { IfOk result (λ letters. letters.items ≡ flat_map (lazy_underline on.now) all) }
+    ensures value { IfOk result (λ letters. letters.items ≡ flat_map (lazy_underline on.now) all) }
+    ensures turns { turns.new ≤ turns.old + 9 * columns_in rows.now }
 {
     let tab_size = tab.get();
     prove!(tab_size >= 1);
     let mut letters = Vec::new(alloc);
     let mut line = Vec::new(alloc);
     for at in rows {
-        push_letter(&mut letters, bytes, tab, on, at, &mut line)?;
+        turns.add_one();
+        push_letter(&mut letters, bytes, tab, on, at, &mut line, turns)?;
     }
     Ok(letters)
 }
 
 /// The skeleton of a document, by its lines and what lies ahead of each; that of the last line comes first.
-fn skeleton_by(
+fn skeleton_by<L: Ledger>(
     alloc: Global,
     bytes: &[u8],
     tab: TabSize,
     on: &Constructs,
     rows: &[RowAt],
     aheads: &[Ahead],
+    turns: &mut Turns<L>,
 ) -> Result<Skeleton, AllocError>
     ghost all: { List RowOf }
     requires limit { IsWithinLimit tab bytes.now }
     requires rows { AreRowsIn tab bytes.now [] 1 0 rows.now all }
     requires len { length aheads.now ≡ length rows.now }
     requires aheads { (d : Ahead) → (k : ℕ) → k < length rows.now → slice_index_or aheads.now k d ≡ ahead_of (drop (length rows.now - k) all) }
+    requires first { FirstIsNotLazy all }
+    requires paid { ArePaid all }
     ensures events { IfOk result (λ s. s.events.items ≡ chained_from 0 None (parts_marks bytes.now (parts all))) }
     ensures letters { IfOk result (λ s. s.letters.items ≡ flat_map (lazy_underline on.now) all) }
+    ensures turns { turns.new ≤ turns.old + 28 * columns_in rows.now }
 {
-    let events = write_parts(alloc, bytes, tab, rows, aheads)?;
-    let letters = letters_of(alloc, bytes, tab, on, rows)?;
+    let events = write_parts(alloc, bytes, tab, rows, aheads, turns)?;
+    let letters = letters_of(alloc, bytes, tab, on, rows, turns)?;
     Ok(Skeleton { events, letters })
 }
 
 /// The skeleton of a document. Fails only for want of memory.
+///
+/// It is linear: each line is paid by its columns, and what is looked at of other lines is looked at once. A blank line goes over its containers
+/// only as far as no blank line before it did; a container or a span that ends began before, at a column of its own.
+pub fn skeleton_counted<L: Ledger>(
+    alloc: Global,
+    bytes: &[u8],
+    tab: TabSize,
+    on: &Constructs,
+    turns: &mut Turns<L>,
+) -> Result<Skeleton, AllocError>
+    requires limit { IsWithinLimit tab bytes.now }
+    ensures events { IfOk result (λ s. s.events.items ≡ skeleton on.now bytes.now (virtual tab bytes.now)) }
+    ensures letters { IfOk result (λ s. s.letters.items ≡ lazy_underlines on.now (virtual tab bytes.now)) }
+    ensures turns { turns.new ≤ turns.old + 1681 * length (virtual tab bytes.now) + 1681 }
+{
+    let tab_size = tab.get();
+    prove!(tab_size >= 1);
+    let rows = rows_of(alloc, bytes, tab, on, turns)?;
+    let aheads = aheads_of(alloc, rows.as_slice(), turns)?;
+    let skeleton = skeleton_by(
+        alloc,
+        bytes,
+        tab,
+        on,
+        rows.as_slice(),
+        aheads.as_slice(),
+        turns,
+    )?;
+    Ok(skeleton)
+}
+
+/// The skeleton of a document, counted from nothing.
+fn skeleton_uncounted<L: Ledger>(
+    alloc: Global,
+    bytes: &[u8],
+    tab: TabSize,
+    on: &Constructs,
+    blank: Blank,
+) -> Result<Skeleton, AllocError>
+    requires limit { IsWithinLimit tab bytes.now }
+    requires name { blank.name ≡ L.name }
+    requires parts { blank.parts ≡ L.parts }
+    requires some { 0 < blank.parts }
+    ensures events { IfOk result (λ s. s.events.items ≡ skeleton on.now bytes.now (virtual tab bytes.now)) }
+    ensures letters { IfOk result (λ s. s.letters.items ≡ lazy_underlines on.now (virtual tab bytes.now)) }
+{
+    let mut turns = Turns::<L>::new(blank);
+    skeleton_counted(alloc, bytes, tab, on, &mut turns)
+}
+
+/// The skeleton of a document, as `skeleton_counted`. Fails only for want of memory.
 pub fn skeleton_of(
     alloc: Global,
     bytes: &[u8],
@@ -504,10 +605,5 @@ pub fn skeleton_of(
     ensures events { IfOk result (λ s. s.events.items ≡ skeleton on.now bytes.now (virtual tab bytes.now)) }
     ensures letters { IfOk result (λ s. s.letters.items ≡ lazy_underlines on.now (virtual tab bytes.now)) }
 {
-    let tab_size = tab.get();
-    prove!(tab_size >= 1);
-    let rows = rows_of(alloc, bytes, tab, on)?;
-    let aheads = aheads_of(alloc, rows.as_slice())?;
-    let skeleton = skeleton_by(alloc, bytes, tab, on, rows.as_slice(), aheads.as_slice())?;
-    Ok(skeleton)
+    skeleton_uncounted::<Brand>(alloc, bytes, tab, on, Blank::new(1))
 }

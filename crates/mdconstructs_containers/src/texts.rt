@@ -1,6 +1,6 @@
 //! Lines as virtual bytes. Most have no tab: the virtual bytes of such a line are its bytes.
 
-ghost use Rattle.std.specs.Prelude.{◌≡◌, ◌≤◌, ◌+◌, ℕ, length, take, drop, IfOk};
+ghost use Rattle.std.specs.Prelude.{◌≡◌, ◌≤◌, ◌+◌, ℕ, length, take, drop, IfOk, ◌*◌};
 ghost use Rattle.std.specs.List.{prefix_len};
 ghost use Rattle.mdconstructs_flow_read.specs.LineWords.{begins_with};
 ghost use Rattle.mdconstructs_lines.specs.Lines.{is_in_line, expanded, line_bytes};
@@ -9,7 +9,9 @@ ghost use Rattle.mdconstructs_containers.specs.Letters.{is_plain};
 use markdown_base::configuration::TabSize;
 use mdconstructs_lines::bytes::{behind, front};
 use mdconstructs_lines::places::read_line;
+use mdconstructs_turns::Turns;
 use std::alloc::AllocError;
+use std::sync::ledger::Ledger;
 
 /// Whether a byte is no tab, and no part of a line ending.
 fn is_plain(byte: u8) -> bool
@@ -19,11 +21,20 @@ fn is_plain(byte: u8) -> bool
 }
 
 /// How many bytes come before a tab or a line ending, or all.
-fn plain_size(t: &[u8]) -> usize
+fn plain_size<L: Ledger>(t: &[u8], turns: &mut Turns<L>) -> usize
     ensures value { result ≡ prefix_len is_plain t.now }
     ensures within { result ≤ length t.now }
+    ensures turns { turns.new ≤ turns.old + result + 1 }
 {
-    t.iter().take_while(|byte| is_plain(**byte)).count()
+    let mut next = 0;
+    while next < t.len() {
+        turns.add_one();
+        if !is_plain(t[next]) {
+            return next;
+        }
+        next += 1;
+    }
+    next
 }
 
 /// A tab comes first.
@@ -37,23 +48,25 @@ fn begins_with_tab(t: &[u8]) -> bool
 }
 
 /// A line: its virtual bytes without its line ending go to the list. Returns the index of its line ending, or of the document's end.
-pub(crate) fn read_text(
+pub(crate) fn read_text<L: Ledger>(
     line: &mut Vec<u8>,
     bytes: &[u8],
     tab: TabSize,
     start: usize,
+    turns: &mut Turns<L>,
 ) -> Result<usize, AllocError>
     requires inside { start ≤ length bytes.now }
     ensures text { let rest = drop start bytes.now in IfOk result (λ _. line.new.items ≡ expanded tab 1 (take (prefix_len is_in_line rest) rest)) }
     ensures seats { (number : ℕ) → IfOk result (λ _. line.new.items ≡ line_bytes tab number 1 start (drop start bytes.now)) }
     ensures end { IfOk result (λ end. end ≡ start + prefix_len is_in_line (drop start bytes.now)) }
+    ensures turns { (number : ℕ) → turns.new ≤ turns.old + 4 * length (line_bytes tab number 1 start (drop start bytes.now)) + 2 }
 {
     let tab_size = tab.get();
     prove!(tab_size >= 1);
     let rest = behind(bytes, start);
-    let n = plain_size(rest);
+    let n = plain_size(rest, turns);
     if begins_with_tab(behind(rest, n)) {
-        return read_line(line, bytes, tab, start);
+        return read_line(line, bytes, tab, start, turns);
     }
     line.clear();
     line.extend_from_slice(front(rest, n))?;

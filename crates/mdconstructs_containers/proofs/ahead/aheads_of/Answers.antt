@@ -15,9 +15,10 @@ one_more xs ys x e want n k ey len before here l = ap (λ (zs : List Ahead). get
     by (inr ge) = get_or_push xs x e k (omega (arith, len)) ∙ here (omega arith)
 
 pub loop-n-init : goal.loop-n-init
-loop-n-init c = record {
+loop-n-init g c = record {
   len = ap length c.new-aheads.ensures.items;
   few = omega arith;
+  turns = omega arith;
   here = λ all h.
       let none : drop (length c.args.rows.now - 0) all ≡ [] = rows_end c.args.rows.now all (length c.args.rows.now - 0) h (omega arith) in
       sym (ap ahead_of none);
@@ -25,7 +26,7 @@ loop-n-init c = record {
 }
 
 pub loop-n-preserved : goal.loop-n-preserved
-loop-n-preserved c =
+loop-n-preserved g c =
     let i = c.loop-n.invariant in
     let rows = c.args.rows.now in
     let n = c.loop-n.n in
@@ -35,6 +36,7 @@ loop-n-preserved c =
     record {
       len = ap length c.in_ok-push.ensures.items ∙ length_push c.loop-n.aheads.items c.loop-n.ahead ∙ ap (λ k. k + 1) i.len;
       few = omega (arith, c.ahead_with-ahead.ensures.few, i.few);
+      turns = omega (arith, i.turns, c.add_one.ensures);
       here = λ all h.
           let r = row_at d rows all at h (omega arith) in
           let further : suc at ≡ size - n = omega arith in

@@ -4,6 +4,9 @@ use Rattle.mdconstructs_containers.proofs.FrameLemmas.{frames_more}
 use Rattle.mdconstructs_containers.proofs.frames.push_frames.Goals as goal
 
 pub loop-entry-preserved : goal.loop-entry-preserved
-loop-entry-preserved c =
+loop-entry-preserved g c =
     let h : c.loop-entry.entry-index < length c.args.stack.now = omega arith in
-    frames_more (map frame_of c.loop-entry.frames.items) (map frame_of c.push_frames_of.new.frames.items) c.args.stack.now c.loop-entry.entry-index _ h c.in_ok-push_frames_of.ensures ∙ c.loop-entry.invariant
+    record {
+      value = frames_more (map frame_of c.loop-entry.frames.items) (map frame_of c.push_frames_of.new.frames.items) c.args.stack.now c.loop-entry.entry-index _ h c.in_ok-push_frames_of.ensures ∙ c.loop-entry.invariant.value;
+      turns = omega (arith, c.loop-entry.invariant.turns, c.add_one.ensures);
+    }

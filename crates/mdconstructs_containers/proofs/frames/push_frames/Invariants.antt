@@ -1,4 +1,4 @@
-use Rattle.std.proofs.Common.{◌≡◌, ◌++◌, drop, map}
+use Rattle.std.proofs.Common.{◌≡◌, ◌≤◌, ◌+◌, ◌++◌, drop, map}
 use Rattle.std.specs.List.{flat_map}
 use Rattle.mdconstructs_containers.specs.Frames.{frame_of}
 use Rattle.mdconstructs_containers.specs.Skeleton.{frames_of}
@@ -6,5 +6,7 @@ use Rattle.mdconstructs_containers.specs.Views.{open_of}
 use Rattle.mdconstructs_containers.proofs.frames.push_frames.Given as goal
 
 abbrev pub invariant-loop-entry : goal.invariant-loop-entry
-invariant-loop-entry l =
-    map frame_of l.frames.items ++ flat_map frames_of (map open_of (drop l.entry-index l.stack)) ≡ map frame_of l.initial.frames.items ++ flat_map frames_of (map open_of l.stack)
+invariant-loop-entry g l = record {
+  value : map frame_of l.frames.items ++ flat_map frames_of (map open_of (drop l.entry-index l.stack)) ≡ map frame_of l.initial.frames.items ++ flat_map frames_of (map open_of l.stack);
+  turns : l.turns ≤ l.fn.turns + l.entry-index;
+}

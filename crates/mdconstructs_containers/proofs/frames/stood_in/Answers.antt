@@ -10,20 +10,22 @@ abbrev no : Open
 no = record { container = record { is_quote = false; line = 0; size = 0; marker = 0; digits = 0; is_blank = false }; list = 0 }
 
 pub bounds-stack-containers : goal.bounds-stack-containers
-bounds-stack-containers c =
+bounds-stack-containers g c =
     let s : Stood = record { containers = c.loop-containers.containers; spans = c.loop-containers.spans } in
     stood_inside s c.args.stack.now c.loop-containers.invariant.is no (omega arith)
 
 pub overflow_sub-spans : goal.overflow_sub-spans
-overflow_sub-spans c =
+overflow_sub-spans g c =
     let s : Stood = record { containers = c.loop-containers.containers; spans = c.loop-containers.spans } in
     let enough = stood_enough s c.args.stack.now c.loop-containers.invariant.is no (omega arith) in
     omega (arith, enough, c.spans_of-spans.ensures)
 
 pub loop-containers-preserved : goal.loop-containers-preserved
-loop-containers-preserved c =
+loop-containers-preserved g c =
     let s : Stood = record { containers = c.loop-containers.containers; spans = c.loop-containers.spans } in
     record {
       is = stood_less s c.args.stack.now c.loop-containers.invariant.is no (omega arith) _ (ap (λ n. c.loop-containers.spans - n) c.spans_of-spans.ensures);
       fewer = omega (arith, c.loop-containers.invariant.fewer);
+      least = omega (arith, c.loop-containers.invariant.least, c.loop-containers-test.true);
+      turns = omega (arith, c.loop-containers.invariant.turns, c.add_one.ensures, c.loop-containers-test.true);
     }

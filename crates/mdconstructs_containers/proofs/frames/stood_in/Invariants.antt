@@ -1,13 +1,15 @@
-use Rattle.std.proofs.Common.{◌≤◌, map}
+use Rattle.std.proofs.Common.{◌≤◌, ◌+◌, min, map}
 use Rattle.mdconstructs_containers.specs.Stood.{IsStood}
 use Rattle.mdconstructs_containers.specs.Views.{open_of}
 use Rattle.mdconstructs_containers.proofs.frames.stood_in.Given as goal
 
 abbrev pub invariant-loop-containers : goal.invariant-loop-containers
-invariant-loop-containers l = record {
+invariant-loop-containers g l = record {
   is : IsStood (record { containers = l.containers; spans = l.spans }) (map open_of l.stack);
   fewer : l.containers ≤ l.fn.stood.containers;
+  least : min l.fn.stood.containers l.many ≤ l.containers;
+  turns : l.turns + l.containers ≤ l.fn.turns + l.fn.stood.containers;
 }
 
 abbrev pub decreases-loop-containers : goal.decreases-loop-containers
-decreases-loop-containers l = l.containers
+decreases-loop-containers g l = l.containers

@@ -11,13 +11,13 @@ abbrev none : Prefix
 none = record { container = record { is_quote = false; line = 0; size = 0; marker = 0; digits = 0; is_blank = false }; size = 0 }
 
 pub front-text-requires : goal.front-text-requires
-front-text-requires c =
+front-text-requires g c =
     let i = c.loop-prefix.invariant in
     let in_line = inside_drop c.args.begun.now c.args.t.now c.loop-prefix.prefix-index c.loop-prefix.at none (omega arith) i.inside in
     omega (arith, in_line.0.within, c.behind.ensures.len, length-drop c.loop-prefix.at c.args.t.now)
 
 pub begun_prefix-requires : goal.begun_prefix-requires
-begun_prefix-requires c =
+begun_prefix-requires g c =
     let i = c.loop-prefix.invariant in
     let in_line = inside_drop c.args.begun.now c.args.t.now c.loop-prefix.prefix-index c.loop-prefix.at none (omega arith) i.inside in
     let size = (get_or c.args.begun.now c.loop-prefix.prefix-index none).size in
@@ -31,7 +31,7 @@ begun_prefix-requires c =
     }
 
 pub loop-prefix-preserved : goal.loop-prefix-preserved
-loop-prefix-preserved c =
+loop-prefix-preserved g c =
     let i = c.loop-prefix.invariant in
     let begun = c.args.begun.now in
     let h : c.loop-prefix.prefix-index < length begun = omega arith in
@@ -46,6 +46,8 @@ loop-prefix-preserved c =
           c.in_ok-enter_container.ensures (λ ss s b. c.in_ok-place.ensures.marks _ ss s b) (i.marks seats are is);
       columns = omega (arith, i.columns, columns);
       within = omega (arith, in_line.0.within, n, i.within);
+      few = omega (arith, i.few, some);
+      turns = omega (arith, i.turns, c.add_one.ensures, c.begun_prefix.ensures.turns, c.front-text.ensures.len);
       inside = in_line.1;
       place = place_chain c.args.tab c.args.bytes.now c.args.start c.loop-prefix.place c.in_ok-place.place c.loop-prefix.at _ i.place (c.in_ok-place.ensures.place ∙ ap (place_after c.args.tab c.args.bytes.now c.loop-prefix.place) c.front-text.ensures.len);
     }

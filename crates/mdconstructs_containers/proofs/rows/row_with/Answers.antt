@@ -5,6 +5,6 @@ use Rattle.mdconstructs_containers.specs.Views.{before_of}
 use Rattle.mdconstructs_containers.proofs.rows.row_with.Goals as goal
 
 pub returns-clause-is_lazy : goal.returns-clause-is_lazy
-returns-clause-is_lazy c =
-    c.is_lazily-is_lazy.ensures
+returns-clause-is_lazy g c =
+    c.is_lazily-is_lazy.ensures.value
     ∙ (λ k. is_lazily c.args.on.now (before_of c.args.before.now) (c.args.going.many == c.args.before.now.depth) ((c.has_none-none_begins.ensures ∙ ap has_none c.as_slice.ensures.value) k) (c.behind-rest.ensures.value k))

@@ -12,15 +12,15 @@ use Rattle.mdconstructs_containers.proofs.FrameLemmas.{exits_same, ending_same}
 use Rattle.mdconstructs_containers.proofs.skeleton.end_part.Goals as goal
 
 pub behind_frames-requires : goal.behind_frames-requires
-behind_frames-requires c = omega (arith, c.requires, ap (λ (l : List Frame). length l) c.as_slice.ensures.value)
+behind_frames-requires g c = omega (arith, c.requires, ap (λ (l : List Frame). length l) c.as_slice.ensures.value)
 
 pub exit_frames-requires : goal.exit_frames-requires
-exit_frames-requires c =
+exit_frames-requires g c =
     let rest : length c.behind_frames.result.now ≡ length (drop c.args.kept c.args.frames.now.items) = ap (λ (l : List Frame). length l) (c.behind_frames.ensures ∙ ap (drop c.args.kept) c.as_slice.ensures.value) in
     omega (arith, c.requires, c.shared-more.ensures.few, rest, length-drop c.args.kept c.args.frames.now.items)
 
 pub returns : goal.returns
-returns c =
+returns g c =
     let fs = c.args.frames.now.items in
     let kept = c.args.kept in
     let place = c.args.end.place in
@@ -35,4 +35,5 @@ returns c =
           ∙ append_assoc c.args.events.now.items (exits_at place (drop many fs)) (ending_at c.args.end)
           ∙ (λ k. c.args.events.now.items ++ (exits k ++ ending_same c.args.end k));
       frames = ap (take kept) c.in_ok-exit_frames.ensures.frames ∙ take_of_take kept many fs (omega (arith, c.requires, length-take many fs));
+      turns = omega (arith, c.shared-more.ensures.turns, c.exit_frames.ensures.turns);
     }

@@ -10,6 +10,7 @@ use Rattle.mdconstructs_containers.specs.declared.frames.Frame.{Frame}
 use Rattle.mdconstructs_containers.specs.declared.going.Open.{Open}
 use Rattle.mdconstructs_containers.specs.declared.spans.RowAt.{RowAt}
 use Rattle.mdconstructs_containers.specs.Ahead.{ahead_of}
+use Rattle.mdconstructs_containers.specs.Costs.{IsEnough, columns_in}
 use Rattle.mdconstructs_containers.specs.Frames.{frame_of, frames_in}
 use Rattle.mdconstructs_containers.specs.Over.{AreEarlier}
 use Rattle.mdconstructs_containers.specs.Parts.{open_behind}
@@ -22,17 +23,23 @@ use Rattle.mdconstructs_containers.specs.Stood.{IsStood}
 use Rattle.mdconstructs_containers.specs.Stretches.{HasFurther, InStretch, end_at, last_at}
 use Rattle.mdconstructs_containers.specs.Views.{begun_of, leaf_of, open_of}
 use Rattle.mdconstructs_containers.specs.Written.{Written}
+use Rattle.mdconstructs_containers.proofs.ColumnLemmas.{few_columns}
+use Rattle.mdconstructs_containers.proofs.CostLemmas.{going_sizes}
 use Rattle.mdconstructs_containers.proofs.FrameFacts.{none_is}
 use Rattle.mdconstructs_containers.proofs.PartLemmas.{passed_next, passed_own}
-use Rattle.mdconstructs_containers.proofs.PartFacts.{lines_few, the_columns, the_fits, the_going, the_inside, the_lazy, the_left, the_many, the_row, the_sum, the_went}
+use Rattle.mdconstructs_containers.proofs.PartCosts.{part_open, part_paid, part_turned}
+use Rattle.mdconstructs_containers.proofs.PartFacts.{line_size, lines_few, the_columns, the_fits, the_going, the_inside, the_lazy, the_left, the_many, the_row, the_sum, the_went}
 use Rattle.mdconstructs_containers.proofs.PartWritten.{begin_small, blank_columns, ends_is, few_of, frames_is, further_left, going_of, last_number, last_size, left_behind, own_of, rest_is, stretch_begins, write_begin, write_blank}
 use Rattle.mdconstructs_containers.proofs.RestLemmas.{part_of}
 use Rattle.mdconstructs_containers.proofs.StoodLemmas.{spans_all, spans_fewer, spans_own, spans_shown, stood_all, stood_own, stood_shown}
 use Rattle.mdconstructs_containers.proofs.skeleton.write_part.Goals as goal
 use Rattle.markdown_children.proofs.ChainOrder.Following.{by_test}
 
+least_is : (m n : ℕ) → m ≤ n → min m n ≡ m
+least_is m n h = omega (arith, h)
+
 pub begin_part-requires : goal.begin_part-requires
-begin_part-requires c =
+begin_part-requires g c =
     let some : 0 < c.args.tab = omega (arith, c.get-tab_size.ensures.least, c.get-tab_size.ensures.columns) in
     let stack = map open_of c.args.stack.now.items in
     let p = c.requires.part in
@@ -42,14 +49,22 @@ begin_part-requires c =
       going = the_going c.args.tab c.args.bytes.now some c.requires.limit stack c.args.first.now c.args.behind.now p.row p.rows p.left;
       fits = the_fits c.args.tab c.args.bytes.now some c.requires.limit stack c.args.first.now c.args.behind.now p.row p.rows p.left;
       sum = the_sum c.args.tab c.args.bytes.now some c.requires.limit stack c.args.first.now c.args.behind.now p.row p.rows p.left;
+      sizes =
+          let first = c.args.first.now in
+          let went = the_went c.args.tab c.args.bytes.now some c.requires.limit stack first c.args.behind.now p.row p.rows p.left in
+          let own_all = c.in_ok-all.ensures.many p.row (the_row c.args.tab c.args.bytes.now some c.requires.limit stack first c.args.behind.now p.row p.rows p.left) went (the_left c.args.tab c.args.bytes.now some c.requires.limit stack first c.args.behind.now p.row p.rows p.left)
+          (the_lazy c.args.tab c.args.bytes.now some c.requires.limit stack first c.args.behind.now p.row p.rows p.left) in
+          let own_is = own_of c.open_in.new.stack.items c.first_of-own.result.now c.as_slice-2.result.now c.in_ok-all.all c.first_of-own.ensures c.as_slice-2.ensures.value in
+          let going_is = going_of c.first_of-own.result.now c.first_of-going.result.now c.least.result (min c.standing-stands.result first.row.many) c.first_of-going.ensures c.least.ensures in
+          going_sizes (map open_of c.first_of-going.result.now) (map open_of c.first_of-own.result.now) (containers_of p.row.went_on) (containers_of p.row.begun) stack c.standing-stands.result first.row.many going_is (own_is ∙ own_all) went (omega (arith, p.left.are.0.many)) p.left.are.0.sizes;
     }
 
 -- the containers of the part before, in the code's slice
 pub stood_in-went-requires : goal.stood_in-went-requires
-stood_in-went-requires c = subst (λ (l : List Open). IsStood c.args.stood (map open_of l)) (sym c.as_slice.ensures.value) c.requires.stood
+stood_in-went-requires g c = subst (λ (l : List Open). IsStood c.args.stood (map open_of l)) (sym c.as_slice.ensures.value) c.requires.stood
 
 pub stood_in-kept-requires : goal.stood_in-kept-requires
-stood_in-kept-requires c =
+stood_in-kept-requires g c =
     let t = c.args.tab in
     let bytes = c.args.bytes.now in
     let some : 0 < c.args.tab = omega (arith, c.get-tab_size.ensures.least, c.get-tab_size.ensures.columns) in
@@ -64,7 +79,7 @@ stood_in-kept-requires c =
     stood_own c.stood_in-went.result stack (map open_of c.first_of-own.result.now) (containers_of p.row.went_on) (containers_of p.row.begun) first.row.many before c.stood_in-went.ensures.few went (own_is ∙ own_all)
 
 pub standing-stands-requires : goal.standing-stands-requires
-standing-stands-requires c =
+standing-stands-requires g c =
     let t = c.args.tab in
     let bytes = c.args.bytes.now in
     let some : 0 < c.args.tab = omega (arith, c.get-tab_size.ensures.least, c.get-tab_size.ensures.columns) in
@@ -86,7 +101,7 @@ standing-stands-requires c =
     (passed_own first.span.number c.args.passed.from c.args.passed.to first.row.many c.in_ok-all.all c.passed_in-seen.result stack own (has_none first.row.begun.items) c.requires.passed none_begin few c.passed_in-seen.ensures)
 
 pub go_to_part-requires : goal.go_to_part-requires
-go_to_part-requires c =
+go_to_part-requires g c =
     let t = c.args.tab in
     let bytes = c.args.bytes.now in
     let some : 0 < c.args.tab = omega (arith, c.get-tab_size.ensures.least, c.get-tab_size.ensures.columns) in
@@ -111,14 +126,14 @@ go_to_part-requires c =
     }
 
 pub slice_bounds-more-end : goal.slice_bounds-more-end
-slice_bounds-more-end c =
+slice_bounds-more-end g c =
     let some : 0 < c.args.tab = omega (arith, c.get-tab_size.ensures.least, c.get-tab_size.ensures.columns) in
     let p = c.requires.part in
     let few = lines_few c.args.tab c.args.bytes.now some c.requires.limit (map open_of c.args.stack.now.items) c.args.first.now c.args.behind.now p.row p.rows p.left c.args.ahead p.ahead_is in
     omega (arith, few, c.lines_of-lines.ensures, length-take c.lines_of-lines.result c.args.behind.now)
 
 pub end_of_part-end-requires : goal.end_of_part-end-requires
-end_of_part-end-requires c =
+end_of_part-end-requires g c =
     let some : 0 < c.args.tab = omega (arith, c.get-tab_size.ensures.least, c.get-tab_size.ensures.columns) in
     let p = c.requires.part in
     let first = c.args.first.now in
@@ -129,7 +144,7 @@ end_of_part-end-requires c =
     }
 
 pub fill_part-requires : goal.fill_part-requires
-fill_part-requires c =
+fill_part-requires g c =
     let t = c.args.tab in
     let bytes = c.args.bytes.now in
     let some : 0 < c.args.tab = omega (arith, c.get-tab_size.ensures.least, c.get-tab_size.ensures.columns) in
@@ -154,7 +169,7 @@ fill_part-requires c =
     }
 
 pub returns : goal.returns
-returns c =
+returns g c =
     let t = c.args.tab in
     let bytes = c.args.bytes.now in
     let some : 0 < c.args.tab = omega (arith, c.get-tab_size.ensures.least, c.get-tab_size.ensures.columns) in
@@ -173,6 +188,39 @@ returns c =
     let all_few : c.in_ok-all.all ≤ length all_open =
     omega (arith, c.in_ok-all.ensures.few (omega (arith, the_many t bytes some limit stack first behind p.row p.rows p.left, length-map c.args.stack.now.items open_of)), length-map c.open_in.new.stack.items open_of) in
     record {
+      turns = λ r rs budget left ae paid before.
+          let few : first.row.many ≤ length c.args.stack.now.items = omega (arith, left.are.0.many, length-map c.args.stack.now.items open_of) in
+          let small : r.columns ≤ first.span.size = omega (arith, left.are.0.placed.columns, left.are.0.is.columns) in
+          let the = the_row t bytes some limit stack first behind r rs left in
+          let own : length c.first_of-own.result.now ≡ c.in_ok-all.all =
+          ap (λ (l : List Open). length l) (c.first_of-own.ensures ∙ ap (take c.in_ok-all.all) c.as_slice-2.ensures.value) ∙ length-take c.in_ok-all.all c.open_in.new.stack.items ∙ least_is c.in_ok-all.all (length c.open_in.new.stack.items) (c.in_ok-all.ensures.few few) in
+          let shown : length c.first_of-shown.result.now ≡ c.standing-stands.result =
+          ap (λ (l : List Open). length l) c.first_of-shown.ensures ∙ length-take c.standing-stands.result c.first_of-own.result.now ∙ least_is c.standing-stands.result (length c.first_of-own.result.now) c.standing-stands.ensures.few in
+          let turned = part_turned r rs paid first.span.number first.row the first.span.size small c.args.turns.now budget (length c.args.frames.now.items) c.args.stood.containers c.args.passed.from c.args.passed.to (length c.args.stack.now.items) before c.stood_in-went.new.turns c.stood_in-went.result.containers c.open_in.new.turns c.stood_in-went.ensures.turns c.open_in.ensures.turns
+          few c.stood_in-went.ensures.least c.in_ok-all.all c.in_ok-all.ensures.fewer (c.in_ok-all.ensures.least few) c.args.ahead ae c.passed_in-seen.result c.passed_in-seen.ensures c.standing-stands.new.turns c.standing-stands.result
+          (omega (arith, c.standing-stands.ensures.turns, own)) c.standing-stands.ensures.asked c.standing-stands.ensures.below (omega (arith, c.standing-stands.ensures.few, own)) c.stood_in-kept.new.turns c.stood_in-kept.result.containers c.stood_in-kept.ensures.turns c.stood_in-kept.ensures.least c.go_to_part.new.turns (omega (arith, c.go_to_part.ensures.turns, shown)) in
+          let line = line_size t bytes some limit stack first behind r rs left in
+          let more = few_columns behind c.lines_of-lines.result in
+          omega (arith, turned, line, more, c.begin_part.ensures.turns, c.fill_part.ensures.turns);
+      paid = λ r rs budget left ae paid before.
+          let few : first.row.many ≤ length c.args.stack.now.items = omega (arith, left.are.0.many, length-map c.args.stack.now.items open_of) in
+          let small : r.columns ≤ first.span.size = omega (arith, left.are.0.placed.columns, left.are.0.is.columns) in
+          let the = the_row t bytes some limit stack first behind r rs left in
+          let own : length c.first_of-own.result.now ≡ c.in_ok-all.all =
+          ap (λ (l : List Open). length l) (c.first_of-own.ensures ∙ ap (take c.in_ok-all.all) c.as_slice-2.ensures.value) ∙ length-take c.in_ok-all.all c.open_in.new.stack.items ∙ least_is c.in_ok-all.all (length c.open_in.new.stack.items) (c.in_ok-all.ensures.few few) in
+          let shown : length c.first_of-shown.result.now ≡ c.standing-stands.result =
+          ap (λ (l : List Open). length l) c.first_of-shown.ensures ∙ length-take c.standing-stands.result c.first_of-own.result.now ∙ least_is c.standing-stands.result (length c.first_of-own.result.now) c.standing-stands.ensures.few in
+          let line = line_size t bytes some limit stack first behind r rs left in
+          let extra = 12 * first.span.size + 4 + 8 * columns_in (take c.lines_of-lines.result behind) in
+          let enough = part_paid r rs paid first.span.number first.row the first.span.size small c.args.turns.now budget (length c.args.frames.now.items) c.args.stood.containers c.args.passed.from c.args.passed.to (length c.args.stack.now.items) before c.stood_in-went.new.turns c.stood_in-went.result.containers c.open_in.new.turns c.stood_in-went.ensures.turns c.open_in.ensures.turns
+          few c.stood_in-went.ensures.least c.in_ok-all.all c.in_ok-all.ensures.fewer (c.in_ok-all.ensures.least few) c.args.ahead ae c.passed_in-seen.result c.passed_in-seen.ensures c.standing-stands.new.turns c.standing-stands.result
+          (omega (arith, c.standing-stands.ensures.turns, own)) c.standing-stands.ensures.asked c.standing-stands.ensures.below (omega (arith, c.standing-stands.ensures.few, own)) c.stood_in-kept.new.turns c.stood_in-kept.result.containers c.stood_in-kept.ensures.turns c.stood_in-kept.ensures.least
+          (λ b. omega (arith, c.standing-stands.ensures.least b, own)) (length c.open_in.new.stack.items) c.passed_by-next_passed.result.from c.passed_by-next_passed.result.to c.lines_of-lines.result (length c.go_to_part.new.frames.items) c.go_to_part.new.turns c.fill_part.new.turns extra
+          c.in_ok-all.ensures.whole c.passed_by-next_passed.ensures.from c.passed_by-next_passed.ensures.to c.lines_of-lines.ensures (omega (arith, c.in_ok-next.ensures.paid, shown)) (omega (arith, line, c.begin_part.ensures.turns, c.fill_part.ensures.turns)) in
+          let stands : c.in_ok-next.next.containers ≡ c.standing-stands.result = c.in_ok-next.ensures.containers ∙ shown in
+          let wider : budget + (7 * first.span.size + 1 + extra) ≤ budget + 19 * first.span.size + 5 + 8 * columns_in (take c.lines_of-lines.result behind) = omega arith in
+          subst (λ (s : ℕ). IsEnough c.fill_part.new.turns (budget + 19 * first.span.size + 5 + 8 * columns_in (take c.lines_of-lines.result behind)) (length c.go_to_part.new.frames.items) s c.passed_by-next_passed.result.from c.passed_by-next_passed.result.to (length c.open_in.new.stack.items) (drop c.lines_of-lines.result rs)) (sym stands)
+          (record { asked = enough.asked; are = enough.are; enough = omega (arith, enough.enough, wider) });
       passed = passed_next first.span.number c.standing-stands.result c.in_ok-all.all c.passed_by-next_passed.result.from c.passed_by-next_passed.result.to all_own all_open first.row.is_blank (has_none first.row.begun.items) all_own_is all_few
           c.passed_by-next_passed.ensures.from c.passed_by-next_passed.ensures.to
           (λ b. subst (λ (n : ℕ). AreEarlier first.span.number c.standing-stands.result n all_own) (sym (length-map c.first_of-own.result.now open_of)) (c.standing-stands.ensures.passed b));
@@ -219,3 +267,81 @@ returns c =
           c.begin_part.new.events.items e.place rest all b ends begun)))) in
           subst (λ (m : ℕ). Written c.fill_part.new.events.items None false (rest_marks bytes next e (parts (drop m rs))) all) (sym n) (subst (λ (ms : List Mark). Written c.fill_part.new.events.items None false ms all) is_left filled);
     }
+
+-- where memory is wanted, the columns have paid
+pub returns-in_err-all-clause-turns : goal.returns-in_err-all-clause-turns
+returns-in_err-all-clause-turns g c = λ r rs budget left ae paid before.
+    let t = c.args.tab in
+    let bytes = c.args.bytes.now in
+    let some : 0 < c.args.tab = omega (arith, c.get-tab_size.ensures.least, c.get-tab_size.ensures.columns) in
+    let stack = map open_of c.args.stack.now.items in
+    let first = c.args.first.now in
+    let behind = c.args.behind.now in
+    let the = the_row t bytes some c.requires.limit stack first behind r rs left in
+    let small : r.columns ≤ first.span.size = omega (arith, left.are.0.placed.columns, left.are.0.is.columns) in
+    let few : first.row.many ≤ length c.args.stack.now.items = omega (arith, left.are.0.many, length-map c.args.stack.now.items open_of) in
+    let opened = part_open r rs paid first.span.number first.row the first.span.size small c.args.turns.now budget (length c.args.frames.now.items) c.args.stood.containers c.args.passed.from c.args.passed.to (length c.args.stack.now.items) before c.stood_in-went.new.turns c.stood_in-went.result.containers c.open_in.new.turns c.stood_in-went.ensures.turns c.open_in.ensures.turns in
+    omega (arith, opened)
+
+pub returns-in_err-next-clause-turns : goal.returns-in_err-next-clause-turns
+returns-in_err-next-clause-turns g c = λ r rs budget left ae paid before.
+    let t = c.args.tab in
+    let bytes = c.args.bytes.now in
+    let some : 0 < c.args.tab = omega (arith, c.get-tab_size.ensures.least, c.get-tab_size.ensures.columns) in
+    let stack = map open_of c.args.stack.now.items in
+    let first = c.args.first.now in
+    let behind = c.args.behind.now in
+    let the = the_row t bytes some c.requires.limit stack first behind r rs left in
+    let small : r.columns ≤ first.span.size = omega (arith, left.are.0.placed.columns, left.are.0.is.columns) in
+    let few : first.row.many ≤ length c.args.stack.now.items = omega (arith, left.are.0.many, length-map c.args.stack.now.items open_of) in
+    let own : length c.first_of-own.result.now ≡ c.in_ok-all.all =
+    ap (λ (l : List Open). length l) (c.first_of-own.ensures ∙ ap (take c.in_ok-all.all) c.as_slice-2.ensures.value) ∙ length-take c.in_ok-all.all c.open_in.new.stack.items ∙ least_is c.in_ok-all.all (length c.open_in.new.stack.items) (c.in_ok-all.ensures.few few) in
+    let shown : length c.first_of-shown.result.now ≡ c.standing-stands.result =
+    ap (λ (l : List Open). length l) c.first_of-shown.ensures ∙ length-take c.standing-stands.result c.first_of-own.result.now ∙ least_is c.standing-stands.result (length c.first_of-own.result.now) c.standing-stands.ensures.few in
+    let turned = part_turned r rs paid first.span.number first.row the first.span.size small c.args.turns.now budget (length c.args.frames.now.items) c.args.stood.containers c.args.passed.from c.args.passed.to (length c.args.stack.now.items) before c.stood_in-went.new.turns c.stood_in-went.result.containers c.open_in.new.turns c.stood_in-went.ensures.turns c.open_in.ensures.turns
+    few c.stood_in-went.ensures.least c.in_ok-all.all c.in_ok-all.ensures.fewer (c.in_ok-all.ensures.least few) c.args.ahead ae c.passed_in-seen.result c.passed_in-seen.ensures c.standing-stands.new.turns c.standing-stands.result
+    (omega (arith, c.standing-stands.ensures.turns, own)) c.standing-stands.ensures.asked c.standing-stands.ensures.below (omega (arith, c.standing-stands.ensures.few, own)) c.stood_in-kept.new.turns c.stood_in-kept.result.containers c.stood_in-kept.ensures.turns c.stood_in-kept.ensures.least c.go_to_part.new.turns (omega (arith, c.go_to_part.ensures.turns, shown)) in
+    omega (arith, turned)
+
+pub returns-in_err-begin-clause-turns : goal.returns-in_err-begin-clause-turns
+returns-in_err-begin-clause-turns g c = λ r rs budget left ae paid before.
+    let t = c.args.tab in
+    let bytes = c.args.bytes.now in
+    let some : 0 < c.args.tab = omega (arith, c.get-tab_size.ensures.least, c.get-tab_size.ensures.columns) in
+    let stack = map open_of c.args.stack.now.items in
+    let first = c.args.first.now in
+    let behind = c.args.behind.now in
+    let the = the_row t bytes some c.requires.limit stack first behind r rs left in
+    let small : r.columns ≤ first.span.size = omega (arith, left.are.0.placed.columns, left.are.0.is.columns) in
+    let few : first.row.many ≤ length c.args.stack.now.items = omega (arith, left.are.0.many, length-map c.args.stack.now.items open_of) in
+    let own : length c.first_of-own.result.now ≡ c.in_ok-all.all =
+    ap (λ (l : List Open). length l) (c.first_of-own.ensures ∙ ap (take c.in_ok-all.all) c.as_slice-2.ensures.value) ∙ length-take c.in_ok-all.all c.open_in.new.stack.items ∙ least_is c.in_ok-all.all (length c.open_in.new.stack.items) (c.in_ok-all.ensures.few few) in
+    let shown : length c.first_of-shown.result.now ≡ c.standing-stands.result =
+    ap (λ (l : List Open). length l) c.first_of-shown.ensures ∙ length-take c.standing-stands.result c.first_of-own.result.now ∙ least_is c.standing-stands.result (length c.first_of-own.result.now) c.standing-stands.ensures.few in
+    let turned = part_turned r rs paid first.span.number first.row the first.span.size small c.args.turns.now budget (length c.args.frames.now.items) c.args.stood.containers c.args.passed.from c.args.passed.to (length c.args.stack.now.items) before c.stood_in-went.new.turns c.stood_in-went.result.containers c.open_in.new.turns c.stood_in-went.ensures.turns c.open_in.ensures.turns
+    few c.stood_in-went.ensures.least c.in_ok-all.all c.in_ok-all.ensures.fewer (c.in_ok-all.ensures.least few) c.args.ahead ae c.passed_in-seen.result c.passed_in-seen.ensures c.standing-stands.new.turns c.standing-stands.result
+    (omega (arith, c.standing-stands.ensures.turns, own)) c.standing-stands.ensures.asked c.standing-stands.ensures.below (omega (arith, c.standing-stands.ensures.few, own)) c.stood_in-kept.new.turns c.stood_in-kept.result.containers c.stood_in-kept.ensures.turns c.stood_in-kept.ensures.least c.go_to_part.new.turns (omega (arith, c.go_to_part.ensures.turns, shown)) in
+    let line = line_size t bytes some c.requires.limit stack first behind r rs left in
+    omega (arith, turned, line, c.begin_part.ensures.turns)
+
+pub returns-in_err-fill_part-clause-turns : goal.returns-in_err-fill_part-clause-turns
+returns-in_err-fill_part-clause-turns g c = λ r rs budget left ae paid before.
+    let t = c.args.tab in
+    let bytes = c.args.bytes.now in
+    let some : 0 < c.args.tab = omega (arith, c.get-tab_size.ensures.least, c.get-tab_size.ensures.columns) in
+    let stack = map open_of c.args.stack.now.items in
+    let first = c.args.first.now in
+    let behind = c.args.behind.now in
+    let the = the_row t bytes some c.requires.limit stack first behind r rs left in
+    let small : r.columns ≤ first.span.size = omega (arith, left.are.0.placed.columns, left.are.0.is.columns) in
+    let few : first.row.many ≤ length c.args.stack.now.items = omega (arith, left.are.0.many, length-map c.args.stack.now.items open_of) in
+    let own : length c.first_of-own.result.now ≡ c.in_ok-all.all =
+    ap (λ (l : List Open). length l) (c.first_of-own.ensures ∙ ap (take c.in_ok-all.all) c.as_slice-2.ensures.value) ∙ length-take c.in_ok-all.all c.open_in.new.stack.items ∙ least_is c.in_ok-all.all (length c.open_in.new.stack.items) (c.in_ok-all.ensures.few few) in
+    let shown : length c.first_of-shown.result.now ≡ c.standing-stands.result =
+    ap (λ (l : List Open). length l) c.first_of-shown.ensures ∙ length-take c.standing-stands.result c.first_of-own.result.now ∙ least_is c.standing-stands.result (length c.first_of-own.result.now) c.standing-stands.ensures.few in
+    let turned = part_turned r rs paid first.span.number first.row the first.span.size small c.args.turns.now budget (length c.args.frames.now.items) c.args.stood.containers c.args.passed.from c.args.passed.to (length c.args.stack.now.items) before c.stood_in-went.new.turns c.stood_in-went.result.containers c.open_in.new.turns c.stood_in-went.ensures.turns c.open_in.ensures.turns
+    few c.stood_in-went.ensures.least c.in_ok-all.all c.in_ok-all.ensures.fewer (c.in_ok-all.ensures.least few) c.args.ahead ae c.passed_in-seen.result c.passed_in-seen.ensures c.standing-stands.new.turns c.standing-stands.result
+    (omega (arith, c.standing-stands.ensures.turns, own)) c.standing-stands.ensures.asked c.standing-stands.ensures.below (omega (arith, c.standing-stands.ensures.few, own)) c.stood_in-kept.new.turns c.stood_in-kept.result.containers c.stood_in-kept.ensures.turns c.stood_in-kept.ensures.least c.go_to_part.new.turns (omega (arith, c.go_to_part.ensures.turns, shown)) in
+    let line = line_size t bytes some c.requires.limit stack first behind r rs left in
+    let more = few_columns behind c.lines_of-lines.result in
+    omega (arith, turned, line, more, c.begin_part.ensures.turns, c.fill_part.ensures.turns)

@@ -1,5 +1,6 @@
-use Rattle.std.proofs.Common.{◌≡◌, ◌≤◌, ◌+◌, ◌-◌, length, drop, map}
+use Rattle.std.proofs.Common.{◌≡◌, ◌≤◌, ◌+◌, ◌*◌, ◌-◌, length, take, drop, map}
 use Rattle.std.specs.Prelude.{false, None}
+use Rattle.mdconstructs_containers.specs.Costs.{IsEnough, columns_in}
 use Rattle.mdconstructs_containers.specs.Frames.{frame_of}
 use Rattle.mdconstructs_containers.specs.Over.{AreEarlier}
 use Rattle.mdconstructs_containers.specs.Rest.{AreLeft, rest_marks}
@@ -12,6 +13,7 @@ use Rattle.mdconstructs_containers.proofs.skeleton.write_parts.Given as goal
 abbrev pub invariant-loop-i : goal.invariant-loop-i
 invariant-loop-i g l = record {
   within : l.i ≤ length l.rows;
+  enough : IsEnough l.turns (l.fn.turns + 19 * columns_in (take l.i l.rows)) (length l.frames.items) l.stood.containers l.passed.from l.passed.to (length l.stack.items) (drop l.i g.all);
   left : AreLeft l.bytes l.tab (map open_of l.stack.items) (drop l.i l.rows) (drop l.i g.all);
   passed : AreEarlier (l.i + 1) l.passed.from l.passed.to (map open_of l.stack.items);
   stood : IsStood l.stood (map open_of l.stack.items);

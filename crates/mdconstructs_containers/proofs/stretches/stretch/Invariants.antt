@@ -1,12 +1,14 @@
-use Rattle.std.proofs.Common.{◌≡◌, ◌<◌, ℕ, Bool, List, length, drop, map}
+use Rattle.std.proofs.Common.{◌≡◌, ◌<◌, ◌≤◌, ◌+◌, ◌*◌, ℕ, Bool, List, length, take, drop, map}
 use Rattle.std.specs.Prelude.{Some, None}
 use Rattle.mdconstructs_flow_read.specs.LeafEvents.{Mark}
+use Rattle.mdconstructs_containers.specs.Costs.{columns_in}
 use Rattle.mdconstructs_containers.specs.Stretches.{HasFurther, InStretch}
 use Rattle.mdconstructs_containers.specs.Views.{open_of}
 use Rattle.mdconstructs_containers.proofs.stretches.stretch.Given as goal
 
 abbrev pub invariant-loop-at : goal.invariant-loop-at
-invariant-loop-at l = record {
+invariant-loop-at g l = record {
+  turns : l.turns ≤ l.fn.turns + 8 * columns_in (take l.at-index l.more);
   before : (before : ℕ) → l.previous ≡ Some before → before < length l.events.items;
   further : HasFurther l.tab l.bytes (map open_of l.stack) (drop l.at-index l.more);
   state : (is_held : Bool) (rest all : List Mark) → InStretch l.tab l.bytes (map open_of l.stack) is_held l.initial.events.items None l.fn.from l.to l.more rest all

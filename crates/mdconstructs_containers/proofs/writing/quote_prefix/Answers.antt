@@ -3,20 +3,20 @@ use Rattle.mdconstructs_containers.proofs.WritingLemmas.{columns_behind, columns
 use Rattle.mdconstructs_containers.proofs.writing.quote_prefix.Goals as goal
 
 pub white-requires : goal.white-requires
-white-requires c = columns_front c.args.tab c.args.bytes.now c.args.place (length c.args.t.now) c.indent-columns.result c.requires.columns c.indent-columns.ensures.within
+white-requires g c = columns_front c.args.tab c.args.bytes.now c.args.place (length c.args.t.now) c.indent-columns.result c.requires.columns c.indent-columns.ensures.within
 
 pub span-requires : goal.span-requires
-span-requires c =
+span-requires g c =
     columns_behind c.args.tab c.args.bytes.now c.args.place c.in_ok-start.start (length c.args.t.now) c.indent-columns.result 1 c.in_ok-start.ensures.place c.requires.columns (omega (arith, c.requires.marker, c.indent-columns.ensures.value))
 
 pub white-requires-2 : goal.white-requires-2
-white-requires-2 c =
+white-requires-2 g c =
     columns_behind c.args.tab c.args.bytes.now c.args.place c.in_ok-marked.marked (length c.args.t.now) (c.indent-columns.result + 1) (length c.args.t.now - c.indent-columns.result - 1)
     (place_chain c.args.tab c.args.bytes.now c.args.place c.in_ok-start.start c.in_ok-marked.marked c.indent-columns.result 1 c.in_ok-start.ensures.place c.in_ok-marked.ensures.place) c.requires.columns
     (omega (arith, c.requires.marker, c.indent-columns.ensures.value))
 
 pub returns : goal.returns
-returns c =
+returns g c =
     let n = c.indent-columns.result in
     let rest = length c.args.t.now - n - 1 in
     record {
@@ -25,4 +25,5 @@ returns c =
           c.in_ok-start.ensures.events c.in_ok-enter.ensures c.in_ok-marked.ensures.events c.in_ok-end.ensures.events c.in_ok-exit.ensures;
       place = quote_end c.args.tab c.args.bytes.now c.args.place c.in_ok-start.start c.in_ok-marked.marked c.in_ok-end.end c.args.t.now n rest c.indent-columns.ensures.value refl c.requires.marker c.in_ok-start.ensures.place
           c.in_ok-marked.ensures.place c.in_ok-end.ensures.place;
+      turns = omega (arith, c.requires.marker, c.indent-columns.ensures.value, c.indent-columns.ensures.turns, c.white.ensures.turns, c.span.ensures.turns, c.white-2.ensures.turns);
     }

@@ -10,7 +10,7 @@ use Rattle.mdconstructs_containers.proofs.RowLemmas.{row_parts, row_is}
 use Rattle.mdconstructs_containers.proofs.rows.Before.row.Goals as goal
 
 pub returns-clause-row : goal.returns-clause-row
-returns-clause-row c = λ line text.
+returns-clause-row g c = λ line text.
     let b = before_of c.args.self.now in
     let xs = c.in_ok-begun.begun.prefixes.items in
     let going = c.going_in-going.result in
@@ -26,7 +26,7 @@ returns-clause-row c = λ line text.
     subst (λ (r : Row). IsRow c.args.number c.row_with.result r) (sym parts) is
 
 pub returns-clause-within : goal.returns-clause-within
-returns-clause-within c = omega (arith, c.row_with.ensures.columns, c.in_ok-begun.ensures.within, c.behind-after.ensures.len, c.going_in-going.ensures.within)
+returns-clause-within g c = omega (arith, c.row_with.ensures.columns, c.in_ok-begun.ensures.within, c.behind-after.ensures.len, c.going_in-going.ensures.within)
 
 pub row_with-requires : goal.row_with-requires
-row_with-requires c = omega (arith, c.in_ok-begun.ensures.within, c.behind-after.ensures.len, c.going_in-going.ensures.within)
+row_with-requires g c = omega (arith, c.in_ok-begun.ensures.within, c.behind-after.ensures.len, c.going_in-going.ensures.within)
