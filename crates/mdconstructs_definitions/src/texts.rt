@@ -50,11 +50,11 @@ pub fn underlines_nothing<L: Ledger>(
     turns: &mut Turns<L>,
 ) -> bool
     ensures value { result ≡ (on.now.definition && ((stays && is_paragraph (leaf_of leaf)) && (is_some (underline_rank on.now rest.now) && is_used_up text.now))) }
-    ensures turns { turns.new ≤ turns.old + 16 * length text.now + 16 }
+    ensures turns { turns.new ≤ turns.old + (3 * length rest.now + 4) + (16 * length text.now + 16) }
 {
     on.definition
         && (stays && is_paragraph(leaf))
-        && (underline_rank(on, rest).is_some() && is_used_up(text, turns))
+        && (underline_rank(on, rest, turns).is_some() && is_used_up(text, turns))
 }
 
 /// How many line feeds a text has.
