@@ -306,7 +306,7 @@ fn pieces_of<L: Ledger>(
 }
 
 /// The events of a text with links, images and emphasis in place of its brackets and delimiter runs.
-pub fn linked<L: Ledger>(
+pub(crate) fn linked<L: Ledger>(
     alloc: Global,
     bytes: &[u8],
     events: &[Event],

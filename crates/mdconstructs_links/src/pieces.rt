@@ -56,7 +56,7 @@ fn depth_after(kind: Kind, depth: usize) -> usize
 }
 
 /// The index behind the span that begins at an index.
-pub fn span_end<L: Ledger>(events: &[Event], from: usize, turns: &mut Turns<L>) -> usize
+pub(crate) fn span_end<L: Ledger>(events: &[Event], from: usize, turns: &mut Turns<L>) -> usize
     requires inside { from ≤ length events.now }
     ensures order { from ≤ result }
     ensures some { from < length events.now → from < result }
@@ -78,7 +78,7 @@ pub fn span_end<L: Ledger>(events: &[Event], from: usize, turns: &mut Turns<L>) 
 }
 
 /// Whether events begin with a span of this name.
-pub fn is_named(name: Name, events: &[Event]) -> bool
+pub(crate) fn is_named(name: Name, events: &[Event]) -> bool
     ensures { result ≡ is_named name events.now }
 {
     match events {
@@ -88,21 +88,21 @@ pub fn is_named(name: Name, events: &[Event]) -> bool
 }
 
 /// Whether a span is a bracket.
-pub fn is_bracket(span: &[Event]) -> bool
+pub(crate) fn is_bracket(span: &[Event]) -> bool
     ensures { result ≡ is_bracket span.now }
 {
     is_named(Name::LabelLink, span) || is_named(Name::LabelImage, span)
 }
 
 /// Whether events begin with the tail of a link or an image.
-pub fn is_tail(events: &[Event]) -> bool
+pub(crate) fn is_tail(events: &[Event]) -> bool
     ensures { result ≡ is_tail events.now }
 {
     is_named(Name::Resource, events) || is_named(Name::Reference, events)
 }
 
 /// Whether a span is a delimiter run: an attention sequence with nothing in it.
-pub fn is_run(span: &[Event]) -> bool
+pub(crate) fn is_run(span: &[Event]) -> bool
     ensures { result ≡ is_run span.now }
 {
     match span {
@@ -251,7 +251,7 @@ fn push_fate(
 }
 
 /// The events of a text, by what becomes of each of its outermost spans.
-pub fn written<L: Ledger>(
+pub(crate) fn written<L: Ledger>(
     alloc: Global,
     events: &[Event],
     pieces: &[Piece],
