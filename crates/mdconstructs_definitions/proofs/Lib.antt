@@ -1,5 +1,6 @@
 pub mod Covered
 pub mod Examples
+pub mod HeldLemmas
 pub mod Linked
 pub mod TextLemmas
 pub mod Without

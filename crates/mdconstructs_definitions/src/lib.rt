@@ -2,5 +2,6 @@
 #![tactic(auto)]
 
 pub mod fronts;
+pub mod held;
 pub mod laws;
 pub mod texts;
