@@ -10,15 +10,18 @@ use markdown_base::configuration::TabSize;
 use mdconstructs_containers::spans::RowAt;
 use mdconstructs_lines::bytes::behind;
 use mdconstructs_lines::places::read_line;
+use mdconstructs_turns::Turns;
 use std::alloc::AllocError;
+use std::sync::ledger::Ledger;
 
 /// The text of lines: what they have behind their prefixes, joined by line feeds. `line` is room for the bytes of one.
-pub fn hold_lines(
+pub fn hold_lines<L: Ledger>(
     text: &mut Vec<u8>,
     bytes: &[u8],
     tab: TabSize,
     rows: &[RowAt],
     line: &mut Vec<u8>,
+    turns: &mut Turns<L>,
 ) -> Result<(), AllocError>
     ghost all: { List RowOf }
     requires { HaveTexts tab bytes.now rows.now all }
@@ -29,7 +32,8 @@ pub fn hold_lines(
     text.clear();
     let mut goes_on = false;
     for at in rows {
-        read_line(line, bytes, tab, at.span.start)?;
+        turns.add_one();
+        read_line(line, bytes, tab, at.span.start, turns)?;
         let rest = behind(line.as_slice(), at.row.columns);
         hold(text, goes_on, rest)?;
         goes_on = true;

@@ -66,7 +66,7 @@ fn line_feeds(text: &[u8]) -> usize
 }
 
 /// How many lines a text has.
-pub fn lines_of(text: &[u8]) -> usize
+fn lines_of(text: &[u8]) -> usize
     ensures { result ≡ lines_of text.now }
 {
     match text {
