@@ -20,20 +20,17 @@ pub struct Resource {
     pub size: usize,
 }
 
-/// A resource with these parts, if it is closed there, behind white space.
-fn closed_at<L: Ledger>(
+/// A resource with these parts, if the parenthesis that closes it stands there.
+fn closed_at(
     bytes: &[u8],
     destination: Option<Stretch>,
     title: Option<Stretch>,
-    at: usize,
-    turns: &mut Turns<L>,
+    close: usize,
 ) -> Option<Resource>
-    requires { at ≤ length bytes.now }
-    ensures resource { result ≡ closed_at bytes.now destination title at }
+    requires { close ≤ length bytes.now }
+    ensures resource { result ≡ closed_at bytes.now destination title close }
     ensures inside { IfSome result (λ r. r.size ≤ length bytes.now) }
-    ensures turns { turns.new + at ≤ turns.old + length bytes.now + 2 }
 {
-    let close = at + gap(&bytes[at..], turns);
     if begins_with(b')', &bytes[close..]) {
         Some(Resource {
             destination,
@@ -56,14 +53,15 @@ pub fn resource_counted<L: Ledger>(bytes: &[u8], turns: &mut Turns<L>) -> Option
     }
     let from = 1 + gap(&bytes[1..], turns);
     match destination_size(&bytes[from..], turns) {
-        None => closed_at(bytes, None, None, from, turns),
+        None => closed_at(bytes, None, None, from),
         Some(size) => {
             let title = title_at(bytes, from + size, turns);
             let at = match title {
                 None => from + size,
                 Some(title) => title.from + title.size,
             };
-            closed_at(bytes, Some(Stretch { from, size }), title, at, turns)
+            let close = at + gap(&bytes[at..], turns);
+            closed_at(bytes, Some(Stretch { from, size }), title, close)
         }
     }
 }

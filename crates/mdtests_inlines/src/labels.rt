@@ -256,6 +256,8 @@ fn parts_within(resource: Resource) -> (Option<Written>, Option<Written>, usize)
 const RESOURCES: &[(&[u8], Option<(Option<Written>, Option<Written>, usize)>)] = &[
     (b"(/uri \"title\")a", Some((Some((1, 4)), Some((6, 7)), 14))),
     (b"()", Some((None, None, 2))),
+    (b"(\n )", Some((None, None, 4))),
+    (b"(\n\n)", None),
     (b"(</my uri>)", Some((Some((1, 9)), None, 11))),
     (b"(foo(and(bar)))", Some((Some((1, 13)), None, 15))),
     (
