@@ -18,15 +18,18 @@ use mdconstructs_containers::letters::with_letters;
 use mdconstructs_containers::lines::rows_of;
 use mdconstructs_containers::rows::Row;
 use mdconstructs_containers::skeleton::skeleton_of;
-use mdconstructs_containers::spans::{Span, end_of, start_of, text_end_of};
+use mdconstructs_containers::spans::{RowAt, Span, end_of, start_of, text_end_of};
 use mdconstructs_containers::writing::{
     begun_prefix, enter, exit, going_prefix, item_prefix, quote_prefix, span, white,
 };
-use mdconstructs_lines::containers::Container;
+use mdconstructs_lines::containers::{Container, Prefix};
 use mdconstructs_lines::html::HtmlKind;
 use mdconstructs_lines::kinds::Fence;
+use mdconstructs_turns::Turns;
 use mdtests_base::shown::{at, shown};
 use std::alloc::{AllocError, Global};
+use std::marker::Brand;
+use std::sync::ledger::{Blank, Ledger};
 
 /// A quote that the first line begins.
 const QUOTE: Container = Container {
@@ -91,12 +94,44 @@ const BEGINNING: &[(&[u8], bool, usize, usize)] = &[
     (b"-      a", false, 1, 2),
 ];
 
+/// The containers that begin with a line go to a list, counted from nothing.
+fn begun_from<L: Ledger>(
+    number: usize,
+    in_paragraph: bool,
+    line: &[u8],
+    begun: &mut Vec<Prefix>,
+    blank: Blank,
+) -> Result<usize, AllocError>
+    requires name { blank.name ≡ L.name }
+    requires parts { blank.parts ≡ L.parts }
+    requires some { 0 < blank.parts }
+{
+    let on = Constructs::default();
+    beginning(
+        &on,
+        number,
+        in_paragraph,
+        line,
+        begun,
+        &mut Turns::<L>::new(blank),
+    )
+}
+
+/// The containers that begin with a line go to a list. Returns the columns of their prefixes.
+fn begun_in(
+    number: usize,
+    in_paragraph: bool,
+    line: &[u8],
+    begun: &mut Vec<Prefix>,
+) -> Result<usize, AllocError> {
+    begun_from::<Brand>(number, in_paragraph, line, begun, Blank::new(1))
+}
+
 #[test]
 fn containers_begin_in_lines(rt: HostRuntime) -> Result<(), AllocError> {
-    let on = Constructs::default();
     let mut begun = Vec::new(rt.alloc());
     for (line, in_paragraph, many, want) in BEGINNING {
-        let columns = beginning(&on, 2, *in_paragraph, line, &mut begun)?;
+        let columns = begun_in(2, *in_paragraph, line, &mut begun)?;
         assert_eq!(rt; (begun.len(), columns), (*many, *want));
     }
     Ok(())
@@ -105,14 +140,13 @@ fn containers_begin_in_lines(rt: HostRuntime) -> Result<(), AllocError> {
 /// An item goes on with the list of the item whose place it takes, if both have the same marker (CommonMark, 5.3).
 #[test]
 fn items_with_one_marker_are_a_list(rt: HostRuntime) -> Result<(), AllocError> {
-    let on = Constructs::default();
     let before = [Open {
         container: ITEM,
         list: 7,
     }];
     let mut begun = Vec::new(rt.alloc());
     for (line, list) in [(b"- a", 7), (b"* a", 9), (b"> a", 9)] {
-        beginning(&on, 9, false, line, &mut begun)?;
+        begun_in(9, false, line, &mut begun)?;
         assert_eq!(rt; list_of_first(&before, 9, begun.as_slice()), list);
     }
     Ok(())
@@ -163,18 +197,34 @@ const TRAITS: &[(Leaf, [bool; 3])] = &[
     (Leaf::Html(HtmlKind::AnyTag), [false, true, false]),
 ];
 
+/// The leaf block that may go on behind a line, and whether the line interrupts a paragraph, counted from nothing.
+fn behind_from<L: Ledger>(leaf: Leaf, line: &[u8], blank: Blank) -> (Leaf, bool)
+    requires name { blank.name ≡ L.name }
+    requires parts { blank.parts ≡ L.parts }
+    requires some { 0 < blank.parts }
+{
+    let on = Constructs::default();
+    let mut turns = Turns::<L>::new(blank);
+    let behind = leaf_after(&on, leaf, line, &mut turns);
+    (behind, interrupts_paragraph(&on, line, &mut turns))
+}
+
+/// The leaf block that may go on behind a line, and whether the line interrupts a paragraph.
+fn behind(leaf: Leaf, line: &[u8]) -> (Leaf, bool) {
+    behind_from::<Brand>(leaf, line, Blank::new(1))
+}
+
 #[test]
 fn leaf_blocks_go_on_behind_lines(rt: HostRuntime) {
-    let on = Constructs::default();
     for (leaf, line, want) in LEAVES {
-        assert_eq!(rt; letter_of(leaf_after(&on, *leaf, line)), *want);
+        assert_eq!(rt; letter_of(behind(*leaf, line).0), *want);
     }
     for (leaf, want) in TRAITS {
         let found = [is_paragraph(*leaf), is_raw(*leaf), holds_ending(*leaf)];
         assert_eq!(rt; found, *want);
     }
-    assert!(rt; interrupts_paragraph(&on, b"# a"));
-    assert!(rt; !interrupts_paragraph(&on, b"    # a"));
+    assert!(rt; behind(Leaf::Paragraph, b"# a").1);
+    assert!(rt; !behind(Leaf::Paragraph, b"    # a").1);
 }
 
 /// Appends a line with its containers: how many go on, how many begin, the columns of their prefixes, and what else is true of it.
@@ -193,11 +243,41 @@ fn push_row(text: &mut String, row: &Row) -> Result<(), AllocError> {
     text.push('\n')
 }
 
+/// The lines of a document, and what is known of each from those behind it, of the last one first.
+#[derive(Drop)]
+struct Lines {
+    rows: Vec<RowAt>,
+    aheads: Vec<Ahead>,
+}
+
+/// The lines of a document, counted from nothing.
+fn lines_from<L: Ledger>(alloc: Global, bytes: &[u8], blank: Blank) -> Result<Lines, AllocError>
+    requires name { blank.name ≡ L.name }
+    requires parts { blank.parts ≡ L.parts }
+    requires some { 0 < blank.parts }
+{
+    let mut turns = Turns::<L>::new(blank);
+    let rows = rows_of(
+        alloc,
+        bytes,
+        TabSize::default(),
+        &Constructs::default(),
+        &mut turns,
+    )?;
+    let aheads = aheads_of(alloc, rows.as_slice(), &mut turns)?;
+    Ok(Lines { rows, aheads })
+}
+
+/// The lines of a document.
+fn lines_of(alloc: Global, bytes: &[u8]) -> Result<Lines, AllocError> {
+    lines_from::<Brand>(alloc, bytes, Blank::new(1))
+}
+
 /// The lines of a document with their containers.
 fn lines_shown(alloc: Global, bytes: &[u8]) -> Result<String, AllocError> {
-    let rows = rows_of(alloc, bytes, TabSize::default(), &Constructs::default())?;
+    let lines = lines_of(alloc, bytes)?;
     let mut text = String::new(alloc);
-    for at in &rows {
+    for at in &lines.rows {
         push_row(&mut text, &at.row)?;
     }
     Ok(text)
@@ -229,9 +309,9 @@ fn push_span(text: &mut String, span: Span) -> Result<(), AllocError> {
 
 /// The lines of a document with their places and containers.
 fn rows_shown(alloc: Global, bytes: &[u8]) -> Result<String, AllocError> {
-    let rows = rows_of(alloc, bytes, TabSize::default(), &Constructs::default())?;
+    let lines = lines_of(alloc, bytes)?;
     let mut text = String::new(alloc);
-    for at in &rows {
+    for at in &lines.rows {
         push_span(&mut text, at.span)?;
         push_row(&mut text, &at.row)?;
     }
@@ -257,10 +337,9 @@ fn push_ahead(text: &mut String, ahead: Ahead) -> Result<(), AllocError> {
 
 /// What is known of each line of a document from those behind it, of the last line first.
 fn aheads_shown(alloc: Global, bytes: &[u8]) -> Result<String, AllocError> {
-    let rows = rows_of(alloc, bytes, TabSize::default(), &Constructs::default())?;
-    let aheads = aheads_of(alloc, rows.as_slice())?;
+    let lines = lines_of(alloc, bytes)?;
     let mut text = String::new(alloc);
-    for ahead in &aheads {
+    for ahead in &lines.aheads {
         push_ahead(&mut text, *ahead)?;
     }
     Ok(text)
@@ -302,6 +381,26 @@ fn letters_stand_at_indices(rt: HostRuntime) -> Result<(), AllocError> {
     Ok(())
 }
 
+/// Exits all spans but the outermost, counted from nothing.
+fn exited_from<L: Ledger>(
+    events: &mut Vec<Event>,
+    frames: &mut Vec<Frame>,
+    blank: Blank,
+) -> Result<(), AllocError>
+    requires frames { 1 ≤ length frames.old.items }
+    requires name { blank.name ≡ L.name }
+    requires parts { blank.parts ≡ L.parts }
+    requires some { 0 < blank.parts }
+{
+    exit_frames(
+        events,
+        frames,
+        1,
+        at(1, 6, 5, 0),
+        &mut Turns::<L>::new(blank),
+    )
+}
+
 /// Exits all spans but the outermost, at the end of `> - a`.
 fn exits_shown(alloc: Global) -> Result<String, AllocError> {
     let mut frames = Vec::new(alloc);
@@ -312,7 +411,7 @@ fn exits_shown(alloc: Global) -> Result<String, AllocError> {
         return Err(AllocError);
     }
     let mut events = Vec::new(alloc);
-    exit_frames(&mut events, &mut frames, 1, at(1, 6, 5, 0))?;
+    exited_from::<Brand>(&mut events, &mut frames, Blank::new(1))?;
     let mut text = shown(alloc, events.as_slice())?;
     write!(text, "; {} left", frames.len())?;
     Ok(text)
@@ -343,36 +442,46 @@ fn chunks_are_linked(rt: HostRuntime) -> Result<(), AllocError> {
 }
 
 /// White space, and a span around nothing.
-fn spans_written(events: &mut Vec<Event>) -> Result<(), AllocError> {
+fn spans_written<L: Ledger>(events: &mut Vec<Event>, blank: Blank) -> Result<(), AllocError>
+    requires name { blank.name ≡ L.name }
+    requires parts { blank.parts ≡ L.parts }
+    requires some { 0 < blank.parts }
+{
     let tab = TabSize::default();
-    let place = white(events, b" a", tab, Point::START, 1)?;
+    let mut turns = Turns::<L>::new(blank);
+    let place = white(events, b" a", tab, Point::START, 1, &mut turns)?;
     enter(events, Name::Paragraph, place)?;
-    span(events, b" a", tab, Name::Data, Point::START, 0)?;
+    span(events, b" a", tab, Name::Data, Point::START, 0, &mut turns)?;
     exit(events, Name::Paragraph, place)
 }
 
 #[test]
 fn spans_are_written(rt: HostRuntime) -> Result<(), AllocError> {
     let mut events = Vec::new(rt.alloc());
-    spans_written(&mut events)?;
+    spans_written::<Brand>(&mut events, Blank::new(1))?;
     let want = "SpaceOrTab 1:1 (0+0) to 1:2 (1+0); Paragraph 1:2 (1+0) to 1:2 (1+0)";
     assert_shown(&rt, shown(rt.alloc(), events.as_slice()), want)
 }
 
 /// The prefixes with which a quote begins and goes on, and an item.
-fn prefixes_written(events: &mut Vec<Event>) -> Result<(), AllocError> {
+fn prefixes_written<L: Ledger>(events: &mut Vec<Event>, blank: Blank) -> Result<(), AllocError>
+    requires name { blank.name ≡ L.name }
+    requires parts { blank.parts ≡ L.parts }
+    requires some { 0 < blank.parts }
+{
     let tab = TabSize::default();
-    quote_prefix(events, b">a", tab, Point::START, b">")?;
-    item_prefix(events, b"-", tab, Point::START, 0, b"-")?;
-    begun_prefix(events, b">a", tab, Point::START, &QUOTE, b">")?;
-    going_prefix(events, b" a", tab, Point::START, &ITEM, b" ")?;
+    let mut turns = Turns::<L>::new(blank);
+    quote_prefix(events, b">a", tab, Point::START, b">", &mut turns)?;
+    item_prefix(events, b"-", tab, Point::START, 0, b"-", &mut turns)?;
+    begun_prefix(events, b">a", tab, Point::START, &QUOTE, b">", &mut turns)?;
+    going_prefix(events, b" a", tab, Point::START, &ITEM, b" ", &mut turns)?;
     Ok(())
 }
 
 #[test]
 fn prefixes_are_written(rt: HostRuntime) -> Result<(), AllocError> {
     let mut events = Vec::new(rt.alloc());
-    prefixes_written(&mut events)?;
+    prefixes_written::<Brand>(&mut events, Blank::new(1))?;
     let want =
         "enter BlockQuotePrefix 1:1 (0+0); BlockQuoteMarker 1:1 (0+0) to 1:2 (1+0); exit BlockQuotePrefix 1:2 (1+0); \
         enter ListItemPrefix 1:1 (0+0); ListItemMarker 1:1 (0+0) to 1:2 (1+0); exit ListItemPrefix 1:2 (1+0); \
