@@ -22,7 +22,7 @@ use std::vec::Vec;
 
 /// What a line is asked for.
 #[derive(Clone, Copy)]
-struct Asked {
+struct Answered {
     /// The columns of white space that come first.
     columns: usize,
     /// There is only white space, or nothing.
@@ -44,13 +44,13 @@ struct Asked {
 }
 
 /// What a line is asked for, counted from nothing.
-fn asked_from<L: Ledger>(on: &Constructs, t: &[u8], blank: Blank) -> Asked
+fn asked_from<L: Ledger>(on: &Constructs, t: &[u8], blank: Blank) -> Answered
     requires name { blank.name ≡ L.name }
     requires parts { blank.parts ≡ L.parts }
     requires some { 0 < blank.parts }
 {
     let mut turns = Turns::<L>::new(blank);
-    Asked {
+    Answered {
         columns: indent(t, &mut turns),
         is_blank: is_blank_line(t, &mut turns),
         is_far: is_far(on, t, &mut turns),
@@ -70,7 +70,7 @@ fn asked_from<L: Ledger>(on: &Constructs, t: &[u8], blank: Blank) -> Asked
 }
 
 /// What a line is asked for.
-fn asked(on: &Constructs, t: &[u8]) -> Asked {
+fn asked(on: &Constructs, t: &[u8]) -> Answered {
     asked_from::<Brand>(on, t, Blank::new(1))
 }
 
