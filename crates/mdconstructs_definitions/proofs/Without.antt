@@ -257,7 +257,7 @@ no-definition t h =
     (cond b
     (option_and_then
     (λ n. cond (is_label (take n (drop (from + 1) t)) && begins_with 58 (drop (from + n + 2) t)) (Some (stretch_at from (n + 2))) None)
-    (label_size false false (drop (from + 1) t)))
+    (label_size (drop (from + 1) t)))
     None)) h
 
 rest-whole : (t : List ℕ) → begins_with_bracket t ≡ false → rest t ≡ t

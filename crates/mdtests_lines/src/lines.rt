@@ -81,7 +81,12 @@ fn lines_have_kinds(rt: HostRuntime) {
     assert!(rt; matches!(asked(&on, b"    a").kind, LineKind::Indented));
     assert!(rt; matches!(asked(&on, b"## a").kind, LineKind::Heading));
     assert!(rt; matches!(asked(&on, b"#a").kind, LineKind::Text));
-    assert!(rt; matches!(asked(&on, b"<!-- a").kind, LineKind::Html(HtmlKind::Comment)));
+    assert!(rt;
+        matches!(
+            asked(&on, b"<!-- a").kind,
+            LineKind::Html(HtmlKind::Comment)
+        )
+    );
     assert!(rt; matches!(asked(&on, b"- - -").kind, LineKind::ThematicBreak));
     assert!(rt; matches!(asked(&on, b"===").kind, LineKind::Text));
 }
@@ -159,7 +164,13 @@ fn read_from<L: Ledger>(line: &mut Vec<u8>, bytes: &[u8], blank: Blank) -> Resul
     requires parts { blank.parts ≡ L.parts }
     requires some { 0 < blank.parts }
 {
-    read_line(line, bytes, TabSize::default(), 0, &mut Turns::<L>::new(blank))
+    read_line(
+        line,
+        bytes,
+        TabSize::default(),
+        0,
+        &mut Turns::<L>::new(blank),
+    )
 }
 
 #[test]
@@ -353,7 +364,10 @@ fn bounds(kind: HtmlKind, line: &[u8], last: &[u8]) -> (bool, bool) {
 fn html_begins_and_ends_by_its_kind(rt: HostRuntime) {
     let on = Constructs::default();
     for (line, kind) in HTML {
-        assert_eq!(rt; asked(&on, line).html.map(condition), Some(condition(*kind)));
+        assert_eq!(rt;
+            asked(&on, line).html.map(condition),
+            Some(condition(*kind))
+        );
         let last = last_line(*kind);
         assert_eq!(rt; waits_for_blank(*kind), last.is_empty());
         assert_eq!(rt; bounds(*kind, line, last), (true, !last.is_empty()));

@@ -10,7 +10,7 @@ use Rattle.mdconstructs_definitions.proofs.HeldLemmas.{goes-on-then, next-text, 
 use Rattle.mdconstructs_definitions.proofs.held.hold_lines.Goals as goal
 
 pub loop-at-init : goal.loop-at-init
-loop-at-init g c = record { left = c.requires; text = c.clear.ensures.items; goes_on = refl }
+loop-at-init g c = record { left = c.requires.1; text = c.clear.ensures.items; goes_on = refl }
 
 pub read_line-requires : goal.read_line-requires
 read_line-requires g c =
