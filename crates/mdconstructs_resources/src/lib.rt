@@ -1,0 +1,5 @@
+//! Resources, the tails of links, as a construct of inline text.
+#![tactic(auto)]
+
+pub mod names;
+pub mod resource;
