@@ -50,11 +50,6 @@ title_inside mark bare hidden bs = marked_size (opening mark) mark bare hidden b
 abbrev pub title_from : (mark : ℕ) → Place → List ℕ → Option ℕ
 title_from mark a bs = title_inside mark (is_bare a) (is_hidden a) bs
 
--- the mark is none that is read otherwise
-pub record IsMark (mark : ℕ) : Type 0 where
-  pub feed : (mark == 10) ≡ false
-  pub slash : (mark == 92) ≡ false
-
 or-false-so : (a : Bool) → (a || false) ≡ a
 or-false-so true = refl
 or-false-so false = refl
