@@ -4,13 +4,14 @@ use Rattle.std.specs.List.{between, list_all, prefix_len}
 use Rattle.std.specs.Char.{is_ascii_alphanumeric}
 use Rattle.markdown_base.specs.declared.event.Name.TheVariants.{Autolink, AutolinkMarker, AutolinkEmail}
 use Rattle.mdconstructs_text.specs.Bytes.{is_less_than, is_greater_than, is_one_of, has_byte_at, ends_with}
-use Rattle.mdconstructs_text.specs.Construct.{Found, Grammar}
+use Rattle.mdconstructs_text.specs.Construct.{Found, Grammar, plain}
 use Rattle.mdconstructs_text.specs.Parts.{span, leaf}
 
 -- An email autolink, with the number of bytes between `<` and `>`. Its events: its markers, and its address
 abbrev pub email : (inside : ℕ) → Found
 email inside = record {
   size = inside + 2;
+  mark = plain;
   events = λ bytes seats.
       span bytes Autolink seats
       (leaf bytes AutolinkMarker (take 1 seats)

@@ -4,13 +4,13 @@ use Rattle.std.specs.List.{prefix_len}
 use Rattle.markdown_base.specs.declared.event.Name.TheVariants.{HardBreakEscape, HardBreakTrailing}
 use Rattle.mdconstructs_machines.specs.Breaks.{is_white}
 use Rattle.mdconstructs_text.specs.Bytes.{has_byte_at, is_backslash, is_line_feed, is_space}
-use Rattle.mdconstructs_text.specs.Construct.{Found, Grammar}
+use Rattle.mdconstructs_text.specs.Construct.{Found, Grammar, plain}
 use Rattle.mdconstructs_text.specs.Parts.{leaf}
 
 -- ---- a backslash
 -- A hard break that is a backslash. Its event is the backslash
 abbrev pub hard_break_escape : Found
-hard_break_escape = record { size = 1; events = λ bytes seats. leaf bytes HardBreakEscape seats }
+hard_break_escape = record { size = 1; mark = plain; events = λ bytes seats. leaf bytes HardBreakEscape seats }
 
 -- Hard break: a backslash directly before a line ending
 abbrev pub break_escape_at : List ℕ → Option Found
@@ -27,7 +27,7 @@ trailing_size_min = 2
 
 -- A hard break of this many spaces. Its event is the spaces
 abbrev pub hard_break_trailing : ℕ → Found
-hard_break_trailing n = record { size = n; events = λ bytes seats. leaf bytes HardBreakTrailing seats }
+hard_break_trailing n = record { size = n; mark = plain; events = λ bytes seats. leaf bytes HardBreakTrailing seats }
 
 -- Hard break: two or more spaces directly before a line ending
 abbrev pub trailing_break_at : List ℕ → Option Found

@@ -6,7 +6,7 @@ use Rattle.markdown_base.specs.declared.event.Name.TheVariants.{HtmlText, HtmlTe
 use Rattle.markdown_base.specs.Virtual.{Seat}
 use Rattle.mdconstructs_machines.specs.Breaks.{is_white}
 use Rattle.mdconstructs_text.specs.Bytes.{has_byte_at, is_line_feed}
-use Rattle.mdconstructs_text.specs.Construct.{Found}
+use Rattle.mdconstructs_text.specs.Construct.{Found, plain}
 use Rattle.mdconstructs_text.specs.Parts.{cut, span, leaf}
 
 -- A piece of raw HTML: a line feed with so much white space behind it, or so many other bytes, up to the next line feed
@@ -30,7 +30,7 @@ piece_events bytes (data_run n, seats) = leaf bytes HtmlTextData seats
 
 -- Raw HTML of so many bytes. Its events: its pieces
 abbrev pub html : ℕ → Found
-html n = record { size = n; events = λ bytes seats. span bytes HtmlText seats (flat_map (piece_events bytes) (cut piece_at piece_length (length seats) seats)) }
+html n = record { size = n; mark = plain; events = λ bytes seats. span bytes HtmlText seats (flat_map (piece_events bytes) (cut piece_at piece_length (length seats) seats)) }
 
 -- a blank line begins here: a line feed, white space or none, and a line feed
 abbrev pub begins_blank_line : List ℕ → Bool

@@ -8,7 +8,7 @@ use Rattle.markdown_base.specs.declared.event.Name.TheVariants.{CharacterReferen
 use Rattle.markdown_base.specs.Virtual.{Seat}
 use Rattle.mdconstructs_references.specs.References.{characters_of}
 use Rattle.mdconstructs_text.specs.Bytes.{has_byte_at, is_ampersand, is_one_of}
-use Rattle.mdconstructs_text.specs.Construct.{Found, Grammar}
+use Rattle.mdconstructs_text.specs.Construct.{Found, Grammar, plain}
 use Rattle.mdconstructs_text.specs.Parts.{span, leaf}
 
 -- `#`
@@ -47,6 +47,7 @@ mark_events bytes hexadecimal seats =
 abbrev pub reference : Kind → (value : ℕ) → Found
 reference kind n = record {
   size = marks kind + n + 1;
+  mark = plain;
   events = λ bytes seats.
       span bytes CharacterReference seats
       (mark_events bytes kind seats

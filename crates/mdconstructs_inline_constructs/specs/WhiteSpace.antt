@@ -4,12 +4,12 @@ use Rattle.std.specs.List.{prefix_len}
 use Rattle.markdown_base.specs.declared.event.Name.TheVariants.{SpaceOrTab}
 use Rattle.mdconstructs_machines.specs.Breaks.{is_white}
 use Rattle.mdconstructs_text.specs.Bytes.{has_byte_at, is_line_feed}
-use Rattle.mdconstructs_text.specs.Construct.{Found, Grammar}
+use Rattle.mdconstructs_text.specs.Construct.{Found, Grammar, plain}
 use Rattle.mdconstructs_text.specs.Parts.{leaf}
 
 -- White space of this many bytes. Its event is the white space
 abbrev pub white_space : ℕ → Found
-white_space n = record { size = n; events = λ bytes seats. leaf bytes SpaceOrTab seats }
+white_space n = record { size = n; mark = plain; events = λ bytes seats. leaf bytes SpaceOrTab seats }
 
 -- the line ends at p: a line feed is there, or the text ends
 abbrev pub ends_line_at : (text : List ℕ) → (p : ℕ) → Bool

@@ -1,5 +1,5 @@
 -- Data of inline text by its bytes: how long it is, and the white space that a line ends with behind it.
-use Rattle.mdconstructs_inlines.proofs.Prelude.{◌≡◌, ℕ, suc, ◌+◌, ◌==◌, ◌≤◌, List, [], ◌∷◌, ◌++◌, Bool, true, false, cond, refl, sym, ap, ◌∙◌, arith, length, take, drop, nat_tests, length-drop, prefix_len-le-length, prefix_len, Constructs, Data, is_white, backticks, is_backtick, is_line_feed, item_length, Found, first_plain, leaf, is_white_left, begins_run, data_length, delimiter_run, ends_data_at, line_break, run_length, up_to}
+use Rattle.mdconstructs_inlines.proofs.Prelude.{◌≡◌, ℕ, suc, ◌+◌, ◌==◌, ◌≤◌, List, [], ◌∷◌, ◌++◌, Bool, true, false, cond, refl, sym, ap, ◌∙◌, arith, length, take, drop, nat_tests, length-drop, prefix_len-le-length, prefix_len, Constructs, Data, is_white, backticks, is_backtick, is_line_feed, item_length, Found, first_plain, leaf, is_white_left, begins_run, data_length, delimiter_run, ends_data_at, line_break, run_length, up_to, plain}
 use Rattle.mdconstructs_inlines.proofs.WhiteBytes.{found-size, no_item, over-white, white-ends, white-goes-on, white-last, white-none, white_or, left-behind, run-more}
 
 -- how many bytes come before the end of data is at most how many there are
@@ -17,7 +17,7 @@ module _ (on : Constructs) where
   data_joined text =
       let n = data_length on text in
       let w = white_behind (drop n text) in
-      record { size = n + w.size; events = λ bytes seats. leaf bytes Data (take n seats) ++ w.events bytes (drop n seats) }
+      record { size = n + w.size; mark = plain; events = λ bytes seats. leaf bytes Data (take n seats) ++ w.events bytes (drop n seats) }
 
   -- What is read at once where no construct with a mark is: a run, a line ending with the white space behind it, or data with that behind it
   abbrev pub joined_part : List ℕ → Found

@@ -157,7 +157,7 @@ pub use Rattle.mdconstructs_text.specs.AutolinkRows.{autolink_open, autolink_sch
 pub use Rattle.mdconstructs_text.specs.Bytes.{backticks, has_byte_at, is_backtick, is_line_feed, is_space, passes}
 pub use Rattle.mdconstructs_text.specs.ChainTexts.{chain_text}
 pub use Rattle.mdconstructs_text.specs.CodeSpanRows.{code_spans_are_on, raw_text_after, raw_text_backticks_inside, raw_text_data, raw_text_sequence_close, raw_text_start, sizes_are_equal}
-pub use Rattle.mdconstructs_text.specs.Construct.{Between, Construct, Found, Grammar, between_texts, first_there, grammars_of, if_on, or_else, some_begins, some_first, states_of, tried_at}
+pub use Rattle.mdconstructs_text.specs.Construct.{Between, Construct, Found, Grammar, between_texts, first_there, grammars_of, if_on, or_else, plain, some_begins, some_first, states_of, tried_at}
 pub use Rattle.mdconstructs_text.specs.Escape.{escape, escape_at}
 pub use Rattle.mdconstructs_text.specs.EscapeRows.{escape_inside, escape_start, escapes, escapes_are_on}
 pub use Rattle.mdconstructs_text.specs.Items.{item_length}

@@ -1,6 +1,6 @@
 -- White space in inline text, by its bytes: whether it is spaces alone, what is there of the constructs that begin with it, and how data goes over it.
 use Rattle.std.proofs.lemmas.Bool.{le-leb}
-use Rattle.mdconstructs_inlines.proofs.Prelude.{◌≡◌, ◌⊎◌, inl, inr, ℕ, suc, ◌+◌, ◌&&◌, ◌||◌, not, List, [], ◌∷◌, Bool, true, false, cond, Option, Some, None, refl, sym, ap, ◌∙◌, arith, and-false, nat_tests, drop, prefix_len, nat_le, slice_get, Constructs, EventName, HardBreakTrailing, SpaceOrTab, is_white, has_byte_at, is_line_feed, is_space, passes, Found, first_there, if_on, or_else, item_length, or-none, hard_break_trailing, trailing_break_at, is_white_left, white_space, white_space_at, ends_data_at, up_to, white_grammars}
+use Rattle.mdconstructs_inlines.proofs.Prelude.{◌≡◌, ◌⊎◌, inl, inr, ℕ, suc, ◌+◌, ◌&&◌, ◌||◌, not, List, [], ◌∷◌, Bool, true, false, cond, Option, Some, None, refl, sym, ap, ◌∙◌, arith, and-false, nat_tests, drop, prefix_len, nat_le, slice_get, Constructs, EventName, HardBreakTrailing, SpaceOrTab, is_white, has_byte_at, is_line_feed, is_space, passes, Found, first_there, if_on, or_else, item_length, or-none, hard_break_trailing, trailing_break_at, is_white_left, white_space, white_space_at, ends_data_at, up_to, white_grammars, plain}
 use Rattle.mdconstructs_inlines.proofs.InlineApart.{white-plain}
 
 -- What white space was read: one space, more spaces, or some with a tab
@@ -125,7 +125,7 @@ found-size false n = refl
 
 -- nothing: no bytes, and no events
 abbrev pub no_item : Found
-no_item = record { size = 0; events = λ bytes seats. [] }
+no_item = record { size = 0; mark = plain; events = λ bytes seats. [] }
 
 picked-so : (x y z : Bool) (n : ℕ) → or_else (if_on z (cond (x && y) (Some (hard_break_trailing n)) None)) (white_space n) ≡ found_white (x && (y && z)) n
 picked-so true true true n = refl

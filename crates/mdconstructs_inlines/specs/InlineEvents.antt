@@ -12,7 +12,7 @@ use Rattle.mdconstructs_attention.specs.Runs.{with_emphasis}
 use Rattle.mdconstructs_text.specs.Autolink.{autolink_grammar}
 use Rattle.mdconstructs_text.specs.Bytes.{has_byte_at, is_line_feed}
 use Rattle.mdconstructs_text.specs.CodeSpan.{code_span_grammar}
-use Rattle.mdconstructs_text.specs.Construct.{Found, Grammar, first_there, some_first}
+use Rattle.mdconstructs_text.specs.Construct.{Found, Grammar, first_there, some_first, plain}
 use Rattle.mdconstructs_text.specs.Escape.{escape_grammar}
 use Rattle.mdconstructs_text.specs.Items.{item_length}
 use Rattle.mdconstructs_text.specs.Parts.{bytes_of, cut, first_plain, leaf}
@@ -45,15 +45,15 @@ run_length (b ∷ bs) = 1 + prefix_len (λ c. c == b) bs
 
 -- A delimiter run of this many bytes. Its events: an attention sequence
 abbrev pub delimiter_run : ℕ → Found
-delimiter_run n = record { size = n; events = λ bytes seats. leaf bytes AttentionSequence seats }
+delimiter_run n = record { size = n; mark = plain; events = λ bytes seats. leaf bytes AttentionSequence seats }
 
 -- A line ending, with this many bytes of white space behind it. Its events: both
 abbrev pub line_break : (white : ℕ) → Found
-line_break n = record { size = 1 + n; events = λ bytes seats. leaf bytes LineEnding (take 1 seats) ++ leaf bytes SpaceOrTab (drop 1 seats) }
+line_break n = record { size = 1 + n; mark = plain; events = λ bytes seats. leaf bytes LineEnding (take 1 seats) ++ leaf bytes SpaceOrTab (drop 1 seats) }
 
 -- Data of this many bytes
 abbrev pub data_run : ℕ → Found
-data_run n = record { size = n; events = λ bytes seats. leaf bytes Data seats }
+data_run n = record { size = n; mark = plain; events = λ bytes seats. leaf bytes Data seats }
 
 -- how many bytes come before the first place at which a test of what is left holds
 abbrev pub up_to : (List ℕ → Bool) → List ℕ → ℕ

@@ -12,7 +12,7 @@ use Rattle.mdconstructs_labels.specs.Definitions.{end}
 use Rattle.mdconstructs_labels.specs.Resources.{resource_at}
 use Rattle.mdconstructs_labels.specs.Tails.{begins_with, is_white}
 use Rattle.mdconstructs_text.specs.Bytes.{has_byte_at, is_line_feed}
-use Rattle.mdconstructs_text.specs.Construct.{Found, Grammar}
+use Rattle.mdconstructs_text.specs.Construct.{Found, Grammar, plain}
 use Rattle.mdconstructs_text.specs.Parts.{Part, line_ending, plain_run, part_length, part_events, bytes_of, cut, span, leaf}
 
 -- `(`
@@ -79,6 +79,7 @@ module _ (bytes : List ℕ) where
 abbrev pub resource : Parts → Found
 resource r = record {
   size = r.size;
+  mark = plain;
   events = λ bytes seats. in_marks bytes Resource ResourceMarker (in_resource bytes r.destination r.title (r.size - 1) seats) seats;
 }
 

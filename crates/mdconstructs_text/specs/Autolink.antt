@@ -4,13 +4,14 @@ use Rattle.std.specs.List.{between, list_all, prefix_len}
 use Rattle.std.specs.Char.{is_ascii_alphabetic, is_ascii_alphanumeric, is_ascii_control}
 use Rattle.markdown_base.specs.declared.event.Name.TheVariants.{Autolink, AutolinkMarker, AutolinkProtocol}
 use Rattle.mdconstructs_text.specs.Bytes.{is_less_than, is_greater_than, is_colon, is_one_of, is_scheme_mark, has_byte_at}
-use Rattle.mdconstructs_text.specs.Construct.{Found, Grammar}
+use Rattle.mdconstructs_text.specs.Construct.{Found, Grammar, plain}
 use Rattle.mdconstructs_text.specs.Parts.{span, leaf}
 
 -- An autolink, with the number of bytes between `<` and `>`. Its events: its markers, and its URI
 abbrev pub autolink : (inside : ℕ) → Found
 autolink inside = record {
   size = inside + 2;
+  mark = plain;
   events = λ bytes seats.
       span bytes Autolink seats
       (leaf bytes AutolinkMarker (take 1 seats)

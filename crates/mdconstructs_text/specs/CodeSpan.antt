@@ -4,7 +4,7 @@ use Rattle.std.specs.List.{between, flat_map, range_with_len}
 use Rattle.markdown_base.specs.declared.event.Name.TheVariants.{CodeText, CodeTextSequence, CodeTextData}
 use Rattle.markdown_base.specs.Virtual.{Seat}
 use Rattle.mdconstructs_text.specs.Bytes.{is_line_feed, is_backtick, backticks, has_byte_at, ends_with}
-use Rattle.mdconstructs_text.specs.Construct.{Found, Grammar}
+use Rattle.mdconstructs_text.specs.Construct.{Found, Grammar, plain}
 use Rattle.mdconstructs_text.specs.Parts.{Part, part_length, part_at, part_events, cut, span, leaf}
 
 -- the bytes that end data in a code span
@@ -20,6 +20,7 @@ pieces seats = cut (part_at is_backtick_or_line_feed) part_length (length seats)
 abbrev pub code_span : (backticks inside : ℕ) → Found
 code_span backticks inside = record {
   size = backticks + inside + backticks;
+  mark = plain;
   events = λ bytes seats.
       span bytes CodeText seats
       (leaf bytes CodeTextSequence (take backticks seats)

@@ -14,9 +14,19 @@ use Rattle.markdown_tokenizer.specs.Sight.{Sight}
 use Rattle.markdown_tokenizer.specs.Text.{Given}
 use Rattle.mdconstructs_tables.specs.Rows.{enter, exit, consume, choose, a_choice, Rows, row, when, StateRows}
 
--- What is found at the front of a text: how many bytes it has, and its events, by the bytes of the document and the virtual bytes of it
+-- What is found does with the brackets that wait before it (CommonMark 0.31, "A parsing strategy"): nothing; it is one, of an image or of a link,
+-- and waits; a link or an image is made of the last one; or the last one is taken away, and nothing is made
+pub data BracketMark : Type 0 where
+  plain : BracketMark
+  opens : (image : Bool) → BracketMark
+  makes : BracketMark
+  fails : BracketMark
+
+-- What is found at the front of a text: how many bytes it has, what it does with brackets, and its events, by the bytes of the document and the
+-- virtual bytes of it
 pub record Found : Type 0 where
   pub size : ℕ
+  pub mark : BracketMark
   pub events : (bytes : List ℕ) → List Seat → List Event
 
 -- What a construct is: the bytes at which it may begin, the option that has it on, and what is there of it at the front of a text, if it is

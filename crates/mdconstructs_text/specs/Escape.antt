@@ -3,13 +3,14 @@ use Rattle.std.specs.Prelude.{ℕ, ◌&&◌, cond, List, ◌++◌, take, drop, O
 use Rattle.std.specs.Char.{is_ascii_punctuation}
 use Rattle.markdown_base.specs.declared.event.Name.TheVariants.{CharacterEscape, CharacterEscapeMarker, CharacterEscapeValue}
 use Rattle.mdconstructs_text.specs.Bytes.{is_backslash, has_byte_at}
-use Rattle.mdconstructs_text.specs.Construct.{Found, Grammar}
+use Rattle.mdconstructs_text.specs.Construct.{Found, Grammar, plain}
 use Rattle.mdconstructs_text.specs.Parts.{span, leaf}
 
 -- A backslash escape. Its events: its marker, and the character that is escaped
 abbrev pub escape : Found
 escape = record {
   size = 2;
+  mark = plain;
   events = λ bytes seats. span bytes CharacterEscape seats (leaf bytes CharacterEscapeMarker (take 1 seats) ++ leaf bytes CharacterEscapeValue (drop 1 seats));
 }
 

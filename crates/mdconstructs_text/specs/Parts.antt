@@ -7,7 +7,7 @@ use Rattle.markdown_base.specs.declared.event.Name.TheVariants.{Data, LineEnding
 use Rattle.markdown_base.specs.Virtual.{Seat}
 pub use Rattle.mdconstructs_machines.specs.Spans.{event, span, leaf}
 use Rattle.mdconstructs_text.specs.Bytes.{has_byte_at, is_line_feed, backticks}
-use Rattle.mdconstructs_text.specs.Construct.{Found}
+use Rattle.mdconstructs_text.specs.Construct.{Found, plain}
 
 -- the bytes of seats
 abbrev pub bytes_of : List Seat → List ℕ
@@ -60,4 +60,4 @@ module _ (bytes : List ℕ) where
 
 -- what is found where no construct is there: a line ending, or data
 abbrev pub part : Part → Found
-part p = record { size = part_length p; events = λ bytes seats. part_events bytes Data (p, seats) }
+part p = record { size = part_length p; mark = plain; events = λ bytes seats. part_events bytes Data (p, seats) }

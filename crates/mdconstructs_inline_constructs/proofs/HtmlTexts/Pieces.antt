@@ -18,7 +18,7 @@ one-passes-more test [] s all h = (h, tt)
 one-passes-more test (x ∷ xs) s all h = (all.0, one-passes-more test xs s all.1 h)
 
 -- so the run at the front is all of these
-run-is : (test : ℕ → Bool) (d y : List Seat) → AllPass test d → StopsAt test y → prefix_len test (bytes_of (d ++ y)) ≡ length d
+pub run-is : (test : ℕ → Bool) (d y : List Seat) → AllPass test d → StopsAt test y → prefix_len test (bytes_of (d ++ y)) ≡ length d
 run-is test [] [] all stops = refl
 run-is test [] (s ∷ ss) all stops = ap (λ t. cond t (1 + prefix_len test (bytes_of ss)) 0) stops
 run-is test (x ∷ xs) y all stops =

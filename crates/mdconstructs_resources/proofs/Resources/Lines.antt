@@ -2,14 +2,7 @@
 use Rattle.mdconstructs_resources.proofs.Prelude.{◌≡◌, ℕ, zero, suc, ◌+◌, ◌<◌, ◌==◌, not, List, [], ◌∷◌, ◌++◌, Bool, true, false, cond, take, drop, length, refl, ap, ◌∙◌, arith, one-add, flat_map, prefix_len, take_at, drop_at, Data, LineEnding, Seat, bytes_of, leaf, cut-enough, drop-less}
 use Rattle.mdconstructs_text.specs.Parts.{Part, line_ending, part_events, part_length, plain_run}
 use Rattle.mdconstructs_resources.specs.Resource.{is_of_line, line_part, string_events}
-use Rattle.mdconstructs_inline_constructs.proofs.HtmlTexts.Pieces.{AllPass, StopsAt}
-
--- the run at the front is all of these
-run-is : (test : ℕ → Bool) (d y : List Seat) → AllPass test d → StopsAt test y → prefix_len test (bytes_of (d ++ y)) ≡ length d
-run-is test [] [] all stops = refl
-run-is test [] (s ∷ ss) all stops = ap (λ t. cond t (1 + prefix_len test (bytes_of ss)) 0) stops
-run-is test (x ∷ xs) y all stops =
-    ap (λ t. cond t (1 + prefix_len test (bytes_of (xs ++ y))) 0) all.0 ∙ ap (λ n. 1 + n) (run-is test xs y all.1 stops) ∙ one-add (length xs)
+use Rattle.mdconstructs_inline_constructs.proofs.HtmlTexts.Pieces.{AllPass, StopsAt, run-is}
 
 -- each part is a byte at least
 pub part-positive : (b : ℕ) (bs : List ℕ) → 0 < part_length (line_part (b ∷ bs))
