@@ -39,7 +39,7 @@ columns_parts [] (suc i) = omega arith
 columns_parts (x ∷ xs) zero = omega arith
 columns_parts (x ∷ xs) (suc i) = let more = columns_parts xs i in omega (arith, more)
 
-columns_none : (k : ℕ) → columns_in (take k []) ≡ 0
+pub columns_none : (k : ℕ) → columns_in (take k []) ≡ 0
 columns_none zero = refl
 columns_none (suc k) = refl
 
@@ -63,17 +63,17 @@ many_columns (x ∷ xs) = let more = many_columns xs in omega (arith, more)
 
 -- ---- lines of the virtual text
 
-abbrev total : List (List Seat) → ℕ
+abbrev pub total : List (List Seat) → ℕ
 total ls = sum_by (λ (l : List Seat). length l) ls
 
-joined_total : (s : Seat) (ls : List (List Seat)) → total (joined s ls) ≡ suc (total ls)
+pub joined_total : (s : Seat) (ls : List (List Seat)) → total (joined s ls) ≡ suc (total ls)
 joined_total s [] = sum_by-cons (λ (l : List Seat). length l) (s ∷ []) [] ∙ omega arith
 joined_total s (l ∷ ls) =
     let one : total ((s ∷ l) ∷ ls) ≡ length (s ∷ l) + total ls = sum_by-cons (λ (l : List Seat). length l) (s ∷ l) ls in
     let all : total (l ∷ ls) ≡ length l + total ls = sum_by-cons (λ (l : List Seat). length l) l ls in
     omega (arith, one, all)
 
-lines_total : (ss : List Seat) → total (lines_in ss) ≡ length ss
+pub lines_total : (ss : List Seat) → total (lines_in ss) ≡ length ss
 lines_total [] = refl
 lines_total (s ∷ ss) = by (is_line_ending s) (lines_total ss)
   where
@@ -83,11 +83,11 @@ lines_total (s ∷ ss) = by (is_line_ending s) (lines_total ss)
         omega (arith, one, more)
     by false more = let one = joined_total s (lines_in ss) in omega (arith, one, more)
 
-ending_length : (line column index size : ℕ) → 0 < size → length (ending_seats line column index size) ≡ 1
+pub ending_length : (line column index size : ℕ) → 0 < size → length (ending_seats line column index size) ≡ 1
 ending_length line column index zero h = absurd (omega (arith, h))
 ending_length line column index (suc k) h = refl
 
-no_ending : (bs : List ℕ) → ending_size bs ≡ 0 → length bs ≡ 0
+pub no_ending : (bs : List ℕ) → ending_size bs ≡ 0 → length bs ≡ 0
 no_ending [] e = refl
 no_ending (b ∷ bs) e = absurd (let some : 1 ≤ ending_size (b ∷ bs) = by ((b == 13) && begins_with_lf bs) (ending_size (b ∷ bs)) refl in omega (arith, some, e))
   where
@@ -97,10 +97,10 @@ no_ending (b ∷ bs) e = absurd (let some : 1 ≤ ending_size (b ∷ bs) = by ((
 
 module _ (t : ℕ) (bytes : List ℕ) (some : 0 < t) where
   -- the virtual bytes from the beginning of a line on
-  abbrev left : (number start : ℕ) → ℕ
+  abbrev pub left : (number start : ℕ) → ℕ
   left number start = length (virtual_from t number 1 start (drop start bytes))
 
-  line_left : (number start next : ℕ) → start < length bytes → next ≡ start + line_length (drop start bytes)
+  pub line_left : (number start next : ℕ) → start < length bytes → next ≡ start + line_length (drop start bytes)
       → left number start ≡ length (line_bytes t number 1 start (drop start bytes)) + (length (ending_seats number (1 + length (text_seats t number start (drop start bytes))) (start + prefix_len is_in_line (drop start bytes)) (ending_size (drop (prefix_len is_in_line (drop start bytes)) (drop start bytes)))) + left (suc number) next)
   line_left number start next h e =
       let rest = drop start bytes in
@@ -115,7 +115,7 @@ module _ (t : ℕ) (bytes : List ℕ) (some : 0 < t) where
       let same : length behind ≡ left (suc number) next = ap (λ (l : List Seat). length l) ((λ k. virtual_from t (suc number) 1 (start + n) (drop-drop n start bytes k)) ∙ (λ k. virtual_from t (suc number) 1 (sym e k) (drop (sym e k) bytes))) in
       omega (arith, all, whole, more, parts, text, same)
 
-  columns_left : (number start stop : ℕ) (xs : List RowAt) → ArePlaced t bytes number start xs stop → columns_in xs + left (number + length xs) stop ≤ left number start + (1 - (length bytes - stop))
+  pub columns_left : (number start stop : ℕ) (xs : List RowAt) → ArePlaced t bytes number start xs stop → columns_in xs + left (number + length xs) stop ≤ left number start + (1 - (length bytes - stop))
   columns_left number start stop [] p =
       let same : left (number + 0) stop ≡ left number start = (λ k. left (plain k) (sym p k)) in
       omega (arith, same)

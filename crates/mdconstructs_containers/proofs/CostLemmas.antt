@@ -38,7 +38,7 @@ began_sizes n (quote line ∷ cs) h = (tt, began_sizes n cs h.1)
 began_sizes n (item i ∷ cs) h = (h.0.1.sized, began_sizes n cs h.1)
 
 -- a container goes on with a column, if one is left
-some_size : (c : Container) (number : ℕ) (t : List ℕ) (n : ℕ) → HasSize c → 0 < length t → goes_on c number t ≡ Some n → 1 ≤ n
+pub some_size : (c : Container) (number : ℕ) (t : List ℕ) (n : ℕ) → HasSize c → 0 < length t → goes_on c number t ≡ Some n → 1 ≤ n
 some_size (quote line) number t n s h e = by (nat_le (indent t) 3 && begins_with 62 (unindented t)) e
   where
     by : (a : Bool) → cond a (Some (quote_size t)) None ≡ Some n → 1 ≤ n
@@ -82,10 +82,10 @@ sizes_few (p ∷ ps) h =
 -- ---- lines
 
 -- no paragraph goes on behind a blank line
-blank_kind : (on : Constructs) (t : List ℕ) → is_blank_line t ≡ true → line_kind on t ≡ blank
+pub blank_kind : (on : Constructs) (t : List ℕ) → is_blank_line t ≡ true → line_kind on t ≡ blank
 blank_kind on t h = ap (λ x. cond x blank (cond (is_far on t) indented (kind_of_rest on (indent t) (unindented t)))) h
 
-blank_leaf : (on : Constructs) (leaf : Leaf) (t : List ℕ) → is_blank_line t ≡ true → is_paragraph (leaf_after on leaf t) ≡ false
+pub blank_leaf : (on : Constructs) (leaf : Leaf) (t : List ℕ) → is_blank_line t ≡ true → is_paragraph (leaf_after on leaf t) ≡ false
 blank_leaf on closed t h = ap (λ k. is_paragraph (opened_by on k t)) (blank_kind on t h)
 blank_leaf on open_paragraph t h =
     (λ i. is_paragraph (cond (is_some (underline_rank on t)) closed (cond (interrupts (blank_kind on t h i)) (opened_by on (blank_kind on t h i) t) open_paragraph))) ∙ by (is_some (underline_rank on t))
@@ -105,7 +105,7 @@ blank_leaf on (open_html kind) t h = by (cond (waits_for_blank kind) (is_blank_l
     by false = refl
 
 module _ (on : Constructs) (b : Before) (n : ℕ) (line : Line) where
-  abbrev r : Row
+  abbrev pub r : Row
   r = row_of on b n line
 
   pub blank_not_lazy : r.is_blank ≡ true → r.is_lazy ≡ false
@@ -118,14 +118,14 @@ module _ (on : Constructs) (b : Before) (n : ℕ) (line : Line) where
       by true true true true e = refl
       by true true true false e = absurd (false≢true e)
 
-  not_lazy : is_paragraph b.leaf ≡ false → r.is_lazy ≡ false
+  pub not_lazy : is_paragraph b.leaf ≡ false → r.is_lazy ≡ false
   not_lazy h = by r.is_lazy refl
     where
       by : (x : Bool) → r.is_lazy ≡ x → r.is_lazy ≡ false
       by true e = absurd (false≢true (sym h ∙ (lazy_is on b n line e).1))
       by false e = e
 
-  leaf_behind : r.is_blank ≡ true → is_paragraph (known_after on b r).leaf ≡ false
+  pub leaf_behind : r.is_blank ≡ true → is_paragraph (known_after on b r).leaf ≡ false
   leaf_behind h = by r.is_left_blank r.is_lazy r.stays (blank_not_lazy h)
     where
       rest : List ℕ
@@ -138,7 +138,7 @@ module _ (on : Constructs) (b : Before) (n : ℕ) (line : Line) where
       by false true stays e = absurd (false≢true (sym e))
       by false false stays e = blank_leaf on (cond stays b.leaf closed) rest h
 
-  depth_behind : is_bare r ≡ true → (known_after on b r).depth ≡ length r.went_on
+  pub depth_behind : is_bare r ≡ true → (known_after on b r).depth ≡ length r.went_on
   depth_behind h = by r.is_left_blank r.is_lazy (blank_not_lazy (and-left r.is_blank (has_none r.begun) h))
     where
       size : length (containers_of r.went_on ++ containers_of r.begun) ≡ length r.went_on
@@ -181,7 +181,7 @@ module _ (on : Constructs) (b : Before) (n : ℕ) (line : Line) where
       not_left e true q = absurd (false≢true (sym (blank_not_lazy (left_is on b n line q).0) ∙ e))
       not_left e false q = q
 
-follows : (on : Constructs) (b : Before) (n : ℕ) (l : Line) (ls : List Line) → Follows (row_of on b n l) (rows_from on (known_after on b (row_of on b n l)) (suc n) ls)
+pub follows : (on : Constructs) (b : Before) (n : ℕ) (l : Line) (ls : List Line) → Follows (row_of on b n l) (rows_from on (known_after on b (row_of on b n l)) (suc n) ls)
 follows on b n l [] = tt
 follows on b n l (m ∷ ms) =
     let next = known_after on b (row_of on b n l) in (
@@ -189,7 +189,7 @@ follows on b n l (m ∷ ms) =
       (λ h. let few = (went_within on next (suc n) m).0 in let depth = depth_behind on b n l h in omega (arith, few, depth)),
     )
 
-rows_paid : (on : Constructs) (b : Before) (n : ℕ) (ls : List Line) → AllByRecursion (BeganBefore n) b.stack → ArePaid (rows_from on b n ls)
+pub rows_paid : (on : Constructs) (b : Before) (n : ℕ) (ls : List Line) → AllByRecursion (BeganBefore n) b.stack → ArePaid (rows_from on b n ls)
 rows_paid on b n [] h = tt
 rows_paid on b n (l ∷ ls) h = (is_paid on b n l (began_sizes n b.stack h), follows on b n l ls, rows_paid on (known_after on b (row_of on b n l)) (suc n) ls (old_after on b n l h))
 
@@ -248,10 +248,10 @@ module _ (asked from to opens all m : ℕ) (is : (opens ≤ asked) ⊎ ((asked �
 module _ (budget t0 t1 t2 t3 t4 sc fl asked w k st b many size : ℕ) (start : t0 + (fl + (sc + (asked + 4 * (asked - sc)))) ≤ budget) (one : t1 + w ≤ t0 + sc) (two : t2 ≤ t1 + b) (four : t4 + k ≤ t3 + w) (least_w : min sc many ≤ w) (least_k : min w st ≤ k) where
   -- behind a bare line
   module _ (none : b ≡ 0) (three : t3 + st ≤ t2 + asked) (below : st ≤ asked) (front : st ≤ many) where
-    entered : st - k ≤ asked - sc
+    pub entered : st - k ≤ asked - sc
     entered = omega (arith, least_w, least_k, below, front)
 
-    to_fourth : t4 + (k + st) ≤ t0 + (sc + asked)
+    pub to_fourth : t4 + (k + st) ≤ t0 + (sc + asked)
     to_fourth = omega (arith, one, two, three, four, none)
 
     pub bare_turned : (t5 : ℕ) → t5 ≤ t4 + fl + (st - k) → t5 ≤ budget
@@ -328,12 +328,12 @@ begun_paid on number in_paragraph t rest at columns t0 t1 t2 (Some p) er ec one 
 
 -- ---- spans
 
-spans_few : (cs : List Container) → length (flat_map frames_of cs) ≤ 2 * length cs
+pub spans_few : (cs : List Container) → length (flat_map frames_of cs) ≤ 2 * length cs
 spans_few [] = omega arith
 spans_few (quote line ∷ cs) = let more = spans_few cs in let one : length (flat_map frames_of (quote line ∷ cs)) ≡ suc (length (flat_map frames_of cs)) = refl in omega (arith, more, one)
 spans_few (item i ∷ cs) = let more = spans_few cs in let one : length (flat_map frames_of (item i ∷ cs)) ≡ suc (suc (length (flat_map frames_of cs))) = refl in omega (arith, more, one)
 
-list_few : (o : Option CodeFrame) → length (frames_in o) ≤ 1
+pub list_few : (o : Option CodeFrame) → length (frames_in o) ≤ 1
 list_few None = omega arith
 list_few (Some f) = omega arith
 
@@ -375,7 +375,7 @@ over_begun false false true o m x n e f h le = absurd (false≢true (sym h))
 over_begun false false false o m x n e f h le = le
 
 -- what a line costs, and what is kept over behind it
-next_in_numbers : (left lazy none : Bool) (t0 t1 t2 t3 o ro now going many nb len : ℕ) → t1 ≤ t0 + 4 * len + 2 → t2 + ro ≤ t1 + o + 142 * len + 1649 → (going < len → t2 ≤ t1 + 142 * len + 1649) → t3 ≤ t2 + nb → nb ≤ len
+pub next_in_numbers : (left lazy none : Bool) (t0 t1 t2 t3 o ro now going many nb len : ℕ) → t1 ≤ t0 + 4 * len + 2 → t2 + ro ≤ t1 + o + 142 * len + 1649 → (going < len → t2 ≤ t1 + 142 * len + 1649) → t3 ≤ t2 + nb → nb ≤ len
     → now ≤ cond left ro (cond lazy o (cond none ro (many + nb))) → (lazy ≡ true → going < len) → (none ≡ false → many + nb ≤ len) → t3 + now ≤ t0 + o + 148 * len + 1651
 next_in_numbers true lazy none t0 t1 t2 t3 o ro now going many nb len a b full c d e f g = omega (arith, a, b, c, d, e)
 next_in_numbers false true none t0 t1 t2 t3 o ro now going many nb len a b full c d e f g = let plain = full (f refl) in omega (arith, a, plain, c, d, e)
@@ -383,7 +383,7 @@ next_in_numbers false false true t0 t1 t2 t3 o ro now going many nb len a b full
 next_in_numbers false false false t0 t1 t2 t3 o ro now going many nb len a b full c d e f g = let begun = g refl in omega (arith, a, b, c, d, e, begun)
 
 module _ (on : Constructs) (b : Before) (n : ℕ) (line : Line) (sizes : HaveSizes b.stack) (row : CodeRow) (is : IsRow n row (row_of on b n line)) where
-  begun_is : length row.begun.items ≡ length (row_of on b n line).begun
+  pub begun_is : length row.begun.items ≡ length (row_of on b n line).begun
   begun_is = sym (begun_length row.list n row.begun.items) ∙ ap (λ (l : List Prefix). length l) is.begun
     where
       begun_length : (list number : ℕ) (xs : List CodePrefix) → length (begun_of list number xs) ≡ length xs
@@ -393,7 +393,7 @@ module _ (on : Constructs) (b : Before) (n : ℕ) (line : Line) (sizes : HaveSiz
   pub next_begun : length row.begun.items ≤ length (text_of line)
   next_begun = let few = sizes_few (row_of on b n line).begun (begun_sizes on b n line) in let within = columns_within on b n line in let same = begun_is in omega (arith, few, within, same)
 
-  lazy_left : row.is_lazy ≡ true → row.going < length (text_of line)
+  pub lazy_left : row.is_lazy ≡ true → row.going < length (text_of line)
   lazy_left e = by (cases_lt (columns_of (row_of on b n line).went_on) (length (text_of line)))
     where
       lazy : (row_of on b n line).is_lazy ≡ true
@@ -406,7 +406,7 @@ module _ (on : Constructs) (b : Before) (n : ℕ) (line : Line) (sizes : HaveSiz
           let nothing : (row_of on b n line).is_blank ≡ true = ap is_blank_line (drop_all (row_of on b n line).columns (text_of line) (omega (arith, all, sum))) in
           absurd (false≢true (sym (blank_not_lazy on b n line nothing) ∙ lazy))
 
-  some_begun : has_none row.begun.items ≡ false → row.many + length row.begun.items ≤ length (text_of line)
+  pub some_begun : has_none row.begun.items ≡ false → row.many + length row.begun.items ≤ length (text_of line)
   some_begun e =
       let paid = (is_paid on b n line sizes).columns (by (row_of on b n line).is_blank (row_of on b n line).begun (omega (arith, some row.begun.items e, begun_is))) in
       let within = columns_within on b n line in

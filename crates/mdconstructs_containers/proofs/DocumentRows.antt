@@ -44,7 +44,7 @@ text_of_line_at t line index bs =
     let at = index + prefix_len is_in_line bs in
     ap (map (λ (s : Seat). s.byte)) (filter_front seats (ending_seats line column at size) ∙ ap (λ (l : List Seat). text ++ l) (ending_is_none line column at size) ∙ append-nil text)
 
-one_or_two : (y : Bool) → 0 < 0 + cond y 2 1
+pub one_or_two : (y : Bool) → 0 < 0 + cond y 2 1
 one_or_two true = omega arith
 one_or_two false = omega arith
 
@@ -63,7 +63,7 @@ pub record AreRowsBefore (xs : List RowAt) (rest all : List Row) : Type 0 where
   pub is : AreRows xs front
   pub same : all ≡ front ++ rest
 
-are_rows_push : (xs : List RowAt) (x : RowAt) (rs : List Row) (r : Row) → AreRows xs rs → IsRow x.span.number x.row r → AreRows (xs ++ x ∷ []) (rs ++ r ∷ [])
+pub are_rows_push : (xs : List RowAt) (x : RowAt) (rs : List Row) (r : Row) → AreRows xs rs → IsRow x.span.number x.row r → AreRows (xs ++ x ∷ []) (rs ++ r ∷ [])
 are_rows_push [] x [] r h i = (i, tt)
 are_rows_push [] x (s ∷ rs) r h i = absurd h
 are_rows_push (y ∷ ys) x [] r h i = absurd h
@@ -73,7 +73,7 @@ pub rows_push : (xs ys : List RowAt) (x : RowAt) (row : Row) (rest all : List Ro
 rows_push xs ys x row rest all e w i =
     subst (λ (l : List RowAt). AreRowsBefore l rest all) (sym e) (record { front = w.front ++ row ∷ []; is = are_rows_push xs x w.front row w.is i; same = w.same ∙ sym (append_assoc w.front (row ∷ []) rest) })
 
-are_rows_end : (xs : List RowAt) (rest all : List Row) → rest ≡ [] → AreRowsBefore xs rest all → AreRows xs all
+pub are_rows_end : (xs : List RowAt) (rest all : List Row) → rest ≡ [] → AreRowsBefore xs rest all → AreRows xs all
 are_rows_end xs rest all e w = subst (AreRows xs) (sym (w.same ∙ ap (λ (l : List Row). w.front ++ l) e ∙ append-nil w.front)) w.is
 
 module _ (on : Constructs) (t : ℕ) (bytes : List ℕ) where

@@ -62,14 +62,14 @@ module _ (t : ℕ) (bytes : List ℕ) (some : 0 < t) (limit : t * length bytes +
       (let on = next_more bytes start y.span.next are.0.placed.inside (next_is bytes start y.span.end y.span.next are.0.placed.end_is are.0.placed.next_is) in omega (arith, on, few))
 
   module _ (x : RowAt) (r : Row) (is : IsSome x r) where
-    first_at : Point
+    pub first_at : Point
     first_at = point is.number 1 is.start 0
 
-    whole_run : (held : Bool) → Run bytes (point is.number 1 is.start 0) (end_at held x) (cond held r.line (line_text r.line))
+    pub whole_run : (held : Bool) → Run bytes (point is.number 1 is.start 0) (end_at held x) (cond held r.line (line_text r.line))
     whole_run held = row_run t bytes some limit is.stack is.number is.start x r is.row is.outside held 0 (omega arith)
 
     -- a line begins where it is shown
-    begin_first : shown bytes (begin_of r.line) ≡ point is.number 1 is.start 0
+    pub begin_first : shown bytes (begin_of r.line) ≡ point is.number 1 is.start 0
     begin_first = by r.line (whole_run true)
       where
         further : is.start < x.span.next
@@ -131,7 +131,7 @@ HaveColumns [] = Unit {0}
 HaveColumns (p ∷ ps) = (0 < p.size) × HaveColumns ps
 
 module _ (bytes : List ℕ) where
-  plain_enters : (c : Container) (p : Point) → NoChunk (enters_of bytes c p)
+  pub plain_enters : (c : Container) (p : Point) → NoChunk (enters_of bytes c p)
   plain_enters (quote line) p = tt
   plain_enters (item i) p = by (i.list == i.line)
     where
@@ -139,7 +139,7 @@ module _ (bytes : List ℕ) where
       by true = tt
       by false = tt
 
-  plain_begun_one : (c : Container) (ss : List Seat) → NoChunk (begun_marks bytes c ss)
+  pub plain_begun_one : (c : Container) (ss : List Seat) → NoChunk (begun_marks bytes c ss)
   plain_begun_one (quote line) ss = plain_going bytes (quote line) ss
   plain_begun_one (item i) ss =
       let n = indent (bytes_of ss) in
@@ -151,7 +151,7 @@ module _ (bytes : List ℕ) where
   plain_begun [] ss = tt
   plain_begun (p ∷ ps) ss = plain_append (enters_of bytes p.container (begin_of ss)) _ (plain_enters p.container (begin_of ss)) (plain_append (begun_marks bytes p.container (take p.size ss)) _ (plain_begun_one p.container (take p.size ss)) (plain_begun ps (drop p.size ss)))
 
-  begin_front : (xs ys : List Seat) → 0 < length xs → begin_of (xs ++ ys) ≡ begin_of xs
+  pub begin_front : (xs ys : List Seat) → 0 < length xs → begin_of (xs ++ ys) ≡ begin_of xs
   begin_front [] ys h = absurd (omega arith)
   begin_front (x ∷ xs) ys h = refl
 

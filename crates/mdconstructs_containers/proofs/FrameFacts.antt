@@ -35,7 +35,7 @@ shared_none [] = refl
 shared_none (x ∷ xs) = refl
 
 -- those that began before share none with those that begin here
-shared_apart : (n : ℕ) (xs : List Frame) (y : Frame) (ys : List Frame) → AllByRecursion (λ (f : Frame). f.line < n) xs → y.line ≡ n → shared xs (y ∷ ys) ≡ 0
+pub shared_apart : (n : ℕ) (xs : List Frame) (y : Frame) (ys : List Frame) → AllByRecursion (λ (f : Frame). f.line < n) xs → y.line ≡ n → shared xs (y ∷ ys) ≡ 0
 shared_apart n [] y ys h e = refl
 shared_apart n (x ∷ xs) y ys h e =
     let less = h.0 in
@@ -64,16 +64,16 @@ all_entered [] = []
 all_entered (p ∷ ps) = entered p.container ++ all_entered ps
 
 -- with its list, if it begins that
-enters_all : (n : ℕ) (c : Container) → BeginsIn n c × BeginsList c → frames_of c ≡ entered c
+pub enters_all : (n : ℕ) (c : Container) → BeginsIn n c × BeginsList c → frames_of c ≡ entered c
 enters_all n (quote line) h = refl
 enters_all n (item i) h = ap (λ b. cond b (record { name = list_name i; line = i.list } ∷ []) [] ++ record { name = name.ListItem; line = i.line } ∷ []) (sym (eq-eqb i.list i.line h.1))
 
-each_entered : (n : ℕ) (ps : List Prefix) → AllByRecursion (λ (q : Prefix). BeginsIn n q.container × BeginsList q.container) ps → flat_map frames_of (containers_of ps) ≡ all_entered ps
+pub each_entered : (n : ℕ) (ps : List Prefix) → AllByRecursion (λ (q : Prefix). BeginsIn n q.container × BeginsList q.container) ps → flat_map frames_of (containers_of ps) ≡ all_entered ps
 each_entered n [] h = refl
 each_entered n (p ∷ ps) h = (λ k. enters_all n p.container h.0 k ++ each_entered n ps h.1 k)
 
 -- a list that began before is not entered
-begun_entered : (n : ℕ) (ps : List Prefix) → BeginHere n ps → flat_map frames_of (containers_of ps) ≡ list_begun ps ++ all_entered ps
+pub begun_entered : (n : ℕ) (ps : List Prefix) → BeginHere n ps → flat_map frames_of (containers_of ps) ≡ list_begun ps ++ all_entered ps
 begun_entered n [] h = refl
 begun_entered n (p ∷ ps) h = by p.container h.0 (each_entered n ps h.1)
   where
@@ -97,7 +97,7 @@ begun_entered n (p ∷ ps) h = by p.container h.0 (each_entered n ps h.1)
         choose true false t = ap (λ (l : List Frame). record { name = list_name i; line = i.list } ∷ record { name = name.ListItem; line = i.line } ∷ l) rest
         choose false true t = ap (λ (l : List Frame). record { name = list_name i; line = i.list } ∷ record { name = name.ListItem; line = i.line } ∷ l) rest
 
-shared_entered : (n : ℕ) (ps : List Prefix) (xs : List Frame) → BeginHere n ps → AllByRecursion (λ (f : Frame). f.line < n) xs → shared xs (all_entered ps) ≡ 0
+pub shared_entered : (n : ℕ) (ps : List Prefix) (xs : List Frame) → BeginHere n ps → AllByRecursion (λ (f : Frame). f.line < n) xs → shared xs (all_entered ps) ≡ 0
 shared_entered n [] xs h old = shared_none xs
 shared_entered n (p ∷ ps) xs h old = by p.container h.0
   where
@@ -117,7 +117,7 @@ pub record Turn (before after : List Frame) (begun : List Prefix) : Type 0 where
   pub after_are : after ≡ kept ++ all_entered begun
   pub many : shared before after ≡ length kept
 
-turns : (n : ℕ) (before after kept : List Frame) (begun : List Prefix) → BeginHere n begun → AllByRecursion (λ (f : Frame). f.line < n) before → IsFront kept before → after ≡ kept ++ all_entered begun → Turn before after begun
+pub turns : (n : ℕ) (before after kept : List Frame) (begun : List Prefix) → BeginHere n begun → AllByRecursion (λ (f : Frame). f.line < n) before → IsFront kept before → after ≡ kept ++ all_entered begun → Turn before after begun
 turns n before after kept begun h old front e =
     let ended = front.0 in
     let apart = shared_entered n begun ended h (every-back (λ (f : Frame). f.line < n) kept ended (subst (AllByRecursion (λ (f : Frame). f.line < n)) front.1 old)) in
@@ -132,7 +132,7 @@ keep g [] = []
 keep g (quote line ∷ cs) = quote line ∷ cs
 keep g (item i ∷ cs) = cond (nat_le g (length cs)) (keep g cs) (item i ∷ cs)
 
-left_is_keep : (g n : ℕ) (cs : List Container) → AllByRecursion (BeganBefore n) cs → left_in g n cs ≡ keep g cs
+pub left_is_keep : (g n : ℕ) (cs : List Container) → AllByRecursion (BeganBefore n) cs → left_in g n cs ≡ keep g cs
 left_is_keep g n [] h = refl
 left_is_keep g n (quote line ∷ cs) h = refl
 left_is_keep g n (item i ∷ cs) h =
@@ -145,10 +145,10 @@ left_is_keep g n (item i ∷ cs) h =
     by true false e rest = absurd (false≢true e)
     by false y e rest = refl
 
-abbrev IsBack : List Container → List Container → Type 0
+abbrev pub IsBack : List Container → List Container → Type 0
 IsBack xs ys = (ws : List Container) × (ys ≡ ws ++ xs)
 
-keep_back : (g : ℕ) (cs : List Container) → IsBack (keep g cs) cs
+pub keep_back : (g : ℕ) (cs : List Container) → IsBack (keep g cs) cs
 keep_back g [] = ([], refl)
 keep_back g (quote line ∷ cs) = ([], refl)
 keep_back g (item i ∷ cs) = by (nat_le g (length cs)) (keep_back g cs)
@@ -157,7 +157,7 @@ keep_back g (item i ∷ cs) = by (nat_le g (length cs)) (keep_back g cs)
     by true h = (item i ∷ h.0, ap (λ l. item i ∷ l) h.1)
     by false h = ([], refl)
 
-keep_more : (g : ℕ) (zs cs : List Container) → IsBack (keep g cs) (keep g (zs ++ cs))
+pub keep_more : (g : ℕ) (zs cs : List Container) → IsBack (keep g cs) (keep g (zs ++ cs))
 keep_more g [] cs = ([], refl)
 keep_more g (quote line ∷ zs) cs = let back = keep_back g cs in (quote line ∷ (zs ++ back.0), ap (λ l. quote line ∷ (zs ++ l)) back.1 ∙ ap (λ l. quote line ∷ l) (sym (append_assoc zs back.0 (keep g cs))))
 keep_more g (item i ∷ zs) cs = by (nat_le g (length (zs ++ cs))) (keep_more g zs cs)
@@ -166,7 +166,7 @@ keep_more g (item i ∷ zs) cs = by (nat_le g (length (zs ++ cs))) (keep_more g 
     by true h = h
     by false h = let back = keep_back g cs in (item i ∷ (zs ++ back.0), ap (λ l. item i ∷ (zs ++ l)) back.1 ∙ ap (λ l. item i ∷ l) (sym (append_assoc zs back.0 (keep g cs))))
 
-keep_long : (g : ℕ) (cs : List Container) → g ≤ length cs → g ≤ length (keep g cs)
+pub keep_long : (g : ℕ) (cs : List Container) → g ≤ length cs → g ≤ length (keep g cs)
 keep_long g [] h = h
 keep_long g (quote line ∷ cs) h = h
 keep_long g (item i ∷ cs) h = by (keep_long g cs) (nat_le g (length cs)) refl
@@ -179,42 +179,42 @@ keep_long g (item i ∷ cs) h = by (keep_long g cs) (nat_le g (length cs)) refl
 abbrev pub kept_of : ℕ → List Container → List Container
 kept_of g cs = reverse (keep g (reverse cs))
 
-kept_front : (g : ℕ) (cs : List Container) → IsFront (kept_of g cs) cs
+pub kept_front : (g : ℕ) (cs : List Container) → IsFront (kept_of g cs) cs
 kept_front g cs = let back = keep_back g (reverse cs) in (reverse back.0, sym (reverse-reverse cs) ∙ ap reverse back.1 ∙ reverse-append back.0 (keep g (reverse cs)))
 
-kept_more : (g : ℕ) (xs ys : List Container) → IsFront xs ys → IsFront (kept_of g xs) (kept_of g ys)
+pub kept_more : (g : ℕ) (xs ys : List Container) → IsFront xs ys → IsFront (kept_of g xs) (kept_of g ys)
 kept_more g xs ys h =
     let back = keep_more g (reverse h.0) (reverse xs) in
     (reverse back.0, ap (λ (l : List Container). reverse (keep g (reverse l))) h.1 ∙ ap (λ (l : List Container). reverse (keep g l)) (reverse-append xs h.0) ∙ ap reverse back.1 ∙ reverse-append back.0 (keep g (reverse xs)))
 
-kept_long : (g : ℕ) (cs : List Container) → g ≤ length cs → g ≤ length (kept_of g cs)
+pub kept_long : (g : ℕ) (cs : List Container) → g ≤ length cs → g ≤ length (kept_of g cs)
 kept_long g cs h =
     let a = length-reverse cs in
     let b = length-reverse (keep g (reverse cs)) in
     let long = keep_long g (reverse cs) (omega (arith, h, a)) in
     omega (arith, long, b)
 
-flat_front : (xs ys : List Container) → IsFront xs ys → IsFront (flat_map frames_of xs) (flat_map frames_of ys)
+pub flat_front : (xs ys : List Container) → IsFront xs ys → IsFront (flat_map frames_of xs) (flat_map frames_of ys)
 flat_front xs ys h = (flat_map frames_of h.0, ap (flat_map frames_of) h.1 ∙ flat_map-append frames_of xs h.0)
 
-front_take : {A : Type 0} (xs ys : List A) → IsFront xs ys → take (length xs) ys ≡ xs
+pub front_take : {A : Type 0} (xs ys : List A) → IsFront xs ys → take (length xs) ys ≡ xs
 front_take xs ys h = ap (take (length xs)) h.1 ∙ (take_front xs h.0 (length xs) refl).0
 
 -- ---- lines of containers
 
-began_more : (n : ℕ) (c : Container) → BeganBefore n c → BeganBefore (suc n) c
+pub began_more : (n : ℕ) (c : Container) → BeganBefore n c → BeganBefore (suc n) c
 began_more n (quote line) h = omega (arith, h)
 began_more n (item i) h = let less = h.0 in (omega (arith, less), h.1)
 
-began_later : (n m : ℕ) → n ≤ m → (c : Container) → BeganBefore n c → BeganBefore m c
+pub began_later : (n m : ℕ) → n ≤ m → (c : Container) → BeganBefore n c → BeganBefore m c
 began_later n m le (quote line) h = omega (arith, h, le)
 began_later n m le (item i) h = let less = h.0 in (omega (arith, less, le), h.1)
 
-begins_before : (n : ℕ) (c : Container) → BeginsIn n c → BeganBefore (suc n) c
+pub begins_before : (n : ℕ) (c : Container) → BeginsIn n c → BeganBefore (suc n) c
 begins_before n (quote line) h = omega (arith, h)
 begins_before n (item i) h = let is = h.0 in (omega (arith, is), h.1)
 
-begun_before : (n : ℕ) (ps : List Prefix) → BeginHere n ps → AllByRecursion (BeganBefore (suc n)) (containers_of ps)
+pub begun_before : (n : ℕ) (ps : List Prefix) → BeginHere n ps → AllByRecursion (BeganBefore (suc n)) (containers_of ps)
 begun_before n [] h = tt
 begun_before n (p ∷ ps) h = (begins_before n p.container h.0, rest ps h.1)
   where
@@ -222,15 +222,15 @@ begun_before n (p ∷ ps) h = (begins_before n p.container h.0, rest ps h.1)
     rest [] k = tt
     rest (q ∷ qs) k = (begins_before n q.container k.0.0, rest qs k.1)
 
-frames_before : (n : ℕ) (c : Container) → BeganBefore n c → AllByRecursion (λ (f : Frame). f.line < n) (frames_of c)
+pub frames_before : (n : ℕ) (c : Container) → BeganBefore n c → AllByRecursion (λ (f : Frame). f.line < n) (frames_of c)
 frames_before n (quote line) h = (h, tt)
 frames_before n (item i) h = let less = h.0 in let list = h.1.list in (omega (arith, less, list), (less, tt))
 
-all_before : (n : ℕ) (cs : List Container) → AllByRecursion (BeganBefore n) cs → AllByRecursion (λ (f : Frame). f.line < n) (flat_map frames_of cs)
+pub all_before : (n : ℕ) (cs : List Container) → AllByRecursion (BeganBefore n) cs → AllByRecursion (λ (f : Frame). f.line < n) (flat_map frames_of cs)
 all_before n [] h = tt
 all_before n (c ∷ cs) h = every-append (λ (f : Frame). f.line < n) (frames_of c) (flat_map frames_of cs) (frames_before n c h.0) (all_before n cs h.1)
 
-every_reverse : (P : Container → Type 0) (cs : List Container) → AllByRecursion P cs → AllByRecursion P (reverse cs)
+pub every_reverse : (P : Container → Type 0) (cs : List Container) → AllByRecursion P cs → AllByRecursion P (reverse cs)
 every_reverse P [] h = tt
 every_reverse P (c ∷ cs) h = subst (AllByRecursion P) (sym (reverse-append (c ∷ []) cs)) (every-append P (reverse cs) (c ∷ []) (every_reverse P cs h.1) (h.0, tt))
 
@@ -244,7 +244,7 @@ some_more (x ∷ xs) ys h = refl
 
 -- ---- in which containers a line stands
 
-standing_blank : (r : Row) (behind : List Row) → r.is_blank ≡ true → has_none r.begun ≡ true → AllByRecursion (BeganBefore r.number) (containers_of r.went_on) → standing r behind ≡ kept_of (going_on_at behind) (containers_of r.went_on)
+pub standing_blank : (r : Row) (behind : List Row) → r.is_blank ≡ true → has_none r.begun ≡ true → AllByRecursion (BeganBefore r.number) (containers_of r.went_on) → standing r behind ≡ kept_of (going_on_at behind) (containers_of r.went_on)
 standing_blank r behind blank none old =
     let all : containers_of r.went_on ++ containers_of r.begun ≡ containers_of r.went_on = ap (λ l. containers_of r.went_on ++ containers_of l) (none_is r.begun none) ∙ append-nil (containers_of r.went_on) in
     (λ k. cond (blank k) (reverse (left_in (going_on_at behind) r.number (reverse (all k)))) (all k))
@@ -255,7 +255,7 @@ standing_other r behind other =
     let all = containers_of r.went_on ++ containers_of r.begun in
     ap (λ b. cond b (reverse (left_in (going_on_at behind) r.number (reverse all))) all) other
 
-left_begun : (g n : ℕ) (zs cs : List Container) → AllByRecursion (BeginsIn n) zs → has_none zs ≡ false → left_in g n (zs ++ cs) ≡ zs ++ cs
+pub left_begun : (g n : ℕ) (zs cs : List Container) → AllByRecursion (BeginsIn n) zs → has_none zs ≡ false → left_in g n (zs ++ cs) ≡ zs ++ cs
 left_begun g n [] cs h e = absurd (false≢true (sym e))
 left_begun g n (quote line ∷ zs) cs h e = refl
 left_begun g n (item i ∷ zs) cs h e =
@@ -268,7 +268,7 @@ left_begun g n (item i ∷ zs) cs h e =
     by true false f = refl
     by false y f = refl
 
-begun_in : (n : ℕ) (ps : List Prefix) → BeginHere n ps → AllByRecursion (BeginsIn n) (containers_of ps)
+pub begun_in : (n : ℕ) (ps : List Prefix) → BeginHere n ps → AllByRecursion (BeginsIn n) (containers_of ps)
 begun_in n [] h = tt
 begun_in n (p ∷ ps) h = (h.0, rest ps h.1)
   where
@@ -276,18 +276,18 @@ begun_in n (p ∷ ps) h = (h.0, rest ps h.1)
     rest [] k = tt
     rest (q ∷ qs) k = (k.0.0, rest qs k.1)
 
-none_reverse : (c : Container) (cs : List Container) → has_none (reverse (c ∷ cs)) ≡ false
+pub none_reverse : (c : Container) (cs : List Container) → has_none (reverse (c ∷ cs)) ≡ false
 none_reverse c cs = ap has_none (reverse-append (c ∷ []) cs) ∙ by (reverse cs)
   where
     by : (zs : List Container) → has_none (zs ++ c ∷ []) ≡ false
     by [] = refl
     by (z ∷ zs) = refl
 
-some_begun : (ps : List Prefix) → has_none ps ≡ false → has_none (reverse (containers_of ps)) ≡ false
+pub some_begun : (ps : List Prefix) → has_none ps ≡ false → has_none (reverse (containers_of ps)) ≡ false
 some_begun [] e = absurd (false≢true (sym e))
 some_begun (p ∷ ps) e = none_reverse p.container (containers_of ps)
 
-standing_begun : (r : Row) (behind : List Row) → BeginHere r.number r.begun → has_none r.begun ≡ false → standing r behind ≡ containers_of r.went_on ++ containers_of r.begun
+pub standing_begun : (r : Row) (behind : List Row) → BeginHere r.number r.begun → has_none r.begun ≡ false → standing r behind ≡ containers_of r.went_on ++ containers_of r.begun
 standing_begun r behind h some =
     let went = containers_of r.went_on in
     let begun = containers_of r.begun in
@@ -305,13 +305,13 @@ standing_begun r behind h some =
 -- ---- what a line is behind the lines before it
 
 module _ (on : Constructs) (b : Before) (n : ℕ) (line : Line) where
-  abbrev r : Row
+  abbrev pub r : Row
   r = row_of on b n line
 
-  abbrev none : Bool
+  abbrev pub none : Bool
   none = has_none r.begun
 
-  abbrev all_go_on : Bool
+  abbrev pub all_go_on : Bool
   all_go_on = length r.went_on == b.depth
 
   pub left_is : r.is_left_blank ≡ true → (r.is_blank ≡ true) × (none ≡ true)
@@ -330,13 +330,13 @@ module _ (on : Constructs) (b : Before) (n : ℕ) (line : Line) where
   lazy_stays h = (λ k. (lazy_is h).0 k && (h k || (all_go_on && (length b.stack == b.depth))))
 
   -- a line that stays, and not lazily, stands in all containers
-  stays_in : r.stays ≡ true → r.is_lazy ≡ false → (all_go_on ≡ true) × ((length b.stack == b.depth) ≡ true)
+  pub stays_in : r.stays ≡ true → r.is_lazy ≡ false → (all_go_on ≡ true) × ((length b.stack == b.depth) ≡ true)
   stays_in h lazy =
       let rest = and-right none (r.is_lazy || (all_go_on && (length b.stack == b.depth))) h in
       let both : (all_go_on && (length b.stack == b.depth)) ≡ true = ap (λ x. x || (all_go_on && (length b.stack == b.depth))) (sym lazy) ∙ rest in
       (and-left all_go_on (length b.stack == b.depth) both, and-right all_go_on (length b.stack == b.depth) both)
 
-  stays_all : r.stays ≡ true → r.is_lazy ≡ false → containers_of r.went_on ++ containers_of r.begun ≡ b.stack
+  pub stays_all : r.stays ≡ true → r.is_lazy ≡ false → containers_of r.went_on ++ containers_of r.begun ≡ b.stack
   stays_all h lazy =
       let both = stays_in h lazy in
       let a : length r.went_on ≡ b.depth = eqb-true (length r.went_on) b.depth both.0 in
@@ -344,7 +344,7 @@ module _ (on : Constructs) (b : Before) (n : ℕ) (line : Line) where
       ap (λ l. containers_of r.went_on ++ containers_of l) (none_is r.begun (stays_is h)) ∙ append-nil (containers_of r.went_on) ∙ went_are on b n line ∙ take_all (length r.went_on) b.stack (omega (arith, a, c))
 
   -- a line at which no stretch goes on is not lazy, and is left blank if it is blank and nothing begins in it
-  fresh : (behind : List Row) → (b.leaf ≡ closed) ⊎ (further (r ∷ behind) ≡ 0) → r.is_left_blank ≡ false → (r.is_lazy ≡ false) × ((r.is_blank ≡ false) ⊎ (none ≡ false))
+  pub fresh : (behind : List Row) → (b.leaf ≡ closed) ⊎ (further (r ∷ behind) ≡ 0) → r.is_left_blank ≡ false → (r.is_lazy ≡ false) × ((r.is_blank ≡ false) ⊎ (none ≡ false))
   fresh behind h left =
       let free : (r.stays ≡ false) ⊎ (b.leaf ≡ closed) = elim h [ inl leaf ↦ inr leaf | inr stop ↦ inl (stops r.stays (ap (λ x. cond x (cond (nat_le 1 (further behind)) (suc (further behind)) 0) (cond r.stays (suc (further behind)) 0)) (sym left) ∙ stop)) ] in
       (not_lazy free r.is_lazy refl, not_blank free r.is_blank none refl refl left)
@@ -368,14 +368,14 @@ module _ (on : Constructs) (b : Before) (n : ℕ) (line : Line) where
 
   -- ---- what is known behind it
 
-  known_left : r.is_left_blank ≡ true → known_after on b r ≡ record b { depth = length r.went_on; leaf = closed }
+  pub known_left : r.is_left_blank ≡ true → known_after on b r ≡ record b { depth = length r.went_on; leaf = closed }
   known_left h = ap (λ x. cond x (record b { depth = length r.went_on; leaf = closed }) (cond r.is_lazy (record b { leaf = r.leaf }) (record { stack = containers_of r.went_on ++ containers_of r.begun; depth = length (containers_of r.went_on ++ containers_of r.begun); leaf = r.leaf }))) h
 
-  known_other : r.is_left_blank ≡ false → r.is_lazy ≡ false → known_after on b r ≡ record { stack = containers_of r.went_on ++ containers_of r.begun; depth = length (containers_of r.went_on ++ containers_of r.begun); leaf = r.leaf }
+  pub known_other : r.is_left_blank ≡ false → r.is_lazy ≡ false → known_after on b r ≡ record { stack = containers_of r.went_on ++ containers_of r.begun; depth = length (containers_of r.went_on ++ containers_of r.begun); leaf = r.leaf }
   known_other h k = (λ i. cond (h i) (record b { depth = length r.went_on; leaf = closed }) (cond (k i) (record b { leaf = r.leaf }) (record { stack = containers_of r.went_on ++ containers_of r.begun; depth = length (containers_of r.went_on ++ containers_of r.begun); leaf = r.leaf })))
 
   -- a line that a stretch goes on with leaves the stack as it is
-  stack_stays : (r.is_left_blank ≡ true) ⊎ (r.stays ≡ true) → (known_after on b r).stack ≡ b.stack
+  pub stack_stays : (r.is_left_blank ≡ true) ⊎ (r.stays ≡ true) → (known_after on b r).stack ≡ b.stack
   stack_stays h = by r.is_left_blank r.is_lazy refl refl h
     where
       by : (x y : Bool) → r.is_left_blank ≡ x → r.is_lazy ≡ y → (x ≡ true) ⊎ (r.stays ≡ true)
@@ -385,7 +385,7 @@ module _ (on : Constructs) (b : Before) (n : ℕ) (line : Line) where
       by false false ex ey k = elim k [ inl out ↦ absurd (false≢true out) | inr stays ↦ stays_all stays ey ]
 
   -- behind a blank line in which containers begin no leaf block is open
-  begun_leaf : r.is_left_blank ≡ false → r.is_lazy ≡ false → r.is_blank ≡ true → none ≡ false → (known_after on b r).leaf ≡ closed
+  pub begun_leaf : r.is_left_blank ≡ false → r.is_lazy ≡ false → r.is_blank ≡ true → none ≡ false → (known_after on b r).leaf ≡ closed
   begun_leaf left lazy blank some =
       let rest = drop r.columns (text_of line) in
       let stays : r.stays ≡ false = ap (λ x. x && (r.is_lazy || (all_go_on && (length b.stack == b.depth)))) some in
@@ -406,7 +406,7 @@ module _ (on : Constructs) (b : Before) (n : ℕ) (line : Line) where
           (begun_before n r.begun (begun_are on b n line old).0)
 
 -- a list that began before has at most one frame
-short_list : (ps : List Prefix) → length (list_begun ps) ≤ 1
+pub short_list : (ps : List Prefix) → length (list_begun ps) ≤ 1
 short_list [] = omega arith
 short_list (p ∷ ps) = by p.container
   where
@@ -418,24 +418,24 @@ short_list (p ∷ ps) = by p.container
     by (quote line) = omega arith
     by (item i) = one (record { name = list_name i; line = i.list }) (nat_lt i.list i.line)
 
-abbrev head_or : Frame → List Frame → Frame
+abbrev pub head_or : Frame → List Frame → Frame
 head_or f [] = f
 head_or f (g ∷ gs) = g
 
-front_one : (f x : Frame) (fs ys zs : List Frame) → f ∷ (fs ++ ys) ≡ x ∷ zs → IsFront (x ∷ []) (f ∷ fs)
+pub front_one : (f x : Frame) (fs ys zs : List Frame) → f ∷ (fs ++ ys) ≡ x ∷ zs → IsFront (x ∷ []) (f ∷ fs)
 front_one f x fs ys zs e = (fs, ap (λ l. head_or f l ∷ fs) e)
 
-short_front : (xs ys : List Frame) (c : Container) → length xs ≤ 1 → IsFront xs (frames_of c ++ ys) → IsFront xs (frames_of c)
+pub short_front : (xs ys : List Frame) (c : Container) → length xs ≤ 1 → IsFront xs (frames_of c ++ ys) → IsFront xs (frames_of c)
 short_front [] ys c h front = front_none (frames_of c)
 short_front (x ∷ y ∷ xs) ys c h front = absurd (omega (arith, h))
 short_front (x ∷ []) ys (quote line) h front = front_one (record { name = name.BlockQuote; line = line }) x [] ys front.0 front.1
 short_front (x ∷ []) ys (item i) h front = front_one (record { name = list_name i; line = i.list }) x (record { name = name.ListItem; line = i.line } ∷ []) ys front.0 front.1
 
-front_every : (P : Frame → Type 0) (xs ys : List Frame) → IsFront xs ys → AllByRecursion P ys → AllByRecursion P xs
+pub front_every : (P : Frame → Type 0) (xs ys : List Frame) → IsFront xs ys → AllByRecursion P ys → AllByRecursion P xs
 front_every P xs ys front h = every-front P xs front.0 (subst (AllByRecursion P) front.1 h)
 
 module _ (on : Constructs) where
-  going_few_at : (b : Before) (n : ℕ) (ls : List Line) → going_on_at (rows_from on b n ls) ≤ b.depth
+  pub going_few_at : (b : Before) (n : ℕ) (ls : List Line) → going_on_at (rows_from on b n ls) ≤ b.depth
   going_few_at b n [] = omega arith
   going_few_at b n (l ∷ ls) = by (row_of on b n l).is_left_blank refl (going_few_at (known_after on b (row_of on b n l)) (suc n) ls) (went_within on b n l).0
     where
@@ -444,7 +444,7 @@ module _ (on : Constructs) where
       by true e h w = let depth : (known_after on b (row_of on b n l)).depth ≡ length (row_of on b n l).went_on = ap (λ (x : Before). x.depth) (known_left on b n l e) in omega (arith, h, w, depth)
       by false e h w = w
 
-  list_short : (rs : List Row) → length (list_at rs) ≤ 1
+  pub list_short : (rs : List Row) → length (list_at rs) ≤ 1
   list_short [] = omega arith
   list_short (r ∷ behind) = by r.is_left_blank (list_short behind) (short_list r.begun)
     where
@@ -453,7 +453,7 @@ module _ (on : Constructs) where
       by false h k = k
 
   -- the list that goes on is that of the first container that does not
-  list_behind : (b : Before) (n : ℕ) (ls : List Line) → AllByRecursion (BeganBefore n) b.stack → let rs = rows_from on b n ls in IsFront (list_at rs) (flat_map frames_of (drop (going_on_at rs) b.stack))
+  pub list_behind : (b : Before) (n : ℕ) (ls : List Line) → AllByRecursion (BeganBefore n) b.stack → let rs = rows_from on b n ls in IsFront (list_at rs) (flat_map frames_of (drop (going_on_at rs) b.stack))
   list_behind b n [] old = front_none (flat_map frames_of b.stack)
   list_behind b n (l ∷ ls) old = by (row_of on b n l).is_left_blank refl (list_behind (known_after on b (row_of on b n l)) (suc n) ls (old_after on b n l old)) (begun_are on b n l old).1
     where
@@ -468,14 +468,14 @@ module _ (on : Constructs) where
           subst (λ (cs : List Container). IsFront (list_at behind) (flat_map frames_of (drop (going_on_at behind) cs))) same h
       by false e h k = k
 
-  flat_parts : (g : ℕ) (cs : List Container) → flat_map frames_of (take g cs) ++ flat_map frames_of (drop g cs) ≡ flat_map frames_of cs
+  pub flat_parts : (g : ℕ) (cs : List Container) → flat_map frames_of (take g cs) ++ flat_map frames_of (drop g cs) ≡ flat_map frames_of cs
   flat_parts g cs = sym (flat_map-append frames_of (take g cs) (drop g cs)) ∙ ap (flat_map frames_of) (take-append-drop g cs)
 
   -- frames that a later line goes on with
   abbrev pub needed_at : List Container → List Row → List Frame
   needed_at stack rs = flat_map frames_of (take (going_on_at rs) stack) ++ list_at rs
 
-  needed_front : (b : Before) (n : ℕ) (ls : List Line) → AllByRecursion (BeganBefore n) b.stack → IsFront (needed_at b.stack (rows_from on b n ls)) (flat_map frames_of b.stack)
+  pub needed_front : (b : Before) (n : ℕ) (ls : List Line) → AllByRecursion (BeganBefore n) b.stack → IsFront (needed_at b.stack (rows_from on b n ls)) (flat_map frames_of b.stack)
   needed_front b n ls old =
       let rs = rows_from on b n ls in
       let g = going_on_at rs in
@@ -483,7 +483,7 @@ module _ (on : Constructs) where
       subst (IsFront (needed_at b.stack rs)) (flat_parts g b.stack) more
 
   -- also of fewer containers, if they are more than go on
-  needed_in : (rs : List Row) (stack cs : List Container) → IsFront cs stack → going_on_at rs < length cs → IsFront (list_at rs) (flat_map frames_of (drop (going_on_at rs) stack)) → IsFront (needed_at stack rs) (flat_map frames_of cs)
+  pub needed_in : (rs : List Row) (stack cs : List Container) → IsFront cs stack → going_on_at rs < length cs → IsFront (list_at rs) (flat_map frames_of (drop (going_on_at rs) stack)) → IsFront (needed_at stack rs) (flat_map frames_of cs)
   needed_in rs stack cs front less list = by (drop (going_on_at rs) cs) refl
     where
       by : (ds : List Container) → drop (going_on_at rs) cs ≡ ds → IsFront (needed_at stack rs) (flat_map frames_of cs)
@@ -507,7 +507,7 @@ module _ (on : Constructs) where
     pub none_open : (b.leaf ≡ closed) ⊎ (further (rows_from on b n ls) ≡ 0)
 
   -- all containers are open
-  all_are_open : (fs : List Frame) (b : Before) (n : ℕ) (ls : List Line) → fs ≡ flat_map frames_of b.stack → AllByRecursion (BeganBefore n) b.stack → (b.leaf ≡ closed) ⊎ (further (rows_from on b n ls) ≡ 0) → AreOpen fs b n ls
+  pub all_are_open : (fs : List Frame) (b : Before) (n : ℕ) (ls : List Line) → fs ≡ flat_map frames_of b.stack → AllByRecursion (BeganBefore n) b.stack → (b.leaf ≡ closed) ⊎ (further (rows_from on b n ls) ≡ 0) → AreOpen fs b n ls
   all_are_open fs b n ls e old free =
       let g = going_on_at (rows_from on b n ls) in
       let some = take b.depth b.stack in
@@ -527,7 +527,7 @@ module _ (on : Constructs) where
   -- ---- stretches
 
   -- So many lines with which a stretch goes on: nothing begins in them, and the containers stay; behind them none goes on
-  record Stretch (b : Before) (n : ℕ) (ls : List Line) (k : ℕ) : Type 0 where
+  pub record Stretch (b : Before) (n : ℕ) (ls : List Line) (k : ℕ) : Type 0 where
     state : Before
     number : ℕ
     lines : List Line
@@ -538,11 +538,11 @@ module _ (on : Constructs) where
     none_begin : AllByRecursion (λ (r : Row). has_none r.begun ≡ true) (take k (rows_from on b n ls))
     done : further (drop k (rows_from on b n ls)) ≡ 0
 
-  no_stretch : (b : Before) (n : ℕ) (ls : List Line) (k : ℕ) → k ≡ 0 → further (rows_from on b n ls) ≡ k → Stretch b n ls k
+  pub no_stretch : (b : Before) (n : ℕ) (ls : List Line) (k : ℕ) → k ≡ 0 → further (rows_from on b n ls) ≡ k → Stretch b n ls k
   no_stretch b n ls zero e f = record { state = b; number = n; lines = ls; rest = refl; all = refl; same = refl; later = omega arith; none_begin = tt; done = f }
   no_stretch b n ls (suc k) e f = absurd (omega (arith, e))
 
-  one_stretch : (b : Before) (n : ℕ) (l : Line) (ls : List Line) (k : ℕ) → let r = row_of on b n l in ((r.is_left_blank ≡ true) ⊎ (r.stays ≡ true)) → has_none r.begun ≡ true → Stretch (known_after on b r) (suc n) ls k → Stretch b n (l ∷ ls) (suc k)
+  pub one_stretch : (b : Before) (n : ℕ) (l : Line) (ls : List Line) (k : ℕ) → let r = row_of on b n l in ((r.is_left_blank ≡ true) ⊎ (r.stays ≡ true)) → has_none r.begun ≡ true → Stretch (known_after on b r) (suc n) ls k → Stretch b n (l ∷ ls) (suc k)
   one_stretch b n l ls k goes none s =
       let later = s.later in
       record {
@@ -557,7 +557,7 @@ module _ (on : Constructs) where
         done = s.done;
       }
 
-  stretches : (b : Before) (n : ℕ) (ls : List Line) → Stretch b n ls (further (rows_from on b n ls))
+  pub stretches : (b : Before) (n : ℕ) (ls : List Line) → Stretch b n ls (further (rows_from on b n ls))
   stretches b n [] = no_stretch b n [] 0 refl refl
   stretches b n (l ∷ ls) =
       by (row_of on b n l).is_left_blank (nat_le 1 (further (rows_from on (known_after on b (row_of on b n l)) (suc n) ls))) (row_of on b n l).stays refl refl refl (stretches (known_after on b (row_of on b n l)) (suc n) ls)
@@ -594,32 +594,32 @@ module _ (on : Constructs) where
     pub stands : let r = row_of on b n l in let rs = rows_from on (known_after on b r) (suc n) ls in (r.is_blank ≡ false) ⊎ (has_none r.begun ≡ false) → standing r rs ≡ containers_of r.went_on ++ containers_of r.begun
 
   module _ (fs : List Frame) (b : Before) (n : ℕ) (l : Line) (ls : List Line) (h : AreOpen fs b n (l ∷ ls)) where
-    abbrev head : Row
+    abbrev pub head : Row
     head = row_of on b n l
 
-    abbrev next : Before
+    abbrev pub next : Before
     next = known_after on b head
 
-    abbrev others : List Row
+    abbrev pub others : List Row
     others = rows_from on next (suc n) ls
 
-    begin_here : BeginHere n head.begun
+    pub begin_here : BeginHere n head.begun
     begin_here = (begun_are on b n l h.old).0
 
-    stands_in_all : (head.is_blank ≡ false) ⊎ (has_none head.begun ≡ false) → standing head others ≡ containers_of head.went_on ++ containers_of head.begun
+    pub stands_in_all : (head.is_blank ≡ false) ⊎ (has_none head.begun ≡ false) → standing head others ≡ containers_of head.went_on ++ containers_of head.begun
     stands_in_all e = elim e [ inl other ↦ standing_other head others other | inr some ↦ standing_begun head others begin_here some ]
 
-    abbrev went : List Container
+    abbrev pub went : List Container
     went = containers_of head.went_on
 
-    abbrev g : ℕ
+    abbrev pub g : ℕ
     g = going_on_at others
 
     -- the containers that go on
-    went_in : IsFront went b.stack
+    pub went_in : IsFront went b.stack
     went_in = (drop (length head.went_on) b.stack, sym (take-append-drop (length head.went_on) b.stack) ∙ ap (λ (cs : List Container). cs ++ drop (length head.went_on) b.stack) (sym (went_are on b n l)))
 
-    went_deep : IsFront went (take b.depth b.stack)
+    pub went_deep : IsFront went (take b.depth b.stack)
     went_deep =
         let few = went_within on b n l in
         let size = length-take b.depth b.stack in
@@ -627,49 +627,49 @@ module _ (on : Constructs) where
         (drop (length head.went_on) (take b.depth b.stack), sym (take-append-drop (length head.went_on) (take b.depth b.stack)) ∙ ap (λ (cs : List Container). cs ++ drop (length head.went_on) (take b.depth b.stack)) same)
 
     -- no line behind it is in the part
-    at_once : (gs : List Frame) → AreOpen gs next (suc n) ls → IsBehind gs next (suc n) ls 0
+    pub at_once : (gs : List Frame) → AreOpen gs next (suc n) ls → IsBehind gs next (suc n) ls 0
     at_once gs k = record { state = next; number = suc n; lines = ls; rest = refl; all = refl; none_begin = tt; are_open = k }
 
     -- a line that is left blank
     module _ (left : head.is_left_blank ≡ true) where
-      abbrev stand : List Container
+      abbrev pub stand : List Container
       stand = kept_of g went
 
-      blank_stands : standing head others ≡ stand
+      pub blank_stands : standing head others ≡ stand
       blank_stands =
           standing_blank head others (left_is on b n l left).0 (left_is on b n l left).1 (subst (AllByRecursion (BeganBefore n)) (sym (went_are on b n l)) (every_front (BeganBefore n) (length head.went_on) b.stack h.old))
 
-      abbrev blank_frames : Bool → List Frame
+      abbrev pub blank_frames : Bool → List Frame
       blank_frames y = flat_map frames_of stand ++ cond y (list_at others) []
 
-      frames_are_blank : frames_at head others ≡ blank_frames (length stand == g)
+      pub frames_are_blank : frames_at head others ≡ blank_frames (length stand == g)
       frames_are_blank = (λ k. flat_map frames_of (blank_stands k) ++ cond (left k && (length (blank_stands k) == g)) (list_at others) [])
 
-      blank_needed : IsFront (needed_at b.stack others) fs
+      pub blank_needed : IsFront (needed_at b.stack others) fs
       blank_needed = subst (λ x. IsFront (flat_map frames_of (take (cond x g (length head.went_on)) b.stack) ++ cond x (list_at others) (list_begun head.begun)) fs) left h.needed
 
-      blank_deep : IsFront (flat_map frames_of stand) fs
+      pub blank_deep : IsFront (flat_map frames_of stand) fs
       blank_deep =
           front_trans (flat_map frames_of stand) (flat_map frames_of (kept_of g (take b.depth b.stack))) fs (flat_front stand (kept_of g (take b.depth b.stack)) (kept_more g went (take b.depth b.stack) went_deep))
           (subst (λ x. IsFront (flat_map frames_of (kept_of (cond x g (length head.went_on)) (take b.depth b.stack))) fs) left h.deep)
 
-      stand_in : IsFront stand b.stack
+      pub stand_in : IsFront stand b.stack
       stand_in = front_trans stand went b.stack (kept_front g went) went_in
 
-      just_needed : (length stand == g) ≡ true → needed_at b.stack others ≡ flat_map frames_of stand ++ list_at others
+      pub just_needed : (length stand == g) ≡ true → needed_at b.stack others ≡ flat_map frames_of stand ++ list_at others
       just_needed e =
           let size : length stand ≡ g = eqb-true (length stand) g e in
           let same : take g b.stack ≡ stand = ap (λ k. take k b.stack) (sym size) ∙ front_take stand b.stack stand_in in
           ap (λ (cs : List Container). flat_map frames_of cs ++ list_at others) same
 
-      blank_front : (y : Bool) → (length stand == g) ≡ y → IsFront (blank_frames y) fs
+      pub blank_front : (y : Bool) → (length stand == g) ≡ y → IsFront (blank_frames y) fs
       blank_front true e = subst (λ (xs : List Frame). IsFront xs fs) (just_needed e) blank_needed
       blank_front false e = subst (λ (xs : List Frame). IsFront xs fs) (sym (append-nil (flat_map frames_of stand))) blank_deep
 
-      known : next ≡ record b { depth = length head.went_on; leaf = closed }
+      pub known : next ≡ record b { depth = length head.went_on; leaf = closed }
       known = known_left on b n l left
 
-      blank_still : (y : Bool) → (length stand == g) ≡ y → IsFront (needed_at b.stack others) (blank_frames y)
+      pub blank_still : (y : Bool) → (length stand == g) ≡ y → IsFront (needed_at b.stack others) (blank_frames y)
       blank_still true e = subst (λ (xs : List Frame). IsFront (needed_at b.stack others) xs) (just_needed e) (front_all (needed_at b.stack others))
       blank_still false e =
           let few = going_few_at next (suc n) ls in
@@ -680,7 +680,7 @@ module _ (on : Constructs) where
           let list = subst (λ (x : Before). IsFront (list_at others) (flat_map frames_of (drop g x.stack))) known (list_behind next (suc n) ls (old_after on b n l h.old)) in
           subst (IsFront (needed_at b.stack others)) (sym (append-nil (flat_map frames_of stand))) (needed_in others b.stack stand stand_in less list)
 
-      blank_open : AreOpen (frames_at head others) next (suc n) ls
+      pub blank_open : AreOpen (frames_at head others) next (suc n) ls
       blank_open =
           let y = length stand == g in
           let gs = blank_frames y in
@@ -696,14 +696,14 @@ module _ (on : Constructs) where
             none_open = inl (ap (λ (x : Before). x.leaf) known);
           })
 
-      blank_turn : Turn fs (frames_at head others) head.begun
+      pub blank_turn : Turn fs (frames_at head others) head.begun
       blank_turn =
           let y = length stand == g in
           let gs = blank_frames y in
           let none : head.begun ≡ [] = none_is head.begun (left_is on b n l left).1 in
           turns n fs (frames_at head others) gs head.begun begin_here h.before (blank_front y refl) (frames_are_blank ∙ sym (append-nil gs) ∙ ap (λ (ps : List Prefix). gs ++ all_entered ps) (sym none))
 
-      blank_part : IsPart fs b n l ls
+      pub blank_part : IsPart fs b n l ls
       blank_part = record {
         turn = blank_turn;
         behind = subst (λ x. IsBehind (frames_at head others) next (suc n) ls (cond x 0 (further others))) (sym (left_is on b n l left).0) (at_once (frames_at head others) blank_open);
@@ -712,21 +712,21 @@ module _ (on : Constructs) where
 
     -- any other line
     module _ (left : head.is_left_blank ≡ false) where
-      abbrev all_in : List Container
+      abbrev pub all_in : List Container
       all_in = went ++ containers_of head.begun
 
-      is_fresh : (head.is_lazy ≡ false) × ((head.is_blank ≡ false) ⊎ (has_none head.begun ≡ false))
+      pub is_fresh : (head.is_lazy ≡ false) × ((head.is_blank ≡ false) ⊎ (has_none head.begun ≡ false))
       is_fresh = fresh on b n l others h.none_open left
 
-      frames_are_all : frames_at head others ≡ flat_map frames_of all_in
+      pub frames_are_all : frames_at head others ≡ flat_map frames_of all_in
       frames_are_all =
           let stands = stands_in_all is_fresh.1 in
           (λ k. flat_map frames_of (stands k) ++ cond (left k && (length (stands k) == g)) (list_at others) []) ∙ append-nil (flat_map frames_of all_in)
 
-      all_known : next.stack ≡ all_in
+      pub all_known : next.stack ≡ all_in
       all_known = ap (λ (x : Before). x.stack) (known_other on b n l left is_fresh.0)
 
-      all_turn : Turn fs (frames_at head others) head.begun
+      pub all_turn : Turn fs (frames_at head others) head.begun
       all_turn =
           let kept = flat_map frames_of went ++ list_begun head.begun in
           let front = subst (λ x. IsFront (flat_map frames_of (take (cond x g (length head.went_on)) b.stack) ++ cond x (list_at others) (list_begun head.begun)) fs) left h.needed in
@@ -735,7 +735,7 @@ module _ (on : Constructs) where
           (frames_are_all ∙ flat_map-append frames_of went (containers_of head.begun) ∙ ap (λ (xs : List Frame). flat_map frames_of went ++ xs) (begun_entered n head.begun begin_here)
           ∙ sym (append_assoc (flat_map frames_of went) (list_begun head.begun) (all_entered head.begun)))
 
-      behind_all : (x : Bool) → head.is_blank ≡ x → IsBehind (frames_at head others) next (suc n) ls (cond x 0 (further others))
+      pub behind_all : (x : Bool) → head.is_blank ≡ x → IsBehind (frames_at head others) next (suc n) ls (cond x 0 (further others))
       behind_all true blank =
           let some : has_none head.begun ≡ false = elim is_fresh.1 [ inl other ↦ absurd (false≢true (sym other ∙ blank)) | inr some ↦ some ] in
           at_once (frames_at head others) (all_are_open (frames_at head others) next (suc n) ls (frames_are_all ∙ ap (flat_map frames_of) (sym all_known)) (old_after on b n l h.old) (inl (begun_leaf on b n l left is_fresh.0 blank some)))
@@ -754,7 +754,7 @@ module _ (on : Constructs) where
                 (inr (ap further (sym s.rest) ∙ s.done));
           }
 
-      other_part : IsPart fs b n l ls
+      pub other_part : IsPart fs b n l ls
       other_part = record { turn = all_turn; behind = behind_all head.is_blank refl; stands = stands_in_all }
 
     pub is_part : IsPart fs b n l ls

@@ -33,7 +33,7 @@ module _ (bytes : List ℕ) where
   join_is p [] = refl
   join_is p (q ∷ ps) = refl
 
-  join_join : (p q : Piece bytes) (l : List (Piece bytes)) → has_none q.before ≡ true → join p (join q l) ≡ join (record p { seats = p.seats ++ q.seats }) l
+  pub join_join : (p q : Piece bytes) (l : List (Piece bytes)) → has_none q.before ≡ true → join p (join q l) ≡ join (record p { seats = p.seats ++ q.seats }) l
   join_join p q [] e = ap (λ b. cond b (record p { seats = p.seats ++ q.seats } ∷ []) (p ∷ q ∷ [])) e
   join_join p q (r ∷ rs) e = by (has_none r.before)
     where
@@ -41,7 +41,7 @@ module _ (bytes : List ℕ) where
       by true = ap (λ b. cond b (record p { seats = p.seats ++ (q.seats ++ r.seats) } ∷ rs) (p ∷ record q { seats = q.seats ++ r.seats } ∷ rs)) e ∙ ap (λ (l : List Seat). record p { seats = l } ∷ rs) (sym (append_assoc p.seats q.seats r.seats))
       by false = ap (λ b. cond b (record p { seats = p.seats ++ q.seats } ∷ r ∷ rs) (p ∷ q ∷ r ∷ rs)) e
 
-  join_apart : (p q : Piece bytes) (l : List (Piece bytes)) → has_none q.before ≡ false → join p (join q l) ≡ p ∷ join q l
+  pub join_apart : (p q : Piece bytes) (l : List (Piece bytes)) → has_none q.before ≡ false → join p (join q l) ≡ p ∷ join q l
   join_apart p q [] e = ap (λ b. cond b (record p { seats = p.seats ++ q.seats } ∷ []) (p ∷ q ∷ [])) e
   join_apart p q (r ∷ rs) e = by (has_none r.before)
     where
@@ -49,14 +49,14 @@ module _ (bytes : List ℕ) where
       by true = ap (λ b. cond b (record p { seats = p.seats ++ (q.seats ++ r.seats) } ∷ rs) (p ∷ record q { seats = q.seats ++ r.seats } ∷ rs)) e
       by false = ap (λ b. cond b (record p { seats = p.seats ++ q.seats } ∷ r ∷ rs) (p ∷ q ∷ r ∷ rs)) e
 
-  abbrev seats_of : List (Piece bytes) → List Seat
+  abbrev pub seats_of : List (Piece bytes) → List Seat
   seats_of l = flat_map (λ (p : Piece bytes). p.seats) l
 
-  some_front : (xs ys : List Seat) → 0 < length xs → not (has_none (xs ++ ys)) ≡ true
+  pub some_front : (xs ys : List Seat) → 0 < length xs → not (has_none (xs ++ ys)) ≡ true
   some_front [] ys h = absurd (omega arith)
   some_front (x ∷ xs) ys h = refl
 
-  join_seats : (p : Piece bytes) (l : List (Piece bytes)) → 0 < length p.seats → not (has_none (seats_of (join p l))) ≡ true
+  pub join_seats : (p : Piece bytes) (l : List (Piece bytes)) → 0 < length p.seats → not (has_none (seats_of (join p l))) ≡ true
   join_seats p [] h = some_front p.seats [] h
   join_seats p (r ∷ rs) h = by (has_none r.before)
     where
@@ -65,7 +65,7 @@ module _ (bytes : List ℕ) where
       by false = some_front p.seats (seats_of (r ∷ rs)) h
 
   -- what is before the first piece comes first
-  join_before : (h : Bool) (b : List Mark) (s : List Seat) (l : List (Piece bytes)) → chunks_of bytes h (join (record { before = b; seats = s }) l) ≡ b ++ chunks_of bytes h (join (record { before = []; seats = s }) l)
+  pub join_before : (h : Bool) (b : List Mark) (s : List Seat) (l : List (Piece bytes)) → chunks_of bytes h (join (record { before = b; seats = s }) l) ≡ b ++ chunks_of bytes h (join (record { before = []; seats = s }) l)
   join_before h b s [] = refl
   join_before h b s (r ∷ rs) = by (has_none r.before)
     where
@@ -73,7 +73,7 @@ module _ (bytes : List ℕ) where
       by true = refl
       by false = refl
 
-  join_before_seats : (b : List Mark) (s : List Seat) (l : List (Piece bytes)) → seats_of (join (record { before = b; seats = s }) l) ≡ seats_of (join (record { before = []; seats = s }) l)
+  pub join_before_seats : (b : List Mark) (s : List Seat) (l : List (Piece bytes)) → seats_of (join (record { before = b; seats = s }) l) ≡ seats_of (join (record { before = []; seats = s }) l)
   join_before_seats b s [] = refl
   join_before_seats b s (r ∷ rs) = by (has_none r.before)
     where
@@ -84,13 +84,13 @@ module _ (bytes : List ℕ) where
   -- ---- one line more of a stretch
 
   module _ (is_held : Bool) (kept : List Seat) (r : Row) where
-    abbrev front_of : List Mark
+    abbrev pub front_of : List Mark
     front_of = prefixes_marks bytes r.went_on r.line
 
-    abbrev last_of : List Seat
+    abbrev pub last_of : List Seat
     last_of = drop r.columns (cond is_held r.line (line_text r.line))
 
-    abbrev kept_of : List Seat
+    abbrev pub kept_of : List Seat
     kept_of = drop r.columns r.line
 
     -- it has no prefix: the piece goes on
@@ -102,7 +102,7 @@ module _ (bytes : List ℕ) where
         ∙ sym (join_is (record { before = []; seats = kept ++ kept_of }) (pieces_of bytes is_held q qs))
 
     -- it has one: the piece ends
-    ends : (has_previous : Bool) (s : List Seat) (l : List (Piece bytes)) → has_none front_of ≡ false
+    pub ends : (has_previous : Bool) (s : List Seat) (l : List (Piece bytes)) → has_none front_of ≡ false
         → chunks_of bytes has_previous (join (record { before = []; seats = kept }) (join (record { before = front_of; seats = s }) l))
         ≡ chunk_span bytes (Some (record { content = content.Content; has_previous = has_previous; has_next = not (has_none (seats_of (join (record { before = []; seats = s }) l))) })) name.Data kept []
         ++ (front_of ++ chunks_of bytes true (join (record { before = []; seats = s }) l))
@@ -139,7 +139,7 @@ module _ (bytes : List ℕ) where
   plain_prefixes [] ss = tt
   plain_prefixes (p ∷ ps) ss = plain_append (going_marks bytes p.container (take p.size ss)) _ (plain_going p.container (take p.size ss)) (plain_prefixes ps (drop p.size ss))
 
-  going_empty : (c : Container) → going_marks bytes c [] ≡ []
+  pub going_empty : (c : Container) → going_marks bytes c [] ≡ []
   going_empty (quote line) = refl
   going_empty (item i) = refl
 
@@ -154,15 +154,15 @@ module _ (bytes : List ℕ) where
       let m : columns_of ps ≡ 0 = omega (arith, e, columns_more p ps) in
       (λ k. going_marks bytes p.container (take (n k) ss) ++ prefixes_marks bytes ps (drop (n k) ss)) ∙ (λ k. going_empty p.container k ++ prefixes_marks bytes ps ss) ∙ prefixes_none ps ss m
 
-  some_span : (n : Name) (ss : List Seat) (inside : List Mark) → 0 < length ss → has_none (span_marks bytes n ss inside) ≡ false
+  pub some_span : (n : Name) (ss : List Seat) (inside : List Mark) → 0 < length ss → has_none (span_marks bytes n ss inside) ≡ false
   some_span n [] inside h = absurd (omega arith)
   some_span n (s ∷ ss) inside h = refl
 
-  none_right : (xs ys : List Mark) → has_none ys ≡ false → has_none (xs ++ ys) ≡ false
+  pub none_right : (xs ys : List Mark) → has_none ys ≡ false → has_none (xs ++ ys) ≡ false
   none_right [] ys e = e
   none_right (x ∷ xs) ys e = refl
 
-  going_some : (c : Container) (ss : List Seat) → 0 < length ss → has_none (going_marks bytes c ss) ≡ false
+  pub going_some : (c : Container) (ss : List Seat) → 0 < length ss → has_none (going_marks bytes c ss) ≡ false
   going_some (quote line) ss h = by (indent (bytes_of ss))
     where
       inside : ℕ → List Mark

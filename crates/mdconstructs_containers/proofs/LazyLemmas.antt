@@ -28,7 +28,7 @@ use Rattle.mdconstructs_containers.proofs.SeatLemmas.{seats_drop}
 use Rattle.mdconstructs_containers.proofs.StretchLemmas.{row_bytes, row_seats}
 
 -- the marks of an underline are behind its white space
-underline_some : (on : Constructs) (u : List ℕ) → is_some (underline_rank on u) ≡ true → 1 ≤ length (unindented u)
+pub underline_some : (on : Constructs) (u : List ℕ) → is_some (underline_rank on u) ≡ true → 1 ≤ length (unindented u)
 underline_some on u e = by (is_far on u || not on.heading_setext) (begins_with 61 (unindented u)) (is_blank_line (drop (run 61 (unindented u)) (unindented u))) (begins_with 45 (unindented u)) (is_blank_line (drop (run 45 (unindented u)) (unindented u))) refl refl e
   where
     by : (a b c d f : Bool) → begins_with 61 (unindented u) ≡ b → begins_with 45 (unindented u) ≡ d → is_some {T = ℕ} (cond a None (cond (b && c) (Some 1) (cond (d && f) (Some 2) None))) ≡ true → 1 ≤ length (unindented u)
@@ -43,10 +43,10 @@ pub record HasLeft (t : ℕ) (bytes : List ℕ) (xs : List RowAt) (rs : List Row
   pub left : AreLeft bytes t stack xs rs
 
 module _ (t : ℕ) (bytes : List ℕ) (some : 0 < t) (limit : t * length bytes + 1 < 2 ^ 64) (on : Constructs) (x : RowAt) (xs : List RowAt) (r : Row) (rs : List Row) (has : HasLeft t bytes (x ∷ xs) (r ∷ rs)) where
-  abbrev text : List ℕ
+  abbrev pub text : List ℕ
   text = line_bytes t x.span.number 1 x.span.start (drop x.span.start bytes)
 
-  the : IsRowIn t bytes has.stack has.left.number has.left.start x r
+  pub the : IsRowIn t bytes has.stack has.left.number has.left.start x r
   the = has.left.are.0
 
   pub lazy_inside : x.span.start ≤ length bytes
@@ -64,11 +64,11 @@ module _ (t : ℕ) (bytes : List ℕ) (some : 0 < t) (limit : t * length bytes +
   pub lazy_behind : HasLeft t bytes xs rs
   lazy_behind = record { stack = open_behind has.stack r; left = record { number = suc has.left.number; start = x.span.next; are = has.left.are.1; outside = next_outside t bytes some limit has.stack x xs r rs has.left; few = next_few t bytes some limit has.stack x xs r rs has.left } }
 
-  rest_is : drop x.row.columns (line_bytes t x.span.number 1 x.span.start (drop x.span.start bytes)) ≡ rest_of r
+  pub rest_is : drop x.row.columns (line_bytes t x.span.number 1 x.span.start (drop x.span.start bytes)) ≡ rest_of r
   rest_is = λ k. drop (the.is.columns k) (row_bytes t bytes some limit has.stack has.left.number has.left.start x r the has.left.outside k)
 
   -- the mark at its place
-  mark_is : is_some (underline_rank on (rest_of r)) ≡ true → (place_after t bytes (point x.span.number 1 x.span.start 0) (r.columns + indent (rest_of r))).index ∷ [] ≡ map (λ (s : Seat). s.point.index) (take 1 (drop (r.columns + indent (rest_of r)) r.line))
+  pub mark_is : is_some (underline_rank on (rest_of r)) ≡ true → (place_after t bytes (point x.span.number 1 x.span.start 0) (r.columns + indent (rest_of r))).index ∷ [] ≡ map (λ (s : Seat). s.point.index) (take 1 (drop (r.columns + indent (rest_of r)) r.line))
   mark_is e =
       let k = r.columns + indent (rest_of r) in
       let ss = line_text r.line in

@@ -15,7 +15,7 @@ use Rattle.markdown_children.specs.Reads.{pieces_of}
 use Rattle.mdconstructs_containers.specs.Letters.{ArePlainFrom, LettersKeepPlaces, LettersKeepTexts, is_plain, letter, lettered_from, lettered_seat, lettered_text, with_letters}
 
 -- a plain byte is none of these
-plain_is_no : (b q : ℕ) → is_plain q ≡ false → is_plain b ≡ true → (b == q) ≡ false
+pub plain_is_no : (b q : ℕ) → is_plain q ≡ false → is_plain b ≡ true → (b == q) ≡ false
 plain_is_no b q out is = by (b == q) refl
   where
     by : (x : Bool) → (b == q) ≡ x → x ≡ false
@@ -24,7 +24,7 @@ plain_is_no b q out is = by (b == q) refl
 
 module _ (at : List ℕ) where
   -- tests for bytes that no letter replaces answer the same
-  byte_kept : (q : ℕ) → (letter == q) ≡ false → is_plain q ≡ false → (n : ℕ) (bs : List ℕ) (j : ℕ) → ArePlainFrom n at bs → (get_or (lettered_from n at bs) j 0 == q) ≡ (get_or bs j 0 == q)
+  pub byte_kept : (q : ℕ) → (letter == q) ≡ false → is_plain q ≡ false → (n : ℕ) (bs : List ℕ) (j : ℕ) → ArePlainFrom n at bs → (get_or (lettered_from n at bs) j 0 == q) ≡ (get_or bs j 0 == q)
   byte_kept q other out n [] j plain = refl
   byte_kept q other out n (b ∷ bs) (suc j) plain = byte_kept q other out (suc n) bs j plain.1
   byte_kept q other out n (b ∷ bs) zero plain = by (list_any (λ i. i == n) at) refl
@@ -33,25 +33,25 @@ module _ (at : List ℕ) where
       by true e = other ∙ sym (plain_is_no b q out (plain.0 e))
       by false e = refl
 
-  lf_kept : (n : ℕ) (bs : List ℕ) → ArePlainFrom n at bs → begins_with_lf (lettered_from n at bs) ≡ begins_with_lf bs
+  pub lf_kept : (n : ℕ) (bs : List ℕ) → ArePlainFrom n at bs → begins_with_lf (lettered_from n at bs) ≡ begins_with_lf bs
   lf_kept n [] plain = refl
   lf_kept n (b ∷ bs) plain = byte_kept 10 refl refl n (b ∷ bs) 0 plain
 
   -- the seats of a tab stay
-  tab_kept : (k byte line column index vs : ℕ) → list_any (λ i. i == index) at ≡ false → map (lettered_seat at) (in_tab byte k line column index vs) ≡ in_tab byte k line column index vs
+  pub tab_kept : (k byte line column index vs : ℕ) → list_any (λ i. i == index) at ≡ false → map (lettered_seat at) (in_tab byte k line column index vs) ≡ in_tab byte k line column index vs
   tab_kept zero byte line column index vs e = refl
   tab_kept (suc k) byte line column index vs e =
       (λ i. record { byte = cond (e i) letter byte; point = point line column index vs; end = end_in_tab k line column index vs } ∷ tab_kept k 32 line (suc column) index (suc vs) e i)
 
   module _ (t : ℕ) where
     -- one byte's virtual bytes, and those of what comes behind it
-    abbrev step : (lf cr lf_comes tab : Bool) → (b line column index : ℕ) → (ℕ → ℕ → List Seat) → List Seat
+    abbrev pub step : (lf cr lf_comes tab : Bool) → (b line column index : ℕ) → (ℕ → ℕ → List Seat) → List Seat
     step lf cr lf_comes tab b line column index rest =
         cond lf (line_feed line column index ∷ rest (suc line) 1)
         (cond cr (cond lf_comes (rest line column) (line_feed line column index ∷ rest (suc line) 1))
         (cond tab (in_tab 9 (tab_width t column) line column index 0 ++ rest line (column + tab_width t column)) (other_byte b line column index ∷ rest line (suc column))))
 
-    step_kept : (b line column index : ℕ) (new old : ℕ → ℕ → List Seat) → ((l c : ℕ) → new l c ≡ map (lettered_seat at) (old l c)) → list_any (λ i. i == index) at ≡ false
+    pub step_kept : (b line column index : ℕ) (new old : ℕ → ℕ → List Seat) → ((l c : ℕ) → new l c ≡ map (lettered_seat at) (old l c)) → list_any (λ i. i == index) at ≡ false
         → (lf cr lf_comes tab : Bool) → step lf cr lf_comes tab b line column index new ≡ map (lettered_seat at) (step lf cr lf_comes tab b line column index old)
     step_kept b line column index new old rest e true cr lf_comes tab = (λ i. record (line_feed line column index) { byte = cond (sym e i) letter 10 } ∷ rest (suc line) 1 i)
     step_kept b line column index new old rest e false true true tab = rest line column
@@ -62,7 +62,7 @@ module _ (at : List ℕ) where
         ∙ sym (map-append (lettered_seat at) seats (old line (column + tab_width t column)))
     step_kept b line column index new old rest e false false lf_comes false = (λ i. record (other_byte b line column index) { byte = cond (sym e i) letter b } ∷ rest line (suc column) i)
 
-    step_letter : (b line column index : ℕ) (new old : ℕ → ℕ → List Seat) → ((l c : ℕ) → new l c ≡ map (lettered_seat at) (old l c)) → list_any (λ i. i == index) at ≡ true
+    pub step_letter : (b line column index : ℕ) (new old : ℕ → ℕ → List Seat) → ((l c : ℕ) → new l c ≡ map (lettered_seat at) (old l c)) → list_any (λ i. i == index) at ≡ true
         → (lf cr lf_comes tab : Bool) → (not tab && (not lf && not cr)) ≡ true
         → (other_byte letter line column index ∷ new line (suc column)) ≡ map (lettered_seat at) (step lf cr lf_comes tab b line column index old)
     step_letter b line column index new old rest e lf cr lf_comes true plain = absurd (false≢true plain)
@@ -70,7 +70,7 @@ module _ (at : List ℕ) where
     step_letter b line column index new old rest e false true lf_comes false plain = absurd (false≢true plain)
     step_letter b line column index new old rest e false false lf_comes false plain = (λ i. record (other_byte b line column index) { byte = cond (sym e i) letter b } ∷ rest line (suc column) i)
 
-    virtual_kept : (line column index : ℕ) (bs : List ℕ) → ArePlainFrom index at bs → virtual_from t line column index (lettered_from index at bs) ≡ map (lettered_seat at) (virtual_from t line column index bs)
+    pub virtual_kept : (line column index : ℕ) (bs : List ℕ) → ArePlainFrom index at bs → virtual_from t line column index (lettered_from index at bs) ≡ map (lettered_seat at) (virtual_from t line column index bs)
     virtual_kept line column index [] plain = refl
     virtual_kept line column index (b ∷ bs) plain =
         by (list_any (λ i. i == index) at) refl (λ l c. virtual_kept l c (suc index) bs plain.1)
@@ -85,28 +85,28 @@ module _ (at : List ℕ) where
             ap (λ f. step (b == 10) (b == 13) f (b == 9) b line column index new) (lf_kept (suc index) bs plain.1)
             ∙ step_kept b line column index new (λ l c. virtual_from t l c (suc index) bs) rest e (b == 10) (b == 13) (begins_with_lf bs) (b == 9)
 
-  follows_kept : (bytes : List ℕ) (i : ℕ) → ArePlainFrom 0 at bytes → follows_cr (with_letters at bytes) i ≡ follows_cr bytes i
+  pub follows_kept : (bytes : List ℕ) (i : ℕ) → ArePlainFrom 0 at bytes → follows_cr (with_letters at bytes) i ≡ follows_cr bytes i
   follows_kept bytes zero plain = refl
   follows_kept bytes (suc i) plain = byte_kept 13 refl refl 0 bytes i plain
 
-  shown_kept : (bytes : List ℕ) (p : Point) → ArePlainFrom 0 at bytes → shown (with_letters at bytes) p ≡ shown bytes p
+  pub shown_kept : (bytes : List ℕ) (p : Point) → ArePlainFrom 0 at bytes → shown (with_letters at bytes) p ≡ shown bytes p
   shown_kept bytes p plain = (λ i. cond (byte_kept 10 refl refl 0 bytes p.index plain i && follows_kept bytes p.index plain i) (record { line = p.line; column = p.column; index = p.index - 1; vs = p.vs }) p)
 
-  end_kept : (p : Point) (ss : List Seat) → end_after p (map (lettered_seat at) ss) ≡ end_after p ss
+  pub end_kept : (p : Point) (ss : List Seat) → end_after p (map (lettered_seat at) ss) ≡ end_after p ss
   end_kept p [] = refl
   end_kept p (s ∷ ss) = end_kept s.end ss
 
-  points_kept : (bytes : List ℕ) (ss : List Seat) → ArePlainFrom 0 at bytes
+  pub points_kept : (bytes : List ℕ) (ss : List Seat) → ArePlainFrom 0 at bytes
       → flat_map (λ s. shown (with_letters at bytes) s.point ∷ s.point ∷ []) (map (lettered_seat at) ss) ≡ flat_map (λ s. shown bytes s.point ∷ s.point ∷ []) ss
   points_kept bytes [] plain = refl
   points_kept bytes (s ∷ ss) plain = (λ i. shown_kept bytes s.point plain i ∷ s.point ∷ points_kept bytes ss plain i)
 
-  order_kept : (p q : Point) (ss : List Seat)
+  pub order_kept : (p q : Point) (ss : List Seat)
       → list_all (λ s. not (stands_before s.point p) || stands_before s.point q) (map (lettered_seat at) ss) ≡ list_all (λ s. not (stands_before s.point p) || stands_before s.point q) ss
   order_kept p q [] = refl
   order_kept p q (s ∷ ss) = ap (λ x. (not (stands_before s.point p) || stands_before s.point q) && x) (order_kept p q ss)
 
-  range_kept : (from to : Point) (ss : List Seat) → filter (in_range from to) (map (lettered_seat at) ss) ≡ map (lettered_seat at) (filter (in_range from to) ss)
+  pub range_kept : (from to : Point) (ss : List Seat) → filter (in_range from to) (map (lettered_seat at) ss) ≡ map (lettered_seat at) (filter (in_range from to) ss)
   range_kept from to [] = refl
   range_kept from to (s ∷ ss) = by (in_range from to s) (range_kept from to ss)
     where
@@ -129,7 +129,7 @@ places_kept t at bytes plain =
     }
 
 module _ (at : List ℕ) (g : Given) (plain : ArePlainFrom 0 at g.bytes) where
-  follows_both : (text : Text) (piece : Piece) → followed_by (record g { bytes = with_letters at g.bytes }) (lettered_text at text) piece ≡ lettered_text at (followed_by g text piece)
+  pub follows_both : (text : Text) (piece : Piece) → followed_by (record g { bytes = with_letters at g.bytes }) (lettered_text at text) piece ≡ lettered_text at (followed_by g text piece)
   follows_both text (pushed from to) =
       let seats = ap (filter (in_range from to)) (virtual_kept at g.tab 1 1 0 g.bytes plain) ∙ range_kept at from to (virtual g.tab g.bytes) in
       (λ i. record { start = text.start; seats = map (lettered_seat at) text.seats ++ seats i; end = to })
@@ -143,7 +143,7 @@ module _ (at : List ℕ) (g : Given) (plain : ArePlainFrom 0 at g.bytes) where
       by true = refl
       by false = refl
 
-  follow_both : (text : Text) (pieces : List Piece) → followed_by_all (record g { bytes = with_letters at g.bytes }) (lettered_text at text) pieces ≡ lettered_text at (followed_by_all g text pieces)
+  pub follow_both : (text : Text) (pieces : List Piece) → followed_by_all (record g { bytes = with_letters at g.bytes }) (lettered_text at text) pieces ≡ lettered_text at (followed_by_all g text pieces)
   follow_both text [] = refl
   follow_both text (piece ∷ pieces) = ap (λ x. followed_by_all (record g { bytes = with_letters at g.bytes }) x pieces) (follows_both text piece) ∙ follow_both (followed_by g text piece) pieces
 

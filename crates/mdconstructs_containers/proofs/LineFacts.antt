@@ -30,7 +30,7 @@ line_text_at t line index bs =
     let at = index + prefix_len is_in_line bs in
     filter_front seats (ending_seats line column at size) ∙ ap (λ (l : List Seat). text ++ l) (ending_is_none line column at size) ∙ append-nil text
 
-ending_front : (xs ys : List Seat) → filter is_line_ending (take (prefix_len is_no_ending xs) xs ++ ys) ≡ filter is_line_ending ys
+pub ending_front : (xs ys : List Seat) → filter is_line_ending (take (prefix_len is_no_ending xs) xs ++ ys) ≡ filter is_line_ending ys
 ending_front [] ys = refl
 ending_front (x ∷ xs) ys = by (is_line_ending x) refl (ending_front xs ys)
   where
@@ -41,7 +41,7 @@ ending_front (x ∷ xs) ys = by (is_line_ending x) refl (ending_front xs ys)
         let on : 1 + prefix_len is_no_ending xs ≡ suc (prefix_len is_no_ending xs) = omega arith in
         (λ k. filter is_line_ending (take (on k) (x ∷ xs) ++ ys)) ∙ ap (λ b. cond b (x ∷ filter is_line_ending (take (prefix_len is_no_ending xs) xs ++ ys)) (filter is_line_ending (take (prefix_len is_no_ending xs) xs ++ ys))) e ∙ h
 
-ending_is_all : (line column index size : ℕ) → filter is_line_ending (ending_seats line column index size) ≡ ending_seats line column index size
+pub ending_is_all : (line column index size : ℕ) → filter is_line_ending (ending_seats line column index size) ≡ ending_seats line column index size
 ending_is_all line column index zero = refl
 ending_is_all line column index (suc k) = refl
 
@@ -74,7 +74,7 @@ module _ (bytes : List ℕ) where
   lf_first_byte [] b e = e
   lf_first_byte (x ∷ xs) b e = e
 
-  lf_no_cr : (bs : List ℕ) → begins_with_lf bs ≡ true → (slice_index bs 0 == 13) ≡ false
+  pub lf_no_cr : (bs : List ℕ) → begins_with_lf bs ≡ true → (slice_index bs 0 == 13) ≡ false
   lf_no_cr [] e = absurd (false≢true e)
   lf_no_cr (x ∷ xs) e = ap (λ k. k == 13) (eqb-true x 10 e)
 
@@ -101,7 +101,7 @@ module _ (bytes : List ℕ) where
       by (b ∷ bs) d n = one b bs d (b == 13) refl (begins_with_lf bs) refl n
 
   -- the byte before the end of a front passes
-  last_passes : (i : ℕ) (bs : List ℕ) (m : ℕ) → drop i bytes ≡ bs → prefix_len is_in_line bs ≡ suc m → (slice_index bytes (i + m) == 13) ≡ false
+  pub last_passes : (i : ℕ) (bs : List ℕ) (m : ℕ) → drop i bytes ≡ bs → prefix_len is_in_line bs ≡ suc m → (slice_index bytes (i + m) == 13) ≡ false
   last_passes i [] m d e = absurd (omega (arith, e))
   last_passes i (b ∷ bs) m d e = by (b == 10) (b == 13) refl e (λ k f. last_passes (suc i) bs k (rest_at i b bs d) f)
     where

@@ -18,11 +18,11 @@ use Rattle.mdconstructs_containers.specs.Views.{IsRow, begun_of}
 use Rattle.mdconstructs_containers.proofs.CostLemmas.{after_further, asks_few, bare_paid, bare_turned, other_paid, other_turned}
 use Rattle.mdconstructs_containers.proofs.FrameFacts.{none_is}
 
-none_same : (list number : ℕ) (xs : List CodePrefix) (ps : List Prefix) → begun_of list number xs ≡ ps → has_none xs ≡ has_none ps
+pub none_same : (list number : ℕ) (xs : List CodePrefix) (ps : List Prefix) → begun_of list number xs ≡ ps → has_none xs ≡ has_none ps
 none_same list number [] ps e = ap has_none e
 none_same list number (x ∷ xs) ps e = ap has_none e
 
-begun_same : (list number : ℕ) (xs : List CodePrefix) (ps : List Prefix) → begun_of list number xs ≡ ps → length xs ≡ length ps
+pub begun_same : (list number : ℕ) (xs : List CodePrefix) (ps : List Prefix) → begun_of list number xs ≡ ps → length xs ≡ length ps
 begun_same list number [] ps e = ap (λ (l : List Prefix). length l) e
 begun_same list number (x ∷ xs) ps e = ap suc (sym (length-map xs (prefix_of number))) ∙ ap (λ (l : List Prefix). length l) e
 
@@ -32,7 +32,7 @@ pub asked_all : (ys : List Row) (asked from to opens : ℕ) → FirstIsNotLazy y
 asked_all [] asked from to opens f h = tt
 asked_all (y ∷ ys) asked from to opens f h = (f, inl h)
 
-asked_bare : (r : Row) (ys : List Row) (st all from to opens : ℕ) → FirstIsNotLazy ys → Follows r ys → is_bare r ≡ true → length r.went_on ≤ all → min all (going_on_at ys) ≤ st → from ≡ st → to ≡ all → IsAsked st from to opens ys
+pub asked_bare : (r : Row) (ys : List Row) (st all from to opens : ℕ) → FirstIsNotLazy ys → Follows r ys → is_bare r ≡ true → length r.went_on ≤ all → min all (going_on_at ys) ≤ st → from ≡ st → to ≡ all → IsAsked st from to opens ys
 asked_bare r [] st all from to opens f follows bare few least ef et = tt
 asked_bare r (y ∷ ys) st all from to opens f follows bare few least ef et =
     let fewer = follows.1 bare in
@@ -40,24 +40,24 @@ asked_bare r (y ∷ ys) st all from to opens f follows bare few least ef et =
     let within : min to (going_on_at (y ∷ ys)) ≤ from = omega (arith, least, ef, et) in
     (f, inr (sym ef, going, within))
 
-first_behind : (r : Row) (rs : List Row) → Follows r rs → r.is_blank ≡ true → FirstIsNotLazy rs
+pub first_behind : (r : Row) (rs : List Row) → Follows r rs → r.is_blank ≡ true → FirstIsNotLazy rs
 first_behind r [] follows h = tt
 first_behind r (s ∷ rs) follows h = follows.0 h
 
 module _ (r : Row) (rs : List Row) (paid : ArePaid (r ∷ rs)) (n : ℕ) (x : CodeRow) (is : IsRow n x r) (size : ℕ) (small : r.columns ≤ size) where
-  abbrev bare : Bool
+  abbrev pub bare : Bool
   bare = x.is_blank && has_none x.begun.items
 
-  bare_is : bare ≡ is_bare r
+  pub bare_is : bare ≡ is_bare r
   bare_is = λ i. is.is_blank i && none_same x.list n x.begun.items r.begun is.begun i
 
-  nothing_begun : bare ≡ true → length x.begun.items ≡ 0
+  pub nothing_begun : bare ≡ true → length x.begun.items ≡ 0
   nothing_begun e = ap (λ (l : List CodePrefix). length l) (none_is x.begun.items (and-right x.is_blank (has_none x.begun.items) e))
 
-  counted : bare ≡ false → x.many + length x.begun.items ≤ size
+  pub counted : bare ≡ false → x.many + length x.begun.items ≤ size
   counted e = let columns = paid.0.columns (sym bare_is ∙ e) in let begun = begun_same x.list n x.begun.items r.begun is.begun in omega (arith, columns, begun, is.many, small)
 
-  not_left : bare ≡ false → x.is_left_blank ≡ false
+  pub not_left : bare ≡ false → x.is_left_blank ≡ false
   not_left e = by x.is_left_blank refl
     where
       by : (b : Bool) → x.is_left_blank ≡ b → x.is_left_blank ≡ false
@@ -80,38 +80,38 @@ module _ (r : Row) (rs : List Row) (paid : ArePaid (r ∷ rs)) (n : ℕ) (x : Co
         (below : x.is_blank ≡ true → st ≤ max seen ahead.many) (within : st ≤ all) (t4 k : ℕ) (four : t4 + k ≤ t3 + w) (least_k : min w st ≤ k) where
       -- behind a bare line
       module _ (e : bare ≡ true) where
-        blank : x.is_blank ≡ true
+        pub blank : x.is_blank ≡ true
         blank = and-left x.is_blank (has_none x.begun.items) e
 
-        all_is : all ≡ x.many
+        pub all_is : all ≡ x.many
         all_is = let none = nothing_begun e in omega (arith, most, least_all, none)
 
-        ahead_many : (going_on_at (r ∷ rs) ≡ ahead.many) ⊎ (going_on_at (r ∷ rs) ≡ all)
+        pub ahead_many : (going_on_at (r ∷ rs) ≡ ahead.many) ⊎ (going_on_at (r ∷ rs) ≡ all)
         ahead_many = by r.is_left_blank
           where
             by : (b : Bool) → (cond b (going_on_at rs) (length r.went_on) ≡ ahead.many) ⊎ (cond b (going_on_at rs) (length r.went_on) ≡ all)
             by true = inl (sym (ap (λ (a : Ahead). a.many) ahead_is))
             by false = inr (let same = all_is in omega (arith, same, is.many))
 
-        asked_is : (opens ≤ before.asked) ⊎ ((before.asked ≡ from) × (all ≤ to) × (min to (going_on_at (r ∷ rs)) ≤ from))
+        pub asked_is : (opens ≤ before.asked) ⊎ ((before.asked ≡ from) × (all ≤ to) × (min to (going_on_at (r ∷ rs)) ≤ from))
         asked_is = elim before.are.1 [
           | inl h ↦ inl h
           | inr h ↦ inr (h.0, (let same = all_is in let fit : length r.went_on ≤ to = h.1 in omega (arith, same, fit, is.many)), h.2)
         ]
 
-        asks_asked : t3 + st ≤ t2 + before.asked
+        pub asks_asked : t3 + st ≤ t2 + before.asked
         asks_asked =
             let all_few : all ≤ opens = let same = all_is in omega (arith, same, few) in
             asks_few before.asked from to opens all (going_on_at (r ∷ rs)) asked_is all_few (has_none x.begun.items) seen ahead.many t2 (t3 + st) (and-right x.is_blank (has_none x.begun.items) e) ahead_many seen_is three (asks blank)
 
-        stands_asked : st ≤ before.asked
+        pub stands_asked : st ≤ before.asked
         stands_asked =
             let all_few : all ≤ opens = let same = all_is in omega (arith, same, few) in
             let most_st : st ≤ max seen ahead.many = below blank in
             let h = asks_few before.asked from to opens all (going_on_at (r ∷ rs)) asked_is all_few (has_none x.begun.items) seen ahead.many 0 st (and-right x.is_blank (has_none x.begun.items) e) ahead_many seen_is (omega (arith, within)) (omega (arith, most_st)) in
             omega (arith, h)
 
-        front : st ≤ x.many
+        pub front : st ≤ x.many
         front = let same = all_is in omega (arith, same, within)
 
       pub part_turned : (t5 : ℕ) → t5 ≤ t4 + fl + (st - k) → t5 ≤ budget + 3 * size

@@ -55,10 +55,10 @@ module _ (t : ℕ) (bytes : List ℕ) (some : 0 < t) (limit : t * length bytes +
   pub next_few : suc left.number ≤ suc first.span.next
   next_few = let on = next_more bytes left.start first.span.next row.placed.inside (next_is bytes left.start first.span.end first.span.next row.placed.end_is row.placed.next_is) in omega (arith, on, left.few)
 
-  rows_behind : AreRowsIn t bytes (open_behind stack r) (suc left.number) first.span.next behind rs
+  pub rows_behind : AreRowsIn t bytes (open_behind stack r) (suc left.number) first.span.next behind rs
   rows_behind = left.are.1
 
-  same_length : (s : List Container) (number start : ℕ) (xs : List RowAt) (qs : List Row) → AreRowsIn t bytes s number start xs qs → length xs ≡ length qs
+  pub same_length : (s : List Container) (number start : ℕ) (xs : List RowAt) (qs : List Row) → AreRowsIn t bytes s number start xs qs → length xs ≡ length qs
   same_length s number start [] [] are = refl
   same_length s number start [] (q ∷ qs) are = absurd are
   same_length s number start (x ∷ xs) [] are = absurd are
@@ -120,7 +120,7 @@ module _ (t : ℕ) (bytes : List ℕ) (some : 0 < t) (limit : t * length bytes +
 
 -- ---- what a line without its line ending is from a column on
 
-filter_short : {A : Type 0} (p : A → Bool) (xs : List A) → length (filter p xs) ≤ length xs
+pub filter_short : {A : Type 0} (p : A → Bool) (xs : List A) → length (filter p xs) ≤ length xs
 filter_short p [] = omega arith
 filter_short p (x ∷ xs) = by (p x) (filter_short p xs)
   where
@@ -128,7 +128,7 @@ filter_short p (x ∷ xs) = by (p x) (filter_short p xs)
     by true h = omega arith
     by false h = omega arith
 
-filter_again : {A : Type 0} (p : A → Bool) (xs : List A) → filter p (filter p xs) ≡ filter p xs
+pub filter_again : {A : Type 0} (p : A → Bool) (xs : List A) → filter p (filter p xs) ≡ filter p xs
 filter_again p [] = refl
 filter_again p (x ∷ xs) = by (p x) refl (filter_again p xs)
   where
@@ -136,10 +136,10 @@ filter_again p (x ∷ xs) = by (p x) refl (filter_again p xs)
     by true e h = ap (λ b. cond b (x ∷ filter p (filter p xs)) (filter p (filter p xs))) e ∙ ap (λ l. x ∷ l) h
     by false e h = h
 
-tail_same : {A : Type 0} (x : A) (xs ys : List A) → x ∷ xs ≡ x ∷ ys → xs ≡ ys
+pub tail_same : {A : Type 0} (x : A) (xs ys : List A) → x ∷ xs ≡ x ∷ ys → xs ≡ ys
 tail_same x xs ys h = cc
 
-filter_drop : {A : Type 0} (p : A → Bool) (k : ℕ) (xs : List A) → filter p xs ≡ xs → filter p (drop k xs) ≡ drop k xs
+pub filter_drop : {A : Type 0} (p : A → Bool) (k : ℕ) (xs : List A) → filter p xs ≡ xs → filter p (drop k xs) ≡ drop k xs
 filter_drop p zero xs e = e
 filter_drop p (suc k) [] e = refl
 filter_drop p (suc k) (x ∷ xs) e = by (p x) e (λ h. filter_drop p k xs h)
@@ -148,7 +148,7 @@ filter_drop p (suc k) (x ∷ xs) e = by (p x) e (λ h. filter_drop p k xs h)
     by true h f = f (tail_same x (filter p xs) xs h)
     by false h f = absurd (omega (arith, ap length h, filter_short p xs))
 
-filter_both : {A : Type 0} (p : A → Bool) (xs ys : List A) → filter p (xs ++ ys) ≡ filter p xs ++ filter p ys
+pub filter_both : {A : Type 0} (p : A → Bool) (xs ys : List A) → filter p (xs ++ ys) ≡ filter p xs ++ filter p ys
 filter_both p [] ys = refl
 filter_both p (x ∷ xs) ys = by (p x) (filter_both p xs ys)
   where
@@ -166,7 +166,7 @@ text_from line k parts_are w =
     ap (λ (l : List Seat). line_text (drop k l)) parts_are ∙ ap line_text (drop-append-le k (line_text line) (ending_of line) w) ∙ filter_both p (drop k (line_text line)) (ending_of line)
     ∙ (λ i. filter_drop p k (line_text line) again i ++ none i) ∙ append-nil (drop k (line_text line))
 
-have_columns : (number : ℕ) (xs : List CodePrefix) (u : List ℕ) → AreInside xs u → HaveColumns (map (prefix_of number) xs)
+pub have_columns : (number : ℕ) (xs : List CodePrefix) (u : List ℕ) → AreInside xs u → HaveColumns (map (prefix_of number) xs)
 have_columns number [] u h = tt
 have_columns number (x ∷ xs) u h = (inside_some x u h.0, have_columns number xs (drop x.size u) h.1)
 

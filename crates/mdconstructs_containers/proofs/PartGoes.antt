@@ -52,7 +52,7 @@ lines_of rs = map (λ r. r.line) rs
 abbrev pub ending_seats : (held : Bool) → Row → List Row → List Seat
 ending_seats held r more = cond held [] (ending_of (last_of r more).line)
 
-all_seats : (held : Bool) (r : Row) (more : List Row) → IsWhole (last_of r more).line → seats_of held r more ++ ending_seats held r more ≡ all_of (lines_of (r ∷ more))
+pub all_seats : (held : Bool) (r : Row) (more : List Row) → IsWhole (last_of r more).line → seats_of held r more ++ ending_seats held r more ≡ all_of (lines_of (r ∷ more))
 all_seats true r [] w = refl
 all_seats false r [] w = text-and-ending r.line w ∙ sym (append-nil r.line)
 all_seats held r (next ∷ more) w = append_assoc r.line (seats_of held next more) (ending_seats held next more) ∙ ap (λ l. r.line ++ l) (all_seats held next more w)
@@ -62,7 +62,7 @@ last_fits r [] h k = h
 last_fits r (next ∷ more) h k = last_fits next more k.0 k.1
 
 -- the text of its first line comes first
-text_first : (held : Bool) (r : Row) (more : List Row) → IsWhole r.line → IsFront (line_text r.line) (seats_of held r more)
+pub text_first : (held : Bool) (r : Row) (more : List Row) → IsWhole r.line → IsFront (line_text r.line) (seats_of held r more)
 text_first true r [] w = (ending_of r.line, line_front r.line w)
 text_first false r [] w = ([], sym (append-nil (line_text r.line)))
 text_first held r (next ∷ more) w = (ending_of r.line ++ seats_of held next more, ap (λ l. l ++ seats_of held next more) (line_front r.line w) ∙ append_assoc (line_text r.line) (ending_of r.line) (seats_of held next more))
@@ -70,7 +70,7 @@ text_first held r (next ∷ more) w = (ending_of r.line ++ seats_of held next mo
 module _ (t : ℕ) (bytes : List ℕ) where
   -- ---- its pieces
 
-  prefix_over : (r : Row) → RowFits r → has_none r.begun ≡ true → IsPrefixOver t bytes (prefixes_marks bytes r.went_on r.line) (take r.columns r.line)
+  pub prefix_over : (r : Row) → RowFits r → has_none r.begun ≡ true → IsPrefixOver t bytes (prefixes_marks bytes r.went_on r.line) (take r.columns r.line)
   prefix_over r h none =
       let is : columns_of r.went_on ≡ r.columns =
       let few : columns_of r.begun ≡ 0 = ap columns_of (none_is r.begun none) in
@@ -87,14 +87,14 @@ module _ (t : ℕ) (bytes : List ℕ) where
         ends = every_front SeatEnds (columns_of r.went_on) r.line h.line.ends;
       })
 
-  columns_few : (r : Row) → RowFits r → r.columns ≤ length (line_text r.line)
+  pub columns_few : (r : Row) → RowFits r → r.columns ≤ length (line_text r.line)
   columns_few r h = let all = h.columns in let within = h.within in omega (arith, all, within)
 
-  ends_any : (seats : List Seat) (ps : List (Piece bytes)) → ((p : Point) → (end_after p seats).column ≡ 1) → EndsLine t bytes seats ps
+  pub ends_any : (seats : List Seat) (ps : List (Piece bytes)) → ((p : Point) → (end_after p seats).column ≡ 1) → EndsLine t bytes seats ps
   ends_any seats [] h = tt
   ends_any seats (q ∷ qs) h = h
 
-  rows_over : (held : Bool) (r : Row) (more : List Row) → RowFits r → AllByRecursion RowFits more → has_none r.begun ≡ true → AllByRecursion (λ (x : Row). has_none x.begun ≡ true) more → LinesEnd (lines_of (r ∷ more))
+  pub rows_over : (held : Bool) (r : Row) (more : List Row) → RowFits r → AllByRecursion RowFits more → has_none r.begun ≡ true → AllByRecursion (λ (x : Row). has_none x.begun ≡ true) more → LinesEnd (lines_of (r ∷ more))
       → Over t bytes (pieces_of bytes held r more) (seats_of held r more)
   rows_over held r [] h hs none nones ends =
       let whole : (x : Bool) → cond x r.line (line_text r.line) ≡ take r.columns r.line ++ (drop r.columns (cond x r.line (line_text r.line)) ++ []) = λ x. by x in
@@ -135,7 +135,7 @@ module _ (t : ℕ) (bytes : List ℕ) where
       )
 
   -- a line that is not blank has text behind its prefixes
-  text_is_some : (r : Row) → RowFits r → r.is_blank ≡ false → has_none (drop r.columns (line_text r.line)) ≡ false
+  pub text_is_some : (r : Row) → RowFits r → r.is_blank ≡ false → has_none (drop r.columns (line_text r.line)) ≡ false
   text_is_some r h other = by (drop r.columns (line_text r.line)) refl
     where
       same : drop r.columns (text_of r.line) ≡ bytes_of (drop r.columns (line_text r.line))
@@ -145,12 +145,12 @@ module _ (t : ℕ) (bytes : List ℕ) where
       by [] e = absurd (false≢true (sym other ∙ h.blank ∙ ap is_blank_line (same ∙ ap bytes_of e)))
       by (s ∷ ss) e = refl
 
-  line_is_some : (r : Row) → RowFits r → r.is_blank ≡ false → has_none (drop r.columns r.line) ≡ false
+  pub line_is_some : (r : Row) → RowFits r → r.is_blank ≡ false → has_none (drop r.columns r.line) ≡ false
   line_is_some r h other =
       let w = h.line.whole in
       ap has_none (ap (drop r.columns) (line_front r.line w) ∙ drop-append-le r.columns (line_text r.line) (ending_of r.line) (columns_few r h)) ∙ some_more (drop r.columns (line_text r.line)) (ending_of r.line) (text_is_some r h other)
 
-  piece_some : (held : Bool) (r : Row) (more : List Row) → RowFits r → r.is_blank ≡ false → has_none (first_piece held r more).seats ≡ false
+  pub piece_some : (held : Bool) (r : Row) (more : List Row) → RowFits r → r.is_blank ≡ false → has_none (first_piece held r more).seats ≡ false
   piece_some true r [] h other = line_is_some r h other
   piece_some false r [] h other = text_is_some r h other
   piece_some held r (next ∷ more) h other = line_is_some r h other
@@ -159,7 +159,7 @@ module _ (t : ℕ) (bytes : List ℕ) where
   no_prefix = record { forms = no-spans bytes (Forms t bytes) (forms-kept t bytes); spans = no-spans bytes (AreSpans bytes) (accounts-kept bytes); unlinked = tt; none = refl; in_line = tt; ends = tt }
 
   -- the chunks of pieces
-  chunks_go : (fs : List Frame) (a : Point) (js : List (Piece bytes)) (before : List Mark) (seats first rest : List Seat) → AreJoined t bytes js before seats first → has_none first ≡ false → Track t bytes a (seats ++ rest)
+  pub chunks_go : (fs : List Frame) (a : Point) (js : List (Piece bytes)) (before : List Mark) (seats first rest : List Seat) → AreJoined t bytes js before seats first → has_none first ≡ false → Track t bytes a (seats ++ rest)
       → Goes t bytes fs a (elim js as (λ _. List Mark) [ [] ↦ [] | p ∷ ps ↦ chunks_of bytes false (record p { before = [] } ∷ ps) ]) fs (end_after a seats)
   chunks_go fs a [] before seats first rest h some track = absurd h
   chunks_go fs a (p ∷ ps) before seats first rest h some track =
@@ -180,23 +180,23 @@ module _ (t : ℕ) (bytes : List ℕ) where
     pub alone : part.first.is_blank ≡ true → part.more ≡ []
 
   module _ (part : Part) (h : PartIs part) where
-    abbrev r : Row
+    abbrev pub r : Row
     r = part.first
 
-    abbrev line : Line
+    abbrev pub line : Line
     line = r.line
 
-    abbrev m : ℕ
+    abbrev pub m : ℕ
     m = length part.stands
 
     -- the columns in front of what is in it
     abbrev pub cut : ℕ
     cut = cond (has_none r.begun) (columns_of (take m r.went_on)) r.columns
 
-    abbrev seats : List Seat
+    abbrev pub seats : List Seat
     seats = seats_of (is_held part) r part.more
 
-    abbrev ending : List Seat
+    abbrev pub ending : List Seat
     ending = ending_seats (is_held part) r part.more
 
     -- all its prefixes are in front, unless it is blank and nothing begins in it
@@ -231,7 +231,7 @@ module _ (t : ℕ) (bytes : List ℕ) where
         by false e same = refl
 
     -- the marks of its prefixes
-    front_goes : (kept : List Frame) (p : Point) (rest : List Seat) → Track t bytes p (line ++ rest) → Goes t bytes kept p front_marks (kept ++ all_entered r.begun) (end_after p (take cut line))
+    pub front_goes : (kept : List Frame) (p : Point) (rest : List Seat) → Track t bytes p (line ++ rest) → Goes t bytes kept p front_marks (kept ++ all_entered r.begun) (end_after p (take cut line))
     front_goes kept p rest track = by (has_none r.begun) refl
       where
         went_goes : (k : ℕ) → Goes t bytes kept p (prefixes_marks bytes (take k r.went_on) line) kept (end_after p (take (columns_of (take k r.went_on)) line))
@@ -269,7 +269,7 @@ module _ (t : ℕ) (bytes : List ℕ) where
     blank_seats e = (λ k. seats_of (not (e k) && holds_ending (last_of r part.more).leaf) r (h.alone e k))
 
     -- what is behind them
-    inside_goes : (fs : List Frame) (a : Point) (rest : List Seat) → Track t bytes a (drop cut seats ++ rest) → Goes t bytes fs a (inside_of bytes part) fs (end_after a (drop cut seats))
+    pub inside_goes : (fs : List Frame) (a : Point) (rest : List Seat) → Track t bytes a (drop cut seats ++ rest) → Goes t bytes fs a (inside_of bytes part) fs (end_after a (drop cut seats))
     inside_goes fs a rest track = by r.is_blank refl
       where
         w : IsWhole line
@@ -292,10 +292,10 @@ module _ (t : ℕ) (bytes : List ℕ) where
             subst (λ k. Goes t bytes fs a (elim js as (λ _. List Mark) [ [] ↦ [] | p ∷ ps ↦ chunks_of bytes false (record p { before = [] } ∷ ps) ]) fs (end_after a (drop k seats))) (sym c)
             (chunks_go fs a js (first_piece held r part.more).before (drop r.columns seats) (first_piece held r part.more).seats rest are (piece_some held r part.more h.first e) (subst (λ k. Track t bytes a (drop k seats ++ rest)) c track))
 
-    whole_last : IsWhole (last_line bytes part)
+    pub whole_last : IsWhole (last_line bytes part)
     whole_last = (last_fits r part.more h.first h.others).line.whole
 
-    all_are : seats ++ ending ≡ all_of (lines_of (r ∷ part.more))
+    pub all_are : seats ++ ending ≡ all_of (lines_of (r ∷ part.more))
     all_are = all_seats (is_held part) r part.more whole_last
 
     -- from the prefixes on
@@ -323,7 +323,7 @@ module _ (t : ℕ) (bytes : List ℕ) where
         (goes_both t bytes kept p front_marks gs a (inside_of bytes part) gs (end_after p seats) front (subst (Goes t bytes gs a (inside_of bytes part) gs) end inside))
 
     -- the line ending behind it
-    ending_goes : (fs : List Frame) (p : Point) (rest : List Seat) → Track t bytes p (ending ++ rest) → Goes t bytes fs p (ending_marks bytes part) fs (end_after p ending)
+    pub ending_goes : (fs : List Frame) (p : Point) (rest : List Seat) → Track t bytes p (ending ++ rest) → Goes t bytes fs p (ending_marks bytes part) fs (end_after p ending)
     ending_goes fs p rest track = by (is_held part) track
       where
         by : (x : Bool) → Track t bytes p (cond x [] (ending_of (last_of r part.more).line) ++ rest)
@@ -335,7 +335,7 @@ module _ (t : ℕ) (bytes : List ℕ) where
             goes_over t bytes fs p (leaf_marks bytes kind ss) ss rest (leaf_over bytes t kind ss (whole-ending (last_of r part.more).line whole_last)) (leaf_is_unlinked bytes kind ss) track
 
   -- where a line's text ends is shown where its virtual bytes end
-  end_shown : (whole : Line) (xs ys rest : List Seat) (p : Point) → xs ++ ys ≡ whole → has_none whole ≡ false → Track t bytes p (xs ++ (ys ++ rest)) → shown bytes (end_after (begin_of whole) xs) ≡ end_after p xs
+  pub end_shown : (whole : Line) (xs ys rest : List Seat) (p : Point) → xs ++ ys ≡ whole → has_none whole ≡ false → Track t bytes p (xs ++ (ys ++ rest)) → shown bytes (end_after (begin_of whole) xs) ≡ end_after p xs
   end_shown whole [] [] rest p e some track = absurd (false≢true (sym some ∙ ap has_none (sym e)))
   end_shown whole [] (y ∷ ys) rest p e some track = ap (λ l. shown bytes (begin_of l)) (sym e) ∙ track.1.meets
   end_shown whole (x ∷ xs) ys rest p e some track = (track-place t bytes (end_after x.end xs) (ys ++ rest) (track-on t bytes p (x ∷ xs) (ys ++ rest) track)).is_shown
@@ -354,7 +354,7 @@ module _ (t : ℕ) (bytes : List ℕ) where
   -- ---- parts one behind another
 
   module _ (on : Constructs) where
-    lines_end_front : (xs ys : List Line) → LinesEnd (xs ++ ys) → LinesEnd xs
+    pub lines_end_front : (xs ys : List Line) → LinesEnd (xs ++ ys) → LinesEnd xs
     lines_end_front [] ys h = tt
     lines_end_front (x ∷ []) ys h = tt
     lines_end_front (x ∷ y ∷ xs) ys h = (h.0, lines_end_front (y ∷ xs) ys h.1)
@@ -403,7 +403,7 @@ module _ (t : ℕ) (bytes : List ℕ) where
           ∙ append_assoc (seats_of (is_held part_at) head (take many behind)) (ending_seats (is_held part_at) head (take many behind)) (all_of ys)
 
     -- what comes behind a part
-    behind_goes : (bound : ℕ) (part : Part) → PartIs part → (q : Point) (b : Before) (n : ℕ) (ls : List Line) → AreOpen on part.frames b n ls → AllByRecursion LineIs ls → LinesEnd ls → shown bytes (end_of bytes part) ≡ q → length ls ≤ bound
+    pub behind_goes : (bound : ℕ) (part : Part) → PartIs part → (q : Point) (b : Before) (n : ℕ) (ls : List Line) → AreOpen on part.frames b n ls → AllByRecursion LineIs ls → LinesEnd ls → shown bytes (end_of bytes part) ≡ q → length ls ≤ bound
         → let ending = ending_seats (is_held part) part.first part.more in
         Track t bytes q (ending ++ all_of ls) → Goes t bytes part.frames q (behind_marks bytes part (parts_in bound (rows_from on b n ls))) [] (end_after q (ending ++ all_of ls))
     behind_goes bound part fits q b n [] spans lines ends here few track =
@@ -454,7 +454,7 @@ module _ (t : ℕ) (bytes : List ℕ) where
         (goes_both t bytes kept q (ending_marks bytes part) kept a (part_marks bytes next ++ behind_marks bytes next more) [] z end
         (goes_both t bytes kept a (part_marks bytes next) next.frames c (behind_marks bytes next more) [] z whole tail)))
 
-    none_front : (xs ys : List Frame) → [] ≡ xs ++ ys → xs ≡ []
+    pub none_front : (xs ys : List Frame) → [] ≡ xs ++ ys → xs ≡ []
     none_front [] ys e = refl
     none_front (x ∷ xs) ys e = absurd (false≢true (sym (ap has_none e)))
 

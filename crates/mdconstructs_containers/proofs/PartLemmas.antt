@@ -18,7 +18,7 @@ both_none true b e = (refl, e)
 both_none false b e = absurd (false≢true e)
 
 -- an item that began before, as the code says it
-earlier_is : (number : ℕ) (o : Open) → is_earlier number (open_of o) ≡ (not o.container.is_quote && nat_lt o.container.line number)
+pub earlier_is : (number : ℕ) (o : Open) → is_earlier number (open_of o) ≡ (not o.container.is_quote && nat_lt o.container.line number)
 earlier_is number o = by o.container.is_quote
   where
     by : (b : Bool)
@@ -27,7 +27,7 @@ earlier_is number o = by o.container.is_quote
     by true = refl
     by false = refl
 
-earlier_at : (stack : List Open) (number k : ℕ) (d : Open) → is_earlier number (get_or (map open_of stack) k (open_of d)) ≡ (not (get_or stack k d).container.is_quote && nat_lt (get_or stack k d).container.line number)
+pub earlier_at : (stack : List Open) (number k : ℕ) (d : Open) → is_earlier number (get_or (map open_of stack) k (open_of d)) ≡ (not (get_or stack k d).container.is_quote && nat_lt (get_or stack k d).container.line number)
 earlier_at stack number k d = ap (is_earlier number) (get_or-map open_of stack k d) ∙ earlier_is number (get_or stack k d)
 
 -- one item more
@@ -44,16 +44,16 @@ passed_more stack number n d some h e are k f a b = by (cases_lt k n)
 
 module _ (stack : List Open) (many number : ℕ) (d : Open) where
   -- the first of the open containers, from the innermost on
-  abbrev inner : ℕ → List Container
+  abbrev pub inner : ℕ → List Container
   inner n = reverse (map open_of (take n stack))
 
-  inner_size : (n : ℕ) → n ≤ length stack → length (inner n) ≡ n
+  pub inner_size : (n : ℕ) → n ≤ length stack → length (inner n) ≡ n
   inner_size n h = length-reverse (map open_of (take n stack)) ∙ length-map (take n stack) open_of ∙ length-take-le n stack h
 
-  inner_more : (n : ℕ) → n < length stack → inner (n + 1) ≡ open_of (get_or stack n d) ∷ inner n
+  pub inner_more : (n : ℕ) → n < length stack → inner (n + 1) ≡ open_of (get_or stack n d) ∷ inner n
   inner_more n h = ap (λ (l : List Open). reverse (map open_of l)) (take_more stack n d h) ∙ ap reverse (map-append open_of (take n stack) (get_or stack n d ∷ [])) ∙ reverse-append (map open_of (take n stack)) (open_of (get_or stack n d) ∷ [])
 
-  goes : (n : ℕ) → n < length stack → many ≤ n → (not (get_or stack n d).container.is_quote && nat_lt (get_or stack n d).container.line number) ≡ true → left_in many number (inner (n + 1)) ≡ left_in many number (inner n)
+  pub goes : (n : ℕ) → n < length stack → many ≤ n → (not (get_or stack n d).container.is_quote && nat_lt (get_or stack n d).container.line number) ≡ true → left_in many number (inner (n + 1)) ≡ left_in many number (inner n)
   goes n h m e = ap (left_in many number) (inner_more n h) ∙ by (get_or stack n d).container.is_quote e
     where
       o : Open
@@ -75,7 +75,7 @@ module _ (stack : List Open) (many number : ℕ) (d : Open) where
       ap (λ k. left_in many number (inner k)) same ∙ goes (n - 1) (omega arith) (omega arith) e
 
   -- all of some end
-  skips : (j n : ℕ) → n + j ≤ length stack → many ≤ n → AreEarlier number n (length stack) (map open_of stack) → left_in many number (inner (n + j)) ≡ left_in many number (inner n)
+  pub skips : (j n : ℕ) → n + j ≤ length stack → many ≤ n → AreEarlier number n (length stack) (map open_of stack) → left_in many number (inner (n + j)) ≡ left_in many number (inner n)
   skips zero n h m are = let same : n + 0 ≡ n = omega arith in ap (λ k. left_in many number (inner k)) same
   skips (suc j) n h m are =
       let next : n + suc j ≡ (n + j) + 1 = omega arith in
@@ -98,7 +98,7 @@ module _ (stack : List Open) (many number : ℕ) (d : Open) where
           )
 
   -- where no more ends
-  stops : (n : ℕ) → n < length stack → (many ≤ n → (not (get_or stack n d).container.is_quote && nat_lt (get_or stack n d).container.line number) ≡ false) → left_in many number (inner (n + 1)) ≡ inner (n + 1)
+  pub stops : (n : ℕ) → n < length stack → (many ≤ n → (not (get_or stack n d).container.is_quote && nat_lt (get_or stack n d).container.line number) ≡ false) → left_in many number (inner (n + 1)) ≡ inner (n + 1)
   stops n h e = ap (left_in many number) (inner_more n h) ∙ by (get_or stack n d).container.is_quote e ∙ sym (inner_more n h)
     where
       size : length (inner n) ≡ n
@@ -131,7 +131,7 @@ module _ (stack : List Open) (many number : ℕ) (d : Open) where
 -- ---- what is known of items that began before
 
 -- later lines
-later_one : (number n : ℕ) (c : Container) → number ≤ n → is_earlier number c ≡ true → is_earlier n c ≡ true
+pub later_one : (number n : ℕ) (c : Container) → number ≤ n → is_earlier number c ≡ true → is_earlier n c ≡ true
 later_one number n (quote line) h e = absurd (false≢true e)
 later_one number n (item i) h e = grind (arith, nat_tests)
 

@@ -41,7 +41,7 @@ use Rattle.mdconstructs_containers.specs.Skeleton.{Frame, begun_all, begun_marks
 abbrev pub names_of : List Frame → List Name
 names_of fs = map (λ f. f.name) (reverse fs)
 
-names_both : (fs gs : List Frame) → names_of (fs ++ gs) ≡ names_of gs ++ names_of fs
+pub names_both : (fs gs : List Frame) → names_of (fs ++ gs) ≡ names_of gs ++ names_of fs
 names_both fs gs = ap (map (λ (f : Frame). f.name)) (reverse-append fs gs) ∙ map-append (λ (f : Frame). f.name) (reverse gs) (reverse fs)
 
 -- ---- lines of a document with what is in front
@@ -102,19 +102,19 @@ module _ (t : ℕ) (bytes : List ℕ) where
   -- ---- spans of containers begin and end
 
   module _ (x p : Point) (here : shown bytes x ≡ p) (place : Place t bytes p) where
-    place_there : Place t bytes (shown bytes x)
+    pub place_there : Place t bytes (shown bytes x)
     place_there = subst (Place t bytes) (sym here) place
 
-    abbrev enter_mark : Name → Mark
+    abbrev pub enter_mark : Name → Mark
     enter_mark n = (event bytes Enter n x, None)
 
-    abbrev enter_marks : List Frame → List Mark
+    abbrev pub enter_marks : List Frame → List Mark
     enter_marks fs = map (λ (f : Frame). (event bytes Enter f.name x, None)) fs
 
-    abbrev exit_marks : List Frame → List Mark
+    abbrev pub exit_marks : List Frame → List Mark
     exit_marks fs = map (λ (f : Frame). (event bytes Exit f.name x, None)) fs
 
-    at_place : (r : Point) (es : List Event) → stands_before (shown bytes x) r ≡ false → InOrder p es p → InOrder (shown bytes x) es p
+    pub at_place : (r : Point) (es : List Event) → stands_before (shown bytes x) r ≡ false → InOrder p es p → InOrder (shown bytes x) es p
     at_place r es h k = subst (λ (y : Point). InOrder y es p) (sym here) k
 
     pub enters_go : (fs ns : List Frame) → Goes fs p (enter_marks ns) (fs ++ ns) p
@@ -130,19 +130,19 @@ module _ (t : ℕ) (bytes : List ℕ) where
           runs = (refl, rest.runs);
         })
 
-    exits_close : (fs : List Frame) (st : List Name) → names_after_all (Some (map (λ (f : Frame). f.name) fs ++ st)) (bare (exit_marks fs)) ≡ Some st
+    pub exits_close : (fs : List Frame) (st : List Name) → names_after_all (Some (map (λ (f : Frame). f.name) fs ++ st)) (bare (exit_marks fs)) ≡ Some st
     exits_close [] st = refl
     exits_close (f ∷ fs) st = ap (λ b. names_after_all (cond b (Some (map (λ (g : Frame). g.name) fs ++ st)) None) (bare (exit_marks fs))) (same_name-refl f.name) ∙ exits_close fs st
 
-    exits_order : (fs : List Frame) → InOrder p (bare (exit_marks fs)) p
+    pub exits_order : (fs : List Frame) → InOrder p (bare (exit_marks fs)) p
     exits_order [] = stands-self p
     exits_order (f ∷ fs) = (ap (λ r. stands_before r p) here ∙ stands-self p, subst (λ (y : Point). InOrder y (bare (exit_marks fs)) p) (sym here) (exits_order fs))
 
-    exits_places : (fs : List Frame) → AllByRecursion (λ (e : Event). Place t bytes e.point) (bare (exit_marks fs))
+    pub exits_places : (fs : List Frame) → AllByRecursion (λ (e : Event). Place t bytes e.point) (bare (exit_marks fs))
     exits_places [] = tt
     exits_places (f ∷ fs) = (place_there, exits_places fs)
 
-    exits_runs : (fs : List Frame) → Runs (exit_marks fs) idle
+    pub exits_runs : (fs : List Frame) → Runs (exit_marks fs) idle
     exits_runs [] = tt
     exits_runs (f ∷ fs) = (refl, exits_runs fs)
 
@@ -154,7 +154,7 @@ module _ (t : ℕ) (bytes : List ℕ) where
       runs = exits_runs (reverse ended);
     }
 
-    enters_are : (c : Container) → enters_of bytes c x ≡ enter_marks (entered c)
+    pub enters_are : (c : Container) → enters_of bytes c x ≡ enter_marks (entered c)
     enters_are (quote line) = refl
     enters_are (item i) = by (i.list == i.line)
       where

@@ -68,24 +68,24 @@ pub few_of : (own : List Open) (stands : ℕ) → stands ≤ length own → stan
 few_of own stands h = omega (arith, h, length-map own open_of)
 
 module _ (t : ℕ) (bytes : List ℕ) (some : 0 < t) (limit : t * length bytes + 1 < 2 ^ 64) (stack : List Container) (first : RowAt) (behind : List RowAt) (r : Row) (rs : List Row) (left : AreLeft bytes t stack (first ∷ behind) (r ∷ rs)) (ahead : Ahead) (ae : ahead ≡ ahead_of rs) where
-  the : IsRowIn t bytes stack left.number left.start first r
+  pub the : IsRowIn t bytes stack left.number left.start first r
   the = row t bytes some limit stack first behind r rs left
 
-  abbrev lines : ℕ
+  abbrev pub lines : ℕ
   lines = cond first.row.is_blank 0 ahead.further
 
-  more_is : take (cond r.is_blank 0 (further rs)) rs ≡ take lines rs
+  pub more_is : take (cond r.is_blank 0 (further rs)) rs ≡ take lines rs
   more_is = ap (λ n. take n rs) (sym (lines_is t bytes some limit stack first behind r rs left ahead ae))
 
-  split : AreSplit t bytes some limit (open_behind stack r) (suc left.number) first.span.next behind rs lines
+  pub split : AreSplit t bytes some limit (open_behind stack r) (suc left.number) first.span.next behind rs lines
   split = split_at t bytes some limit stack first behind r rs left ahead ae
 
   -- ---- where it ends
 
-  last : RowAt
+  pub last : RowAt
   last = last_at first (take lines behind)
 
-  last_row : IsSome t bytes some limit (last_at first (take lines behind)) (last_of r (take (cond r.is_blank 0 (further rs)) rs))
+  pub last_row : IsSome t bytes some limit (last_at first (take lines behind)) (last_of r (take (cond r.is_blank 0 (further rs)) rs))
   last_row = subst (λ (qs : List Row). IsSome t bytes some limit (last_at first (take lines behind)) (last_of r qs)) (sym more_is)
       (last_is t bytes some limit (open_behind stack r) (suc left.number) first.span.next first r (take lines behind) (take lines rs)
       (record { stack = stack; number = left.number; start = left.start; row = the; outside = left.outside; few = left.few }) split.first (next_outside t bytes some limit stack first behind r rs left) (next_few t bytes some limit stack first behind r rs left))
@@ -98,18 +98,18 @@ module _ (t : ℕ) (bytes : List ℕ) (some : 0 < t) (limit : t * length bytes +
       let w : 1 * length bytes ≤ t * length bytes = mul-le 1 (length bytes) t (length bytes) some (omega arith) in
       omega (arith, w, limit, last_row.few, last_row.row.placed.inside, last_row.row.placed.number_is)
 
-  held_is : (not first.row.is_blank && holds_ending (leaf_of (last_at first (take lines behind)).row.leaf)) ≡ is_held (part_of r rs)
+  pub held_is : (not first.row.is_blank && holds_ending (leaf_of (last_at first (take lines behind)).row.leaf)) ≡ is_held (part_of r rs)
   held_is = λ k. not (the.is.is_blank k) && holds_ending (last_row.row.is.leaf k)
 
   module _ (e : PartEnd) (eb : e.is_blank ≡ first.row.is_blank) (ep : e.place ≡ end_at (not first.row.is_blank && holds_ending (leaf_of (last_at first (take lines behind)).row.leaf)) (last_at first (take lines behind)))
       (en : e.behind ≡ cond (not first.row.is_blank && holds_ending (leaf_of (last_at first (take lines behind)).row.leaf)) None (cond ((last_at first (take lines behind)).span.end == (last_at first (take lines behind)).span.next) None (Some (point ((last_at first (take lines behind)).span.number + 1) 1 (last_at first (take lines behind)).span.next 0)))) where
-    place_held : e.place ≡ end_at (is_held (part_of r rs)) (last_at first (take lines behind))
+    pub place_held : e.place ≡ end_at (is_held (part_of r rs)) (last_at first (take lines behind))
     place_held = ep ∙ ap (λ b. end_at b (last_at first (take lines behind))) held_is
 
-    end_place : shown bytes (end_of bytes (part_of r rs)) ≡ e.place
+    pub end_place : shown bytes (end_of bytes (part_of r rs)) ≡ e.place
     end_place = place_is t bytes some limit (last_at first (take lines behind)) (last_of r (take (cond r.is_blank 0 (further rs)) rs)) last_row (is_held (part_of r rs)) ∙ sym place_held
 
-    end_ending : ending_marks bytes (part_of r rs) ≡ ending_to e
+    pub end_ending : ending_marks bytes (part_of r rs) ≡ ending_to e
     end_ending =
         ending_is t bytes some limit (last_at first (take lines behind)) (last_of r (take (cond r.is_blank 0 (further rs)) rs)) last_row (is_held (part_of r rs)) r.is_blank e (eb ∙ the.is.is_blank) place_held
         (en ∙ ap (λ b. cond b None (cond ((last_at first (take lines behind)).span.end == (last_at first (take lines behind)).span.next) None (Some (point ((last_at first (take lines behind)).span.number + 1) 1 (last_at first (take lines behind)).span.next 0)))) held_is)
@@ -136,16 +136,16 @@ module _ (t : ℕ) (bytes : List ℕ) (some : 0 < t) (limit : t * length bytes +
 
   module _ (open_now own : List Container) (all stands : ℕ) (own_is : own ≡ take all open_now) (own_all : take all open_now ≡ containers_of r.went_on ++ containers_of r.begun)
       (st : take stands own ≡ stands_in first.row.is_blank ahead.many first.span.number own) (few : stands ≤ length own) where
-    own_row : own ≡ containers_of r.went_on ++ containers_of r.begun
+    pub own_row : own ≡ containers_of r.went_on ++ containers_of r.begun
     own_row = own_is ∙ own_all
 
-    number_is : first.span.number ≡ r.number
+    pub number_is : first.span.number ≡ r.number
     number_is = the.placed.number_is ∙ the.is.number_is
 
-    stands_is : take stands own ≡ standing r rs
+    pub stands_is : take stands own ≡ standing r rs
     stands_is = st ∙ (λ k. stands_in (the.is.is_blank k) ((ae k).many) (number_is k) (own_row k))
 
-    stands_size : length (standing r rs) ≡ stands
+    pub stands_size : length (standing r rs) ≡ stands
     stands_size = ap (λ (l : List Container). length l) (sym stands_is) ∙ length-take-le stands own few
 
     -- its spans
@@ -157,16 +157,16 @@ module _ (t : ℕ) (bytes : List ℕ) (some : 0 < t) (limit : t * length bytes +
 
     -- its containers that go on
     module _ (going : List Container) (going_is : going ≡ take (min stands first.row.many) own) where
-      went_size : length r.went_on ≡ first.row.many
+      pub went_size : length r.went_on ≡ first.row.many
       went_size = sym the.is.many
 
-      bytes_here : List ℕ
+      pub bytes_here : List ℕ
       bytes_here = line_bytes t first.span.number 1 first.span.start (drop first.span.start bytes)
 
-      went_containers : length (containers_of r.went_on) ≡ first.row.many
+      pub went_containers : length (containers_of r.went_on) ≡ first.row.many
       went_containers = length-map r.went_on (λ (p : Prefix). p.container) ∙ went_size
 
-      going_row : going ≡ take (min stands first.row.many) (take first.row.many stack)
+      pub going_row : going ≡ take (min stands first.row.many) (take first.row.many stack)
       going_row =
           let m : min stands first.row.many ≤ length (containers_of r.went_on) = omega (arith, went_containers) in
           going_is ∙ ap (take (min stands first.row.many)) own_row ∙ take-append-le (min stands first.row.many) (containers_of r.went_on) (containers_of r.begun) m
@@ -179,22 +179,22 @@ module _ (t : ℕ) (bytes : List ℕ) (some : 0 < t) (limit : t * length bytes +
           ∙ ap (take (min stands first.row.many)) (went_again t bytes some limit stack left.number left.start first r the left.outside)
           ∙ take_min stands first.row.many r.went_on went_size ∙ ap (λ n. take n r.went_on) (sym stands_size)
 
-      text_long : columns_of (take (length (standing r rs)) r.went_on) ≤ length (line_text r.line)
+      pub text_long : columns_of (take (length (standing r rs)) r.went_on) ≤ length (line_text r.line)
       text_long = omega (arith, columns_front (length (standing r rs)) r.went_on, went_small t bytes some limit stack left.number left.start first r the left.outside)
 
-      whole : r.line ≡ line_text r.line ++ ending_of r.line
+      pub whole : r.line ≡ line_text r.line ++ ending_of r.line
       whole = line_parts t bytes some limit left.number left.start first the.placed r.line the.line left.outside
 
-      size : length (line_text r.line) ≡ first.span.size
+      pub size : length (line_text r.line) ≡ first.span.size
       size = text_size t bytes some limit left.number left.start first the.placed r.line the.line left.outside
 
-      begun_is : begun_of first.row.list first.span.number first.row.begun.items ≡ r.begun
+      pub begun_is : begun_of first.row.list first.span.number first.row.begun.items ≡ r.begun
       begun_is = (the_row t bytes some limit stack first behind r rs left).begun
 
-      begun_have : HaveColumns r.begun
+      pub begun_have : HaveColumns r.begun
       begun_have = subst HaveColumns begun_is (begun_columns_are first.row.list first.span.number first.row.begun.items _ (the_fits t bytes some limit stack first behind r rs left))
 
-      begun_marks_are : begun_all bytes (begun_of first.row.list first.span.number first.row.begun.items) (drop first.row.going (line_text r.line)) ≡ begun_all bytes r.begun (drop (columns_of r.went_on) r.line)
+      pub begun_marks_are : begun_all bytes (begun_of first.row.list first.span.number first.row.begun.items) (drop first.row.going (line_text r.line)) ≡ begun_all bytes r.begun (drop (columns_of r.went_on) r.line)
       begun_marks_are =
           let n : columns_of r.went_on ≤ length (line_text r.line) = went_small t bytes some limit stack left.number left.start first r the left.outside in
           let m : columns_of r.begun ≤ length (drop (columns_of r.went_on) (line_text r.line)) = omega (arith, the.sum, the.is.columns, the.placed.columns, size, length-drop (columns_of r.went_on) (line_text r.line)) in
@@ -202,7 +202,7 @@ module _ (t : ℕ) (bytes : List ℕ) (some : 0 < t) (limit : t * length bytes +
           ∙ sym (begun_front bytes r.begun (drop (columns_of r.went_on) (line_text r.line)) (ending_of r.line) begun_have m)
           ∙ ap (begun_all bytes r.begun) (sym (drop-append-le (columns_of r.went_on) (line_text r.line) (ending_of r.line) n) ∙ ap (drop (columns_of r.went_on)) (sym whole))
 
-      prefix_marks_are : prefixes_marks bytes (take (length (standing r rs)) r.went_on) (line_text r.line) ≡ prefixes_marks bytes (take (length (standing r rs)) r.went_on) r.line
+      pub prefix_marks_are : prefixes_marks bytes (take (length (standing r rs)) r.went_on) (line_text r.line) ≡ prefixes_marks bytes (take (length (standing r rs)) r.went_on) r.line
       prefix_marks_are =
           sym (prefixes_front bytes (take (length (standing r rs)) r.went_on) (line_text r.line) (ending_of r.line) text_long) ∙ ap (prefixes_marks bytes (take (length (standing r rs)) r.went_on)) (sym whole)
 
@@ -243,7 +243,7 @@ module _ (t : ℕ) (bytes : List ℕ) (some : 0 < t) (limit : t * length bytes +
 
       module _ (begin : At) (bc : begin.columns ≡ cond (has_none first.row.begun.items) (columns_of (going_on going first.span.number (line_bytes t first.span.number 1 first.span.start (drop first.span.start bytes)))) first.row.columns)
           (bp : begin.place ≡ place_after t bytes (point first.span.number 1 first.span.start 0) begin.columns) where
-        begin_columns : begin.columns ≡ cond (has_none r.begun) (columns_of (take (length (standing r rs)) r.went_on)) r.columns
+        pub begin_columns : begin.columns ≡ cond (has_none r.begun) (columns_of (take (length (standing r rs)) r.went_on)) r.columns
         begin_columns = bc ∙ (λ k. cond ((has_none_begun first.row.list first.span.number first.row.begun.items ∙ ap has_none begun_is) k) (columns_of (going_is_first k)) (the.is.columns k))
 
         pub begin_small : begin.columns ≤ first.span.size
@@ -275,7 +275,7 @@ module _ (t : ℕ) (bytes : List ℕ) (some : 0 < t) (limit : t * length bytes +
             write_plain e2 e3 None false (white bytes (drop k text)) rest all_marks (plain_span bytes name.SpaceOrTab (drop k text) [] tt) (wrote ∙ ap (λ l. e2 ++ l) white_is) (subst (λ (m : List Mark). Written e2 None false (m ++ rest) all_marks) inside w)
 
         -- a stretch
-        columns_all : r.is_blank ≡ false → begin.columns ≡ r.columns
+        pub columns_all : r.is_blank ≡ false → begin.columns ≡ r.columns
         columns_all blank =
             let row_all : standing r rs ≡ containers_of r.went_on ++ containers_of r.begun = ap (λ b. stands_in b (going_on_at rs) r.number (containers_of r.went_on ++ containers_of r.begun)) blank in
             let n : length (standing r rs) ≡ length (containers_of r.went_on) + length (containers_of r.begun) = ap (λ (l : List Container). length l) row_all ∙ length-append (containers_of r.went_on) (containers_of r.begun) in
@@ -287,10 +287,10 @@ module _ (t : ℕ) (bytes : List ℕ) (some : 0 < t) (limit : t * length bytes +
             by [] e = let none : columns_of r.begun ≡ 0 = ap columns_of e in omega (arith, none, the.sum)
             by (p ∷ ps) e = refl
 
-        begin_there : r.is_blank ≡ false → begin.place ≡ place_after t bytes (point left.number 1 left.start 0) r.columns
+        pub begin_there : r.is_blank ≡ false → begin.place ≡ place_after t bytes (point left.number 1 left.start 0) r.columns
         begin_there blank = bp ∙ (λ k. place_after t bytes (sym (first_is t bytes some limit stack left.number left.start first r the left.outside) k) (columns_all blank k))
 
-        pending_is : r.is_blank ≡ false → (held : Bool) (ys : List RowAt) (qs : List Row) (s : List Container) → AreFurther t bytes s (suc left.number) first.span.next ys qs
+        pub pending_is : r.is_blank ≡ false → (held : Bool) (ys : List RowAt) (qs : List Row) (s : List Container) → AreFurther t bytes s (suc left.number) first.span.next ys qs
             → IsPending t bytes open_now begin.place (end_at held first) (drop r.columns (cond held r.line (line_text r.line))) (drop r.columns r.line) (suc left.number) first.span.next ys
         pending_is blank held [] [] s are =
             subst (λ (p : Point). Run bytes p (end_at held first) (drop r.columns (cond held r.line (line_text r.line)))) (sym (begin_there blank)) (row_run t bytes some limit stack left.number left.start first r the left.outside held r.columns (columns_small t bytes some limit stack left.number left.start first r the left.outside))

@@ -104,7 +104,7 @@ module _ (t : ℕ) (bytes : List ℕ) where
   AreJoined [] before seats first = ⊥
   AreJoined (p ∷ ps) before seats first = (p.before ≡ before) × OverFrom p ps seats × HavePrefixes ps × ((more : List Seat) × (p.seats ≡ first ++ more))
 
-  ends_both : (xs ys : List Seat) (ps : List (Piece bytes)) → EndsLine ys ps → EndsLine (xs ++ ys) ps
+  pub ends_both : (xs ys : List Seat) (ps : List (Piece bytes)) → EndsLine ys ps → EndsLine (xs ++ ys) ps
   ends_both xs ys [] h = tt
   ends_both xs ys (q ∷ qs) h = λ p. ap (λ (x : Point). x.column) (end-after-append p xs ys) ∙ h (end_after p xs)
 
@@ -135,7 +135,7 @@ module _ (t : ℕ) (bytes : List ℕ) where
 
   -- ---- chunks
 
-  abbrev some_in : List (Piece bytes) → Bool
+  abbrev pub some_in : List (Piece bytes) → Bool
   some_in ps = not (has_none (flat_map (λ (q : Piece bytes). q.seats) ps))
 
   -- their places
@@ -156,19 +156,19 @@ module _ (t : ℕ) (bytes : List ℕ) where
       (spanned_both a (chunk_span bytes (Some chunk) name.Data x.seats []) b (chunks_of bytes true ps) (end_after b more) (spanned_chunk (Some chunk) a x.seats (more ++ rest) track1) (chunks_spanned true ps more rest b others track2)))
 
   -- and their links
-  abbrev due_at : Bool → Point → Due
+  abbrev pub due_at : Bool → Point → Due
   due_at has p = cond has (a_chunk p (Some [])) idle
 
   -- the exit of a chunk, and the chunks behind it
-  exit_runs : (has : Bool) (e : Event) (ms : List Mark) → e.link ≡ None → Runs ms (due_at has e.point) → Runs ((e, None) ∷ ms) (next_due has)
+  pub exit_runs : (has : Bool) (e : Event) (ms : List Mark) → e.link ≡ None → Runs ms (due_at has e.point) → Runs ((e, None) ∷ ms) (next_due has)
   exit_runs true e ms none h = (none, h)
   exit_runs false e ms none h = (none, h)
 
-  begins_line : (seats : List Seat) (ps : List (Piece bytes)) (p : Point) → EndsLine seats ps → (ps ≡ []) ⊎ ((end_after p seats).column ≡ 1)
+  pub begins_line : (seats : List Seat) (ps : List (Piece bytes)) (p : Point) → EndsLine seats ps → (ps ≡ []) ⊎ ((end_after p seats).column ≡ 1)
   begins_line seats [] p h = inl refl
   begins_line seats (q ∷ qs) p h = inr (h p)
 
-  chunks_behind : (ps : List (Piece bytes)) (seats rest : List Seat) (p : Point) → Over ps seats → HavePrefixes ps → (ps ≡ []) ⊎ (p.column ≡ 1) → Track t bytes p (seats ++ rest) → Runs (chunks_of bytes true ps) (due_at (some_in ps) p)
+  pub chunks_behind : (ps : List (Piece bytes)) (seats rest : List Seat) (p : Point) → Over ps seats → HavePrefixes ps → (ps ≡ []) ⊎ (p.column ≡ 1) → Track t bytes p (seats ++ rest) → Runs (chunks_of bytes true ps) (due_at (some_in ps) p)
   chunks_behind [] seats rest p h prefixes at track = tt
   chunks_behind (x ∷ ps) seats rest p h prefixes at track =
       let (skip, more, is, prefix, ends, others) = h in

@@ -17,25 +17,25 @@ use Rattle.mdconstructs_containers.specs.SkeletonLaws.{LazyLettersArePlain}
 use Rattle.markdown_tokenizer.proofs.Positions.Order.{every-front, every-back}
 
 -- a mark of an underline
-abbrev is_mark : ℕ → Bool
+abbrev pub is_mark : ℕ → Bool
 is_mark b = (b == 61) || (b == 45)
 
 -- a mark's virtual byte has the index of a plain byte of these, of which the first has this index
-abbrev AtMark : (bytes : List ℕ) → (index : ℕ) → Seat → Type 0
+abbrev pub AtMark : (bytes : List ℕ) → (index : ℕ) → Seat → Type 0
 AtMark bytes n s = is_mark s.byte ≡ true → (n ≤ s.point.index) × (is_plain (get_or bytes (s.point.index - n) 0) ≡ true)
 
-tab_marks : (bytes : List ℕ) (n k byte line column index vs : ℕ) → is_mark byte ≡ false → AllByRecursion (AtMark bytes n) (in_tab byte k line column index vs)
+pub tab_marks : (bytes : List ℕ) (n k byte line column index vs : ℕ) → is_mark byte ≡ false → AllByRecursion (AtMark bytes n) (in_tab byte k line column index vs)
 tab_marks bytes n zero byte line column index vs e = tt
 tab_marks bytes n (suc k) byte line column index vs e = ((λ m. absurd (false≢true (sym e ∙ m))), tab_marks bytes n k 32 line (suc column) index (suc vs) refl)
 
-one_behind : (b : ℕ) (bs : List ℕ) (n : ℕ) (s : Seat) → AtMark bs (suc n) s → AtMark (b ∷ bs) n s
+pub one_behind : (b : ℕ) (bs : List ℕ) (n : ℕ) (s : Seat) → AtMark bs (suc n) s → AtMark (b ∷ bs) n s
 one_behind b bs n s h m =
     let p = h m in
     let within = p.0 in
     let on : s.point.index - n ≡ suc (s.point.index - suc n) = omega (arith, within) in
     (omega (arith, within), ap (λ i. is_plain (get_or (b ∷ bs) i 0)) on ∙ p.1)
 
-marks_are_plain : (t line column n : ℕ) (bs : List ℕ) → AllByRecursion (AtMark bs n) (virtual_from t line column n bs)
+pub marks_are_plain : (t line column n : ℕ) (bs : List ℕ) → AllByRecursion (AtMark bs n) (virtual_from t line column n bs)
 marks_are_plain t line column n [] = tt
 marks_are_plain t line column n (b ∷ bs) =
     by (λ l c. every-map (AtMark bs (suc n)) (AtMark (b ∷ bs) n) (one_behind b bs n) (virtual_from t l c (suc n) bs) (marks_are_plain t l c (suc n) bs)) (b == 10) (b == 13) (begins_with_lf bs) (b == 9) refl refl refl
@@ -77,7 +77,7 @@ every_both P Q [] h k = tt
 every_both P Q (x ∷ xs) h k = ((h.0, k.0), every_both P Q xs h.1 k.1)
 
 -- the virtual byte of a byte of a line's text
-text_byte : (m : ℕ) (line : Line) (k : ℕ) → IsWhole line → begins_with m (drop k (text_of line)) ≡ true → AllByRecursion (λ (s : Seat). (s.byte == m) ≡ true) (take 1 (drop k line))
+pub text_byte : (m : ℕ) (line : Line) (k : ℕ) → IsWhole line → begins_with m (drop k (text_of line)) ≡ true → AllByRecursion (λ (s : Seat). (s.byte == m) ≡ true) (take 1 (drop k line))
 text_byte m [] zero w e = absurd (false≢true e)
 text_byte m [] (suc k) w e = absurd (false≢true e)
 text_byte m (s ∷ ss) k (inl w) e = by (λ j f. text_byte m ss j w.1 f) k (sym (ap (λ x. begins_with m (drop k (map (λ (s : Seat). s.byte) (cond (not x) (s ∷ line_text ss) (line_text ss))))) w.0) ∙ e)
@@ -94,7 +94,7 @@ text_byte m (s ∷ ss) k (inr w) e = absurd (by k (sym (ap (λ x. begins_with m 
 
 module _ (on : Constructs) where
   -- an underline begins with a mark
-  begins_underline : (t : List ℕ) → is_some (underline_rank on t) ≡ true → (begins_with 61 (unindented t) ≡ true) ⊎ (begins_with 45 (unindented t) ≡ true)
+  pub begins_underline : (t : List ℕ) → is_some (underline_rank on t) ≡ true → (begins_with 61 (unindented t) ≡ true) ⊎ (begins_with 45 (unindented t) ≡ true)
   begins_underline t e =
       by (is_far on t || not on.heading_setext) (begins_with 61 (unindented t)) (is_blank_line (drop (run 61 (unindented t)) (unindented t))) (begins_with 45 (unindented t)) (is_blank_line (drop (run 45 (unindented t)) (unindented t))) refl refl e
     where
@@ -107,10 +107,10 @@ module _ (on : Constructs) where
 
   module _ (bytes : List ℕ) where
     -- the byte at this index is plain
-    abbrev IsPlainAt : ℕ → Type 0
+    abbrev pub IsPlainAt : ℕ → Type 0
     IsPlainAt i = is_plain (get_or bytes i 0) ≡ true
 
-    marked : (m : ℕ) → is_mark m ≡ true → (ss : List Seat) → AllByRecursion (λ (s : Seat). (s.byte == m) ≡ true) ss → AllByRecursion (AtMark bytes 0) ss → AllByRecursion IsPlainAt (map (λ (s : Seat). s.point.index) ss)
+    pub marked : (m : ℕ) → is_mark m ≡ true → (ss : List Seat) → AllByRecursion (λ (s : Seat). (s.byte == m) ≡ true) ss → AllByRecursion (AtMark bytes 0) ss → AllByRecursion IsPlainAt (map (λ (s : Seat). s.point.index) ss)
     marked m is [] h k = tt
     marked m is (s ∷ ss) h k =
         let none : s.point.index - 0 ≡ s.point.index = omega arith in
@@ -118,16 +118,16 @@ module _ (on : Constructs) where
         (ap (λ i. is_plain (get_or bytes i 0)) (sym none) ∙ at.1, marked m is ss h.1 k.1)
 
     -- what holds of each virtual byte of a line holds of one of them
-    one_at : (n : ℕ) (line : Line) → AllByRecursion (AtMark bytes 0) line → AllByRecursion (AtMark bytes 0) (take 1 (drop n line))
+    pub one_at : (n : ℕ) (line : Line) → AllByRecursion (AtMark bytes 0) line → AllByRecursion (AtMark bytes 0) (take 1 (drop n line))
     one_at n line h =
         let behind = every-back (AtMark bytes 0) (take n line) (drop n line) (subst (AllByRecursion (AtMark bytes 0)) (sym (take-append-drop n line)) h) in
         every-front (AtMark bytes 0) (take 1 (drop n line)) (drop 1 (drop n line)) (subst (AllByRecursion (AtMark bytes 0)) (sym (take-append-drop 1 (drop n line))) behind)
 
     -- a line is whole, and its marks are plain
-    abbrev IsMarked : Line → Type 0
+    abbrev pub IsMarked : Line → Type 0
     IsMarked line = IsWhole line × AllByRecursion (AtMark bytes 0) line
 
-    underline_plain : (row : Row) → IsMarked row.line → AllByRecursion IsPlainAt (lazy_underline on row)
+    pub underline_plain : (row : Row) → IsMarked row.line → AllByRecursion IsPlainAt (lazy_underline on row)
     underline_plain row h = by row.is_lazy (is_some (underline_rank on (rest_of row))) refl
       where
         here : (m : ℕ) → begins_with m (unindented (rest_of row)) ≡ true → is_mark m ≡ true → AllByRecursion IsPlainAt (map (λ (s : Seat). s.point.index) (take 1 (drop (row.columns + indent (rest_of row)) row.line)))
@@ -141,12 +141,12 @@ module _ (on : Constructs) where
         by true false e = tt
         by true true e = ⊎_elim (λ f. here 61 f refl) (λ f. here 45 f refl) (begins_underline (rest_of row) e)
 
-    underlines_plain : (rs : List Row) → AllByRecursion (λ (row : Row). IsMarked row.line) rs → AllByRecursion IsPlainAt (flat_map (lazy_underline on) rs)
+    pub underlines_plain : (rs : List Row) → AllByRecursion (λ (row : Row). IsMarked row.line) rs → AllByRecursion IsPlainAt (flat_map (lazy_underline on) rs)
     underlines_plain [] h = tt
     underlines_plain (row ∷ rs) h = every-append IsPlainAt (lazy_underline on row) (flat_map (lazy_underline on) rs) (underline_plain row h.0) (underlines_plain rs h.1)
 
 -- one of these indices
-one_of : (P : ℕ → Type 0) (at : List ℕ) (k : ℕ) → AllByRecursion P at → list_any (λ i. i == k) at ≡ true → P k
+pub one_of : (P : ℕ → Type 0) (at : List ℕ) (k : ℕ) → AllByRecursion P at → list_any (λ i. i == k) at ≡ true → P k
 one_of P [] k h e = absurd (false≢true e)
 one_of P (i ∷ at) k h e = by (one_of P at k h.1) (i == k) refl e
   where
@@ -154,7 +154,7 @@ one_of P (i ∷ at) k h e = by (one_of P at k h.1) (i == k) refl e
     by rest true is f = subst P (eqb-true i k is) h.0
     by rest false is f = rest f
 
-plain_from : (at : List ℕ) (n : ℕ) (bs : List ℕ) → ((j : ℕ) → list_any (λ i. i == n + j) at ≡ true → is_plain (get_or bs j 0) ≡ true) → ArePlainFrom n at bs
+pub plain_from : (at : List ℕ) (n : ℕ) (bs : List ℕ) → ((j : ℕ) → list_any (λ i. i == n + j) at ≡ true → is_plain (get_or bs j 0) ≡ true) → ArePlainFrom n at bs
 plain_from at n [] h = tt
 plain_from at n (b ∷ bs) h =
     let here : n + 0 ≡ n = omega arith in

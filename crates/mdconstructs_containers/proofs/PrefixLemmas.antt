@@ -41,7 +41,7 @@ prefix_take p (suc n) (x ∷ xs) = by (p x) (prefix_take p n xs)
     by true e = omega arith
     by false e = omega arith
 
-quote_goes : (line number : ℕ) (t : List ℕ) (size : ℕ) → goes_on (quote line) number t ≡ Some size → indent (take size t) + 1 ≤ length (take size t)
+pub quote_goes : (line number : ℕ) (t : List ℕ) (size : ℕ) → goes_on (quote line) number t ≡ Some size → indent (take size t) + 1 ≤ length (take size t)
 quote_goes line number t size e =
     let w : size ≤ length t = goes_on_within (quote line) number t size e in
     let n : length (take size t) ≡ min size (length t) = length-take size t in
@@ -99,7 +99,7 @@ pub going_none : (bytes : List ℕ) (before all : List Event) (ps : List Prefix)
 going_none bytes before all ps seats e h = sym (ap (λ l. before ++ events_of (prefixes_marks bytes l seats)) e ∙ append-nil before) ∙ h
 
 -- nothing is left of the line: items go on with no columns
-nothing_marks : (bytes : List ℕ) (cs : List Container) (number : ℕ) → (prefixes_marks bytes (going_on cs number []) [] ≡ []) × (columns_of (going_on cs number []) ≡ 0)
+pub nothing_marks : (bytes : List ℕ) (cs : List Container) (number : ℕ) → (prefixes_marks bytes (going_on cs number []) [] ≡ []) × (columns_of (going_on cs number []) ≡ 0)
 nothing_marks bytes [] number = (refl, refl)
 nothing_marks bytes (quote line ∷ cs) number = (refl, refl)
 nothing_marks bytes (item i ∷ cs) number = by (i.is_empty && (number == suc i.line)) (min i.size 0) (min-zero i.size) (nothing_marks bytes cs number)
@@ -122,7 +122,7 @@ going_nothing bytes cs number before all t seats e f h =
     sym ((λ k. before ++ events_of (prefixes_marks bytes (going_on cs number (e k)) (f k))) ∙ ap (λ (l : List Mark). before ++ events_of l) (nothing_marks bytes cs number).0 ∙ append-nil before) ∙ h
 
 -- a container begins at a place that is shown at itself
-enters_shown : (bytes : List ℕ) (c : Container) (p : Point) → shown bytes p ≡ p → events_of (enters_of bytes c p) ≡ enters_at c p
+pub enters_shown : (bytes : List ℕ) (c : Container) (p : Point) → shown bytes p ≡ p → events_of (enters_of bytes c p) ≡ enters_at c p
 enters_shown bytes (quote line) p e = λ k. event_at Enter name.BlockQuote (e k) ∷ []
 enters_shown bytes (item i) p e = by (i.list == i.line)
   where
@@ -130,7 +130,7 @@ enters_shown bytes (item i) p e = by (i.list == i.line)
     by true = λ k. event_at Enter (list_name i) (e k) ∷ (event_at Enter name.ListItem (e k) ∷ [])
     by false = λ k. event_at Enter name.ListItem (e k) ∷ []
 
-begin_shown : (t : ℕ) (bytes : List ℕ) (c : Container) (p : Point) (ss : List Seat) → AreSeatsAt t bytes p ss → 0 < length ss → events_of (enters_of bytes c (begin_of ss)) ≡ enters_at c p
+pub begin_shown : (t : ℕ) (bytes : List ℕ) (c : Container) (p : Point) (ss : List Seat) → AreSeatsAt t bytes p ss → 0 < length ss → events_of (enters_of bytes c (begin_of ss)) ≡ enters_at c p
 begin_shown t bytes c p [] h w = absurd (omega arith)
 begin_shown t bytes c p (s ∷ ss) h w = ap (λ q. events_of (enters_of bytes c q)) h.1 ∙ enters_shown bytes c p h.0
 

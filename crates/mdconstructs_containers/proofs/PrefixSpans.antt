@@ -30,23 +30,23 @@ take_more zero m ss = let e : m ≡ 0 + m = omega arith in ap (λ k. take k ss) 
 take_more (suc n) m [] = none-taken m ∙ sym (none-taken (suc n + m))
 take_more (suc n) m (s ∷ ss) = let e : suc n + m ≡ suc (n + m) = omega arith in ap (λ (l : List Seat). s ∷ l) (take_more n m ss) ∙ sym (ap (λ k. take k (s ∷ ss)) e)
 
-none_both : {A : Type 0} (xs ys : List A) → has_none (xs ++ ys) ≡ (has_none xs && has_none ys)
+pub none_both : {A : Type 0} (xs ys : List A) → has_none (xs ++ ys) ≡ (has_none xs && has_none ys)
 none_both [] ys = refl
 none_both (x ∷ xs) ys = refl
 
-none_cut : (n : ℕ) (ss : List Seat) → (has_none (take n ss) && has_none (drop n ss)) ≡ has_none ss
+pub none_cut : (n : ℕ) (ss : List Seat) → (has_none (take n ss) && has_none (drop n ss)) ≡ has_none ss
 none_cut n ss = sym (none_both (take n ss) (drop n ss)) ∙ ap has_none (take-append-drop n ss)
 
 module _ (bytes : List ℕ) where
-  leaf_unlinked : (n : Name) (ss : List Seat) → Unlinked (leaf_marks bytes n ss)
+  pub leaf_unlinked : (n : Name) (ss : List Seat) → Unlinked (leaf_marks bytes n ss)
   leaf_unlinked n [] = tt
   leaf_unlinked n (s ∷ ss) = (refl, (refl, tt))
 
-  span_unlinked : (n : Name) (ss : List Seat) (inside : List Mark) → Unlinked inside → Unlinked (span_marks bytes n ss inside)
+  pub span_unlinked : (n : Name) (ss : List Seat) (inside : List Mark) → Unlinked inside → Unlinked (span_marks bytes n ss inside)
   span_unlinked n [] inside h = h
   span_unlinked n (s ∷ ss) inside h = (refl, unlinked_both inside _ h (refl, tt))
 
-  leaf_none : (n : Name) (ss : List Seat) → has_none (leaf_marks bytes n ss) ≡ has_none ss
+  pub leaf_none : (n : Name) (ss : List Seat) → has_none (leaf_marks bytes n ss) ≡ has_none ss
   leaf_none n [] = refl
   leaf_none n (s ∷ ss) = refl
 
@@ -68,7 +68,7 @@ module _ (bytes : List ℕ) where
       (unlinked_both (leaf_marks bytes name.ListItemValue (take i.digits (drop n ss))) _ (leaf_unlinked name.ListItemValue (take i.digits (drop n ss)))
       (unlinked_both (leaf_marks bytes name.ListItemMarker (take 1 (drop (n + i.digits) ss))) _ (leaf_unlinked name.ListItemMarker (take 1 (drop (n + i.digits) ss))) (leaf_unlinked name.SpaceOrTab (drop (suc (n + i.digits)) ss)))))
 
-  going_none : (c : Container) (ss : List Seat) → has_none (going_marks bytes c ss) ≡ has_none ss
+  pub going_none : (c : Container) (ss : List Seat) → has_none (going_marks bytes c ss) ≡ has_none ss
   going_none (item i) ss = leaf_none name.SpaceOrTab ss
   going_none (quote line) ss =
       let n = indent (bytes_of ss) in
@@ -90,7 +90,7 @@ module _ (bytes : List ℕ) where
   -- ---- what is kept by spans holds of prefixes over their virtual bytes
 
   module _ (P : List Mark → List Seat → Type 0) (kept : IsKeptBySpans bytes P) where
-    going_kept : (c : Container) (ss : List Seat) → IsWhole ss → P (going_marks bytes c ss) ss
+    pub going_kept : (c : Container) (ss : List Seat) → IsWhole ss → P (going_marks bytes c ss) ss
     going_kept (quote line) ss w =
         let n = indent (bytes_of ss) in
         let one : suc n ≡ n + 1 = omega arith in

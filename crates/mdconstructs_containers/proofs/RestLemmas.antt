@@ -40,10 +40,10 @@ use Rattle.mdconstructs_containers.proofs.FrameFacts.{shared_none}
 abbrev pub part_of : Row → List Row → Part
 part_of r rs = let n = cond r.is_blank 0 (further rs) in record { first = r; more = take n rs; frames = frames_at r rs; stands = standing r rs }
 
-drop_few : (n : ℕ) (rs : List Row) → length (drop n rs) ≤ length rs
+pub drop_few : (n : ℕ) (rs : List Row) → length (drop n rs) ≤ length rs
 drop_few n rs = omega (arith, length-drop n rs)
 
-parts_bound : (b c : ℕ) (rs : List Row) → length rs ≤ b → length rs ≤ c → parts_in b rs ≡ parts_in c rs
+pub parts_bound : (b c : ℕ) (rs : List Row) → length rs ≤ b → length rs ≤ c → parts_in b rs ≡ parts_in c rs
 parts_bound zero zero rs h g = refl
 parts_bound zero (suc c) [] h g = refl
 parts_bound zero (suc c) (r ∷ rs) h g = absurd (omega arith)
@@ -73,7 +73,7 @@ further_few (r ∷ rs) = by r.is_left_blank (nat_le 1 (further rs)) r.stays (fur
     by false b false h = omega arith
 
 -- a further line is left blank, or stays
-further_is : (r : Row) (rs : List Row) (k : ℕ) → further (r ∷ rs) ≡ suc k → (further rs ≡ k) × ((r.is_left_blank || r.stays) ≡ true)
+pub further_is : (r : Row) (rs : List Row) (k : ℕ) → further (r ∷ rs) ≡ suc k → (further rs ≡ k) × ((r.is_left_blank || r.stays) ≡ true)
 further_is r rs k e = by r.is_left_blank (nat_le 1 (further rs)) r.stays e
   where
     by : (a b c : Bool) → cond a (cond b (suc (further rs)) 0) (cond c (suc (further rs)) 0) ≡ suc k → (further rs ≡ k) × ((a || c) ≡ true)
@@ -90,7 +90,7 @@ module _ (t : ℕ) (bytes : List ℕ) (some : 0 < t) (limit : t * length bytes +
       ap containers_of row.went ∙ going_front cs number (text_of r.line) ∙ ap (λ n. take n cs) (sym (ap (λ (l : List Prefix). length l) row.went) ∙ sym row.is.many) ∙ take_all x.row.many cs (omega (arith, size))
 
   -- no container begins in it or ends with it
-  further_plain : (stack : List Container) (number start : ℕ) (x : RowAt) (r : Row) → IsRowIn t bytes stack number start x r → (r.is_left_blank || r.stays) ≡ true → (r.begun ≡ []) × (open_behind stack r ≡ stack)
+  pub further_plain : (stack : List Container) (number start : ℕ) (x : RowAt) (r : Row) → IsRowIn t bytes stack number start x r → (r.is_left_blank || r.stays) ≡ true → (r.begun ≡ []) × (open_behind stack r ≡ stack)
   further_plain stack number start x r row e = by r.is_left_blank r.stays r.is_lazy refl refl refl e
     where
       by : (left stays lazy : Bool) → r.is_left_blank ≡ left → r.stays ≡ stays → r.is_lazy ≡ lazy → (left || stays) ≡ true → (r.begun ≡ []) × (cond (left || lazy) stack (containers_of r.went_on ++ containers_of r.begun) ≡ stack)
@@ -110,7 +110,7 @@ module _ (t : ℕ) (bytes : List ℕ) (some : 0 < t) (limit : t * length bytes +
     pub outside : IsOutside bytes last_start
     pub few : last_number ≤ suc last_start
 
-  split_all : (stack : List Container) (number start : ℕ) (xs : List RowAt) (rs : List Row) → AreRowsIn t bytes stack number start xs rs → IsOutside bytes start → number ≤ suc start → AreSplit stack number start xs rs 0
+  pub split_all : (stack : List Container) (number start : ℕ) (xs : List RowAt) (rs : List Row) → AreRowsIn t bytes stack number start xs rs → IsOutside bytes start → number ≤ suc start → AreSplit stack number start xs rs 0
   split_all stack number start xs rs are outside few = record { first = tt; last_number = number; last_start = start; behind = are; outside = outside; few = few }
 
   pub split_rows : (n : ℕ) (stack : List Container) (number start : ℕ) (xs : List RowAt) (rs : List Row) → AreRowsIn t bytes stack number start xs rs → IsOutside bytes start → number ≤ suc start → (n ≡ 0) ⊎ (n ≡ further rs) → AreSplit stack number start xs rs n
@@ -135,7 +135,7 @@ plain_map f [] = tt
 plain_map f (x ∷ xs) = plain_map f xs
 
 module _ (bytes : List ℕ) where
-  exits_shown : (fs : List Frame) (p q : Point) → shown bytes p ≡ q → exits bytes fs p ≡ exits_to fs q
+  pub exits_shown : (fs : List Frame) (p q : Point) → shown bytes p ≡ q → exits bytes fs p ≡ exits_to fs q
   exits_shown fs p q e = λ k. map (λ f. (event_at Exit f.name (e k), None)) (reverse fs)
 
   -- what comes behind a part, by where it ends
@@ -150,7 +150,7 @@ module _ (bytes : List ℕ) where
 
   -- ---- what is in a part
 
-  from_pieces : (b : List Mark) (s : List Seat) (l : List (Piece bytes)) → (elim (elim l as (λ _. List (Piece bytes)) [
+  pub from_pieces : (b : List Mark) (s : List Seat) (l : List (Piece bytes)) → (elim (elim l as (λ _. List (Piece bytes)) [
     | [] ↦ record { before = b; seats = s } ∷ []
     | r ∷ rs ↦ cond (has_none r.before) (record { before = b; seats = s ++ r.seats } ∷ rs) (record { before = b; seats = s } ∷ r ∷ rs)
   ]) as (λ _. List Mark) [ [] ↦ [] | p ∷ ps ↦ chunks_of bytes false (record p { before = [] } ∷ ps) ]) ≡ chunks_of bytes false (elim l as (λ _. List (Piece bytes)) [

@@ -72,7 +72,7 @@ BeginHere n (p ∷ ps) = BeginsIn n p.container × AllByRecursion (λ (q : Prefi
 
 -- a marker is ordered if digits come before it
 module _ (r : List ℕ) where
-  marker_ordered : is_marker r ≡ true → nat_le 1 (digits r) ≡ is_ordered (first_byte (drop (digits r) r))
+  pub marker_ordered : is_marker r ≡ true → nat_le 1 (digits r) ≡ is_ordered (first_byte (drop (digits r) r))
   marker_ordered h = by (digits r) (first_byte (drop (digits r) r)) h
     where
       unordered : (m : ℕ) → ((m == 42) || ((m == 43) || (m == 45))) ≡ true → false ≡ is_ordered m
@@ -92,7 +92,7 @@ module _ (r : List ℕ) where
           one ∙ sym (and-right (nat_le (suc n) 9) (is_ordered m) (sym (ap (λ b. cond b ((m == 42) || ((m == 43) || (m == 45))) (nat_le (suc n) 9 && ((m == 46) || (m == 41)))) some) ∙ h))
 
 module _ (on : Constructs) (n : ℕ) where
-  begins_here : (in_paragraph : Bool) (t : List ℕ) (p : Prefix) → begins on n in_paragraph t ≡ Some p → BeginsIn n p.container × BeginsList p.container
+  pub begins_here : (in_paragraph : Bool) (t : List ℕ) (p : Prefix) → begins on n in_paragraph t ≡ Some p → BeginsIn n p.container × BeginsList p.container
   begins_here in_paragraph t p e =
       by ((on.code_indented && nat_le 4 (indent t)) || (is_blank_line t || (on.thematic_break && is_thematic_break (unindented t)))) (on.block_quote && begins_with 62 (unindented t)) on.list_item (is_marker (unindented t)) _ refl e
     where
@@ -106,7 +106,7 @@ module _ (on : Constructs) (n : ℕ) where
       by false false true false rest em h = absurd (false≢true (ap is_some h))
       by false false true true false em h = absurd (false≢true (ap is_some h))
 
-  all_begin_here : (bound : ℕ) (in_paragraph : Bool) (t : List ℕ) → AllByRecursion (λ (q : Prefix). BeginsIn n q.container × BeginsList q.container) (beginning on bound n in_paragraph t)
+  pub all_begin_here : (bound : ℕ) (in_paragraph : Bool) (t : List ℕ) → AllByRecursion (λ (q : Prefix). BeginsIn n q.container × BeginsList q.container) (beginning on bound n in_paragraph t)
   all_begin_here zero in_paragraph t = tt
   all_begin_here (suc bound) in_paragraph t = by (all_begin_here bound false) (begins on n in_paragraph t) refl
     where
@@ -115,7 +115,7 @@ module _ (on : Constructs) (n : ℕ) where
       by rest None e = tt
       by rest (Some p) e = (begins_here in_paragraph t p e, rest (drop p.size t))
 
-  begun_within : (bound : ℕ) (in_paragraph : Bool) (t : List ℕ) → columns_of (beginning on bound n in_paragraph t) ≤ length t
+  pub begun_within : (bound : ℕ) (in_paragraph : Bool) (t : List ℕ) → columns_of (beginning on bound n in_paragraph t) ≤ length t
   begun_within zero in_paragraph t = omega arith
   begun_within (suc bound) in_paragraph t = by (begun_within bound false) (begins on n in_paragraph t) refl
     where
@@ -128,7 +128,7 @@ module _ (on : Constructs) (n : ℕ) where
           let all : columns_of (p ∷ beginning on bound n false (drop p.size t)) ≡ p.size + columns_of (beginning on bound n false (drop p.size t)) = sum_by-cons (λ (q : Prefix). q.size) p (beginning on bound n false (drop p.size t)) in
           omega (arith, here, rest, left, all)
 
-  sizes_of : (bound : ℕ) (in_paragraph : Bool) (t : List ℕ) → AllByRecursion (λ (q : Prefix). 1 ≤ q.size) (beginning on bound n in_paragraph t)
+  pub sizes_of : (bound : ℕ) (in_paragraph : Bool) (t : List ℕ) → AllByRecursion (λ (q : Prefix). 1 ≤ q.size) (beginning on bound n in_paragraph t)
   sizes_of zero in_paragraph t = tt
   sizes_of (suc bound) in_paragraph t = by (sizes_of bound false) (begins on n in_paragraph t) refl
     where
@@ -138,7 +138,7 @@ module _ (on : Constructs) (n : ℕ) where
       by rest (Some p) e = ((begins_within on n in_paragraph t p e).0, rest (drop p.size t))
 
   -- those that go on are no longer than the line
-  going_within : (cs : List Container) (t : List ℕ) → columns_of (going_on cs n t) ≤ length t
+  pub going_within : (cs : List Container) (t : List ℕ) → columns_of (going_on cs n t) ≤ length t
   going_within [] t = omega arith
   going_within (c ∷ cs) t = by (going_within cs) (goes_on c n t) refl
     where
@@ -154,7 +154,7 @@ module _ (on : Constructs) (n : ℕ) where
 
 -- ---- a container in the place of one that ended
 
-columns_listed : (ended : List Container) (ps : List Prefix) → columns_of (with_list ended ps) ≡ columns_of ps
+pub columns_listed : (ended : List Container) (ps : List Prefix) → columns_of (with_list ended ps) ≡ columns_of ps
 columns_listed [] ps = refl
 columns_listed (c ∷ cs) [] = refl
 columns_listed (c ∷ cs) (p ∷ ps) =
@@ -163,7 +163,7 @@ columns_listed (c ∷ cs) (p ∷ ps) =
 
 module _ (n : ℕ) where
   -- the item is in the list of one with the same marker
-  same_list : (old new : Item) → (old.line < n) × ItemIs old → (new.line ≡ n) × ItemIs new → new.list ≡ new.line → (x : Bool) → (old.marker == new.marker) ≡ x
+  pub same_list : (old new : Item) → (old.line < n) × ItemIs old → (new.line ≡ n) × ItemIs new → new.list ≡ new.line → (x : Bool) → (old.marker == new.marker) ≡ x
       → let i : Item = cond x (record new { list = old.list }) new in ((i.line ≡ n) × ItemIs i) × IsFront (cond (nat_lt i.list i.line) (record { name = list_name i; line = i.list } ∷ []) []) (frames_of (item old))
   same_list old new h k l true e =
       let before = h.0 in
@@ -181,7 +181,7 @@ module _ (n : ℕ) where
       let none : nat_lt new.list new.line ≡ false = grind (arith, nat_tests) in
       (k, (frames_of (item old), ap (λ b. cond b (record { name = list_name new; line = new.list } ∷ []) [] ++ frames_of (item old)) (sym none)))
 
-  none_listed : (ps : List Prefix) → AllByRecursion (λ (q : Prefix). BeginsIn n q.container × BeginsList q.container) ps → BeginHere n ps × (list_begun ps ≡ [])
+  pub none_listed : (ps : List Prefix) → AllByRecursion (λ (q : Prefix). BeginsIn n q.container × BeginsList q.container) ps → BeginHere n ps × (list_begun ps ≡ [])
   none_listed [] h = (tt, refl)
   none_listed (p ∷ ps) h = ((h.0.0, h.1), by p.container h.0)
     where
@@ -190,7 +190,7 @@ module _ (n : ℕ) where
       by (item i) k = let is = k.1 in let none : nat_lt i.list i.line ≡ false = grind (arith, nat_tests) in ap (λ b. cond b (record { name = list_name i; line = i.list } ∷ []) []) none
 
   -- what begins in a line, and the list that it is in, among containers that ended
-  listed : (ended : List Container) (ps : List Prefix) → AllByRecursion (BeganBefore n) ended → AllByRecursion (λ (q : Prefix). BeginsIn n q.container × BeginsList q.container) ps
+  pub listed : (ended : List Container) (ps : List Prefix) → AllByRecursion (BeganBefore n) ended → AllByRecursion (λ (q : Prefix). BeginsIn n q.container × BeginsList q.container) ps
       → BeginHere n (with_list ended ps) × IsFront (list_begun (with_list ended ps)) (flat_map frames_of ended)
   listed [] ps h k = let none = none_listed ps k in (none.0, ([], sym none.1 ∙ sym (append-nil (list_begun ps))))
   listed (c ∷ cs) [] h k = (tt, front_none (flat_map frames_of (c ∷ cs)))
@@ -239,10 +239,10 @@ module _ (on : Constructs) (b : Before) (n : ℕ) (line : Line) where
       (omega (arith, few, all), omega (arith, few, all))
 
   -- what is behind the prefixes of containers that go on, and what begins there
-  abbrev left : List ℕ
+  abbrev pub left : List ℕ
   left = drop (columns_of row.went_on) (text_of line)
 
-  abbrev new : List Prefix
+  abbrev pub new : List Prefix
   new = beginning on (length left) n ((length row.went_on == b.depth) && is_paragraph b.leaf) left
 
   pub begun_are : AllByRecursion (BeganBefore n) b.stack → BeginHere n row.begun × IsFront (list_begun row.begun) (flat_map frames_of (drop (length row.went_on) b.stack))

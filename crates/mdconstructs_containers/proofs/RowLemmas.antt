@@ -24,19 +24,19 @@ columns_begun list number [] = refl
 columns_begun list number (x ∷ xs) =
     sum_by-cons (λ (p : Prefix). p.size) (prefix_of number x) (map (prefix_of number) xs) ∙ sym (sum_by-cons (λ (p : Prefix). p.size) (prefix_of list x) (map (prefix_of number) xs))
 
-with_list_none : (ended : List Container) → with_list ended [] ≡ []
+pub with_list_none : (ended : List Container) → with_list ended [] ≡ []
 with_list_none [] = refl
 with_list_none (c ∷ cs) = refl
 
-with_list_cond : (ended : List Container) (b : Bool) (ps : List Prefix) → with_list ended (cond b [] ps) ≡ cond b [] (with_list ended ps)
+pub with_list_cond : (ended : List Container) (b : Bool) (ps : List Prefix) → with_list ended (cond b [] ps) ≡ cond b [] (with_list ended ps)
 with_list_cond ended true ps = with_list_none ended
 with_list_cond ended false ps = refl
 
 module _ (on : Constructs) (b : Before) (number : ℕ) (line : Line) (t : List ℕ) (text : text_of line ≡ t) where
-  went : List ℕ → List Prefix
+  pub went : List ℕ → List Prefix
   went u = going_on (take b.depth b.stack) number u
 
-  begun_by : (many columns : ℕ) → List ℕ → List Prefix
+  pub begun_by : (many columns : ℕ) → List ℕ → List Prefix
   begun_by many columns u =
       cond ((many == b.depth) && is_raw b.leaf) [] (with_list (drop many b.stack) (beginning on (length (drop columns u)) number ((many == b.depth) && is_paragraph b.leaf) (drop columns u)))
 
@@ -85,7 +85,7 @@ module _ (on : Constructs) (b : Before) (number : ℕ) (line : Line) (t : List �
 
 -- what is known behind a line, by its three cases
 module _ (on : Constructs) (b : Before) (r : Row) where
-  known_by : (left lazy : Bool) → Before
+  pub known_by : (left lazy : Bool) → Before
   known_by left lazy =
       cond left (record b { depth = length r.went_on; leaf = closed })
       (cond lazy (record b { leaf = r.leaf }) (record { stack = containers_of r.went_on ++ containers_of r.begun; depth = length (containers_of r.went_on ++ containers_of r.begun); leaf = r.leaf }))

@@ -33,15 +33,15 @@ use Rattle.mdconstructs_containers.proofs.RowFacts.{BeganBefore}
 
 -- ---- prefixes with which containers begin have their bytes
 
-abbrev IsFitting : Container → (size : ℕ) → List ℕ → Type 0
+abbrev pub IsFitting : Container → (size : ℕ) → List ℕ → Type 0
 IsFitting (quote line) size u = indent u + 1 ≤ size
 IsFitting (item i) size u = indent u + i.digits + 1 ≤ size
 
-abbrev AreFitting : List Prefix → List ℕ → Type 0
+abbrev pub AreFitting : List Prefix → List ℕ → Type 0
 AreFitting [] t = Unit {0}
 AreFitting (p ∷ ps) t = (p.size ≤ length t) × IsFitting p.container p.size (take p.size t) × AreFitting ps (drop p.size t)
 
-begins_fitting : (on : Constructs) (number : ℕ) (in_paragraph : Bool) (t : List ℕ) (q : Prefix) → begins on number in_paragraph t ≡ Some q → IsFitting q.container q.size (take q.size t)
+pub begins_fitting : (on : Constructs) (number : ℕ) (in_paragraph : Bool) (t : List ℕ) (q : Prefix) → begins on number in_paragraph t ≡ Some q → IsFitting q.container q.size (take q.size t)
 begins_fitting on number in_paragraph t q e =
     by ((on.code_indented && nat_le 4 (indent t)) || (is_blank_line t || (on.thematic_break && is_thematic_break (unindented t)))) (on.block_quote && begins_with 62 (unindented t)) (on.list_item && may_begin_item in_paragraph (unindented t)) e
   where
@@ -65,7 +65,7 @@ begins_fitting on number in_paragraph t q e =
     by false false true r = let same : item_at number t ≡ q = cc in subst (λ (p : Prefix). IsFitting p.container p.size (take p.size t)) same item_is
     by false false false r = absurd (cc)
 
-beginning_fitting : (on : Constructs) (bound number : ℕ) (in_paragraph : Bool) (t : List ℕ) → AreFitting (beginning on bound number in_paragraph t) t
+pub beginning_fitting : (on : Constructs) (bound number : ℕ) (in_paragraph : Bool) (t : List ℕ) → AreFitting (beginning on bound number in_paragraph t) t
 beginning_fitting on zero number in_paragraph t = tt
 beginning_fitting on (suc bound) number in_paragraph t = by (begins on number in_paragraph t) refl (λ p. beginning_fitting on bound number false (drop p.size t))
   where
@@ -74,7 +74,7 @@ beginning_fitting on (suc bound) number in_paragraph t = by (begins on number in
     by None e more = tt
     by (Some p) e more = ((begins_within on number in_paragraph t p e).1, begins_fitting on number in_paragraph t p e, more p)
 
-in_place_fitting : (old new : Container) (size : ℕ) (u : List ℕ) → IsFitting new size u → IsFitting (in_place_of old new) size u
+pub in_place_fitting : (old new : Container) (size : ℕ) (u : List ℕ) → IsFitting new size u → IsFitting (in_place_of old new) size u
 in_place_fitting (quote l) (quote m) size u h = h
 in_place_fitting (quote l) (item j) size u h = h
 in_place_fitting (item i) (quote m) size u h = h
@@ -84,30 +84,30 @@ in_place_fitting (item i) (item j) size u h = by (i.marker == j.marker)
     by true = h
     by false = h
 
-with_list_fitting : (ended : List Container) (ps : List Prefix) (t : List ℕ) → AreFitting ps t → AreFitting (with_list ended ps) t
+pub with_list_fitting : (ended : List Container) (ps : List Prefix) (t : List ℕ) → AreFitting ps t → AreFitting (with_list ended ps) t
 with_list_fitting [] [] t h = h
 with_list_fitting [] (p ∷ ps) t h = h
 with_list_fitting (c ∷ cs) [] t h = h
 with_list_fitting (c ∷ cs) (p ∷ ps) t h = (h.0, in_place_fitting c p.container p.size (take p.size t) h.1, h.2)
 
-one_inside : (list : ℕ) (p : CodePrefix) (t : List ℕ) → p.size ≤ length t → IsFitting (container_of list p.container) p.size (take p.size t) → IsInside p t
+pub one_inside : (list : ℕ) (p : CodePrefix) (t : List ℕ) → p.size ≤ length t → IsFitting (container_of list p.container) p.size (take p.size t) → IsInside p t
 one_inside list p t w h = record { within = w; of_quote = λ e. subst (λ (b : Bool). IsFitting (by b) p.size (take p.size t)) e h; of_item = λ e. subst (λ (b : Bool). IsFitting (by b) p.size (take p.size t)) e h }
   where
     by : Bool → Container
     by b = cond b (quote p.container.line) (item (record { line = p.container.line; list = list; size = p.container.size; marker = p.container.marker; digits = p.container.digits; is_empty = p.container.is_blank }))
 
-same_inside : (number : ℕ) (xs : List CodePrefix) (t : List ℕ) → AreFitting (map (prefix_of number) xs) t → AreInside xs t
+pub same_inside : (number : ℕ) (xs : List CodePrefix) (t : List ℕ) → AreFitting (map (prefix_of number) xs) t → AreInside xs t
 same_inside number [] t h = tt
 same_inside number (x ∷ xs) t h = (one_inside number x t h.0 h.1, same_inside number xs (drop x.size t) h.2)
 
-begun_inside : (list number : ℕ) (xs : List CodePrefix) (t : List ℕ) → AreFitting (begun_of list number xs) t → AreInside xs t
+pub begun_inside : (list number : ℕ) (xs : List CodePrefix) (t : List ℕ) → AreFitting (begun_of list number xs) t → AreInside xs t
 begun_inside list number [] t h = tt
 begun_inside list number (x ∷ xs) t h = (one_inside list x t h.0 h.1, same_inside number xs (drop x.size t) h.2)
 
 -- ---- one line
 
 -- those that go on are those that go on of the first
-going_again : (cs : List Container) (number : ℕ) (t : List ℕ) → going_on (take (length (going_on cs number t)) cs) number t ≡ going_on cs number t
+pub going_again : (cs : List Container) (number : ℕ) (t : List ℕ) → going_on (take (length (going_on cs number t)) cs) number t ≡ going_on cs number t
 going_again [] number t = refl
 going_again (c ∷ cs) number t = by (goes_on c number t) refl (λ n. going_again cs number (drop n t))
   where
@@ -119,7 +119,7 @@ going_again (c ∷ cs) number t = by (goes_on c number t) refl (λ n. going_agai
     by None e h = refl
     by (Some n) e h = more n (goes_on c number t) e (h n)
 
-cond_fitting : (b : Bool) (ps : List Prefix) (t : List ℕ) → AreFitting ps t → AreFitting (cond b [] ps) t
+pub cond_fitting : (b : Bool) (ps : List Prefix) (t : List ℕ) → AreFitting ps t → AreFitting (cond b [] ps) t
 cond_fitting true ps t h = tt
 cond_fitting false ps t h = h
 
@@ -127,7 +127,7 @@ module _ (on : Constructs) (b : Before) (number : ℕ) (line : Line) where
   abbrev pub row : Row
   row = row_of on b number line
 
-  begun_fitting : AreFitting row.begun (drop (columns_of row.went_on) (text_of line))
+  pub begun_fitting : AreFitting row.begun (drop (columns_of row.went_on) (text_of line))
   begun_fitting =
       let went = going_on (take b.depth b.stack) number (text_of line) in
       let all = length went == b.depth in
@@ -135,13 +135,13 @@ module _ (on : Constructs) (b : Before) (number : ℕ) (line : Line) where
       cond_fitting (all && is_raw b.leaf) (with_list (drop (length went) b.stack) (beginning on (length rest) number (all && is_paragraph b.leaf) rest)) rest
       (with_list_fitting (drop (length went) b.stack) (beginning on (length rest) number (all && is_paragraph b.leaf) rest) rest (beginning_fitting on (length rest) number (all && is_paragraph b.leaf) rest))
 
-  went_again : (many : ℕ) → many ≡ length row.went_on → row.went_on ≡ going_on (take many b.stack) number (text_of line)
+  pub went_again : (many : ℕ) → many ≡ length row.went_on → row.went_on ≡ going_on (take many b.stack) number (text_of line)
   went_again many e =
       let cs = take b.depth b.stack in
       let few = going_few cs number (text_of line) in
       sym (going_again cs number (text_of line)) ∙ (λ k. going_on (take_of_take (length (going_on cs number (text_of line))) b.depth b.stack few k) number (text_of line)) ∙ (λ k. going_on (take (sym e k) b.stack) number (text_of line))
 
-  whole : row.stays ≡ true → row.is_lazy ≡ false → length row.went_on ≡ length b.stack
+  pub whole : row.stays ≡ true → row.is_lazy ≡ false → length row.went_on ≡ length b.stack
   whole s l =
       let went = going_on (take b.depth b.stack) number (text_of line) in
       let rest = and-right (has_none row.begun) (row.is_lazy || ((length went == b.depth) && (length b.stack == b.depth))) s in
@@ -166,7 +166,7 @@ module _ (on : Constructs) (b : Before) (number : ℕ) (line : Line) where
     fits = subst (λ (n : ℕ). AreInside x.row.begun.items (drop n (text_of line))) (sym is.going) (begun_inside x.row.list number x.row.begun.items _ (subst (λ (l : List Prefix). AreFitting l (drop (columns_of row.went_on) (text_of line))) (sym is.begun) begun_fitting));
   }
 
-  stack_behind : (known_after on b row).stack ≡ open_behind b.stack row
+  pub stack_behind : (known_after on b row).stack ≡ open_behind b.stack row
   stack_behind = by row.is_left_blank row.is_lazy
     where
       by : (left lazy : Bool) → (cond left (record b { depth = length row.went_on; leaf = closed }) (cond lazy (record b { leaf = row.leaf }) (record { stack = containers_of row.went_on ++ containers_of row.begun; depth = length (containers_of row.went_on ++ containers_of row.begun); leaf = row.leaf }))).stack
@@ -177,7 +177,7 @@ module _ (on : Constructs) (b : Before) (number : ℕ) (line : Line) where
 
 -- ---- all lines
 
-head_same : {A : Type 0} (x y : A) (xs ys : List A) → x ∷ xs ≡ y ∷ ys → (x ≡ y) × (xs ≡ ys)
+pub head_same : {A : Type 0} (x y : A) (xs ys : List A) → x ∷ xs ≡ y ∷ ys → (x ≡ y) × (xs ≡ ys)
 head_same x y xs ys e = (cc, cc)
 
 pub rows_in : (on : Constructs) (t : ℕ) (bytes : List ℕ) (some : 0 < t) (b : Before) (number start : ℕ) (xs : List RowAt) (all : List Row) → all ≡ rows_left on t bytes b number start → AreRows xs all → ArePlaced t bytes number start xs (length bytes) → AllByRecursion (BeganBefore number) b.stack

@@ -48,13 +48,13 @@ module _ (bytes : List ℕ) where
 -- ---- a line
 
 module _ (t : ℕ) (bytes : List ℕ) (some : 0 < t) (limit : t * length bytes + 1 < 2 ^ 64) (number start : ℕ) (x : RowAt) (placed : IsPlaced t bytes number start x) (line : Line) (is : line ≡ line_at t number start (drop start bytes)) (outside : IsOutside bytes start) where
-  abbrev first_at : Point
+  abbrev pub first_at : Point
   first_at = point number 1 start 0
 
-  abbrev text_at : Point
+  abbrev pub text_at : Point
   text_at = point number (x.span.size + 1) x.span.end 0
 
-  text_is : line_text line ≡ text_seats t number start (drop start bytes)
+  pub text_is : line_text line ≡ text_seats t number start (drop start bytes)
   text_is = ap line_text is ∙ line_text_at t number start (drop start bytes)
 
   pub text_size : length (line_text line) ≡ x.span.size
@@ -63,13 +63,13 @@ module _ (t : ℕ) (bytes : List ℕ) (some : 0 < t) (limit : t * length bytes +
   pub text_course : Course t bytes x.span.end first_at (line_text line)
   text_course = subst (λ (k : ℕ). Course t bytes k first_at (line_text line)) (sym placed.end_is) (subst (λ (l : List Seat). Course t bytes (start + prefix_len is_in_line (drop start bytes)) first_at l) (sym text_is) (course_from t bytes some number 1 start (drop start bytes) refl (omega arith)))
 
-  end_outside : IsOutside bytes x.span.end
+  pub end_outside : IsOutside bytes x.span.end
   end_outside = outside_end bytes start x.span.end placed.end_is outside
 
   pub text_seats_at : AreSeatsAt t bytes first_at (line_text line)
   text_seats_at = course_seats t bytes x.span.end first_at (line_text line) text_course (λ q e v. outside_shown bytes q x.span.end end_outside e)
 
-  end_inside : x.span.end ≤ length bytes
+  pub end_inside : x.span.end ≤ length bytes
   end_inside = end_within bytes start x.span.end (omega (arith, placed.inside)) placed.end_is
 
   pub size_small : x.span.size ≤ t * length bytes
@@ -93,7 +93,7 @@ module _ (t : ℕ) (bytes : List ℕ) (some : 0 < t) (limit : t * length bytes +
   pub text_end : end_after first_at (line_text line) ≡ text_at
   text_end = let n : 1 + length (line_text line) ≡ x.span.size + 1 = omega (arith, text_size) in course_end t bytes x.span.end first_at (line_text line) text_course ∙ ap (λ k. point number k x.span.end 0) n
 
-  text_at_shown : shown bytes text_at ≡ text_at
+  pub text_at_shown : shown bytes text_at ≡ text_at
   text_at_shown = outside_shown bytes text_at x.span.end end_outside refl
 
   pub behind_text : place_after t bytes first_at x.span.size ≡ text_at
@@ -104,10 +104,10 @@ module _ (t : ℕ) (bytes : List ℕ) (some : 0 < t) (limit : t * length bytes +
   -- ---- its line ending
 
   -- where the line ends, with its line ending
-  abbrev line_end : Point
+  abbrev pub line_end : Point
   line_end = cond (x.span.end == x.span.next) text_at (point (number + 1) 1 x.span.next 0)
 
-  ending_is : ending_of line ≡ ending_seats number (x.span.size + 1) x.span.end (ending_size (drop x.span.end bytes))
+  pub ending_is : ending_of line ≡ ending_seats number (x.span.size + 1) x.span.end (ending_size (drop x.span.end bytes))
   ending_is =
       let n = prefix_len is_in_line (drop start bytes) in
       let column : 1 + length (text_seats t number start (drop start bytes)) ≡ x.span.size + 1 = omega (arith, sym (ap (λ (l : List Seat). length l) text_is) ∙ text_size) in
@@ -115,7 +115,7 @@ module _ (t : ℕ) (bytes : List ℕ) (some : 0 < t) (limit : t * length bytes +
       ap ending_of is ∙ ending_of_at t number start (drop start bytes) ∙ (λ k. ending_seats number (column k) (sym placed.end_is k) (ending_size (rest k)))
 
   -- the line ending of so many bytes
-  ending_run : (rest : List ℕ) → drop x.span.end bytes ≡ rest → x.span.next ≡ x.span.end + ending_size rest → Run bytes text_at line_end (ending_seats number (x.span.size + 1) x.span.end (ending_size rest))
+  pub ending_run : (rest : List ℕ) → drop x.span.end bytes ≡ rest → x.span.next ≡ x.span.end + ending_size rest → Run bytes text_at line_end (ending_seats number (x.span.size + 1) x.span.end (ending_size rest))
   ending_run [] d n = let same : x.span.end ≡ x.span.next = omega (arith, n) in run_none bytes text_at line_end (λ k. cond (sym (eq-eqb x.span.end x.span.next same) k) text_at (point (number + 1) 1 x.span.next 0))
   ending_run (b ∷ bs) d n = by (b == 13) refl (begins_with_lf bs) refl n
     where
@@ -153,12 +153,12 @@ module _ (t : ℕ) (bytes : List ℕ) (some : 0 < t) (limit : t * length bytes +
 
   -- ---- from a column on
 
-  columns_end : (c : ℕ) → c ≤ x.span.size → end_after (place_after t bytes first_at c) (drop c (line_text line)) ≡ text_at
+  pub columns_end : (c : ℕ) → c ≤ x.span.size → end_after (place_after t bytes first_at c) (drop c (line_text line)) ≡ text_at
   columns_end c w =
       ap (λ (p : Point). end_after p (drop c (line_text line))) (sym (seats_end t bytes first_at (line_text line) c text_seats_at (omega (arith, text_size, w))))
       ∙ sym (end-after-append first_at (take c (line_text line)) (drop c (line_text line))) ∙ ap (end_after first_at) (take-append-drop c (line_text line)) ∙ text_end
 
-  seats_run : (p : Point) (ss : List Seat) → AreSeatsAt t bytes p ss → end_after p ss ≡ text_at → (0 < length ss → p.index < x.span.end) → Run bytes p text_at ss
+  pub seats_run : (p : Point) (ss : List Seat) → AreSeatsAt t bytes p ss → end_after p ss ≡ text_at → (0 < length ss → p.index < x.span.end) → Run bytes p text_at ss
   seats_run p [] h e w = run_none bytes p text_at e
   seats_run p (s ∷ ss) h e w = record { first = sym (ap (shown bytes) h.1 ∙ h.0); last = sym text_at_shown ∙ ap (shown bytes) (sym e); none = λ q. absurd (cc); some = w }
 

@@ -25,7 +25,7 @@ pub record SeatEnds (s : Seat) : Type 0 where
   pub begins : is_line_ending s ≡ true → s.end.column ≡ 1
   pub later : stands_before s.point s.end ≡ true
 
-tab_ends : (k byte line column index vs : ℕ) → (byte == 10) ≡ false → AllByRecursion SeatEnds (in_tab byte k line column index vs)
+pub tab_ends : (k byte line column index vs : ℕ) → (byte == 10) ≡ false → AllByRecursion SeatEnds (in_tab byte k line column index vs)
 tab_ends zero byte line column index vs e = tt
 tab_ends (suc k) byte line column index vs e = (by k, tab_ends k 32 line (suc column) index (suc vs) refl)
   where
@@ -33,10 +33,10 @@ tab_ends (suc k) byte line column index vs e = (by k, tab_ends k 32 line (suc co
     by zero = record { in_line = λ h. refl; begins = λ h. absurd (false≢true (sym e ∙ h)); later = grind (arith, nat_tests) }
     by (suc k) = record { in_line = λ h. refl; begins = λ h. absurd (false≢true (sym e ∙ h)); later = grind (arith, nat_tests) }
 
-feed_ends : (line column index : ℕ) → SeatEnds (line_feed line column index)
+pub feed_ends : (line column index : ℕ) → SeatEnds (line_feed line column index)
 feed_ends line column index = record { in_line = λ h. absurd (false≢true (sym h)); begins = λ h. refl; later = grind (arith, nat_tests) }
 
-seats_end_from : (t line column index : ℕ) (bs : List ℕ) → AllByRecursion SeatEnds (virtual_from t line column index bs)
+pub seats_end_from : (t line column index : ℕ) (bs : List ℕ) → AllByRecursion SeatEnds (virtual_from t line column index bs)
 seats_end_from t line column index [] = tt
 seats_end_from t line column index (b ∷ bs) = by (λ l c. seats_end_from t l c (suc index) bs) (b == 10) (b == 13) (begins_with_lf bs) (b == 9) refl
   where
@@ -66,7 +66,7 @@ LinesEnd [] = Unit {0}
 LinesEnd (l ∷ []) = Unit {0}
 LinesEnd (l ∷ m ∷ ls) = (has_none (ending_of l) ≡ false) × LinesEnd (m ∷ ls)
 
-some_in_lines : (ss : List Seat) → AllByRecursion (λ (l : Line). has_none l ≡ false) (lines_in ss)
+pub some_in_lines : (ss : List Seat) → AllByRecursion (λ (l : Line). has_none l ≡ false) (lines_in ss)
 some_in_lines [] = tt
 some_in_lines (s ∷ ss) = by (is_line_ending s) (lines_in ss) (some_in_lines ss)
   where
@@ -75,7 +75,7 @@ some_in_lines (s ∷ ss) = by (is_line_ending s) (lines_in ss) (some_in_lines ss
     by false [] h = (refl, tt)
     by false (l ∷ ls) h = (refl, h.1)
 
-all_are_lines : (ls : List Line) → AllByRecursion IsWhole ls → AllByRecursion (AllByRecursion SeatEnds) ls → AllByRecursion (λ (l : Line). has_none l ≡ false) ls → AllByRecursion LineIs ls
+pub all_are_lines : (ls : List Line) → AllByRecursion IsWhole ls → AllByRecursion (AllByRecursion SeatEnds) ls → AllByRecursion (λ (l : Line). has_none l ≡ false) ls → AllByRecursion LineIs ls
 all_are_lines [] w e s = tt
 all_are_lines (l ∷ ls) w e s = (record { whole = w.0; ends = e.0; some = s.0 }, all_are_lines ls w.1 e.1 s.1)
 
@@ -139,7 +139,7 @@ drop_text line c w few =
 pub before_upto : (p q r : Point) → stands_before p q ≡ true → stands_before r q ≡ false → stands_before p r ≡ true
 before_upto p q r h k = grind (arith, nat_tests)
 
-upto_before : (p q r : Point) → stands_before q p ≡ false → stands_before q r ≡ true → stands_before p r ≡ true
+pub upto_before : (p q r : Point) → stands_before q p ≡ false → stands_before q r ≡ true → stands_before p r ≡ true
 upto_before p q r h k = grind (arith, nat_tests)
 
 module _ (t : ℕ) (bytes : List ℕ) where

@@ -39,7 +39,7 @@ module _ (t : ℕ) (bytes : List ℕ) where
   seats_drop p [] (suc n) h w = absurd (omega arith)
   seats_drop p (s ∷ ss) (suc n) h w = subst (λ (q : Point). AreSeatsAt t bytes q (drop n ss)) (ap (λ q. place_after t bytes q n) h.2 ∙ place_front t bytes p n) (seats_drop s.end ss n h.3 (omega arith))
 
-  seats_shown : (p : Point) (ss : List Seat) (n : ℕ) → AreSeatsAt t bytes p ss → n ≤ length ss → shown bytes (place_after t bytes p n) ≡ place_after t bytes p n
+  pub seats_shown : (p : Point) (ss : List Seat) (n : ℕ) → AreSeatsAt t bytes p ss → n ≤ length ss → shown bytes (place_after t bytes p n) ≡ place_after t bytes p n
   seats_shown p ss n h w = here (place_after t bytes p n) (drop n ss) (seats_drop p ss n h w)
 
   -- a span

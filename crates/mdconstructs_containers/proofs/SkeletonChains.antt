@@ -86,10 +86,10 @@ pub record IsAhead (es : List Event) (i j : ℕ) (p : Point) (o : Option (List N
   pub back : previous_of es j ≡ previous
   pub read_as : content_at es j ≡ Some content.Content
 
-bare_content : (e : Event) (es : List Event) → e.link ≡ None → content_at (e ∷ es) 0 ≡ None
+pub bare_content : (e : Event) (es : List Event) → e.link ≡ None → content_at (e ∷ es) 0 ≡ None
 bare_content e es h = ap (option_map (λ (l : _). l.content)) h
 
-ahead : (i d : ℕ) (previous : Option ℕ) (ms : List Mark) (p : Point) (o : Option (List Name)) → Runs ms (a_chunk p o) → next_chunk i ms ≡ Some d → (j : ℕ) × (d ≡ i + j) × IsAhead (chained_from i previous ms) i j p o previous
+pub ahead : (i d : ℕ) (previous : Option ℕ) (ms : List Mark) (p : Point) (o : Option (List Name)) → Runs ms (a_chunk p o) → next_chunk i ms ≡ Some d → (j : ℕ) × (d ≡ i + j) × IsAhead (chained_from i previous ms) i j p o previous
 ahead i d previous [] p o h is = absurd h
 ahead i d previous ((e, None) ∷ ms) p o h is =
     let (j, at, a) = ahead (suc i) d previous ms p (names_after_all o (e ∷ [])) h.1 is in
@@ -135,7 +135,7 @@ pub record IsNext (es : List Event) (i k j : ℕ) : Type 0 where
   pub read_as : content_at es j ≡ Some content.Content
   pub same : content_at es k ≡ Some content.Content
 
-next_later : (x : Event) (es : List Event) (i k j : ℕ) → IsNext es (suc i) k j → IsNext (x ∷ es) i (suc k) (suc j)
+pub next_later : (x : Event) (es : List Event) (i k j : ℕ) → IsNext es (suc i) k j → IsNext (x ∷ es) i (suc k) (suc j)
 next_later x es i k j h =
     let least = h.least in
     let one : suc k + 1 ≡ suc (k + 1) = omega arith in
@@ -157,7 +157,7 @@ next_later x es i k j h =
     behind (suc m) from to = h.none m (omega (arith, from)) (omega (arith, to))
 
 -- the chunk at the front
-next_first : (i d : ℕ) (x : Event) (ms : List Mark) → content_at (x ∷ []) 0 ≡ Some content.Content → Runs ms an_exit → next_chunk (suc i) ms ≡ Some d → (j : ℕ) × (d ≡ i + j) × IsNext (x ∷ chained_from (suc i) (Some i) ms) i 0 j
+pub next_first : (i d : ℕ) (x : Event) (ms : List Mark) → content_at (x ∷ []) 0 ≡ Some content.Content → Runs ms an_exit → next_chunk (suc i) ms ≡ Some d → (j : ℕ) × (d ≡ i + j) × IsNext (x ∷ chained_from (suc i) (Some i) ms) i 0 j
 next_first i d x [] c h is = absurd h
 next_first i d x ((e, Some k) ∷ ms) c h is = absurd h
 next_first i d x ((e, None) ∷ ms) c h is =
@@ -183,30 +183,30 @@ next_first i d x ((e, None) ∷ ms) c h is =
     behind j (suc zero) from to rest = absurd (omega (arith, from))
     behind j (suc (suc m)) from to rest = rest m (omega (arith, to))
 
-alone_unlinked : (d : Due) (e : Event) (ms : List Mark) → Runs ((e, None) ∷ ms) d → e.link ≡ None
+pub alone_unlinked : (d : Due) (e : Event) (ms : List Mark) → Runs ((e, None) ∷ ms) d → e.link ≡ None
 alone_unlinked idle e ms h = h.0
 alone_unlinked an_exit e ms h = h.0
 alone_unlinked (a_chunk p o) e ms h = h.0
 
-abbrev waits : Due → Bool
+abbrev pub waits : Due → Bool
 waits idle = false
 waits an_exit = true
 waits (a_chunk p o) = true
 
-behind_alone : (e : Event) (ms : List Mark) (d : Due) → Runs ((e, None) ∷ ms) d → (f : Due) × Runs ms f × (waits f ≡ waits d)
+pub behind_alone : (e : Event) (ms : List Mark) (d : Due) → Runs ((e, None) ∷ ms) d → (f : Due) × Runs ms f × (waits f ≡ waits d)
 behind_alone e ms idle h = (idle, h.1, refl)
 behind_alone e ms an_exit h = (a_chunk e.point (Some []), h.1, refl)
 behind_alone e ms (a_chunk p o) h = (a_chunk p (names_after_all o (e ∷ [])), h.1, refl)
 
-chunk_is : (e : Event) (k : Chunk) (ms : List Mark) (d : Due) → Runs ((e, Some k) ∷ ms) d → (k.content ≡ content.Content) × Runs ms (next_due k.has_next)
+pub chunk_is : (e : Event) (k : Chunk) (ms : List Mark) (d : Due) → Runs ((e, Some k) ∷ ms) d → (k.content ≡ content.Content) × Runs ms (next_due k.has_next)
 chunk_is e k ms idle h = (h.0, h.2)
 chunk_is e k ms an_exit h = absurd h
 chunk_is e k ms (a_chunk p o) h = (h.0, h.4)
 
-no_next_of : (e : Event) (es : List Event) (d : ℕ) → e.link ≡ None → next_of (e ∷ es) 0 ≡ Some d → ⊥
+pub no_next_of : (e : Event) (es : List Event) (d : ℕ) → e.link ≡ None → next_of (e ∷ es) 0 ≡ Some d → ⊥
 no_next_of e es d none is = false≢true (ap is_some (sym (ap (λ l. next_of (record e { link = l } ∷ es) 0) none) ∙ is))
 
-no_previous_of : (e : Event) (es : List Event) (d : ℕ) → e.link ≡ None → previous_of (e ∷ es) 0 ≡ Some d → ⊥
+pub no_previous_of : (e : Event) (es : List Event) (d : ℕ) → e.link ≡ None → previous_of (e ∷ es) 0 ≡ Some d → ⊥
 no_previous_of e es d none is = false≢true (ap is_some (sym (ap (λ l. previous_of (record e { link = l } ∷ es) 0) none) ∙ is))
 
 pub next_found : (i k d : ℕ) (previous : Option ℕ) (ms : List Mark) (due : Due) → Runs ms due → next_of (chained_from i previous ms) k ≡ Some d → (j : ℕ) × (d ≡ i + j) × IsNext (chained_from i previous ms) i k j
@@ -227,13 +227,13 @@ next_found i (suc k) d previous ((e, Some c) ∷ ms) due h is =
     (suc j, omega (arith, at), next_later _ (chained_from (suc i) (Some i) ms) i k j n)
 
 -- a chunk that has a previous one is the first of these marks, or the next one of a chunk among them
-abbrev IsFirst : (i j p : ℕ) (previous : Option ℕ) (ms : List Mark) → Type 0
+abbrev pub IsFirst : (i j p : ℕ) (previous : Option ℕ) (ms : List Mark) → Type 0
 IsFirst i j p previous ms = (previous ≡ Some p) × (next_chunk i ms ≡ Some (i + j))
 
-abbrev IsNextOf : (es : List Event) (i j p : ℕ) → Type 0
+abbrev pub IsNextOf : (es : List Event) (i j p : ℕ) → Type 0
 IsNextOf es i j p = (k : ℕ) × (p ≡ i + k) × (next_of es k ≡ Some (i + j))
 
-later_of : (x : Event) (es : List Event) (i j p : ℕ) → IsNextOf es (suc i) j p → IsNextOf (x ∷ es) i (suc j) p
+pub later_of : (x : Event) (es : List Event) (i j p : ℕ) → IsNextOf es (suc i) j p → IsNextOf (x ∷ es) i (suc j) p
 later_of x es i j p h = let at = h.1 in let same : suc i + j ≡ i + suc j = omega arith in (suc h.0, omega (arith, at), h.2 ∙ ap Some same)
 
 pub previous_found : (i j p : ℕ) (previous : Option ℕ) (ms : List Mark) (w : Due) → Runs ms w → previous_of (chained_from i previous ms) j ≡ Some p
@@ -276,7 +276,7 @@ one_content_of i (suc k) c previous ((e, Some x) ∷ ms) due h is = one_content_
 
 -- marks of which each chunk's run is whole
 module _ (ms : List Mark) (h : Runs ms idle) where
-  abbrev es : List Event
+  abbrev pub es : List Event
   es = chained_from 0 None ms
 
   pub next_in : (k d : ℕ) → next_of es k ≡ Some d → IsNext es 0 k d

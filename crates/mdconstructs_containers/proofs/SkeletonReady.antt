@@ -39,31 +39,31 @@ use Rattle.markdown_tokenizer.proofs.Inside.Made.{before-upto}
 
 -- ---- links change no name and no place
 
-names_chained : (o : Option (List Name)) (i : ℕ) (previous : Option ℕ) (ms : List Mark) → names_after_all o (chained_from i previous ms) ≡ names_after_all o (bare ms)
+pub names_chained : (o : Option (List Name)) (i : ℕ) (previous : Option ℕ) (ms : List Mark) → names_after_all o (chained_from i previous ms) ≡ names_after_all o (bare ms)
 names_chained None i previous ms = refl
 names_chained (Some st) i previous [] = refl
 names_chained (Some st) i previous ((e, None) ∷ ms) = names_chained (names_after e.kind e.name st) (suc i) previous ms
 names_chained (Some st) i previous ((e, Some chunk) ∷ ms) = names_chained (names_after e.kind e.name st) (suc i) (Some i) ms
 
-order_chained : (p : Point) (i : ℕ) (previous : Option ℕ) (ms : List Mark) (q : Point) → InOrder p (bare ms) q → InOrder p (chained_from i previous ms) q
+pub order_chained : (p : Point) (i : ℕ) (previous : Option ℕ) (ms : List Mark) (q : Point) → InOrder p (bare ms) q → InOrder p (chained_from i previous ms) q
 order_chained p i previous [] q h = h
 order_chained p i previous ((e, None) ∷ ms) q h = (h.0, order_chained e.point (suc i) previous ms q h.1)
 order_chained p i previous ((e, Some chunk) ∷ ms) q h = (h.0, order_chained e.point (suc i) (Some i) ms q h.1)
 
-places_chained : (P : Point → Type 0) (i : ℕ) (previous : Option ℕ) (ms : List Mark) → AllByRecursion (λ (e : Event). P e.point) (bare ms) → AllByRecursion (λ (e : Event). P e.point) (chained_from i previous ms)
+pub places_chained : (P : Point → Type 0) (i : ℕ) (previous : Option ℕ) (ms : List Mark) → AllByRecursion (λ (e : Event). P e.point) (bare ms) → AllByRecursion (λ (e : Event). P e.point) (chained_from i previous ms)
 places_chained P i previous [] h = tt
 places_chained P i previous ((e, None) ∷ ms) h = (h.0, places_chained P (suc i) previous ms h.1)
 places_chained P i previous ((e, Some chunk) ∷ ms) h = (h.0, places_chained P (suc i) (Some i) ms h.1)
 
 -- ---- places by index
 
-place_there : (P : Point → Type 0) (es : List Event) (k : ℕ) (e : Event) → AllByRecursion (λ (x : Event). P x.point) es → slice_get es k ≡ Some e → P (place_at es k)
+pub place_there : (P : Point → Type 0) (es : List Event) (k : ℕ) (e : Event) → AllByRecursion (λ (x : Event). P x.point) es → slice_get es k ≡ Some e → P (place_at es k)
 place_there P [] zero e h at = absurd (false≢true (ap is_some at))
 place_there P [] (suc k) e h at = absurd (false≢true (ap is_some at))
 place_there P (x ∷ xs) zero e h at = h.0
 place_there P (x ∷ xs) (suc k) e h at = place_there P xs k e h.1 at
 
-next_place : (p : Point) (es : List Event) (q : Point) (k : ℕ) (e : Event) → InOrder p es q → slice_get es (k + 1) ≡ Some e → stands_before (place_at es (k + 1)) (place_at es k) ≡ false
+pub next_place : (p : Point) (es : List Event) (q : Point) (k : ℕ) (e : Event) → InOrder p es q → slice_get es (k + 1) ≡ Some e → stands_before (place_at es (k + 1)) (place_at es k) ≡ false
 next_place p [] q zero e h at = absurd (false≢true (ap is_some at))
 next_place p [] q (suc k) e h at = absurd (false≢true (ap is_some (ap (slice_get []) (let one : suc (k + 1) ≡ suc k + 1 = omega arith in one) ∙ at)))
 next_place p (x ∷ []) q zero e h at = absurd (false≢true (ap is_some at))
@@ -75,33 +75,33 @@ next_place p (x ∷ xs) q (suc k) e h at =
 -- ---- a document
 
 module _ (g : Given) (is : IsDocument g) where
-  abbrev seats : List Seat
+  abbrev pub seats : List Seat
   seats = virtual g.tab g.bytes
 
-  abbrev marks : List Mark
+  abbrev pub marks : List Mark
   marks = parts_marks g.bytes (parts (rows g.options.constructs (lines_in seats)))
 
-  abbrev es : List Event
+  abbrev pub es : List Event
   es = document_skeleton g
 
-  abbrev start : Point
+  abbrev pub start : Point
   start = point 1 1 0 0
 
-  abbrev finish : Point
+  abbrev pub finish : Point
   finish = end_after start (all_of (lines_in seats))
 
-  document_goes : Goes g.tab g.bytes [] start marks [] finish
+  pub document_goes : Goes g.tab g.bytes [] start marks [] finish
   document_goes =
       all_parts_go g.tab g.bytes g.options.constructs (lines_in seats) start (document_lines g.tab g.bytes) (lines_end seats)
       (subst (Track g.tab g.bytes start) (sym (lines-are-all seats)) (whole-track g.tab g.bytes is.tab.0))
 
-  in_order : InOrder start es finish
+  pub in_order : InOrder start es finish
   in_order = order_chained start 0 None marks finish document_goes.order
 
-  places : AllByRecursion (λ (e : Event). Place g.tab g.bytes e.point) es
+  pub places : AllByRecursion (λ (e : Event). Place g.tab g.bytes e.point) es
   places = places_chained (Place g.tab g.bytes) 0 None marks document_goes.places
 
-  formed : IsWellFormed g es
+  pub formed : IsWellFormed g es
   formed = record {
     balanced = balanced_from_open es (names_chained (Some []) 0 None marks ∙ document_goes.names);
     void_tight = skeletons_are_void_tight g.options.constructs g.bytes seats;
@@ -112,10 +112,10 @@ module _ (g : Given) (is : IsDocument g) where
     );
   }
 
-  shown_place : (k : ℕ) (e : Event) → slice_get es k ≡ Some e → IsShownPlace g.tab g.bytes (place_at es k)
+  pub shown_place : (k : ℕ) (e : Event) → slice_get es k ≡ Some e → IsShownPlace g.tab g.bytes (place_at es k)
   shown_place k e at = let place = place_there (Place g.tab g.bytes) es k e places at in (place.is_point, place.is_shown)
 
-  readable : (wanted : Option Content) (k : ℕ) → fits wanted es k ≡ true → IsReadable g.tab g.bytes es k
+  pub readable : (wanted : Option Content) (k : ℕ) → fits wanted es k ≡ true → IsReadable g.tab g.bytes es k
   readable wanted k h =
       let (c, at) = some_content wanted (content_at es k) h in
       let chunk = skeletons_have_chunks g.options.constructs g.bytes seats k c at in
@@ -130,7 +130,7 @@ module _ (g : Given) (is : IsDocument g) where
       other : Some content.Content ≡ Some content.Flow → ⊥
       other e = cc
 
-  gap : (k d : ℕ) → next_of es k ≡ Some d → IsGap es k d
+  pub gap : (k d : ℕ) → next_of es k ≡ Some d → IsGap es k d
   gap k d at =
       let n = next_in marks document_goes.runs k d at in
       record {
@@ -140,7 +140,7 @@ module _ (g : Given) (is : IsDocument g) where
         no_link = n.none;
       }
 
-  ready : (wanted : Option Content) → IsReady g.tab g.bytes wanted es
+  pub ready : (wanted : Option Content) → IsReady g.tab g.bytes wanted es
   ready wanted = record {
     balanced = formed.balanced;
     chunks = skeletons_have_chunks g.options.constructs g.bytes seats;

@@ -15,7 +15,7 @@ use Rattle.mdconstructs_containers.proofs.DocumentRows.{take_of_take}
 use Rattle.mdconstructs_containers.proofs.FrameFacts.{shared_front}
 
 -- the spans of one container more
-spans_more : (stack : List Open) (n : ℕ) (d : Open) → n < length stack
+pub spans_more : (stack : List Open) (n : ℕ) (d : Open) → n < length stack
     → length (flat_map frames_of (take (n + 1) (map open_of stack))) ≡ length (flat_map frames_of (take n (map open_of stack))) + length (frames_of (open_of (get_or stack n d)))
 spans_more stack n d h =
     let c = open_of (get_or stack n d) in
@@ -29,7 +29,7 @@ module _ (s : Stood) (stack : List Open) (is : IsStood s (map open_of stack)) (d
   pub stood_inside : s.containers - 1 < length stack
   stood_inside = omega (arith, is.few, length-map stack open_of)
 
-  less : s.spans ≡ length (flat_map frames_of (take (s.containers - 1) (map open_of stack))) + length (frames_of (open_of (get_or stack (s.containers - 1) d)))
+  pub less : s.spans ≡ length (flat_map frames_of (take (s.containers - 1) (map open_of stack))) + length (frames_of (open_of (get_or stack (s.containers - 1) d)))
   less =
       let one : s.containers ≡ (s.containers - 1) + 1 = omega arith in
       is.spans ∙ ap (λ n. length (flat_map frames_of (take n (map open_of stack)))) one ∙ spans_more stack (s.containers - 1) d stood_inside
@@ -62,10 +62,10 @@ spans_same frames s a b has e = has ∙ ap (flat_map frames_of) e
 
 -- the containers that go on are the same
 module _ (s : Stood) (old own went begun : List Container) (m : ℕ) (is : IsStood s old) (few : s.containers ≤ m) (went_is : went ≡ take m old) (own_is : own ≡ went ++ begun) where
-  within : s.containers ≤ length went
+  pub within : s.containers ≤ length went
   within = omega (arith, ap (λ (l : List Container). length l) went_is, length-take m old, is.few)
 
-  front_same : take s.containers old ≡ take s.containers own
+  pub front_same : take s.containers old ≡ take s.containers own
   front_same =
       sym (ap (take s.containers) own_is ∙ take-append-le s.containers went begun within ∙ ap (take s.containers) went_is ∙ take_of_take s.containers m old (omega (arith, length-take m old, is.few)))
 
@@ -77,10 +77,10 @@ module _ (s : Stood) (old own went begun : List Container) (m : ℕ) (is : IsSto
 
 -- the first of the containers
 module _ (s : Stood) (own shown : List Container) (m : ℕ) (is : IsStood s own) (few : s.containers ≤ m) (shown_is : shown ≡ take m own) where
-  enough : s.containers ≤ length (take m own)
+  pub enough : s.containers ≤ length (take m own)
   enough = omega (arith, length-take m own, is.few)
 
-  first_same : take s.containers own ≡ take s.containers shown
+  pub first_same : take s.containers own ≡ take s.containers shown
   first_same = sym (ap (take s.containers) shown_is ∙ take_of_take s.containers m own enough)
 
   pub stood_shown : IsStood s shown
@@ -91,13 +91,13 @@ module _ (s : Stood) (own shown : List Container) (m : ℕ) (is : IsStood s own)
 
 -- all of the first containers
 module _ (s : Stood) (all own shown : List Container) (n m : ℕ) (is : IsStood s shown) (size : s.containers ≡ length shown) (own_is : own ≡ take n all) (shown_is : shown ≡ take m own) where
-  shown_few : length shown ≤ length own
+  pub shown_few : length shown ≤ length own
   shown_few = omega (arith, ap (λ (l : List Container). length l) shown_is, length-take m own)
 
-  own_few : length own ≤ length all
+  pub own_few : length own ≤ length all
   own_few = omega (arith, ap (λ (l : List Container). length l) own_is, length-take n all)
 
-  all_same : take s.containers shown ≡ take s.containers all
+  pub all_same : take s.containers shown ≡ take s.containers all
   all_same =
       ap (take s.containers) shown_is ∙ take_of_take s.containers m own (omega (arith, size, ap (λ (l : List Container). length l) shown_is)) ∙ ap (take s.containers) own_is
       ∙ take_of_take s.containers n all (omega (arith, size, shown_few, ap (λ (l : List Container). length l) own_is))
@@ -117,10 +117,10 @@ kept_few frames kept stack is has = omega (arith, ap (λ (l : List Span). length
 -- the spans become those of the next part
 module _ (frames next : List Frame) (kept : Stood) (stack : List Container) (list : List Span) (is : IsStood kept stack) (has : HasSpans frames kept stack)
     (next_is : map frame_of next ≡ flat_map frames_of (drop kept.containers stack) ++ list) where
-  abbrev front : List Span
+  abbrev pub front : List Span
   front = flat_map frames_of (take kept.containers stack)
 
-  both : front ++ map frame_of next ≡ flat_map frames_of stack ++ list
+  pub both : front ++ map frame_of next ≡ flat_map frames_of stack ++ list
   both =
       ap (λ (l : List Span). front ++ l) next_is ∙ sym (append_assoc front (flat_map frames_of (drop kept.containers stack)) list)
       ∙ ap (λ (l : List Span). l ++ list) (sym (flat_map-append frames_of (take kept.containers stack) (drop kept.containers stack)) ∙ ap (flat_map frames_of) (take-append-drop kept.containers stack))

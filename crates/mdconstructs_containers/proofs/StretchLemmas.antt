@@ -4,6 +4,7 @@ use Rattle.std.specs.Prelude.{◌==◌, ◌&&◌, not, Option, Some, None, is_so
 use Rattle.std.specs.List.{flat_map}
 use Rattle.std.proofs.lemmas.Bool.{false≢true}
 use Rattle.std.proofs.lemmas.List.{append-nil, drop_more, take-map}
+use Rattle.markdown_base.specs.declared.event.Content.{Content}
 use Rattle.markdown_base.specs.declared.event.Content.TheVariants as content
 use Rattle.markdown_base.specs.declared.event.Event.{Event}
 use Rattle.markdown_base.specs.declared.event.Name.TheVariants as name
@@ -148,7 +149,7 @@ module _ (t : ℕ) (bytes : List ℕ) (some : 0 < t) (limit : t * length bytes +
 
   -- it has one: what is before it is a chunk
   pub step_chunk : (is_held : Bool) (es mid new : List Event) (previous : Option ℕ) (index : ℕ) (place to next_place : Point) (x : RowAt) (xs : List RowAt) (rest all : List Mark) → 0 < x.row.going
-      → index ≡ length es → mid ≡ with_chunk previous place (point x.span.number 1 x.span.start 0) es
+      → index ≡ length es → mid ≡ with_chunk content.Content previous place (point x.span.number 1 x.span.start 0) es
       → ((seats : List Seat) → AreSeatsAt t bytes (point x.span.number 1 x.span.start 0) seats → line_bytes t x.span.number 1 x.span.start (drop x.span.start bytes) ≡ bytes_of seats
       → new ≡ mid ++ events_of (prefixes_marks bytes (going_on (take x.row.many stack) x.span.number (line_bytes t x.span.number 1 x.span.start (drop x.span.start bytes))) seats))
       → next_place ≡ place_after t bytes (point x.span.number 1 x.span.start 0) (columns_of (going_on (take x.row.many stack) x.span.number (line_bytes t x.span.number 1 x.span.start (drop x.span.start bytes))))
@@ -186,7 +187,7 @@ module _ (t : ℕ) (bytes : List ℕ) (some : 0 < t) (limit : t * length bytes +
           ap (λ (m : List Mark). m ++ rest) (pieces_end bytes is_held (s ∷ ss) r (is_some previous) w.last rs some_marks) ∙ append_assoc chunk (before ++ chunks_of bytes true l) rest ∙ ap (λ (m : List Mark). chunk ++ m) (append_assoc before (chunks_of bytes true l) rest) in
           let ready : Written es previous true (chunk ++ (before ++ (chunks_of bytes true l ++ rest))) all = subst (λ (b : Bool). Written es previous b (chunk ++ (before ++ (chunks_of bytes true l ++ rest))) all) yes (subst (λ (m : List Mark). Written es previous (not (has_none (flat_map (λ (p : Piece bytes). p.seats) (joined_pieces bytes (pieces_from bytes is_held w.last (s ∷ ss) (r ∷ rs)))))) m all) split written) in
           let to_is : point x.span.number 1 x.span.start 0 ≡ shown bytes (end_after s.end ss) = sym (first_is w.number w.start x r row w.outside) ∙ run.0.last in
-          let one = write_chunk bytes es mid previous index (is_some previous) comes s ss place (point x.span.number 1 x.span.start 0) (before ++ (chunks_of bytes true l ++ rest)) all refl run.0.first to_is ei em ready in
+          let one = write_chunk content.Content bytes es mid previous index (is_some previous) comes s ss place (point x.span.number 1 x.span.start 0) (before ++ (chunks_of bytes true l ++ rest)) all refl run.0.first to_is ei em ready in
           let prefix : new ≡ mid ++ events_of before =
           write (line_text r.line) (row_seats w.number w.start x r row w.outside) (row_bytes w.number w.start x r row w.outside)
           ∙ (λ k. mid ++ events_of (prefixes_marks bytes (went_again w.number w.start x r row w.outside k) (line_text r.line))) ∙ (λ k. mid ++ events_of (marks k)) in
@@ -232,7 +233,7 @@ module _ (t : ℕ) (bytes : List ℕ) (some : 0 < t) (limit : t * length bytes +
 
   -- the last chunk
   pub stretch_last : (is_held : Bool) (es new : List Event) (previous : Option ℕ) (index : ℕ) (place to : Point) (xs : List RowAt) (rest all : List Mark) → xs ≡ [] → place.index < to.index
-      → index ≡ length es → new ≡ with_chunk previous place to es → InStretch t bytes stack is_held es previous place to xs rest all → Written new None false rest all
+      → index ≡ length es → new ≡ with_chunk content.Content previous place to es → InStretch t bytes stack is_held es previous place to xs rest all → Written new None false rest all
   stretch_last is_held es new previous index place to (x ∷ xs) rest all none h ei e w = absurd (cc)
   stretch_last is_held es new previous index place to [] rest all none h ei e w = by w.rows w.are w.last w.pending w.written
     where
@@ -244,7 +245,7 @@ module _ (t : ℕ) (bytes : List ℕ) (some : 0 < t) (limit : t * length bytes +
       by [] are (s ∷ ss) run written =
           let chunk = chunk_span bytes (Some (record { content = content.Content; has_previous = is_some previous; has_next = false })) name.Data (s ∷ ss) [] in
           let ready : Written es previous true (chunk ++ rest) all = subst (λ (m : List Mark). Written es previous true (m ++ rest) all) (append-nil chunk) written in
-          end_chunks new (Some index) false rest all (write_chunk bytes es new previous index (is_some previous) false s ss place to rest all refl run.first (w.to_is ∙ run.last) ei e ready)
+          end_chunks new (Some index) false rest all (write_chunk content.Content bytes es new previous index (is_some previous) false s ss place to rest all refl run.first (w.to_is ∙ run.last) ei e ready)
 
 -- ---- the lines that are left, one by one
 
@@ -279,12 +280,12 @@ further_one t bytes some limit stack x xs w = by w.rows w.are
           size = (λ k. length (line_bytes t (row.placed.number_is k) 1 (row.placed.start_is k) (drop (row.placed.start_is k) bytes))) ∙ sym row.placed.size_is;
         }
 
-set_next_length : (i n : ℕ) (es : List Event) → length (set_next i n es) ≡ length es
+pub set_next_length : (i n : ℕ) (es : List Event) → length (set_next i n es) ≡ length es
 set_next_length i n [] = refl
 set_next_length zero n (e ∷ es) = refl
 set_next_length (suc i) n (e ∷ es) = ap suc (set_next_length i n es)
 
 -- a chunk is two events more
-pub chunk_length : (previous : Option ℕ) (from to : Point) (es : List Event) → length (with_chunk previous from to es) ≡ length es + 2
-chunk_length None from to es = length-append es _
-chunk_length (Some i) from to es = length-append (set_next i (length es) es) _ ∙ ap (λ n. n + 2) (set_next_length i (length es) es)
+pub chunk_length : (c : Content) (previous : Option ℕ) (from to : Point) (es : List Event) → length (with_chunk c previous from to es) ≡ length es + 2
+chunk_length c None from to es = length-append es _
+chunk_length c (Some i) from to es = length-append (set_next i (length es) es) _ ∙ ap (λ n. n + 2) (set_next_length i (length es) es)

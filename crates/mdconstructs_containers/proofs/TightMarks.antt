@@ -27,56 +27,56 @@ use Rattle.mdconstructs_containers.specs.Skeleton.{Frame, Part, Piece, begin_of,
 use Rattle.mdconstructs_containers.specs.SkeletonLaws.{SkeletonsAreVoidTight, SkeletonsHaveChunks}
 
 -- an exit of this name comes next
-abbrev Exits : Name → List Mark → Type 0
+abbrev pub Exits : Name → List Mark → Type 0
 Exits n [] = ⊥
 Exits n ((e, chunk) ∷ ms) = (e.kind ≡ Exit) × (e.name ≡ n)
 
 -- an event has no link yet; it enters a void span that is a chunk only if it begins one, and then its exit comes next
-abbrev IsMarked : Event → Option Chunk → List Mark → Type 0
+abbrev pub IsMarked : Event → Option Chunk → List Mark → Type 0
 IsMarked e None ms = e.link ≡ None
 IsMarked e (Some chunk) ms = (e.kind ≡ Enter) × (is_void e.name ≡ true) × Exits e.name ms
 
 -- each enter of a void span is followed by its exit
-abbrev Tight : List Mark → Type 0
+abbrev pub Tight : List Mark → Type 0
 Tight [] = Unit {0}
 Tight ((e, chunk) ∷ ms) = (e.kind ≡ Enter → is_void e.name ≡ true → Exits e.name ms) × IsMarked e chunk ms × Tight ms
 
-exits_more : (n : Name) (xs ys : List Mark) → Exits n xs → Exits n (xs ++ ys)
+pub exits_more : (n : Name) (xs ys : List Mark) → Exits n xs → Exits n (xs ++ ys)
 exits_more n [] ys h = absurd h
 exits_more n ((e, chunk) ∷ xs) ys h = h
 
-marked_more : (e : Event) (chunk : Option Chunk) (xs ys : List Mark) → IsMarked e chunk xs → IsMarked e chunk (xs ++ ys)
+pub marked_more : (e : Event) (chunk : Option Chunk) (xs ys : List Mark) → IsMarked e chunk xs → IsMarked e chunk (xs ++ ys)
 marked_more e None xs ys h = h
 marked_more e (Some chunk) xs ys h = (h.0, h.1, exits_more e.name xs ys h.2)
 
-tight_more : (xs ys : List Mark) → Tight xs → Tight ys → Tight (xs ++ ys)
+pub tight_more : (xs ys : List Mark) → Tight xs → Tight ys → Tight (xs ++ ys)
 tight_more [] ys h k = k
 tight_more ((e, chunk) ∷ xs) ys h k = ((λ enter void. exits_more e.name xs ys (h.0 enter void)), marked_more e chunk xs ys h.1, tight_more xs ys h.2 k)
 
-no_enter : {A : Type 0} (kind : Kind) → kind ≡ Exit → kind ≡ Enter → A
+pub no_enter : {A : Type 0} (kind : Kind) → kind ≡ Exit → kind ≡ Enter → A
 no_enter kind e f = absurd (false≢true (ap is_enter (sym e ∙ f)))
 
 module _ (bytes : List ℕ) where
-  exit_tight : (n : Name) (p : Point) → Tight ((event bytes Exit n p, None) ∷ [])
+  pub exit_tight : (n : Name) (p : Point) → Tight ((event bytes Exit n p, None) ∷ [])
   exit_tight n p = ((λ enter void. no_enter Exit refl enter), refl, tt)
 
-  enter_tight : (n : Name) (p : Point) (ms : List Mark) → is_void n ≡ false → Tight ms → Tight ((event bytes Enter n p, None) ∷ ms)
+  pub enter_tight : (n : Name) (p : Point) (ms : List Mark) → is_void n ≡ false → Tight ms → Tight ((event bytes Enter n p, None) ∷ ms)
   enter_tight n p ms open_name h = ((λ enter void. absurd (false≢true (sym open_name ∙ void))), refl, h)
 
-  leaf_tight : (n : Name) (ss : List Seat) → Tight (leaf_marks bytes n ss)
+  pub leaf_tight : (n : Name) (ss : List Seat) → Tight (leaf_marks bytes n ss)
   leaf_tight n [] = tt
   leaf_tight n (s ∷ ss) = ((λ enter void. (refl, refl)), refl, exit_tight n (end_after s.end ss))
 
-  data_tight : (chunk : Chunk) (ss : List Seat) → Tight (chunk_span bytes (Some chunk) name.Data ss [])
+  pub data_tight : (chunk : Chunk) (ss : List Seat) → Tight (chunk_span bytes (Some chunk) name.Data ss [])
   data_tight chunk [] = tt
   data_tight chunk (s ∷ ss) = ((λ enter void. (refl, refl)), (refl, refl, (refl, refl)), exit_tight name.Data (end_after s.end ss))
 
-  span_tight : (n : Name) (ss : List Seat) (inside : List Mark) → is_void n ≡ false → Tight inside → Tight (span_marks bytes n ss inside)
+  pub span_tight : (n : Name) (ss : List Seat) (inside : List Mark) → is_void n ≡ false → Tight inside → Tight (span_marks bytes n ss inside)
   span_tight n [] inside e h = h
   span_tight n (s ∷ ss) inside e h =
       ((λ enter void. absurd (false≢true (sym e ∙ void))), refl, tight_more inside ((event bytes Exit n (end_after s.end ss), None) ∷ []) h (exit_tight n (end_after s.end ss)))
 
-  going_tight : (c : Container) (ss : List Seat) → Tight (going_marks bytes c ss)
+  pub going_tight : (c : Container) (ss : List Seat) → Tight (going_marks bytes c ss)
   going_tight (quote line) ss =
       let n = indent (bytes_of ss) in
       let marker = leaf_marks bytes name.BlockQuoteMarker (take 1 (drop n ss)) in
@@ -86,7 +86,7 @@ module _ (bytes : List ℕ) where
       (tight_more marker behind (leaf_tight name.BlockQuoteMarker (take 1 (drop n ss))) (leaf_tight name.SpaceOrTab (drop (suc n) ss))))
   going_tight (item i) ss = leaf_tight name.SpaceOrTab ss
 
-  begun_tight : (c : Container) (ss : List Seat) → Tight (begun_marks bytes c ss)
+  pub begun_tight : (c : Container) (ss : List Seat) → Tight (begun_marks bytes c ss)
   begun_tight (quote line) ss = going_tight (quote line) ss
   begun_tight (item i) ss =
       let n = indent (bytes_of ss) in
@@ -98,19 +98,19 @@ module _ (bytes : List ℕ) where
       (tight_more value (marker ++ behind) (leaf_tight name.ListItemValue (take i.digits (drop n ss)))
       (tight_more marker behind (leaf_tight name.ListItemMarker (take 1 (drop (n + i.digits) ss))) (leaf_tight name.SpaceOrTab (drop (suc (n + i.digits)) ss)))))
 
-  prefixes_tight : (ps : List Prefix) (ss : List Seat) → Tight (prefixes_marks bytes ps ss)
+  pub prefixes_tight : (ps : List Prefix) (ss : List Seat) → Tight (prefixes_marks bytes ps ss)
   prefixes_tight [] ss = tt
   prefixes_tight (p ∷ ps) ss =
       tight_more (going_marks bytes p.container (take p.size ss)) (prefixes_marks bytes ps (drop p.size ss)) (going_tight p.container (take p.size ss)) (prefixes_tight ps (drop p.size ss))
 
-  list_is_open : (i : Item) → is_void (list_name i) ≡ false
+  pub list_is_open : (i : Item) → is_void (list_name i) ≡ false
   list_is_open i = by (nat_le 1 i.digits)
     where
       by : (x : Bool) → is_void (cond x name.ListOrdered name.ListUnordered) ≡ false
       by true = refl
       by false = refl
 
-  enters_tight : (c : Container) (p : Point) → Tight (enters_of bytes c p)
+  pub enters_tight : (c : Container) (p : Point) → Tight (enters_of bytes c p)
   enters_tight (quote line) p = enter_tight name.BlockQuote p [] refl tt
   enters_tight (item i) p = by (i.list == i.line)
     where
@@ -118,7 +118,7 @@ module _ (bytes : List ℕ) where
       by true = enter_tight (list_name i) p ((event bytes Enter name.ListItem p, None) ∷ []) (list_is_open i) (enter_tight name.ListItem p [] refl tt)
       by false = enter_tight name.ListItem p [] refl tt
 
-  begun_all_tight : (ps : List Prefix) (ss : List Seat) → Tight (begun_all bytes ps ss)
+  pub begun_all_tight : (ps : List Prefix) (ss : List Seat) → Tight (begun_all bytes ps ss)
   begun_all_tight [] ss = tt
   begun_all_tight (p ∷ ps) ss =
       let prefix = begun_marks bytes p.container (take p.size ss) in
@@ -127,15 +127,15 @@ module _ (bytes : List ℕ) where
       (tight_more prefix rest (begun_tight p.container (take p.size ss)) (begun_all_tight ps (drop p.size ss)))
 
   -- pieces whose prefixes are so
-  abbrev TightPieces : List (Piece bytes) → Type 0
+  abbrev pub TightPieces : List (Piece bytes) → Type 0
   TightPieces [] = Unit {0}
   TightPieces (p ∷ ps) = Tight p.before × TightPieces ps
 
-  pieces_tight : (held : Bool) (row : Row) (more : List Row) → TightPieces (pieces_of bytes held row more)
+  pub pieces_tight : (held : Bool) (row : Row) (more : List Row) → TightPieces (pieces_of bytes held row more)
   pieces_tight held row [] = (prefixes_tight row.went_on row.line, tt)
   pieces_tight held row (next ∷ more) = (prefixes_tight row.went_on row.line, pieces_tight held next more)
 
-  joined_tight : (ps : List (Piece bytes)) → TightPieces ps → TightPieces (joined_pieces bytes ps)
+  pub joined_tight : (ps : List (Piece bytes)) → TightPieces ps → TightPieces (joined_pieces bytes ps)
   joined_tight [] h = tt
   joined_tight (p ∷ []) h = h
   joined_tight (p ∷ q ∷ ps) h = by (joined_pieces bytes (q ∷ ps)) (joined_tight (q ∷ ps) h.1)
@@ -148,17 +148,17 @@ module _ (bytes : List ℕ) where
           choose true = (h.0, k.1)
           choose false = (h.0, k)
 
-  chunks_tight : (has_previous : Bool) (ps : List (Piece bytes)) → TightPieces ps → Tight (chunks_of bytes has_previous ps)
+  pub chunks_tight : (has_previous : Bool) (ps : List (Piece bytes)) → TightPieces ps → Tight (chunks_of bytes has_previous ps)
   chunks_tight has_previous [] h = tt
   chunks_tight has_previous (p ∷ ps) h =
       let chunk : Chunk = record { content = content.Content; has_previous = has_previous; has_next = not (has_none (flat_map (λ q. q.seats) ps)) } in
       let here = chunk_span bytes (Some chunk) name.Data p.seats [] in
       tight_more p.before (here ++ chunks_of bytes true ps) h.0 (tight_more here (chunks_of bytes true ps) (data_tight chunk p.seats) (chunks_tight true ps h.1))
 
-  abbrev first_of : Part → Line
+  abbrev pub first_of : Part → Line
   first_of part = drop (cond (has_none part.first.begun) (columns_of (take (length part.stands) part.first.went_on)) part.first.columns) part.first.line
 
-  inside_tight : (part : Part) → Tight (inside_of bytes part)
+  pub inside_tight : (part : Part) → Tight (inside_of bytes part)
   inside_tight part = by part.first.is_blank (joined_pieces bytes (pieces_of bytes (is_held part) part.first part.more)) (joined_tight (pieces_of bytes (is_held part) part.first part.more) (pieces_tight (is_held part) part.first part.more))
     where
       by : (x : Bool) (js : List (Piece bytes)) → TightPieces js
@@ -167,28 +167,28 @@ module _ (bytes : List ℕ) where
       by false [] h = tt
       by false (p ∷ ps) h = chunks_tight false (record p { before = [] } ∷ ps) (tt, h.1)
 
-  ending_tight : (part : Part) → Tight (ending_marks bytes part)
+  pub ending_tight : (part : Part) → Tight (ending_marks bytes part)
   ending_tight part = by (is_held part)
     where
       by : (x : Bool) → Tight (cond x [] (leaf_marks bytes (cond part.first.is_blank name.BlankLineEnding name.LineEnding) (ending_of (last_line bytes part))))
       by true = tt
       by false = leaf_tight (cond part.first.is_blank name.BlankLineEnding name.LineEnding) (ending_of (last_line bytes part))
 
-  exit_each : (fs : List Frame) (p : Point) → Tight (map (λ f. (event bytes Exit f.name p, None)) fs)
+  pub exit_each : (fs : List Frame) (p : Point) → Tight (map (λ f. (event bytes Exit f.name p, None)) fs)
   exit_each [] p = tt
   exit_each (f ∷ fs) p = ((λ enter void. no_enter Exit refl enter), refl, exit_each fs p)
 
-  exits_tight : (fs : List Frame) (p : Point) → Tight (exits bytes fs p)
+  pub exits_tight : (fs : List Frame) (p : Point) → Tight (exits bytes fs p)
   exits_tight fs p = exit_each (reverse fs) p
 
-  part_tight : (part : Part) → Tight (part_marks bytes part)
+  pub part_tight : (part : Part) → Tight (part_marks bytes part)
   part_tight part =
       let went = take (length part.stands) part.first.went_on in
       let begun = begun_all bytes part.first.begun (drop (columns_of part.first.went_on) part.first.line) in
       tight_more (prefixes_marks bytes went part.first.line) (begun ++ inside_of bytes part) (prefixes_tight went part.first.line)
       (tight_more begun (inside_of bytes part) (begun_all_tight part.first.begun (drop (columns_of part.first.went_on) part.first.line)) (inside_tight part))
 
-  behind_tight : (part : Part) (more : List Part) → Tight (behind_marks bytes part more)
+  pub behind_tight : (part : Part) (more : List Part) → Tight (behind_marks bytes part more)
   behind_tight part [] = tight_more (exits bytes part.frames (end_of bytes part)) (ending_marks bytes part) (exits_tight part.frames (end_of bytes part)) (ending_tight part)
   behind_tight part (next ∷ more) =
       let gone = drop (shared part.frames next.frames) part.frames in
@@ -196,20 +196,20 @@ module _ (bytes : List ℕ) where
       (tight_more (ending_marks bytes part) (part_marks bytes next ++ behind_marks bytes next more) (ending_tight part)
       (tight_more (part_marks bytes next) (behind_marks bytes next more) (part_tight next) (behind_tight next more)))
 
-  parts_tight : (ps : List Part) → Tight (parts_marks bytes ps)
+  pub parts_tight : (ps : List Part) → Tight (parts_marks bytes ps)
   parts_tight [] = tt
   parts_tight (part ∷ more) = tight_more (part_marks bytes part) (behind_marks bytes part more) (part_tight part) (behind_tight part more)
 
 -- ---- events of marks
 
 -- the event at the front is an exit of this name
-exits_event : (n : Name) (i : ℕ) (previous : Option ℕ) (ms : List Mark) → Exits n ms
+pub exits_event : (n : Name) (i : ℕ) (previous : Option ℕ) (ms : List Mark) → Exits n ms
     → (f : Event) × (slice_get (chained_from i previous ms) 0 ≡ Some f) × (f.kind ≡ Exit) × (f.name ≡ n)
 exits_event n i previous [] h = absurd h
 exits_event n i previous ((e, None) ∷ ms) h = (e, refl, h.0, h.1)
 exits_event n i previous ((e, Some chunk) ∷ ms) h = (_, refl, h.0, h.1)
 
-events_tight : (i : ℕ) (previous : Option ℕ) (ms : List Mark) → Tight ms → IsVoidTight (chained_from i previous ms)
+pub events_tight : (i : ℕ) (previous : Option ℕ) (ms : List Mark) → Tight ms → IsVoidTight (chained_from i previous ms)
 events_tight i previous [] h zero e at enter void = absurd (false≢true (ap is_some at))
 events_tight i previous [] h (suc k) e at enter void = absurd (false≢true (ap is_some at))
 events_tight i previous ((g, None) ∷ ms) h (suc k) e at enter void =
@@ -232,12 +232,12 @@ events_tight i previous ((g, Some chunk) ∷ ms) h zero e at enter void =
     (f.0, f.1, f.2, f.3 ∙ same)
 
 -- a chunk behind one event more
-one_more : (e : Event) (es : List Event) (k : ℕ) → IsChunk es k → IsChunk (e ∷ es) (suc k)
+pub one_more : (e : Event) (es : List Event) (k : ℕ) → IsChunk es k → IsChunk (e ∷ es) (suc k)
 one_more e es k c =
     let on : suc k + 1 ≡ suc (k + 1) = omega arith in
     record { enter = c.enter; exit = c.exit; enter_at = c.enter_at; exit_at = ap (slice_get (e ∷ es)) on ∙ c.exit_at; linked = c.linked; ended = c.ended }
 
-events_chunks : (i : ℕ) (previous : Option ℕ) (ms : List Mark) → Tight ms → (k : ℕ) (c : Content) → content_at (chained_from i previous ms) k ≡ Some c → IsChunk (chained_from i previous ms) k
+pub events_chunks : (i : ℕ) (previous : Option ℕ) (ms : List Mark) → Tight ms → (k : ℕ) (c : Content) → content_at (chained_from i previous ms) k ≡ Some c → IsChunk (chained_from i previous ms) k
 events_chunks i previous [] h zero c at = absurd (false≢true (ap is_some at))
 events_chunks i previous [] h (suc k) c at = absurd (false≢true (ap is_some at))
 events_chunks i previous ((g, None) ∷ ms) h (suc k) c at = one_more g (chained_from (suc i) previous ms) k (events_chunks (suc i) previous ms h.2 k c at)

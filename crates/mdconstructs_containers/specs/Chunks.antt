@@ -1,14 +1,14 @@
 -- Chunks of lines, each linked to the next.
 use Rattle.std.specs.Prelude.{ℕ, zero, suc, List, [], ◌∷◌, Option, Some, None}
-use Rattle.markdown_base.specs.declared.event.Content.TheVariants as content
+use Rattle.markdown_base.specs.declared.event.Content.{Content}
 use Rattle.markdown_base.specs.declared.event.Event.{Event}
 use Rattle.markdown_base.specs.declared.event.Kind.TheVariants.{Enter}
 use Rattle.markdown_base.specs.declared.event.Name.TheVariants as name
 use Rattle.markdown_base.specs.declared.event.Point.{Point}
 
--- the enter of a chunk that is the last one, by the index of the one before it
-abbrev pub chunk_enter : (previous : Option ℕ) → Point → Event
-chunk_enter previous place = record { kind = Enter; name = name.Data; point = place; link = Some (record { previous = previous; next = None; content = content.Content }) }
+-- the enter of a chunk of this content that is the last one, by the index of the one before it
+abbrev pub chunk_enter : Content → (previous : Option ℕ) → Point → Event
+chunk_enter c previous place = record { kind = Enter; name = name.Data; point = place; link = Some (record { previous = previous; next = None; content = c }) }
 
 -- an event that is linked to the next chunk, at this index
 abbrev pub with_next : (next : ℕ) → Event → Event

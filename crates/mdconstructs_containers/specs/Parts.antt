@@ -1,5 +1,6 @@
 -- What the code keeps of a part of a document that is written, and how chunks of a stretch are written.
 use Rattle.std.specs.Prelude.{ℕ, ◌==◌, ◌&&◌, ◌||◌, Bool, true, false, cond, List, [], ◌∷◌, ◌++◌, length, reverse, Option, Some, None}
+use Rattle.markdown_base.specs.declared.event.Content.{Content}
 use Rattle.markdown_base.specs.declared.event.Event.{Event}
 use Rattle.markdown_base.specs.declared.event.Kind.TheVariants.{Enter, Exit}
 use Rattle.markdown_base.specs.declared.event.Name.TheVariants as name
@@ -27,6 +28,6 @@ ending_at e = elim e.behind [
   | Some q ↦ event_at Enter (cond e.is_blank name.BlankLineEnding name.LineEnding) e.place ∷ event_at Exit (cond e.is_blank name.BlankLineEnding name.LineEnding) q ∷ []
 ]
 
--- a chunk from one place to another behind events, linked to the one at an index, if there is one
-abbrev pub with_chunk : (previous : Option ℕ) → (from to : Point) → List Event → List Event
-with_chunk previous from to es = linked previous (length es) es ++ (chunk_enter previous from ∷ event_at Exit name.Data to ∷ [])
+-- a chunk of this content from one place to another behind events, linked to the one at an index, if there is one
+abbrev pub with_chunk : Content → (previous : Option ℕ) → (from to : Point) → List Event → List Event
+with_chunk c previous from to es = linked previous (length es) es ++ (chunk_enter c previous from ∷ event_at Exit name.Data to ∷ [])

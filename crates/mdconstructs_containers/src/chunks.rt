@@ -6,15 +6,16 @@ ghost use Rattle.mdconstructs_containers.specs.Chunks.{chunk_enter, linked, set_
 use markdown_base::event::{Content, Event, Kind, Link, Name, Point};
 use std::alloc::AllocError;
 
-/// A chunk begins, linked to the one at an index, if there is one. Returns the index of its enter.
+/// A chunk of this content begins, linked to the one at an index, if there is one. Returns the index of its enter.
 pub fn begin_chunk(
     events: &mut Vec<Event>,
+    content: Content,
     previous: Option<usize>,
     point: Point,
 ) -> Result<usize, AllocError>
     requires { (before : ℕ) → previous ≡ Some before → before < length events.old.items }
     ensures index { IfOk result (λ index. index ≡ length events.old.items) }
-    ensures events { IfOk result (λ _. events.new.items ≡ linked previous (length events.old.items) events.old.items ++ chunk_enter previous point ∷ []) }
+    ensures events { IfOk result (λ _. events.new.items ≡ linked previous (length events.old.items) events.old.items ++ chunk_enter content previous point ∷ []) }
 {
     let index = events.len();
     link_if(events, previous, index);
@@ -25,7 +26,7 @@ pub fn begin_chunk(
         link: Some(Link {
             previous,
             next: None,
-            content: Content::Content,
+            content,
         }),
     })?;
     Ok(index)

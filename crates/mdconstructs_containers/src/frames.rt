@@ -143,12 +143,7 @@ fn spans_of(entry: &Open) -> usize
 }
 
 /// The same of fewer containers: of so many at most.
-pub(crate) fn stood_in<L: Ledger>(
-    stood: Stood,
-    stack: &[Open],
-    many: usize,
-    turns: &mut Turns<L>,
-) -> Stood
+pub fn stood_in<L: Ledger>(stood: Stood, stack: &[Open], many: usize, turns: &mut Turns<L>) -> Stood
     requires { IsStood stood (map open_of stack.now) }
     ensures stood { IsStood result (map open_of stack.now) }
     ensures few { result.containers ≤ many }

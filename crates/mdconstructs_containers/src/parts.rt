@@ -30,7 +30,7 @@ pub struct PartEnd {
 }
 
 /// The line ending of a part, if it has one that is not in it.
-pub(crate) fn write_ending(events: &mut Vec<Event>, end: PartEnd) -> Result<(), AllocError>
+pub fn write_ending(events: &mut Vec<Event>, end: PartEnd) -> Result<(), AllocError>
     ensures { IfOk result (λ _. events.new.items ≡ events.old.items ++ ending_at end) }
 {
     let Some(behind) = end.behind else {
@@ -46,7 +46,7 @@ pub(crate) fn write_ending(events: &mut Vec<Event>, end: PartEnd) -> Result<(), 
 }
 
 /// Where a part ends whose last line this is. Its line ending is in it if its block is open to the end.
-pub(crate) fn part_end(is_blank: bool, last: &RowAt) -> PartEnd
+pub fn part_end(is_blank: bool, last: &RowAt) -> PartEnd
     requires size { last.now.span.size + 1 < 2 ^ 64 }
     requires number { last.now.span.number + 1 < 2 ^ 64 }
     ensures is_blank { result.is_blank ≡ is_blank }
@@ -91,7 +91,7 @@ fn first_asked(size: usize, passed: usize, many: usize) -> usize
 
 /// In how many of its containers a line stands: a blank line not in the items that began before it and do not go on behind it, where so many
 /// containers go on. Those from `passed` on are items that began before it.
-pub(crate) fn standing<L: Ledger>(
+pub fn standing<L: Ledger>(
     stack: &[Open],
     is_blank: bool,
     many: usize,
@@ -121,7 +121,7 @@ pub(crate) fn standing<L: Ledger>(
 }
 
 /// The open containers behind a line. Returns how many of them are containers of the line.
-pub(crate) fn open_in<L: Ledger>(
+pub fn open_in<L: Ledger>(
     stack: &mut Vec<Open>,
     number: usize,
     row: &Row,

@@ -236,7 +236,7 @@ impl Before {
     }
 
     /// A line with its containers, by its number and its bytes.
-    pub(crate) fn row<L: Ledger>(
+    pub fn row<L: Ledger>(
         &self,
         alloc: Global,
         on: &Constructs,

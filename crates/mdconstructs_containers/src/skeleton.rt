@@ -102,7 +102,7 @@ fn begun_of<L: Ledger>(
 
 /// Between two parts: the spans end that the next part is not in, and the line ending comes. The next part stands in the first `kept` spans, and
 /// in `next` behind them.
-fn end_part<L: Ledger>(
+pub fn end_part<L: Ledger>(
     events: &mut Vec<Event>,
     frames: &mut Vec<Frame>,
     kept: usize,
@@ -123,7 +123,7 @@ fn end_part<L: Ledger>(
 
 /// The next part comes: the spans become its own. They are those of these containers, and of a list that goes on behind them, if there is one. The
 /// part that ends stands in some of the containers too.
-fn go_to_part<L: Ledger>(
+pub fn go_to_part<L: Ledger>(
     alloc: Global,
     events: &mut Vec<Event>,
     frames: &mut Vec<Frame>,
@@ -153,7 +153,7 @@ fn go_to_part<L: Ledger>(
 }
 
 /// The list that goes on behind a line, if the line is left blank and stands in all containers that go on.
-fn list_behind(row: &Row, ahead: Ahead, stands: usize) -> Option<Frame>
+pub fn list_behind(row: &Row, ahead: Ahead, stands: usize) -> Option<Frame>
     ensures { frames_in result ≡ cond (row.now.is_left_blank && (stands == ahead.many)) (frames_in ahead.list) [] }
 {
     if row.is_left_blank && stands == ahead.many {
@@ -171,7 +171,7 @@ fn has_no_prefix(stack: &[Open], row: &Row) -> bool
 }
 
 /// The prefixes of a part's first line: those of its first containers, and those of containers that begin in it. Returns the place behind them.
-fn begin_part<L: Ledger>(
+pub fn begin_part<L: Ledger>(
     events: &mut Vec<Event>,
     bytes: &[u8],
     tab: TabSize,
@@ -220,13 +220,15 @@ struct Part {
 
 /// Open containers that are items and began before: from one on up to another. A blank line was asked before whether it stands in them.
 #[derive(Clone, Copy)]
-struct Passed {
-    from: usize,
-    to: usize,
+pub struct Passed {
+    /// From this one on.
+    pub from: usize,
+    /// Up to this one, which is not among them.
+    pub to: usize,
 }
 
 /// From where on the open containers of a line are items that began before it, as far as this is known. There are so many of them.
-fn passed_in(passed: Passed, row: &Row, all: usize) -> usize
+pub fn passed_in(passed: Passed, row: &Row, all: usize) -> usize
     ensures { result ≡ cond (has_none row.now.begun.items && nat_le all passed.to) passed.from all }
 {
     if row.begun.is_empty() && all <= passed.to {
@@ -237,7 +239,7 @@ fn passed_in(passed: Passed, row: &Row, all: usize) -> usize
 }
 
 /// What is known of open containers behind a line that stands in so many of them.
-fn passed_by(row: &Row, stands: usize, all: usize) -> Passed
+pub fn passed_by(row: &Row, stands: usize, all: usize) -> Passed
     ensures from { result.from ≡ cond (row.now.is_blank && has_none row.now.begun.items) stands 0 }
     ensures to { result.to ≡ cond (row.now.is_blank && has_none row.now.begun.items) all 0 }
 {
@@ -252,21 +254,21 @@ fn passed_by(row: &Row, stands: usize, all: usize) -> Passed
 }
 
 /// The lesser of two numbers.
-fn least(m: usize, n: usize) -> usize
+pub fn least(m: usize, n: usize) -> usize
     ensures { result ≡ min m n }
 {
     if m < n { m } else { n }
 }
 
 /// How many further lines a part has: a blank line has none.
-fn lines_of(row: &Row, ahead: Ahead) -> usize
+pub fn lines_of(row: &Row, ahead: Ahead) -> usize
     ensures { result ≡ cond row.now.is_blank 0 ahead.further }
 {
     if row.is_blank { 0 } else { ahead.further }
 }
 
 /// Where a part ends, by its first line and those behind it.
-fn end_of_part(first: &RowAt, more: &[RowAt]) -> PartEnd
+pub fn end_of_part(first: &RowAt, more: &[RowAt]) -> PartEnd
     requires size { (last_at first.now more.now).span.size + 1 < 2 ^ 64 }
     requires number { (last_at first.now more.now).span.number + 1 < 2 ^ 64 }
     ensures is_blank { result.is_blank ≡ first.now.row.is_blank }
@@ -462,7 +464,7 @@ fn write_parts<L: Ledger>(
 }
 
 /// The index of the first mark of a lazy underline goes to a list, if the line is one. `line` is room for its bytes.
-fn push_letter<L: Ledger>(
+pub fn push_letter<L: Ledger>(
     letters: &mut Vec<usize>,
     bytes: &[u8],
     tab: TabSize,

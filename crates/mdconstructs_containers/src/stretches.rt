@@ -22,29 +22,30 @@ use crate::spans::{RowAt, start_of};
 use crate::texts::read_text;
 use crate::writing::exit;
 use markdown_base::configuration::TabSize;
-use markdown_base::event::{Event, Name, Point};
+use markdown_base::event::{Content, Event, Name, Point};
 use mdconstructs_turns::Turns;
 use std::alloc::AllocError;
 use std::sync::ledger::Ledger;
 
-/// A chunk from one place to another, linked to the one at an index, if there is one. Returns the index of its enter.
-fn chunk(
+/// A chunk of this content from one place to another, linked to the one at an index, if there is one. Returns the index of its enter.
+pub fn chunk(
     events: &mut Vec<Event>,
+    content: Content,
     previous: Option<usize>,
     from: Point,
     to: Point,
 ) -> Result<usize, AllocError>
     requires { (before : ℕ) → previous ≡ Some before → before < length events.old.items }
     ensures index { IfOk result (λ index. index ≡ length events.old.items) }
-    ensures events { IfOk result (λ _. events.new.items ≡ with_chunk previous from to events.old.items) }
+    ensures events { IfOk result (λ _. events.new.items ≡ with_chunk content previous from to events.old.items) }
 {
-    let index = begin_chunk(events, previous, from)?;
+    let index = begin_chunk(events, content, previous, from)?;
     exit(events, Name::Data, to)?;
     Ok(index)
 }
 
 /// The prefixes of a line's first containers. `line` is room for its bytes. Returns the place behind them.
-pub(crate) fn prefixes_of<L: Ledger>(
+pub fn prefixes_of<L: Ledger>(
     events: &mut Vec<Event>,
     bytes: &[u8],
     tab: TabSize,
@@ -79,7 +80,7 @@ pub(crate) fn prefixes_of<L: Ledger>(
 
 /// The chunks of a stretch that begins at a place of its first line, has these further lines and ends at another place: one chunk for lines that no
 /// prefix divides.
-pub(crate) fn stretch<L: Ledger>(
+pub fn stretch<L: Ledger>(
     events: &mut Vec<Event>,
     bytes: &[u8],
     tab: TabSize,
@@ -102,14 +103,14 @@ pub(crate) fn stretch<L: Ledger>(
     for at in more {
         turns.add_one();
         if at.row.going > 0 {
-            let index = chunk(events, previous, place, start_of(at.span))?;
+            let index = chunk(events, Content::Content, previous, place, start_of(at.span))?;
             previous = Some(index);
             let front = first_of(stack, at.row.many);
             place = prefixes_of(events, bytes, tab, front, at, line, turns)?.place;
         }
     }
     if place.index < to.index {
-        chunk(events, previous, place, to)?;
+        chunk(events, Content::Content, previous, place, to)?;
     }
     Ok(())
 }

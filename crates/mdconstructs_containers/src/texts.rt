@@ -48,7 +48,7 @@ fn begins_with_tab(t: &[u8]) -> bool
 }
 
 /// A line: its virtual bytes without its line ending go to the list. Returns the index of its line ending, or of the document's end.
-pub(crate) fn read_text<L: Ledger>(
+pub fn read_text<L: Ledger>(
     line: &mut Vec<u8>,
     bytes: &[u8],
     tab: TabSize,

@@ -5,7 +5,7 @@ ghost use Rattle.markdown_base.specs.Virtual.{IsWithinLimit};
 
 use crate::shown::assert_shown;
 use markdown_base::configuration::{Constructs, TabSize};
-use markdown_base::event::{Event, Name, Point};
+use markdown_base::event::{Content, Event, Name, Point};
 use mdcases_forms::spans::spans_of;
 use mdconstructs_containers::ahead::{Ahead, aheads_of};
 use mdconstructs_containers::chunks::begin_chunk;
@@ -426,11 +426,11 @@ fn innermost_spans_are_exited_first(rt: HostRuntime) -> Result<(), AllocError> {
 /// Two chunks, the second linked to the first.
 fn chunks_shown(alloc: Global) -> Result<String, AllocError> {
     let mut events = Vec::new(alloc);
-    let first = begin_chunk(&mut events, None, Point::START)?;
+    let first = begin_chunk(&mut events, Content::Content, None, Point::START)?;
     if first >= events.len() {
         return Err(AllocError);
     }
-    begin_chunk(&mut events, Some(first), Point::START)?;
+    begin_chunk(&mut events, Content::Content, Some(first), Point::START)?;
     shown(alloc, events.as_slice())
 }
 

@@ -29,30 +29,30 @@ use Rattle.mdconstructs_containers.specs.Skeleton.{Part, Piece, begun_all, behin
 use Rattle.mdconstructs_containers.specs.SkeletonSpans.{SkeletonsAccount}
 
 module _ (t : ℕ) (bytes : List ℕ) where
-  abbrev P : List Mark → List Seat → Type 0
+  abbrev pub P : List Mark → List Seat → Type 0
   P = AreSpans bytes
 
   module _ (part : Part) (h : PartIs t bytes part) where
-    abbrev r : Row
+    abbrev pub r : Row
     r = part.first
 
-    abbrev line : Line
+    abbrev pub line : Line
     line = r.line
 
-    abbrev m : ℕ
+    abbrev pub m : ℕ
     m = length part.stands
 
-    abbrev before : ℕ
+    abbrev pub before : ℕ
     before = cut t bytes part h
 
-    abbrev seats : List Seat
+    abbrev pub seats : List Seat
     seats = seats_of (is_held part) r part.more
 
-    abbrev ending : List Seat
+    abbrev pub ending : List Seat
     ending = ending_seats (is_held part) r part.more
 
     -- its prefixes
-    front_spans : P (front_marks t bytes part h) (take before line)
+    pub front_spans : P (front_marks t bytes part h) (take before line)
     front_spans = by (has_none r.begun) refl
       where
         went : (k : ℕ) → P (prefixes_marks bytes (take k r.went_on) line) (take (columns_of (take k r.went_on)) line)
@@ -76,7 +76,7 @@ module _ (t : ℕ) (bytes : List ℕ) where
             (spans-both bytes P (accounts-kept bytes) all begun)
 
     -- the chunks of its pieces
-    chunks_spans : (js : List (Piece bytes)) (marks : List Mark) (ss first : List Seat) → AreJoined t bytes js marks ss first
+    pub chunks_spans : (js : List (Piece bytes)) (marks : List Mark) (ss first : List Seat) → AreJoined t bytes js marks ss first
         → P (elim js as (λ _. List Mark) [ [] ↦ [] | p ∷ ps ↦ chunks_of bytes false (record p { before = [] } ∷ ps) ]) ss
     chunks_spans [] marks ss first k = absurd k
     chunks_spans (p ∷ ps) marks ss first k =
@@ -85,7 +85,7 @@ module _ (t : ℕ) (bytes : List ℕ) where
         pieces_spans bytes t false (x ∷ ps) ss whole
 
     -- what is behind its prefixes
-    inside_spans : P (inside_of bytes part) (drop before seats)
+    pub inside_spans : P (inside_of bytes part) (drop before seats)
     inside_spans = by r.is_blank refl
       where
         by : (x : Bool) → r.is_blank ≡ x
@@ -118,7 +118,7 @@ module _ (t : ℕ) (bytes : List ℕ) where
 
   module _ (on : Constructs) where
     -- what comes behind a part
-    behind_accounts : (bound : ℕ) (part : Part) → PartIs t bytes part → (b : Before) (n : ℕ) (ls : List Line) → AreOpen on part.frames b n ls → AllByRecursion LineIs ls → LinesEnd ls → length ls ≤ bound
+    pub behind_accounts : (bound : ℕ) (part : Part) → PartIs t bytes part → (b : Before) (n : ℕ) (ls : List Line) → AreOpen on part.frames b n ls → AllByRecursion LineIs ls → LinesEnd ls → length ls ≤ bound
         → Accounts bytes (behind_marks bytes part (parts_in bound (rows_from on b n ls))) (ending_seats (is_held part) part.first part.more ++ all_of ls)
     behind_accounts bound part fits b n [] spans lines ends few =
         let exit = exits_account bytes part.frames (end_of bytes part) in

@@ -26,7 +26,7 @@ use Rattle.mdconstructs_containers.specs.Skeleton.{Frame, Piece, begun_all, begu
 
 -- ---- links change no innermost span
 
-ended_chained : (x : Event) (i : ℕ) (previous : Option ℕ) (ms : List Mark) → ended_next x (chained_from i previous ms) ≡ ended_next x (bare ms)
+pub ended_chained : (x : Event) (i : ℕ) (previous : Option ℕ) (ms : List Mark) → ended_next x (chained_from i previous ms) ≡ ended_next x (bare ms)
 ended_chained x i previous [] = refl
 ended_chained x i previous ((f, None) ∷ ms) = refl
 ended_chained x i previous ((f, Some chunk) ∷ ms) = refl
@@ -49,7 +49,7 @@ module _ (bytes : List ℕ) where
       subst (λ es. AccountFor es bytes ((a ++ b) ++ more)) (sym (ap (λ l. l ++ events) (map-append (λ (m : Mark). m.0) xs ys) ∙ append_assoc (bare xs) (bare ys) events))
       (subst (AccountFor (bare xs ++ (bare ys ++ events)) bytes) (sym (append_assoc a b more)) (h (bare ys ++ events) (b ++ more) (k events more rest)))
 
-  exit_each : (fs : List Frame) (p : Point) → Accounts (map (λ (f : Frame). (event bytes Exit f.name p, None)) fs) []
+  pub exit_each : (fs : List Frame) (p : Point) → Accounts (map (λ (f : Frame). (event bytes Exit f.name p, None)) fs) []
   exit_each [] p events more h = h
   exit_each (f ∷ fs) p events more h = exit-more bytes (event bytes Exit f.name p) _ more refl (exit_each fs p events more h)
 
@@ -60,7 +60,7 @@ module _ (bytes : List ℕ) where
   -- ---- containers that begin
 
   -- no marks account for no virtual bytes only
-  none_for_some : (s : Seat) (ss : List Seat) → AreSpans bytes [] (s ∷ ss) → ⊥
+  pub none_for_some : (s : Seat) (ss : List Seat) → AreSpans bytes [] (s ∷ ss) → ⊥
   none_for_some s ss h =
       let there = h.account [] [] (record { stretches = []; are_all = refl; are_innermost = refl }) in
       let none = none-mapped (span_over bytes) there.stretches (sym there.are_innermost) in
@@ -68,11 +68,11 @@ module _ (bytes : List ℕ) where
       absurd (cc)
 
   -- an enter before whole spans
-  enter_spans : (e : Event) (ms : List Mark) (s : Seat) (ss : List Seat) → e.kind ≡ Enter → AreSpans bytes ms (s ∷ ss) → AreSpans bytes ((e, None) ∷ ms) (s ∷ ss)
+  pub enter_spans : (e : Event) (ms : List Mark) (s : Seat) (ss : List Seat) → e.kind ≡ Enter → AreSpans bytes ms (s ∷ ss) → AreSpans bytes ((e, None) ∷ ms) (s ∷ ss)
   enter_spans e [] s ss enters h = absurd (none_for_some s ss h)
   enter_spans e (m ∷ ms) s ss enters h = record { begins = enters; account = λ events more rest. enter-more bytes e m.0 (bare ms ++ events) ((s ∷ ss) ++ more) enters h.begins (h.account events more rest) }
 
-  container_spans : (c : Container) (p : Point) (ms : List Mark) (s : Seat) (ss : List Seat) → AreSpans bytes ms (s ∷ ss) → AreSpans bytes (enters_of bytes c p ++ ms) (s ∷ ss)
+  pub container_spans : (c : Container) (p : Point) (ms : List Mark) (s : Seat) (ss : List Seat) → AreSpans bytes ms (s ∷ ss) → AreSpans bytes (enters_of bytes c p ++ ms) (s ∷ ss)
   container_spans (quote line) p ms s ss h = enter_spans (event bytes Enter name.BlockQuote p) ms s ss refl h
   container_spans (item i) p ms s ss h = by (i.list == i.line)
     where
@@ -80,12 +80,12 @@ module _ (bytes : List ℕ) where
       by true = enter_spans (event bytes Enter (list_name i) p) ((event bytes Enter name.ListItem p, None) ∷ ms) s ss refl (enter_spans (event bytes Enter name.ListItem p) ms s ss refl h)
       by false = enter_spans (event bytes Enter name.ListItem p) ms s ss refl h
 
-  some_taken : (n : ℕ) (s : Seat) (ss : List Seat) → 1 ≤ n → (m : ℕ) × (take n (s ∷ ss) ≡ s ∷ take m ss)
+  pub some_taken : (n : ℕ) (s : Seat) (ss : List Seat) → 1 ≤ n → (m : ℕ) × (take n (s ∷ ss) ≡ s ∷ take m ss)
   some_taken zero s ss h = absurd (omega (arith, h))
   some_taken (suc n) s ss h = (n, refl)
 
   -- a container with its prefix, and containers that begin, each with its prefix
-  prefixed_spans : (c : Prefix) (s : Seat) (ss : List Seat) → 1 ≤ c.size → IsWhole (s ∷ ss) → AreSpans bytes (enters_of bytes c.container s.point ++ begun_marks bytes c.container (take c.size (s ∷ ss))) (take c.size (s ∷ ss))
+  pub prefixed_spans : (c : Prefix) (s : Seat) (ss : List Seat) → 1 ≤ c.size → IsWhole (s ∷ ss) → AreSpans bytes (enters_of bytes c.container s.point ++ begun_marks bytes c.container (take c.size (s ∷ ss))) (take c.size (s ∷ ss))
   prefixed_spans c s ss some w =
       let (m, is) = some_taken c.size s ss some in
       let inside = begun_kept bytes (AreSpans bytes) (accounts-kept bytes) c.container (take c.size (s ∷ ss)) (whole-front c.size (s ∷ ss) w) in
@@ -111,7 +111,7 @@ module _ (bytes : List ℕ) where
 
   -- ---- chunks
 
-  chunk_spans : (chunk : Option Chunk) (ss : List Seat) → AreSpans bytes (chunk_span bytes chunk name.Data ss []) ss
+  pub chunk_spans : (chunk : Option Chunk) (ss : List Seat) → AreSpans bytes (chunk_span bytes chunk name.Data ss []) ss
   chunk_spans chunk [] = no-spans bytes (AreSpans bytes) (accounts-kept bytes)
   chunk_spans chunk (s ∷ ss) = record { begins = refl; account = λ events more h. span-more bytes _ _ events s ss more refl refl refl refl h }
 

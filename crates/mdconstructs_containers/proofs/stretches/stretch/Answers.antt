@@ -1,6 +1,7 @@
 use Rattle.std.proofs.Common.{◌≡◌, ◌<◌, ◌≤◌, ◌+◌, ◌*◌, ℕ, suc, Bool, List, ◌∷◌, ◌++◌, Vec, Global, length, drop, take, map, sym, ap, ◌∙◌, subst, arith, length-append}
 use Rattle.std.specs.Prelude.{Option, Some, None}
 use Rattle.std.proofs.lemmas.List.{drop_all, drop_more, length-map, take-map}
+use Rattle.markdown_base.specs.declared.event.Content.TheVariants as content
 use Rattle.markdown_base.specs.declared.event.Event.{Event}
 use Rattle.markdown_base.specs.declared.event.Point.{Point}
 use Rattle.markdown_base.specs.Virtual.{Seat, point}
@@ -74,13 +75,13 @@ loop-at-preserved g c =
           let mid = w.chunk.new.events.items in
           let write = λ (seats : List Seat) (a : AreSeatsAt t bytes (point x.span.number 1 x.span.start 0) seats) (b : line ≡ bytes_of seats).
           w.in_ok-place.ensures.marks seats a b ∙ (λ k. mid ++ events_of (prefixes_marks bytes (going_on (front k) x.span.number line) seats)) in
-          let made : mid ≡ with_chunk c.loop-at.previous c.loop-at.place (point x.span.number 1 x.span.start 0) c.loop-at.events.items = w.in_ok-index.ensures.events ∙ ap (λ (p : Point). with_chunk c.loop-at.previous c.loop-at.place p c.loop-at.events.items) w.start_of.ensures in
+          let made : mid ≡ with_chunk content.Content c.loop-at.previous c.loop-at.place (point x.span.number 1 x.span.start 0) c.loop-at.events.items = w.in_ok-index.ensures.events ∙ ap (λ (p : Point). with_chunk content.Content c.loop-at.previous c.loop-at.place p c.loop-at.events.items) w.start_of.ensures in
           record {
             turns = omega (arith, c.loop-at.invariant.turns, c.add_one.ensures, w.turns-is, w.prefixes_of.ensures.turns, one.size, more);
             before = λ b e.
                 let same : w.in_ok-index.index ≡ b = some_same (sym w.previous-is ∙ e) in
                 let longer = ap (λ (l : List Event). length l) (ap (λ (v : Vec Event Global). v.items) w.events-is ∙ write one.seats one.seats_at one.seats_bytes) ∙ length-append mid _ in
-                let size = ap (λ (l : List Event). length l) made ∙ chunk_length c.loop-at.previous c.loop-at.place (point x.span.number 1 x.span.start 0) c.loop-at.events.items in
+                let size = ap (λ (l : List Event). length l) made ∙ chunk_length content.Content c.loop-at.previous c.loop-at.place (point x.span.number 1 x.span.start 0) c.loop-at.events.items in
                 omega (arith, longer, size, same, w.in_ok-index.ensures.index);
             further = one.behind;
             state = λ is_held rest all v.
