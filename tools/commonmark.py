@@ -117,10 +117,26 @@ class Inline:
             self.write(f"<{tag}>")
             self.spans(span.inner)
             self.write(f"</{tag}>")
+        elif name in ("Link", "Image"):
+            self.link(span)
         elif name in ("EmphasisText", "StrongText", "HtmlText", "Autolink", "CharacterEscape"):
             self.spans(span.inner)
         elif name not in MARKERS:
             raise NoRule(f"no rule for {name} in a text")
+
+    def link(self, span):
+        """A link, or an image, whose text is shown without tags."""
+        # (the resource behind the label: one in the label's text is of another link)
+        tail = [it for it in span.inner if it.name == "Resource"]
+        target, title = (plain(self.document, last[0].inner) if tail and (last := found(tail[0], f"Resource{name}String")) else None for name in ("Destination", "Title"))
+        text = [it for label in span.inner if label.name == "Label" for inner in label.inner if inner.name == "LabelText" for it in inner.inner]
+        attribute = "" if title is None else f' title="{escaped(title)}"'
+        if span.name == "Link":
+            self.write(f'<a href="{address(target or "")}"{attribute}>')
+            self.spans(text)
+            self.write("</a>")
+        else:
+            self.write(f'<img src="{address(target or "")}" alt="{escaped(shown(self.document, text))}"{attribute} />')
 
     def code(self, spans):
         """The text of a code span."""
@@ -147,6 +163,42 @@ def bytes_of(document, span):
     width = TAB - (column - vs - 1) % TAB
     first = " " * (width - vs) if vs else ""
     return first + document[start + (vs > 0) : end].decode("utf-8", "replace") + " " * end_vs
+
+
+def plain(document, spans):
+    """The text of a string: its lines, without the white space that a further line begins with."""
+    text, is_line_start = "", False
+    for span in spans:
+        if span.name == "Data":
+            data = bytes_of(document, span)
+            text += data.lstrip(BLANKS) if is_line_start else data
+        elif span.name == "LineEnding":
+            text += "\n"
+        elif span.name == "CharacterEscape":
+            text += "".join(bytes_of(document, it) for it in span.inner if it.name == "CharacterEscapeValue")
+        elif span.name == "CharacterReference":
+            text += reference(bytes_of(document, span)[1:-1])
+        elif span.name not in ("SpaceOrTab", "BlockQuotePrefix"):
+            raise NoRule(f"no rule for {span.name} in a string")
+        is_line_start = span.name == "LineEnding"
+    return text
+
+
+def shown(document, spans):
+    """The text of spans without what marks it: what is shown in place of an image."""
+    text = ""
+    for span in spans:
+        if span.name in ("Data", "CharacterEscapeValue", "HtmlTextData", "AutolinkProtocol", "AutolinkEmail"):
+            text += bytes_of(document, span)
+        elif span.name in ("LineEnding", "HardBreakEscape", "HardBreakTrailing"):
+            text += "" if text.endswith(" ") else " "
+        elif span.name == "CharacterReference":
+            text += reference(bytes_of(document, span)[1:-1])
+        elif span.name == "CodeText":
+            text += Inline(document).code(span.inner)
+        elif span.name in ("Emphasis", "Strong", "EmphasisText", "StrongText", "Link", "Image", "Label", "LabelText", "CharacterEscape", "HtmlText", "Autolink"):
+            text += shown(document, span.inner)
+    return text
 
 
 def inline(document, spans):
