@@ -1,15 +1,12 @@
 -- How a destination between `<` and `>` is read, up to its last mark.
-use Rattle.mdconstructs_resources.proofs.Prelude.{◌≡◌, ℕ, ◌+◌, ◌*◌, ◌≤◌, ◌==◌, ◌&&◌, ◌||◌, List, [], ◌∷◌, ◌++◌, Bool, true, false, cond, Option, Some, None, refl, sym, ap, ◌∙◌, subst, arith, drop, length, option_and_then, drop-next, and-false, and-true, Event, EventName, Data, Resource, ResourceDestination, ResourceDestinationLiteral, ResourceDestinationString, Name, DestinationEnclosed, DestinationEnclosedEscape, Seat, Given, Text, Choice, Local, counts, after-call, Plays, Found, bytes_of}
+use Rattle.mdconstructs_resources.proofs.Prelude.{◌≡◌, ℕ, ◌+◌, ◌*◌, ◌≤◌, ◌==◌, ◌&&◌, ◌||◌, List, [], ◌∷◌, ◌++◌, Bool, true, false, cond, Option, Some, None, refl, sym, ap, ◌∙◌, subst, arith, drop, length, option_and_then, drop-next, and-false, and-true, Event, EventName, Data, Resource, ResourceDestination, ResourceDestinationLiteral, ResourceDestinationString, Name, DestinationEnclosed, DestinationEnclosedEscape, Seat, Given, Text, Choice, Local, counts, Plays, Found, bytes_of, behind-more}
 use Rattle.mdconstructs_labels.specs.Labels.{hides}
 use Rattle.mdconstructs_labels.specs.Tails.{behind, enclosed_size, one_more}
 use Rattle.mdconstructs_resources.specs.ResourceRows.{enclosed_escape_rows, enclosed_rows, is_not_enclosed, reads_on}
 use Rattle.mdconstructs_resources.proofs.Resources.Steps.{PlaysResources, Does, yes, no, here, seen, Finds, stands, left, fails, fails-here, reads}
+use Rattle.mdconstructs_resources.proofs.Resources.Touched.{touched-call}
 
--- one byte more is one byte further
-pub one-behind : (j : ℕ) (o : Option ℕ) → behind j (one_more o) ≡ behind (j + 1) o
-one-behind j None = refl
-one-behind j (Some n) = let same : j + (n + 1) ≡ j + 1 + n = omega arith in ap Some same
-
+-- or none
 pub none-behind : (j : ℕ) → behind j (Some 0) ≡ Some j
 none-behind j = let same : j + 0 ≡ j = omega arith in ap Some same
 
@@ -69,9 +66,9 @@ module _ (g : Given) (text : Text) (m : Plays g text) (r : PlaysResources g text
         let next = drop-next text.seats q s ss at in
         let found = λ (h : Bool) (size : Option ℕ). Finds g text m cs p events seats calls k (enclosed_name h) (Found_in f j size) in
         let more = λ (h : Bool) (t : Bool) (rows : enclosed_size h (b ∷ bs) ≡ one_more (enclosed_size t bs)) (has : Does g text m k (enclosed_name h) (reads_on [] (enclosed_name t))).
-        subst (λ o. Finds g text m cs p events seats calls k (enclosed_name h) (option_and_then f o)) (sym (ap (behind j) rows ∙ one-behind j (enclosed_size t bs)))
+        subst (λ o. Finds g text m cs p events seats calls k (enclosed_name h) (option_and_then f o)) (sym (ap (behind j) rows ∙ behind-more j (enclosed_size t bs)))
         (reads g text m cs p events seats (4 * length ss + 2) calls in_enclosed in_enclosed q x x local (counts local) (enclosed_name h) (enclosed_name t) s ss (reads_on [] (enclosed_name t))
-        (Found_in f (j + 1) (enclosed_size t bs)) (events ++ x) at (omega arith) (after-call local) has refl (λ e i. i)
+        (Found_in f (j + 1) (enclosed_size t bs)) (events ++ x) at (omega arith) (touched-call local) has refl (λ e i. i)
         (reads-enclosed ss t (j + 1) (q + 1) (counts local) (omega arith) place next)) in
         elim hidden as (λ h. found h (enclosed_size h (b ∷ bs))) [
           | true ↦

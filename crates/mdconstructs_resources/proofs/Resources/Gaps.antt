@@ -1,12 +1,12 @@
 -- How white space of a resource is read: spaces and tabs, and maybe a line ending with spaces and tabs behind it.
-use Rattle.mdconstructs_resources.proofs.Prelude.{◌≡◌, ℕ, zero, suc, ◌+◌, ◌-◌, ◌*◌, ◌≤◌, ◌<◌, ◌==◌, List, [], ◌∷◌, ◌++◌, Bool, true, false, cond, Option, None, refl, sym, ap, ◌∙◌, subst, arith, take, drop, length, drop-next, drop-map, drop-take, take-take, append-nil, append_assoc, prefix_len, Event, Enter, Exit, EventName, LineEnding, Resource, SpaceOrTab, Name, Retry, LabelEndResourceBefore, LabelEndResourceOpen, LabelEndResourceEnd, TitleStart, Seat, Given, Text, Byte, shows, Choice, Configuration, Local, byte_of, end_or, point_or, held, at-front, row_step, HasRows, Leads, before_class, class_of, text_byte, counts, after-call, after-passed, loops, passed, past, past-at, past-stops, first_byte, passes, Plays, Found, bytes_of, leaf, Act, Rows, row, enter, exit, when, tested, leads-row}
-use Rattle.mdconstructs_machines.specs.Spans.{event}
+use Rattle.mdconstructs_resources.proofs.Prelude.{◌≡◌, ℕ, zero, suc, ◌+◌, ◌-◌, ◌*◌, ◌≤◌, ◌<◌, ◌==◌, List, [], ◌∷◌, ◌++◌, Bool, true, false, cond, Option, None, refl, sym, ap, ◌∙◌, subst, arith, take, drop, length, drop-next, drop-map, drop-take, take-take, append-nil, append_assoc, prefix_len, Event, EventName, LineEnding, Resource, SpaceOrTab, Name, Retry, LabelEndResourceBefore, LabelEndResourceOpen, LabelEndResourceEnd, TitleStart, Seat, Given, Text, Byte, shows, Choice, Configuration, Local, byte_of, held, row_step, HasRows, Leads, before_class, class_of, text_byte, counts, loops, passed, past, past-at, past-stops, first_byte, passes, Plays, Found, bytes_of, leaf, Act, Rows, row, enter, exit, when, tested, leads-row}
 use Rattle.mdconstructs_text.proofs.Plain.Stretches.{leaf-read, passed-keeps, past-is}
 use Rattle.mdconstructs_labels.specs.Tails.{begins_with, gap, is_white}
 use Rattle.mdconstructs_resources.specs.declared.names.TheConstants.{ResourceGapWhite, ResourceGapLine, ResourceGapLineWhite}
 use Rattle.mdconstructs_resources.specs.Resource.{gap_events}
 use Rattle.mdconstructs_resources.specs.ResourceRows.{at_bytes_only, ends_line, gap_ends, gap_line_rows, gap_line_white_rows, gap_white_rows, reads_on, resource_before_rows, shows as shown_byte, waits}
-use Rattle.mdconstructs_resources.proofs.Resources.Steps.{PlaysResources, Does, yes, no, here, seen, enters_at, exits_at, exits_past, Finds, further, stands, left, fails, reads, stays}
+use Rattle.mdconstructs_resources.proofs.Resources.Steps.{PlaysResources, Does, yes, no, here, seen, enters_at, exits_at, exits_past, Finds, further, stands, left, fails, reads, stays, line-ending-read}
+use Rattle.mdconstructs_resources.proofs.Resources.Touched.{touched-call, touched-passed}
 
 -- What white space stands before: its number, and the state that follows
 pub data Stop : Type 0 where
@@ -140,7 +140,7 @@ module _ (g : Given) (text : Text) (m : Plays g text) (r : PlaysResources g text
       let x = x0 ++ enters_at g text SpaceOrTab q0 ∷ [] in
       let k = stands g text m cs p events seats in_white q x local in
       stays g text m cs p events seats (4 * length (y ∷ ys) + 2) (4 * length (y ∷ ys) + 3) in_white in_resource_only q x (x0 ++ leaf g.bytes SpaceOrTab (take n (s0 ∷ ss0))) local (counts local) inside (state_of w)
-      (row (exit SpaceOrTab ∷ []) (Retry (state_of w))) o ((events ++ x) ++ exits_at g text SpaceOrTab q ∷ []) (omega arith) (after-call local) (picks-stop g text m w k inside (exit SpaceOrTab ∷ []) kept has)
+      (row (exit SpaceOrTab ∷ []) (Retry (state_of w))) o ((events ++ x) ++ exits_at g text SpaceOrTab q ∷ []) (omega arith) (touched-call local) (picks-stop g text m w k inside (exit SpaceOrTab ∷ []) kept has)
       (white-events n q0 q x0 s0 ss0 at is some within) (λ e i. i) (next (counts local))
 
   -- spaces and tabs from their second on
@@ -150,19 +150,12 @@ module _ (g : Given) (text : Text) (m : Plays g text) (r : PlaysResources g text
       → Finds g text m cs p events seats (4 * length l + 3) (left g text m cs p events seats l in_white q x local) inside o
   through-white inside others has l q q' x local at is d =
       further g text m cs p events seats (white_of l) (4 * length (past is_white l) + 3) (4 * length l + 3) (left g text m cs p events seats l in_white q x local)
-      (left g text m cs p events seats (past is_white l) in_white q' x (passed is_white counts l local)) inside inside o (omega (arith, past-long l)) (after-passed counts after-call is_white l local)
+      (left g text m cs p events seats (past is_white l) in_white q' x (passed is_white counts l local)) inside inside o (omega (arith, past-long l)) (touched-passed is_white l local)
       (over-white g text m inside others cs has l q q' (events ++ x) local at is) d
 
   -- what is kept is kept over them
   kept-over : (l : List Seat) (local : Local Unit Unit) → stop_kept local ≡ number_of w → stop_kept (passed is_white counts l local) ≡ number_of w
   kept-over l local kept = passed-keeps stop_kept counts (λ local. refl) is_white l local ∙ kept
-
-  -- a line ending is a span of its own
-  line-ending-events : (es : List Event) (q : ℕ) (y : Seat) (ys : List Seat) → drop q text.seats ≡ y ∷ ys
-      → (es ++ enters_at g text LineEnding q ∷ []) ++ exits_past g text LineEnding q ∷ [] ≡ es ++ leaf g.bytes LineEnding (y ∷ [])
-  line-ending-events es q y ys at =
-      append_assoc es (enters_at g text LineEnding q ∷ []) (exits_past g text LineEnding q ∷ [])
-      ∙ ap (λ o. es ++ event g.bytes Enter LineEnding (point_or text.end o) ∷ event g.bytes Exit LineEnding (end_or text.end o) ∷ []) (at-front text.seats q y ys at)
 
   -- what follows behind the line ending, and what is found at the end of the text
   abbrev NextOfLine : (q : ℕ) (x : List Event) (l : List Seat) → Type 0
@@ -189,7 +182,7 @@ module _ (g : Given) (text : Text) (m : Plays g text) (r : PlaysResources g text
             let place : q + n ≡ q + 1 + white_of ss = omega (arith, n_is) in
             let after = passed is_white counts ss (counts local) in
             reads g text m cs p events seats (4 * length ss + 3) calls in_resource_only in_white q x begun local (counts local) ResourceGapLine ResourceGapLineWhite s ss
-            (reads_on (enter SpaceOrTab ∷ []) ResourceGapLineWhite) o ((events ++ x) ++ enters_at g text SpaceOrTab q ∷ []) at (omega arith) (after-call local)
+            (reads_on (enter SpaceOrTab ∷ []) ResourceGapLineWhite) o ((events ++ x) ++ enters_at g text SpaceOrTab q ∷ []) at (omega arith) (touched-call local)
             (yes g text m k ResourceGapLine has (seen g text m is_white true q s ss at e)) (append_assoc events x (enters_at g text SpaceOrTab q ∷ [])) (λ e i. i)
             (through-white ResourceGapLineWhite (gap_ends (exit SpaceOrTab ∷ [])) r.line_white ss (q + 1) (q + n) begun (counts local) next_at place
             (elim (past is_white ss) as (λ l. drop (q + n) text.seats ≡ l → passes is_white (first_byte l) ≡ false
@@ -207,7 +200,7 @@ module _ (g : Given) (text : Text) (m : Plays g text) (r : PlaysResources g text
             let n_is : n ≡ 0 = ap (λ t. cond t (1 + white_of ss) 0) e in
             let same : x ≡ x ++ leaf g.bytes SpaceOrTab (take n (s ∷ ss)) = sym (ap (λ n. x ++ leaf g.bytes SpaceOrTab (take n (s ∷ ss))) n_is ∙ append-nil x) in
             stays g text m cs p events seats (4 * length (s ∷ ss) + 2) calls in_resource_only in_resource_only q x x local (counts local) ResourceGapLine (state_of w) (row [] (Retry (state_of w))) o (events ++ x)
-            (omega arith) (after-call local) (picks-stop g text m w k ResourceGapLine [] kept (no g text m k ResourceGapLine has (seen g text m is_white false q s ss at e))) refl (λ e i. i)
+            (omega arith) (touched-call local) (picks-stop g text m w k ResourceGapLine [] kept (no g text m k ResourceGapLine has (seen g text m is_white false q s ss at e))) refl (λ e i. i)
             (subst (λ y. Finds g text m cs p events seats (4 * length (s ∷ ss) + 2) (stands g text m cs p events seats in_resource_only q y (counts local)) (state_of w) o) (sym same)
             (next q s ss (counts local) (omega (arith, n_is)) at))
       ] refl
@@ -243,7 +236,7 @@ module _ (g : Given) (text : Text) (m : Plays g text) (r : PlaysResources g text
             let within : n ≤ suc (length ss) = omega (arith, past-long all) in
             let left_is : drop n all ≡ past is_white ss = sym (past-is is_white all) ∙ ap (λ t. cond t (past is_white ss) all) e in
             reads g text m cs p events seats (4 * length ss + 3) calls in_resource_only in_white q x begun local (counts local) LabelEndResourceBefore ResourceGapWhite s ss
-            (reads_on (enter SpaceOrTab ∷ []) ResourceGapWhite) o ((events ++ x) ++ enters_at g text SpaceOrTab q ∷ []) at (omega arith) (after-call local)
+            (reads_on (enter SpaceOrTab ∷ []) ResourceGapWhite) o ((events ++ x) ++ enters_at g text SpaceOrTab q ∷ []) at (omega arith) (touched-call local)
             (yes g text m k LabelEndResourceBefore has (seen g text m is_white true q s ss at e)) (append_assoc events x (enters_at g text SpaceOrTab q ∷ [])) (λ e i. i)
             (through-white ResourceGapWhite (when (waits 10) (ends_line (exit SpaceOrTab ∷ []) ResourceGapLine) (gap_ends (exit SpaceOrTab ∷ []))) r.white ss (q + 1) q1 begun (counts local) next_at place
             (elim (past is_white ss) as (λ l. drop q1 text.seats ≡ l → drop n all ≡ l → passes is_white (first_byte l) ≡ false
@@ -261,12 +254,12 @@ module _ (g : Given) (text : Text) (m : Plays g text) (r : PlaysResources g text
                         let line = leaf g.bytes LineEnding (y ∷ []) in
                         let x1 = x ++ (white ++ line) in
                         let made : (((events ++ begun) ++ exits_at g text SpaceOrTab q1 ∷ []) ++ enters_at g text LineEnding q1 ∷ []) ++ exits_past g text LineEnding q1 ∷ [] ≡ events ++ x1 =
-                        line-ending-events ((events ++ begun) ++ exits_at g text SpaceOrTab q1 ∷ []) q1 y ys there
+                        line-ending-read g text ((events ++ begun) ++ exits_at g text SpaceOrTab q1 ∷ []) q1 y ys there
                         ∙ ap (λ z. z ++ line) (white-events n q q1 x s ss at refl (omega (arith, n_is)) within)
                         ∙ append_assoc events (x ++ white) line ∙ ap (λ z. events ++ z) (append_assoc x white line) in
                         reads g text m cs p events seats (4 * length ys + 3) (4 * length (y ∷ ys) + 3) in_white in_resource_only q1 begun x1 after (counts after) ResourceGapWhite ResourceGapLine y ys
                         (ends_line (exit SpaceOrTab ∷ []) ResourceGapLine) o ((((events ++ begun) ++ exits_at g text SpaceOrTab q1 ∷ []) ++ enters_at g text LineEnding q1 ∷ []) ++ exits_past g text LineEnding q1 ∷ [])
-                        there (omega arith) (after-call after) (yes g text m k1 ResourceGapWhite has1 (seen g text m (λ b. b == 10) true q1 y ys there feed)) made (λ e i. i)
+                        there (omega arith) (touched-call after) (yes g text m k1 ResourceGapWhite has1 (seen g text m (λ b. b == 10) true q1 y ys there feed)) made (λ e i. i)
                         (reads-line-gap ys (q1 + 1) x1 (counts after) (drop-next text.seats q1 y ys there) (kept-over ss (counts local) kept)
                         (λ q2 z zs a is there2.
                         let further_white = leaf g.bytes SpaceOrTab (take (white_of ys) ys) in
@@ -295,9 +288,9 @@ module _ (g : Given) (text : Text) (m : Plays g text) (r : PlaysResources g text
                   let line = leaf g.bytes LineEnding (s ∷ []) in
                   let x1 = x ++ line in
                   reads g text m cs p events seats (4 * length ss + 3) calls in_resource_only in_resource_only q x x1 local (counts local) LabelEndResourceBefore ResourceGapLine s ss (ends_line [] ResourceGapLine) o
-                  (((events ++ x) ++ enters_at g text LineEnding q ∷ []) ++ exits_past g text LineEnding q ∷ []) at (omega arith) (after-call local)
+                  (((events ++ x) ++ enters_at g text LineEnding q ∷ []) ++ exits_past g text LineEnding q ∷ []) at (omega arith) (touched-call local)
                   (yes g text m k LabelEndResourceBefore has1 (seen g text m (λ b. b == 10) true q s ss at feed))
-                  (line-ending-events (events ++ x) q s ss at ∙ append_assoc events x line) (λ e i. i)
+                  (line-ending-read g text (events ++ x) q s ss at ∙ append_assoc events x line) (λ e i. i)
                   (reads-line-gap ss (q + 1) x1 (counts local) next_at kept
                   (λ q2 z zs a is there2.
                   let further_white = leaf g.bytes SpaceOrTab (take (white_of ss) ss) in
@@ -311,7 +304,7 @@ module _ (g : Given) (text : Text) (m : Plays g text) (r : PlaysResources g text
                   let same : x ≡ x ++ gap_events g.bytes (take (gap (bytes_of all)) all) =
                   sym (append-nil x) ∙ ap (λ z. x ++ z) (sym no_white ∙ sym (white-only g.bytes all) ∙ ap (λ n. gap_events g.bytes (take n all)) (sym size)) in
                   stays g text m cs p events seats (4 * length all + 2) calls in_resource_only in_resource_only q x x local (counts local) LabelEndResourceBefore (state_of w) (row [] (Retry (state_of w))) o (events ++ x)
-                  (omega arith) (after-call local) (picks-stop g text m w k LabelEndResourceBefore [] kept (no g text m k LabelEndResourceBefore has1 (seen g text m (λ b. b == 10) false q s ss at plain))) refl (λ e i. i)
+                  (omega arith) (touched-call local) (picks-stop g text m w k LabelEndResourceBefore [] kept (no g text m k LabelEndResourceBefore has1 (seen g text m (λ b. b == 10) false q s ss at plain))) refl (λ e i. i)
                   (subst (λ y. Finds g text m cs p events seats (4 * length all + 2) (stands g text m cs p events seats in_resource_only q y (counts local)) (state_of w) o) (sym same)
                   (next q s ss (counts local) (omega (arith, size, n_is)) at))
             ] refl

@@ -1,5 +1,5 @@
 -- The events of a string, line by line.
-use Rattle.mdconstructs_resources.proofs.Prelude.{◌≡◌, ℕ, zero, suc, ◌+◌, ◌<◌, ◌==◌, not, List, [], ◌∷◌, ◌++◌, Bool, true, false, cond, take, drop, length, refl, ap, ◌∙◌, arith, one-add, flat_map, prefix_len, take_at, drop_at, Data, LineEnding, Seat, bytes_of, leaf, cut-enough, drop-less}
+use Rattle.mdconstructs_resources.proofs.Prelude.{◌≡◌, ℕ, zero, suc, ◌+◌, ◌<◌, ◌==◌, not, List, [], ◌∷◌, ◌++◌, true, false, cond, take, drop, length, refl, ap, ◌∙◌, arith, flat_map, prefix_len, take_at, drop_at, Data, LineEnding, Seat, bytes_of, leaf, cut-enough, drop-less}
 use Rattle.mdconstructs_text.specs.Parts.{Part, line_ending, part_events, part_length, plain_run}
 use Rattle.mdconstructs_resources.specs.Resource.{is_of_line, line_part, string_events}
 use Rattle.mdconstructs_inline_constructs.proofs.HtmlTexts.Pieces.{AllPass, StopsAt, run-is}

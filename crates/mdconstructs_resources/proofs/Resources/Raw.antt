@@ -1,12 +1,13 @@
 -- How a destination with no `<` and `>` is read, up to its end.
-use Rattle.mdconstructs_resources.proofs.Prelude.{◌≡◌, ℕ, ◌+◌, ◌-◌, ◌*◌, ◌≤◌, ◌<◌, ◌==◌, ◌&&◌, ◌||◌, nat_le, List, [], ◌∷◌, ◌++◌, Bool, true, false, cond, Option, Some, None, refl, sym, ap, ◌∙◌, subst, arith, drop, length, option_and_then, drop-next, and-true, eqb-true, nat_tests, Event, EventName, Data, Resource, ResourceDestination, ResourceDestinationRaw, ResourceDestinationString, Name, DestinationRaw, DestinationRawEscape, Seat, Given, Text, Nothing, Next, Choice, Local, held, Ending, EndsWith, counts, IsAfter, after-call, after-sized, more-is, more_than, size_b, with_b, Plays, Found, bytes_of, Rows, write, size_b_grows}
+use Rattle.mdconstructs_resources.proofs.Prelude.{◌≡◌, ℕ, ◌+◌, ◌-◌, ◌*◌, ◌≤◌, ◌<◌, ◌==◌, ◌&&◌, ◌||◌, nat_le, List, [], ◌∷◌, ◌++◌, Bool, true, false, cond, Option, Some, None, refl, sym, ap, ◌∙◌, subst, arith, drop, length, option_and_then, drop-next, and-true, eqb-true, nat_tests, Event, EventName, Data, Resource, ResourceDestination, ResourceDestinationRaw, ResourceDestinationString, Name, DestinationRaw, DestinationRawEscape, Seat, Given, Text, Nothing, Next, Choice, Local, held, Ending, EndsWith, counts, more-is, more_than, size_b, with_b, Plays, Found, bytes_of, Rows, write, size_b_grows, behind-more, or-false}
 use Rattle.markdown_base.proofs.Facts.Numbers.{unlike}
 use Rattle.mdconstructs_text.proofs.Texts.Steps.{WithRows}
 use Rattle.mdconstructs_labels.specs.Labels.{hides}
 use Rattle.mdconstructs_labels.specs.Tails.{behind, depth_behind, ends_raw, is_plain, is_raw_end, one_more, raw_end, raw_size}
 use Rattle.mdconstructs_resources.specs.ResourceRows.{ends_raw_destination, raw_escape_rows, raw_rows, reads_on, size_b_falls}
-use Rattle.mdconstructs_resources.proofs.Resources.Enclosed.{hidden-no, none-behind, one-behind, plain-so}
+use Rattle.mdconstructs_resources.proofs.Resources.Enclosed.{hidden-no, none-behind, plain-so}
 use Rattle.mdconstructs_resources.proofs.Resources.Steps.{PlaysResources, Does, yes, no, here, seen, Finds, stands, left, fails, fails-here, reads}
+use Rattle.mdconstructs_resources.proofs.Resources.Touched.{Touches, touched-call, touched-sized}
 
 -- the spans that are open in it
 abbrev pub in_raw : List EventName
@@ -16,10 +17,6 @@ in_raw = Resource ∷ ResourceDestination ∷ ResourceDestinationRaw ∷ Resourc
 abbrev pub raw_name : Bool → Name
 raw_name true = DestinationRawEscape
 raw_name false = DestinationRaw
-
-or-false-is : (a : Bool) → (a || false) ≡ a
-or-false-is true = refl
-or-false-is false = refl
 
 -- there is room for one more
 room-left : (d : ℕ) → nat_le 32 d ≡ false → d + 1 ≤ 32
@@ -45,7 +42,7 @@ closes-one d b t h e = λ i. cond (plain-so 40 b false h i) (d + 1) (cond (plain
 
 -- a byte that is hidden is no parenthesis
 hidden-end : (d b : ℕ) (t : Bool) → ends_raw b ≡ t → is_raw_end d true b ≡ t
-hidden-end d b t h = (λ i. ends_raw b || (hidden-no 41 b i && (d == 0))) ∙ or-false-is (ends_raw b) ∙ h
+hidden-end d b t h = (λ i. ends_raw b || (hidden-no 41 b i && (d == 0))) ∙ or-false (ends_raw b) ∙ h
 
 hidden-depth : (d b : ℕ) → depth_behind d true b ≡ d
 hidden-depth d b = λ i. cond (hidden-no 40 b i) (d + 1) (cond (hidden-no 41 b i) (d - 1) d)
@@ -95,10 +92,10 @@ module _ (g : Given) (text : Text) (m : Plays g text) (r : PlaysResources g text
         let place : q + 1 ≡ q0 + (j + 1) = omega (arith, is) in
         let next = drop-next text.seats q s ss at in
         let Here = λ (h : Bool) (size : Option ℕ). Finds g text m cs p events seats calls k (raw_name h) (found j size) in
-        let more = λ (h t : Bool) (after : Local Unit Unit) (rows : Rows Unit Unit) (one : IsAfter 1 local after) (fits : size_b after ≤ 32) (goes : raw_size d h (b ∷ bs) ≡ one_more (raw_size (size_b after) t bs))
+        let more = λ (h t : Bool) (after : Local Unit Unit) (rows : Rows Unit Unit) (one : Touches 1 local after) (fits : size_b after ≤ 32) (goes : raw_size d h (b ∷ bs) ≡ one_more (raw_size (size_b after) t bs))
         (has : Does g text m k (raw_name h) rows)
         (does : (e : Ending) → EndsWith g text m (held in_raw (q + 1) Nothing false (events ++ x) after) cs (Next (raw_name t)) e → WithRows g text m k cs e rows).
-        subst (λ o. Finds g text m cs p events seats calls k (raw_name h) (option_and_then f o)) (sym (ap (behind j) goes ∙ one-behind j (raw_size (size_b after) t bs)))
+        subst (λ o. Finds g text m cs p events seats calls k (raw_name h) (option_and_then f o)) (sym (ap (behind j) goes ∙ behind-more j (raw_size (size_b after) t bs)))
         (reads g text m cs p events seats (4 * length ss + 5) calls in_raw in_raw q x x local after (raw_name h) (raw_name t) s ss rows
         (found (j + 1) (raw_size (size_b after) t bs)) (events ++ x) at (omega arith) one has refl does
         (reads-raw ss t (j + 1) (q + 1) after (omega arith) place next fits)) in
@@ -109,7 +106,7 @@ module _ (g : Given) (text : Text) (m : Plays g text) (r : PlaysResources g text
                 | true ↦ λ e.
                     subst (Here true) (sym (raw-stops d true b bs (hidden-end d b true e))) (ends-here true j q local s ss some is at (yes g text m k DestinationRawEscape has (seen g text m ends_raw true q s ss at e)))
                 | false ↦ λ e.
-                    more true false (counts local) (reads_on [] DestinationRaw) (after-call local) depth
+                    more true false (counts local) (reads_on [] DestinationRaw) (touched-call local) depth
                     (raw-goes d true b bs d false (hidden-end d b false e) (ap (λ t. t && nat_le 32 d) (hidden-no 40 b)) (hidden-depth d b) (hidden-no 92 b))
                     (no g text m k DestinationRawEscape has (seen g text m ends_raw false q s ss at e)) (λ e i. i)
               ] refl
@@ -132,25 +129,25 @@ module _ (g : Given) (text : Text) (m : Plays g text) (r : PlaysResources g text
                             | true ↦ λ opens.
                                 let room : d + 1 ≤ 32 = room-left d (sym (ap (λ t. t && nat_le 32 d) opens) ∙ deep) in
                                 let grown : more_than d ≡ d + 1 = more-is d (omega (arith, room)) in
-                                more false false (with_b (more_than d) (counts local)) (reads_on (write size_b_grows ∷ []) DestinationRaw) (after-sized (more_than d) local) (omega (arith, grown, room))
+                                more false false (with_b (more_than d) (counts local)) (reads_on (write size_b_grows ∷ []) DestinationRaw) (touched-sized (more_than d) local) (omega (arith, grown, room))
                                 (raw-goes d false b bs (more_than d) false e (same ∙ deep) (opens-one d b opens ∙ sym grown) (ap (λ t. t && true) (unlike (λ c. c == 40) 92 refl b opens)))
                                 (yes g text m k DestinationRaw has2 (seen g text m (λ c. c == 40) true q s ss at opens)) (λ e i. i)
                             | false ↦ λ opens.
                                 let has3 = no g text m k DestinationRaw has2 (seen g text m (λ c. c == 40) false q s ss at opens) in
                                 elim (b == 41) as (λ t. (b == 41) ≡ t → Here false (raw_size d false (b ∷ bs))) [
                                   | true ↦ λ closes.
-                                      more false false (with_b (d - 1) (counts local)) (reads_on (write size_b_falls ∷ []) DestinationRaw) (after-sized (d - 1) local) (omega (arith, depth))
+                                      more false false (with_b (d - 1) (counts local)) (reads_on (write size_b_falls ∷ []) DestinationRaw) (touched-sized (d - 1) local) (omega (arith, depth))
                                       (raw-goes d false b bs (d - 1) false e (same ∙ deep) (closes-one d b true opens closes) (ap (λ t. t && true) (unlike (λ c. c == 41) 92 refl b closes)))
                                       (yes g text m k DestinationRaw has3 (seen g text m (λ c. c == 41) true q s ss at closes)) (λ e i. i)
                                   | false ↦ λ closes.
                                       let has4 = no g text m k DestinationRaw has3 (seen g text m (λ c. c == 41) false q s ss at closes) in
                                       elim (b == 92) as (λ t. (b == 92) ≡ t → Here false (raw_size d false (b ∷ bs))) [
                                         | true ↦ λ w.
-                                            more false true (counts local) (reads_on [] DestinationRawEscape) (after-call local) depth
+                                            more false true (counts local) (reads_on [] DestinationRawEscape) (touched-call local) depth
                                             (raw-goes d false b bs d true e (same ∙ deep) (closes-one d b false opens closes) (plain-so 92 b true w))
                                             (yes g text m k DestinationRaw has4 (seen g text m (λ c. c == 92) true q s ss at w)) (λ e i. i)
                                         | false ↦ λ w.
-                                            more false false (counts local) (reads_on [] DestinationRaw) (after-call local) depth
+                                            more false false (counts local) (reads_on [] DestinationRaw) (touched-call local) depth
                                             (raw-goes d false b bs d false e (same ∙ deep) (closes-one d b false opens closes) (plain-so 92 b false w))
                                             (no g text m k DestinationRaw has4 (seen g text m (λ c. c == 92) false q s ss at w)) (λ e i. i)
                                       ] refl

@@ -1,10 +1,11 @@
 -- How a machine reads resources, in small steps: what is found is found from further on, within so many calls.
-use Rattle.mdconstructs_resources.proofs.Prelude.{◌≡◌, ℕ, ◌+◌, ◌*◌, ◌≤◌, ◌==◌, List, [], ◌∷◌, ◌++◌, Bool, true, false, Option, Some, None, refl, sym, ap, ◌∙◌, subst, arith, take, drop, length, slice_get, take_at, drop-next, Event, Enter, Exit, EventName, Name, Next, Retry, Ok, Nok, LabelEndResourceStart, LabelEndResourceBefore, LabelEndResourceOpen, LabelEndResourceDestinationAfter, LabelEndResourceEnd, DestinationEnclosedBefore, DestinationEnclosed, DestinationEnclosedEscape, DestinationRaw, DestinationRawEscape, TitleStart, TitleBegin, TitleAfterEol, TitleInside, TitleEscape, Seat, Given, Text, Byte, Nothing, Choice, Configuration, Local, Sight, sight, byte_of, with_local, counts, end_or, end_place, point_or, row_step, at-front, held, shows, goes-next, IsAfter, after-call, after-more, after-within, Ending, EndsWith, HasRow, HasRows, Leads, Plays, before_class, between_items, leads-row, tested, Found, item_length, class_of, text_byte, Rows, row, when, passes}
+use Rattle.mdconstructs_resources.proofs.Prelude.{◌≡◌, ℕ, ◌+◌, ◌*◌, ◌≤◌, List, [], ◌∷◌, ◌++◌, Bool, true, false, Option, Some, None, refl, sym, ap, ◌∙◌, subst, arith, take, drop, length, slice_get, take_at, drop-next, Event, Enter, Exit, EventName, Name, Next, Retry, Ok, Nok, LabelEndResourceStart, LabelEndResourceBefore, LabelEndResourceOpen, LabelEndResourceDestinationAfter, LabelEndResourceEnd, DestinationEnclosedBefore, DestinationEnclosed, DestinationEnclosedEscape, DestinationRaw, DestinationRawEscape, TitleStart, TitleBegin, TitleAfterEol, TitleInside, TitleEscape, Seat, Given, Text, Byte, Nothing, Choice, Configuration, Local, Sight, sight, byte_of, with_local, counts, end_or, end_place, point_or, row_step, at-front, held, shows, goes-next, Ending, EndsWith, HasRow, HasRows, Leads, Plays, before_class, between_items, leads-row, tested, Found, item_length, class_of, text_byte, Rows, row, when, passes, append_assoc, leaf, LineEnding}
 use Rattle.mdconstructs_machines.specs.Spans.{event}
 use Rattle.mdconstructs_text.specs.TextEvents.{item_events}
 use Rattle.mdconstructs_text.proofs.Texts.Steps.{WithRows}
 use Rattle.mdconstructs_resources.specs.declared.names.TheConstants.{ResourceGapWhite, ResourceGapLine, ResourceGapLineWhite, ResourceDestinationEnd, ResourceTitleWhite, ResourceTitleEnd}
 use Rattle.mdconstructs_resources.specs.ResourceRows.{at_bytes_only, resource_start_rows, resource_before_rows, gap_white_rows, gap_line_rows, gap_line_white_rows, resource_open_rows, enclosed_before_rows, enclosed_rows, enclosed_escape_rows, destination_end_rows, raw_rows, raw_escape_rows, destination_after_rows, title_start_rows, title_begin_rows, title_inside_rows, title_escape_rows, title_line_rows, title_white_rows, title_end_rows, resource_end_rows}
+use Rattle.mdconstructs_resources.proofs.Resources.Touched.{Touches, touched-call, touched-more, touched-within, Leaves, leaves-more}
 
 -- A machine that reads resources: at the names of their states it does what their rows say
 pub record PlaysResources (g : Given) (text : Text) (m : Plays g text) : Type 0 where
@@ -41,6 +42,13 @@ module _ (g : Given) (text : Text) where
   abbrev pub exits_at : EventName → ℕ → Event
   exits_at name q = event g.bytes Exit name (end_place text q)
 
+  -- a line ending is a span of its own
+  pub line-ending-read : (es : List Event) (q : ℕ) (y : Seat) (ys : List Seat) → drop q text.seats ≡ y ∷ ys
+      → (es ++ enters_at LineEnding q ∷ []) ++ exits_past LineEnding q ∷ [] ≡ es ++ leaf g.bytes LineEnding (y ∷ [])
+  line-ending-read es q y ys at =
+      append_assoc es (enters_at LineEnding q ∷ []) (exits_past LineEnding q ∷ [])
+      ∙ ap (λ o. es ++ event g.bytes Enter LineEnding (point_or text.end o) ∷ event g.bytes Exit LineEnding (end_or text.end o) ∷ []) (at-front text.seats q y ys at)
+
 module _ (g : Given) (text : Text) (m : Plays g text) where
   -- the call of a state does what rows say
   pub record Does (k : Configuration Unit Unit) (name : Name) (rows : Rows Unit Unit) : Type 0 where
@@ -56,35 +64,34 @@ module _ (g : Given) (text : Text) (m : Plays g text) where
   no {test} {a} {b} k name has e = record { row_is = has.row_is ∙ tested g text test a b k false e }
 
   -- a byte waits
+  pub here-at : (others : Rows Unit Unit) (name : Name) (stack : List EventName) (q : ℕ) (ended : Bool) (es : List Event) (local : Local Unit Unit) (s : Seat) (ss : List Seat) → drop q text.seats ≡ s ∷ ss
+      → HasRows g text m.step name (at_bytes_only others) → Does (held stack q Byte ended es local) name others
+  here-at others name stack q ended es local s ss at has =
+      let k = held stack q Byte ended es local in
+      record { row_is = has k ∙ ap (λ o. row_step g text k (at_bytes_only others (before_class g text q) (class_of text_byte o))) (ap byte_of (at-front text.seats q s ss at)) }
+
   pub here : (others : Rows Unit Unit) (name : Name) (stack : List EventName) (q : ℕ) (es : List Event) (local : Local Unit Unit) (s : Seat) (ss : List Seat) → drop q text.seats ≡ s ∷ ss
       → HasRows g text m.step name (at_bytes_only others) → Does (held stack q Byte false es local) name others
-  here others name stack q es local s ss at has =
-      let k = held stack q Byte false es local in
-      record { row_is = has k ∙ ap (λ o. row_step g text k (at_bytes_only others (before_class g text q) (class_of text_byte o))) (ap byte_of (at-front text.seats q s ss at)) }
+  here others name stack q es local s ss at has = here-at others name stack q false es local s ss at has
 
   -- and it passes a test, or not
   pub seen : (f : ℕ → Bool) (t : Bool) (q : ℕ) (s : Seat) (ss : List Seat) → drop q text.seats ≡ s ∷ ss → f s.byte ≡ t → passes f (byte_of (slice_get text.seats q)) ≡ t
   seen f t q s ss at h = ap (λ o. passes f (byte_of o)) (at-front text.seats q s ss at) ∙ h
 
--- What is found from a state at a place, where these choices wait: nothing, and then it fails, and the events before it are left; or what begins at a
--- place, and then it ends behind that, with its events
+-- What is found from a state at a place, where these choices wait: nothing, and then it fails within so many calls, and the events before it are left; or
+-- what begins at a place, and then it ends behind that, with its events, and four calls are left for each byte behind it, and one more
 module _ (g : Given) (text : Text) (m : Plays g text) (cs : List Choice) (p : ℕ) (events : List Event) (seats : List Seat) where
   abbrev pub Finds : (n : ℕ) → Configuration Unit Unit → Name → Option Found → Type 0
-  Finds n k name None = (k' : Configuration Unit Unit) × IsAfter n k.local k'.local × (take (length events) k'.events ≡ events) × Leads g text m k cs (Retry name) k' cs Nok
+  Finds n k name None = (k' : Configuration Unit Unit) × Touches n k.local k'.local × (take (length events) k'.events ≡ events) × Leads g text m k cs (Retry name) k' cs Nok
   Finds n k name (Some item) =
-      (after : Local Unit Unit) × IsAfter n k.local after
+      (after : Local Unit Unit) × Leaves (4 * length (drop (item_length item) seats) + 1) n k.local after
       × Leads g text m k cs (Retry name) (between_items (p + item_length item) Nothing false (events ++ item_events g.bytes (item, take (item_length item) seats)) after) cs Ok
 
   -- what is found further on is found here, with the calls up to there
-  pub further : (c n n' : ℕ) (k k' : Configuration Unit Unit) (name next : Name) (o : Option Found) → c + n ≤ n' → IsAfter c k.local k'.local
+  pub further : (c n n' : ℕ) (k k' : Configuration Unit Unit) (name next : Name) (o : Option Found) → c + n ≤ n' → Touches c k.local k'.local
       → Leads g text m k cs (Retry name) k' cs (Retry next) → Finds n k' next o → Finds n' k name o
-  further c n n' k k' name next None fits some leads d = (d.0, after-within (c + n) n' k.local d.0.local fits (after-more c n k.local k'.local d.0.local some d.1), d.2, λ e h. leads e (d.3 e h))
-  further c n n' k k' name next (Some item) fits some leads d = (d.0, after-within (c + n) n' k.local d.0 fits (after-more c n k.local k'.local d.0 some d.1), λ e h. leads e (d.2 e h))
-
-  -- more calls may be counted
-  pub finds-within : (n n' : ℕ) (k : Configuration Unit Unit) (name : Name) (o : Option Found) → n ≤ n' → Finds n k name o → Finds n' k name o
-  finds-within n n' k name None fits d = (d.0, after-within n n' k.local d.0.local fits d.1, d.2, d.3)
-  finds-within n n' k name (Some item) fits d = (d.0, after-within n n' k.local d.0 fits d.1, d.2)
+  further c n n' k k' name next None fits some leads d = (d.0, touched-within (c + n) n' k.local d.0.local fits (touched-more c n k.local k'.local d.0.local some d.1), d.2, λ e h. leads e (d.3 e h))
+  further c n n' k k' name next (Some item) fits some leads d = (d.0, leaves-more (4 * length (drop (item_length item) seats) + 1) c n n' k.local k'.local d.0 fits some d.1, λ e h. leads e (d.2 e h))
 
   -- behind these events
   abbrev pub stands : List EventName → ℕ → List Event → Local Unit Unit → Configuration Unit Unit
@@ -93,12 +100,18 @@ module _ (g : Given) (text : Text) (m : Plays g text) (cs : List Choice) (p : �
   abbrev pub left : List Seat → List EventName → ℕ → List Event → Local Unit Unit → Configuration Unit Unit
   left l stack q x local = shows l stack q (events ++ x) local
 
+  -- the same place, and the same events
+  pub moved : (n : ℕ) (l : List Seat) (stack : List EventName) (q q' : ℕ) (x x' : List Event) (local : Local Unit Unit) (name : Name) (o : Option Found) → q ≡ q' → x ≡ x'
+      → Finds n (left l stack q x local) name o → Finds n (left l stack q' x' local) name o
+  moved n l stack q q' x x' local name o place same d =
+      subst (λ q. Finds n (left l stack q x' local) name o) place (subst (λ x. Finds n (left l stack q x local) name o) same d)
+
   -- a state whose row fails
   pub fails : (n : ℕ) (l : List Seat) (stack : List EventName) (q : ℕ) (x : List Event) (local : Local Unit Unit) (name : Name) → 1 ≤ n
       → HasRow g text m.step (left l stack q x local) name (row [] Nok) → Finds n (left l stack q x local) name None
   fails n l stack q x local name fits has = (
     left l stack q x (counts local),
-    after-within 1 n local (counts local) fits (after-call local),
+    touched-within 1 n local (counts local) fits (touched-call local),
     take_at events x (length events) refl,
     λ e h. leads-row g text m (row [] Nok) (left l stack q x local) cs name e has h,
   )
@@ -109,7 +122,7 @@ module _ (g : Given) (text : Text) (m : Plays g text) (cs : List Choice) (p : �
 
   -- a byte is read, and a state follows
   pub reads : (n n' : ℕ) (stack stack' : List EventName) (q : ℕ) (x y : List Event) (local after : Local Unit Unit) (name next : Name) (s : Seat) (ss : List Seat) (rows : Rows Unit Unit) (o : Option Found) (es : List Event)
-      → drop q text.seats ≡ s ∷ ss → n + 1 ≤ n' → IsAfter 1 local after → Does g text m (stands stack q x local) name rows → es ≡ events ++ y
+      → drop q text.seats ≡ s ∷ ss → n + 1 ≤ n' → Touches 1 local after → Does g text m (stands stack q x local) name rows → es ≡ events ++ y
       → ((e : Ending) → EndsWith g text m (held stack' (q + 1) Nothing false es after) cs (Next next) e → WithRows g text m (stands stack q x local) cs e rows)
       → Finds n (left ss stack' (q + 1) y after) next o → Finds n' (stands stack q x local) name o
   reads n n' stack stack' q x y local after name next s ss rows o es at fits one has made goes d =
@@ -123,7 +136,7 @@ module _ (g : Given) (text : Text) (m : Plays g text) (cs : List Choice) (p : �
 
   -- a state follows at the byte that waits
   pub stays : (n n' : ℕ) (stack stack' : List EventName) (q : ℕ) (x y : List Event) (local after : Local Unit Unit) (name next : Name) (rows : Rows Unit Unit) (o : Option Found) (es : List Event)
-      → n + 1 ≤ n' → IsAfter 1 local after → Does g text m (stands stack q x local) name rows → es ≡ events ++ y
+      → n + 1 ≤ n' → Touches 1 local after → Does g text m (stands stack q x local) name rows → es ≡ events ++ y
       → ((e : Ending) → EndsWith g text m (held stack' q Byte false es after) cs (Retry next) e → WithRows g text m (stands stack q x local) cs e rows)
       → Finds n (stands stack' q y after) next o → Finds n' (stands stack q x local) name o
   stays n n' stack stack' q x y local after name next rows o es fits one has made goes d =

@@ -1,6 +1,6 @@
 -- How a title is read behind its first mark, up to its last one.
 use Rattle.markdown_base.proofs.Facts.Numbers.{unlike}
-use Rattle.mdconstructs_resources.proofs.Prelude.{◌≡◌, ℕ, ◌+◌, ◌*◌, ◌≤◌, ◌<◌, ◌==◌, ◌&&◌, ◌||◌, not, List, [], ◌∷◌, ◌++◌, Bool, true, false, cond, Option, Some, None, refl, sym, ap, ◌∙◌, subst, arith, take, drop, length, option_and_then, drop-next, end-after-one, place-behind, append-nil, append_assoc, and-false, and-true, Event, Enter, Exit, EventName, Data, LineEnding, Resource, ResourceTitle, ResourceTitleString, Name, Nok, Retry, TitleAfterEol, TitleEscape, TitleInside, Seat, end_after, end_place, Given, Text, Choice, Configuration, Local, at-front, end_or, point_or, counts, after-call, Plays, Found, bytes_of, leaf, row, enter, exit}
+use Rattle.mdconstructs_resources.proofs.Prelude.{◌≡◌, ℕ, ◌+◌, ◌*◌, ◌≤◌, ◌==◌, ◌&&◌, ◌||◌, not, List, [], ◌∷◌, ◌++◌, Bool, true, false, cond, Option, Some, None, refl, sym, ap, ◌∙◌, subst, arith, take, drop, length, option_and_then, drop-next, end-after-one, place-behind, append-nil, append_assoc, and-false, and-true, Event, Enter, Exit, EventName, Data, LineEnding, Resource, ResourceTitle, ResourceTitleString, Name, Nok, Retry, TitleAfterEol, TitleEscape, TitleInside, Seat, end_after, end_place, Given, Text, Choice, Configuration, Local, at-front, point_or, counts, Plays, Found, bytes_of, leaf, row, enter, exit, behind-more, or-false}
 use Rattle.mdconstructs_machines.specs.Spans.{event}
 use Rattle.mdconstructs_labels.specs.Labels.{hides}
 use Rattle.mdconstructs_labels.specs.Tails.{bare_behind, behind, is_white, marked_size, one_more}
@@ -8,9 +8,10 @@ use Rattle.mdconstructs_resources.specs.declared.names.TheConstants.{ResourceTit
 use Rattle.mdconstructs_resources.specs.Resource.{is_of_line, string_events}
 use Rattle.mdconstructs_resources.specs.ResourceRows.{ends_line, reads_on, title_escape_rows, title_inside_rows, title_line_rows, title_white_rows}
 use Rattle.mdconstructs_inline_constructs.proofs.HtmlTexts.Pieces.{AllPass, one-passes-more}
-use Rattle.mdconstructs_resources.proofs.Resources.Enclosed.{hidden-no, none-behind, one-behind, plain-so}
+use Rattle.mdconstructs_resources.proofs.Resources.Enclosed.{hidden-no, none-behind, plain-so}
 use Rattle.mdconstructs_resources.proofs.Resources.Lines.{feed-first, line-first, take-more}
-use Rattle.mdconstructs_resources.proofs.Resources.Steps.{PlaysResources, Does, yes, no, here, seen, enters_at, exits_at, exits_past, Finds, stands, left, fails, fails-here, reads, stays}
+use Rattle.mdconstructs_resources.proofs.Resources.Steps.{PlaysResources, Does, yes, no, here, seen, enters_at, exits_at, exits_past, Finds, stands, left, fails, fails-here, reads, stays, line-ending-read}
+use Rattle.mdconstructs_resources.proofs.Resources.Touched.{touched-call}
 
 -- the spans that are open in its string, and in a line of it
 abbrev pub in_string : List EventName
@@ -50,10 +51,6 @@ title_inside mark bare hidden bs = marked_size (opening mark) mark bare hidden b
 abbrev pub title_from : (mark : ℕ) → Place → List ℕ → Option ℕ
 title_from mark a bs = title_inside mark (is_bare a) (is_hidden a) bs
 
-or-false-so : (a : Bool) → (a || false) ≡ a
-or-false-so true = refl
-or-false-so false = refl
-
 -- a byte that closes no title begins one if it is a parenthesis, and the title is in parentheses
 opens : (mark b : ℕ) (t : Bool) → (b == mark) ≡ false → ((b == 40) && (mark == 41)) ≡ t → (b == opening mark) ≡ t
 opens mark b t h nests = elim (mark == 41) as (λ c. ((b == 40) && c) ≡ t → (b == cond c 40 mark) ≡ t) [
@@ -86,7 +83,7 @@ title-blank mark b bs h nests feed =
 escaped-goes : (mark b : ℕ) (bs : List ℕ) (t : Bool) → (b == 10) ≡ t → title_inside mark false true (b ∷ bs) ≡ one_more (title_inside mark t false bs)
 escaped-goes mark b bs t feed =
     λ i. cond (hidden-no mark b i) (Some 0)
-    (cond (hidden-no (opening mark) b i || false) None (one_more (title_inside mark ((ap (λ c. c || false) feed ∙ or-false-so t) i) (hidden-no 92 b i) bs)))
+    (cond (hidden-no (opening mark) b i || false) None (one_more (title_inside mark ((ap (λ c. c || false) feed ∙ or-false t) i) (hidden-no 92 b i) bs)))
 
 -- the mark that closes a title is kept
 abbrev pub mark_kept : Local Unit Unit → ℕ
@@ -162,12 +159,6 @@ module _ (g : Given) (text : Text) (m : Plays g text) (r : PlaysResources g text
           ∙ ap (λ e. z ++ e) (first y ∙ ap (λ e. d ++ e) (feed-first g.bytes s y feed) ∙ sym (append_assoc d line rest)) ∙ sym (append_assoc z (d ++ line) rest);
     }
 
-    line-ending-read : (es : List Event) (q : ℕ) (y : Seat) (ys : List Seat) → drop q text.seats ≡ y ∷ ys
-        → (es ++ enters_at g text LineEnding q ∷ []) ++ exits_past g text LineEnding q ∷ [] ≡ es ++ leaf g.bytes LineEnding (y ∷ [])
-    line-ending-read es q y ys at =
-        append_assoc es (enters_at g text LineEnding q ∷ []) (exits_past g text LineEnding q ∷ [])
-        ∙ ap (λ o. es ++ event g.bytes Enter LineEnding (point_or text.end o) ∷ event g.bytes Exit LineEnding (end_or text.end o) ∷ []) (at-front text.seats q y ys at)
-
     module _ (s : Seat) (ss : List Seat) (onward : ReadsOn ss) (afresh : ReadsLine ss) (j q : ℕ) (local : Local Unit Unit) (some : 1 ≤ j) (is : q ≡ q0 + j) (at : drop q text.seats ≡ s ∷ ss) (there : drop j l0 ≡ s ∷ ss) (kept : mark_kept local ≡ mark) where
       abbrev calls : ℕ
       calls = 4 * length (s ∷ ss) + 2
@@ -190,9 +181,9 @@ module _ (g : Given) (text : Text) (m : Plays g text) (r : PlaysResources g text
         more : (a a' : Place) → Does g text m k (name_of a) (reads_on [] (name_of a')) → (s.byte == 10) ≡ false → title_from mark a (bytes_of (s ∷ ss)) ≡ one_more (title_from mark a' (bytes_of ss))
             → Here a (title_from mark a (bytes_of (s ∷ ss)))
         more a a' has plain goes =
-            subst (λ o. Finds g text m cs p events seats calls k (name_of a) (option_and_then f o)) (sym (ap (behind j) goes ∙ one-behind j (title_from mark a' (bytes_of ss))))
+            subst (λ o. Finds g text m cs p events seats calls k (name_of a) (option_and_then f o)) (sym (ap (behind j) goes ∙ behind-more j (title_from mark a' (bytes_of ss))))
             (reads g text m cs p events seats (4 * length ss + 2) calls in_line in_line q x x local (counts local) (name_of a) (name_of a') s ss (reads_on [] (name_of a')) (found (j + 1) (title_from mark a' (bytes_of ss)))
-            (events ++ x) at (omega arith) (after-call local) has refl (λ e i. i)
+            (events ++ x) at (omega arith) (touched-call local) has refl (λ e i. i)
             (onward a' z s0 (ss0 ++ s ∷ []) (j + 1) (q + 1) (counts local) (omega arith) place (drop-next text.seats q s ss at) (drop-next l0 j s ss there) kept (one-passes-more is_of_line (s0 ∷ ss0) s pass (ap not plain))
             (place-behind text q s (at-front text.seats q s ss at) ∙ sym (end-after-one s0.end ss0 s)) (read-more z (s0 ∷ ss0) j s ss there read)))
 
@@ -205,11 +196,11 @@ module _ (g : Given) (text : Text) (m : Plays g text) (r : PlaysResources g text
             let z' = z ++ (d ++ line) in
             let es = (((events ++ x) ++ exits_at g text Data q ∷ []) ++ enters_at g text LineEnding q ∷ []) ++ exits_past g text LineEnding q ∷ [] in
             let made : es ≡ events ++ (xs ++ z') =
-            line-ending-read ((events ++ x) ++ exits_at g text Data q ∷ []) q s ss at ∙ ap (λ y. y ++ line) (data-closed z s0 ss0 q end)
+            line-ending-read g text ((events ++ x) ++ exits_at g text Data q ∷ []) q s ss at ∙ ap (λ y. y ++ line) (data-closed z s0 ss0 q end)
             ∙ append_assoc events (xs ++ (z ++ d)) line ∙ ap (λ y. events ++ y) (append_assoc xs (z ++ d) line ∙ ap (λ y. xs ++ y) (append_assoc z d line)) in
-            subst (λ o. Finds g text m cs p events seats calls k (name_of a) (option_and_then f o)) (sym (ap (behind j) goes ∙ one-behind j (title_inside mark true false (bytes_of ss))))
+            subst (λ o. Finds g text m cs p events seats calls k (name_of a) (option_and_then f o)) (sym (ap (behind j) goes ∙ behind-more j (title_inside mark true false (bytes_of ss))))
             (reads g text m cs p events seats (4 * length ss + 2) calls in_line in_string q x (xs ++ z') local (counts local) (name_of a) TitleAfterEol s ss (ends_line (exit Data ∷ []) TitleAfterEol)
-            (found (j + 1) (title_inside mark true false (bytes_of ss))) es at (omega arith) (after-call local) has made (λ e i. i)
+            (found (j + 1) (title_inside mark true false (bytes_of ss))) es at (omega arith) (touched-call local) has made (λ e i. i)
             (afresh z' (j + 1) (q + 1) (counts local) (omega arith) place (drop-next text.seats q s ss at) (drop-next l0 j s ss there) kept
             (read-feed z d (s0 ∷ ss0) j s ss there feed read (λ y. line-first g.bytes s0 ss0 (s ∷ y) pass (ap not feed)))))
 
@@ -220,7 +211,7 @@ module _ (g : Given) (text : Text) (m : Plays g text) (r : PlaysResources g text
             subst (λ o. Finds g text m cs p events seats calls k (name_of a) (option_and_then f o)) (sym (ap (behind j) goes ∙ none-behind j))
             (stays g text m cs p events seats (4 * length (s ∷ ss) + 1) calls in_line (Resource ∷ ResourceTitle ∷ []) q x (xs ++ (string_events g.bytes (take j l0) ++ exits_at g text ResourceTitleString q ∷ [])) local (counts local)
             (name_of a) ResourceTitleEnd (row (exit Data ∷ exit ResourceTitleString ∷ []) (Retry ResourceTitleEnd)) (f j)
-            (((events ++ x) ++ exits_at g text Data q ∷ []) ++ exits_at g text ResourceTitleString q ∷ []) (omega arith) (after-call local) has (string-closed z s0 ss0 j q pass end read) (λ e i. i)
+            (((events ++ x) ++ exits_at g text Data q ∷ []) ++ exits_at g text ResourceTitleString q ∷ []) (omega arith) (touched-call local) has (string-closed z s0 ss0 j q pass end read) (λ e i. i)
             (ends j q s ss (counts local) some is at))
 
         refuses : (a : Place) → Does g text m k (name_of a) (row [] Nok) → title_from mark a (bytes_of (s ∷ ss)) ≡ None → Here a (title_from mark a (bytes_of (s ∷ ss)))
@@ -324,9 +315,9 @@ module _ (g : Given) (text : Text) (m : Plays g text) (r : PlaysResources g text
             let made : es ≡ events ++ (xs ++ (z ++ begins s ∷ [])) =
             append_assoc events (xs ++ z) (enters_at g text Data q ∷ []) ∙ ap (λ y. events ++ y) (append_assoc xs z (enters_at g text Data q ∷ []))
             ∙ ap (λ o. events ++ (xs ++ (z ++ event g.bytes Enter Data (point_or text.end o) ∷ []))) (at-front text.seats q s ss at) in
-            subst (λ o. Finds g text m cs p events seats calls k0 TitleAfterEol (option_and_then f o)) (sym (ap (behind j) goes ∙ one-behind j (title_from mark a (bytes_of ss))))
+            subst (λ o. Finds g text m cs p events seats calls k0 TitleAfterEol (option_and_then f o)) (sym (ap (behind j) goes ∙ behind-more j (title_from mark a (bytes_of ss))))
             (reads g text m cs p events seats (4 * length ss + 2) calls in_string in_line q (xs ++ z) (xs ++ (z ++ begins s ∷ [])) local (counts local) TitleAfterEol (name_of a) s ss (reads_on (enter Data ∷ []) (name_of a))
-            (found (j + 1) (title_from mark a (bytes_of ss))) es at (omega arith) (after-call local) has made (λ e i. i)
+            (found (j + 1) (title_from mark a (bytes_of ss))) es at (omega arith) (touched-call local) has made (λ e i. i)
             (onward a z s [] (j + 1) (q + 1) (counts local) (omega arith) place (drop-next text.seats q s ss at) (drop-next l0 j s ss there) kept (ap not plain, tt) (place-behind text q s (at-front text.seats q s ss at))
             (read-more z [] j s ss there read)))
 
@@ -340,7 +331,7 @@ module _ (g : Given) (text : Text) (m : Plays g text) (r : PlaysResources g text
             let whole : string_events g.bytes (take j l0) ≡ z = sym (ap (string_events g.bytes) (append-nil (take j l0))) ∙ read.made [] ∙ append-nil z in
             subst (λ o. Finds g text m cs p events seats calls k0 TitleAfterEol (option_and_then f o)) (sym (ap (behind j) goes ∙ none-behind j))
             (stays g text m cs p events seats (4 * length (s ∷ ss) + 1) calls in_string (Resource ∷ ResourceTitle ∷ []) q (xs ++ z) (xs ++ (string_events g.bytes (take j l0) ++ e ∷ [])) local (counts local) TitleAfterEol ResourceTitleEnd
-            (row (exit ResourceTitleString ∷ []) (Retry ResourceTitleEnd)) (f j) ((events ++ (xs ++ z)) ++ e ∷ []) (omega arith) (after-call local) has
+            (row (exit ResourceTitleString ∷ []) (Retry ResourceTitleEnd)) (f j) ((events ++ (xs ++ z)) ++ e ∷ []) (omega arith) (touched-call local) has
             (append_assoc events (xs ++ z) (e ∷ []) ∙ ap (λ y. events ++ y) (append_assoc xs z (e ∷ []) ∙ ap (λ y. xs ++ (y ++ e ∷ [])) (sym whole))) (λ e i. i)
             (ends j q s ss (counts local) some is at))
 

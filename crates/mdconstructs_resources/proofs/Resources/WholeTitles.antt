@@ -1,5 +1,5 @@
 -- How a whole title is read, with its marks.
-use Rattle.mdconstructs_resources.proofs.Prelude.{◌≡◌, ℕ, suc, ◌+◌, ◌*◌, ◌≤◌, ◌<◌, ◌==◌, ◌&&◌, ◌||◌, not, List, [], ◌∷◌, ◌++◌, Bool, true, false, Option, Some, None, refl, sym, ap, ◌∙◌, subst, arith, take, drop, length, length-drop, option_and_then, drop-next, drop-drop, append-nil, append_assoc, place-behind, Event, Enter, Exit, EventName, Data, LineEnding, Resource, ResourceTitle, ResourceTitleMarker, ResourceTitleString, Retry, LabelEndResourceBefore, TitleAfterEol, TitleBegin, TitleStart, Seat, Given, Text, Choice, Local, at-front, end_or, point_or, counts, after-call, Plays, Found, bytes_of, leaf, row, enter}
+use Rattle.mdconstructs_resources.proofs.Prelude.{◌≡◌, ℕ, suc, ◌+◌, ◌*◌, ◌≤◌, ◌==◌, ◌&&◌, ◌||◌, not, List, [], ◌∷◌, ◌++◌, Bool, true, false, Option, refl, sym, ap, ◌∙◌, subst, arith, take, drop, length, length-drop, option_and_then, drop-next, drop-drop, append-nil, append_assoc, place-behind, Event, Enter, Exit, EventName, Data, LineEnding, Resource, ResourceTitle, ResourceTitleMarker, ResourceTitleString, Retry, LabelEndResourceBefore, TitleAfterEol, TitleBegin, TitleStart, Seat, Given, Text, Choice, Local, at-front, end_or, point_or, counts, Plays, Found, bytes_of, leaf, row, enter, behind-more, behind-none}
 use Rattle.markdown_base.proofs.Facts.Numbers.{unlike}
 use Rattle.mdconstructs_machines.specs.Spans.{event}
 use Rattle.mdconstructs_text.proofs.Plain.Stretches.{span-read}
@@ -7,13 +7,12 @@ use Rattle.mdconstructs_labels.specs.Tails.{behind, one_more}
 use Rattle.mdconstructs_resources.specs.declared.names.TheConstants.{ResourceTitleEnd}
 use Rattle.mdconstructs_resources.specs.Resource.{in_marks, string_events, title_events, title_string}
 use Rattle.mdconstructs_resources.specs.ResourceRows.{begins_title, ends_line, reads_on, title_begin_rows, title_end_rows}
-use Rattle.mdconstructs_inline_constructs.proofs.HtmlTexts.Reads.{written-counts}
-use Rattle.mdconstructs_resources.proofs.Resources.Enclosed.{one-behind}
 use Rattle.mdconstructs_resources.proofs.Resources.Gaps.{in_resource_only, stop_kept}
 use Rattle.mdconstructs_resources.proofs.Resources.Lines.{feed-first}
 use Rattle.mdconstructs_resources.proofs.Resources.Marks.{marks-spelled, unmarked-is, up-to}
 use Rattle.mdconstructs_resources.proofs.Resources.Steps.{PlaysResources, Does, yes, no, here, seen, enters_at, exits_at, exits_past, Finds, stands, left, fails, fails-here, reads, stays}
 use Rattle.mdconstructs_resources.proofs.Resources.Titles.{Place, inside, escape, in_line, in_string, mark_kept, name_of, reads-title, title-ends, title-goes, title-nests, title_from, title_inside}
+use Rattle.mdconstructs_resources.proofs.Resources.Touched.{touched, touched-call}
 
 -- what states share, with the number of what follows white space, or with the mark of a title
 abbrev pub with_stop : ℕ → Local Unit Unit → Local Unit Unit
@@ -29,10 +28,6 @@ in_title = Resource ∷ ResourceTitle ∷ []
 -- what is left begins within
 pub inside-length : (i : ℕ) (l : List Seat) (z : Seat) (zs : List Seat) → drop i l ≡ z ∷ zs → i ≤ length l
 inside-length i l z zs there = omega (arith, length-drop i l, ap length there)
-
-pub zero-behind : (o : Option ℕ) → behind 0 o ≡ o
-zero-behind None = refl
-zero-behind (Some n) = let same : 0 + n ≡ n = omega arith in ap Some same
 
 module _ (g : Given) (text : Text) (m : Plays g text) (r : PlaysResources g text m) (cs : List Choice) (p : ℕ) (events : List Event) (seats : List Seat)
     (q : ℕ) (x : List Event) (y : Seat) (ys : List Seat) (at : drop q text.seats ≡ y ∷ ys) where
@@ -73,7 +68,7 @@ module _ (g : Given) (text : Text) (m : Plays g text) (r : PlaysResources g text
       ∙ ap (λ o. whole ++ event g.bytes Enter ResourceTitleMarker (point_or text.end o) ∷ event g.bytes Exit ResourceTitleMarker (end_or text.end o) ∷ event g.bytes Exit ResourceTitle (end_or text.end o) ∷ []) (at-front text.seats q' z zs there)
       ∙ append_assoc events w tail ∙ ap (λ e. events ++ e) (append_assoc x (title_opened ++ string) tail ∙ ap (λ e. x ++ e) (append_assoc title_opened string tail ∙ sym (title-spelled i z zs inner_at))) in
       reads g text m cs p events seats (4 * length zs + 3) (4 * length (z ∷ zs) + 1) in_title in_resource_only q' w (x ++ title_events g.bytes (take (i + 2) (y ∷ ys))) local after ResourceTitleEnd LabelEndResourceBefore z zs title_end_rows o
-      (((whole ++ enters) ++ exits) ++ ended) there (omega arith) (written-counts local after refl refl) (here g text m title_end_rows ResourceTitleEnd in_title q' whole local z zs there r.title_end) made (λ e i. i) (next after refl)
+      (((whole ++ enters) ++ exits) ++ ended) there (omega arith) (touched local after refl refl) (here g text m title_end_rows ResourceTitleEnd in_title q' whole local z zs there r.title_end) made (λ e i. i) (next after refl)
 
   -- behind its first mark
   title-begins : (mark : ℕ) (f : ℕ → Option Found) (local : Local Unit Unit) (v : Seat) (vs : List Seat) → ys ≡ v ∷ vs → drop (q + 1) text.seats ≡ v ∷ vs → mark_kept local ≡ mark
@@ -108,13 +103,13 @@ module _ (g : Given) (text : Text) (m : Plays g text) (r : PlaysResources g text
       subst (λ e. Finds g text m cs p events seats (4 * length (z ∷ zs) + 1) (stands g text m cs p events seats in_title q' e after) ResourceTitleEnd (f i)) (sym made)
       (title-closed i q' after z zs (f i) is z_at (λ a kept2. next i q' z zs a is z_at kept2)) in
       let onward = λ (t : Bool) (l : Option ℕ) (goes : total ≡ one_more l).
-      sym (ap (option_and_then f) (sym (zero-behind total) ∙ ap (behind 0) goes ∙ one-behind 0 l)) in
+      sym (ap (option_and_then f) (sym (behind-none total) ∙ ap (behind 0) goes ∙ behind-more 0 l)) in
       elim (b == mark) as (λ t. (b == mark) ≡ t → Now) [
         | true ↦ λ e.
             let none : x1 ≡ x ++ (title_opened ++ []) = ap (λ e. x ++ e) (sym (append-nil title_opened)) in
             subst (λ o. Finds g text m cs p events seats calls k TitleBegin (option_and_then f o)) (sym (title-ends mark false b bs e))
             (stays g text m cs p events seats (4 * length (v ∷ vs) + 1) calls in_title in_title q1 x1 (x ++ (title_opened ++ [])) local (counts local) TitleBegin ResourceTitleEnd (row [] (Retry ResourceTitleEnd)) (f 0) (events ++ x1)
-            (omega arith) (after-call local) (yes g text m k TitleBegin has (seen g text m (λ c. c == mark_kept local) true q1 v vs there (ap (λ n. b == n) kept ∙ e))) (ap (λ e. events ++ e) none) (λ e i. i)
+            (omega arith) (touched-call local) (yes g text m k TitleBegin has (seen g text m (λ c. c == mark_kept local) true q1 v vs there (ap (λ n. b == n) kept ∙ e))) (ap (λ e. events ++ e) none) (λ e i. i)
             (title-closed 0 q1 (counts local) v vs (f 0) (omega arith) there (λ a kept2. next 0 q1 v vs a (omega arith) there kept2)))
         | false ↦ λ e.
             let has1 = no g text m k TitleBegin has (seen g text m (λ c. c == mark_kept local) false q1 v vs there (ap (λ n. b == n) kept ∙ e)) in
@@ -137,7 +132,7 @@ module _ (g : Given) (text : Text) (m : Plays g text) (r : PlaysResources g text
                         let goes = title-goes mark false b bs true false e n refl (ap (λ t. t || false) feed) (unlike (λ c. c == 10) 92 refl b feed) in
                         subst (Finds g text m cs p events seats calls k TitleBegin) (onward true (title_inside mark true false bs) goes)
                         (reads g text m cs p events seats (4 * length vs + 2) calls in_title in_string q1 x1 (xs ++ line) local (counts local) TitleBegin TitleAfterEol v vs (ends_line (enter ResourceTitleString ∷ []) TitleAfterEol)
-                        (option_and_then f (behind (0 + 1) (title_inside mark true false bs))) es there (omega arith) (after-call local) (yes g text m k TitleBegin has2 (seen g text m (λ c. c == 10) true q1 v vs there feed)) made (λ e i. i)
+                        (option_and_then f (behind (0 + 1) (title_inside mark true false bs))) es there (omega arith) (touched-call local) (yes g text m k TitleBegin has2 (seen g text m (λ c. c == 10) true q1 v vs there feed)) made (λ e i. i)
                         ((reads-title g text m r cs p events seats q1 (v ∷ vs) mark xs f ends vs).1 line (0 + 1) (q1 + 1) (counts local) (omega arith) (omega arith) next_at refl kept
                         (record { made = λ l. feed-first g.bytes v l feed })))
                     | false ↦ λ plain.
@@ -150,7 +145,7 @@ module _ (g : Given) (text : Text) (m : Plays g text) (r : PlaysResources g text
                         let into = λ (a : Place) (goes : total ≡ one_more (title_from mark a bs)) (does : Does g text m k TitleBegin (reads_on (enter ResourceTitleString ∷ enter Data ∷ []) (name_of a))).
                         subst (Finds g text m cs p events seats calls k TitleBegin) (onward true (title_from mark a bs) goes)
                         (reads g text m cs p events seats (4 * length vs + 2) calls in_title in_line q1 x1 (xs ++ ([] ++ begins ∷ [])) local (counts local) TitleBegin (name_of a) v vs (reads_on (enter ResourceTitleString ∷ enter Data ∷ []) (name_of a))
-                        (option_and_then f (behind (0 + 1) (title_from mark a bs))) es there (omega arith) (after-call local) does made (λ e i. i)
+                        (option_and_then f (behind (0 + 1) (title_from mark a bs))) es there (omega arith) (touched-call local) does made (λ e i. i)
                         ((reads-title g text m r cs p events seats q1 (v ∷ vs) mark xs f ends vs).0 a [] v [] (0 + 1) (q1 + 1) (counts local) (omega arith) (omega arith) next_at refl kept (ap not plain, tt)
                         (place-behind text q1 v (at-front text.seats q1 v vs there)) (record { made = λ l. refl }))) in
                         elim (b == 92) as (λ t. (b == 92) ≡ t → Now) [
@@ -180,7 +175,7 @@ module _ (g : Given) (text : Text) (m : Plays g text) (r : PlaysResources g text
       ∙ ap (λ o. (events ++ x) ++ event g.bytes Enter ResourceTitle (point_or text.end o) ∷ event g.bytes Enter ResourceTitleMarker (point_or text.end o) ∷ event g.bytes Exit ResourceTitleMarker (end_or text.end o) ∷ []) (at-front text.seats q y ys at)
       ∙ append_assoc events x title_opened in
       reads g text m cs p events seats (4 * length ys + 2) (4 * length (y ∷ ys) + 2) in_resource_only in_title q x x1 local after TitleStart TitleBegin y ys (begins_title mark) o ((((events ++ x) ++ enters) ++ marks) ++ exits)
-      at (omega arith) (written-counts local after refl refl) begins made (λ e i. i)
+      at (omega arith) (touched local after refl refl) begins made (λ e i. i)
       (elim ys as (λ l. ys ≡ l → drop q1 text.seats ≡ l → Finds g text m cs p events seats (4 * length l + 2) (left g text m cs p events seats l in_title q1 x1 after) TitleBegin (option_and_then f (title_inside mark false false (bytes_of l)))) [
         | [] ↦ λ same there. fails g text m cs p events seats (4 * 0 + 2) [] in_title q1 x1 after TitleBegin (omega arith) (r.title_begin _)
         | v ∷ vs ↦ λ same there. title-begins mark f after v vs same there refl next
