@@ -1,2 +1,3 @@
 pub mod Resource
+pub mod ResourceLooks
 pub mod ResourceRows

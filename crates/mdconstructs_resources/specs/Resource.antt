@@ -1,6 +1,6 @@
 -- Resources (CommonMark 0.31, 6.3): what stands in parentheses behind the text of an inline link, with no states. Which bytes they have is the
 -- grammar of `mdconstructs_labels`; here is what events they have.
-use Rattle.std.specs.Prelude.{ℕ, ◌+◌, ◌-◌, ◌==◌, not, Bool, cond, List, ◌++◌, take, drop, length, Option, Some, None, option_map}
+use Rattle.std.specs.Prelude.{ℕ, ◌-◌, ◌==◌, not, Bool, cond, List, ◌++◌, take, drop, length, Option, Some, None, option_map}
 use Rattle.std.specs.List.{between, flat_map, prefix_len}
 use Rattle.markdown_base.specs.declared.event.Event.{Event}
 use Rattle.markdown_base.specs.declared.event.Name.{Name as EventName}

@@ -4,15 +4,16 @@ use Rattle.std.specs.Prelude.{option_map}
 use Rattle.mdconstructs_machines.specs.Spans.{event}
 use Rattle.mdconstructs_labels.specs.declared.definitions.Stretch.{Stretch}
 use Rattle.mdconstructs_labels.specs.declared.resources.Resource.{Resource as Parts}
-use Rattle.mdconstructs_labels.specs.Definitions.{end, end_of, stretch_at, title_at}
+use Rattle.mdconstructs_labels.specs.Definitions.{end_of, stretch_at, title_at}
 use Rattle.mdconstructs_labels.specs.Resources.{closed_at}
 use Rattle.mdconstructs_labels.specs.Tails.{begins_with, gap, is_white, marked_size, title_end, title_size}
 use Rattle.mdconstructs_resources.specs.Resource.{behind_destination, gap_events, in_marks, in_resource, resource, title_events}
+use Rattle.mdconstructs_resources.specs.ResourceLooks.{marked_look, tail_look, title_look, title_passed}
 use Rattle.mdconstructs_resources.specs.ResourceRows.{begins_title, destination_after_rows, is_gap_byte, resource_end_rows, stands_before_is, title_start_rows}
 use Rattle.mdconstructs_resources.proofs.Resources.Gaps.{in_resource_only, reads-gap, stop_kept, to_close, to_title}
 use Rattle.mdconstructs_resources.proofs.Resources.Marks.{cut-out, marks-spelled, up-to}
 use Rattle.mdconstructs_resources.proofs.Resources.Steps.{PlaysResources, Does, yes, no, here, seen, enters_at, exits_past, Finds, moved, stands, left, fails, fails-here, stays}
-use Rattle.mdconstructs_resources.proofs.Resources.Titles.{opening, title_inside}
+use Rattle.mdconstructs_resources.proofs.Resources.Titles.{inside_look, opening, title_inside}
 use Rattle.mdconstructs_resources.proofs.Resources.Touched.{touched, touched-call}
 use Rattle.mdconstructs_resources.proofs.Resources.WholeTitles.{reads-whole-title, with_stop}
 
@@ -43,7 +44,14 @@ none-either : (t : Bool) → cond {A = Option Stretch} t None None ≡ None
 none-either true = refl
 none-either false = refl
 
-module _ (g : Given) (text : Text) (m : Plays g text) (r : PlaysResources g text m) (cs : List Choice) (p : ℕ) (events : List Event) (s : Seat) (ss : List Seat) (at : drop p text.seats ≡ s ∷ ss) where
+-- white space at least is passed
+at-least : (a b : ℕ) → a ≤ a + b
+at-least a b = omega arith
+
+tail-least : (bs : List ℕ) → gap bs ≤ tail_look bs
+tail-least bs = let n = gap bs in at-least n (cond (n == 0) 0 (title_look (drop n bs)))
+
+module _ (g : Given) (text : Text) (m : Plays g text) (r : PlaysResources g text m) (cs : List Choice) (p far : ℕ) (events : List Event) (s : Seat) (ss : List Seat) (at : drop p text.seats ≡ s ∷ ss) where
   -- the text from its first parenthesis on
   abbrev pub all : List Seat
   all = s ∷ ss
@@ -64,6 +72,10 @@ module _ (g : Given) (text : Text) (m : Plays g text) (r : PlaysResources g text
 
   pub bytes-left : (n : ℕ) (l : List Seat) → drop n all ≡ l → drop n text_bytes ≡ bytes_of l
   bytes-left n l there = drop-map (λ (y : Seat). y.byte) n all ∙ ap bytes_of there
+
+  -- and behind some that are left
+  pub bytes-behind : (n i : ℕ) (l rest : List Seat) → drop n all ≡ l → drop (n + i) all ≡ rest → drop i (bytes_of l) ≡ bytes_of rest
+  bytes-behind n i l rest there further = drop-map (λ (y : Seat). y.byte) i l ∙ ap bytes_of (ap (drop i) (sym there) ∙ drop-drop i n all ∙ further)
 
   -- a resource with these parts that is closed behind so many bytes, if a parenthesis is there
   abbrev pub parts_to : (destination title : Option Stretch) → (close : ℕ) → Parts
@@ -96,11 +108,11 @@ module _ (g : Given) (text : Text) (m : Plays g text) (r : PlaysResources g text
 
   -- the last parenthesis is read
   closes-whole : (d t : Option Stretch) (close n : ℕ) (inside : List Event) (y : Seat) (ys : List Seat) (local : Local Unit Unit) → 1 ≤ close → 4 * length (y ∷ ys) + 1 ≤ n → drop close all ≡ y ∷ ys → inside ≡ inside_to d t close
-      → Does g text m (stands g text m cs p events all in_resource_only (p + close) (opened ++ inside) local) LabelEndResourceEnd (row (enter ResourceMarker ∷ consume ∷ exit ResourceMarker ∷ exit Resource ∷ []) Ok)
-      → Finds g text m cs p events all n (stands g text m cs p events all in_resource_only (p + close) (opened ++ inside) local) LabelEndResourceEnd (Some (resource (parts_to d t close)))
+      → Does g text m (stands g text m cs p far events all in_resource_only (p + close) (opened ++ inside) local) LabelEndResourceEnd (row (enter ResourceMarker ∷ consume ∷ exit ResourceMarker ∷ exit Resource ∷ []) Ok)
+      → Finds g text m cs p far events all n (stands g text m cs p far events all in_resource_only (p + close) (opened ++ inside) local) LabelEndResourceEnd (Some (resource (parts_to d t close)))
   closes-whole d t close n inside y ys local some fits there made has =
       let q = p + close in
-      let k = stands g text m cs p events all in_resource_only q (opened ++ inside) local in
+      let k = stands g text m cs p far events all in_resource_only q (opened ++ inside) local in
       let whole = events ++ (opened ++ inside) in
       let enters = enters_at g text ResourceMarker q ∷ [] in
       let exits = exits_past g text ResourceMarker q ∷ [] in
@@ -124,39 +136,39 @@ module _ (g : Given) (text : Text) (m : Plays g text) (r : PlaysResources g text
       )
 
   -- So the state at the end of a resource reads it
-  pub reads-close : (d t : Option Stretch) (close n : ℕ) (inside : List Event) (l : List Seat) (local : Local Unit Unit) → 1 ≤ close → 4 * length l + 1 ≤ n → drop close all ≡ l → inside ≡ inside_to d t close
-      → Finds g text m cs p events all n (left g text m cs p events all l in_resource_only (p + close) (opened ++ inside) local) LabelEndResourceEnd (closed d t close)
-  reads-close d t close n inside [] local some fits there made =
-      subst (Finds g text m cs p events all n (left g text m cs p events all [] in_resource_only (p + close) (opened ++ inside) local) LabelEndResourceEnd) (sym (closed-is d t close [] false there refl))
-      (fails g text m cs p events all n [] in_resource_only (p + close) (opened ++ inside) local LabelEndResourceEnd (omega (arith, fits)) (r.ending _))
-  reads-close d t close n inside (y ∷ ys) local some fits there made =
+  pub reads-close : (d t : Option Stretch) (close n : ℕ) (inside : List Event) (l : List Seat) (local : Local Unit Unit) → 1 ≤ close → 4 * length l + 1 ≤ n → drop close all ≡ l → inside ≡ inside_to d t close → (closed d t close ≡ None → p + close ≤ far)
+      → Finds g text m cs p far events all n (left g text m cs p far events all l in_resource_only (p + close) (opened ++ inside) local) LabelEndResourceEnd (closed d t close)
+  reads-close d t close n inside [] local some fits there made reach =
+      subst (Finds g text m cs p far events all n (left g text m cs p far events all [] in_resource_only (p + close) (opened ++ inside) local) LabelEndResourceEnd) (sym (closed-is d t close [] false there refl))
+      (fails g text m cs p far events all n [] in_resource_only (p + close) (opened ++ inside) local LabelEndResourceEnd (left-at close [] there) fits (reach (closed-is d t close [] false there refl)) (r.ending _))
+  reads-close d t close n inside (y ∷ ys) local some fits there made reach =
       let q = p + close in
-      let k = stands g text m cs p events all in_resource_only q (opened ++ inside) local in
+      let k = stands g text m cs p far events all in_resource_only q (opened ++ inside) local in
       let here_at = left-at close (y ∷ ys) there in
       let has = here g text m resource_end_rows LabelEndResourceEnd in_resource_only q (events ++ (opened ++ inside)) local y ys here_at r.ending in
-      elim (y.byte == 41) as (λ c. (y.byte == 41) ≡ c → Finds g text m cs p events all n k LabelEndResourceEnd (closed d t close)) [
+      elim (y.byte == 41) as (λ c. (y.byte == 41) ≡ c → Finds g text m cs p far events all n k LabelEndResourceEnd (closed d t close)) [
         | true ↦ λ e.
-            subst (Finds g text m cs p events all n k LabelEndResourceEnd) (sym (closed-is d t close (y ∷ ys) true there e))
+            subst (Finds g text m cs p far events all n k LabelEndResourceEnd) (sym (closed-is d t close (y ∷ ys) true there e))
             (closes-whole d t close n inside y ys local some fits there made (yes g text m k LabelEndResourceEnd has (seen g text m (λ c. c == 41) true q y ys here_at e)))
         | false ↦ λ e.
-            subst (Finds g text m cs p events all n k LabelEndResourceEnd) (sym (closed-is d t close (y ∷ ys) false there e))
-            (fails-here g text m cs p events all n in_resource_only q (opened ++ inside) local LabelEndResourceEnd y ys (omega (arith, fits)) (no g text m k LabelEndResourceEnd has (seen g text m (λ c. c == 41) false q y ys here_at e)))
+            subst (Finds g text m cs p far events all n k LabelEndResourceEnd) (sym (closed-is d t close (y ∷ ys) false there e))
+            (fails-here g text m cs p far events all n in_resource_only q (opened ++ inside) local LabelEndResourceEnd y ys here_at fits (reach (closed-is d t close (y ∷ ys) false there e)) (no g text m k LabelEndResourceEnd has (seen g text m (λ c. c == 41) false q y ys here_at e)))
       ] refl
 
   -- white space before it
   pub reads-to-close : (d t : Option Stretch) (from : ℕ) (before : List Event) (l : List Seat) (local : Local Unit Unit) → 1 ≤ from → drop from all ≡ l → stop_kept local ≡ 2
-      → before ++ gap_events g.bytes (take (gap (bytes_of l)) l) ≡ inside_to d t (from + gap (bytes_of l))
-      → Finds g text m cs p events all (4 * length l + 3) (left g text m cs p events all l in_resource_only (p + from) (opened ++ before) local) LabelEndResourceBefore (closed d t (from + gap (bytes_of l)))
-  reads-to-close d t from before l local some there kept made =
+      → before ++ gap_events g.bytes (take (gap (bytes_of l)) l) ≡ inside_to d t (from + gap (bytes_of l)) → (closed d t (from + gap (bytes_of l)) ≡ None → p + (from + gap (bytes_of l)) ≤ far)
+      → Finds g text m cs p far events all (4 * length l + 3) (left g text m cs p far events all l in_resource_only (p + from) (opened ++ before) local) LabelEndResourceBefore (closed d t (from + gap (bytes_of l)))
+  reads-to-close d t from before l local some there kept made reach =
       let n = gap (bytes_of l) in
       let white = gap_events g.bytes (take n l) in
-      reads-gap g text m r cs p events all to_close (closed d t (from + n)) l (p + from) (opened ++ before) local (left-at from l there) kept
+      reads-gap g text m r cs p far events all to_close (closed d t (from + n)) l (p + from) (opened ++ before) local (left-at from l there) kept
       (λ q y ys after is y_at.
       let place : q ≡ p + (from + n) = omega (arith, is) in
-      moved g text m cs p events all (4 * length (y ∷ ys) + 2) (y ∷ ys) in_resource_only (p + (from + n)) q (opened ++ (before ++ white)) ((opened ++ before) ++ white) after LabelEndResourceEnd (closed d t (from + n))
+      moved g text m cs p far events all (4 * length (y ∷ ys) + 2) (y ∷ ys) in_resource_only (p + (from + n)) q (opened ++ (before ++ white)) ((opened ++ before) ++ white) after LabelEndResourceEnd (closed d t (from + n))
       (sym place) (sym (append_assoc opened before white))
-      (reads-close d t (from + n) (4 * length (y ∷ ys) + 2) (before ++ white) (y ∷ ys) after (omega (arith, some)) (omega arith) (all-at (from + n) q (y ∷ ys) place y_at) made))
-      (λ q is none. closed-is d t (from + n) [] false (all-at (from + n) q [] (omega (arith, is)) none) refl)
+      (reads-close d t (from + n) (4 * length (y ∷ ys) + 2) (before ++ white) (y ∷ ys) after (omega (arith, some)) (omega arith) (all-at (from + n) q (y ∷ ys) place y_at) made reach))
+      (λ q is none. let open_end = closed-is d t (from + n) [] false (all-at (from + n) q [] (omega (arith, is)) none) refl in (open_end, omega (arith, is, reach open_end)))
 
   -- behind a destination, with the events up to there
   module _ (from size : ℕ) (before : List Event) (some : 1 ≤ from)
@@ -201,7 +213,8 @@ module _ (g : Given) (text : Text) (m : Plays g text) (r : PlaysResources g text
         ∙ sym (spells (Some (stretch_at begin i)) (last + n) (omega arith) ∙ (λ j. before ++ (gap_events g.bytes (cut1 j) ++ (title_events g.bytes (cut2 j) ++ gap_events g.bytes (cut3 j)))))
 
     -- where a title may begin
-    module _ (l : List Seat) (there : drop behind_it all ≡ l) (z : Seat) (zs : List Seat) (z_at : drop (behind_it + gap (bytes_of l)) all ≡ z ∷ zs) (local : Local Unit Unit) where
+    module _ (l : List Seat) (there : drop behind_it all ≡ l) (z : Seat) (zs : List Seat) (z_at : drop (behind_it + gap (bytes_of l)) all ≡ z ∷ zs) (local : Local Unit Unit)
+        (reach : tailed (option_map (stretch_at (behind_it + gap (bytes_of l))) (title_size (bytes_of (z ∷ zs)))) ≡ None → p + (behind_it + gap (bytes_of l)) + title_look (bytes_of (z ∷ zs)) ≤ far) where
       abbrev w : ℕ
       w = gap (bytes_of l)
 
@@ -212,7 +225,7 @@ module _ (g : Given) (text : Text) (m : Plays g text) (r : PlaysResources g text
       begun = before ++ gap_events g.bytes (take w l)
 
       abbrev Here : Option Found → Type 0
-      Here o = Finds g text m cs p events all (4 * length (z ∷ zs) + 2) (stands g text m cs p events all in_resource_only (p + begin) (opened ++ begun) local) TitleStart o
+      Here o = Finds g text m cs p far events all (4 * length (z ∷ zs) + 2) (stands g text m cs p far events all in_resource_only (p + begin) (opened ++ begun) local) TitleStart o
 
       -- a byte that is no parenthesis closes nothing
       untitled-none : (z.byte == 41) ≡ false → tailed None ≡ None
@@ -220,7 +233,7 @@ module _ (g : Given) (text : Text) (m : Plays g text) (r : PlaysResources g text
 
       -- a title that a mark closes
       with-mark : (mark : ℕ) → title_end z.byte ≡ Some mark → opening mark ≡ z.byte → (z.byte == 41) ≡ false
-          → Does g text m (stands g text m cs p events all in_resource_only (p + begin) (opened ++ begun) local) TitleStart (begins_title mark)
+          → Does g text m (stands g text m cs p far events all in_resource_only (p + begin) (opened ++ begun) local) TitleStart (begins_title mark)
           → Here (tailed (option_map (stretch_at begin) (title_size (bytes_of (z ∷ zs)))))
       with-mark mark ends opens other has =
           let f = λ (i : ℕ). tailed (Some (stretch_at begin (i + 2))) in
@@ -228,34 +241,50 @@ module _ (g : Given) (text : Text) (m : Plays g text) (r : PlaysResources g text
           ap (λ o. option_and_then (λ close. option_map (λ n. n + 2) (marked_size z.byte close false false (bytes_of zs))) o) ends ∙ ap (λ b. option_map (λ n. n + 2) (marked_size b mark false false (bytes_of zs))) (sym opens) in
           let found : option_and_then f (title_inside mark false false (bytes_of zs)) ≡ tailed (option_map (stretch_at begin) (option_map (λ n. n + 2) (title_inside mark false false (bytes_of zs)))) =
           elim (title_inside mark false false (bytes_of zs)) as (λ o. option_and_then f o ≡ tailed (option_map (stretch_at begin) (option_map (λ n. n + 2) o))) [ None ↦ sym (untitled-none other) | Some n ↦ refl ] in
+          let look_is : title_look (bytes_of (z ∷ zs)) ≡ title_passed (bytes_of (z ∷ zs)) mark (title_inside mark false false (bytes_of zs)) =
+          ap (λ (o : Option ℕ). elim o as (λ _. ℕ) [ None ↦ 0 | Some close ↦ title_passed (bytes_of (z ∷ zs)) close (marked_size z.byte close false false (bytes_of zs)) ]) ends
+          ∙ ap (λ b. title_passed (bytes_of (z ∷ zs)) mark (marked_size b mark false false (bytes_of zs))) (sym opens) in
           subst Here (found ∙ ap (λ o. tailed (option_map (stretch_at begin) o)) (sym size_is))
-          (reads-whole-title g text m r cs p events all (p + begin) (opened ++ begun) z zs (left-at begin (z ∷ zs) z_at) mark f local has
-          (λ i q v vs after is v_at kept.
+          (reads-whole-title g text m r cs p far events all (p + begin) (opened ++ begun) z zs (left-at begin (z ∷ zs) z_at) mark f local has
+          (λ none.
+          let nothing : tailed (option_map (stretch_at begin) (title_size (bytes_of (z ∷ zs)))) ≡ None = ap (λ o. tailed (option_map (stretch_at begin) o)) (size_is ∙ ap (λ o. option_map (λ n. n + 2) o) none) ∙ untitled-none other in
+          let passed : title_look (bytes_of (z ∷ zs)) ≡ 1 + marked_look z.byte mark false false (bytes_of zs) = look_is ∙ ap (title_passed (bytes_of (z ∷ zs)) mark) none in
+          let same : inside_look mark false false (bytes_of zs) ≡ marked_look z.byte mark false false (bytes_of zs) = ap (λ b. marked_look b mark false false (bytes_of zs)) opens in
+          omega (arith, reach nothing, passed, same))
+          (λ i q v vs after is v_at kept inside_is.
           let last = begin + (i + 2) in
           let title = title_events g.bytes (take (i + 2) (z ∷ zs)) in
           let place : p + last ≡ q + 1 = omega (arith, is) in
           let vs_at : drop last all ≡ vs = all-at last (q + 1) vs (sym place) (drop-next text.seats q v vs v_at) in
-          subst (Finds g text m cs p events all (4 * length vs + 3) (left g text m cs p events all vs in_resource_only (q + 1) ((opened ++ begun) ++ title) after) LabelEndResourceBefore)
+          subst (Finds g text m cs p far events all (4 * length vs + 3) (left g text m cs p far events all vs in_resource_only (q + 1) ((opened ++ begun) ++ title) after) LabelEndResourceBefore)
           (ap (λ bs. closed (Some destination) (Some (stretch_at begin (i + 2))) (last + gap bs)) (sym (bytes-left last vs vs_at)))
-          (moved g text m cs p events all (4 * length vs + 3) vs in_resource_only (p + last) (q + 1) (opened ++ (begun ++ title)) ((opened ++ begun) ++ title) after LabelEndResourceBefore
+          (moved g text m cs p far events all (4 * length vs + 3) vs in_resource_only (p + last) (q + 1) (opened ++ (begun ++ title)) ((opened ++ begun) ++ title) after LabelEndResourceBefore
           (closed (Some destination) (Some (stretch_at begin (i + 2))) (last + gap (bytes_of vs))) place (sym (append_assoc opened begun title))
-          (reads-to-close (Some destination) (Some (stretch_at begin (i + 2))) last (begun ++ title) vs after (omega (arith, some)) vs_at kept (titled-spelled l (i + 2) (z ∷ zs) vs there z_at vs_at)))))
+          (reads-to-close (Some destination) (Some (stretch_at begin (i + 2))) last (begun ++ title) vs after (omega (arith, some)) vs_at kept (titled-spelled l (i + 2) (z ∷ zs) vs there z_at vs_at)
+          (λ none.
+          let nothing : tailed (option_map (stretch_at begin) (title_size (bytes_of (z ∷ zs)))) ≡ None =
+          ap (λ o. tailed (option_map (stretch_at begin) o)) (size_is ∙ ap (λ o. option_map (λ n. n + 2) o) inside_is)
+          ∙ ap (λ bs. closed (Some destination) (Some (stretch_at begin (i + 2))) (last + gap bs)) (bytes-left last vs vs_at) ∙ none in
+          let passed : title_look (bytes_of (z ∷ zs)) ≡ i + 2 + gap (bytes_of vs) =
+          look_is ∙ ap (title_passed (bytes_of (z ∷ zs)) mark) inside_is ∙ ap (λ bs. i + 2 + gap bs) (bytes-behind begin (i + 2) (z ∷ zs) vs z_at vs_at) in
+          omega (arith, reach nothing, passed))))))
 
       -- or none
-      without : title_end z.byte ≡ None → Does g text m (stands g text m cs p events all in_resource_only (p + begin) (opened ++ begun) local) TitleStart (row [] (Retry LabelEndResourceEnd))
+      without : title_end z.byte ≡ None → Does g text m (stands g text m cs p far events all in_resource_only (p + begin) (opened ++ begun) local) TitleStart (row [] (Retry LabelEndResourceEnd))
           → Here (tailed (option_map (stretch_at begin) (title_size (bytes_of (z ∷ zs)))))
       without ends has =
           let size_is : title_size (bytes_of (z ∷ zs)) ≡ None = ap (λ o. option_and_then (λ close. option_map (λ n. n + 2) (marked_size z.byte close false false (bytes_of zs))) o) ends in
           subst Here (sym (untitled-is l there) ∙ ap (λ o. tailed (option_map (stretch_at begin) o)) (sym size_is))
-          (stays g text m cs p events all (4 * length (z ∷ zs) + 1) (4 * length (z ∷ zs) + 2) in_resource_only in_resource_only (p + begin) (opened ++ begun) (opened ++ begun) local (counts local) TitleStart LabelEndResourceEnd
+          (stays g text m cs p far events all (4 * length (z ∷ zs) + 1) (4 * length (z ∷ zs) + 2) in_resource_only in_resource_only (p + begin) (opened ++ begun) (opened ++ begun) local (counts local) TitleStart LabelEndResourceEnd
           (row [] (Retry LabelEndResourceEnd)) (closed (Some destination) None begin) (events ++ (opened ++ begun)) (omega arith) (touched-call local) has refl (λ e i. i)
-          (reads-close (Some destination) None begin (4 * length (z ∷ zs) + 1) begun (z ∷ zs) (counts local) (omega (arith, some)) (omega arith) z_at (untitled-spelled l there)))
+          (reads-close (Some destination) None begin (4 * length (z ∷ zs) + 1) begun (z ∷ zs) (counts local) (omega (arith, some)) (omega arith) z_at (untitled-spelled l there)
+          (λ none. omega (arith, reach (ap (λ o. tailed (option_map (stretch_at begin) o)) size_is ∙ untitled-is l there ∙ none)))))
 
       reads-title-start : Here (tailed (option_map (stretch_at begin) (title_size (bytes_of (z ∷ zs)))))
       reads-title-start =
           let b = z.byte in
           let q = p + begin in
-          let k = stands g text m cs p events all in_resource_only q (opened ++ begun) local in
+          let k = stands g text m cs p far events all in_resource_only q (opened ++ begun) local in
           let here_at = left-at begin (z ∷ zs) z_at in
           let has = here g text m title_start_rows TitleStart in_resource_only q (events ++ (opened ++ begun)) local z zs here_at r.title_start in
           let Now = Here (tailed (option_map (stretch_at begin) (title_size (bytes_of (z ∷ zs))))) in
@@ -294,47 +323,51 @@ module _ (g : Given) (text : Text) (m : Plays g text) (r : PlaysResources g text
     nothing-behind there = let same : behind_it + 0 ≡ behind_it = omega arith in no-title [] there (ap (λ n. drop n all) same ∙ there)
 
     -- So what is behind a destination is read
-    pub reads-behind : (l : List Seat) (local : Local Unit Unit) → drop behind_it all ≡ l
-        → Finds g text m cs p events all (4 * length l + 4) (left g text m cs p events all l in_resource_only (p + behind_it) (opened ++ before) local) LabelEndResourceDestinationAfter (tailed (title_at text_bytes behind_it))
-    reads-behind [] local there =
-        subst (Finds g text m cs p events all (4 * 0 + 4) (left g text m cs p events all [] in_resource_only (p + behind_it) (opened ++ before) local) LabelEndResourceDestinationAfter) (sym (nothing-behind there))
-        (fails g text m cs p events all (4 * 0 + 4) [] in_resource_only (p + behind_it) (opened ++ before) local LabelEndResourceDestinationAfter (omega arith) (r.destination_after _))
-    reads-behind (y ∷ ys) local there =
+    pub reads-behind : (l : List Seat) (local : Local Unit Unit) → drop behind_it all ≡ l → (tailed (title_at text_bytes behind_it) ≡ None → p + behind_it + tail_look (bytes_of l) ≤ far)
+        → Finds g text m cs p far events all (4 * length l + 4) (left g text m cs p far events all l in_resource_only (p + behind_it) (opened ++ before) local) LabelEndResourceDestinationAfter (tailed (title_at text_bytes behind_it))
+    reads-behind [] local there reach =
+        subst (Finds g text m cs p far events all (4 * 0 + 4) (left g text m cs p far events all [] in_resource_only (p + behind_it) (opened ++ before) local) LabelEndResourceDestinationAfter) (sym (nothing-behind there))
+        (fails g text m cs p far events all (4 * 0 + 4) [] in_resource_only (p + behind_it) (opened ++ before) local LabelEndResourceDestinationAfter (left-at behind_it [] there) (omega arith) (omega (arith, reach (nothing-behind there))) (r.destination_after _))
+    reads-behind (y ∷ ys) local there reach =
         let l = y ∷ ys in
         let q = p + behind_it in
         let w = gap (bytes_of l) in
-        let k = stands g text m cs p events all in_resource_only q (opened ++ before) local in
+        let k = stands g text m cs p far events all in_resource_only q (opened ++ before) local in
         let here_at = left-at behind_it l there in
         let title = title_at text_bytes behind_it in
         let has = here g text m destination_after_rows LabelEndResourceDestinationAfter in_resource_only q (events ++ (opened ++ before)) local y ys here_at r.destination_after in
-        elim (is_gap_byte y.byte) as (λ t. is_gap_byte y.byte ≡ t → Finds g text m cs p events all (4 * length l + 4) k LabelEndResourceDestinationAfter (tailed title)) [
+        elim (is_gap_byte y.byte) as (λ t. is_gap_byte y.byte ≡ t → Finds g text m cs p far events all (4 * length l + 4) k LabelEndResourceDestinationAfter (tailed title)) [
           | true ↦ λ e.
               let wide : (w == 0) ≡ false = not-zero w (some-gap y.byte (bytes_of ys) e) in
               let after = with_stop 1 (counts local) in
-              stays g text m cs p events all (4 * length l + 3) (4 * length l + 4) in_resource_only in_resource_only q (opened ++ before) (opened ++ before) local after LabelEndResourceDestinationAfter LabelEndResourceBefore
+              stays g text m cs p far events all (4 * length l + 3) (4 * length l + 4) in_resource_only in_resource_only q (opened ++ before) (opened ++ before) local after LabelEndResourceDestinationAfter LabelEndResourceBefore
               (row (write (stands_before_is 1) ∷ []) (Retry LabelEndResourceBefore)) (tailed title) (events ++ (opened ++ before)) (omega arith) (touched local after refl refl)
               (yes g text m k LabelEndResourceDestinationAfter has (seen g text m is_gap_byte true q y ys here_at e)) refl (λ e i. i)
-              (reads-gap g text m r cs p events all to_title (tailed title) l q (opened ++ before) after here_at refl
+              (reads-gap g text m r cs p far events all to_title (tailed title) l q (opened ++ before) after here_at refl
               (λ q' z zs after is z_at.
               let place : q' ≡ p + (behind_it + w) = omega (arith, is) in
               let left_at : drop (behind_it + w) all ≡ z ∷ zs = all-at (behind_it + w) q' (z ∷ zs) place z_at in
               let title_is : title ≡ option_map (stretch_at (behind_it + w)) (title_size (bytes_of (z ∷ zs))) = title-is l (z ∷ zs) there left_at ∙ ap (λ t. cond t None (option_map (stretch_at (behind_it + w)) (title_size (bytes_of (z ∷ zs))))) wide in
-              subst (λ o. Finds g text m cs p events all (4 * length (z ∷ zs) + 2) (stands g text m cs p events all in_resource_only q' ((opened ++ before) ++ gap_events g.bytes (take w l)) after) TitleStart (tailed o)) (sym title_is)
-              (moved g text m cs p events all (4 * length (z ∷ zs) + 2) (z ∷ zs) in_resource_only (p + (behind_it + w)) q' (opened ++ (before ++ gap_events g.bytes (take w l))) ((opened ++ before) ++ gap_events g.bytes (take w l)) after TitleStart
+              subst (λ o. Finds g text m cs p far events all (4 * length (z ∷ zs) + 2) (stands g text m cs p far events all in_resource_only q' ((opened ++ before) ++ gap_events g.bytes (take w l)) after) TitleStart (tailed o)) (sym title_is)
+              (moved g text m cs p far events all (4 * length (z ∷ zs) + 2) (z ∷ zs) in_resource_only (p + (behind_it + w)) q' (opened ++ (before ++ gap_events g.bytes (take w l))) ((opened ++ before) ++ gap_events g.bytes (take w l)) after TitleStart
               (tailed (option_map (stretch_at (behind_it + w)) (title_size (bytes_of (z ∷ zs))))) (sym place) (sym (append_assoc opened before (gap_events g.bytes (take w l))))
-              (reads-title-start l there z zs left_at after)))
-              (λ q' is none. no-title l there (all-at (behind_it + w) q' [] (omega (arith, is)) none)))
+              (reads-title-start l there z zs left_at after
+              (λ nothing.
+              let passed : tail_look (bytes_of l) ≡ w + title_look (bytes_of (z ∷ zs)) = ap (λ t. w + cond t 0 (title_look (drop w (bytes_of l)))) wide ∙ ap (λ bs. w + title_look bs) (bytes-behind behind_it w l (z ∷ zs) there left_at) in
+              omega (arith, reach (ap tailed title_is ∙ nothing), passed)))))
+              (λ q' is none. let nothing = no-title l there (all-at (behind_it + w) q' [] (omega (arith, is)) none) in (nothing, omega (arith, is, reach nothing, tail-least (bytes_of l)))))
           | false ↦ λ e.
               let none : w ≡ 0 = no-gap y.byte (bytes_of ys) e in
               let same : behind_it + w ≡ behind_it = omega (arith, none) in
               let left_at : drop (behind_it + w) all ≡ l = ap (λ n. drop n all) same ∙ there in
               let title_is : title ≡ None = title-is l l there left_at ∙ ap (λ n. cond (n == 0) None (option_map (stretch_at (behind_it + w)) (title_size (bytes_of l)))) none in
               let bare : before ++ gap_events g.bytes (take w l) ≡ before = ap (λ n. before ++ gap_events g.bytes (take n l)) none ∙ append-nil before in
-              subst (λ o. Finds g text m cs p events all (4 * length l + 4) k LabelEndResourceDestinationAfter o) (sym (ap tailed title_is ∙ untitled-is l there))
-              (stays g text m cs p events all (4 * length l + 3) (4 * length l + 4) in_resource_only in_resource_only q (opened ++ before) (opened ++ before) local (counts local) LabelEndResourceDestinationAfter LabelEndResourceEnd
+              subst (λ o. Finds g text m cs p far events all (4 * length l + 4) k LabelEndResourceDestinationAfter o) (sym (ap tailed title_is ∙ untitled-is l there))
+              (stays g text m cs p far events all (4 * length l + 3) (4 * length l + 4) in_resource_only in_resource_only q (opened ++ before) (opened ++ before) local (counts local) LabelEndResourceDestinationAfter LabelEndResourceEnd
               (row [] (Retry LabelEndResourceEnd)) (closed (Some destination) None (behind_it + w)) (events ++ (opened ++ before)) (omega arith) (touched-call local)
               (no g text m k LabelEndResourceDestinationAfter has (seen g text m is_gap_byte false q y ys here_at e)) refl (λ e i. i)
-              (moved g text m cs p events all (4 * length l + 3) l in_resource_only (p + (behind_it + w)) q (opened ++ (before ++ gap_events g.bytes (take w l))) (opened ++ before) (counts local) LabelEndResourceEnd
+              (moved g text m cs p far events all (4 * length l + 3) l in_resource_only (p + (behind_it + w)) q (opened ++ (before ++ gap_events g.bytes (take w l))) (opened ++ before) (counts local) LabelEndResourceEnd
               (closed (Some destination) None (behind_it + w)) (ap (λ n. p + n) same) (ap (λ e. opened ++ e) bare)
-              (reads-close (Some destination) None (behind_it + w) (4 * length l + 3) (before ++ gap_events g.bytes (take w l)) l (counts local) (omega (arith, some)) (omega arith) left_at (untitled-spelled l there))))
+              (reads-close (Some destination) None (behind_it + w) (4 * length l + 3) (before ++ gap_events g.bytes (take w l)) l (counts local) (omega (arith, some)) (omega arith) left_at (untitled-spelled l there)
+              (λ open_end. omega (arith, same, reach (ap tailed title_is ∙ untitled-is l there ∙ open_end))))))
         ] refl

@@ -1,7 +1,7 @@
 -- How a machine reads resources: if one is there, it is read whole, with its events; if not, what was tried leaves nothing. And within how many calls.
-use Rattle.mdconstructs_resources.proofs.Prelude.{◌≡◌, ℕ, ◌+◌, ◌-◌, ◌*◌, ◌≤◌, ◌==◌, List, [], ◌∷◌, ◌++◌, Bool, true, false, cond, Option, Some, None, refl, sym, ap, ◌∙◌, subst, arith, take, drop, length, length-append, length-drop, length-map, drop-next, append_assoc, take-take, take_at, Event, Enter, Exit, EventName, Resource, ResourceMarker, Next, Retry, Nok, Name, LabelEndResourceBefore, LabelEndResourceStart, Seat, Given, Text, Byte, Nothing, Choice, Configuration, Local, at-front, end_or, held, point_or, shows, counts, goes-next, EndsWith, Leads, Plays, between_items, leads-row, Found, item_length, bytes_of, row, write, enter, consume, exit}
+use Rattle.mdconstructs_resources.proofs.Prelude.{◌≡◌, ℕ, ◌+◌, ◌*◌, ◌==◌, List, [], ◌∷◌, ◌++◌, Bool, true, false, cond, Option, Some, None, refl, sym, ap, ◌∙◌, subst, arith, take, drop, length, length-append, length-drop, length-map, drop-next, append_assoc, take-take, take_at, Event, Enter, Exit, EventName, Resource, ResourceMarker, Next, Retry, Nok, Name, LabelEndResourceBefore, LabelEndResourceStart, Seat, Given, Text, Byte, Nothing, Choice, Configuration, Local, at-front, end_or, held, point_or, shows, counts, goes-next, EndsWith, Leads, Plays, between_items, leads-row, Found, item_length, bytes_of, row, write, enter, consume, exit}
 use Rattle.std.proofs.Math.Seq.{take-length}
-use Rattle.std.specs.Prelude.{option_map}
+use Rattle.std.specs.Prelude.{min, option_map}
 use Rattle.markdown_tokenizer.specs.declared.waiting.Waits.{Waits}
 use Rattle.markdown_tokenizer.specs.declared.waiting.Waits.TheVariants.{End}
 use Rattle.markdown_base.specs.declared.state.State.{State}
@@ -15,17 +15,19 @@ use Rattle.mdconstructs_text.proofs.Texts.Steps.{leads-nok, leads-ok}
 use Rattle.mdconstructs_text.specs.Construct.{Between}
 use Rattle.mdconstructs_text.specs.TextEvents.{item_events}
 use Rattle.mdconstructs_resources.specs.Resource.{resource, resource_grammar}
+use Rattle.mdconstructs_resources.specs.ResourceLooks.{destination_look, resource_look}
 use Rattle.mdconstructs_resources.specs.ResourceRows.{resource_start_rows, resources, stands_before_is}
 use Rattle.mdconstructs_resources.proofs.Resources.Destinations.{reads-inside}
 use Rattle.mdconstructs_resources.proofs.Resources.Ends.{opened}
 use Rattle.mdconstructs_resources.proofs.Resources.Gaps.{in_resource_only}
 use Rattle.mdconstructs_resources.proofs.Resources.Steps.{PlaysResources, Does, yes, no, here-at, seen, enters_at, exits_past, Finds, further}
-use Rattle.mdconstructs_resources.proofs.Resources.Touched.{Touches, touched, touched-after, touched-call, touched-within}
+use Rattle.mdconstructs_resources.proofs.Resources.Touched.{Touches, touched, touched-after, touched-call}
 use Rattle.mdconstructs_resources.proofs.Resources.WholeTitles.{with_stop}
 
--- How many calls are made at a place: four for each byte of the resource that is there; or four for each byte that is left, and one more
+-- How many calls are made at a place: four for each byte of the resource that is there; or four for each byte that is left and that the look passes, and
+-- one more
 abbrev pub calls_for : List ℕ → Option Found → ℕ
-calls_for bytes None = 4 * length bytes + 1
+calls_for bytes None = 4 * min (length bytes) (resource_look bytes) + 1
 calls_for bytes (Some item) = 4 * item_length item
 
 abbrev pub resource_calls : List ℕ → ℕ
@@ -37,29 +39,31 @@ attempt ok nok stack p ended events = record { kind = Attempt; ok = ok; nok = no
 
 module _ (g : Given) (text : Text) (m : Plays g text) (r : PlaysResources g text m) where
   -- ---- what is found
-  fails-start : (cs : List Choice) (p q : ℕ) (waits : Waits) (ended : Bool) (events : List Event) (seats : List Seat) (local : Local Unit Unit) (n : ℕ) → 1 ≤ n
-      → Does g text m (held [] q waits ended events local) LabelEndResourceStart (row [] Nok) → Finds g text m cs p events seats n (held [] q waits ended events local) LabelEndResourceStart None
-  fails-start cs p q waits ended events seats local n fits has = (
-    held [] q waits ended events (counts local),
-    touched-within 1 n local (counts local) fits (touched-call local),
+  fails-start : (cs : List Choice) (p : ℕ) (waits : Waits) (ended : Bool) (events : List Event) (l : List Seat) (local : Local Unit Unit) → drop p text.seats ≡ l
+      → Does g text m (held [] p waits ended events local) LabelEndResourceStart (row [] Nok)
+      → Finds g text m cs p (p + resource_look (bytes_of l)) events l (4 * length l + 1) (held [] p waits ended events local) LabelEndResourceStart None
+  fails-start cs p waits ended events l local at has = (
+    held [] p waits ended events (counts local),
+    record { calls = (let once = touched-call local in omega (arith, once.calls, length-drop p text.seats, ap length at)); same = refl },
     take-length events,
-    λ e h. leads-row g text m (row [] Nok) (held [] q waits ended events local) cs LabelEndResourceStart e has.row_is h,
+    λ e h. leads-row g text m (row [] Nok) (held [] p waits ended events local) cs LabelEndResourceStart e has.row_is h,
   )
 
   -- from a byte on
   reads-byte : (cs : List Choice) (p : ℕ) (ended : Bool) (events : List Event) (local : Local Unit Unit) (s : Seat) (ss : List Seat) → drop p text.seats ≡ s ∷ ss
-      → Finds g text m cs p events (s ∷ ss) (4 * length (s ∷ ss) + 1) (held [] p Byte ended events local) LabelEndResourceStart (resource_grammar.front (bytes_of (s ∷ ss)))
+      → Finds g text m cs p (p + resource_look (bytes_of (s ∷ ss))) events (s ∷ ss) (4 * length (s ∷ ss) + 1) (held [] p Byte ended events local) LabelEndResourceStart (resource_grammar.front (bytes_of (s ∷ ss)))
   reads-byte cs p ended events local s ss at =
       let all = s ∷ ss in
+      let far = p + resource_look (bytes_of all) in
       let n = 4 * length all + 1 in
       let k = held [] p Byte ended events local in
       let size = destination_size (drop (1 + gap (bytes_of ss)) (bytes_of all)) in
       let there = λ (c : Bool). option_map resource (cond c (resource_with (bytes_of all) (1 + gap (bytes_of ss)) size) None) in
       let has = here-at g text m resource_start_rows LabelEndResourceStart [] p ended events local s ss at r.start in
-      elim (s.byte == 40) as (λ t. (s.byte == 40) ≡ t → Finds g text m cs p events all n k LabelEndResourceStart (there t)) [
+      elim (s.byte == 40) as (λ t. (s.byte == 40) ≡ t → Finds g text m cs p far events all n k LabelEndResourceStart (there t)) [
         | true ↦ λ e.
             let after = with_stop 0 (counts local) in
-            let opening = opened g text m r cs p events s ss at in
+            let opening = opened g text m r cs p far events s ss at in
             let enter1 = enters_at g text Resource p ∷ [] in
             let enter2 = enters_at g text ResourceMarker p ∷ [] in
             let exit2 = exits_past g text ResourceMarker p ∷ [] in
@@ -68,14 +72,18 @@ module _ (g : Given) (text : Text) (m : Plays g text) (r : PlaysResources g text
             ∙ ap (λ o. events ++ event g.bytes Enter Resource (point_or text.end o) ∷ event g.bytes Enter ResourceMarker (point_or text.end o) ∷ event g.bytes Exit ResourceMarker (end_or text.end o) ∷ []) (at-front text.seats p s ss at) in
             let rows = row (write (stands_before_is 0) ∷ enter Resource ∷ enter ResourceMarker ∷ consume ∷ exit ResourceMarker ∷ []) (Next LabelEndResourceBefore) in
             let does = yes g text m k LabelEndResourceStart has (seen g text m (λ c. c == 40) true p s ss at e) in
-            further g text m cs p events all 1 (4 * length ss + 3) n k (shows ss in_resource_only (p + 1) (events ++ opening) after) LabelEndResourceStart LabelEndResourceBefore (there true) (omega arith) (touched local after refl refl)
+            further g text m cs p far events all 1 (4 * length ss + 3) n k (shows ss in_resource_only (p + 1) (events ++ opening) after) LabelEndResourceStart LabelEndResourceBefore (there true) (omega arith) (touched local after refl refl)
             (λ es h.
             leads-row g text m rows k cs LabelEndResourceStart es does.row_is
             (subst (λ l. EndsWith g text m (held in_resource_only (p + 1) Nothing false l after) cs (Next LabelEndResourceBefore) es) (sym made)
             (goes-next g text m ss in_resource_only (p + 1) (events ++ opening) after cs LabelEndResourceBefore (drop-next text.seats p s ss at) es h)))
-            (reads-inside g text m r cs p events s ss at after refl)
+            (reads-inside g text m r cs p far events s ss at after refl
+            (λ none.
+            let from = 1 + gap (bytes_of ss) in
+            let look : resource_look (bytes_of all) ≡ from + destination_look (drop from (bytes_of all)) = ap (λ c. cond c (from + destination_look (drop from (bytes_of all))) 0) e in
+            omega (arith, look)))
         | false ↦ λ e.
-            fails-start cs p p Byte ended events all local n (omega arith) (no g text m k LabelEndResourceStart has (seen g text m (λ c. c == 40) false p s ss at e))
+            fails-start cs p Byte ended events all local at (no g text m k LabelEndResourceStart has (seen g text m (λ c. c == 40) false p s ss at e))
       ] refl
 
   -- ---- and what follows it
@@ -91,17 +99,17 @@ module _ (g : Given) (text : Text) (m : Plays g text) (r : PlaysResources g text
       (between_items (p + item_length item) Nothing false (events ++ item_events g.bytes (item, take (item_length item) seats)) after) cs ok
 
   follows : (ok nok : State) (stack : List EventName) (place : ℕ) (ended : Bool) (before : List Event) (cs : List Choice) (p : ℕ) (events : List Event) (seats : List Seat) (k : Configuration Unit Unit) (o : Option Found)
-      → ((es : List Event) → take (length events) es ≡ events → take (length before) es ≡ before)
-      → Finds g text m (attempt ok nok stack place ended before ∷ cs) p events seats (4 * length seats + 1) k LabelEndResourceStart o → Follows (calls_for (bytes_of seats) o) ok nok stack place ended before cs p events seats k o
-  follows ok nok stack place ended before cs p events seats k None kept d =
+      → drop p text.seats ≡ seats → ((es : List Event) → take (length events) es ≡ events → take (length before) es ≡ before)
+      → Finds g text m (attempt ok nok stack place ended before ∷ cs) p (p + resource_look (bytes_of seats)) events seats (4 * length seats + 1) k LabelEndResourceStart o → Follows (calls_for (bytes_of seats) o) ok nok stack place ended before cs p events seats k o
+  follows ok nok stack place ended before cs p events seats k None at kept d =
       let now = d.0 in
       let c = attempt ok nok stack place ended before in
       let same : length (bytes_of seats) ≡ length seats = length-map seats (λ y. y.byte) in (
         now.local,
-        touched-within (4 * length seats + 1) (4 * length (bytes_of seats) + 1) k.local now.local (omega (arith, same)) d.1,
+        record { calls = omega (arith, same, d.1.calls, length-drop p text.seats, ap length at); same = d.1.same },
         λ e h. d.3 e (leads-nok g text m now c cs e (subst (λ es. EndsWith g text m (held stack place Nothing ended es now.local) cs nok e) (sym (kept now.events d.2)) h)),
       )
-  follows ok nok stack place ended before cs p events seats k (Some item) kept d =
+  follows ok nok stack place ended before cs p events seats k (Some item) at kept d =
       let size = item_length item in
       let after = d.0 in
       let c = attempt ok nok stack place ended before in (
@@ -119,10 +127,10 @@ module _ (g : Given) (text : Text) (m : Plays g text) (r : PlaysResources g text
       sym (take-take (length before) (length events) es (omega (arith, length-append before more))) ∙ ap (take (length before)) h ∙ take_at before more (length before) refl in
       elim l as (λ l. drop p text.seats ≡ l → Follows (resource_calls (bytes_of l)) ok nok stack place ended before cs p events l (shows l [] p events local) (resource_grammar.front (bytes_of l))) [
         | [] ↦ λ at.
-            follows ok nok stack place ended before cs p events [] (shows [] [] p events local) None kept
-            (fails-start (attempt ok nok stack place ended before ∷ cs) p p End true events [] local 1 (omega arith) (record { row_is = r.start (shows [] [] p events local) }))
+            follows ok nok stack place ended before cs p events [] (shows [] [] p events local) None at kept
+            (fails-start (attempt ok nok stack place ended before ∷ cs) p End true events [] local at (record { row_is = r.start (shows [] [] p events local) }))
         | s ∷ ss ↦ λ at.
-            follows ok nok stack place ended before cs p events (s ∷ ss) (shows (s ∷ ss) [] p events local) (resource_grammar.front (bytes_of (s ∷ ss))) kept
+            follows ok nok stack place ended before cs p events (s ∷ ss) (shows (s ∷ ss) [] p events local) (resource_grammar.front (bytes_of (s ∷ ss))) at kept
             (reads-byte (attempt ok nok stack place ended before ∷ cs) p false events local s ss at)
       ] at
 
@@ -136,5 +144,5 @@ module _ (g : Given) (text : Text) (m : Plays g text) (r : PlaysResources g text
   resources-read-in names nok p ended events local s ss at first =
       let all = s ∷ ss in
       let k = between_items p Byte ended events local in
-      let d = follows (Next names.home) (Next nok) [] p ended events [] p events all k (resource_grammar.front (bytes_of all)) (λ es h. h) (reads-byte (outer names.home nok p ended events ∷ []) p ended events local s ss at) in
+      let d = follows (Next names.home) (Next nok) [] p ended events [] p events all k (resource_grammar.front (bytes_of all)) at (λ es h. h) (reads-byte (outer names.home nok p ended events ∷ []) p ended events local s ss at) in
       in-frame names (resource_calls (bytes_of all)) nok p ended events all k (resource_grammar.front (bytes_of all)) d

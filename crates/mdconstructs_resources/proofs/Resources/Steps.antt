@@ -1,11 +1,11 @@
 -- How a machine reads resources, in small steps: what is found is found from further on, within so many calls.
-use Rattle.mdconstructs_resources.proofs.Prelude.{◌≡◌, ℕ, ◌+◌, ◌*◌, ◌≤◌, List, [], ◌∷◌, ◌++◌, Bool, true, false, Option, Some, None, refl, sym, ap, ◌∙◌, subst, arith, take, drop, length, slice_get, take_at, drop-next, Event, Enter, Exit, EventName, Name, Next, Retry, Ok, Nok, LabelEndResourceStart, LabelEndResourceBefore, LabelEndResourceOpen, LabelEndResourceDestinationAfter, LabelEndResourceEnd, DestinationEnclosedBefore, DestinationEnclosed, DestinationEnclosedEscape, DestinationRaw, DestinationRawEscape, TitleStart, TitleBegin, TitleAfterEol, TitleInside, TitleEscape, Seat, Given, Text, Byte, Nothing, Choice, Configuration, Local, Sight, sight, byte_of, with_local, counts, end_or, end_place, point_or, row_step, at-front, held, shows, goes-next, Ending, EndsWith, HasRow, HasRows, Leads, Plays, before_class, between_items, leads-row, tested, Found, item_length, class_of, text_byte, Rows, row, when, passes, append_assoc, leaf, LineEnding}
+use Rattle.mdconstructs_resources.proofs.Prelude.{◌≡◌, ℕ, ◌+◌, ◌-◌, ◌*◌, ◌≤◌, List, [], ◌∷◌, ◌++◌, Bool, true, false, Option, Some, None, refl, sym, ap, ◌∙◌, subst, arith, take, drop, length, length-drop, slice_get, take_at, drop-next, Event, Enter, Exit, EventName, Name, Next, Retry, Ok, Nok, LabelEndResourceStart, LabelEndResourceBefore, LabelEndResourceOpen, LabelEndResourceDestinationAfter, LabelEndResourceEnd, DestinationEnclosedBefore, DestinationEnclosed, DestinationEnclosedEscape, DestinationRaw, DestinationRawEscape, TitleStart, TitleBegin, TitleAfterEol, TitleInside, TitleEscape, Seat, Given, Text, Byte, Nothing, Choice, Configuration, Local, Sight, sight, byte_of, with_local, counts, end_or, end_place, point_or, row_step, at-front, held, shows, goes-next, Ending, EndsWith, HasRow, HasRows, Leads, Plays, before_class, between_items, leads-row, tested, Found, item_length, class_of, text_byte, Rows, row, when, passes, append_assoc, leaf, LineEnding}
 use Rattle.mdconstructs_machines.specs.Spans.{event}
 use Rattle.mdconstructs_text.specs.TextEvents.{item_events}
 use Rattle.mdconstructs_text.proofs.Texts.Steps.{WithRows}
 use Rattle.mdconstructs_resources.specs.declared.names.TheConstants.{ResourceGapWhite, ResourceGapLine, ResourceGapLineWhite, ResourceDestinationEnd, ResourceTitleWhite, ResourceTitleEnd}
 use Rattle.mdconstructs_resources.specs.ResourceRows.{at_bytes_only, resource_start_rows, resource_before_rows, gap_white_rows, gap_line_rows, gap_line_white_rows, resource_open_rows, enclosed_before_rows, enclosed_rows, enclosed_escape_rows, destination_end_rows, raw_rows, raw_escape_rows, destination_after_rows, title_start_rows, title_begin_rows, title_inside_rows, title_escape_rows, title_line_rows, title_white_rows, title_end_rows, resource_end_rows}
-use Rattle.mdconstructs_resources.proofs.Resources.Touched.{Touches, touched-call, touched-more, touched-within, Leaves, leaves-more}
+use Rattle.mdconstructs_resources.proofs.Resources.Touched.{Touches, touched-call, Leaves, leaves-more}
 
 -- A machine that reads resources: at the names of their states it does what their rows say
 pub record PlaysResources (g : Given) (text : Text) (m : Plays g text) : Type 0 where
@@ -78,11 +78,12 @@ module _ (g : Given) (text : Text) (m : Plays g text) where
   pub seen : (f : ℕ → Bool) (t : Bool) (q : ℕ) (s : Seat) (ss : List Seat) → drop q text.seats ≡ s ∷ ss → f s.byte ≡ t → passes f (byte_of (slice_get text.seats q)) ≡ t
   seen f t q s ss at h = ap (λ o. passes f (byte_of o)) (at-front text.seats q s ss at) ∙ h
 
--- What is found from a state at a place, where these choices wait: nothing, and then it fails within so many calls, and the events before it are left; or
--- what begins at a place, and then it ends behind that, with its events, and four calls are left for each byte behind it, and one more
-module _ (g : Given) (text : Text) (m : Plays g text) (cs : List Choice) (p : ℕ) (events : List Event) (seats : List Seat) where
+-- What is found from a state at a place, where these choices wait: nothing, and then it fails, and the events before it are left, and four calls are left
+-- for each byte from the place on that no look passes; or what begins at a place, and then it ends behind that, with its events, and four calls are left
+-- for each byte behind it, and one more
+module _ (g : Given) (text : Text) (m : Plays g text) (cs : List Choice) (p far : ℕ) (events : List Event) (seats : List Seat) where
   abbrev pub Finds : (n : ℕ) → Configuration Unit Unit → Name → Option Found → Type 0
-  Finds n k name None = (k' : Configuration Unit Unit) × Touches n k.local k'.local × (take (length events) k'.events ≡ events) × Leads g text m k cs (Retry name) k' cs Nok
+  Finds n k name None = (k' : Configuration Unit Unit) × Leaves (4 * (length text.seats - far)) n k.local k'.local × (take (length events) k'.events ≡ events) × Leads g text m k cs (Retry name) k' cs Nok
   Finds n k name (Some item) =
       (after : Local Unit Unit) × Leaves (4 * length (drop (item_length item) seats) + 1) n k.local after
       × Leads g text m k cs (Retry name) (between_items (p + item_length item) Nothing false (events ++ item_events g.bytes (item, take (item_length item) seats)) after) cs Ok
@@ -90,7 +91,7 @@ module _ (g : Given) (text : Text) (m : Plays g text) (cs : List Choice) (p : �
   -- what is found further on is found here, with the calls up to there
   pub further : (c n n' : ℕ) (k k' : Configuration Unit Unit) (name next : Name) (o : Option Found) → c + n ≤ n' → Touches c k.local k'.local
       → Leads g text m k cs (Retry name) k' cs (Retry next) → Finds n k' next o → Finds n' k name o
-  further c n n' k k' name next None fits some leads d = (d.0, touched-within (c + n) n' k.local d.0.local fits (touched-more c n k.local k'.local d.0.local some d.1), d.2, λ e h. leads e (d.3 e h))
+  further c n n' k k' name next None fits some leads d = (d.0, leaves-more (4 * (length text.seats - far)) c n n' k.local k'.local d.0.local fits some d.1, d.2, λ e h. leads e (d.3 e h))
   further c n n' k k' name next (Some item) fits some leads d = (d.0, leaves-more (4 * length (drop (item_length item) seats) + 1) c n n' k.local k'.local d.0 fits some d.1, λ e h. leads e (d.2 e h))
 
   -- behind these events
@@ -106,19 +107,19 @@ module _ (g : Given) (text : Text) (m : Plays g text) (cs : List Choice) (p : �
   moved n l stack q q' x x' local name o place same d =
       subst (λ q. Finds n (left l stack q x' local) name o) place (subst (λ x. Finds n (left l stack q x local) name o) same d)
 
-  -- a state whose row fails
-  pub fails : (n : ℕ) (l : List Seat) (stack : List EventName) (q : ℕ) (x : List Event) (local : Local Unit Unit) (name : Name) → 1 ≤ n
+  -- a state whose row fails, no further than that place
+  pub fails : (n : ℕ) (l : List Seat) (stack : List EventName) (q : ℕ) (x : List Event) (local : Local Unit Unit) (name : Name) → drop q text.seats ≡ l → 4 * length l + 1 ≤ n → q ≤ far
       → HasRow g text m.step (left l stack q x local) name (row [] Nok) → Finds n (left l stack q x local) name None
-  fails n l stack q x local name fits has = (
+  fails n l stack q x local name at fits within has = (
     left l stack q x (counts local),
-    touched-within 1 n local (counts local) fits (touched-call local),
+    record { calls = (let once = touched-call local in omega (arith, once.calls, fits, within, length-drop q text.seats, ap length at)); same = refl },
     take_at events x (length events) refl,
     λ e h. leads-row g text m (row [] Nok) (left l stack q x local) cs name e has h,
   )
 
-  pub fails-here : (n : ℕ) (stack : List EventName) (q : ℕ) (x : List Event) (local : Local Unit Unit) (name : Name) (s : Seat) (ss : List Seat) → 1 ≤ n
+  pub fails-here : (n : ℕ) (stack : List EventName) (q : ℕ) (x : List Event) (local : Local Unit Unit) (name : Name) (s : Seat) (ss : List Seat) → drop q text.seats ≡ s ∷ ss → 4 * length (s ∷ ss) + 1 ≤ n → q ≤ far
       → Does g text m (stands stack q x local) name (row [] Nok) → Finds n (stands stack q x local) name None
-  fails-here n stack q x local name s ss fits has = fails n (s ∷ ss) stack q x local name fits has.row_is
+  fails-here n stack q x local name s ss at fits within has = fails n (s ∷ ss) stack q x local name at fits within has.row_is
 
   -- a byte is read, and a state follows
   pub reads : (n n' : ℕ) (stack stack' : List EventName) (q : ℕ) (x y : List Event) (local after : Local Unit Unit) (name next : Name) (s : Seat) (ss : List Seat) (rows : Rows Unit Unit) (o : Option Found) (es : List Event)

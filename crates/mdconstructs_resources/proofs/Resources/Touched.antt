@@ -1,5 +1,5 @@
 -- What states share while a resource is read: a few fields are written, and all others stay as they are.
-use Rattle.mdconstructs_resources.proofs.Prelude.{◌≡◌, ℕ, ◌+◌, ◌≤◌, List, [], ◌∷◌, Bool, true, false, cond, refl, ◌∙◌, ap, arith, prefix_len, Seat, Local, counts, IsAfter, after-call, size_b, with_b, passed, bytes_of, remembered, spent}
+use Rattle.mdconstructs_resources.proofs.Prelude.{◌≡◌, ℕ, ◌+◌, ◌≤◌, List, [], ◌∷◌, Bool, true, false, cond, refl, ◌∙◌, ap, arith, prefix_len, Seat, Local, counts, IsAfter, after-call, with_b, passed, bytes_of, remembered, spent}
 
 -- All that states share, but for what a resource may write: the mark that closes its title, the number of what white space stands before, how many
 -- parentheses of its destination are open, and the calls that are counted
@@ -10,10 +10,6 @@ untouched local = record local { tokenize_state = record local.tokenize_state { 
 pub record Touches (n : ℕ) (local after : Local Unit Unit) : Type 0 where
   pub calls : spent after ≤ spent local + n
   pub same : untouched after ≡ untouched local
-
--- more calls may be counted
-pub touched-within : (n n' : ℕ) (local after : Local Unit Unit) → n ≤ n' → Touches n local after → Touches n' local after
-touched-within n n' local after h is = record { calls = omega (arith, h, is.calls); same = is.same }
 
 -- one after another
 pub touched-more : (n n' : ℕ) (local between after : Local Unit Unit) → Touches n local between → Touches n' between after → Touches (n + n') local after

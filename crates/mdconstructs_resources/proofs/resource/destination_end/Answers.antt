@@ -1,4 +1,4 @@
-use Rattle.mdconstructs_resources.proofs.Prelude.{◌≡◌, [], ◌∷◌, Some, refl, sym, ap, ◌∙◌, ResourceDestination, ResourceDestinationLiteral, ResourceDestinationLiteralMarker, can-exit, then, class_of, enter, exit, consume, text_byte}
+use Rattle.mdconstructs_resources.proofs.Prelude.{[], ◌∷◌, Some, refl, sym, ap, ◌∙◌, ResourceDestination, ResourceDestinationLiteral, ResourceDestinationLiteralMarker, can-exit, then, class_of, enter, exit, consume, text_byte}
 use Rattle.mdconstructs_resources.specs.ResourceRows.{destination_end}
 use Rattle.mdconstructs_resources.proofs.resource.destination_end.Goals as goal
 

@@ -1,4 +1,4 @@
-use Rattle.mdconstructs_resources.proofs.Prelude.{◌≡◌, [], ◌∷◌, Some, refl, sym, ap, ◌∙◌, SpaceOrTab, exit, byte-waits, can-mark, class_of, text_byte}
+use Rattle.mdconstructs_resources.proofs.Prelude.{[], ◌∷◌, Some, refl, sym, ap, ◌∙◌, SpaceOrTab, exit, byte-waits, can-mark, class_of, text_byte}
 use Rattle.mdconstructs_resources.specs.ResourceRows.{gap_white}
 use Rattle.mdconstructs_resources.proofs.resource.gap_white.Goals as goal
 

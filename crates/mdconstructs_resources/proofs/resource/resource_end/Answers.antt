@@ -1,4 +1,4 @@
-use Rattle.mdconstructs_resources.proofs.Prelude.{◌≡◌, [], ◌∷◌, Some, refl, sym, ap, ◌∙◌, ResourceMarker, Resource, can-exit, class_of, consume, enter, exit, text_byte}
+use Rattle.mdconstructs_resources.proofs.Prelude.{[], ◌∷◌, Some, refl, sym, ap, ◌∙◌, ResourceMarker, Resource, can-exit, class_of, consume, enter, exit, text_byte}
 use Rattle.mdconstructs_resources.specs.ResourceRows.{resource_end}
 use Rattle.mdconstructs_resources.proofs.resource.resource_end.Goals as goal
 

@@ -1,4 +1,4 @@
-use Rattle.mdconstructs_resources.proofs.Prelude.{◌≡◌, [], ◌∷◌, Some, refl, sym, ap, ◌∙◌, ResourceDestination, ResourceDestinationLiteral, enter, then, byte-waits, can-mark, class_of, text_byte}
+use Rattle.mdconstructs_resources.proofs.Prelude.{[], ◌∷◌, Some, refl, sym, ap, ◌∙◌, ResourceDestination, ResourceDestinationLiteral, enter, then, byte-waits, can-mark, class_of, text_byte}
 use Rattle.mdconstructs_resources.specs.ResourceRows.{resource_open}
 use Rattle.mdconstructs_resources.proofs.resource.resource_open.Goals as goal
 

@@ -1,4 +1,4 @@
-use Rattle.mdconstructs_resources.proofs.Prelude.{◌≡◌, [], ◌∷◌, Some, refl, sym, ap, ◌∙◌, ResourceTitle, ResourceTitleMarker, byte-waits, can-exit, can-mark, class_of, enter, exit, consume, write, text_byte}
+use Rattle.mdconstructs_resources.proofs.Prelude.{[], ◌∷◌, Some, refl, sym, ap, ◌∙◌, ResourceTitle, ResourceTitleMarker, byte-waits, can-exit, can-mark, class_of, enter, exit, consume, write, text_byte}
 use Rattle.mdconstructs_tables.specs.Markers.{marked}
 use Rattle.mdconstructs_resources.specs.ResourceRows.{stands_before_is, title_end}
 use Rattle.mdconstructs_resources.proofs.resource.title_end.Goals as goal

@@ -1,4 +1,4 @@
-use Rattle.mdconstructs_resources.proofs.Prelude.{◌≡◌, [], ◌∷◌, Some, refl, sym, ap, ◌∙◌, Data, exit, byte-waits, can-mark, class_of, text_byte}
+use Rattle.mdconstructs_resources.proofs.Prelude.{[], ◌∷◌, Some, refl, sym, ap, ◌∙◌, Data, exit, byte-waits, can-mark, class_of, text_byte}
 use Rattle.mdconstructs_resources.specs.ResourceRows.{title_inside}
 use Rattle.mdconstructs_resources.proofs.resource.title_inside.Goals as goal
 

@@ -1,4 +1,4 @@
-use Rattle.mdconstructs_resources.proofs.Prelude.{◌≡◌, [], ◌∷◌, Some, refl, sym, ap, ◌∙◌, ResourceTitle, enter, then, write, byte-waits, can-mark, class_of, text_byte}
+use Rattle.mdconstructs_resources.proofs.Prelude.{[], ◌∷◌, Some, refl, sym, ap, ◌∙◌, ResourceTitle, enter, then, write, byte-waits, can-mark, class_of, text_byte}
 use Rattle.mdconstructs_resources.specs.ResourceRows.{title_closes_with, title_start}
 use Rattle.mdconstructs_resources.proofs.resource.title_start.Goals as goal
 
