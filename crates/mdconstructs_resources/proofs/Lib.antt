@@ -1,2 +1,3 @@
 mod Prelude
+pub mod Looks
 pub mod Resources

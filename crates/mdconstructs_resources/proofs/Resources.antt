@@ -1,14 +1,12 @@
 -- Resources, as a machine reads them.
 pub mod Destinations
 pub mod Enclosed
-pub mod EnclosedLooks
 pub mod Ends
 pub mod Examples
 pub mod Gaps
 pub mod Lines
 pub mod Marks
 pub mod Raw
-pub mod RawLooks
 pub mod Readings
 pub mod Steps
 pub mod Titles

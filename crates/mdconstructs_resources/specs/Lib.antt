@@ -1,3 +1,4 @@
+pub mod Laws
 pub mod Resource
 pub mod ResourceLooks
 pub mod ResourceRows

@@ -64,20 +64,3 @@ behind_brackets part (b ∷ bs) = cond (b == 93) (part bs) 0 + behind_brackets p
 -- A look may be made at each: how many bytes all of them pass
 abbrev pub looks : List ℕ → ℕ
 looks text = behind_brackets resource_look text
-
--- how many of them in destinations without marks
-abbrev pub raw_part : List ℕ → ℕ
-raw_part text = cond (begins_with 40 text) (raw_look 0 false (drop (1 + gap (drop 1 text)) text)) 0
-
-abbrev pub raw_looks : List ℕ → ℕ
-raw_looks text = behind_brackets raw_part text
-
--- and in those with marks, with the first mark
-abbrev pub marked_part : List ℕ → ℕ
-marked_part text = cond (begins_with 60 text) (1 + enclosed_look false (drop 1 text)) 0
-
-abbrev pub enclosed_part : List ℕ → ℕ
-enclosed_part text = cond (begins_with 40 text) (marked_part (drop (1 + gap (drop 1 text)) text)) 0
-
-abbrev pub enclosed_looks : List ℕ → ℕ
-enclosed_looks text = behind_brackets enclosed_part text
