@@ -1,0 +1,3 @@
+pub mod Examples
+pub mod Lookups
+pub mod Numerals

@@ -1,0 +1,30 @@
+use Rattle.std.proofs.Common.{◌≡◌, suc, ◌+◌, ◌-◌, ◌<◌, length, drop, get_or, cond, Some, sym, ap, ◌∙◌, arith}
+use Rattle.std.specs.Prelude.{bytes_eq, ◌&&◌}
+use Rattle.std.proofs.lemmas.List.{drop_more, take_rest}
+use Rattle.markdown_base.proofs.SliceLemmas.{filler}
+use Rattle.markdown_base.specs.declared.event.Name.TheVariants as name
+use Rattle.mdconstructs_targets.specs.Defined.{defined_at}
+use Rattle.mdconstructs_targets.specs.Spans.{enters, inside}
+use Rattle.mdconstructs_targets.specs.Targets.{defined_label, definition_from}
+use Rattle.mdconstructs_targets.proofs.definitions.definitions_of.Goals as goal
+
+pub loop-at-preserved : goal.loop-at-preserved
+loop-at-preserved c =
+    let bytes = c.args.bytes.now in
+    let events = c.args.events.now in
+    let at = c.loop-at.at - 1 in
+    let e = get_or events at filler in
+    let es = drop (at + 1) events in
+    let within : at < length events = omega arith in
+    let first = drop_more events at filler within in
+    let next : suc at ≡ c.loop-at.at = omega arith in
+    let same : c.loop-at.at ≡ at + 1 = omega arith in
+    record {
+      known = λ label.
+          c.in_ok-define.ensures label
+          ∙ ap (λ fs. cond (enters name.Definition e && bytes_eq label (defined_label bytes (inside fs))) (Some at) (defined_at c.loop-at.all label)) (take_rest events (at + 1))
+          ∙ ap (λ o. cond (enters name.Definition e && bytes_eq label (defined_label bytes (inside es))) (Some at) o)
+          (c.loop-at.invariant.known label ∙ ap (λ n. definition_from bytes label c.loop-at.at (drop n events)) same ∙ ap (λ n. definition_from bytes label n es) (sym next))
+          ∙ sym (ap (definition_from bytes label at) first);
+      room = omega arith;
+    }

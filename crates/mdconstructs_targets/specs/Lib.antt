@@ -1,0 +1,5 @@
+pub mod Defined
+pub mod Examples
+pub mod Spans
+pub mod Strings
+pub mod Targets

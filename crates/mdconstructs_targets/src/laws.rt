@@ -1,0 +1,16 @@
+//! Laws about what links lead to. Each is a function that does nothing; its contract is the law.
+
+ghost use Rattle.std.specs.Prelude.{◌≡◌, map};
+ghost use Rattle.mdconstructs_targets.specs.Examples.{decoded_strings, definitions, inline_links, read_of, references, targets, told_targets};
+
+/// What links and images of twelve documents lead to: what their resources say, or the labels that they are looked up by.
+pub fn targets_of_links()
+    ensures inline { targets inline_links ≡ told_targets inline_links }
+    ensures references { targets references ≡ told_targets references }
+    ensures strings { targets decoded_strings ≡ told_targets decoded_strings }
+{}
+
+/// Where four labels are defined, and what is said there.
+pub fn definitions_of_labels()
+    ensures { map read_of definitions ≡ definitions }
+{}
