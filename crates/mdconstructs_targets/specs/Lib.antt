@@ -1,3 +1,4 @@
+pub mod Costs
 pub mod Defined
 pub mod Examples
 pub mod Spans

@@ -1,10 +1,10 @@
 -- Spans among events: what is in a span, by the events behind its enter, and what is behind it.
-use Rattle.std.specs.Prelude.{ℕ, zero, suc, ◌+◌, ◌&&◌, Bool, cond, List, [], ◌∷◌, take, drop, Option, None, Some}
+use Rattle.std.specs.Prelude.{◌≡◌, ℕ, zero, suc, ◌+◌, ◌&&◌, Bool, cond, List, [], ◌∷◌, ◌++◌, take, drop, Option, None, Some}
 use Rattle.markdown_base.specs.declared.event.Event.{Event}
 use Rattle.markdown_base.specs.declared.event.Kind.{Kind}
 use Rattle.markdown_base.specs.declared.event.Kind.TheVariants.{Enter, Exit}
 use Rattle.markdown_base.specs.declared.event.Name.{Name}
-use Rattle.markdown_base.specs.Events.{is_enter, same_name}
+use Rattle.markdown_base.specs.Events.{IsBalanced, is_enter, same_name}
 
 -- an event enters a span of this name
 abbrev pub enters : Name → Event → Bool
@@ -40,3 +40,8 @@ behind_first test (e ∷ es) = cond (test e) (Some es) None
 -- what is in the span that is entered at an index, if its enter passes a test
 abbrev pub inside_at : (Event → Bool) → (at : ℕ) → List Event → Option (List Event)
 inside_at test at events = elim (behind_first test (drop at events)) [ None ↦ None | Some es ↦ Some (inside es) ]
+
+-- Law: in a span are the balanced events between its enter and its exit, and behind it those behind its exit
+abbrev pub SpansEndAtTheirExits : Type 0
+SpansEndAtTheirExits =
+    (xs ys : List Event) (f : Event) → IsBalanced xs → f.kind ≡ Exit → (inside (xs ++ f ∷ ys) ≡ xs) × (behind (xs ++ f ∷ ys) ≡ ys)

@@ -1,6 +1,7 @@
 -- What links and images lead to (CommonMark 0.31, 6.3 "Links", 6.4 "Images"), and what link reference definitions say (4.7), by the events of a
 -- document. The definitions have no states.
 use Rattle.std.specs.Prelude.{ℕ, suc, ◌&&◌, ◌||◌, Bool, cond, List, [], ◌∷◌, drop, Option, None, Some, bytes_eq, option_map}
+use Rattle.std.specs.Option.{option_or}
 use Rattle.markdown_base.specs.declared.event.Event.{Event}
 use Rattle.markdown_base.specs.declared.event.Name.{Name}
 use Rattle.markdown_base.specs.declared.event.Name.TheVariants as name
@@ -44,7 +45,7 @@ module _ (bytes : List ℕ) where
   -- The label by which a link or an image is looked up, by its own label and what is behind that: that of its reference, or, of a collapsed reference
   -- and of a shortcut, its own. Labels are compared as they are written, with escapes and references as they stand
   abbrev pub label_of : (own tail : List Event) → List ℕ
-  label_of own tail = normalised (elim (first_in name.ReferenceString tail) [ None ↦ written (first_in name.LabelText own) | Some string ↦ as_written bytes string ])
+  label_of own tail = normalised (written (option_or (first_in name.ReferenceString tail) (first_in name.LabelText own)))
 
   -- What a link or an image leads to, by its own label and what is behind that: "an inline link consists of a link text followed immediately by ..
   -- an optional link destination, an optional link title"; of a reference "the URI and title are provided by the matching link reference

@@ -1,14 +1,16 @@
 //! The text of strings: what a destination, a title or a label says.
 
 ghost use Rattle.std.specs.Char.{encode_utf8};
-ghost use Rattle.std.specs.Prelude.{◌≡◌, ◌⊎◌, ◌++◌, ◌<◌, IfOk, OnOk, slice_get, slice_range};
+ghost use Rattle.std.specs.Prelude.{◌≡◌, ◌⊎◌, ◌+◌, ◌++◌, ◌<◌, ◌≤◌, IfOk, OnOk, length, slice_get, slice_range};
 ghost use Rattle.mdconstructs_targets.specs.declared.strings.Reading.TheVariants as reading;
 ghost use Rattle.mdconstructs_targets.specs.Strings.{given, given_at, is_numeral, named, numeric, reference, text};
 
 use markdown_base::event::{Event, Kind, Name};
 use mdconstructs_references::{find, numeric};
+use mdconstructs_turns::Turns;
 use std::alloc::{AllocError, Global};
 use std::str;
+use std::sync::ledger::Ledger;
 
 /// How the text of a string is read.
 #[derive(Clone, Copy, Debug, PartialEq, Eq)]
@@ -157,17 +159,20 @@ fn push_given_at(
     }
 }
 
-/// The text of a string, by the events in it.
-pub(crate) fn text_of(
+/// The text of a string, by the events in it. A turn is a look at an event.
+pub(crate) fn text_of<L: Ledger>(
     alloc: Global,
     bytes: &[u8],
     reading: Reading,
     events: &[Event],
+    turns: &mut Turns<L>,
 ) -> Result<Vec<u8>, AllocError>
-    ensures { IfOk result (λ out. out.items ≡ text bytes.now reading events.now) }
+    ensures text { IfOk result (λ out. out.items ≡ text bytes.now reading events.now) }
+    ensures turns { turns.new ≤ turns.old + length events.now }
 {
     let mut out = Vec::new(alloc);
     for (i, event) in events.iter().enumerate() {
+        turns.add_one();
         push_given_at(&mut out, bytes, reading, event, &events[i + 1..])?;
     }
     Ok(out)

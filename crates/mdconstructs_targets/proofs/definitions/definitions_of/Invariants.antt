@@ -1,13 +1,4 @@
-use Rattle.std.proofs.Common.{◌≡◌, ◌≤◌, ℕ, List, drop, length}
-use Rattle.mdconstructs_targets.specs.Defined.{defined_at}
-use Rattle.mdconstructs_targets.specs.Targets.{definition_from}
 use Rattle.mdconstructs_targets.proofs.definitions.definitions_of.Given as goal
 
-abbrev pub invariant-loop-at : goal.invariant-loop-at
-invariant-loop-at l = record {
-  known : (label : List ℕ) → defined_at l.all label ≡ definition_from l.bytes label l.at (drop l.at l.events);
-  room : l.at ≤ length l.events;
-}
-
-abbrev pub decreases-loop-at : goal.decreases-loop-at
-decreases-loop-at l = l.at
+abbrev pub ghosts-definitions_of_uncounted : goal.ghosts-definitions_of_uncounted
+ghosts-definitions_of_uncounted a = record { name = a.blank.name; parts = a.blank.parts }
