@@ -8,7 +8,7 @@ use Rattle.markdown_base.specs.declared.event.Name.TheVariants.{BlockQuoteMarker
 use Rattle.mdconstructs_targets.specs.declared.targets.Parts.{Parts}
 use Rattle.mdconstructs_targets.specs.declared.targets.Target.{Target}
 use Rattle.mdconstructs_targets.specs.declared.targets.Target.TheVariants as target
-use Rattle.mdconstructs_targets.specs.Targets.{definition_at, definition_of, target_of}
+use Rattle.mdconstructs_targets.specs.Targets.{definition_of, parts_of, target_of}
 
 -- ---- events, by the indices of bytes
 
@@ -196,7 +196,7 @@ pub record DefinitionExample : Type 0 where
 abbrev pub read_of : DefinitionExample → DefinitionExample
 read_of e =
     let at = definition_of e.document e.events e.label in
-    record e { at = at; parts = option_and_then (λ i. definition_at e.document e.events i) at }
+    record e { at = at; parts = option_and_then (λ i. parts_of e.document e.events i) at }
 
 abbrev pub defined_label : (from to : ℕ) → List Event
 defined_label i j = in_marks DefinitionLabel DefinitionLabelMarker i j (span DefinitionLabelString (i + 1) (j - 1) (leaf Data (i + 1) (j - 1)))

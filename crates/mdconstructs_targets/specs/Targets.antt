@@ -62,8 +62,8 @@ module _ (bytes : List ℕ) where
   target_of events at = option_map target_in (inside_at enters_link at events)
 
   -- What the definition that is entered at an index says; nothing, where none is
-  abbrev pub definition_at : List Event → (at : ℕ) → Option Parts
-  definition_at events at = option_map definition_parts (inside_at (enters name.Definition) at events)
+  abbrev pub parts_of : List Event → (at : ℕ) → Option Parts
+  parts_of events at = option_map definition_parts (inside_at (enters name.Definition) at events)
 
   -- the label of a definition, by the events in it
   abbrev pub defined_label : List Event → List ℕ

@@ -6,7 +6,7 @@ ghost use Rattle.markdown_base.specs.Events.{is_enter};
 ghost use Rattle.markdown_base.specs.declared.event.Name.TheVariants as name;
 ghost use Rattle.mdconstructs_targets.specs.Costs.{size_of};
 ghost use Rattle.mdconstructs_targets.specs.Spans.{enters, first_in, inside_at};
-ghost use Rattle.mdconstructs_targets.specs.Targets.{decoded_at, defined_label, definition_at, enters_link, label_of, parts_in, string_in, target_behind, target_in, target_of, written};
+ghost use Rattle.mdconstructs_targets.specs.Targets.{decoded_at, defined_label, enters_link, label_of, parts_in, parts_of, string_in, target_behind, target_in, target_of, written};
 
 use crate::spans::{enters, first_in, inside, split};
 use crate::strings::{Reading, text_of};
@@ -299,14 +299,14 @@ pub fn target_of(
 
 /// What the definition says that is entered at an index. None if none is entered there. Fails only if it runs out of memory. It looks at each event in
 /// the definition six times at most.
-pub fn definition_at_counted<L: Ledger>(
+pub fn parts_of_counted<L: Ledger>(
     alloc: Global,
     bytes: &[u8],
     events: &[Event],
     at: usize,
     turns: &mut Turns<L>,
 ) -> Result<Option<Parts>, AllocError>
-    ensures parts { IfOk result (λ parts. parts ≡ definition_at bytes.now events.now at) }
+    ensures parts { IfOk result (λ parts. parts ≡ parts_of bytes.now events.now at) }
     ensures turns { turns.new ≤ turns.old + 6 * size_of (inside_at (enters name.Definition) at events.now) + 4 }
 {
     match definition_in(events, at, turns) {
@@ -319,7 +319,7 @@ pub fn definition_at_counted<L: Ledger>(
 }
 
 /// What the definition says that is entered at an index, counted from nothing.
-fn definition_at_uncounted<L: Ledger>(
+fn parts_of_uncounted<L: Ledger>(
     alloc: Global,
     bytes: &[u8],
     events: &[Event],
@@ -329,23 +329,23 @@ fn definition_at_uncounted<L: Ledger>(
     requires name { blank.name ≡ L.name }
     requires parts { blank.parts ≡ L.parts }
     requires some { 0 < blank.parts }
-    ensures { IfOk result (λ parts. parts ≡ definition_at bytes.now events.now at) }
+    ensures { IfOk result (λ parts. parts ≡ parts_of bytes.now events.now at) }
 {
     let mut turns = Turns::<L>::new(blank);
-    definition_at_counted(alloc, bytes, events, at, &mut turns)
+    parts_of_counted(alloc, bytes, events, at, &mut turns)
 }
 
 /// What the definition says that is entered at an index. None if none is entered there. Fails only if it runs out of memory. It takes the turns of
-/// `definition_at_counted`.
-pub fn definition_at(
+/// `parts_of_counted`.
+pub fn parts_of(
     alloc: Global,
     bytes: &[u8],
     events: &[Event],
     at: usize,
 ) -> Result<Option<Parts>, AllocError>
-    ensures { IfOk result (λ parts. parts ≡ definition_at bytes.now events.now at) }
+    ensures { IfOk result (λ parts. parts ≡ parts_of bytes.now events.now at) }
 {
-    definition_at_uncounted::<Brand>(alloc, bytes, events, at, Blank::new(1))
+    parts_of_uncounted::<Brand>(alloc, bytes, events, at, Blank::new(1))
 }
 
 /// The decoded text of the string that is entered at an index: of a destination, or a title. None if no span is entered there. Fails only if it
