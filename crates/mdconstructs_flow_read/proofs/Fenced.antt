@@ -8,8 +8,5 @@ pub mod Info
 pub mod Lines
 pub mod Looks
 pub mod Opening
-pub mod Parts
-pub mod Rows
-pub mod Runs
 pub mod Steps
 pub mod Whole

@@ -1,11 +1,9 @@
 -- HTML blocks are read.
-pub mod Along
 pub mod Blocks
 pub mod Checks
 pub mod Counts
 pub mod Ends
 pub mod First
-pub mod Halts
 pub mod Places
 pub mod Raw
 pub mod Reads

@@ -8,5 +8,4 @@ pub mod Looks
 pub mod Reads
 pub mod Rests
 pub mod SetextReads
-pub mod Texts
 pub mod UnderlineReads

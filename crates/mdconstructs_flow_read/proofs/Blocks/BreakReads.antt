@@ -1,12 +1,13 @@
 -- Thematic breaks are read as their definition says.
-use Rattle.mdconstructs_flow_read.proofs.Prelude.{◌≡◌, ℕ, zero, suc, ◌+◌, ◌-◌, ◌≤◌, ◌==◌, ◌&&◌, ◌||◌, not, nat_le, List, [], ◌∷◌, ◌++◌, true, false, cond, Option, Some, None, ◌⊎◌, inl, inr, length, refl, sym, ap, ◌∙◌, subst, arith, length-append, take, drop, drop-drop, and_parts, eqb-true, not-true, not-false, AllByRecursion, list_all, prefix_len, HeadingSetextUnderline, SpaceOrTab, ThematicBreak, Marks, Point, Next, Retry, FlowAfter, FlowBlankLineAfter, ThematicBreakAtBreak, ThematicBreakBefore, ThematicBreakSequence, Seat, end_after, Configuration, end_place, Given, Text, enter, exit, consume, Rows, row, class_of, picked, is_white, all_of, ending_of, line_text, FlowByte, blank, line_feed, star, underscore, dash, cased, flow_byte, is_rule, flow_blank_line_after_rows, mark_begins_line, thematic_break_at_break_rows, BreaksAreRead, IsAtLines, IsBlockRead, IsReadAs, KeepsEdits, Line, bytes_of, text_of, Mark, break_marks, leaf_marks, span_marks, white, begins_with, is_break_of_marks, is_thematic_break, unindented, LineEnds}
-use Rattle.mdconstructs_flow_read.proofs.Looks.ByteClasses.{rule-is}
+use Rattle.mdconstructs_flow_read.proofs.Prelude.{List, Option, Some, [], ap, arith, cond, drop, false, inl, inr, length, length-append, nat_le, not, refl, subst, suc, sym, take, true, zero, ℕ, ◌&&◌, ◌++◌, ◌+◌, ◌-◌, ◌==◌, ◌||◌, ◌∙◌, ◌∷◌, ◌≡◌, ◌≤◌, ◌⊎◌, and_parts, eqb-true, not-false, not-true, drop-drop, AllByRecursion, list_all, prefix_len, Seat, end_after, HeadingSetextUnderline, SpaceOrTab, ThematicBreak, Marks, Point, Name, Next, Retry, FlowAfter, FlowBlankLineAfter, ThematicBreakAtBreak, ThematicBreakBefore, ThematicBreakSequence, Configuration, end_place, Given, Text, flow_blank_line_after_rows, mark_begins_line, FlowByte, blank, cased, dash, flow_byte, is_blank, is_rule, star, underscore, thematic_break_at_break_rows, BreaksAreRead, IsAtLines, IsBlockRead, IsReadAs, KeepsEdits, Line, bytes_of, text_of, Mark, break_marks, leaf_marks, span_marks, white, begins_with, is_break_of_marks, is_thematic_break, unindented, LineEnds, is_white, all_of, ending_of, line_text, Rows, class_of, consume, enter, picked, row}
+use Rattle.mdconstructs_flow_read.proofs.Looks.BreakLooks.{is_break_mark, white-no-mark}
+use Rattle.mdconstructs_flow_read.proofs.Looks.ByteClasses.{blank-is, rule-is}
 use Rattle.mdconstructs_flow_read.proofs.Lines.Fronts.{front, back, all-back, all-with-front, all-front, back-fails, drop-back, drop-bytes, Fails, front-all, front-back, length-back, take-front, is_dark}
-use Rattle.mdconstructs_flow_read.proofs.Lines.LineParts.{NoBlank, no-blank, IsWhite, at-first, first-parts}
-use Rattle.mdconstructs_flow_read.proofs.Lines.LineReads.{IsAt, IsUnwritten, reads-end, reads-keeping, reads-nothing, reads-on, reads-parts, unwritten, unwritten-keeps, unwritten-on}
-use Rattle.mdconstructs_flow_read.proofs.Lines.RowReads.{counted, row-stays, row-takes-on, seen, white-is-blank}
+use Rattle.mdconstructs_flow_read.proofs.Lines.LineParts.{at-first, first-parts}
+use Rattle.mdconstructs_flow_read.proofs.Lines.LineReads.{IsAt, IsUnwritten, reads-keeping, reads-nothing, unwritten, unwritten-keeps}
+use Rattle.mdconstructs_flow_read.proofs.Lines.RowReads.{counted, row-takes-on, seen, white-is-blank}
 use Rattle.mdconstructs_flow_read.proofs.Lines.KindsOfLines.{says}
-use Rattle.mdconstructs_flow_read.proofs.Lines.RunReads.{Reads, goes, comes, in-run, run-piece}
+use Rattle.mdconstructs_flow_read.proofs.Lines.RunReads.{Goes, Reads, all_kept, comes, fails-line, goes, goes-by, line-over, run-from, run-piece, then, then-ends, white-piece}
 
 -- ---- the definition, by what comes in front
 
@@ -46,26 +47,21 @@ module _ (bytes : List ℕ) where
 
 -- a byte of a break
 abbrev IsOfBreak : Seat → Type 0
-IsOfBreak s = (is_white s.byte || ((s.byte == 42) || ((s.byte == 95) || (s.byte == 45)))) ≡ true
+IsOfBreak s = (is_white s.byte || is_break_mark s.byte) ≡ true
 
 abbrev IsRule : Seat → Type 0
-IsRule s = is_rule (flow_byte s.byte) ≡ true
-
--- the next byte, if there is one, is no mark
-abbrev NoRule : List Seat → Type 0
-NoRule [] = Unit {0}
-NoRule (s ∷ ss) = is_rule (flow_byte s.byte) ≡ false
-
-no-rule : (l rest : List Seat) → Fails is_dark l → LineEnds rest → NoRule (l ++ rest)
-no-rule [] [] h ends = tt
-no-rule [] (s ∷ ss) h ends = ap (λ b. is_rule (flow_byte b)) ends
-no-rule (s ∷ ss) rest h ends = ap is_rule (white-is-blank s.byte (not-false (is_white s.byte) h))
+IsRule s = is_break_mark s.byte ≡ true
 
 rules : (l : List Seat) → AllByRecursion IsOfBreak l → AllByRecursion (λ (s : Seat). is_dark s.byte ≡ true) l → AllByRecursion IsRule l
 rules [] h dark = tt
 rules (s ∷ ss) h dark =
     let is_not : is_white s.byte ≡ false = not-true (is_white s.byte) dark.0 in
-    (rule-is s.byte ∙ (rw is_not at h.0), rules ss h.1 dark.1)
+    (rw is_not at h.0, rules ss h.1 dark.1)
+
+-- behind marks comes white space
+no-rule : (l : List Seat) → Fails is_dark l → Fails is_break_mark l
+no-rule [] h = tt
+no-rule (s ∷ ss) h = white-no-mark s.byte (not-false (is_white s.byte) h)
 
 -- rows at a mark
 break-mark : (previous : Option FlowByte) (c : FlowByte) → is_rule c ≡ true → ◌≡◌ {A = Rows Unit Unit} (cased thematic_break_at_break_rows previous (Some c)) (row (enter Marks ∷ consume ∷ []) (Next ThematicBreakSequence))
@@ -80,49 +76,22 @@ line-mark previous underscore h = refl
 line-mark previous dash h = refl
 line-mark previous c h = absurd (cc)
 
+white_goes : Goes ThematicBreakBefore is_white (SpaceOrTab ∷ []) ThematicBreakAtBreak
+white_goes = goes-by ThematicBreakBefore (SpaceOrTab ∷ []) ThematicBreakAtBreak (λ b. refl) is_blank is_white (λ b c. refl) blank-is
+
+marks_go : Goes ThematicBreakSequence is_break_mark (Marks ∷ []) ThematicBreakAtBreak
+marks_go = goes-by ThematicBreakSequence (Marks ∷ []) ThematicBreakAtBreak (λ b. refl) is_rule is_break_mark (λ b c. refl) rule-is
+
 module _ (g : Given) (t : Text) where
+  abbrev IsRead : Configuration Unit Unit → Name → (line rest : List Seat) → List Mark → Name → Type 0
+  IsRead = Reads g t all_kept
+
   module _ (k : Configuration Unit Unit) (p : Point) where
-    abbrev once : IsUnwritten k.local (counted k).local
-    once = record { calls = (counted k).local.tokenize_state.size; is = refl }
-
-    -- white space goes g t on, or ends
-    white-on : (s : Seat) (rest : List Seat) → IsWhite s → IsAt t k p (s ∷ rest) → Reads g t k ThematicBreakBefore (s ∷ []) rest [] ThematicBreakBefore
-    white-on s rest white at = row-takes-on g t IsUnwritten k ThematicBreakBefore p s rest blank (consume ∷ []) ThematicBreakBefore at (white-is-blank s.byte white) refl tt refl once
-
-    white-ends : (rest : List Seat) → NoBlank rest → IsAt t k p rest → Reads g t k ThematicBreakBefore [] rest (goes g t SpaceOrTab p) ThematicBreakAtBreak
-    white-ends [] none at = row-stays g t IsUnwritten k ThematicBreakBefore p [] None (exit SpaceOrTab ∷ []) (Retry ThematicBreakAtBreak) at refl refl tt refl refl once
-    white-ends (s ∷ ss) none at =
-        row-stays g t IsUnwritten k ThematicBreakBefore p (s ∷ ss) (Some (flow_byte s.byte)) (exit SpaceOrTab ∷ []) (Retry ThematicBreakAtBreak) at refl
-        (ap (λ b. picked (cond b (row (consume ∷ []) (Next ThematicBreakBefore)) (row (exit SpaceOrTab ∷ []) (Retry ThematicBreakAtBreak))) g (seen g t IsUnwritten k ThematicBreakBefore p (s ∷ ss)) (counted k)) none)
-        tt refl refl once
-
-    -- so do marks
-    marks-on : (s : Seat) (rest : List Seat) → IsRule s → IsAt t k p (s ∷ rest) → Reads g t k ThematicBreakSequence (s ∷ []) rest [] ThematicBreakSequence
-    marks-on s rest mark at =
-        row-takes-on g t IsUnwritten k ThematicBreakSequence p s rest (flow_byte s.byte) (consume ∷ []) ThematicBreakSequence at refl
-        (ap (λ b. picked (cond b (row (consume ∷ []) (Next ThematicBreakSequence)) (row (exit Marks ∷ []) (Retry ThematicBreakAtBreak))) g (seen g t IsUnwritten k ThematicBreakSequence p (s ∷ rest)) (counted k)) mark)
-        tt refl once
-
-    marks-end : (rest : List Seat) → NoRule rest → IsAt t k p rest → Reads g t k ThematicBreakSequence [] rest (goes g t Marks p) ThematicBreakAtBreak
-    marks-end [] none at = row-stays g t IsUnwritten k ThematicBreakSequence p [] None (exit Marks ∷ []) (Retry ThematicBreakAtBreak) at refl refl tt refl refl once
-    marks-end (s ∷ ss) none at =
-        row-stays g t IsUnwritten k ThematicBreakSequence p (s ∷ ss) (Some (flow_byte s.byte)) (exit Marks ∷ []) (Retry ThematicBreakAtBreak) at refl
-        (ap (λ b. picked (cond b (row (consume ∷ []) (Next ThematicBreakSequence)) (row (exit Marks ∷ []) (Retry ThematicBreakAtBreak))) g (seen g t IsUnwritten k ThematicBreakSequence p (s ∷ ss)) (counted k)) none)
-        tt refl refl once
-
-    -- a piece begins, or the line ends
-    white-begins : (s : Seat) (rest : List Seat) → IsWhite s → IsAt t k p (s ∷ rest) → Reads g t k ThematicBreakAtBreak (s ∷ []) rest (comes g t SpaceOrTab s) ThematicBreakBefore
-    white-begins s rest white at = row-takes-on g t IsUnwritten k ThematicBreakAtBreak p s rest blank (enter SpaceOrTab ∷ consume ∷ []) ThematicBreakBefore at (white-is-blank s.byte white) refl tt refl once
-
-    marks-begin : (s : Seat) (rest : List Seat) → IsRule s → IsAt t k p (s ∷ rest) → Reads g t k ThematicBreakAtBreak (s ∷ []) rest (comes g t Marks s) ThematicBreakSequence
+    marks-begin : (s : Seat) (rest : List Seat) → IsRule s → IsAt t k p (s ∷ rest) → IsRead k ThematicBreakAtBreak (s ∷ []) rest (comes g t Marks s) ThematicBreakSequence
     marks-begin s rest mark at =
         let sight = seen g t IsUnwritten k ThematicBreakAtBreak p (s ∷ rest) in
         row-takes-on g t IsUnwritten k ThematicBreakAtBreak p s rest (flow_byte s.byte) (enter Marks ∷ consume ∷ []) ThematicBreakSequence at refl
-        (ap (λ r. picked r g sight (counted k)) (break-mark (class_of flow_byte sight.previous) (flow_byte s.byte) mark)) tt refl once
-
-    line-ends : (rest : List Seat) → LineEnds rest → IsAt t k p rest → Reads g t k ThematicBreakAtBreak [] rest (goes g t ThematicBreak p) FlowAfter
-    line-ends [] ends at = row-stays g t IsUnwritten k ThematicBreakAtBreak p [] None (exit ThematicBreak ∷ []) (Retry FlowAfter) at refl refl tt refl refl once
-    line-ends (s ∷ ss) ends at = row-stays g t IsUnwritten k ThematicBreakAtBreak p (s ∷ ss) (Some line_feed) (exit ThematicBreak ∷ []) (Retry FlowAfter) at (ap (λ b. Some (flow_byte b)) ends) refl tt refl refl once
+        (ap (λ r. picked r g sight (counted k)) (break-mark (class_of flow_byte sight.previous) (flow_byte s.byte) (rule-is s.byte ∙ mark))) tt refl (unwritten k.local)
 
     -- the first byte of the line, whose kind is known
     abbrev IsBreakHere : Type 0
@@ -130,69 +99,49 @@ module _ (g : Given) (t : Text) where
         let state = k.local.tokenize_state in
         (state.token_1 ≡ ThematicBreak) ⊎ ((state.token_1 ≡ HeadingSetextUnderline) × (g.options.constructs.thematic_break ≡ true) × (((state.marker == 45) && nat_le 3 state.size_b) ≡ true))
 
-    line-begins-white : (s : Seat) (rest : List Seat) → IsBreakHere → IsWhite s → IsAt t k p (s ∷ rest) → Reads g t k FlowBlankLineAfter (s ∷ []) rest (comes g t ThematicBreak s ++ comes g t SpaceOrTab s) ThematicBreakBefore
+    line-begins-white : (s : Seat) (rest : List Seat) → IsBreakHere → is_white s.byte ≡ true → IsAt t k p (s ∷ rest) → IsRead k FlowBlankLineAfter (s ∷ []) rest (comes g t ThematicBreak s ++ comes g t SpaceOrTab s) ThematicBreakBefore
     line-begins-white s rest (inl kind) white at =
-        row-takes-on g t IsUnwritten k FlowBlankLineAfter p s rest blank (enter ThematicBreak ∷ enter SpaceOrTab ∷ consume ∷ []) ThematicBreakBefore at (white-is-blank s.byte white) (rw kind refl) tt refl once
+        row-takes-on g t IsUnwritten k FlowBlankLineAfter p s rest blank (enter ThematicBreak ∷ enter SpaceOrTab ∷ consume ∷ []) ThematicBreakBefore at (white-is-blank s.byte white) (rw kind refl) tt refl (unwritten k.local)
     line-begins-white s rest (inr (kind, on, three)) white at =
-        row-takes-on g t IsUnwritten k FlowBlankLineAfter p s rest blank (enter ThematicBreak ∷ enter SpaceOrTab ∷ consume ∷ []) ThematicBreakBefore at (white-is-blank s.byte white) (rw (kind, on, three) refl) tt refl once
+        row-takes-on g t IsUnwritten k FlowBlankLineAfter p s rest blank (enter ThematicBreak ∷ enter SpaceOrTab ∷ consume ∷ []) ThematicBreakBefore at (white-is-blank s.byte white) (rw (kind, on, three) refl) tt refl (unwritten k.local)
 
-    line-begins-marks : (s : Seat) (rest : List Seat) → IsBreakHere → IsRule s → IsAt t k p (s ∷ rest) → Reads g t k FlowBlankLineAfter (s ∷ []) rest (comes g t ThematicBreak s ++ comes g t Marks s) ThematicBreakSequence
+    line-begins-marks : (s : Seat) (rest : List Seat) → IsBreakHere → IsRule s → IsAt t k p (s ∷ rest) → IsRead k FlowBlankLineAfter (s ∷ []) rest (comes g t ThematicBreak s ++ comes g t Marks s) ThematicBreakSequence
     line-begins-marks s rest (inl kind) mark at =
         let sight = seen g t IsUnwritten k FlowBlankLineAfter p (s ∷ rest) in
         row-takes-on g t IsUnwritten k FlowBlankLineAfter p s rest (flow_byte s.byte) (enter ThematicBreak ∷ enter Marks ∷ consume ∷ []) ThematicBreakSequence at refl
-        (ap (λ r. picked r g sight (counted k)) (line-mark (class_of flow_byte sight.previous) (flow_byte s.byte) mark) ∙ rw kind refl) tt refl once
+        (ap (λ r. picked r g sight (counted k)) (line-mark (class_of flow_byte sight.previous) (flow_byte s.byte) (rule-is s.byte ∙ mark)) ∙ rw kind refl) tt refl (unwritten k.local)
     line-begins-marks s rest (inr (kind, on, three)) mark at =
         let sight = seen g t IsUnwritten k FlowBlankLineAfter p (s ∷ rest) in
         row-takes-on g t IsUnwritten k FlowBlankLineAfter p s rest (flow_byte s.byte) (enter ThematicBreak ∷ enter Marks ∷ consume ∷ []) ThematicBreakSequence at refl
-        (ap (λ r. picked r g sight (counted k)) (line-mark (class_of flow_byte sight.previous) (flow_byte s.byte) mark) ∙ rw (kind, on, three) refl) tt refl once
+        (ap (λ r. picked r g sight (counted k)) (line-mark (class_of flow_byte sight.previous) (flow_byte s.byte) (rule-is s.byte ∙ mark)) ∙ rw (kind, on, three) refl) tt refl (unwritten k.local)
 
-  -- ---- pieces
-  in-white : (run : List Seat) → AllByRecursion IsWhite run → (k : Configuration Unit Unit) (p : Point) (rest : List Seat) → NoBlank rest → IsAt t k p (run ++ rest)
-      → Reads g t k ThematicBreakBefore run rest (goes g t SpaceOrTab (end_after p run)) ThematicBreakAtBreak
-  in-white = in-run g t SpaceOrTab ThematicBreakAtBreak ThematicBreakBefore IsWhite NoBlank white-on white-ends
-
-  in-marks : (run : List Seat) → AllByRecursion IsRule run → (k : Configuration Unit Unit) (p : Point) (rest : List Seat) → NoRule rest → IsAt t k p (run ++ rest)
-      → Reads g t k ThematicBreakSequence run rest (goes g t Marks (end_after p run)) ThematicBreakAtBreak
-  in-marks = in-run g t Marks ThematicBreakAtBreak ThematicBreakSequence IsRule NoRule marks-on marks-end
-
-  white-piece : (run : List Seat) → AllByRecursion IsWhite run → (k : Configuration Unit Unit) (p : Point) (rest : List Seat) → NoBlank rest → IsAt t k p (run ++ rest)
-      → Reads g t k ThematicBreakAtBreak run rest (white g.bytes run) ThematicBreakAtBreak
-  white-piece run all k p rest none at = run-piece g t SpaceOrTab ThematicBreakAtBreak ThematicBreakBefore IsWhite NoBlank white-on white-ends run all k p rest (white-begins k p) none at
-
-  marks-piece : (run : List Seat) → AllByRecursion IsRule run → (k : Configuration Unit Unit) (p : Point) (rest : List Seat) → NoRule rest → IsAt t k p (run ++ rest)
-      → Reads g t k ThematicBreakAtBreak run rest (leaf_marks g.bytes Marks run) ThematicBreakAtBreak
-  marks-piece run all k p rest none at = run-piece g t Marks ThematicBreakAtBreak ThematicBreakSequence IsRule NoRule marks-on marks-end run all k p rest (marks-begin k p) none at
-
-  -- from behind white space on
+  -- ---- pieces, from behind white space on
   abbrev behind_white : (bound : ℕ) → List Seat → List Mark
   behind_white bound l = leaf_marks g.bytes Marks (front is_dark l) ++ break_marks g.bytes bound (back is_dark l)
 
   darks : (bound : ℕ) (l : List Seat) → AllByRecursion IsOfBreak l → (k : Configuration Unit Unit) (p : Point) (rest : List Seat) → LineEnds rest → IsAt t k p (l ++ rest)
-      → ((k' : Configuration Unit Unit) (q : Point) → IsAt t k' q (back is_dark l ++ rest) → Reads g t k' ThematicBreakAtBreak (back is_dark l) rest (break_marks g.bytes bound (back is_dark l)) ThematicBreakAtBreak)
-      → Reads g t k ThematicBreakAtBreak l rest (behind_white bound l) ThematicBreakAtBreak
+      → ((k' : Configuration Unit Unit) (q : Point) → IsAt t k' q (back is_dark l ++ rest) → IsRead k' ThematicBreakAtBreak (back is_dark l) rest (break_marks g.bytes bound (back is_dark l)) ThematicBreakAtBreak)
+      → IsRead k ThematicBreakAtBreak l rest (behind_white bound l) ThematicBreakAtBreak
   darks bound l all k p rest ends at further =
       let d = front is_dark l in
       let b = back is_dark l in
-      subst (λ x. Reads g t k ThematicBreakAtBreak x rest (behind_white bound l) ThematicBreakAtBreak) (front-back is_dark l)
-      (reads-parts g t IsUnwritten IsUnwritten IsUnwritten unwritten-on k p ThematicBreakAtBreak ThematicBreakAtBreak d b rest (leaf_marks g.bytes Marks d) (break_marks g.bytes bound b) (Retry ThematicBreakAtBreak)
-      (subst (λ x. IsAt t k p (x ++ rest)) (sym (front-back is_dark l)) at)
-      (λ at'. marks-piece d (rules d (all-front is_dark IsOfBreak l all) (front-all is_dark l)) k p (b ++ rest) (no-rule b rest (back-fails is_dark l) ends) at')
-      (λ k' at' kept. further k' (end_after p d) at'))
+      then g t all_kept k p ThematicBreakAtBreak ThematicBreakAtBreak ThematicBreakAtBreak d b l rest (front-back is_dark l) (leaf_marks g.bytes Marks d) (λ _. break_marks g.bytes bound b) at
+      (λ at'. run-piece g t all_kept Marks ThematicBreakAtBreak ThematicBreakSequence is_break_mark marks_go d (b ++ rest) (rules d (all-front is_dark IsOfBreak l all) (front-all is_dark l))
+      (fails-line is_break_mark refl b rest (no-rule b (back-fails is_dark l)) ends) k p at' (marks-begin k p))
+      (λ k' at' kept. further k' (end_after p d) at')
 
   inside : (bound : ℕ) (l : List Seat) → length l ≤ bound → AllByRecursion IsOfBreak l → (k : Configuration Unit Unit) (p : Point) (rest : List Seat) → LineEnds rest → IsAt t k p (l ++ rest)
-      → Reads g t k ThematicBreakAtBreak l rest (break_marks g.bytes bound l) ThematicBreakAtBreak
+      → IsRead k ThematicBreakAtBreak l rest (break_marks g.bytes bound l) ThematicBreakAtBreak
   inside zero [] short all k p rest ends at = reads-nothing g t IsUnwritten k ThematicBreakAtBreak rest at.waits (unwritten k.local)
   inside zero (s ∷ ss) short all k p rest ends at = absurd (omega arith)
   inside (suc bound) l short all k p rest ends at =
       let w = front is_white l in
       let r = back is_white l in
-      subst (λ m. Reads g t k ThematicBreakAtBreak l rest m ThematicBreakAtBreak) (sym (break-pieces g.bytes bound l))
-      (subst (λ x. Reads g t k ThematicBreakAtBreak x rest (white g.bytes w ++ behind_white bound r) ThematicBreakAtBreak) (front-back is_white l)
-      (reads-parts g t IsUnwritten IsUnwritten IsUnwritten unwritten-on k p ThematicBreakAtBreak ThematicBreakAtBreak w r rest (white g.bytes w) (behind_white bound r) (Retry ThematicBreakAtBreak)
-      (subst (λ x. IsAt t k p (x ++ rest)) (sym (front-back is_white l)) at)
-      (λ at'. white-piece w (front-all is_white l) k p (r ++ rest) (no-blank r rest (back-fails is_white l) ends) at')
+      subst (λ m. IsRead k ThematicBreakAtBreak l rest m ThematicBreakAtBreak) (sym (break-pieces g.bytes bound l))
+      (then g t all_kept k p ThematicBreakAtBreak ThematicBreakAtBreak ThematicBreakAtBreak w r l rest (front-back is_white l) (white g.bytes w) (λ _. behind_white bound r) at
+      (λ at'. white-piece g t all_kept ThematicBreakAtBreak ThematicBreakBefore white_goes (λ b. refl) w (r ++ rest) (front-all is_white l) (fails-line is_white refl r rest (back-fails is_white l) ends) k p at')
       (λ k' at' kept. darks bound r (all-back is_white IsOfBreak l all) k' (end_after p w) rest ends at'
-      (λ k'' q at''. inside bound (back is_dark r) (both-shorter g.bytes bound l short) (all-back is_dark IsOfBreak r (all-back is_white IsOfBreak l all)) k'' q rest ends at''))))
+      (λ k'' q at''. inside bound (back is_dark r) (both-shorter g.bytes bound l short) (all-back is_dark IsOfBreak r (all-back is_white IsOfBreak l all)) k'' q rest ends at'')))
 
   -- ---- the line
   white-first : (bound : ℕ) (s : Seat) (ss : List Seat) → is_white s.byte ≡ true → break_marks g.bytes (suc bound) (s ∷ ss) ≡ white g.bytes (s ∷ front is_white ss) ++ behind_white bound (back is_white ss)
@@ -207,48 +156,42 @@ module _ (g : Given) (t : Text) where
   all_marks bound s ss = comes g t ThematicBreak s ++ break_marks g.bytes (suc bound) (s ∷ ss)
 
   from-white : (bound : ℕ) (s : Seat) (ss : List Seat) → length ss ≤ bound → is_white s.byte ≡ true → AllByRecursion IsOfBreak ss → (k : Configuration Unit Unit) (p : Point) (rest : List Seat) → LineEnds rest
-      → IsBreakHere k p → IsAt t k p ((s ∷ ss) ++ rest) → Reads g t k FlowBlankLineAfter (s ∷ ss) rest (all_marks bound s ss) ThematicBreakAtBreak
+      → IsBreakHere k p → IsAt t k p ((s ∷ ss) ++ rest) → IsRead k FlowBlankLineAfter (s ∷ ss) rest (all_marks bound s ss) ThematicBreakAtBreak
   from-white bound s ss short e all k p rest ends here at =
       let w = front is_white ss in
       let r = back is_white ss in
-      let marks : List Mark = goes g t SpaceOrTab (end_after s.end w) ++ behind_white bound r in
-      subst (λ m. Reads g t k FlowBlankLineAfter (s ∷ ss) rest (comes g t ThematicBreak s ++ m) ThematicBreakAtBreak) (sym (white-first bound s ss e))
-      (reads-on g t IsUnwritten IsUnwritten IsUnwritten unwritten-on k p FlowBlankLineAfter ThematicBreakBefore (s ∷ []) ss rest (comes g t ThematicBreak s ++ comes g t SpaceOrTab s) marks (Retry ThematicBreakAtBreak) at
-      (line-begins-white k p s (ss ++ rest) here e at)
-      (λ k' at' kept. subst (λ x. Reads g t k' ThematicBreakBefore x rest marks ThematicBreakAtBreak) (front-back is_white ss)
-      (reads-parts g t IsUnwritten IsUnwritten IsUnwritten unwritten-on k' s.end ThematicBreakBefore ThematicBreakAtBreak w r rest (goes g t SpaceOrTab (end_after s.end w)) (behind_white bound r) (Retry ThematicBreakAtBreak)
-      (subst (λ x. IsAt t k' s.end (x ++ rest)) (sym (front-back is_white ss)) at')
-      (λ at''. in-white w (front-all is_white ss) k' s.end (r ++ rest) (no-blank r rest (back-fails is_white ss) ends) at'')
-      (λ k'' at'' kept'. darks bound r (all-back is_white IsOfBreak ss all) k'' (end_after s.end w) rest ends at''
-      (λ k3 q at3. inside bound (back is_dark r) (let one = length-back is_dark r in let two = length-back is_white ss in omega (arith, one, two, short))
-      (all-back is_dark IsOfBreak r (all-back is_white IsOfBreak ss all)) k3 q rest ends at3)))))
+      let first = comes g t ThematicBreak s in
+      subst (λ m. IsRead k FlowBlankLineAfter (s ∷ ss) rest (first ++ m) ThematicBreakAtBreak) (sym (white-first bound s ss e))
+      (then g t all_kept k p FlowBlankLineAfter ThematicBreakAtBreak ThematicBreakAtBreak (s ∷ w) r (s ∷ ss) rest (ap (λ l. s ∷ l) (front-back is_white ss)) (first ++ white g.bytes (s ∷ w)) (λ _. behind_white bound r) at
+      (λ at'. run-from g t all_kept ThematicBreakBefore (SpaceOrTab ∷ []) ThematicBreakAtBreak is_white white_goes FlowBlankLineAfter (first ++ comes g t SpaceOrTab s) s w (r ++ rest) (front-all is_white ss)
+      (fails-line is_white refl r rest (back-fails is_white ss) ends) k p at' (line-begins-white k p s (w ++ (r ++ rest)) here e at'))
+      (λ k' at' kept. darks bound r (all-back is_white IsOfBreak ss all) k' (end_after p (s ∷ w)) rest ends at'
+      (λ k'' q at''. inside bound (back is_dark r) (let one = length-back is_dark r in let two = length-back is_white ss in omega (arith, one, two, short))
+      (all-back is_dark IsOfBreak r (all-back is_white IsOfBreak ss all)) k'' q rest ends at'')))
 
   from-marks : (bound : ℕ) (s : Seat) (ss : List Seat) → length ss ≤ bound → is_white s.byte ≡ false → IsRule s → AllByRecursion IsOfBreak ss → (k : Configuration Unit Unit) (p : Point) (rest : List Seat) → LineEnds rest
-      → IsBreakHere k p → IsAt t k p ((s ∷ ss) ++ rest) → Reads g t k FlowBlankLineAfter (s ∷ ss) rest (all_marks bound s ss) ThematicBreakAtBreak
+      → IsBreakHere k p → IsAt t k p ((s ∷ ss) ++ rest) → IsRead k FlowBlankLineAfter (s ∷ ss) rest (all_marks bound s ss) ThematicBreakAtBreak
   from-marks bound s ss short e mark all k p rest ends here at =
       let d = front is_dark ss in
       let b = back is_dark ss in
-      let marks : List Mark = goes g t Marks (end_after s.end d) ++ break_marks g.bytes bound b in
-      subst (λ m. Reads g t k FlowBlankLineAfter (s ∷ ss) rest (comes g t ThematicBreak s ++ m) ThematicBreakAtBreak) (sym (dark-first bound s ss e))
-      (reads-on g t IsUnwritten IsUnwritten IsUnwritten unwritten-on k p FlowBlankLineAfter ThematicBreakSequence (s ∷ []) ss rest (comes g t ThematicBreak s ++ comes g t Marks s) marks (Retry ThematicBreakAtBreak) at
-      (line-begins-marks k p s (ss ++ rest) here mark at)
-      (λ k' at' kept. subst (λ x. Reads g t k' ThematicBreakSequence x rest marks ThematicBreakAtBreak) (front-back is_dark ss)
-      (reads-parts g t IsUnwritten IsUnwritten IsUnwritten unwritten-on k' s.end ThematicBreakSequence ThematicBreakAtBreak d b rest (goes g t Marks (end_after s.end d)) (break_marks g.bytes bound b) (Retry ThematicBreakAtBreak)
-      (subst (λ x. IsAt t k' s.end (x ++ rest)) (sym (front-back is_dark ss)) at')
-      (λ at''. in-marks d (rules d (all-front is_dark IsOfBreak ss all) (front-all is_dark ss)) k' s.end (b ++ rest) (no-rule b rest (back-fails is_dark ss) ends) at'')
-      (λ k'' at'' kept'. inside bound b (let one = length-back is_dark ss in omega (arith, one, short)) (all-back is_dark IsOfBreak ss all) k'' (end_after s.end d) rest ends at''))))
+      let first = comes g t ThematicBreak s in
+      subst (λ m. IsRead k FlowBlankLineAfter (s ∷ ss) rest (first ++ m) ThematicBreakAtBreak) (sym (dark-first bound s ss e))
+      (then g t all_kept k p FlowBlankLineAfter ThematicBreakAtBreak ThematicBreakAtBreak (s ∷ d) b (s ∷ ss) rest (ap (λ l. s ∷ l) (front-back is_dark ss)) (first ++ leaf_marks g.bytes Marks (s ∷ d)) (λ _. break_marks g.bytes bound b) at
+      (λ at'. run-from g t all_kept ThematicBreakSequence (Marks ∷ []) ThematicBreakAtBreak is_break_mark marks_go FlowBlankLineAfter (first ++ comes g t Marks s) s d (b ++ rest)
+      (rules d (all-front is_dark IsOfBreak ss all) (front-all is_dark ss)) (fails-line is_break_mark refl b rest (no-rule b (back-fails is_dark ss)) ends) k p at' (line-begins-marks k p s (d ++ (b ++ rest)) here mark at'))
+      (λ k' at' kept. inside bound b (let one = length-back is_dark ss in omega (arith, one, short)) (all-back is_dark IsOfBreak ss all) k' (end_after p (s ∷ d)) rest ends at'))
 
   line-read : (bound : ℕ) (s : Seat) (ss : List Seat) → length ss ≤ bound → AllByRecursion IsOfBreak (s ∷ ss) → (k : Configuration Unit Unit) (p : Point) (rest : List Seat) → LineEnds rest
       → IsBreakHere k p → IsAt t k p ((s ∷ ss) ++ rest) → IsReadAs g t KeepsEdits k FlowBlankLineAfter (s ∷ ss) rest (span_marks g.bytes ThematicBreak (s ∷ ss) (break_marks g.bytes (suc bound) (s ∷ ss))) (Retry FlowAfter)
   line-read bound s ss short all k p rest ends here at =
-      let inside : Reads g t k FlowBlankLineAfter (s ∷ ss) rest (all_marks bound s ss) ThematicBreakAtBreak =
-      elim (is_white s.byte) as (λ w. is_white s.byte ≡ w → Reads g t k FlowBlankLineAfter (s ∷ ss) rest (all_marks bound s ss) ThematicBreakAtBreak) [
+      let inside : IsRead k FlowBlankLineAfter (s ∷ ss) rest (all_marks bound s ss) ThematicBreakAtBreak =
+      elim (is_white s.byte) as (λ w. is_white s.byte ≡ w → IsRead k FlowBlankLineAfter (s ∷ ss) rest (all_marks bound s ss) ThematicBreakAtBreak) [
         | true ↦ λ e. from-white bound s ss short e all.1 k p rest ends here at
         | false ↦ λ e. from-marks bound s ss short e (rules (s ∷ []) (all.0, tt) (ap not e, tt)).0 all.1 k p rest ends here at
       ] refl in
       reads-keeping g t IsUnwritten KeepsEdits unwritten-keeps k FlowBlankLineAfter (s ∷ ss) rest _ (Retry FlowAfter)
-      (reads-end g t IsUnwritten IsUnwritten IsUnwritten unwritten-on k p FlowBlankLineAfter ThematicBreakAtBreak (s ∷ ss) rest (all_marks bound s ss) (goes g t ThematicBreak (end_after s.end ss)) (Retry FlowAfter) at inside
-      (λ k' at' kept. line-ends k' (end_after s.end ss) rest ends at'))
+      (then-ends g t all_kept k p FlowBlankLineAfter ThematicBreakAtBreak FlowAfter (s ∷ ss) rest (all_marks bound s ss) (goes g t ThematicBreak (end_after s.end ss)) at inside
+      (λ k' at' kept. line-over g t all_kept ThematicBreakAtBreak (ThematicBreak ∷ []) FlowAfter (λ b. refl) (λ b. refl) k' (end_after s.end ss) rest ends at'))
 
 -- ---- what the kind says of the bytes
 one-mark : (m : ℕ) → (is_white m || ((m == 42) || ((m == 95) || (m == 45)))) ≡ true → (s : Seat) → ((s.byte == m) || is_white s.byte) ≡ true → IsOfBreak s

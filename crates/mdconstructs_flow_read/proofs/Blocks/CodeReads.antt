@@ -1,91 +1,17 @@
 -- Indented code is read as its definition says.
-use Rattle.mdconstructs_flow_read.proofs.Prelude.{◌≡◌, ℕ, zero, suc, ◌+◌, ◌-◌, ◌^◌, ◌<◌, ◌≤◌, ◌&&◌, nat_le, min, List, [], ◌∷◌, ◌++◌, true, false, cond, ◌⊎◌, inl, inr, length, refl, sym, ap, ◌∙◌, subst, arith, append_assoc, append-nil, take, drop, and_parts, le-leb, leb-true, length-drop, AllByRecursion, end-after-append, CodeFlowChunk, CodeIndented, LineEnding, SpaceOrTab, Point, Name, Retry, Ok, Nok, CodeIndentedAfter, CodeIndentedAtBreak, CodeIndentedFurtherAfter, CodeIndentedFurtherBegin, CodeIndentedFurtherStart, CodeIndentedInside, CodeIndentedStart, FlowAfter, FlowBlankLineAfter, CodeIndentedLineAfter, Seat, end_after, with_local, Configuration, Local, byte_of, end_place, seat_before, Given, Text, is_white, all_of, ending_of, line_text, unchanged, code_indented_inside, line_feed, flow_byte, AreLines, IndentedCodeIsRead, IsLine, IsReadAs, KeepsEdits, last_ending, Line, bytes_of, further_code, text_of, Mark, body, code_marks, leaf_marks, lines_marks, span_marks, white, indent, is_blank_line, IsInLine, LineEnds}
-use Rattle.mdconstructs_flow_read.proofs.Looks.ByteClasses.{white-no-feed}
-use Rattle.mdconstructs_flow_read.proofs.Lines.Checks.{read-if-nok, read-if-ok}
-use Rattle.mdconstructs_flow_read.proofs.Blocks.CodeCalls.{Counted, Reads, begins, break-feed, chunk-begins, chunk-feed, chunk-other, chunk-white, feeds, further-feed, further-white, inside-end, inside-on, line-last, line-on, start-ends, start-on}
+use Rattle.mdconstructs_flow_read.proofs.Prelude.{List, None, Some, [], ap, append-nil, append_assoc, arith, cond, drop, false, inl, inr, length, min, nat_le, refl, subst, suc, sym, take, true, zero, ℕ, ◌&&◌, ◌++◌, ◌+◌, ◌-◌, ◌<◌, ◌^◌, ◌∙◌, ◌∷◌, ◌≡◌, ◌≤◌, ◌⊎◌, and_parts, le-leb, leb-true, length-drop, AllByRecursion, end-after-append, Seat, end_after, CodeFlowChunk, CodeIndented, LineEnding, SpaceOrTab, Point, Name, Nok, Ok, Retry, CodeIndentedAfter, CodeIndentedAtBreak, CodeIndentedFurtherAfter, CodeIndentedFurtherBegin, CodeIndentedFurtherStart, CodeIndentedInside, CodeIndentedStart, FlowAfter, FlowBlankLineAfter, with_local, Configuration, Local, byte_of, end_place, seat_before, Given, Text, code_indented_inside, flow_byte, line_feed, unchanged, CodeIndentedLineAfter, AreLines, IndentedCodeIsRead, IsLine, IsReadAs, KeepsEdits, last_ending, Line, bytes_of, further_code, text_of, Mark, body, code_marks, leaf_marks, lines_marks, span_marks, white, indent, is_blank_line, IsInLine, LineEnds, is_white, all_of, ending_of, line_text}
+use Rattle.mdconstructs_flow_read.proofs.Blocks.CodeCalls.{Counted, IsRead, begins, chunk-begins, chunk-feed, chunk-other, feed-read, feeds, further-white, inside_runs, start-ends, start-on, white_runs}
 use Rattle.mdconstructs_flow_read.proofs.Blocks.CodeLooks.{ahead-is, code_ahead, further-is, further_by, look-from-feed}
+use Rattle.mdconstructs_flow_read.proofs.Lines.Checks.{read-if-nok, read-if-ok}
+use Rattle.mdconstructs_flow_read.proofs.Lines.Columns.{back_upto, front_upto, take-upto, upto-all, upto-blank, upto-in-line, upto-short, upto-stops, upto-white, upto-whole}
 use Rattle.mdconstructs_flow_read.proofs.Lines.Fronts.{Fails, prefix-grows}
-use Rattle.mdconstructs_flow_read.proofs.Lines.LineParts.{IsWhite, NoBlank, all-white, first-parts, no-blank}
-use Rattle.mdconstructs_flow_read.proofs.Lines.LineReads.{IsAt, keeps-on, reads-end, reads-nothing, reads-on, reads-parts}
-use Rattle.mdconstructs_flow_read.proofs.Lines.Lines.{EndsWithIt, EndsWithout, all-of-split, body-with-ending, cut-line, line-ending-is, line-text-is, lines-behind, lines-taken, whole-before}
 use Rattle.mdconstructs_flow_read.proofs.Lines.KindsOfLines.{says}
-use Rattle.mdconstructs_flow_read.proofs.Lines.RunReads.{comes, goes}
-
--- ---- white space in front, of so many columns at most
-abbrev front_upto : ℕ → List Seat → List Seat
-front_upto zero l = []
-front_upto (suc m) [] = []
-front_upto (suc m) (s ∷ ss) = cond (is_white s.byte) (s ∷ front_upto m ss) []
-
-abbrev back_upto : ℕ → List Seat → List Seat
-back_upto zero l = l
-back_upto (suc m) [] = []
-back_upto (suc m) (s ∷ ss) = cond (is_white s.byte) (back_upto m ss) (s ∷ ss)
-
-upto-whole : (m : ℕ) (l : List Seat) → front_upto m l ++ back_upto m l ≡ l
-upto-whole zero l = refl
-upto-whole (suc m) [] = refl
-upto-whole (suc m) (s ∷ ss) = elim (is_white s.byte) as (λ w. cond w (s ∷ front_upto m ss) [] ++ cond w (back_upto m ss) (s ∷ ss) ≡ s ∷ ss) [
-  | true ↦ ap (λ l. s ∷ l) (upto-whole m ss)
-  | false ↦ refl
-]
-
-upto-white : (m : ℕ) (l : List Seat) → AllByRecursion IsWhite (front_upto m l)
-upto-white zero l = tt
-upto-white (suc m) [] = tt
-upto-white (suc m) (s ∷ ss) = elim (is_white s.byte) as (λ w. is_white s.byte ≡ w → AllByRecursion IsWhite (cond w (s ∷ front_upto m ss) [])) [
-  | true ↦ λ e. (e, upto-white m ss)
-  | false ↦ λ e. tt
-] refl
-
-upto-short : (m : ℕ) (l : List Seat) → length (front_upto m l) ≤ m
-upto-short zero l = omega arith
-upto-short (suc m) [] = omega arith
-upto-short (suc m) (s ∷ ss) = elim (is_white s.byte) as (λ w. length (cond w (s ∷ front_upto m ss) []) ≤ suc m) [
-  | true ↦ let less = upto-short m ss in omega (arith, less)
-  | false ↦ omega arith
-]
-
-upto-stops : (m : ℕ) (l : List Seat) → (length (front_upto m l) ≡ m) ⊎ Fails is_white (back_upto m l)
-upto-stops zero l = inl refl
-upto-stops (suc m) [] = inr tt
-upto-stops (suc m) (s ∷ ss) = elim (is_white s.byte) as (λ w. is_white s.byte ≡ w → (length (cond w (s ∷ front_upto m ss) []) ≡ suc m) ⊎ Fails is_white (cond w (back_upto m ss) (s ∷ ss))) [
-  | true ↦ λ e. elim (upto-stops m ss) as (λ h. (suc (length (front_upto m ss)) ≡ suc m) ⊎ Fails is_white (back_upto m ss)) [ inl h ↦ inl (ap suc h) | inr h ↦ inr h ]
-  | false ↦ λ e. inr e
-] refl
-
-upto-blank : (m : ℕ) (l : List Seat) → is_blank_line (bytes_of (back_upto m l)) ≡ is_blank_line (bytes_of l)
-upto-blank zero l = refl
-upto-blank (suc m) [] = refl
-upto-blank (suc m) (s ∷ ss) = elim (is_white s.byte) as (λ w. is_white s.byte ≡ w → is_blank_line (bytes_of (cond w (back_upto m ss) (s ∷ ss))) ≡ (w && is_blank_line (bytes_of ss))) [
-  | true ↦ λ e. upto-blank m ss
-  | false ↦ λ e. ap (λ w. w && is_blank_line (bytes_of ss)) e
-] refl
-
-upto-in-line : (m : ℕ) (l : List Seat) → IsInLine l → IsInLine (back_upto m l)
-upto-in-line zero l h = h
-upto-in-line (suc m) [] h = tt
-upto-in-line (suc m) (s ∷ ss) h = elim (is_white s.byte) as (λ w. IsInLine (cond w (back_upto m ss) (s ∷ ss))) [ true ↦ upto-in-line m ss h.1 | false ↦ h ]
-
-upto-all : (P : Seat → Type 0) (m : ℕ) (l : List Seat) → AllByRecursion P l → AllByRecursion P (back_upto m l)
-upto-all P zero l h = h
-upto-all P (suc m) [] h = tt
-upto-all P (suc m) (s ∷ ss) h = elim (is_white s.byte) as (λ w. AllByRecursion P (cond w (back_upto m ss) (s ∷ ss))) [ true ↦ upto-all P m ss h.1 | false ↦ h ]
-
-take-upto : (m : ℕ) (l : List Seat) → (take (min m (indent (bytes_of l))) l ≡ front_upto m l) × (drop (min m (indent (bytes_of l))) l ≡ back_upto m l)
-take-upto zero l = let none : min 0 (indent (bytes_of l)) ≡ 0 = omega arith in (ap (λ n. take n l) none, ap (λ n. drop n l) none)
-take-upto (suc m) [] = let none : min (suc m) 0 ≡ 0 = omega arith in (ap (λ n. take {A = Seat} n []) none, ap (λ n. drop {A = Seat} n []) none)
-take-upto (suc m) (s ∷ ss) =
-    let n = indent (bytes_of ss) in
-    let grown = prefix-grows is_white s.byte (bytes_of ss) in
-    let one : min (suc m) (suc n) ≡ suc (min m n) = omega arith in
-    let none : min (suc m) 0 ≡ 0 = omega arith in
-    let (taken, left) = take-upto m ss in
-    subst (λ i. (take (min (suc m) i) (s ∷ ss) ≡ front_upto (suc m) (s ∷ ss)) × (drop (min (suc m) i) (s ∷ ss) ≡ back_upto (suc m) (s ∷ ss))) (sym grown)
-    (elim (is_white s.byte) as (λ w. (take (min (suc m) (cond w (suc n) 0)) (s ∷ ss) ≡ cond w (s ∷ front_upto m ss) []) × (drop (min (suc m) (cond w (suc n) 0)) (s ∷ ss) ≡ cond w (back_upto m ss) (s ∷ ss))) [
-      | true ↦ (ap (λ i. take i (s ∷ ss)) one ∙ ap (λ l. s ∷ l) taken, ap (λ i. drop i (s ∷ ss)) one ∙ left)
-      | false ↦ (ap (λ i. take i (s ∷ ss)) none, ap (λ i. drop i (s ∷ ss)) none)
-    ])
+use Rattle.mdconstructs_flow_read.proofs.Lines.LineParts.{IsWhite, all-white, first-parts}
+use Rattle.mdconstructs_flow_read.proofs.Lines.LineReads.{IsAt, keeps-on, reads-on}
+use Rattle.mdconstructs_flow_read.proofs.Lines.Lines.{EndsWithIt, EndsWithout, cut-line, line-ending-is, line-text-is, lines-behind, seats-split, whole-before}
+use Rattle.mdconstructs_flow_read.proofs.Lines.LinesRead.{AreRead, one-more}
+use Rattle.mdconstructs_flow_read.proofs.Lines.RunReads.{all-in-line, byte-then, comes, edits_kept, fails-line, goes, is_in_line, none-then, row-ends, run-on, then, then-ends}
+use Rattle.mdconstructs_flow_read.proofs.Looks.ByteClasses.{white-no-feed}
 
 module _ (g : Given) (t : Text) where
   -- the marks of a line of code that begins with white space
@@ -97,48 +23,36 @@ module _ (g : Given) (t : Text) where
       ∙ ap (λ b. white g.bytes (s ∷ front_upto 3 ss) ++ leaf_marks g.bytes CodeFlowChunk b) (left ∙ ap (λ w. cond w (back_upto 3 ss) (s ∷ ss)) is)
 
   -- ---- along a line
-  start-run : (w : List Seat) (j : ℕ) → AllByRecursion IsWhite w → j + length w ≤ 4 → (k : Configuration Unit Unit) (p : Point) (rest : List Seat) → (j + length w ≡ 4) ⊎ NoBlank rest → k.local.tokenize_state.space_or_tab_size ≡ j
-      → IsAt t k p (w ++ rest) → Reads g t k CodeIndentedStart w rest (goes g t SpaceOrTab (end_after p w)) CodeIndentedAtBreak
+  start-run : (w : List Seat) (j : ℕ) → AllByRecursion IsWhite w → j + length w ≤ 4 → (k : Configuration Unit Unit) (p : Point) (rest : List Seat) → (j + length w ≡ 4) ⊎ Fails is_white rest → k.local.tokenize_state.space_or_tab_size ≡ j
+      → IsAt t k p (w ++ rest) → IsRead g t k CodeIndentedStart w rest (goes g t SpaceOrTab (end_after p w)) CodeIndentedAtBreak
   start-run [] j all short k p rest (inl four) count at = let is_four : j ≡ 4 = omega (arith, four) in start-ends g t k p rest (inl (count ∙ is_four)) at
   start-run [] j all short k p rest (inr none) count at = start-ends g t k p rest (inr none) at
   start-run (s ∷ ss) j all short k p rest stop count at =
       let less : j < 4 = omega (arith, short) in
-      let next : (suc j + length ss ≡ 4) ⊎ NoBlank rest = elim stop as (λ h. (suc j + length ss ≡ 4) ⊎ NoBlank rest) [ inl h ↦ inl (omega (arith, h)) | inr h ↦ inr h ] in
+      let next : (suc j + length ss ≡ 4) ⊎ Fails is_white rest = elim stop as (λ h. (suc j + length ss ≡ 4) ⊎ Fails is_white rest) [ inl h ↦ inl (omega (arith, h)) | inr h ↦ inr h ] in
       reads-on g t (Counted (suc j)) KeepsEdits KeepsEdits (λ a b c one two. keeps-on a b c one.keeps two) k p CodeIndentedStart CodeIndentedStart (s ∷ []) ss rest [] (goes g t SpaceOrTab (end_after s.end ss)) (Retry CodeIndentedAtBreak) at
       (start-on g t k p s (ss ++ rest) j all.0 count less at)
       (λ k' at' kept. start-run ss (suc j) all.1 (omega (arith, short)) k' s.end rest next kept.count_is at')
 
   -- the indentation, whose first byte is read
   indent-read : (X : Name) (M : List Mark) (k : Configuration Unit Unit) (p : Point) (s : Seat) (w rest : List Seat) → IsReadAs g t (Counted 1) k X (s ∷ []) (w ++ rest) (M ++ comes g t SpaceOrTab s) (Retry CodeIndentedStart)
-      → AllByRecursion IsWhite w → length w ≤ 3 → (length w ≡ 3) ⊎ NoBlank rest → IsAt t k p ((s ∷ w) ++ rest) → Reads g t k X (s ∷ w) rest (M ++ white g.bytes (s ∷ w)) CodeIndentedAtBreak
+      → AllByRecursion IsWhite w → length w ≤ 3 → (length w ≡ 3) ⊎ Fails is_white rest → IsAt t k p ((s ∷ w) ++ rest) → IsRead g t k X (s ∷ w) rest (M ++ white g.bytes (s ∷ w)) CodeIndentedAtBreak
   indent-read X M k p s w rest first all short stop at =
-      let stop' : (1 + length w ≡ 4) ⊎ NoBlank rest = elim stop as (λ h. (1 + length w ≡ 4) ⊎ NoBlank rest) [ inl h ↦ inl (omega (arith, h)) | inr h ↦ inr h ] in
-      subst (λ m. Reads g t k X (s ∷ w) rest m CodeIndentedAtBreak) (append_assoc M (comes g t SpaceOrTab s) (goes g t SpaceOrTab (end_after s.end w)))
+      let stop' : (1 + length w ≡ 4) ⊎ Fails is_white rest = elim stop as (λ h. (1 + length w ≡ 4) ⊎ Fails is_white rest) [ inl h ↦ inl (omega (arith, h)) | inr h ↦ inr h ] in
+      subst (λ m. IsRead g t k X (s ∷ w) rest m CodeIndentedAtBreak) (append_assoc M (comes g t SpaceOrTab s) (goes g t SpaceOrTab (end_after s.end w)))
       (reads-on g t (Counted 1) KeepsEdits KeepsEdits (λ a b c one two. keeps-on a b c one.keeps two) k p X CodeIndentedStart (s ∷ []) w rest (M ++ comes g t SpaceOrTab s) (goes g t SpaceOrTab (end_after s.end w)) (Retry CodeIndentedAtBreak) at first
       (λ k' at' kept. start-run w 1 all (omega (arith, short)) k' s.end rest stop' kept.count_is at'))
 
-  inside-run : (l : List Seat) → IsInLine l → (k : Configuration Unit Unit) (p : Point) (rest : List Seat) → IsAt t k p (l ++ rest) → Reads g t k CodeIndentedInside l rest [] CodeIndentedInside
-  inside-run [] h k p rest at = reads-nothing g t KeepsEdits k CodeIndentedInside rest at.waits (record { edits = refl; resolvers = refl })
-  inside-run (s ∷ ss) h k p rest at =
-      reads-on g t KeepsEdits KeepsEdits KeepsEdits keeps-on k p CodeIndentedInside CodeIndentedInside (s ∷ []) ss rest [] [] (Retry CodeIndentedInside) at
-      (inside-on g t k p s (ss ++ rest) h.0 at) (λ k' at' kept. inside-run ss h.1 k' s.end rest at')
-
   -- a chunk, up to the end of its line
-  chunk-run : (l : List Seat) → IsInLine l → is_blank_line (bytes_of l) ≡ false → (k : Configuration Unit Unit) (p : Point) (rest : List Seat) → IsAt t k p (l ++ rest) → Reads g t k CodeIndentedFurtherAfter l rest [] CodeIndentedInside
+  chunk-run : (l : List Seat) → IsInLine l → is_blank_line (bytes_of l) ≡ false → (k : Configuration Unit Unit) (p : Point) (rest : List Seat) → IsAt t k p (l ++ rest) → IsRead g t k CodeIndentedFurtherAfter l rest [] CodeIndentedInside
   chunk-run [] h dark k p rest at = absurd (cc)
   chunk-run (s ∷ ss) h dark k p rest at =
-      let on = λ (name : Name) (first : Reads g t k CodeIndentedFurtherAfter (s ∷ []) (ss ++ rest) [] name) (more : (k' : Configuration Unit Unit) → IsAt t k' s.end (ss ++ rest) → Reads g t k' name ss rest [] CodeIndentedInside).
-      reads-on g t KeepsEdits KeepsEdits KeepsEdits keeps-on k p CodeIndentedFurtherAfter name (s ∷ []) ss rest [] [] (Retry CodeIndentedInside) at first (λ k' at' kept. more k' at') in
-      elim (is_white s.byte) as (λ w. is_white s.byte ≡ w → (w && is_blank_line (bytes_of ss)) ≡ false → Reads g t k CodeIndentedFurtherAfter (s ∷ ss) rest [] CodeIndentedInside) [
-        | true ↦ λ e d. on CodeIndentedFurtherAfter (chunk-white g t k p s (ss ++ rest) e at) (λ k' at'. chunk-run ss h.1 d k' s.end rest at')
-        | false ↦ λ e d. on CodeIndentedInside (chunk-other g t k p s (ss ++ rest) h.0 e at) (λ k' at'. inside-run ss h.1 k' s.end rest at')
+      elim (is_white s.byte) as (λ w. is_white s.byte ≡ w → (w && is_blank_line (bytes_of ss)) ≡ false → IsRead g t k CodeIndentedFurtherAfter (s ∷ ss) rest [] CodeIndentedInside) [
+        | true ↦ λ e d. byte-then g t edits_kept k p CodeIndentedFurtherAfter CodeIndentedFurtherAfter CodeIndentedInside s ss rest [] [] at
+            (run-on g t edits_kept CodeIndentedFurtherAfter is_white white_runs (s ∷ []) (ss ++ rest) (e, tt) k p at) (λ k' at' kept. chunk-run ss h.1 d k' s.end rest at')
+        | false ↦ λ e d. byte-then g t edits_kept k p CodeIndentedFurtherAfter CodeIndentedInside CodeIndentedInside s ss rest [] [] at
+            (chunk-other g t k p s (ss ++ rest) h.0 e at) (λ k' at' kept. run-on g t edits_kept CodeIndentedInside is_in_line inside_runs ss rest (all-in-line ss h.1) k' s.end at')
       ] refl dark
-
-  white-run : (l : List Seat) → AllByRecursion IsWhite l → (k : Configuration Unit Unit) (p : Point) (rest : List Seat) → IsAt t k p (l ++ rest) → Reads g t k CodeIndentedFurtherAfter l rest [] CodeIndentedFurtherAfter
-  white-run [] h k p rest at = reads-nothing g t KeepsEdits k CodeIndentedFurtherAfter rest at.waits (record { edits = refl; resolvers = refl })
-  white-run (s ∷ ss) h k p rest at =
-      reads-on g t KeepsEdits KeepsEdits KeepsEdits keeps-on k p CodeIndentedFurtherAfter CodeIndentedFurtherAfter (s ∷ []) ss rest [] [] (Retry CodeIndentedFurtherAfter) at
-      (chunk-white g t k p s (ss ++ rest) h.0 at) (λ k' at' kept. white-run ss h.1 k' s.end rest at')
 
   -- ---- at the end of a line of code
   module _ (room : length t.seats < 2 ^ 64 - 1) (k : Configuration Unit Unit) (p : Point) (e : Seat) (rest : List Seat) (feed : e.byte ≡ 10) (at : IsAt t k p (e ∷ rest)) where
@@ -148,19 +62,19 @@ module _ (g : Given) (t : Text) where
     there : (local : Local Unit Unit) → IsAt t (with_local k local) p (e ∷ rest)
     there local = record { behind = at.behind; left = at.left; waits = at.waits }
 
-    further : code_ahead 0 rest ≡ true → Reads g t k CodeIndentedInside (e ∷ []) rest (goes g t CodeFlowChunk p ++ feeds g t e) CodeIndentedFurtherBegin
+    further : code_ahead 0 rest ≡ true → IsRead g t k CodeIndentedInside (e ∷ []) rest (goes g t CodeFlowChunk p ++ feeds g t e) CodeIndentedFurtherBegin
     further ahead =
         let h = look-from-feed g t k.stack k.events e rest feed (byte_of (seat_before t k.position)) k.position k.ended (unchanged k.local) less in
         read-if-ok g t k e rest at.left at.waits CodeIndentedInside CodeIndentedFurtherStart CodeIndentedLineAfter CodeIndentedAfter code_indented_inside refl line_feed (ap flow_byte feed) [] (λ previous. refl)
         KeepsEdits (λ after kept. record { edits = kept.edits ∙ h.keeps.edits; resolvers = kept.resolvers ∙ h.keeps.resolvers }) (e ∷ []) rest (goes g t CodeFlowChunk p ++ feeds g t e) (Retry CodeIndentedFurtherBegin)
-        (h.answer ∙ ap (λ b. cond b Ok Nok) ahead) (line-on g t _ p e rest feed (there _))
+        (h.answer ∙ ap (λ b. cond b Ok Nok) ahead) (chunk-feed g t _ p CodeIndentedLineAfter (λ b. refl) e rest feed (there _))
 
-    last : code_ahead 0 rest ≡ false → Reads g t k CodeIndentedInside [] (e ∷ rest) (goes g t CodeFlowChunk p ++ goes g t CodeIndented p) FlowAfter
+    last : code_ahead 0 rest ≡ false → IsRead g t k CodeIndentedInside [] (e ∷ rest) (goes g t CodeFlowChunk p ++ goes g t CodeIndented p) FlowAfter
     last ahead =
         let h = look-from-feed g t k.stack k.events e rest feed (byte_of (seat_before t k.position)) k.position k.ended (unchanged k.local) less in
         read-if-nok g t k e rest at.left at.waits CodeIndentedInside CodeIndentedFurtherStart CodeIndentedLineAfter CodeIndentedAfter code_indented_inside refl line_feed (ap flow_byte feed) [] (λ previous. refl)
         KeepsEdits (λ after kept. record { edits = kept.edits ∙ h.keeps.edits; resolvers = kept.resolvers ∙ h.keeps.resolvers }) [] (e ∷ rest) (goes g t CodeFlowChunk p ++ goes g t CodeIndented p) (Retry FlowAfter)
-        (h.answer ∙ ap (λ b. cond b Ok Nok) ahead) (line-last g t _ p e rest feed (there _))
+        (h.answer ∙ ap (λ b. cond b Ok Nok) ahead) (row-ends g t edits_kept CodeIndentedAfter (CodeFlowChunk ∷ CodeIndented ∷ []) FlowAfter _ p (e ∷ rest) (Some line_feed) (there _) (ap (λ b. Some (flow_byte b)) feed) (λ b. refl))
 
 -- one further line at least: how many are behind it
 more-further : (f n : ℕ) → cond (nat_le 1 f) (suc f) 0 ≡ suc n → (n ≡ f) × (1 ≤ f)
@@ -172,57 +86,51 @@ more-further f n h = elim (nat_le 1 f) as (λ b. nat_le 1 f ≡ b → cond b (su
 module _ (g : Given) (t : Text) where
   -- ---- lines
   blank-chunk : (b : List Seat) (e : Seat) (rest : List Seat) → AllByRecursion IsWhite b → e.byte ≡ 10 → (k : Configuration Unit Unit) (p : Point) → IsAt t k p ((b ++ e ∷ []) ++ rest)
-      → Reads g t k CodeIndentedAtBreak (b ++ e ∷ []) rest (leaf_marks g.bytes CodeFlowChunk b ++ feeds g t e) CodeIndentedFurtherBegin
-  blank-chunk [] e rest all feed k p at = break-feed g t k p e rest feed at
+      → IsRead g t k CodeIndentedAtBreak (b ++ e ∷ []) rest (leaf_marks g.bytes CodeFlowChunk b ++ feeds g t e) CodeIndentedFurtherBegin
+  blank-chunk [] e rest all feed k p at = feed-read g t k p CodeIndentedAtBreak (λ b. refl) e rest feed at
   blank-chunk (c ∷ cs) e rest all feed k p at =
       let q = end_after c.end cs in
-      reads-on g t KeepsEdits KeepsEdits KeepsEdits keeps-on k p CodeIndentedAtBreak CodeIndentedFurtherAfter [] ((c ∷ cs) ++ e ∷ []) rest (comes g t CodeFlowChunk c) (goes g t CodeFlowChunk q ++ feeds g t e) (Retry CodeIndentedFurtherBegin) at
+      none-then g t edits_kept k p CodeIndentedAtBreak CodeIndentedFurtherAfter CodeIndentedFurtherBegin ((c ∷ cs) ++ e ∷ []) rest (comes g t CodeFlowChunk c) (goes g t CodeFlowChunk q ++ feeds g t e) at
       (chunk-begins g t k p c ((cs ++ e ∷ []) ++ rest) (white-no-feed c.byte all.0) at)
-      (λ k' at' kept.
-      reads-parts g t KeepsEdits KeepsEdits KeepsEdits keeps-on k' p CodeIndentedFurtherAfter CodeIndentedFurtherAfter (c ∷ cs) (e ∷ []) rest [] (goes g t CodeFlowChunk q ++ feeds g t e) (Retry CodeIndentedFurtherBegin) at'
-      (λ at''. white-run g t (c ∷ cs) all k' p (e ∷ rest) at'')
-      (λ k'' at'' kept'. chunk-feed g t k'' q e rest feed at''))
+      (λ k' at' kept. then g t edits_kept k' p CodeIndentedFurtherAfter CodeIndentedFurtherAfter CodeIndentedFurtherBegin (c ∷ cs) (e ∷ []) ((c ∷ cs) ++ e ∷ []) rest refl [] (λ _. goes g t CodeFlowChunk q ++ feeds g t e) at'
+      (λ at''. run-on g t edits_kept CodeIndentedFurtherAfter is_white white_runs (c ∷ cs) (e ∷ rest) all k' p at'') (λ k'' at'' kept'. chunk-feed g t k'' q CodeIndentedFurtherAfter (λ b. refl) e rest feed at''))
 
   -- a blank line between lines of code
   blank-line : (text : List Seat) (e : Seat) (rest : List Seat) → AllByRecursion IsWhite text → e.byte ≡ 10 → (k : Configuration Unit Unit) (p : Point) → IsAt t k p ((text ++ e ∷ []) ++ rest)
-      → Reads g t k CodeIndentedFurtherBegin (text ++ e ∷ []) rest (code_marks g.bytes 4 text ++ feeds g t e) CodeIndentedFurtherBegin
-  blank-line [] e rest all feed k p at = further-feed g t k p e rest feed at
+      → IsRead g t k CodeIndentedFurtherBegin (text ++ e ∷ []) rest (code_marks g.bytes 4 text ++ feeds g t e) CodeIndentedFurtherBegin
+  blank-line [] e rest all feed k p at = feed-read g t k p CodeIndentedFurtherBegin (λ b. refl) e rest feed at
   blank-line (s ∷ ss) e rest all feed k p at =
       let w = front_upto 3 ss in
       let b = back_upto 3 ss in
       let whole : (s ∷ w) ++ (b ++ e ∷ []) ≡ (s ∷ ss) ++ e ∷ [] = ap (λ l. s ∷ l) (sym (append_assoc w b (e ∷ [])) ∙ ap (λ l. l ++ e ∷ []) (upto-whole 3 ss)) in
       let marks : code_marks g.bytes 4 (s ∷ ss) ++ feeds g t e ≡ white g.bytes (s ∷ w) ++ (leaf_marks g.bytes CodeFlowChunk b ++ feeds g t e) =
       ap (λ m. m ++ feeds g t e) (code-marks g t s ss all.0) ∙ append_assoc (white g.bytes (s ∷ w)) (leaf_marks g.bytes CodeFlowChunk b) (feeds g t e) in
-      let stop : (length w ≡ 3) ⊎ NoBlank ((b ++ e ∷ []) ++ rest) =
-      elim (upto-stops 3 ss) as (λ h. (length w ≡ 3) ⊎ NoBlank ((b ++ e ∷ []) ++ rest)) [ inl h ↦ inl h | inr h ↦ inr (subst NoBlank (sym (append_assoc b (e ∷ []) rest)) (no-blank b (e ∷ rest) h feed)) ] in
-      subst (λ m. Reads g t k CodeIndentedFurtherBegin ((s ∷ ss) ++ e ∷ []) rest m CodeIndentedFurtherBegin) (sym marks)
-      (subst (λ l. Reads g t k CodeIndentedFurtherBegin l rest (white g.bytes (s ∷ w) ++ (leaf_marks g.bytes CodeFlowChunk b ++ feeds g t e)) CodeIndentedFurtherBegin) whole
-      (reads-parts g t KeepsEdits KeepsEdits KeepsEdits keeps-on k p CodeIndentedFurtherBegin CodeIndentedAtBreak (s ∷ w) (b ++ e ∷ []) rest (white g.bytes (s ∷ w)) (leaf_marks g.bytes CodeFlowChunk b ++ feeds g t e) (Retry CodeIndentedFurtherBegin)
-      (subst (λ l. IsAt t k p (l ++ rest)) (sym whole) at)
+      let stop : (length w ≡ 3) ⊎ Fails is_white ((b ++ e ∷ []) ++ rest) = elim (upto-stops 3 ss) as (λ h. (length w ≡ 3) ⊎ Fails is_white ((b ++ e ∷ []) ++ rest)) [
+        | inl h ↦ inl h
+        | inr h ↦ inr (subst (Fails is_white) (sym (append_assoc b (e ∷ []) rest)) (fails-line is_white refl b (e ∷ rest) h feed))
+      ] in
+      subst (λ m. IsRead g t k CodeIndentedFurtherBegin ((s ∷ ss) ++ e ∷ []) rest m CodeIndentedFurtherBegin) (sym marks)
+      (then g t edits_kept k p CodeIndentedFurtherBegin CodeIndentedAtBreak CodeIndentedFurtherBegin (s ∷ w) (b ++ e ∷ []) ((s ∷ ss) ++ e ∷ []) rest whole (white g.bytes (s ∷ w)) (λ _. leaf_marks g.bytes CodeFlowChunk b ++ feeds g t e) at
       (λ at'. indent-read g t CodeIndentedFurtherBegin [] k p s w ((b ++ e ∷ []) ++ rest) (further-white g t k p s (w ++ ((b ++ e ∷ []) ++ rest)) all.0 at') (upto-white 3 ss) (upto-short 3 ss) stop at')
-      (λ k' at' kept. blank-chunk b e rest (upto-all IsWhite 3 ss all.1) feed k' (end_after p (s ∷ w)) at')))
+      (λ k' at' kept. blank-chunk b e rest (upto-all IsWhite 3 ss all.1) feed k' (end_after p (s ∷ w)) at'))
 
   -- the text of a line of code
   code-text : (X : Name) (M : List Mark) (s c : Seat) (ss cs rest : List Seat) → IsWhite s → back_upto 3 ss ≡ c ∷ cs → IsInLine ss → is_blank_line (bytes_of ss) ≡ false → LineEnds rest → (k : Configuration Unit Unit) (p : Point)
       → ((rest' : List Seat) → IsAt t k p (s ∷ rest') → IsReadAs g t (Counted 1) k X (s ∷ []) rest' (M ++ comes g t SpaceOrTab s) (Retry CodeIndentedStart))
-      → IsAt t k p ((s ∷ ss) ++ rest) → Reads g t k X (s ∷ ss) rest (M ++ (white g.bytes (s ∷ front_upto 3 ss) ++ comes g t CodeFlowChunk c)) CodeIndentedInside
+      → IsAt t k p ((s ∷ ss) ++ rest) → IsRead g t k X (s ∷ ss) rest (M ++ (white g.bytes (s ∷ front_upto 3 ss) ++ comes g t CodeFlowChunk c)) CodeIndentedInside
   code-text X M s c ss cs rest is split in_line dark ends k p first at =
       let w = front_upto 3 ss in
       let b = c ∷ cs in
+      let q = end_after p (s ∷ w) in
       let whole : (s ∷ w) ++ b ≡ s ∷ ss = ap (λ l. s ∷ l) (ap (λ l. w ++ l) (sym split) ∙ upto-whole 3 ss) in
       let b_in_line : IsInLine b = subst IsInLine split (upto-in-line 3 ss in_line) in
       let b_dark : is_blank_line (bytes_of b) ≡ false = ap (λ l. is_blank_line (bytes_of l)) (sym split) ∙ upto-blank 3 ss ∙ dark in
-      let stop : (length w ≡ 3) ⊎ NoBlank (b ++ rest) = elim (upto-stops 3 ss) as (λ h. (length w ≡ 3) ⊎ NoBlank (b ++ rest)) [ inl h ↦ inl h | inr h ↦ inr (no-blank b rest (subst (Fails is_white) split h) ends) ] in
-      subst (λ m. Reads g t k X (s ∷ ss) rest m CodeIndentedInside) (append_assoc M (white g.bytes (s ∷ w)) (comes g t CodeFlowChunk c))
-      (subst (λ l. Reads g t k X l rest ((M ++ white g.bytes (s ∷ w)) ++ comes g t CodeFlowChunk c) CodeIndentedInside) whole
-      (reads-parts g t KeepsEdits KeepsEdits KeepsEdits keeps-on k p X CodeIndentedAtBreak (s ∷ w) b rest (M ++ white g.bytes (s ∷ w)) (comes g t CodeFlowChunk c) (Retry CodeIndentedInside)
-      (subst (λ l. IsAt t k p (l ++ rest)) (sym whole) at)
+      let stop : (length w ≡ 3) ⊎ Fails is_white (b ++ rest) = elim (upto-stops 3 ss) as (λ h. (length w ≡ 3) ⊎ Fails is_white (b ++ rest)) [ inl h ↦ inl h | inr h ↦ inr (subst (Fails is_white) split h) ] in
+      subst (λ m. IsRead g t k X (s ∷ ss) rest m CodeIndentedInside) (append_assoc M (white g.bytes (s ∷ w)) (comes g t CodeFlowChunk c))
+      (then g t edits_kept k p X CodeIndentedAtBreak CodeIndentedInside (s ∷ w) b (s ∷ ss) rest whole (M ++ white g.bytes (s ∷ w)) (λ _. comes g t CodeFlowChunk c) at
       (λ at'. indent-read g t X M k p s w (b ++ rest) (first (w ++ (b ++ rest)) at') (upto-white 3 ss) (upto-short 3 ss) stop at')
-      (λ k' at' kept.
-      let q = end_after p (s ∷ w) in
-      reads-on g t KeepsEdits KeepsEdits KeepsEdits keeps-on k' q CodeIndentedAtBreak CodeIndentedFurtherAfter [] b rest (comes g t CodeFlowChunk c) [] (Retry CodeIndentedInside) at'
-      (chunk-begins g t k' q c (cs ++ rest) b_in_line.0 at')
-      (λ k'' at'' kept'. chunk-run g t b b_in_line b_dark k'' q rest at''))))
+      (λ k' at' kept. none-then g t edits_kept k' q CodeIndentedAtBreak CodeIndentedFurtherAfter CodeIndentedInside b rest (comes g t CodeFlowChunk c) [] at' (chunk-begins g t k' q c (cs ++ rest) b_in_line.0 at')
+      (λ k'' at'' kept'. chunk-run g t b b_in_line b_dark k'' q rest at'')))
 
 -- The text of a line of code: white space comes first, and a chunk behind four columns of it
 record CodeText (l : List Seat) : Type 0 where
@@ -249,34 +157,25 @@ code-text-is (s ∷ ss) dark far in_line =
       | c ∷ cs ↦ λ e d. record { s = s; ss = ss; c = c; cs = cs; is = refl; white_first = first; split = e; in_line = in_line.1; dark = more }
     ] refl b_dark
 
--- lines without the last line ending, that, and what is behind them
-cut-at : (n : ℕ) (lines : List Line) → AreLines lines → body (take n lines) ++ (last_ending (take n lines) ++ all_of (drop n lines)) ≡ all_of lines
-cut-at n lines are =
-    sym (append_assoc (body (take n lines)) (last_ending (take n lines)) (all_of (drop n lines)))
-    ∙ ap (λ l. l ++ all_of (drop n lines)) (body-with-ending (take n lines) (lines-taken n lines are)) ∙ all-of-split n lines
-
 module _ (g : Given) (t : Text) (is_on : g.options.constructs.code_indented ≡ true) (room : length t.seats < 2 ^ 64 - 1) where
   abbrev count : List Line → ℕ
   count lines = further_code g.options.constructs lines
 
-  abbrev marks_of : List Line → List Mark
-  marks_of lines = lines_marks g.bytes (code_marks g.bytes 4) false lines
-
   -- lines are read, up to the end of the block
   abbrev LinesRead : (X : Name) (M : List Mark) → Configuration Unit Unit → Point → (lines behind : List Line) → Type 0
-  LinesRead X M k p lines behind = Reads g t k X (body lines) (last_ending lines ++ all_of behind) (M ++ (marks_of lines ++ goes g t CodeIndented (end_after p (body lines)))) FlowAfter
+  LinesRead X M k p lines behind = AreRead g t edits_kept (code_marks g.bytes 4) (goes g t CodeIndented) k X p M false lines behind
 
   -- the last line's end
   code-ends : (line : Line) (more : List Line) → AreLines (line ∷ more) → EndsWithIt line ⊎ EndsWithout line more → count more ≡ 0 → (k : Configuration Unit Unit) (p : Point) → IsAt t k p (ending_of line ++ all_of more)
-      → Reads g t k CodeIndentedInside [] (ending_of line ++ all_of more) (goes g t CodeFlowChunk p ++ goes g t CodeIndented p) FlowAfter
+      → IsRead g t k CodeIndentedInside [] (ending_of line ++ all_of more) (goes g t CodeFlowChunk p ++ goes g t CodeIndented p) FlowAfter
   code-ends line more are (inl with) none k p at =
       let rest : ending_of line ++ all_of more ≡ with.ending ∷ all_of more = ap (λ e. e ++ all_of more) with.is in
       let ahead : code_ahead 0 (all_of more) ≡ false = ahead-is g.options.constructs is_on more (lines-behind line more are) ∙ ap (nat_le 1) none in
-      subst (λ r. Reads g t k CodeIndentedInside [] r (goes g t CodeFlowChunk p ++ goes g t CodeIndented p) FlowAfter) (sym rest)
+      subst (λ r. IsRead g t k CodeIndentedInside [] r (goes g t CodeFlowChunk p ++ goes g t CodeIndented p) FlowAfter) (sym rest)
       (last g t room k p with.ending (all_of more) with.feed (subst (λ r. IsAt t k p r) rest at) ahead)
   code-ends line more are (inr without) none k p at =
       let rest : ending_of line ++ all_of more ≡ [] = ap (λ e. e ++ all_of more) without.is ∙ ap all_of without.last in
-      subst (λ r. Reads g t k CodeIndentedInside [] r (goes g t CodeFlowChunk p ++ goes g t CodeIndented p) FlowAfter) (sym rest) (inside-end g t k p (subst (λ r. IsAt t k p r) rest at))
+      subst (λ r. IsRead g t k CodeIndentedInside [] r (goes g t CodeFlowChunk p ++ goes g t CodeIndented p) FlowAfter) (sym rest) (row-ends g t edits_kept CodeIndentedInside (CodeFlowChunk ∷ CodeIndented ∷ []) FlowAfter k p [] None (subst (λ r. IsAt t k p r) rest at) refl (λ b. refl))
 
   -- the marks of a line's text
   text-marks : (l : List Seat) (h : CodeText l) (p : Point) → code_marks g.bytes 4 l ≡ white g.bytes (h.s ∷ front_upto 3 h.ss) ++ (comes g t CodeFlowChunk h.c ++ goes g t CodeFlowChunk (end_after p l))
@@ -291,8 +190,8 @@ module _ (g : Given) (t : Text) (is_on : g.options.constructs.code_indented ≡ 
   five : (m a b c d : List Mark) → (m ++ (a ++ b)) ++ (c ++ d) ≡ m ++ (((a ++ (b ++ c)) ++ []) ++ d)
   five m a b c d = simp (append_assoc, append-nil)
 
-  seven : (m a b c d e f : List Mark) → ((m ++ (a ++ b)) ++ (c ++ d)) ++ (e ++ f) ≡ m ++ (((a ++ (b ++ c)) ++ (d ++ e)) ++ f)
-  seven m a b c d e f = simp append_assoc
+  four : (m a b c d : List Mark) → (m ++ (a ++ b)) ++ (c ++ d) ≡ m ++ ((a ++ (b ++ c)) ++ d)
+  four m a b c d = simp append_assoc
 
   abbrev First : (X : Name) (M : List Mark) → Configuration Unit Unit → Point → Seat → Type 0
   First X M k p s = (rest : List Seat) → IsAt t k p (s ∷ rest) → IsReadAs g t (Counted 1) k X (s ∷ []) rest (M ++ comes g t SpaceOrTab s) (Retry CodeIndentedStart)
@@ -300,10 +199,10 @@ module _ (g : Given) (t : Text) (is_on : g.options.constructs.code_indented ≡ 
   -- a line's text, before its ending
   text-read : (X : Name) (M : List Mark) (line : Line) (more : List Line) → AreLines (line ∷ more) → (h : CodeText (line_text line)) → (k : Configuration Unit Unit) (p : Point) → First X M k p h.s
       → IsAt t k p (line_text line ++ (ending_of line ++ all_of more))
-      → Reads g t k X (line_text line) (ending_of line ++ all_of more) (M ++ (white g.bytes (h.s ∷ front_upto 3 h.ss) ++ comes g t CodeFlowChunk h.c)) CodeIndentedInside
+      → IsRead g t k X (line_text line) (ending_of line ++ all_of more) (M ++ (white g.bytes (h.s ∷ front_upto 3 h.ss) ++ comes g t CodeFlowChunk h.c)) CodeIndentedInside
   text-read X M line more are h k p first at =
       let rest = ending_of line ++ all_of more in
-      subst (λ l. Reads g t k X l rest (M ++ (white g.bytes (h.s ∷ front_upto 3 h.ss) ++ comes g t CodeFlowChunk h.c)) CodeIndentedInside) (sym h.is)
+      subst (λ l. IsRead g t k X l rest (M ++ (white g.bytes (h.s ∷ front_upto 3 h.ss) ++ comes g t CodeFlowChunk h.c)) CodeIndentedInside) (sym h.is)
       (code-text g t X M h.s h.c h.ss h.cs rest h.white_first h.split h.in_line h.dark (first-parts line more are).ends k p first (subst (λ l. IsAt t k p (l ++ rest)) h.is at))
 
   -- where a line of code is the last one
@@ -317,48 +216,34 @@ module _ (g : Given) (t : Text) (is_on : g.options.constructs.code_indented ≡ 
       let x = comes g t CodeFlowChunk h.c in
       let y = goes g t CodeFlowChunk q in
       let z = goes g t CodeIndented q in
-      subst (λ m. Reads g t k X text rest m FlowAfter) (five M lw x y z ∙ ap (λ m. M ++ ((m ++ []) ++ z)) (sym (text-marks text h p)))
-      (reads-end g t KeepsEdits KeepsEdits KeepsEdits keeps-on k p X CodeIndentedInside text rest (M ++ (lw ++ x)) (y ++ z) (Retry FlowAfter) at
+      subst (λ m. IsRead g t k X text rest m FlowAfter) (five M lw x y z ∙ ap (λ m. M ++ ((m ++ []) ++ z)) (sym (text-marks text h p)))
+      (then-ends g t edits_kept k p X CodeIndentedInside FlowAfter text rest (M ++ (lw ++ x)) (y ++ z) at
       (text-read X M line more are h k p first at)
       (λ k' at' kept. code-ends line more are (cut-line line more are).ends none k' q at'))
 
   -- or others follow
-  line-before : (X : Name) (M : List Mark) (line next : Line) (lines behind more : List Line) → 1 ≤ count more → all_of more ≡ body (next ∷ lines) ++ (last_ending (next ∷ lines) ++ all_of behind) → AreLines more → IsLine line
+  line-before : (X : Name) (M : List Mark) (line next : Line) (lines behind more : List Line) → 1 ≤ count more → body (next ∷ lines) ++ (last_ending (next ∷ lines) ++ all_of behind) ≡ all_of more → AreLines more → IsLine line
       → (h : CodeText (line_text line)) → (k : Configuration Unit Unit) (p : Point) → First X M k p h.s
       → ((k' : Configuration Unit Unit) (q : Point) → IsAt t k' q (all_of more) → LinesRead CodeIndentedFurtherBegin [] k' q (next ∷ lines) behind)
       → IsAt t k p (line ++ all_of more) → LinesRead X M k p (line ∷ next ∷ lines) behind
-  line-before X M line next lines behind more some split are is h k p first then at =
-      let text_is = line-text-is line is in
+  line-before X M line next lines behind more some split are is h k p first further_are at =
       let ending_is = line-ending-is line is in
       let e = is.ending in
       let text = line_text line in
-      let B = body (next ∷ lines) in
-      let R = last_ending (next ∷ lines) ++ all_of behind in
       let q = end_after p text in
       let lw = white g.bytes (h.s ∷ front_upto 3 h.ss) in
       let x = comes g t CodeFlowChunk h.c in
       let y = goes g t CodeFlowChunk q in
-      let lm = marks_of (next ∷ lines) in
-      let z = λ (end : Point). goes g t CodeIndented end in
-      let whole : text ++ e ∷ [] ≡ line = ap (λ l. l ++ e ∷ []) text_is ∙ sym is.is in
+      let whole : text ++ e ∷ [] ≡ line = ap (λ l. l ++ e ∷ []) (line-text-is line is) ∙ sym is.is in
       let ahead : code_ahead 0 (all_of more) ≡ true = ahead-is g.options.constructs is_on more are ∙ le-leb 1 (count more) some in
-      let marks : ((M ++ (lw ++ x)) ++ (y ++ feeds g t e)) ++ (lm ++ z (end_after (end_after p line) B)) ≡ M ++ (marks_of (line ∷ next ∷ lines) ++ z (end_after p (line ++ B))) =
-      seven M lw x y (feeds g t e) lm (z (end_after (end_after p line) B))
-      ∙ ap (λ m. M ++ ((m ++ (feeds g t e ++ lm)) ++ z (end_after (end_after p line) B))) (sym (text-marks text h p))
-      ∙ ap (λ m. M ++ ((code_marks g.bytes 4 text ++ (leaf_marks g.bytes LineEnding m ++ lm)) ++ z (end_after (end_after p line) B))) (sym ending_is)
-      ∙ ap (λ end. M ++ (marks_of (line ∷ next ∷ lines) ++ z end)) (sym (end-after-append p line B)) in
-      let line_marks : List Mark = (M ++ (lw ++ x)) ++ (y ++ feeds g t e) in
-      subst (λ m. Reads g t k X (line ++ B) R m FlowAfter) marks
-      (reads-parts g t KeepsEdits KeepsEdits KeepsEdits keeps-on k p X CodeIndentedFurtherBegin line B R line_marks (lm ++ z (end_after (end_after p line) B)) (Retry FlowAfter)
-      (subst (λ l. IsAt t k p l) (ap (λ l. line ++ l) split ∙ sym (append_assoc line B R)) at)
-      (λ at'.
-      subst (λ l. Reads g t k X l (B ++ R) line_marks CodeIndentedFurtherBegin) whole
-      (reads-parts g t KeepsEdits KeepsEdits KeepsEdits keeps-on k p X CodeIndentedInside text (e ∷ []) (B ++ R) (M ++ (lw ++ x)) (y ++ feeds g t e) (Retry CodeIndentedFurtherBegin)
-      (subst (λ l. IsAt t k p (l ++ (B ++ R))) (sym whole) at')
-      (λ at''. subst (λ r. Reads g t k X text r (M ++ (lw ++ x)) CodeIndentedInside) (ap (λ c. c ++ all_of more) ending_is ∙ ap (λ l. e ∷ l) split)
-      (text-read X M line more (whole-before line more is are) h k p first (subst (λ r. IsAt t k p (text ++ r)) (sym (ap (λ c. c ++ all_of more) ending_is ∙ ap (λ l. e ∷ l) split)) at'')))
-      (λ k' at'' kept. further g t room k' q e (B ++ R) is.ends at'' (ap (code_ahead 0) (sym split) ∙ ahead))))
-      (λ k' at' kept. then k' (end_after p line) (subst (λ l. IsAt t k' (end_after p line) l) (sym split) at')))
+      let rest_is : ending_of line ++ all_of more ≡ e ∷ all_of more = ap (λ c. c ++ all_of more) ending_is in
+      one-more g t edits_kept (code_marks g.bytes 4) (goes g t CodeIndented) k X CodeIndentedFurtherBegin p M false line (next ∷ lines) behind (all_of more) tt split at
+      (λ at. subst (λ m. IsRead g t k X line (all_of more) m CodeIndentedFurtherBegin)
+      (four M lw x y (feeds g t e) ∙ ap (λ m. M ++ (m ++ feeds g t e)) (sym (text-marks text h p)) ∙ ap (λ c. M ++ (code_marks g.bytes 4 text ++ leaf_marks g.bytes LineEnding c)) (sym ending_is))
+      (then g t edits_kept k p X CodeIndentedInside CodeIndentedFurtherBegin text (e ∷ []) line (all_of more) whole (M ++ (lw ++ x)) (λ _. y ++ feeds g t e) at
+      (λ at'. subst (λ r. IsRead g t k X text r (M ++ (lw ++ x)) CodeIndentedInside) rest_is (text-read X M line more (whole-before line more is are) h k p first (subst (λ r. IsAt t k p (text ++ r)) (sym rest_is) at')))
+      (λ k' at' kept. further g t room k' q e (all_of more) is.ends at' ahead)))
+      (λ k' q at' kept. further_are k' q at')
 
   -- what is behind a line
   abbrev Then : List Line → Type 0
@@ -367,42 +252,28 @@ module _ (g : Given) (t : Text) (is_on : g.options.constructs.code_indented ≡ 
   -- from a line of code on
   from-line : (X : Name) (M : List Mark) (line : Line) (more : List Line) (n : ℕ) → n ≡ count more → AreLines (line ∷ more) → (h : CodeText (line_text line)) → (k : Configuration Unit Unit) (p : Point) → First X M k p h.s → Then more
       → IsAt t k p (all_of (line ∷ more)) → LinesRead X M k p (take (suc n) (line ∷ more)) (drop (suc n) (line ∷ more))
-  from-line X M line more zero e are h k p first then at =
+  from-line X M line more zero e are h k p first behind_it at =
       let split : line ++ all_of more ≡ line_text line ++ (ending_of line ++ all_of more) = ap (λ l. l ++ all_of more) (first-parts line more are).is ∙ append_assoc (line_text line) (ending_of line) (all_of more) in
       last-line X M line more (sym e) are h k p first (subst (λ l. IsAt t k p l) split at)
-  from-line X M line [] (suc n) e are h k p first then at = absurd (cc)
-  from-line X M line (next ∷ more) (suc n) e are h k p first then at =
-      line-before X M line next (take n more) (drop n more) (next ∷ more) (omega (arith, e)) (sym (cut-at (suc n) (next ∷ more) are.1)) are.1 are.0 h k p first (λ k' q at'. then n e k' q at') at
+  from-line X M line [] (suc n) e are h k p first behind_it at = absurd (cc)
+  from-line X M line (next ∷ more) (suc n) e are h k p first behind_it at =
+      line-before X M line next (take n more) (drop n more) (next ∷ more) (omega (arith, e)) (seats-split false (suc n) (next ∷ more) are.1) are.1 are.0 h k p first (λ k' q at'. behind_it n e k' q at') at
 
   -- from a blank line on
   from-blank : (line : Line) (more : List Line) (n : ℕ) → n ≡ count more → 1 ≤ count more → AreLines (line ∷ more) → is_blank_line (text_of line) ≡ true → (k : Configuration Unit Unit) (p : Point) → Then more
       → IsAt t k p (all_of (line ∷ more)) → LinesRead CodeIndentedFurtherBegin [] k p (take (suc n) (line ∷ more)) (drop (suc n) (line ∷ more))
-  from-blank line more zero e some are is k p then at = absurd (omega (arith, e, some))
-  from-blank line [] (suc n) e some are is k p then at = absurd (cc)
-  from-blank line (next ∷ more) (suc n) e some are is k p then at =
+  from-blank line more zero e some are is k p behind_it at = absurd (omega (arith, e, some))
+  from-blank line [] (suc n) e some are is k p behind_it at = absurd (cc)
+  from-blank line (next ∷ more) (suc n) e some are is k p behind_it at =
       let whole_line = are.0 in
-      let text_is = line-text-is line whole_line in
-      let ending_is = line-ending-is line whole_line in
-      let feed = whole_line.ending in
       let text = line_text line in
-      let lines = next ∷ take n more in
-      let B = body lines in
-      let R = last_ending lines ++ all_of (drop n more) in
-      let lm = marks_of lines in
-      let cm = code_marks g.bytes 4 text in
-      let z = λ (end : Point). goes g t CodeIndented end in
-      let E = end_after (end_after p line) B in
-      let whole : text ++ feed ∷ [] ≡ line = ap (λ l. l ++ feed ∷ []) text_is ∙ sym whole_line.is in
-      let split : all_of (next ∷ more) ≡ B ++ R = sym (cut-at (suc n) (next ∷ more) are.1) in
-      let marks : (cm ++ feeds g t feed) ++ (lm ++ z E) ≡ marks_of (line ∷ lines) ++ z (end_after p (line ++ B)) =
-      sym (append_assoc (cm ++ feeds g t feed) lm (z E)) ∙ ap (λ m. m ++ z E) (append_assoc cm (feeds g t feed) lm)
-      ∙ ap (λ m. (cm ++ (leaf_marks g.bytes LineEnding m ++ lm)) ++ z E) (sym ending_is) ∙ ap (λ end. marks_of (line ∷ lines) ++ z end) (sym (end-after-append p line B)) in
-      subst (λ m. Reads g t k CodeIndentedFurtherBegin (line ++ B) R m FlowAfter) marks
-      (reads-parts g t KeepsEdits KeepsEdits KeepsEdits keeps-on k p CodeIndentedFurtherBegin CodeIndentedFurtherBegin line B R (cm ++ feeds g t feed) (lm ++ z E) (Retry FlowAfter)
-      (subst (λ l. IsAt t k p l) (ap (λ l. line ++ l) split ∙ sym (append_assoc line B R)) at)
-      (λ at'. subst (λ l. Reads g t k CodeIndentedFurtherBegin l (B ++ R) (cm ++ feeds g t feed) CodeIndentedFurtherBegin) whole
-      (blank-line g t text feed (B ++ R) (all-white text is) whole_line.ends k p (subst (λ l. IsAt t k p (l ++ (B ++ R))) (sym whole) at')))
-      (λ k' at' kept. then n e k' (end_after p line) (subst (λ l. IsAt t k' (end_after p line) l) (sym split) at')))
+      let feed = whole_line.ending in
+      let whole : text ++ feed ∷ [] ≡ line = ap (λ l. l ++ feed ∷ []) (line-text-is line whole_line) ∙ sym whole_line.is in
+      let rest = all_of (next ∷ more) in
+      one-more g t edits_kept (code_marks g.bytes 4) (goes g t CodeIndented) k CodeIndentedFurtherBegin CodeIndentedFurtherBegin p [] false line (next ∷ take n more) (drop n more) rest tt (seats-split false (suc n) (next ∷ more) are.1) at
+      (λ at. subst (λ m. IsRead g t k CodeIndentedFurtherBegin line rest m CodeIndentedFurtherBegin) (ap (λ c. code_marks g.bytes 4 text ++ leaf_marks g.bytes LineEnding c) (sym (line-ending-is line whole_line)))
+      (subst (λ l. IsAt t k p (l ++ rest) → IsRead g t k CodeIndentedFurtherBegin l rest (code_marks g.bytes 4 text ++ feeds g t feed) CodeIndentedFurtherBegin) whole (λ at. blank-line g t text feed rest (all-white text is) whole_line.ends k p at) at))
+      (λ k' q at' kept. behind_it n e k' q at')
 
   -- further lines
   tail : (lines : List Line) → AreLines lines → Then lines
@@ -411,15 +282,15 @@ module _ (g : Given) (t : Text) (is_on : g.options.constructs.code_indented ≡ 
       let b = is_blank_line (text_of line) in
       let far = nat_le 4 (indent (text_of line)) in
       let by : further_by g.options.constructs is_on b far (count more) ≡ suc n = sym (further-is g.options.constructs is_on line more) ∙ sym e in
-      let then : Then more = λ m e' k' q at'. tail more (lines-behind line more are) m e' k' q at' in
+      let behind_it : Then more = λ m e' k' q at'. tail more (lines-behind line more are) m e' k' q at' in
       let Goal : Type 0 = LinesRead CodeIndentedFurtherBegin [] k p (take (suc n) (line ∷ more)) (drop (suc n) (line ∷ more)) in
       elim b as (λ x. b ≡ x → further_by g.options.constructs is_on x far (count more) ≡ suc n → Goal) [
-        | true ↦ λ is h. let (same, some) = more-further (count more) n h in from-blank line more n same some are is k p then at
+        | true ↦ λ is h. let (same, some) = more-further (count more) n h in from-blank line more n same some are is k p behind_it at
         | false ↦ λ is. elim far as (λ f. far ≡ f → further_by g.options.constructs is_on false f (count more) ≡ suc n → Goal) [
           | true ↦ λ four h.
               let text = code-text-is (line_text line) is four (first-parts line more are).in_line in
               let same : n ≡ count more = omega (arith, h) in
-              from-line CodeIndentedFurtherBegin [] line more n same are text k p (λ rest at'. further-white g t k p text.s rest text.white_first at') then at
+              from-line CodeIndentedFurtherBegin [] line more n same are text k p (λ rest at'. further-white g t k p text.s rest text.white_first at') behind_it at
           | false ↦ λ four h. absurd (cc)
         ] refl
       ] refl by
@@ -448,6 +319,6 @@ indented-code-read g t k line more found =
     let p = end_place t k.position in
     let lines = line ∷ take n more in
     let inside = lines_marks g.bytes (code_marks g.bytes 4) false lines in
-    subst (λ m. Reads g t k FlowBlankLineAfter (body lines) (last_ending lines ++ all_of (drop n more)) m FlowAfter) (sym (span-is g t p (body lines) h.s inside (begins-body line (take n more) h.s h.ss h.is parts.is)))
+    subst (λ m. IsRead g t k FlowBlankLineAfter (body lines) (last_ending lines ++ all_of (drop n more)) m FlowAfter) (sym (span-is g t p (body lines) h.s inside (begins-body line (take n more) h.s h.ss h.is parts.is)))
     (from-line g t is_on found.here.room FlowBlankLineAfter (comes g t CodeIndented h.s) line more n refl are h k p (λ rest at. begins g t k p h.s rest found.found.1 h.white_first at)
     (tail g t is_on found.here.room more (lines-behind line more are)) (record { behind = refl; left = found.here.at; waits = found.here.waits }))

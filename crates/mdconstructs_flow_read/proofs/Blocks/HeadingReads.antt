@@ -1,53 +1,42 @@
 -- ATX headings are read as their definition says.
-use Rattle.mdconstructs_flow_read.proofs.Prelude.{◌≡◌, ℕ, suc, ◌+◌, ◌-◌, ◌^◌, ◌<◌, ◌≤◌, nat_le, List, [], ◌∷◌, ◌++◌, true, false, length, refl, sym, ap, ◌∙◌, subst, arith, append_assoc, append-nil, length-append, take, drop, and_parts, eqb-true, leb-true, length-drop, length-take-le, take-append-drop, AllByRecursion, Enter, Data, HeadingAtx, HeadingAtxSequence, HeadingAtxText, SpaceOrTab, Point, Retry, FlowAfter, FlowBlankLineAfter, HeadingAtxAtBreak, HeadingAtxBefore, HeadingAtxData, HeadingAtxSequenceOpen, HeadingAtxStart, Seat, end_after, Configuration, Local, end_place, Given, Text, is_white, all_of, ending_of, line_text, event, HeadingsAreRead, IsReadAs, KeepsEdits, bytes_of, text_of, Mark, alone, heading_marks, leaf_marks, span_marks, white, heading_text, is_atx_heading, run, unindented, IsInLine, LineEnds, text_behind_signs, end-after-append}
+use Rattle.mdconstructs_flow_read.proofs.Prelude.{List, [], ap, append-nil, append_assoc, arith, drop, false, length, length-append, nat_le, refl, subst, suc, sym, take, true, ℕ, ◌++◌, ◌+◌, ◌-◌, ◌<◌, ◌^◌, ◌∙◌, ◌∷◌, ◌≡◌, ◌≤◌, and_parts, eqb-true, leb-true, length-drop, length-take-le, take-append-drop, AllByRecursion, end-after-append, Seat, end_after, Enter, Data, HeadingAtx, HeadingAtxSequence, HeadingAtxText, SpaceOrTab, Point, Name, Retry, FlowAfter, FlowBlankLineAfter, HeadingAtxAtBreak, HeadingAtxBefore, HeadingAtxData, HeadingAtxSequenceOpen, HeadingAtxStart, Configuration, Local, end_place, Given, Text, HeadingsAreRead, IsReadAs, KeepsEdits, bytes_of, text_of, Mark, alone, heading_marks, leaf_marks, span_marks, white, heading_text, is_atx_heading, run, unindented, IsInLine, LineEnds, text_behind_signs, is_white, all_of, ending_of, line_text, event}
 use Rattle.markdown_base.specs.declared.event.Content.TheVariants as content
 use Rattle.mdconstructs_flow_read.proofs.Lines.Fronts.{front, back, all-back, back-fails, drop-bytes, Fails, front-all, front-back, length-back, prefix-front}
-use Rattle.mdconstructs_flow_read.proofs.Blocks.HeadingCalls.{BehindText, InText, NoSign, begins-sign, begins-white, line-ends, no-sign, signs-begin, signs-end, signs-on, start-on, start-sign, text-begins, text-ends, text-ends-line, text-on, white-begins, white-ends, white-on}
+use Rattle.mdconstructs_flow_read.proofs.Blocks.HeadingCalls.{BehindText, InText, begins-sign, begins-white, signs-begin, signs_go, start-sign, text-begins, text-ends, text-on, white_goes}
 use Rattle.mdconstructs_flow_read.proofs.Blocks.HeadingParts.{IsSign, heading-parts, sequence-fronts, signs_behind, text-is, text_span}
-use Rattle.mdconstructs_flow_read.proofs.Lines.LineParts.{IsWhite, NoBlank, at-first, first-parts, no-blank}
-use Rattle.mdconstructs_flow_read.proofs.Lines.LineReads.{IsAt, IsUnwritten, keeps-on, reads-end, reads-keeping, reads-nothing, reads-on, reads-parts, reads-run, unwritten-keeps, unwritten-on}
+use Rattle.mdconstructs_flow_read.proofs.Lines.LineParts.{IsWhite, at-first, first-parts}
+use Rattle.mdconstructs_flow_read.proofs.Lines.LineReads.{IsAt, IsUnwritten, keeps-on, reads-end, reads-keeping, reads-nothing, reads-on, reads-parts, unwritten-keeps}
 use Rattle.mdconstructs_flow_read.proofs.Lines.Lines.{in-line-front, in-line-behind}
 use Rattle.mdconstructs_flow_read.proofs.Lines.KindsOfLines.{says}
-use Rattle.mdconstructs_flow_read.proofs.Lines.RunReads.{Reads, comes, goes, in-run, run-piece}
+use Rattle.mdconstructs_flow_read.proofs.Lines.RunReads.{Keeping, Reads, all_kept, byte-then, comes, edits_kept, fails-line, goes, line-over, run-from, run-on, run-piece, then, then-ends, white-piece, white-runs}
 use Rattle.mdconstructs_flow_read.proofs.Looks.HeadingTexts.{is_sign}
 
 module _ (g : Given) (t : Text) where
-  -- ---- runs
-  in-signs : (run : List Seat) → AllByRecursion IsSign run → (k : Configuration Unit Unit) (p : Point) (rest : List Seat) → NoSign rest → IsAt t k p (run ++ rest)
-      → Reads g t k HeadingAtxSequenceOpen run rest (goes g t HeadingAtxSequence (end_after p run)) HeadingAtxAtBreak
-  in-signs = in-run g t HeadingAtxSequence HeadingAtxAtBreak HeadingAtxSequenceOpen IsSign NoSign (signs-on g t) (signs-end g t)
+  abbrev IsRead : Configuration Unit Unit → Name → (line rest : List Seat) → List Mark → Name → Type 0
+  IsRead = Reads g t all_kept
 
-  white-piece : (run : List Seat) → AllByRecursion IsWhite run → (k : Configuration Unit Unit) (p : Point) (rest : List Seat) → NoBlank rest → IsAt t k p (run ++ rest)
-      → Reads g t k HeadingAtxAtBreak run rest (white g.bytes run) HeadingAtxAtBreak
-  white-piece run all k p rest none at = run-piece g t SpaceOrTab HeadingAtxAtBreak HeadingAtxBefore IsWhite NoBlank (white-on g t) (white-ends g t) run all k p rest (white-begins g t k p) none at
-
-  signs-piece : (run : List Seat) → AllByRecursion IsSign run → (k : Configuration Unit Unit) (p : Point) (rest : List Seat) → k.local.tokenize_state.size_b ≡ 0 → NoSign rest → IsAt t k p (run ++ rest)
-      → Reads g t k HeadingAtxAtBreak run rest (leaf_marks g.bytes HeadingAtxSequence run) HeadingAtxAtBreak
-  signs-piece run all k p rest size none at = run-piece g t HeadingAtxSequence HeadingAtxAtBreak HeadingAtxSequenceOpen IsSign NoSign (signs-on g t) (signs-end g t) run all k p rest (λ s rest. signs-begin g t k p s rest size) none at
+  white-space : (run rest : List Seat) → AllByRecursion IsWhite run → Fails is_white rest → (k : Configuration Unit Unit) (p : Point) → IsAt t k p (run ++ rest) → IsRead k HeadingAtxAtBreak run rest (white g.bytes run) HeadingAtxAtBreak
+  white-space = white-piece g t all_kept HeadingAtxAtBreak HeadingAtxBefore white_goes (λ b. refl)
 
   -- ---- the opening sequence
   abbrev first_mark : List Seat → List Mark
   first_mark [] = []
   first_mark (s ∷ ss) = comes g t HeadingAtx s
 
-  opening : (a b : List Seat) → AllByRecursion IsWhite a → AllByRecursion IsSign b → 1 ≤ length b → (k : Configuration Unit Unit) (p : Point) (rest : List Seat) → k.local.tokenize_state.token_1 ≡ HeadingAtx → NoSign rest
-      → IsAt t k p (a ++ (b ++ rest)) → Reads g t k FlowBlankLineAfter (a ++ b) rest (first_mark (a ++ b) ++ (white g.bytes a ++ leaf_marks g.bytes HeadingAtxSequence b)) HeadingAtxAtBreak
+  opening : (a b : List Seat) → AllByRecursion IsWhite a → AllByRecursion IsSign b → 1 ≤ length b → (k : Configuration Unit Unit) (p : Point) (rest : List Seat) → k.local.tokenize_state.token_1 ≡ HeadingAtx → Fails is_sign rest
+      → IsAt t k p ((a ++ b) ++ rest) → IsRead k FlowBlankLineAfter (a ++ b) rest (first_mark (a ++ b) ++ (white g.bytes a ++ leaf_marks g.bytes HeadingAtxSequence b)) HeadingAtxAtBreak
   opening a [] a_white b_signs long k p rest kind none at = absurd (omega arith)
   opening [] (s ∷ ss) a_white b_signs long k p rest kind none at =
-      reads-on g t IsUnwritten IsUnwritten IsUnwritten unwritten-on k p FlowBlankLineAfter HeadingAtxSequenceOpen (s ∷ []) ss rest (comes g t HeadingAtx s ++ comes g t HeadingAtxSequence s) (goes g t HeadingAtxSequence (end_after s.end ss)) (Retry HeadingAtxAtBreak) at
-      (begins-sign g t k p s (ss ++ rest) b_signs.0 at) (λ k' at' kept. in-signs ss b_signs.1 k' s.end rest none at')
+      run-from g t all_kept HeadingAtxSequenceOpen (HeadingAtxSequence ∷ []) HeadingAtxAtBreak is_sign signs_go FlowBlankLineAfter (comes g t HeadingAtx s ++ comes g t HeadingAtxSequence s) s ss rest b_signs.1 none k p at
+      (begins-sign g t k p s (ss ++ rest) b_signs.0 at)
   opening (f ∷ fs) (s ∷ ss) a_white b_signs long k p rest kind none at =
-      let signs : List Mark = (goes g t SpaceOrTab (end_after f.end fs) ++ comes g t HeadingAtxSequence s) ++ goes g t HeadingAtxSequence (end_after s.end ss) in
-      reads-on g t IsUnwritten IsUnwritten IsUnwritten unwritten-on k p FlowBlankLineAfter HeadingAtxStart (f ∷ []) (fs ++ s ∷ ss) rest (comes g t HeadingAtx f ++ comes g t SpaceOrTab f) signs (Retry HeadingAtxAtBreak)
-      (subst (λ l. IsAt t k p (f ∷ l)) (sym (append_assoc fs (s ∷ ss) rest)) at)
-      (begins-white g t k p f ((fs ++ s ∷ ss) ++ rest) kind a_white.0 (subst (λ l. IsAt t k p (f ∷ l)) (sym (append_assoc fs (s ∷ ss) rest)) at))
-      (λ k' at' kept.
-      reads-parts g t IsUnwritten IsUnwritten IsUnwritten unwritten-on k' f.end HeadingAtxStart HeadingAtxStart fs (s ∷ ss) rest [] signs (Retry HeadingAtxAtBreak) at'
-      (λ at''. reads-run g t IsWhite HeadingAtxStart (start-on g t) fs a_white.1 k' f.end ((s ∷ ss) ++ rest) at'')
-      (λ k'' at'' kept'.
+      let first = comes g t HeadingAtx f ++ comes g t SpaceOrTab f in
       let q = end_after f.end fs in
-      reads-on g t IsUnwritten IsUnwritten IsUnwritten unwritten-on k'' q HeadingAtxStart HeadingAtxSequenceOpen (s ∷ []) ss rest (goes g t SpaceOrTab q ++ comes g t HeadingAtxSequence s) (goes g t HeadingAtxSequence (end_after s.end ss)) (Retry HeadingAtxAtBreak) at''
-      (start-sign g t k'' q s (ss ++ rest) b_signs.0 at'') (λ k3 at3 kept''. in-signs ss b_signs.1 k3 s.end rest none at3)))
+      then g t all_kept k p FlowBlankLineAfter HeadingAtxStart HeadingAtxAtBreak (f ∷ fs) (s ∷ ss) ((f ∷ fs) ++ (s ∷ ss)) rest refl first (λ _. (goes g t SpaceOrTab q ++ comes g t HeadingAtxSequence s) ++ goes g t HeadingAtxSequence (end_after s.end ss)) at
+      (λ at'. byte-then g t all_kept k p FlowBlankLineAfter HeadingAtxStart HeadingAtxStart f fs ((s ∷ ss) ++ rest) first [] at' (begins-white g t k p f (fs ++ ((s ∷ ss) ++ rest)) kind a_white.0 at')
+      (λ k' at'' kept. run-on g t all_kept HeadingAtxStart is_white (white-runs HeadingAtxStart (λ b. refl)) fs ((s ∷ ss) ++ rest) a_white.1 k' f.end at''))
+      (λ k' at' kept. run-from g t all_kept HeadingAtxSequenceOpen (HeadingAtxSequence ∷ []) HeadingAtxAtBreak is_sign signs_go HeadingAtxStart (goes g t SpaceOrTab q ++ comes g t HeadingAtxSequence s) s ss rest b_signs.1 none k' q at'
+      (start-sign g t k' q s (ss ++ rest) b_signs.0 at'))
 
   -- ---- behind the text
   abbrev tail_marks : List Seat → List Mark
@@ -57,22 +46,19 @@ module _ (g : Given) (t : Text) where
   unwritten-size before after kept = ap (λ l. l.tokenize_state.size_b) kept.is
 
   tail : (l : List Seat) → AllByRecursion IsWhite (back is_sign (back is_white l)) → (k : Configuration Unit Unit) (p : Point) (rest : List Seat) → k.local.tokenize_state.size_b ≡ 0 → LineEnds rest → IsAt t k p (l ++ rest)
-      → Reads g t k HeadingAtxAtBreak l rest (tail_marks l) HeadingAtxAtBreak
+      → IsRead k HeadingAtxAtBreak l rest (tail_marks l) HeadingAtxAtBreak
   tail l last k p rest size ends at =
       let a = front is_white l in
       let r = back is_white l in
       let b = front is_sign r in
       let c = back is_sign r in
-      let second : List Mark = leaf_marks g.bytes HeadingAtxSequence b ++ white g.bytes c in
-      subst (λ x. Reads g t k HeadingAtxAtBreak x rest (tail_marks l) HeadingAtxAtBreak) (front-back is_white l)
-      (reads-parts g t IsUnwritten IsUnwritten IsUnwritten unwritten-on k p HeadingAtxAtBreak HeadingAtxAtBreak a r rest (white g.bytes a) second (Retry HeadingAtxAtBreak)
-      (subst (λ x. IsAt t k p (x ++ rest)) (sym (front-back is_white l)) at)
-      (λ at'. white-piece a (front-all is_white l) k p (r ++ rest) (no-blank r rest (back-fails is_white l) ends) at')
-      (λ k' at' kept. subst (λ x. Reads g t k' HeadingAtxAtBreak x rest second HeadingAtxAtBreak) (front-back is_sign r)
-      (reads-parts g t IsUnwritten IsUnwritten IsUnwritten unwritten-on k' (end_after p a) HeadingAtxAtBreak HeadingAtxAtBreak b c rest (leaf_marks g.bytes HeadingAtxSequence b) (white g.bytes c) (Retry HeadingAtxAtBreak)
-      (subst (λ x. IsAt t k' (end_after p a) (x ++ rest)) (sym (front-back is_sign r)) at')
-      (λ at''. signs-piece b (front-all is_sign r) k' (end_after p a) (c ++ rest) (unwritten-size k.local k'.local kept ∙ size) (no-sign c rest (back-fails is_sign r) ends) at'')
-      (λ k'' at'' kept'. white-piece c last k'' (end_after (end_after p a) b) rest (no-blank [] rest tt ends) at''))))
+      let break = HeadingAtxAtBreak in
+      then g t all_kept k p break break break a r l rest (front-back is_white l) (white g.bytes a) (λ _. leaf_marks g.bytes HeadingAtxSequence b ++ white g.bytes c) at
+      (λ at'. white-space a (r ++ rest) (front-all is_white l) (fails-line is_white refl r rest (back-fails is_white l) ends) k p at')
+      (λ k' at' kept. then g t all_kept k' (end_after p a) break break break b c r rest (front-back is_sign r) (leaf_marks g.bytes HeadingAtxSequence b) (λ _. white g.bytes c) at'
+      (λ at''. run-piece g t all_kept HeadingAtxSequence break HeadingAtxSequenceOpen is_sign signs_go b (c ++ rest) (front-all is_sign r) (fails-line is_sign refl c rest (back-fails is_sign r) ends) k' (end_after p a) at''
+      (λ s rest. signs-begin g t k' (end_after p a) s rest (unwritten-size k.local k'.local kept ∙ size)))
+      (λ k'' at'' kept'. white-space c rest last (fails-line is_white refl [] rest tt ends) k'' (end_after (end_after p a) b) at''))
 
   -- ---- the text
   in-text-on : (n i j : ℕ) (a b c : Local Unit Unit) → InText n i a b → InText n j b c → InText n j a c
@@ -101,6 +87,9 @@ module _ (g : Given) (t : Text) where
   abbrev closing_marks : (text rest : List Seat) → Point → List Mark
   closing_marks text rest p = (text_span g.bytes text ++ tail_marks rest) ++ goes g t HeadingAtx p
 
+  line-ends : (K : Keeping) (k : Configuration Unit Unit) (p : Point) (rest : List Seat) → LineEnds rest → IsAt t k p rest → Reads g t K k HeadingAtxAtBreak [] rest (goes g t HeadingAtx p) FlowAfter
+  line-ends K = line-over g t K HeadingAtxAtBreak (HeadingAtx ∷ []) FlowAfter (λ b. refl) (λ b. refl)
+
   -- text up to the end of the line
   closing-line : (s : Seat) (ss : List Seat) → suc (length ss) < 2 ^ 64 - 1 → IsInLine (s ∷ ss) → is_white s.byte ≡ false → (k : Configuration Unit Unit) (p : Point) (rest : List Seat) → k.local.tokenize_state.size_b ≡ suc (length ss)
       → LineEnds rest → IsAt t k p ((s ∷ ss) ++ rest) → IsReadAs g t KeepsEdits k HeadingAtxAtBreak (s ∷ ss) rest (closing_marks (s ∷ ss) [] (end_after s.end ss)) (Retry FlowAfter)
@@ -111,7 +100,7 @@ module _ (g : Given) (t : Text) where
       reads-end g t (InText n n) KeepsEdits KeepsEdits (λ a b c one two. keeps-on a b c one.keeps two) k p HeadingAtxAtBreak HeadingAtxData (s ∷ ss) rest
       (comes g t HeadingAtxText s ++ (event g.bytes Enter Data s.point, alone content.Text) ∷ []) ending (Retry FlowAfter) at
       (text-bytes s ss room in_line dark k p rest size at)
-      (λ k' at' kept. reads-keeping g t IsUnwritten KeepsEdits unwritten-keeps k' HeadingAtxData [] rest ending (Retry FlowAfter) (text-ends-line g t k' q rest ends at'))
+      (λ k' at' kept. line-over g t edits_kept HeadingAtxData (Data ∷ HeadingAtxText ∷ HeadingAtx ∷ []) FlowAfter (λ b. refl) (λ b. refl) k' q rest ends at')
 
   -- text before other bytes
   closing-before : (s r : Seat) (ss rs : List Seat) → suc (length ss) < 2 ^ 64 - 1 → IsInLine ((s ∷ ss) ++ (r ∷ rs)) → is_white s.byte ≡ false → AllByRecursion IsWhite (back is_sign (back is_white (r ∷ rs)))
@@ -130,8 +119,7 @@ module _ (g : Given) (t : Text) where
       reads-on g t BehindText KeepsEdits KeepsEdits (λ a b c one two. keeps-on a b c one.keeps two) k' q HeadingAtxData HeadingAtxAtBreak [] (r ∷ rs) rest ending (tail_marks (r ∷ rs)) (Retry HeadingAtxAtBreak) at'
       (text-ends g t k' q r (rs ++ rest) n kept.size_is kept.count_is (in-line-behind (s ∷ ss) (r ∷ rs) in_line).0 at')
       (λ k'' at'' kept'. reads-keeping g t IsUnwritten KeepsEdits unwritten-keeps k'' HeadingAtxAtBreak (r ∷ rs) rest (tail_marks (r ∷ rs)) (Retry HeadingAtxAtBreak) (tail (r ∷ rs) last k'' q rest kept'.size_is ends at''))) in
-      reads-end g t KeepsEdits KeepsEdits KeepsEdits keeps-on k p HeadingAtxAtBreak HeadingAtxAtBreak l rest (starting ++ (ending ++ tail_marks (r ∷ rs))) (goes g t HeadingAtx (end_after p l)) (Retry FlowAfter) at all
-      (λ k' at' kept. reads-keeping g t IsUnwritten KeepsEdits unwritten-keeps k' HeadingAtxAtBreak [] rest (goes g t HeadingAtx (end_after p l)) (Retry FlowAfter) (line-ends g t k' (end_after p l) rest ends at'))
+      then-ends g t edits_kept k p HeadingAtxAtBreak HeadingAtxAtBreak FlowAfter l rest (starting ++ (ending ++ tail_marks (r ∷ rs))) (goes g t HeadingAtx (end_after p l)) at all (λ k' at' kept. line-ends edits_kept k' (end_after p l) rest ends at')
 
   -- the text, and what is behind it, up to the end of the line
   closing : (text behind l : List Seat) → text ++ behind ≡ l → length text < 2 ^ 64 - 1 → IsInLine l → Fails is_white l → AllByRecursion IsWhite (back is_sign (back is_white behind))
@@ -139,9 +127,9 @@ module _ (g : Given) (t : Text) where
       → IsReadAs g t KeepsEdits k HeadingAtxAtBreak l rest (closing_marks text behind (end_after p l)) (Retry FlowAfter)
   closing [] behind l is room in_line dark last k p rest size ends at =
       reads-keeping g t IsUnwritten KeepsEdits unwritten-keeps k HeadingAtxAtBreak l rest (closing_marks [] behind (end_after p l)) (Retry FlowAfter)
-      (reads-end g t IsUnwritten IsUnwritten IsUnwritten unwritten-on k p HeadingAtxAtBreak HeadingAtxAtBreak l rest (tail_marks behind) (goes g t HeadingAtx (end_after p l)) (Retry FlowAfter) at
-      (subst (λ x. Reads g t k HeadingAtxAtBreak x rest (tail_marks behind) HeadingAtxAtBreak) is (tail behind last k p rest size ends (subst (λ x. IsAt t k p (x ++ rest)) (sym is) at)))
-      (λ k' at' kept. line-ends g t k' (end_after p l) rest ends at'))
+      (then-ends g t all_kept k p HeadingAtxAtBreak HeadingAtxAtBreak FlowAfter l rest (tail_marks behind) (goes g t HeadingAtx (end_after p l)) at
+      (subst (λ x. IsRead k HeadingAtxAtBreak x rest (tail_marks behind) HeadingAtxAtBreak) is (tail behind last k p rest size ends (subst (λ x. IsAt t k p (x ++ rest)) (sym is) at)))
+      (λ k' at' kept. line-ends all_kept k' (end_after p l) rest ends at'))
   closing (s ∷ ss) [] l is room in_line dark last k p rest size ends at =
       let same : s ∷ ss ≡ l = sym (append-nil (s ∷ ss)) ∙ is in
       subst (λ x. IsReadAs g t KeepsEdits k HeadingAtxAtBreak x rest (closing_marks (s ∷ ss) [] (end_after p x)) (Retry FlowAfter)) same
@@ -255,11 +243,10 @@ module _ (g : Given) (t : Text) where
         (reads-parts g t IsUnwritten KeepsEdits KeepsEdits (λ a b c one two. keeps-on a b c (unwritten-keeps a b one) two) k p FlowBlankLineAfter HeadingAtxAtBreak both others rest first_marks (white g.bytes the_white ++ text_marks) (Retry FlowAfter)
         (subst (λ x. IsAt t k p (x ++ rest)) (sym halves) at)
         (λ at'. opening before_signs the_signs (front-all is_white l) (front-all is_sign from_signs) long k p (others ++ rest) kind
-        (subst (λ x. NoSign (x ++ rest)) (sym (front-back is_white behind_signs)) (no-sign behind_signs rest (back-fails is_sign from_signs) ends))
-        (subst (λ x. IsAt t k p x) (append_assoc before_signs the_signs (others ++ rest)) at'))
+        (subst (λ x. Fails is_sign (x ++ rest)) (sym (front-back is_white behind_signs)) (fails-line is_sign refl behind_signs rest (back-fails is_sign from_signs) ends)) at')
         (λ k' at' kept.
         reads-parts g t IsUnwritten KeepsEdits KeepsEdits (λ a b c one two. keeps-on a b c (unwritten-keeps a b one) two) k' q HeadingAtxAtBreak HeadingAtxAtBreak the_white from_text rest (white g.bytes the_white) text_marks (Retry FlowAfter) at'
-        (λ at''. white-piece the_white (front-all is_white behind_signs) k' q (from_text ++ rest) (no-blank from_text rest (back-fails is_white behind_signs) ends) at'')
+        (λ at''. white-space the_white (from_text ++ rest) (front-all is_white behind_signs) (fails-line is_white refl from_text rest (back-fails is_white behind_signs) ends) k' q at'')
         (λ k'' at'' kept'.
         closing (take size from_text) (drop size from_text) from_text (take-append-drop size from_text) (omega (arith, taken, fits))
         (all-back is_white _ behind_signs (all-back is_sign _ from_signs (all-back is_white _ l in_line))) (back-fails is_white behind_signs) text.closing k'' (end_after q the_white) rest

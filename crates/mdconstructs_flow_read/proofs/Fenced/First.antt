@@ -1,15 +1,15 @@
 -- The first line of fenced code is read as its definition says.
-use Rattle.mdconstructs_flow_read.proofs.Prelude.{◌≡◌, inl, inr, ℕ, ◌+◌, ◌-◌, ◌≤◌, ◌==◌, not, nat_le, List, [], ◌∷◌, ◌++◌, Bool, true, false, cond, length, take, drop, refl, sym, ap, ◌∙◌, subst, arith, append_assoc, leb-true, take-add, prefix_len, eqb-true, and_parts, drop-drop, drop-map, Constructs, CodeFenced, CodeFencedFence, CodeFencedFenceInfo, CodeFencedFenceSequence, Data, Point, Retry, FlowBlankLineAfter, RawFlowAtNonLazyBreak, Seat, Configuration, Given, Text, is_white, bytes_of, Fence, indent, is_fence_of, run, unindented, fence, seen_kind, Mark, alone, chunk_span, fence_marks, leaf_marks, sequence_marks, span_marks, white, IsInLine, LineEnds}
+use Rattle.mdconstructs_flow_read.proofs.Prelude.{Bool, List, None, [], ap, append_assoc, arith, cond, drop, false, inl, inr, length, nat_le, not, refl, subst, sym, take, take-add, true, ℕ, ◌++◌, ◌+◌, ◌-◌, ◌==◌, ◌∙◌, ◌∷◌, ◌≡◌, ◌≤◌, and_parts, leb-true, drop-drop, drop-map, AllByRecursion, prefix_len, Seat, Constructs, Enter, EventName, CodeFenced, CodeFencedFence, CodeFencedFenceInfo, CodeFencedFenceSequence, Data, Point, FlowBlankLineAfter, RawFlowAtNonLazyBreak, Configuration, Given, Text, bytes_of, Mark, alone, chunk_span, fence_marks, leaf_marks, sequence_marks, span_marks, white, Fence, indent, is_fence_of, run, unindented, IsInLine, LineEnds, fence, seen_kind, is_white, event}
 use Rattle.markdown_base.specs.declared.event.Content.TheVariants as content
+use Rattle.mdconstructs_flow_read.proofs.Blocks.HeadingParts.{sequence-parts}
 use Rattle.mdconstructs_flow_read.proofs.Fenced.Info.{info_marks, meta_marks}
-use Rattle.mdconstructs_flow_read.proofs.Fenced.Lines.{some-of}
 use Rattle.mdconstructs_flow_read.proofs.Fenced.Opening.{IsInfo, info_from, opening-reads, start_of}
-use Rattle.mdconstructs_flow_read.proofs.Fenced.Parts.{back-from, bytes-behind, front-append, front-from, sequence-is}
-use Rattle.mdconstructs_flow_read.proofs.Fenced.Rows.{into}
-use Rattle.mdconstructs_flow_read.proofs.Fenced.Runs.{AllOf, IsMark, Stops, back-in-line, back-stops, front-all, mark-class}
-use Rattle.mdconstructs_flow_read.proofs.Fenced.Steps.{IsAt, Reads}
-use Rattle.mdconstructs_flow_read.proofs.Lines.Fronts.{back, drop-back, front, front-back, take-front, Fails, back-fails, length-front, is_dark}
+use Rattle.mdconstructs_flow_read.proofs.Fenced.Steps.{IsMark, IsOfFence, IsRead, all-words, mark-class, of-fence}
+use Rattle.mdconstructs_flow_read.proofs.Lines.Fronts.{Fails, all-back, all-front, back, back-fails, drop-back, drop-bytes, front, front-all, front-back, is_dark, length-front, take-front}
 use Rattle.mdconstructs_flow_read.proofs.Lines.KindsOfLines.{fence_of, says}
+use Rattle.mdconstructs_flow_read.proofs.Lines.LineReads.{IsAt}
+use Rattle.mdconstructs_flow_read.proofs.Lines.Lines.{has-first}
+use Rattle.mdconstructs_flow_read.proofs.Lines.RunReads.{fails-line}
 
 -- the parts of a fence's line: white space, marks, white space, a word, white space, and the rest
 module _ (m : ℕ) where
@@ -55,6 +55,21 @@ no-white (s ∷ ss) fails none = elim (is_white s.byte) as (λ b. not b ≡ fals
   | false ↦ λ e h. absurd (cc)
 ] fails none
 
+module _ (test : ℕ → Bool) where
+  -- a run from a place on
+  pub back-from : (a : ℕ) (l l' : List Seat) → drop a l ≡ l' → drop (a + prefix_len test (drop a (bytes_of l))) l ≡ back test l'
+  back-from a l l' h =
+      let n = prefix_len test (drop a (bytes_of l)) in
+      let same : n ≡ prefix_len test (bytes_of l') = ap (prefix_len test) (drop-map (λ (s : Seat). s.byte) a l ∙ ap bytes_of h) in
+      sym (drop-drop n a l) ∙ ap (drop n) h ∙ ap (λ n. drop n l') same ∙ drop-back test l'
+
+  pub front-from : (a : ℕ) (l l' : List Seat) → drop a l ≡ l' → take ((a + prefix_len test (drop a (bytes_of l))) - a) (drop a l) ≡ front test l'
+  front-from a l l' h =
+      let n = prefix_len test (drop a (bytes_of l)) in
+      let same : n ≡ prefix_len test (bytes_of l') = ap (prefix_len test) (drop-map (λ (s : Seat). s.byte) a l ∙ ap bytes_of h) in
+      let less : (a + n) - a ≡ n = omega arith in
+      ap (λ i. take i (drop a l)) (less ∙ same) ∙ ap (take (prefix_len test (bytes_of l'))) h ∙ take-front test l'
+
 module _ (g : Given) (t : Text) (f : Fence) (of : IsMark f.byte) (l rest : List Seat) (all : IsInLine l) (ends : LineEnds rest) where
   -- the parts behind the marks
   is-info : IsInfo g t f of (white_before f.byte l) (word_of f.byte l) (white_behind f.byte l) (meta_of f.byte l) rest
@@ -62,33 +77,24 @@ module _ (g : Given) (t : Text) (f : Fence) (of : IsMark f.byte) (l rest : List 
       let l2 = behind_marks f.byte l in
       let l3 = info_at f.byte l in
       let l4 = behind_word f.byte l in
-      let in2 = back-in-line (mark f.byte) (back is_white l) (back-in-line is_white l all) in
-      let in3 = back-in-line is_white l2 in2 in
-      let in4 = back-in-line is_dark l3 in3 in
+      let in3 = all-back is_white _ l2 (all-back (mark f.byte) _ (back is_white l) (all-back is_white _ l all)) in
+      let in4 = all-back is_dark _ l3 in3 in
       let whole3 : word_of f.byte l ++ (white_behind f.byte l ++ meta_of f.byte l) ≡ l3 = ap (λ x. word_of f.byte l ++ x) (front-back is_white l4) ∙ front-back is_dark l3 in
       record {
-        white_before = front-all is_white l2 in2;
-        word = front-all is_dark l3 in3;
-        white_behind = front-all is_white l4 in4;
-        in_line = back-in-line is_white l4 in4;
+        white_before = front-all is_white l2;
+        word = all-words (word_of f.byte l) (all-front is_dark _ l3 in3) (front-all is_dark l3);
+        white_behind = front-all is_white l4;
+        in_line = all-back is_white _ l4 in4;
         ends = ends;
-        word_first = subst (λ x. Stops is_white (x ++ rest)) (sym whole3) (back-stops is_white l2 rest in2 ends);
-        words_then = back-stops is_white l4 rest in4 ends;
+        word_first = subst (λ x. Fails is_white (x ++ rest)) (sym whole3) (fails-line is_white refl l3 rest (back-fails is_white l2) ends);
+        words_then = fails-line is_white refl (meta_of f.byte l) rest (back-fails is_white l4) ends;
         no_white = λ e. ap (back is_white) (no-white l4 (back-fails is_dark l3) e);
         no_word = λ e. front-back is_white l4 ∙ ap (back is_dark) (no-word l3 (back-fails is_white l2) e);
       }
 
-  -- a byte behind marks that is white space is no mark
-  white-no-mark : (v : List Seat) → AllOf is_white v → Fails (mark f.byte) v
-  white-no-mark [] h = tt
-  white-no-mark (s ∷ v) h = elim (s.byte == f.byte) as (λ b. (s.byte == f.byte) ≡ b → (s.byte == f.byte) ≡ false) [
-    | true ↦ λ e. absurd (let no_white = (mark-class s.byte (subst IsMark (sym (eqb-true s.byte f.byte e)) of)).1 in let yes_white = h.1 in cc)
-    | false ↦ λ e. e
-  ] refl
-
-  mark-no-white : (q b : List Seat) → AllOf (mark f.byte) q → 1 ≤ length q → Fails is_white (q ++ b)
+  mark-no-white : (q b : List Seat) → AllByRecursion (λ (s : Seat). mark f.byte s.byte ≡ true) q → 1 ≤ length q → Fails is_white (q ++ b)
   mark-no-white [] b h some = absurd (omega (arith, some))
-  mark-no-white (s ∷ q) b h some = (mark-class s.byte (subst IsMark (sym (eqb-true s.byte f.byte h.1)) of)).1
+  mark-no-white (s ∷ q) b h some = (mark-class s.byte (of-fence f of s.byte h.0)).1
 
   -- The sequence of the fence, with the white space on both sides of it
   sequence-of-fence : (size : ℕ) → size ≡ run f.byte (unindented (bytes_of l)) → 1 ≤ size
@@ -105,30 +111,22 @@ module _ (g : Given) (t : Text) (f : Fence) (of : IsMark f.byte) (l rest : List 
       let q = marks_of f.byte l in
       let l2 = behind_marks f.byte l in
       let v = white_before f.byte l in
-      let size_is : size ≡ prefix_len m (bytes_of b) = is ∙ ap (run f.byte) (bytes-behind g.bytes CodeFencedFenceSequence f.byte l) in
+      let size_is : size ≡ prefix_len m (bytes_of b) = is ∙ ap (run f.byte) (drop-bytes is_white l) in
       let signs : drop (c + size) l ≡ l2 = sym (drop-drop size c l) ∙ ap (drop size) (drop-back is_white l) ∙ ap (λ i. drop i b) size_is ∙ drop-back m b in
       let n_is : n ≡ prefix_len is_white (bytes_of l2) = ap indent (drop-map (λ (s : Seat). s.byte) (c + size) l ∙ ap bytes_of signs) in
       let two_parts : take (c + size) l ≡ u ++ q =
       take-add c size l ∙ ap (λ x. x ++ take size (drop c l)) (take-front is_white l) ∙ ap (λ x. u ++ x) (ap (take size) (drop-back is_white l) ∙ ap (λ i. take i b) size_is ∙ take-front m b) in
       let third : take n (drop (c + size) l) ≡ v = ap (take n) signs ∙ ap (λ i. take i l2) n_is ∙ take-front is_white l2 in
       let front_is : take ((c + size) + n) l ≡ u ++ (q ++ v) = take-add (c + size) n l ∙ ap (λ x. x ++ take n (drop (c + size) l)) two_parts ∙ ap (λ x. (u ++ q) ++ x) third ∙ append_assoc u q v in
-      let all_q = front-all m b (back-in-line is_white l all) in
-      let all_v = front-all is_white l2 (back-in-line m b (back-in-line is_white l all)) in
-      let count : length q ≡ size = length-front m b ∙ sym size_is in
-      let a = u ++ (q ++ v) in
-      let fa = front-append is_white u (q ++ v) (front-all is_white l all) (mark-no-white q v all_q (omega (arith, count, some))) in
-      let fq = front-append m q v all_q (white-no-mark v all_v) in
-      let size_there : size ≡ run f.byte (bytes_of (back is_white a)) = sym count ∙ ap length (sym fq.0) ∙ length-front m (q ++ v) ∙ ap (λ x. run f.byte (bytes_of x)) (sym fa.1) in
-      let leafs = leaf_marks g.bytes CodeFencedFenceSequence in (
+      let count : length q ≡ size = length-front m b ∙ sym size_is in (
         signs,
-        ap (sequence_marks g.bytes CodeFencedFenceSequence size) front_is ∙ sequence-is g.bytes CodeFencedFenceSequence f.byte size a size_there
-            ∙ ap (λ u. white g.bytes u ++ (leafs (front m (back is_white a)) ++ white g.bytes (back m (back is_white a)))) fa.0 ∙ ap (λ x. white g.bytes u ++ (leafs (front m x) ++ white g.bytes (back m x))) fa.1
-            ∙ ap (λ q'. white g.bytes u ++ (leafs q' ++ white g.bytes (back m (q ++ v)))) fq.0 ∙ ap (λ v'. white g.bytes u ++ (leafs q ++ white g.bytes v')) fq.1,
+        ap (sequence_marks g.bytes CodeFencedFenceSequence size) front_is ∙ ap (λ i. sequence_marks g.bytes CodeFencedFenceSequence i (u ++ (q ++ v))) (sym count)
+            ∙ sequence-parts g.bytes CodeFencedFenceSequence u q v (front-all is_white l) (mark-no-white q v (front-all m b) (omega (arith, count, some))),
       )
 
   abbrev parts_inside : List Mark
   parts_inside =
-      white g.bytes (indented_by f.byte l) ++ (leaf_marks g.bytes CodeFencedFenceSequence (marks_of f.byte l) ++ info_from g t f of (white_before f.byte l) (word_of f.byte l) (white_behind f.byte l) (meta_of f.byte l))
+      white g.bytes (indented_by f.byte l) ++ (leaf_marks g.bytes CodeFencedFenceSequence (marks_of f.byte l) ++ info_from g t f of (white_before f.byte l) (word_of f.byte l) (white_behind f.byte l) (meta_of f.byte l) rest is-info)
 
   fence-marks-are : (size : ℕ) → size ≡ run f.byte (unindented (bytes_of l)) → 1 ≤ size → fence_marks g.bytes size l ≡ span_marks g.bytes CodeFencedFence l parts_inside
   fence-marks-are size is some =
@@ -147,28 +145,36 @@ module _ (g : Given) (t : Text) (f : Fence) (of : IsMark f.byte) (l rest : List 
       let start_is = back-from is_white signs l (behind_marks f.byte l) first.0 in
       let word_is = back-from is_dark start l (info_at f.byte l) start_is in
       let of_info = λ (i : List Seat). span_marks g.bytes CodeFencedFenceInfo i (chunk_span g.bytes (alone content.String) Data i []) in
-      let inside = λ (x : List Mark) (i w m : List Seat). x ++ (of_info i ++ (white g.bytes w ++ meta_marks g t f m)) in
+      let inside = λ (x : List Mark) (i w m : List Seat). x ++ (of_info i ++ (white g.bytes w ++ meta_marks g t m)) in
       ap (span_marks g.bytes CodeFencedFence l)
       (ap (λ x. inside x (take (word - start) (drop start l)) (take (behind - word) (drop word l)) (drop behind l)) first.1
       ∙ ap (λ i. inside (u ++ (q ++ v)) i (take (behind - word) (drop word l)) (drop behind l)) (front-from is_dark start l (info_at f.byte l) start_is)
       ∙ ap (λ w. inside (u ++ (q ++ v)) i w (drop behind l)) (front-from is_white word l (behind_word f.byte l) word_is)
       ∙ ap (λ m. inside (u ++ (q ++ v)) i w m) (back-from is_white word l (behind_word f.byte l) word_is)
-      ∙ append_assoc u (q ++ v) (info_marks g t f i w m) ∙ ap (λ x. u ++ x) (append_assoc q v (info_marks g t f i w m)))
+      ∙ append_assoc u (q ++ v) (info_marks g t i w m) ∙ ap (λ x. u ++ x) (append_assoc q v (info_marks g t i w m)))
+
+-- a line feed is no mark
+mark-class-feed : (b : ℕ) → IsMark b → (10 == b) ≡ false
+mark-class-feed b (inl e) = ap (λ n. 10 == n) e
+mark-class-feed b (inr e) = ap (λ n. 10 == n) e
 
 -- where bytes begin
 abbrev pub first_point : Point → List Seat → Point
 first_point p [] = p
 first_point p (s ∷ ss) = s.point
 
-begins-at : (p : Point) (u : List Seat) (s : Seat) (x : List Seat) → start_of u s ≡ first_point p (u ++ s ∷ x)
+begins-at : (p : Point) (u : List Seat) (s : Seat) (x : List Seat) → (start_of u s).point ≡ first_point p (u ++ s ∷ x)
 begins-at p [] s x = refl
 begins-at p (b ∷ u) s x = refl
 
+-- a span begins at a place
+abbrev pub into : Given → EventName → Point → List Mark
+into g n p = (event g.bytes Enter n p, None) ∷ []
+
 module _ (g : Given) (t : Text) (f : Fence) (of : IsMark f.byte) where
   pub opening-line : (l rest : List Seat) → IsInLine l → LineEnds rest → f.size ≡ run f.byte (unindented (bytes_of l)) → 1 ≤ f.size → (k : Configuration Unit Unit) (p : Point) → k.local.tokenize_state.token_1 ≡ CodeFenced
-      → IsAt g t f k (Retry FlowBlankLineAfter) p (l ++ rest)
-      → Reads g t f k (Retry FlowBlankLineAfter) l rest (into g CodeFenced (first_point p l) ∷ fence_marks g.bytes f.size l) (Retry RawFlowAtNonLazyBreak)
-  opening-line l rest all ends size some k p kind here =
+      → IsOfFence f k.local → IsAt t k p (l ++ rest) → IsRead g t k FlowBlankLineAfter l rest (into g CodeFenced (first_point p l) ++ fence_marks g.bytes f.size l) RawFlowAtNonLazyBreak
+  opening-line l rest all ends size some k p kind fenced at =
       let b = back is_white l in
       let u = indented_by f.byte l in
       let v = white_before f.byte l in
@@ -176,26 +182,19 @@ module _ (g : Given) (t : Text) (f : Fence) (of : IsMark f.byte) where
       let w = white_behind f.byte l in
       let m = meta_of f.byte l in
       let l2 = behind_marks f.byte l in
-      let marks_in = front-all (mark f.byte) b (back-in-line is_white l all) in
-      let count : length (marks_of f.byte l) ≡ f.size = length-front (mark f.byte) b ∙ sym (size ∙ ap (run f.byte) (bytes-behind g.bytes CodeFencedFenceSequence f.byte l)) in
-      let q = some-of (marks_of f.byte l) (omega (arith, count, some)) in
-      let s = q.first in
-      let sq = q.others in
+      let count : length (marks_of f.byte l) ≡ f.size = length-front (mark f.byte) b ∙ sym (size ∙ ap (run f.byte) (drop-bytes is_white l)) in
+      let (s, sq, is) = has-first (marks_of f.byte l) (omega (arith, count, some)) in
       let h = is-info g t f of l rest all ends in
       let info_is : v ++ (i ++ (w ++ m)) ≡ l2 = ap (λ x. v ++ x) (ap (λ x. i ++ x) (front-back is_white (behind_word f.byte l)) ∙ front-back is_dark (info_at f.byte l)) ∙ front-back is_white l2 in
-      let line = u ++ (s ∷ (sq ++ (v ++ (i ++ (w ++ m))))) in
-      let whole : line ≡ l = ap (λ q. u ++ (q ++ (v ++ (i ++ (w ++ m))))) (sym q.is) ∙ ap (λ x. u ++ (marks_of f.byte l ++ x)) info_is ∙ ap (λ x. u ++ x) (front-back (mark f.byte) b) ∙ front-back is_white l in
-      let inside = white g.bytes u ++ (leaf_marks g.bytes CodeFencedFenceSequence (s ∷ sq) ++ info_from g t f of v i w m) in
-      let inside_is : inside ≡ parts_inside g t f of l rest all ends = ap (λ q. white g.bytes u ++ (leaf_marks g.bytes CodeFencedFenceSequence q ++ info_from g t f of v i w m)) (sym q.is) in
-      let marks = λ (p' : Point) (l : List Seat) (inside : List Mark). into g CodeFenced p' ∷ span_marks g.bytes CodeFencedFence l inside in
-      let first_is : start_of u s ≡ first_point p l = begins-at p u s (sq ++ (v ++ (i ++ (w ++ m)))) ∙ ap (first_point p) whole in
-      subst (λ ms. Reads g t f k (Retry FlowBlankLineAfter) l rest (into g CodeFenced (first_point p l) ∷ ms) (Retry RawFlowAtNonLazyBreak)) (sym (fence-marks-are g t f of l rest all ends f.size size some))
-      (subst (λ p'. Reads g t f k (Retry FlowBlankLineAfter) l rest (marks p' l (parts_inside g t f of l rest all ends)) (Retry RawFlowAtNonLazyBreak)) first_is
-      (subst (λ x. Reads g t f k (Retry FlowBlankLineAfter) l rest (marks (start_of u s) l x) (Retry RawFlowAtNonLazyBreak)) inside_is
-      (subst (λ l. Reads g t f k (Retry FlowBlankLineAfter) l rest (marks (start_of u s) l inside) (Retry RawFlowAtNonLazyBreak)) whole
-      (opening-reads g t f of v i w m rest h u s sq (front-all is_white l all)
-      (subst (AllOf (mark f.byte)) q.is marks_in, subst (λ x. Stops (mark f.byte) (x ++ rest)) (sym info_is) (back-stops (mark f.byte) b rest (back-in-line is_white l all) ends)) k p kind
-      (subst (λ l. IsAt g t f k (Retry FlowBlankLineAfter) p (l ++ rest)) (sym whole) here)))))
+      let whole : u ++ (s ∷ (sq ++ (v ++ (i ++ (w ++ m))))) ≡ l = ap (λ q. u ++ (q ++ (v ++ (i ++ (w ++ m))))) (sym is) ∙ ap (λ x. u ++ (marks_of f.byte l ++ x)) info_is ∙ ap (λ x. u ++ x) (front-back (mark f.byte) b) ∙ front-back is_white l in
+      let inside = λ (q : List Seat). white g.bytes u ++ (leaf_marks g.bytes CodeFencedFenceSequence q ++ info_from g t f of v i w m rest h) in
+      let marks = λ (q : Point) (l : List Seat) (inside : List Mark). into g CodeFenced q ++ span_marks g.bytes CodeFencedFence l inside in
+      subst (λ ms. IsRead g t k FlowBlankLineAfter l rest ms RawFlowAtNonLazyBreak)
+      (ap (λ q. marks q l (inside (s ∷ sq))) (begins-at p u s (sq ++ (v ++ (i ++ (w ++ m)))) ∙ ap (first_point p) whole) ∙ ap (λ q. marks (first_point p l) l (inside q)) (sym is)
+      ∙ ap (λ ms. into g CodeFenced (first_point p l) ++ ms) (sym (fence-marks-are g t f of l rest all ends f.size size some)))
+      (subst (λ l. IsAt t k p (l ++ rest) → IsRead g t k FlowBlankLineAfter l rest (marks (start_of u s).point l (inside (s ∷ sq))) RawFlowAtNonLazyBreak) whole
+      (λ at. opening-reads g t f of v i w m rest h u s sq (front-all is_white l) (subst (AllByRecursion (λ (s : Seat). mark f.byte s.byte ≡ true)) is (front-all (mark f.byte) b))
+      (subst (λ x. Fails (mark f.byte) (x ++ rest)) (sym info_is) (fails-line (mark f.byte) (mark-class-feed f.byte of) l2 rest (back-fails (mark f.byte) b) ends)) k p kind fenced at) at)
 
 -- ---- what the kind of a line says of its fence
 pub record IsFence (f : Fence) (t : List ℕ) : Type 0 where

@@ -1,9 +1,8 @@
 -- The look at the next line of fenced code finds whether it is the closing fence.
 use Rattle.markdown_base.proofs.Facts.Bools.{cond-itself, cond-same}
-use Rattle.mdconstructs_flow_read.proofs.Prelude.{◌≡◌, ◌⊎◌, inl, inr, ℕ, suc, ◌+◌, ◌-◌, ◌^◌, ◌<◌, ◌≤◌, ◌==◌, ◌&&◌, ◌||◌, not, nat_le, nat_lt, List, [], ◌∷◌, ◌++◌, Bool, true, false, cond, Option, Some, length, refl, sym, ap, ◌∙◌, subst, arith, drop, le-leb, leb-true, ltb-true, ltb-false, eqb-true, drop-next, Event, EventName, Name, Next, Ok, Nok, RawFlowCloseStart, RawFlowBeforeSequenceClose, RawFlowSequenceClose, RawFlowAfterSequenceClose, Seat, Configuration, Local, Sight, byte_of, sight, Given, Text, at-front, told, told_by, rows_in, Look, scan, shows, unfed_look, consume, write, Rows, row, when, picked, is_white, one_more, raw_flow_close_start_rows, raw_flow_before_sequence_close_rows, raw_flow_sequence_close_rows, raw_flow_after_sequence_close_rows, flow_byte, is_line_feed, is_blank, is_fence, flow, unchanged, is_byte, at_mark, count_becomes, count_grows, is_as_long, may_be_indented, bytes_of, Fence, closes, indent, is_blank_line, run, unindented, IsInLine, LineEnds}
+use Rattle.mdconstructs_flow_read.proofs.Prelude.{Bool, List, Option, Some, [], ap, arith, cond, drop, false, inl, inr, length, nat_le, nat_lt, not, refl, subst, suc, sym, true, ℕ, ◌&&◌, ◌++◌, ◌+◌, ◌-◌, ◌<◌, ◌==◌, ◌^◌, ◌||◌, ◌∙◌, ◌∷◌, ◌≡◌, ◌≤◌, ◌⊎◌, eqb-true, le-leb, leb-true, ltb-false, ltb-true, drop-next, Seat, Event, EventName, Name, Next, Nok, Ok, RawFlowAfterSequenceClose, RawFlowBeforeSequenceClose, RawFlowCloseStart, RawFlowSequenceClose, Configuration, Local, Sight, byte_of, sight, Given, Text, raw_flow_after_sequence_close_rows, raw_flow_before_sequence_close_rows, raw_flow_close_start_rows, raw_flow_sequence_close_rows, flow_byte, is_blank, is_fence, is_line_feed, flow, unchanged, at_mark, count_becomes, count_grows, is_as_long, is_byte, may_be_indented, bytes_of, Fence, closes, indent, is_blank_line, run, unindented, IsInLine, LineEnds, is_white, one_more, at-front, told, told_by, rows_in, Look, scan, shows, unfed_look, Rows, consume, picked, row, when, write}
 use Rattle.std.proofs.Math.Bool.{and-true, and-false}
-use Rattle.mdconstructs_flow_read.proofs.Fenced.Runs.{IsMark, feed-class, mark-class, word-class}
-use Rattle.mdconstructs_flow_read.proofs.Fenced.Steps.{IsOfFence, KeepsFence}
+use Rattle.mdconstructs_flow_read.proofs.Fenced.Steps.{IsMark, IsOfFence, KeepsFence, feed-class, mark-class, word-class}
 use Rattle.mdconstructs_flow_read.proofs.Lines.RowReads.{white-is-blank}
 use Rattle.mdconstructs_flow_read.proofs.Looks.ByteClasses.{no-line-feed}
 use Rattle.mdconstructs_flow_read.proofs.Looks.LineTests.{run-grows}

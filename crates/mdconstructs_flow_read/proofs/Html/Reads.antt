@@ -1,27 +1,16 @@
 -- Lines of HTML are read: one that others follow, the last one, and one without a byte.
-use Rattle.mdconstructs_flow_read.proofs.Prelude.{◌≡◌, ℕ, ◌+◌, ◌==◌, List, [], ◌∷◌, ◌++◌, Bool, true, false, cond, Option, Some, None, map, drop, length, refl, sym, ap, ◌∙◌, subst, nat_le, append-nil, eqb-true, Event, Enter, Exit, HtmlFlow, HtmlFlowData, LineEnding, Point, Name, State, Next, Retry, FlowAfter, HtmlFlowContinuation, HtmlFlowContinuationAfter, HtmlFlowContinuationBefore, HtmlFlowContinuationStart, Seat, end_after, with_local, EndsIn, byte_of, seat_before, Given, Text, stretches-are-read, waits_at, table_step, sight_before, stretch_from, event, FlowByte, closing, dash, flow_byte, greater, less, question, flow, IsReadAs, bytes_of, Mark, linked_from, IsInLine}
-use Rattle.mdconstructs_flow_read.proofs.Html.Along.{Along, Arrives, arrives-behind, begun-along, feed-arrives, goes, halt-arrives}
+use Rattle.mdconstructs_flow_read.proofs.Prelude.{Bool, List, None, Some, [], ap, append-nil, cond, false, nat_le, refl, subst, sym, true, ℕ, ◌++◌, ◌==◌, ◌∙◌, ◌∷◌, ◌≡◌, eqb-true, Seat, end_after, Enter, HtmlFlow, HtmlFlowData, LineEnding, Point, Name, Next, Retry, FlowAfter, FlowBlankLineAfter, HtmlFlowContinuation, HtmlFlowContinuationAfter, HtmlFlowContinuationBefore, HtmlFlowContinuationCdataInside, HtmlFlowContinuationClose, HtmlFlowContinuationCommentInside, HtmlFlowContinuationDeclarationInside, HtmlFlowContinuationRawEndTag, HtmlFlowContinuationRawTagOpen, HtmlFlowContinuationStart, HtmlFlowStart, with_local, Given, Text, FlowByte, closing, dash, flow_byte, greater, less, line_feed, question, IsReadAs, bytes_of, Mark, leaf_marks, IsInLine, LineEnds, event, consume, enter, exit, picked, row}
+use Rattle.mdconstructs_flow_read.proofs.Looks.ByteClasses.{feed-is}
 use Rattle.mdconstructs_flow_read.proofs.Html.Checks.{blank_ahead, read-if-blank, read-if-not}
-use Rattle.mdconstructs_flow_read.proofs.Html.Halts.{Begins, after-ends, before-ends, before-feeds, checks-on, closed-ends, ends-text, feeds-on, start-feeds}
-use Rattle.mdconstructs_flow_read.proofs.Html.Places.{Place, inside, closed, from_inside, is_closed, through}
-use Rattle.mdconstructs_flow_read.proofs.Html.Steps.{Config, Kept, kept-on, kind_in, name_of, until}
-use Rattle.mdconstructs_flow_read.proofs.Lines.LineReads.{IsAt, reads-end, reads-on}
-
--- events without chunks, as marks
-abbrev pub plain : List Event → List Mark
-plain es = map (λ (e : Event). (e, None)) es
-
-pub plain-linked : (i : ℕ) (es : List Event) → linked_from i (plain es) ≡ es
-plain-linked i [] = refl
-plain-linked i (e ∷ es) = ap (λ l. e ∷ l) (plain-linked (i + 1) es)
+use Rattle.mdconstructs_flow_read.proofs.Html.Places.{Place, inside, dashed, bracketed, marked, opened, named, closed, from_inside, is_closed, through}
+use Rattle.mdconstructs_flow_read.proofs.Html.Steps.{Config, Kept, To, along, html_kept, kept-on, kept-same, kind_in, name_of}
+use Rattle.mdconstructs_flow_read.proofs.Lines.LineReads.{IsAt, reads-nothing, reads-on}
+use Rattle.mdconstructs_flow_read.proofs.Lines.RowReads.{counted, row-stays, row-takes-on, seen}
+use Rattle.mdconstructs_flow_read.proofs.Lines.RunReads.{leaves, line-over, row-ends}
 
 -- a line of this kind is behind the end of its block, if these bytes follow the line ending
 abbrev pub ends_here : (kind : ℕ) → List ℕ → (behind : List Seat) → Bool
 ends_here kind bytes behind = cond (nat_le 6 kind) (blank_ahead behind) (is_closed (through kind inside bytes))
-
-pub plain-append : (xs ys : List Event) → plain xs ++ plain ys ≡ plain (xs ++ ys)
-plain-append [] ys = refl
-plain-append (x ∷ xs) ys = ap (λ l. (x, None) ∷ l) (plain-append xs ys)
 
 closed-is : (p : Place) → is_closed p ≡ true → p ≡ closed
 closed-is closed h = refl
@@ -47,144 +36,139 @@ long-stays kind [] long = refl
 long-stays kind (b ∷ bs) long = ap (λ p. through kind p bs) (long-moves kind (flow_byte b) long) ∙ long-stays kind bs long
 
 module _ (g : Given) (t : Text) where
-  -- the events at the end of the block, and at a line ending in it
-  abbrev pub out : Point → List Event
-  out p = event g.bytes Exit HtmlFlowData p ∷ event g.bytes Exit HtmlFlow p ∷ []
+  -- the marks at the end of the block, and at a line ending in it
+  abbrev pub out : Point → List Mark
+  out p = leaves g (HtmlFlowData ∷ HtmlFlow ∷ []) p
 
-  abbrev pub feed_in : Seat → List Event
-  feed_in s = event g.bytes Enter LineEnding s.point ∷ event g.bytes Exit LineEnding s.end ∷ []
+  abbrev pub feed_in : Seat → List Mark
+  feed_in s = leaf_marks g.bytes LineEnding (s ∷ [])
 
-  abbrev pub over_line : Point → Seat → List Event
-  over_line p s = event g.bytes Exit HtmlFlowData p ∷ feed_in s
+  abbrev pub over_line : Point → Seat → List Mark
+  over_line p s = leaves g (HtmlFlowData ∷ []) p ++ feed_in s
 
-  -- what a stretch comes to is read
-  pub arrives-read : (k : Config) (name : Name) (p : Point) (l line rest : List Seat) (events : List Event) (to : State) → IsAt t k p l
-      → Arrives g t.end k line rest events to (goes g t.end p (byte_of (seat_before t k.position)) l k name) → IsReadAs g t Kept k name line rest (plain events) to
-  arrives-read k name p l line rest events to at h =
-      let stretched = stretch_from flow g t until 3 k name in
-      let b = byte_of (seat_before t k.position) in
-      let placed : Arrives g t.end k line rest events to (goes g t.end p b (drop k.position t.seats) k name) =
-      subst (λ l. Arrives g t.end k line rest events to (goes g t.end p b l k name)) (sym at.left) h in
-      let there : Arrives g t.end k line rest events to stretched = subst (λ p. Arrives g t.end k line rest events to (goes g t.end p b (drop k.position t.seats) k name)) (sym at.behind) placed in
-      record {
-        after = stretched.configuration;
-        calls = stretched.calls;
-        events_are = there.events_are ∙ ap (λ es. k.events ++ es) (sym (plain-linked (length k.events) events));
-        position = there.position;
-        waiting = there.waiting;
-        local = there.kept;
-        leads = λ choices before z e.
-            (stretches-are-read flow g t (table_step flow g) (λ name state is s k. refl)).leads until 3 k name (at.waits ∙ ap waits_at (sym at.left)) choices before z
-            (subst (λ a. EndsIn g (table_step flow g) t (before + stretched.calls) stretched.configuration choices a z) (sym there.answer) e);
-      }
+  -- what is read of HTML, and what leaves it
+  abbrev Reads : Config → Name → (line rest : List Seat) → List Mark → Name → Type 0
+  Reads k name line rest marks to = IsReadAs g t Kept k name line rest marks (Retry to)
 
-  -- what is seen where a line begins
-  abbrev pub BeginsAt : Config → Point → Name → List Event → List Seat → Type 0
-  BeginsAt k p name pre l = Begins g t.end (sight_before g t.end p (byte_of (seat_before t k.position)) l) k name pre
+  -- a line begins: data is entered, and the byte is read inside
+  abbrev pub BeginsAt : Config → Name → List Mark → List Seat → Type 0
+  BeginsAt k name pre l = Reads k name [] l pre HtmlFlowContinuation
 
-  -- the states at a line ending
-  after-read : (k : Config) (p : Point) (s : Seat) (rest : List Seat) → IsAt t k p (s ∷ rest) → s.byte ≡ 10 → IsReadAs g t Kept k HtmlFlowContinuationAfter [] (s ∷ rest) (plain (out p)) (Retry FlowAfter)
-  after-read k p s rest at feed =
-      let b = byte_of (seat_before t k.position) in
-      arrives-read k HtmlFlowContinuationAfter p (s ∷ rest) [] (s ∷ rest) (out p) (Retry FlowAfter) at
-      (halt-arrives g t.end (s ∷ rest) p b k HtmlFlowContinuationAfter FlowAfter (out p) at.waits (after-ends g t.end (sight_before g t.end p b (s ∷ rest)) k (ap (λ n. Some (flow_byte n)) feed)))
+  abbrev pub enters : Seat → Mark
+  enters s = (event g.bytes Enter HtmlFlowData s.point, None)
 
-  start-read : (k : Config) (p : Point) (s : Seat) (rest : List Seat) → IsAt t k p (s ∷ rest) → s.byte ≡ 10
-      → IsReadAs g t Kept k HtmlFlowContinuationStart (s ∷ []) rest (plain (over_line p s)) (Next HtmlFlowContinuationBefore)
-  start-read k p s rest at feed =
-      let b = byte_of (seat_before t k.position) in
-      arrives-read k HtmlFlowContinuationStart p (s ∷ rest) (s ∷ []) rest (over_line p s) (Next HtmlFlowContinuationBefore) at
-      (feed-arrives g t.end s rest p b k HtmlFlowContinuationStart HtmlFlowContinuationBefore (over_line p s) (start-feeds g t.end (sight_before g t.end p b (s ∷ rest)) k (ap (λ n. Some (flow_byte n)) feed)))
+  module _ (k : Config) (p : Point) where
+    pub before-begins : (s : Seat) (rest : List Seat) → (s.byte == 10) ≡ false → IsAt t k p (s ∷ rest) → BeginsAt k HtmlFlowContinuationBefore (enters s ∷ []) (s ∷ rest)
+    before-begins s rest in_line at =
+        row-stays g t Kept k HtmlFlowContinuationBefore p (s ∷ rest) (Some (flow_byte s.byte)) (enter HtmlFlowData ∷ []) (Retry HtmlFlowContinuation) at refl
+        (ap (λ b. picked (cond b (row (enter LineEnding ∷ consume ∷ exit LineEnding ∷ []) (Next HtmlFlowContinuationBefore)) (row (enter HtmlFlowData ∷ []) (Retry HtmlFlowContinuation))) g (seen g t Kept k HtmlFlowContinuationBefore p (s ∷ rest)) (counted k)) (feed-is s.byte ∙ in_line))
+        tt refl refl (kept-same k.local)
 
-  -- a further line without a byte, and the end of the text before a further line
-  pub bare-line-read : (k : Config) (p : Point) (s : Seat) (rest : List Seat) → IsAt t k p (s ∷ rest) → s.byte ≡ 10
-      → IsReadAs g t Kept k HtmlFlowContinuationBefore (s ∷ []) rest (plain (feed_in s)) (Next HtmlFlowContinuationBefore)
-  bare-line-read k p s rest at feed =
-      let b = byte_of (seat_before t k.position) in
-      arrives-read k HtmlFlowContinuationBefore p (s ∷ rest) (s ∷ []) rest (feed_in s) (Next HtmlFlowContinuationBefore) at
-      (feed-arrives g t.end s rest p b k HtmlFlowContinuationBefore HtmlFlowContinuationBefore (feed_in s) (before-feeds g t.end (sight_before g t.end p b (s ∷ rest)) k (ap (λ n. Some (flow_byte n)) feed)))
+    -- the first line, at a less-than sign, or behind white space
+    pub line-begins : (s : Seat) (rest : List Seat) → s.byte ≡ 60 → IsAt t k p (s ∷ rest) → BeginsAt k FlowBlankLineAfter ((event g.bytes Enter HtmlFlow s.point, None) ∷ enters s ∷ []) (s ∷ rest)
+    line-begins s rest is at = row-stays g t Kept k FlowBlankLineAfter p (s ∷ rest) (Some less) (enter HtmlFlow ∷ enter HtmlFlowData ∷ []) (Retry HtmlFlowContinuation) at (ap (λ b. Some (flow_byte b)) is) refl tt refl refl (kept-same k.local)
 
-  pub no-line-read : (k : Config) (p : Point) → IsAt t k p [] → IsReadAs g t Kept k HtmlFlowContinuationBefore [] [] (plain (event g.bytes Exit HtmlFlow p ∷ [])) (Retry FlowAfter)
-  no-line-read k p at =
-      let b = byte_of (seat_before t k.position) in
-      arrives-read k HtmlFlowContinuationBefore p [] [] [] (event g.bytes Exit HtmlFlow p ∷ []) (Retry FlowAfter) at
-      (halt-arrives g t.end [] p b k HtmlFlowContinuationBefore FlowAfter (event g.bytes Exit HtmlFlow p ∷ []) at.waits (before-ends g t.end (sight_before g t.end p b []) k refl))
+    pub start-begins : (s : Seat) (rest : List Seat) → s.byte ≡ 60 → IsAt t k p (s ∷ rest) → BeginsAt k HtmlFlowStart (leaves g (HtmlFlowData ∷ []) p ++ enters s ∷ []) (s ∷ rest)
+    start-begins s rest is at = row-stays g t Kept k HtmlFlowStart p (s ∷ rest) (Some less) (exit HtmlFlowData ∷ enter HtmlFlowData ∷ []) (Retry HtmlFlowContinuation) at (ap (λ b. Some (flow_byte b)) is) refl tt refl refl (kept-same k.local)
+
+    -- at a line ending
+    module _ (s : Seat) (rest : List Seat) (feed : s.byte ≡ 10) (at : IsAt t k p (s ∷ rest)) where
+      after-read : Reads k HtmlFlowContinuationAfter [] (s ∷ rest) (out p) FlowAfter
+      after-read = row-ends g t html_kept HtmlFlowContinuationAfter (HtmlFlowData ∷ HtmlFlow ∷ []) FlowAfter k p (s ∷ rest) (Some line_feed) at (ap (λ b. Some (flow_byte b)) feed) (λ b. refl)
+
+      start-read : Reads k HtmlFlowContinuationStart (s ∷ []) rest (over_line p s) HtmlFlowContinuationBefore
+      start-read =
+          row-takes-on g t Kept k HtmlFlowContinuationStart p s rest line_feed (exit HtmlFlowData ∷ enter LineEnding ∷ consume ∷ exit LineEnding ∷ []) HtmlFlowContinuationBefore at (ap flow_byte feed) refl tt refl (kept-same k.local)
+
+      inside-read : nat_le 6 (kind_in k) ≡ false → Reads k HtmlFlowContinuation (s ∷ []) rest (over_line p s) HtmlFlowContinuationBefore
+      inside-read short =
+          row-takes-on g t Kept k HtmlFlowContinuation p s rest line_feed (exit HtmlFlowData ∷ enter LineEnding ∷ consume ∷ exit LineEnding ∷ []) HtmlFlowContinuationBefore at (ap flow_byte feed) (rw short refl) tt refl (kept-same k.local)
+
+      -- a further line without a byte
+      pub bare-line-read : Reads k HtmlFlowContinuationBefore (s ∷ []) rest (feed_in s) HtmlFlowContinuationBefore
+      bare-line-read =
+          row-takes-on g t Kept k HtmlFlowContinuationBefore p s rest line_feed (enter LineEnding ∷ consume ∷ exit LineEnding ∷ []) HtmlFlowContinuationBefore at (ap flow_byte feed) refl tt refl (kept-same k.local)
+
+    -- the end of the text, before a further line and in one
+    pub no-line-read : IsAt t k p [] → Reads k HtmlFlowContinuationBefore [] [] (leaves g (HtmlFlow ∷ []) p) FlowAfter
+    no-line-read at = row-ends g t html_kept HtmlFlowContinuationBefore (HtmlFlow ∷ []) FlowAfter k p [] None at refl (λ b. refl)
+
+    inside-ends : IsAt t k p [] → Reads k HtmlFlowContinuation [] [] (out p) FlowAfter
+    inside-ends at = row-ends g t html_kept HtmlFlowContinuation (HtmlFlowData ∷ HtmlFlow ∷ []) FlowAfter k p [] None at refl (λ b. refl)
+
+  -- at the end of a line the block ends if it is closed; else each place is left for the inside
+  closed-ends : (k : Config) (p : Point) (l : List Seat) → LineEnds l → IsAt t k p l → Reads k HtmlFlowContinuationClose [] l (out p) FlowAfter
+  closed-ends = line-over g t html_kept HtmlFlowContinuationClose (HtmlFlowData ∷ HtmlFlow ∷ []) FlowAfter (λ b. refl) (λ b. refl)
+
+  falls : (place : Place) → is_closed place ≡ false → (k : Config) (p : Point) (l : List Seat) → LineEnds l → IsAt t k p l → Reads k (name_of place) [] l [] HtmlFlowContinuation
+  falls inside still k p l ends at = reads-nothing g t Kept k HtmlFlowContinuation l at.waits (kept-same k.local)
+  falls dashed still k p l ends at = line-over g t html_kept HtmlFlowContinuationCommentInside [] HtmlFlowContinuation (λ b. refl) (λ b. refl) k p l ends at
+  falls bracketed still k p l ends at = line-over g t html_kept HtmlFlowContinuationCdataInside [] HtmlFlowContinuation (λ b. refl) (λ b. refl) k p l ends at
+  falls marked still k p l ends at = line-over g t html_kept HtmlFlowContinuationDeclarationInside [] HtmlFlowContinuation (λ b. refl) (λ b. refl) k p l ends at
+  falls opened still k p l ends at = line-over g t html_kept HtmlFlowContinuationRawTagOpen [] HtmlFlowContinuation (λ b. refl) (λ b. refl) k p l ends at
+  falls (named n) still k p l ends at = line-over g t html_kept HtmlFlowContinuationRawEndTag [] HtmlFlowContinuation (λ b. refl) (λ b. refl) k p l ends at
+  falls closed still k p l ends at = absurd (cc)
+
+  -- and what is read from there
+  falls-then : (place : Place) → is_closed place ≡ false → (k : Config) (p : Point) (line rest : List Seat) (marks : List Mark) (to : Name) → LineEnds (line ++ rest) → IsAt t k p (line ++ rest)
+      → ((k' : Config) → IsAt t k' p (line ++ rest) → kind_in k' ≡ kind_in k → Reads k' HtmlFlowContinuation line rest marks to) → Reads k (name_of place) line rest marks to
+  falls-then place still k p line rest marks to ends at h =
+      reads-on g t Kept Kept Kept kept-on k p (name_of place) HtmlFlowContinuation [] line rest [] marks (Retry to) at (falls place still k p (line ++ rest) ends at) (λ k' at' kept. h k' at' kept.kind)
+
+  text-ends : (place : Place) (k : Config) (p : Point) → IsAt t k p [] → Reads k (name_of place) [] [] (out p) FlowAfter
+  text-ends closed k p at = closed-ends k p [] tt at
+  text-ends place k p at = falls-then place refl k p [] [] (out p) FlowAfter tt at (λ k' at' same. inside-ends k' p at')
 
   -- A line with a byte, from where it begins
-  module _ (kind : ℕ) (s : Seat) (ss : List Seat) (in_line : IsInLine (s ∷ ss)) (k : Config) (p : Point) (name : Name) (pre : List Event) (is : kind_in k ≡ kind) where
+  module _ (kind : ℕ) (s : Seat) (ss : List Seat) (in_line : IsInLine (s ∷ ss)) (k : Config) (p : Point) (name : Name) (pre : List Mark) (is : kind_in k ≡ kind) where
     abbrev line : List Seat
     line = s ∷ ss
 
-    abbrev b : Option ℕ
-    b = byte_of (seat_before t k.position)
+    abbrev q : Point
+    q = end_after p line
 
     abbrev place : Place
     place = through kind inside (bytes_of line)
 
-    -- to where it ends, as it is there
-    to-its-end : (rest : List Seat) (events : List Event) (to : State) → IsAt t k p (line ++ rest) → BeginsAt k p name pre (line ++ rest)
-        → ((a : Along g t.end p b k name line rest (k.events ++ pre) place) → Arrives g t.end a.after [] rest events to (goes g t.end (end_after p line) a.previous rest a.after (name_of place)))
-        → IsReadAs g t Kept k name line rest (plain (pre ++ events)) to
-    to-its-end rest events to at begins h =
-        let a = begun-along g t.end kind s ss rest p b k name pre is in_line begins in
-        let behind = arrives-behind g t.end line [] rest p b k name pre events place to a (h a) in
-        arrives-read k name p (line ++ rest) line rest (pre ++ events) to at (subst (λ l. Arrives g t.end k l rest (pre ++ events) to (goes g t.end p b (line ++ rest) k name)) (append-nil line) behind)
-
-    -- to the line ending, where the look begins
-    to-its-check : (e : Seat) (rest : List Seat) → nat_le 6 kind ≡ true → e.byte ≡ 10 → IsAt t k p (line ++ e ∷ rest) → BeginsAt k p name pre (line ++ e ∷ rest)
-        → IsReadAs g t Kept k name line (e ∷ rest) (plain pre) (Retry HtmlFlowContinuation)
-    to-its-check e rest long feed at begins =
-        subst (λ es. IsReadAs g t Kept k name line (e ∷ rest) (plain es) (Retry HtmlFlowContinuation)) (append-nil pre)
-        (to-its-end (e ∷ rest) [] (Retry HtmlFlowContinuation) at begins
-        (λ a.
-        let q = end_after p line in
-        subst (λ pl. Arrives g t.end a.after [] (e ∷ rest) [] (Retry HtmlFlowContinuation) (goes g t.end q a.previous (e ∷ rest) a.after (name_of pl))) (sym (long-stays kind (bytes_of line) long))
-        (halt-arrives g t.end (e ∷ rest) q a.previous a.after HtmlFlowContinuation HtmlFlowContinuation [] (a.waiting at.waits)
-        (checks-on g t.end (sight_before g t.end q a.previous (e ∷ rest)) a.after (ap (λ n. Some (flow_byte n)) feed) (ap (nat_le 6) (a.kept.kind ∙ is) ∙ long)))))
+    words-then : (more rest : List Seat) (marks : List Mark) (to : Name) → IsAt t k p (line ++ (more ++ rest)) → BeginsAt k name pre (line ++ (more ++ rest))
+        → ((k' : Config) → IsAt t k' q (more ++ rest) → kind_in k' ≡ kind → Reads k' (name_of place) more rest marks to) → Reads k name (line ++ more) rest (pre ++ marks) to
+    words-then more rest marks to at begins h =
+        reads-on g t (To place) Kept Kept (λ a b c x y. kept-on a b c x.0 y) k p name (name_of place) line more rest pre marks (Retry to) at
+        (subst (λ m. IsReadAs g t (To place) k name line (more ++ rest) m (Retry (name_of place))) (append-nil pre)
+        (reads-on g t Kept (To place) (To place) (λ a b c x y. (kept-on a b c x y.0, y.1)) k p name HtmlFlowContinuation [] line (more ++ rest) pre [] (Retry (name_of place)) at begins
+        (λ k' at' kept. along g t kind line (more ++ rest) in_line inside k' p (kept.kind ∙ is) tt at')))
+        (λ k' at' kept. h k' at' (kept.0.kind ∙ is))
 
     -- other lines follow it
-    pub goes-on : (e : Seat) (rest : List Seat) → IsAt t k p (line ++ e ∷ rest) → e.byte ≡ 10 → BeginsAt k p name pre (line ++ e ∷ rest) → ends_here kind (bytes_of line) rest ≡ false
-        → IsReadAs g t Kept k name (line ++ e ∷ []) rest (plain (pre ++ over_line (end_after p line) e)) (Next HtmlFlowContinuationBefore)
+    pub goes-on : (e : Seat) (rest : List Seat) → IsAt t k p (line ++ e ∷ rest) → e.byte ≡ 10 → BeginsAt k name pre (line ++ e ∷ rest) → ends_here kind (bytes_of line) rest ≡ false
+        → Reads k name (line ++ e ∷ []) rest (pre ++ over_line q e) HtmlFlowContinuationBefore
     goes-on e rest at feed begins h =
-        let q = end_after p line in
-        let over = over_line q e in
-        let to = Next HtmlFlowContinuationBefore in
-        elim (nat_le 6 kind) as (λ l. nat_le 6 kind ≡ l → cond l (blank_ahead rest) (is_closed place) ≡ false → IsReadAs g t Kept k name (line ++ e ∷ []) rest (plain (pre ++ over)) to) [
+        words-then (e ∷ []) rest (over_line q e) HtmlFlowContinuationBefore at begins
+        (λ k' at' is'. (elim (nat_le 6 kind) as (λ l. nat_le 6 kind ≡ l → cond l (blank_ahead rest) (is_closed place) ≡ false → Reads k' (name_of place) (e ∷ []) rest (over_line q e) HtmlFlowContinuationBefore) [
           | true ↦ λ long ahead.
-              subst (λ m. IsReadAs g t Kept k name (line ++ e ∷ []) rest m to) (plain-append pre over)
-              (reads-on g t Kept Kept Kept kept-on k p name HtmlFlowContinuation line (e ∷ []) rest (plain pre) (plain over) to at (to-its-check e rest long feed at begins)
-              (λ k' at' kept. read-if-not g t k' e rest at'.left at'.waits feed (ap (nat_le 6) (kept.kind ∙ is) ∙ long) (e ∷ []) rest (plain over) to ahead
-              (λ local kept'. start-read (with_local k' local) q e rest (record { behind = at'.behind; left = at'.left; waits = at'.waits }) feed)))
-          | false ↦ λ short still.
-              let a = begun-along g t.end kind s ss (e ∷ rest) p b k name pre is in_line begins in
-              arrives-read k name p (line ++ e ∷ rest) (line ++ e ∷ []) rest (pre ++ over) to at
-              (arrives-behind g t.end line (e ∷ []) rest p b k name pre over place to a
-              (feed-arrives g t.end e rest q a.previous a.after (name_of place) HtmlFlowContinuationBefore over
-              (feeds-on g t.end (sight_before g t.end q a.previous (e ∷ rest)) place a.after (ap (λ n. Some (flow_byte n)) feed) still (ap (nat_le 6) (a.kept.kind ∙ is) ∙ short))))
-        ] refl h
+              subst (λ pl. Reads k' (name_of pl) (e ∷ []) rest (over_line q e) HtmlFlowContinuationBefore) (sym (long-stays kind (bytes_of line) long))
+              (read-if-not g t k' e rest at'.left at'.waits feed (ap (nat_le 6) is' ∙ long) (e ∷ []) rest (over_line q e) (Retry HtmlFlowContinuationBefore) ahead
+              (λ local kept. start-read (with_local k' local) q e rest feed (record { behind = at'.behind; left = at'.left; waits = at'.waits })))
+          | false ↦ λ short still. falls-then place still k' q (e ∷ []) rest (over_line q e) HtmlFlowContinuationBefore feed at' (λ k'' at'' same. inside-read k'' q e rest feed at'' (ap (nat_le 6) (same ∙ is') ∙ short))
+        ]) refl h)
 
     -- or the block ends with it
-    pub stops-at-end : IsAt t k p (line ++ []) → BeginsAt k p name pre (line ++ []) → IsReadAs g t Kept k name line [] (plain (pre ++ out (end_after p line))) (Retry FlowAfter)
-    stops-at-end at begins =
-        let q = end_after p line in
-        to-its-end [] (out q) (Retry FlowAfter) at begins
-        (λ a. halt-arrives g t.end [] q a.previous a.after (name_of place) FlowAfter (out q) (a.waiting at.waits) (ends-text g t.end (sight_before g t.end q a.previous []) place a.after refl))
+    abbrev Stops : List Seat → Type 0
+    Stops rest = Reads k name line rest (pre ++ out q) FlowAfter
 
-    pub stops-at-feed : (e : Seat) (rest : List Seat) → IsAt t k p (line ++ e ∷ rest) → e.byte ≡ 10 → BeginsAt k p name pre (line ++ e ∷ rest) → ends_here kind (bytes_of line) rest ≡ true
-        → IsReadAs g t Kept k name line (e ∷ rest) (plain (pre ++ out (end_after p line))) (Retry FlowAfter)
+    stops : (rest : List Seat) → IsAt t k p (line ++ rest) → BeginsAt k name pre (line ++ rest) → ((k' : Config) → IsAt t k' q rest → kind_in k' ≡ kind → Reads k' (name_of place) [] rest (out q) FlowAfter) → Stops rest
+    stops rest at begins h = subst (λ l. Reads k name l rest (pre ++ out q) FlowAfter) (append-nil line) (words-then [] rest (out q) FlowAfter at begins h)
+
+    pub stops-at-end : IsAt t k p (line ++ []) → BeginsAt k name pre (line ++ []) → Stops []
+    stops-at-end at begins = stops [] at begins (λ k' at' is'. text-ends place k' q at')
+
+    pub stops-at-feed : (e : Seat) (rest : List Seat) → IsAt t k p (line ++ e ∷ rest) → e.byte ≡ 10 → BeginsAt k name pre (line ++ e ∷ rest) → ends_here kind (bytes_of line) rest ≡ true → Stops (e ∷ rest)
     stops-at-feed e rest at feed begins h =
-        let q = end_after p line in
-        let to = Retry FlowAfter in
-        elim (nat_le 6 kind) as (λ l. nat_le 6 kind ≡ l → cond l (blank_ahead rest) (is_closed place) ≡ true → IsReadAs g t Kept k name line (e ∷ rest) (plain (pre ++ out q)) to) [
+        stops (e ∷ rest) at begins
+        (λ k' at' is'. (elim (nat_le 6 kind) as (λ l. nat_le 6 kind ≡ l → cond l (blank_ahead rest) (is_closed place) ≡ true → Reads k' (name_of place) [] (e ∷ rest) (out q) FlowAfter) [
           | true ↦ λ long ahead.
-              subst (λ m. IsReadAs g t Kept k name line (e ∷ rest) m to) (plain-append pre (out q))
-              (reads-end g t Kept Kept Kept kept-on k p name HtmlFlowContinuation line (e ∷ rest) (plain pre) (plain (out q)) to at (to-its-check e rest long feed at begins)
-              (λ k' at' kept. read-if-blank g t k' e rest at'.left at'.waits feed (ap (nat_le 6) (kept.kind ∙ is) ∙ long) [] (e ∷ rest) (plain (out q)) to ahead
-              (λ local kept'. after-read (with_local k' local) q e rest (record { behind = at'.behind; left = at'.left; waits = at'.waits }) feed)))
-          | false ↦ λ short done.
-              to-its-end (e ∷ rest) (out q) to at begins
-              (λ a.
-              subst (λ pl. Arrives g t.end a.after [] (e ∷ rest) (out q) to (goes g t.end q a.previous (e ∷ rest) a.after (name_of pl))) (sym (closed-is place done))
-              (halt-arrives g t.end (e ∷ rest) q a.previous a.after (name_of closed) FlowAfter (out q) (a.waiting at.waits)
-              (closed-ends g t.end (sight_before g t.end q a.previous (e ∷ rest)) a.after (ap (λ n. Some (flow_byte n)) feed))))
-        ] refl h
+              subst (λ pl. Reads k' (name_of pl) [] (e ∷ rest) (out q) FlowAfter) (sym (long-stays kind (bytes_of line) long))
+              (read-if-blank g t k' e rest at'.left at'.waits feed (ap (nat_le 6) is' ∙ long) [] (e ∷ rest) (out q) (Retry FlowAfter) ahead
+              (λ local kept. after-read (with_local k' local) q e rest feed (record { behind = at'.behind; left = at'.left; waits = at'.waits })))
+          | false ↦ λ short done. subst (λ pl. Reads k' (name_of pl) [] (e ∷ rest) (out q) FlowAfter) (sym (closed-is place done)) (closed-ends k' q (e ∷ rest) feed at')
+        ]) refl h)

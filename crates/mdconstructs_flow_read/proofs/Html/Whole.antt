@@ -1,15 +1,19 @@
 -- HTML is read, from its first line on.
-use Rattle.mdconstructs_flow_read.proofs.Prelude.{◌≡◌, ℕ, suc, ◌||◌, List, [], ◌∷◌, ◌++◌, Bool, true, false, cond, not, Some, length, take, drop, refl, sym, ap, ◌∙◌, subst, nat_le, append_assoc, drop-append_seam, take-append_seam, AllByRecursion, Event, Enter, Exit, HtmlFlow, HtmlFlowData, Point, Name, Retry, FlowAfter, FlowBlankLineAfter, HtmlFlowStart, Seat, end_after, byte_of, end_place, seat_before, Given, Text, sight_before, all_of, ending_of, event, flow_byte, AreLines, HtmlIsRead, IsBlockRead, IsFound, IsReadAs, KeepsEdits, behind_block, block_seats, raw, comment, instruction, declaration, cdata, block_tag, any_tag, Line, has_line, lines_through, lines_until, text_of, Mark, body, html_marks, leaf_marks, lines_marks, span_marks, is_blank_line, html, end-after-append}
+use Rattle.mdconstructs_flow_read.proofs.Prelude.{Bool, List, None, [], ap, append_assoc, cond, drop, false, length, nat_le, not, refl, subst, suc, sym, take, true, ℕ, ◌++◌, ◌||◌, ◌∙◌, ◌∷◌, ◌≡◌, drop-append_seam, take-append_seam, AllByRecursion, end-after-append, Seat, end_after, Enter, HtmlFlow, HtmlFlowData, Point, Name, Retry, FlowAfter, FlowBlankLineAfter, HtmlFlowStart, end_place, Given, Text, AreLines, HtmlIsRead, IsBlockRead, IsFound, IsReadAs, KeepsEdits, behind_block, block_seats, any_tag, block_tag, cdata, comment, declaration, instruction, raw, Line, has_line, lines_through, lines_until, text_of, Mark, body, html_marks, leaf_marks, lines_marks, span_marks, is_blank_line, html, all_of, ending_of, event}
 use Rattle.mdconstructs_flow_read.proofs.Tags.HtmlNumbers.{ends_html}
-use Rattle.mdconstructs_flow_read.proofs.Html.Blocks.{AreRead, count, enters, from-line, further-read, is_last, reads-as, seats-split, stays_open}
+use Rattle.mdconstructs_flow_read.proofs.Html.Blocks.{AreRead, count, from-line, further-read, is_last, reads-as, stays_open}
 use Rattle.mdconstructs_flow_read.proofs.Html.Counts.{count-through, count-until, open-is}
 use Rattle.mdconstructs_flow_read.proofs.Html.Ends.{ends-are, html-is}
-use Rattle.mdconstructs_flow_read.proofs.Html.First.{First, behind-is, first, last-same, line-is, rest, rest-are, rest-text, seats-are, white-read, white_events}
-use Rattle.mdconstructs_flow_read.proofs.Html.Halts.{line-begins, start-begins}
-use Rattle.mdconstructs_flow_read.proofs.Html.Reads.{BeginsAt, plain}
+use Rattle.mdconstructs_flow_read.proofs.Html.First.{First, behind-is, first, last-same, line-is, rest, rest-are, rest-text, seats-are, white-read, white_marks}
+use Rattle.mdconstructs_flow_read.proofs.Html.Reads.{BeginsAt, enters, line-begins, start-begins}
 use Rattle.mdconstructs_flow_read.proofs.Html.Steps.{Config, Kept, kept-on, kind_in}
 use Rattle.mdconstructs_flow_read.proofs.Lines.LineParts.{IsWhite}
 use Rattle.mdconstructs_flow_read.proofs.Lines.LineReads.{IsAt, reads-keeping, reads-on}
+use Rattle.mdconstructs_flow_read.proofs.Lines.Lines.{seats-split}
+use Rattle.mdconstructs_flow_read.proofs.Lines.RunReads.{leaves}
+
+abbrev begun : Given → Seat → List Mark
+begun g s = (event g.bytes Enter HtmlFlow s.point, None) ∷ []
 
 -- a first virtual byte
 pub record HasFront (s : Seat) (seats : List Seat) : Type 0 where
@@ -38,17 +42,17 @@ module _ (g : Given) (line : Line) (more : List Line) (are : AreLines (line ∷ 
   seats-begin false [] = record { tail = f.words; is = rest-text line more are f }
   seats-begin false (next ∷ lines) = record { tail = (f.words ++ ending_of line) ++ body (next ∷ lines); is = refl }
 
-  abbrev leaves : Point → List Mark
-  leaves p = plain (event g.bytes Exit HtmlFlow p ∷ [])
+  abbrev ends : Point → List Mark
+  ends p = leaves g (HtmlFlow ∷ []) p
 
   span-is : (p : Point) (s : Seat) (seats : List Seat) (inside : List Mark) → HasFront s seats
-      → span_marks g.bytes HtmlFlow seats inside ≡ plain (event g.bytes Enter HtmlFlow s.point ∷ []) ++ (inside ++ leaves (end_after p seats))
+      → span_marks g.bytes HtmlFlow seats inside ≡ begun g s ++ (inside ++ ends (end_after p seats))
   span-is p s seats inside front =
-      ap (λ l. span_marks g.bytes HtmlFlow l inside) front.is ∙ ap (λ l. plain (event g.bytes Enter HtmlFlow s.point ∷ []) ++ (inside ++ leaves (end_after p l))) (sym front.is)
+      ap (λ l. span_marks g.bytes HtmlFlow l inside) front.is ∙ ap (λ l. begun g s ++ (inside ++ ends (end_after p l))) (sym front.is)
 
   -- as it is read: without white space in front, and with it
   marks-bare : (p : Point) (is_open : Bool) (lines : List Line) → f.white ≡ []
-      → plain (event g.bytes Enter HtmlFlow f.sign.point ∷ []) ++ (inner is_open (behind ∷ lines) ++ leaves (end_after p (block_seats is_open (behind ∷ lines))))
+      → begun g f.sign ++ (inner is_open (behind ∷ lines) ++ ends (end_after p (block_seats is_open (behind ∷ lines))))
       ≡ span_marks g.bytes HtmlFlow (block_seats is_open (line ∷ lines)) (html_marks g.bytes is_open (line ∷ lines))
   marks-bare p is_open lines none =
       let seats = block_seats is_open (behind ∷ lines) in
@@ -58,12 +62,12 @@ module _ (g : Given) (line : Line) (more : List Line) (are : AreLines (line ∷ 
 
   marks-white : (w : Seat) (ws : List Seat) (is_open : Bool) (lines : List Line) → f.white ≡ w ∷ ws
       → let p = end_after w.end ws in
-      plain (white_events g w) ++ (plain (event g.bytes Exit HtmlFlowData p ∷ []) ++ (inner is_open (behind ∷ lines) ++ leaves (end_after p (block_seats is_open (behind ∷ lines)))))
+      white_marks g w ++ (leaves g (HtmlFlowData ∷ []) p ++ (inner is_open (behind ∷ lines) ++ ends (end_after p (block_seats is_open (behind ∷ lines)))))
       ≡ span_marks g.bytes HtmlFlow (block_seats is_open (line ∷ lines)) (html_marks g.bytes is_open (line ∷ lines))
   marks-white w ws is_open lines is =
       let seats = block_seats is_open (behind ∷ lines) in
       let p = end_after w.end ws in
-      ap (λ q. plain (white_events g w) ++ (plain (event g.bytes Exit HtmlFlowData p ∷ []) ++ (inner is_open (behind ∷ lines) ++ leaves q))) (sym (end-after-append w.end ws seats))
+      ap (λ q. white_marks g w ++ (leaves g (HtmlFlowData ∷ []) p ++ (inner is_open (behind ∷ lines) ++ ends q))) (sym (end-after-append w.end ws seats))
       ∙ sym (ap (λ m. span_marks g.bytes HtmlFlow (block_seats is_open (line ∷ lines)) m) (marks-are is_open lines ∙ ap (λ l. leaf_marks g.bytes HtmlFlowData l ++ inner is_open (behind ∷ lines)) is)
       ∙ ap (λ l. span_marks g.bytes HtmlFlow l (leaf_marks g.bytes HtmlFlowData (w ∷ ws) ++ inner is_open (behind ∷ lines))) (seats-are line more are f is_open lines ∙ ap (λ l. l ++ seats) is))
 
@@ -86,14 +90,14 @@ module _ (g : Given) (t : Text) (kind : ℕ) (line : Line) (more : List Line) (a
       IsReadAs g t Kept k FlowBlankLineAfter (block_seats is_open lines) (behind_block is_open lines after) (span_marks g.bytes HtmlFlow (block_seats is_open lines) (html_marks g.bytes is_open lines)) (Retry FlowAfter)
 
   -- from behind the white space on
-  rest-read : (k' : Config) (name : Name) (p' : Point) (pre : List Event) → IsAt t k' p' (all_of (left ∷ more)) → kind_in k' ≡ kind → BeginsAt g t k' p' name (pre ++ enters g t f.sign ∷ []) (all_of (left ∷ more))
+  rest-read : (k' : Config) (name : Name) (p' : Point) (pre : List Mark) → IsAt t k' p' (all_of (left ∷ more)) → kind_in k' ≡ kind → BeginsAt g t k' name (pre ++ enters g t f.sign ∷ []) (all_of (left ∷ more))
       → AreRead g t k' name p' pre (is_open last) (take (n last) (left ∷ more)) (drop (n last) (left ∷ more))
   rest-read k' name p' pre at is begins =
       subst (λ b. AreRead g t k' name p' pre (is_open b) (take (n b) (left ∷ more)) (drop (n b) (left ∷ more))) (last-same line more are f kind)
       (from-line g t kind k' name p' pre left more f.sign f.words (rest-text line more are f) (rest-are line more are f) at is begins (further-read g t kind more))
 
   -- without white space
-  turn-bare : f.white ≡ [] → (b : Bool) (lines after : List Line) → AreRead g t k FlowBlankLineAfter p (event g.bytes Enter HtmlFlow f.sign.point ∷ []) b (left ∷ lines) after → IsRead b (line ∷ lines) after
+  turn-bare : f.white ≡ [] → (b : Bool) (lines after : List Line) → AreRead g t k FlowBlankLineAfter p (begun g f.sign) b (left ∷ lines) after → IsRead b (line ∷ lines) after
   turn-bare none b lines after h =
       reads-as g t k FlowBlankLineAfter (block_seats b (left ∷ lines)) (block_seats b (line ∷ lines)) (behind_block b (left ∷ lines) after) (behind_block b (line ∷ lines) after) _
       (span_marks g.bytes HtmlFlow (block_seats b (line ∷ lines)) (html_marks g.bytes b (line ∷ lines))) (Retry FlowAfter)
@@ -102,25 +106,24 @@ module _ (g : Given) (t : Text) (kind : ℕ) (line : Line) (more : List Line) (a
   bare-read : f.white ≡ [] → IsAt t k p (all_of (line ∷ more)) → kind_in k ≡ kind → IsRead (is_open last) (take (n last) (line ∷ more)) (drop (n last) (line ∷ more))
   bare-read none at is =
       let same : all_of (line ∷ more) ≡ all_of (left ∷ more) = ap (λ l. l ++ all_of more) (line-is line more are f ∙ ap (λ w. w ++ left) none) in
-      let begins = line-begins g t.end (sight_before g t.end p (byte_of (seat_before t k.position)) (all_of (left ∷ more))) k (ap (λ n. Some (flow_byte n)) f.less) in
-      let pre : List Event = event g.bytes Enter HtmlFlow f.sign.point ∷ [] in
-      (elim last as (λ b. AreRead g t k FlowBlankLineAfter p pre (is_open b) (take (n b) (left ∷ more)) (drop (n b) (left ∷ more)) → IsRead (is_open b) (take (n b) (line ∷ more)) (drop (n b) (line ∷ more))) [
+      let at' = subst (IsAt t k p) same at in
+      (elim last as (λ b. AreRead g t k FlowBlankLineAfter p (begun g f.sign) (is_open b) (take (n b) (left ∷ more)) (drop (n b) (left ∷ more)) → IsRead (is_open b) (take (n b) (line ∷ more)) (drop (n b) (line ∷ more))) [
         | true ↦ turn-bare none false [] more
         | false ↦ turn-bare none (stays_open kind more) (take (count kind more) more) (drop (count kind more) more)
-      ]) (rest-read k FlowBlankLineAfter p pre (subst (IsAt t k p) same at) is begins)
+      ]) (rest-read k FlowBlankLineAfter p (begun g f.sign) at' is (line-begins g t k p f.sign ((f.words ++ ending_of line) ++ all_of more) f.less at'))
 
   -- with it
   module _ (w : Seat) (ws : List Seat) (white_is : f.white ≡ w ∷ ws) where
     abbrev q : Point
     q = end_after w.end ws
 
-    abbrev pre_white : List Event
-    pre_white = event g.bytes Exit HtmlFlowData q ∷ []
+    abbrev pre_white : List Mark
+    pre_white = leaves g (HtmlFlowData ∷ []) q
 
     abbrev IsReadBehind : (b : Bool) → (lines after : List Line) → Type 0
     IsReadBehind b lines after =
         IsReadAs g t Kept k FlowBlankLineAfter ((w ∷ ws) ++ block_seats b lines) (behind_block b lines after)
-        (plain (white_events g w) ++ (plain pre_white ++ (lines_marks g.bytes (leaf_marks g.bytes HtmlFlowData) b lines ++ plain (event g.bytes Exit HtmlFlow (end_after q (block_seats b lines)) ∷ [])))) (Retry FlowAfter)
+        (white_marks g w ++ (pre_white ++ (lines_marks g.bytes (leaf_marks g.bytes HtmlFlowData) b lines ++ leaves g (HtmlFlow ∷ []) (end_after q (block_seats b lines))))) (Retry FlowAfter)
 
     turn-white : (b : Bool) (lines after : List Line) → IsReadBehind b (left ∷ lines) after → IsRead b (line ∷ lines) after
     turn-white b lines after h =
@@ -141,11 +144,11 @@ module _ (g : Given) (t : Text) (kind : ℕ) (line : Line) (more : List Line) (a
           | true ↦ turn-white false [] more
           | false ↦ turn-white (stays_open kind more) (take (count kind more) more) (drop (count kind more) more)
         ])
-        (reads-on g t Kept Kept Kept kept-on k p FlowBlankLineAfter HtmlFlowStart (w ∷ ws) seats after (plain (white_events g w)) _ (Retry FlowAfter) placed
+        (reads-on g t Kept Kept Kept kept-on k p FlowBlankLineAfter HtmlFlowStart (w ∷ ws) seats after (white_marks g w) _ (Retry FlowAfter) placed
         (white-read g t k p w ws (seats ++ after) all_white token placed)
         (λ k' at' kept.
-        rest-read k' HtmlFlowStart q pre_white (subst (IsAt t k' q) split at') (kept.kind ∙ is)
-        (start-begins g t.end (sight_before g t.end q (byte_of (seat_before t k'.position)) (all_of (left ∷ more))) k' (ap (λ n. Some (flow_byte n)) f.less))))
+        let there = subst (IsAt t k' q) split at' in
+        rest-read k' HtmlFlowStart q pre_white there (kept.kind ∙ is) (start-begins g t k' q f.sign ((f.words ++ ending_of line) ++ all_of more) f.less there)))
 
   block-read : IsAt t k p (all_of (line ∷ more)) → kind_in k ≡ kind → k.local.tokenize_state.token_1 ≡ HtmlFlow
       → IsRead (stays_open kind (line ∷ more)) (take (count kind (line ∷ more)) (line ∷ more)) (drop (count kind (line ∷ more)) (line ∷ more))

@@ -1,5 +1,7 @@
--- Reading on from one state is reading on from another, in parts and over a stretch.
-use Rattle.mdconstructs_flow_read.proofs.Prelude.{◌≡◌, ℕ, ◌+◌, List, Bool, drop, refl, sym, ap, ◌∙◌, subst, arith, Name, State, Retry, Seat, Configuration, Choice, Reading, EndsIn, byte_of, end_place, seat_before, Given, Text, LeadsIn, stretches-are-read, waits_at, table_step, stretch, stretch_from, flow}
+-- Reading on from one state is reading on from another, in parts, and by one call.
+use Rattle.mdconstructs_flow_read.proofs.Prelude.{List, Option, [], arith, subst, ℕ, ◌+◌, ◌≡◌, Seat, Point, Name, State, Retry, Choice, Configuration, Local, EndsIn, Reading, byte_of, seat_before, Given, Text, FlowByte, flow_byte, flow, IsReadAs, KeepsEdits, Mark, LeadsIn, first_byte, Act, chooses, class_of, does, table_step, sight_before}
+use Rattle.mdconstructs_flow_read.proofs.Lines.LineReads.{IsAt}
+use Rattle.mdconstructs_flow_read.proofs.Lines.RowReads.{RowIs, counted, row-called}
 
 module _ (g : Given) (t : Text) where
   -- with choices that wait, reading on from a state is reading on from another, some calls later
@@ -19,12 +21,10 @@ module _ (g : Given) (t : Text) where
   pub from-leads : (n : ℕ) (k : Configuration Unit Unit) (from : State) (after : Configuration Unit Unit) (to : State) → LeadsIn g (table_step flow g) t n k from after to → Leads k from after to
   from-leads n k from after to h = record { calls = n; leads = λ choices before z e. h choices before z e }
 
-  -- a stretch leads to where it stops
-  pub stretch-leads : (until : Name → Bool) (k : Configuration Unit Unit) (name : Name) (l : List Seat) → drop k.position t.seats ≡ l → k.waiting ≡ waits_at l
-      → let r = stretch flow g t.end until 3 (end_place t k.position) (byte_of (seat_before t k.position)) l k name in Leads k (Retry name) r.configuration r.answer
-  stretch-leads until k name l at waits =
-      subst (λ l. let r = stretch flow g t.end until 3 (end_place t k.position) (byte_of (seat_before t k.position)) l k name in Leads k (Retry name) r.configuration r.answer) at
-      (record {
-        calls = (stretch_from flow g t until 3 k name).calls;
-        leads = λ choices before z h. (stretches-are-read flow g t (table_step flow g) (λ name state is s k. refl)).leads until 3 k name (waits ∙ ap waits_at (sym at)) choices before z h;
-      })
+  -- a reading leads to where it is, and so does a call by the acts of its row
+  pub read-leads : (kept : (before after : Local Unit Unit) → Type 0) (k : Configuration Unit Unit) (name : Name) (line rest : List Seat) (marks : List Mark) (to : State) → (r : IsReadAs g t kept k name line rest marks to) → Leads k (Retry name) r.after to
+  read-leads kept k name line rest marks to r = record { calls = r.calls; leads = λ choices before z h. r.leads choices before z h }
+
+  pub row-leads : (k : Configuration Unit Unit) (name : Name) (p : Point) (l : List Seat) (c : Option FlowByte) (acts : List (Act Unit Unit)) (a : State) → IsAt t k p l → class_of flow_byte (first_byte l) ≡ c → RowIs g t KeepsEdits k name p l c acts a
+      → let sight = sight_before g t.end p (byte_of (seat_before t k.position)) l in chooses acts sight (counted k) [] ≡ [] → Leads k (Retry name) (does acts sight (counted k)) a
+  row-leads k name p l c acts a at class is none = record { calls = 1; leads = row-called g t KeepsEdits k name p l c acts a at class is none }

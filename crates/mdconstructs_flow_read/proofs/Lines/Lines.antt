@@ -1,5 +1,5 @@
 -- Lines of a text: what they are cut into, and that they stay lines where they are taken and dropped.
-use Rattle.mdconstructs_flow_read.proofs.Prelude.{◌≡◌, ℕ, zero, suc, ◌==◌, List, [], ◌∷◌, ◌++◌, true, false, cond, not, ◌⊎◌, inl, inr, take, drop, refl, sym, ap, ◌∙◌, subst, length, ◌≤◌, arith, eqb-true, flat_map-append, append_assoc, append-nil, take-append-drop, AllByRecursion, Seat, all_of, ending_of, is_line_ending, joined, line_text, lines_in, AreLines, IsLine, last_ending, Line, body, IsInLine}
+use Rattle.mdconstructs_flow_read.proofs.Prelude.{◌≡◌, ℕ, zero, suc, ◌==◌, List, [], ◌∷◌, ◌++◌, Bool, true, false, cond, not, ◌⊎◌, inl, inr, take, drop, refl, sym, ap, ◌∙◌, subst, length, ◌≤◌, arith, eqb-true, flat_map-append, append_assoc, append-nil, take-append-drop, AllByRecursion, Seat, all_of, ending_of, is_line_ending, joined, line_text, lines_in, AreLines, IsLine, behind_block, block_seats, last_ending, Line, body, IsInLine}
 
 -- one line
 
@@ -149,6 +149,13 @@ pub body-with-ending : (lines : List Line) → AreLines lines → body lines ++ 
 body-with-ending [] are = refl
 body-with-ending (line ∷ []) are = (cut-line line [] are).whole ∙ sym (append-nil line)
 body-with-ending (line ∷ next ∷ lines) are = append_assoc line (body (next ∷ lines)) (last_ending (next ∷ lines)) ∙ ap (λ l. line ++ l) (body-with-ending (next ∷ lines) are.1)
+
+-- the virtual bytes of a block, and those behind it
+pub seats-split : (is_open : Bool) (n : ℕ) (lines : List Line) → AreLines lines → block_seats is_open (take n lines) ++ behind_block is_open (take n lines) (drop n lines) ≡ all_of lines
+seats-split true n lines are = all-of-split n lines
+seats-split false n lines are =
+    sym (append_assoc (body (take n lines)) (last_ending (take n lines)) (all_of (drop n lines)))
+    ∙ ap (λ l. l ++ all_of (drop n lines)) (body-with-ending (take n lines) (lines-taken n lines are)) ∙ all-of-split n lines
 
 -- all lines, and the text of one behind them
 pub body-and-text : (lines : List Line) (last : Line) → body (lines ++ last ∷ []) ≡ all_of lines ++ line_text last

@@ -1,5 +1,5 @@
 -- How a state is read by its row, where that makes no choice: the row's acts say which marks are made, and which place is read next.
-use Rattle.mdconstructs_flow_read.proofs.Prelude.{◌≡◌, ℕ, ◌+◌, ◌==◌, List, [], ◌∷◌, ◌++◌, Bool, true, false, Option, Some, None, length, refl, sym, ap, ◌∙◌, subst, arith, append_assoc, append-nil, length-append, eqb-true, Event, Enter, Exit, Link, Point, Name, State, Next, Retry, Nok, Seat, Nothing, consumed, entered, exited, with_local, Configuration, Choice, Local, Sight, sight, sight_in, byte_of, seat_before, Reading, EndsIn, Given, Text, goes-called, first_byte, waits_at, Act, enters, exit, consume, links, writes, choose, Rows, row, StateRows, Table, class_of, does, chooses, named, past, picked, step_at, step_of, table_step, sight_before, is_white, FlowByte, blank, flow_byte, flow, unchanged, IsReadAs, waits_then, Chunk, Mark, alone, linked_from, exit_noted, enter_noted, note}
+use Rattle.mdconstructs_flow_read.proofs.Prelude.{Bool, List, None, Option, Some, [], ap, append-nil, append_assoc, arith, false, length, length-append, refl, subst, sym, true, ℕ, ◌++◌, ◌+◌, ◌==◌, ◌∙◌, ◌∷◌, ◌≡◌, eqb-true, Seat, Event, Enter, Exit, Link, Point, Name, State, Next, Nok, Retry, consumed, entered, exited, with_local, Choice, Configuration, Local, EndsIn, Reading, Sight, byte_of, seat_before, sight, sight_in, Given, Text, Nothing, FlowByte, blank, flow_byte, flow, unchanged, IsReadAs, waits_then, Chunk, Mark, alone, linked_from, is_white, goes-called, first_byte, waits_at, Act, Rows, StateRows, Table, choose, chooses, class_of, consume, does, enter_noted, enters, exit, exit_noted, links, note, named, past, picked, row, step_at, step_of, table_step, writes, sight_before}
 use Rattle.mdconstructs_tables.proofs.Looks.Stretches.{sees-at}
 use Rattle.mdconstructs_tables.specs.Rows.{done}
 use Rattle.mdconstructs_flow_read.proofs.Lines.LineReads.{IsAt, reads-feeding}
@@ -157,10 +157,11 @@ module _ (g : Given) (t : Text) (kept : (before after : Local Unit Unit) → Typ
       ∙ ap (λ c. step_of (picked (rows_of (named flow.states name) (class_of flow_byte s.previous) c) g s (counted k)) s (counted k)) (ap (class_of flow_byte) (sees-first g t.end p _ l) ∙ class)
       ∙ ap (λ r. step_of r s (counted k)) is
 
-  called : (l : List Seat) (c : Option FlowByte) (acts : List (Act Unit Unit)) (a : State) → IsAt t k p l → class_of flow_byte (first_byte l) ≡ c → RowIs l c acts a → chooses acts (seen l) (counted k) [] ≡ []
+  -- so its call is that of the row's acts, which make no choice
+  pub row-called : (l : List Seat) (c : Option FlowByte) (acts : List (Act Unit Unit)) (a : State) → IsAt t k p l → class_of flow_byte (first_byte l) ≡ c → RowIs l c acts a → chooses acts (seen l) (counted k) [] ≡ []
       → (choices : List Choice) (before : ℕ) (z : Reading Unit Unit) → EndsIn g (table_step flow g) t (before + 1) (does acts (seen l) (counted k)) choices a z
       → EndsIn g (table_step flow g) t before k choices (Retry name) z
-  called l c acts a at class is none choices before z h =
+  row-called l c acts a at class is none choices before z h =
       (goes-called g (table_step flow g) t k name (does acts (seen l) (counted k)) a
       (does-so l c acts a at class is ∙ ap (λ cs. record { configuration = does acts (seen l) (counted k); choices = cs; answer = a }) none)).leads choices before z h
 
@@ -176,7 +177,7 @@ module _ (g : Given) (t : Text) (kept : (before after : Local Unit Unit) → Typ
         position = let same = left.0 in omega (arith, same);
         waiting = left.1 ∙ at.waits ∙ sym waits;
         local = local;
-        leads = called l c acts a at class is choices;
+        leads = row-called l c acts a at class is choices;
       }
 
   -- a row that reads one
@@ -192,7 +193,7 @@ module _ (g : Given) (t : Text) (kept : (before after : Local Unit Unit) → Typ
         position = left.0;
         waiting = left.1;
         local = local;
-        leads = called l (Some c) acts (Next to) at (ap Some class) is choices;
+        leads = row-called l (Some c) acts (Next to) at (ap Some class) is choices;
       }
 
   -- and the next is fed

@@ -25,7 +25,7 @@ mark-no-white b is = elim (b == 42) as (λ t. (b == 42) ≡ t → (t || ((b == 9
   ] refl h
 ] refl is
 
-white-no-mark : (b : ℕ) → is_white b ≡ true → is_break_mark b ≡ false
+pub white-no-mark : (b : ℕ) → is_white b ≡ true → is_break_mark b ≡ false
 white-no-mark b w = elim (is_break_mark b) as (λ t. is_break_mark b ≡ t → t ≡ false) [
   | true ↦ λ e. sym w ∙ mark-no-white b e
   | false ↦ λ e. refl

@@ -1,99 +1,46 @@
--- What the calls of a paragraph's states come to, by the byte that waits.
-use Rattle.mdconstructs_flow_read.proofs.Prelude.{◌≡◌, ℕ, suc, ◌==◌, [], ◌∷◌, Bool, true, false, cond, Option, Some, None, refl, ap, ◌∙◌, Data, Paragraph, Point, Name, Next, Retry, FlowAfter, FlowBeforeContent, ParagraphInside, ParagraphLineStart, ParagraphStart, ParagraphLineAfter, ParagraphLookStart, Check, consumed, entered, exited, linked, with_local, Configuration, Sight, Given, chunk_before, connected, is_connected, last_event, Row, Rows, row, choose, class_of, consume, does, enter_link, exit, links, picked, when, write, Halt, to_come, over, one_call_more, row_comes_to, reads_byte, halt, text_link, FlowByte, cased, flow_byte, is_line_feed, line_feed, flow, paragraph_begins, paragraph_line_after_rows, flow_before_content_rows, paragraph_inside_rows, paragraph_start_rows}
+-- The calls of a paragraph's states in which it, or a chunk of it, begins; and the bytes of a line.
+use Rattle.mdconstructs_flow_read.proofs.Prelude.{Bool, List, Some, [], ap, cond, false, refl, true, ◌==◌, ◌∙◌, ◌∷◌, ◌≡◌, Seat, Data, Paragraph, Point, Next, Retry, FlowAfter, FlowBeforeContent, ParagraphInside, ParagraphLineStart, ParagraphStart, Configuration, Sight, byte_of, seat_before, Given, Text, Check, flow_byte, paragraph_begins, ParagraphLineAfter, ParagraphLookStart, text_link, chunk_before, connected, is_connected, last_event, Act, Row, Rows, choose, chooses, does, enter, enter_link, exit, links, picked, row, when, write, sight_before}
 use Rattle.mdconstructs_tables.specs.Chunks.{alone}
+use Rattle.mdconstructs_flow_read.proofs.Lines.Leading.{Leads, row-leads}
+use Rattle.mdconstructs_flow_read.proofs.Lines.LineReads.{IsAt}
 use Rattle.mdconstructs_flow_read.proofs.Lines.RowReads.{counted}
+use Rattle.mdconstructs_flow_read.proofs.Lines.RunReads.{Keeping, Runs, is_in_line, line-runs}
+use Rattle.mdconstructs_flow_read.proofs.Looks.ByteClasses.{feed-is}
 
--- the state behind a block
-abbrev pub until : Name → Bool
-until name = name.number == FlowAfter.number
+-- nothing that states share changes
+abbrev pub same_kept : Keeping
+same_kept = record { kept = λ a b. b ≡ a; same = λ l. refl; on = λ a b c h k. k ∙ h }
 
--- a chunk of the paragraph came before, and the new one is linked to it; or none did
-module _ (seen : Sight) (k : Configuration Unit Unit) where
-  abbrev entered_chunk : Configuration Unit Unit
-  entered_chunk = entered Data (Some text_link) seen.enter_place k
+pub inside_runs : Runs ParagraphInside is_in_line
+inside_runs = line-runs ParagraphInside (row (choose Check (Next ParagraphLineStart) (Next ParagraphLineAfter) ∷ []) (Retry ParagraphLookStart)) (λ b c. refl)
 
-  abbrev pub begun : Configuration Unit Unit
-  begun = with_local entered_chunk (connected entered_chunk)
+-- what begins a paragraph, and a chunk: linked to the one before, or alone
+abbrev paragraph_acts : List (Act Unit Unit)
+paragraph_acts = enter Paragraph ∷ write alone ∷ write paragraph_begins ∷ []
 
-  abbrev linked_chunk : Configuration Unit Unit
-  linked_chunk = linked (chunk_before entered_chunk) (last_event entered_chunk) entered_chunk
+abbrev chunk_acts : (linked : Bool) → List (Act Unit Unit)
+chunk_acts true = enter_link Data text_link ∷ links chunk_before last_event ∷ write connected ∷ []
+chunk_acts false = enter_link Data text_link ∷ write connected ∷ []
 
-  abbrev pub continued : Configuration Unit Unit
-  continued = with_local linked_chunk (connected linked_chunk)
-
-  -- a paragraph begins
-  abbrev entered_paragraph : Configuration Unit Unit
-  entered_paragraph = entered Paragraph None seen.enter_place k
-
-  abbrev alone_there : Configuration Unit Unit
-  alone_there = with_local entered_paragraph (alone entered_paragraph)
+module _ (g : Given) (t : Text) (k : Configuration Unit Unit) (p : Point) (s : Seat) (rest : List Seat) where
+  abbrev sight : Sight
+  sight = sight_before g t.end p (byte_of (seat_before t k.position)) (s ∷ rest)
 
   abbrev pub opened : Configuration Unit Unit
-  opened = with_local alone_there (paragraph_begins alone_there)
+  opened = does paragraph_acts sight (counted k)
 
-module _ (g : Given) (end : Point) (seen : Sight) where
-  abbrev told_row : ℕ → Configuration Unit Unit → Name → Row Unit Unit → Halt Unit Unit
-  told_row n k name r = row_comes_to until (halt flow g end until n seen) (over k (Retry name) 0) (reads_byte false r.acts) (does r.acts seen (counted k)) r.answer
+  abbrev pub begun : (linked : Bool) → Configuration Unit Unit
+  begun linked = does (chunk_acts linked) sight (counted k)
 
-  abbrev told : ℕ → Configuration Unit Unit → Name → Rows Unit Unit → Halt Unit Unit
-  told n k name rows = told_row n k name (picked rows g seen (counted k))
+  module _ (at : IsAt t k p (s ∷ rest)) where
+    pub opens : Leads g t k (Retry FlowBeforeContent) opened (Retry ParagraphStart)
+    opens = row-leads g t k FlowBeforeContent p (s ∷ rest) (Some (flow_byte s.byte)) paragraph_acts (Retry ParagraphStart) at refl refl refl
 
-  abbrev previous : Option FlowByte
-  previous = class_of flow_byte seen.previous
-
-  abbrev pub now : Option FlowByte
-  now = class_of flow_byte seen.current
-
-  at-inside : (n : ℕ) (k : Configuration Unit Unit) (c : Option FlowByte) → now ≡ c → halt flow g end until (suc n) seen k ParagraphInside ≡ told n k ParagraphInside (cased paragraph_inside_rows previous c)
-  at-inside n k c is = ap (λ c. told n k ParagraphInside (cased paragraph_inside_rows previous c)) is
-
-  -- in a line
-  pub inside-on : (n : ℕ) (k : Configuration Unit Unit) (c : FlowByte) → is_line_feed c ≡ false → now ≡ Some c → halt flow g end until (suc n) seen k ParagraphInside ≡ to_come (consumed (counted k)) ParagraphInside 1
-  inside-on n k c differs is =
-      at-inside n k (Some c) is
-      ∙ ap (λ t. told n k ParagraphInside (cond t (row (choose Check (Next ParagraphLineStart) (Next ParagraphLineAfter) ∷ []) (Retry ParagraphLookStart)) (row (consume ∷ []) (Next ParagraphInside)))) differs
-
-  -- before its line ending, and at the end of the text
-  pub inside-feed : (n : ℕ) (k : Configuration Unit Unit) → now ≡ Some line_feed → halt flow g end until (suc n) seen k ParagraphInside ≡ over k (Retry ParagraphInside) 0
-  inside-feed n k is = at-inside n k (Some line_feed) is
-
-  pub inside-end : (n : ℕ) (k : Configuration Unit Unit) → now ≡ None
-      → halt flow g end until (suc n) seen k ParagraphInside ≡ over (exited Paragraph seen.exit_place (exited Data seen.exit_place (counted k))) (Retry FlowAfter) 1
-  inside-end n k is = at-inside n k None is
-
-  at-start : (n : ℕ) (k : Configuration Unit Unit) (c : Option FlowByte) → now ≡ c → halt flow g end until (suc n) seen k ParagraphStart ≡ told n k ParagraphStart (cased paragraph_start_rows previous c)
-  at-start n k c is = ap (λ c. told n k ParagraphStart (cased paragraph_start_rows previous c)) is
-
-  abbrev linked_row : Row Unit Unit
-  linked_row = record { acts = enter_link Data text_link ∷ links chunk_before last_event ∷ write connected ∷ []; answer = Retry ParagraphInside }
-
-  abbrev alone_row : Row Unit Unit
-  alone_row = record { acts = enter_link Data text_link ∷ write connected ∷ []; answer = Retry ParagraphInside }
-
-  at-text : (n : ℕ) (k : Configuration Unit Unit) (c : FlowByte) → is_line_feed c ≡ false → now ≡ Some c
-      → halt flow g end until (suc n) seen k ParagraphStart ≡ told_row n k ParagraphStart (cond k.local.tokenize_state.connect linked_row alone_row)
-  at-text n k c differs is =
-      at-start n k (Some c) is
-      ∙ ap (λ t. told n k ParagraphStart (cond t (row (exit Paragraph ∷ []) (Retry FlowAfter)) (when is_connected (row linked_row.acts linked_row.answer) (row alone_row.acts alone_row.answer)))) differs
-
-  -- before the first line of a paragraph, and before a further one
-  pub first-line : (n : ℕ) (k : Configuration Unit Unit) (c : FlowByte) → is_line_feed c ≡ false → now ≡ Some c → k.local.tokenize_state.connect ≡ false
-      → halt flow g end until (suc (suc n)) seen k ParagraphStart ≡ to_come (consumed (counted (begun seen (counted k)))) ParagraphInside 2
-  first-line n k c differs is alone =
-      at-text (suc n) k c differs is ∙ ap (λ t. told_row (suc n) k ParagraphStart (cond t linked_row alone_row)) alone ∙ ap (one_call_more until) (inside-on n (begun seen (counted k)) c differs is)
-
-  pub further-line : (n : ℕ) (k : Configuration Unit Unit) (c : FlowByte) → is_line_feed c ≡ false → now ≡ Some c → k.local.tokenize_state.connect ≡ true
-      → halt flow g end until (suc (suc n)) seen k ParagraphStart ≡ to_come (consumed (counted (continued seen (counted k)))) ParagraphInside 2
-  further-line n k c differs is connects =
-      at-text (suc n) k c differs is ∙ ap (λ t. told_row (suc n) k ParagraphStart (cond t linked_row alone_row)) connects ∙ ap (one_call_more until) (inside-on n (continued seen (counted k)) c differs is)
-
-  -- before a paragraph
-  pub paragraph-begins : (k : Configuration Unit Unit) (c : FlowByte) → is_line_feed c ≡ false → now ≡ Some c
-      → halt flow g end until 3 seen k FlowBeforeContent ≡ to_come (consumed (counted (begun seen (counted (opened seen (counted k)))))) ParagraphInside 3
-  paragraph-begins k c differs is =
-      ap (λ c. told 2 k FlowBeforeContent (cased flow_before_content_rows previous c)) is ∙ ap (one_call_more until) (first-line 0 (opened seen (counted k)) c differs is refl)
-
-  -- at the end of a line of a paragraph that goes on
-  pub line-ends : (n : ℕ) (k : Configuration Unit Unit) → now ≡ Some line_feed
-      → halt flow g end until (suc n) seen k ParagraphLineAfter ≡ to_come (exited Data seen.next (consumed (counted k))) ParagraphStart 1
-  line-ends n k is = ap (λ c. told n k ParagraphLineAfter (cased paragraph_line_after_rows previous c)) is
+    pub begins : (linked : Bool) → k.local.tokenize_state.connect ≡ linked → (s.byte == 10) ≡ false → Leads g t k (Retry ParagraphStart) (begun linked) (Retry ParagraphInside)
+    begins linked is in_line =
+        let rows : Bool → Rows Unit Unit = λ linked. row (chunk_acts linked) (Retry ParagraphInside) in
+        let by : Bool → Row Unit Unit = λ linked. record { acts = chunk_acts linked; answer = Retry ParagraphInside } in
+        row-leads g t k ParagraphStart p (s ∷ rest) (Some (flow_byte s.byte)) (chunk_acts linked) (Retry ParagraphInside) at refl
+        (ap (λ b. picked (cond b (row (exit Paragraph ∷ []) (Retry FlowAfter)) (when is_connected (rows true) (rows false))) g sight (counted k)) (feed-is s.byte ∙ in_line)
+        ∙ ap (λ b. cond b (by true) (by false)) is ∙ (elim linked as (λ b. cond b (by true) (by false) ≡ by b) [ true ↦ refl | false ↦ refl ]))
+        (elim linked as (λ b. chooses (chunk_acts b) sight (counted k) [] ≡ []) [ true ↦ refl | false ↦ refl ])

@@ -1,60 +1,13 @@
 -- At a line ending in a paragraph: whether it goes on, ends, or becomes a heading, by what the next line is.
-use Rattle.mdconstructs_flow_read.proofs.Prelude.{◌≡◌, ℕ, suc, ◌<◌, ◌^◌, ◌-◌, List, [], ◌∷◌, ◌++◌, inl, inr, Bool, true, false, cond, not, Some, drop, length, refl, sym, ap, ◌∙◌, subst, Data, Paragraph, Point, Name, State, Ok, Retry, FlowAfter, ParagraphInside, ParagraphLineStart, ParagraphLineAfter, HeadingSetextTextAfter, ParagraphLookStart, shown, Seat, Byte, exited, with_local, Configuration, Local, Sight, byte_of, end_place, seat_before, Given, Text, Look, Row, class_of, does, exit, picked, write, Halt, ahead, fed_before, halt, over, reads_byte, row_comes_to, sight_before, stretch, cased, flow_byte, line_feed, flow, unchanged, paragraph_ends, paragraph_inside, paragraph_line_start_rows, bytes_of, unindented, is_underline, seen_ends, SeenKind, seen_kind, Finds, IsInLine, LeavesAll, LineEnds, LinesAreSeen}
+use Rattle.mdconstructs_flow_read.proofs.Prelude.{Bool, List, Some, [], ap, cond, drop, false, inl, inr, length, not, refl, suc, sym, true, ℕ, ◌++◌, ◌-◌, ◌<◌, ◌^◌, ◌∙◌, ◌∷◌, ◌≡◌, shown, Seat, Data, Paragraph, State, Ok, Retry, FlowAfter, ParagraphInside, ParagraphLineStart, exited, with_local, Configuration, Local, Sight, byte_of, end_place, seat_before, Given, Text, Byte, flow_byte, line_feed, unchanged, paragraph_ends, paragraph_inside, HeadingSetextTextAfter, ParagraphLineAfter, ParagraphLookStart, bytes_of, unindented, Finds, IsInLine, LeavesAll, LineEnds, LinesAreSeen, SeenKind, is_underline, seen_ends, seen_kind, Look, Act, Row, chooses, does, exit, write, over, sight_before}
 use Rattle.mdconstructs_flow_read.proofs.Lines.Checks.{checks-nok, checks-ok, looks}
 use Rattle.mdconstructs_flow_read.proofs.Lines.KindsOfLines.{IsPossible, possible}
-use Rattle.mdconstructs_flow_read.proofs.Lines.Leading.{Leads, from-leads, leads-on, stretch-leads}
+use Rattle.mdconstructs_flow_read.proofs.Lines.Leading.{Leads, from-leads, leads-on, row-leads}
 use Rattle.mdconstructs_flow_read.proofs.Lines.RowReads.{counted}
 use Rattle.mdconstructs_flow_read.proofs.Paragraphs.Looks.{finds_underline, next-line-seen, passed, passes_over, text-fails, underlined}
 use Rattle.mdconstructs_flow_read.proofs.Looks.LookSteps.{leaves-on}
 
--- each call by itself
-abbrev each : Name → Bool
-each name = true
-
-module _ (g : Given) (end : Point) (seen : Sight) (k : Configuration Unit Unit) where
-  abbrev closed : Configuration Unit Unit
-  closed = exited Paragraph seen.exit_place (exited Data seen.exit_place (counted k))
-
-  abbrev noted : Configuration Unit Unit
-  noted = with_local closed (paragraph_ends closed)
-
-  abbrev goes_on_row : Row Unit Unit
-  goes_on_row = record { acts = []; answer = Retry ParagraphLineAfter }
-
-  abbrev heading_row : Row Unit Unit
-  heading_row = record { acts = exit Data ∷ exit Paragraph ∷ write paragraph_ends ∷ []; answer = Retry HeadingSetextTextAfter }
-
-  abbrev ends_row : Row Unit Unit
-  ends_row = record { acts = exit Data ∷ exit Paragraph ∷ []; answer = Retry FlowAfter }
-
-  abbrev told_row : Row Unit Unit → Halt Unit Unit
-  told_row r = row_comes_to each (halt flow g end each 2 seen) (over k (Retry ParagraphLineStart) 0) (reads_byte false r.acts) (does r.acts seen (counted k)) r.answer
-
-  at-line-end : class_of flow_byte seen.current ≡ Some line_feed
-      → halt flow g end each 3 seen k ParagraphLineStart ≡ told_row (cond (passes_over k.local) goes_on_row (cond (finds_underline k.local) heading_row ends_row))
-  at-line-end is = ap (λ c. told_row (picked (cased paragraph_line_start_rows (class_of flow_byte seen.previous) c) g seen (counted k))) is
-
-  goes-on : class_of flow_byte seen.current ≡ Some line_feed → passes_over k.local ≡ true → halt flow g end each 3 seen k ParagraphLineStart ≡ over (counted k) (Retry ParagraphLineAfter) 1
-  goes-on is passes = at-line-end is ∙ ap (λ t. told_row (cond t goes_on_row (cond (finds_underline k.local) heading_row ends_row))) passes
-
-  begins-heading : class_of flow_byte seen.current ≡ Some line_feed → passes_over k.local ≡ false → finds_underline k.local ≡ true
-      → halt flow g end each 3 seen k ParagraphLineStart ≡ over noted (Retry HeadingSetextTextAfter) 1
-  begins-heading is passes under =
-      at-line-end is ∙ ap (λ t. told_row (cond t goes_on_row (cond (finds_underline k.local) heading_row ends_row))) passes ∙ ap (λ t. told_row (cond t heading_row ends_row)) under
-
-  ends : class_of flow_byte seen.current ≡ Some line_feed → passes_over k.local ≡ false → finds_underline k.local ≡ false
-      → halt flow g end each 3 seen k ParagraphLineStart ≡ over closed (Retry FlowAfter) 1
-  ends is passes under =
-      at-line-end is ∙ ap (λ t. told_row (cond t goes_on_row (cond (finds_underline k.local) heading_row ends_row))) passes ∙ ap (λ t. told_row (cond t heading_row ends_row)) under
-
 module _ (g : Given) (t : Text) where
-  -- a call that reads on at the same place
-  one-call : (k : Configuration Unit Unit) (name : Name) (s : Seat) (ss : List Seat) (after : Configuration Unit Unit) (to : State) → drop k.position t.seats ≡ s ∷ ss → k.waiting ≡ Byte
-      → halt flow g t.end each 3 (sight_before g t.end (end_place t k.position) (byte_of (seat_before t k.position)) (s ∷ ss)) k name ≡ over after to 1 → Leads g t k (Retry name) after to
-  one-call k name s ss after to at waits is =
-      let more = λ (k : Configuration Unit Unit) (name : Name). stretch flow g t.end each 3 s.end (Some s.byte) ss (fed_before ss k) name in
-      subst (λ h. let r = ahead more h in Leads g t k (Retry name) r.configuration r.answer) is (stretch-leads g t each k name (s ∷ ss) at waits)
-
   -- the paragraph is ended, with these things that states share
   abbrev pub ended : Configuration Unit Unit → Local Unit Unit → Configuration Unit Unit
   ended k local = let place = shown g.bytes (end_place t k.position) in exited Paragraph place (exited Data place (with_local k local))
@@ -80,33 +33,33 @@ module _ (g : Given) (t : Text) where
       abbrev left : LeavesAll k.local (unchanged look.local)
       left = leaves-on k.local look.local (unchanged look.local) leaves (record { edits = refl; resolvers = refl; start = refl; end = refl; connect = refl })
 
-      -- the look answers Ok, and its call at the line ending is this
-      by-kind : (ok : look.answer ≡ Ok) (after : Configuration Unit Unit) (to : State)
-          → halt flow g t.end each 3 (sight_before g t.end (end_place t k.position) (byte_of (seat_before t k.position)) (s ∷ ss)) behind ParagraphLineStart ≡ over after to 1
-          → Leads g t k (Retry ParagraphInside) after to
-      by-kind ok after to is =
-          leads-on g t k (Retry ParagraphInside) behind (Retry ParagraphLineStart) after to
-          (from-leads g t (suc look.calls) k (Retry ParagraphInside) behind (Retry ParagraphLineStart)
-          (checks-ok g t k s ss at waits ParagraphInside ParagraphLookStart ParagraphLineStart ParagraphLineAfter paragraph_inside refl line_feed class_is [] (λ previous. refl) ok))
-          (one-call behind ParagraphLineStart s ss after to at waits is)
-
       abbrev seen : Sight
       seen = sight_before g t.end (end_place t k.position) (byte_of (seat_before t k.position)) (s ∷ ss)
+
+      -- the row at the line ending, by what the tests say
+      abbrev row_by : (passes under : Bool) → Row Unit Unit
+      row_by passes under =
+          cond passes (record { acts = []; answer = Retry ParagraphLineAfter })
+          (cond under (record { acts = exit Data ∷ exit Paragraph ∷ write paragraph_ends ∷ []; answer = Retry HeadingSetextTextAfter }) (record { acts = exit Data ∷ exit Paragraph ∷ []; answer = Retry FlowAfter }))
+
+      -- the look answers Ok, and its call at the line ending is this
+      by-kind : (ok : look.answer ≡ Ok) (acts : List (Act Unit Unit)) (to : State) → row_by (passes_over look.local) (finds_underline look.local) ≡ record { acts = acts; answer = to } → chooses acts seen (counted behind) [] ≡ []
+          → Leads g t k (Retry ParagraphInside) (does acts seen (counted behind)) to
+      by-kind ok acts to is none =
+          leads-on g t k (Retry ParagraphInside) behind (Retry ParagraphLineStart) (does acts seen (counted behind)) to
+          (from-leads g t (suc look.calls) k (Retry ParagraphInside) behind (Retry ParagraphLineStart)
+          (checks-ok g t k s ss at waits ParagraphInside ParagraphLookStart ParagraphLineStart ParagraphLineAfter paragraph_inside refl line_feed class_is [] (λ previous. refl) ok))
+          (row-leads g t behind ParagraphLineStart (end_place t k.position) (s ∷ ss) (Some line_feed) acts to (record { behind = refl; left = at; waits = waits }) (ap Some class_is) is none)
 
       pub ends-so : EndsSo k kind
       ends-so = elim (text-fails kind r look.local look.answer finds) [
         | inl ok ↦
             let passes = passed kind r look.local look.answer can finds ok in
             let under = underlined kind r look.local look.answer finds ok in
-            let here : class_of flow_byte (Some s.byte) ≡ Some line_feed = ap Some class_is in record {
-              on = λ differs. (unchanged look.local, left, by-kind ok (counted behind) (Retry ParagraphLineAfter) (goes-on g t.end seen behind here (passes ∙ ap not differs)));
-              over = λ stops none. (unchanged look.local, left, by-kind ok (ended k (unchanged look.local)) (Retry FlowAfter) (ends g t.end seen behind here (passes ∙ ap not stops) (under ∙ none)));
-              under = λ stops one. (
-                unchanged look.local,
-                left,
-                by-kind ok (with_local (ended k (unchanged look.local)) (paragraph_ends (ended k (unchanged look.local)))) (Retry HeadingSetextTextAfter)
-                    (begins-heading g t.end seen behind here (passes ∙ ap not stops) (under ∙ one)),
-              );
+            let by = λ (passing under : Bool) (e : passes_over look.local ≡ passing) (u : finds_underline look.local ≡ under). ap (λ b. row_by b (finds_underline look.local)) e ∙ ap (row_by passing) u in record {
+              on = λ differs. (unchanged look.local, left, by-kind ok [] (Retry ParagraphLineAfter) (by true (finds_underline look.local) (passes ∙ ap not differs) refl) refl);
+              over = λ stops none. (unchanged look.local, left, by-kind ok (exit Data ∷ exit Paragraph ∷ []) (Retry FlowAfter) (by false false (passes ∙ ap not stops) (under ∙ none)) refl);
+              under = λ stops one. (unchanged look.local, left, by-kind ok (exit Data ∷ exit Paragraph ∷ write paragraph_ends ∷ []) (Retry HeadingSetextTextAfter) (by false true (passes ∙ ap not stops) (under ∙ one)) refl);
             }
         | inr badly ↦
             let is_text = badly.1 in

@@ -1,13 +1,12 @@
 -- A paragraph, line by line: where its text stands at a line ending, and what comes of the rest.
-use Rattle.mdconstructs_flow_read.proofs.Prelude.{◌≡◌, ℕ, ◌+◌, ◌-◌, ◌==◌, List, [], ◌∷◌, ◌++◌, Bool, true, false, cond, Option, Some, None, drop, length, refl, sym, ap, ◌∙◌, subst, arith, append-nil, append_assoc, length-append, TextContent, Event, Enter, Exit, Data, Paragraph, Point, State, Retry, FlowAfter, ParagraphInside, ParagraphStart, ParagraphLineAfter, HeadingSetextTextAfter, Seat, end_after, linked_to, Byte, consumed, exited, with_local, Configuration, Local, Sight, byte_of, end_place, seat_before, Given, Text, waits_at, fed_before, sight_before, ending_of, line_text, event, flow_byte, last_ending, Line, Mark, body, chunk_span, linked_from, text_marks, IsInLine, LeavesAll, end-after-one}
-use Rattle.mdconstructs_flow_read.proofs.Looks.ByteClasses.{feed-is}
-use Rattle.mdconstructs_flow_read.proofs.Lines.Leading.{Leads, leads-on, stretch-leads}
-use Rattle.mdconstructs_flow_read.proofs.Lines.LineReads.{behind-line}
+use Rattle.mdconstructs_flow_read.proofs.Prelude.{Bool, List, None, Option, Some, [], ap, append-nil, append_assoc, arith, cond, drop, false, length, length-append, refl, subst, sym, true, ℕ, ◌++◌, ◌+◌, ◌-◌, ◌==◌, ◌∙◌, ◌∷◌, ◌≡◌, end-after-one, Seat, end_after, TextContent, Event, Enter, Exit, Data, Paragraph, Point, State, Retry, FlowAfter, ParagraphInside, ParagraphStart, linked_to, with_local, Configuration, Local, end_place, Given, Text, Byte, flow_byte, line_feed, HeadingSetextTextAfter, ParagraphLineAfter, IsReadAs, last_ending, Line, Mark, body, chunk_span, linked_from, text_marks, IsInLine, LeavesAll, ending_of, line_text, event, waits_at, consume, exit}
+use Rattle.mdconstructs_flow_read.proofs.Lines.Leading.{Leads, leads-on, read-leads}
+use Rattle.mdconstructs_flow_read.proofs.Lines.LineReads.{IsAt, at-behind, behind-line}
 use Rattle.mdconstructs_flow_read.proofs.Lines.Lines.{in-line-ending, in-line-text}
+use Rattle.mdconstructs_flow_read.proofs.Lines.RowReads.{row-takes-on}
+use Rattle.mdconstructs_flow_read.proofs.Lines.RunReads.{all-in-line, is_in_line, leaves, row-ends, run-on, then-ends}
+use Rattle.mdconstructs_flow_read.proofs.Paragraphs.Calls.{begins, begun, inside_runs, same_kept}
 use Rattle.mdconstructs_flow_read.proofs.Paragraphs.ChunkLinks.{linked-last}
-use Rattle.mdconstructs_flow_read.proofs.Lines.RowReads.{counted}
-use Rattle.mdconstructs_flow_read.proofs.Paragraphs.Calls.{continued, further-line, line-ends, until}
-use Rattle.mdconstructs_flow_read.proofs.Paragraphs.Texts.{Begins, Stops, begins-fed, more_behind, reads, stops-on, to-end, to-feed}
 
 -- what is kept along a paragraph
 pub record Keeps (before after : Local Unit Unit) : Type 0 where
@@ -20,6 +19,9 @@ keeps-on a b c h i = record { edits = i.edits ∙ h.edits; resolvers = i.resolve
 
 pub left-keeps : (a b : Local Unit Unit) → LeavesAll a b → Keeps a b
 left-keeps a b h = record { edits = h.edits; resolvers = h.resolvers; end = h.end }
+
+same-keeps : (a b : Local Unit Unit) → b ≡ a → Keeps a b
+same-keeps a b is = record { edits = ap (λ (l : Local Unit Unit). l.map) is; resolvers = ap (λ (l : Local Unit Unit). l.resolvers) is; end = ap (λ (l : Local Unit Unit). l.tokenize_state.end) is }
 
 -- the enter of a chunk at this index
 abbrev pub chunk_at : (bytes : List ℕ) (has_previous : Bool) (index : ℕ) (next : Option ℕ) (place : Point) → Event
@@ -45,6 +47,58 @@ pub record IsReadOn (g : Given) (t : Text) (has_previous : Bool) (done : List Ev
   pub waiting : after.waiting ≡ waits_at (last_ending lines ++ behind)
   pub keeps : Keeps k.local after.local
   pub noted : underlined ≡ true → after.local.tokenize_state.start ≡ length after.events - 1
+
+-- A chunk was begun here, and its bytes are to be read
+pub record IsBegun (g : Given) (t : Text) (has_previous : Bool) (done : List Event) (s : Seat) (behind : List Seat) (p : Point) (k : Configuration Unit Unit) : Type 0 where
+  pub at : IsAt t k p (s ∷ behind)
+  pub events_are : k.events ≡ done ++ chunk_at g.bytes has_previous (length done) None s.point ∷ []
+  pub start : k.local.tokenize_state.start ≡ length done
+  pub connects : k.local.tokenize_state.connect ≡ true
+
+module _ (g : Given) (t : Text) (has_previous : Bool) (done : List Event) (s : Seat) (p : Point) (k : Configuration Unit Unit) where
+  -- its line has a line ending
+  pub text-to-feed : (ss : List Seat) (feed : Seat) (rest : List Seat) → IsBegun g t has_previous done s (ss ++ feed ∷ rest) p k → IsInLine (s ∷ ss) → feed.byte ≡ 10
+      → (k2 : Configuration Unit Unit) × Leads g t k (Retry ParagraphInside) k2 (Retry ParagraphInside) × (k2.local ≡ k.local) × IsAtFeed g t has_previous done s ss feed rest k.position k2
+  text-to-feed ss feed rest h all feeds =
+      let r = run-on g t same_kept ParagraphInside is_in_line inside_runs (s ∷ ss) (feed ∷ rest) (all-in-line (s ∷ ss) all) k p h.at in (
+        r.after,
+        read-leads g t same_kept.kept k ParagraphInside (s ∷ ss) (feed ∷ rest) [] (Retry ParagraphInside) r,
+        r.local,
+        record {
+          events_are = r.events_are ∙ append-nil k.events ∙ h.events_are;
+          position_is = r.position;
+          at = h.at.left;
+          waits = r.waiting;
+          feeds = feeds;
+          start = ap (λ (l : Local Unit Unit). l.tokenize_state.start) r.local ∙ h.start;
+          connects = ap (λ (l : Local Unit Unit). l.tokenize_state.connect) r.local ∙ h.connects;
+        },
+      )
+
+  -- or it is the last one, and has none
+  pub text-to-end : (ss : List Seat) → IsBegun g t has_previous done s ss p k → IsInLine (s ∷ ss) → IsReadOn g t has_previous done ((s ∷ ss) ∷ []) [] false k.position k (Retry ParagraphInside)
+  text-to-end ss h all =
+      let line = s ∷ ss in
+      let q = end_after s.end ss in
+      let outs = event g.bytes Exit Data q ∷ event g.bytes Exit Paragraph q ∷ [] in
+      let c = chunk_at g.bytes has_previous (length done) None s.point in
+      let text : line_text line ≡ line = in-line-text line all in
+      let none : ending_of line ≡ [] = in-line-ending line all in
+      let at = subst (λ l. IsAt t k p l) (sym (append-nil line)) h.at in
+      let r = then-ends g t same_kept k p ParagraphInside ParagraphInside FlowAfter line [] [] (leaves g (Data ∷ Paragraph ∷ []) q) at (run-on g t same_kept ParagraphInside is_in_line inside_runs line [] (all-in-line line all) k p at)
+      (λ k' at' kept. row-ends g t same_kept ParagraphInside (Data ∷ Paragraph ∷ []) FlowAfter k' q [] None at' refl (λ b. refl)) in
+      let ends : end_place t r.after.position ≡ q = ap (end_place t) r.position ∙ (behind-line t line [] k.position p (record { place = at.behind; left = at.left })).place in record {
+        after = r.after;
+        leads = read-leads g t same_kept.kept k ParagraphInside line [] (leaves g (Data ∷ Paragraph ∷ []) q) (Retry FlowAfter) r;
+        events_are =
+            r.events_are ∙ ap (λ es. es ++ outs) h.events_are ∙ append_assoc done (c ∷ []) outs
+            ∙ ap (λ e. done ++ c ∷ event g.bytes Exit Data q ∷ event g.bytes Exit Paragraph e ∷ []) (sym ends)
+            ∙ ap (λ x. done ++ linked_from (length done) (chunk_span g.bytes (Some (record { content = TextContent; has_previous = has_previous; has_next = false })) Data x [] ++ (event g.bytes Exit Paragraph (end_place t r.after.position), None) ∷ [])) (sym text);
+        position_is = r.position ∙ ap (λ x. k.position + length x) (sym text);
+        waiting = r.waiting ∙ ap (λ x. waits_at (x ++ [])) (sym none);
+        keeps = same-keeps k.local r.after.local r.local;
+        noted = λ e. absurd (cc);
+      }
 
 module _ (g : Given) (t : Text) (has_previous : Bool) (done : List Event) (s : Seat) (ss : List Seat) (feed : Seat) (q : ℕ) where
   -- the chunk of this line, once there is another behind it
@@ -74,126 +128,80 @@ module _ (g : Given) (t : Text) (has_previous : Bool) (done : List Event) (s : S
       }
 
   -- Over the line ending, and the first byte of the next line: its chunk is linked to that of this line
-  module _ (rest : List Seat) (k : Configuration Unit Unit) (l : Local Unit Unit) (next : Seat) (behind : List Seat) (is : rest ≡ next ∷ behind) (here : IsAtFeed g t has_previous done s ss feed rest q k) (leaves : LeavesAll k.local l) (in_line : (next.byte == 10) ≡ false) where
-    abbrev place : Point
-    place = end_place t k.position
+  module _ (rest : List Seat) (k : Configuration Unit Unit) (l : Local Unit Unit) (next : Seat) (behind : List Seat) (is : rest ≡ next ∷ behind) (here : IsAtFeed g t has_previous done s ss feed rest q k) (leaves_it : LeavesAll k.local l) (in_line : (next.byte == 10) ≡ false) where
+    -- where it begins
+    abbrev p : Point
+    p = end_place t k.position
 
-    abbrev before : Option ℕ
-    before = byte_of (seat_before t k.position)
+    left : drop k.position t.seats ≡ feed ∷ next ∷ behind
+    left = ap (λ n. drop n t.seats) here.position_is ∙ (behind-line t (s ∷ ss) (feed ∷ rest) q (end_place t q) (record { place = refl; left = here.at })).left ∙ ap (λ l. feed ∷ l) is
 
-    abbrev over_feed : Configuration Unit Unit
-    over_feed = record (exited Data (sight_before g t.end place before (feed ∷ next ∷ behind)).next (consumed (counted (with_local k l)))) { waiting = Byte }
+    over_feed : IsReadAs g t same_kept.kept (with_local k l) ParagraphLineAfter (feed ∷ []) (next ∷ behind) (leaves g (Data ∷ []) feed.end) (Retry ParagraphStart)
+    over_feed = row-takes-on g t same_kept.kept (with_local k l) ParagraphLineAfter p feed (next ∷ behind) line_feed (consume ∷ exit Data ∷ []) ParagraphStart (record { behind = refl; left = left; waits = here.waits }) (ap flow_byte here.feeds) refl tt refl refl
 
-    abbrev seen : Sight
-    seen = sight_before g t.end feed.end (Some feed.byte) (next ∷ behind)
+    behind_feed : IsAt t over_feed.after feed.end (next ∷ behind)
+    behind_feed = at-behind g t same_kept.kept (with_local k l) p ParagraphLineAfter ParagraphStart (feed ∷ []) (next ∷ behind) (leaves g (Data ∷ []) feed.end) (record { behind = refl; left = left; waits = here.waits }) over_feed
 
-    abbrev pub linked_on : Configuration Unit Unit
-    linked_on = consumed (counted (continued seen (counted over_feed)))
+    abbrev linked_on : Configuration Unit Unit
+    linked_on = begun g t over_feed.after feed.end next behind true
 
-    pub linked-keeps : Keeps k.local linked_on.local
-    linked-keeps = record { edits = leaves.edits; resolvers = leaves.resolvers; end = leaves.end }
+    linked-keeps : Keeps k.local linked_on.local
+    linked-keeps =
+        let h = keeps-on k.local l over_feed.after.local (left-keeps k.local l leaves_it) (same-keeps l over_feed.after.local over_feed.local) in record { edits = h.edits; resolvers = h.resolvers; end = h.end }
 
-    -- a stretch from there
-    pub goes-over : (events : List Event) (n : ℕ) (left : List Seat) (to : State) → Stops linked_on.local events n left to (more_behind g t.end linked_on.local next behind linked_on ParagraphInside)
-        → Stops linked_on.local events n left to (reads g t.end linked_on.local place before (feed ∷ next ∷ behind) (with_local k l) ParagraphLineAfter)
-    goes-over events n left to h =
-        stops-on linked_on.local events n left to (more_behind g t.end linked_on.local feed (next ∷ behind)) _ ParagraphStart 1 _
-        (line-ends g t.end (sight_before g t.end place before (feed ∷ next ∷ behind)) 2 (with_local k l) (ap Some (ap flow_byte here.feeds)))
-        (stops-on linked_on.local events n left to (more_behind g t.end linked_on.local next behind) linked_on ParagraphInside 2 _
-        (further-line g t.end seen 1 over_feed (flow_byte next.byte) (feed-is next.byte ∙ in_line) refl (leaves.connect ∙ here.connects)) h)
-
-    pub linked-events : linked_on.events ≡ done_before ++ chunk_at g.bytes true (length done_before) None next.point ∷ []
+    linked-events : linked_on.events ≡ done_before ++ chunk_at g.bytes true (length done_before) None next.point ∷ []
     linked-events =
         let old = chunk_at g.bytes has_previous (length done) None s.point in
         let out = event g.bytes Exit Data feed.end in
         let new = chunk_at g.bytes false 0 None next.point in
         let all = done ++ old ∷ out ∷ new ∷ [] in
-        let are : (k.events ++ out ∷ []) ++ new ∷ [] ≡ all =
-        ap (λ es. (es ++ out ∷ []) ++ new ∷ []) here.events_are ∙ ap (λ es. es ++ new ∷ []) (append_assoc done (old ∷ []) (out ∷ [])) ∙ append_assoc done (old ∷ out ∷ []) (new ∷ []) in
+        let es = over_feed.after.events ++ new ∷ [] in
+        let are : es ≡ all =
+        ap (λ es. es ++ new ∷ []) (over_feed.events_are ∙ ap (λ es. es ++ out ∷ []) here.events_are ∙ append_assoc done (old ∷ []) (out ∷ [])) ∙ append_assoc done (old ∷ out ∷ []) (new ∷ []) in
         let last : length all - 1 ≡ length done + 2 = omega (arith, length-append done (old ∷ out ∷ new ∷ [])) in
         let first : length done_before - 2 ≡ length done = omega (arith, length-append done (chunk_at g.bytes has_previous (length done) (Some (length done + 2)) s.point ∷ out ∷ [])) in
-        ap (λ n. linked_to n (length ((k.events ++ out ∷ []) ++ new ∷ []) - 1) ((k.events ++ out ∷ []) ++ new ∷ [])) (leaves.start ∙ here.start)
+        ap (λ n. linked_to n (length es - 1) es) (ap (λ (l : Local Unit Unit). l.tokenize_state.start) over_feed.local ∙ leaves_it.start ∙ here.start)
         ∙ ap (λ es. linked_to (length done) (length es - 1) es) are
         ∙ ap (λ n. linked_to (length done) n all) last
         ∙ linked-last done old out new (length done + 2) refl
         ∙ ap (λ n. done ++ chunk_at g.bytes has_previous (length done) (Some (length done + 2)) s.point ∷ out ∷ record (event g.bytes Enter Data next.point) { link = Some (record { previous = Some n; next = None; content = TextContent }) } ∷ []) (sym first)
         ∙ sym (append_assoc done (chunk_at g.bytes has_previous (length done) (Some (length done + 2)) s.point ∷ out ∷ []) (chunk_at g.bytes true (length done_before) None next.point ∷ []))
 
-    -- where it begins, and its first byte's place
-    left : drop k.position t.seats ≡ feed ∷ next ∷ behind
-    left = ap (λ n. drop n t.seats) here.position_is ∙ (behind-line t (s ∷ ss) (feed ∷ rest) q (end_place t q) (record { place = refl; left = here.at })).left ∙ ap (λ l. feed ∷ l) is
+    abbrev from : ℕ
+    from = q + length ((s ∷ ss) ++ feed ∷ [])
 
-    there : drop (q + length ((s ∷ ss) ++ feed ∷ [])) t.seats ≡ next ∷ behind
-    there =
-        (behind-line t ((s ∷ ss) ++ feed ∷ []) (next ∷ behind) q (end_place t q)
-        (record { place = refl; left = here.at ∙ ap (λ l. (s ∷ ss) ++ feed ∷ l) is ∙ sym (append_assoc (s ∷ ss) (feed ∷ []) (next ∷ behind)) })).left
+    linked-position : linked_on.position ≡ from
+    linked-position = let over = over_feed.position in let at = here.position_is in let n = length-append (s ∷ ss) (feed ∷ []) in omega (arith, over, at, n)
 
-    linked-start : linked_on.local.tokenize_state.start ≡ length done_before
-    linked-start = let n = ap length linked-events in let count = length-append done_before (chunk_at g.bytes true (length done_before) None next.point ∷ []) in omega (arith, n, count)
-
-    linked-position : linked_on.position ≡ q + length ((s ∷ ss) ++ feed ∷ []) + 1
-    linked-position = let at = here.position_is in let n = length-append (s ∷ ss) (feed ∷ []) in omega (arith, at, n)
-
-    begins-there : (more : List Seat) → Begins linked_on.local linked_on.events linked_on.position more (fed_before more linked_on)
-    begins-there more = begins-fed linked_on.local linked_on.events more linked_on (record { edits = refl; resolvers = refl; start = refl; end = refl; connect = refl }) refl
+    next-begun : IsBegun g t true done_before next behind feed.end linked_on
+    next-begun = record {
+      at = record { behind = behind_feed.behind; left = behind_feed.left; waits = behind_feed.waits };
+      events_are = linked-events;
+      start = let n = ap length linked-events in let count = length-append done_before (chunk_at g.bytes true (length done_before) None next.point ∷ []) in omega (arith, n, count);
+      connects = refl;
+    }
 
     module _ (goes : Leads g t k (Retry ParagraphInside) (with_local k l) (Retry ParagraphLineAfter)) where
+      leads-there : Leads g t k (Retry ParagraphInside) linked_on (Retry ParagraphInside)
+      leads-there =
+          leads-on g t k (Retry ParagraphInside) (with_local k l) (Retry ParagraphLineAfter) linked_on (Retry ParagraphInside) goes
+          (leads-on g t (with_local k l) (Retry ParagraphLineAfter) over_feed.after (Retry ParagraphStart) linked_on (Retry ParagraphInside)
+          (read-leads g t same_kept.kept (with_local k l) ParagraphLineAfter (feed ∷ []) (next ∷ behind) (leaves g (Data ∷ []) feed.end) (Retry ParagraphStart) over_feed)
+          (begins g t over_feed.after feed.end next behind behind_feed true (ap (λ (l : Local Unit Unit). l.tokenize_state.connect) over_feed.local ∙ leaves_it.connect ∙ here.connects) in_line))
+
       -- the next line has a line ending
       pub further-feed : (ss2 : List Seat) (feed2 : Seat) (rest2 : List Seat) → behind ≡ ss2 ++ feed2 ∷ rest2 → IsInLine ss2 → feed2.byte ≡ 10
-          → (k2 : Configuration Unit Unit) × Leads g t k (Retry ParagraphInside) k2 (Retry ParagraphInside) × Keeps k.local k2.local
-          × IsAtFeed g t true done_before next ss2 feed2 rest2 (q + length ((s ∷ ss) ++ feed ∷ [])) k2
+          → (k2 : Configuration Unit Unit) × Leads g t k (Retry ParagraphInside) k2 (Retry ParagraphInside) × Keeps k.local k2.local × IsAtFeed g t true done_before next ss2 feed2 rest2 from k2
       further-feed ss2 feed2 rest2 are all feeds =
-          let n = linked_on.position + length ss2 in
-          let r = reads g t.end linked_on.local place before (feed ∷ next ∷ behind) (with_local k l) ParagraphLineAfter in
-          let stops : Stops linked_on.local linked_on.events n (feed2 ∷ rest2) (Retry ParagraphInside) r =
-          goes-over linked_on.events n (feed2 ∷ rest2) (Retry ParagraphInside)
-          (subst (λ b. Stops linked_on.local linked_on.events n (feed2 ∷ rest2) (Retry ParagraphInside) (reads g t.end linked_on.local next.end (Some next.byte) b (fed_before b linked_on) ParagraphInside)) (sym are)
-          (to-feed g t.end linked_on.local linked_on.events ss2 feed2 rest2 next.end (Some next.byte) linked_on.position (fed_before (ss2 ++ feed2 ∷ rest2) linked_on) all feeds (begins-there (ss2 ++ feed2 ∷ rest2)))) in
-          let led = stretch-leads g t until (with_local k l) ParagraphLineAfter (feed ∷ next ∷ behind) left here.waits in (
-            r.configuration,
-            leads-on g t k (Retry ParagraphInside) (with_local k l) (Retry ParagraphLineAfter) r.configuration (Retry ParagraphInside) goes (subst (λ a. Leads g t (with_local k l) (Retry ParagraphLineAfter) r.configuration a) stops.answer led),
-            keeps-on k.local linked_on.local r.configuration.local linked-keeps (left-keeps linked_on.local r.configuration.local stops.local),
-            record {
-              events_are = stops.events_are ∙ linked-events;
-              position_is = let at = stops.position_is in let from = linked-position in omega (arith, at, from);
-              at = there ∙ ap (λ b. next ∷ b) are;
-              waits = stops.waiting;
-              feeds = feeds;
-              start = stops.local.start ∙ linked-start;
-              connects = stops.local.connect;
-            },
+          let (k2, led, same, h) = text-to-feed g t true done_before next feed.end linked_on ss2 feed2 rest2 (subst (λ b. IsBegun g t true done_before next b feed.end linked_on) are next-begun) (in_line, all) feeds in (
+            k2,
+            leads-on g t k (Retry ParagraphInside) linked_on (Retry ParagraphInside) k2 (Retry ParagraphInside) leads-there led,
+            keeps-on k.local linked_on.local k2.local linked-keeps (same-keeps linked_on.local k2.local same),
+            subst (λ n. IsAtFeed g t true done_before next ss2 feed2 rest2 n k2) linked-position h,
           )
 
       -- or it is the last one, and has none
       pub further-end : IsInLine behind → IsReadOn g t has_previous done (((s ∷ ss) ++ feed ∷ []) ∷ (next ∷ behind) ∷ []) [] false q k (Retry ParagraphInside)
       further-end all =
-          let n = linked_on.position + length behind in
-          let r = reads g t.end linked_on.local place before (feed ∷ next ∷ behind) (with_local k l) ParagraphLineAfter in
-          let p = end_after next.end behind in
-          let outs = event g.bytes Exit Data p ∷ event g.bytes Exit Paragraph p ∷ [] in
-          let line = next ∷ behind in
-          let text : line_text line ≡ line = in-line-text line (in_line, all) in
-          let none : ending_of line ≡ [] = in-line-ending line (in_line, all) in
-          let c = chunk_at g.bytes true (length done_before) None next.point in
-          let stops : Stops linked_on.local (linked_on.events ++ outs) n [] (Retry FlowAfter) r =
-          goes-over (linked_on.events ++ outs) n [] (Retry FlowAfter)
-          (subst (λ b. Stops linked_on.local (linked_on.events ++ outs) n [] (Retry FlowAfter) (reads g t.end linked_on.local next.end (Some next.byte) b (fed_before b linked_on) ParagraphInside)) (append-nil behind)
-          (to-end g t.end linked_on.local linked_on.events behind next.end (Some next.byte) linked_on.position (fed_before (behind ++ []) linked_on) all (begins-there (behind ++ [])))) in
-          let led = stretch-leads g t until (with_local k l) ParagraphLineAfter (feed ∷ next ∷ behind) left here.waits in
-          let far : r.configuration.position ≡ q + length ((s ∷ ss) ++ feed ∷ []) + length line = let at = stops.position_is in let from = linked-position in omega (arith, at, from) in
-          let ends : end_place t r.configuration.position ≡ p =
-          let from = q + length ((s ∷ ss) ++ feed ∷ []) in
-          ap (end_place t) far ∙ (behind-line t line [] from (end_place t from) (record { place = refl; left = there ∙ sym (append-nil line) })).place in
-          one-line-more k (Retry ParagraphInside) (with_local k l) (Retry ParagraphLineAfter) line [] [] false goes (left-keeps k.local l leaves)
-          (record {
-            after = r.configuration;
-            leads = subst (λ a. Leads g t (with_local k l) (Retry ParagraphLineAfter) r.configuration a) stops.answer led;
-            events_are =
-                stops.events_are ∙ ap (λ es. es ++ outs) linked-events ∙ append_assoc done_before (c ∷ []) outs
-                ∙ ap (λ e. done_before ++ c ∷ event g.bytes Exit Data p ∷ event g.bytes Exit Paragraph e ∷ []) (sym ends)
-                ∙ ap (λ x. done_before ++ linked_from (length done_before) (chunk_span g.bytes (Some (record { content = TextContent; has_previous = true; has_next = false })) Data x [] ++ (event g.bytes Exit Paragraph (end_place t r.configuration.position), None) ∷ [])) (sym text);
-            position_is = far ∙ ap (λ x. q + length ((s ∷ ss) ++ feed ∷ []) + length x) (sym text);
-            waiting = stops.waiting ∙ ap (λ x. waits_at (x ++ [])) (sym none);
-            keeps = keeps-on l linked_on.local r.configuration.local (record { edits = refl; resolvers = refl; end = refl }) (left-keeps linked_on.local r.configuration.local stops.local);
-            noted = λ e. absurd (cc);
-          })
+          one-line-more k (Retry ParagraphInside) linked_on (Retry ParagraphInside) (next ∷ behind) [] [] false leads-there linked-keeps
+          (subst (λ n. IsReadOn g t true done_before ((next ∷ behind) ∷ []) [] false n linked_on (Retry ParagraphInside)) linked-position (text-to-end g t true done_before next feed.end linked_on behind next-begun (in_line, all)))

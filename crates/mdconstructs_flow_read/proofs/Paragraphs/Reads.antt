@@ -1,14 +1,11 @@
 -- Paragraphs are read as their definition says.
-use Rattle.mdconstructs_flow_read.proofs.Prelude.{◌≡◌, ℕ, suc, ◌+◌, ◌-◌, ◌≤◌, List, [], ◌∷◌, ◌++◌, inl, inr, Bool, true, false, cond, Some, None, drop, take, length, refl, sym, ap, ◌∙◌, subst, arith, append-nil, append_assoc, length-append, TextContent, Event, Enter, Exit, Data, Paragraph, Point, State, Retry, FlowAfter, FlowBeforeContent, ParagraphInside, HeadingSetextTextAfter, Seat, end_after, consumed, Configuration, EndsIn, byte_of, end_place, seat_before, Given, Text, waits_at, table_step, fed_before, sight_before, all_of, ending_of, line_text, event, flow_byte, flow, IsAtLines, ParagraphsAreRead, is_underlined, last_ending, Line, Mark, body, chunk_span, linked_from, span_marks, text_marks, IsInLine, LinesAreSeen}
-use Rattle.mdconstructs_flow_read.proofs.Looks.ByteClasses.{feed-is}
-use Rattle.mdconstructs_flow_read.proofs.Lines.Leading.{Leads, leads-on, stretch-leads}
-use Rattle.mdconstructs_flow_read.proofs.Lines.LineReads.{behind-line}
-use Rattle.mdconstructs_flow_read.proofs.Lines.Lines.{all-of-split, body-with-ending, cut-line, in-line-ending, in-line-text, lines-behind, lines-taken, text-in-line, has-first}
-use Rattle.mdconstructs_flow_read.proofs.Paragraphs.Calls.{begun, opened, paragraph-begins, until}
-use Rattle.mdconstructs_flow_read.proofs.Paragraphs.Lines.{IsAtFeed, IsReadOn, chunk_at}
+use Rattle.mdconstructs_flow_read.proofs.Prelude.{Bool, List, None, [], ap, append-nil, append_assoc, arith, cond, drop, false, inl, inr, length, length-append, refl, subst, suc, sym, take, true, ℕ, ◌++◌, ◌+◌, ◌-◌, ◌==◌, ◌∙◌, ◌∷◌, ◌≡◌, ◌≤◌, Seat, end_after, Event, Enter, Exit, Paragraph, Point, Retry, FlowAfter, FlowBeforeContent, ParagraphInside, ParagraphStart, Configuration, Local, EndsIn, end_place, Given, Text, flow, HeadingSetextTextAfter, IsAtLines, ParagraphsAreRead, is_underlined, last_ending, Line, Mark, body, linked_from, span_marks, text_marks, IsInLine, LinesAreSeen, all_of, ending_of, line_text, event, waits_at, table_step}
+use Rattle.mdconstructs_flow_read.proofs.Lines.Leading.{Leads, leads-on}
+use Rattle.mdconstructs_flow_read.proofs.Lines.LineReads.{IsAt, behind-line}
+use Rattle.mdconstructs_flow_read.proofs.Lines.Lines.{all-of-split, body-with-ending, cut-line, has-first, in-line-ending, in-line-text, lines-behind, lines-taken, text-in-line}
+use Rattle.mdconstructs_flow_read.proofs.Paragraphs.Calls.{begins, begun, opened, opens}
+use Rattle.mdconstructs_flow_read.proofs.Paragraphs.Lines.{IsBegun, IsReadOn, chunk_at, text-to-end, text-to-feed}
 use Rattle.mdconstructs_flow_read.proofs.Paragraphs.Rests.{goes_on_over, rest-read}
-use Rattle.mdconstructs_flow_read.proofs.Lines.RowReads.{counted}
-use Rattle.mdconstructs_flow_read.proofs.Paragraphs.Texts.{Begins, Stops, begins-fed, more_behind, reads, stops-on, to-end, to-feed}
 
 -- A paragraph is read: the marks of its lines, how far it reaches, and what is noted of it
 pub record IsParagraph (g : Given) (t : Text) (k : Configuration Unit Unit) (lines : List Line) (behind : List Seat) (underlined : Bool) : Type 0 where
@@ -23,89 +20,33 @@ pub record IsParagraph (g : Given) (t : Text) (k : Configuration Unit Unit) (lin
   pub ends_at : underlined ≡ true → after.local.tokenize_state.start ≡ length after.events - 1
 
 -- From the first byte of a paragraph on
-module _ (g : Given) (t : Text) (k : Configuration Unit Unit) (s : Seat) (behind : List Seat) (at : drop k.position t.seats ≡ s ∷ behind) (waits : k.waiting ≡ waits_at (s ∷ behind)) (in_line : IsInLine (s ∷ [])) where
+module _ (g : Given) (t : Text) (k : Configuration Unit Unit) (s : Seat) (behind : List Seat) (here : IsAt t k (end_place t k.position) (s ∷ behind)) (in_line : (s.byte == 10) ≡ false) where
+  abbrev p : Point
+  p = end_place t k.position
+
   abbrev enter : Event
   enter = event g.bytes Enter Paragraph s.point
 
-  abbrev done : List Event
-  done = k.events ++ enter ∷ []
+  abbrev begins_here : Configuration Unit Unit
+  begins_here = opened g t k p s behind
 
-  abbrev first_chunk : Configuration Unit Unit
-  first_chunk =
-      let seen = sight_before g t.end (end_place t k.position) (byte_of (seat_before t k.position)) (s ∷ behind) in
-      consumed (counted (begun seen (counted (opened seen (counted k)))))
+  abbrev pub first_chunk : Configuration Unit Unit
+  first_chunk = begun g t begins_here p s behind false
 
-  begins-paragraph : (events : List Event) (n : ℕ) (left : List Seat) (to : State) → Stops first_chunk.local events n left to (more_behind g t.end first_chunk.local s behind first_chunk ParagraphInside)
-      → Stops first_chunk.local events n left to (reads g t.end first_chunk.local (end_place t k.position) (byte_of (seat_before t k.position)) (s ∷ behind) k FlowBeforeContent)
-  begins-paragraph events n left to h =
-      stops-on first_chunk.local events n left to (more_behind g t.end first_chunk.local s behind) first_chunk ParagraphInside 3 _
-      (paragraph-begins g t.end (sight_before g t.end (end_place t k.position) (byte_of (seat_before t k.position)) (s ∷ behind)) k (flow_byte s.byte) (feed-is s.byte ∙ in_line.0) refl) h
+  pub leads-there : Leads g t k (Retry FlowBeforeContent) first_chunk (Retry ParagraphInside)
+  leads-there = leads-on g t k (Retry FlowBeforeContent) begins_here (Retry ParagraphStart) first_chunk (Retry ParagraphInside) (opens g t k p s behind here)
+      (begins g t begins_here p s behind (record { behind = here.behind; left = here.left; waits = here.waits }) false refl in_line)
 
-  begins-there : (more : List Seat) → Begins first_chunk.local first_chunk.events first_chunk.position more (fed_before more first_chunk)
-  begins-there more = begins-fed first_chunk.local first_chunk.events more first_chunk (record { edits = refl; resolvers = refl; start = refl; end = refl; connect = refl }) refl
+  pub first-begun : IsBegun g t false (k.events ++ enter ∷ []) s behind p first_chunk
+  first-begun = record {
+    at = record { behind = here.behind; left = here.left; waits = here.waits };
+    events_are = refl;
+    start = omega (arith, length-append (k.events ++ enter ∷ []) (chunk_at g.bytes false (length (k.events ++ enter ∷ [])) None s.point ∷ []));
+    connects = refl;
+  }
 
-  first-keeps-end : first_chunk.local.tokenize_state.end ≡ length k.events
+  pub first-keeps-end : first_chunk.local.tokenize_state.end ≡ length k.events
   first-keeps-end = omega (arith, length-append k.events (enter ∷ []))
-
-  -- the first line has a line ending
-  pub first-feed : (ss : List Seat) (feed : Seat) (rest : List Seat) → behind ≡ ss ++ feed ∷ rest → IsInLine ss → feed.byte ≡ 10
-      → (k2 : Configuration Unit Unit) × Leads g t k (Retry FlowBeforeContent) k2 (Retry ParagraphInside) × (k2.local.map ≡ k.local.map) × (k2.local.resolvers ≡ k.local.resolvers)
-      × (k2.local.tokenize_state.end ≡ length k.events) × IsAtFeed g t false done s ss feed rest k.position k2
-  first-feed ss feed rest are all feeds =
-      let n = first_chunk.position + length ss in
-      let r = reads g t.end first_chunk.local (end_place t k.position) (byte_of (seat_before t k.position)) (s ∷ behind) k FlowBeforeContent in
-      let stops : Stops first_chunk.local first_chunk.events n (feed ∷ rest) (Retry ParagraphInside) r =
-      begins-paragraph first_chunk.events n (feed ∷ rest) (Retry ParagraphInside)
-      (subst (λ b. Stops first_chunk.local first_chunk.events n (feed ∷ rest) (Retry ParagraphInside) (reads g t.end first_chunk.local s.end (Some s.byte) b (fed_before b first_chunk) ParagraphInside)) (sym are)
-      (to-feed g t.end first_chunk.local first_chunk.events ss feed rest s.end (Some s.byte) first_chunk.position (fed_before (ss ++ feed ∷ rest) first_chunk) all feeds (begins-there (ss ++ feed ∷ rest)))) in
-      let c = chunk_at g.bytes false (length done) None s.point in
-      let count : length (done ++ c ∷ []) - 1 ≡ length done = omega (arith, length-append done (c ∷ [])) in (
-        r.configuration,
-        subst (λ a. Leads g t k (Retry FlowBeforeContent) r.configuration a) stops.answer (stretch-leads g t until k FlowBeforeContent (s ∷ behind) at waits),
-        stops.local.edits,
-        stops.local.resolvers,
-        stops.local.end ∙ first-keeps-end,
-        record {
-          events_are = stops.events_are;
-          position_is = let at = stops.position_is in omega (arith, at);
-          at = at ∙ ap (λ b. s ∷ b) are;
-          waits = stops.waiting;
-          feeds = feeds;
-          start = stops.local.start ∙ count;
-          connects = stops.local.connect;
-        },
-      )
-
-  -- or it is the last one, and has none
-  pub first-end : IsInLine behind → IsParagraph g t k ((s ∷ behind) ∷ []) [] false
-  first-end all =
-      let n = first_chunk.position + length behind in
-      let r = reads g t.end first_chunk.local (end_place t k.position) (byte_of (seat_before t k.position)) (s ∷ behind) k FlowBeforeContent in
-      let p = end_after s.end behind in
-      let outs = event g.bytes Exit Data p ∷ event g.bytes Exit Paragraph p ∷ [] in
-      let line = s ∷ behind in
-      let text : line_text line ≡ line = in-line-text line (in_line.0, all) in
-      let none : ending_of line ≡ [] = in-line-ending line (in_line.0, all) in
-      let c = chunk_at g.bytes false (length done) None s.point in
-      let i = length k.events in
-      let count : length done ≡ i + 1 = length-append k.events (enter ∷ []) in
-      let stops : Stops first_chunk.local (first_chunk.events ++ outs) n [] (Retry FlowAfter) r =
-      begins-paragraph (first_chunk.events ++ outs) n [] (Retry FlowAfter)
-      (subst (λ b. Stops first_chunk.local (first_chunk.events ++ outs) n [] (Retry FlowAfter) (reads g t.end first_chunk.local s.end (Some s.byte) b (fed_before b first_chunk) ParagraphInside)) (append-nil behind)
-      (to-end g t.end first_chunk.local first_chunk.events behind s.end (Some s.byte) first_chunk.position (fed_before (behind ++ []) first_chunk) all (begins-there (behind ++ [])))) in
-      record {
-        after = r.configuration;
-        leads = subst (λ a. Leads g t k (Retry FlowBeforeContent) r.configuration a) stops.answer (stretch-leads g t until k FlowBeforeContent (s ∷ behind) at waits);
-        events_are =
-            stops.events_are ∙ append_assoc done (c ∷ []) outs ∙ append_assoc k.events (enter ∷ []) (c ∷ outs)
-            ∙ ap (λ x. k.events ++ linked_from i (span_marks g.bytes Paragraph x (chunk_span g.bytes (Some (record { content = TextContent; has_previous = false; has_next = false })) Data x []))) (sym text);
-        position_is = let at = stops.position_is in let count : length line ≡ length (line_text line) = ap length (sym text) in omega (arith, at, count);
-        waiting = stops.waiting ∙ ap (λ x. waits_at (x ++ [])) (sym none);
-        edits = stops.local.edits;
-        resolvers = stops.local.resolvers;
-        begins_at = stops.local.end ∙ first-keeps-end;
-        ends_at = λ e. absurd (cc);
-      }
 
 -- the first virtual byte of lines
 pub first-of-body : (line : Line) (lines : List Line) (s : Seat) (ss behind : List Seat) → line ≡ (s ∷ ss) ++ behind → line_text line ≡ s ∷ ss → (rest : List Seat) × (body (line ∷ lines) ≡ s ∷ rest)
@@ -169,19 +110,30 @@ module _ (seen : LinesAreSeen) (g : Given) (t : Text) (k : Configuration Unit Un
             let whole : line ≡ (u ∷ us) ++ h.ending ∷ [] = sym cut.whole ∙ ap (λ l. l ++ ending_of line) first ∙ ap (λ l. (u ∷ us) ++ l) h.is in
             let behind = us ++ h.ending ∷ all_of more in
             let is : all_of (line ∷ more) ≡ u ∷ behind = ap (λ l. l ++ all_of more) whole ∙ append_assoc (u ∷ us) (h.ending ∷ []) (all_of more) in
-            let (k2, leads2, edits2, resolvers2, end2, here2) = first-feed g t k u behind (here.at ∙ is) (here.waits ∙ ap waits_at is) (all.0, tt) us h.ending (all_of more) refl all.1 h.feed in
-            let lines = line ∷ take n more in
+            let at : IsAt t k (end_place t k.position) (u ∷ behind) = record { behind = refl; left = here.at ∙ is; waits = here.waits ∙ ap waits_at is } in
+            let mid = first_chunk g t k u behind at all.0 in
             let done = k.events ++ event g.bytes Enter Paragraph u.point ∷ [] in
+            let (k2, led, same, here2) = text-to-feed g t false done u (end_place t k.position) mid us h.ending (all_of more) (first-begun g t k u behind at all.0) all h.feed in
+            let lines = line ∷ take n more in
             let r : IsReadOn g t false done lines (all_of (drop n more)) (is_underlined g (drop n more)) k.position k2 (Retry ParagraphInside) =
             subst (λ (x : Line). IsReadOn g t false done (x ∷ take n more) (all_of (drop n more)) (is_underlined g (drop n more)) k.position k2 (Retry ParagraphInside)) (sym whole)
             (rest-read seen g t here.room more (lines-behind line more here.are_lines) false done u us h.ending k.position k2 here2 all) in
             let (bytes, body_is) = first-of-body line (take n more) u us (h.ending ∷ []) whole first in
-            from-first-line g t k k2 lines (all_of (drop n more)) (is_underlined g (drop n more)) u bytes (here.at ∙ bytes-of-lines) body_is leads2 edits2 resolvers2 end2 r
+            from-first-line g t k k2 lines (all_of (drop n more)) (is_underlined g (drop n more)) u bytes (here.at ∙ bytes-of-lines) body_is
+            (leads-on g t k (Retry FlowBeforeContent) mid (Retry ParagraphInside) k2 (Retry ParagraphInside) (leads-there g t k u behind at all.0) led)
+            (ap (λ (l : Local Unit Unit). l.map) same) (ap (λ (l : Local Unit Unit). l.resolvers) same) (ap (λ (l : Local Unit Unit). l.tokenize_state.end) same ∙ first-keeps-end g t k u behind at all.0) r
         | inr h ↦
             let whole : line ≡ u ∷ us = sym cut.whole ∙ ap (λ l. line_text line ++ l) h.is ∙ append-nil (line_text line) ∙ first in
             let is : all_of (line ∷ more) ≡ u ∷ us = ap (λ more. line ++ all_of more) h.last ∙ append-nil line ∙ whole in
+            let at : IsAt t k (end_place t k.position) (u ∷ us) = record { behind = refl; left = here.at ∙ is; waits = here.waits ∙ ap waits_at is } in
+            let done = k.events ++ event g.bytes Enter Paragraph u.point ∷ [] in
+            let alone = u ∷ us in
+            let r = text-to-end g t false done u (end_place t k.position) (first_chunk g t k u us at all.0) us (first-begun g t k u us at all.0) all in
             subst (λ (more : List Line). Read line more) (sym h.last)
-            (subst (λ (x : Line). IsParagraph g t k (x ∷ []) [] false) (sym whole) (first-end g t k u us (here.at ∙ is) (here.waits ∙ ap waits_at is) (all.0, tt) all.1))
+            (subst (λ (x : Line). IsParagraph g t k (x ∷ []) [] false) (sym whole)
+            (from-first-line g t k (first_chunk g t k u us at all.0) (alone ∷ []) [] false u us
+            (here.at ∙ is ∙ sym (ap (λ l. l ++ (ending_of alone ++ [])) (in-line-text alone all) ∙ ap (λ l. alone ++ (l ++ [])) (in-line-ending alone all) ∙ append-nil alone)) (in-line-text alone all)
+            (leads-there g t k u us at all.0) refl refl (first-keeps-end g t k u us at all.0) r))
       ]
 
 pub paragraphs-read : LinesAreSeen → ParagraphsAreRead

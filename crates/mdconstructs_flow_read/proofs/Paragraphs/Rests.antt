@@ -1,5 +1,5 @@
 -- From a line ending in a paragraph: how many lines more it has, and how it ends.
-use Rattle.mdconstructs_flow_read.proofs.Prelude.{◌≡◌, ℕ, suc, ◌+◌, ◌-◌, ◌<◌, ◌^◌, List, [], ◌∷◌, ◌++◌, inl, inr, Bool, true, false, ◌||◌, Some, None, drop, take, length, refl, sym, ap, ◌∙◌, subst, append-nil, append_assoc, Event, TextContent, Exit, Data, Paragraph, Point, Retry, FlowAfter, ParagraphInside, HeadingSetextTextAfter, Seat, end_after, with_local, Configuration, Local, end_place, Given, Text, waits_at, all_of, ending_of, line_text, event, paragraph_ends, is_some, AreLines, is_underlined, Line, bytes_of, ends_text, interrupts, lines_until, text_of, line_kind, underline_rank, is_underline, seen_ends, SeenKind, seen_kind, chunk_span, linked_from, IsInLine, LeavesAll, LineEnds, LinesAreSeen}
+use Rattle.mdconstructs_flow_read.proofs.Prelude.{Bool, List, None, Some, [], ap, append-nil, append_assoc, drop, false, inl, inr, length, refl, subst, suc, sym, take, true, ℕ, ◌++◌, ◌+◌, ◌-◌, ◌<◌, ◌^◌, ◌||◌, ◌∙◌, ◌∷◌, ◌≡◌, is_some, Seat, end_after, TextContent, Event, Exit, Data, Paragraph, Point, Retry, FlowAfter, ParagraphInside, with_local, Configuration, Local, end_place, Given, Text, paragraph_ends, HeadingSetextTextAfter, AreLines, is_underlined, Line, bytes_of, ends_text, interrupts, lines_until, text_of, chunk_span, linked_from, line_kind, underline_rank, IsInLine, LeavesAll, LineEnds, LinesAreSeen, SeenKind, is_underline, seen_ends, seen_kind, all_of, ending_of, line_text, event, waits_at}
 use Rattle.mdconstructs_flow_read.proofs.Lines.TestedKinds.{ends-as-seen, seen-is-tested}
 use Rattle.mdconstructs_flow_read.proofs.Lines.Leading.{Leads}
 use Rattle.mdconstructs_flow_read.proofs.Lines.LineReads.{behind-line}

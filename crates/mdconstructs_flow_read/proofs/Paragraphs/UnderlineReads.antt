@@ -1,13 +1,14 @@
 -- Underlines of setext headings are read as their definition says, up to their end.
-use Rattle.mdconstructs_flow_read.proofs.Prelude.{◌≡◌, ℕ, suc, ◌+◌, ◌==◌, not, List, [], ◌∷◌, ◌++◌, true, false, cond, Option, Some, None, ◌⊎◌, inl, inr, refl, sym, ap, ◌∙◌, subst, append_assoc, take, drop, drop-drop, and_parts, eqb-true, AllByRecursion, prefix_len, HeadingSetextUnderline, SpaceOrTab, Point, Name, Next, Retry, HeadingSetextAfter, HeadingSetextBefore, HeadingSetextInside, HeadingSetextStart, Seat, end_after, Configuration, Given, Text, enter, exit, consume, Rows, row, class_of, picked, is_white, FlowByte, blank, dash, equals, cased, flow_byte, is_blank, heading_setext_after_rows, heading_setext_start_rows, bytes_of, Mark, leaf_marks, underline_inside, white, begins_with, is_blank_line, is_underline_of_marks, run, unindented, LineEnds}
+use Rattle.mdconstructs_flow_read.proofs.Prelude.{Bool, List, Option, Some, [], ap, cond, drop, false, inl, inr, not, refl, subst, suc, sym, take, true, ℕ, ◌++◌, ◌+◌, ◌==◌, ◌∙◌, ◌∷◌, ◌≡◌, ◌⊎◌, and_parts, eqb-true, drop-drop, AllByRecursion, prefix_len, Seat, end_after, HeadingSetextUnderline, SpaceOrTab, Point, Name, Next, HeadingSetextAfter, HeadingSetextBefore, HeadingSetextInside, HeadingSetextStart, Configuration, Given, Text, FlowByte, blank, cased, dash, equals, flow_byte, is_blank, heading_setext_after_rows, heading_setext_start_rows, bytes_of, Mark, leaf_marks, underline_inside, white, begins_with, is_blank_line, is_underline_of_marks, run, unindented, LineEnds, is_white, Rows, class_of, consume, enter, picked, row}
 use Rattle.markdown_base.specs.declared.event.Name.TheVariants.{HeadingSetextUnderlineSequence as Marks}
 use Rattle.mdconstructs_flow.specs.FlowBytes.{is_underline}
 use Rattle.mdconstructs_flow_read.proofs.Lines.Fronts.{front, back, drop-back, drop-bytes, front-all, front-back, take-front, is_dark}
-use Rattle.mdconstructs_flow_read.proofs.Lines.LineParts.{IsWhite, all-white, NoBlank, no-blank}
-use Rattle.mdconstructs_flow_read.proofs.Lines.LineReads.{IsAt, IsUnwritten, reads-on, unwritten-on}
-use Rattle.mdconstructs_flow_read.proofs.Lines.RowReads.{counted, row-stays, row-takes-on, seen, white-is-blank}
+use Rattle.mdconstructs_flow_read.proofs.Lines.LineParts.{IsWhite, all-white}
+use Rattle.mdconstructs_flow_read.proofs.Lines.LineReads.{IsAt, IsUnwritten, unwritten}
+use Rattle.mdconstructs_flow_read.proofs.Lines.RowReads.{counted, row-takes-on, seen, white-is-blank}
+use Rattle.mdconstructs_flow_read.proofs.Looks.ByteClasses.{blank-is}
 use Rattle.mdconstructs_flow_read.proofs.Looks.LineTests.{run-grows}
-use Rattle.mdconstructs_flow_read.proofs.Lines.RunReads.{Reads, goes, comes, in-run, run-piece}
+use Rattle.mdconstructs_flow_read.proofs.Lines.RunReads.{Goes, Reads, all_kept, comes, fails-line, goes, goes-by, run-from, then, white-piece}
 
 -- ---- the definition, by what comes in front
 
@@ -100,147 +101,81 @@ mark-no-blank dash h = refl
 mark-no-blank equals h = refl
 mark-no-blank c h = absurd (cc)
 
+white_goes : Goes HeadingSetextBefore is_white (SpaceOrTab ∷ []) HeadingSetextAfter
+white_goes = goes-by HeadingSetextBefore (SpaceOrTab ∷ []) HeadingSetextAfter (λ b. refl) is_blank is_white (λ b c. refl) blank-is
+
+abbrev is_mark : ℕ → Bool
+is_mark b = is_underline (flow_byte b)
+
+marks_go : Goes HeadingSetextInside is_mark (Marks ∷ []) HeadingSetextAfter
+marks_go = goes-by HeadingSetextInside (Marks ∷ []) HeadingSetextAfter (λ b. refl) is_underline is_mark (λ b c. refl) (λ c. refl)
+
+-- the first byte of a line
+abbrev first_of : List Seat → Seat → Seat
+first_of [] s = s
+first_of (u ∷ us) s = u
+
+first-is : (w : List Seat) (s : Seat) (more : List Seat) (u : Seat) (us : List Seat) → w ++ s ∷ more ≡ u ∷ us → first_of w s ≡ u
+first-is [] s more u us is = cc
+first-is (x ∷ w) s more u us is = cc
+
 module _ (g : Given) (t : Text) where
+  abbrev IsRead : Configuration Unit Unit → Name → (line rest : List Seat) → List Mark → Name → Type 0
+  IsRead = Reads g t all_kept
+
   module _ (k : Configuration Unit Unit) (p : Point) where
-    abbrev once : IsUnwritten k.local (counted k).local
-    once = record { calls = (counted k).local.tokenize_state.size; is = refl }
-
-    -- white space goes g t on, or ends
-    white-on : (s : Seat) (rest : List Seat) → IsWhite s → IsAt t k p (s ∷ rest) → Reads g t k HeadingSetextBefore (s ∷ []) rest [] HeadingSetextBefore
-    white-on s rest white at = row-takes-on g t IsUnwritten k HeadingSetextBefore p s rest blank (consume ∷ []) HeadingSetextBefore at (white-is-blank s.byte white) refl tt refl once
-
-    white-ends : (rest : List Seat) → NoBlank rest → IsAt t k p rest → Reads g t k HeadingSetextBefore [] rest (goes g t SpaceOrTab p) HeadingSetextAfter
-    white-ends [] none at = row-stays g t IsUnwritten k HeadingSetextBefore p [] None (exit SpaceOrTab ∷ []) (Retry HeadingSetextAfter) at refl refl tt refl refl once
-    white-ends (s ∷ ss) none at =
-        row-stays g t IsUnwritten k HeadingSetextBefore p (s ∷ ss) (Some (flow_byte s.byte)) (exit SpaceOrTab ∷ []) (Retry HeadingSetextAfter) at refl
-        (ap (λ b. picked (cond b (row (consume ∷ []) (Next HeadingSetextBefore)) (row (exit SpaceOrTab ∷ []) (Retry HeadingSetextAfter))) g (seen g t IsUnwritten k HeadingSetextBefore p (s ∷ ss)) (counted k)) none)
-        tt refl refl once
-
-    -- so do marks
-    marks-on : (s : Seat) (rest : List Seat) → IsMark s → IsAt t k p (s ∷ rest) → Reads g t k HeadingSetextInside (s ∷ []) rest [] HeadingSetextInside
-    marks-on s rest mark at =
-        row-takes-on g t IsUnwritten k HeadingSetextInside p s rest (flow_byte s.byte) (consume ∷ []) HeadingSetextInside at refl
-        (ap (λ b. picked (cond b (row (consume ∷ []) (Next HeadingSetextInside)) (row (exit Marks ∷ []) (Retry HeadingSetextAfter))) g (seen g t IsUnwritten k HeadingSetextInside p (s ∷ rest)) (counted k)) mark)
-        tt refl once
-
-    marks-end : (rest : List Seat) → NoMark rest → IsAt t k p rest → Reads g t k HeadingSetextInside [] rest (goes g t Marks p) HeadingSetextAfter
-    marks-end [] none at = row-stays g t IsUnwritten k HeadingSetextInside p [] None (exit Marks ∷ []) (Retry HeadingSetextAfter) at refl refl tt refl refl once
-    marks-end (s ∷ ss) none at =
-        row-stays g t IsUnwritten k HeadingSetextInside p (s ∷ ss) (Some (flow_byte s.byte)) (exit Marks ∷ []) (Retry HeadingSetextAfter) at refl
-        (ap (λ b. picked (cond b (row (consume ∷ []) (Next HeadingSetextInside)) (row (exit Marks ∷ []) (Retry HeadingSetextAfter))) g (seen g t IsUnwritten k HeadingSetextInside p (s ∷ ss)) (counted k)) none)
-        tt refl refl once
-
     -- a piece begins
-    white-begins : (s : Seat) (rest : List Seat) → IsWhite s → IsAt t k p (s ∷ rest) → Reads g t k HeadingSetextAfter (s ∷ []) rest (comes g t SpaceOrTab s) HeadingSetextBefore
-    white-begins s rest white at = row-takes-on g t IsUnwritten k HeadingSetextAfter p s rest blank (enter SpaceOrTab ∷ consume ∷ []) HeadingSetextBefore at (white-is-blank s.byte white) refl tt refl once
-
-    marks-begin : (s : Seat) (rest : List Seat) → IsMark s → IsAt t k p (s ∷ rest) → Reads g t k HeadingSetextAfter (s ∷ []) rest (comes g t Marks s) HeadingSetextInside
+    marks-begin : (s : Seat) (rest : List Seat) → IsMark s → IsAt t k p (s ∷ rest) → IsRead k HeadingSetextAfter (s ∷ []) rest (comes g t Marks s) HeadingSetextInside
     marks-begin s rest mark at =
         let sight = seen g t IsUnwritten k HeadingSetextAfter p (s ∷ rest) in
         row-takes-on g t IsUnwritten k HeadingSetextAfter p s rest (flow_byte s.byte) (enter Marks ∷ consume ∷ []) HeadingSetextInside at refl
-        (ap (λ r. picked r g sight (counted k)) (after-mark (class_of flow_byte sight.previous) (flow_byte s.byte) mark)) tt refl once
+        (ap (λ r. picked r g sight (counted k)) (after-mark (class_of flow_byte sight.previous) (flow_byte s.byte) mark)) tt refl (unwritten k.local)
 
     -- the first byte of the line
-    line-begins-white : (s : Seat) (rest : List Seat) → IsWhite s → IsAt t k p (s ∷ rest) → Reads g t k HeadingSetextStart (s ∷ []) rest (comes g t HeadingSetextUnderline s ++ comes g t SpaceOrTab s) HeadingSetextBefore
+    line-begins-white : (s : Seat) (rest : List Seat) → IsWhite s → IsAt t k p (s ∷ rest) → IsRead k HeadingSetextStart (s ∷ []) rest (comes g t HeadingSetextUnderline s ++ comes g t SpaceOrTab s) HeadingSetextBefore
     line-begins-white s rest white at =
-        row-takes-on g t IsUnwritten k HeadingSetextStart p s rest blank (enter HeadingSetextUnderline ∷ enter SpaceOrTab ∷ consume ∷ []) HeadingSetextBefore at (white-is-blank s.byte white) refl tt refl once
+        row-takes-on g t IsUnwritten k HeadingSetextStart p s rest blank (enter HeadingSetextUnderline ∷ enter SpaceOrTab ∷ consume ∷ []) HeadingSetextBefore at (white-is-blank s.byte white) refl tt refl (unwritten k.local)
 
-    line-begins-marks : (s : Seat) (rest : List Seat) → IsMark s → IsAt t k p (s ∷ rest) → Reads g t k HeadingSetextStart (s ∷ []) rest (comes g t HeadingSetextUnderline s ++ comes g t Marks s) HeadingSetextInside
+    line-begins-marks : (s : Seat) (rest : List Seat) → IsMark s → IsAt t k p (s ∷ rest) → IsRead k HeadingSetextStart (s ∷ []) rest (comes g t HeadingSetextUnderline s ++ comes g t Marks s) HeadingSetextInside
     line-begins-marks s rest mark at =
         let sight = seen g t IsUnwritten k HeadingSetextStart p (s ∷ rest) in
         row-takes-on g t IsUnwritten k HeadingSetextStart p s rest (flow_byte s.byte) (enter HeadingSetextUnderline ∷ enter Marks ∷ consume ∷ []) HeadingSetextInside at refl
-        (ap (λ r. picked r g sight (counted k)) (start-mark (class_of flow_byte sight.previous) (flow_byte s.byte) mark)) tt refl once
-
-  -- runs of white space, and of marks
-  in-white : (run : List Seat) → AllByRecursion IsWhite run → (k : Configuration Unit Unit) (p : Point) (rest : List Seat) → NoBlank rest → IsAt t k p (run ++ rest)
-      → Reads g t k HeadingSetextBefore run rest (goes g t SpaceOrTab (end_after p run)) HeadingSetextAfter
-  in-white = in-run g t SpaceOrTab HeadingSetextAfter HeadingSetextBefore IsWhite NoBlank white-on white-ends
-
-  in-marks : (run : List Seat) → AllByRecursion IsMark run → (k : Configuration Unit Unit) (p : Point) (rest : List Seat) → NoMark rest → IsAt t k p (run ++ rest)
-      → Reads g t k HeadingSetextInside run rest (goes g t Marks (end_after p run)) HeadingSetextAfter
-  in-marks = in-run g t Marks HeadingSetextAfter HeadingSetextInside IsMark NoMark marks-on marks-end
-
-  abbrev parts : (k : Configuration Unit Unit) (p : Point) (name mid to : Name) (line more rest : List Seat) (marks marks' : List Mark) → IsAt t k p (line ++ (more ++ rest)) → Reads g t k name line (more ++ rest) marks mid
-      → ((k' : Configuration Unit Unit) → IsAt t k' (end_after p line) (more ++ rest) → Reads g t k' mid more rest marks' to) → Reads g t k name (line ++ more) rest (marks ++ marks') to
-  parts k p name mid to line more rest marks marks' at r behind =
-      reads-on g t IsUnwritten IsUnwritten IsUnwritten unwritten-on k p name mid line more rest marks marks' (Retry to) at r (λ k' at' kept. behind k' at')
-
-  -- pieces
-  white-piece : (run : List Seat) → AllByRecursion IsWhite run → (k : Configuration Unit Unit) (p : Point) (rest : List Seat) → NoBlank rest → IsAt t k p (run ++ rest)
-      → Reads g t k HeadingSetextAfter run rest (white g.bytes run) HeadingSetextAfter
-  white-piece run all k p rest none at = run-piece g t SpaceOrTab HeadingSetextAfter HeadingSetextBefore IsWhite NoBlank white-on white-ends run all k p rest (white-begins k p) none at
+        (ap (λ r. picked r g sight (counted k)) (start-mark (class_of flow_byte sight.previous) (flow_byte s.byte) mark)) tt refl (unwritten k.local)
 
   -- marks, and white space behind them
   marks-and-rest : (from : Name) (first : List Mark) (s : Seat) (ss v : List Seat) → AllByRecursion IsMark (s ∷ ss) → AllByRecursion IsWhite v → (k : Configuration Unit Unit) (p : Point) (rest : List Seat) → LineEnds rest
-      → IsAt t k p ((s ∷ ss) ++ (v ++ rest)) → Reads g t k from (s ∷ []) (ss ++ (v ++ rest)) first HeadingSetextInside
-      → Reads g t k from ((s ∷ ss) ++ v) rest (first ++ (goes g t Marks (end_after s.end ss) ++ white g.bytes v)) HeadingSetextAfter
+      → IsAt t k p (((s ∷ ss) ++ v) ++ rest) → (IsAt t k p (s ∷ (ss ++ (v ++ rest))) → IsRead k from (s ∷ []) (ss ++ (v ++ rest)) first HeadingSetextInside)
+      → IsRead k from ((s ∷ ss) ++ v) rest ((first ++ goes g t Marks (end_after s.end ss)) ++ white g.bytes v) HeadingSetextAfter
   marks-and-rest from first s ss v all behind k p rest ends at begins =
-      let there = subst (λ l. IsAt t k p (s ∷ l)) (sym (append_assoc ss v rest)) at in
-      parts k p from HeadingSetextInside HeadingSetextAfter (s ∷ []) (ss ++ v) rest first (goes g t Marks (end_after s.end ss) ++ white g.bytes v) there
-      (subst (λ l. Reads g t k from (s ∷ []) l first HeadingSetextInside) (sym (append_assoc ss v rest)) begins)
-      (λ k' at'.
-      let here = subst (λ l. IsAt t k' s.end l) (append_assoc ss v rest) at' in
-      parts k' s.end HeadingSetextInside HeadingSetextAfter HeadingSetextAfter ss v rest (goes g t Marks (end_after s.end ss)) (white g.bytes v) here
-      (in-marks ss all.1 k' s.end (v ++ rest) (no-mark v rest behind ends) here)
-      (λ k'' at''. white-piece v behind k'' (end_after s.end ss) rest (no-blank [] rest tt ends) at''))
+      then g t all_kept k p from HeadingSetextAfter HeadingSetextAfter (s ∷ ss) v ((s ∷ ss) ++ v) rest refl (first ++ goes g t Marks (end_after s.end ss)) (λ _. white g.bytes v) at
+      (λ at'. run-from g t all_kept HeadingSetextInside (Marks ∷ []) HeadingSetextAfter is_mark marks_go from first s ss (v ++ rest) all.1 (no-mark v rest behind ends) k p at' (begins at'))
+      (λ k' at' kept. white-piece g t all_kept HeadingSetextAfter HeadingSetextBefore white_goes (λ b. refl) v rest behind (fails-line is_white refl [] rest tt ends) k' (end_after p (s ∷ ss)) at')
 
   -- the line from its first byte on
-  pub record IsUnderlineRead (k : Configuration Unit Unit) (l rest : List Seat) : Type 0 where
-    pub first : Seat
-    pub others : List Seat
-    pub is : l ≡ first ∷ others
-    pub read : Reads g t k HeadingSetextStart l rest (comes g t HeadingSetextUnderline first ++ underline_inside g.bytes l) HeadingSetextAfter
-
   by-front : (w : List Seat) (s : Seat) (ss v : List Seat) → AllByRecursion IsWhite w → AllByRecursion IsMark (s ∷ ss) → AllByRecursion IsWhite v → (k : Configuration Unit Unit) (p : Point) (rest : List Seat) → LineEnds rest
       → let l = w ++ ((s ∷ ss) ++ v) in IsAt t k p (l ++ rest)
-      → (first : Seat) × (others : List Seat) × (l ≡ first ∷ others) × Reads g t k HeadingSetextStart l rest (comes g t HeadingSetextUnderline first ++ (white g.bytes w ++ (leaf_marks g.bytes Marks (s ∷ ss) ++ white g.bytes v))) HeadingSetextAfter
+      → IsRead k HeadingSetextStart l rest (comes g t HeadingSetextUnderline (first_of w s) ++ (white g.bytes w ++ (leaf_marks g.bytes Marks (s ∷ ss) ++ white g.bytes v))) HeadingSetextAfter
   by-front [] s ss v whites marks behind k p rest ends at =
-      let here = subst (λ l. IsAt t k p (s ∷ l)) (append_assoc ss v rest) at in (
-        s,
-        ss ++ v,
-        refl,
-        marks-and-rest HeadingSetextStart (comes g t HeadingSetextUnderline s ++ comes g t Marks s) s ss v marks behind k p rest ends here (line-begins-marks k p s (ss ++ (v ++ rest)) marks.0 here),
-      )
+      marks-and-rest HeadingSetextStart (comes g t HeadingSetextUnderline s ++ comes g t Marks s) s ss v marks behind k p rest ends at (line-begins-marks k p s (ss ++ (v ++ rest)) marks.0)
   by-front (u ∷ us) s ss v whites marks behind k p rest ends at =
       let more = (s ∷ ss) ++ v in
-      let inside : List Mark = leaf_marks g.bytes Marks (s ∷ ss) ++ white g.bytes v in (
-        u,
-        us ++ more,
-        refl,
-        parts k p HeadingSetextStart HeadingSetextBefore HeadingSetextAfter (u ∷ []) (us ++ more) rest (comes g t HeadingSetextUnderline u ++ comes g t SpaceOrTab u) (goes g t SpaceOrTab (end_after u.end us) ++ inside) at
-            (line-begins-white k p u ((us ++ more) ++ rest) whites.0 at)
-            (λ k' at'.
-            let here = subst (λ l. IsAt t k' u.end l) (append_assoc us more rest) at' in
-            parts k' u.end HeadingSetextBefore HeadingSetextAfter HeadingSetextAfter us more rest (goes g t SpaceOrTab (end_after u.end us)) inside here
-            (in-white us whites.1 k' u.end (more ++ rest) (mark-no-blank (flow_byte s.byte) marks.0) here)
-            (λ k'' at''.
-            let there = subst (λ l. IsAt t k'' (end_after u.end us) (s ∷ l)) (append_assoc ss v rest) at'' in
-            marks-and-rest HeadingSetextAfter (comes g t Marks s) s ss v marks behind k'' (end_after u.end us) rest ends there (marks-begin k'' (end_after u.end us) s (ss ++ (v ++ rest)) marks.0 there))),
-      )
+      then g t all_kept k p HeadingSetextStart HeadingSetextAfter HeadingSetextAfter (u ∷ us) more ((u ∷ us) ++ more) rest refl (comes g t HeadingSetextUnderline u ++ white g.bytes (u ∷ us)) (λ _. leaf_marks g.bytes Marks (s ∷ ss) ++ white g.bytes v) at
+      (λ at'. run-from g t all_kept HeadingSetextBefore (SpaceOrTab ∷ []) HeadingSetextAfter is_white white_goes HeadingSetextStart (comes g t HeadingSetextUnderline u ++ comes g t SpaceOrTab u) u us (more ++ rest) whites.1
+      (sym (blank-is s.byte) ∙ mark-no-blank (flow_byte s.byte) marks.0) k p at' (line-begins-white k p u (us ++ (more ++ rest)) whites.0 at'))
+      (λ k' at' kept. marks-and-rest HeadingSetextAfter (comes g t Marks s) s ss v marks behind k' (end_after p (u ∷ us)) rest ends at' (marks-begin k' (end_after p (u ∷ us)) s (ss ++ (v ++ rest)) marks.0))
 
-  pub underline-read : (l : List Seat) → IsOfUnderline l → (k : Configuration Unit Unit) (p : Point) (rest : List Seat) → LineEnds rest → IsAt t k p (l ++ rest) → IsUnderlineRead k l rest
-  underline-read l h k p rest ends at =
+  pub underline-read-from : (l : List Seat) (u : Seat) (us : List Seat) → l ≡ u ∷ us → IsOfUnderline l → (k : Configuration Unit Unit) (p : Point) (rest : List Seat) → LineEnds rest → IsAt t k p (l ++ rest)
+      → IsRead k HeadingSetextStart l rest (comes g t HeadingSetextUnderline u ++ underline_inside g.bytes l) HeadingSetextAfter
+  underline-read-from l u us is h k p rest ends at =
       let w = front is_white l in
       let v = back is_dark (back is_white l) in
       let split : w ++ ((h.first ∷ h.marks) ++ v) ≡ l = ap (λ d. w ++ (d ++ v)) (sym h.are) ∙ ap (λ r. w ++ r) (front-back is_dark (back is_white l)) ∙ front-back is_white l in
-      let (first, others, is, read) = by-front w h.first h.marks v (front-all is_white l) h.all h.behind k p rest ends (subst (λ l. IsAt t k p (l ++ rest)) (sym split) at) in
-      let marks_are : white g.bytes w ++ (leaf_marks g.bytes Marks (h.first ∷ h.marks) ++ white g.bytes v) ≡ underline_inside g.bytes l = ap (λ d. white g.bytes w ++ (leaf_marks g.bytes Marks d ++ white g.bytes v)) (sym h.are) ∙ sym (underline-pieces g.bytes l) in
-      record {
-        first = first;
-        others = others;
-        is = sym split ∙ is;
-        read = subst (λ m. Reads g t k HeadingSetextStart l rest (comes g t HeadingSetextUnderline first ++ m) HeadingSetextAfter) marks_are
-            (subst (λ l. Reads g t k HeadingSetextStart l rest (comes g t HeadingSetextUnderline first ++ (white g.bytes w ++ (leaf_marks g.bytes Marks (h.first ∷ h.marks) ++ white g.bytes v))) HeadingSetextAfter) split read);
-      }
-
-  -- the same, by the first byte
-  pub underline-read-from : (l : List Seat) (u : Seat) (us : List Seat) → l ≡ u ∷ us → IsOfUnderline l → (k : Configuration Unit Unit) (p : Point) (rest : List Seat) → LineEnds rest → IsAt t k p (l ++ rest)
-      → Reads g t k HeadingSetextStart l rest (comes g t HeadingSetextUnderline u ++ underline_inside g.bytes l) HeadingSetextAfter
-  underline-read-from l u us is h k p rest ends at =
-      let r = underline-read l h k p rest ends at in
-      let same : r.first ∷ r.others ≡ u ∷ us = sym r.is ∙ is in
-      let first : r.first ≡ u = cc in
-      subst (λ s. Reads g t k HeadingSetextStart l rest (comes g t HeadingSetextUnderline s ++ underline_inside g.bytes l) HeadingSetextAfter) first r.read
+      let marks = λ (s : Seat) (inside : List Mark). comes g t HeadingSetextUnderline s ++ inside in
+      let inside = white g.bytes w ++ (leaf_marks g.bytes Marks (h.first ∷ h.marks) ++ white g.bytes v) in
+      let inside_is : inside ≡ underline_inside g.bytes l = ap (λ d. white g.bytes w ++ (leaf_marks g.bytes Marks d ++ white g.bytes v)) (sym h.are) ∙ sym (underline-pieces g.bytes l) in
+      subst (λ m. IsRead k HeadingSetextStart l rest m HeadingSetextAfter) (ap (λ s. marks s inside) (first-is w h.first (h.marks ++ v) u us (split ∙ is)) ∙ ap (marks u) inside_is)
+      (subst (λ l. IsRead k HeadingSetextStart l rest (marks (first_of w h.first) inside) HeadingSetextAfter) split
+      (by-front w h.first h.marks v (front-all is_white l) h.all h.behind k p rest ends (subst (λ l. IsAt t k p (l ++ rest)) (sym split) at)))
 
 pub underline-first : (l : List Seat) → IsOfUnderline l → (u : Seat) × (us : List Seat) × (l ≡ u ∷ us)
 underline-first [] h = absurd (let wrong : [] ≡ h.first ∷ h.marks = h.are in cc)
