@@ -97,12 +97,8 @@ module _ (on : Constructs) (is_on : on.code_indented ≡ true) where
   -- other lines are none
   none-further : (a b c : Bool) (found : Option HtmlKind) (i : Bool) (tick tilde : Fence) (further : ℕ)
       → (let kind : LineKind = cond a heading (cond b (fence tick) (cond c (fence tilde) (elim found [ None ↦ cond i thematic_break text | Some kind ↦ html kind ]))) in further_of kind further) ≡ 0
-  none-further true b c found i tick tilde further = refl
-  none-further false true c found i tick tilde further = refl
-  none-further false false true found i tick tilde further = refl
-  none-further false false false (Some kind) i tick tilde further = refl
-  none-further false false false None true tick tilde further = refl
   none-further false false false None false tick tilde further = refl
+  none-further a b c found i tick tilde further = refl
 
   pub further-is : (line : Line) (lines : List Line) → further_code on (line ∷ lines) ≡ further_by (is_blank_line (text_of line)) (nat_le 4 (indent (text_of line))) (further_code on lines)
   further-is line lines =

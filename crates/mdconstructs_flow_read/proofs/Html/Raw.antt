@@ -171,10 +171,8 @@ abbrev begins : List ℕ → Bool
 begins l = starts_with (codes "</pre>") l || (starts_with (codes "</script>") l || (starts_with (codes "</style>") l || starts_with (codes "</textarea>") l))
 
 swap : (a w p q : Bool) → ((a || w) || (p || q)) ≡ ((a || p) || (w || q))
-swap true w p q = refl
 swap false true true q = refl
-swap false true false q = refl
-swap false false p q = refl
+swap a w p q = refl
 
 swap-four : (a b c d w x y z : Bool) → ((a || w) || ((b || x) || ((c || y) || (d || z)))) ≡ ((a || (b || (c || d))) || (w || (x || (y || z))))
 swap-four a b c d w x y z = ap (λ t. (a || w) || ((b || x) || t)) (swap c y d z) ∙ ap (λ t. (a || w) || t) (swap b x (c || d) (y || z)) ∙ swap a w (b || (c || d)) (x || (y || z))

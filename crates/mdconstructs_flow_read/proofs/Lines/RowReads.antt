@@ -19,12 +19,7 @@ told s [] = []
 told s (enters name link ∷ acts) = (record { kind = Enter; name = name; point = s.enter_place; link = None }, chunk_of link) ∷ told s acts
 told s (exit name ∷ acts) = (record { kind = Exit; name = name; point = s.exit_place; link = None }, None) ∷ told s acts
 told s (consume ∷ acts) = told (past s) acts
-told s (links previous next ∷ acts) = told s acts
-told s (writes f ∷ acts) = told s acts
-told s (choose kind ok nok ∷ acts) = told s acts
-told s (note ∷ acts) = told s acts
-told s (exit_noted name ∷ acts) = told s acts
-told s (enter_noted name ∷ acts) = told s acts
+told s (_ ∷ acts) = told s acts
 
 -- acts link no events and make no choice; they read the byte, or not
 abbrev pub ArePlain : List (Act Unit Unit) → Type 0
@@ -33,12 +28,9 @@ ArePlain (enters name None ∷ acts) = ArePlain acts
 ArePlain (enters name (Some link) ∷ acts) = (link ≡ record { previous = None; next = None; content = link.content }) × ArePlain acts
 ArePlain (exit name ∷ acts) = ArePlain acts
 ArePlain (consume ∷ acts) = ArePlain acts
-ArePlain (links previous next ∷ acts) = ⊥
 ArePlain (writes f ∷ acts) = ArePlain acts
-ArePlain (choose kind ok nok ∷ acts) = ⊥
 ArePlain (note ∷ acts) = ArePlain acts
-ArePlain (exit_noted name ∷ acts) = ⊥
-ArePlain (enter_noted name ∷ acts) = ⊥
+ArePlain (_ ∷ acts) = ⊥
 
 abbrev pub reads : List (Act Unit Unit) → Bool
 reads [] = false
@@ -58,12 +50,9 @@ past-byte (enters name None ∷ acts) s k cs plain none = past-byte acts s (done
 past-byte (enters name (Some link) ∷ acts) s k cs plain none = past-byte acts s (done (enters name (Some link)) s k) cs plain.1 none
 past-byte (exit name ∷ acts) s k cs plain none = past-byte acts s (done (exit name) s k) cs plain none
 past-byte (consume ∷ acts) s k cs plain none = absurd (cc)
-past-byte (links previous next ∷ acts) s k cs plain none = absurd plain
 past-byte (writes f ∷ acts) s k cs plain none = past-byte acts s (done (writes f) s k) cs plain none
-past-byte (choose kind ok nok ∷ acts) s k cs plain none = absurd plain
 past-byte (note ∷ acts) s k cs plain none = past-byte acts s (done note s k) cs plain none
-past-byte (exit_noted name ∷ acts) s k cs plain none = absurd plain
-past-byte (enter_noted name ∷ acts) s k cs plain none = absurd plain
+past-byte (act ∷ acts) s k cs plain none = absurd plain
 
 -- they read it once
 abbrev pub ReadOnce : List (Act Unit Unit) → Type 0
@@ -78,12 +67,9 @@ over-byte (enters name None ∷ acts) s k cs plain once = over-byte acts s (done
 over-byte (enters name (Some link) ∷ acts) s k cs plain once = over-byte acts s (done (enters name (Some link)) s k) cs plain.1 once
 over-byte (exit name ∷ acts) s k cs plain once = over-byte acts s (done (exit name) s k) cs plain once
 over-byte (consume ∷ acts) s k cs plain once = past-byte acts (past s) (consumed k) cs plain once
-over-byte (links previous next ∷ acts) s k cs plain once = absurd plain
 over-byte (writes f ∷ acts) s k cs plain once = over-byte acts s (done (writes f) s k) cs plain once
-over-byte (choose kind ok nok ∷ acts) s k cs plain once = absurd plain
 over-byte (note ∷ acts) s k cs plain once = over-byte acts s (done note s k) cs plain once
-over-byte (exit_noted name ∷ acts) s k cs plain once = absurd plain
-over-byte (enter_noted name ∷ acts) s k cs plain once = absurd plain
+over-byte (act ∷ acts) s k cs plain once = absurd plain
 
 -- and make their marks
 one-event : (k : Configuration Unit Unit) (e : Event) (m : Mark) (marks : List Mark) (after : List Event) → linked_from (length k.events) (m ∷ []) ≡ e ∷ []
@@ -107,12 +93,9 @@ tells (exit name ∷ acts) s k plain =
     let e : Event = record { kind = Exit; name = name; point = s.exit_place; link = None } in
     one-event k e (e, None) (told s acts) _ refl refl (tells acts s (exited name s.exit_place k) plain)
 tells (consume ∷ acts) s k plain = tells acts (past s) (consumed k) plain
-tells (links previous next ∷ acts) s k plain = absurd plain
 tells (writes f ∷ acts) s k plain = tells acts s (done (writes f) s k) plain
-tells (choose kind ok nok ∷ acts) s k plain = absurd plain
 tells (note ∷ acts) s k plain = tells acts s (done note s k) plain
-tells (exit_noted name ∷ acts) s k plain = absurd plain
-tells (enter_noted name ∷ acts) s k plain = absurd plain
+tells (act ∷ acts) s k plain = absurd plain
 
 -- the class of white space
 pub white-is-blank : (b : ℕ) → is_white b ≡ true → flow_byte b ≡ blank

@@ -57,12 +57,7 @@ number_of (Some kind) = number kind
 
 by-number : (kind : HtmlKind) (other : SeenKind) → cond (nat_le 1 (number kind)) (html (number kind)) other ≡ html (number kind)
 by-number raw other = refl
-by-number comment other = refl
-by-number instruction other = refl
-by-number declaration other = refl
-by-number cdata other = refl
-by-number block_tag other = refl
-by-number any_tag other = refl
+by-number kind other = refl
 
 -- what comes behind a fence, as a kind of line and as what is seen
 abbrev line_behind : Option HtmlKind → Bool → LineKind
@@ -81,10 +76,8 @@ behind-same false found s e f false h k = rw (h, k) refl
 -- behind the tests of blank and far lines
 rests-same : (a b c : Bool) (v : Bool) (found : Option HtmlKind) (s e f i : Bool) (tick tilde : Fence) → (s && e) ≡ false → (s && f) ≡ false
     → as_seen (cond a line.heading (cond b (line.fence tick) (cond c (line.fence tilde) (line_behind (cond v found None) i)))) ≡ cond a heading (cond b (fence tick) (cond c (fence tilde) (seen_behind v (number_of found) s e f i)))
-rests-same true b c v found s e f i tick tilde h k = refl
-rests-same false true c v found s e f i tick tilde h k = refl
-rests-same false false true v found s e f i tick tilde h k = refl
 rests-same false false false v found s e f i tick tilde h k = behind-same v found s e f i h k
+rests-same a b c v found s e f i tick tilde h k = refl
 
 -- A line is none of what is tested before an underline
 record IsBefore (none far a b c : Bool) (found : Option HtmlKind) : Type 0 where
@@ -169,18 +162,8 @@ module _ (on : Constructs) (t : List ℕ) where
 ends-so : (rank : Option ℕ) (kind : LineKind) → (is_some rank || interrupts kind) ≡ seen_ends (elim rank [ None ↦ as_seen kind | Some rank ↦ underline ])
 ends-so (Some rank) kind = refl
 ends-so None line.blank = refl
-ends-so None line.indented = refl
-ends-so None line.heading = refl
-ends-so None (line.fence f) = refl
 ends-so None (line.html raw) = refl
-ends-so None (line.html comment) = refl
-ends-so None (line.html instruction) = refl
-ends-so None (line.html declaration) = refl
-ends-so None (line.html cdata) = refl
-ends-so None (line.html block_tag) = refl
-ends-so None (line.html any_tag) = refl
-ends-so None line.thematic_break = refl
-ends-so None line.text = refl
+ends-so None kind = refl
 
 -- A line ends text before it, as it is defined and as it is seen
 pub ends-as-seen : (on : Constructs) (line : Line) → ends_text on line ≡ seen_ends (seen_kind on (text_of line))
@@ -188,12 +171,7 @@ ends-as-seen on line = ends-so (underline_rank on (text_of line)) (line_kind on 
 
 no-underline : (kind : LineKind) → is_underline (as_seen kind) ≡ false
 no-underline line.blank = refl
-no-underline line.indented = refl
-no-underline line.heading = refl
-no-underline (line.fence f) = refl
-no-underline (line.html kind) = refl
-no-underline line.thematic_break = refl
-no-underline line.text = refl
+no-underline kind = refl
 
 -- it is seen as an underline if it has a rank
 pub underlined-as-seen : (on : Constructs) (t : List ℕ) → is_underline (seen_kind on t) ≡ is_some (underline_rank on t)

@@ -78,13 +78,11 @@ module _ (on : Constructs) where
       }
 
   pub cut-block : (kind : LineKind) (line : Line) (lines : List Line) → (IsOfText kind → is_blank_line (text_of line) ≡ false) → let c = block_of_kind on kind line lines in IsCut c.0 c.1 (line ∷ lines)
-  cut-block blank line lines full = record { lines = refl; some = omega arith; within = omega arith; long = tt }
   cut-block indented line lines full = let few = further-within lines in record { lines = refl; some = omega arith; within = omega (arith, few); long = tt }
-  cut-block heading line lines full = record { lines = refl; some = omega arith; within = omega arith; long = tt }
   cut-block (fence f) line lines full = record { lines = refl; some = omega arith; within = omega arith; long = closed-long (closes on f) line lines }
   cut-block (html kind) line lines full = cut-html kind line lines (full tt)
-  cut-block thematic_break line lines full = record { lines = refl; some = omega arith; within = omega arith; long = tt }
   cut-block text line lines full = cut-content line lines
+  cut-block kind line lines full = record { lines = refl; some = omega arith; within = omega arith; long = tt }
 
   -- the cut at the front of lines
   pub cut : (line : Line) (lines : List Line) → let c = block_of_kind on (line_kind on (text_of line)) line lines in IsCut c.0 c.1 (line ∷ lines)

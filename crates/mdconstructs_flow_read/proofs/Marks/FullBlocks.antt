@@ -52,12 +52,7 @@ module _ (on : Constructs) where
   goes-on : (rank : Option ℕ) (k : LineKind) → (is_some rank || interrupts k) ≡ false → IsOfText k
   goes-on (Some rank) k h = absurd (cc)
   goes-on None blank h = absurd (cc)
-  goes-on None indented h = tt
-  goes-on None heading h = tt
-  goes-on None (fence f) h = tt
-  goes-on None (html kind) h = tt
-  goes-on None thematic_break h = tt
-  goes-on None text h = tt
+  goes-on None k h = tt
 
   -- an underline is not blank
   ranked : (t : List ℕ) (rank : ℕ) → underline_rank on t ≡ Some rank → IsOfText (line_kind on t)
@@ -85,13 +80,8 @@ module _ (on : Constructs) where
       full-underlined (line ∷ take n lines) (drop n lines) (h, full-text lines shaped) (omega arith) (shaped-drop n lines shaped)
 
   full-block : (kind : LineKind) (line : Line) (lines : List Line) → (IsOfText kind → StartsText line) → AllByRecursion IsShaped lines → IsFull (block_of_kind on kind line lines).0
-  full-block blank line lines h shaped = tt
-  full-block indented line lines h shaped = tt
-  full-block heading line lines h shaped = tt
-  full-block (fence f) line lines h shaped = tt
-  full-block (html kind) line lines h shaped = tt
-  full-block thematic_break line lines h shaped = tt
   full-block text line lines h shaped = full-content line lines (h tt) shaped
+  full-block kind line lines h shaped = tt
 
   full-blocks : (bound : ℕ) (lines : List Line) → AllByRecursion IsShaped lines → AllByRecursion IsFull (blocks_in on bound lines)
   full-blocks zero lines h = tt

@@ -24,25 +24,19 @@ next_due k = cond k.has_next (an_exit k.content) nothing
 module _ (Meets : (exit behind : Point) → Type 0) where
   abbrev pub Runs : List Mark → Due → Type 0
   Runs [] nothing = Unit {0}
-  Runs [] (an_exit c) = ⊥
-  Runs [] (a_chunk c p) = ⊥
   Runs ((e, None) ∷ ms) nothing = (e.link ≡ None) × Runs ms nothing
   Runs ((e, None) ∷ ms) (an_exit c) = (e.link ≡ None) × Runs ms (a_chunk c e.point)
-  Runs ((e, None) ∷ ms) (a_chunk c p) = ⊥
   Runs ((e, Some k) ∷ ms) nothing = (k.has_previous ≡ false) × BeginsChunk e × Runs ms (next_due k)
-  Runs ((e, Some k) ∷ ms) (an_exit c) = ⊥
   Runs ((e, Some k) ∷ ms) (a_chunk c p) = (k.has_previous ≡ true) × (k.content ≡ c) × (Meets p e.point) × BeginsChunk e × Runs ms (next_due k)
+  Runs _ _ = ⊥
 
   runs-both : (xs ys : List Mark) (d : Due) → Runs xs d → Runs ys nothing → Runs (xs ++ ys) d
   runs-both [] ys nothing h k = k
-  runs-both [] ys (an_exit c) h k = absurd h
-  runs-both [] ys (a_chunk c p) h k = absurd h
   runs-both ((e, None) ∷ xs) ys nothing h k = (h.0, runs-both xs ys nothing h.1 k)
   runs-both ((e, None) ∷ xs) ys (an_exit c) h k = (h.0, runs-both xs ys (a_chunk c e.point) h.1 k)
-  runs-both ((e, None) ∷ xs) ys (a_chunk c p) h k = absurd h
   runs-both ((e, Some m) ∷ xs) ys nothing h k = (h.0, h.1, runs-both xs ys (next_due m) h.2 k)
-  runs-both ((e, Some m) ∷ xs) ys (an_exit c) h k = absurd h
   runs-both ((e, Some m) ∷ xs) ys (a_chunk c p) h k = (h.0, h.1, h.2, h.3, runs-both xs ys (next_due m) h.4 k)
+  runs-both xs ys d h k = absurd h
 
   module _ (t : ℕ) (bytes : List ℕ) where
     -- lines of text

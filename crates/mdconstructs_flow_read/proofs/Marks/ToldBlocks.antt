@@ -16,11 +16,8 @@ more-kept j k (as_it_is (e, Some chunk) ∷ ts) l h = ((λ is. let two = h.0 is 
 more-kept j k (under_names e names ∷ ts) l h = h
 
 two-longer : (xs ys : List ToldMark) → TwoAreKept xs → TwoAreKept (xs ++ ys)
-two-longer [] ys h = absurd h
-two-longer (as_it_is m ∷ []) ys h = absurd h
 two-longer (as_it_is m ∷ as_it_is n ∷ xs) ys h = tt
-two-longer (as_it_is m ∷ under_names e names ∷ xs) ys h = absurd h
-two-longer (under_names e names ∷ xs) ys h = absurd h
+two-longer xs ys h = absurd h
 
 stand-both : (k : ℕ) (xs ys : List ToldMark) → ChunksStand k xs → ChunksStand 0 ys → ChunksStand k (xs ++ ys)
 stand-both k [] ys h there = more-kept 0 k ys (omega arith) there
@@ -178,14 +175,8 @@ module _ (bytes : List ℕ) where
       (kept-behind last ∙ sym (last-longer (line ∷ lines) (u ∷ us)))
 
   behind-block : (block : LeafBlock) → IsFull block → behind_edits (block_told bytes block) ≡ leaf_block_marks bytes block
-  behind-block (paragraph lines) h = kept-behind _
   behind-block (setext_heading rank lines below) h = behind-setext rank lines below h
-  behind-block (blank_line line) h = kept-behind _
-  behind-block (break_line line) h = kept-behind _
-  behind-block (atx_heading line) h = kept-behind _
-  behind-block (indented_code lines) h = kept-behind _
-  behind-block (fenced_code f is_closed lines) h = kept-behind _
-  behind-block (html_block kind is_closed lines) h = kept-behind _
+  behind-block block h = kept-behind _
 
   pub behind-blocks : (blocks : List LeafBlock) → AllByRecursion IsFull blocks → behind_edits (blocks_told bytes blocks) ≡ leaf_blocks_marks bytes blocks
   behind-blocks [] h = refl

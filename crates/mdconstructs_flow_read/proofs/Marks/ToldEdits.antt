@@ -87,10 +87,7 @@ module _ (all : List Tagged) where
       let two = behind-kept (p + 1) (i + 1) (mark_at (i + 1) m) (tagged (i + 1 + 1) (as_it_is n ∷ ts)) one in
       let is = at-kept (p + 1 + 1) (i + 1 + 1) (mark_at (i + 1 + 1) n) (tagged (i + 1 + 1 + 1) ts) two in
       ap (λ j. place_in (of_list j) all) (omega arith) ∙ is ∙ ap Some (omega arith)
-  two-on p i x [] h k = absurd k
-  two-on p i x (under_names e names ∷ ts) h k = absurd k
-  two-on p i x (as_it_is m ∷ []) h k = absurd k
-  two-on p i x (as_it_is m ∷ under_names e names ∷ ts) h k = absurd k
+  two-on p i x ts h k = absurd k
 
   -- where the last kept marks are
   abbrev Behind : ℕ → ℕ → ℕ → Type 0

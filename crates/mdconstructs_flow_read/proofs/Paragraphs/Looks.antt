@@ -48,34 +48,17 @@ seven : (kind : ℕ) → kind ≤ 7 → (kind == 7) ≡ not (nat_le kind 6)
 seven kind h = grind (arith, nat_tests, h)
 
 pub text-fails : (kind : SeenKind) (r : List ℕ) (l : Local Unit Unit) (a : State) → Finds kind r l a → (a ≡ Ok) ⊎ ((a ≡ Nok) × (kind ≡ text))
-text-fails blank r l a h = inl h.0
-text-fails indented r l a h = inl h.0
-text-fails heading r l a h = inl h.0
-text-fails (fence f) r l a h = inl h.0
-text-fails (html kind) r l a h = inl h.0
-text-fails underline r l a h = inl h.0
-text-fails thematic_break r l a h = inl h.0
 text-fails text r l a h = inr (h, refl)
+text-fails kind r l a h = inl h.0
 
 pub passed : (kind : SeenKind) (r : List ℕ) (l : Local Unit Unit) (a : State) → IsPossible kind → Finds kind r l a → a ≡ Ok → passes_over l ≡ not (seen_ends kind)
-passed blank r l a can h ok = ap (λ n. by_name n l) h.1
-passed indented r l a can h ok = ap (λ n. by_name n l) h.1
-passed heading r l a can h ok = ap (λ n. by_name n l) h.1
-passed (fence f) r l a can h ok = ap (λ n. by_name n l) h.1
 passed (html kind) r l a can h ok = ap (λ n. by_name n l) h.1 ∙ ap (λ n. n == 7) h.2 ∙ seven kind can
-passed underline r l a can h ok = ap (λ n. by_name n l) h.1
-passed thematic_break r l a can h ok = ap (λ n. by_name n l) h.1
 passed text r l a can h ok = absurd (let wrong : Ok ≡ Nok = sym ok ∙ h in cc)
+passed kind r l a can h ok = ap (λ n. by_name n l) h.1
 
 abbrev is_it : EventName → Bool
 is_it n = same_name n HeadingSetextUnderline
 
 pub underlined : (kind : SeenKind) (r : List ℕ) (l : Local Unit Unit) (a : State) → Finds kind r l a → a ≡ Ok → finds_underline l ≡ is_underline kind
-underlined blank r l a h ok = ap is_it h.1
-underlined indented r l a h ok = ap is_it h.1
-underlined heading r l a h ok = ap is_it h.1
-underlined (fence f) r l a h ok = ap is_it h.1
-underlined (html kind) r l a h ok = ap is_it h.1
-underlined underline r l a h ok = ap is_it h.1
-underlined thematic_break r l a h ok = ap is_it h.1
 underlined text r l a h ok = absurd (let wrong : Ok ≡ Nok = sym ok ∙ h in cc)
+underlined kind r l a h ok = ap is_it h.1

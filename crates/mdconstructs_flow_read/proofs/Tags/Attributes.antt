@@ -102,14 +102,8 @@ quoted-is m is (b ∷ bs) = elim (b == m) as (λ t. (b == m) ≡ t → cond ((b 
 
 -- bytes of values without quotes, by tests of theirs: white space, two quotation marks, an equals sign, less-than, greater-than, a grave accent
 bare-on : (w d s e l g t : Bool) (x y z : Bool) → not (w || (d || (s || (e || (l || (g || t)))))) ≡ true → cond w x (cond g y (cond (l || (e || (t || (d || s)))) false z)) ≡ z
-bare-on true d s e l g t x y z h = absurd (cc)
-bare-on false true s e l g t x y z h = absurd (cc)
-bare-on false false true e l g t x y z h = absurd (cc)
-bare-on false false false true l g t x y z h = absurd (cc)
-bare-on false false false false true g t x y z h = absurd (cc)
-bare-on false false false false false true t x y z h = absurd (cc)
-bare-on false false false false false false true x y z h = absurd (cc)
 bare-on false false false false false false false x y z h = refl
+bare-on w d s e l g t x y z h = absurd (cc)
 
 bare-ends : (w d s e l g t slash : Bool) (x y z v : Bool) → not (w || (d || (s || (e || (l || (g || t)))))) ≡ false → slash ≡ false
     → cond w x (cond g y (cond (l || (e || (t || (d || s)))) false z)) ≡ cond w x (cond slash v (cond g y false))

@@ -94,41 +94,17 @@ module _ (g : Given) (t : Text) (stack : List EventName) (events : List Event) w
   opens : (place : Place) (ss : List Seat) (s : Seat) (previous : Option ℕ) (q : ℕ) (mark : Bool) (local : Local Unit Unit)
       → scan flow g t stack events 2 (s ∷ ss) previous q mark local (state_of place) ≡ here_rows ss s previous q mark local place (flow_byte s.byte)
   opens after ss s previous q mark local = refl
-  opens slashed ss s previous q mark local = refl
-  opens closing ss s previous q mark local = refl
-  opens before ss s previous q mark local = refl
-  opens name ss s previous q mark local = refl
-  opens named ss s previous q mark local = refl
-  opens value ss s previous q mark local = refl
-  opens (quoted m) ss s previous q mark local = refl
-  opens behind ss s previous q mark local = refl
-  opens bare ss s previous q mark local = refl
+  opens place ss s previous q mark local = refl
 
   -- at the end of a line
   at-feed : (place : Place) (ss : List Seat) (s : Seat) (previous : Option ℕ) (q : ℕ) (mark : Bool) (local : Local Unit Unit)
       → Is (whole (goes [] place)) local (here_rows ss s previous q mark local place line_feed)
   at-feed after ss s previous q mark local = (refl, refl, refl, refl, refl, (refl, refl, refl))
-  at-feed slashed ss s previous q mark local = (refl, refl, refl, refl, refl, refl)
-  at-feed closing ss s previous q mark local = (refl, refl, refl, refl, refl, refl)
-  at-feed before ss s previous q mark local = (refl, refl, refl, refl, refl, refl)
-  at-feed name ss s previous q mark local = (refl, refl, refl, refl, refl, refl)
-  at-feed named ss s previous q mark local = (refl, refl, refl, refl, refl, refl)
-  at-feed value ss s previous q mark local = (refl, refl, refl, refl, refl, refl)
-  at-feed (quoted m) ss s previous q mark local = (refl, refl, refl, refl, refl, refl)
-  at-feed behind ss s previous q mark local = (refl, refl, refl, refl, refl, refl)
-  at-feed bare ss s previous q mark local = (refl, refl, refl, refl, refl, refl)
+  at-feed place ss s previous q mark local = (refl, refl, refl, refl, refl, refl)
 
   at-nothing : (place : Place) (previous : Option ℕ) (q : ℕ) (mark : Bool) (local : Local Unit Unit) → Is (whole (goes [] place)) local (scan flow g t stack events 2 [] previous q mark local (state_of place))
   at-nothing after previous q mark local = (refl, refl, refl, refl, refl, (refl, refl, refl))
-  at-nothing slashed previous q mark local = (refl, refl, refl, refl, refl, refl)
-  at-nothing closing previous q mark local = (refl, refl, refl, refl, refl, refl)
-  at-nothing before previous q mark local = (refl, refl, refl, refl, refl, refl)
-  at-nothing name previous q mark local = (refl, refl, refl, refl, refl, refl)
-  at-nothing named previous q mark local = (refl, refl, refl, refl, refl, refl)
-  at-nothing value previous q mark local = (refl, refl, refl, refl, refl, refl)
-  at-nothing (quoted m) previous q mark local = (refl, refl, refl, refl, refl, refl)
-  at-nothing behind previous q mark local = (refl, refl, refl, refl, refl, refl)
-  at-nothing bare previous q mark local = (refl, refl, refl, refl, refl, refl)
+  at-nothing place previous q mark local = (refl, refl, refl, refl, refl, refl)
 
   line-over : (place : Place) (rest : List Seat) → LineEnds rest → (previous : Option ℕ) (q : ℕ) (mark : Bool) (local : Local Unit Unit)
       → Is (whole (goes [] place)) local (scan flow g t stack events 2 rest previous q mark local (state_of place))

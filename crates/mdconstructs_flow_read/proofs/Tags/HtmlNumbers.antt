@@ -42,19 +42,12 @@ number_of (Some kind) = number kind
 in-order : (one six two three four five seven : Bool)
     → number_of (cond one (Some raw) (cond six (Some block_tag) (cond two (Some comment) (cond three (Some instruction) (cond four (Some declaration) (cond five (Some cdata) (cond seven (Some any_tag) None)))))))
     ≡ cond one 1 (cond six 6 (cond two 2 (cond three 3 (cond four 4 (cond five 5 (cond seven 7 0))))))
-in-order true six two three four five seven = refl
-in-order false true two three four five seven = refl
-in-order false false true three four five seven = refl
-in-order false false false true four five seven = refl
-in-order false false false false true five seven = refl
-in-order false false false false false true seven = refl
-in-order false false false false false false true = refl
 in-order false false false false false false false = refl
+in-order one six two three four five seven = refl
 
 named-first : (one six : Bool) (rest : ℕ) → (let named = cond one 1 (cond six 6 0) in cond (nat_le 1 named) named rest) ≡ cond one 1 (cond six 6 rest)
-named-first true six rest = refl
-named-first false true rest = refl
 named-first false false rest = refl
+named-first one six rest = refl
 
 no-name : (n : ℕ) → nat_le 1 n ≡ false → n ≡ 0
 no-name n h = let few = leb-false 1 n h in omega (arith, few)
@@ -126,9 +119,4 @@ number-bound r = elim (html_kind r) as (λ kind. number_of kind ≤ 7) [ None �
   where
     up-to-seven : (kind : HtmlKind) → number kind ≤ 7
     up-to-seven raw = omega arith
-    up-to-seven comment = omega arith
-    up-to-seven instruction = omega arith
-    up-to-seven declaration = omega arith
-    up-to-seven cdata = omega arith
-    up-to-seven block_tag = omega arith
-    up-to-seven any_tag = omega arith
+    up-to-seven kind = omega arith

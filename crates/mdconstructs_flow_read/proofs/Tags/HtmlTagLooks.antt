@@ -159,27 +159,15 @@ module _ (g : Given) (t : Text) (stack : List EventName) (events : List Event) w
   spot-opens : (spot : Spot) (ss : List Seat) (s : Seat) (previous : Option ℕ) (q : ℕ) (mark : Bool) (local : Local Unit Unit)
       → scan flow g t stack events 2 (s ∷ ss) previous q mark local (spot_state spot) ≡ spot_here ss s previous q mark local spot (flow_byte s.byte)
   spot-opens listed_slash ss s previous q mark local = refl
-  spot-opens less ss s previous q mark local = refl
-  spot-opens less_slash ss s previous q mark local = refl
-  spot-opens less_bang ss s previous q mark local = refl
-  spot-opens less_bang_dash ss s previous q mark local = refl
-  spot-opens character_data ss s previous q mark local = refl
+  spot-opens spot ss s previous q mark local = refl
 
   spot-feed : (spot : Spot) (ss : List Seat) (s : Seat) (previous : Option ℕ) (q : ℕ) (mark : Bool) (local : Local Unit Unit) → Is 0 local (spot_here ss s previous q mark local spot line_feed)
   spot-feed listed_slash ss s previous q mark local = (refl, refl, refl, refl, refl, refl)
-  spot-feed less ss s previous q mark local = (refl, refl, refl, refl, refl, refl)
-  spot-feed less_slash ss s previous q mark local = (refl, refl, refl, refl, refl, refl)
-  spot-feed less_bang ss s previous q mark local = (refl, refl, refl, refl, refl, refl)
-  spot-feed less_bang_dash ss s previous q mark local = (refl, refl, refl, refl, refl, refl)
-  spot-feed character_data ss s previous q mark local = (refl, refl, refl, refl, refl, refl)
+  spot-feed spot ss s previous q mark local = (refl, refl, refl, refl, refl, refl)
 
   spot-nothing : (spot : Spot) (previous : Option ℕ) (q : ℕ) (mark : Bool) (local : Local Unit Unit) → Is 0 local (scan flow g t stack events 2 [] previous q mark local (spot_state spot))
   spot-nothing listed_slash previous q mark local = (refl, refl, refl, refl, refl, refl)
-  spot-nothing less previous q mark local = (refl, refl, refl, refl, refl, refl)
-  spot-nothing less_slash previous q mark local = (refl, refl, refl, refl, refl, refl)
-  spot-nothing less_bang previous q mark local = (refl, refl, refl, refl, refl, refl)
-  spot-nothing less_bang_dash previous q mark local = (refl, refl, refl, refl, refl, refl)
-  spot-nothing character_data previous q mark local = (refl, refl, refl, refl, refl, refl)
+  spot-nothing spot previous q mark local = (refl, refl, refl, refl, refl, refl)
 
   spot-over : (spot : Spot) (rest : List Seat) → LineEnds rest → (previous : Option ℕ) (q : ℕ) (mark : Bool) (local : Local Unit Unit) → Is 0 local (scan flow g t stack events 2 rest previous q mark local (spot_state spot))
   spot-over spot [] ends previous q mark local = spot-nothing spot previous q mark local
