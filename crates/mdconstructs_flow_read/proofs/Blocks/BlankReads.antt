@@ -1,10 +1,6 @@
 -- Blank lines are read as their definition says.
 use Rattle.mdconstructs_flow_read.proofs.Prelude.{◌≡◌, ◌≤◌, List, [], ◌∷◌, ◌++◌, None, length, refl, sym, ap, ◌∙◌, subst, arith, append_assoc, append-nil, AllByRecursion, Enter, Exit, BlankLineEnding, SpaceOrTab, Point, Next, Retry, Ok, BlankLineStart, FlowBlankLineAfter, FlowStart, Seat, end_after, Configuration, end_place, Given, Text, enter, exit, consume, all_of, line_text, event, blank, line_feed, flow_byte, BlankLinesAreRead, IsReadAs, KeepsEdits, bytes_of, text_of, Mark, leaf_marks, white, is_blank_line}
-use Rattle.mdconstructs_flow_read.proofs.Lines.LineParts.{IsWhite, all-white, at-first}
-use Rattle.mdconstructs_flow_read.proofs.Lines.LineReads.{IsAt, IsUnwritten, keeps-on, reads-keeping, reads-on, reads-run, unwritten-keeps}
-use Rattle.mdconstructs_flow_read.proofs.Lines.RowReads.{counted, row-stays, row-takes, row-takes-on, white-is-blank}
-use Rattle.mdconstructs_flow_read.proofs.Lines.Lines.{in-line-ending, in-line-text, line-ending-is, line-text-is}
-use Rattle.mdconstructs_flow_read.proofs.Lines.KindsOfLines.{says}
+use Rattle.mdconstructs_flow_read.proofs.Lines.{IsAt, IsUnwritten, IsWhite, all-white, at-first, counted, in-line-ending, in-line-text, keeps-on, line-ending-is, line-text-is, reads-keeping, reads-on, reads-run, row-stays, row-takes, row-takes-on, says, unwritten-keeps, white-is-blank}
 
 module _ (g : Given) (t : Text) where
   -- the first byte of white space

@@ -2,12 +2,7 @@
 use Rattle.mdconstructs_flow_read.proofs.Prelude.{List, Option, Some, [], ap, arith, cond, drop, false, inl, inr, length, length-append, nat_le, not, refl, subst, suc, sym, take, true, zero, ℕ, ◌&&◌, ◌++◌, ◌+◌, ◌-◌, ◌==◌, ◌||◌, ◌∙◌, ◌∷◌, ◌≡◌, ◌≤◌, ◌⊎◌, and_parts, eqb-true, not-false, not-true, drop-drop, AllByRecursion, list_all, prefix_len, Seat, end_after, HeadingSetextUnderline, SpaceOrTab, ThematicBreak, Marks, Point, Name, Next, Retry, FlowAfter, FlowBlankLineAfter, ThematicBreakAtBreak, ThematicBreakBefore, ThematicBreakSequence, Configuration, end_place, Given, Text, flow_blank_line_after_rows, mark_begins_line, FlowByte, blank, cased, dash, flow_byte, is_blank, is_rule, star, underscore, thematic_break_at_break_rows, BreaksAreRead, IsAtLines, IsBlockRead, IsReadAs, KeepsEdits, Line, bytes_of, text_of, Mark, break_marks, leaf_marks, span_marks, white, begins_with, is_break_of_marks, is_thematic_break, unindented, LineEnds, is_white, all_of, ending_of, line_text, Rows, class_of, consume, enter, picked, row}
 use Rattle.mdconstructs_flow_read.proofs.Looks.BreakLooks.{is_break_mark, white-no-mark}
 use Rattle.mdconstructs_flow_read.proofs.Looks.ByteClasses.{blank-is, rule-is}
-use Rattle.mdconstructs_flow_read.proofs.Lines.Fronts.{front, back, all-back, all-with-front, all-front, back-fails, drop-back, drop-bytes, Fails, front-all, front-back, length-back, take-front, is_dark}
-use Rattle.mdconstructs_flow_read.proofs.Lines.LineParts.{at-first, first-parts}
-use Rattle.mdconstructs_flow_read.proofs.Lines.LineReads.{IsAt, IsUnwritten, reads-keeping, reads-nothing, unwritten, unwritten-keeps}
-use Rattle.mdconstructs_flow_read.proofs.Lines.RowReads.{counted, row-takes-on, seen, white-is-blank}
-use Rattle.mdconstructs_flow_read.proofs.Lines.KindsOfLines.{says}
-use Rattle.mdconstructs_flow_read.proofs.Lines.RunReads.{Goes, Reads, all_kept, comes, fails-line, goes, goes-by, line-over, run-from, run-piece, then, then-ends, white-piece}
+use Rattle.mdconstructs_flow_read.proofs.Lines.{Fails, Goes, IsAt, IsUnwritten, Reads, all-back, all-front, all-with-front, all_kept, at-first, back, back-fails, comes, counted, drop-back, drop-bytes, fails-line, first-parts, front, front-all, front-back, goes, goes-by, is_dark, length-back, line-over, reads-keeping, reads-nothing, row-takes-on, run-from, run-piece, says, seen, take-front, then, then-ends, unwritten, unwritten-keeps, white-is-blank, white-piece}
 
 -- ---- the definition, by what comes in front
 

@@ -1,11 +1,7 @@
 -- The calls that read indented code, line by line.
 use Rattle.mdconstructs_flow_read.proofs.Prelude.{List, None, Option, Some, [], ap, arith, cond, false, inl, inr, lt-ltb, min, refl, suc, true, ℕ, ◌++◌, ◌+◌, ◌-◌, ◌<◌, ◌==◌, ◌^◌, ◌∙◌, ◌∷◌, ◌≡◌, ◌⊎◌, Seat, CodeFlowChunk, CodeIndented, LineEnding, SpaceOrTab, Point, Name, Next, Retry, CodeIndentedAfter, CodeIndentedAtBreak, CodeIndentedFurtherAfter, CodeIndentedFurtherBegin, CodeIndentedFurtherStart, CodeIndentedInside, CodeIndentedStart, FlowBlankLineAfter, Configuration, Local, Sight, Given, Text, Check, FlowByte, blank, flow_byte, is_blank, line_feed, flow, count_becomes, count_grows, counts_to_four, CodeIndentedLineAfter, IsReadAs, KeepsEdits, Mark, leaf_marks, is_white, Rows, choose, consume, enter, exit, named, picked, row, when, write}
 use Rattle.mdconstructs_flow_read.proofs.Looks.ByteClasses.{blank-is, feed-is}
-use Rattle.mdconstructs_flow_read.proofs.Lines.Fronts.{Fails}
-use Rattle.mdconstructs_flow_read.proofs.Lines.LineParts.{IsWhite}
-use Rattle.mdconstructs_flow_read.proofs.Lines.LineReads.{IsAt}
-use Rattle.mdconstructs_flow_read.proofs.Lines.RowReads.{counted, row-stays, row-takes-on, rows_of, seen, white-is-blank}
-use Rattle.mdconstructs_flow_read.proofs.Lines.RunReads.{Reads, Runs, is_in_line, comes, edits_kept, goes, line-runs, white-runs}
+use Rattle.mdconstructs_flow_read.proofs.Lines.{Fails, IsAt, IsWhite, Reads, Runs, comes, counted, edits_kept, goes, is_in_line, line-runs, row-stays, row-takes-on, rows_of, seen, white-is-blank, white-runs}
 
 -- so many columns of the indentation were read
 pub record Counted (columns : ℕ) (before after : Local Unit Unit) : Type 0 where

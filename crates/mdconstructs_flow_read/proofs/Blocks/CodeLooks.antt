@@ -3,9 +3,7 @@ use Rattle.mdconstructs_flow_read.proofs.Prelude.{◌≡◌, ℕ, suc, ◌+◌, 
 use Rattle.mdconstructs_flow_read.specs.LeafBlocks.{is_blank}
 use Rattle.mdconstructs_flow_read.specs.LineKinds.{blank, heading, fence, html, thematic_break, text}
 use Rattle.mdconstructs_flow_read.proofs.Looks.ByteClasses.{blank-is, feed-is}
-use Rattle.mdconstructs_flow_read.proofs.Lines.Fronts.{prefix-grows}
-use Rattle.mdconstructs_flow_read.proofs.Lines.Lines.{EndsWithIt, EndsWithout, cut-line, lines-behind}
-use Rattle.mdconstructs_flow_read.proofs.Lines.LineParts.{first-parts}
+use Rattle.mdconstructs_flow_read.proofs.Lines.{EndsWithIt, EndsWithout, cut-line, first-parts, lines-behind, prefix-grows}
 
 -- Behind so many columns of a line: white space and line endings come, and then another byte behind four columns
 abbrev pub code_ahead : ℕ → List Seat → Bool

@@ -2,15 +2,7 @@
 use Rattle.mdconstructs_flow_read.proofs.Prelude.{List, None, Some, [], ap, append-nil, append_assoc, arith, cond, drop, false, inl, inr, length, min, nat_le, refl, subst, suc, sym, take, true, zero, ℕ, ◌&&◌, ◌++◌, ◌+◌, ◌-◌, ◌<◌, ◌^◌, ◌∙◌, ◌∷◌, ◌≡◌, ◌≤◌, ◌⊎◌, and_parts, le-leb, leb-true, length-drop, AllByRecursion, end-after-append, Seat, end_after, CodeFlowChunk, CodeIndented, LineEnding, SpaceOrTab, Point, Name, Nok, Ok, Retry, CodeIndentedAfter, CodeIndentedAtBreak, CodeIndentedFurtherAfter, CodeIndentedFurtherBegin, CodeIndentedFurtherStart, CodeIndentedInside, CodeIndentedStart, FlowAfter, FlowBlankLineAfter, with_local, Configuration, Local, byte_of, end_place, seat_before, Given, Text, code_indented_inside, flow_byte, line_feed, unchanged, CodeIndentedLineAfter, AreLines, IndentedCodeIsRead, IsLine, IsReadAs, KeepsEdits, last_ending, Line, bytes_of, further_code, text_of, Mark, body, code_marks, leaf_marks, lines_marks, span_marks, white, indent, is_blank_line, IsInLine, LineEnds, is_white, all_of, ending_of, line_text}
 use Rattle.mdconstructs_flow_read.proofs.Blocks.CodeCalls.{Counted, IsRead, begins, chunk-begins, chunk-feed, chunk-other, feed-read, feeds, further-white, inside_runs, start-ends, start-on, white_runs}
 use Rattle.mdconstructs_flow_read.proofs.Blocks.CodeLooks.{ahead-is, code_ahead, further-is, further_by, look-from-feed}
-use Rattle.mdconstructs_flow_read.proofs.Lines.Checks.{read-if-nok, read-if-ok}
-use Rattle.mdconstructs_flow_read.proofs.Lines.Columns.{back_upto, front_upto, take-upto, upto-all, upto-blank, upto-in-line, upto-short, upto-stops, upto-white, upto-whole}
-use Rattle.mdconstructs_flow_read.proofs.Lines.Fronts.{Fails, prefix-grows}
-use Rattle.mdconstructs_flow_read.proofs.Lines.KindsOfLines.{says}
-use Rattle.mdconstructs_flow_read.proofs.Lines.LineParts.{IsWhite, all-white, first-parts}
-use Rattle.mdconstructs_flow_read.proofs.Lines.LineReads.{IsAt, keeps-on, reads-on}
-use Rattle.mdconstructs_flow_read.proofs.Lines.Lines.{EndsWithIt, EndsWithout, cut-line, line-ending-is, line-text-is, lines-behind, seats-split, whole-before}
-use Rattle.mdconstructs_flow_read.proofs.Lines.LinesRead.{AreRead, one-more}
-use Rattle.mdconstructs_flow_read.proofs.Lines.RunReads.{all-in-line, byte-then, comes, edits_kept, fails-line, goes, is_in_line, none-then, row-ends, run-on, then, then-ends}
+use Rattle.mdconstructs_flow_read.proofs.Lines.{AreRead, EndsWithIt, EndsWithout, Fails, IsAt, IsWhite, all-in-line, all-white, back_upto, byte-then, comes, cut-line, edits_kept, fails-line, first-parts, front_upto, goes, is_in_line, keeps-on, line-ending-is, line-text-is, lines-behind, none-then, one-more, prefix-grows, read-if-nok, read-if-ok, reads-on, row-ends, run-on, says, seats-split, take-upto, then, then-ends, upto-all, upto-blank, upto-in-line, upto-short, upto-stops, upto-white, upto-whole, whole-before}
 use Rattle.mdconstructs_flow_read.proofs.Looks.ByteClasses.{white-no-feed}
 
 module _ (g : Given) (t : Text) where

@@ -3,10 +3,7 @@ use Rattle.mdconstructs_flow_read.proofs.Prelude.{List, Some, [], ap, arith, con
 use Rattle.markdown_base.specs.declared.event.Content.TheVariants as content
 use Rattle.mdconstructs_flow_read.proofs.Looks.ByteClasses.{blank-is, feed-is, sign-is}
 use Rattle.mdconstructs_flow_read.proofs.Blocks.HeadingParts.{IsSign}
-use Rattle.mdconstructs_flow_read.proofs.Lines.LineParts.{IsWhite}
-use Rattle.mdconstructs_flow_read.proofs.Lines.LineReads.{IsAt, IsUnwritten, unwritten}
-use Rattle.mdconstructs_flow_read.proofs.Lines.RowReads.{counted, row-stays, row-takes-on, seen, white-is-blank}
-use Rattle.mdconstructs_flow_read.proofs.Lines.RunReads.{Goes, Reads, all_kept, comes, goes, goes-by}
+use Rattle.mdconstructs_flow_read.proofs.Lines.{Goes, IsAt, IsUnwritten, IsWhite, Reads, all_kept, comes, counted, goes, goes-by, row-stays, row-takes-on, seen, unwritten, white-is-blank}
 use Rattle.mdconstructs_flow_read.proofs.Looks.HeadingTexts.{is_sign}
 
 pub sign-class : (s : Seat) → IsSign s → flow_byte s.byte ≡ sign

@@ -3,8 +3,7 @@ use Rattle.mdconstructs_flow_read.proofs.Prelude.{◌≡◌, ℕ, suc, ◌+◌, 
 use Rattle.markdown_base.specs.declared.event.Content.TheVariants as content
 use Rattle.markdown_base.specs.declared.event.Name.{Name}
 use Rattle.markdown_base.specs.declared.event.Name.TheVariants as name
-use Rattle.mdconstructs_flow_read.proofs.Lines.Fronts.{front, back, all-back, back-fails, bytes-behind, drop-bytes, Fails, front-all, front-back, prefix-front, prefix-parts}
-use Rattle.mdconstructs_flow_read.proofs.Lines.LineParts.{IsWhite, all-white}
+use Rattle.mdconstructs_flow_read.proofs.Lines.{Fails, IsWhite, all-back, all-white, back, back-fails, bytes-behind, drop-bytes, front, front-all, front-back, prefix-front, prefix-parts}
 use Rattle.mdconstructs_flow_read.proofs.Looks.HeadingTexts.{is_sign}
 
 abbrev pub IsSign : Seat → Type 0

@@ -1,14 +1,9 @@
 -- ATX headings are read as their definition says.
 use Rattle.mdconstructs_flow_read.proofs.Prelude.{List, [], ap, append-nil, append_assoc, arith, drop, false, length, length-append, nat_le, refl, subst, suc, sym, take, true, ℕ, ◌++◌, ◌+◌, ◌-◌, ◌<◌, ◌^◌, ◌∙◌, ◌∷◌, ◌≡◌, ◌≤◌, and_parts, eqb-true, leb-true, length-drop, length-take-le, take-append-drop, AllByRecursion, end-after-append, Seat, end_after, Enter, Data, HeadingAtx, HeadingAtxSequence, HeadingAtxText, SpaceOrTab, Point, Name, Retry, FlowAfter, FlowBlankLineAfter, HeadingAtxAtBreak, HeadingAtxBefore, HeadingAtxData, HeadingAtxSequenceOpen, HeadingAtxStart, Configuration, Local, end_place, Given, Text, HeadingsAreRead, IsReadAs, KeepsEdits, bytes_of, text_of, Mark, alone, heading_marks, leaf_marks, span_marks, white, heading_text, is_atx_heading, run, unindented, IsInLine, LineEnds, text_behind_signs, is_white, all_of, ending_of, line_text, event}
 use Rattle.markdown_base.specs.declared.event.Content.TheVariants as content
-use Rattle.mdconstructs_flow_read.proofs.Lines.Fronts.{front, back, all-back, back-fails, drop-bytes, Fails, front-all, front-back, length-back, prefix-front}
+use Rattle.mdconstructs_flow_read.proofs.Lines.{Fails, IsAt, IsUnwritten, IsWhite, Keeping, Reads, all-back, all_kept, at-first, back, back-fails, byte-then, comes, drop-bytes, edits_kept, fails-line, first-parts, front, front-all, front-back, goes, in-line-behind, in-line-front, keeps-on, length-back, line-over, prefix-front, reads-end, reads-keeping, reads-nothing, reads-on, reads-parts, run-from, run-on, run-piece, says, then, then-ends, unwritten-keeps, white-piece, white-runs}
 use Rattle.mdconstructs_flow_read.proofs.Blocks.HeadingCalls.{BehindText, InText, begins-sign, begins-white, signs-begin, signs_go, start-sign, text-begins, text-ends, text-on, white_goes}
 use Rattle.mdconstructs_flow_read.proofs.Blocks.HeadingParts.{IsSign, heading-parts, sequence-fronts, signs_behind, text-is, text_span}
-use Rattle.mdconstructs_flow_read.proofs.Lines.LineParts.{IsWhite, at-first, first-parts}
-use Rattle.mdconstructs_flow_read.proofs.Lines.LineReads.{IsAt, IsUnwritten, keeps-on, reads-end, reads-keeping, reads-nothing, reads-on, reads-parts, unwritten-keeps}
-use Rattle.mdconstructs_flow_read.proofs.Lines.Lines.{in-line-front, in-line-behind}
-use Rattle.mdconstructs_flow_read.proofs.Lines.KindsOfLines.{says}
-use Rattle.mdconstructs_flow_read.proofs.Lines.RunReads.{Keeping, Reads, all_kept, byte-then, comes, edits_kept, fails-line, goes, line-over, run-from, run-on, run-piece, then, then-ends, white-piece, white-runs}
 use Rattle.mdconstructs_flow_read.proofs.Looks.HeadingTexts.{is_sign}
 
 module _ (g : Given) (t : Text) where

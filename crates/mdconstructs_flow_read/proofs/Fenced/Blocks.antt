@@ -4,12 +4,7 @@ use Rattle.mdconstructs_flow_read.proofs.Fenced.Checks.{behind_look, next-read}
 use Rattle.mdconstructs_flow_read.proofs.Fenced.Lines.{closing-line, code-line}
 use Rattle.mdconstructs_flow_read.proofs.Fenced.Looks.{closes-is}
 use Rattle.mdconstructs_flow_read.proofs.Fenced.Steps.{IsMark, IsOfFence, IsRead, KeepsFence, feed-class, fence_kept, of-fence-kept}
-use Rattle.mdconstructs_flow_read.proofs.Lines.LineCounts.{has-one-more, has-there, some-through, through-one-more, through-there}
-use Rattle.mdconstructs_flow_read.proofs.Lines.LineParts.{first-parts}
-use Rattle.mdconstructs_flow_read.proofs.Lines.LineReads.{IsAt}
-use Rattle.mdconstructs_flow_read.proofs.Lines.Lines.{cut-line, lines-behind, text-in-line}
-use Rattle.mdconstructs_flow_read.proofs.Lines.RowReads.{row-takes-on}
-use Rattle.mdconstructs_flow_read.proofs.Lines.RunReads.{byte-then, goes, row-ends, then, then-ends}
+use Rattle.mdconstructs_flow_read.proofs.Lines.{IsAt, byte-then, cut-line, first-parts, goes, has-one-more, has-there, lines-behind, row-ends, row-takes-on, some-through, text-in-line, then, then-ends, through-one-more, through-there}
 
 -- ---- a line before lines: virtual bytes, and marks
 module _ (line : Line) (e : Seat) (whole : line_text line ++ ending_of line ≡ line) (ends : ending_of line ≡ e ∷ []) where

@@ -1,7 +1,6 @@
 -- At the end of a line of fenced code the next line is looked at: it is the closing fence, or a line of code.
 use Rattle.mdconstructs_flow_read.proofs.Prelude.{Bool, List, [], cond, false, length, refl, subst, true, ◌++◌, ◌-◌, ◌<◌, ◌==◌, ◌^◌, ◌∷◌, ◌≡◌, ◌≤◌, Seat, Point, Name, Retry, RawFlowAfter, RawFlowAtNonLazyBreak, RawFlowCloseStart, RawFlowContentBefore, with_local, Configuration, byte_of, seat_before, Given, Text, raw_flow_at_non_lazy_break, line_feed, unchanged, bytes_of, Mark, Fence, closes, IsInLine, LineEnds}
-use Rattle.mdconstructs_flow_read.proofs.Lines.Checks.{looks, read-if-nok, read-if-ok}
-use Rattle.mdconstructs_flow_read.proofs.Lines.LineReads.{IsAt}
+use Rattle.mdconstructs_flow_read.proofs.Lines.{IsAt, looks, read-if-nok, read-if-ok}
 use Rattle.mdconstructs_flow_read.proofs.Fenced.Looks.{Saw, close-seen, closes-is}
 use Rattle.mdconstructs_flow_read.proofs.Fenced.Steps.{IsMark, IsOfFence, IsRead, KeepsFence, feed-class, fence_kept, of-fence-kept}
 

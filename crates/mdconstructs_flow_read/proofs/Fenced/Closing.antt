@@ -1,10 +1,7 @@
 -- The closing fence is read.
 use Rattle.mdconstructs_flow_read.proofs.Prelude.{Bool, List, [], ap, append_assoc, refl, subst, sym, true, ℕ, ◌++◌, ◌∷◌, ◌≡◌, AllByRecursion, Seat, end_after, CodeFenced, CodeFencedFence, CodeFencedFenceSequence, SpaceOrTab, Point, Name, FlowAfter, Configuration, Given, Text, blank, flow_byte, is_blank, is_fence, RawFlowCloseBefore, RawFlowCloseBetween, RawFlowCloseBlank, RawFlowCloseSequence, Mark, leaf_marks, span_marks, white, Fence, LineEnds, is_white, consume, enter}
 use Rattle.mdconstructs_flow_read.proofs.Fenced.Steps.{IsMark, IsRead, KeepsFence, fence_kept, is_mark, mark-class, of-fence, takes-mark}
-use Rattle.mdconstructs_flow_read.proofs.Lines.Fronts.{Fails}
-use Rattle.mdconstructs_flow_read.proofs.Lines.LineReads.{IsAt}
-use Rattle.mdconstructs_flow_read.proofs.Lines.RowReads.{row-takes-on, white-is-blank}
-use Rattle.mdconstructs_flow_read.proofs.Lines.RunReads.{Goes, comes, fails-line, goes, goes-by, leaves, line-over, run-from, then, then-ends, white-piece}
+use Rattle.mdconstructs_flow_read.proofs.Lines.{Fails, Goes, IsAt, comes, fails-line, goes, goes-by, leaves, line-over, row-takes-on, run-from, then, then-ends, white-is-blank, white-piece}
 use Rattle.mdconstructs_flow_read.proofs.Looks.ByteClasses.{blank-is}
 
 white_goes : Goes RawFlowCloseBlank is_white (SpaceOrTab ∷ []) RawFlowCloseBetween

@@ -1,10 +1,7 @@
 -- A line of fenced code is read: its indentation, and the rest.
 use Rattle.mdconstructs_flow_read.proofs.Prelude.{Bool, List, [], ap, arith, cond, false, inl, inr, le-ltb, length, lt-ltb, nat_lt, refl, subst, suc, true, ℕ, ◌++◌, ◌+◌, ◌-◌, ◌<◌, ◌==◌, ◌^◌, ◌∙◌, ◌∷◌, ◌≡◌, ◌≤◌, ◌⊎◌, AllByRecursion, Seat, end_after, CodeFlowChunk, SpaceOrTab, Point, Next, Retry, RawFlowAtNonLazyBreak, RawFlowBeforeContentChunk, RawFlowContentChunk, RawFlowContentStart, Configuration, Local, Sight, Given, Text, blank, flow_byte, is_blank, is_line_feed, count_becomes, count_grows, Mark, leaf_marks, white, Fence, IsInLine, LineEnds, is_white, one_more, Rows, consume, enter, exit, picked, row, when, write}
 use Rattle.mdconstructs_flow_read.proofs.Fenced.Steps.{IsOfFence, IsRead, KeepsFence, fence_kept, of-fence-kept}
-use Rattle.mdconstructs_flow_read.proofs.Lines.Fronts.{Fails}
-use Rattle.mdconstructs_flow_read.proofs.Lines.LineReads.{IsAt, reads-on}
-use Rattle.mdconstructs_flow_read.proofs.Lines.RowReads.{counted, row-takes-on, seen, white-is-blank}
-use Rattle.mdconstructs_flow_read.proofs.Lines.RunReads.{Goes, all-in-line, byte-then, comes, fails-line, goes, goes-line, is_in_line, line-over, run-ends}
+use Rattle.mdconstructs_flow_read.proofs.Lines.{Fails, Goes, IsAt, all-in-line, byte-then, comes, counted, fails-line, goes, goes-line, is_in_line, line-over, reads-on, row-takes-on, run-ends, seen, white-is-blank}
 use Rattle.mdconstructs_flow_read.proofs.Looks.ByteClasses.{blank-is, no-line-feed}
 
 chunk_goes : Goes RawFlowContentChunk is_in_line (CodeFlowChunk ∷ []) RawFlowAtNonLazyBreak

@@ -5,11 +5,7 @@ use Rattle.mdconstructs_flow_read.proofs.Blocks.HeadingParts.{sequence-parts}
 use Rattle.mdconstructs_flow_read.proofs.Fenced.Info.{info_marks, meta_marks}
 use Rattle.mdconstructs_flow_read.proofs.Fenced.Opening.{IsInfo, info_from, opening-reads, start_of}
 use Rattle.mdconstructs_flow_read.proofs.Fenced.Steps.{IsMark, IsOfFence, IsRead, all-words, mark-class, of-fence}
-use Rattle.mdconstructs_flow_read.proofs.Lines.Fronts.{Fails, all-back, all-front, back, back-fails, drop-back, drop-bytes, front, front-all, front-back, is_dark, length-front, take-front}
-use Rattle.mdconstructs_flow_read.proofs.Lines.KindsOfLines.{fence_of, says}
-use Rattle.mdconstructs_flow_read.proofs.Lines.LineReads.{IsAt}
-use Rattle.mdconstructs_flow_read.proofs.Lines.Lines.{has-first}
-use Rattle.mdconstructs_flow_read.proofs.Lines.RunReads.{fails-line}
+use Rattle.mdconstructs_flow_read.proofs.Lines.{Fails, IsAt, all-back, all-front, back, back-fails, drop-back, drop-bytes, fails-line, fence_of, front, front-all, front-back, has-first, is_dark, length-front, says, take-front}
 
 -- the parts of a fence's line: white space, marks, white space, a word, white space, and the rest
 module _ (m : ℕ) where

@@ -2,10 +2,7 @@
 use Rattle.mdconstructs_flow_read.proofs.Prelude.{is_line_feed, List, Some, [], ap, append_assoc, cond, refl, subst, sym, true, ℕ, ◌++◌, ◌∙◌, ◌∷◌, ◌≡◌, AllByRecursion, Seat, end_after, Enter, CodeFencedFence, CodeFencedFenceInfo, CodeFencedFenceMeta, Data, SpaceOrTab, Point, Next, Retry, RawFlowAtNonLazyBreak, RawFlowInfo, RawFlowInfoBefore, RawFlowMeta, RawFlowMetaBefore, Configuration, Given, Text, blank, flow_byte, is_blank, string_link, RawFlowInfoAfter, Mark, alone, chunk_span, span_marks, white, IsInLine, LineEnds, is_white, event, Rows, consume, enter, enter_link, exit, picked, row}
 use Rattle.markdown_base.specs.declared.event.Content.TheVariants as content
 use Rattle.mdconstructs_flow_read.proofs.Fenced.Steps.{IsRead, KeepsFence, class-of-word, fence_kept, is_word}
-use Rattle.mdconstructs_flow_read.proofs.Lines.Fronts.{Fails}
-use Rattle.mdconstructs_flow_read.proofs.Lines.LineReads.{IsAt}
-use Rattle.mdconstructs_flow_read.proofs.Lines.RowReads.{counted, row-stays, row-takes-on, seen, white-is-blank}
-use Rattle.mdconstructs_flow_read.proofs.Lines.RunReads.{Goes, Runs, all-in-line, comes, fails-line, goes, goes-by, goes-line, is_in_line, leaves, line-over, none-then, run-ends, run-from, run-on, then}
+use Rattle.mdconstructs_flow_read.proofs.Lines.{Fails, Goes, IsAt, Runs, all-in-line, comes, counted, fails-line, goes, goes-by, goes-line, is_in_line, leaves, line-over, none-then, row-stays, row-takes-on, run-ends, run-from, run-on, seen, then, white-is-blank}
 use Rattle.mdconstructs_flow_read.proofs.Looks.ByteClasses.{blank-is, feed-is}
 
 nothing-in-front : (a b : List Seat) → a ++ b ≡ [] → a ≡ []

@@ -4,12 +4,7 @@ use Rattle.mdconstructs_flow_read.proofs.Blocks.HeadingParts.{sequence-fronts}
 use Rattle.mdconstructs_flow_read.proofs.Fenced.Closing.{closing-reads}
 use Rattle.mdconstructs_flow_read.proofs.Fenced.Code.{code-reads}
 use Rattle.mdconstructs_flow_read.proofs.Fenced.Steps.{IsMark, IsOfFence, IsRead, is_mark}
-use Rattle.mdconstructs_flow_read.proofs.Lines.Columns.{back_upto, front_upto, take-upto, upto-in-line, upto-short, upto-stops, upto-white, upto-whole}
-use Rattle.mdconstructs_flow_read.proofs.Lines.Fronts.{back, drop-bytes, front, front-all, front-back, length-front}
-use Rattle.mdconstructs_flow_read.proofs.Lines.LineParts.{all-white}
-use Rattle.mdconstructs_flow_read.proofs.Lines.LineReads.{IsAt}
-use Rattle.mdconstructs_flow_read.proofs.Lines.Lines.{has-first}
-use Rattle.mdconstructs_flow_read.proofs.Lines.RunReads.{goes}
+use Rattle.mdconstructs_flow_read.proofs.Lines.{IsAt, all-white, back, back_upto, drop-bytes, front, front-all, front-back, front_upto, goes, has-first, length-front, take-upto, upto-in-line, upto-short, upto-stops, upto-white, upto-whole}
 
 module _ (g : Given) (t : Text) (f : Fence) where
   -- a line of code: columns of white space, so many at most, and the rest

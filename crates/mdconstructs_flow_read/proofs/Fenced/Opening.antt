@@ -2,10 +2,7 @@
 use Rattle.mdconstructs_flow_read.proofs.Prelude.{List, None, Some, [], ap, append_assoc, cond, false, refl, subst, sym, true, ◌++◌, ◌==◌, ◌∙◌, ◌∷◌, ◌≡◌, AllByRecursion, Seat, end_after, CodeFenced, CodeFencedFence, CodeFencedFenceSequence, SpaceOrTab, Point, Next, Retry, FlowBlankLineAfter, RawFlowAtNonLazyBreak, RawFlowBeforeSequenceOpen, RawFlowInfoBefore, RawFlowSequenceOpen, RawFlowStart, Configuration, Given, Text, blank, flow_byte, is_blank, is_fence, at_mark, Mark, leaf_marks, span_marks, white, Fence, IsInLine, LineEnds, is_white, Rows, consume, enter, exit, picked, row, when}
 use Rattle.mdconstructs_flow_read.proofs.Fenced.Info.{info-reads, info_marks}
 use Rattle.mdconstructs_flow_read.proofs.Fenced.Steps.{IsMark, IsOfFence, IsRead, KeepsFence, fence_kept, is_mark, is_word, mark-class, of-fence, of-fence-kept, takes-mark}
-use Rattle.mdconstructs_flow_read.proofs.Lines.Fronts.{Fails}
-use Rattle.mdconstructs_flow_read.proofs.Lines.LineReads.{IsAt}
-use Rattle.mdconstructs_flow_read.proofs.Lines.RowReads.{counted, row-stays, row-takes-on, seen, white-is-blank}
-use Rattle.mdconstructs_flow_read.proofs.Lines.RunReads.{Goes, byte-then, comes, goes, goes-by, row-ends, run-on, then, white-piece, white-runs}
+use Rattle.mdconstructs_flow_read.proofs.Lines.{Fails, Goes, IsAt, byte-then, comes, counted, goes, goes-by, row-ends, row-stays, row-takes-on, run-on, seen, then, white-is-blank, white-piece, white-runs}
 use Rattle.mdconstructs_flow_read.proofs.Looks.ByteClasses.{blank-is}
 
 white_goes : Goes RawFlowBeforeSequenceOpen is_white (SpaceOrTab ∷ []) RawFlowInfoBefore

@@ -1,9 +1,6 @@
 -- What states share of a fence while fenced code is read, and the bytes of fences, by class.
 use Rattle.mdconstructs_flow_read.proofs.Prelude.{⊎_elim, Bool, List, Some, [], ap, cond, false, inl, inr, not, refl, subst, sym, true, ℕ, ◌&&◌, ◌==◌, ◌∙◌, ◌∷◌, ◌≡◌, ◌⊎◌, and_from, and_parts, eqb-true, not-true, AllByRecursion, Seat, Point, Name, Next, Configuration, Local, Given, Text, blank, flow_byte, is_blank, is_fence, is_line_feed, line_feed, tick, tilde, word_byte, flow, word-is-word, word-no-feed, Mark, Fence, IsInLine, is_white, Act, Rows, does, named, picked, row}
-use Rattle.mdconstructs_flow_read.proofs.Lines.Fronts.{is_dark}
-use Rattle.mdconstructs_flow_read.proofs.Lines.LineReads.{IsAt}
-use Rattle.mdconstructs_flow_read.proofs.Lines.RowReads.{ArePlain, ReadOnce, counted, row-takes-on, rows_of, seen, told}
-use Rattle.mdconstructs_flow_read.proofs.Lines.RunReads.{Keeping, Reads, is_in_line}
+use Rattle.mdconstructs_flow_read.proofs.Lines.{ArePlain, IsAt, Keeping, ReadOnce, Reads, counted, is_dark, is_in_line, row-takes-on, rows_of, seen, told}
 
 -- What states share of a fence stays, and so do edits and resolvers
 abbrev pub KeepsFence : (before after : Local Unit Unit) → Type 0

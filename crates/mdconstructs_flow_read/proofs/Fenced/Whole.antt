@@ -3,11 +3,7 @@ use Rattle.mdconstructs_flow_read.proofs.Prelude.{⊎_elim, Bool, List, [], ap, 
 use Rattle.mdconstructs_flow_read.proofs.Fenced.Blocks.{AreReadBehind, behind-reads, joined-behind, joined-seats, text-ends}
 use Rattle.mdconstructs_flow_read.proofs.Fenced.First.{IsFence, first_point, into, kind-is-fence, opening-line}
 use Rattle.mdconstructs_flow_read.proofs.Fenced.Steps.{IsOfFence, IsRead, KeepsFence, fence_kept, of-fence-kept}
-use Rattle.mdconstructs_flow_read.proofs.Lines.LineCounts.{some-through}
-use Rattle.mdconstructs_flow_read.proofs.Lines.LineParts.{first-parts}
-use Rattle.mdconstructs_flow_read.proofs.Lines.LineReads.{IsAt, reads-keeping, reads-on}
-use Rattle.mdconstructs_flow_read.proofs.Lines.Lines.{cut-line, lines-behind, seats-split, text-in-line}
-use Rattle.mdconstructs_flow_read.proofs.Lines.RunReads.{goes, then-ends}
+use Rattle.mdconstructs_flow_read.proofs.Lines.{IsAt, cut-line, first-parts, goes, lines-behind, reads-keeping, reads-on, seats-split, some-through, text-in-line, then-ends}
 
 -- a span over some bytes
 span-is : (g : Given) (t : Text) (n : EventName) (p : Point) (seats : List Seat) (inside : List Mark) → 1 ≤ length seats → into g n (first_point p seats) ++ (inside ++ goes g t n (end_after p seats)) ≡ span_marks g.bytes n seats inside

@@ -4,10 +4,7 @@ use Rattle.mdconstructs_flow_read.proofs.Html.Checks.{blank_ahead}
 use Rattle.mdconstructs_flow_read.proofs.Html.Places.{inside, is_closed, through}
 use Rattle.mdconstructs_flow_read.proofs.Html.Reads.{BeginsAt, bare-line-read, before-begins, ends_here, enters, feed_in, goes-on, no-line-read, out, over_line, stops-at-end, stops-at-feed}
 use Rattle.mdconstructs_flow_read.proofs.Html.Steps.{Config, Kept, html_kept, kind_in}
-use Rattle.mdconstructs_flow_read.proofs.Lines.LineReads.{IsAt}
-use Rattle.mdconstructs_flow_read.proofs.Lines.LinesRead.{AreRead as BlockRead, Fits, one-more}
-use Rattle.mdconstructs_flow_read.proofs.Lines.RunReads.{leaves}
-use Rattle.mdconstructs_flow_read.proofs.Lines.Lines.{cut-line, lines-behind, seats-split, text-in-line}
+use Rattle.mdconstructs_flow_read.proofs.Lines.{AreRead as BlockRead, Fits, IsAt, cut-line, leaves, lines-behind, one-more, seats-split, text-in-line}
 
 -- how many lines the block has, and whether it is open; each line is the last one, or not
 module _ (kind : ℕ) where

@@ -6,9 +6,7 @@ use Rattle.mdconstructs_flow_read.proofs.Html.Blocks.{count, is_last, stays_open
 use Rattle.mdconstructs_flow_read.proofs.Html.Checks.{blank_ahead}
 use Rattle.mdconstructs_flow_read.proofs.Looks.ByteClasses.{blank-is, feed-is}
 use Rattle.mdconstructs_flow_read.proofs.Html.Places.{inside, is_closed, through}
-use Rattle.mdconstructs_flow_read.proofs.Lines.LineParts.{first-parts}
-use Rattle.mdconstructs_flow_read.proofs.Lines.Lines.{lines-behind}
-use Rattle.mdconstructs_flow_read.proofs.Lines.LineCounts.{has-one-more, has-there, through-one-more, through-there}
+use Rattle.mdconstructs_flow_read.proofs.Lines.{first-parts, has-one-more, has-there, lines-behind, through-one-more, through-there}
 
 -- ---- kinds 1 to 5
 module _ (kind : ℕ) (short : nat_le 6 kind ≡ false) (ends : (t : List ℕ) → is_closed (through kind inside t) ≡ ends_html kind t) where

@@ -1,16 +1,13 @@
 -- The first line of HTML: white space, which is data of its own, and the rest; and so HTML is read.
 use Rattle.mdconstructs_flow_read.proofs.Prelude.{Bool, List, None, [], ap, append-nil, append_assoc, cond, false, inl, inr, length, nat_le, refl, subst, sym, true, ℕ, ◌++◌, ◌∙◌, ◌∷◌, ◌≡◌, AllByRecursion, Seat, Enter, HtmlFlow, HtmlFlowData, Point, Retry, FlowBlankLineAfter, HtmlFlowStart, Local, Given, Text, blank, AreLines, IsLine, IsReadAs, behind_block, block_seats, Line, bytes_of, text_of, Mark, body, indent, unindented, IsInLine, is_white, all_of, ending_of, line_text, event, consume, enter}
 use Rattle.mdconstructs_flow_read.proofs.Tags.HtmlNumbers.{html_at}
-use Rattle.mdconstructs_flow_read.proofs.Lines.Fronts.{back, drop-bytes, front, front-all, front-back, prefix-front}
+use Rattle.mdconstructs_flow_read.proofs.Lines.{IsAt, IsUnwritten, IsWhite, back, counted, cut-line, drop-bytes, front, front-all, front-back, in-line-behind, in-line-ending, in-line-text, prefix-front, reads-keeping, reads-on, reads-run, row-takes-on, text-in-line, white-is-blank}
 use Rattle.mdconstructs_flow_read.proofs.Html.Blocks.{is_last}
 use Rattle.mdconstructs_flow_read.proofs.Html.Checks.{blank_ahead}
 use Rattle.mdconstructs_flow_read.proofs.Html.Ends.{html-begins}
 use Rattle.mdconstructs_flow_read.proofs.Html.Places.{from_inside, inside, is_closed, through}
 use Rattle.mdconstructs_flow_read.proofs.Html.Steps.{Config, Kept, kept-on}
-use Rattle.mdconstructs_flow_read.proofs.Lines.LineParts.{IsWhite}
-use Rattle.mdconstructs_flow_read.proofs.Lines.LineReads.{IsAt, IsUnwritten, reads-keeping, reads-on, reads-run}
-use Rattle.mdconstructs_flow_read.proofs.Lines.Lines.{cut-line, text-in-line, whole-text, whole-ending, in-line-text, in-line-ending, in-line-behind}
-use Rattle.mdconstructs_flow_read.proofs.Lines.RowReads.{counted, row-takes-on, white-is-blank}
+use Rattle.mdconstructs_flow_read.proofs.Lines.Lines.{whole-text, whole-ending}
 
 -- ---- the parts of the line
 -- white space, and a less-than sign

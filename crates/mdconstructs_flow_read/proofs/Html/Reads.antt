@@ -4,9 +4,7 @@ use Rattle.mdconstructs_flow_read.proofs.Looks.ByteClasses.{feed-is}
 use Rattle.mdconstructs_flow_read.proofs.Html.Checks.{blank_ahead, read-if-blank, read-if-not}
 use Rattle.mdconstructs_flow_read.proofs.Html.Places.{Place, inside, dashed, bracketed, marked, opened, named, closed, from_inside, is_closed, through}
 use Rattle.mdconstructs_flow_read.proofs.Html.Steps.{Config, Kept, To, along, html_kept, kept-on, kept-same, kind_in, name_of}
-use Rattle.mdconstructs_flow_read.proofs.Lines.LineReads.{IsAt, reads-nothing, reads-on}
-use Rattle.mdconstructs_flow_read.proofs.Lines.RowReads.{counted, row-stays, row-takes-on, seen}
-use Rattle.mdconstructs_flow_read.proofs.Lines.RunReads.{leaves, line-over, row-ends}
+use Rattle.mdconstructs_flow_read.proofs.Lines.{IsAt, counted, leaves, line-over, reads-nothing, reads-on, row-ends, row-stays, row-takes-on, seen}
 
 -- a line of this kind is behind the end of its block, if these bytes follow the line ending
 abbrev pub ends_here : (kind : ℕ) → List ℕ → (behind : List Seat) → Bool

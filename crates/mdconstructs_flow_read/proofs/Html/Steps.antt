@@ -2,9 +2,7 @@
 use Rattle.mdconstructs_flow_read.proofs.Prelude.{Bool, List, None, Some, [], ap, cond, false, refl, subst, sym, true, ℕ, ◌++◌, ◌==◌, ◌∙◌, ◌∷◌, ◌≡◌, html_raw_names, Seat, Point, Name, Next, Retry, HtmlFlowContinuation, HtmlFlowContinuationCdataInside, HtmlFlowContinuationClose, HtmlFlowContinuationCommentInside, HtmlFlowContinuationDeclarationInside, HtmlFlowContinuationRawEndTag, HtmlFlowContinuationRawTagOpen, Configuration, Local, Sight, Given, Text, FlowByte, by_byte, flow_byte, is_closing, is_dash, is_greater, is_less, is_line_feed, is_question, is_slash, name_byte, flow, size_becomes, html_flow_continuation_raw_end_tag_goes_on, html_flow_continuation_raw_end_tag_rows, is_number_in, html_is, is_raw_tag, raw_name_grows, IsReadAs, bytes_of, IsInLine, rows_in, Row, Rows, class_of, consume, named, picked, row, when, write}
 use Rattle.mdconstructs_flow_read.proofs.Looks.ByteClasses.{feed-is}
 use Rattle.mdconstructs_flow_read.proofs.Html.Places.{Place, inside, dashed, bracketed, marked, opened, named as in_name, closed, from_inside, from_name, moved, raw_more, through}
-use Rattle.mdconstructs_flow_read.proofs.Lines.LineReads.{IsAt, reads-nothing, reads-on}
-use Rattle.mdconstructs_flow_read.proofs.Lines.RunReads.{Keeping}
-use Rattle.mdconstructs_flow_read.proofs.Lines.RowReads.{counted, row-stays, row-takes-on, rows_of, seen}
+use Rattle.mdconstructs_flow_read.proofs.Lines.{IsAt, Keeping, counted, reads-nothing, reads-on, row-stays, row-takes-on, rows_of, seen}
 
 abbrev pub Config : Type 0
 Config = Configuration Unit Unit

@@ -7,10 +7,7 @@ use Rattle.mdconstructs_flow_read.proofs.Html.Ends.{ends-are, html-is}
 use Rattle.mdconstructs_flow_read.proofs.Html.First.{First, behind-is, first, last-same, line-is, rest, rest-are, rest-text, seats-are, white-read, white_marks}
 use Rattle.mdconstructs_flow_read.proofs.Html.Reads.{BeginsAt, enters, line-begins, start-begins}
 use Rattle.mdconstructs_flow_read.proofs.Html.Steps.{Config, Kept, kept-on, kind_in}
-use Rattle.mdconstructs_flow_read.proofs.Lines.LineParts.{IsWhite}
-use Rattle.mdconstructs_flow_read.proofs.Lines.LineReads.{IsAt, reads-keeping, reads-on}
-use Rattle.mdconstructs_flow_read.proofs.Lines.Lines.{seats-split}
-use Rattle.mdconstructs_flow_read.proofs.Lines.RunReads.{leaves}
+use Rattle.mdconstructs_flow_read.proofs.Lines.{IsAt, IsWhite, leaves, reads-keeping, reads-on, seats-split}
 
 abbrev begun : Given → Seat → List Mark
 begun g s = (event g.bytes Enter HtmlFlow s.point, None) ∷ []

@@ -10,8 +10,7 @@ use Rattle.markdown_tokenizer.proofs.Positions.Order.{after-before}
 use Rattle.markdown_tokenizer.proofs.Positions.Points.{same-shown, shown-column, shown-line}
 use Rattle.markdown_tokenizer.proofs.Positions.Seats.{rest-later}
 use Rattle.markdown_tokenizer.proofs.Positions.Standing.{place-after, place-of-point, rest-after, shown-shown}
-use Rattle.mdconstructs_flow_read.proofs.Lines.Rooms.{has-room}
-use Rattle.mdconstructs_flow_read.proofs.Lines.WholeLines.{IsWhole}
+use Rattle.mdconstructs_flow_read.proofs.Lines.{IsWhole, has-room}
 use Rattle.markdown_tokenizer.specs.Cursor.{IsPlace, goes_on, rest_at}
 
 module _ (t : ℕ) (bytes : List ℕ) where

@@ -5,10 +5,10 @@ use Rattle.markdown_base.specs.declared.event.Name.TheVariants as name
 use Rattle.mdconstructs_flow_read.proofs.Marks.Cuts.{IsLong, cut}
 use Rattle.mdconstructs_flow_read.proofs.Marks.FullBlocks.{IsFull, StartsText, leaf-blocks-full}
 use Rattle.mdconstructs_flow_read.proofs.Marks.MarkAccounts.{AreSpans, accounts-kept, bare, linked-spans}
-use Rattle.mdconstructs_flow_read.proofs.Lines.Lines.{all-of-split, body-and-text}
+use Rattle.mdconstructs_flow_read.proofs.Lines.{IsWhole, all-of-split, body-and-last, body-and-text, text-and-ending, whole-lines}
 use Rattle.mdconstructs_flow_read.proofs.Marks.MarkLists.{kept-before}
 use Rattle.mdconstructs_flow_read.proofs.Marks.MarkSpans.{IsKeptBySpans, no-spans, over, spans-around, spans-block, spans-both, spans-break, spans-code, spans-code-fenced-around, spans-data, spans-heading-around, spans-html, spans-last, spans-leaf, spans-lines, spans-text, spans-underline}
-use Rattle.mdconstructs_flow_read.proofs.Lines.WholeLines.{IsWhole, body-and-last, text-and-ending, whole-ending, whole-lines, whole-text}
+use Rattle.mdconstructs_flow_read.proofs.Lines.WholeLines.{whole-ending, whole-text}
 
 last-is : (lines : List Line) (below : Line) → last_ending (lines ++ below ∷ []) ≡ ending_of below
 last-is [] below = refl

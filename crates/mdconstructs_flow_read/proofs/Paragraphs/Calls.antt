@@ -1,10 +1,7 @@
 -- The calls of a paragraph's states in which it, or a chunk of it, begins; and the bytes of a line.
 use Rattle.mdconstructs_flow_read.proofs.Prelude.{Bool, List, Some, [], ap, cond, false, refl, true, ◌==◌, ◌∙◌, ◌∷◌, ◌≡◌, Seat, Data, Paragraph, Point, Next, Retry, FlowAfter, FlowBeforeContent, ParagraphInside, ParagraphLineStart, ParagraphStart, Configuration, Sight, byte_of, seat_before, Given, Text, Check, flow_byte, paragraph_begins, ParagraphLineAfter, ParagraphLookStart, text_link, chunk_before, connected, is_connected, last_event, Act, Row, Rows, choose, chooses, does, enter, enter_link, exit, links, picked, row, when, write, sight_before}
 use Rattle.mdconstructs_tables.specs.Chunks.{alone}
-use Rattle.mdconstructs_flow_read.proofs.Lines.Leading.{Leads, row-leads}
-use Rattle.mdconstructs_flow_read.proofs.Lines.LineReads.{IsAt}
-use Rattle.mdconstructs_flow_read.proofs.Lines.RowReads.{counted}
-use Rattle.mdconstructs_flow_read.proofs.Lines.RunReads.{Keeping, Runs, is_in_line, line-runs}
+use Rattle.mdconstructs_flow_read.proofs.Lines.{IsAt, Keeping, Leads, Runs, counted, is_in_line, line-runs, row-leads}
 use Rattle.mdconstructs_flow_read.proofs.Looks.ByteClasses.{feed-is}
 
 -- nothing that states share changes

@@ -1,10 +1,7 @@
 -- A paragraph, line by line: where its text stands at a line ending, and what comes of the rest.
 use Rattle.mdconstructs_flow_read.proofs.Prelude.{Bool, List, None, Option, Some, [], ap, append-nil, append_assoc, arith, cond, drop, false, length, length-append, refl, subst, sym, true, ℕ, ◌++◌, ◌+◌, ◌-◌, ◌==◌, ◌∙◌, ◌∷◌, ◌≡◌, end-after-one, Seat, end_after, TextContent, Event, Enter, Exit, Data, Paragraph, Point, State, Retry, FlowAfter, ParagraphInside, ParagraphStart, linked_to, with_local, Configuration, Local, end_place, Given, Text, Byte, flow_byte, line_feed, HeadingSetextTextAfter, ParagraphLineAfter, IsReadAs, last_ending, Line, Mark, body, chunk_span, linked_from, text_marks, IsInLine, LeavesAll, ending_of, line_text, event, waits_at, consume, exit}
-use Rattle.mdconstructs_flow_read.proofs.Lines.Leading.{Leads, leads-on, read-leads}
-use Rattle.mdconstructs_flow_read.proofs.Lines.LineReads.{IsAt, at-behind, behind-line}
-use Rattle.mdconstructs_flow_read.proofs.Lines.Lines.{in-line-ending, in-line-text}
-use Rattle.mdconstructs_flow_read.proofs.Lines.RowReads.{row-takes-on}
-use Rattle.mdconstructs_flow_read.proofs.Lines.RunReads.{all-in-line, is_in_line, leaves, row-ends, run-on, then-ends}
+use Rattle.mdconstructs_flow_read.proofs.Lines.{IsAt, Leads, all-in-line, at-behind, behind-line, in-line-ending, in-line-text, is_in_line, leaves, read-leads, row-ends, row-takes-on, run-on, then-ends}
+use Rattle.mdconstructs_flow_read.proofs.Lines.Leading.{leads-on}
 use Rattle.mdconstructs_flow_read.proofs.Paragraphs.Calls.{begins, begun, inside_runs, same_kept}
 use Rattle.mdconstructs_flow_read.proofs.Paragraphs.ChunkLinks.{linked-last}
 

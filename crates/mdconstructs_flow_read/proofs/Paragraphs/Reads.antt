@@ -1,8 +1,7 @@
 -- Paragraphs are read as their definition says.
 use Rattle.mdconstructs_flow_read.proofs.Prelude.{Bool, List, None, [], ap, append-nil, append_assoc, arith, cond, drop, false, inl, inr, length, length-append, refl, subst, suc, sym, take, true, ℕ, ◌++◌, ◌+◌, ◌-◌, ◌==◌, ◌∙◌, ◌∷◌, ◌≡◌, ◌≤◌, Seat, end_after, Event, Enter, Exit, Paragraph, Point, Retry, FlowAfter, FlowBeforeContent, ParagraphInside, ParagraphStart, Configuration, Local, EndsIn, end_place, Given, Text, flow, HeadingSetextTextAfter, IsAtLines, ParagraphsAreRead, is_underlined, last_ending, Line, Mark, body, linked_from, span_marks, text_marks, IsInLine, LinesAreSeen, all_of, ending_of, line_text, event, waits_at, table_step}
-use Rattle.mdconstructs_flow_read.proofs.Lines.Leading.{Leads, leads-on}
-use Rattle.mdconstructs_flow_read.proofs.Lines.LineReads.{IsAt, behind-line}
-use Rattle.mdconstructs_flow_read.proofs.Lines.Lines.{all-of-split, body-with-ending, cut-line, has-first, in-line-ending, in-line-text, lines-behind, lines-taken, text-in-line}
+use Rattle.mdconstructs_flow_read.proofs.Lines.{IsAt, Leads, all-of-split, behind-line, body-with-ending, cut-line, has-first, in-line-ending, in-line-text, lines-behind, lines-taken, text-in-line}
+use Rattle.mdconstructs_flow_read.proofs.Lines.Leading.{leads-on}
 use Rattle.mdconstructs_flow_read.proofs.Paragraphs.Calls.{begins, begun, opened, opens}
 use Rattle.mdconstructs_flow_read.proofs.Paragraphs.Lines.{IsBegun, IsReadOn, chunk_at, text-to-end, text-to-feed}
 use Rattle.mdconstructs_flow_read.proofs.Paragraphs.Rests.{goes_on_over, rest-read}

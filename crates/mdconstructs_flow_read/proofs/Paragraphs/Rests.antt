@@ -1,12 +1,9 @@
 -- From a line ending in a paragraph: how many lines more it has, and how it ends.
 use Rattle.mdconstructs_flow_read.proofs.Prelude.{Bool, List, None, Some, [], ap, append-nil, append_assoc, drop, false, inl, inr, length, refl, subst, suc, sym, take, true, ℕ, ◌++◌, ◌+◌, ◌-◌, ◌<◌, ◌^◌, ◌||◌, ◌∙◌, ◌∷◌, ◌≡◌, is_some, Seat, end_after, TextContent, Event, Exit, Data, Paragraph, Point, Retry, FlowAfter, ParagraphInside, with_local, Configuration, Local, end_place, Given, Text, paragraph_ends, HeadingSetextTextAfter, AreLines, is_underlined, Line, bytes_of, ends_text, interrupts, lines_until, text_of, chunk_span, linked_from, line_kind, underline_rank, IsInLine, LeavesAll, LineEnds, LinesAreSeen, SeenKind, is_underline, seen_ends, seen_kind, all_of, ending_of, line_text, event, waits_at}
-use Rattle.mdconstructs_flow_read.proofs.Lines.TestedKinds.{ends-as-seen, seen-is-tested}
-use Rattle.mdconstructs_flow_read.proofs.Lines.Leading.{Leads}
-use Rattle.mdconstructs_flow_read.proofs.Lines.LineReads.{behind-line}
-use Rattle.mdconstructs_flow_read.proofs.Lines.Lines.{cut-line, lines-behind, text-in-line, whole-ending, whole-text}
+use Rattle.mdconstructs_flow_read.proofs.Lines.{Leads, behind-line, cut-line, ends-as-seen, lines-behind, seen-is-tested, text-in-line, until-one-more, until-there}
+use Rattle.mdconstructs_flow_read.proofs.Lines.Lines.{whole-ending, whole-text}
 use Rattle.mdconstructs_flow_read.proofs.Paragraphs.Ends.{EndsSo, ended, line-ends-so}
 use Rattle.mdconstructs_flow_read.proofs.Paragraphs.Lines.{IsAtFeed, IsReadOn, chunk_at, done_before, further-end, further-feed, left-keeps, one-line-more}
-use Rattle.mdconstructs_flow_read.proofs.Lines.LineCounts.{until-one-more, until-there}
 
 -- the lines of a paragraph, behind its first
 abbrev pub goes_on_over : Given → List Line → ℕ

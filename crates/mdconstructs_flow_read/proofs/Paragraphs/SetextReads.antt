@@ -1,14 +1,10 @@
 -- Setext headings are read as their definition says, and the edits that name them come to wait.
 use Rattle.mdconstructs_flow_read.proofs.Prelude.{◌≡◌, ℕ, suc, ◌+◌, ◌-◌, ◌<◌, ◌≤◌, List, [], ◌∷◌, ◌++◌, true, false, Some, None, drop, take, length, map, refl, sym, ap, ◌∙◌, subst, arith, append_assoc, length-append, map-append, AllByRecursion, Event, Enter, Exit, EventName, HeadingSetext, HeadingSetextText, HeadingSetextUnderline, LineEnding, Paragraph, Point, Retry, FlowAfter, FlowBeforeContent, HeadingSetextAfter, HeadingSetextStart, HeadingSetextTextAfter, end-after-append, shown, Seat, end_after, Edit, added_after, exited, Configuration, Local, EndsIn, end_place, Given, Text, waits_at, consume, enter, exit, table_step, write, all_of, ending_of, line_text, event, flow_byte, line_feed, flow, heading_ends, renaming, AddsEdits, AreLines, IsAtLines, IsLine, IsReadAs, SetextHeadingsAreRead, heading_told, is_underlined, last_ending, paragraph_told, underline_told, Line, text_of, is_underline, seen_kind, Mark, body, last_end, leaf_marks, linked_from, span_marks, text_marks, underline_inside, LineEnds, LinesAreSeen, ToldMark, as_it_is, before_edits, told_edits, under_names}
 use Rattle.mdconstructs_flow_read.proofs.Paragraphs.HeadingMarks.{heading, heading_marks, heading-added, heading-before, last-is}
-use Rattle.mdconstructs_flow_read.proofs.Lines.KindsOfLines.{underlined-is}
-use Rattle.mdconstructs_flow_read.proofs.Lines.LineParts.{first-parts}
-use Rattle.mdconstructs_flow_read.proofs.Lines.LineReads.{IsAt, IsUnwritten, at-behind, reads-on, unwritten-on}
+use Rattle.mdconstructs_flow_read.proofs.Lines.{IsAt, IsUnwritten, at-behind, body-and-text, body-with-ending, counted, first-parts, has-first, line-ending-is, line-text-is, lines-dropped, lines-taken, reads-on, row-stays, row-takes-on, seen, taken-are-whole, underlined-is, unwritten-on}
 use Rattle.mdconstructs_flow_read.proofs.Marks.MarkLists.{linked-length, marked-on}
-use Rattle.mdconstructs_flow_read.proofs.Lines.Lines.{body-with-ending, line-ending-is, line-text-is, lines-dropped, lines-taken, taken-are-whole, body-and-text, has-first}
 use Rattle.mdconstructs_flow_read.proofs.Paragraphs.Reads.{IsParagraph, bytes-of-lines, first-of-body, paragraph-read}
 use Rattle.mdconstructs_flow_read.proofs.Paragraphs.Rests.{goes_on_over}
-use Rattle.mdconstructs_flow_read.proofs.Lines.RowReads.{counted, row-stays, row-takes-on, seen}
 use Rattle.mdconstructs_flow_read.proofs.Paragraphs.UnderlineReads.{IsOfUnderline, of-underline, underline-first, underline-read-from}
 
 -- the last line ending of lines that all have one

@@ -2,15 +2,13 @@
 use Rattle.mdconstructs_flow_read.proofs.Prelude.{◌≡◌, ℕ, zero, suc, ◌+◌, ◌^◌, ◌-◌, ◌<◌, ◌≤◌, ◌&&◌, List, [], ◌∷◌, ◌++◌, Bool, cond, inl, inr, length, map, drop, refl, sym, ap, ◌∙◌, subst, arith, append_assoc, append-nil, length-drop, None, Option, Some, All-cons, All-contains, All-nil, AllByRecursion, Constructs, Next, Name, Retry, Ok, ContentDefinitionBefore, FlowBeforeContent, FlowBlankLineAfter, FlowStart, Seat, Edit, with_local, Configuration, start_configuration, EndsIn, Reading, Given, Text, table_step, all_of, ending_of, line_text, lines_in, lines-are-all, flow, AreLines, IsAtLines, Line, LeafBlock, block_of_kind, blocks_in, bytes_of, text_of, LineKind, indented, is_thematic_break, line_kind, underline_rank, unindented, SeenKind, as_seen, seen_kind, underline, block_told, blocks_told, flow_told, FlowIsRead, IsToldAs, leaf_marks, white, Finds, ToldMark, as_it_is}
 use Rattle.markdown_base.specs.declared.event.Name.TheVariants as name
 use Rattle.mdconstructs_flow_read.specs.LineKinds.{blank, heading, fence, html, thematic_break, text}
-use Rattle.mdconstructs_flow_read.proofs.Lines.TestedKinds.{underline-kind}
+use Rattle.mdconstructs_flow_read.proofs.Lines.{cut-line, lines-dropped, lines-in-are, says, underline-kind}
 use Rattle.mdconstructs_flow_read.proofs.Marks.Cuts.{cut}
 use Rattle.mdconstructs_flow_read.proofs.Whole.LineBlocks.{AllAreRead, BlockTold, blank-line-told, break-told, content-told, fenced-told, heading-told, html-told, indented-told, underline-told}
 use Rattle.mdconstructs_flow_read.proofs.Whole.LineBreaks.{blank-told}
 use Rattle.mdconstructs_flow_read.proofs.Whole.LineStarts.{IsSeen, at_byte, content-leads, ends-told, line-seen, still-at-lines, told-fed}
-use Rattle.mdconstructs_flow_read.proofs.Lines.Lines.{cut-line, lines-dropped, lines-in-are}
 use Rattle.mdconstructs_flow_read.proofs.Whole.Told.{IsTold, ToldTo, then-told, told-on}
 use Rattle.mdconstructs_flow_read.proofs.Marks.MarkLists.{edits-within, told-length}
-use Rattle.mdconstructs_flow_read.proofs.Lines.KindsOfLines.{says}
 
 module _ (all : AllAreRead) (g : Given) (t : Text) (flag : Bool) (room : length t.seats < 2 ^ 64 - 1) where
   abbrev on : Constructs

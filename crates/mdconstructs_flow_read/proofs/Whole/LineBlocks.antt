@@ -3,14 +3,12 @@ use Rattle.mdconstructs_flow_read.proofs.Prelude.{◌≡◌, ℕ, suc, ◌+◌, 
 use Rattle.markdown_base.specs.declared.event.Name.TheVariants as name
 use Rattle.mdconstructs_flow_read.specs.LineKinds.{fence, html, thematic_break, text}
 use Rattle.mdconstructs_flow_read.specs.SeenKinds as seen
-use Rattle.mdconstructs_flow_read.proofs.Lines.TestedKinds.{underlined-as-seen}
+use Rattle.mdconstructs_flow_read.proofs.Lines.{all-of-split, body-and-text, cut-line, in-line-alone, in-line-text, line-with-it, lines-dropped, none-left, underlined-as-seen}
 use Rattle.mdconstructs_flow_read.proofs.Whole.BlockSteps.{block-told, closed-told, cut-ended, left-behind}
 use Rattle.mdconstructs_flow_read.proofs.Whole.LineBreaks.{behind-told}
 use Rattle.mdconstructs_flow_read.proofs.Whole.LineStarts.{first-byte, in-line-there}
-use Rattle.mdconstructs_flow_read.proofs.Lines.Lines.{all-of-split, cut-line, in-line-alone, in-line-text, line-with-it, lines-dropped, body-and-text}
 use Rattle.mdconstructs_flow_read.proofs.Whole.Told.{IsTold, then-told, told-named, told-read}
 use Rattle.mdconstructs_flow_read.proofs.Whole.UnderlineLines.{after, underline-goes}
-use Rattle.mdconstructs_flow_read.proofs.Lines.LineCounts.{none-left}
 
 -- all that is read by lines and blocks
 pub record AllAreRead : Type 0 where

@@ -1,8 +1,8 @@
 -- At the beginning of a line: the text ends there, or a blank line is read, or a look says what the line is.
 use Rattle.mdconstructs_flow_read.proofs.Prelude.{◌≡◌, ◌+◌, ◌-◌, ◌^◌, ◌<◌, List, [], ◌∷◌, ◌++◌, true, cond, Option, None, Some, inl, inr, length, drop, refl, sym, ap, ◌∙◌, subst, arith, append_assoc, length-append, length-drop, BlankLineEnding, Name, State, Next, Retry, Ok, Nok, FlowBeforeContent, FlowBlankLineAfter, FlowBlankLineBefore, ContentDefinitionBefore, FlowStart, Seat, Check, Byte, End, with_local, Configuration, Local, EndsIn, Reading, fed, sight, class_of, goes-called, byte_of, seat_before, Given, Text, fed-ends, Leads, feeds, waits_at, enter, exit, consume, choose, write, row, table_step, all_of, ending_of, line_text, content_definition_before, flow_start, flow_start_rows, FlowByte, flow_byte, flow, unchanged, indent_becomes, AreLines, IsAtLines, KeepsEdits, Line, bytes_of, text_of, unindented, seen_kind, Finds, IsInLine, LineEnds, LinesAreSeen}
-use Rattle.mdconstructs_flow_read.proofs.Lines.Checks.{called-row, checks-nok, checks-ok, leads-on, looks}
+use Rattle.mdconstructs_flow_read.proofs.Lines.{called-row, checks-nok, checks-ok, cut-line, looks, text-in-line}
+use Rattle.mdconstructs_flow_read.proofs.Lines.Checks.{leads-on}
 use Rattle.mdconstructs_flow_read.proofs.Whole.LineBreaks.{start-ends}
-use Rattle.mdconstructs_flow_read.proofs.Lines.Lines.{cut-line, text-in-line}
 use Rattle.mdconstructs_flow_read.proofs.Whole.Told.{ToldTo, told-none, told-on}
 use Rattle.mdconstructs_flow_read.proofs.Looks.ByteClasses.{no-line-feed}
 

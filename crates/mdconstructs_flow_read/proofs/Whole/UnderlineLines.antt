@@ -1,8 +1,7 @@
 -- A line that could be an underline, where no paragraph comes before it: unless it is a thematic break, a paragraph begins there.
 use Rattle.mdconstructs_flow_read.proofs.Prelude.{◌≡◌, ℕ, ◌==◌, ◌&&◌, nat_le, List, [], ◌∷◌, true, false, cond, Option, Some, ◌⊎◌, inl, inr, drop, refl, sym, ap, ◌∙◌, eqb-true, and_parts, Constructs, HeadingSetextUnderline, Retry, FlowBeforeContent, FlowBlankLineAfter, Seat, Byte, with_local, Configuration, sight, Given, Text, goes-called, Row, Rows, row, picked, step_of, table_step, is_white, blank_begins_line, flow_blank_line_after, mark_begins_line, FlowByte, blank, dash, equals, flow_byte, word_byte, line_feed, flow, unchanged, begins_with, unindented, underline, seen_kind}
-use Rattle.mdconstructs_flow_read.proofs.Lines.Checks.{called-row, class-here}
+use Rattle.mdconstructs_flow_read.proofs.Lines.{called-row, class-here, says}
 use Rattle.mdconstructs_flow_read.proofs.Whole.Told.{ToldTo, told-none}
-use Rattle.mdconstructs_flow_read.proofs.Lines.KindsOfLines.{says}
 
 -- the class of the first byte of such a line
 underline-class : (on : Constructs) (b : ℕ) (bs : List ℕ) → (b == 10) ≡ false → seen_kind on (b ∷ bs) ≡ underline → (flow_byte b ≡ blank) ⊎ ((flow_byte b ≡ equals) ⊎ (flow_byte b ≡ dash))
