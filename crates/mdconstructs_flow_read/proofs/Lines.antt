@@ -6,7 +6,7 @@ pub use Rattle.mdconstructs_flow_read.proofs.Lines.KindsOfLines.{IsPossible, fen
 pub use Rattle.mdconstructs_flow_read.proofs.Lines.Leading.{Leads, from-leads, read-leads, row-leads}
 pub use Rattle.mdconstructs_flow_read.proofs.Lines.LineCounts.{has-one-more, has-there, none-left, some-through, through-one-more, through-there, until-one-more, until-there}
 pub use Rattle.mdconstructs_flow_read.proofs.Lines.LineParts.{IsWhite, all-white, at-first, first-parts}
-pub use Rattle.mdconstructs_flow_read.proofs.Lines.LineReads.{IsAt, IsUnwritten, at-behind, behind-line, keeps-on, reads-end, reads-keeping, reads-nothing, reads-on, reads-parts, reads-run, unwritten, unwritten-keeps, unwritten-on}
+pub use Rattle.mdconstructs_flow_read.proofs.Lines.LineReads.{IsAt, IsUnwritten, at-behind, behind-line, keeps-on, reads-end, reads-keeping, reads-nothing, reads-on, reads-parts, unwritten, unwritten-keeps, unwritten-on}
 pub use Rattle.mdconstructs_flow_read.proofs.Lines.Lines.{EndsWithIt, EndsWithout, all-of-split, body-and-text, body-with-ending, cut-line, has-first, in-line-alone, in-line-behind, in-line-ending, in-line-front, in-line-text, line-ending-is, line-text-is, line-with-it, lines-behind, lines-dropped, lines-in-are, lines-taken, seats-split, taken-are-whole, text-in-line, whole-before}
 pub use Rattle.mdconstructs_flow_read.proofs.Lines.LinesRead.{AreRead, Fits, one-more}
 pub use Rattle.mdconstructs_flow_read.proofs.Lines.Rooms.{has-room}

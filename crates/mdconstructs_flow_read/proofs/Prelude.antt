@@ -3,15 +3,15 @@ pub use Rattle.std.proofs.Common.{Bool, List, None, Option, Some, [], ap, append
 pub use Rattle.std.proofs.Math.Bool.{and-false, and-true, or-false}
 pub use Rattle.std.proofs.Math.Nat.{mul-suc}
 pub use Rattle.std.proofs.Math.Seq.{drop-append-add, drop-append_seam, take-append_seam, take-length}
-pub use Rattle.std.proofs.lemmas.Bool.{and_from, and_parts, eq-eqb, eqb-true, le-leb, leb-false, leb-true, lt-leb, ltb-false, ltb-true, not-false, not-true, or_from, or_right}
+pub use Rattle.std.proofs.lemmas.Bool.{and_from, and_parts, eq-eqb, eqb-true, le-leb, leb-false, leb-true, lt-leb, ltb-false, ltb-true, not-false, not-true, or_from, or_right, and_right, cond_both}
 pub use Rattle.std.proofs.lemmas.Bool.Decides.{nat_tests}
 pub use Rattle.std.proofs.lemmas.Grind.{flat_map-append, reverse_onto}
-pub use Rattle.std.proofs.lemmas.List.{drop-drop, drop-map, drop_all, length-drop, length-map, length-reverse, length-take-le, map-append, reverse-append, reverse-reverse, take-append-drop}
+pub use Rattle.std.proofs.lemmas.List.{drop-drop, drop-map, drop_all, length-drop, length-map, length-reverse, length-take-le, map-append, reverse-append, reverse-reverse, take-append-drop, append_cancel_left, append_cancel_right}
 pub use Rattle.std.proofs.lemmas.List.Elements.{All-cons, All-contains, All-contains_itself, All-from_recursion, All-nil, recursion_from_All}
 pub use Rattle.std.proofs.lemmas.List.Folds.{length-prefix_len, list_all-append}
 pub use Rattle.std.proofs.lemmas.List.Kept.{AllPairs-cons}
 pub use Rattle.std.proofs.lemmas.List.Sums.{prefix_len-le-length}
-pub use Rattle.std.proofs.lemmas.Option.{none-some, same_Some, slice_get_within}
+pub use Rattle.std.proofs.lemmas.Option.{none-some, same_Some, slice_get_within, cond_some}
 pub use Rattle.std.specs.Char.{is_ascii_alphabetic, is_ascii_alphanumeric, is_ascii_digit, to_ascii_lowercase}
 pub use Rattle.std.specs.List.{AllByRecursion, flat_map, list_all, prefix_len}
 pub use Rattle.std.specs.Prelude.{AllPairs, Contains, codes, is_some, option_and_then, option_map, slice_get}
@@ -47,9 +47,9 @@ pub use Rattle.markdown_edits.specs.OpenNames.{names_after, names_after_all}
 pub use Rattle.markdown_edits.specs.Woven.{Tagged, as_listed, of_list, place_in, placed_end, woven}
 pub use Rattle.markdown_tokenizer.proofs.Inside.Made.{upto-upto}
 pub use Rattle.markdown_tokenizer.proofs.Positions.Chains.{IsChain, whole-chain}
-pub use Rattle.markdown_tokenizer.proofs.Positions.Order.{every-back, every-front}
+pub use Rattle.markdown_tokenizer.proofs.Positions.Order.{every-back, every-front, after-before}
 pub use Rattle.markdown_tokenizer.proofs.Positions.SeatLaws.{after-is-point}
-pub use Rattle.markdown_tokenizer.proofs.Positions.Standing.{chain-at, chain-upto}
+pub use Rattle.markdown_tokenizer.proofs.Positions.Standing.{chain-at, chain-upto, place-after, place-of-point, rest-after, shown-shown}
 pub use Rattle.markdown_tokenizer.proofs.Readings.Bounds.{called-ends, fed-ends, one-end, settled-nok-ends, settled-ok-ends}
 pub use Rattle.markdown_tokenizer.specs.Calls.{check_at, consumed, entered, exited, linked, with_local, with_resolvers}
 pub use Rattle.markdown_tokenizer.specs.Configuration.{Choice, Configuration, Local, Step, start_configuration}
@@ -57,12 +57,12 @@ pub use Rattle.markdown_tokenizer.specs.Engine.{IsWellFormed}
 pub use Rattle.markdown_tokenizer.specs.Reading.{EndsIn, Reading, fed, restored}
 pub use Rattle.markdown_tokenizer.specs.Resolving.{IsResolved, done, edits_made, found, resolved_by, taken}
 pub use Rattle.markdown_tokenizer.specs.Sight.{Sight, byte_of, current_of, end_or, end_place, next_place, point_of, point_or, seat_before, sight, sight_in}
-pub use Rattle.markdown_tokenizer.specs.Text.{CanFollow, FitsAfter, Given, IsDocument, IsText, Piece, Text, empty_text, followed_by, followed_by_all, passed, pushed}
+pub use Rattle.markdown_tokenizer.specs.Text.{CanFollow, FitsAfter, Given, IsDocument, IsText, Piece, Text, empty_text, followed_by, followed_by_all, passed, pushed, in_range}
 pub use Rattle.markdown_tokenizer.specs.declared.subtokenize.Subresult.{Subresult}
 pub use Rattle.markdown_tokenizer.specs.declared.waiting.AttemptKind.TheVariants.{Check}
 pub use Rattle.markdown_tokenizer.specs.declared.waiting.Waits.{Waits}
 pub use Rattle.markdown_tokenizer.specs.declared.waiting.Waits.TheVariants.{Byte, End, Nothing}
-pub use Rattle.mdconstructs_flow.proofs.TagNames.{block-told, raw-told}
+pub use Rattle.mdconstructs_flow.proofs.TagNames.{block-told, raw-told, letter-is}
 pub use Rattle.mdconstructs_flow.specs.CodeFenced.{fence_ends, flow_before_raw_rows, raw_flow_after_rows, raw_flow_after_sequence_close_rows, raw_flow_at_non_lazy_break, raw_flow_at_non_lazy_break_rows, raw_flow_before_content_chunk_rows, raw_flow_before_sequence_close_rows, raw_flow_close_before_rows, raw_flow_close_between_rows, raw_flow_close_sequence_rows, raw_flow_close_start_rows, raw_flow_content_before_rows, raw_flow_content_start_rows, raw_flow_info_before_rows, raw_flow_info_rows, raw_flow_look_info_rows, raw_flow_meta_before_rows, raw_flow_sequence_close_rows, raw_flow_sequence_open_rows, raw_flow_start_rows}
 pub use Rattle.mdconstructs_flow.specs.CodeIndented.{code_indented_inside}
 pub use Rattle.mdconstructs_flow.specs.Flow.{blank_begins_line, content_definition_before, flow_after, flow_blank_line_after, flow_blank_line_after_rows, flow_start, flow_start_rows, mark_begins_line}
@@ -112,10 +112,12 @@ pub use Rattle.mdconstructs_tables.proofs.Cases.{at-byte}
 pub use Rattle.mdconstructs_tables.proofs.Looks.Deep.{Leads, Leads as LeadsIn}
 pub use Rattle.mdconstructs_tables.proofs.Looks.Left.{at-front, past-end}
 pub use Rattle.mdconstructs_tables.proofs.Looks.Scans.{feeds, goes-called, scan-goes, sees}
-pub use Rattle.mdconstructs_tables.proofs.Looks.Stretches.{stretches-are-read}
+pub use Rattle.mdconstructs_tables.proofs.Looks.Stretches.{stretches-are-read, sees-at}
 pub use Rattle.mdconstructs_tables.proofs.Looks.Tests.{told, told_by}
 pub use Rattle.mdconstructs_tables.specs.Cases.{AreTestsOf, Case, at, rows_at_byte, rows_in}
 pub use Rattle.mdconstructs_tables.specs.Chunks.{chunk_before, connected, is_connected, last_event}
 pub use Rattle.mdconstructs_tables.specs.Looks.{Glance, Look, behind_byte, by_row, first_byte, glance, goes_on, held, is_over, looked, looked_on, one_more as one_call, scan, shows, uncalled, unfed_look, waits_at}
 pub use Rattle.mdconstructs_tables.specs.Rows.{Act, Row, Rows, StateRows, Table, choose, chooses, class_of, consume, does, enter, enter_link, enter_noted, enters, exit, exit_noted, links, note, named, past, picked, row, step_at, step_of, table_step, when, write, writes}
 pub use Rattle.mdconstructs_tables.specs.Stretches.{Halt, ahead, fed_before, halt, one_call_more, over, reads_byte, row_comes_to, sight_before, stretch, stretch_from, to_come}
+pub use Rattle.markdown_base.proofs.Facts.Bools.{cond-and, cond-itself, cond-same}
+pub use Rattle.markdown_base.proofs.Facts.Numbers.{eq-flip, unlike}

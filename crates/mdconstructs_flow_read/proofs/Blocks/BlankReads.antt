@@ -1,19 +1,8 @@
 -- Blank lines are read as their definition says.
-use Rattle.mdconstructs_flow_read.proofs.Prelude.{◌≡◌, ◌≤◌, List, [], ◌∷◌, ◌++◌, None, length, refl, sym, ap, ◌∙◌, subst, arith, append_assoc, append-nil, AllByRecursion, Enter, Exit, BlankLineEnding, SpaceOrTab, Point, Next, Retry, Ok, BlankLineStart, FlowBlankLineAfter, FlowStart, Seat, end_after, Configuration, end_place, Given, Text, enter, exit, consume, all_of, line_text, event, blank, line_feed, flow_byte, BlankLinesAreRead, IsReadAs, KeepsEdits, bytes_of, text_of, Mark, leaf_marks, white, is_blank_line}
-use Rattle.mdconstructs_flow_read.proofs.Lines.{IsAt, IsUnwritten, IsWhite, all-white, at-first, counted, in-line-ending, in-line-text, keeps-on, line-ending-is, line-text-is, reads-keeping, reads-on, reads-run, row-stays, row-takes, row-takes-on, says, unwritten-keeps, white-is-blank}
+use Rattle.mdconstructs_flow_read.proofs.Prelude.{List, None, [], ap, append-nil, arith, length, refl, subst, sym, ◌++◌, ◌∙◌, ◌∷◌, ◌≡◌, ◌≤◌, AllByRecursion, Seat, end_after, Enter, Exit, BlankLineEnding, SpaceOrTab, Point, Next, Ok, BlankLineStart, FlowBlankLineAfter, FlowStart, Configuration, end_place, Given, Text, blank, flow_byte, line_feed, BlankLinesAreRead, IsReadAs, KeepsEdits, bytes_of, text_of, Mark, leaf_marks, white, is_blank_line, is_white, all_of, line_text, event, consume, enter, exit}
+use Rattle.mdconstructs_flow_read.proofs.Lines.{byte-then, edits_kept, run-on, white-runs, IsAt, IsWhite, all-white, at-first, in-line-ending, in-line-text, keeps-on, line-ending-is, line-text-is, reads-on, row-stays, row-takes, row-takes-on, says, white-is-blank}
 
 module _ (g : Given) (t : Text) where
-  -- the first byte of white space
-  begins : (k : Configuration Unit Unit) (p : Point) (s : Seat) (rest : List Seat) → IsWhite s → k.local.tokenize_state.token_1 ≡ BlankLineEnding → IsAt t k p (s ∷ rest)
-      → IsReadAs g t KeepsEdits k FlowBlankLineAfter (s ∷ []) rest ((event g.bytes Enter SpaceOrTab s.point, None) ∷ []) (Retry BlankLineStart)
-  begins k p s rest white kind at =
-      row-takes-on g t KeepsEdits k FlowBlankLineAfter p s rest blank (enter SpaceOrTab ∷ consume ∷ []) BlankLineStart at (white-is-blank s.byte white) (rw kind refl) tt refl (record { edits = refl; resolvers = refl })
-
-  -- the others
-  goes-on : (k : Configuration Unit Unit) (p : Point) (s : Seat) (rest : List Seat) → IsWhite s → IsAt t k p (s ∷ rest) → IsReadAs g t IsUnwritten k BlankLineStart (s ∷ []) rest [] (Retry BlankLineStart)
-  goes-on k p s rest white at =
-      row-takes-on g t IsUnwritten k BlankLineStart p s rest blank (consume ∷ []) BlankLineStart at (white-is-blank s.byte white) refl tt refl (record { calls = (counted k).local.tokenize_state.size; is = refl })
-
   -- the line ending, or the end of the text
   abbrev closing : Point → Seat → List Mark
   closing p e = (event g.bytes Exit SpaceOrTab p, None) ∷ (event g.bytes Enter BlankLineEnding e.point, None) ∷ (event g.bytes Exit BlankLineEnding e.end, None) ∷ []
@@ -31,14 +20,11 @@ module _ (g : Given) (t : Text) where
       → ((k' : Configuration Unit Unit) → IsAt t k' (end_after s.end ss) (more ++ rest) → IsReadAs g t KeepsEdits k' BlankLineStart more rest marks to)
       → IsReadAs g t KeepsEdits k FlowBlankLineAfter (s ∷ (ss ++ more)) rest ((event g.bytes Enter SpaceOrTab s.point, None) ∷ marks) to
   white-read k p s ss more rest marks to all kind at behind =
-      reads-on g t KeepsEdits KeepsEdits KeepsEdits keeps-on k p FlowBlankLineAfter BlankLineStart (s ∷ []) (ss ++ more) rest ((event g.bytes Enter SpaceOrTab s.point, None) ∷ []) marks to
-      (subst (λ l. IsAt t k p (s ∷ l)) (sym (append_assoc ss more rest)) at)
-      (begins k p s ((ss ++ more) ++ rest) all.0 kind (subst (λ l. IsAt t k p (s ∷ l)) (sym (append_assoc ss more rest)) at))
-      (λ k' at' kept.
-      let here = subst (λ l. IsAt t k' s.end l) (append_assoc ss more rest) at' in
-      reads-on g t KeepsEdits KeepsEdits KeepsEdits keeps-on k' s.end BlankLineStart BlankLineStart ss more rest [] marks to here
-      (reads-keeping g t IsUnwritten KeepsEdits unwritten-keeps k' BlankLineStart ss (more ++ rest) [] (Retry BlankLineStart) (reads-run g t IsWhite BlankLineStart goes-on ss all.1 k' s.end (more ++ rest) here))
-      (λ k'' at'' kept'. behind k'' at''))
+      reads-on g t KeepsEdits KeepsEdits KeepsEdits keeps-on k p FlowBlankLineAfter BlankLineStart (s ∷ ss) more rest ((event g.bytes Enter SpaceOrTab s.point, None) ∷ []) marks to at
+      (byte-then g t edits_kept k p FlowBlankLineAfter BlankLineStart BlankLineStart s ss (more ++ rest) ((event g.bytes Enter SpaceOrTab s.point, None) ∷ []) [] at
+      (row-takes-on g t KeepsEdits k FlowBlankLineAfter p s (ss ++ (more ++ rest)) blank (enter SpaceOrTab ∷ consume ∷ []) BlankLineStart at (white-is-blank s.byte all.0) (rw kind refl) tt refl (edits_kept.same k.local))
+      (λ k' at' kept. run-on g t edits_kept BlankLineStart is_white (white-runs BlankLineStart (λ b. refl)) ss (more ++ rest) all.1 k' s.end at'))
+      (λ k' at' kept. behind k' at')
 
   with-ending : (k : Configuration Unit Unit) (p : Point) (text : List Seat) (e : Seat) (rest : List Seat) → 1 ≤ length text → AllByRecursion IsWhite text → e.byte ≡ 10 → k.local.tokenize_state.token_1 ≡ BlankLineEnding
       → IsAt t k p (text ++ (e ∷ rest)) → IsReadAs g t KeepsEdits k FlowBlankLineAfter (text ++ e ∷ []) rest (white g.bytes text ++ leaf_marks g.bytes BlankLineEnding (e ∷ [])) (Next FlowStart)

@@ -1,7 +1,5 @@
 -- The look at the next line of fenced code finds whether it is the closing fence.
-use Rattle.markdown_base.proofs.Facts.Bools.{cond-itself, cond-same}
-use Rattle.mdconstructs_flow_read.proofs.Prelude.{Bool, List, Option, Some, [], ap, arith, cond, drop, false, inl, inr, length, nat_le, nat_lt, not, refl, subst, suc, sym, true, ℕ, ◌&&◌, ◌++◌, ◌+◌, ◌-◌, ◌<◌, ◌==◌, ◌^◌, ◌||◌, ◌∙◌, ◌∷◌, ◌≡◌, ◌≤◌, ◌⊎◌, eqb-true, le-leb, leb-true, ltb-false, ltb-true, drop-next, Seat, Event, EventName, Name, Next, Nok, Ok, RawFlowAfterSequenceClose, RawFlowBeforeSequenceClose, RawFlowCloseStart, RawFlowSequenceClose, Configuration, Local, Sight, byte_of, sight, Given, Text, raw_flow_after_sequence_close_rows, raw_flow_before_sequence_close_rows, raw_flow_close_start_rows, raw_flow_sequence_close_rows, flow_byte, is_blank, is_fence, is_line_feed, flow, unchanged, at_mark, count_becomes, count_grows, is_as_long, is_byte, may_be_indented, bytes_of, Fence, closes, indent, is_blank_line, run, unindented, IsInLine, LineEnds, is_white, one_more, at-front, told, told_by, rows_in, Look, scan, shows, unfed_look, Rows, consume, picked, row, when, write}
-use Rattle.std.proofs.Math.Bool.{and-true, and-false}
+use Rattle.mdconstructs_flow_read.proofs.Prelude.{Bool, List, Option, Some, [], ap, arith, cond, drop, false, inl, inr, length, nat_le, nat_lt, not, refl, subst, suc, sym, true, ℕ, ◌&&◌, ◌++◌, ◌+◌, ◌-◌, ◌<◌, ◌==◌, ◌^◌, ◌||◌, ◌∙◌, ◌∷◌, ◌≡◌, ◌≤◌, ◌⊎◌, eqb-true, le-leb, leb-true, ltb-false, ltb-true, drop-next, Seat, Event, EventName, Name, Next, Nok, Ok, RawFlowAfterSequenceClose, RawFlowBeforeSequenceClose, RawFlowCloseStart, RawFlowSequenceClose, Configuration, Local, Sight, byte_of, sight, Given, Text, raw_flow_after_sequence_close_rows, raw_flow_before_sequence_close_rows, raw_flow_close_start_rows, raw_flow_sequence_close_rows, flow_byte, is_blank, is_fence, is_line_feed, flow, unchanged, at_mark, count_becomes, count_grows, is_as_long, is_byte, may_be_indented, bytes_of, Fence, closes, indent, is_blank_line, run, unindented, IsInLine, LineEnds, is_white, one_more, at-front, told, told_by, rows_in, Look, scan, shows, unfed_look, Rows, consume, picked, row, when, write, cond-itself, cond-same, and-true, and-false}
 use Rattle.mdconstructs_flow_read.proofs.Fenced.Steps.{IsMark, IsOfFence, KeepsFence, feed-class, mark-class, word-class}
 use Rattle.mdconstructs_flow_read.proofs.Lines.RowReads.{white-is-blank}
 use Rattle.mdconstructs_flow_read.proofs.Looks.ByteClasses.{no-line-feed}

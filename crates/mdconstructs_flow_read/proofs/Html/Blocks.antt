@@ -1,5 +1,5 @@
 -- HTML is read line by line, from its first line on.
-use Rattle.mdconstructs_flow_read.proofs.Prelude.{Bool, List, [], ap, append-nil, append_assoc, cond, drop, false, inl, inr, nat_le, refl, subst, suc, sym, take, true, ℕ, ◌++◌, ◌∙◌, ◌∷◌, ◌≡◌, Seat, end_after, HtmlFlow, HtmlFlowData, LineEnding, Point, Name, State, Retry, FlowAfter, HtmlFlowContinuationBefore, Given, Text, flow_byte, is_blank, is_line_feed, AreLines, IsReadAs, Line, bytes_of, text_of, Mark, leaf_marks, line_end, lines_marks, IsInLine, all_of, ending_of, line_text}
+use Rattle.mdconstructs_flow_read.proofs.Prelude.{Bool, List, [], ap, append-nil, append_assoc, cond, drop, false, inl, inr, nat_le, refl, subst, suc, sym, take, true, ℕ, ◌++◌, ◌∙◌, ◌∷◌, ◌≡◌, Seat, end_after, HtmlFlow, HtmlFlowData, LineEnding, Point, Name, State, Retry, FlowAfter, HtmlFlowContinuationBefore, Given, Text, flow_byte, is_blank, is_line_feed, AreLines, IsReadAs, Line, bytes_of, text_of, Mark, leaf_marks, line_end, IsInLine, all_of, ending_of, line_text}
 use Rattle.mdconstructs_flow_read.proofs.Html.Checks.{blank_ahead}
 use Rattle.mdconstructs_flow_read.proofs.Html.Places.{inside, is_closed, through}
 use Rattle.mdconstructs_flow_read.proofs.Html.Reads.{BeginsAt, bare-line-read, before-begins, ends_here, enters, feed_in, goes-on, no-line-read, out, over_line, stops-at-end, stops-at-feed}
@@ -31,9 +31,6 @@ module _ (kind : ℕ) where
   ]
 
 module _ (g : Given) (t : Text) where
-  abbrev inner : Bool → List Line → List Mark
-  inner is_open lines = lines_marks g.bytes (leaf_marks g.bytes HtmlFlowData) is_open lines
-
   abbrev pub ends : Point → List Mark
   ends p = leaves g (HtmlFlow ∷ []) p
 

@@ -1,6 +1,5 @@
 -- How many lines HTML has, as its definition says.
-use Rattle.markdown_base.proofs.Facts.Bools.{cond-and}
-use Rattle.mdconstructs_flow_read.proofs.Prelude.{◌≡◌, ℕ, suc, ◌+◌, List, [], ◌∷◌, ◌++◌, true, false, cond, not, refl, sym, ap, ◌∙◌, arith, nat_le, append_assoc, Seat, is_white, all_of, ending_of, line_text, flow_byte, is_blank, is_line_feed, AreLines, Line, bytes_of, has_line, lines_through, lines_until, text_of, is_blank_line, IsInLine, LineEnds}
+use Rattle.mdconstructs_flow_read.proofs.Prelude.{◌≡◌, ℕ, suc, ◌+◌, List, [], ◌∷◌, ◌++◌, true, false, cond, not, refl, sym, ap, ◌∙◌, arith, nat_le, append_assoc, Seat, is_white, all_of, ending_of, line_text, flow_byte, is_blank, is_line_feed, AreLines, Line, bytes_of, has_line, lines_through, lines_until, text_of, is_blank_line, IsInLine, LineEnds, cond-and}
 use Rattle.mdconstructs_flow_read.proofs.Tags.HtmlNumbers.{ends_html}
 use Rattle.mdconstructs_flow_read.proofs.Html.Blocks.{count, is_last, stays_open}
 use Rattle.mdconstructs_flow_read.proofs.Html.Checks.{blank_ahead}

@@ -1,12 +1,12 @@
 -- The first line of HTML: white space, which is data of its own, and the rest; and so HTML is read.
-use Rattle.mdconstructs_flow_read.proofs.Prelude.{Bool, List, None, [], ap, append-nil, append_assoc, cond, false, inl, inr, length, nat_le, refl, subst, sym, true, ℕ, ◌++◌, ◌∙◌, ◌∷◌, ◌≡◌, AllByRecursion, Seat, Enter, HtmlFlow, HtmlFlowData, Point, Retry, FlowBlankLineAfter, HtmlFlowStart, Local, Given, Text, blank, AreLines, IsLine, IsReadAs, behind_block, block_seats, Line, bytes_of, text_of, Mark, body, indent, unindented, IsInLine, is_white, all_of, ending_of, line_text, event, consume, enter}
+use Rattle.mdconstructs_flow_read.proofs.Prelude.{Bool, List, None, [], ap, append-nil, append_assoc, cond, false, inl, inr, length, nat_le, refl, subst, sym, true, ℕ, ◌++◌, ◌∙◌, ◌∷◌, ◌≡◌, AllByRecursion, Seat, Enter, HtmlFlow, HtmlFlowData, Point, Retry, FlowBlankLineAfter, HtmlFlowStart, Given, Text, blank, AreLines, IsLine, IsReadAs, behind_block, block_seats, Line, bytes_of, text_of, Mark, body, indent, unindented, IsInLine, is_white, all_of, ending_of, line_text, event, consume, enter}
 use Rattle.mdconstructs_flow_read.proofs.Tags.HtmlNumbers.{html_at}
-use Rattle.mdconstructs_flow_read.proofs.Lines.{IsAt, IsUnwritten, IsWhite, back, counted, cut-line, drop-bytes, front, front-all, front-back, in-line-behind, in-line-ending, in-line-text, prefix-front, reads-keeping, reads-on, reads-run, row-takes-on, text-in-line, white-is-blank}
+use Rattle.mdconstructs_flow_read.proofs.Lines.{byte-then, run-on, white-runs, IsAt, IsWhite, back, cut-line, drop-bytes, front, front-all, front-back, in-line-behind, in-line-ending, in-line-text, prefix-front, row-takes-on, text-in-line, white-is-blank}
 use Rattle.mdconstructs_flow_read.proofs.Html.Blocks.{is_last}
 use Rattle.mdconstructs_flow_read.proofs.Html.Checks.{blank_ahead}
 use Rattle.mdconstructs_flow_read.proofs.Html.Ends.{html-begins}
 use Rattle.mdconstructs_flow_read.proofs.Html.Places.{from_inside, inside, is_closed, through}
-use Rattle.mdconstructs_flow_read.proofs.Html.Steps.{Config, Kept, kept-on}
+use Rattle.mdconstructs_flow_read.proofs.Html.Steps.{Config, Kept, html_kept}
 use Rattle.mdconstructs_flow_read.proofs.Lines.Lines.{whole-text, whole-ending}
 
 -- ---- the parts of the line
@@ -109,26 +109,15 @@ module _ (line : Line) (more : List Line) (are : AreLines (line ∷ more)) (f : 
       ap (λ p. cond (nat_le 6 kind) (blank_ahead (all_of more)) (is_closed p)) same
 
 -- ---- what is read
-unwritten-kept : (before after : Local Unit Unit) → IsUnwritten before after → Kept before after
-unwritten-kept before after h = record { edits = ap (λ (l : Local Unit Unit). l.map) h.is; resolvers = ap (λ (l : Local Unit Unit). l.resolvers) h.is; kind = ap (λ (l : Local Unit Unit). l.tokenize_state.marker_b) h.is }
-
 -- what begins there
 abbrev pub white_marks : Given → Seat → List Mark
 white_marks g s = (event g.bytes Enter HtmlFlow s.point, None) ∷ (event g.bytes Enter HtmlFlowData s.point, None) ∷ []
 
 module _ (g : Given) (t : Text) where
   -- white space before HTML
-  white-begins-it : (k : Config) (p : Point) (s : Seat) (rest : List Seat) → IsWhite s → k.local.tokenize_state.token_1 ≡ HtmlFlow → IsAt t k p (s ∷ rest)
-      → IsReadAs g t Kept k FlowBlankLineAfter (s ∷ []) rest (white_marks g s) (Retry HtmlFlowStart)
-  white-begins-it k p s rest white kind at =
-      row-takes-on g t Kept k FlowBlankLineAfter p s rest blank (enter HtmlFlow ∷ enter HtmlFlowData ∷ consume ∷ []) HtmlFlowStart at (white-is-blank s.byte white) (rw kind refl) tt refl (record { edits = refl; resolvers = refl; kind = refl })
-
-  white-goes-on : (k : Config) (p : Point) (s : Seat) (rest : List Seat) → IsWhite s → IsAt t k p (s ∷ rest) → IsReadAs g t IsUnwritten k HtmlFlowStart (s ∷ []) rest [] (Retry HtmlFlowStart)
-  white-goes-on k p s rest white at =
-      row-takes-on g t IsUnwritten k HtmlFlowStart p s rest blank (consume ∷ []) HtmlFlowStart at (white-is-blank s.byte white) refl tt refl (record { calls = (counted k).local.tokenize_state.size; is = refl })
-
   pub white-read : (k : Config) (p : Point) (s : Seat) (ss rest : List Seat) → AllByRecursion IsWhite (s ∷ ss) → k.local.tokenize_state.token_1 ≡ HtmlFlow → IsAt t k p ((s ∷ ss) ++ rest)
       → IsReadAs g t Kept k FlowBlankLineAfter (s ∷ ss) rest (white_marks g s) (Retry HtmlFlowStart)
   white-read k p s ss rest all kind at =
-      reads-on g t Kept Kept Kept kept-on k p FlowBlankLineAfter HtmlFlowStart (s ∷ []) ss rest (white_marks g s) [] (Retry HtmlFlowStart) at (white-begins-it k p s (ss ++ rest) all.0 kind at)
-      (λ k' at' kept. reads-keeping g t IsUnwritten Kept unwritten-kept k' HtmlFlowStart ss rest [] (Retry HtmlFlowStart) (reads-run g t IsWhite HtmlFlowStart white-goes-on ss all.1 k' s.end rest at'))
+      byte-then g t html_kept k p FlowBlankLineAfter HtmlFlowStart HtmlFlowStart s ss rest (white_marks g s) [] at
+      (row-takes-on g t Kept k FlowBlankLineAfter p s (ss ++ rest) blank (enter HtmlFlow ∷ enter HtmlFlowData ∷ consume ∷ []) HtmlFlowStart at (white-is-blank s.byte all.0) (rw kind refl) tt refl (html_kept.same k.local))
+      (λ k' at' kept. run-on g t html_kept HtmlFlowStart is_white (white-runs HtmlFlowStart (λ b. refl)) ss rest all.1 k' s.end at')

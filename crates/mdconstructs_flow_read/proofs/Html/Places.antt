@@ -1,6 +1,5 @@
 -- Where HTML of kinds 1 to 5 is in a line, by its bytes so far; and that a line is behind the end exactly if it holds the end.
-use Rattle.markdown_base.proofs.Facts.Numbers.{eq-flip}
-use Rattle.mdconstructs_flow_read.proofs.Prelude.{◌≡◌, ℕ, ◌==◌, ◌||◌, ◌&&◌, List, [], ◌∷◌, Bool, true, false, cond, Option, Some, None, refl, sym, ap, ◌∙◌, is_ascii_alphabetic, eqb-true, html_raw_names, FlowByte, less, flow_byte, is_less, is_greater, is_slash, is_dash, is_question, is_closing, name_byte, is_number_in, no_name, one_byte_more, holds, starts_with}
+use Rattle.mdconstructs_flow_read.proofs.Prelude.{◌≡◌, ℕ, ◌==◌, ◌||◌, ◌&&◌, List, [], ◌∷◌, Bool, true, false, cond, Option, Some, None, refl, sym, ap, ◌∙◌, is_ascii_alphabetic, eqb-true, html_raw_names, FlowByte, less, flow_byte, is_less, is_greater, is_slash, is_dash, is_question, is_closing, name_byte, is_number_in, no_name, one_byte_more, holds, starts_with, eq-flip}
 use Rattle.mdconstructs_flow_read.proofs.Looks.ByteClasses.{dash-is, greater-is, question-is, closing-is}
 
 -- in the line; behind a dash or a bracket; where only a greater-than sign is missing; behind a less-than sign; in the name of a closing tag,

@@ -1,8 +1,5 @@
 -- HTML of kind 1 is behind its end exactly if its line holds the closing tag of a listed name.
-use Rattle.markdown_base.proofs.Facts.Numbers.{eq-flip, unlike}
-use Rattle.mdconstructs_flow_read.proofs.Prelude.{◌≡◌, inl, inr, ℕ, ◌==◌, ◌||◌, ◌&&◌, List, [], ◌∷◌, ◌++◌, Bool, true, false, cond, map, Some, None, refl, sym, ap, ◌∙◌, subst, arith, is_ascii_alphabetic, is_ascii_alphanumeric, list_all, codes, and_parts, eqb-true, eq-eqb, or_right, nat_tests, html_raw_names, FlowByte, flow_byte, is_less, less, IsListed, is_number_in, is_tag_name, no_name, number_behind, number_of, one_byte_more, raw-told, holds, lower, starts_with}
-use Rattle.std.proofs.lemmas.Bool.{and_right}
-use Rattle.std.proofs.Math.Bool.{or-false}
+use Rattle.mdconstructs_flow_read.proofs.Prelude.{◌≡◌, inl, inr, ℕ, ◌==◌, ◌||◌, ◌&&◌, List, [], ◌∷◌, ◌++◌, Bool, true, false, cond, map, Some, None, refl, sym, ap, ◌∙◌, subst, arith, is_ascii_alphabetic, is_ascii_alphanumeric, list_all, codes, and_parts, eqb-true, eq-eqb, or_right, nat_tests, html_raw_names, FlowByte, flow_byte, is_less, less, IsListed, is_number_in, is_tag_name, no_name, number_behind, number_of, one_byte_more, raw-told, holds, lower, starts_with, eq-flip, unlike, or-false, and_right}
 use Rattle.mdconstructs_flow_read.proofs.Tags.HtmlNumbers.{ends_html}
 use Rattle.mdconstructs_flow_read.proofs.Looks.ByteClasses.{greater-is, less-is, name-byte-is, slash-is}
 use Rattle.mdconstructs_flow_read.proofs.Html.Places.{Place, inside, opened, named, closed, from_inside, from_name, is_closed, moved, raw_more, stays-closed, through}

@@ -1,7 +1,5 @@
 -- A line in parts: its bytes before the line ending, and the line ending.
-use Rattle.mdconstructs_flow_read.proofs.Prelude.{◌≡◌, List, [], ◌∷◌, ◌++◌, true, false, refl, sym, ap, ◌∙◌, subst, append_assoc, inl, inr, and_parts, AllByRecursion, Seat, Configuration, end_place, Text, waits_at, is_white, flow_byte, is_blank, all_of, ending_of, line_text, AreLines, IsAtLines, Line, bytes_of, is_blank_line, IsInLine, LineEnds}
-use Rattle.mdconstructs_flow_read.proofs.Looks.ByteClasses.{blank-is}
-use Rattle.mdconstructs_flow_read.proofs.Lines.Fronts.{Fails}
+use Rattle.mdconstructs_flow_read.proofs.Prelude.{List, [], ap, append_assoc, inl, inr, refl, subst, sym, true, ◌++◌, ◌∙◌, ◌∷◌, ◌≡◌, and_parts, AllByRecursion, Seat, Configuration, end_place, Text, AreLines, IsAtLines, Line, bytes_of, is_blank_line, IsInLine, LineEnds, is_white, all_of, ending_of, line_text, waits_at}
 use Rattle.mdconstructs_flow_read.proofs.Lines.LineReads.{IsAt}
 use Rattle.mdconstructs_flow_read.proofs.Lines.Lines.{cut-line, text-in-line}
 
@@ -12,16 +10,6 @@ IsWhite s = is_white s.byte ≡ true
 pub all-white : (l : List Seat) → is_blank_line (bytes_of l) ≡ true → AllByRecursion IsWhite l
 all-white [] h = tt
 all-white (s ∷ ss) h = let (one, more) = and_parts (is_white s.byte) (is_blank_line (bytes_of ss)) h in (one, all-white ss more)
-
--- the next byte, if there is one, is no white space
-abbrev pub NoBlank : List Seat → Type 0
-NoBlank [] = Unit {0}
-NoBlank (s ∷ ss) = is_blank (flow_byte s.byte) ≡ false
-
-pub no-blank : (l rest : List Seat) → Fails is_white l → LineEnds rest → NoBlank (l ++ rest)
-no-blank [] [] h ends = tt
-no-blank [] (s ∷ ss) h ends = ap (λ b. is_blank (flow_byte b)) ends
-no-blank (s ∷ ss) rest h ends = blank-is s.byte ∙ h
 
 -- ---- the line ending
 -- a line before other lines, apart from its line ending

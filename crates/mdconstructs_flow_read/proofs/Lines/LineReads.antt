@@ -1,5 +1,5 @@
 -- How blocks are read along a line: where reading stands, what it goes on from, and how what is read in parts is read as a whole.
-use Rattle.mdconstructs_flow_read.proofs.Prelude.{◌≡◌, ℕ, suc, ◌+◌, List, [], ◌∷◌, ◌++◌, Bool, true, false, cond, Some, length, refl, sym, ap, ◌∙◌, subst, arith, append_assoc, append-nil, length-append, drop, lt-ltb, le-ltb, slice_get_within, AllByRecursion, drop-next, Point, Name, State, Next, Retry, Seat, end_after, Byte, End, Configuration, Local, EndsIn, fed, end_or, end_place, seat_before, Given, Text, fed-ends, at-front, past-end, waits_at, table_step, flow, IsReadAs, KeepsEdits, Mark}
+use Rattle.mdconstructs_flow_read.proofs.Prelude.{Bool, List, Some, [], ap, append-nil, append_assoc, arith, cond, drop, false, le-ltb, length, length-append, lt-ltb, refl, subst, suc, sym, true, ℕ, ◌++◌, ◌+◌, ◌∙◌, ◌∷◌, ◌≡◌, slice_get_within, drop-next, Seat, end_after, Point, Name, State, Next, Retry, fed-ends, Configuration, Local, EndsIn, fed, end_or, end_place, seat_before, Given, Text, Byte, End, flow, IsReadAs, KeepsEdits, Mark, at-front, past-end, waits_at, table_step}
 use Rattle.mdconstructs_flow_read.proofs.Marks.MarkLists.{marked-on}
 
 -- Where reading stands: the place behind the byte before, and what is left, whose first byte waits, or the end
@@ -138,16 +138,6 @@ module _ (g : Given) (t : Text) where
             r.leads choices before z (r'.leads choices (before + r.calls) z (subst (λ n. EndsIn g (table_step flow g) t n r'.after choices to z) e h));
       }
 
-  -- virtual bytes that are read one by one in the same state
-  pub reads-run : (IsOne : Seat → Type 0) (name : Name)
-      → ((k : Configuration Unit Unit) (p : Point) (s : Seat) (rest : List Seat) → IsOne s → IsAt t k p (s ∷ rest) → IsReadAs g t IsUnwritten k name (s ∷ []) rest [] (Retry name))
-      → (run : List Seat) → AllByRecursion IsOne run → (k : Configuration Unit Unit) (p : Point) (rest : List Seat) → IsAt t k p (run ++ rest)
-      → IsReadAs g t IsUnwritten k name run rest [] (Retry name)
-  reads-run IsOne name one [] all k p rest at = reads-nothing IsUnwritten k name rest at.waits (unwritten k.local)
-  reads-run IsOne name one (s ∷ ss) all k p rest at =
-      reads-on IsUnwritten IsUnwritten IsUnwritten unwritten-on k p name name (s ∷ []) ss rest [] [] (Retry name) at (one k p s (ss ++ rest) all.0 at)
-      (λ k' at' kept. reads-run IsOne name one ss all.1 k' s.end rest at')
-
   -- a part, and a state behind it that reads no more
   pub reads-end : (one two both : (before after : Local Unit Unit) → Type 0) → ((a b c : Local Unit Unit) → one a b → two b c → both a c)
       → (k : Configuration Unit Unit) (p : Point) (name mid : Name) (line rest : List Seat) (marks marks' : List Mark) (to : State) → IsAt t k p (line ++ rest)
@@ -157,15 +147,6 @@ module _ (g : Given) (t : Text) where
   reads-end one two both joined k p name mid line rest marks marks' to at r behind =
       subst (λ l. IsReadAs g t both k name l rest (marks ++ marks') to) (append-nil line)
       (reads-on one two both joined k p name mid line [] rest marks marks' to at r behind)
-
-  -- bytes that are read one by one in the same state, up to where another one follows
-  pub reads-run-end : (IsOne : Seat → Type 0) (name : Name)
-      → ((k : Configuration Unit Unit) (p : Point) (s : Seat) (rest : List Seat) → IsOne s → IsAt t k p (s ∷ rest) → IsReadAs g t IsUnwritten k name (s ∷ []) rest [] (Retry name))
-      → (run : List Seat) → AllByRecursion IsOne run → (k : Configuration Unit Unit) (p : Point) (rest : List Seat) (marks : List Mark) (to : State) → IsAt t k p (run ++ rest)
-      → ((k' : Configuration Unit Unit) → IsAt t k' (end_after p run) rest → IsReadAs g t IsUnwritten k' name [] rest marks to)
-      → IsReadAs g t IsUnwritten k name run rest marks to
-  reads-run-end IsOne name one run all k p rest marks to at last =
-      reads-end IsUnwritten IsUnwritten IsUnwritten unwritten-on k p name name run rest [] marks to at (reads-run IsOne name one run all k p rest at) (λ k' at' kept. last k' at')
 
   -- two parts, of virtual bytes that are so split
   pub reads-parts : (one two both : (before after : Local Unit Unit) → Type 0) → ((a b c : Local Unit Unit) → one a b → two b c → both a c)

@@ -1,9 +1,9 @@
 -- The look at the marks of a thematic break.
-use Rattle.mdconstructs_flow_read.proofs.Prelude.{◌≡◌, ◌<◌, ℕ, suc, ◌+◌, ◌-◌, ◌^◌, ◌==◌, ◌||◌, ◌∷◌, ◌++◌, List, [], Bool, true, false, cond, Option, Some, refl, sym, ap, ◌∙◌, subst, drop, length, nat_le, eqb-true, Event, EventName, ThematicBreak, Next, Ok, Nok, FlowBeforeThematicBreak, Seat, drop-next, Local, Given, Text, AreTestsOf, shows, Rows, consume, write, row, when, is_white, one_more, unchanged, flow_byte, kind_becomes, size_grows, has_three, at_mark, flow_before_thematic_break_rows, bytes_of, thematic_break, text, IsInLine, LeavesAll, LineEnds}
+use Rattle.mdconstructs_flow_read.proofs.Prelude.{Bool, List, Option, Some, [], ap, cond, drop, false, length, nat_le, refl, subst, suc, sym, true, ℕ, ◌++◌, ◌+◌, ◌-◌, ◌<◌, ◌==◌, ◌^◌, ◌||◌, ◌∙◌, ◌∷◌, ◌≡◌, eqb-true, drop-next, Seat, Event, EventName, ThematicBreak, Next, Nok, Ok, FlowBeforeThematicBreak, Local, Given, Text, flow_byte, unchanged, at_mark, has_three, kind_becomes, size_grows, flow_before_thematic_break_rows, bytes_of, IsInLine, LeavesAll, LineEnds, text, thematic_break, is_white, one_more, AreTestsOf, shows, Rows, consume, row, when, write}
 use Rattle.mdconstructs_flow_read.proofs.Looks.ByteClasses.{feed-is, rule-is, blank-is}
 use Rattle.mdconstructs_flow_read.proofs.Looks.CountRoom.{grows, room-on, room-less}
 use Rattle.mdconstructs_flow_read.proofs.Looks.LineTests.{breaks_on, break-ends, break-mark, break-white, break-fails}
-use Rattle.mdconstructs_flow_read.proofs.Looks.LookSteps.{Found, HasRows, at-line-byte, at-line-end, by-false, by-known, by-true, by-share, come, kept, look, look-is, mark-is}
+use Rattle.mdconstructs_flow_read.proofs.Looks.LookSteps.{Found, at-line-byte, over-line, by-false, by-known, by-true, by-share, come, kept, look, mark-is}
 
 -- A mark of thematic breaks: a star, an underscore or a dash
 abbrev pub is_break_mark : ℕ → Bool
@@ -32,9 +32,6 @@ white-no-mark b w = elim (is_break_mark b) as (λ t. is_break_mark b ≡ t → t
 ] refl
 
 module _ (g : Given) (t : Text) (stack : List EventName) (events : List Event) where
-  has-rows : HasRows g t stack events FlowBeforeThematicBreak flow_before_thematic_break_rows
-  has-rows = record { at_end = λ bound previous q mark local. refl; at_byte = λ bound s ss previous q mark local. refl }
-
   abbrev no : Rows Unit Unit
   no = row [] Nok
 
@@ -48,12 +45,12 @@ module _ (g : Given) (t : Text) (stack : List EventName) (events : List Event) w
     break-over previous q mark local h =
         let size = local.tokenize_state.size_b in
         let P = Found before (cond (breaks_on m size []) thematic_break text) word in
-        subst P (sym (look-is g t stack events more previous q mark local FlowBeforeThematicBreak)) (at-line-end g t stack events P FlowBeforeThematicBreak flow_before_thematic_break_rows (when has_three ends no) has-rows refl refl 1 more over previous q mark local
+        over-line g t stack events P FlowBeforeThematicBreak flow_before_thematic_break_rows (when has_three ends no) (λ b l p q m k. refl) refl refl more over previous q mark local
         (by-share g t stack events 1 more previous q mark local FlowBeforeThematicBreak P has_three ends no
         (elim (nat_le 3 size) as (λ b. nat_le 3 size ≡ b → P (come g t stack events 1 more previous q mark local FlowBeforeThematicBreak (cond b ends no))) [
           | true ↦ λ e. subst (λ b. Found before (cond b thematic_break text) word (come g t stack events 1 more previous q mark local FlowBeforeThematicBreak ends)) (sym (break-ends m size ∙ e)) (kept before local _ h refl refl refl refl refl, (refl, refl))
           | false ↦ λ e. subst (λ b. Found before (cond b thematic_break text) word (come g t stack events 1 more previous q mark local FlowBeforeThematicBreak no)) (sym (break-ends m size ∙ e)) (kept before local _ h refl refl refl refl refl, refl)
-        ] refl)))
+        ] refl))
 
     -- the look at the rest of a line finds a thematic break, or text
     pub break-found : (line : List Seat) → IsInLine line → (previous : Option ℕ) (q : ℕ) (mark : Bool) (local : Local Unit Unit) → drop q t.seats ≡ line ++ more → LeavesAll before local → local.tokenize_state.marker ≡ m
@@ -77,7 +74,7 @@ module _ (g : Given) (t : Text) (stack : List EventName) (events : List Event) w
         let marked = mark-is g t stack events s ss q mark local m here marks in
         let by = by-known g t stack events 1 (s ∷ ss) previous q mark local name P at_mark grow no in
         let nothing : breaks_on m size (b ∷ bs) ≡ false → at no = λ e. subst (λ c. Found before (cond c thematic_break text) word (come g t stack events 1 (s ∷ ss) previous q mark local name no)) (sym e) (kept before local _ h refl refl refl refl refl, refl) in
-        at-line-byte g t stack events P name flow_before_thematic_break_rows tests has-rows are-tests 1 s ss previous q mark local
+        at-line-byte g t stack events P name flow_before_thematic_break_rows tests (λ b l p q m k. refl) are-tests 1 s ss previous q mark local
         (by-false at (b == 10) (when has_three ends no) _ in_line.0
         (elim (b == m) as (λ v. (b == m) ≡ v → at (cond (is_break_mark b) (when at_mark grow no) (cond (is_white b) go no))) [
           | true ↦ λ e.

@@ -1,9 +1,9 @@
 -- The look at an opening fence: its marks, and the info string of one of grave accents.
-use Rattle.mdconstructs_flow_read.proofs.Prelude.{◌≡◌, ◌<◌, ℕ, suc, ◌+◌, ◌-◌, ◌^◌, ◌==◌, ◌&&◌, ◌||◌, not, ◌∷◌, ◌++◌, List, [], Bool, true, false, cond, Option, Some, refl, sym, ap, ◌∙◌, subst, drop, length, nat_le, arith, list_all, eqb-true, Event, EventName, CodeFenced, Name, Next, Retry, Ok, Nok, FlowBeforeRaw, RawFlowLookInfo, Seat, drop-next, Local, Given, Text, AreTestsOf, Glance, goes_on, is_over, Look, glance, looked_on, one_call, shows, Rows, consume, write, row, when, one_more, fence_ends, flow_before_raw_rows, raw_flow_look_info_rows, flow_byte, flow, unchanged, kind_becomes, size_grows, at_mark, has_three, is_tilde_fence, bytes_of, Fence, run, SeenKind, fence, text, IsInLine, LeavesAll, LineEnds}
+use Rattle.mdconstructs_flow_read.proofs.Prelude.{Bool, List, Option, Some, [], ap, arith, cond, drop, false, length, nat_le, not, refl, subst, suc, sym, true, ℕ, ◌&&◌, ◌++◌, ◌+◌, ◌-◌, ◌<◌, ◌==◌, ◌^◌, ◌||◌, ◌∙◌, ◌∷◌, ◌≡◌, eqb-true, list_all, drop-next, Seat, Event, EventName, CodeFenced, Name, Next, Nok, Ok, Retry, FlowBeforeRaw, Local, Given, Text, fence_ends, flow_before_raw_rows, raw_flow_look_info_rows, flow_byte, flow, unchanged, at_mark, has_three, is_tilde_fence, kind_becomes, size_grows, RawFlowLookInfo, bytes_of, Fence, run, IsInLine, LeavesAll, LineEnds, SeenKind, fence, text, one_more, AreTestsOf, Glance, Look, glance, goes_on, is_over, looked_on, one_call, shows, Rows, consume, row, when, write}
 use Rattle.mdconstructs_flow_read.proofs.Looks.ByteClasses.{feed-is, fence-is, tick-is}
 use Rattle.mdconstructs_flow_read.proofs.Looks.CountRoom.{grows, room-on}
 use Rattle.mdconstructs_flow_read.proofs.Looks.LineTests.{fences_on, fence-mark, fence-other, run-on, run-ends}
-use Rattle.mdconstructs_flow_read.proofs.Looks.LookSteps.{Found, HasRows, at-line-byte, at-line-end, by-false, by-known, by-true, come, kept, look, look_by, look-is, mark-is, rest_of}
+use Rattle.mdconstructs_flow_read.proofs.Looks.LookSteps.{Found, at-line-byte, over-line, at-line-end, by-false, by-known, by-true, come, kept, look, look_by, look-is, mark-is, rest_of}
 
 abbrev marks_tests : List (ℕ → Bool)
 marks_tests = (λ b. (b == 96) || (b == 126)) ∷ []
@@ -26,12 +26,6 @@ abbrev no_ticks : List ℕ → Bool
 no_ticks bs = list_all (λ b. not (b == 96)) bs
 
 module _ (g : Given) (t : Text) (stack : List EventName) (events : List Event) where
-  has-marks : HasRows g t stack events FlowBeforeRaw flow_before_raw_rows
-  has-marks = record { at_end = λ bound previous q mark local. refl; at_byte = λ bound s ss previous q mark local. refl }
-
-  has-info : HasRows g t stack events RawFlowLookInfo raw_flow_look_info_rows
-  has-info = record { at_end = λ bound previous q mark local. refl; at_byte = λ bound s ss previous q mark local. refl }
-
   abbrev no : Rows Unit Unit
   no = row [] Nok
 
@@ -59,7 +53,7 @@ module _ (g : Given) (t : Text) (stack : List EventName) (events : List Event) w
       info-found : (bound : ℕ) (line : List Seat) → IsInLine line → (previous : Option ℕ) (q : ℕ) (mark : Bool) (local : Local Unit Unit) → LeavesAll before local → IsNoted local
           → Found before (kind_by (no_ticks (bytes_of line))) word (look_by g t stack events bound (line ++ more) previous q mark local RawFlowLookInfo)
       info-found bound [] in_line previous q mark local h noted =
-          at-line-end g t stack events (Found before (fence f) word) RawFlowLookInfo raw_flow_look_info_rows ends has-info refl refl bound more over previous q mark local
+          at-line-end g t stack events (Found before (fence f) word) RawFlowLookInfo raw_flow_look_info_rows ends (λ b l p q m k. refl) refl refl bound more over previous q mark local
           (kept before local _ h refl refl refl refl refl, (refl, refl, noted.0, noted.1, noted.2))
       info-found bound (s ∷ line) in_line previous q mark local h noted =
           let b = s.byte in
@@ -69,7 +63,7 @@ module _ (g : Given) (t : Text) (stack : List EventName) (events : List Event) w
           let P = Found before (kind_by (no_ticks (b ∷ bs))) word in
           let at = λ (rows : Rows Unit Unit). P (come g t stack events bound (s ∷ ss) previous q mark local name rows) in
           let go : Rows Unit Unit = row (consume ∷ []) (Next name) in
-          at-line-byte g t stack events P name raw_flow_look_info_rows info_tests has-info are-info bound s ss previous q mark local
+          at-line-byte g t stack events P name raw_flow_look_info_rows info_tests (λ b l p q m k. refl) are-info bound s ss previous q mark local
           (by-false at (b == 10) ends _ in_line.0
           (elim (b == 96) as (λ v. (Found before (kind_by (not v && no_ticks bs)) word (come g t stack events bound (s ∷ ss) previous q mark local name (cond v no go)))) [
             | true ↦ (kept before local _ h refl refl refl refl refl, refl)
@@ -108,10 +102,9 @@ module _ (g : Given) (t : Text) (stack : List EventName) (events : List Event) w
           let n = local.tokenize_state.size_b in
           let P = Found before (kind_by (fences_on f.byte n [])) word in
           let none : n + 0 ≡ n = omega arith in
-          subst P (sym (look-is g t stack events more previous q mark local FlowBeforeRaw))
-          (at-line-end g t stack events P FlowBeforeRaw flow_before_raw_rows fence_ends has-marks refl refl 1 more over previous q mark local
+          over-line g t stack events P FlowBeforeRaw flow_before_raw_rows fence_ends (λ b l p q m k. refl) refl refl more over previous q mark local
           (subst (λ k. Found before (kind_by (nat_le 3 k && ((f.byte == 126) || true))) word (come g t stack events 1 more previous q mark local FlowBeforeRaw fence_ends)) size
-          (marks-over [] in_line previous q mark local h (marks, sym none ∙ sym size, columns))))
+          (marks-over [] in_line previous q mark local h (marks, sym none ∙ sym size, columns)))
       fence-found is (s ∷ line) in_line previous q mark local here h marks columns size room =
           let b = s.byte in
           let m = f.byte in
@@ -128,7 +121,7 @@ module _ (g : Given) (t : Text) (stack : List EventName) (events : List Event) w
           let marked = mark-is g t stack events s ss q mark local m here marks in
           let by = by-known g t stack events 1 (s ∷ ss) previous q mark local name P at_mark grow fence_ends in
           let none : n + 0 ≡ n = omega arith in
-          at-line-byte g t stack events P name flow_before_raw_rows marks_tests has-marks are-marks 1 s ss previous q mark local
+          at-line-byte g t stack events P name flow_before_raw_rows marks_tests (λ b l p q m k. refl) are-marks 1 s ss previous q mark local
           (elim (b == m) as (λ v. (b == m) ≡ v → at (cond (is_fence_mark b) (when at_mark grow fence_ends) fence_ends)) [
             | true ↦ λ e.
                 let fenced : is_fence_mark b ≡ true = ap is_fence_mark (eqb-true b m e) ∙ is in

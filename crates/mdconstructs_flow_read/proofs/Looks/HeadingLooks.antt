@@ -1,9 +1,9 @@
 -- The look at an ATX heading: its number signs, and how long its text is.
-use Rattle.mdconstructs_flow_read.proofs.Prelude.{◌≡◌, ◌<◌, ℕ, suc, ◌+◌, ◌-◌, ◌^◌, ◌==◌, ◌∷◌, ◌++◌, List, [], Bool, true, false, cond, Option, Some, refl, sym, ap, ◌∙◌, subst, length, eqb-true, Event, EventName, HeadingAtx, Name, Next, Ok, HeadingAtxLookText, HeadingAtxLookBlank, HeadingAtxLookSigns, HeadingAtxLookAfter, Seat, Local, Given, Text, Look, shows, Rows, consume, write, row, is_white, one_more, unchanged, count_grows, text_grows, signs_end, signs_were_text, heading_atx_look_text_rows, heading_atx_look_blank_rows, heading_atx_look_signs_rows, heading_atx_look_after_rows, bytes_of, IsInLine, LeavesAll, LineEnds}
+use Rattle.mdconstructs_flow_read.proofs.Prelude.{Bool, List, Option, Some, [], ap, cond, false, length, refl, subst, suc, sym, true, ℕ, ◌++◌, ◌+◌, ◌-◌, ◌<◌, ◌==◌, ◌^◌, ◌∙◌, ◌∷◌, ◌≡◌, eqb-true, Seat, Event, EventName, HeadingAtx, Name, Next, Ok, Local, Given, Text, Cased, line_feed, unchanged, count_grows, signs_end, signs_were_text, text_grows, heading_atx_look_after_rows, heading_atx_look_blank_rows, heading_atx_look_signs_rows, heading_atx_look_text_rows, HeadingAtxLookAfter, HeadingAtxLookBlank, HeadingAtxLookSigns, HeadingAtxLookText, bytes_of, IsInLine, LeavesAll, LineEnds, is_white, one_more, rows_in, Look, shows, Rows, consume, row, write}
 use Rattle.mdconstructs_flow_read.proofs.Looks.ByteClasses.{feed-is, sign-is, blank-is}
 use Rattle.mdconstructs_flow_read.proofs.Looks.CountRoom.{grows, room-on}
 use Rattle.mdconstructs_flow_read.proofs.Looks.HeadingTexts.{Counted, text_back, turned, white-read, other-read, sign-in-text, sign-in-closing, sign-behind-white, text-before-white}
-use Rattle.mdconstructs_flow_read.proofs.Looks.LookSteps.{HasRows, at-line-byte, at-line-end, by-false, come, kept, look, look-is}
+use Rattle.mdconstructs_flow_read.proofs.Looks.LookSteps.{HasRows, at-line-byte, over-line, by-false, come, kept, look}
 
 abbrev pub three_tests : List (ℕ → Bool)
 three_tests = (λ b. b == 10) ∷ is_white ∷ (λ b. b == 35) ∷ []
@@ -33,18 +33,6 @@ pub count-on : (q : List ℕ) (b n more : ℕ) → n ≡ length q → length q +
 count-on q b n more e room = ap one_more e ∙ grows (length q) more room
 
 module _ (g : Given) (t : Text) (stack : List EventName) (events : List Event) where
-  has-data : HasRows g t stack events HeadingAtxLookText heading_atx_look_text_rows
-  has-data = record { at_end = λ bound previous q mark local. refl; at_byte = λ bound s ss previous q mark local. refl }
-
-  has-white : HasRows g t stack events HeadingAtxLookBlank heading_atx_look_blank_rows
-  has-white = record { at_end = λ bound previous q mark local. refl; at_byte = λ bound s ss previous q mark local. refl }
-
-  has-signs : HasRows g t stack events HeadingAtxLookSigns heading_atx_look_signs_rows
-  has-signs = record { at_end = λ bound previous q mark local. refl; at_byte = λ bound s ss previous q mark local. refl }
-
-  has-behind : HasRows g t stack events HeadingAtxLookAfter heading_atx_look_after_rows
-  has-behind = record { at_end = λ bound previous q mark local. refl; at_byte = λ bound s ss previous q mark local. refl }
-
   abbrev ends : Rows Unit Unit
   ends = row [] Ok
 
@@ -60,23 +48,16 @@ module _ (g : Given) (t : Text) (stack : List EventName) (events : List Event) w
     Goes line closing word back = (previous : Option ℕ) (q : ℕ) (mark : Bool) (local : Local Unit Unit) → LeavesAll before local → IsAt closing word back local → length back + length line < 2 ^ 64 - 1
         → Heads before (length (text_back (turned (bytes_of line) back))) (look g t stack events (line ++ more) previous q mark local (state_of closing word))
 
+    text-end : (name : Name) (c : Cased Unit Unit) → HasRows g t stack events name c → c.at_end ≡ ends → rows_in c.cases c.rest line_feed ≡ ends → (closing word : Bool) (back : List ℕ) (previous : Option ℕ) (q : ℕ) (mark : Bool) (local : Local Unit Unit)
+        → LeavesAll before local → IsAt closing word back local → Heads before (length (text_back back)) (look g t stack events more previous q mark local name)
+    text-end name c has last feed closing word back previous q mark local h at =
+        over-line g t stack events (Heads before (length (text_back back))) name c ends has last feed more over previous q mark local (kept before local (unchanged local) h refl refl refl refl refl, (refl, at.named, at.counted.size_is))
+
     text-ends : (closing word : Bool) (back : List ℕ) → Goes [] closing word back
-    text-ends false true back previous q mark local h at room =
-        subst (Heads before (length (text_back back))) (sym (look-is g t stack events more previous q mark local HeadingAtxLookText))
-        (at-line-end g t stack events (Heads before (length (text_back back))) HeadingAtxLookText heading_atx_look_text_rows ends has-data refl refl 1 more over previous q mark local
-        (kept before local (unchanged local) h refl refl refl refl refl, (refl, at.named, at.counted.size_is)))
-    text-ends false false back previous q mark local h at room =
-        subst (Heads before (length (text_back back))) (sym (look-is g t stack events more previous q mark local HeadingAtxLookBlank))
-        (at-line-end g t stack events (Heads before (length (text_back back))) HeadingAtxLookBlank heading_atx_look_blank_rows ends has-white refl refl 1 more over previous q mark local
-        (kept before local (unchanged local) h refl refl refl refl refl, (refl, at.named, at.counted.size_is)))
-    text-ends true true back previous q mark local h at room =
-        subst (Heads before (length (text_back back))) (sym (look-is g t stack events more previous q mark local HeadingAtxLookSigns))
-        (at-line-end g t stack events (Heads before (length (text_back back))) HeadingAtxLookSigns heading_atx_look_signs_rows ends has-signs refl refl 1 more over previous q mark local
-        (kept before local (unchanged local) h refl refl refl refl refl, (refl, at.named, at.counted.size_is)))
-    text-ends true false back previous q mark local h at room =
-        subst (Heads before (length (text_back back))) (sym (look-is g t stack events more previous q mark local HeadingAtxLookAfter))
-        (at-line-end g t stack events (Heads before (length (text_back back))) HeadingAtxLookAfter heading_atx_look_after_rows ends has-behind refl refl 1 more over previous q mark local
-        (kept before local (unchanged local) h refl refl refl refl refl, (refl, at.named, at.counted.size_is)))
+    text-ends false true back previous q mark local h at room = text-end HeadingAtxLookText heading_atx_look_text_rows (λ b l p q m k. refl) refl refl false true back previous q mark local h at
+    text-ends false false back previous q mark local h at room = text-end HeadingAtxLookBlank heading_atx_look_blank_rows (λ b l p q m k. refl) refl refl false false back previous q mark local h at
+    text-ends true true back previous q mark local h at room = text-end HeadingAtxLookSigns heading_atx_look_signs_rows (λ b l p q m k. refl) refl refl true true back previous q mark local h at
+    text-ends true false back previous q mark local h at room = text-end HeadingAtxLookAfter heading_atx_look_after_rows (λ b l p q m k. refl) refl refl true false back previous q mark local h at
 
     -- a byte of the line, if the look goes on behind it in each case
     module _ (s : Seat) (line : List Seat) (back : List ℕ) (in_line : (s.byte == 10) ≡ false) (on : (closing word : Bool) → Goes line closing word (s.byte ∷ back)) where
@@ -112,7 +93,7 @@ module _ (g : Given) (t : Text) (stack : List EventName) (events : List Event) w
           let name = HeadingAtxLookText in
           let l = local.tokenize_state in
           let comes = Comes previous q mark local name in
-          at-line-byte g t stack events Behind name heading_atx_look_text_rows two_tests has-data (feed-is, (blank-is, tt)) 1 s (line ++ more) previous q mark local
+          at-line-byte g t stack events Behind name heading_atx_look_text_rows two_tests (λ b l p q m k. refl) (feed-is, (blank-is, tt)) 1 s (line ++ more) previous q mark local
           (by-false comes (b == 10) ends _ in_line
           (elim (is_white b) as (λ v. is_white b ≡ v → comes (cond v (counts_on HeadingAtxLookBlank) text_on)) [
             | true ↦ λ w. count-comes false true previous q mark local name h at room false false (white-read false true b back l.size_b l.size_c l.size_c w at.counted (λ none. absurd (cc)))
@@ -130,7 +111,7 @@ module _ (g : Given) (t : Text) (stack : List EventName) (events : List Event) w
           let name = HeadingAtxLookBlank in
           let l = local.tokenize_state in
           let comes = Comes previous q mark local name in
-          at-line-byte g t stack events Behind name heading_atx_look_blank_rows three_tests has-white (feed-is, (blank-is, (sign-is, tt))) 1 s (line ++ more) previous q mark local
+          at-line-byte g t stack events Behind name heading_atx_look_blank_rows three_tests (λ b l p q m k. refl) (feed-is, (blank-is, (sign-is, tt))) 1 s (line ++ more) previous q mark local
           (by-false comes (b == 10) ends _ in_line
           (elim (is_white b) as (λ v. is_white b ≡ v → comes (cond v (counts_on HeadingAtxLookBlank) (cond (b == 35) (counts_on HeadingAtxLookSigns) text_on))) [
             | true ↦ λ w. count-comes false false previous q mark local name h at room false false (white-read false false b back l.size_b l.size_c l.size_c w at.counted (λ none. absurd (cc)))
@@ -150,7 +131,7 @@ module _ (g : Given) (t : Text) (stack : List EventName) (events : List Event) w
           let comes = Comes previous q mark local name in
           let k = shows stack events (s ∷ (line ++ more)) q mark (unchanged local) in
           let signs_over : Rows Unit Unit = row (write signs_end ∷ consume ∷ []) (Next HeadingAtxLookAfter) in
-          at-line-byte g t stack events Behind name heading_atx_look_signs_rows three_tests has-signs (feed-is, (blank-is, (sign-is, tt))) 1 s (line ++ more) previous q mark local
+          at-line-byte g t stack events Behind name heading_atx_look_signs_rows three_tests (λ b l p q m k. refl) (feed-is, (blank-is, (sign-is, tt))) 1 s (line ++ more) previous q mark local
           (by-false comes (b == 10) ends _ in_line
           (elim (is_white b) as (λ v. is_white b ≡ v → comes (cond v signs_over (cond (b == 35) (counts_on HeadingAtxLookSigns) text_on))) [
             | true ↦ λ w. on true false (Some b) (q + 1) false (signs_end k) (kept before local (signs_end k) h refl refl refl refl refl)
@@ -176,7 +157,7 @@ module _ (g : Given) (t : Text) (stack : List EventName) (events : List Event) w
           let k = shows stack events (s ∷ (line ++ more)) q mark (unchanged local) in
           let signs_again : Rows Unit Unit = row (write signs_were_text ∷ consume ∷ []) (Next HeadingAtxLookSigns) in
           let saved = at.counted.saved_is refl refl in
-          at-line-byte g t stack events Behind name heading_atx_look_after_rows three_tests has-behind (feed-is, (blank-is, (sign-is, tt))) 1 s (line ++ more) previous q mark local
+          at-line-byte g t stack events Behind name heading_atx_look_after_rows three_tests (λ b l p q m k. refl) (feed-is, (blank-is, (sign-is, tt))) 1 s (line ++ more) previous q mark local
           (by-false comes (b == 10) ends _ in_line
           (elim (is_white b) as (λ v. is_white b ≡ v → comes (cond v (counts_on HeadingAtxLookAfter) (cond (b == 35) signs_again text_on))) [
             | true ↦ λ w. count-comes true false previous q mark local name h at room true false (white-read true false b back l.size_b l.size_c l.size_c w at.counted (λ yes. saved))

@@ -1,6 +1,5 @@
 -- The look at a line: over its indentation, and on by its first other byte.
-use Rattle.mdconstructs_flow_read.proofs.Prelude.{◌≡◌, ◌<◌, ◌≤◌, ℕ, zero, suc, ◌+◌, ◌-◌, ◌^◌, ◌==◌, ◌&&◌, ◌∷◌, ◌++◌, List, [], Bool, true, false, cond, Option, Some, refl, sym, ap, ◌∙◌, subst, drop, length, nat_le, arith, and-false, eqb-true, le-leb, Constructs, Event, EventName, BlankLineEnding, CodeIndented, Next, Ok, Nok, FlowBeforeHeadingAtx, FlowBeforeHeadingSetext, FlowBeforeRaw, FlowBeforeThematicBreak, FlowBlankLineBefore, HtmlFlowOpen, Seat, drop-next, Configuration, Local, Sight, sight, Given, Text, AreTestsOf, Look, shows, Rows, consume, write, row, when, is_white, one_more, unchanged, flow_byte, breaks_are_on, fences_are_on, headings_are_on, indent_grows, kind_becomes, mark_becomes, size_becomes, underlines_are_on, html_is_on, break_may_begin, dash_may_begin, equals_may_begin, fence_may_begin, flow_blank_line_before_rows, heading_may_begin, html_may_begin, text_may_begin, underline_may_begin, bytes_of, Fence, heading_text, indent, is_blank_line, is_thematic_break, run, unindented, SeenKind, heading, fence, html, underline, thematic_break, text, seen_kind, html_number, FindsHtml, HtmlIsSeen, IsInLine, LeavesAll, LineEnds, LinesAreSeen}
-use Rattle.std.proofs.lemmas.Bool.{cond_both}
+use Rattle.mdconstructs_flow_read.proofs.Prelude.{Bool, List, Option, Some, [], ap, arith, cond, drop, false, length, nat_le, refl, subst, suc, sym, true, zero, ℕ, ◌&&◌, ◌++◌, ◌+◌, ◌-◌, ◌<◌, ◌==◌, ◌^◌, ◌∙◌, ◌∷◌, ◌≡◌, ◌≤◌, and-false, eqb-true, le-leb, drop-next, Seat, Constructs, Event, EventName, BlankLineEnding, CodeIndented, Next, Nok, Ok, FlowBeforeHeadingAtx, FlowBeforeHeadingSetext, FlowBeforeRaw, FlowBeforeThematicBreak, FlowBlankLineBefore, HtmlFlowOpen, Configuration, Local, Sight, sight, Given, Text, flow_byte, unchanged, breaks_are_on, fences_are_on, headings_are_on, indent_grows, kind_becomes, mark_becomes, size_becomes, underlines_are_on, html_is_on, break_may_begin, dash_may_begin, equals_may_begin, fence_may_begin, flow_blank_line_before_rows, heading_may_begin, html_may_begin, text_may_begin, underline_may_begin, bytes_of, Fence, heading_text, indent, is_blank_line, is_thematic_break, run, unindented, FindsHtml, HtmlIsSeen, IsInLine, LeavesAll, LineEnds, LinesAreSeen, SeenKind, fence, heading, html, html_number, seen_kind, text, thematic_break, underline, is_white, one_more, AreTestsOf, Look, shows, Rows, consume, row, when, write, cond_both}
 use Rattle.mdconstructs_flow.specs.FlowWrites.{is_indented}
 use Rattle.mdconstructs_flow_read.proofs.Lines.TestedKinds.{seen-is-tested, tested_rest}
 use Rattle.mdconstructs_flow_read.specs.SeenKinds.{blank, indented}
@@ -11,7 +10,7 @@ use Rattle.mdconstructs_flow_read.proofs.Looks.FenceLooks.{fence-found, is_fence
 use Rattle.mdconstructs_flow_read.proofs.Looks.FirstBytes.{dash-breaks, kind-dash, kind-equals, kind-less, kind-other, kind-sign, kind-star, kind-tick, kind-tilde, kind-underscore}
 use Rattle.mdconstructs_flow_read.proofs.Looks.HeadingTexts.{goes, stops}
 use Rattle.mdconstructs_flow_read.proofs.Looks.LineTests.{breaks_on, fences_on, heads_on, underlines_on}
-use Rattle.mdconstructs_flow_read.proofs.Looks.LookSteps.{Found, HasRows, at-line-byte, at-line-end, by-false, by-known, by-share, come, kept, leaves-itself, leaves-on, look, look-is}
+use Rattle.mdconstructs_flow_read.proofs.Looks.LookSteps.{Found, at-line-byte, over-line, by-false, by-known, by-share, come, kept, leaves-itself, leaves-on, look}
 use Rattle.mdconstructs_flow_read.proofs.Looks.SignLooks.{heading-found}
 use Rattle.mdconstructs_flow_read.proofs.Looks.UnderlineLooks.{is_line_mark, underline-found}
 
@@ -52,9 +51,6 @@ html-found before now word (suc kind) r h seen =
     subst (λ v. Found before (cond v (html (suc kind)) text) word r) (sym some) (leaves-on before now r.local h seen.0, seen.1)
 
 module _ (html_seen : HtmlIsSeen) (g : Given) (t : Text) (stack : List EventName) (events : List Event) where
-  has-rows : HasRows g t stack events FlowBlankLineBefore flow_blank_line_before_rows
-  has-rows = record { at_end = λ bound previous q mark local. refl; at_byte = λ bound s ss previous q mark local. refl }
-
   abbrev none : Rows Unit Unit
   none = row [] Nok
 
@@ -220,9 +216,8 @@ module _ (html_seen : HtmlIsSeen) (g : Given) (t : Text) (stack : List EventName
       → local.tokenize_state.size_c + length line < 2 ^ 64 - 1
       → Found before (kind_from g.options.constructs local.tokenize_state.size_c (bytes_of line)) (unindented (bytes_of line)) (look g t stack events (line ++ more) previous q mark local FlowBlankLineBefore)
   line-found before more over [] in_line previous q mark local here h room =
-      subst (Found before blank []) (sym (look-is g t stack events more previous q mark local FlowBlankLineBefore))
-      (at-line-end g t stack events (Found before blank []) FlowBlankLineBefore flow_blank_line_before_rows (row (write (kind_becomes BlankLineEnding) ∷ []) Ok) has-rows refl refl 1 more over previous q mark local
-      (kept before local _ h refl refl refl refl refl, (refl, refl)))
+      over-line g t stack events (Found before blank []) FlowBlankLineBefore flow_blank_line_before_rows (row (write (kind_becomes BlankLineEnding) ∷ []) Ok) (λ b l p q m k. refl) refl refl more over previous q mark local
+      (kept before local _ h refl refl refl refl refl, (refl, refl))
   line-found before more over (s ∷ line) in_line previous q mark local here h room =
       let b = s.byte in
       let bs = bytes_of line in
@@ -235,7 +230,7 @@ module _ (html_seen : HtmlIsSeen) (g : Given) (t : Text) (stack : List EventName
       let comes = come g t stack events 1 (s ∷ ss) previous q mark local name in
       let grown = indent_grows (shows stack events (s ∷ ss) q mark (unchanged local)) in
       let go : Rows Unit Unit = row (write indent_grows ∷ consume ∷ []) (Next name) in
-      at-line-byte g t stack events P name flow_blank_line_before_rows tests has-rows are-tests 1 s ss previous q mark local
+      at-line-byte g t stack events P name flow_blank_line_before_rows tests (λ b l p q m k. refl) are-tests 1 s ss previous q mark local
       (by-false (λ (rows : Rows Unit Unit). P (comes rows)) (b == 10) (row (write (kind_becomes BlankLineEnding) ∷ []) Ok) _ in_line.0
       (elim (is_white b) as (λ v. is_white b ≡ v → P (comes (cond v go (cond (b == 35) heading_may_begin (cond (b == 42) (break_may_begin 42) (cond (b == 95) (break_may_begin 95) (cond (b == 45) dash_may_begin (cond (b == 61) equals_may_begin
       (cond (b == 96) (fence_may_begin 96) (cond (b == 126) (fence_may_begin 126) (cond (b == 60) html_may_begin text_may_begin))))))))))) [

@@ -1,5 +1,5 @@
 -- Steps of looks at lines: what a look finds at a byte, or at the end of the line, is what the rows there say.
-use Rattle.mdconstructs_flow_read.proofs.Prelude.{◌≡◌, ℕ, suc, ◌+◌, ◌==◌, ◌∷◌, List, [], Bool, true, false, cond, Option, Some, refl, sym, ap, ◌∙◌, subst, drop, slice_get, Event, EventName, Name, Seat, Configuration, Local, Sight, byte_of, sight, Given, Text, at-byte, at-front, told, told_by, AreTestsOf, rows_at_byte, rows_in, Look, glance, looked_on, scan, shows, unfed_look, Rows, when, picked, Cased, flow_byte, line_feed, flow, unchanged, at_mark, is_byte, SeenKind, Finds, LeavesAll, LineEnds}
+use Rattle.mdconstructs_flow_read.proofs.Prelude.{Bool, List, Option, Some, [], ap, cond, drop, false, refl, subst, suc, sym, true, ℕ, ◌+◌, ◌==◌, ◌∙◌, ◌∷◌, ◌≡◌, slice_get, Seat, Event, EventName, Name, Configuration, Local, Sight, byte_of, sight, Given, Text, Cased, cased, flow_byte, line_feed, flow, unchanged, at_mark, is_byte, Finds, LeavesAll, LineEnds, SeenKind, at-byte, at-front, told, told_by, AreTestsOf, rows_at_byte, rows_in, Look, first_byte, glance, looked_on, scan, shows, unfed_look, Rows, class_of, picked, when}
 
 -- one of two, by a test that is known
 pub by-true : {X : Type 0} (P : X → Type 0) (t : Bool) (x y : X) → t ≡ true → P x → P (cond t x y)
@@ -72,20 +72,23 @@ module _ (g : Given) (t : Text) (stack : List EventName) (events : List Event) w
   look-is (s ∷ ss) previous q mark local name = refl
 
   -- a state has these rows
-  pub record HasRows (name : Name) (c : Cased Unit Unit) : Type 0 where
-    pub at_end : (bound : ℕ) (previous : Option ℕ) (q : ℕ) (mark : Bool) (local : Local Unit Unit) → look_by bound [] previous q mark local name ≡ come bound [] previous q mark local name c.at_end
-    pub at_byte : (bound : ℕ) (s : Seat) (ss : List Seat) (previous : Option ℕ) (q : ℕ) (mark : Bool) (local : Local Unit Unit)
-        → look_by bound (s ∷ ss) previous q mark local name ≡ come bound (s ∷ ss) previous q mark local name (rows_in c.cases c.rest (flow_byte s.byte))
+  abbrev pub HasRows : (name : Name) → Cased Unit Unit → Type 0
+  HasRows name c = (bound : ℕ) (l : List Seat) (previous : Option ℕ) (q : ℕ) (mark : Bool) (local : Local Unit Unit)
+      → look_by bound l previous q mark local name ≡ come bound l previous q mark local name (cased c (class_of flow_byte previous) (class_of flow_byte (first_byte l)))
 
   -- the end of the line: the rows there are the same before a line ending
   pub at-line-end : (P : Look Unit Unit → Type 0) (name : Name) (c : Cased Unit Unit) (rows : Rows Unit Unit) → HasRows name c → c.at_end ≡ rows → rows_in c.cases c.rest line_feed ≡ rows
       → (bound : ℕ) (more : List Seat) → LineEnds more → (previous : Option ℕ) (q : ℕ) (mark : Bool) (local : Local Unit Unit)
       → P (come bound more previous q mark local name rows) → P (look_by bound more previous q mark local name)
   at-line-end P name c rows has e f bound [] ends previous q mark local h =
-      subst P (sym (has.at_end bound previous q mark local)) (subst (λ r. P (come bound [] previous q mark local name r)) (sym e) h)
+      subst P (sym (has bound [] previous q mark local)) (subst (λ r. P (come bound [] previous q mark local name r)) (sym e) h)
   at-line-end P name c rows has e f bound (s ∷ ss) ends previous q mark local h =
       let is : rows_in c.cases c.rest (flow_byte s.byte) ≡ rows = ap (λ b. rows_in c.cases c.rest (flow_byte b)) ends ∙ f in
-      subst P (sym (has.at_byte bound s ss previous q mark local)) (subst (λ r. P (come bound (s ∷ ss) previous q mark local name r)) (sym is) h)
+      subst P (sym (has bound (s ∷ ss) previous q mark local)) (subst (λ r. P (come bound (s ∷ ss) previous q mark local name r)) (sym is) h)
+
+  pub over-line : (P : Look Unit Unit → Type 0) (name : Name) (c : Cased Unit Unit) (rows : Rows Unit Unit) → HasRows name c → c.at_end ≡ rows → rows_in c.cases c.rest line_feed ≡ rows
+      → (more : List Seat) → LineEnds more → (previous : Option ℕ) (q : ℕ) (mark : Bool) (local : Local Unit Unit) → P (come 1 more previous q mark local name rows) → P (look more previous q mark local name)
+  over-line P name c rows has e f more ends previous q mark local h = subst P (sym (look-is more previous q mark local name)) (at-line-end P name c rows has e f 1 more ends previous q mark local h)
 
   -- a byte: the rows there are those of the first test that it passes
   pub at-line-byte : (P : Look Unit Unit → Type 0) (name : Name) (c : Cased Unit Unit) (tests : List (ℕ → Bool)) → HasRows name c → AreTestsOf flow_byte c.cases tests
@@ -93,7 +96,7 @@ module _ (g : Given) (t : Text) (stack : List EventName) (events : List Event) w
       → P (come bound (s ∷ ss) previous q mark local name (rows_at_byte c.cases tests c.rest s.byte))
       → P (look_by bound (s ∷ ss) previous q mark local name)
   at-line-byte P name c tests has are bound s ss previous q mark local h =
-      subst P (sym (has.at_byte bound s ss previous q mark local)) (subst (λ r. P (come bound (s ∷ ss) previous q mark local name r)) (sym (at-byte flow_byte c.cases tests c.rest are s.byte)) h)
+      subst P (sym (has bound (s ∷ ss) previous q mark local)) (subst (λ r. P (come bound (s ∷ ss) previous q mark local name r)) (sym (at-byte flow_byte c.cases tests c.rest are s.byte)) h)
 
   -- the mark of the line waits
   pub mark-is : (s : Seat) (ss : List Seat) (q : ℕ) (mark : Bool) (local : Local Unit Unit) (m : ℕ) → drop q t.seats ≡ s ∷ ss → local.tokenize_state.marker ≡ m

@@ -1,11 +1,10 @@
 -- The look at the number signs of an ATX heading, and behind them.
-use Rattle.markdown_base.proofs.Facts.Numbers.{unlike}
-use Rattle.mdconstructs_flow_read.proofs.Prelude.{◌≡◌, ◌<◌, ◌≤◌, ℕ, suc, ◌+◌, ◌-◌, ◌^◌, ◌==◌, ◌&&◌, ◌∷◌, ◌++◌, List, [], Bool, true, false, cond, Option, Some, refl, sym, ap, ◌∙◌, subst, drop, take, length, nat_le, nat_lt, arith, and-false, eqb-true, le-leb, lt-leb, ltb-true, ltb-false, Event, EventName, HeadingAtx, Next, Ok, Nok, FlowBeforeHeadingAtx, HeadingAtxLookStart, HeadingAtxLookText, HeadingAtxLookSigns, Seat, Local, Given, Text, shows, Rows, consume, write, row, when, is_white, one_more, unchanged, count_becomes, count_grows, has_room, kind_becomes, size_becomes, size_grows, text_grows, flow_before_heading_atx_rows, heading_atx_look_start_rows, bytes_of, heading_text, is_blank_line, run, unindented, SeenKind, heading, text, IsInLine, LeavesAll, LineEnds, text_behind_signs}
+use Rattle.mdconstructs_flow_read.proofs.Prelude.{Bool, List, Option, Some, [], ap, arith, cond, drop, false, length, nat_le, nat_lt, refl, subst, suc, sym, take, true, ℕ, ◌&&◌, ◌++◌, ◌+◌, ◌-◌, ◌<◌, ◌==◌, ◌^◌, ◌∙◌, ◌∷◌, ◌≡◌, ◌≤◌, and-false, eqb-true, le-leb, lt-leb, ltb-false, ltb-true, Seat, Event, EventName, HeadingAtx, Next, Nok, Ok, FlowBeforeHeadingAtx, Local, Given, Text, unchanged, count_becomes, count_grows, has_room, kind_becomes, size_becomes, size_grows, text_grows, flow_before_heading_atx_rows, heading_atx_look_start_rows, HeadingAtxLookSigns, HeadingAtxLookStart, HeadingAtxLookText, bytes_of, heading_text, is_blank_line, run, unindented, IsInLine, LeavesAll, LineEnds, text_behind_signs, SeenKind, heading, text, is_white, one_more, shows, Rows, consume, row, when, write, unlike}
 use Rattle.mdconstructs_flow_read.proofs.Looks.ByteClasses.{feed-is, sign-is, blank-is}
 use Rattle.mdconstructs_flow_read.proofs.Looks.HeadingLooks.{Heads, count-on, text-found, three_tests}
 use Rattle.mdconstructs_flow_read.proofs.Looks.HeadingTexts.{Counted, goes, nothing-counted, other-read, sign-behind-white, stops, text_back, text-turned, turned}
 use Rattle.mdconstructs_flow_read.proofs.Looks.LineTests.{heads_on, heading-other, heading-sign, run-ends}
-use Rattle.mdconstructs_flow_read.proofs.Looks.LookSteps.{Found, HasRows, at-line-byte, at-line-end, by-false, by-share, come, kept, look, look-is}
+use Rattle.mdconstructs_flow_read.proofs.Looks.LookSteps.{Found, at-line-byte, over-line, by-false, by-share, come, kept, look}
 
 -- the text from a byte on that is no white space
 first-word : (b : ℕ) (bs : List ℕ) → is_white b ≡ false → length (text_back (turned bs (b ∷ []))) ≡ length (heading_text (unindented (b ∷ bs)))
@@ -24,20 +23,13 @@ heads-many : (n b : ℕ) (bs : List ℕ) → 6 ≤ n → (b == 35) ≡ true → 
 heads-many n b bs h e = let many : 6 < suc n + run 35 bs = omega arith in heading-sign n b bs e ∙ ap (λ v. v && is_blank_line (take 1 (drop (run 35 bs) bs))) (lt-leb (suc n + run 35 bs) 6 many)
 
 module _ (g : Given) (t : Text) (stack : List EventName) (events : List Event) where
-  has-start : HasRows g t stack events HeadingAtxLookStart heading_atx_look_start_rows
-  has-start = record { at_end = λ bound previous q mark local. refl; at_byte = λ bound s ss previous q mark local. refl }
-
-  has-signs : HasRows g t stack events FlowBeforeHeadingAtx flow_before_heading_atx_rows
-  has-signs = record { at_end = λ bound previous q mark local. refl; at_byte = λ bound s ss previous q mark local. refl }
-
   module _ (before : Local Unit Unit) (more : List Seat) (over : LineEnds more) where
     -- behind the signs, before the text
     start-found : (line : List Seat) → IsInLine line → (previous : Option ℕ) (q : ℕ) (mark : Bool) (local : Local Unit Unit) → LeavesAll before local → local.tokenize_state.token_1 ≡ HeadingAtx
         → local.tokenize_state.space_or_tab_size ≡ 0 → local.tokenize_state.size_b ≡ 0 → length line < 2 ^ 64 - 1
         → Heads before (length (heading_text (unindented (bytes_of line)))) (look g t stack events (line ++ more) previous q mark local HeadingAtxLookStart)
     start-found [] in_line previous q mark local h named count size room =
-        subst (Heads before 0) (sym (look-is g t stack events more previous q mark local HeadingAtxLookStart))
-        (at-line-end g t stack events (Heads before 0) HeadingAtxLookStart heading_atx_look_start_rows (row [] Ok) has-start refl refl 1 more over previous q mark local (kept before local (unchanged local) h refl refl refl refl refl, (refl, named, size)))
+        over-line g t stack events (Heads before 0) HeadingAtxLookStart heading_atx_look_start_rows (row [] Ok) (λ b l p q m k. refl) refl refl more over previous q mark local (kept before local (unchanged local) h refl refl refl refl refl, (refl, named, size))
     start-found (s ∷ line) in_line previous q mark local h named count size room =
         let b = s.byte in
         let bs = bytes_of line in
@@ -55,7 +47,7 @@ module _ (g : Given) (t : Text) (stack : List EventName) (events : List Event) w
         let room_all : 0 + suc (length line) < 2 ^ 64 - 1 = omega arith in
         let counted = count-on [] b l.space_or_tab_size (length line) count room_all in
         let on = look g t stack events ss (Some b) (q + 1) false in
-        at-line-byte g t stack events P name heading_atx_look_start_rows three_tests has-start (feed-is, (blank-is, (sign-is, tt))) 1 s ss previous q mark local
+        at-line-byte g t stack events P name heading_atx_look_start_rows three_tests (λ b l p q m k. refl) (feed-is, (blank-is, (sign-is, tt))) 1 s ss previous q mark local
         (by-false comes (b == 10) (row [] Ok) _ in_line.0
         (elim (is_white b) as (λ v. is_white b ≡ v → comes (cond v go (cond (b == 35) counts_on text_on))) [
           | true ↦ λ w. subst (λ r. Heads before (length (heading_text r)) (on (unchanged local) name)) (sym (goes is_white b bs w))
@@ -90,10 +82,9 @@ module _ (g : Given) (t : Text) (stack : List EventName) (events : List Event) w
       heading-found [] in_line previous q mark local h few is room =
           let P = Found before (kind_by (heads_on local.tokenize_state.size_b [])) word in
           let ends : Rows Unit Unit = row (write (kind_becomes HeadingAtx) ∷ write (size_becomes 0) ∷ []) Ok in
-          subst P (sym (look-is g t stack events more previous q mark local FlowBeforeHeadingAtx))
-          (at-line-end g t stack events P FlowBeforeHeadingAtx flow_before_heading_atx_rows ends has-signs refl refl 1 more over previous q mark local
+          over-line g t stack events P FlowBeforeHeadingAtx flow_before_heading_atx_rows ends (λ b l p q m k. refl) refl refl more over previous q mark local
           (subst (λ v. Found before (kind_by v) word (come g t stack events 1 more previous q mark local FlowBeforeHeadingAtx ends)) (sym (heads-end local.tokenize_state.size_b few))
-          (kept before local _ h refl refl refl refl refl, (refl, refl, sym is))))
+          (kept before local _ h refl refl refl refl refl, (refl, refl, sym is)))
       heading-found (s ∷ line) in_line previous q mark local h few is room =
           let b = s.byte in
           let bs = bytes_of line in
@@ -113,7 +104,7 @@ module _ (g : Given) (t : Text) (stack : List EventName) (events : List Event) w
           let begun = count_becomes 0 (shows stack events (s ∷ ss) q mark (size_becomes 0 named)) in
           let grown = size_grows k in
           let fails : heads_on n (b ∷ bs) ≡ false → P (comes none) = λ e. subst (λ v. Found before (kind_by v) word (comes none)) (sym e) (kept before local _ h refl refl refl refl refl, refl) in
-          at-line-byte g t stack events P name flow_before_heading_atx_rows three_tests has-signs (feed-is, (blank-is, (sign-is, tt))) 1 s ss previous q mark local
+          at-line-byte g t stack events P name flow_before_heading_atx_rows three_tests (λ b l p q m k. refl) (feed-is, (blank-is, (sign-is, tt))) 1 s ss previous q mark local
           (by-false (λ (rows : Rows Unit Unit). P (comes rows)) (b == 10) ends _ in_line.0
           (elim (is_white b) as (λ v. is_white b ≡ v → P (comes (cond v starts (cond (b == 35) (when has_room grow none) none)))) [
             | true ↦ λ w.

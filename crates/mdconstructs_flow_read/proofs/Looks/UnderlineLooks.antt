@@ -1,11 +1,10 @@
 -- The look at the marks of an underline, which with dashes may come to a thematic break.
-use Rattle.markdown_base.proofs.Facts.Numbers.{unlike}
-use Rattle.mdconstructs_flow_read.proofs.Prelude.{◌≡◌, ◌<◌, ℕ, suc, ◌+◌, ◌-◌, ◌^◌, ◌==◌, ◌&&◌, ◌||◌, ◌∷◌, ◌++◌, List, [], Bool, true, false, cond, Option, Some, refl, sym, ap, ◌∙◌, subst, drop, length, nat_le, and-false, eqb-true, Event, EventName, HeadingSetextUnderline, Next, Ok, Nok, FlowBeforeThematicBreak, FlowBeforeHeadingSetext, HeadingSetextLookAfter, Seat, drop-next, Local, Given, Text, AreTestsOf, Look, shows, Rows, consume, write, row, when, is_white, one_more, unchanged, flow_byte, kind_becomes, size_grows, at_mark, breaks_are_on, flow_before_heading_setext_rows, heading_setext_look_after_rows, further_dash, bytes_of, is_blank_line, is_thematic_break, SeenKind, thematic_break, text, underline, IsInLine, LeavesAll, LineEnds}
+use Rattle.mdconstructs_flow_read.proofs.Prelude.{Bool, List, Option, Some, [], ap, cond, drop, false, length, nat_le, refl, subst, suc, sym, true, ℕ, ◌&&◌, ◌++◌, ◌+◌, ◌-◌, ◌<◌, ◌==◌, ◌^◌, ◌||◌, ◌∙◌, ◌∷◌, ◌≡◌, and-false, eqb-true, drop-next, Seat, Event, EventName, HeadingSetextUnderline, Next, Nok, Ok, FlowBeforeHeadingSetext, FlowBeforeThematicBreak, Local, Given, Text, flow_byte, unchanged, at_mark, breaks_are_on, kind_becomes, size_grows, flow_before_heading_setext_rows, further_dash, heading_setext_look_after_rows, HeadingSetextLookAfter, bytes_of, is_blank_line, is_thematic_break, IsInLine, LeavesAll, LineEnds, SeenKind, text, thematic_break, underline, is_white, one_more, AreTestsOf, Look, shows, Rows, consume, row, when, write, unlike}
 use Rattle.mdconstructs_flow_read.proofs.Looks.BreakLooks.{break-found}
 use Rattle.mdconstructs_flow_read.proofs.Looks.ByteClasses.{feed-is, dash-is, underline-is, blank-is}
 use Rattle.mdconstructs_flow_read.proofs.Looks.CountRoom.{grows, room-on, room-less}
 use Rattle.mdconstructs_flow_read.proofs.Looks.LineTests.{breaks_on, underlines_on, break-ends, break-mark, break-white, break-fails, underline-mark, underline-other}
-use Rattle.mdconstructs_flow_read.proofs.Looks.LookSteps.{Found, HasRows, at-line-byte, at-line-end, by-false, by-known, by-true, by-share, come, kept, look, look-is, mark-is}
+use Rattle.mdconstructs_flow_read.proofs.Looks.LookSteps.{Found, at-line-byte, over-line, by-false, by-known, by-true, by-share, come, kept, look, mark-is}
 
 abbrev setext_tests : List (ℕ → Bool)
 setext_tests = (λ b. b == 10) ∷ (λ b. (b == 45) || (b == 61)) ∷ is_white ∷ []
@@ -60,12 +59,6 @@ other-mark m b dash other = elim (m == 45) as (λ v. (m == 45) ≡ v → v ≡ f
 ] refl
 
 module _ (g : Given) (t : Text) (stack : List EventName) (events : List Event) where
-  has-setext : HasRows g t stack events FlowBeforeHeadingSetext flow_before_heading_setext_rows
-  has-setext = record { at_end = λ bound previous q mark local. refl; at_byte = λ bound s ss previous q mark local. refl }
-
-  has-behind : HasRows g t stack events HeadingSetextLookAfter heading_setext_look_after_rows
-  has-behind = record { at_end = λ bound previous q mark local. refl; at_byte = λ bound s ss previous q mark local. refl }
-
   abbrev no : Rows Unit Unit
   no = row [] Nok
 
@@ -95,9 +88,8 @@ module _ (g : Given) (t : Text) (stack : List EventName) (events : List Event) w
         → Found before (kind_by m word (is_blank_line (bytes_of line))) word (look g t stack events (line ++ more) previous q mark local HeadingSetextLookAfter)
     behind-found [] in_line previous q mark local here h marks room whole =
         let P = Found before underline word in
-        subst P (sym (look-is g t stack events more previous q mark local HeadingSetextLookAfter))
-        (at-line-end g t stack events P HeadingSetextLookAfter heading_setext_look_after_rows ends has-behind refl refl 1 more over previous q mark local
-        (kept before local _ h refl refl refl refl refl, (refl, refl, ends-found local h marks whole)))
+        over-line g t stack events P HeadingSetextLookAfter heading_setext_look_after_rows ends (λ b l p q m k. refl) refl refl more over previous q mark local
+        (kept before local _ h refl refl refl refl refl, (refl, refl, ends-found local h marks whole))
     behind-found (s ∷ line) in_line previous q mark local here h marks room whole =
         let b = s.byte in
         let bs = bytes_of line in
@@ -114,7 +106,7 @@ module _ (g : Given) (t : Text) (stack : List EventName) (events : List Event) w
         let marked = mark-is g t stack events s ss q mark local m here marks in
         let breaks = g.options.constructs.thematic_break in
         let fails : is_white b ≡ false → is_thematic_break word ≡ false → at no = λ w none. nothing local h (is_blank_line (b ∷ bs)) (word-one b bs w) none (come g t stack events 1 (s ∷ ss) previous q mark local name no) (kept before local _ h refl refl refl refl refl) refl in
-        at-line-byte g t stack events P name heading_setext_look_after_rows behind_tests has-behind are-behind 1 s ss previous q mark local
+        at-line-byte g t stack events P name heading_setext_look_after_rows behind_tests (λ b l p q m k. refl) are-behind 1 s ss previous q mark local
         (by-false at (b == 10) ends _ in_line.0
         (elim (b == 45) as (λ v. (b == 45) ≡ v → at (cond v further_dash (cond (is_white b) go no))) [
           | true ↦ λ e.
@@ -159,9 +151,8 @@ module _ (g : Given) (t : Text) (stack : List EventName) (events : List Event) w
         → Found before (kind_by m word (underlines_on m (bytes_of line))) word (look g t stack events (line ++ more) previous q mark local FlowBeforeHeadingSetext)
     underline-found [] in_line previous q mark local here h marks room whole =
         let P = Found before underline word in
-        subst P (sym (look-is g t stack events more previous q mark local FlowBeforeHeadingSetext))
-        (at-line-end g t stack events P FlowBeforeHeadingSetext flow_before_heading_setext_rows ends has-setext refl refl 1 more over previous q mark local
-        (kept before local _ h refl refl refl refl refl, (refl, refl, ends-found local h marks whole)))
+        over-line g t stack events P FlowBeforeHeadingSetext flow_before_heading_setext_rows ends (λ b l p q m k. refl) refl refl more over previous q mark local
+        (kept before local _ h refl refl refl refl refl, (refl, refl, ends-found local h marks whole))
     underline-found (s ∷ line) in_line previous q mark local here h marks room whole =
         let b = s.byte in
         let bs = bytes_of line in
@@ -177,7 +168,7 @@ module _ (g : Given) (t : Text) (stack : List EventName) (events : List Event) w
         let grown = size_grows (shows stack events (s ∷ ss) q mark (unchanged local)) in
         let marked = mark-is g t stack events s ss q mark local m here marks in
         let by = by-known g t stack events 1 (s ∷ ss) previous q mark local name P at_mark grow no in
-        at-line-byte g t stack events P name flow_before_heading_setext_rows setext_tests has-setext are-setext 1 s ss previous q mark local
+        at-line-byte g t stack events P name flow_before_heading_setext_rows setext_tests (λ b l p q m k. refl) are-setext 1 s ss previous q mark local
         (by-false at (b == 10) ends _ in_line.0
         (elim (b == m) as (λ v. (b == m) ≡ v → at (cond (is_line_mark b) (when at_mark grow no) (cond (is_white b) go no))) [
           | true ↦ λ e.

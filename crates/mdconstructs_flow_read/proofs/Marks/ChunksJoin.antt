@@ -1,10 +1,9 @@
 -- The chunks of leaf blocks join: each that has a next one stands directly before it. In a text there may be a gap between their places.
-use Rattle.mdconstructs_flow_read.proofs.Prelude.{◌≡◌, inl, inr, ℕ, ◌+◌, List, [], sym, ap, ◌∙◌, subst, arith, Some, append-nil, slice_get, Event, Point, point, shown, virtual, next_of, previous_of, lines_in, Given, AcrossGap, AtOnce, BlocksJoin, BlocksMeet, ChunksMeet, IsDirectlyBehind, leaf_blocks, Mark, Seat, leaf_blocks_marks, linked_from}
+use Rattle.mdconstructs_flow_read.proofs.Prelude.{◌≡◌, inl, inr, ℕ, ◌+◌, List, [], sym, ap, ◌∙◌, subst, arith, Some, append-nil, slice_get, Event, Point, point, shown, virtual, next_of, previous_of, lines_in, Given, AcrossGap, AtOnce, BlocksJoin, BlocksMeet, ChunksMeet, IsDirectlyBehind, leaf_blocks, Mark, Seat, leaf_blocks_marks, linked_from, flow_events}
 use Rattle.markdown_edits.specs.Links.{content_at}
 use Rattle.mdconstructs_flow_read.proofs.Marks.Courses.{Course, text-course, whole-track}
 use Rattle.mdconstructs_flow_read.proofs.Marks.LeafSpans.{leaf-blocks-keep}
 use Rattle.mdconstructs_flow_read.proofs.Marks.MarkRuns.{Runs, RunsOver, each-begins, next-found, nothing, previous-found, runs-kept}
-use Rattle.mdconstructs_flow_read.specs.LeafEvents.{flow_events}
 
 module _ (Meets : (exit behind : Point) → Type 0) (marks : List Mark) (h : Runs Meets marks nothing) where
   abbrev es : List Event

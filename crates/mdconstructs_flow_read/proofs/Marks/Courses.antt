@@ -1,15 +1,10 @@
 -- The course of a text: each of its virtual bytes is shown where the one before it ends, or behind a gap from there.
 use Rattle.mdconstructs_machines.proofs.Columns.{end-column}
-use Rattle.mdconstructs_flow_read.proofs.Prelude.{◌≡◌, ◌⊎◌, ℕ, suc, ◌+◌, ◌-◌, ◌^◌, ◌<◌, ◌≤◌, List, [], ◌∷◌, ◌++◌, true, false, inl, inr, Contains, AllByRecursion, All-contains, All-from_recursion, every-append, every-back, every-map, append_assoc, refl, sym, ap, ◌∙◌, subst, arith, append-nil, length, length-append, filter, end-after-one, stands-self, Point, IsPointOf, IsShown, denotes_same, is_line_ending, shown, stands_before, Seat, end_after, point, virtual, upto-upto, IsChain, whole-chain, after-is-point, chain-at, chain-upto, Given, Text, IsText, Piece, pushed, passed, CanFollow, FitsAfter, empty_text, followed_by, followed_by_all, AcrossGap, AtOnce}
-use Rattle.std.proofs.lemmas.Bool.{cond_both}
-use Rattle.std.proofs.lemmas.List.{append_cancel_left, append_cancel_right}
-use Rattle.markdown_tokenizer.specs.Text.{in_range}
+use Rattle.mdconstructs_flow_read.proofs.Prelude.{◌≡◌, ◌⊎◌, ℕ, suc, ◌+◌, ◌-◌, ◌^◌, ◌<◌, ◌≤◌, List, [], ◌∷◌, ◌++◌, true, false, inl, inr, Contains, AllByRecursion, All-contains, All-from_recursion, every-append, every-back, every-map, append_assoc, refl, sym, ap, ◌∙◌, subst, arith, append-nil, length, length-append, filter, end-after-one, stands-self, Point, IsPointOf, IsShown, denotes_same, is_line_ending, shown, stands_before, Seat, end_after, point, virtual, upto-upto, IsChain, whole-chain, after-is-point, chain-at, chain-upto, Given, Text, IsText, Piece, pushed, passed, CanFollow, FitsAfter, empty_text, followed_by, followed_by_all, AcrossGap, AtOnce, after-before, place-after, place-of-point, rest-after, shown-shown, in_range, cond_both, append_cancel_left, append_cancel_right}
 use Rattle.markdown_tokenizer.proofs.Positions.Cursors.{left_of, range-empty, same-behind, text-splits, upto-order, upto-self}
 use Rattle.markdown_tokenizer.proofs.Positions.Lines.{upto-shown, way-chain, way-ends, way-rest}
-use Rattle.markdown_tokenizer.proofs.Positions.Order.{after-before}
 use Rattle.markdown_tokenizer.proofs.Positions.Points.{same-shown, shown-column, shown-line}
 use Rattle.markdown_tokenizer.proofs.Positions.Seats.{rest-later}
-use Rattle.markdown_tokenizer.proofs.Positions.Standing.{place-after, place-of-point, rest-after, shown-shown}
 use Rattle.mdconstructs_flow_read.proofs.Lines.{IsWhole, has-room}
 use Rattle.markdown_tokenizer.specs.Cursor.{IsPlace, goes_on, rest_at}
 

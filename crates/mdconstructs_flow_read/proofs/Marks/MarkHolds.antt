@@ -1,9 +1,7 @@
 -- Void spans of leaf blocks are each in one line, so they hold bytes of the text alone: none goes over a gap.
-use Rattle.std.proofs.lemmas.Bool.{not-true}
-use Rattle.mdconstructs_flow_read.proofs.Prelude.{◌≡◌, ℕ, ◌+◌, List, [], ◌∷◌, ◌++◌, true, false, not, Option, Some, None, inl, inr, append_assoc, append-nil, sym, ◌∙◌, subst, arith, Contains, recursion_from_All, All-contains_itself, AllByRecursion, and_parts, every-front, every-back, map-append, Event, Enter, Exit, Point, is_void, shown, stands_before, Seat, end_after, virtual, lines_in, event, Given, Text, IsText, AcrossGap, Chunk, Mark, alone, chunk_span, leaf_blocks, leaf_blocks_marks, linked_from, flow_events}
+use Rattle.mdconstructs_flow_read.proofs.Prelude.{◌≡◌, ℕ, ◌+◌, List, [], ◌∷◌, ◌++◌, true, false, not, Option, Some, None, inl, inr, append_assoc, append-nil, sym, ◌∙◌, subst, arith, Contains, recursion_from_All, All-contains_itself, AllByRecursion, and_parts, every-front, every-back, map-append, Event, Enter, Exit, Point, is_void, shown, stands_before, Seat, end_after, virtual, lines_in, event, Given, Text, IsText, AcrossGap, Chunk, Mark, alone, chunk_span, leaf_blocks, leaf_blocks_marks, linked_from, flow_events, in_range, not-true}
 use Rattle.markdown_base.specs.declared.event.Name.{Name}
 use Rattle.markdown_base.specs.declared.event.Name.TheVariants as name
-use Rattle.markdown_tokenizer.specs.Text.{in_range}
 use Rattle.mdconstructs_flow_read.proofs.Lines.WholeLines.{IsWhole}
 use Rattle.mdconstructs_flow_read.proofs.Marks.Courses.{Course, Place, course-on, course-place, text-course}
 use Rattle.mdconstructs_flow_read.proofs.Marks.LeafSpans.{leaf-blocks-keep}

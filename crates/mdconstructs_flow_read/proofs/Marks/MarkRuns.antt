@@ -1,6 +1,5 @@
 -- Runs of chunks among marks: a chunk that has a next one is followed by its exit and by that one.
-use Rattle.mdconstructs_flow_read.proofs.Prelude.{◌≡◌, ◌⊎◌, inl, inr, ℕ, zero, suc, ◌+◌, ◌-◌, List, [], ◌∷◌, ◌++◌, Bool, true, false, cond, Some, None, append_assoc, refl, sym, ap, ◌∙◌, subst, arith, slice_get, option_and_then, AllByRecursion, Content, Event, Enter, Exit, Point, is_void, shown, Seat, end_after, IsLinkedEnter, next_of, previous_of, line_text, event, Line, Chunk, Mark, body, chunk_span, linked_from, text_marks}
-use Rattle.std.proofs.lemmas.Option.{cond_some}
+use Rattle.mdconstructs_flow_read.proofs.Prelude.{◌≡◌, ◌⊎◌, inl, inr, ℕ, zero, suc, ◌+◌, ◌-◌, List, [], ◌∷◌, ◌++◌, Bool, true, false, cond, Some, None, append_assoc, refl, sym, ap, ◌∙◌, subst, arith, slice_get, option_and_then, AllByRecursion, Content, Event, Enter, Exit, Point, is_void, shown, Seat, end_after, IsLinkedEnter, next_of, previous_of, line_text, event, Line, Chunk, Mark, body, chunk_span, linked_from, text_marks, cond_some}
 use Rattle.markdown_base.specs.declared.event.Content.TheVariants as content
 use Rattle.markdown_base.specs.declared.event.Name.TheVariants as name
 use Rattle.markdown_edits.specs.Links.{content_at}

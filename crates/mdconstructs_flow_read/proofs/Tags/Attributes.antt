@@ -1,8 +1,6 @@
 -- What comes behind the name of an opening tag, byte by byte: the definition of attributes says the same.
-use Rattle.markdown_base.proofs.Facts.Bools.{cond-same}
 use Rattle.markdown_base.proofs.Facts.Lists.{Fits, drop-fits, fits-more, either-fits}
-use Rattle.markdown_base.proofs.Facts.Numbers.{unlike}
-use Rattle.mdconstructs_flow_read.proofs.Prelude.{◌≡◌, ℕ, zero, suc, ◌+◌, ◌<◌, ◌≤◌, ◌==◌, ◌||◌, ◌&&◌, not, List, [], ◌∷◌, Bool, true, false, cond, Option, Some, None, length, drop, refl, sym, ap, ◌∙◌, arith, one-add, le_trans, prefix_len, eqb-true, is_white, first_passes, begins_attribute, goes_on_attribute, is_bare, behind_quote, behind_value, behind_attribute, ends_tag, ends_open_tag}
+use Rattle.mdconstructs_flow_read.proofs.Prelude.{◌≡◌, ℕ, zero, suc, ◌+◌, ◌<◌, ◌≤◌, ◌==◌, ◌||◌, ◌&&◌, not, List, [], ◌∷◌, Bool, true, false, cond, Option, Some, None, length, drop, refl, sym, ap, ◌∙◌, arith, one-add, le_trans, prefix_len, eqb-true, is_white, first_passes, begins_attribute, goes_on_attribute, is_bare, behind_quote, behind_value, behind_attribute, ends_tag, ends_open_tag, cond-same, unlike}
 use Rattle.mdconstructs_flow_read.proofs.Looks.ByteClasses.{no_bare, no_value, begins-goes-on}
 use Rattle.mdconstructs_flow_read.specs.HtmlLines.{is_blank_line, unindented}
 

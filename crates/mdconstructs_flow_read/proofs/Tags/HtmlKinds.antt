@@ -1,7 +1,5 @@
 -- The kind of HTML that a line begins, byte by byte from behind the less-than sign: the definition says the same.
-use Rattle.markdown_base.proofs.Facts.Numbers.{eq-flip}
-use Rattle.mdconstructs_flow.proofs.TagNames.{letter-is}
-use Rattle.mdconstructs_flow_read.proofs.Prelude.{◌≡◌, ℕ, suc, ◌+◌, ◌==◌, ◌||◌, ◌&&◌, not, nat_le, List, [], ◌∷◌, Bool, true, false, cond, length, take, drop, refl, sym, ap, ◌∙◌, subst, arith, one-add, is_ascii_alphabetic, is_ascii_alphanumeric, prefix_len, codes, eqb-true, and-true, or-false, nat_tests, html_block_names, html_raw_names, is_white, no_name, one_byte_more, is_number_in, ends_open_tag, ends_tag, first_passes, is_named, starts_with, tag_name}
+use Rattle.mdconstructs_flow_read.proofs.Prelude.{◌≡◌, ℕ, suc, ◌+◌, ◌==◌, ◌||◌, ◌&&◌, not, nat_le, List, [], ◌∷◌, Bool, true, false, cond, length, take, drop, refl, sym, ap, ◌∙◌, subst, arith, one-add, is_ascii_alphabetic, is_ascii_alphanumeric, prefix_len, codes, eqb-true, and-true, or-false, nat_tests, html_block_names, html_raw_names, is_white, no_name, one_byte_more, is_number_in, ends_open_tag, ends_tag, first_passes, is_named, starts_with, tag_name, eq-flip, letter-is}
 use Rattle.mdconstructs_flow_read.specs.HtmlLines.{unindented, is_blank_line}
 use Rattle.mdconstructs_flow_read.proofs.Tags.HtmlNumbers.{named_kind}
 use Rattle.mdconstructs_flow_read.proofs.Tags.Attributes.{after, before, behind, closing, slashed, goes, closing-is, open-is, drop-run}

@@ -1,7 +1,5 @@
 -- The kinds of HTML by numbers, as they are written down and looked for.
-use Rattle.markdown_base.proofs.Facts.Numbers.{eq-flip}
-use Rattle.mdconstructs_flow_read.proofs.Prelude.{◌≡◌, ℕ, ◌≤◌, ◌==◌, ◌||◌, ◌&&◌, not, nat_le, List, [], ◌∷◌, Bool, true, false, cond, map, take, drop, refl, sym, ap, ◌∙◌, subst, arith, is_ascii_alphabetic, None, Option, Some, codes, eqb-true, leb-false, html_block_names, html_raw_names, HtmlKind, raw, comment, instruction, declaration, cdata, block_tag, any_tag, begins, behind_name, ends_name, first_passes, holds, html_kind, is_block_name, is_closing_tag, is_named, is_open_tag, lower, name_at, starts_with, tag_name, html_number, number}
-use Rattle.std.proofs.Math.Bool.{or-false}
+use Rattle.mdconstructs_flow_read.proofs.Prelude.{◌≡◌, ℕ, ◌≤◌, ◌==◌, ◌||◌, ◌&&◌, not, nat_le, List, [], ◌∷◌, Bool, true, false, cond, map, take, drop, refl, sym, ap, ◌∙◌, subst, arith, is_ascii_alphabetic, None, Option, Some, codes, eqb-true, leb-false, html_block_names, html_raw_names, HtmlKind, raw, comment, instruction, declaration, cdata, block_tag, any_tag, begins, behind_name, ends_name, first_passes, holds, html_kind, is_block_name, is_closing_tag, is_named, is_open_tag, lower, name_at, starts_with, tag_name, html_number, number, eq-flip, or-false}
 use Rattle.mdconstructs_flow_read.specs.HtmlLines.{is_blank_line}
 
 -- the kind of a tag with a listed name: a raw one opens kind 1, one of a block opens or closes kind 6

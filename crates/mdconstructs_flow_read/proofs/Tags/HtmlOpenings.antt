@@ -1,7 +1,5 @@
 -- What the look behind a less-than sign tells apart, byte by byte: the definition of the kinds of HTML says the same.
-use Rattle.markdown_base.proofs.Facts.Bools.{cond-same}
-use Rattle.markdown_base.proofs.Facts.Numbers.{unlike, eq-flip}
-use Rattle.mdconstructs_flow_read.proofs.Prelude.{◌≡◌, ℕ, ◌+◌, ◌==◌, ◌||◌, ◌&&◌, nat_le, List, [], ◌∷◌, Bool, true, false, cond, take, drop, refl, sym, ap, ◌∙◌, is_ascii_alphabetic, is_ascii_alphanumeric, prefix_len, codes, eqb-true, one_more, cdata_byte, ends_tag, first_passes, is_open_tag, starts_with, tag_name}
+use Rattle.mdconstructs_flow_read.proofs.Prelude.{◌≡◌, ℕ, ◌+◌, ◌==◌, ◌||◌, ◌&&◌, nat_le, List, [], ◌∷◌, Bool, true, false, cond, take, drop, refl, sym, ap, ◌∙◌, is_ascii_alphabetic, is_ascii_alphanumeric, prefix_len, codes, eqb-true, one_more, cdata_byte, ends_tag, first_passes, is_open_tag, starts_with, tag_name, cond-same, unlike, eq-flip}
 use Rattle.mdconstructs_flow_read.specs.HtmlLines.{unindented}
 use Rattle.mdconstructs_flow_read.proofs.Tags.HtmlNumbers.{html_at, named_kind}
 use Rattle.mdconstructs_flow_read.proofs.Tags.HtmlKinds.{closed, closed-is, first-is, opened, opened-is, tagged}
