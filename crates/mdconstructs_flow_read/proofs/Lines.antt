@@ -1,5 +1,5 @@
 -- Lines, and how what is in them is read.
-pub use Rattle.mdconstructs_flow_read.proofs.Lines.Checks.{called-row, checks-nok, checks-ok, class-here, looks, read-if-nok, read-if-ok}
+pub use Rattle.mdconstructs_flow_read.proofs.Lines.Checks.{called-row, class-here, looks, read-checked, step-checked}
 pub use Rattle.mdconstructs_flow_read.proofs.Lines.Columns.{back_upto, front_upto, take-upto, upto-all, upto-blank, upto-in-line, upto-short, upto-stops, upto-white, upto-whole}
 pub use Rattle.mdconstructs_flow_read.proofs.Lines.Fronts.{Fails, all-back, all-front, all-with-front, back, back-fails, bytes-behind, drop-back, drop-bytes, front, front-all, front-back, is_dark, length-back, length-front, prefix-front, prefix-grows, prefix-parts, take-front}
 pub use Rattle.mdconstructs_flow_read.proofs.Lines.KindsOfLines.{IsPossible, fence_of, possible, says, underlined-is}

@@ -1,8 +1,8 @@
 -- Indented code is read as its definition says.
-use Rattle.mdconstructs_flow_read.proofs.Prelude.{List, None, Some, [], ap, append-nil, append_assoc, arith, cond, drop, false, inl, inr, length, min, nat_le, refl, subst, suc, sym, take, true, zero, ℕ, ◌&&◌, ◌++◌, ◌+◌, ◌-◌, ◌<◌, ◌^◌, ◌∙◌, ◌∷◌, ◌≡◌, ◌≤◌, ◌⊎◌, and_parts, le-leb, leb-true, length-drop, AllByRecursion, end-after-append, Seat, end_after, CodeFlowChunk, CodeIndented, LineEnding, SpaceOrTab, Point, Name, Nok, Ok, Retry, CodeIndentedAfter, CodeIndentedAtBreak, CodeIndentedFurtherAfter, CodeIndentedFurtherBegin, CodeIndentedFurtherStart, CodeIndentedInside, CodeIndentedStart, FlowAfter, FlowBlankLineAfter, with_local, Configuration, Local, byte_of, end_place, seat_before, Given, Text, code_indented_inside, flow_byte, line_feed, unchanged, CodeIndentedLineAfter, AreLines, IndentedCodeIsRead, IsLine, IsReadAs, KeepsEdits, last_ending, Line, bytes_of, further_code, text_of, Mark, body, code_marks, leaf_marks, lines_marks, span_marks, white, indent, is_blank_line, IsInLine, LineEnds, is_white, all_of, ending_of, line_text}
+use Rattle.mdconstructs_flow_read.proofs.Prelude.{List, None, Some, [], ap, append-nil, append_assoc, arith, cond, drop, false, inl, inr, length, min, nat_le, refl, subst, suc, sym, take, true, zero, ℕ, ◌&&◌, ◌++◌, ◌+◌, ◌-◌, ◌<◌, ◌^◌, ◌∙◌, ◌∷◌, ◌≡◌, ◌≤◌, ◌⊎◌, and_parts, le-leb, leb-true, length-drop, AllByRecursion, end-after-append, Seat, end_after, CodeFlowChunk, CodeIndented, LineEnding, SpaceOrTab, Point, Name, Retry, CodeIndentedAfter, CodeIndentedAtBreak, CodeIndentedFurtherAfter, CodeIndentedFurtherBegin, CodeIndentedFurtherStart, CodeIndentedInside, CodeIndentedStart, FlowAfter, FlowBlankLineAfter, with_local, Configuration, Local, byte_of, end_place, seat_before, Given, Text, code_indented_inside, flow_byte, line_feed, unchanged, CodeIndentedLineAfter, AreLines, IndentedCodeIsRead, IsLine, IsReadAs, KeepsEdits, last_ending, Line, bytes_of, further_code, text_of, Mark, body, code_marks, leaf_marks, lines_marks, span_marks, white, indent, is_blank_line, IsInLine, LineEnds, is_white, all_of, ending_of, line_text}
 use Rattle.mdconstructs_flow_read.proofs.Blocks.CodeCalls.{Counted, IsRead, begins, chunk-begins, chunk-feed, chunk-other, feed-read, feeds, further-white, inside_runs, start-ends, start-on, white_runs}
 use Rattle.mdconstructs_flow_read.proofs.Blocks.CodeLooks.{ahead-is, code_ahead, further-is, further_by, look-from-feed}
-use Rattle.mdconstructs_flow_read.proofs.Lines.{AreRead, EndsWithIt, EndsWithout, Fails, IsAt, IsWhite, all-in-line, all-white, back_upto, byte-then, comes, cut-line, edits_kept, fails-line, first-parts, front_upto, goes, is_in_line, keeps-on, line-ending-is, line-text-is, lines-behind, none-then, one-more, prefix-grows, read-if-nok, read-if-ok, reads-on, row-ends, run-on, says, seats-split, take-upto, then, then-ends, upto-all, upto-blank, upto-in-line, upto-short, upto-stops, upto-white, upto-whole, whole-before}
+use Rattle.mdconstructs_flow_read.proofs.Lines.{AreRead, EndsWithIt, EndsWithout, Fails, IsAt, IsWhite, all-in-line, all-white, back_upto, byte-then, comes, cut-line, edits_kept, fails-line, first-parts, front_upto, goes, is_in_line, keeps-on, line-ending-is, line-text-is, lines-behind, none-then, one-more, prefix-grows, read-checked, reads-on, row-ends, run-on, says, seats-split, take-upto, then, then-ends, upto-all, upto-blank, upto-in-line, upto-short, upto-stops, upto-white, upto-whole, whole-before}
 use Rattle.mdconstructs_flow_read.proofs.Looks.ByteClasses.{white-no-feed}
 
 module _ (g : Given) (t : Text) where
@@ -54,19 +54,20 @@ module _ (g : Given) (t : Text) where
     there : (local : Local Unit Unit) → IsAt t (with_local k local) p (e ∷ rest)
     there local = record { behind = at.behind; left = at.left; waits = at.waits }
 
-    further : code_ahead 0 rest ≡ true → IsRead g t k CodeIndentedInside (e ∷ []) rest (goes g t CodeFlowChunk p ++ feeds g t e) CodeIndentedFurtherBegin
-    further ahead =
+    ahead-read : (line rest' : List Seat) (marks : List Mark) (to : Name) → ((local : Local Unit Unit) → IsRead g t (with_local k local) (cond (code_ahead 0 rest) CodeIndentedLineAfter CodeIndentedAfter) line rest' marks to)
+        → IsRead g t k CodeIndentedInside line rest' marks to
+    ahead-read line rest' marks to read =
         let h = look-from-feed g t k.stack k.events e rest feed (byte_of (seat_before t k.position)) k.position k.ended (unchanged k.local) less in
-        read-if-ok g t k e rest at.left at.waits CodeIndentedInside CodeIndentedFurtherStart CodeIndentedLineAfter CodeIndentedAfter code_indented_inside refl line_feed (ap flow_byte feed) [] (λ previous. refl)
-        KeepsEdits (λ after kept. record { edits = kept.edits ∙ h.keeps.edits; resolvers = kept.resolvers ∙ h.keeps.resolvers }) (e ∷ []) rest (goes g t CodeFlowChunk p ++ feeds g t e) (Retry CodeIndentedFurtherBegin)
-        (h.answer ∙ ap (λ b. cond b Ok Nok) ahead) (chunk-feed g t _ p CodeIndentedLineAfter (λ b. refl) e rest feed (there _))
+        read-checked g t k e rest at.left at.waits CodeIndentedInside CodeIndentedFurtherStart CodeIndentedLineAfter CodeIndentedAfter code_indented_inside refl line_feed (ap flow_byte feed) [] (λ previous. refl)
+        (code_ahead 0 rest) h.answer KeepsEdits (λ after kept. record { edits = kept.edits ∙ h.keeps.edits; resolvers = kept.resolvers ∙ h.keeps.resolvers }) line rest' marks (Retry to) (read _)
+
+    further : code_ahead 0 rest ≡ true → IsRead g t k CodeIndentedInside (e ∷ []) rest (goes g t CodeFlowChunk p ++ feeds g t e) CodeIndentedFurtherBegin
+    further ahead = ahead-read (e ∷ []) rest (goes g t CodeFlowChunk p ++ feeds g t e) CodeIndentedFurtherBegin
+        (λ local. rw ahead (chunk-feed g t _ p CodeIndentedLineAfter (λ b. refl) e rest feed (there local)))
 
     last : code_ahead 0 rest ≡ false → IsRead g t k CodeIndentedInside [] (e ∷ rest) (goes g t CodeFlowChunk p ++ goes g t CodeIndented p) FlowAfter
-    last ahead =
-        let h = look-from-feed g t k.stack k.events e rest feed (byte_of (seat_before t k.position)) k.position k.ended (unchanged k.local) less in
-        read-if-nok g t k e rest at.left at.waits CodeIndentedInside CodeIndentedFurtherStart CodeIndentedLineAfter CodeIndentedAfter code_indented_inside refl line_feed (ap flow_byte feed) [] (λ previous. refl)
-        KeepsEdits (λ after kept. record { edits = kept.edits ∙ h.keeps.edits; resolvers = kept.resolvers ∙ h.keeps.resolvers }) [] (e ∷ rest) (goes g t CodeFlowChunk p ++ goes g t CodeIndented p) (Retry FlowAfter)
-        (h.answer ∙ ap (λ b. cond b Ok Nok) ahead) (row-ends g t edits_kept CodeIndentedAfter (CodeFlowChunk ∷ CodeIndented ∷ []) FlowAfter _ p (e ∷ rest) (Some line_feed) (there _) (ap (λ b. Some (flow_byte b)) feed) (λ b. refl))
+    last ahead = ahead-read [] (e ∷ rest) (goes g t CodeFlowChunk p ++ goes g t CodeIndented p) FlowAfter
+        (λ local. rw ahead (row-ends g t edits_kept CodeIndentedAfter (CodeFlowChunk ∷ CodeIndented ∷ []) FlowAfter _ p (e ∷ rest) (Some line_feed) (there local) (ap (λ b. Some (flow_byte b)) feed) (λ b. refl)))
 
 -- one further line at least: how many are behind it
 more-further : (f n : ℕ) → cond (nat_le 1 f) (suc f) 0 ≡ suc n → (n ≡ f) × (1 ≤ f)

@@ -1,6 +1,6 @@
 -- At the end of a line of fenced code the next line is looked at: it is the closing fence, or a line of code.
-use Rattle.mdconstructs_flow_read.proofs.Prelude.{Bool, List, [], cond, false, length, refl, subst, true, ◌++◌, ◌-◌, ◌<◌, ◌==◌, ◌^◌, ◌∷◌, ◌≡◌, ◌≤◌, Seat, Point, Name, Retry, RawFlowAfter, RawFlowAtNonLazyBreak, RawFlowCloseStart, RawFlowContentBefore, with_local, Configuration, byte_of, seat_before, Given, Text, raw_flow_at_non_lazy_break, line_feed, unchanged, bytes_of, Mark, Fence, closes, IsInLine, LineEnds}
-use Rattle.mdconstructs_flow_read.proofs.Lines.{IsAt, looks, read-if-nok, read-if-ok}
+use Rattle.mdconstructs_flow_read.proofs.Prelude.{Bool, List, [], cond, length, refl, subst, true, ◌++◌, ◌-◌, ◌<◌, ◌==◌, ◌^◌, ◌∷◌, ◌≡◌, ◌≤◌, Seat, Point, Name, Retry, RawFlowAfter, RawFlowAtNonLazyBreak, RawFlowCloseStart, RawFlowContentBefore, with_local, Configuration, byte_of, seat_before, Given, Text, raw_flow_at_non_lazy_break, line_feed, unchanged, bytes_of, Mark, Fence, closes, IsInLine, LineEnds}
+use Rattle.mdconstructs_flow_read.proofs.Lines.{IsAt, looks, read-checked}
 use Rattle.mdconstructs_flow_read.proofs.Fenced.Looks.{Saw, close-seen, closes-is}
 use Rattle.mdconstructs_flow_read.proofs.Fenced.Steps.{IsMark, IsOfFence, IsRead, KeepsFence, feed-class, fence_kept, of-fence-kept}
 
@@ -18,11 +18,5 @@ next-read g t f of size k p s l rest feed fenced at all ends room line more mark
     let seen = subst (λ v. Saw v k.local look) (closes-is g f (bytes_of l) size of)
     (close-seen g t k.stack k.events f s l rest of feed all ends (byte_of (seat_before t k.position)) k.position k.ended (unchanged k.local) at.left fenced room) in
     let read = further (with_local k look.local) (record { behind = at.behind; left = at.left; waits = at.waits }) (of-fence-kept f k.local look.local seen.1 fenced) in
-    (elim (closes g.options.constructs f (bytes_of l)) as (λ v. Saw v k.local look → IsRead g t (with_local k look.local) (behind_look v) line more marks to → IsRead g t k RawFlowAtNonLazyBreak line more marks to) [
-      | true ↦ λ saw read.
-          read-if-ok g t k s (l ++ rest) at.left at.waits RawFlowAtNonLazyBreak RawFlowCloseStart RawFlowAfter RawFlowContentBefore raw_flow_at_non_lazy_break refl line_feed (feed-class s.byte feed) [] (λ previous. refl)
-          KeepsFence (λ after kept. fence_kept.on k.local look.local after saw.1 kept) line more marks (Retry to) saw.0 read
-      | false ↦ λ saw read.
-          read-if-nok g t k s (l ++ rest) at.left at.waits RawFlowAtNonLazyBreak RawFlowCloseStart RawFlowAfter RawFlowContentBefore raw_flow_at_non_lazy_break refl line_feed (feed-class s.byte feed) [] (λ previous. refl)
-          KeepsFence (λ after kept. fence_kept.on k.local look.local after saw.1 kept) line more marks (Retry to) saw.0 read
-    ]) seen read
+    read-checked g t k s (l ++ rest) at.left at.waits RawFlowAtNonLazyBreak RawFlowCloseStart RawFlowAfter RawFlowContentBefore raw_flow_at_non_lazy_break refl line_feed (feed-class s.byte feed) [] (λ previous. refl)
+    (closes g.options.constructs f (bytes_of l)) seen.0 KeepsFence (λ after kept. fence_kept.on k.local look.local after seen.1 kept) line more marks (Retry to) read

@@ -1,6 +1,6 @@
 -- The look at the line behind a line of HTML of kinds 6 and 7: is it blank?
-use Rattle.mdconstructs_flow_read.proofs.Prelude.{◌≡◌, ℕ, suc, ◌+◌, List, [], ◌∷◌, Bool, true, false, cond, Option, Some, drop, refl, sym, ap, ◌∙◌, subst, nat_le, Event, EventName, Name, State, Next, Nok, Ok, Retry, HtmlFlowBlankLineBefore, HtmlFlowContinuation, HtmlFlowContinuationAfter, HtmlFlowContinuationStart, HtmlFlowBlankLineInside, Seat, Byte, check_at, with_local, Local, byte_of, seat_before, sight, Given, Text, told, rows_in, Look, scan, Rows, consume, row, table_step, FlowByte, flow_byte, is_blank, is_line_feed, line_feed, flow, unchanged, html_flow_blank_line_before_rows, html_flow_continuation, html_flow_continuation_rows, IsReadAs, Mark}
-use Rattle.mdconstructs_flow_read.proofs.Lines.Checks.{called-row, class-here, look_here, read-behind, step-checks-nok, step-checks-ok}
+use Rattle.mdconstructs_flow_read.proofs.Prelude.{Bool, List, Option, Some, [], ap, cond, drop, false, nat_le, refl, subst, suc, sym, true, ℕ, ◌+◌, ◌∙◌, ◌∷◌, ◌≡◌, Seat, Event, EventName, Name, State, Next, Nok, Ok, Retry, HtmlFlowBlankLineBefore, HtmlFlowContinuation, HtmlFlowContinuationAfter, HtmlFlowContinuationStart, check_at, with_local, Local, byte_of, seat_before, sight, Given, Text, Byte, FlowByte, flow_byte, is_blank, is_line_feed, line_feed, flow, unchanged, html_flow_blank_line_before_rows, html_flow_continuation, html_flow_continuation_rows, HtmlFlowBlankLineInside, IsReadAs, Mark, told, rows_in, Look, scan, Rows, consume, row, table_step}
+use Rattle.mdconstructs_flow_read.proofs.Lines.Checks.{called-row, class-here, look_here, read-behind, step-checks}
 use Rattle.mdconstructs_flow_read.proofs.Html.Steps.{Config, Kept, kept-on, kind_in}
 
 -- white space comes, and then a line ending or the end
@@ -61,21 +61,15 @@ module _ (g : Given) (t : Text) (k : Config) (s : Seat) (ss : List Seat) (at : d
       let rows : Rows Unit Unit = rows_in (html_flow_continuation_rows {R = Unit {0}} {D = Unit {0}}).cases (html_flow_continuation_rows {R = Unit {0}} {D = Unit {0}}).rest line_feed in
       called-row g t k HtmlFlowContinuation html_flow_continuation refl (Some line_feed) (class-here g t k (s ∷ ss) at waits ∙ ap (λ n. Some (flow_byte n)) feed) rows (λ previous. refl) ∙ rw long refl
 
-  module _ (line rest : List Seat) (marks : List Mark) (to : State) where
-    pub read-if-blank : blank_ahead ss ≡ true → ((local : Local Unit Unit) → Kept k.local local → IsReadAs g t Kept (with_local k local) HtmlFlowContinuationAfter line rest marks to)
-        → IsReadAs g t Kept k HtmlFlowContinuation line rest marks to
-    read-if-blank ahead h =
-        let r = looked in
-        let kept = kept-on k.local (unchanged k.local) r.local (unchanged-kept k.local) says.kept in
-        read-behind g t Kept k HtmlFlowContinuation HtmlFlowContinuationAfter r.local (suc r.calls)
-        (step-checks-ok g t k s ss at waits HtmlFlowContinuation HtmlFlowBlankLineBefore HtmlFlowContinuationAfter HtmlFlowContinuationStart (unchanged k.local) checks (says.answer ∙ rw ahead refl))
-        (λ after more. kept-on k.local r.local after kept more) line rest marks to (h r.local kept)
+  -- the state that comes next
+  abbrev pub next_state : Name
+  next_state = cond (blank_ahead ss) HtmlFlowContinuationAfter HtmlFlowContinuationStart
 
-    pub read-if-not : blank_ahead ss ≡ false → ((local : Local Unit Unit) → Kept k.local local → IsReadAs g t Kept (with_local k local) HtmlFlowContinuationStart line rest marks to)
-        → IsReadAs g t Kept k HtmlFlowContinuation line rest marks to
-    read-if-not ahead h =
-        let r = looked in
-        let kept = kept-on k.local (unchanged k.local) r.local (unchanged-kept k.local) says.kept in
-        read-behind g t Kept k HtmlFlowContinuation HtmlFlowContinuationStart r.local (suc r.calls)
-        (step-checks-nok g t k s ss at waits HtmlFlowContinuation HtmlFlowBlankLineBefore HtmlFlowContinuationAfter HtmlFlowContinuationStart (unchanged k.local) checks (says.answer ∙ rw ahead refl))
-        (λ after more. kept-on k.local r.local after kept more) line rest marks to (h r.local kept)
+  pub read-looked : (line rest : List Seat) (marks : List Mark) (to : State) → ((local : Local Unit Unit) → Kept k.local local → IsReadAs g t Kept (with_local k local) next_state line rest marks to)
+      → IsReadAs g t Kept k HtmlFlowContinuation line rest marks to
+  read-looked line rest marks to h =
+      let r = looked in
+      let kept = kept-on k.local (unchanged k.local) r.local (unchanged-kept k.local) says.kept in
+      read-behind g t Kept k HtmlFlowContinuation next_state r.local (suc r.calls)
+      (step-checks g t k s ss at waits HtmlFlowContinuation HtmlFlowBlankLineBefore HtmlFlowContinuationAfter HtmlFlowContinuationStart (unchanged k.local) checks (blank_ahead ss) says.answer)
+      (λ after more. kept-on k.local r.local after kept more) line rest marks to (h r.local kept)

@@ -1,5 +1,5 @@
 -- HTML of kinds 1 to 5 is behind its end exactly if its line holds it; and what the kind of a line says of its bytes.
-use Rattle.mdconstructs_flow_read.proofs.Prelude.{◌≡◌, ℕ, zero, suc, ◌==◌, List, [], ◌∷◌, Bool, true, false, cond, nat_le, not, arith, refl, sym, ◌∙◌, ap, eqb-true, nat_tests, Constructs, first_passes, is_blank_line, unindented, html, seen_kind}
+use Rattle.mdconstructs_flow_read.proofs.Prelude.{Bool, List, [], ap, arith, cond, false, nat_le, not, refl, suc, sym, true, zero, ℕ, ◌==◌, ◌∙◌, ◌∷◌, ◌≡◌, eqb-true, nat_tests, Constructs, first_passes, is_blank_line, unindented, html, seen_kind}
 use Rattle.mdconstructs_flow_read.proofs.Tags.HtmlNumbers.{ends_html, html_at, number-is}
 use Rattle.mdconstructs_flow_read.proofs.Html.Places.{bracket-ends, dash-ends, greater-ends, inside, is_closed, question-ends, through}
 use Rattle.mdconstructs_flow_read.proofs.Html.Raw.{raw-ends}
@@ -8,10 +8,10 @@ use Rattle.mdconstructs_flow_read.proofs.Lines.KindsOfLines.{says}
 pub ends-are : (kind : ℕ) → nat_le 6 kind ≡ false → nat_le 1 kind ≡ true → (t : List ℕ) → is_closed (through kind inside t) ≡ ends_html kind t
 ends-are zero short some t = absurd (cc)
 ends-are (suc zero) short some t = raw-ends t
-ends-are (suc (suc zero)) short some t = (dash-ends t).0
+ends-are (suc (suc zero)) short some t = dash-ends t
 ends-are (suc (suc (suc zero))) short some t = (question-ends t).0
 ends-are (suc (suc (suc (suc zero)))) short some t = greater-ends t
-ends-are (suc (suc (suc (suc (suc zero))))) short some t = (bracket-ends t).0
+ends-are (suc (suc (suc (suc (suc zero))))) short some t = bracket-ends t
 ends-are (suc (suc (suc (suc (suc (suc kind)))))) short some t = absurd (let long : nat_le 6 (suc (suc (suc (suc (suc (suc kind)))))) ≡ true = grind (arith, nat_tests) in cc)
 
 -- A line of HTML is not blank, and begins HTML of its kind behind its white space

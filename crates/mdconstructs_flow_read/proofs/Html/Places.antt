@@ -1,5 +1,5 @@
 -- Where HTML of kinds 1 to 5 is in a line, by its bytes so far; and that a line is behind the end exactly if it holds the end.
-use Rattle.mdconstructs_flow_read.proofs.Prelude.{◌≡◌, ℕ, ◌==◌, ◌||◌, ◌&&◌, List, [], ◌∷◌, Bool, true, false, cond, Option, Some, None, refl, sym, ap, ◌∙◌, is_ascii_alphabetic, eqb-true, html_raw_names, FlowByte, less, flow_byte, is_less, is_greater, is_slash, is_dash, is_question, is_closing, name_byte, is_number_in, no_name, one_byte_more, holds, starts_with, eq-flip}
+use Rattle.mdconstructs_flow_read.proofs.Prelude.{Bool, List, None, Option, Some, [], ap, cond, false, refl, sym, true, ℕ, ◌&&◌, ◌==◌, ◌||◌, ◌∙◌, ◌∷◌, ◌≡◌, eqb-true, is_ascii_alphabetic, html_raw_names, FlowByte, flow_byte, is_closing, is_dash, is_greater, is_less, is_question, is_slash, less, name_byte, is_number_in, no_name, one_byte_more, holds, starts_with, eq-flip}
 use Rattle.mdconstructs_flow_read.proofs.Looks.ByteClasses.{dash-is, greater-is, question-is, closing-is}
 
 -- in the line; behind a dash or a bracket; where only a greater-than sign is missing; behind a less-than sign; in the name of a closing tag,
@@ -60,109 +60,81 @@ module _ (kind : ℕ) where
   stays-closed (b ∷ bs) = stays-closed bs
 
 -- each kind has few of these moves
-dash-inside : (c : FlowByte) → moved 2 inside c ≡ cond (is_dash c) dashed inside
-dash-inside less = refl
-dash-inside c = refl
+dash-moves : (c : FlowByte) → (moved 2 inside c ≡ cond (is_dash c) dashed inside) × (moved 2 dashed c ≡ cond (is_dash c) marked inside) × (moved 2 marked c ≡ cond (is_greater c) closed (cond (is_dash c) marked inside))
+dash-moves less = (refl, refl, refl)
+dash-moves c = (refl, refl, refl)
 
-dash-dashed : (c : FlowByte) → moved 2 dashed c ≡ cond (is_dash c) marked inside
-dash-dashed less = refl
-dash-dashed c = refl
-
-dash-marked : (c : FlowByte) → moved 2 marked c ≡ cond (is_greater c) closed (cond (is_dash c) marked inside)
-dash-marked less = refl
-dash-marked c = refl
-
-question-inside : (c : FlowByte) → moved 3 inside c ≡ cond (is_question c) marked inside
-question-inside less = refl
-question-inside c = refl
-
-question-marked : (c : FlowByte) → moved 3 marked c ≡ cond (is_greater c) closed (cond (is_question c) marked inside)
-question-marked less = refl
-question-marked c = refl
+question-moves : (c : FlowByte) → (moved 3 inside c ≡ cond (is_question c) marked inside) × (moved 3 marked c ≡ cond (is_greater c) closed (cond (is_question c) marked inside))
+question-moves less = (refl, refl)
+question-moves c = (refl, refl)
 
 greater-inside : (c : FlowByte) → moved 4 inside c ≡ cond (is_greater c) closed inside
 greater-inside less = refl
 greater-inside c = refl
 
-bracket-inside : (c : FlowByte) → moved 5 inside c ≡ cond (is_closing c) bracketed inside
-bracket-inside less = refl
-bracket-inside c = refl
+bracket-moves : (c : FlowByte) → (moved 5 inside c ≡ cond (is_closing c) bracketed inside) × (moved 5 bracketed c ≡ cond (is_closing c) marked inside)
+    × (moved 5 marked c ≡ cond (is_greater c) closed (cond (is_closing c) marked inside))
+bracket-moves less = (refl, refl, refl)
+bracket-moves c = (refl, refl, refl)
 
-bracket-bracketed : (c : FlowByte) → moved 5 bracketed c ≡ cond (is_closing c) marked inside
-bracket-bracketed less = refl
-bracket-bracketed c = refl
+-- Two of a mark and a greater-than sign end comments and CDATA
+module _ (kind m : ℕ) (is_mark : FlowByte → Bool) (mark-is : (b : ℕ) → is_mark (flow_byte b) ≡ (b == m)) (begun : Place)
+    (moves : (c : FlowByte) → (moved kind inside c ≡ cond (is_mark c) begun inside) × (moved kind begun c ≡ cond (is_mark c) marked inside) × (moved kind marked c ≡ cond (is_greater c) closed (cond (is_mark c) marked inside))) where
+  abbrev ends : List ℕ → Bool
+  ends = holds (m ∷ m ∷ 62 ∷ [])
 
-bracket-marked : (c : FlowByte) → moved 5 marked c ≡ cond (is_greater c) closed (cond (is_closing c) marked inside)
-bracket-marked less = refl
-bracket-marked c = refl
+  abbrev to : List ℕ → Place → Bool
+  to bs p = is_closed (through kind p bs)
 
--- Comments
-pub dash-ends : (bs : List ℕ) → (is_closed (through 2 inside bs) ≡ holds (45 ∷ 45 ∷ 62 ∷ []) bs) × (is_closed (through 2 dashed bs) ≡ holds (45 ∷ 45 ∷ 62 ∷ []) (45 ∷ bs))
-    × (is_closed (through 2 marked bs) ≡ holds (45 ∷ 45 ∷ 62 ∷ []) (45 ∷ 45 ∷ bs))
-dash-ends [] = (refl, refl, refl)
-dash-ends (b ∷ bs) =
-    let (within, once, twice) = dash-ends bs in
-    let ends = holds (45 ∷ 45 ∷ 62 ∷ []) in
-    let to = λ (p : Place). is_closed (through 2 p bs) in
-    let class : is_dash (flow_byte b) ≡ (b == 45) = dash-is b in (
-      ap to (dash-inside (flow_byte b) ∙ ap (λ t. cond t dashed inside) class) ∙ elim (b == 45) as (λ t. (b == 45) ≡ t → to (cond t dashed inside) ≡ ends (b ∷ bs)) [
-        | true ↦ λ e. once ∙ sym (ap (λ n. ends (n ∷ bs)) (eqb-true b 45 e))
-        | false ↦ λ e. within ∙ sym (ap (λ t. (t && starts_with (45 ∷ 62 ∷ []) bs) || ends bs) (eq-flip 45 b ∙ e))
-      ] refl,
-      ap to (dash-dashed (flow_byte b) ∙ ap (λ t. cond t marked inside) class) ∙ elim (b == 45) as (λ t. (b == 45) ≡ t → to (cond t marked inside) ≡ ends (45 ∷ b ∷ bs)) [
-        | true ↦ λ e. twice ∙ sym (ap (λ n. ends (45 ∷ n ∷ bs)) (eqb-true b 45 e))
-        | false ↦ λ e. within ∙ sym (ap (λ t. (t && starts_with (62 ∷ []) bs) || ((t && starts_with (45 ∷ 62 ∷ []) bs) || ends bs)) (eq-flip 45 b ∙ e))
-      ] refl,
-      ap to (dash-marked (flow_byte b) ∙ ap (λ t. cond t closed (cond (is_dash (flow_byte b)) marked inside)) (greater-is b) ∙ ap (λ t. cond (b == 62) closed (cond t marked inside)) class)
-          ∙ elim (b == 62) as (λ t. (b == 62) ≡ t → to (cond t closed (cond (b == 45) marked inside)) ≡ ends (45 ∷ 45 ∷ b ∷ bs)) [
-            | true ↦ λ e. ap is_closed (stays-closed 2 bs) ∙ sym (ap (λ n. ends (45 ∷ 45 ∷ n ∷ bs)) (eqb-true b 62 e))
-            | false ↦ λ g. elim (b == 45) as (λ t. (b == 45) ≡ t → to (cond t marked inside) ≡ ends (45 ∷ 45 ∷ b ∷ bs)) [
-              | true ↦ λ e. twice ∙ sym (ap (λ n. ends (45 ∷ 45 ∷ n ∷ bs)) (eqb-true b 45 e))
-              | false ↦ λ e. within ∙ sym (ap (λ t. (t && true) || (((45 == b) && starts_with (62 ∷ []) bs) || (((45 == b) && starts_with (45 ∷ 62 ∷ []) bs) || ends bs))) (eq-flip 62 b ∙ g) ∙ ap (λ t. (t && starts_with (62 ∷ []) bs) || ((t && starts_with (45 ∷ 62 ∷ []) bs) || ends bs)) (eq-flip 45 b ∙ e))
-            ] refl
-          ] refl,
-    )
+  abbrev behind_one : ℕ → List ℕ → Bool → Bool
+  behind_one b bs t = (t && starts_with (62 ∷ []) bs) || ((t && starts_with (m ∷ 62 ∷ []) bs) || ends bs)
 
--- CDATA
-pub bracket-ends : (bs : List ℕ) → (is_closed (through 5 inside bs) ≡ holds (93 ∷ 93 ∷ 62 ∷ []) bs) × (is_closed (through 5 bracketed bs) ≡ holds (93 ∷ 93 ∷ 62 ∷ []) (93 ∷ bs))
-    × (is_closed (through 5 marked bs) ≡ holds (93 ∷ 93 ∷ 62 ∷ []) (93 ∷ 93 ∷ bs))
-bracket-ends [] = (refl, refl, refl)
-bracket-ends (b ∷ bs) =
-    let (within, once, twice) = bracket-ends bs in
-    let ends = holds (93 ∷ 93 ∷ 62 ∷ []) in
-    let to = λ (p : Place). is_closed (through 5 p bs) in
-    let class : is_closing (flow_byte b) ≡ (b == 93) = closing-is b in (
-      ap to (bracket-inside (flow_byte b) ∙ ap (λ t. cond t bracketed inside) class) ∙ elim (b == 93) as (λ t. (b == 93) ≡ t → to (cond t bracketed inside) ≡ ends (b ∷ bs)) [
-        | true ↦ λ e. once ∙ sym (ap (λ n. ends (n ∷ bs)) (eqb-true b 93 e))
-        | false ↦ λ e. within ∙ sym (ap (λ t. (t && starts_with (93 ∷ 62 ∷ []) bs) || ends bs) (eq-flip 93 b ∙ e))
-      ] refl,
-      ap to (bracket-bracketed (flow_byte b) ∙ ap (λ t. cond t marked inside) class) ∙ elim (b == 93) as (λ t. (b == 93) ≡ t → to (cond t marked inside) ≡ ends (93 ∷ b ∷ bs)) [
-        | true ↦ λ e. twice ∙ sym (ap (λ n. ends (93 ∷ n ∷ bs)) (eqb-true b 93 e))
-        | false ↦ λ e. within ∙ sym (ap (λ t. (t && starts_with (62 ∷ []) bs) || ((t && starts_with (93 ∷ 62 ∷ []) bs) || ends bs)) (eq-flip 93 b ∙ e))
-      ] refl,
-      ap to (bracket-marked (flow_byte b) ∙ ap (λ t. cond t closed (cond (is_closing (flow_byte b)) marked inside)) (greater-is b) ∙ ap (λ t. cond (b == 62) closed (cond t marked inside)) class)
-          ∙ elim (b == 62) as (λ t. (b == 62) ≡ t → to (cond t closed (cond (b == 93) marked inside)) ≡ ends (93 ∷ 93 ∷ b ∷ bs)) [
-            | true ↦ λ e. ap is_closed (stays-closed 5 bs) ∙ sym (ap (λ n. ends (93 ∷ 93 ∷ n ∷ bs)) (eqb-true b 62 e))
-            | false ↦ λ g. elim (b == 93) as (λ t. (b == 93) ≡ t → to (cond t marked inside) ≡ ends (93 ∷ 93 ∷ b ∷ bs)) [
-              | true ↦ λ e. twice ∙ sym (ap (λ n. ends (93 ∷ 93 ∷ n ∷ bs)) (eqb-true b 93 e))
-              | false ↦ λ e. within ∙ sym (ap (λ t. (t && true) || (((93 == b) && starts_with (62 ∷ []) bs) || (((93 == b) && starts_with (93 ∷ 62 ∷ []) bs) || ends bs))) (eq-flip 62 b ∙ g) ∙ ap (λ t. (t && starts_with (62 ∷ []) bs) || ((t && starts_with (93 ∷ 62 ∷ []) bs) || ends bs)) (eq-flip 93 b ∙ e))
-            ] refl
-          ] refl,
-    )
+  marks-end : (is_closed begun ≡ ends (m ∷ [])) × (false ≡ ends (m ∷ m ∷ [])) × ((bs : List ℕ) → ends (m ∷ m ∷ bs) ≡ ends (m ∷ m ∷ m ∷ bs)) → ((b : ℕ) (bs : List ℕ) → ends (m ∷ b ∷ bs) ≡ behind_one b bs (m == b))
+      → ((b : ℕ) (bs : List ℕ) → ends (m ∷ m ∷ b ∷ bs) ≡ ((62 == b) && true) || behind_one b bs (m == b))
+      → (bs : List ℕ) → (to bs inside ≡ ends bs) × (to bs begun ≡ ends (m ∷ bs)) × (to bs marked ≡ ends (m ∷ m ∷ bs))
+  marks-end none one two [] = (refl, none.0, none.1)
+  marks-end none one two (b ∷ bs) =
+      let (within, once, twice) = marks-end none one two bs in
+      let move = moves (flow_byte b) in
+      let class = mark-is b in (
+        ap (to bs) (move.0 ∙ ap (λ t. cond t begun inside) class) ∙ elim (b == m) as (λ t. (b == m) ≡ t → to bs (cond t begun inside) ≡ ends (b ∷ bs)) [
+          | true ↦ λ e. once ∙ sym (ap (λ n. ends (n ∷ bs)) (eqb-true b m e))
+          | false ↦ λ e. within ∙ sym (ap (λ t. (t && starts_with (m ∷ 62 ∷ []) bs) || ends bs) (eq-flip m b ∙ e))
+        ] refl,
+        ap (to bs) (move.1 ∙ ap (λ t. cond t marked inside) class) ∙ elim (b == m) as (λ t. (b == m) ≡ t → to bs (cond t marked inside) ≡ ends (m ∷ b ∷ bs)) [
+          | true ↦ λ e. twice ∙ sym (ap (λ n. ends (m ∷ n ∷ bs)) (eqb-true b m e))
+          | false ↦ λ e. within ∙ sym (one b bs ∙ ap (behind_one b bs) (eq-flip m b ∙ e))
+        ] refl,
+        ap (to bs) (move.2 ∙ ap (λ t. cond t closed (cond (is_mark (flow_byte b)) marked inside)) (greater-is b) ∙ ap (λ t. cond (b == 62) closed (cond t marked inside)) class)
+            ∙ elim (b == 62) as (λ t. (b == 62) ≡ t → to bs (cond t closed (cond (b == m) marked inside)) ≡ ends (m ∷ m ∷ b ∷ bs)) [
+              | true ↦ λ e. ap is_closed (stays-closed kind bs) ∙ sym (two 62 bs) ∙ sym (ap (λ n. ends (m ∷ m ∷ n ∷ bs)) (eqb-true b 62 e))
+              | false ↦ λ g. elim (b == m) as (λ t. (b == m) ≡ t → to bs (cond t marked inside) ≡ ends (m ∷ m ∷ b ∷ bs)) [
+                | true ↦ λ e. twice ∙ none.2 bs ∙ sym (ap (λ n. ends (m ∷ m ∷ n ∷ bs)) (eqb-true b m e))
+                | false ↦ λ e. within ∙ sym (two b bs ∙ ap (λ t. (t && true) || behind_one b bs (m == b)) (eq-flip 62 b ∙ g) ∙ ap (behind_one b bs) (eq-flip m b ∙ e))
+              ] refl
+            ] refl,
+      )
+
+pub dash-ends : (bs : List ℕ) → is_closed (through 2 inside bs) ≡ holds (45 ∷ 45 ∷ 62 ∷ []) bs
+dash-ends bs = (marks-end 2 45 is_dash dash-is dashed dash-moves (refl, refl, λ bs. refl) (λ b bs. refl) (λ b bs. refl) bs).0
+
+pub bracket-ends : (bs : List ℕ) → is_closed (through 5 inside bs) ≡ holds (93 ∷ 93 ∷ 62 ∷ []) bs
+bracket-ends bs = (marks-end 5 93 is_closing closing-is bracketed bracket-moves (refl, refl, λ bs. refl) (λ b bs. refl) (λ b bs. refl) bs).0
 
 -- Instructions
 pub question-ends : (bs : List ℕ) → (is_closed (through 3 inside bs) ≡ holds (63 ∷ 62 ∷ []) bs) × (is_closed (through 3 marked bs) ≡ holds (63 ∷ 62 ∷ []) (63 ∷ bs))
 question-ends [] = (refl, refl)
 question-ends (b ∷ bs) =
     let (within, once) = question-ends bs in
+    let move = question-moves (flow_byte b) in
     let ends = holds (63 ∷ 62 ∷ []) in
     let to = λ (p : Place). is_closed (through 3 p bs) in
     let class : is_question (flow_byte b) ≡ (b == 63) = question-is b in (
-      ap to (question-inside (flow_byte b) ∙ ap (λ t. cond t marked inside) class) ∙ elim (b == 63) as (λ t. (b == 63) ≡ t → to (cond t marked inside) ≡ ends (b ∷ bs)) [
+      ap to (move.0 ∙ ap (λ t. cond t marked inside) class) ∙ elim (b == 63) as (λ t. (b == 63) ≡ t → to (cond t marked inside) ≡ ends (b ∷ bs)) [
         | true ↦ λ e. once ∙ sym (ap (λ n. ends (n ∷ bs)) (eqb-true b 63 e))
         | false ↦ λ e. within ∙ sym (ap (λ t. (t && starts_with (62 ∷ []) bs) || ends bs) (eq-flip 63 b ∙ e))
       ] refl,
-      ap to (question-marked (flow_byte b) ∙ ap (λ t. cond t closed (cond (is_question (flow_byte b)) marked inside)) (greater-is b) ∙ ap (λ t. cond (b == 62) closed (cond t marked inside)) class)
+      ap to (move.1 ∙ ap (λ t. cond t closed (cond (is_question (flow_byte b)) marked inside)) (greater-is b) ∙ ap (λ t. cond (b == 62) closed (cond t marked inside)) class)
           ∙ elim (b == 62) as (λ t. (b == 62) ≡ t → to (cond t closed (cond (b == 63) marked inside)) ≡ ends (63 ∷ b ∷ bs)) [
             | true ↦ λ e. ap is_closed (stays-closed 3 bs) ∙ sym (ap (λ n. ends (63 ∷ n ∷ bs)) (eqb-true b 62 e))
             | false ↦ λ g. elim (b == 63) as (λ t. (b == 63) ≡ t → to (cond t marked inside) ≡ ends (63 ∷ b ∷ bs)) [

@@ -1,7 +1,7 @@
 -- Lines of HTML are read: one that others follow, the last one, and one without a byte.
 use Rattle.mdconstructs_flow_read.proofs.Prelude.{Bool, List, None, Some, [], ap, append-nil, cond, false, nat_le, refl, subst, sym, true, ℕ, ◌++◌, ◌==◌, ◌∙◌, ◌∷◌, ◌≡◌, eqb-true, Seat, end_after, Enter, HtmlFlow, HtmlFlowData, LineEnding, Point, Name, Next, Retry, FlowAfter, FlowBlankLineAfter, HtmlFlowContinuation, HtmlFlowContinuationAfter, HtmlFlowContinuationBefore, HtmlFlowContinuationCdataInside, HtmlFlowContinuationClose, HtmlFlowContinuationCommentInside, HtmlFlowContinuationDeclarationInside, HtmlFlowContinuationRawEndTag, HtmlFlowContinuationRawTagOpen, HtmlFlowContinuationStart, HtmlFlowStart, with_local, Given, Text, FlowByte, closing, dash, flow_byte, greater, less, line_feed, question, IsReadAs, bytes_of, Mark, leaf_marks, IsInLine, LineEnds, event, consume, enter, exit, picked, row}
 use Rattle.mdconstructs_flow_read.proofs.Looks.ByteClasses.{feed-is}
-use Rattle.mdconstructs_flow_read.proofs.Html.Checks.{blank_ahead, read-if-blank, read-if-not}
+use Rattle.mdconstructs_flow_read.proofs.Html.Checks.{blank_ahead, read-looked}
 use Rattle.mdconstructs_flow_read.proofs.Html.Places.{Place, inside, dashed, bracketed, marked, opened, named, closed, from_inside, is_closed, through}
 use Rattle.mdconstructs_flow_read.proofs.Html.Steps.{Config, Kept, To, along, html_kept, kept-on, kept-same, kind_in, name_of}
 use Rattle.mdconstructs_flow_read.proofs.Lines.{IsAt, counted, leaves, line-over, reads-nothing, reads-on, row-ends, row-stays, row-takes-on, seen}
@@ -145,8 +145,8 @@ module _ (g : Given) (t : Text) where
         (λ k' at' is'. (elim (nat_le 6 kind) as (λ l. nat_le 6 kind ≡ l → cond l (blank_ahead rest) (is_closed place) ≡ false → Reads k' (name_of place) (e ∷ []) rest (over_line q e) HtmlFlowContinuationBefore) [
           | true ↦ λ long ahead.
               subst (λ pl. Reads k' (name_of pl) (e ∷ []) rest (over_line q e) HtmlFlowContinuationBefore) (sym (long-stays kind (bytes_of line) long))
-              (read-if-not g t k' e rest at'.left at'.waits feed (ap (nat_le 6) is' ∙ long) (e ∷ []) rest (over_line q e) (Retry HtmlFlowContinuationBefore) ahead
-              (λ local kept. start-read (with_local k' local) q e rest feed (record { behind = at'.behind; left = at'.left; waits = at'.waits })))
+              (read-looked g t k' e rest at'.left at'.waits feed (ap (nat_le 6) is' ∙ long) (e ∷ []) rest (over_line q e) (Retry HtmlFlowContinuationBefore)
+              (λ local kept. rw ahead (start-read (with_local k' local) q e rest feed (record { behind = at'.behind; left = at'.left; waits = at'.waits }))))
           | false ↦ λ short still. falls-then place still k' q (e ∷ []) rest (over_line q e) HtmlFlowContinuationBefore feed at' (λ k'' at'' same. inside-read k'' q e rest feed at'' (ap (nat_le 6) (same ∙ is') ∙ short))
         ]) refl h)
 
@@ -166,7 +166,7 @@ module _ (g : Given) (t : Text) where
         (λ k' at' is'. (elim (nat_le 6 kind) as (λ l. nat_le 6 kind ≡ l → cond l (blank_ahead rest) (is_closed place) ≡ true → Reads k' (name_of place) [] (e ∷ rest) (out q) FlowAfter) [
           | true ↦ λ long ahead.
               subst (λ pl. Reads k' (name_of pl) [] (e ∷ rest) (out q) FlowAfter) (sym (long-stays kind (bytes_of line) long))
-              (read-if-blank g t k' e rest at'.left at'.waits feed (ap (nat_le 6) is' ∙ long) [] (e ∷ rest) (out q) (Retry FlowAfter) ahead
-              (λ local kept. after-read (with_local k' local) q e rest feed (record { behind = at'.behind; left = at'.left; waits = at'.waits })))
+              (read-looked g t k' e rest at'.left at'.waits feed (ap (nat_le 6) is' ∙ long) [] (e ∷ rest) (out q) (Retry FlowAfter)
+              (λ local kept. rw ahead (after-read (with_local k' local) q e rest feed (record { behind = at'.behind; left = at'.left; waits = at'.waits }))))
           | false ↦ λ short done. subst (λ pl. Reads k' (name_of pl) [] (e ∷ rest) (out q) FlowAfter) (sym (closed-is place done)) (closed-ends k' q (e ∷ rest) feed at')
         ]) refl h)

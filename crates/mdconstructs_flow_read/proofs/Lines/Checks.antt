@@ -1,5 +1,5 @@
 -- Checks: where a state only begins a look, reading on from it is reading on from one of two states at the same place, by what the look says.
-use Rattle.mdconstructs_flow_read.proofs.Prelude.{◌≡◌, ℕ, suc, ◌+◌, List, [], ◌∷◌, ◌++◌, Option, Some, drop, refl, sym, ap, ◌∙◌, subst, arith, take-length, Name, State, Next, Retry, Ok, Nok, Seat, Check, Nothing, Byte, check_at, with_local, Configuration, Local, Choice, Step, Reading, EndsIn, restored, Sight, sight, byte_of, current_of, seat_before, Given, Text, fed-ends, called-ends, settled-ok-ends, settled-nok-ends, Leads, feeds, scan-goes, sees, Look, first_byte, held, looked, scan, waits_at, Act, choose, write, Rows, row, StateRows, chooses, class_of, does, named, picked, step_at, step_of, table_step, FlowByte, flow_byte, flow, unchanged, IsReadAs, Mark}
+use Rattle.mdconstructs_flow_read.proofs.Prelude.{Bool, List, Option, Some, [], ap, arith, cond, drop, false, refl, subst, suc, sym, true, ℕ, ◌++◌, ◌+◌, ◌∙◌, ◌∷◌, ◌≡◌, take-length, Seat, Name, State, Next, Nok, Ok, Retry, called-ends, fed-ends, settled-nok-ends, settled-ok-ends, check_at, with_local, Choice, Configuration, Local, Step, EndsIn, Reading, restored, Sight, byte_of, current_of, seat_before, sight, Given, Text, Check, Byte, Nothing, FlowByte, flow_byte, flow, unchanged, IsReadAs, Mark, Leads, feeds, scan-goes, sees, Look, first_byte, held, looked, scan, waits_at, Act, Rows, StateRows, choose, chooses, class_of, does, named, picked, row, step_at, step_of, table_step, write}
 
 -- writes, one after another, as acts; and what they leave
 abbrev pub write_all : List (Configuration Unit Unit → Local Unit Unit) → List (Act Unit Unit)
@@ -37,6 +37,12 @@ module _ (g : Given) (t : Text) (k : Configuration Unit Unit) (s : Seat) (ss : L
       ((fed-ends g step t calls gone cs name z).0
       (subst (λ q. EndsIn g step t calls q cs (Retry name) z) (sym (feeds k.stack k.events t (s ∷ ss) k.position k.ended r.local at ∙ still-waits r.local)) h))
 
+  -- a choice is settled by either answer
+  settles : (v : Bool) (calls : ℕ) (q : Configuration Unit Unit) (ok nok : Name) (cs : List Choice) (z : Reading Unit Unit) → let name = cond v ok nok in
+      EndsIn g step t calls (restored (check_at (Next name) (Next name) k).saved q) cs (Next name) z → EndsIn g step t calls q (check_at (Next ok) (Next nok) k ∷ cs) (cond v Ok Nok) z
+  settles true calls q ok nok cs z = (settled-ok-ends g step t calls q (check_at (Next ok) (Next nok) k) cs z).0
+  settles false calls q ok nok cs z = (settled-nok-ends g step t calls q (check_at (Next ok) (Next nok) k) cs z).0
+
   module _ (name look ok nok : Name) (local : Local Unit Unit) (is : step (sight g t k) k name ≡ record { configuration = here_with local; choices = check_at (Next ok) (Next nok) k ∷ []; answer = Retry look }) where
     -- the call, and the look
     to-end : (cs : List Choice) (calls : ℕ) (z : Reading Unit Unit) → let r = look_here local look in
@@ -50,27 +56,16 @@ module _ (g : Given) (t : Text) (k : Configuration Unit Unit) (s : Seat) (ss : L
         (subst (λ q. EndsIn g step t (calls + 1) q (check_at (Next ok) (Next nok) k ∷ cs) (Retry look) z) (still-waits local)
         (goes.leads (check_at (Next ok) (Next nok) k ∷ cs) (calls + 1) z h)))
 
-    -- the look ends with Ok
-    pub step-checks-ok : let r = look_here local look in r.answer ≡ Ok → Leads g step t (suc r.calls) k (Retry name) (here_with r.local) (Retry ok)
-    step-checks-ok well cs calls z h =
+    -- so what the look answers says which of the two is next
+    pub step-checks : (v : Bool) → let r = look_here local look in r.answer ≡ cond v Ok Nok → Leads g step t (suc r.calls) k (Retry name) (here_with r.local) (Retry (cond v ok nok))
+    step-checks v says cs calls z h =
         let r = look_here local look in
-        let c : Choice = check_at (Next ok) (Next nok) k in
-        let e : calls + suc r.calls ≡ calls + 1 + r.calls = omega arith in
+        let n = calls + 1 + r.calls in
+        let e : calls + suc r.calls ≡ n = omega arith in
         to-end cs calls z
-        (subst (λ a. EndsIn g step t (calls + 1 + r.calls) (looked flow g t k.stack k.events k.position r) (c ∷ cs) a z) (sym well)
-        ((settled-ok-ends g step t (calls + 1 + r.calls) (looked flow g t k.stack k.events k.position r) c cs z).0
-        (back (calls + 1 + r.calls) r ok cs z (subst (λ n. EndsIn g step t n (here_with r.local) cs (Retry ok) z) e h))))
-
-    -- or with Nok
-    pub step-checks-nok : let r = look_here local look in r.answer ≡ Nok → Leads g step t (suc r.calls) k (Retry name) (here_with r.local) (Retry nok)
-    step-checks-nok badly cs calls z h =
-        let r = look_here local look in
-        let c : Choice = check_at (Next ok) (Next nok) k in
-        let e : calls + suc r.calls ≡ calls + 1 + r.calls = omega arith in
-        to-end cs calls z
-        (subst (λ a. EndsIn g step t (calls + 1 + r.calls) (looked flow g t k.stack k.events k.position r) (c ∷ cs) a z) (sym badly)
-        ((settled-nok-ends g step t (calls + 1 + r.calls) (looked flow g t k.stack k.events k.position r) c cs z).0
-        (back (calls + 1 + r.calls) r nok cs z (subst (λ n. EndsIn g step t n (here_with r.local) cs (Retry nok) z) e h))))
+        (subst (λ a. EndsIn g step t n (looked flow g t k.stack k.events k.position r) (check_at (Next ok) (Next nok) k ∷ cs) a z) (sym says)
+        (settles v n (looked flow g t k.stack k.events k.position r) ok nok cs z
+        (back n r (cond v ok nok) cs z (subst (λ n. EndsIn g step t n (here_with r.local) cs (Retry (cond v ok nok)) z) e h))))
 
 -- so many calls lead on, and then more
 pub leads-on : (g : Given) (t : Text) (n m : ℕ) (k k1 k2 : Configuration Unit Unit) (s s1 s2 : State) → Leads g (table_step flow g) t n k s k1 s1 → Leads g (table_step flow g) t m k1 s1 k2 s2
@@ -137,16 +132,10 @@ module _ (g : Given) (t : Text) (k : Configuration Unit Unit) (s : Seat) (ss : L
       ∙ ap (λ cs. record { configuration = with_local k begun; choices = cs; answer = Retry look }) did.1
 
   -- Reading on from it is reading on from one state or the other, by what its look answers, at the same place, with what the look wrote
-  pub checks-ok : looks.answer ≡ Ok → Leads g (table_step flow g) t (suc looks.calls) k (Retry name) (with_local k looks.local) (Retry ok)
-  checks-ok well = step-checks-ok g t k s ss at waits name look ok nok begun checks well
-
-  pub checks-nok : looks.answer ≡ Nok → Leads g (table_step flow g) t (suc looks.calls) k (Retry name) (with_local k looks.local) (Retry nok)
-  checks-nok badly = step-checks-nok g t k s ss at waits name look ok nok begun checks badly
+  pub step-checked : (v : Bool) → looks.answer ≡ cond v Ok Nok → Leads g (table_step flow g) t (suc looks.calls) k (Retry name) (with_local k looks.local) (Retry (cond v ok nok))
+  step-checked v says = step-checks g t k s ss at waits name look ok nok begun checks v says
 
   -- and so it is read as that state is
-  module _ (kept : (before after : Local Unit Unit) → Type 0) (keeps : (after : Local Unit Unit) → kept looks.local after → kept k.local after) (line rest : List Seat) (marks : List Mark) (to : State) where
-    pub read-if-ok : looks.answer ≡ Ok → IsReadAs g t kept (with_local k looks.local) ok line rest marks to → IsReadAs g t kept k name line rest marks to
-    read-if-ok well h = read-behind g t kept k name ok looks.local (suc looks.calls) (checks-ok well) keeps line rest marks to h
-
-    pub read-if-nok : looks.answer ≡ Nok → IsReadAs g t kept (with_local k looks.local) nok line rest marks to → IsReadAs g t kept k name line rest marks to
-    read-if-nok badly h = read-behind g t kept k name nok looks.local (suc looks.calls) (checks-nok badly) keeps line rest marks to h
+  pub read-checked : (v : Bool) → looks.answer ≡ cond v Ok Nok → (kept : (before after : Local Unit Unit) → Type 0) → ((after : Local Unit Unit) → kept looks.local after → kept k.local after)
+      → (line rest : List Seat) (marks : List Mark) (to : State) → IsReadAs g t kept (with_local k looks.local) (cond v ok nok) line rest marks to → IsReadAs g t kept k name line rest marks to
+  read-checked v says kept keeps line rest marks to h = read-behind g t kept k name (cond v ok nok) looks.local (suc looks.calls) (step-checked v says) keeps line rest marks to h

@@ -1,6 +1,6 @@
 -- At a line ending in a paragraph: whether it goes on, ends, or becomes a heading, by what the next line is.
 use Rattle.mdconstructs_flow_read.proofs.Prelude.{Bool, List, Some, [], ap, cond, drop, false, inl, inr, length, not, refl, suc, sym, true, ℕ, ◌++◌, ◌-◌, ◌<◌, ◌^◌, ◌∙◌, ◌∷◌, ◌≡◌, shown, Seat, Data, Paragraph, State, Ok, Retry, FlowAfter, ParagraphInside, ParagraphLineStart, exited, with_local, Configuration, Local, Sight, byte_of, end_place, seat_before, Given, Text, Byte, flow_byte, line_feed, unchanged, paragraph_ends, paragraph_inside, HeadingSetextTextAfter, ParagraphLineAfter, ParagraphLookStart, bytes_of, unindented, Finds, IsInLine, LeavesAll, LineEnds, LinesAreSeen, SeenKind, is_underline, seen_ends, seen_kind, Look, Act, Row, chooses, does, exit, write, over, sight_before}
-use Rattle.mdconstructs_flow_read.proofs.Lines.{IsPossible, Leads, checks-nok, checks-ok, counted, from-leads, looks, possible, row-leads}
+use Rattle.mdconstructs_flow_read.proofs.Lines.{IsPossible, Leads, counted, from-leads, looks, possible, row-leads, step-checked}
 use Rattle.mdconstructs_flow_read.proofs.Lines.Leading.{leads-on}
 use Rattle.mdconstructs_flow_read.proofs.Paragraphs.Looks.{finds_underline, next-line-seen, passed, passes_over, text-fails, underlined}
 use Rattle.mdconstructs_flow_read.proofs.Looks.LookSteps.{leaves-on}
@@ -46,7 +46,7 @@ module _ (g : Given) (t : Text) where
       by-kind ok acts to is none =
           leads-on g t k (Retry ParagraphInside) behind (Retry ParagraphLineStart) (does acts seen (counted behind)) to
           (from-leads g t (suc look.calls) k (Retry ParagraphInside) behind (Retry ParagraphLineStart)
-          (checks-ok g t k s ss at waits ParagraphInside ParagraphLookStart ParagraphLineStart ParagraphLineAfter paragraph_inside refl line_feed class_is [] (λ previous. refl) ok))
+          (step-checked g t k s ss at waits ParagraphInside ParagraphLookStart ParagraphLineStart ParagraphLineAfter paragraph_inside refl line_feed class_is [] (λ previous. refl) true ok))
           (row-leads g t behind ParagraphLineStart (end_place t k.position) (s ∷ ss) (Some line_feed) acts to (record { behind = refl; left = at; waits = waits }) (ap Some class_is) is none)
 
       pub ends-so : EndsSo k kind
@@ -66,7 +66,7 @@ module _ (g : Given) (t : Text) where
                 look.local,
                 leaves,
                 from-leads g t (suc look.calls) k (Retry ParagraphInside) behind (Retry ParagraphLineAfter)
-                    (checks-nok g t k s ss at waits ParagraphInside ParagraphLookStart ParagraphLineStart ParagraphLineAfter paragraph_inside refl line_feed class_is [] (λ previous. refl) badly.0),
+                    (step-checked g t k s ss at waits ParagraphInside ParagraphLookStart ParagraphLineStart ParagraphLineAfter paragraph_inside refl line_feed class_is [] (λ previous. refl) false badly.0),
               );
               over = λ stops none. absurd (let wrong : true ≡ false = sym stops ∙ differs in cc);
               under = λ stops one. absurd (let wrong : true ≡ false = sym stops ∙ differs in cc);

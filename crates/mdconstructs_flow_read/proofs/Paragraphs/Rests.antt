@@ -1,6 +1,6 @@
 -- From a line ending in a paragraph: how many lines more it has, and how it ends.
-use Rattle.mdconstructs_flow_read.proofs.Prelude.{Bool, List, None, Some, [], ap, append-nil, append_assoc, drop, false, inl, inr, length, refl, subst, suc, sym, take, true, ℕ, ◌++◌, ◌+◌, ◌-◌, ◌<◌, ◌^◌, ◌||◌, ◌∙◌, ◌∷◌, ◌≡◌, is_some, Seat, end_after, TextContent, Event, Exit, Data, Paragraph, Point, Retry, FlowAfter, ParagraphInside, with_local, Configuration, Local, end_place, Given, Text, paragraph_ends, HeadingSetextTextAfter, AreLines, is_underlined, Line, bytes_of, ends_text, interrupts, lines_until, text_of, chunk_span, linked_from, line_kind, underline_rank, IsInLine, LeavesAll, LineEnds, LinesAreSeen, SeenKind, is_underline, seen_ends, seen_kind, all_of, ending_of, line_text, event, waits_at}
-use Rattle.mdconstructs_flow_read.proofs.Lines.{Leads, behind-line, cut-line, ends-as-seen, lines-behind, seen-is-tested, text-in-line, until-one-more, until-there}
+use Rattle.mdconstructs_flow_read.proofs.Prelude.{Bool, List, None, Some, [], ap, append-nil, append_assoc, drop, false, inl, inr, length, refl, subst, suc, sym, take, true, ℕ, ◌++◌, ◌+◌, ◌-◌, ◌<◌, ◌^◌, ◌||◌, ◌∙◌, ◌∷◌, ◌≡◌, is_some, Seat, end_after, TextContent, Event, Exit, Data, Paragraph, Point, Retry, FlowAfter, ParagraphInside, with_local, Configuration, Local, end_place, Given, Text, paragraph_ends, HeadingSetextTextAfter, AreLines, is_underlined, Line, bytes_of, ends_text, interrupts, lines_until, text_of, chunk_span, linked_from, line_kind, underline_rank, IsInLine, LeavesAll, LinesAreSeen, SeenKind, is_underline, seen_ends, seen_kind, all_of, ending_of, line_text, event, waits_at}
+use Rattle.mdconstructs_flow_read.proofs.Lines.{Leads, behind-line, cut-line, ends-as-seen, first-parts, lines-behind, seen-is-tested, text-in-line, until-one-more, until-there}
 use Rattle.mdconstructs_flow_read.proofs.Lines.Lines.{whole-ending, whole-text}
 use Rattle.mdconstructs_flow_read.proofs.Paragraphs.Ends.{EndsSo, ended, line-ends-so}
 use Rattle.mdconstructs_flow_read.proofs.Paragraphs.Lines.{IsAtFeed, IsReadOn, chunk_at, done_before, further-end, further-feed, left-keeps, one-line-more}
@@ -99,13 +99,9 @@ module _ (seen : LinesAreSeen) (g : Given) (t : Text) (room : length t.seats < 2
   looks-at : (has_previous : Bool) (done : List Event) (s : Seat) (ss : List Seat) (feed : Seat) (q : ℕ) (k : Configuration Unit Unit) (next : Line) (more : List Line)
       → IsAtFeed g t has_previous done s ss feed (all_of (next ∷ more)) q k → IsInLine (s ∷ ss) → AreLines (next ∷ more) → EndsSo g t k (kind_of next)
   looks-at has_previous done s ss feed q k next more here all are =
-      let cut = cut-line next more are in
-      let split : all_of (next ∷ more) ≡ line_text next ++ (ending_of next ++ all_of more) = ap (λ l. l ++ all_of more) (sym cut.whole) ∙ append_assoc (line_text next) (ending_of next) (all_of more) in
-      let ends : LineEnds (ending_of next ++ all_of more) = elim cut.ends [
-        | inl h ↦ subst (λ l. LineEnds (l ++ all_of more)) (sym h.is) h.feed
-        | inr h ↦ subst (λ l. LineEnds (l ++ all_of more)) (sym h.is) (subst (λ more. LineEnds (all_of more)) (sym h.last) tt)
-      ] in
-      line-ends-so seen g t k feed (line_text next) (ending_of next ++ all_of more) (at-feed g t has_previous done s ss feed (all_of (next ∷ more)) q k here all ∙ ap (λ l. feed ∷ l) split) here.waits here.feeds (text-in-line next) ends room
+      let parts = first-parts next more are in
+      let split : all_of (next ∷ more) ≡ line_text next ++ (ending_of next ++ all_of more) = ap (λ l. l ++ all_of more) parts.is ∙ append_assoc (line_text next) (ending_of next) (all_of more) in
+      line-ends-so seen g t k feed (line_text next) (ending_of next ++ all_of more) (at-feed g t has_previous done s ss feed (all_of (next ∷ more)) q k here all ∙ ap (λ l. feed ∷ l) split) here.waits here.feeds parts.in_line parts.ends room
 
   -- a line that is not blank has a byte
   first-of : (next : Line) → seen_ends (kind_of next) ≡ false → (s : Seat) × (ss : List Seat) × (line_text next ≡ s ∷ ss)

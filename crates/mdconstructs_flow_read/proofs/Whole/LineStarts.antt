@@ -1,6 +1,6 @@
 -- At the beginning of a line: the text ends there, or a blank line is read, or a look says what the line is.
-use Rattle.mdconstructs_flow_read.proofs.Prelude.{◌≡◌, ◌+◌, ◌-◌, ◌^◌, ◌<◌, List, [], ◌∷◌, ◌++◌, true, cond, Option, None, Some, inl, inr, length, drop, refl, sym, ap, ◌∙◌, subst, arith, append_assoc, length-append, length-drop, BlankLineEnding, Name, State, Next, Retry, Ok, Nok, FlowBeforeContent, FlowBlankLineAfter, FlowBlankLineBefore, ContentDefinitionBefore, FlowStart, Seat, Check, Byte, End, with_local, Configuration, Local, EndsIn, Reading, fed, sight, class_of, goes-called, byte_of, seat_before, Given, Text, fed-ends, Leads, feeds, waits_at, enter, exit, consume, choose, write, row, table_step, all_of, ending_of, line_text, content_definition_before, flow_start, flow_start_rows, FlowByte, flow_byte, flow, unchanged, indent_becomes, AreLines, IsAtLines, KeepsEdits, Line, bytes_of, text_of, unindented, seen_kind, Finds, IsInLine, LineEnds, LinesAreSeen}
-use Rattle.mdconstructs_flow_read.proofs.Lines.{called-row, checks-nok, checks-ok, cut-line, looks, text-in-line}
+use Rattle.mdconstructs_flow_read.proofs.Prelude.{Bool, List, None, Option, Some, [], ap, append_assoc, arith, cond, drop, false, length, length-append, refl, subst, sym, true, ◌++◌, ◌+◌, ◌-◌, ◌<◌, ◌^◌, ◌∙◌, ◌∷◌, ◌≡◌, length-drop, Seat, BlankLineEnding, Name, State, Next, Nok, Ok, Retry, ContentDefinitionBefore, FlowBeforeContent, FlowBlankLineAfter, FlowBlankLineBefore, FlowStart, fed-ends, with_local, Configuration, Local, EndsIn, Reading, fed, byte_of, seat_before, sight, Given, Text, Check, Byte, End, content_definition_before, flow_start, flow_start_rows, FlowByte, flow_byte, flow, unchanged, indent_becomes, AreLines, IsAtLines, KeepsEdits, Line, bytes_of, text_of, unindented, Finds, IsInLine, LineEnds, LinesAreSeen, seen_kind, all_of, ending_of, line_text, Leads, feeds, goes-called, waits_at, choose, class_of, consume, enter, exit, row, table_step, write}
+use Rattle.mdconstructs_flow_read.proofs.Lines.{called-row, cut-line, first-parts, looks, step-checked, text-in-line}
 use Rattle.mdconstructs_flow_read.proofs.Lines.Checks.{leads-on}
 use Rattle.mdconstructs_flow_read.proofs.Whole.LineBreaks.{start-ends}
 use Rattle.mdconstructs_flow_read.proofs.Whole.Told.{ToldTo, told-none, told-on}
@@ -53,10 +53,7 @@ module _ (line : Line) (more : List Line) (are : AreLines (line ∷ more)) (s : 
       ap (λ l. l ++ all_of more) (sym (cut-line line more are).whole) ∙ append_assoc (line_text line) (ending_of line) (all_of more) ∙ ap (λ l. l ++ (ending_of line ++ all_of more)) text_is
 
   line-ends-there : LineEnds (ending_of line ++ all_of more)
-  line-ends-there = elim (cut-line line more are).ends [
-    | inl with ↦ subst (λ e. LineEnds (e ++ all_of more)) (sym with.is) with.feed
-    | inr without ↦ subst (λ e. LineEnds (e ++ all_of more)) (sym without.is) (subst (λ m. LineEnds (all_of m)) (sym without.last) tt)
-  ]
+  line-ends-there = (first-parts line more are).ends
 
   pub in-line-there : IsInLine (s ∷ ss)
   in-line-there = subst IsInLine text_is (text-in-line line)
@@ -89,19 +86,17 @@ module _ (line : Line) (more : List Line) (are : AreLines (line ∷ more)) (s : 
         let (leaves, finds) = seen g t k.stack k.events (s ∷ ss) rest (byte_of (seat_before t k.position)) k.position k.ended begun here in-line-there line-ends-there few refl in
         let keeps : KeepsEdits k.local r.local = record { edits = leaves.edits; resolvers = leaves.resolvers } in
         let fed_there = told-fed g t k s (ss ++ rest) FlowStart here in
+        let told = λ (v : Bool) (e : r.answer ≡ cond v Ok Nok).
+        told-none g t k (with_local k0 r.local) (Next FlowStart) (Retry (cond v FlowBlankLineAfter FlowBeforeContent)) _ refl keeps
+        (leads-on g t fed_there.calls _ k k0 (with_local k0 r.local) (Next FlowStart) (Retry FlowStart) (Retry (cond v FlowBlankLineAfter FlowBeforeContent)) fed_there.leads
+        (step-checked g t k0 s (ss ++ rest) here refl FlowStart FlowBlankLineBefore FlowBlankLineAfter FlowBeforeContent flow_start refl (flow_byte s.byte) refl (indent_becomes 0 ∷ []) start-row v e)) in
         record {
           local = r.local;
           answer = r.answer;
           keeps = keeps;
           finds = subst (λ l. Finds (seen_kind g.options.constructs (bytes_of l)) (unindented (bytes_of l)) r.local r.answer) (sym text_is) finds;
-          well = λ e.
-              told-none g t k (with_local k0 r.local) (Next FlowStart) (Retry FlowBlankLineAfter) _ refl keeps
-              (leads-on g t fed_there.calls _ k k0 (with_local k0 r.local) (Next FlowStart) (Retry FlowStart) (Retry FlowBlankLineAfter) fed_there.leads
-              (checks-ok g t k0 s (ss ++ rest) here refl FlowStart FlowBlankLineBefore FlowBlankLineAfter FlowBeforeContent flow_start refl (flow_byte s.byte) refl (indent_becomes 0 ∷ []) start-row e));
-          badly = λ e.
-              told-none g t k (with_local k0 r.local) (Next FlowStart) (Retry FlowBeforeContent) _ refl keeps
-              (leads-on g t fed_there.calls _ k k0 (with_local k0 r.local) (Next FlowStart) (Retry FlowStart) (Retry FlowBeforeContent) fed_there.leads
-              (checks-nok g t k0 s (ss ++ rest) here refl FlowStart FlowBlankLineBefore FlowBlankLineAfter FlowBeforeContent flow_start refl (flow_byte s.byte) refl (indent_becomes 0 ∷ []) start-row e));
+          well = told true;
+          badly = told false;
         }
 
     -- where it goes on
