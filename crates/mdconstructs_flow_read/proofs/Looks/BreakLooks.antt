@@ -1,9 +1,9 @@
 -- The look at the marks of a thematic break.
-use Rattle.mdconstructs_flow_read.proofs.Prelude.{Bool, List, Option, Some, [], ap, cond, drop, false, length, nat_le, refl, subst, suc, sym, true, ℕ, ◌++◌, ◌+◌, ◌-◌, ◌<◌, ◌==◌, ◌^◌, ◌||◌, ◌∙◌, ◌∷◌, ◌≡◌, eqb-true, drop-next, Seat, Event, EventName, ThematicBreak, Next, Nok, Ok, FlowBeforeThematicBreak, Local, Given, Text, flow_byte, unchanged, at_mark, has_three, kind_becomes, size_grows, flow_before_thematic_break_rows, bytes_of, IsInLine, LeavesAll, LineEnds, text, thematic_break, is_white, one_more, AreTestsOf, shows, Rows, consume, row, when, write}
+use Rattle.mdconstructs_flow_read.proofs.Prelude.{Bool, List, Option, Some, [], ap, cond, drop, false, length, nat_le, refl, subst, suc, sym, true, ℕ, ◌++◌, ◌+◌, ◌-◌, ◌<◌, ◌==◌, ◌^◌, ◌||◌, ◌∙◌, ◌∷◌, ◌≡◌, eqb-true, drop-next, Seat, Event, EventName, ThematicBreak, Next, Ok, FlowBeforeThematicBreak, Local, Given, Text, flow_byte, unchanged, at_mark, has_three, kind_becomes, size_grows, flow_before_thematic_break_rows, bytes_of, IsInLine, LeavesAll, LineEnds, text, thematic_break, is_white, one_more, AreTestsOf, shows, Rows, consume, row, when, write}
 use Rattle.mdconstructs_flow_read.proofs.Looks.ByteClasses.{feed-is, rule-is, blank-is}
 use Rattle.mdconstructs_flow_read.proofs.Looks.CountRoom.{grows, room-on, room-less}
 use Rattle.mdconstructs_flow_read.proofs.Looks.LineTests.{breaks_on, break-ends, break-mark, break-white, break-fails}
-use Rattle.mdconstructs_flow_read.proofs.Looks.LookSteps.{Found, at-line-byte, over-line, by-false, by-known, by-true, by-share, come, kept, look, mark-is}
+use Rattle.mdconstructs_flow_read.proofs.Looks.LookSteps.{Found, at-line-byte, over-line, by-false, by-known, by-true, by-share, come, kept, no, look, mark-is}
 
 -- A mark of thematic breaks: a star, an underscore or a dash
 abbrev pub is_break_mark : ℕ → Bool
@@ -32,9 +32,6 @@ white-no-mark b w = elim (is_break_mark b) as (λ t. is_break_mark b ≡ t → t
 ] refl
 
 module _ (g : Given) (t : Text) (stack : List EventName) (events : List Event) where
-  abbrev no : Rows Unit Unit
-  no = row [] Nok
-
   abbrev ends : Rows Unit Unit
   ends = row (write (kind_becomes ThematicBreak) ∷ []) Ok
 

@@ -1,9 +1,9 @@
 -- The look at an opening fence: its marks, and the info string of one of grave accents.
-use Rattle.mdconstructs_flow_read.proofs.Prelude.{Bool, List, Option, Some, [], ap, arith, cond, drop, false, length, nat_le, not, refl, subst, suc, sym, true, ℕ, ◌&&◌, ◌++◌, ◌+◌, ◌-◌, ◌<◌, ◌==◌, ◌^◌, ◌||◌, ◌∙◌, ◌∷◌, ◌≡◌, eqb-true, list_all, drop-next, Seat, Event, EventName, CodeFenced, Name, Next, Nok, Ok, Retry, FlowBeforeRaw, Local, Given, Text, fence_ends, flow_before_raw_rows, raw_flow_look_info_rows, flow_byte, flow, unchanged, at_mark, has_three, is_tilde_fence, kind_becomes, size_grows, RawFlowLookInfo, bytes_of, Fence, run, IsInLine, LeavesAll, LineEnds, SeenKind, fence, text, one_more, AreTestsOf, Glance, Look, glance, goes_on, is_over, looked_on, one_call, shows, Rows, consume, row, when, write}
+use Rattle.mdconstructs_flow_read.proofs.Prelude.{Bool, List, Option, Some, [], ap, arith, cond, drop, false, length, nat_le, not, refl, subst, suc, sym, true, ℕ, ◌&&◌, ◌++◌, ◌+◌, ◌-◌, ◌<◌, ◌==◌, ◌^◌, ◌||◌, ◌∙◌, ◌∷◌, ◌≡◌, eqb-true, list_all, drop-next, Seat, Event, EventName, CodeFenced, Name, Next, Ok, Retry, FlowBeforeRaw, Local, Given, Text, fence_ends, flow_before_raw_rows, raw_flow_look_info_rows, flow_byte, flow, unchanged, at_mark, has_three, is_tilde_fence, kind_becomes, size_grows, RawFlowLookInfo, bytes_of, Fence, run, IsInLine, LeavesAll, LineEnds, SeenKind, fence, text, one_more, AreTestsOf, Glance, Look, glance, goes_on, is_over, looked_on, one_call, shows, Rows, consume, row, when, write}
 use Rattle.mdconstructs_flow_read.proofs.Looks.ByteClasses.{feed-is, fence-is, tick-is}
 use Rattle.mdconstructs_flow_read.proofs.Looks.CountRoom.{grows, room-on}
 use Rattle.mdconstructs_flow_read.proofs.Looks.LineTests.{fences_on, fence-mark, fence-other, run-on, run-ends}
-use Rattle.mdconstructs_flow_read.proofs.Looks.LookSteps.{Found, at-line-byte, over-line, at-line-end, by-false, by-known, by-true, come, kept, look, look_by, look-is, mark-is, rest_of}
+use Rattle.mdconstructs_flow_read.proofs.Looks.LookSteps.{Found, at-line-byte, over-line, at-line-end, by-false, by-known, by-true, come, kept, no, look, look_by, look-is, mark-is, rest_of}
 
 abbrev marks_tests : List (ℕ → Bool)
 marks_tests = (λ b. (b == 96) || (b == 126)) ∷ []
@@ -26,9 +26,6 @@ abbrev no_ticks : List ℕ → Bool
 no_ticks bs = list_all (λ b. not (b == 96)) bs
 
 module _ (g : Given) (t : Text) (stack : List EventName) (events : List Event) where
-  abbrev no : Rows Unit Unit
-  no = row [] Nok
-
   abbrev ends : Rows Unit Unit
   ends = row (write (kind_becomes CodeFenced) ∷ []) Ok
 

@@ -1,5 +1,5 @@
 -- Steps of looks at lines: what a look finds at a byte, or at the end of the line, is what the rows there say.
-use Rattle.mdconstructs_flow_read.proofs.Prelude.{Bool, List, Option, Some, [], ap, cond, drop, false, refl, subst, suc, sym, true, ℕ, ◌+◌, ◌==◌, ◌∙◌, ◌∷◌, ◌≡◌, slice_get, Seat, Event, EventName, Name, Configuration, Local, Sight, byte_of, sight, Given, Text, Cased, cased, flow_byte, line_feed, flow, unchanged, at_mark, is_byte, Finds, LeavesAll, LineEnds, SeenKind, at-byte, at-front, told, told_by, AreTestsOf, rows_at_byte, rows_in, Look, first_byte, glance, looked_on, scan, shows, unfed_look, Rows, class_of, picked, when}
+use Rattle.mdconstructs_flow_read.proofs.Prelude.{Bool, List, Option, Some, [], ap, cond, drop, false, refl, subst, suc, sym, true, ℕ, ◌+◌, ◌==◌, ◌∙◌, ◌∷◌, ◌≡◌, slice_get, Seat, Event, EventName, Name, Nok, Configuration, Local, Sight, byte_of, sight, Given, Text, Cased, cased, flow_byte, line_feed, flow, unchanged, at_mark, is_byte, Finds, LeavesAll, LineEnds, SeenKind, at-byte, at-front, told, told_by, AreTestsOf, rows_at_byte, rows_in, Look, first_byte, glance, looked_on, scan, shows, unfed_look, Rows, class_of, picked, row, when}
 
 -- one of two, by a test that is known
 pub by-true : {X : Type 0} (P : X → Type 0) (t : Bool) (x y : X) → t ≡ true → P x → P (cond t x y)
@@ -7,6 +7,10 @@ by-true P t x y e h = subst (λ b. P (cond b x y)) (sym e) h
 
 pub by-false : {X : Type 0} (P : X → Type 0) (t : Bool) (x y : X) → t ≡ false → P y → P (cond t x y)
 by-false P t x y e h = subst (λ b. P (cond b x y)) (sym e) h
+
+-- no construct begins here
+abbrev pub no : Rows Unit Unit
+no = row [] Nok
 
 -- what a look found, and what it left as it was
 abbrev pub Found : Local Unit Unit → SeenKind → (rest : List ℕ) → Look Unit Unit → Type 0

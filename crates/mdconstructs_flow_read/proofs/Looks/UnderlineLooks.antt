@@ -4,7 +4,7 @@ use Rattle.mdconstructs_flow_read.proofs.Looks.BreakLooks.{break-found}
 use Rattle.mdconstructs_flow_read.proofs.Looks.ByteClasses.{feed-is, dash-is, underline-is, blank-is}
 use Rattle.mdconstructs_flow_read.proofs.Looks.CountRoom.{grows, room-on, room-less}
 use Rattle.mdconstructs_flow_read.proofs.Looks.LineTests.{breaks_on, underlines_on, break-ends, break-mark, break-white, break-fails, underline-mark, underline-other}
-use Rattle.mdconstructs_flow_read.proofs.Looks.LookSteps.{Found, at-line-byte, over-line, by-false, by-known, by-true, by-share, come, kept, look, mark-is}
+use Rattle.mdconstructs_flow_read.proofs.Looks.LookSteps.{Found, at-line-byte, over-line, by-false, by-known, by-true, by-share, come, kept, no, look, mark-is}
 
 abbrev setext_tests : List (ℕ → Bool)
 setext_tests = (λ b. b == 10) ∷ (λ b. (b == 45) || (b == 61)) ∷ is_white ∷ []
@@ -59,9 +59,6 @@ other-mark m b dash other = elim (m == 45) as (λ v. (m == 45) ≡ v → v ≡ f
 ] refl
 
 module _ (g : Given) (t : Text) (stack : List EventName) (events : List Event) where
-  abbrev no : Rows Unit Unit
-  no = row [] Nok
-
   abbrev ends : Rows Unit Unit
   ends = row (write (kind_becomes HeadingSetextUnderline) ∷ []) Ok
 

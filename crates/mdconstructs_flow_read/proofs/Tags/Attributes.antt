@@ -1,6 +1,6 @@
 -- What comes behind the name of an opening tag, byte by byte: the definition of attributes says the same.
 use Rattle.markdown_base.proofs.Facts.Lists.{Fits, drop-fits, fits-more, either-fits}
-use Rattle.mdconstructs_flow_read.proofs.Prelude.{◌≡◌, ℕ, zero, suc, ◌+◌, ◌<◌, ◌≤◌, ◌==◌, ◌||◌, ◌&&◌, not, List, [], ◌∷◌, Bool, true, false, cond, Option, Some, None, length, drop, refl, sym, ap, ◌∙◌, arith, one-add, le_trans, prefix_len, eqb-true, is_white, first_passes, begins_attribute, goes_on_attribute, is_bare, behind_quote, behind_value, behind_attribute, ends_tag, ends_open_tag, cond-same, unlike}
+use Rattle.mdconstructs_flow_read.proofs.Prelude.{Bool, List, None, Option, Some, [], ap, arith, cond, drop, false, le_trans, length, not, one-add, refl, suc, sym, true, zero, ℕ, ◌&&◌, ◌+◌, ◌<◌, ◌==◌, ◌||◌, ◌∙◌, ◌∷◌, ◌≡◌, ◌≤◌, eqb-true, prefix_len, begins_attribute, behind_attribute, behind_quote, behind_value, ends_open_tag, ends_tag, first_passes, goes_on_attribute, is_bare, is_white, cond-same, unlike}
 use Rattle.mdconstructs_flow_read.proofs.Looks.ByteClasses.{no_bare, no_value, begins-goes-on}
 use Rattle.mdconstructs_flow_read.specs.HtmlLines.{is_blank_line, unindented}
 
@@ -103,28 +103,19 @@ bare-on : (w d s e l g t : Bool) (x y z : Bool) → not (w || (d || (s || (e || 
 bare-on false false false false false false false x y z h = refl
 bare-on w d s e l g t x y z h = absurd (cc)
 
-bare-ends : (w d s e l g t slash : Bool) (x y z v : Bool) → not (w || (d || (s || (e || (l || (g || t)))))) ≡ false → slash ≡ false
+bare-ends : (w g l e t d s slash : Bool) (x y z v : Bool) → not (w || (d || (s || (e || (l || (g || t)))))) ≡ false → slash ≡ false
     → cond w x (cond g y (cond (l || (e || (t || (d || s)))) false z)) ≡ cond w x (cond slash v (cond g y false))
-bare-ends w d s e l g t true x y z v h k = absurd (cc)
-bare-ends true d s e l g t false x y z v h k = refl
-bare-ends false d s e l true t false x y z v h k = refl
-bare-ends false d s e true false t false x y z v h k = refl
-bare-ends false d s true false false t false x y z v h k = refl
-bare-ends false d s false false false true false x y z v h k = refl
-bare-ends false true s false false false false false x y z v h k = refl
-bare-ends false false true false false false false false x y z v h k = refl
+bare-ends w g l e t d s true x y z v h k = absurd (cc)
 bare-ends false false false false false false false false x y z v h k = absurd (cc)
+bare-ends w g l e t d s slash x y z v h k = refl
 
 begins-bare : (w d s e l g t : Bool) (z : Bool) → w ≡ false → d ≡ false → s ≡ false → cond (l || (e || (g || t))) false z ≡ cond (not (w || (d || (s || (e || (l || (g || t))))))) z false
 begins-bare true d s e l g t z h i j = absurd (cc)
 begins-bare false true s e l g t z h i j = absurd (cc)
 begins-bare false false true e l g t z h i j = absurd (cc)
 begins-bare false false false true true g t z h i j = refl
-begins-bare false false false true false g t z h i j = refl
-begins-bare false false false false true g t z h i j = refl
-begins-bare false false false false false true t z h i j = refl
-begins-bare false false false false false false true z h i j = refl
 begins-bare false false false false false false false z h i j = refl
+begins-bare w d s e l g t z h i j = refl
 
 no-slash : (b : ℕ) → is_bare b ≡ false → (b == 47) ≡ false
 no-slash b off = elim (b == 47) as (λ t. (b == 47) ≡ t → t ≡ false) [
@@ -140,7 +131,7 @@ bare-is [] = refl
 bare-is (b ∷ bs) =
     elim (is_bare b) as (λ t. is_bare b ≡ t → goes (b ∷ bs) bare ≡ goes (cond t (drop (prefix_len is_bare bs) bs) (b ∷ bs)) behind) [
       | true ↦ λ e. bare-goes-on b bs e ∙ bare-is bs
-      | false ↦ λ e. bare-ends (is_white b) (b == 34) (b == 39) (b == 61) (b == 60) (b == 62) (b == 96) (b == 47) (goes bs before) (goes bs after) (goes bs bare) (goes bs slashed) e (no-slash b e)
+      | false ↦ λ e. bare-ends (is_white b) (b == 62) (b == 60) (b == 61) (b == 96) (b == 34) (b == 39) (b == 47) (goes bs before) (goes bs after) (goes bs bare) (goes bs slashed) e (no-slash b e)
     ] refl
     ∙ sym (ap (λ l. goes l behind) (drop-run is_bare b bs))
 
