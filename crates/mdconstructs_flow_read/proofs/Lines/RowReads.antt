@@ -41,34 +41,27 @@ abbrev Left : (read : Bool) → Configuration Unit Unit → Configuration Unit U
 Left true k k' = (k'.position ≡ k.position + 1) × (k'.waiting ≡ Nothing)
 Left false k k' = (k'.position ≡ k.position) × (k'.waiting ≡ k.waiting)
 
--- behind the byte
-past-byte : (acts : List (Act Unit Unit)) (s : Sight) (k : Configuration Unit Unit) (cs : List Choice) → ArePlain acts → reads acts ≡ false
-    → (chooses acts s k cs ≡ cs) × Left false k (does acts s k)
-past-byte [] s k cs plain none = (refl, (refl, refl))
-past-byte (enters name None ∷ acts) s k cs plain none = past-byte acts s (done (enters name None) s k) cs plain none
-past-byte (enters name (Some link) ∷ acts) s k cs plain none = past-byte acts s (done (enters name (Some link)) s k) cs plain.1 none
-past-byte (exit name ∷ acts) s k cs plain none = past-byte acts s (done (exit name) s k) cs plain none
-past-byte (consume ∷ acts) s k cs plain none = absurd (cc)
-past-byte (writes f ∷ acts) s k cs plain none = past-byte acts s (done (writes f) s k) cs plain none
-past-byte (note ∷ acts) s k cs plain none = past-byte acts s (done note s k) cs plain none
-past-byte (act ∷ acts) s k cs plain none = absurd plain
-
 -- they read it once
 abbrev pub ReadOnce : List (Act Unit Unit) → Type 0
 ReadOnce [] = ⊥
 ReadOnce (consume ∷ acts) = reads acts ≡ false
 ReadOnce (_ ∷ acts) = ReadOnce acts
 
-over-byte : (acts : List (Act Unit Unit)) (s : Sight) (k : Configuration Unit Unit) (cs : List Choice) → ArePlain acts → ReadOnce acts
-    → (chooses acts s k cs ≡ cs) × Left true k (does acts s k)
-over-byte [] s k cs plain once = absurd once
-over-byte (enters name None ∷ acts) s k cs plain once = over-byte acts s (done (enters name None) s k) cs plain once
-over-byte (enters name (Some link) ∷ acts) s k cs plain once = over-byte acts s (done (enters name (Some link)) s k) cs plain.1 once
-over-byte (exit name ∷ acts) s k cs plain once = over-byte acts s (done (exit name) s k) cs plain once
-over-byte (consume ∷ acts) s k cs plain once = past-byte acts (past s) (consumed k) cs plain once
-over-byte (writes f ∷ acts) s k cs plain once = over-byte acts s (done (writes f) s k) cs plain once
-over-byte (note ∷ acts) s k cs plain once = over-byte acts s (done note s k) cs plain once
-over-byte (act ∷ acts) s k cs plain once = absurd plain
+abbrev Read : (read : Bool) → List (Act Unit Unit) → Type 0
+Read true acts = ReadOnce acts
+Read false acts = reads acts ≡ false
+
+acts-leave : (read : Bool) (acts : List (Act Unit Unit)) (s : Sight) (k : Configuration Unit Unit) (cs : List Choice) → ArePlain acts → Read read acts → (chooses acts s k cs ≡ cs) × Left read k (does acts s k)
+acts-leave true [] s k cs plain h = absurd h
+acts-leave false [] s k cs plain h = (refl, (refl, refl))
+acts-leave true (consume ∷ acts) s k cs plain h = acts-leave false acts (past s) (consumed k) cs plain h
+acts-leave false (consume ∷ acts) s k cs plain h = absurd (cc)
+acts-leave read (enters name None ∷ acts) s k cs plain h = acts-leave read acts s (done (enters name None) s k) cs plain h
+acts-leave read (enters name (Some link) ∷ acts) s k cs plain h = acts-leave read acts s (done (enters name (Some link)) s k) cs plain.1 h
+acts-leave read (exit name ∷ acts) s k cs plain h = acts-leave read acts s (done (exit name) s k) cs plain h
+acts-leave read (writes f ∷ acts) s k cs plain h = acts-leave read acts s (done (writes f) s k) cs plain h
+acts-leave read (note ∷ acts) s k cs plain h = acts-leave read acts s (done note s k) cs plain h
+acts-leave read (act ∷ acts) s k cs plain h = absurd plain
 
 -- and make their marks
 one-event : (k : Configuration Unit Unit) (e : Event) (m : Mark) (marks : List Mark) (after : List Event) → linked_from (length k.events) (m ∷ []) ≡ e ∷ []
@@ -152,7 +145,7 @@ module _ (g : Given) (t : Text) (kept : (before after : Local Unit Unit) → Typ
       → ArePlain acts → reads acts ≡ false → waits_then a l ≡ waits_at l → kept k.local (does acts (seen l) (counted k)).local
       → IsReadAs g t kept k name [] l (told (seen l) acts) a
   row-stays l c acts a at class is plain none waits local =
-      let (choices, left) = past-byte acts (seen l) (counted k) [] plain none in record {
+      let (choices, left) = acts-leave false acts (seen l) (counted k) [] plain none in record {
         after = does acts (seen l) (counted k);
         calls = 1;
         events_are = tells acts (seen l) (counted k) plain;
@@ -168,7 +161,7 @@ module _ (g : Given) (t : Text) (kept : (before after : Local Unit Unit) → Typ
       → IsReadAs g t kept k name (s ∷ []) rest (told (seen (s ∷ rest)) acts) (Next to)
   row-takes s rest c acts to at class is plain once local =
       let l = s ∷ rest in
-      let (choices, left) = over-byte acts (seen l) (counted k) [] plain once in record {
+      let (choices, left) = acts-leave true acts (seen l) (counted k) [] plain once in record {
         after = does acts (seen l) (counted k);
         calls = 1;
         events_are = tells acts (seen l) (counted k) plain;

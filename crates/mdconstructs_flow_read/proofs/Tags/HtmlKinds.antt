@@ -92,38 +92,19 @@ first-is k (b ∷ bs) = and-true (k == b) ∙ eq-flip k b
 opening-by : (raw block white greater slash ended further done over : Bool) → (greater ≡ true → slash ≡ false) → (ended ≡ false → over ≡ false)
     → by_name (cond (raw && ((white && true) || greater)) 1 (cond (block && (((white && true) || greater) || (slash && ended))) 6 0)) (cond white further (cond slash over (cond greater done false)))
     ≡ cond white (listed false raw block (whole further)) (cond greater (listed false raw block (whole done)) (cond slash (cond block (cond ended 6 0) (whole over)) 0))
-opening-by true block true greater slash ended further done over h k = refl
-opening-by false true true greater slash ended further done over h k = refl
-opening-by false false true greater slash ended further done over h k = refl
-opening-by true block false true slash ended further done over h k = refl
-opening-by false true false true slash ended further done over h k = refl
 opening-by false false false true true ended further done over h k = let wrong = h refl in absurd (cc)
-opening-by false false false true false ended further done over h k = refl
-opening-by true true false false true true further done over h k = refl
 opening-by true true false false true false further done true h k = let wrong = k refl in absurd (cc)
-opening-by true true false false true false further done false h k = refl
-opening-by true false false false true ended further done over h k = refl
-opening-by false true false false true true further done over h k = refl
 opening-by false true false false true false further done true h k = let wrong = k refl in absurd (cc)
-opening-by false true false false true false further done false h k = refl
+opening-by true false false false true ended further done over h k = refl
 opening-by false false false false true ended further done over h k = refl
-opening-by true true false false false ended further done over h k = refl
-opening-by true false false false false ended further done over h k = refl
-opening-by false true false false false ended further done over h k = refl
-opening-by false false false false false ended further done over h k = refl
+opening-by raw block white greater slash ended further done over h k = refl
 
 closing-by : (raw block white greater slash ended further done : Bool)
     → by_name (cond false 1 (cond (block && (((white && true) || greater) || (slash && ended))) 6 0)) (cond white further (cond greater done false))
     ≡ cond white (listed true raw block (whole further)) (cond greater (listed true raw block (whole done)) (cond slash (cond block (cond ended 6 0) 0) 0))
-closing-by raw true true greater slash ended further done = refl
-closing-by raw false true greater slash ended further done = refl
-closing-by raw true false true slash ended further done = refl
-closing-by raw false false true slash ended further done = refl
-closing-by raw true false false true true further done = refl
 closing-by raw true false false true false further done = refl
-closing-by raw true false false false ended further done = refl
 closing-by raw false false false true ended further done = refl
-closing-by raw false false false false ended further done = refl
+closing-by raw block white greater slash ended further done = refl
 
 not-both : (b : ℕ) → (b == 62) ≡ true → (b == 47) ≡ false
 not-both b e = ap (λ c. c == 47) (eqb-true b 62 e)
