@@ -59,17 +59,12 @@ no-rule [] h = tt
 no-rule (s ∷ ss) h = white-no-mark s.byte (not-false (is_white s.byte) h)
 
 -- rows at a mark
-break-mark : (previous : Option FlowByte) (c : FlowByte) → is_rule c ≡ true → ◌≡◌ {A = Rows Unit Unit} (cased thematic_break_at_break_rows previous (Some c)) (row (enter Marks ∷ consume ∷ []) (Next ThematicBreakSequence))
-break-mark previous star h = refl
-break-mark previous underscore h = refl
-break-mark previous dash h = refl
-break-mark previous c h = absurd (cc)
-
-line-mark : (previous : Option FlowByte) (c : FlowByte) → is_rule c ≡ true → ◌≡◌ {A = Rows Unit Unit} (cased flow_blank_line_after_rows previous (Some c)) mark_begins_line
-line-mark previous star h = refl
-line-mark previous underscore h = refl
-line-mark previous dash h = refl
-line-mark previous c h = absurd (cc)
+mark-rows : (previous : Option FlowByte) (c : FlowByte) → is_rule c ≡ true
+    → (◌≡◌ {A = Rows Unit Unit} (cased thematic_break_at_break_rows previous (Some c)) (row (enter Marks ∷ consume ∷ []) (Next ThematicBreakSequence))) × (◌≡◌ {A = Rows Unit Unit} (cased flow_blank_line_after_rows previous (Some c)) mark_begins_line)
+mark-rows previous star h = (refl, refl)
+mark-rows previous underscore h = (refl, refl)
+mark-rows previous dash h = (refl, refl)
+mark-rows previous c h = absurd (cc)
 
 white_goes : Goes ThematicBreakBefore is_white (SpaceOrTab ∷ []) ThematicBreakAtBreak
 white_goes = goes-by ThematicBreakBefore (SpaceOrTab ∷ []) ThematicBreakAtBreak (λ b. refl) is_blank is_white (λ b c. refl) blank-is
@@ -86,7 +81,7 @@ module _ (g : Given) (t : Text) where
     marks-begin s rest mark at =
         let sight = seen g t IsUnwritten k ThematicBreakAtBreak p (s ∷ rest) in
         row-takes-on g t IsUnwritten k ThematicBreakAtBreak p s rest (flow_byte s.byte) (enter Marks ∷ consume ∷ []) ThematicBreakSequence at refl
-        (ap (λ r. picked r g sight (counted k)) (break-mark (class_of flow_byte sight.previous) (flow_byte s.byte) (rule-is s.byte ∙ mark))) tt refl (unwritten k.local)
+        (ap (λ r. picked r g sight (counted k)) (mark-rows (class_of flow_byte sight.previous) (flow_byte s.byte) (rule-is s.byte ∙ mark)).0) tt refl (unwritten k.local)
 
     -- the first byte of the line, whose kind is known
     abbrev IsBreakHere : Type 0
@@ -104,11 +99,11 @@ module _ (g : Given) (t : Text) where
     line-begins-marks s rest (inl kind) mark at =
         let sight = seen g t IsUnwritten k FlowBlankLineAfter p (s ∷ rest) in
         row-takes-on g t IsUnwritten k FlowBlankLineAfter p s rest (flow_byte s.byte) (enter ThematicBreak ∷ enter Marks ∷ consume ∷ []) ThematicBreakSequence at refl
-        (ap (λ r. picked r g sight (counted k)) (line-mark (class_of flow_byte sight.previous) (flow_byte s.byte) (rule-is s.byte ∙ mark)) ∙ rw kind refl) tt refl (unwritten k.local)
+        (ap (λ r. picked r g sight (counted k)) (mark-rows (class_of flow_byte sight.previous) (flow_byte s.byte) (rule-is s.byte ∙ mark)).1 ∙ rw kind refl) tt refl (unwritten k.local)
     line-begins-marks s rest (inr (kind, on, three)) mark at =
         let sight = seen g t IsUnwritten k FlowBlankLineAfter p (s ∷ rest) in
         row-takes-on g t IsUnwritten k FlowBlankLineAfter p s rest (flow_byte s.byte) (enter ThematicBreak ∷ enter Marks ∷ consume ∷ []) ThematicBreakSequence at refl
-        (ap (λ r. picked r g sight (counted k)) (line-mark (class_of flow_byte sight.previous) (flow_byte s.byte) (rule-is s.byte ∙ mark)) ∙ rw (kind, on, three) refl) tt refl (unwritten k.local)
+        (ap (λ r. picked r g sight (counted k)) (mark-rows (class_of flow_byte sight.previous) (flow_byte s.byte) (rule-is s.byte ∙ mark)).1 ∙ rw (kind, on, three) refl) tt refl (unwritten k.local)
 
   -- ---- pieces, from behind white space on
   abbrev behind_white : (bound : ℕ) → List Seat → List Mark

@@ -19,15 +19,13 @@ module _ (line : Line) (e : Seat) (whole : line_text line ++ ending_of line ≡ 
 
   pub joined-behind : (closed : Bool) (ours behind : List Line) → (closed ≡ true → 1 ≤ length ours) → behind_block (not closed) (line ∷ ours) behind ≡ behind_block (not closed) ours behind
   joined-behind true [] behind some = absurd (let h = some refl in omega (arith, h))
-  joined-behind true (next ∷ ours) behind some = refl
-  joined-behind false ours behind some = refl
+  joined-behind closed ours behind some = refl
 
   joined-marks : (g : Given) (f : Fence) (closed : Bool) (ours : List Line) → (closed ≡ true → 1 ≤ length ours)
       → fenced_marks g.bytes f closed (line ∷ ours) ≡ code_marks g.bytes f.indent (line_text line) ++ (line_end g.bytes line ++ fenced_marks g.bytes f closed ours)
   joined-marks g f true [] some = absurd (let h = some refl in omega (arith, h))
   joined-marks g f false [] some = ap (λ x. code_marks g.bytes f.indent (line_text line) ++ x) (sym (append-nil (line_end g.bytes line)))
-  joined-marks g f true (next ∷ ours) some = refl
-  joined-marks g f false (next ∷ ours) some = refl
+  joined-marks g f closed (next ∷ ours) some = refl
 
 module _ (g : Given) (t : Text) (f : Fence) (of : IsMark f.byte) (size : 1 ≤ f.size) (room : length t.seats < 2 ^ 64 - 1) (indent_room : f.indent < 2 ^ 64 - 1) where
   -- the end of the text ends the block

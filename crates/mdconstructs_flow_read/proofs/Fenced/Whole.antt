@@ -19,8 +19,7 @@ first-marks : (g : Given) (f : Fence) (closed : Bool) (line : Line) (ours : List
     → code_fenced_marks g.bytes f closed (line ∷ ours) ≡ fence_marks g.bytes f.size (line_text line) ++ (line_end g.bytes line ++ fenced_marks g.bytes f closed ours)
 first-marks g f true line [] some = absurd (let h = some refl in omega (arith, h))
 first-marks g f false line [] some = ap (λ x. fence_marks g.bytes f.size (line_text line) ++ x) (sym (append-nil (line_end g.bytes line)))
-first-marks g f true line (next ∷ ours) some = refl
-first-marks g f false line (next ∷ ours) some = refl
+first-marks g f closed line (next ∷ ours) some = refl
 
 -- a line of a fence has a byte
 has-mark : (f : Fence) (l : List Seat) → IsFence f (bytes_of l) → 1 ≤ length l

@@ -1,5 +1,5 @@
 -- How a state is read by its row, where that makes no choice: the row's acts say which marks are made, and which place is read next.
-use Rattle.mdconstructs_flow_read.proofs.Prelude.{Bool, List, None, Option, Some, [], ap, append-nil, append_assoc, arith, false, length, length-append, refl, subst, sym, true, ℕ, ◌++◌, ◌+◌, ◌==◌, ◌∙◌, ◌∷◌, ◌≡◌, eqb-true, Seat, Event, Enter, Exit, Link, Point, Name, State, Next, Nok, Retry, consumed, entered, exited, with_local, Choice, Configuration, Local, EndsIn, Reading, Sight, byte_of, seat_before, sight, sight_in, Given, Text, Nothing, FlowByte, blank, flow_byte, flow, unchanged, IsReadAs, waits_then, Chunk, Mark, alone, linked_from, is_white, goes-called, first_byte, waits_at, Act, Rows, StateRows, Table, choose, chooses, class_of, consume, does, enter_noted, enters, exit, exit_noted, links, note, named, past, picked, row, step_at, step_of, table_step, writes, sight_before, sees-at}
+use Rattle.mdconstructs_flow_read.proofs.Prelude.{Bool, List, None, Option, Some, [], ap, append-nil, append_assoc, arith, false, length, length-append, refl, subst, sym, true, ℕ, ◌++◌, ◌+◌, ◌==◌, ◌∙◌, ◌∷◌, ◌≡◌, eqb-true, Seat, Event, Enter, Exit, Link, Point, Name, State, Next, Nok, Retry, consumed, entered, exited, with_local, Choice, Configuration, Local, EndsIn, Reading, Sight, byte_of, seat_before, sight, sight_in, Given, Text, Nothing, FlowByte, blank, flow_byte, flow, unchanged, IsReadAs, waits_then, Chunk, Mark, alone, linked_from, is_white, goes-called, first_byte, waits_at, Act, Rows, StateRows, Table, chooses, class_of, consume, does, enters, exit, note, named, past, picked, row, step_at, step_of, table_step, writes, sight_before, sees-at}
 use Rattle.mdconstructs_tables.specs.Rows.{done}
 use Rattle.mdconstructs_flow_read.proofs.Lines.LineReads.{IsAt, reads-feeding}
 

@@ -1,5 +1,5 @@
 -- The kind that a look finds, by one test after another; and what a line that may be an underline is.
-use Rattle.mdconstructs_flow_read.proofs.Prelude.{◌≡◌, ℕ, ◌+◌, ◌&&◌, ◌||◌, not, nat_le, List, [], ◌∷◌, Bool, true, false, cond, drop, one-add, Option, Some, None, refl, sym, ap, subst, is_some, and-false, and_parts, eqb-true, Constructs, is_white, HtmlKind, html_kind, raw, comment, instruction, declaration, cdata, block_tag, any_tag, Line, ends_text, interrupts, text_of, Fence, LineKind, begins_with, indent, is_atx_heading, is_blank_line, is_far, is_fence_of, is_thematic_break, is_underline_of_marks, line_kind, run, underline_rank, unindented, SeenKind, html_number, number, heading, fence, html, underline, thematic_break, text, as_seen, is_underline, seen_ends, seen_kind}
+use Rattle.mdconstructs_flow_read.proofs.Prelude.{◌≡◌, ℕ, ◌+◌, ◌&&◌, ◌||◌, not, nat_le, List, [], ◌∷◌, Bool, true, false, cond, drop, one-add, Option, Some, None, refl, sym, ap, subst, is_some, and-false, and_parts, eqb-true, Constructs, is_white, HtmlKind, html_kind, raw, Line, ends_text, interrupts, text_of, Fence, LineKind, begins_with, indent, is_atx_heading, is_blank_line, is_far, is_fence_of, is_thematic_break, is_underline_of_marks, line_kind, run, underline_rank, unindented, SeenKind, html_number, number, heading, fence, html, underline, thematic_break, text, as_seen, is_underline, seen_ends, seen_kind}
 use Rattle.mdconstructs_flow_read.specs.LineKinds as line
 use Rattle.mdconstructs_flow_read.specs.SeenKinds.{blank, indented}
 

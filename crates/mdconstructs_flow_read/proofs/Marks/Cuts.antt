@@ -1,7 +1,7 @@
 -- Lines are cut into leaf blocks: each block is so many lines from the front, and one at least.
 use Rattle.mdconstructs_flow_read.proofs.Prelude.{◌≡◌, ℕ, zero, suc, ◌≤◌, List, [], ◌∷◌, ◌++◌, Bool, true, false, cond, not, length, take, drop, length-take, length-drop, Option, Some, None, refl, sym, ap, ◌∙◌, arith, ◌&&◌, nat_le, flat_map, take-append-drop, prefix_len-le-length, Constructs, LinesAreInBlocks, block_lines, HtmlKind, ends, waits_for_blank, Line, LeafBlock, paragraph, setext_heading, fenced_code, block_of_kind, blocks_in, content_at, ends_text, further_code, has_line, html_block_at, is_indented, lines_through, lines_until, text_of, underlined, LineKind, indented, closes, is_blank_line, line_kind, underline_rank}
 use Rattle.mdconstructs_flow_read.specs.LeafBlocks.{is_blank}
-use Rattle.mdconstructs_flow_read.specs.LineKinds.{blank, heading, fence, html, thematic_break, text}
+use Rattle.mdconstructs_flow_read.specs.LineKinds.{fence, html, text}
 use Rattle.mdconstructs_flow_read.proofs.Lines.LineCounts.{some-through}
 use Rattle.mdconstructs_flow_read.proofs.Marks.FullBlocks.{IsOfText, not-blank}
 

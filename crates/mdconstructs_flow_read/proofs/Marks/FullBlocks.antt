@@ -1,6 +1,6 @@
 -- Lines of paragraphs and of setext headings have text.
 use Rattle.mdconstructs_flow_read.proofs.Prelude.{◌≡◌, ℕ, zero, suc, ◌≤◌, List, [], ◌∷◌, true, false, cond, length, take, drop, Option, Some, None, refl, sym, ◌∙◌, subst, arith, ◌==◌, ◌&&◌, ◌||◌, ◌+◌, is_some, not, one-add, AllByRecursion, Constructs, Seat, joined, lines_in, Line, LeafBlock, paragraph, setext_heading, text_of, ends_text, interrupts, lines_until, underlined, content_at, block_of_kind, blocks_in, leaf_blocks, LineKind, indented, is_blank_line, is_thematic_break, is_far, kind_of_rest, indent, line_kind, underline_rank, unindented}
-use Rattle.mdconstructs_flow_read.specs.LineKinds.{blank, heading, fence, html, thematic_break, text}
+use Rattle.mdconstructs_flow_read.specs.LineKinds.{blank, thematic_break, text}
 use Rattle.mdconstructs_flow_read.proofs.Lines.TestedKinds.{underline-kind}
 
 -- a line that begins with a byte of text

@@ -1,6 +1,6 @@
 -- Marks of spans over a document's virtual bytes are well formed: balanced, void spans empty, at places, and in order of these.
 use Rattle.markdown_base.proofs.Orders.{IsFirstExit, AreTight, tight-both, tight-at, InOrder, order-both, order-from, order-pairs}
-use Rattle.mdconstructs_flow_read.proofs.Prelude.{◌≡◌, ℕ, ◌+◌, List, [], ◌∷◌, ◌++◌, Bool, true, false, cond, Option, Some, None, append_assoc, refl, sym, ap, ◌∙◌, subst, AllByRecursion, map-append, append-nil, All-from_recursion, every-append, every-map, end-after-append, stands-self, Event, Enter, Exit, Point, is_void, same_name, IsPointOf, IsShown, shown, stands_before, Seat, end_after, point, balanced_from_open, names_after_all-append, same_name-refl, names_after, names_after_all, IsWellFormed, Given, event, Chunk, Mark, alone, linked_from, IsText, Text, AcrossGap, AtOnce}
+use Rattle.mdconstructs_flow_read.proofs.Prelude.{◌≡◌, ℕ, ◌+◌, List, [], ◌∷◌, ◌++◌, Bool, true, false, cond, Option, Some, None, append_assoc, refl, sym, ap, ◌∙◌, subst, AllByRecursion, map-append, append-nil, All-from_recursion, every-append, every-map, end-after-append, stands-self, Event, Enter, Exit, Point, is_void, same_name, IsPointOf, IsShown, shown, stands_before, Seat, end_after, balanced_from_open, names_after_all-append, same_name-refl, names_after, names_after_all, IsWellFormed, Given, event, Chunk, Mark, alone, linked_from, IsText, Text, AcrossGap, AtOnce}
 use Rattle.markdown_base.specs.declared.event.Name.{Name}
 use Rattle.markdown_base.specs.declared.event.Name.TheVariants as name
 use Rattle.mdconstructs_flow_read.proofs.Marks.Courses.{Course, Place, course-here, course-on, course-place, course-upto, text-course}

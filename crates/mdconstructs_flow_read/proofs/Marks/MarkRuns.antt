@@ -142,8 +142,6 @@ module _ (Meets : (exit behind : Point) → Type 0) where
   next-first : (i : ℕ) (e : Event) (k : Chunk) (ms : List Mark) → Runs ms (an_exit k.content) → IsNext (linked_from i ((e, Some k) ∷ ms)) i 0
   next-first i e k [] h = absurd h
   next-first i e k ((x, Some m) ∷ ms) h = absurd h
-  next-first i e k ((x, None) ∷ []) h = absurd h.1
-  next-first i e k ((x, None) ∷ (f, None) ∷ ms) h = absurd h.1
   next-first i e k ((x, None) ∷ (f, Some m) ∷ ms) h =
       let previous = h.1.0 in
       let same : i + 1 + 1 - 2 ≡ i + 0 = omega arith in
@@ -156,6 +154,7 @@ module _ (Meets : (exit behind : Point) → Type 0) where
         content = ap Some h.1.1;
         back = ap (λ b. cond b (Some (i + 1 + 1 - 2)) None) previous ∙ ap Some same;
       }
+  next-first i e k ((x, None) ∷ ms) h = absurd h.1
 
   pub next-found : (i : ℕ) (marks : List Mark) (d : Due) → Runs marks d → (k n : ℕ) → next_of (linked_from i marks) k ≡ Some n → (n ≡ i + k + 2) × IsNext (linked_from i marks) i k
   next-found i [] d h k n is = absurd (cc)

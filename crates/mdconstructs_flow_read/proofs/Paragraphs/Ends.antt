@@ -1,5 +1,5 @@
 -- At a line ending in a paragraph: whether it goes on, ends, or becomes a heading, by what the next line is.
-use Rattle.mdconstructs_flow_read.proofs.Prelude.{Bool, List, Some, [], ap, cond, drop, false, inl, inr, length, not, refl, suc, sym, true, ℕ, ◌++◌, ◌-◌, ◌<◌, ◌^◌, ◌∙◌, ◌∷◌, ◌≡◌, shown, Seat, Data, Paragraph, State, Ok, Retry, FlowAfter, ParagraphInside, ParagraphLineStart, exited, with_local, Configuration, Local, Sight, byte_of, end_place, seat_before, Given, Text, Byte, flow_byte, line_feed, unchanged, paragraph_ends, paragraph_inside, HeadingSetextTextAfter, ParagraphLineAfter, ParagraphLookStart, bytes_of, unindented, Finds, IsInLine, LeavesAll, LineEnds, LinesAreSeen, SeenKind, is_underline, seen_ends, seen_kind, Look, Act, Row, chooses, does, exit, write, over, sight_before}
+use Rattle.mdconstructs_flow_read.proofs.Prelude.{Bool, List, Some, [], ap, cond, drop, false, inl, inr, length, not, refl, suc, sym, true, ℕ, ◌++◌, ◌-◌, ◌<◌, ◌^◌, ◌∙◌, ◌∷◌, ◌≡◌, shown, Seat, Data, Paragraph, State, Ok, Retry, FlowAfter, ParagraphInside, ParagraphLineStart, exited, with_local, Configuration, Local, Sight, byte_of, end_place, seat_before, Given, Text, Byte, flow_byte, line_feed, unchanged, paragraph_ends, paragraph_inside, HeadingSetextTextAfter, ParagraphLineAfter, ParagraphLookStart, bytes_of, unindented, Finds, IsInLine, LeavesAll, LineEnds, LinesAreSeen, SeenKind, is_underline, seen_ends, seen_kind, Look, Act, Row, chooses, does, exit, write, sight_before}
 use Rattle.mdconstructs_flow_read.proofs.Lines.{IsPossible, Leads, counted, from-leads, looks, possible, row-leads, step-checked}
 use Rattle.mdconstructs_flow_read.proofs.Lines.Leading.{leads-on}
 use Rattle.mdconstructs_flow_read.proofs.Paragraphs.Looks.{finds_underline, next-line-seen, passed, passes_over, text-fails, underlined}

@@ -1,6 +1,5 @@
 -- The look at the next line, from the line ending in a paragraph, and what it says of the paragraph's end.
-use Rattle.mdconstructs_flow_read.proofs.Prelude.{◌≡◌, ℕ, ◌+◌, ◌-◌, ◌<◌, ◌≤◌, ◌^◌, ◌==◌, ◌&&◌, ◌||◌, ◌⊎◌, inl, inr, not, nat_le, List, ◌∷◌, ◌++◌, Bool, false, Option, Some, drop, length, refl, sym, ap, ◌∙◌, subst, arith, length-append, length-drop, nat_tests, drop-next, same_name, Event, EventName, CodeIndented, HeadingSetextUnderline, HtmlFlow, State, Ok, Nok, FlowBlankLineBefore, ParagraphLookStart, Seat, Local, sight, Given, Text, Look, behind_byte, by_row, glance, looked_on, scan, shows, uncalled, class_of, picked, cased, flow_byte, line_feed, flow, unchanged, paragraph_look_start_rows, bytes_of, unindented, seen_ends, SeenKind, heading, fence, html, underline, thematic_break, text, seen_kind, is_underline, Finds, IsInLine, LeavesAll, LineEnds, LinesAreSeen}
-use Rattle.mdconstructs_flow_read.specs.SeenKinds.{blank, indented}
+use Rattle.mdconstructs_flow_read.proofs.Prelude.{◌≡◌, ℕ, ◌+◌, ◌-◌, ◌<◌, ◌≤◌, ◌^◌, ◌==◌, ◌&&◌, ◌||◌, ◌⊎◌, inl, inr, not, nat_le, List, ◌∷◌, ◌++◌, Bool, false, Option, Some, drop, length, refl, sym, ap, ◌∙◌, subst, arith, length-append, length-drop, nat_tests, drop-next, same_name, Event, EventName, CodeIndented, HeadingSetextUnderline, HtmlFlow, State, Ok, Nok, FlowBlankLineBefore, ParagraphLookStart, Seat, Local, sight, Given, Text, Look, behind_byte, by_row, glance, looked_on, scan, shows, uncalled, class_of, picked, cased, flow_byte, line_feed, flow, unchanged, paragraph_look_start_rows, bytes_of, unindented, seen_ends, SeenKind, html, text, seen_kind, is_underline, Finds, IsInLine, LeavesAll, LineEnds, LinesAreSeen}
 use Rattle.mdconstructs_flow_read.proofs.Lines.KindsOfLines.{IsPossible}
 use Rattle.mdconstructs_flow_read.proofs.Looks.LookSteps.{leaves-on}
 
