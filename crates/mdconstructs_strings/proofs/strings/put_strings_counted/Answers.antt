@@ -1,0 +1,55 @@
+use Rattle.std.proofs.Common.{◌∙◌, ◌+◌, ◌++◌, [], ◌∷◌, ap, append_assoc, arith, drop, refl, sym}
+use Rattle.std.specs.Prelude.{slice_index_or}
+use Rattle.mdconstructs_strings.proofs.Listed.{kept-at, no_event, read-at}
+use Rattle.mdconstructs_strings.specs.Costs.{string_size_from}
+use Rattle.mdconstructs_strings.specs.Strings.{line_as_string, with_strings_from}
+use Rattle.mdconstructs_strings.proofs.strings.put_strings_counted.Goals as goal
+
+pub bounds-events-next-then-is_string_data : goal.bounds-events-next-then-is_string_data
+bounds-events-next-then-is_string_data g c =
+    let two = (read-at c.args.on.now c.args.tab c.args.bytes.now no_event c.loop-next.inside c.args.events.now c.loop-next.next (c.loop-next.next + 1) (c.loop-next.next + 2) refl refl (sym c.is_string_data.ensures ∙ c.if-is_string_data.true)).two in
+    omega (arith, two)
+
+pub loop-next-preserved-then-is_string_data : goal.loop-next-preserved-then-is_string_data
+loop-next-preserved-then-is_string_data g c =
+    let on = c.args.on.now in
+    let t = c.args.tab in
+    let bytes = c.args.bytes.now in
+    let es = c.args.events.now in
+    let l = c.loop-next in
+    let r = read-at on t bytes no_event l.inside es l.next (l.next + 1) (l.next + 2) refl refl (sym c.is_string_data.ensures ∙ c.if-is_string_data.true) in
+    let line = line_as_string on t bytes (slice_index_or es l.next no_event).point (slice_index_or es (l.next + 1) no_event).point in
+    let rest = with_strings_from on t bytes l.inside (drop (l.next + 2) es) in
+    let one = c.add_one.ensures in
+    let paid = c.in_ok-read_line_counted.ensures.linear in
+    let size = r.size in
+    let so_far = l.invariant.2 in (
+      ap (λ xs. xs ++ rest) c.in_ok-read_line_counted.ensures.events ∙ append_assoc l.out.items line rest ∙ ap (λ xs. l.out.items ++ xs) (sym r.events) ∙ l.invariant.0,
+      r.two,
+      omega (arith, one, paid, size, so_far),
+    )
+
+pub loop-next-preserved : goal.loop-next-preserved
+loop-next-preserved g c =
+    let on = c.args.on.now in
+    let t = c.args.tab in
+    let bytes = c.args.bytes.now in
+    let es = c.args.events.now in
+    let l = c.loop-next in
+    let test = c.loop-next-test.true in
+    let k = kept-at on t bytes no_event l.inside es l.next (l.next + 1) refl test (sym c.is_string_data.ensures ∙ c.if-is_string_data.false) in
+    let e = slice_index_or es l.next no_event in
+    let behind = drop (l.next + 1) es in
+    let inside = c.in_string_after-inside.ensures in
+    let one = c.add_one.ensures in
+    let size = ap (λ b. string_size_from t bytes b behind) inside in
+    let same = k.size in
+    let so_far = l.invariant.2 in (
+      ap (λ xs. xs ++ with_strings_from on t bytes c.in_string_after-inside.result behind) c.in_ok-push.ensures.items
+          ∙ append_assoc l.out.items (e ∷ []) (with_strings_from on t bytes c.in_string_after-inside.result behind)
+          ∙ ap (λ b. l.out.items ++ (e ∷ with_strings_from on t bytes b behind)) inside
+          ∙ ap (λ xs. l.out.items ++ xs) (sym k.events)
+          ∙ l.invariant.0,
+      omega (arith, test),
+      omega (arith, one, size, same, so_far),
+    )

@@ -1,0 +1,18 @@
+//! Laws about strings. Each is a function that does nothing; its contract is the law.
+
+ghost use Rattle.mdconstructs_strings.specs.Laws.{DataIsReadAsString, PlainStringsStay, StringsKeepLists};
+
+/// Where strings are read, a balanced list of events stays balanced, a list without links has none, and void spans stay empty.
+pub fn strings_keep_lists()
+    ensures { StringsKeepLists }
+{}
+
+/// Data that stands in a string for virtual bytes of a document comes to be what these bytes are as a string.
+pub fn data_is_read_as_string()
+    ensures { DataIsReadAsString }
+{}
+
+/// Where no line feed, no backslash and no `&` is in the data of strings, nothing changes.
+pub fn plain_strings_stay()
+    ensures { PlainStringsStay }
+{}
