@@ -6,6 +6,7 @@ use Rattle.markdown_base.specs.declared.event.Event.{Event}
 use Rattle.markdown_base.specs.declared.event.Name.TheVariants.{Data}
 use Rattle.markdown_base.specs.Events.{IsBalanced, IsVoidTight}
 use Rattle.markdown_base.specs.Virtual.{Seat, virtual}
+use Rattle.markdown_tokenizer.specs.AtPlaces.{AreAtPlaces}
 use Rattle.markdown_tokenizer.specs.Plain.{HaveNoLinks}
 use Rattle.mdconstructs_strings.specs.StringItems.{is_string_special, string_seat_events}
 use Rattle.mdconstructs_strings.specs.Strings.{in_string_after, is_data, with_strings, with_strings_from}
@@ -15,6 +16,10 @@ use Rattle.mdconstructs_text.specs.Parts.{leaf}
 abbrev pub StringsKeepLists : Type 0
 StringsKeepLists = (on : Constructs) (t : ℕ) (bytes : List ℕ) (es : List Event)
     → (IsBalanced es → IsBalanced (with_strings on t bytes es)) × (HaveNoLinks es → HaveNoLinks (with_strings on t bytes es)) × (IsVoidTight es → IsVoidTight (with_strings on t bytes es))
+
+-- Where strings are read, events stand at places of the document, if they did
+abbrev pub StringsStandAtPlaces : Type 0
+StringsStandAtPlaces = (on : Constructs) (t : ℕ) (bytes : List ℕ) (es : List Event) → 0 < t → AreAtPlaces t bytes es → AreAtPlaces t bytes (with_strings on t bytes es)
 
 -- these are some of the virtual bytes of a document, one behind another
 abbrev pub AreOf : (t : ℕ) → List ℕ → List Seat → Type 0

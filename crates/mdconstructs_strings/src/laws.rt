@@ -1,10 +1,15 @@
 //! Laws about strings. Each is a function that does nothing; its contract is the law.
 
-ghost use Rattle.mdconstructs_strings.specs.Laws.{DataIsReadAsString, PlainStringsStay, StringsKeepLists};
+ghost use Rattle.mdconstructs_strings.specs.Laws.{DataIsReadAsString, PlainStringsStay, StringsKeepLists, StringsStandAtPlaces};
 
 /// Where strings are read, a balanced list of events stays balanced, a list without links has none, and void spans stay empty.
 pub fn strings_keep_lists()
     ensures { StringsKeepLists }
+{}
+
+/// Where strings are read, events stand at places of the document, if they did before.
+pub fn strings_stand_at_places()
+    ensures { StringsStandAtPlaces }
 {}
 
 /// Data that stands in a string for virtual bytes of a document comes to be what these bytes are as a string.
