@@ -21,8 +21,8 @@ use Rattle.markdown_tokenizer.specs.Engine.{IsWellFormed}
 use Rattle.mdconstructs_tables.specs.Rows.{enter, enter_link, exit, consume, write, choose, Rows, row, when, a_choice, at_a_byte, at_bytes, costs, StateRows, state, Table}
 use Rattle.mdconstructs_tables.specs.Plans.{Plan, planned_rules}
 use Rattle.mdconstructs_machines.specs.Tables.{counts}
-use Rattle.mdtests_tables.specs.declared.stars.Resolver.{Resolver}
-use Rattle.mdtests_tables.specs.declared.stars.Resolver.TheVariants.{Strengthen}
+use Rattle.mdtests_tables.specs.declared.resolvers.StarResolver.{StarResolver}
+use Rattle.mdtests_tables.specs.declared.resolvers.StarResolver.TheVariants.{Strengthen}
 use Rattle.mdtests_tables.specs.Stars.{StarByte, star, other, star_byte, registers, registered_at, with_strong_name}
 
 -- how many calls a state may take, by how many bytes are left
@@ -34,7 +34,7 @@ abbrev pub between : ℕ → ℕ
 between n = n * n + 5 * n + 2
 
 -- attention is on
-abbrev pub pairs_are_on : Given → Sight → Configuration Resolver Unit → Bool
+abbrev pub pairs_are_on : Given → Sight → Configuration StarResolver Unit → Bool
 pairs_are_on g s k = g.options.constructs.attention
 
 -- a chunk is read as text
@@ -42,56 +42,56 @@ abbrev pub chunk_link : Link
 chunk_link = record { previous = None; next = None; content = TextContent }
 
 -- before anything is read
-abbrev pub first_rows : (previous current : Option StarByte) → Rows Resolver Unit
+abbrev pub first_rows : (previous current : Option StarByte) → Rows StarResolver Unit
 first_rows _ _ = row (write registers ∷ []) (Retry TextBefore)
 
-abbrev pub first : StateRows StarByte Resolver Unit
+abbrev pub first : StateRows StarByte StarResolver Unit
 first = state TextStart first_rows [] (costs (by_left (λ n. between n + 1)))
 
 -- between pairs: at a star one is tried
-abbrev pub before_rows : (previous current : Option StarByte) → Rows Resolver Unit
+abbrev pub before_rows : (previous current : Option StarByte) → Rows StarResolver Unit
 before_rows _ None = row [] Ok
 before_rows _ (Some star) = when pairs_are_on (row (choose Attempt (Next TextBefore) (Next TextBeforeData) ∷ []) (Retry AttentionStart)) (row [] (Retry TextBeforeData))
 before_rows _ (Some other) = row [] (Retry TextBeforeData)
 
-abbrev pub before_pair : StateRows StarByte Resolver Unit
+abbrev pub before_pair : StateRows StarByte StarResolver Unit
 before_pair = state TextBefore before_rows [] (costs (by_left between))
 
 -- a byte that is no star of a pair begins a chunk
-abbrev pub chunk_rows : (previous current : Option StarByte) → Rows Resolver Unit
+abbrev pub chunk_rows : (previous current : Option StarByte) → Rows StarResolver Unit
 chunk_rows _ _ = row (enter_link Data chunk_link ∷ consume ∷ []) (Next DataInside)
 
-abbrev pub chunk : StateRows StarByte Resolver Unit
+abbrev pub chunk : StateRows StarByte StarResolver Unit
 chunk = record (state TextBeforeData chunk_rows [] (costs (by_left (λ n. n * n + 3 * n + 1)))) { called = at_a_byte }
 
 -- the chunk ends behind it
-abbrev pub chunk_end_rows : (previous current : Option StarByte) → Rows Resolver Unit
+abbrev pub chunk_end_rows : (previous current : Option StarByte) → Rows StarResolver Unit
 chunk_end_rows _ _ = row (exit Data ∷ []) (Retry TextBefore)
 
-abbrev pub chunk_end : StateRows StarByte Resolver Unit
+abbrev pub chunk_end : StateRows StarByte StarResolver Unit
 chunk_end = state DataInside chunk_end_rows (Data ∷ []) (costs (by_left (λ n. between n + 1)))
 
 -- a pair is tried: a choice waits, and a star
-abbrev pub begins_rows : (previous current : Option StarByte) → Rows Resolver Unit
+abbrev pub begins_rows : (previous current : Option StarByte) → Rows StarResolver Unit
 begins_rows _ _ = row (enter AttentionSequence ∷ consume ∷ exit AttentionSequence ∷ []) (Next AttentionInside)
 
 abbrev pub is_star : StarByte → Bool
 is_star star = true
 is_star other = false
 
-abbrev pub begins : StateRows StarByte Resolver Unit
+abbrev pub begins : StateRows StarByte StarResolver Unit
 begins = record (state AttentionStart begins_rows [] (costs (by_left (λ n. n + 1)))) { called = at_bytes is_star; needs = a_choice }
 
 -- in a pair
-abbrev pub inside_rows : (previous current : Option StarByte) → Rows Resolver Unit
+abbrev pub inside_rows : (previous current : Option StarByte) → Rows StarResolver Unit
 inside_rows _ None = row [] Nok
 inside_rows _ (Some star) = row (enter AttentionSequence ∷ consume ∷ exit AttentionSequence ∷ []) Ok
 inside_rows _ (Some other) = row (consume ∷ []) (Next AttentionInside)
 
-abbrev pub inside : StateRows StarByte Resolver Unit
+abbrev pub inside : StateRows StarByte StarResolver Unit
 inside = record (state AttentionInside inside_rows [] (costs (by_left (λ n. n + 1)))) { needs = a_choice }
 
-abbrev pub pairs : Table StarByte Resolver Unit
+abbrev pub pairs : Table StarByte StarResolver Unit
 pairs = record { class = star_byte; first = counts; states = first ∷ before_pair ∷ chunk ∷ chunk_end ∷ begins ∷ inside ∷ []; starts = TextStart ∷ [] }
 
 -- the state that may be called where the attempt was made: the first of a pair
@@ -126,7 +126,7 @@ abbrev pub AreParts : Given → List Event → Type 0
 AreParts g events = AllByRecursion (IsPart g.options.constructs.attention) events
 
 -- what the machine knows of options, of the text, and of its events, edits and resolvers
-pub record KnowsPairs (g : Given) (text : Text) (k : Configuration Resolver Unit) (choices : List Choice) (state : State) : Type 0 where
+pub record KnowsPairs (g : Given) (text : Text) (k : Configuration StarResolver Unit) (choices : List Choice) (state : State) : Type 0 where
   pub registered : k.local.resolvers ≡ registered_at state
   pub unedited : k.local.map ≡ []
   pub parts : AreParts g k.events
@@ -134,11 +134,11 @@ pub record KnowsPairs (g : Given) (text : Text) (k : Configuration Resolver Unit
   pub waiting : AllByRecursion (TriesPair text) choices
 
 -- the resolver gives each sequence its name
-abbrev pub pairs_resolver : Sight → Configuration Resolver Unit → Resolver → Resolved Resolver Unit
+abbrev pub pairs_resolver : Sight → Configuration StarResolver Unit → StarResolver → Resolved StarResolver Unit
 pairs_resolver s k Strengthen = done (record k { events = map (with_strong_name false) k.events }) None
 
 -- before the resolver and behind it no edit waits
-abbrev pub IsUnedited : Given → Text → List Resolver → Configuration Resolver Unit → Type 0
+abbrev pub IsUnedited : Given → Text → List StarResolver → Configuration StarResolver Unit → Type 0
 IsUnedited g text rs k = (k.local.map ≡ []) × AreParts g k.events × IsWellFormed g k.events
 
 -- the final events are well formed, and all data if attention is off
@@ -146,7 +146,7 @@ abbrev pub KeepsOptions : Given → Text → List Event → Type 0
 KeepsOptions g text events = IsWellFormed g events × (g.options.constructs.attention ≡ false → AllByRecursion (λ e. e.name ≡ Data) events)
 
 -- the plan of all this
-abbrev pub pairs_plan : Plan StarByte Resolver Unit
+abbrev pub pairs_plan : Plan StarByte StarResolver Unit
 pairs_plan = record {
   table = pairs;
   early = begins_pair;
@@ -157,5 +157,5 @@ pairs_plan = record {
   ends = KeepsOptions;
 }
 
-abbrev pub pairs_rules : Given → Rules Resolver Unit
+abbrev pub pairs_rules : Given → Rules StarResolver Unit
 pairs_rules = planned_rules pairs_plan

@@ -20,24 +20,24 @@ use Rattle.markdown.specs.Edits.{edit_at, added_after}
 use Rattle.markdown.specs.Resolving.{Resolved, done, edits_made}
 use Rattle.markdown.specs.Rules.{Rules}
 use Rattle.mdconstructs_tables.specs.RowInvariant.{IsFed}
-use Rattle.mdtests_tables.specs.contracts.replacing.Resolver.{the_type}
-use Rattle.mdtests_tables.specs.declared.replacing.Resolver.{Resolver}
-use Rattle.mdtests_tables.specs.declared.replacing.Resolver.TheVariants.{First, Second}
+use Rattle.mdtests_tables.specs.contracts.resolvers.ReplacingResolver.{the_type}
+use Rattle.mdtests_tables.specs.declared.resolvers.ReplacingResolver.{ReplacingResolver}
+use Rattle.mdtests_tables.specs.declared.resolvers.ReplacingResolver.TheVariants.{First, Second}
 
 -- whether two names of resolvers are equal
-abbrev pub same_resolver : Resolver → Resolver → Bool
+abbrev pub same_resolver : ReplacingResolver → ReplacingResolver → Bool
 same_resolver a b = sameb the_type a b
 
 -- both resolvers are registered
-abbrev pub both_registered : Configuration Resolver Unit → Configuration Resolver Unit
+abbrev pub both_registered : Configuration ReplacingResolver Unit → Configuration ReplacingResolver Unit
 both_registered k = with_resolvers k (registered same_resolver Second (registered same_resolver First k.local.resolvers))
 
 -- what the state does at the end, and at a byte
-abbrev pub reads_on : Option ℕ → Configuration Resolver Unit → Step Resolver Unit
+abbrev pub reads_on : Option ℕ → Configuration ReplacingResolver Unit → Step ReplacingResolver Unit
 reads_on None k = record { configuration = both_registered k; choices = []; answer = Ok }
 reads_on (Some byte) k = record { configuration = consumed k; choices = []; answer = Next TextStart }
 
-abbrev pub replacing_step : Sight → Configuration Resolver Unit → Name → Step Resolver Unit
+abbrev pub replacing_step : Sight → Configuration ReplacingResolver Unit → Name → Step ReplacingResolver Unit
 replacing_step s k name = reads_on s.current k
 
 -- a span of this name at a place, with nothing in it
@@ -45,18 +45,18 @@ abbrev pub span_at : EventName → Point → List Event
 span_at name p = record { kind = Enter; name = name; point = p; link = None } ∷ record { kind = Exit; name = name; point = p; link = None } ∷ []
 
 -- one more edit waits: such a span comes in place of all events
-abbrev pub replaced : EventName → Sight → Configuration Resolver Unit → Configuration Resolver Unit
+abbrev pub replaced : EventName → Sight → Configuration ReplacingResolver Unit → Configuration ReplacingResolver Unit
 replaced name s k =
     let edit = edit_at 0 (length k.events) (span_at name s.point) in
     record k { local = record k.local { map = added_after k.local.map edit } }
 
 -- the results of the resolvers
-abbrev pub replacing_resolver : Sight → Configuration Resolver Unit → Resolver → Resolved Resolver Unit
+abbrev pub replacing_resolver : Sight → Configuration ReplacingResolver Unit → ReplacingResolver → Resolved ReplacingResolver Unit
 replacing_resolver s k First = done (replaced Paragraph s k) None
 replacing_resolver s k Second = done (replaced BlockQuote s (edits_made k)) None
 
 -- There are no choices, no open spans, no events and no edits, and these resolvers are registered
-pub record IsBlank (rs : List Resolver) (k : Configuration Resolver Unit) (choices : List Choice) : Type 0 where
+pub record IsBlank (rs : List ReplacingResolver) (k : Configuration ReplacingResolver Unit) (choices : List Choice) : Type 0 where
   pub alone : choices ≡ []
   pub closed : k.stack ≡ []
   pub eventless : k.events ≡ []
@@ -64,27 +64,27 @@ pub record IsBlank (rs : List Resolver) (k : Configuration Resolver Unit) (choic
   pub registered_are : k.local.resolvers ≡ rs
 
 -- The invariant: resolvers are registered once the end was fed, and something waits exactly where a state is called
-abbrev pub replacing_holds : Text → Configuration Resolver Unit → List Choice → State → Type 0
+abbrev pub replacing_holds : Text → Configuration ReplacingResolver Unit → List Choice → State → Type 0
 replacing_holds text k choices (Next name) = IsBlank [] k choices × (k.waiting ≡ Nothing)
 replacing_holds text k choices (Retry name) = IsBlank [] k choices × IsFed k.waiting k.position k.ended text
 replacing_holds text k choices Ok = IsBlank (First ∷ Second ∷ []) k choices × (k.ended ≡ true)
 replacing_holds text k choices _ = ⊥
 
 -- a call for each byte that is left, and one for the end
-abbrev pub replacing_cost : Text → Configuration Resolver Unit → List Choice → State → ℕ
+abbrev pub replacing_cost : Text → Configuration ReplacingResolver Unit → List Choice → State → ℕ
 replacing_cost text k choices (Next name) = length text.seats - k.position + 1
 replacing_cost text k choices (Retry name) = length text.seats - k.position + 1
 replacing_cost text k choices _ = 0
 
 -- what holds before the resolvers that are left: the edit of the first waits for the second, and is made before the edit of the second
-abbrev pub replacing_resolves : Text → List Resolver → Configuration Resolver Unit → Type 0
+abbrev pub replacing_resolves : Text → List ReplacingResolver → Configuration ReplacingResolver Unit → Type 0
 replacing_resolves text (First ∷ Second ∷ []) k = (k.events ≡ []) × (k.local.map ≡ [])
 replacing_resolves text (Second ∷ []) k = (p : Point) × (k.events ≡ []) × (k.local.map ≡ edit_at 0 0 (span_at Paragraph p) ∷ [])
 replacing_resolves text [] k = (p q : Point) × (k.events ≡ span_at Paragraph p) × (k.local.map ≡ edit_at 0 2 (span_at BlockQuote q) ∷ [])
 replacing_resolves text _ k = ⊥
 
 -- its rules; in the end there is one block quote, with nothing in it
-abbrev pub replacing_rules : Given → Rules Resolver Unit
+abbrev pub replacing_rules : Given → Rules ReplacingResolver Unit
 replacing_rules g = record {
   step = replacing_step;
   holds = replacing_holds;

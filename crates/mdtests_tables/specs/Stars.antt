@@ -26,8 +26,8 @@ use Rattle.markdown.specs.Plain.{HaveNoLinks}
 use Rattle.mdconstructs_tables.specs.Rows.{enter, exit, consume, write, Rows, row, StateRows, calls, state, Table}
 use Rattle.mdconstructs_tables.specs.RowInvariant.{table_rules}
 use Rattle.mdconstructs_machines.specs.Tables.{counts}
-use Rattle.mdtests_tables.specs.declared.stars.Resolver.{Resolver}
-use Rattle.mdtests_tables.specs.declared.stars.Resolver.TheVariants.{Strengthen}
+use Rattle.mdtests_tables.specs.declared.resolvers.StarResolver.{StarResolver}
+use Rattle.mdtests_tables.specs.declared.resolvers.StarResolver.TheVariants.{Strengthen}
 
 -- The classes of bytes: an asterisk, or another
 pub data StarByte : Type 0 where
@@ -38,30 +38,30 @@ abbrev pub star_byte : ℕ → StarByte
 star_byte byte = cond (byte == 42) star other
 
 -- two names of resolvers are equal: there is one
-abbrev pub same_resolver : Resolver → Resolver → Bool
+abbrev pub same_resolver : StarResolver → StarResolver → Bool
 same_resolver a b = true
 
 -- the resolver is registered
-abbrev pub registers : Configuration Resolver Unit → Local Resolver Unit
+abbrev pub registers : Configuration StarResolver Unit → Local StarResolver Unit
 registers k = (with_resolvers k (registered same_resolver Strengthen k.local.resolvers)).local
 
 -- before anything is read
-abbrev pub text_start_rows : (previous current : Option StarByte) → Rows Resolver Unit
+abbrev pub text_start_rows : (previous current : Option StarByte) → Rows StarResolver Unit
 text_start_rows _ _ = row (write registers ∷ []) (Retry DataStart)
 
-abbrev pub text_start : StateRows StarByte Resolver Unit
+abbrev pub text_start : StateRows StarByte StarResolver Unit
 text_start = state TextStart text_start_rows [] (calls 1 2)
 
 -- before a byte
-abbrev pub data_start_rows : (previous current : Option StarByte) → Rows Resolver Unit
+abbrev pub data_start_rows : (previous current : Option StarByte) → Rows StarResolver Unit
 data_start_rows _ None = row [] Ok
 data_start_rows _ (Some star) = row (enter AttentionSequence ∷ consume ∷ exit AttentionSequence ∷ []) (Next DataStart)
 data_start_rows _ (Some other) = row (enter Data ∷ consume ∷ exit Data ∷ []) (Next DataStart)
 
-abbrev pub data_start : StateRows StarByte Resolver Unit
+abbrev pub data_start : StateRows StarByte StarResolver Unit
 data_start = state DataStart data_start_rows [] (calls 1 1)
 
-abbrev pub stars : Table StarByte Resolver Unit
+abbrev pub stars : Table StarByte StarResolver Unit
 stars = record { class = star_byte; first = counts; states = text_start ∷ data_start ∷ []; starts = TextStart ∷ [] }
 
 -- a star gets the name of a sequence of strong text; all other names stay
@@ -111,36 +111,36 @@ strengthened late (a ∷ []) = a ∷ []
 strengthened late (a ∷ b ∷ rest) = cond (is_sequence a b) (strong late a b ++ strengthened late rest) (a ∷ strengthened late (b ∷ rest))
 
 -- the events are renamed, and the edits of the renamed ones wait, in place of those that waited
-abbrev pub strengthens : (alone late : Bool) → Configuration Resolver Unit → Configuration Resolver Unit
+abbrev pub strengthens : (alone late : Bool) → Configuration StarResolver Unit → Configuration StarResolver Unit
 strengthens alone late k =
     let events = map (with_strong_name alone) k.events in record k { events = events; local = record k.local { map = edits_from late 0 events } }
 
 -- the resolver does that, and finds nothing
-abbrev pub stars_resolver : (alone late : Bool) → Sight → Configuration Resolver Unit → Resolver → Resolved Resolver Unit
+abbrev pub stars_resolver : (alone late : Bool) → Sight → Configuration StarResolver Unit → StarResolver → Resolved StarResolver Unit
 stars_resolver alone late s k Strengthen = done (strengthens alone late k) None
 
 -- which resolvers are registered: none before the first call, and then the one
-abbrev pub registered_at : State → List Resolver
+abbrev pub registered_at : State → List StarResolver
 registered_at (Next name) = cond (name.number == TextStart.number) [] (Strengthen ∷ [])
 registered_at (Retry name) = cond (name.number == TextStart.number) [] (Strengthen ∷ [])
 registered_at _ = Strengthen ∷ []
 
 -- these resolvers are registered, and no event has a link
-abbrev pub IsUnresolved : List Resolver → Configuration Resolver Unit → Type 0
+abbrev pub IsUnresolved : List StarResolver → Configuration StarResolver Unit → Type 0
 IsUnresolved rs k = (k.local.resolvers ≡ rs) × HaveNoLinks k.events
 
 -- no choice waits either
-abbrev pub IsUnstarred : Configuration Resolver Unit → List Choice → State → Type 0
+abbrev pub IsUnstarred : Configuration StarResolver Unit → List Choice → State → Type 0
 IsUnstarred k choices state = (choices ≡ []) × IsUnresolved (registered_at state) k
 
 -- what holds before the resolver, and behind it: the events are well formed and not linked, and then the edits wait
-abbrev pub stars_resolves : (late : Bool) → Given → Text → List Resolver → Configuration Resolver Unit → Type 0
+abbrev pub stars_resolves : (late : Bool) → Given → Text → List StarResolver → Configuration StarResolver Unit → Type 0
 stars_resolves late g text (Strengthen ∷ []) k = HaveNoLinks k.events × IsWellFormed g k.events
 stars_resolves late g text [] k = (k.local.map ≡ edits_from late 0 k.events) × HaveNoLinks k.events × IsWellFormed g k.events
 stars_resolves late g text _ k = ⊥
 
 -- its rules: the final events are well formed, so in order of place and each at a place of the document
-abbrev pub stars_rules : (alone late : Bool) → Given → Rules Resolver Unit
+abbrev pub stars_rules : (alone late : Bool) → Given → Rules StarResolver Unit
 stars_rules alone late g =
     let rules = table_rules stars g in
     record rules {

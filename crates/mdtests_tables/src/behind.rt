@@ -7,7 +7,6 @@ ghost use Rattle.mdconstructs_tables.specs.RowInvariant.{DoesAll, IsCallable, st
 ghost use Rattle.mdconstructs_machines.specs.Tables.{line_byte};
 ghost use Rattle.mdtests_tables.specs.Behind.{behind_rules, data_inside, data_start, paragraph_inside, text_start};
 
-#[cfg(test)]
 use crate::shown::assert_shown;
 use markdown::event;
 use markdown::state::{Machine, MachineTypes, Name, State};
@@ -15,7 +14,6 @@ use markdown::subtokenize::Subresult;
 use markdown::tokenizer::{Fault, Tokenizer};
 use mdconstructs_machines::begin::begin;
 use mdconstructs_tables::marker;
-#[cfg(test)]
 use mdtests_base::documents::lines_by;
 use std::alloc::{AllocError, Global};
 

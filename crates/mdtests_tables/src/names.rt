@@ -9,7 +9,6 @@ ghost use Rattle.mdconstructs_tables.specs.RowInvariant.{DoesAll, IsCallable, st
 ghost use Rattle.mdconstructs_machines.specs.Tables.{line_byte};
 ghost use Rattle.mdtests_tables.specs.Names.{NamesAreKnown, after_byte, is_number_of_name, names_rules, nothing_read, number_after, text_start};
 
-#[cfg(test)]
 use crate::shown::assert_shown;
 use markdown::event;
 use markdown::state::{Machine, MachineTypes, Name, State};
@@ -17,7 +16,6 @@ use markdown::subtokenize::Subresult;
 use markdown::tokenizer::{Fault, Tokenizer};
 use mdconstructs_machines::begin::begin;
 use mdconstructs_tables::marker;
-#[cfg(test)]
 use mdtests_base::documents::lines_by;
 use std::alloc::{AllocError, Global};
 

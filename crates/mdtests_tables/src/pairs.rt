@@ -7,16 +7,15 @@ ghost use Rattle.mdconstructs_tables.specs.RowInvariant.{DoesAll, IsCallable, st
 ghost use Rattle.mdtests_tables.specs.Pairs.{first, before_pair, chunk, chunk_end, begins, inside, pairs_are_on};
 ghost use Rattle.mdtests_tables.specs.Stars.{star_byte};
 
-#[cfg(test)]
+use crate::resolvers::StarResolver;
 use crate::shown::assert_shown;
-use crate::stars::{Resolver, rename_all};
+use crate::stars::rename_all;
 use markdown::event::{self, Content, Link};
 use markdown::state::{Machine, MachineTypes, Name, State};
 use markdown::subtokenize::Subresult;
 use markdown::tokenizer::{Fault, Tokenizer};
 use mdconstructs_machines::begin::begin;
 use mdconstructs_tables::marker;
-#[cfg(test)]
 use mdtests_base::documents::lines_by;
 use std::alloc::{AllocError, Global};
 
@@ -33,7 +32,7 @@ const CHUNK: Link = Link {
 pub struct Pairs {}
 
 impl MachineTypes for Pairs {
-    type Resolver = Resolver;
+    type Resolver = StarResolver;
 
     type Document = ();
 }
@@ -66,10 +65,10 @@ impl Machine for Pairs {
         &self,
         alloc: Global,
         t: &mut Tokenizer<'a, Self>,
-        name: Resolver,
+        name: StarResolver,
     ) -> Result<Option<Subresult>, Fault> {
         match name {
-            Resolver::Strengthen => {
+            StarResolver::Strengthen => {
                 rename_all(t.events_mut());
                 Ok(None)
             }
@@ -84,7 +83,7 @@ fn first<'a>(t: &mut Tokenizer<'a, Pairs>) -> Result<State, AllocError>
     requires { IsCallable star_byte first t.old }
     ensures { IfOk result (DoesAll (step_in star_byte first t.old) t.old t.new) }
 {
-    t.register_resolver(Resolver::Strengthen)?;
+    t.register_resolver(StarResolver::Strengthen)?;
     Ok(State::Retry(Name::TextBefore))
 }
 
@@ -163,7 +162,6 @@ fn pairs_are_on<'a>(t: &Tokenizer<'a, Pairs>) -> bool
 }
 
 /// Two stars with a letter between them, another letter, and a star alone.
-#[cfg(test)]
 const PAIR: &str = "StrongSequence 1:1 (0+0) to 1:2 (1+0); StrongSequence 1:3 (2+0) to 1:4 (3+0); \
     Data 1:4 (3+0) Text None None to 1:5 (4+0); Data 1:5 (4+0) Text None None to 1:6 (5+0)";
 

@@ -5,31 +5,21 @@ ghost use Rattle.markdown.specs.Configuration.{at_configuration};
 ghost use Rattle.markdown.specs.Sight.{sight_of};
 ghost use Rattle.mdtests_tables.specs.Replacing.{replaced};
 
-#[cfg(test)]
+use crate::resolvers::ReplacingResolver;
 use crate::shown::assert_shown;
 use markdown::event::{self, Event, Kind};
 use markdown::state::{Machine, MachineTypes, Name, State};
 use markdown::subtokenize::Subresult;
 use markdown::tokenizer::{Fault, Tokenizer};
-#[cfg(test)]
 use mdtests_base::documents::lines_by;
 use std::alloc::{AllocError, Global};
-
-/// The resolvers of the machine that replaces. Each replaces all events that it sees by one span.
-#[derive(Clone, Copy, Debug, PartialEq, Eq)]
-pub enum Resolver {
-    /// By a paragraph.
-    First,
-    /// Makes the edit of the first before, and replaces what it then sees by a block quote.
-    Second,
-}
 
 /// Reads a text without events, and registers two resolvers at its end.
 #[derive(Drop)]
 pub struct Replacing {}
 
 impl MachineTypes for Replacing {
-    type Resolver = Resolver;
+    type Resolver = ReplacingResolver;
 
     type Document = ();
 }
@@ -49,8 +39,8 @@ impl Machine for Replacing {
         t.tick();
         match t.current() {
             None => {
-                t.register_resolver(Resolver::First)?;
-                t.register_resolver(Resolver::Second)?;
+                t.register_resolver(ReplacingResolver::First)?;
+                t.register_resolver(ReplacingResolver::Second)?;
                 Ok(State::Ok)
             }
             Some(_) => {
@@ -64,11 +54,11 @@ impl Machine for Replacing {
         &self,
         alloc: Global,
         t: &mut Tokenizer<'a, Self>,
-        name: Resolver,
+        name: ReplacingResolver,
     ) -> Result<Option<Subresult>, Fault> {
         match name {
-            Resolver::First => replace_all(alloc, t, event::Name::Paragraph)?,
-            Resolver::Second => {
+            ReplacingResolver::First => replace_all(alloc, t, event::Name::Paragraph)?,
+            ReplacingResolver::Second => {
                 t.make_edits()?;
                 replace_all(alloc, t, event::Name::BlockQuote)?;
             }

@@ -8,7 +8,7 @@ ghost use Rattle.mdconstructs_tables.specs.RowInvariant.{DoesAll, IsCallable, st
 ghost use Rattle.mdtests_tables.specs.declared.stars.TheConstants.{BEGINS_LATE, ENTERS_ALONE};
 ghost use Rattle.mdtests_tables.specs.Stars.{star_byte, text_start, data_start, strong_name, with_strong_name, is_sequence, strong, edits_from, edits_behind, AreBefore};
 
-#[cfg(test)]
+use crate::resolvers::StarResolver;
 use crate::shown::assert_shown;
 use markdown::event::{self, Event, Kind};
 use markdown::state::{Machine, MachineTypes, Name, State};
@@ -17,16 +17,8 @@ use markdown::tokenizer::{Fault, Tokenizer};
 use markdown::util::edit_map::EditMap;
 use mdconstructs_machines::begin::begin;
 use mdconstructs_tables::marker;
-#[cfg(test)]
 use mdtests_base::documents::lines_by;
 use std::alloc::{AllocError, Global};
-
-/// The resolver of the machine of stars.
-#[derive(Clone, Copy, Debug, PartialEq, Eq)]
-pub enum Resolver {
-    /// Makes each star a sequence in a span of strong text.
-    Strengthen,
-}
 
 /// Whether only the enters of stars are renamed. They are not: the span of a star would end with another name than it began with, and the
 /// machine could not keep its promise.
@@ -42,7 +34,7 @@ const BEGINS_LATE: bool = false;
 pub struct Stars {}
 
 impl MachineTypes for Stars {
-    type Resolver = Resolver;
+    type Resolver = StarResolver;
 
     type Document = ();
 }
@@ -73,10 +65,10 @@ impl Machine for Stars {
         &self,
         alloc: Global,
         t: &mut Tokenizer<'a, Self>,
-        name: Resolver,
+        name: StarResolver,
     ) -> Result<Option<Subresult>, Fault> {
         match name {
-            Resolver::Strengthen => {
+            StarResolver::Strengthen => {
                 rename_all(t.events_mut());
                 t.map = edits_of_sequences(alloc, t.events())?;
                 Ok(None)
@@ -92,7 +84,7 @@ fn text_start<'a>(t: &mut Tokenizer<'a, Stars>) -> Result<State, AllocError>
     requires { IsCallable star_byte text_start t.old }
     ensures { IfOk result (DoesAll (step_in star_byte text_start t.old) t.old t.new) }
 {
-    t.register_resolver(Resolver::Strengthen)?;
+    t.register_resolver(StarResolver::Strengthen)?;
     Ok(State::Retry(Name::DataStart))
 }
 
@@ -253,7 +245,6 @@ fn edits_of_sequences(alloc: Global, events: &[Event]) -> Result<EditMap, AllocE
 }
 
 /// Two stars with a letter between them.
-#[cfg(test)]
 const STARS: &str =
     "enter Strong 1:1 (0+0); StrongSequence 1:1 (0+0) to 1:2 (1+0); exit Strong 1:2 (1+0); \
     Data 1:2 (1+0) to 1:3 (2+0); \

@@ -42,8 +42,8 @@ use Rattle.mdconstructs_tables.specs.RowInvariant.{PaysRows}
 use Rattle.mdconstructs_tables.proofs.CostNumbers.{next-left, square-falls}
 use Rattle.mdconstructs_tables.proofs.GrowingTexts.{extends}
 use Rattle.mdconstructs_tables.proofs.Tables.Lawful.{planned-lawful}
-use Rattle.mdtests_tables.specs.declared.stars.Resolver.{Resolver}
-use Rattle.mdtests_tables.specs.declared.stars.Resolver.TheVariants.{Strengthen}
+use Rattle.mdtests_tables.specs.declared.resolvers.StarResolver.{StarResolver}
+use Rattle.mdtests_tables.specs.declared.resolvers.StarResolver.TheVariants.{Strengthen}
 use Rattle.mdtests_tables.specs.Stars.{StarByte, star, other, star_byte, same_resolver, registered_at, strong_name, with_strong_name}
 use Rattle.mdtests_tables.specs.Laws.Stars.{none-void}
 use Rattle.mdtests_tables.specs.Pairs.{between, chunk_link, first, before_pair, chunk, chunk_end, begins, inside, pairs, begins_pair, follows_pair, is_tried, IsStarAt, TriesPair, IsPart, AreParts, KnowsPairs, pairs_resolver, IsUnedited, KeepsOptions, pairs_plan, pairs_rules}
@@ -265,23 +265,23 @@ keeps-inside g text k choices b (Some other) is before here h = record {
 -- ---- choices that end
 
 -- the resolver is registered, no edit waits, and the events are parts
-abbrev IsGoingOn : Given → Configuration Resolver Unit → Type 0
+abbrev IsGoingOn : Given → Configuration StarResolver Unit → Type 0
 IsGoingOn g k = (k.local.resolvers ≡ Strengthen ∷ []) × (k.local.map ≡ []) × AreParts g k.events
 
-goes-back : (g : Given) (saved : Option Saved) (k : Configuration Resolver Unit) → IsGoingOn g k → IsGoingOn g (restored saved k)
+goes-back : (g : Given) (saved : Option Saved) (k : Configuration StarResolver Unit) → IsGoingOn g k → IsGoingOn g (restored saved k)
 goes-back g None k h = h
 goes-back g (Some s) k h = (h.0, h.1, fewer-parts g s.events k.events h.2)
 
-goes-on : (g : Given) (kind : AttemptKind) (saved : Option Saved) (k : Configuration Resolver Unit) → IsGoingOn g k → IsGoingOn g (settled_at kind saved Ok k)
+goes-on : (g : Given) (kind : AttemptKind) (saved : Option Saved) (k : Configuration StarResolver Unit) → IsGoingOn g k → IsGoingOn g (settled_at kind saved Ok k)
 goes-on g Check saved k h = goes-back g saved k h
 goes-on g Attempt saved k h = h
 
-fails : (g : Given) (kind : AttemptKind) (saved : Option Saved) (k : Configuration Resolver Unit) → IsGoingOn g k → IsGoingOn g (settled_at kind saved Nok k)
+fails : (g : Given) (kind : AttemptKind) (saved : Option Saved) (k : Configuration StarResolver Unit) → IsGoingOn g k → IsGoingOn g (settled_at kind saved Nok k)
 fails g Check saved k h = goes-back g saved k h
 fails g Attempt saved k h = goes-back g saved k h
 
 -- between pairs nothing more is known
-known-between : (g : Given) (text : Text) (k : Configuration Resolver Unit) (choices : List Choice) (state : State) → registered_at state ≡ Strengthen ∷ [] → is_tried state ≡ false → IsGoingOn g k
+known-between : (g : Given) (text : Text) (k : Configuration StarResolver Unit) (choices : List Choice) (state : State) → registered_at state ≡ Strengthen ∷ [] → is_tried state ≡ false → IsGoingOn g k
     → AllByRecursion (TriesPair text) choices → KnowsPairs g text k choices state
 known-between g text k choices state there none h waiting =
     record { registered = h.0 ∙ sym there; unedited = h.1; parts = h.2; tried = λ e. absurd (let c = sym e ∙ none in cc); waiting = waiting }
@@ -313,10 +313,10 @@ pairs-kept = record {
 
 -- ---- the resolver
 
-abbrev IsPassed : Given → Text → List Resolver → (k new : Configuration Resolver Unit) → Type 0
+abbrev IsPassed : Given → Text → List StarResolver → (k new : Configuration StarResolver Unit) → Type 0
 IsPassed g text rs k new = IsUnedited g text rs new × IsAsFar new k × (new.stack ≡ k.stack)
 
-passed-by : (g : Given) (text : Text) (r : Resolver) (rs : List Resolver) (k new : Configuration Resolver Unit) (more : Option Subresult) → IsUnedited g text (r ∷ rs) k
+passed-by : (g : Given) (text : Text) (r : StarResolver) (rs : List StarResolver) (k new : Configuration StarResolver Unit) (more : Option Subresult) → IsUnedited g text (r ∷ rs) k
     → pairs_resolver (sight g text k) k r ≡ done new more → IsPassed g text rs k new
 passed-by g text Strengthen rs k new more h e =
     let renamed = map (with_strong_name false) k.events in

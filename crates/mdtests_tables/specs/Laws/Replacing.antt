@@ -25,12 +25,12 @@ use Rattle.markdown.specs.Lawful.{ConsumesOnce, OnlyAdds, EndsWhenRead, KeepsInv
 use Rattle.mdconstructs_tables.specs.RowInvariant.{IsFed}
 use Rattle.markdown_tokenizer.proofs.Readings.Plain.{no-links-below, no-links-shape}
 use Rattle.mdconstructs_tables.proofs.GrowingTexts.{seat-at, extends, fed-position, waits-longer}
-use Rattle.mdtests_tables.specs.declared.replacing.Resolver.{Resolver}
-use Rattle.mdtests_tables.specs.declared.replacing.Resolver.TheVariants.{First, Second}
+use Rattle.mdtests_tables.specs.declared.resolvers.ReplacingResolver.{ReplacingResolver}
+use Rattle.mdtests_tables.specs.declared.resolvers.ReplacingResolver.TheVariants.{First, Second}
 use Rattle.mdtests_tables.specs.Replacing.{same_resolver, reads_on, span_at, replaced, replacing_resolver, IsBlank, replacing_holds, replacing_cost, replacing_resolves, replacing_rules}
 
 -- at the end, or at a byte
-at-call : (Q : Step Resolver Unit → Type 0) (text : Text) (k : Configuration Resolver Unit) (w : Waits) → k.waiting ≡ w → IsFed w k.position k.ended text
+at-call : (Q : Step ReplacingResolver Unit → Type 0) (text : Text) (k : Configuration ReplacingResolver Unit) (w : Waits) → k.waiting ≡ w → IsFed w k.position k.ended text
     → (k.ended ≡ true → Q (reads_on None k)) → ((byte : ℕ) → k.waiting ≡ Byte → k.position < length text.seats → Q (reads_on (Some byte) k))
     → Q (reads_on (current_of text k.position w) k)
 at-call Q text k Nothing e fed one two = absurd fed
@@ -38,17 +38,17 @@ at-call Q text k Byte e fed one two = let (s, is) = seat-at text k.position fed 
 at-call Q text k End e fed one two = one fed.0
 
 -- nothing is known of the tokenizer but what the invariant says
-blank-on : (rs ss : List Resolver) (k q : Configuration Resolver Unit) (choices : List Choice) → IsBlank rs k choices → q.stack ≡ k.stack → q.events ≡ k.events → q.local.map ≡ k.local.map → q.local.resolvers ≡ ss
+blank-on : (rs ss : List ReplacingResolver) (k q : Configuration ReplacingResolver Unit) (choices : List Choice) → IsBlank rs k choices → q.stack ≡ k.stack → q.events ≡ k.events → q.local.map ≡ k.local.map → q.local.resolvers ≡ ss
     → IsBlank ss q choices
 blank-on rs ss k q choices h stack events edits resolvers =
     record { alone = h.alone; closed = rw stack h.closed; eventless = rw events h.eventless; unedited = rw edits h.unedited; registered_are = resolvers }
 
 -- what a resolver leaves
-abbrev IsPassed : Text → List Resolver → (k new : Configuration Resolver Unit) → Type 0
+abbrev IsPassed : Text → List ReplacingResolver → (k new : Configuration ReplacingResolver Unit) → Type 0
 IsPassed text rs k new = replacing_resolves text rs new × IsAsFar new k × (new.stack ≡ k.stack)
 
 -- the first sees no event
-first-passed : (s : Sight) (text : Text) (k new : Configuration Resolver Unit) (more : Option Subresult) → replacing_resolves text (First ∷ Second ∷ []) k
+first-passed : (s : Sight) (text : Text) (k new : Configuration ReplacingResolver Unit) (more : Option Subresult) → replacing_resolves text (First ∷ Second ∷ []) k
     → replacing_resolver s k First ≡ done new more → IsPassed text (Second ∷ []) k new
 first-passed s text k new more h e =
     let same : replaced Paragraph s k ≡ new = cc in
@@ -56,7 +56,7 @@ first-passed s text k new more h e =
     subst (IsPassed text (Second ∷ []) k) same ((s.point, h.0, edits), (refl, refl, refl), refl)
 
 -- the second sees the span of the first
-second-passed : (s : Sight) (text : Text) (k new : Configuration Resolver Unit) (more : Option Subresult) → replacing_resolves text (Second ∷ []) k
+second-passed : (s : Sight) (text : Text) (k new : Configuration ReplacingResolver Unit) (more : Option Subresult) → replacing_resolves text (Second ∷ []) k
     → replacing_resolver s k Second ≡ done new more → IsPassed text [] k new
 second-passed s text k new more h e =
     let same : replaced BlockQuote s (edits_made k) ≡ new = cc in
@@ -64,7 +64,7 @@ second-passed s text k new more h e =
     let edits : added_after [] (edit_at 0 (length (edited k.local.map k.events)) (span_at BlockQuote s.point)) ≡ edit_at 0 2 (span_at BlockQuote s.point) ∷ [] = rw seen refl in
     subst (IsPassed text [] k) same ((h.0, s.point, seen, edits), (refl, refl, refl), refl)
 
-passed-by : (s : Sight) (text : Text) (r : Resolver) (rs : List Resolver) (k new : Configuration Resolver Unit) (more : Option Subresult) → replacing_resolves text (r ∷ rs) k
+passed-by : (s : Sight) (text : Text) (r : ReplacingResolver) (rs : List ReplacingResolver) (k new : Configuration ReplacingResolver Unit) (more : Option Subresult) → replacing_resolves text (r ∷ rs) k
     → replacing_resolver s k r ≡ done new more → IsPassed text rs k new
 passed-by s text First (Second ∷ []) k new more h e = first-passed s text k new more h e
 passed-by s text First [] k new more h e = absurd h
@@ -101,13 +101,13 @@ module _ (g : Given) where
   ends_when_read : EndsWhenRead g (replacing_rules g)
   ends_when_read = record { nok = λ text k is h. h; ok = λ text k is h. (h.1, h.0.closed) }
 
-  fed-holds : (text : Text) (k : Configuration Resolver Unit) (choices : List Choice) (name : Name) (b : Bool) → nat_lt k.position (length text.seats) ≡ b → replacing_holds text k choices (Next name)
+  fed-holds : (text : Text) (k : Configuration ReplacingResolver Unit) (choices : List Choice) (name : Name) (b : Bool) → nat_lt k.position (length text.seats) ≡ b → replacing_holds text k choices (Next name)
       → replacing_holds text (cond b (record { position = k.position; waiting = Byte; ended = k.ended; events = k.events; stack = k.stack; local = k.local })
       (record { position = k.position; waiting = End; ended = true; events = k.events; stack = k.stack; local = k.local })) choices (Retry name)
   fed-holds text k choices name true e h = (blank-on [] [] k _ choices h.0 refl refl refl h.0.registered_are, ltb-true k.position (length text.seats) e)
   fed-holds text k choices name false e h = (blank-on [] [] k _ choices h.0 refl refl refl h.0.registered_are, (refl, ltb-false k.position (length text.seats) e))
 
-  longer-holds : (text : Text) (piece : Piece) (k : Configuration Resolver Unit) (choices : List Choice) (state : State) → k.ended ≡ false → replacing_holds text k choices state
+  longer-holds : (text : Text) (piece : Piece) (k : Configuration ReplacingResolver Unit) (choices : List Choice) (state : State) → k.ended ≡ false → replacing_holds text k choices state
       → replacing_holds (followed_by g text piece) k choices state
   longer-holds text piece k choices (Next name) fresh h = h
   longer-holds text piece k choices (Retry name) fresh h = (h.0, (waits-longer g text (followed_by g text piece) k.position k.ended k.waiting (extends g text piece) fresh h.1).0)

@@ -44,8 +44,8 @@ use Rattle.mdconstructs_tables.specs.Plans.{KeepsKnowledge, KeepsKnown, Plan}
 use Rattle.mdconstructs_tables.specs.RowTest.{never}
 use Rattle.mdconstructs_tables.proofs.Tables.Plans.{formed-lawful}
 use Rattle.mdconstructs_tables.proofs.Tables.Prices.{all-fall, every-late}
-use Rattle.mdtests_tables.specs.declared.stars.Resolver.{Resolver}
-use Rattle.mdtests_tables.specs.declared.stars.Resolver.TheVariants.{Strengthen}
+use Rattle.mdtests_tables.specs.declared.resolvers.StarResolver.{StarResolver}
+use Rattle.mdtests_tables.specs.declared.resolvers.StarResolver.TheVariants.{Strengthen}
 use Rattle.mdtests_tables.specs.Stars.{StarByte, star, other, same_resolver, text_start, data_start, stars, strong_name, with_strong_name, is_sequence, event_at, strong, edits_from, strengthened, strengthens, stars_resolver, IsUnstarred, stars_resolves, stars_rules}
 
 fits : (previous current : Option StarByte) → misfits stars previous current ≡ []
@@ -272,7 +272,7 @@ still-well-formed g xs formed = record {
 -- ---- the laws
 
 -- what the machine is, as a plan: its invariant is that of its rules, said in another form
-abbrev plan : Plan StarByte Resolver Unit
+abbrev plan : Plan StarByte StarResolver Unit
 plan = record {
   table = stars;
   early = never;
@@ -304,10 +304,10 @@ kept = record {
 
 module _ (g : Given) where
   -- what the resolver leaves
-  abbrev IsPassed : Text → List Resolver → (k new : Configuration Resolver Unit) → Type 0
+  abbrev IsPassed : Text → List StarResolver → (k new : Configuration StarResolver Unit) → Type 0
   IsPassed text rs k new = stars_resolves false g text rs new × IsAsFar new k × (new.stack ≡ k.stack)
 
-  passed-by : (s : Sight) (text : Text) (r : Resolver) (rs : List Resolver) (k new : Configuration Resolver Unit) (more : Option Subresult) → stars_resolves false g text (r ∷ rs) k
+  passed-by : (s : Sight) (text : Text) (r : StarResolver) (rs : List StarResolver) (k new : Configuration StarResolver Unit) (more : Option Subresult) → stars_resolves false g text (r ∷ rs) k
       → stars_resolver false false s k r ≡ done new more → IsPassed text rs k new
   passed-by s text Strengthen [] k new more h e =
       let same : strengthens false false k ≡ new = cc in
