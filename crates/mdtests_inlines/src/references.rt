@@ -30,29 +30,30 @@ fn names_are_found(rt: HostRuntime) {
     }
 }
 
+/// Digits and their base, and the character of their number.
 #[test]
-fn decimal_numbers_are_characters(rt: HostRuntime) {
-    assert_eq!(rt; numeric("35", 10), '#');
-    assert_eq!(rt; numeric("1234", 10), '\u{4D2}');
-    assert_eq!(rt; numeric("992", 10), '\u{3E0}');
-    assert_eq!(rt; numeric("0", 10), '\u{FFFD}');
-    assert_eq!(rt; numeric("0000000", 10), '\u{FFFD}');
-    assert_eq!(rt; numeric("1114111", 10), '\u{10FFFF}');
-    assert_eq!(rt; numeric("1114112", 10), '\u{FFFD}');
-    assert_eq!(rt; numeric("9999999", 10), '\u{FFFD}');
-    assert_eq!(rt; numeric("4294967331", 10), '\u{FFFD}');
-}
-
-#[test]
-fn hexadecimal_numbers_are_characters(rt: HostRuntime) {
-    assert_eq!(rt; numeric("22", 16), '"');
-    assert_eq!(rt; numeric("D06", 16), '\u{D06}');
-    assert_eq!(rt; numeric("cab", 16), '\u{CAB}');
-    assert_eq!(rt; numeric("0", 16), '\u{FFFD}');
-    assert_eq!(rt; numeric("D7FF", 16), '\u{D7FF}');
-    assert_eq!(rt; numeric("D800", 16), '\u{FFFD}');
-    assert_eq!(rt; numeric("dfff", 16), '\u{FFFD}');
-    assert_eq!(rt; numeric("E000", 16), '\u{E000}');
-    assert_eq!(rt; numeric("10FFFF", 16), '\u{10FFFF}');
-    assert_eq!(rt; numeric("FFFFFF", 16), '\u{FFFD}');
+fn numbers_are_characters(rt: HostRuntime) {
+    for (found, want) in [
+        (numeric("35", 10), '#'),
+        (numeric("1234", 10), '\u{4D2}'),
+        (numeric("992", 10), '\u{3E0}'),
+        (numeric("0", 10), '\u{FFFD}'),
+        (numeric("0000000", 10), '\u{FFFD}'),
+        (numeric("1114111", 10), '\u{10FFFF}'),
+        (numeric("1114112", 10), '\u{FFFD}'),
+        (numeric("9999999", 10), '\u{FFFD}'),
+        (numeric("4294967331", 10), '\u{FFFD}'),
+        (numeric("22", 16), '"'),
+        (numeric("D06", 16), '\u{D06}'),
+        (numeric("cab", 16), '\u{CAB}'),
+        (numeric("0", 16), '\u{FFFD}'),
+        (numeric("D7FF", 16), '\u{D7FF}'),
+        (numeric("D800", 16), '\u{FFFD}'),
+        (numeric("dfff", 16), '\u{FFFD}'),
+        (numeric("E000", 16), '\u{E000}'),
+        (numeric("10FFFF", 16), '\u{10FFFF}'),
+        (numeric("FFFFFF", 16), '\u{FFFD}'),
+    ] {
+        assert_eq!(rt; found, want);
+    }
 }
