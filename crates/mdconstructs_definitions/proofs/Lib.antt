@@ -1,6 +1,10 @@
 pub mod Covered
 pub mod Examples
 pub mod HeldLemmas
+pub mod KnownLemmas
+pub mod KnownRows
 pub mod Linked
+pub mod Longer
 pub mod TextLemmas
+pub mod Underlined
 pub mod Without

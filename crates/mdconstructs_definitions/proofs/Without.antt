@@ -20,6 +20,7 @@ use Rattle.mdconstructs_flow_read.specs.HtmlLines.{ends, waits_for_blank}
 use Rattle.mdconstructs_flow_read.specs.LeafBlocks.{Line, interrupts}
 use Rattle.mdconstructs_flow_read.specs.LeafEvents.{flow_events}
 use Rattle.mdconstructs_flow_read.specs.LineKinds.{closes, line_kind, underline_rank}
+use Rattle.mdconstructs_containers.proofs.PartGoes.{none_in}
 use Rattle.mdconstructs_containers.proofs.RestLemmas.{further_few}
 use Rattle.mdconstructs_containers.specs.Letters.{lazy_underline, with_letters}
 use Rattle.mdconstructs_containers.specs.Prefixes.{containers_of}
@@ -91,10 +92,6 @@ module _ (on : Constructs) (P : Row → Type 0) (none-defined : (rs : List Row) 
     abbrev behind : List Row → List Section
     behind rs = map plain (map (in_same p) (parts_in (length p.more) rs))
 
-    parts-end : (b : ℕ) → parts_in b [] ≡ []
-    parts-end zero = refl
-    parts-end (suc b) = refl
-
     -- sections of a part with so many further lines, and those behind it
     abbrev made : ℕ → List Section
     made n = plain (record p { more = take n p.more }) ∷ behind (drop n p.more)
@@ -111,7 +108,7 @@ module _ (on : Constructs) (P : Row → Type 0) (none-defined : (rs : List Row) 
         ∙ ap made whole
         ∙ ap (λ (rs : List Row). plain (record p { more = rs }) ∷ behind (drop (length p.more) p.more)) (take-length p.more)
         ∙ ap (λ rs. plain p ∷ behind rs) (drop-length p.more)
-        ∙ ap (λ ps. plain p ∷ map plain (map (in_same p) ps)) (parts-end (length p.more))
+        ∙ ap (λ ps. plain p ∷ map plain (map (in_same p) ps)) (none_in (length p.more))
 
     cut-plain : (p.first.is_blank ≡ false → further p.more ≡ length p.more) → cut on p ≡ plain p ∷ []
     cut-plain whole = by p.first.is_blank refl

@@ -2,6 +2,7 @@ pub mod Blocks
 pub mod Definitions
 pub mod Examples
 pub mod Held
+pub mod Known
 pub mod Laws
 pub mod Rows
 pub mod Sections

@@ -4,4 +4,5 @@
 pub mod fronts;
 pub mod held;
 pub mod laws;
+pub mod rows;
 pub mod texts;
