@@ -47,7 +47,7 @@ defining-lines ds around (r ∷ rs) = append-nil (r ∷ rs)
 
 module _ (on : Constructs) where
   -- definitions have a line at least
-  some-defined : (r : Row) (rs : List Row) → before_defined on false (r ∷ rs) ≡ 0 → 1 ≤ defined_in on (r ∷ rs)
+  pub some-defined : (r : Row) (rs : List Row) → before_defined on false (r ∷ rs) ≡ 0 → 1 ≤ defined_in on (r ∷ rs)
   some-defined r rs h = by (nat_le 1 (defined_in on (r ∷ rs))) refl h
     where
       by : (x : Bool) → nat_le 1 (defined_in on (r ∷ rs)) ≡ x → cond x 0 (suc (before_defined on (is_paragraph r.leaf) rs)) ≡ 0 → 1 ≤ defined_in on (r ∷ rs)
@@ -55,7 +55,7 @@ module _ (on : Constructs) where
       by false e k = absurd (omega (arith, k))
 
   -- so fewer lines are left behind them
-  fewer-left : (r : Row) (rs : List Row) (b : ℕ) → length (r ∷ rs) ≤ suc b
+  pub fewer-left : (r : Row) (rs : List Row) (b : ℕ) → length (r ∷ rs) ≤ suc b
       → let behind = drop (before_defined on false (r ∷ rs)) (r ∷ rs) in length (drop (defined_in on behind) behind) ≤ b
   fewer-left r rs b h = by (before_defined on false (r ∷ rs)) refl
     where

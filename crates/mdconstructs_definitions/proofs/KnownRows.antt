@@ -37,11 +37,11 @@ use Rattle.mdconstructs_definitions.proofs.KnownLemmas.{began-after, known-left-
 -- nothing is behind the white space of a blank line
 pub blank-unindented : (t : List ℕ) → is_blank_line t ≡ true → unindented t ≡ []
 blank-unindented [] h = refl
-blank-unindented (b ∷ bs) h = by (is_white b) h
+blank-unindented (b ∷ bs) h = by (is_white b) h (blank-unindented bs (and-right (is_white b) (is_blank_line bs) h))
   where
-    by : (x : Bool) → (x && is_blank_line bs) ≡ true → drop (cond x (1 + indent bs) 0) (b ∷ bs) ≡ []
-    by true e = let on : 1 + indent bs ≡ suc (indent bs) = omega arith in (λ k. drop (on k) (b ∷ bs)) ∙ blank-unindented bs e
-    by false e = absurd (false≢true e)
+    by : (x : Bool) → (x && is_blank_line bs) ≡ true → unindented bs ≡ [] → drop (cond x (1 + indent bs) 0) (b ∷ bs) ≡ []
+    by true e rest = let on : 1 + indent bs ≡ suc (indent bs) = omega arith in (λ k. drop (on k) (b ∷ bs)) ∙ rest
+    by false e rest = absurd (false≢true e)
 
 module _ (on : Constructs) (k : Known) (n : ℕ) (line : Line) where
   abbrev plain : Row

@@ -5,6 +5,9 @@ pub mod KnownLemmas
 pub mod KnownRows
 pub mod Linked
 pub mod Longer
+pub mod RowTexts
+pub mod SectionLemmas
 pub mod TextLemmas
 pub mod Underlined
+pub mod Within
 pub mod Without

@@ -6,4 +6,6 @@ pub mod Known
 pub mod Laws
 pub mod Rows
 pub mod Sections
+pub mod Seen
 pub mod Skeleton
+pub mod Within

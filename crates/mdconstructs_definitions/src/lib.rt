@@ -5,4 +5,5 @@ pub mod fronts;
 pub mod held;
 pub mod laws;
 pub mod rows;
+pub mod sections;
 pub mod texts;

@@ -29,16 +29,16 @@ use std::sync::ledger::Ledger;
 
 /// What is known before a line.
 #[derive(Drop)]
-pub struct Known {
+pub(crate) struct Known {
     /// What is known without definitions.
-    pub before: Before,
+    pub(crate) before: Before,
     /// The text of the paragraph that is open, if one is.
-    pub text: Vec<u8>,
+    pub(crate) text: Vec<u8>,
 }
 
 impl Known {
     /// Nothing is known before the first line.
-    pub fn new(alloc: Global) -> Known
+    fn new(alloc: Global) -> Known
         ensures stack { result.before.stack.items ≡ [] }
         ensures depth { result.before.depth ≡ 0 }
         ensures over { result.before.over ≡ 0 }

@@ -1,6 +1,6 @@
 //! The text of a paragraph, which may begin with definitions: what its lines have behind their prefixes, joined by line feeds.
 
-ghost use Rattle.std.specs.Prelude.{◌≡◌, ◌≤◌, ◌+◌, ◌*◌, ◌++◌, ◌∷◌, ◌&&◌, ◌==◌, cond, filter, is_some, length, IfOk};
+ghost use Rattle.std.specs.Prelude.{◌≡◌, ◌≤◌, ◌+◌, ◌*◌, ◌++◌, ◌∷◌, ◌&&◌, ◌==◌, ◌-◌, cond, drop, filter, is_some, length, IfOk};
 ghost use Rattle.mdconstructs_flow_read.specs.LineKinds.{underline_rank};
 ghost use Rattle.mdconstructs_containers.specs.Rows.{is_paragraph};
 ghost use Rattle.mdconstructs_containers.specs.Views.{leaf_of};
@@ -84,4 +84,14 @@ pub fn lines_defined<L: Ledger>(text: &[u8], turns: &mut Turns<L>) -> usize
     let front = definitions_counted(text, turns);
     let left = lines_of(&text[front.end..]);
     lines_of(text) - left
+}
+
+/// How many lines a text has up to a place at which one begins, or to its end.
+#[tactic(auto, using(crate::proofs::TextLemmas::fewer_lines))]
+pub(crate) fn lines_before(text: &[u8], end: usize) -> usize
+    requires { end ≤ length text.now }
+    ensures { result ≡ lines_of text.now - lines_of (drop end text.now) }
+{
+    let behind = lines_of(&text[end..]);
+    lines_of(text) - behind
 }

@@ -1,0 +1,28 @@
+use Rattle.std.proofs.Common.{◌≡◌, List, ap, refl, sym, take, ◌∙◌, ℕ}
+use Rattle.mdconstructs_labels.specs.Definitions.{definitions, rest}
+use Rattle.mdconstructs_definitions.specs.Seen.{rows_by}
+use Rattle.mdconstructs_definitions.proofs.SectionLemmas.{none-defined, paragraph-definitions, paragraph-lines, texts-by, these-front}
+use Rattle.mdconstructs_definitions.proofs.sections.defined_in.Goals as goal
+
+pub hold_lines-requires : goal.hold_lines-requires
+hold_lines-requires g c κs within =
+    let size = c.paragraph_size-size.result in
+    let front = these-front c.args.tab c.args.bytes.now size c.args.rows.now c.requires.all c.requires.are in
+    (within, texts-by c.args.tab c.args.bytes.now (take size c.args.rows.now) (take size c.requires.all) front.texts)
+
+pub returns-clause-lines : goal.returns-clause-lines
+returns-clause-lines g c = λ all these.
+    let size = c.paragraph_size-size.result in
+    let first = take size c.args.rows.now in
+    let text = c.as_slice-text.result.now in
+    let is : text ≡ _ = c.as_slice-text.ensures.value ∙ c.in_ok-hold_lines.ensures in
+    paragraph-lines c.args.tab c.args.bytes.now c.args.rows.now all size these c.paragraph_size-size.ensures.value first refl text is c.args.on.now c.lines_before-lines.result c.in_ok-front.front.end c.if-not-on.false
+    c.lines_before-lines.ensures c.in_ok-front.ensures.rest
+
+pub returns-clause-definitions : goal.returns-clause-definitions
+returns-clause-definitions g c = λ all these some.
+    let size = c.paragraph_size-size.result in
+    let first = take size c.args.rows.now in
+    let text = c.as_slice-text.result.now in
+    let is : text ≡ _ = c.as_slice-text.ensures.value ∙ c.in_ok-hold_lines.ensures in
+    paragraph-definitions c.args.tab c.args.bytes.now c.args.rows.now all size these c.paragraph_size-size.ensures.value first refl text is c.in_ok-front.front.definitions.items c.in_ok-front.ensures.definitions

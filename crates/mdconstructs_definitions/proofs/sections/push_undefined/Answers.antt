@@ -1,0 +1,12 @@
+use Rattle.std.proofs.Common.{◌≡◌, ◌<◌, ◌-◌, ℕ, List, ap, drop, get_or, length, subst, sym, ◌∙◌}
+use Rattle.mdconstructs_containers.specs.declared.ahead.Ahead.{Ahead}
+use Rattle.mdconstructs_containers.specs.declared.spans.RowAt.{RowAt}
+use Rattle.mdconstructs_containers.specs.Ahead.{AreRows, ahead_of}
+use Rattle.mdconstructs_containers.specs.Rows.{Row}
+use Rattle.mdconstructs_definitions.proofs.sections.push_undefined.Goals as goal
+
+pub push_lines-requires-clause-len : goal.push_lines-requires-clause-len
+push_lines-requires-clause-len g c = ap (λ (l : List Ahead). length l) c.as_slice.ensures.value ∙ c.in_ok-aheads.ensures.len
+
+pub push_lines-requires-clause-aheads : goal.push_lines-requires-clause-aheads
+push_lines-requires-clause-aheads g c = λ all are d k h. ap (λ (l : List Ahead). get_or l k d) c.as_slice.ensures.value ∙ c.in_ok-aheads.ensures.aheads all are d k h
