@@ -1,5 +1,5 @@
 -- Each line is in exactly one section.
-use Rattle.std.proofs.Common.{◌≡◌, ◌+◌, ◌-◌, ◌≤◌, ◌∙◌, ℕ, zero, suc, List, [], ◌∷◌, ◌++◌, Bool, true, false, cond, ap, append-nil, arith, drop, length, map, refl, take}
+use Rattle.std.proofs.Common.{◌≡◌, ◌≤◌, ◌∙◌, ℕ, zero, suc, List, [], ◌∷◌, ◌++◌, Bool, true, false, cond, ap, append-nil, arith, drop, length, map, refl, take}
 use Rattle.std.specs.List.{flat_map}
 use Rattle.std.specs.Prelude.{◌&&◌, nat_le}
 use Rattle.std.proofs.lemmas.Bool.Decides.{nat_tests}
@@ -14,7 +14,7 @@ use Rattle.mdconstructs_definitions.specs.Laws.{SectionsHoldLines}
 use Rattle.mdconstructs_definitions.specs.Sections.{Section, before_defined, begins_text, cut, defined_in, defining, in_same, lines, paragraph_of, sections_in, sections_of, text_in, undefined}
 use Rattle.mdconstructs_definitions.specs.Skeleton.{all_rows}
 
-abbrev rows_of : List Section → List Row
+abbrev pub rows_of : List Section → List Row
 rows_of ss = flat_map (λ s. all_rows s.part) ss
 
 -- the lines of parts are all lines
@@ -84,7 +84,7 @@ module _ (on : Constructs) where
       ∙ take-append-drop d behind)
       ∙ take-append-drop n all
 
-  part-lines : (p : Part) → rows_of (cut on p) ≡ all_rows p
+  pub part-lines : (p : Part) → rows_of (cut on p) ≡ all_rows p
   part-lines p = by p.first.is_blank
     where
       by : (x : Bool) → rows_of (cond x (record { part = p; inside = lines false } ∷ []) (sections_in on (suc (length p.more)) false p (all_rows p))) ≡ all_rows p

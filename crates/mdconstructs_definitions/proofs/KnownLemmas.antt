@@ -1,5 +1,5 @@
 -- Lemmas on what is known before a line, where paragraphs may begin with definitions.
-use Rattle.std.proofs.Common.{◌≡◌, ◌⊎◌, inl, inr, ℕ, suc, ◌+◌, ◌*◌, ◌<◌, ◌≤◌, Bool, true, false, cond, List, [], ◌∷◌, ◌++◌, append_assoc, arith, drop, length, length-append, length-drop, map, refl, sym, ap, subst, ◌∙◌}
+use Rattle.std.proofs.Common.{◌≡◌, inl, inr, ℕ, suc, ◌+◌, ◌*◌, ◌<◌, ◌≤◌, Bool, true, false, cond, List, [], ◌∷◌, ◌++◌, append_assoc, arith, drop, length, length-append, length-drop, refl, sym, ap, subst, ◌∙◌}
 use Rattle.std.specs.Prelude.{◌&&◌, ◌||◌, is_some}
 use Rattle.std.specs.List.{AllByRecursion}
 use Rattle.std.proofs.lemmas.Bool.{false≢true}
@@ -11,7 +11,6 @@ use Rattle.markdown_base.proofs.Facts.Bools.{and-left}
 use Rattle.mdconstructs_machines.specs.LineEvents.{lines_in}
 use Rattle.mdconstructs_flow_read.specs.LeafBlocks.{Line, text_of}
 use Rattle.mdconstructs_flow_read.specs.LineKinds.{underline_rank}
-use Rattle.mdconstructs_lines.specs.Containers.{Container}
 use Rattle.mdconstructs_lines.specs.Lines.{line_at, line_length}
 use Rattle.mdconstructs_containers.specs.declared.leaves.Leaf.{Leaf as CodeLeaf}
 use Rattle.mdconstructs_containers.specs.declared.rows.Row.{Row as CodeRow}

@@ -1,14 +1,12 @@
 -- The lines of a document, where paragraphs may begin with definitions, have places and pay as those of containers do: their leaf blocks alone differ.
-use Rattle.std.proofs.Common.{◌≡◌, ℕ, zero, suc, ◌+◌, ◌-◌, ◌<◌, ◌≤◌, Bool, true, false, cond, List, [], ◌∷◌, ◌++◌, arith, drop, length, length-drop, map, refl, sym, ap, subst, ◌∙◌}
+use Rattle.std.proofs.Common.{◌≡◌, ℕ, suc, ◌+◌, ◌<◌, Bool, true, false, cond, List, [], ◌∷◌, arith, drop, length, length-drop, refl, sym, ap, subst, ◌∙◌}
 use Rattle.std.specs.Prelude.{◌&&◌, is_some}
 use Rattle.std.specs.List.{AllByRecursion, prefix_len}
 use Rattle.std.proofs.lemmas.Bool.{false≢true}
 use Rattle.markdown_base.specs.declared.configuration.Constructs.{Constructs}
-use Rattle.markdown_base.specs.Virtual.{virtual}
 use Rattle.markdown_base.proofs.Common.{and-right}
 use Rattle.markdown_base.proofs.Facts.Bools.{and-left}
 use Rattle.mdconstructs_machines.specs.Breaks.{is_white}
-use Rattle.mdconstructs_machines.specs.LineEvents.{lines_in}
 use Rattle.mdconstructs_flow_read.specs.LeafBlocks.{Line, text_of}
 use Rattle.mdconstructs_flow_read.specs.LineKinds.{indent, is_blank_line, underline_rank, unindented}
 use Rattle.mdconstructs_lines.specs.Containers.{Container, Prefix}

@@ -1,9 +1,9 @@
 -- A text of definitions alone, and a line behind it that begins with neither a bracket nor a title: its definitions are the same, and the line is left.
-use Rattle.std.proofs.Common.{◌≡◌, ◌⊎◌, inl, inr, ℕ, zero, suc, ◌+◌, ◌-◌, ◌<◌, ◌≤◌, Bool, true, false, cond, List, [], ◌∷◌, ◌++◌, Option, Some, None, arith, drop, length, length-drop, refl, sym, ap, subst, take, ◌∙◌}
+use Rattle.std.proofs.Common.{◌≡◌, ◌⊎◌, inl, inr, ℕ, zero, suc, ◌+◌, ◌<◌, ◌≤◌, Bool, true, false, cond, List, [], ◌∷◌, ◌++◌, Option, Some, None, arith, drop, length, length-drop, refl, sym, ap, take, ◌∙◌}
 use Rattle.std.specs.Prelude.{◌==◌, ◌&&◌, ◌||◌, nat_le}
 use Rattle.std.specs.List.{prefix_len}
 use Rattle.std.specs.Option.{is_some, option_and_then, option_map, option_or}
-use Rattle.std.proofs.lemmas.Bool.{cases_lt, eqb-true, false≢true}
+use Rattle.std.proofs.lemmas.Bool.{cases_lt, false≢true}
 use Rattle.std.proofs.lemmas.List.{drop-append-le, drop-drop, drop_all, take-append-le}
 use Rattle.std.proofs.lemmas.List.Sums.{prefix_len-le-length}
 use Rattle.std.proofs.lemmas.Option.{cond_some, none-some, same_Some}
@@ -15,7 +15,7 @@ use Rattle.mdconstructs_labels.specs.Definitions.{definition_at, destination_at,
 use Rattle.mdconstructs_labels.specs.Labels.{hides, is_label}
 use Rattle.mdconstructs_labels.specs.Tails.{bare_behind, begins_title, begins_with, depth_behind, destination_size, enclosed_size, gap, is_plain, is_raw_end, is_white, label_size, line_ends, marked_size, one_more, raw_end, raw_size, title_end, title_size}
 use Rattle.mdconstructs_labels.proofs.Fronts.{no-rest, rest-more}
-use Rattle.mdconstructs_labels.proofs.GivenBack.{gap-left, given-back}
+use Rattle.mdconstructs_labels.proofs.GivenBack.{given-back}
 
 -- ---- how far parts go
 

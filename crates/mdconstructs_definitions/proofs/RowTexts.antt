@@ -1,5 +1,5 @@
 -- Lines of a document have their texts.
-use Rattle.std.proofs.Common.{◌≡◌, ◌<◌, ◌≤◌, ℕ, suc, List, [], ◌∷◌, ap, arith, drop, length, subst, sym, ◌∙◌}
+use Rattle.std.proofs.Common.{◌≡◌, ℕ, suc, List, [], ◌∷◌, ap, arith, drop, length, subst, sym, ◌∙◌}
 use Rattle.mdconstructs_flow_read.specs.LeafBlocks.{text_of}
 use Rattle.mdconstructs_lines.specs.Containers.{Container}
 use Rattle.mdconstructs_lines.specs.Lines.{line_bytes}

@@ -1,5 +1,5 @@
 -- Lemmas on the sections of a part, as the code finds them.
-use Rattle.std.proofs.Common.{◌≡◌, ◌⊎◌, inl, inr, ℕ, zero, suc, ◌+◌, ◌-◌, ◌<◌, ◌≤◌, Bool, true, false, cond, List, [], ◌∷◌, ◌++◌, append_assoc, arith, drop, get_or, length, length-append, length-drop, length-take, map, refl, sym, ap, subst, take, ◌∙◌}
+use Rattle.std.proofs.Common.{◌≡◌, ℕ, zero, suc, ◌+◌, ◌-◌, ◌<◌, ◌≤◌, Bool, true, false, cond, List, [], ◌∷◌, ◌++◌, append_assoc, arith, drop, get_or, length, length-drop, length-take, map, refl, sym, ap, subst, take, ◌∙◌}
 use Rattle.std.specs.Prelude.{◌==◌, ◌&&◌, None, filter, nat_le, not}
 use Rattle.std.specs.List.{prefix_len}
 use Rattle.std.proofs.lemmas.Bool.{false≢true}
@@ -10,7 +10,6 @@ use Rattle.markdown_base.specs.declared.configuration.Constructs.{Constructs}
 use Rattle.markdown_base.specs.Virtual.{Seat}
 use Rattle.mdconstructs_machines.specs.LineEvents.{line_text}
 use Rattle.mdconstructs_flow_read.specs.LeafBlocks.{Line, text_of}
-use Rattle.mdconstructs_lines.specs.Lines.{line_at, line_bytes}
 use Rattle.mdconstructs_containers.specs.declared.spans.RowAt.{RowAt}
 use Rattle.mdconstructs_containers.specs.declared.ahead.Ahead.{Ahead}
 use Rattle.mdconstructs_containers.specs.Ahead.{AreRows, ahead_of}

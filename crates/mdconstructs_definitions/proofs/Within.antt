@@ -1,23 +1,24 @@
 -- Sections of one part, one behind another: they are in the same spans, so none ends between them.
-use Rattle.std.proofs.Common.{◌≡◌, ℕ, zero, suc, ◌+◌, ◌≤◌, Bool, true, false, cond, List, [], ◌∷◌, ◌++◌, append_assoc, arith, drop, length, map, refl, reverse, sym, ap, subst, take, ◌∙◌}
-use Rattle.std.specs.Prelude.{◌&&◌, None}
-use Rattle.std.specs.List.{AllByRecursion, flat_map}
-use Rattle.std.proofs.lemmas.List.{append-nil, drop_all}
+use Rattle.std.proofs.Common.{◌≡◌, ℕ, zero, suc, ◌+◌, Bool, true, false, cond, List, [], ◌∷◌, ◌++◌, append_assoc, arith, drop, length, map, refl, sym, ap, take, ◌∙◌}
+use Rattle.std.specs.Prelude.{None}
+use Rattle.std.proofs.lemmas.Bool.{false≢true}
+use Rattle.std.proofs.lemmas.List.{append-nil, drop-append-le, drop_all, take-append-le}
+use Rattle.std.proofs.Math.Seq.{drop-length, take-length}
 use Rattle.markdown_base.specs.declared.configuration.Constructs.{Constructs}
-use Rattle.markdown_base.specs.declared.event.Point.{Point}
 use Rattle.markdown_base.specs.Places.{shown}
 use Rattle.markdown_base.proofs.Common.{every-append}
-use Rattle.mdconstructs_flow_read.specs.LeafEvents.{Mark}
 use Rattle.mdconstructs_containers.specs.declared.parts.PartEnd.{PartEnd}
-use Rattle.mdconstructs_containers.specs.Rest.{ending_to, exits_to}
-use Rattle.mdconstructs_containers.specs.Rows.{Row}
+use Rattle.mdconstructs_containers.specs.Rest.{ending_to}
+use Rattle.mdconstructs_containers.specs.Rows.{Row, has_none}
 use Rattle.mdconstructs_containers.specs.Skeleton.{Frame, Part, end_of, ending_marks, exits, parts, shared}
 use Rattle.mdconstructs_containers.proofs.FrameFacts.{shared_front}
 use Rattle.mdconstructs_containers.proofs.RestLemmas.{exits_shown}
+use Rattle.mdconstructs_containers.proofs.RowSpans.{head_same}
 use Rattle.mdconstructs_labels.specs.declared.definitions.Definition.{Definition}
 use Rattle.mdconstructs_labels.specs.Definitions.{definitions}
-use Rattle.mdconstructs_definitions.specs.Sections.{Section, before_defined, defined_in, defining, in_same, lines, paragraph_of, sections_in, sections_of, text_in, undefined}
+use Rattle.mdconstructs_definitions.specs.Sections.{Section, before_defined, cut, defined_in, defining, in_same, lines, paragraph_of, sections_in, sections_of, text_in, undefined}
 use Rattle.mdconstructs_definitions.specs.Skeleton.{behind_marks, section_marks, sections_marks}
+use Rattle.mdconstructs_definitions.proofs.Covered.{part-lines, rows_of}
 use Rattle.mdconstructs_definitions.specs.Within.{AreWithin, IsWithin, last_of, rest_sections, within_marks}
 
 -- ---- the same spans
@@ -86,3 +87,38 @@ module _ (bytes : List ℕ) where
   pub sections-init : (ss : List Section) (e : PartEnd) → e.behind ≡ None → rest_sections bytes [] e ss ≡ sections_marks bytes ss
   sections-init [] e none = ap (λ b. ending_to (record e { behind = b })) none
   sections-init (s ∷ ss) e none = ap (λ b. ending_to (record e { behind = b }) ++ (section_marks bytes s ++ behind_marks bytes s.part ss)) none
+
+-- ---- the lines of sections
+
+module _ (on : Constructs) (p : Part) where
+  cut-within : AreWithin p (cut on p)
+  cut-within = by p.first.is_blank
+    where
+      by : (b : Bool) → AreWithin p (cond b (record { part = p; inside = lines false } ∷ []) (sections_in on (suc (length p.more)) false p (p.first ∷ p.more)))
+      by true = ((refl, refl), tt)
+      by false = sections-within on (suc (length p.more)) false p (p.first ∷ p.more)
+
+  -- A part has a section at least, which begins where it does
+  pub record Begins : Type 0 where
+    pub first : Section
+    pub more : List Section
+    pub is : cut on p ≡ first ∷ more
+    pub within : AreWithin p (first ∷ more)
+    pub begin : first.part.first ≡ p.first
+
+  pub part-begins : Begins
+  part-begins = by (cut on p) refl cut-within (part-lines on p)
+    where
+      by : (ss : List Section) → cut on p ≡ ss → AreWithin p ss → rows_of ss ≡ p.first ∷ p.more → Begins
+      by [] e w l = absurd (false≢true (sym (ap has_none l)))
+      by (s ∷ ss) e w l = record { first = s; more = ss; is = e; within = w; begin = (head_same s.part.first p.first (s.part.more ++ rows_of ss) p.more l).0 }
+
+-- a section and those behind it, by the lines of all
+pub section-lines : (s : Section) (ss : List Section) (r : Row) (rs : List Row) → rows_of (s ∷ ss) ≡ r ∷ rs → (s.part.first ≡ r) × (s.part.more ≡ take (length s.part.more) rs) × (rows_of ss ≡ drop (length s.part.more) rs)
+section-lines s ss r rs e =
+    let more = s.part.more in
+    let same = head_same s.part.first r (more ++ rows_of ss) rs e in (
+      same.0,
+      sym (take-length more) ∙ sym (take-append-le (length more) more (rows_of ss) (omega arith)) ∙ ap (take (length more)) same.1,
+      ap (λ l. l ++ rows_of ss) (sym (drop-length more)) ∙ sym (drop-append-le (length more) more (rows_of ss) (omega arith)) ∙ ap (drop (length more)) same.1,
+    )

@@ -33,11 +33,11 @@ use Rattle.mdconstructs_labels.proofs.Fronts.{no-rest}
 use Rattle.mdconstructs_labels.specs.Definitions.{definition_at, definitions, destination_at, end, rest, stretch_at, title_at, titled_or_not}
 use Rattle.mdconstructs_labels.specs.Labels.{is_label, normalised}
 use Rattle.mdconstructs_labels.specs.Tails.{begins_with, is_white, label_size}
-use Rattle.mdconstructs_definitions.specs.Blocks.{document_blocks, document_skeleton}
+use Rattle.mdconstructs_definitions.specs.Blocks.{document_blocks}
 use Rattle.mdconstructs_definitions.specs.Laws.{BlocksCanBeWithout, BlocksNeedBrackets, DefinitionsCanBeOff, DefinitionsNeedBrackets, HasNoBracket, NothingIsDefined, begins_with_bracket}
 use Rattle.mdconstructs_definitions.specs.Rows.{Known, is_behind_text, is_used_up, known_after, row_of, rows, rows_from}
 use Rattle.mdconstructs_definitions.specs.Sections.{Section, before_defined, cut, defined_in, defining, in_same, lines, lines_defined, lines_of, paragraph_of, sections, sections_in, text_in, undefined}
-use Rattle.mdconstructs_definitions.specs.Skeleton.{behind_marks, labels_of_section, letters, letters_of_section, sections_in_seats, sections_marks, skeleton}
+use Rattle.mdconstructs_definitions.specs.Skeleton.{behind_marks, labels_of_section, letters, letters_of_section, sections_in_seats, sections_marks}
 
 -- ---- how far a stretch goes
 

@@ -1,7 +1,7 @@
 -- The sections of a document: its parts, cut before and behind the definitions with which a paragraph begins (CommonMark 0.31, 4.7). "A link
 -- reference definition cannot interrupt a paragraph. However, it can directly follow other block elements, such as headings and thematic breaks, and
 -- it need not be followed by a blank line."
-use Rattle.std.specs.Prelude.{ℕ, zero, suc, ◌+◌, ◌-◌, ◌==◌, ◌&&◌, not, nat_le, Bool, true, false, cond, List, [], ◌∷◌, ◌++◌, filter, length, map, take, drop}
+use Rattle.std.specs.Prelude.{ℕ, zero, suc, ◌-◌, ◌==◌, ◌&&◌, not, nat_le, Bool, true, false, cond, List, [], ◌∷◌, ◌++◌, filter, length, map, take, drop}
 use Rattle.std.specs.List.{flat_map, prefix_len}
 use Rattle.markdown_base.specs.declared.configuration.Constructs.{Constructs}
 use Rattle.mdconstructs_containers.specs.Rows.{Row, has_none, is_paragraph, rest_of}

@@ -1,5 +1,5 @@
 -- Sections as the code keeps them.
-use Rattle.std.specs.Prelude.{◌≡◌, ◌≤◌, ℕ, Bool, true, false, cond, List, [], ◌∷◌, drop, length}
+use Rattle.std.specs.Prelude.{◌≡◌, ◌≤◌, ℕ, Bool, true, false, List, [], ◌∷◌, drop, length}
 use Rattle.markdown_base.specs.declared.configuration.Constructs.{Constructs}
 use Rattle.mdconstructs_lines.specs.Lines.{line_at}
 use Rattle.mdconstructs_containers.specs.declared.spans.RowAt.{RowAt}

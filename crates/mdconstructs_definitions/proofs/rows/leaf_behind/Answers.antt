@@ -1,4 +1,4 @@
-use Rattle.std.proofs.Common.{◌≡◌, ◌∙◌, sym}
+use Rattle.std.proofs.Common.{◌∙◌, sym}
 use Rattle.mdconstructs_containers.specs.Views.{leaf_of}
 use Rattle.mdconstructs_definitions.proofs.KnownLemmas.{text-stays}
 use Rattle.mdconstructs_definitions.proofs.rows.leaf_behind.Goals as goal

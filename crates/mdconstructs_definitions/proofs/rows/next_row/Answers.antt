@@ -1,8 +1,7 @@
-use Rattle.std.proofs.Common.{◌≡◌, ◌+◌, ◌*◌, ℕ, List, ap, drop, length, sym, refl, ◌∙◌, arith, ◌≤◌}
+use Rattle.std.proofs.Common.{◌≡◌, ◌+◌, ℕ, List, ap, drop, length, sym, refl, ◌∙◌, arith}
 use Rattle.mdconstructs_flow_read.specs.LeafBlocks.{text_of}
 use Rattle.mdconstructs_lines.specs.Lines.{line_at, line_bytes}
 use Rattle.mdconstructs_containers.proofs.DocumentRows.{end_within, next_is, next_more, text_of_line_at}
-use Rattle.mdconstructs_definitions.specs.Known.{IsKept}
 use Rattle.mdconstructs_definitions.proofs.KnownLemmas.{kept-read}
 use Rattle.mdconstructs_definitions.proofs.rows.next_row.Goals as goal
 

@@ -16,7 +16,7 @@ use Rattle.mdconstructs_containers.proofs.CostLemmas.{began_sizes}
 use Rattle.mdconstructs_containers.proofs.DocumentRows.{AreRowsBefore, placed_push}
 use Rattle.mdconstructs_containers.proofs.OverLemmas.{began_before}
 use Rattle.mdconstructs_containers.proofs.RowFacts.{BeganBefore}
-use Rattle.mdconstructs_definitions.specs.Known.{IsKept, known_of}
+use Rattle.mdconstructs_definitions.specs.Known.{known_of}
 use Rattle.mdconstructs_definitions.specs.Rows.{Known, rows}
 use Rattle.mdconstructs_definitions.proofs.KnownLemmas.{began-after, kept-more, kept-turns, known-all, known-init, known-more, known_left}
 use Rattle.mdconstructs_definitions.proofs.rows.rows_with_definitions.Goals as goal

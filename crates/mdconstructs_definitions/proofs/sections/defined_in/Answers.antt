@@ -1,7 +1,5 @@
-use Rattle.std.proofs.Common.{◌≡◌, List, ap, refl, sym, take, ◌∙◌, ℕ}
-use Rattle.mdconstructs_labels.specs.Definitions.{definitions, rest}
-use Rattle.mdconstructs_definitions.specs.Seen.{rows_by}
-use Rattle.mdconstructs_definitions.proofs.SectionLemmas.{none-defined, paragraph-definitions, paragraph-lines, texts-by, these-front}
+use Rattle.std.proofs.Common.{◌≡◌, refl, take, ◌∙◌}
+use Rattle.mdconstructs_definitions.proofs.SectionLemmas.{paragraph-definitions, paragraph-lines, texts-by, these-front}
 use Rattle.mdconstructs_definitions.proofs.sections.defined_in.Goals as goal
 
 pub hold_lines-requires : goal.hold_lines-requires

@@ -1,9 +1,9 @@
-use Rattle.std.proofs.Common.{◌≡◌, ◌+◌, ◌-◌, ◌≤◌, ◌<◌, ℕ, false, suc, List, [], ◌∷◌, ap, arith, cond, drop, get_or, length, refl, subst, sym, take, ◌∙◌}
+use Rattle.std.proofs.Common.{◌≡◌, ◌+◌, ◌-◌, false, List, [], ap, arith, drop, length, subst, sym, take, ◌∙◌}
 use Rattle.std.proofs.lemmas.List.{drop_all, take_rest}
 use Rattle.mdconstructs_containers.specs.declared.spans.RowAt.{RowAt}
-use Rattle.mdconstructs_containers.specs.Rows.{Row, is_paragraph}
+use Rattle.mdconstructs_containers.specs.Rows.{is_paragraph}
 use Rattle.mdconstructs_definitions.specs.Sections.{before_defined, defined_in}
-use Rattle.mdconstructs_definitions.specs.Seen.{AreHeld, AreThese, IsFound, is_text_at}
+use Rattle.mdconstructs_definitions.specs.Seen.{AreHeld, AreThese}
 use Rattle.mdconstructs_definitions.proofs.SectionLemmas.{found-later, found-now, next-line, nothing-in, rows-few, these-back}
 use Rattle.mdconstructs_definitions.proofs.sections.find_defined.Goals as goal
 

@@ -1,4 +1,4 @@
-use Rattle.std.proofs.Common.{◌≡◌, ◌≤◌, ◌+◌, suc, ap, arith, sym, ◌∙◌}
+use Rattle.std.proofs.Common.{◌≤◌, ap, arith}
 use Rattle.mdconstructs_definitions.specs.Sections.{defined}
 use Rattle.mdconstructs_definitions.proofs.SectionLemmas.{defining-none, defining-push}
 use Rattle.mdconstructs_definitions.proofs.sections.push_defined.Goals as goal

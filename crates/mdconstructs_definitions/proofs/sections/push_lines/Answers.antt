@@ -1,9 +1,8 @@
-use Rattle.std.proofs.Common.{◌≡◌, ◌+◌, ◌-◌, ◌≤◌, ℕ, List, [], ap, arith, drop, length, refl, subst, sym, ◌∙◌, ◌++◌}
+use Rattle.std.proofs.Common.{◌≡◌, ◌+◌, [], ap, arith, drop, refl, sym, ◌∙◌, ◌++◌}
 use Rattle.std.specs.Prelude.{◌&&◌}
 use Rattle.std.proofs.lemmas.List.{drop-drop, drop_all}
-use Rattle.mdconstructs_containers.specs.Rows.{Row}
 use Rattle.mdconstructs_definitions.specs.Sections.{undefined}
-use Rattle.mdconstructs_definitions.proofs.SectionLemmas.{Pushed, begins-is, line-at, pushed-end, pushed-init, pushed-more, rows-few}
+use Rattle.mdconstructs_definitions.proofs.SectionLemmas.{begins-is, line-at, pushed-end, pushed-init, pushed-more, rows-few}
 use Rattle.mdconstructs_definitions.proofs.sections.push_lines.Goals as goal
 
 pub loop-i-init : goal.loop-i-init

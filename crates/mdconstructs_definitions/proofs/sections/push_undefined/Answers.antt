@@ -1,8 +1,5 @@
-use Rattle.std.proofs.Common.{◌≡◌, ◌<◌, ◌-◌, ℕ, List, ap, drop, get_or, length, subst, sym, ◌∙◌}
+use Rattle.std.proofs.Common.{List, ap, get_or, length, ◌∙◌}
 use Rattle.mdconstructs_containers.specs.declared.ahead.Ahead.{Ahead}
-use Rattle.mdconstructs_containers.specs.declared.spans.RowAt.{RowAt}
-use Rattle.mdconstructs_containers.specs.Ahead.{AreRows, ahead_of}
-use Rattle.mdconstructs_containers.specs.Rows.{Row}
 use Rattle.mdconstructs_definitions.proofs.sections.push_undefined.Goals as goal
 
 pub push_lines-requires-clause-len : goal.push_lines-requires-clause-len

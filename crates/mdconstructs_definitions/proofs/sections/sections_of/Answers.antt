@@ -1,12 +1,11 @@
-use Rattle.std.proofs.Common.{◌≡◌, ◌+◌, ◌-◌, ◌≤◌, ◌<◌, ℕ, List, [], ◌++◌, ap, arith, drop, length, length-drop, refl, subst, sym, take, ◌∙◌, false, true}
+use Rattle.std.proofs.Common.{◌≡◌, ◌+◌, ◌-◌, ◌≤◌, ℕ, List, [], ap, arith, drop, length, length-drop, refl, subst, sym, take, ◌∙◌, false}
 use Rattle.std.proofs.lemmas.List.{drop-drop, drop_all, length-take-le, take_rest}
 use Rattle.mdconstructs_containers.specs.declared.spans.RowAt.{RowAt}
-use Rattle.mdconstructs_containers.specs.Ahead.{AreRows}
 use Rattle.mdconstructs_containers.specs.Rows.{Row}
-use Rattle.mdconstructs_definitions.specs.Sections.{defined_in, paragraph_of, sections_in, text_in}
+use Rattle.mdconstructs_definitions.specs.Sections.{paragraph_of, sections_in, text_in}
 use Rattle.mdconstructs_labels.specs.Definitions.{definitions}
-use Rattle.mdconstructs_definitions.specs.Seen.{AreHeld, AreThese}
-use Rattle.mdconstructs_definitions.proofs.SectionLemmas.{Cut, cut-end, cut-init, cut-more, defined-few, goes-on, next-line, rows-few, these-back, these-front}
+use Rattle.mdconstructs_definitions.specs.Seen.{AreThese}
+use Rattle.mdconstructs_definitions.proofs.SectionLemmas.{cut-end, cut-init, cut-more, defined-few, goes-on, next-line, rows-few, these-back, these-front}
 use Rattle.mdconstructs_definitions.proofs.sections.sections_of.Goals as goal
 
 -- the lines that are left

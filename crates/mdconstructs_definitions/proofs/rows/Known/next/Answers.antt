@@ -1,11 +1,10 @@
-use Rattle.std.proofs.Common.{◌≡◌, ◌+◌, ◌*◌, ◌≤◌, ℕ, List, ap, length, map, sym, arith, ◌∙◌, refl}
+use Rattle.std.proofs.Common.{◌≡◌, ◌+◌, ◌≤◌, ℕ, List, ap, length, sym, arith}
 use Rattle.std.proofs.lemmas.List.{length-map}
-use Rattle.mdconstructs_flow_read.specs.LeafBlocks.{Line, text_of}
-use Rattle.mdconstructs_containers.specs.Rows as without
-use Rattle.mdconstructs_containers.specs.Views.{IsRow, open_of}
+use Rattle.mdconstructs_flow_read.specs.LeafBlocks.{text_of}
+use Rattle.mdconstructs_containers.specs.Views.{open_of}
 use Rattle.mdconstructs_containers.proofs.CostLemmas.{next_begun, next_paid}
 use Rattle.mdconstructs_containers.proofs.DocumentRows.{went_few, went_front}
-use Rattle.mdconstructs_definitions.specs.Known.{IsKept, known_of}
+use Rattle.mdconstructs_definitions.specs.Known.{known_of}
 use Rattle.mdconstructs_definitions.specs.Rows.{row_of}
 use Rattle.mdconstructs_definitions.proofs.KnownLemmas.{next-kept, next-row, next-text}
 use Rattle.mdconstructs_definitions.proofs.rows.Known.next.Goals as goal
