@@ -10,7 +10,7 @@ use Rattle.mdconstructs_tables.proofs.Rows.Calls.{can-mark}
 use Rattle.std.proofs.Common.{inl, inr, arith}
 
 -- a byte that waits is seen
-sees-byte : (text : Text) (p : ℕ) (waits : Waits) (ended : Bool) → waits ≡ Byte → IsFed waits p ended text → (b : ℕ) × (current_of text p waits ≡ Some b)
+pub sees-byte : (text : Text) (p : ℕ) (waits : Waits) (ended : Bool) → waits ≡ Byte → IsFed waits p ended text → (b : ℕ) × (current_of text p waits ≡ Some b)
 sees-byte text p waits ended is fed =
     let inside : p < length text.seats = subst (λ w. IsFed w p ended text) is fed in
     elim (slice_get_cases text.seats p).1 [

@@ -2,12 +2,13 @@
 use Rattle.std.proofs.Common.{◌≡◌, ℕ, ◌+◌, ◌≤◌, List, Bool, refl, ◌∙◌, arith}
 use Rattle.markdown_tokenizer.specs.Configuration.{Local}
 use Rattle.markdown_tokenizer.specs.declared.tokenizer.state.ContainerState.{ContainerState}
+use Rattle.markdown_tokenizer.specs.declared.tokenizer.state.LabelStart.{LabelStart}
 use Rattle.mdconstructs_machines.specs.Tables.{counts}
 use Rattle.mdconstructs_text.proofs.CodeSpans.Parts.{with_b}
 use Rattle.mdconstructs_text.proofs.Texts.Leads.{spent}
 
--- What a machine may remember of a text: that all backtick strings further on were seen, the last place of each length, and the places up to
--- which no comment, instruction, declaration and CDATA section ends
+-- What a machine may remember of a text: that all backtick strings further on were seen, the last place of each length, the places up to which no
+-- comment, instruction, declaration and CDATA section ends, and the brackets that wait
 pub record Remembered : Type 0 where
   pub all_seen : Bool
   pub runs : List ContainerState
@@ -15,6 +16,7 @@ pub record Remembered : Type 0 where
   pub instruction : ℕ
   pub declaration : ℕ
   pub cdata : ℕ
+  pub starts : List LabelStart
 
 abbrev pub remembered : Local Unit Unit → Remembered
 remembered local = record {
@@ -24,6 +26,7 @@ remembered local = record {
   instruction = local.tokenize_state.end;
   declaration = local.tokenize_state.space_or_tab_min;
   cdata = local.tokenize_state.space_or_tab_max;
+  starts = local.tokenize_state.label_starts;
 }
 
 -- After at most so many calls what is remembered is as it was
