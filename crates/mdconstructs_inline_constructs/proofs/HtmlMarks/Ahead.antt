@@ -193,7 +193,10 @@ module _ (g : Given) (text : Text) (is : IsText g text) (p : ℕ) (s : Seat) (ss
 
 -- what else is remembered is as it was
 pub marks-leave-runs : (g : Given) (text : Text) (p : ℕ) (ss : List Seat) (known : Mark → Bool) (over : ℕ) (local after : Local Unit Unit) → IsWritten g text p ss known over local after
-    → ((remembered after).all_seen ≡ (remembered local).all_seen) × ((remembered after).runs ≡ (remembered local).runs)
-marks-leave-runs g text p ss known over local after (inl (same, few)) = (ap (λ (r : Remembered). r.all_seen) same, ap (λ (r : Remembered). r.runs) same)
-marks-leave-runs g text p ss known over local after (inr (kind, unknown, lines, k, was, now)) =
-    (ap (λ (r : Remembered). r.all_seen) now ∙ ap (λ (r : Remembered). r.all_seen) was, ap (λ (r : Remembered). r.runs) now ∙ ap (λ (r : Remembered). r.runs) was)
+    → ((remembered after).all_seen ≡ (remembered local).all_seen) × ((remembered after).runs ≡ (remembered local).runs) × ((remembered after).starts ≡ (remembered local).starts)
+marks-leave-runs g text p ss known over local after (inl (same, few)) = (ap (λ (r : Remembered). r.all_seen) same, ap (λ (r : Remembered). r.runs) same, ap (λ (r : Remembered). r.starts) same)
+marks-leave-runs g text p ss known over local after (inr (kind, unknown, lines, k, was, now)) = (
+  ap (λ (r : Remembered). r.all_seen) now ∙ ap (λ (r : Remembered). r.all_seen) was,
+  ap (λ (r : Remembered). r.runs) now ∙ ap (λ (r : Remembered). r.runs) was,
+  ap (λ (r : Remembered). r.starts) now ∙ ap (λ (r : Remembered). r.starts) was,
+)
