@@ -12,11 +12,11 @@ use Rattle.mdconstructs_links.specs.Kept.{IsKept, is_made_of}
 use Rattle.mdconstructs_links.specs.Linked.{Part, run, events, Waiting, SoFar, runs_of_parts, text_before, text_behind, emphasised_parts, last_place, around, as_data, label_text, made, all_parts, is_named, is_bracket, is_tail, is_run, part_of, opened, failed, ended, added, taken, linked_from, outermost_spans, with_links}
 
 module _ (P : Point → Type 0) (B : List Event → Type 0) (F : Run → Type 0) (kept : IsKept P B F) where
-  abbrev IsPart : Part → Type 0
+  abbrev pub IsPart : Part → Type 0
   IsPart (run r) = F r
   IsPart (events es) = B es
 
-  abbrev AreParts : List Part → Type 0
+  abbrev pub AreParts : List Part → Type 0
   AreParts ps = AllByRecursion IsPart ps
 
   abbrev AreWaiting : List Waiting → Type 0
@@ -50,21 +50,21 @@ module _ (P : Point → Type 0) (B : List Event → Type 0) (F : Run → Type 0)
   text-behind since (run r ∷ ps) b h = text-behind [] ps kept.nothing h.1
   text-behind since (events es ∷ ps) b h = text-behind (since ++ es) ps (kept.together since es b h.0) h.1
 
-  parts-emphasised : (ps : List Part) → AreParts ps → B (emphasised_parts ps)
+  pub parts-emphasised : (ps : List Part) → AreParts ps → B (emphasised_parts ps)
   parts-emphasised ps h = kept.emphasis (text_before [] ps) (runs_of_parts ps) (text_behind [] ps) (λ k. text-before [] ps k kept.nothing h) (fresh-runs ps h) (text-behind [] ps kept.nothing h)
 
-  around-kept : (name : Name) (es : List Event) → is_made_of name ≡ true → B es → B (around name es)
+  pub around-kept : (name : Name) (es : List Event) → is_made_of name ≡ true → B es → B (around name es)
   around-kept name [] n h = kept.nothing
   around-kept name (e ∷ es) n h = kept.span_around name e.point (last_place e.point es) (e ∷ es) n (kept.places e es h).0 (kept.places e es h).1 h
 
-  label-text : (opener close : List Event) (ps : List Part) → B opener → B close → AreParts ps → B (label_text opener close ps)
+  pub label-text : (opener close : List Event) (ps : List Part) → B opener → B close → AreParts ps → B (label_text opener close ps)
   label-text [] close ps o c h = kept.nothing
   label-text (e ∷ es) [] ps o c h = kept.nothing
   label-text (e ∷ es) (f ∷ fs) [] o c h = kept.nothing
   label-text (e ∷ es) (f ∷ fs) (p ∷ ps) o c h =
       kept.span_around LabelText (last_place e.point es) f.point (emphasised_parts (p ∷ ps)) refl (kept.places e es o).1 (kept.places f fs c).0 (parts-emphasised (p ∷ ps) h)
 
-  whole-name : (b : Bool) → is_made_of (cond b Image Link) ≡ true
+  pub whole-name : (b : Bool) → is_made_of (cond b Image Link) ≡ true
   whole-name true = refl
   whole-name false = refl
 

@@ -1,20 +1,20 @@
 -- How pieces are laid out for the parts of a text: more parts are more pieces, and runs with their pairs leave the events of the parts.
-use Rattle.std.proofs.Common.{◌≡◌, ◌==◌, ◌+◌, ◌<◌, ◌∙◌, ℕ, suc, List, [], ◌∷◌, ◌++◌, true, false, cond, ap, append-nil, append_assoc, arith, length, length-append, map, refl, subst, sym}
-use Rattle.std.proofs.lemmas.Bool.Decides.{nat_tests}
+use Rattle.std.proofs.Common.{◌≡◌, ◌+◌, ◌∙◌, ℕ, suc, List, [], ◌∷◌, ◌++◌, true, false, cond, ap, append-nil, append_assoc, arith, length, length-append, map, refl, subst, sym}
 use Rattle.std.specs.List.{AllByRecursion}
 use Rattle.markdown_base.specs.declared.event.Event.{Event}
-use Rattle.mdconstructs_attention.proofs.PairsKeep.{pairs-keep-indices}
 use Rattle.mdconstructs_attention.specs.declared.pairs.Delimiters.{Delimiters}
-use Rattle.mdconstructs_attention.specs.Emphasis.{Run, closings, events_of_runs, paired, run_events, tail_events}
+use Rattle.mdconstructs_attention.specs.Emphasis.{Run, paired}
 use Rattle.mdconstructs_attention.specs.Places.{AllHaveRoom, standing}
-use Rattle.mdconstructs_attention.specs.RunEdits.{in_place, index_of}
+use Rattle.mdconstructs_attention.specs.RunEdits.{in_place}
 use Rattle.mdconstructs_attention.specs.Searches.{as_run}
 use Rattle.mdconstructs_links.specs.declared.brackets.Bracket.{Bracket}
 use Rattle.mdconstructs_links.specs.declared.pieces.Fate.{Fate}
 use Rattle.mdconstructs_links.specs.declared.pieces.Fate.TheVariants.{Paired}
 use Rattle.mdconstructs_links.specs.declared.pieces.Piece.{Piece}
+use Rattle.mdconstructs_links.proofs.WithRuns.{emphasised-runs}
+use Rattle.mdconstructs_links.specs.Between.{with_runs}
 use Rattle.mdconstructs_links.specs.Laid.{AreAscending, Laid, NoneWait, Reads, is_waiting, placed_at, waits_at, with_fate, written_of}
-use Rattle.mdconstructs_links.specs.Linked.{Part, run, events, Waiting, all_parts, as_data, emphasised_parts, runs_of_parts, text_before, text_behind}
+use Rattle.mdconstructs_links.specs.Linked.{Part, run, events, Waiting, all_parts, as_data, emphasised_parts, runs_of_parts}
 use Rattle.mdconstructs_links.specs.Pieces.{Fits, in_fate, put, span_of}
 
 pub all-append : {A : Type 0} (P : A → Type 0) (xs ys : List A) → AllByRecursion P xs → AllByRecursion P ys → AllByRecursion P (xs ++ ys)
@@ -176,12 +176,6 @@ module _ (es : List Event) where
 
   -- ---- the events of parts whose runs have their pairs
 
-  abbrev with_runs : List Part → List Run → List Event
-  with_runs [] rs = []
-  with_runs (run r ∷ ps) [] = with_runs ps []
-  with_runs (run r ∷ ps) (s ∷ ss) = in_place s ++ with_runs ps ss
-  with_runs (events xs ∷ ps) rs = xs ++ with_runs ps rs
-
   filled-reads : (xs : List Part) (ps : List Piece) (ds : List Delimiters) → Reads es xs ps → length ds ≡ length (runs_of_parts xs)
       → NoneWait (filled ps ds) × (written_of es (filled ps ds) ≡ with_runs xs (map as_run ds))
   filled-reads [] ps ds h long = subst (λ os. NoneWait (filled os ds) × (written_of es (filled os ds) ≡ [])) (sym h) (tt, refl)
@@ -200,43 +194,8 @@ module _ (es : List Event) where
         written-append front (filled h.2 ds) ∙ ap (λ ys. ys ++ written_of es (filled h.2 ds)) h.5 ∙ ap (λ ys. es' ++ ys) more.1,
       )
 
-  -- runs behind this one have other texts before them
-  past : (f : ℕ → List Event) (since : List Event) (r : Run) (ps : List Part) (rs : List Run) → AllByRecursion (λ s. r.index < s.index) rs
-      → AllByRecursion (λ s. f s.index ≡ text_before since (run r ∷ ps) s.index) rs → AllByRecursion (λ s. f s.index ≡ text_before [] ps s.index) rs
-  past f since r ps [] h k = tt
-  past f since r ps (s ∷ rs) h k =
-      let other : (r.index == s.index) ≡ false = grind (arith, nat_tests, h.0) in
-      (k.0 ∙ ap (λ t. cond t since (text_before [] ps s.index)) other, past f since r ps rs h.1 k.1)
-
-  runs-between : (f : ℕ → List Event) (since : List Event) (ps : List Part) (ss : List Run) → AreAscending (runs_of_parts ps) → map index_of ss ≡ map index_of (runs_of_parts ps)
-      → AllByRecursion (λ s. f s.index ≡ text_before since ps s.index) (runs_of_parts ps)
-      → events_of_runs f ss ++ text_behind since ps ≡ since ++ with_runs ps ss
-  runs-between f since [] [] a e h = sym (append-nil since)
-  runs-between f since [] (s ∷ ss) a e h = cc
-  runs-between f since (run r ∷ ps) [] a e h = cc
-  runs-between f since (run r ∷ ps) (s ∷ ss) a e h =
-      let first : s.index ≡ r.index = cc in
-      let others : map index_of ss ≡ map index_of (runs_of_parts ps) = cc in
-      let this : (r.index == r.index) ≡ true = grind (arith, nat_tests) in
-      let here : f s.index ≡ since = ap f first ∙ h.0 ∙ ap (λ t. cond t since (text_before [] ps r.index)) this in
-      let more = runs-between f [] ps ss a.1 others (past f since r ps (runs_of_parts ps) a.0 h.1) in
-      let close = closings s.start s.closed in
-      append_assoc (run_events f s) (events_of_runs f ss) (text_behind [] ps)
-      ∙ ap (λ xs. run_events f s ++ xs) more
-      ∙ ap (λ xs. xs ++ with_runs ps ss) (append_assoc (f s.index) close (tail_events s))
-      ∙ append_assoc (f s.index) (in_place s) (with_runs ps ss)
-      ∙ ap (λ xs. xs ++ (in_place s ++ with_runs ps ss)) here
-  runs-between f since (events xs ∷ ps) ss a e h = runs-between f (since ++ xs) ps ss a e h ∙ append_assoc since xs (with_runs ps ss)
-
-  agrees : (since : List Event) (ps : List Part) (rs : List Run) → AllByRecursion (λ s. text_before since ps s.index ≡ text_before since ps s.index) rs
-  agrees since ps [] = tt
-  agrees since ps (r ∷ rs) = (refl, agrees since ps rs)
-
   -- the events of pieces whose runs have their pairs are those of the parts
   pub filled-is : (xs : List Part) (ps : List Piece) (ds : List Delimiters) → Reads es xs ps → AreAscending (runs_of_parts xs) → map as_run ds ≡ paired (runs_of_parts xs) → length ds ≡ length (runs_of_parts xs)
       → NoneWait (filled ps ds) × (written_of es (filled ps ds) ≡ emphasised_parts xs)
   filled-is xs ps ds h a pairs long =
-      let all = filled-reads xs ps ds h long in
-      let rs = runs_of_parts xs in
-      let f = text_before [] xs in
-      (all.0, all.1 ∙ ap (with_runs xs) pairs ∙ sym (runs-between f [] xs (paired rs) a (pairs-keep-indices rs) (agrees [] xs rs)))
+      let all = filled-reads xs ps ds h long in (all.0, all.1 ∙ ap (with_runs xs) pairs ∙ sym (emphasised-runs xs a))

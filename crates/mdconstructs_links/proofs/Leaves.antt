@@ -17,13 +17,14 @@ use Rattle.mdconstructs_attention.specs.Runs.{depth_after, index_of_event, is_se
 use Rattle.mdconstructs_links.proofs.Kept.{links-keep}
 use Rattle.mdconstructs_links.proofs.Spans.{spans-balanced, spans-unlinked}
 use Rattle.mdconstructs_links.specs.Kept.{IsFresh, IsKept, LeavesNoLinks}
+use Rattle.mdconstructs_links.specs.Places.{Anywhere}
 use Rattle.mdconstructs_links.specs.Linked.{as_data, last_place, spanning, with_links}
 use Rattle.mdconstructs_attention.proofs.Balance.{leaves-balanced}
 use Rattle.mdconstructs_attention.proofs.RunEdits.{no-links-runs}
 
 -- ---- the runs of a text are in no pair yet
 
-runs-fresh : (bytes : List ℕ) (i depth : ℕ) (before : Option ℕ) (es : List Event) → AllByRecursion IsFresh (runs_from bytes i depth before es)
+pub runs-fresh : (bytes : List ℕ) (i depth : ℕ) (before : Option ℕ) (es : List Event) → AllByRecursion IsFresh (runs_from bytes i depth before es)
 runs-fresh bytes i depth before [] = tt
 runs-fresh bytes i depth before (e ∷ []) = tt
 runs-fresh bytes i depth before (e ∷ f ∷ es) =
@@ -36,20 +37,16 @@ are-fresh : (texts : ℕ → List Event) (rs : List Run) → ((k : ℕ) → IsBa
 are-fresh texts [] balanced h = tt
 are-fresh texts (r ∷ rs) balanced h = (h.0.0, h.0.1, balanced r.index, are-fresh texts rs balanced h.1)
 
--- any place will do
-abbrev Anywhere : Point → Type 0
-Anywhere p = Unit {0}
-
 -- ---- balanced
 
-around-balanced : (name : Name) (start end : Point) (es : List Event) → IsBalanced es → IsBalanced (spanning name start end es)
+pub around-balanced : (name : Name) (start end : Point) (es : List Event) → IsBalanced es → IsBalanced (spanning name start end es)
 around-balanced name start end es h = span (unlinked_event Enter name start) (unlinked_event Exit name end) es [] refl refl refl refl h empty
 
-data-balanced : (es : List Event) → IsBalanced (as_data es)
+pub data-balanced : (es : List Event) → IsBalanced (as_data es)
 data-balanced [] = empty
 data-balanced (e ∷ es) = around-balanced Data e.point (last_place e.point es) [] empty
 
-balanced-is-kept : IsKept Anywhere IsBalanced IsFresh
+pub balanced-is-kept : IsKept Anywhere IsBalanced IsFresh
 balanced-is-kept = record {
   places = λ e es h. (tt, tt);
   nothing = empty;

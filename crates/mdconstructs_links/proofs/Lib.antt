@@ -13,3 +13,10 @@ pub mod LinkEdits
 pub mod Places
 pub mod Read
 pub mod Costs
+pub mod WithRuns
+pub mod Between
+pub mod Aligned
+pub mod RunOrder
+pub mod LinkOrder
+pub mod LinkTight
+pub mod LinkPlaces

@@ -87,21 +87,21 @@ runs-behind bytes b i depth before (e ∷ g ∷ es) h =
 
 -- ---- the first span of a balanced list that is no run
 
-starts : (k : Kind) (n : Name) (es : List Event) → names_after_all (names_after k n []) es ≡ Some [] → k ≡ Enter
+pub starts : (k : Kind) (n : Name) (es : List Event) → names_after_all (names_after k n []) es ≡ Some [] → k ≡ Enter
 starts Enter n es h = refl
 starts Exit n es h = cc
 
-never-one : {X : Type 0} (k : Kind) (n : Name) → names_after_all (names_after k n []) [] ≡ Some [] → X
+pub never-one : {X : Type 0} (k : Kind) (n : Name) → names_after_all (names_after k n []) [] ≡ Some [] → X
 never-one Enter n h = absurd (cc)
 never-one Exit n h = absurd (cc)
 
-pair-span : (e g : Event) (es : List Event) → e.kind ≡ Enter → g.kind ≡ Exit → span_at 0 (e ∷ g ∷ es) ≡ (e ∷ g ∷ [], es)
+pub pair-span : (e g : Event) (es : List Event) → e.kind ≡ Enter → g.kind ≡ Exit → span_at 0 (e ∷ g ∷ es) ≡ (e ∷ g ∷ [], es)
 pair-span e g es a b = rw (a, b) refl
 
-span-opens : (e : Event) (es : List Event) → e.kind ≡ Enter → span_at 0 (e ∷ es) ≡ (e ∷ (span_at 1 es).0, (span_at 1 es).1)
+pub span-opens : (e : Event) (es : List Event) → e.kind ≡ Enter → span_at 0 (e ∷ es) ≡ (e ∷ (span_at 1 es).0, (span_at 1 es).1)
 span-opens e es a = rw a refl
 
-front-first : (depth : ℕ) (e : Event) (es : List Event) → (xs : List Event) × ((span_at depth (e ∷ es)).0 ≡ e ∷ xs)
+pub front-first : (depth : ℕ) (e : Event) (es : List Event) → (xs : List Event) × ((span_at depth (e ∷ es)).0 ≡ e ∷ xs)
 front-first depth e es =
     let d = depth_after e.kind depth in
     elim (d == 0) as (λ t. let p : List Event × List Event = cond t (e ∷ [], es) (e ∷ (span_at d es).0, (span_at d es).1) in (xs : List Event) × (p.0 ≡ e ∷ xs)) [
@@ -109,11 +109,11 @@ front-first depth e es =
       | false ↦ ((span_at d es).0, refl)
     ]
 
-no-run : (e g : Event) (xs : List Event) → is_sequence e g ≡ false → is_run (e ∷ g ∷ xs) ≡ false
+pub no-run : (e g : Event) (xs : List Event) → is_sequence e g ≡ false → is_run (e ∷ g ∷ xs) ≡ false
 no-run e g [] h = h
 no-run e g (x ∷ xs) h = refl
 
-part-plain : (span : List Event) (rs : List Run) → is_run span ≡ false → part_of span rs ≡ (events span, rs)
+pub part-plain : (span : List Event) (rs : List Run) → is_run span ≡ false → part_of span rs ≡ (events span, rs)
 part-plain span [] h = refl
 part-plain span (r ∷ rs) h = rw h refl
 
@@ -131,17 +131,17 @@ same-paired f g rs h = same-events f g (paired rs) (subst (AllByRecursion (λ k.
 
 module _ (bytes : List ℕ) where
   -- no run begins in a span
-  abbrev Skips : (i depth : ℕ) (before : Option ℕ) (es : List Event) → List Event × List Event → Type 0
+  abbrev pub Skips : (i depth : ℕ) (before : Option ℕ) (es : List Event) → List Event × List Event → Type 0
   Skips i depth before es p = (before' : Option ℕ) × (runs_from bytes i depth before es ≡ runs_from bytes (i + length p.0) 0 before' p.1)
 
-  abbrev cut_by : Event → List Event → ℕ → Bool → List Event × List Event
+  abbrev pub cut_by : Event → List Event → ℕ → Bool → List Event × List Event
   cut_by e es d t = cond t (e ∷ [], es) (e ∷ (span_at d es).0, (span_at d es).1)
 
   open-yet : (d : ℕ) → (suc d == 0) ≡ false
   open-yet d = grind (arith, nat_tests)
 
   -- what is left behind an event, by how many spans are open then
-  abbrev SkipsMore : Event → List Event → (i : ℕ) → Option ℕ → ℕ → Bool → Type 0
+  abbrev pub SkipsMore : Event → List Event → (i : ℕ) → Option ℕ → ℕ → Bool → Type 0
   SkipsMore e es i before d t = (before' : Option ℕ) × (runs_from bytes (i + 1) d before es ≡ runs_from bytes (i + length (cut_by e es d t).0) 0 before' (cut_by e es d t).1)
 
   skip-more : (e : Event) (es : List Event) (i : ℕ) (before : Option ℕ) → ((d : ℕ) → Skips (i + 1) (suc d) before es (span_at (suc d) es)) → (d : ℕ) → SkipsMore e es i before d (d == 0)
@@ -151,7 +151,7 @@ module _ (bytes : List ℕ) where
       let n : (i + 1) + length (span_at (suc d) es).0 ≡ i + length (e ∷ (span_at (suc d) es).0) = omega arith in
       subst (SkipsMore e es i before (suc d)) (sym (open-yet d)) (more.0, more.1 ∙ ap (λ k. runs_from bytes k 0 more.0 (span_at (suc d) es).1) n)
 
-  skipped : (es : List Event) (i depth : ℕ) (before : Option ℕ) → Skips i (suc depth) before es (span_at (suc depth) es)
+  pub skipped : (es : List Event) (i depth : ℕ) (before : Option ℕ) → Skips i (suc depth) before es (span_at (suc depth) es)
   skipped [] i depth before = (None, refl)
   skipped (e ∷ []) i depth before = elim (depth_after e.kind (suc depth) == 0) as (λ t. Skips i (suc depth) before (e ∷ []) (cond t (e ∷ [], []) (e ∷ [], []))) [
     | true ↦ (None, refl)

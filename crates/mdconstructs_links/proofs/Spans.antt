@@ -84,3 +84,28 @@ all-balanced (suc bound) (e ∷ es) h =
 
 pub spans-balanced : (es : List Event) → IsBalanced es → AllByRecursion IsBalanced (outermost_spans es)
 spans-balanced es h = all-balanced (length es) es (names_after_balanced h [])
+
+-- what goes from a place to a place, and is so of both parts of a list, is so of its outermost spans; so what it gives of each, all have
+module _ (Q : Type 0) (A : Q → List Event → Q → Type 0) (T : List Event → Type 0)
+    (apart : (p q : Q) (xs ys : List Event) → IsBalanced xs → IsBalanced ys → A p (xs ++ ys) q → (m : Q) × A p xs m × A m ys q)
+    (gives : (p q : Q) (e : Event) (es : List Event) → IsBalanced (e ∷ es) → A p (e ∷ es) q → T (e ∷ es)) where
+  given : (p q : Q) (depth : ℕ) (e : Event) (es : List Event) → IsBalanced (span_at depth (e ∷ es)).0 → A p (span_at depth (e ∷ es)).0 q → T (span_at depth (e ∷ es)).0
+  given p q depth e es =
+      let d = depth_after e.kind depth in
+      elim (d == 0) as (λ t. IsBalanced (cut e es (span_at d es) t).0 → A p (cut e es (span_at d es) t).0 q → T (cut e es (span_at d es) t).0) [
+        | true ↦ gives p q e []
+        | false ↦ gives p q e (span_at d es).0
+      ]
+
+  all-given : (bound : ℕ) (es : List Event) (p q : Q) → names_after_all (Some []) es ≡ Some [] → A p es q → AllByRecursion T (spans_in bound es)
+  all-given zero es p q n h = tt
+  all-given (suc bound) [] p q n h = tt
+  all-given (suc bound) (e ∷ es) p q n h =
+      let w = span_at 0 (e ∷ es) in
+      let closes = span-closes 0 (e ∷ es) [] refl n in
+      let first = balanced_from_open w.0 closes.0 in
+      let parts = apart p q w.0 w.1 first (balanced_from_open w.1 closes.1) (subst (λ l. A p l q) (sym (span-joins 0 (e ∷ es))) h) in
+      (given p parts.0 0 e es first parts.1, all-given bound w.1 parts.0 q closes.1 parts.2)
+
+  pub spans-between : (es : List Event) (p q : Q) → IsBalanced es → A p es q → AllByRecursion T (outermost_spans es)
+  spans-between es p q b h = all-given (length es) es p q (names_after_balanced b []) h

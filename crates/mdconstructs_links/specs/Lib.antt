@@ -1,7 +1,9 @@
+pub mod Between
 pub mod Costs
 pub mod Kept
 pub mod Laid
 pub mod Laws
 pub mod LinkEdits
 pub mod Linked
+pub mod Places
 pub mod Pieces

@@ -1,6 +1,6 @@
 //! Laws about links and images.
 
-ghost use Rattle.mdconstructs_links.specs.Laws.{IsEmphasisAlone, LinksKeepLists};
+ghost use Rattle.mdconstructs_links.specs.Laws.{IsEmphasisAlone, LinksKeepLists, LinksKeepOrder, LinksKeepPlaces, LinksKeepTight};
 ghost use Rattle.mdconstructs_links.specs.LinkEdits.{LinksCanBeMade};
 
 /// Of a balanced list of events without brackets links make what emphasis makes, and nothing else.
@@ -17,4 +17,19 @@ pub fn links_keep_lists()
 /// emphasis in their place, balanced and without links.
 pub fn links_can_be_made()
     ensures { LinksCanBeMade }
+{}
+
+/// Where links, images and emphasis are put in place, the exit of each void span stays behind its enter.
+pub fn links_keep_tight()
+    ensures { LinksKeepTight }
+{}
+
+/// They stand in the order of their places, if the events before did, and each delimiter run goes byte by byte.
+pub fn links_keep_order()
+    ensures { LinksKeepOrder }
+{}
+
+/// They stand inside the document, with room behind them, if the events before did.
+pub fn links_keep_places()
+    ensures { LinksKeepPlaces }
 {}
