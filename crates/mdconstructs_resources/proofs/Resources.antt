@@ -1,4 +1,6 @@
 -- Resources, as a machine reads them.
+pub mod Built
+pub mod Cuts
 pub mod Destinations
 pub mod Enclosed
 pub mod Ends
