@@ -56,6 +56,7 @@ NAMED = {
     ("mdconstructs_containers", "proofs", "Innermost"): "InnermostInSkeletons",
     ("mdconstructs_containers", "specs", "Over"): "ContainersOver",
     ("mdconstructs_documents", "proofs", "Innermost"): "InnermostInDocuments",
+    ("mdconstructs_containers", "specs", "Costs"): "ContainerCosts",
     ("mdconstructs_text", "specs", "Laws"): "TextLaws",
     ("mdconstructs_text", "proofs", "NoFurther"): "TextNoFurther",
     ("mdconstructs_text", "proofs", "NoRefusals"): "TextNoRefusals",

@@ -53,6 +53,9 @@ pub use Rattle.mdconstructs_inline_constructs.proofs.HtmlTexts
 pub use Rattle.mdconstructs_inline_constructs.proofs.References
 pub use Rattle.mdconstructs_inline_constructs.proofs.RememberedCode
 pub use Rattle.mdconstructs_inline_constructs.proofs.WhiteSpaces
+pub use Rattle.mdconstructs_inlines.proofs.BracketBytes
+pub use Rattle.mdconstructs_inlines.proofs.BracketCalls
+pub use Rattle.mdconstructs_inlines.proofs.BracketReads
 pub use Rattle.mdconstructs_inlines.proofs.Budgets
 pub use Rattle.mdconstructs_inlines.proofs.CallsCounted
 pub use Rattle.mdconstructs_inlines.proofs.InlineApart
@@ -61,6 +64,7 @@ pub use Rattle.mdconstructs_inlines.proofs.InlineCalls
 pub use Rattle.mdconstructs_inlines.proofs.InlineChains
 pub use Rattle.mdconstructs_inlines.proofs.InlineListed
 pub use Rattle.mdconstructs_inlines.proofs.InlineMemory
+pub use Rattle.mdconstructs_inlines.proofs.InlinePrices
 pub use Rattle.mdconstructs_inlines.proofs.InlineReads
 pub use Rattle.mdconstructs_inlines.proofs.InlinesCounted
 pub use Rattle.mdconstructs_inlines.proofs.Looks as InlineLooks
@@ -92,6 +96,8 @@ pub use Rattle.mdconstructs_lines.proofs.PlaceLemmas
 pub use Rattle.mdconstructs_lines.proofs.SeatPlaces
 pub use Rattle.mdconstructs_containers.proofs.AheadLemmas
 pub use Rattle.mdconstructs_containers.proofs.ChainLemmas
+pub use Rattle.mdconstructs_containers.proofs.ColumnLemmas
+pub use Rattle.mdconstructs_containers.proofs.CostLemmas
 pub use Rattle.mdconstructs_containers.proofs.DocumentRows
 pub use Rattle.mdconstructs_containers.proofs.EndLemmas
 pub use Rattle.mdconstructs_containers.proofs.Examples as SkeletonExamples
@@ -108,6 +114,7 @@ pub use Rattle.mdconstructs_containers.proofs.ListLemmas
 pub use Rattle.mdconstructs_containers.proofs.ListNumbers
 pub use Rattle.mdconstructs_containers.proofs.ListSeenLemmas
 pub use Rattle.mdconstructs_containers.proofs.OverLemmas
+pub use Rattle.mdconstructs_containers.proofs.PartCosts
 pub use Rattle.mdconstructs_containers.proofs.PartFacts
 pub use Rattle.mdconstructs_containers.proofs.PartGoes
 pub use Rattle.mdconstructs_containers.proofs.PartLemmas
@@ -134,6 +141,7 @@ pub use Rattle.mdconstructs_containers.proofs.TightMarks
 pub use Rattle.mdconstructs_containers.proofs.WritingLemmas
 pub use Rattle.mdconstructs_containers.proofs.WrittenLemmas
 pub use Rattle.mdconstructs_documents.proofs.FlowTexts
+pub use Rattle.mdconstructs_documents.proofs.InContainers
 pub use Rattle.mdconstructs_rests.proofs.Both
 pub use Rattle.mdconstructs_rests.proofs.Events
 pub use Rattle.mdconstructs_rests.proofs.Fuel

@@ -94,6 +94,8 @@ pub use Rattle.mdconstructs_inline_constructs.specs.Reference
 pub use Rattle.mdconstructs_inline_constructs.specs.ReferenceRows
 pub use Rattle.mdconstructs_inline_constructs.specs.RememberedCode
 pub use Rattle.mdconstructs_inline_constructs.specs.WhiteSpace
+pub use Rattle.mdconstructs_inlines.specs.BracketRows
+pub use Rattle.mdconstructs_inlines.specs.Brackets
 pub use Rattle.mdconstructs_inlines.specs.InlineEvents
 pub use Rattle.mdconstructs_inlines.specs.InlineRules
 pub use Rattle.mdconstructs_inlines.specs.InlineTable
@@ -154,6 +156,7 @@ pub use Rattle.mdconstructs_lines.specs.Views as ContainerViews
 pub use Rattle.mdconstructs_containers.specs.Ahead
 pub use Rattle.mdconstructs_containers.specs.Blocks
 pub use Rattle.mdconstructs_containers.specs.Chunks as ContentChunks
+pub use Rattle.mdconstructs_containers.specs.Costs as ContainerCosts
 pub use Rattle.mdconstructs_containers.specs.Examples
 pub use Rattle.mdconstructs_containers.specs.Frames
 pub use Rattle.mdconstructs_containers.specs.Letters

@@ -19,8 +19,8 @@ pub use mdconstructs_flow_read::laws::{
 };
 pub use mdconstructs_inlines::laws::{
     chains_are_read_as_inline_text, chains_are_read_as_strings,
-    cost_at_the_start as inlines_cost_at_the_start, emphasis_takes_the_place_of_runs,
-    inline_text_is_linear, inline_text_is_read, inline_text_looks_no_further,
+    cost_at_the_start as inlines_cost_at_the_start, inline_text_is_linear, inline_text_is_read,
+    inline_text_looks_no_further, links_take_the_place_of_brackets,
     no_document_is_refused as inlines_refuse_no_document,
     other_chains_stay_ready_after_inline_text, other_chains_stay_ready_after_strings,
     strings_are_linear, strings_are_read,

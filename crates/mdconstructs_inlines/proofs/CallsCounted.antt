@@ -1,5 +1,5 @@
 -- Each call of a machine is counted. So where a reading ends, as many calls are counted as were made, or as many as can be counted.
-use Rattle.mdconstructs_inlines.proofs.Prelude.{◌≡◌, ◌==◌, ℕ, zero, suc, ◌+◌, ◌≤◌, List, [], ◌∷◌, true, false, cond, Option, Some, None, refl, sym, ◌∙◌, subst, arith, length, min, nat_lt, Name, State, Next, Retry, Ok, Nok, AttemptKind, Attempt, Check, Byte, End, with_local, Configuration, Choice, Local, Saved, Step, EndsIn, Reading, after_choices, fed, more_calls, read, settle, settled_at, Sight, sight, Given, Text, counts, RowsHarmless, WriteHarmless, Act, Rows, StateRows, Table, choose, class_of, consume, does, enters, exit, exit_noted, enter_noted, note, links, past, picked, row, shown_sight, step_at, step_of, table_step, when, writes, behind-acts, behind-rows, most, spent}
+use Rattle.mdconstructs_inlines.proofs.Prelude.{◌≡◌, ◌==◌, ℕ, zero, suc, ◌+◌, ◌≤◌, List, [], ◌∷◌, ◌++◌, true, false, cond, Option, Some, None, refl, sym, ◌∙◌, subst, arith, length, min, nat_lt, Name, State, Next, Retry, Ok, Nok, AttemptKind, Attempt, Check, Byte, End, with_local, Configuration, Choice, Local, Saved, Step, EndsIn, Reading, after_choices, fed, more_calls, read, settle, settled_at, Sight, sight, Given, Text, counts, RowsHarmless, WriteHarmless, Act, Rows, StateRows, Table, choose, class_of, consume, does, enters, exit, exit_noted, enter_noted, note, links, past, picked, row, shown_sight, step_at, step_of, table_step, when, writes, behind-acts, behind-rows, most, spent}
 use Rattle.mdconstructs_tables.specs.Rows.{done, named}
 
 -- each call of these steps counts one
@@ -82,6 +82,27 @@ KeepsCount f = (s : Sight) (k : Configuration Unit Unit) → (f s k).tokenize_st
 abbrev pub KeepCount : {W : Type 0} → List (StateRows W Unit Unit) → (previous current : Option W) → Type 0
 KeepCount [] b w = Unit {0}
 KeepCount (state ∷ states) b w = RowsHarmless KeepsCount (state.rows b w) (KeepCount states b w)
+
+-- two lists of states leave it if each does
+acts-more : (acts : List (Act Unit Unit)) (P Q : Type 0) → (P → Q) → WriteHarmless KeepsCount acts P → WriteHarmless KeepsCount acts Q
+acts-more [] P Q f h = f h
+acts-more (writes w ∷ acts) P Q f h = (h.0, acts-more acts P Q f h.1)
+acts-more (links previous next ∷ acts) P Q f h = acts-more acts P Q f h
+acts-more (enters name link ∷ acts) P Q f h = acts-more acts P Q f h
+acts-more (exit name ∷ acts) P Q f h = acts-more acts P Q f h
+acts-more (consume ∷ acts) P Q f h = acts-more acts P Q f h
+acts-more (choose kind ok nok ∷ acts) P Q f h = acts-more acts P Q f h
+acts-more (note ∷ acts) P Q f h = acts-more acts P Q f h
+acts-more (exit_noted name ∷ acts) P Q f h = acts-more acts P Q f h
+acts-more (enter_noted name ∷ acts) P Q f h = acts-more acts P Q f h
+
+rows-more : (rows : Rows Unit Unit) (P Q : Type 0) → (P → Q) → RowsHarmless KeepsCount rows P → RowsHarmless KeepsCount rows Q
+rows-more (row acts answer) P Q f h = acts-more acts P Q f h
+rows-more (when test one other) P Q f h = rows-more one (RowsHarmless KeepsCount other P) (RowsHarmless KeepsCount other Q) (rows-more other P Q f) h
+
+pub both-keep-count : {W : Type 0} (xs ys : List (StateRows W Unit Unit)) (b w : Option W) → KeepCount xs b w → KeepCount ys b w → KeepCount (xs ++ ys) b w
+both-keep-count [] ys b w h k = k
+both-keep-count (x ∷ xs) ys b w h k = rows-more (x.rows b w) (KeepCount xs b w) (KeepCount (xs ++ ys) b w) (λ h. both-keep-count xs ys b w h k) h
 
 acts-count : (acts : List (Act Unit Unit)) → WriteHarmless KeepsCount acts (Unit {0}) → (s : Sight) (k : Configuration Unit Unit) → spent (does acts s k).local ≡ spent k.local
 acts-count [] h s k = refl

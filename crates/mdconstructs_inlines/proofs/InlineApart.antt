@@ -1,5 +1,6 @@
 -- The constructs of inline text by their bytes; and the classes at which the machine goes on with data.
-use Rattle.mdconstructs_inlines.proofs.Prelude.{◌≡◌, ℕ, ◌&&◌, ◌||◌, List, ◌∷◌, Bool, true, false, cond, sym, ap, ◌∙◌, refl, arith, and-false, or-false, nat_tests, Constructs, is_white, autolinks-apart, code-spans-apart, AreApart, begins-classed, escapes-apart, line-classed, is_line_feed, some_begins, some_first, item_length, is_line_feed_class, punctuation, text_byte, emails-apart, html-marks-apart, html-tags-apart, break-escapes-apart, references-apart, begins_run, ends_data, marked_grammars, behind_autolinks, behind_emails, behind_escapes, behind_marks, inline_constructs, is_delimiter, Found, first_there, none-there, ◌<◌, data_length, data_run, delimiter_run, inline_item_at, line_break, run_length, run_or_part, positive, prefix_len, there-holds, trailing-break-some, white-space-some, white_grammars}
+use Rattle.mdconstructs_inlines.proofs.Prelude.{◌≡◌, ℕ, ◌&&◌, ◌||◌, List, ◌∷◌, Bool, true, false, cond, sym, ap, ◌∙◌, refl, arith, and-false, or-false, nat_tests, Constructs, is_white, autolinks-apart, code-spans-apart, AreApart, begins-classed, escapes-apart, line-classed, is_line_feed, some_begins, some_first, item_length, is_line_feed_class, punctuation, text_byte, emails-apart, html-marks-apart, html-tags-apart, break-escapes-apart, references-apart, begins_run, ends_data, marked_grammars, behind_autolinks, behind_emails, behind_escapes, behind_marks, inline_constructs, is_delimiter, Found, first_there, none-there, ◌<◌, data_length, data_run, delimiter_run, inline_item_at, line_break, run_length, run_or_part, positive, prefix_len, there-holds, trailing-break-some, white-space-some, white_grammars, Memory, begins_bracket, bracket_or_part}
+use Rattle.mdconstructs_inlines.proofs.BracketBytes.{begins-no-bracket, some-bracket, white-no-bracket}
 
 pub behind-escapes-apart : AreApart text_byte item_length behind_escapes
 behind-escapes-apart = (break-escapes-apart, (references-apart, tt))
@@ -26,7 +27,8 @@ white-plain on b h =
     let line : is_line_feed b ≡ false = grind (arith, nat_tests) in
     let marked : some_first marked_grammars b ≡ false = grind (arith, nat_tests) in
     let delimiter : is_delimiter b ≡ false = grind (arith, nat_tests) in
-    (λ i. line i || (marked i || (on.attention && delimiter i))) ∙ and-false on.attention
+    let bracket = begins-no-bracket on b (white-no-bracket b h) in
+    (λ i. line i || (marked i || ((on.attention && delimiter i) || bracket i))) ∙ ap (λ t. t || false) (and-false on.attention)
 
 -- no construct with a mark begins with white space
 pub white-unmarked : (on : Constructs) (b : ℕ) (bs : List ℕ) (other : Found) → is_white b ≡ true → first_there marked_grammars on (b ∷ bs) other ≡ other
@@ -38,17 +40,21 @@ white-unmarked on b bs other h =
 pub special-classed : (b : ℕ) → (is_line_feed_class (text_byte b) || some_begins inline_constructs (text_byte b)) ≡ (is_line_feed b || some_first marked_grammars b)
 special-classed b = λ i. line-classed b i || begins-classed text_byte item_length inline_constructs inline-apart b i
 
--- so data ends at a byte that begins no run
-pub marked-classed : (on : Constructs) (b : ℕ) → begins_run on b ≡ false → (is_line_feed_class (text_byte b) || some_begins inline_constructs (text_byte b)) ≡ ends_data on b
+-- a byte begins a run, a bracket or an end
+abbrev pub begins_mark : Constructs → ℕ → Bool
+begins_mark on b = begins_run on b || begins_bracket on b
+
+-- so data ends at a byte that begins none of them
+pub marked-classed : (on : Constructs) (b : ℕ) → begins_mark on b ≡ false → (is_line_feed_class (text_byte b) || some_begins inline_constructs (text_byte b)) ≡ ends_data on b
 marked-classed on b none =
     let marked = some_first marked_grammars b in
     special-classed b ∙ ap (λ t. is_line_feed b || t) (sym (or-false marked) ∙ ap (λ t. marked || t) (sym none))
 
 -- and at punctuation if it begins one
-pub punctuation-ends : (on : Constructs) (b : ℕ) → text_byte b ≡ punctuation → ends_data on b ≡ begins_run on b
+pub punctuation-ends : (on : Constructs) (b : ℕ) → text_byte b ≡ punctuation → ends_data on b ≡ begins_mark on b
 punctuation-ends on b is =
     let (line, marked) = or-parts (is_line_feed b) (some_first marked_grammars b) (sym (special-classed b) ∙ ap (λ w. is_line_feed_class w || some_begins inline_constructs w) is) in
-    λ i. line i || (marked i || begins_run on b)
+    λ i. line i || (marked i || begins_mark on b)
 
 -- ---- each item is a byte at least
 some-part : (on : Constructs) (b : ℕ) (bs : List ℕ) → 0 < item_length (run_or_part on (b ∷ bs))
@@ -63,7 +69,8 @@ some-part on b bs =
 pub some-white : (on : Constructs) (b : ℕ) (bs : List ℕ) (other : Found) → 0 < item_length other → 0 < item_length (first_there white_grammars on (b ∷ bs) other)
 some-white on b bs other some = there-holds (λ (item : Found). 0 < item_length item) white_grammars on (b ∷ bs) other (trailing-break-some b bs, (white-space-some b bs, tt)) some
 
-pub some-item : (on : Constructs) (b : ℕ) (bs : List ℕ) → 0 < item_length (inline_item_at on (b ∷ bs))
-some-item on b bs =
-    let other = first_there white_grammars on (b ∷ bs) (run_or_part on (b ∷ bs)) in
-    positive text_byte item_length inline_constructs inline-apart on b bs other (some-white on b bs (run_or_part on (b ∷ bs)) (some-part on b bs))
+pub some-item : (on : Constructs) (m : Memory) (b : ℕ) (bs : List ℕ) → 0 < item_length (inline_item_at on m (b ∷ bs))
+some-item on m b bs =
+    let part = bracket_or_part on m (b ∷ bs) in
+    let other = first_there white_grammars on (b ∷ bs) part in
+    positive text_byte item_length inline_constructs inline-apart on b bs other (some-white on b bs part (some-bracket on m (b ∷ bs) (run_or_part on (b ∷ bs)) (some-part on b bs)))

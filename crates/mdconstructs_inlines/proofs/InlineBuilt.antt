@@ -1,6 +1,9 @@
 -- What is read of inline text is balanced, and no event of it has a link: that holds of each item.
-use Rattle.mdconstructs_inlines.proofs.Prelude.{ℕ, zero, suc, List, [], ◌∷◌, false, true, cond, take, drop, length, refl, flat_map, prefix_len, Constructs, Event, Enter, Exit, AttentionSequence, Data, LineEnding, SpaceOrTab, IsBalanced, empty, balanced_span, Seat, end_after, IsBalanced-append, HaveNoLinks, Given, Text, is_white, has_byte_at, is_line_feed, item_length, bytes_of, cut, event, leaf, span, item_events, autolink-built, code-span-built, EachThere, there-holds, escape-built, IsKeptBySpans, IsBuilt, links-kept, email-built, html-mark-built, html-tag-built, break-escape-built, trailing-break-built, reference-built, white-space-built, begins_run, data_length, data_run, delimiter_run, inline_grammars, inline_item_at, inline_items, line_break, read_events, run_length, run_or_part}
+use Rattle.mdconstructs_inlines.proofs.Prelude.{◌≡◌, ℕ, zero, suc, List, [], ◌∷◌, ◌++◌, false, true, cond, take, drop, length, refl, flat_map, prefix_len, Constructs, Event, Enter, Exit, AttentionSequence, Data, LineEnding, SpaceOrTab, IsBalanced, empty, balanced_span, Seat, end_after, IsBalanced-append, HaveNoLinks, Given, Text, is_white, has_byte_at, is_line_feed, item_length, bytes_of, Found, Memory, Some, after_item, bracket_or_part, cut_remembering, label_end, nothing_waits, resource_grammar, event, leaf, span, item_events, autolink-built, code-span-built, EachThere, there-holds, escape-built, IsKeptBySpans, IsBuilt, links-kept, email-built, html-mark-built, html-tag-built, break-escape-built, trailing-break-built, reference-built, white-space-built, begins_run, data_length, data_run, delimiter_run, inline_grammars, inline_item_at, inline_items, line_break, read_events, run_length, run_or_part}
 use Rattle.markdown_base.specs.declared.event.Name.{Name}
+use Rattle.markdown_base.specs.declared.event.Name.TheVariants.{LabelEnd, LabelImage, LabelImageMarker, LabelLink, LabelMarker}
+use Rattle.mdconstructs_resources.proofs.Resources.Built.{resource-built}
+use Rattle.mdconstructs_inlines.proofs.BracketBytes.{bracket-holds}
 
 module _ (bytes : List ℕ) (P : List Event → Type 0) (kept : IsKeptBySpans bytes P) (on : Constructs) where
   other-built : (text : List ℕ) → IsBuilt bytes P kept (run_or_part on text)
@@ -19,23 +22,38 @@ module _ (bytes : List ℕ) (P : List Event → Type 0) (kept : IsKeptBySpans by
     (autolink-built bytes P kept text, (email-built bytes P kept text, (html-mark-built bytes P kept text, (html-tag-built bytes P kept text, (escape-built bytes P kept text, (break-escape-built bytes P kept text, (reference-built bytes P kept text, (trailing-break-built bytes P kept text, (white-space-built bytes P kept text, tt))))))))),
   )
 
-  item-built : (text : List ℕ) → IsBuilt bytes P kept (inline_item_at on text)
-  item-built text = there-holds (IsBuilt bytes P kept) inline_grammars on text (run_or_part on text) (each-built text) (other-built text)
+  -- of brackets and ends
+  tail-built : (text : List ℕ) (tail : Found) → resource_grammar.front text ≡ Some tail → IsBuilt bytes P kept (label_end tail)
+  tail-built text tail is seats =
+      kept.both (span bytes LabelEnd (take 1 seats) (leaf bytes LabelMarker (take 1 seats))) (tail.events bytes (drop 1 seats)) (kept.around LabelEnd (take 1 seats) (leaf bytes LabelMarker (take 1 seats)) refl (kept.alone LabelMarker (take 1 seats)))
+      (resource-built bytes P kept text tail is (drop 1 seats))
 
-  pub items-built : (n : ℕ) (seats : List Seat) → P (flat_map (item_events bytes) (cut (inline_item_at on) item_length n seats))
-  items-built zero seats = kept.none
-  items-built (suc n) [] = kept.none
-  items-built (suc n) (s ∷ ss) =
-      let item = inline_item_at on (bytes_of (s ∷ ss)) in
+  bracket-built : (m : Memory) (text : List ℕ) → IsBuilt bytes P kept (bracket_or_part on m text)
+  bracket-built m text =
+      bracket-holds (IsBuilt bytes P kept) on m text (run_or_part on text) (λ seats. kept.around LabelLink seats (leaf bytes LabelMarker seats) refl (kept.alone LabelMarker seats))
+      (λ e seats. kept.around LabelImage seats (leaf bytes LabelImageMarker (take 1 seats) ++ leaf bytes LabelMarker (drop 1 seats)) refl
+      (kept.both (leaf bytes LabelImageMarker (take 1 seats)) (leaf bytes LabelMarker (drop 1 seats)) (kept.alone LabelImageMarker (take 1 seats)) (kept.alone LabelMarker (drop 1 seats))))
+      (λ seats. kept.alone LabelMarker seats) (tail-built (drop 1 text)) (other-built text)
+
+  item-built : (m : Memory) (text : List ℕ) → IsBuilt bytes P kept (inline_item_at on m text)
+  item-built m text = there-holds (IsBuilt bytes P kept) inline_grammars on text (bracket_or_part on m text) (each-built text) (bracket-built m text)
+
+  pub items-built : (n : ℕ) (q : Memory) (seats : List Seat) → P (flat_map (item_events bytes) (cut_remembering after_item (inline_item_at on) item_length n q seats))
+  items-built zero q seats = kept.none
+  items-built (suc n) q [] = kept.none
+  items-built (suc n) q (s ∷ ss) =
+      let item = inline_item_at on q (bytes_of (s ∷ ss)) in
       let m = item_length item in
-      kept.both (item_events bytes (item, take m (s ∷ ss))) (flat_map (item_events bytes) (cut (inline_item_at on) item_length n (drop m (s ∷ ss)))) (item-built (bytes_of (s ∷ ss)) (take m (s ∷ ss)))
-      (items-built n (drop m (s ∷ ss)))
+      let behind = after_item q item in
+      kept.both (item_events bytes (item, take m (s ∷ ss))) (flat_map (item_events bytes) (cut_remembering after_item (inline_item_at on) item_length n behind (drop m (s ∷ ss)))) (item-built q (bytes_of (s ∷ ss)) (take m (s ∷ ss)))
+      (items-built n behind (drop m (s ∷ ss)))
 
   -- and so of the events of all items
   pub all-built : (seats : List Seat) → P (flat_map (item_events bytes) (inline_items on seats))
   all-built seats =
       let n = prefix_len is_white (bytes_of seats) in
-      kept.both (leaf bytes SpaceOrTab (take n seats)) (flat_map (item_events bytes) (cut (inline_item_at on) item_length (length seats) (drop n seats))) (kept.alone SpaceOrTab (take n seats)) (items-built (length seats) (drop n seats))
+      kept.both (leaf bytes SpaceOrTab (take n seats)) (flat_map (item_events bytes) (cut_remembering after_item (inline_item_at on) item_length (length seats) nothing_waits (drop n seats))) (kept.alone SpaceOrTab (take n seats))
+      (items-built (length seats) nothing_waits (drop n seats))
 
 module _ (bytes : List ℕ) where
   span-balanced : (name : Name) (seats : List Seat) (es : List Event) → IsBalanced es → IsBalanced (span bytes name seats es)

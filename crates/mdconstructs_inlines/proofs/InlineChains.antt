@@ -1,5 +1,6 @@
 -- Chains of text are read as inline text; and what is read leaves other chains ready.
-use Rattle.mdconstructs_inlines.proofs.Prelude.{Some, arith, refl, sym, ap, ◌∙◌, subst, AllByRecursion, TextContent, TextStart, IsBalanced, fitting_starts, lists, IsReady, lists-all, stays-ready, edited, HaveNoLinks, Given, Text, emphasis-can-be-made, chain_text, all-begin, chains-read, children-events, each-alone, ReadsTexts, inline_events, read_events, emphasis_edits, inlines_rules, ReadsChainsAsInlineText, StaysReadyAfterInlineText}
+use Rattle.mdconstructs_inlines.proofs.Prelude.{Some, arith, refl, sym, ap, ◌∙◌, subst, AllByRecursion, TextContent, TextStart, IsBalanced, fitting_starts, lists, IsReady, lists-all, stays-ready, edited, HaveNoLinks, Given, Text, chain_text, all-begin, chains-read, children-events, each-alone, ReadsTexts, inline_events, read_events, linking_edits, inlines_rules, ReadsChainsAsInlineText, StaysReadyAfterInlineText}
+use Rattle.mdconstructs_links.proofs.LinkEdits.{links-can-be-made}
 use Rattle.mdconstructs_inlines.proofs.Counted.{ends-as-counted}
 use Rattle.mdconstructs_inlines.proofs.InlineBuilt.{read-alone, read-balanced}
 use Rattle.mdconstructs_inlines.proofs.InlineMemory.{inlines-read}
@@ -10,15 +11,15 @@ use Rattle.mdconstructs_inlines.proofs.Resolved.{resolved-so}
 pub reads-texts : (g : Given) → ReadsTexts g inlines_rules (inline_events g)
 reads-texts g text is flag r ends well final sub resolved =
     let read = (ends-as-counted g text flag TextStart (text_ending g text) (inlines-read g text is flag) r ends).1 in
-    (resolved-so g TextStart (0, omega arith, (cc)) text is flag r ends well final sub resolved).1 ∙ ap (λ es. edited (emphasis_edits g es) es) read
-    ∙ (emphasis-can-be-made g.bytes (read_events g text) (read-balanced g text) (read-alone g text)).1
+    (resolved-so g TextStart (0, omega arith, (cc)) text is flag r ends well final sub resolved).1 ∙ ap (λ es. edited (linking_edits g es) es) read
+    ∙ (links-can-be-made g.bytes (read_events g text) (read-balanced g text) (read-alone g text)).1
 
 pub chains-read-inline : ReadsChainsAsInlineText
 chains-read-inline g events document ready = chains-read g events document ready inlines_rules (inline_events g) (reads-texts g)
 
 -- what is read has no links
 pub inline-alone : (g : Given) (text : Text) → HaveNoLinks (inline_events g text)
-inline-alone g text = (emphasis-can-be-made g.bytes (read_events g text) (read-balanced g text) (read-alone g text)).3
+inline-alone g text = (links-can-be-made g.bytes (read_events g text) (read-balanced g text) (read-alone g text)).3
 
 pub inline-stays-ready : StaysReadyAfterInlineText
 inline-stays-ready g events document ready next new sub other h =

@@ -1,15 +1,17 @@
 -- What reading inline text from its start ends in: its items are read one by one, in so many calls. And so it is what its definition says, and read in
 -- linear time.
-use Rattle.mdconstructs_inlines.proofs.Prelude.{◌+◌, ◌*◌, ◌∙◌, ap, arith, false, length, TextStart, Configuration, whole_text, Given, Text, with_emphasis, Ending, whole-is-text, read_events, ReadsInlineText, RunsWithin}
+use Rattle.mdconstructs_inlines.proofs.Prelude.{◌≡◌, ◌+◌, ◌*◌, ◌∙◌, ap, arith, false, length, length-map, TextStart, Configuration, Seat, whole_text, Given, Text, Ending, bytes_of, whole-is-text, read_events, ReadsInlineText, RunsWithin}
+use Rattle.mdconstructs_links.specs.Linked.{with_links}
 use Rattle.mdconstructs_inlines.proofs.Counted.{ends-as-counted}
-use Rattle.mdconstructs_inlines.proofs.InlineCalls.{inline_budget}
+use Rattle.mdconstructs_inlines.proofs.InlinePrices.{inline_budget}
 use Rattle.mdconstructs_inlines.proofs.InlineMemory.{inlines-read}
 use Rattle.mdconstructs_inlines.proofs.InlinesCounted.{calls-within}
-use Rattle.mdconstructs_inlines.proofs.Resolved.{makes-emphasis}
+use Rattle.mdconstructs_inlines.proofs.Resolved.{makes-links}
+use Rattle.mdconstructs_inlines.proofs.TailLooks.{tail-looks-linear}
 
 -- what reading a text is to end in
 abbrev pub text_ending : Given → Text → Ending
-text_ending g text = record { events = read_events g text; spent = inline_budget (length text.seats) + 1 }
+text_ending g text = record { events = read_events g text; spent = inline_budget g.options.constructs text.seats + 1 }
 
 -- Inline text is what its definition says
 pub reads-inline-text : ReadsInlineText
@@ -17,14 +19,16 @@ reads-inline-text g events sub document =
     let text = whole_text g in
     let is = whole-is-text g document in
     let read = ends-as-counted g text false TextStart (text_ending g text) (inlines-read g text is false) in (
-      λ run. makes-emphasis g events sub document run ∙ ap (with_emphasis g.bytes) (read run.result run.ends).1,
+      λ run. makes-links g events sub document run ∙ ap (with_links g.bytes) (read run.result run.ends).1,
       λ run. run.events ∙ ap (λ (k : Configuration Unit Unit). k.events) run.resolved.0 ∙ (read run.result run.ends).1,
     )
 
 -- and a run makes no more calls than so many for each virtual byte
-pub inline-text-is-linear : RunsWithin TextStart (λ n. 138 * n + 4)
+pub inline-text-is-linear : RunsWithin TextStart (λ n. 368 * n + 4)
 inline-text-is-linear g resolving events sub document run few =
     let text = whole_text g in
     let is = whole-is-text g document in
-    let all = calls-within g text false TextStart (text_ending g text) (inlines-read g text is false) (omega (arith, few)) run.result run.ends in
-    omega (arith, all)
+    let looks = tail-looks-linear g.options.constructs (bytes_of text.seats) in
+    let size : length (bytes_of text.seats) ≡ length text.seats = length-map text.seats (λ (s : Seat). s.byte) in
+    let all = calls-within g text false TextStart (text_ending g text) (inlines-read g text is false) (omega (arith, few, looks, size)) run.result run.ends in
+    omega (arith, all, looks, size)

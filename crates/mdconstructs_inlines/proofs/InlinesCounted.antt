@@ -2,19 +2,27 @@
 use Rattle.mdconstructs_inlines.proofs.Prelude.{◌≡◌, ◌<◌, ◌≤◌, [], Bool, Option, None, Some, refl, sym, subst, arith, rules, Name, Next, start_configuration, EndsIn, Reading, Given, Text, one-end, TextByte, backtick, digit, letter, line_feed, mark, Ending, most, spent, inlines_rules, inlines}
 use Rattle.mdconstructs_tables.specs.Twins.{reading_sized}
 use Rattle.mdconstructs_text.proofs.Texts.Leads.{EndsWith}
-use Rattle.mdconstructs_inlines.proofs.CallsCounted.{CountsCalls, KeepCount, calls-counted, table-counts}
-use Rattle.mdconstructs_inlines.proofs.Counted.{counted, counted_step, twin-reads}
+use Rattle.mdconstructs_inlines.specs.BracketRows.{bracket_states}
+use Rattle.mdconstructs_inlines.proofs.CallsCounted.{CountsCalls, KeepCount, both-keep-count, calls-counted, table-counts}
+use Rattle.mdconstructs_inlines.proofs.Counted.{counted, counted_step, twin-reads, unbracketed_states}
 use Rattle.mdconstructs_inlines.proofs.Starts.{start_local}
 
 -- what its states write leaves the count of calls
+keep-others : (b w : Option TextByte) → KeepCount unbracketed_states b w
+keep-others b None = search rules
+keep-others b (Some line_feed) = search rules
+keep-others b (Some backtick) = search rules
+keep-others b (Some letter) = search rules
+keep-others b (Some digit) = search rules
+keep-others b (Some mark) = search rules
+keep-others b (Some _) = search rules
+
+keep-brackets : (b w : Option TextByte) → KeepCount (bracket_states {R = Unit {0}} {D = Unit {0}}) b w
+keep-brackets b None = search rules
+keep-brackets b (Some _) = search rules
+
 keep-count : (b w : Option TextByte) → KeepCount inlines.states b w
-keep-count b None = search rules
-keep-count b (Some line_feed) = search rules
-keep-count b (Some backtick) = search rules
-keep-count b (Some letter) = search rules
-keep-count b (Some digit) = search rules
-keep-count b (Some mark) = search rules
-keep-count b (Some _) = search rules
+keep-count b w = both-keep-count unbracketed_states bracket_states b w (keep-others b w) (keep-brackets b w)
 
 inlines-count : (g : Given) → CountsCalls (counted_step g)
 inlines-count g = table-counts counted g (λ local. refl) keep-count

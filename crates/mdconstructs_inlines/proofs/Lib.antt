@@ -1,3 +1,7 @@
+mod BeforeSteps
+pub mod BracketBytes
+pub mod BracketCalls
+pub mod BracketReads
 pub mod Budgets
 pub mod CallsCounted
 mod Counted
@@ -10,6 +14,7 @@ pub mod InlineCalls
 pub mod InlineChains
 pub mod InlineListed
 pub mod InlineMemory
+pub mod InlinePrices
 pub mod InlineReads
 pub mod InlinesCounted
 mod JoinedItems
@@ -17,6 +22,7 @@ mod LineReads
 pub mod Looks
 mod OverBytes
 mod PartReads
+mod PlainItems
 mod Playing
 mod Prelude
 mod Priced
@@ -28,6 +34,9 @@ pub mod StringCalls
 pub mod StringChains
 pub mod StringReads
 pub mod StringRuns
+mod TailLooks
+mod TakenLast
+mod Waiting
 mod WhiteBytes
 mod WhitePlays
 mod WhiteReads

@@ -1,6 +1,7 @@
 -- The machine of inline text refuses no document, by the test of its rows; and it looks no further than the byte that waits: its tests take
 -- nothing of the document but the options.
-use Rattle.mdconstructs_inlines.proofs.Prelude.{◌≡◌, ◌&&◌, List, [], ◌∷◌, ◌++◌, Option, Some, None, refl, ap, AllByRecursion, ParseOptions, LooksNoFurther, IsAnsweredAlike, tests, tests_of, refusing, RulesRefuseNothing, steps-alike, table-steps, refuse-nothing, autolinks, passes, escapes, TextByte, line_feed, backtick, less, greater, backslash, colon, letter, digit, mark, ampersand, white, punctuation, blank, other, every-append, TextBeforeHardBreakEscape, every-back, every-front, StateRows, states_of, html-on-alike, html-tags-alike, emails, html_marks, html_tags, domain-ends-alike, hyphen-alike, label-alike, label-ends-alike, name-alike, name-ends-alike, break_escapes_are_on, space_waits, trailing_breaks_are_on, at_number_sign, at_semicolon, at_x, value_goes_on, value_is_whole, goes-on-alike, number-sign-alike, on-alike, semicolon-alike, whole-alike, x-alike, remembered_code_spans, inlines_rules, behind_escapes, inline_constructs, inline_start, inlines, own_states, is_delimiter, run_begins, run_goes_on, run_states, string_states}
+use Rattle.mdconstructs_inlines.proofs.Prelude.{◌≡◌, ◌&&◌, ◌||◌, reverse, begins_bracket, begins_end, begins_image, begins_link, List, [], ◌∷◌, ◌++◌, Option, Some, None, refl, ap, AllByRecursion, ParseOptions, LooksNoFurther, IsAnsweredAlike, tests, tests_of, refusing, RulesRefuseNothing, steps-alike, table-steps, refuse-nothing, autolinks, passes, escapes, TextByte, line_feed, backtick, less, greater, backslash, colon, letter, digit, mark, ampersand, white, punctuation, blank, other, every-append, TextBeforeHardBreakEscape, every-back, every-front, StateRows, states_of, html-on-alike, html-tags-alike, emails, html_marks, html_tags, domain-ends-alike, hyphen-alike, label-alike, label-ends-alike, name-alike, name-ends-alike, break_escapes_are_on, space_waits, trailing_breaks_are_on, at_number_sign, at_semicolon, at_x, value_goes_on, value_is_whole, goes-on-alike, number-sign-alike, on-alike, semicolon-alike, whole-alike, x-alike, remembered_code_spans, inlines_rules, behind_escapes, inline_constructs, inline_start, inlines, own_states, is_delimiter, run_begins, run_goes_on, run_states, string_states}
+use Rattle.mdconstructs_inlines.specs.BracketRows.{bracket_states, end_is_awaited, end_may_make, image_begins, kept_starts, link_begins, mark_begins, may_make, one_waits}
 use Rattle.mdconstructs_text.proofs.Texts.NoFurther.{autolinks as autolinks-on, code-spans, escapes as escapes-on, room, scheme, sizes}
 
 none-refuses : (previous current : Option TextByte) → refusing inlines previous current ≡ []
@@ -15,6 +16,22 @@ begins g h s k alike = ap (λ (o : ParseOptions). o.constructs.attention && pass
 
 goes-on : IsAnsweredAlike {R = Unit {0}} {D = Unit {0}} run_goes_on
 goes-on g h s k alike = refl
+
+-- tests of brackets
+links-begin : IsAnsweredAlike {R = Unit {0}} {D = Unit {0}} link_begins
+links-begin g h s k alike = ap (λ (o : ParseOptions). passes (begins_link o.constructs) s.current) alike.options
+
+images-begin : IsAnsweredAlike {R = Unit {0}} {D = Unit {0}} image_begins
+images-begin g h s k alike = ap (λ (o : ParseOptions). passes (begins_image o.constructs) s.current) alike.options
+
+ends-make : IsAnsweredAlike {R = Unit {0}} {D = Unit {0}} end_may_make
+ends-make g h s k alike = ap (λ (o : ParseOptions). passes (begins_end o.constructs) s.current && may_make (reverse (kept_starts k))) alike.options
+
+ends-awaited : IsAnsweredAlike {R = Unit {0}} {D = Unit {0}} end_is_awaited
+ends-awaited g h s k alike = ap (λ (o : ParseOptions). passes (begins_end o.constructs) s.current && one_waits (reverse (kept_starts k))) alike.options
+
+marks : IsAnsweredAlike {R = Unit {0}} {D = Unit {0}} mark_begins
+marks g h s k alike = ap (λ (o : ParseOptions). (o.constructs.attention && passes is_delimiter s.current) || passes (begins_bracket o.constructs) s.current) alike.options
 
 break-escapes : IsAnsweredAlike {R = Unit {0}} {D = Unit {0}} break_escapes_are_on
 break-escapes g h s k alike = ap (λ (o : ParseOptions). o.constructs.hard_break_escape) alike.options
@@ -49,7 +66,7 @@ between-alike previous (Some digit) = (goes-on, (break-escapes, (autolinks-on, (
 between-alike previous (Some mark) = (goes-on, (break-escapes, (autolinks-on, (html-on-alike, (html-on-alike, (html-on-alike, (html-on-alike, (html-on-alike, tt))))))))
 between-alike previous (Some ampersand) = (on-alike, (goes-on, (on-alike, (break-escapes, (autolinks-on, (html-on-alike, (html-on-alike, (html-on-alike, (html-on-alike, (html-on-alike, tt))))))))))
 between-alike previous (Some white) = (goes-on, (space, (break-escapes, (autolinks-on, (html-on-alike, (html-on-alike, (html-on-alike, (html-on-alike, (html-on-alike, (space, (space, (space, (space, (space, tt))))))))))))))
-between-alike previous (Some punctuation) = (goes-on, (begins, (break-escapes, (autolinks-on, (html-on-alike, (html-on-alike, (html-on-alike, (html-on-alike, (html-on-alike, (begins, (begins, (begins, (begins, tt)))))))))))))
+between-alike previous (Some punctuation) = (goes-on, (begins, (links-begin, (images-begin, (ends-make, (ends-awaited, (break-escapes, (autolinks-on, (html-on-alike, (html-on-alike, (html-on-alike, (html-on-alike, (html-on-alike, (marks, (marks, (marks, (marks, tt)))))))))))))))))
 between-alike previous (Some blank) = (goes-on, (break-escapes, (autolinks-on, (html-on-alike, (html-on-alike, (html-on-alike, (html-on-alike, (html-on-alike, tt))))))))
 between-alike previous (Some other) = (goes-on, (break-escapes, (autolinks-on, (html-on-alike, (html-on-alike, (html-on-alike, (html-on-alike, (html-on-alike, tt))))))))
 
@@ -80,6 +97,11 @@ others-alike previous None = tt
 others-alike previous (Some white) = refs tt
 others-alike previous (Some _) = refs tt
 
+-- of brackets and resources
+brackets-alike : (previous current : Option TextByte) → AllByRecursion IsAnsweredAlike (tests (bracket_states {R = Unit {0}} {D = Unit {0}}) previous current)
+brackets-alike previous None = tt
+brackets-alike previous (Some _) = ((λ g h s k alike. refl), ((λ g h s k alike. refl), ((λ g h s k alike. refl), ((λ g h s k alike. refl), ((λ g h s k alike. refl), ((λ g h s k alike. refl), ((λ g h s k alike. refl), ((λ g h s k alike. refl), ((λ g h s k alike. refl), ((λ g h s k alike. refl), ((λ g h s k alike. refl), ((λ g h s k alike. refl), ((λ g h s k alike. refl), ((λ g h s k alike. refl), ((λ g h s k alike. refl), ((λ g h s k alike. refl), ((λ g h s k alike. refl), ((λ g h s k alike. refl), ((λ g h s k alike. refl), ((λ g h s k alike. refl), ((λ g h s k alike. refl), ((λ g h s k alike. refl), ((λ g h s k alike. refl), ((λ g h s k alike. refl), ((λ g h s k alike. refl), ((λ g h s k alike. refl), ((λ g h s k alike. refl), ((λ g h s k alike. refl), ((λ g h s k alike. refl), ((λ g h s k alike. refl), ((λ g h s k alike. refl), ((λ g h s k alike. refl), ((λ g h s k alike. refl), ((λ g h s k alike. refl), ((λ g h s k alike. refl), ((λ g h s k alike. refl), ((λ g h s k alike. refl), ((λ g h s k alike. refl), ((λ g h s k alike. refl), ((λ g h s k alike. refl), ((λ g h s k alike. refl), ((λ g h s k alike. refl), ((λ g h s k alike. refl), ((λ g h s k alike. refl), ((λ g h s k alike. refl), ((λ g h s k alike. refl), ((λ g h s k alike. refl), ((λ g h s k alike. refl), ((λ g h s k alike. refl), ((λ g h s k alike. refl), ((λ g h s k alike. refl), ((λ g h s k alike. refl), ((λ g h s k alike. refl), ((λ g h s k alike. refl), ((λ g h s k alike. refl), ((λ g h s k alike. refl), ((λ g h s k alike. refl), ((λ g h s k alike. refl), ((λ g h s k alike. refl), ((λ g h s k alike. refl), tt))))))))))))))))))))))))))))))))))))))))))))))))))))))))))))
+
 -- of two lists of states together
 both-alike : (xs ys : List (StateRows TextByte Unit Unit)) (previous current : Option TextByte) → AllByRecursion IsAnsweredAlike (tests xs previous current) → AllByRecursion IsAnsweredAlike (tests ys previous current)
     → AllByRecursion IsAnsweredAlike (tests (xs ++ ys) previous current)
@@ -95,7 +117,7 @@ alike b w =
     let marks = both-alike html_marks.states (html_tags.states ++ escaped) b w (marks-alike b w) tags in
     let mails = both-alike emails.states (html_marks.states ++ (html_tags.states ++ escaped)) b w (emails-alike b w) marks in
     let links = both-alike autolinks.states (emails.states ++ (html_marks.states ++ (html_tags.states ++ escaped))) b w (autolinks-alike b w) mails in
-    both-alike between_states (states_of inline_constructs) b w (between-alike b w) (both-alike remembered_code_spans.states (autolinks.states ++ (emails.states ++ (html_marks.states ++ (html_tags.states ++ escaped)))) b w (code-spans-alike b w) links)
+    both-alike between_states (states_of inline_constructs ++ bracket_states) b w (between-alike b w) (both-alike (states_of inline_constructs) bracket_states b w (both-alike remembered_code_spans.states (autolinks.states ++ (emails.states ++ (html_marks.states ++ (html_tags.states ++ escaped)))) b w (code-spans-alike b w) links) (brackets-alike b w))
 
 pub inlines-look : LooksNoFurther inlines_rules
 inlines-look g h text k name is same = steps-alike inlines alike g h _ k name same

@@ -23,8 +23,10 @@ use Rattle.mdconstructs_inline_constructs.specs.HtmlTagRows.{html_text_value_quo
 use Rattle.mdconstructs_inline_constructs.specs.HtmlTextRows.{html_ends, html_goes_on, html_line_ends}
 use Rattle.mdconstructs_inline_constructs.specs.declared.names.TheConstants.{HtmlTextMarkClose, HtmlTextMarkInside}
 use Rattle.mdconstructs_text.specs.TextSizes.{size_b_grows}
-use Rattle.mdconstructs_inlines.proofs.InlineApart.{marked-classed}
+use Rattle.mdconstructs_inlines.proofs.BracketBytes.{begins-no-bracket}
+use Rattle.mdconstructs_inlines.proofs.InlineApart.{begins_mark, marked-classed}
 use Rattle.mdconstructs_inlines.proofs.StringReads.{string-special-classed, string_data_row}
+use Rattle.mdconstructs_inlines.specs.Brackets.{begins_bracket, is_of_bracket}
 use Rattle.mdconstructs_inlines.specs.Over.{AllPass, is_in_code, is_in_data, is_in_marks, is_in_quotes, is_in_string}
 use Rattle.mdconstructs_inlines.specs.StringTable.{string_data}
 
@@ -63,16 +65,19 @@ data-goes-on _ h i = inr (λ before. refl)
 data-picks : (byte : ℕ) → is_in_data byte ≡ true → PicksOver inline_data DataInside text_byte byte
 data-picks byte is before g s k current =
     let on = g.options.constructs in
-    let (white_byte, others) = or_parts (is_white byte) (is_line_feed byte || (some_first marked_grammars byte || is_delimiter byte)) (not-true _ is) in
-    let (line, marks) = or_parts (is_line_feed byte) (some_first marked_grammars byte || is_delimiter byte) others in
-    let (marked, delimiter) = or_parts (some_first marked_grammars byte) (is_delimiter byte) marks in
+    let (white_byte, others) = or_parts (is_white byte) (is_line_feed byte || (some_first marked_grammars byte || (is_delimiter byte || is_of_bracket byte))) (not-true _ is) in
+    let (line, marks) = or_parts (is_line_feed byte) (some_first marked_grammars byte || (is_delimiter byte || is_of_bracket byte)) others in
+    let (marked, mark_bytes) = or_parts (some_first marked_grammars byte) (is_delimiter byte || is_of_bracket byte) marks in
+    let (delimiter, of_bracket) = or_parts (is_delimiter byte) (is_of_bracket byte) mark_bytes in
     let run : begins_run on byte ≡ false = ap (λ t. on.attention && t) delimiter ∙ and-false on.attention in
-    let ends : ends_data on byte ≡ false = λ i. line i || (marked i || run i) in
+    let bracket = begins-no-bracket on byte of_bracket in
+    let none : begins_mark on byte ≡ false = λ i. run i || bracket i in
+    let ends : ends_data on byte ≡ false = λ i. line i || (marked i || none i) in
     let ending : Row Unit Unit = record { acts = exit Data ∷ []; answer = Retry TextBefore } in
     let going : Row Unit Unit = record { acts = consume ∷ []; answer = Next DataInside } in
-    elim (data-goes-on (text_byte byte) (marked-classed on byte run ∙ ends) (white-classed byte ∙ white_byte)) [
+    elim (data-goes-on (text_byte byte) (marked-classed on byte none ∙ ends) (white-classed byte ∙ white_byte)) [
       | inl class ↦
-          ap (λ w. picked (inline_data_rows before (Some w)) g s k) class ∙ ap (λ (o : Option ℕ). cond (on.attention && passes is_delimiter o) ending going) current ∙ ap (λ t. cond t ending going) run
+          ap (λ w. picked (inline_data_rows before (Some w)) g s k) class ∙ ap (λ (o : Option ℕ). cond ((on.attention && passes is_delimiter o) || passes (begins_bracket on) o) ending going) current ∙ ap (λ t. cond t ending going) none
       | inr rows ↦ ap (λ r. picked r g s k) (rows before)
     ]
 

@@ -3,18 +3,21 @@
 use Rattle.mdconstructs_inlines.proofs.Prelude.{◌≡◌, ℕ, ◌+◌, ◌*◌, ◌≤◌, ◌&&◌, ◌||◌, List, ◌∷◌, Bool, true, false, cond, refl, sym, ap, ◌∙◌, subst, arith, drop, prefix_len, and-false, eqb-true, nat_tests, Constructs, Event, Name, Retry, TextBefore, TextBeforeData, Seat, Byte, Local, Given, Text, is_white, is_line_feed, Found, between_texts, item_length, bytes_of, AddsItemIn, adds-more, Plays, between_items, begins_run, delimiter_run, is_white_left, line_break, run_length, is_delimiter}
 use Rattle.mdconstructs_inlines.proofs.DataBytes.{data_joined, joined_part}
 use Rattle.mdconstructs_inlines.proofs.DataReads.{reads-data-run-in, reads-white-data-in}
-use Rattle.mdconstructs_inlines.proofs.InlineApart.{or-parts}
-use Rattle.mdconstructs_inlines.proofs.JoinedItems.{joined_other}
+use Rattle.mdconstructs_inlines.proofs.InlineApart.{begins_mark}
 use Rattle.mdconstructs_inlines.proofs.LineReads.{reads-line-break-in}
 use Rattle.mdconstructs_inlines.proofs.Playing.{inlines_begin_data, inlines_play}
 use Rattle.mdconstructs_inlines.proofs.RunReads.{reads-run-in}
-use Rattle.mdconstructs_inlines.proofs.WhiteBytes.{found-size, found_white, white-ends, white-goes-on, white-none}
+use Rattle.mdconstructs_inlines.proofs.WhiteBytes.{found-size, found_white, white-ends, white-goes-on, white-none, white_or}
 use Rattle.mdconstructs_inlines.proofs.WhitePlays.{inlines_play_white}
 use Rattle.mdconstructs_inlines.proofs.WhiteReads.{breaks_here, reads-white-end}
 
--- the state between constructs itself reads line endings and white space, and goes on with runs
+-- the state between constructs itself reads line endings and white space, and goes on with runs, brackets and ends
 abbrev pub is_own : Constructs → ℕ → Bool
-is_own on b = is_line_feed b || (begins_run on b || is_white b)
+is_own on b = is_line_feed b || (begins_mark on b || is_white b)
+
+-- what is there where no construct, no bracket and no end is
+abbrev pub unbracketed : Constructs → List ℕ → Found
+unbracketed on bytes = white_or on bytes (joined_part on bytes)
 
 -- in so many calls each of them is read, by how many bytes it has
 abbrev pub part_calls : ℕ → ℕ
@@ -54,27 +57,28 @@ module _ (g : Given) (text : Text) where
       → AddsItemIn g text m between_texts n (between_items p Byte ended events local) (Retry name) p events l item → PartRead name p ended events local l item
   part-more n name p ended events local l item few read = adds-more g text m between_texts n (part_calls (item_length item)) (between_items p Byte ended events local) (Retry name) p events l item few read
 
-  -- Data is read
-  pub data-read-in : (p : ℕ) (ended : Bool) (events : List Event) (local : Local Unit Unit) (s : Seat) (ss : List Seat) → drop p text.seats ≡ s ∷ ss → is_own on s.byte ≡ false
-      → PartRead TextBeforeData p ended events local (s ∷ ss) (joined_other on (bytes_of (s ∷ ss)))
-  data-read-in p ended events local s ss here plain =
+  -- Data is read, where no run, no line ending and no white space begins
+  pub data-there : (b : ℕ) (bs : List ℕ) → is_line_feed b ≡ false → begins_run on b ≡ false → is_white b ≡ false → data_joined on (b ∷ bs) ≡ unbracketed on (b ∷ bs)
+  data-there b bs line run white = (λ i. there (sym run i) (sym line i) (b ∷ bs)) ∙ sym (white-none on b bs (joined_part on (b ∷ bs)) white)
+
+  pub data-read-in : (p : ℕ) (ended : Bool) (events : List Event) (local : Local Unit Unit) (s : Seat) (ss : List Seat) → drop p text.seats ≡ s ∷ ss → is_line_feed s.byte ≡ false → begins_run on s.byte ≡ false → is_white s.byte ≡ false
+      → PartRead TextBeforeData p ended events local (s ∷ ss) (unbracketed on (bytes_of (s ∷ ss)))
+  data-read-in p ended events local s ss here line run white =
       let bytes = bytes_of (s ∷ ss) in
-      let (line, rest) = or-parts (is_line_feed s.byte) (begins_run on s.byte || is_white s.byte) plain in
-      let (run, white) = or-parts (begins_run on s.byte) (is_white s.byte) rest in
-      let is : data_joined on bytes ≡ joined_other on bytes = (λ i. there (sym run i) (sym line i) bytes) ∙ sym (white-none on s.byte (bytes_of ss) (joined_part on bytes) white) in
+      let is = data-there s.byte (bytes_of ss) line run white in
       subst (PartRead TextBeforeData p ended events local (s ∷ ss)) is
       (reads-data-run-in g text m (inlines_play_white g text) (inlines_begin_data g text) p ended events local s ss here)
 
   -- white space is
   white-read-in : (p : ℕ) (ended : Bool) (events : List Event) (local : Local Unit Unit) (s : Seat) (ss : List Seat) → drop p text.seats ≡ s ∷ ss → is_line_feed s.byte ≡ false → is_white s.byte ≡ true
-      → PartRead TextBefore p ended events local (s ∷ ss) (joined_other on (bytes_of (s ∷ ss)))
+      → PartRead TextBefore p ended events local (s ∷ ss) (unbracketed on (bytes_of (s ∷ ss)))
   white-read-in p ended events local s ss here line is =
       let l = s ∷ ss in
       let bytes = bytes_of l in
       let n = prefix_len is_white bytes in
       let plays = inlines_play_white g text in
       let part = joined_part on bytes in
-      elim (is_white_left bytes) as (λ t. is_white_left bytes ≡ t → PartRead TextBefore p ended events local l (joined_other on bytes)) [
+      elim (is_white_left bytes) as (λ t. is_white_left bytes ≡ t → PartRead TextBefore p ended events local l (unbracketed on bytes)) [
         | true ↦ λ left.
             let breaks = breaks_here g text m plays s ss p here is in
             let few : n + 1 ≤ 2 * item_length (found_white breaks n) + 4 = omega (arith, found-size breaks n) in
@@ -87,22 +91,22 @@ module _ (g : Given) (text : Text) where
       ] refl
 
   -- and so are a line ending and a run
-  pub own-read-in : (p : ℕ) (ended : Bool) (events : List Event) (local : Local Unit Unit) (s : Seat) (ss : List Seat) → drop p text.seats ≡ s ∷ ss → is_own on s.byte ≡ true
-      → PartRead TextBefore p ended events local (s ∷ ss) (joined_other on (bytes_of (s ∷ ss)))
+  pub own-read-in : (p : ℕ) (ended : Bool) (events : List Event) (local : Local Unit Unit) (s : Seat) (ss : List Seat) → drop p text.seats ≡ s ∷ ss → (is_line_feed s.byte || (begins_run on s.byte || is_white s.byte)) ≡ true
+      → PartRead TextBefore p ended events local (s ∷ ss) (unbracketed on (bytes_of (s ∷ ss)))
   own-read-in p ended events local s ss here own =
       let l = s ∷ ss in
       let bytes = bytes_of l in
       let k = prefix_len is_white (bytes_of ss) in
       let part = joined_part on bytes in
-      elim (is_line_feed s.byte) as (λ t. is_line_feed s.byte ≡ t → (t || (begins_run on s.byte || is_white s.byte)) ≡ true → PartRead TextBefore p ended events local l (joined_other on bytes)) [
+      elim (is_line_feed s.byte) as (λ t. is_line_feed s.byte ≡ t → (t || (begins_run on s.byte || is_white s.byte)) ≡ true → PartRead TextBefore p ended events local l (unbracketed on bytes)) [
         | true ↦ λ line h.
             let white : is_white s.byte ≡ false = grind (arith, nat_tests) in
-            let is : line_break k ≡ joined_other on bytes = (λ i. there (sym (line-is-none on s.byte line) i) (sym line i) bytes) ∙ sym (white-none on s.byte (bytes_of ss) part white) in
+            let is : line_break k ≡ unbracketed on bytes = (λ i. there (sym (line-is-none on s.byte line) i) (sym line i) bytes) ∙ sym (white-none on s.byte (bytes_of ss) part white) in
             subst (PartRead TextBefore p ended events local l) is
             (part-more (k + 2) TextBefore p ended events local l (line_break k) (omega arith) (reads-line-break-in g text p ended events local s ss here (eqb-true s.byte 10 line)))
-        | false ↦ λ line h. elim (begins_run on s.byte) as (λ t. begins_run on s.byte ≡ t → (t || is_white s.byte) ≡ true → PartRead TextBefore p ended events local l (joined_other on bytes)) [
+        | false ↦ λ line h. elim (begins_run on s.byte) as (λ t. begins_run on s.byte ≡ t → (t || is_white s.byte) ≡ true → PartRead TextBefore p ended events local l (unbracketed on bytes)) [
           | true ↦ λ run i.
-              let is : delimiter_run (run_length bytes) ≡ joined_other on bytes = (λ i. there (sym run i) (is_line_feed s.byte) bytes) ∙ sym (white-none on s.byte (bytes_of ss) part (run-is-plain on s.byte run)) in
+              let is : delimiter_run (run_length bytes) ≡ unbracketed on bytes = (λ i. there (sym run i) (is_line_feed s.byte) bytes) ∙ sym (white-none on s.byte (bytes_of ss) part (run-is-plain on s.byte run)) in
               subst (PartRead TextBefore p ended events local l) is
               (part-more (run_length bytes + 2) TextBefore p ended events local l (delimiter_run (run_length bytes)) (omega arith) (reads-run-in g text p ended events local s ss here run))
           | false ↦ λ none i. white-read-in p ended events local s ss here line i

@@ -8,7 +8,7 @@ pub use Rattle.std.proofs.lemmas.List.{append-nil, drop-take, take-take, drop-dr
 pub use Rattle.std.proofs.lemmas.List.Elements.{All-from_get_or}
 pub use Rattle.std.proofs.lemmas.List.Sums.{prefix_len-le-length}
 pub use Rattle.std.specs.List.{AllByRecursion, between, flat_map, prefix_len}
-pub use Rattle.std.specs.Prelude.{Contains, min, nat_le, nat_lt, slice_get}
+pub use Rattle.std.specs.Prelude.{option_map, reverse, Contains, min, nat_le, nat_lt, slice_get}
 pub use Rattle.markdown_base.proofs.Common.{drop-next, every-append}
 pub use Rattle.markdown_base.specs.Events.{IsBalanced, empty, is_enter, same_name, span as balanced_span}
 pub use Rattle.markdown_base.specs.Places.{IsPointOf}
@@ -98,10 +98,12 @@ pub use Rattle.mdconstructs_inline_constructs.specs.Reference.{Kind, decimal, he
 pub use Rattle.mdconstructs_inline_constructs.specs.ReferenceRows.{at_number_sign, at_semicolon, at_x, reference_numeric, reference_open, reference_start, reference_value, references, value_goes_on, value_is_whole}
 pub use Rattle.mdconstructs_inline_constructs.specs.RememberedCode.{remembered_between, remembered_chunk, remembered_code_spans, remembered_open}
 pub use Rattle.mdconstructs_inline_constructs.specs.WhiteSpace.{ends_line_at, is_white_left, white_space, white_space_at}
-pub use Rattle.mdconstructs_inlines.specs.InlineEvents.{begins_run, data_length, data_run, delimiter_run, ends_data, ends_data_at, inline_events, inline_grammars, inline_item_at, inline_items, line_break, marked_grammars, read_events, run_length, run_or_part, up_to, white_grammars}
-pub use Rattle.mdconstructs_inlines.specs.InlineRules.{EndsEmphasised, emphasis_edits, inlines_rules}
+pub use Rattle.mdconstructs_resources.specs.Resource.{resource, resource_grammar}
+pub use Rattle.mdconstructs_inlines.specs.Brackets.{Bracket, Memory, after_item, before_link, begins_bracket, begins_end, begins_image, begins_link, bracket_at, end_at, end_of_last, image_bracket, is_close_bracket, is_exclamation, is_image_bracket, is_of_bracket, is_open_bracket, label_end, link_bracket, lone_end, nothing_waits, waiting_behind}
+pub use Rattle.mdconstructs_inlines.specs.InlineEvents.{begins_run, bracket_or_part, data_length, data_run, delimiter_run, ends_data, ends_data_at, inline_events, inline_grammars, inline_item_at, inline_items, line_break, marked_grammars, read_events, run_length, run_or_part, up_to, white_grammars}
+pub use Rattle.mdconstructs_inlines.specs.InlineRules.{EndsLinked, inlines_rules, linking_edits}
 pub use Rattle.mdconstructs_inlines.specs.InlineTable.{at_data_break, before_email, before_hard_break_escape, before_html, before_tag, begins_inline, behind_autolinks, behind_emails, behind_escapes, behind_marks, break_or_white, data_goes_on, data_over, data_space, data_space_rows, data_spaces, data_spaces_rows, data_white, data_white_rows, follows_inline, inline_before, inline_before_rows, inline_constructs, inline_data, inline_data_rows, inline_start, inline_starts, inlines, line_start, line_start_rows, line_white, line_white_rows, own_states, space_waits, step_by, text_space, text_space_rows, text_spaces, text_spaces_rows, text_white, text_white_rows, white_is_data, white_over, white_states}
-pub use Rattle.mdconstructs_inlines.specs.LawStatements.{MakesEmphasis, ReadsChainsAsInlineText, ReadsChainsAsStrings, ReadsInlineText, ReadsStrings, RunsWithin, StaysReadyAfterInlineText, StaysReadyAfterStrings}
+pub use Rattle.mdconstructs_inlines.specs.LawStatements.{MakesLinks, ReadsChainsAsInlineText, ReadsChainsAsStrings, ReadsInlineText, ReadsStrings, RunsWithin, StaysReadyAfterInlineText, StaysReadyAfterStrings}
 pub use Rattle.mdconstructs_inlines.specs.Laws.Inlines.{inlines-lawful}
 pub use Rattle.mdconstructs_inlines.specs.Laws.Registered.{before-resolver, goes-on}
 pub use Rattle.mdconstructs_inlines.specs.RunRows.{attention_inside, attention_inside_rows, attention_start, is_byte, is_delimiter, run_begins, run_goes_on, run_states}
@@ -145,7 +147,7 @@ pub use Rattle.mdconstructs_text.proofs.Plain.Stretches.{byte-behind, first_byte
 pub use Rattle.mdconstructs_text.proofs.Texts.Apart.{line-classed}
 pub use Rattle.mdconstructs_text.proofs.Texts.Built.{IsBuilt, IsKeptBySpans}
 pub use Rattle.mdconstructs_text.proofs.Texts.Counted.{IsAfter, Remembered, after-call, after-more, after-none, after-within, remembered}
-pub use Rattle.mdconstructs_text.proofs.Texts.Cutting.{cut-enough, cut-same, drop-less}
+pub use Rattle.mdconstructs_text.proofs.Texts.Cutting.{cut-remembering-enough, cut-same, drop-less}
 pub use Rattle.mdconstructs_text.proofs.Texts.Ends.{ReadsTexts, ReadsTextsFrom, ends-so, holds-at-end}
 pub use Rattle.mdconstructs_text.proofs.Texts.Leads.{Ending, as_asked, counted-most, ending, most, spent}
 pub use Rattle.mdconstructs_text.proofs.Texts.LineEndings.{reads-line-in}
@@ -162,7 +164,7 @@ pub use Rattle.mdconstructs_text.specs.Escape.{escape, escape_at}
 pub use Rattle.mdconstructs_text.specs.EscapeRows.{escape_inside, escape_start, escapes, escapes_are_on}
 pub use Rattle.mdconstructs_text.specs.Items.{item_length}
 pub use Rattle.mdconstructs_text.specs.Laws.Classes.{by-class}
-pub use Rattle.mdconstructs_text.specs.Parts.{bytes_of, cut, event, first_plain, leaf, line_ending, part, span}
+pub use Rattle.mdconstructs_text.specs.Parts.{bytes_of, cut, cut_remembering, event, first_plain, leaf, line_ending, part, span}
 pub use Rattle.mdconstructs_text.specs.TextBytes.{TextByte, ampersand, backslash, backtick, blank, colon, digit, greater, is_line_feed_class, less, letter, line_feed, mark, other, punctuation, text_byte, white}
 pub use Rattle.mdconstructs_text.specs.TextCosts.{text_cost}
 pub use Rattle.mdconstructs_text.specs.TextEvents.{item_events}

@@ -1,5 +1,5 @@
 -- What a run makes of a string; and chains of strings, which are read as strings, and leave other chains ready.
-use Rattle.mdconstructs_inlines.proofs.Prelude.{◌≡◌, Bool, List, Some, false, true, arith, refl, sym, ap, ◌∙◌, subst, AllByRecursion, String, Event, StringStart, IsBalanced, fitting_starts, lists, IsReady, lists-all, stays-ready, edited, Subresult, Configuration, IsRun, whole_text, HaveNoLinks, Given, IsDocument, chain_text, all-begin, chains-read-from, children-events, each-alone, ending, ReadsTextsFrom, whole-is-text, emphasis_edits, inlines_rules, ReadsChainsAsStrings, ReadsStrings, StaysReadyAfterStrings, string_events}
+use Rattle.mdconstructs_inlines.proofs.Prelude.{◌≡◌, Bool, List, Some, false, true, arith, refl, sym, ap, ◌∙◌, subst, AllByRecursion, String, Event, StringStart, IsBalanced, fitting_starts, lists, IsReady, lists-all, stays-ready, edited, Subresult, Configuration, IsRun, whole_text, HaveNoLinks, Given, IsDocument, chain_text, all-begin, chains-read-from, children-events, each-alone, ending, ReadsTextsFrom, whole-is-text, linking_edits, inlines_rules, ReadsChainsAsStrings, ReadsStrings, StaysReadyAfterStrings, string_events}
 use Rattle.mdconstructs_inlines.proofs.Counted.{ends-as-counted}
 use Rattle.mdconstructs_inlines.proofs.Resolved.{resolved-so}
 use Rattle.mdconstructs_inlines.proofs.StringReads.{strings-from-start}
@@ -9,7 +9,7 @@ use Rattle.mdconstructs_inlines.proofs.StringRuns.{calm-same, string-alone, stri
 pub reads-strings-of : (g : Given) → ReadsTextsFrom StringStart g inlines_rules (string_events g)
 reads-strings-of g text is flag r ends well final sub resolved =
     let read = (ends-as-counted g text flag StringStart (ending (string_events g text)) (strings-from-start g text flag) r ends).1 in
-    (resolved-so g StringStart (1, omega arith, (cc)) text is flag r ends well final sub resolved).1 ∙ ap (λ es. edited (emphasis_edits g es) es) read
+    (resolved-so g StringStart (1, omega arith, (cc)) text is flag r ends well final sub resolved).1 ∙ ap (λ es. edited (linking_edits g es) es) read
     ∙ calm-same g (string_events g text) (string-calm g text) (string-alone g text)
 
 run-reads : (g : Given) (events : List Event) (sub : Subresult) → IsDocument g → (resolving : Bool) → IsRun g inlines_rules resolving StringStart events sub → events ≡ string_events g (whole_text g)

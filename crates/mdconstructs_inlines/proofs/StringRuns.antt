@@ -1,17 +1,25 @@
--- No event of a string is one of a delimiter run, and none has a link: so emphasis changes nothing.
-use Rattle.mdconstructs_inlines.proofs.Prelude.{◌≡◌, ℕ, zero, suc, ◌+◌, ◌&&◌, ◌==◌, not, ◌++◌, List, [], ◌∷◌, false, true, cond, drop, length, Option, Some, refl, ap, ◌∙◌, take, AllByRecursion, between, flat_map, slice_get, and-false, Constructs, Event, Exit, AttentionSequence, CharacterEscape, CharacterEscapeMarker, CharacterEscapeValue, CharacterReference, CharacterReferenceMarker, CharacterReferenceMarkerHexadecimal, CharacterReferenceMarkerNumeric, CharacterReferenceMarkerSemi, CharacterReferenceValue, Data, LineEnding, is_enter, same_name, Seat, end_after, every-append, HaveNoLinks, Given, Text, edited-same, edited, paired, edits_of, depth_after, index_of_event, is_sequence, run_at, runs_from, has_byte_at, is_line_feed, Found, escape, escape_at, item_length, bytes_of, cut, event, leaf, line_ending, part, span, item_events, OfOption, there-holds, when-there, escape-built, IsBuilt, IsKeptBySpans, links-kept, emphasis_edits, Kind, decimal, hexadecimal, mark_events, marks, named, reference, reference_at, reference-holds, reference-built, string_data, string_events, string_grammars, string_item_at, string_part}
+-- No event of a string is one of a delimiter run or a bracket, and none has a link: so links, images and emphasis change nothing.
+use Rattle.mdconstructs_inlines.proofs.Prelude.{◌||◌, Bool, runs_in, ◌≡◌, ℕ, zero, suc, ◌+◌, ◌&&◌, ◌==◌, not, ◌++◌, List, [], ◌∷◌, false, true, cond, drop, length, Option, Some, refl, ap, ◌∙◌, take, AllByRecursion, between, flat_map, slice_get, and-false, Constructs, Event, Exit, AttentionSequence, CharacterEscape, CharacterEscapeMarker, CharacterEscapeValue, CharacterReference, CharacterReferenceMarker, CharacterReferenceMarkerHexadecimal, CharacterReferenceMarkerNumeric, CharacterReferenceMarkerSemi, CharacterReferenceValue, Data, LineEnding, is_enter, same_name, Seat, end_after, every-append, HaveNoLinks, Given, Text, edited-same, edited, paired, edits_of, depth_after, index_of_event, is_sequence, run_at, runs_from, has_byte_at, is_line_feed, Found, escape, escape_at, item_length, bytes_of, cut, event, leaf, line_ending, part, span, item_events, OfOption, there-holds, when-there, escape-built, IsBuilt, IsKeptBySpans, links-kept, linking_edits, Kind, decimal, hexadecimal, mark_events, marks, named, reference, reference_at, reference-holds, reference-built, string_data, string_events, string_grammars, string_item_at, string_part}
 use Rattle.markdown_base.specs.declared.event.Name.{Name}
+use Rattle.markdown_edits.specs.Edits.{edit_at}
+use Rattle.mdconstructs_links.specs.LinkEdits.{has_brackets, is_of_bracket}
+use Rattle.mdconstructs_links.specs.Linked.{with_links}
+use Rattle.mdconstructs_inlines.proofs.InlineApart.{or-parts}
 
--- an event that is none of a delimiter run, and lists of them
+-- a name of a delimiter run or a bracket
+abbrev pub is_stirred : Name → Bool
+is_stirred name = same_name name AttentionSequence || is_of_bracket name
+
+-- an event that is none of those, and lists of them
 abbrev pub IsCalm : Event → Type 0
-IsCalm e = same_name e.name AttentionSequence ≡ false
+IsCalm e = is_stirred e.name ≡ false
 
 abbrev pub AreCalm : List Event → Type 0
 AreCalm es = AllByRecursion IsCalm es
 
 no-sequence : (e f : Event) → IsCalm e → is_sequence e f ≡ false
 no-sequence e f calm =
-    ap (λ t. (is_enter e.kind && t) && (not (is_enter f.kind) && same_name f.name AttentionSequence)) calm
+    ap (λ t. (is_enter e.kind && t) && (not (is_enter f.kind) && same_name f.name AttentionSequence)) (or-parts (same_name e.name AttentionSequence) (is_of_bracket e.name) calm).0
     ∙ ap (λ t. t && (not (is_enter f.kind) && same_name f.name AttentionSequence)) (and-false (is_enter e.kind))
 
 -- among them no run is
@@ -22,16 +30,23 @@ runs-none bytes i depth before (e ∷ f ∷ es) calm =
     ap (λ t. cond t (run_at bytes i e f before (index_of_event (slice_get es 0)) ∷ runs_from bytes (i + 2) depth (Some f.point.index) es) (runs_from bytes (i + 1) (depth_after e.kind depth) (Some e.point.index) (f ∷ es))) (ap (λ t. (depth == 0) && t) (no-sequence e f calm.0) ∙ and-false (depth == 0))
     ∙ runs-none bytes (i + 1) (depth_after e.kind depth) (Some e.point.index) (f ∷ es) calm.1
 
--- so emphasis changes nothing
-pub calm-same : (g : Given) (es : List Event) → AreCalm es → HaveNoLinks es → edited (emphasis_edits g es) es ≡ es
-calm-same g es calm unlinked = ap (λ rs. edited (edits_of (paired rs)) es) (runs-none g.bytes 0 0 _ es calm) ∙ edited-same es unlinked
+-- nor a bracket
+brackets-none : (es : List Event) → AreCalm es → has_brackets es ≡ false
+brackets-none [] calm = refl
+brackets-none (e ∷ es) calm = ap (λ t. t || has_brackets es) (or-parts (same_name e.name AttentionSequence) (is_of_bracket e.name) calm.0).1 ∙ brackets-none es calm.1
+
+-- so links, images and emphasis change nothing
+pub calm-same : (g : Given) (es : List Event) → AreCalm es → HaveNoLinks es → edited (linking_edits g es) es ≡ es
+calm-same g es calm unlinked =
+    ap (λ t. edited (cond t (edit_at 0 (length es) (with_links g.bytes es) ∷ []) (edits_of (paired (runs_in g.bytes es)))) es) (brackets-none es calm)
+    ∙ ap (λ rs. edited (edits_of (paired rs)) es) (runs-none g.bytes 0 0 _ es calm) ∙ edited-same es unlinked
 
 module _ (bytes : List ℕ) where
-  calm-leaf : (name : Name) → same_name name AttentionSequence ≡ false → (seats : List Seat) → AreCalm (leaf bytes name seats)
+  calm-leaf : (name : Name) → is_stirred name ≡ false → (seats : List Seat) → AreCalm (leaf bytes name seats)
   calm-leaf name other [] = tt
   calm-leaf name other (s ∷ ss) = (other, (other, tt))
 
-  pub calm-span : (name : Name) → same_name name AttentionSequence ≡ false → (seats : List Seat) (es : List Event) → AreCalm es → AreCalm (span bytes name seats es)
+  pub calm-span : (name : Name) → is_stirred name ≡ false → (seats : List Seat) (es : List Event) → AreCalm es → AreCalm (span bytes name seats es)
   calm-span name other [] es calm = calm
   calm-span name other (s ∷ ss) es calm = (other, every-append IsCalm es (event bytes Exit name (end_after s.end ss) ∷ []) calm (other, tt))
 

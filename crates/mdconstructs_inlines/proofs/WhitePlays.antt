@@ -2,9 +2,10 @@
 use Rattle.markdown_tokenizer.specs.Sight.{sight_of}
 use Rattle.mdconstructs_inlines.proofs.Prelude.{TokenizerValue, step_by, ◌≡◌, ◌⊎◌, inl, inr, ℕ, ◌&&◌, ◌||◌, [], ◌∷◌, Bool, true, false, cond, Option, Some, None, refl, sym, ap, ◌∙◌, Constructs, Next, Retry, DataInside, TextBefore, DataWhite, Configuration, sight, Given, Text, Rows, class_of, consume, row, is_white, row_step, is_line_feed, passes, some_begins, TextByte, is_line_feed_class, line_feed, punctuation, text_byte, white, line-classed, HasRow, Plays, tested, white-class, begins_run, ends_data, inline_before_rows, inline_constructs, inline_data_rows, run_begins, not, subst, eqb-true, EventName, HardBreakTrailing, SpaceOrTab, Name, note, is_space, by-class, break_or_white, data_goes_on, data_over, data_space_rows, data_spaces_rows, data_white_rows, text_space_rows, text_spaces_rows, text_white_rows, white_is_data, white_over, space_waits, trailing_breaks_are_on, some_first, marked_grammars, DataSpace, DataSpaces, TextSpace, TextSpaces, TextWhite, when}
 use Rattle.std.specs.Prelude.{is_some}
+use Rattle.mdconstructs_inlines.specs.BracketRows.{mark_begins}
 use Rattle.mdconstructs_text.specs.TextBytes as class
-use Rattle.mdconstructs_inlines.proofs.InlineApart.{marked-classed, or-parts, punctuation-ends}
-use Rattle.mdconstructs_inlines.proofs.Playing.{begins-here, data-ends, data-ends-last, data-on, inlines_play, no-run}
+use Rattle.mdconstructs_inlines.proofs.InlineApart.{begins_mark, marked-classed, or-parts, punctuation-ends}
+use Rattle.mdconstructs_inlines.proofs.Playing.{data-ends, data-ends-last, data-on, inlines_play, marks-here, no-mark}
 use Rattle.mdconstructs_inlines.proofs.WhiteBytes.{White, one_space, spaces, tabbed, breaks_line, first_white, further, white_name}
 use Rattle.mdconstructs_inlines.proofs.WhiteReads.{BeginsNoted, EndsData, MakesWhite, NotesTo, PlaysWhite, ReadsTo, ends_line}
 
@@ -66,10 +67,10 @@ seen-step w t b at none line =
     ap (λ rows. step_by rows t) (ap (λ o. rows_in_data w before (class_of text_byte o)) at ∙ in-data-other w before b none line)
 
 -- and data goes on, unless something else may begin there
-abbrev goes_unless : Bool → Rows Unit Unit
+abbrev pub goes_unless : Bool → Rows Unit Unit
 goes_unless special = cond special (row [] (Retry DataInside)) (row (consume ∷ []) (Next DataInside))
 
-goes-class : (w : TextByte) → (w ≡ punctuation) ⊎ ((w ≡ punctuation → ⊥) × (data_goes_on w ≡ goes_unless (some_begins inline_constructs w)))
+pub goes-class : (w : TextByte) → (w ≡ punctuation) ⊎ ((w ≡ punctuation → ⊥) × (data_goes_on w ≡ goes_unless (some_begins inline_constructs w)))
 goes-class punctuation = inl refl
 goes-class _ = inr ((λ e. absurd (cc)), refl)
 
@@ -188,10 +189,10 @@ module _ (g : Given) (text : Text) where
       elim (goes-class (text_byte b)) [
         | inl is ↦
             ap (λ w. row_step g text k (data_goes_on w)) is
-            ∙ tested g text run_begins (row [] (Retry DataInside)) (row (consume ∷ []) (Next DataInside)) k t (begins-here g text k b t at (sym (punctuation-ends on b is) ∙ ends))
+            ∙ tested g text mark_begins (row [] (Retry DataInside)) (row (consume ∷ []) (Next DataInside)) k t (marks-here g text k b t at (sym (punctuation-ends on b is) ∙ ends))
         | inr (other, rows) ↦
             let marked : some_begins inline_constructs (text_byte b) ≡ (is_line_feed_class (text_byte b) || some_begins inline_constructs (text_byte b)) = sym (ap (λ t. t || some_begins inline_constructs (text_byte b)) (line-classed b ∙ line)) in
-            ap (row_step g text k) (rows ∙ ap goes_unless (marked ∙ marked-classed on b (no-run g text b other) ∙ ends))
+            ap (row_step g text k) (rows ∙ ap goes_unless (marked ∙ marked-classed on b (no-mark g text b other) ∙ ends))
       ]
 
   -- the machine reads white space so
@@ -209,6 +210,6 @@ module _ (g : Given) (text : Text) where
     inside_ends = λ k b at none ends. data-ends g text k b at none ends;
     inside_ends_last = λ k at. data-ends-last g text k at;
     data_other = λ w k b at none ends.
-        let line : is_line_feed b ≡ false = (or-parts (is_line_feed b) (some_first marked_grammars b || begins_run on b) ends).0 in
+        let line : is_line_feed b ≡ false = (or-parts (is_line_feed b) (some_first marked_grammars b || begins_mark on b) ends).0 in
         in-data-seen w k b at none line ∙ data-goes k b false at line ends;
   }

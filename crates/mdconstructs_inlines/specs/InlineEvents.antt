@@ -1,5 +1,5 @@
 -- The events of inline text, by its items, without states. What comes: a text is cut into items from the front (`inline_items`): constructs,
--- delimiter runs, line endings and data; each item has its events; emphasis takes the place of the runs.
+-- brackets, delimiter runs, line endings and data; each item has its events; links, images and emphasis take the place of brackets and runs.
 use Rattle.std.specs.Prelude.{ℕ, ◌+◌, ◌==◌, ◌&&◌, ◌||◌, Bool, cond, List, [], ◌∷◌, ◌++◌, take, drop, length}
 use Rattle.std.specs.List.{flat_map, prefix_len}
 use Rattle.markdown_base.specs.declared.configuration.Constructs.{Constructs}
@@ -8,14 +8,14 @@ use Rattle.markdown_base.specs.declared.event.Name.TheVariants.{AttentionSequenc
 use Rattle.markdown_base.specs.Virtual.{Seat}
 use Rattle.markdown_tokenizer.specs.Text.{Given, Text}
 use Rattle.mdconstructs_machines.specs.Breaks.{is_white}
-use Rattle.mdconstructs_attention.specs.Runs.{with_emphasis}
+use Rattle.mdconstructs_links.specs.Linked.{with_links}
 use Rattle.mdconstructs_text.specs.Autolink.{autolink_grammar}
 use Rattle.mdconstructs_text.specs.Bytes.{has_byte_at, is_line_feed}
 use Rattle.mdconstructs_text.specs.CodeSpan.{code_span_grammar}
-use Rattle.mdconstructs_text.specs.Construct.{Found, Grammar, first_there, some_first, plain}
+use Rattle.mdconstructs_text.specs.Construct.{Found, Grammar, first_there, or_else, some_first, plain}
 use Rattle.mdconstructs_text.specs.Escape.{escape_grammar}
 use Rattle.mdconstructs_text.specs.Items.{item_length}
-use Rattle.mdconstructs_text.specs.Parts.{bytes_of, cut, first_plain, leaf}
+use Rattle.mdconstructs_text.specs.Parts.{bytes_of, cut_remembering, first_plain, leaf}
 use Rattle.mdconstructs_text.specs.TextEvents.{item_events}
 use Rattle.mdconstructs_inline_constructs.specs.Email.{email_grammar}
 use Rattle.mdconstructs_inline_constructs.specs.HardBreak.{break_escape_grammar, trailing_break_grammar}
@@ -23,6 +23,7 @@ use Rattle.mdconstructs_inline_constructs.specs.Reference.{reference_grammar}
 use Rattle.mdconstructs_inline_constructs.specs.HtmlMarked.{html_mark_grammar}
 use Rattle.mdconstructs_inline_constructs.specs.HtmlTag.{html_tag_grammar}
 use Rattle.mdconstructs_inline_constructs.specs.WhiteSpace.{is_white_left, white_space, white_space_grammar}
+use Rattle.mdconstructs_inlines.specs.Brackets.{Memory, after_item, begins_bracket, bracket_at, nothing_waits}
 use Rattle.mdconstructs_inlines.specs.RunRows.{is_delimiter}
 
 -- The constructs of inline text that begin with a mark: code spans, autolinks, email autolinks, raw HTML between marks, tags, backslash
@@ -65,9 +66,9 @@ module _ (on : Constructs) where
   abbrev pub begins_run : ℕ → Bool
   begins_run byte = on.attention && is_delimiter byte
 
-  -- data ends at a byte that a line ending, a construct with a mark, or a run may begin with
+  -- data ends at a byte that a line ending, a construct with a mark, a run, a bracket or an end may begin with
   abbrev pub ends_data : ℕ → Bool
-  ends_data byte = is_line_feed byte || (some_first marked_grammars byte || begins_run byte)
+  ends_data byte = is_line_feed byte || (some_first marked_grammars byte || (begins_run byte || begins_bracket on byte))
 
   -- it ends at white space too if nothing else is left of the line
   abbrev pub ends_data_at : List ℕ → Bool
@@ -77,25 +78,32 @@ module _ (on : Constructs) where
   abbrev pub data_length : List ℕ → ℕ
   data_length text = let n = first_plain text in n + up_to ends_data_at (drop n text)
 
-  -- what is there where no construct is: a run, a line ending with the white space behind it, or data
+  -- what is there where neither a construct nor a bracket is: a run, a line ending with the white space behind it, or data
   abbrev pub run_or_part : List ℕ → Found
   run_or_part text =
       cond (has_byte_at text 0 begins_run) (delimiter_run (run_length text))
       (cond (has_byte_at text 0 is_line_feed) (line_break (prefix_len is_white (drop 1 text)))
       (data_run (data_length text)))
 
-  -- The item at the front of a text: a construct, a run, a line ending, or data
-  abbrev pub inline_item_at : List ℕ → Found
-  inline_item_at text = first_there inline_grammars on text (run_or_part text)
+  -- what is there where no construct is: a bracket or an end of a label, by the brackets that wait, or one of these
+  abbrev pub bracket_or_part : Memory → List ℕ → Found
+  bracket_or_part m text = or_else (bracket_at on m text) (run_or_part text)
 
-  -- the items of a text, each with its virtual bytes: the white space that it begins with, and then what is cut from the front
+  -- The item at the front of a text, by the brackets that wait before it: a construct, a bracket, an end of a label, a run, a line ending, or data
+  abbrev pub inline_item_at : Memory → List ℕ → Found
+  inline_item_at m text = first_there inline_grammars on text (bracket_or_part m text)
+
+  -- the items of a text, each with its virtual bytes: the white space that it begins with, and then what is cut from the front; before the first one
+  -- no bracket waits
   abbrev pub inline_items : List Seat → List (Found × List Seat)
-  inline_items seats = let n = prefix_len is_white (bytes_of seats) in (white_space n, take n seats) ∷ cut inline_item_at item_length (length seats) (drop n seats)
+  inline_items seats =
+      let n = prefix_len is_white (bytes_of seats) in
+      (white_space n, take n seats) ∷ cut_remembering after_item inline_item_at item_length (length seats) nothing_waits (drop n seats)
 
 -- the events that are read of a text: those of its items
 abbrev pub read_events : Given → Text → List Event
 read_events g text = flat_map (item_events g.bytes) (inline_items g.options.constructs text.seats)
 
--- The events of inline text: those, with emphasis in place of its runs
+-- The events of inline text: those, with links, images and emphasis in place of its brackets and runs
 abbrev pub inline_events : Given → Text → List Event
-inline_events g text = with_emphasis g.bytes (read_events g text)
+inline_events g text = with_links g.bytes (read_events g text)

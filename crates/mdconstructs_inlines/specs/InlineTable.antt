@@ -1,10 +1,10 @@
--- The table of the machine of inline text: a list of constructs, and delimiter runs, line endings and data between them.
+-- The table of the machine of inline text: a list of constructs, and brackets, delimiter runs, line endings and data between them.
 use Rattle.std.specs.Prelude.{◌||◌, ◌==◌, Bool, true, cond, List, [], ◌∷◌, ◌++◌, Option, Some, None}
 use Rattle.markdown_base.specs.declared.event.Name.{Name as EventName}
 use Rattle.markdown_base.specs.declared.event.Name.TheVariants.{Data, HardBreakTrailing, LineEnding, SpaceOrTab}
 use Rattle.markdown_base.specs.declared.state.Name.{Name}
 use Rattle.markdown_base.specs.declared.state.State.TheVariants.{Next, Retry, Ok}
-use Rattle.markdown_base.specs.declared.state.TheConstants.Name.{AttentionStart, DataInside, StringBefore, StringStart, TextBefore, TextBeforeData, TextBeforeHardBreakEscape, TextBeforeHtml, TextStart}
+use Rattle.markdown_base.specs.declared.state.TheConstants.Name.{AttentionStart, DataInside, LabelEndOk, LabelEndStart, LabelStartImageStart, StringBefore, StringStart, TextBefore, TextBeforeData, TextBeforeHardBreakEscape, TextBeforeHtml, TextStart}
 use Rattle.mdconstructs_inlines.specs.declared.names.TheConstants.{DataSpace, DataSpaces, DataWhite, TextBeforeEmail, TextBeforeTag, TextLineStart, TextLineWhite, TextSpace, TextSpaces, TextWhite}
 use Rattle.markdown_tokenizer.specs.Configuration.{Configuration, Step, TokenizerValue}
 use Rattle.markdown_tokenizer.specs.Sight.{Sight, sight_of}
@@ -27,6 +27,7 @@ use Rattle.mdconstructs_inline_constructs.specs.ReferenceRows.{references, refer
 use Rattle.mdconstructs_inline_constructs.specs.RememberedCode.{remembered_code_spans}
 use Rattle.mdconstructs_inline_constructs.specs.HtmlMarkedRows.{html_marks, html_mark_prices}
 use Rattle.mdconstructs_inline_constructs.specs.HtmlTagRows.{html_tags, html_tag_prices}
+use Rattle.mdconstructs_inlines.specs.BracketRows.{bracket_prices, bracket_rows, bracket_states, mark_begins}
 use Rattle.mdconstructs_inlines.specs.RunRows.{run_begins, run_prices, run_states}
 use Rattle.mdconstructs_inlines.specs.StringTable.{registers, string_prices, string_states}
 
@@ -118,11 +119,12 @@ abbrev pub line_white : StateRows TextByte Unit Unit
 line_white =
     state TextLineWhite line_white_rows (SpaceOrTab ∷ []) (text_cost (by_left 4 20 8))
 
--- Between constructs: a line ending is read, a run begins, white space is read, a construct is tried, or data is read
+-- Between constructs: a line ending is read, a run begins, a bracket or an end of a label is read, white space is read, a construct is tried, or data is
+-- read
 abbrev pub inline_before_rows : (previous current : Option TextByte) → Rows Unit Unit
 inline_before_rows _ None = row [] Ok
 inline_before_rows _ (Some line_feed) = row (enter LineEnding ∷ consume ∷ exit LineEnding ∷ []) (Next TextLineStart)
-inline_before_rows _ (Some punctuation) = when run_begins (row [] (Retry AttentionStart)) (row [] (Retry TextBeforeData))
+inline_before_rows _ (Some punctuation) = when run_begins (row [] (Retry AttentionStart)) bracket_rows
 inline_before_rows _ (Some white) = notes_white TextSpace TextWhite
 inline_before_rows _ (Some w) = tried_at between_texts inline_constructs w
 
@@ -134,7 +136,7 @@ inline_before =
 -- ---- data
 -- In data. At white space the place is noted: it shows behind it whether it is data
 abbrev pub inline_data_rows : (previous current : Option TextByte) → Rows Unit Unit
-inline_data_rows _ (Some punctuation) = when run_begins (row (exit Data ∷ []) (Retry TextBefore)) (row (consume ∷ []) (Next DataInside))
+inline_data_rows _ (Some punctuation) = when mark_begins (row (exit Data ∷ []) (Retry TextBefore)) (row (consume ∷ []) (Next DataInside))
 inline_data_rows _ (Some white) = notes_white DataSpace DataWhite
 inline_data_rows previous current = data_rows between_texts is_line_feed_class inline_constructs previous current
 
@@ -162,7 +164,7 @@ white_is_data = row (enter_noted Data ∷ []) (Retry DataInside)
 
 -- it was data, and so is the byte behind it, unless something else may begin with that
 abbrev pub data_goes_on : TextByte → Rows Unit Unit
-data_goes_on punctuation = when run_begins (row [] (Retry DataInside)) (row (consume ∷ []) (Next DataInside))
+data_goes_on punctuation = when mark_begins (row [] (Retry DataInside)) (row (consume ∷ []) (Next DataInside))
 data_goes_on w = cond (some_begins inline_constructs w) (row [] (Retry DataInside)) (row (consume ∷ []) (Next DataInside))
 
 -- the step of these rows in a tokenizer
@@ -261,7 +263,7 @@ inline_prices =
     ++ (run_prices
     ++ (by_left 4 20 9 ∷ by_left 4 20 8 ∷ by_left 4 20 8 ∷ by_left 4 20 7 ∷ by_left 4 18 0 ∷ by_left 4 18 6 ∷ by_left 4 17 4 ∷ by_left 4 15 2 ∷ by_left 4 13 0 ∷ at_data_break ∷ by_left 4 21 10
     ∷ by_left 4 21 11 ∷ by_left 4 21 11 ∷ by_left 4 21 11 ∷ by_left 4 21 11 ∷ by_left 4 21 11 ∷ by_left 4 21 11
-    ∷ (code_span_prices ++ (autolink_prices ++ (email_prices ++ (html_mark_prices ++ (html_tag_prices ++ (escape_prices ++ (break_escape_prices ++ reference_prices)))))))))
+    ∷ (code_span_prices ++ (autolink_prices ++ (email_prices ++ (html_mark_prices ++ (html_tag_prices ++ (escape_prices ++ (break_escape_prices ++ (reference_prices ++ bracket_prices))))))))))
 
 -- the states between constructs, but the first
 abbrev pub own_states : List (StateRows TextByte Unit Unit)
@@ -270,7 +272,7 @@ own_states =
 
 -- the states of inline text but the first
 abbrev pub later_states : List (StateRows TextByte Unit Unit)
-later_states = own_states ++ states_of inline_constructs
+later_states = own_states ++ (states_of inline_constructs ++ bracket_states)
 
 -- all states, of inline text and of strings
 abbrev pub inline_states : List (StateRows TextByte Unit Unit)
@@ -284,10 +286,10 @@ inline_starts = TextStart ∷ StringStart ∷ []
 abbrev pub inlines : Table TextByte Unit Unit
 inlines = record { class = text_byte; first = unchanged; states = inline_states; starts = inline_starts }
 
--- the states that begin a construct: they are called only if the construct is tried
+-- the states that begin a construct: they are called only if the construct is tried; and so are those of brackets of images and of ends
 abbrev pub begins_inline : Name → Option TextByte → Bool
-begins_inline = some_begun inline_constructs
+begins_inline name w = (name.number == LabelStartImageStart.number) || ((name.number == LabelEndStart.number) || some_begun inline_constructs name w)
 
 -- the states that come next if a construct was there
 abbrev pub follows_inline : Name → Bool
-follows_inline name = (name.number == TextBefore.number) || ((name.number == StringBefore.number) || some_follows inline_constructs name)
+follows_inline name = (name.number == TextBefore.number) || ((name.number == StringBefore.number) || ((name.number == LabelEndOk.number) || some_follows inline_constructs name))

@@ -12,7 +12,7 @@ use Rattle.markdown_children.specs.Ready.{IsReady}
 use Rattle.markdown_tokenizer.specs.declared.subtokenize.Subresult.{Subresult}
 use Rattle.markdown_tokenizer.specs.Engine.{IsRun, whole_text}
 use Rattle.markdown_tokenizer.specs.Text.{Given, IsDocument}
-use Rattle.mdconstructs_attention.specs.Runs.{with_emphasis}
+use Rattle.mdconstructs_links.specs.Linked.{with_links}
 use Rattle.mdconstructs_text.specs.ChainTexts.{AreReadBy, StaysReadyBy, chain_text, with_read}
 use Rattle.mdconstructs_inlines.specs.InlineEvents.{inline_events, read_events}
 use Rattle.mdconstructs_inlines.specs.InlineRules.{inlines_rules}
@@ -22,10 +22,11 @@ use Rattle.mdconstructs_inlines.specs.StringEvents.{string_events}
 abbrev pub IsRunOfInlines : Given → List Event → Type 0
 IsRunOfInlines g events = (sub : Subresult) × IsRun g inlines_rules true TextStart events sub
 
--- For each document, a run that resolves returns the events with which its reading ends, with emphasis in place of their delimiter runs
-abbrev pub MakesEmphasis : Type 0
-MakesEmphasis = (g : Given) (events : List Event) (sub : Subresult) → IsDocument g → (run : IsRun g inlines_rules true TextStart events sub)
-    → events ≡ with_emphasis g.bytes run.result.configuration.events
+-- For each document, a run that resolves returns the events with which its reading ends, with links, images and emphasis in place of their brackets and
+-- delimiter runs
+abbrev pub MakesLinks : Type 0
+MakesLinks = (g : Given) (events : List Event) (sub : Subresult) → IsDocument g → (run : IsRun g inlines_rules true TextStart events sub)
+    → events ≡ with_links g.bytes run.result.configuration.events
 
 -- For each document, a run that resolves returns the events of inline text; and one that does not, the events that are read
 abbrev pub ReadsInlineText : Type 0

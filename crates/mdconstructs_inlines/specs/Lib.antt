@@ -1,3 +1,5 @@
+pub mod BracketRows
+pub mod Brackets
 pub mod InlineEvents
 pub mod InlineRules
 pub mod InlineTable

@@ -5,13 +5,14 @@ use Rattle.mdconstructs_text.specs.Bytes.{is_backtick, is_greater_than, is_line_
 use Rattle.mdconstructs_text.specs.Construct.{some_first}
 use Rattle.mdconstructs_inline_constructs.specs.HtmlMarkedRows.{is_mark_byte}
 use Rattle.mdconstructs_inline_constructs.specs.HtmlTagRows.{is_quote}
+use Rattle.mdconstructs_inlines.specs.Brackets.{is_of_bracket}
 use Rattle.mdconstructs_inlines.specs.InlineEvents.{marked_grammars}
 use Rattle.mdconstructs_inlines.specs.RunRows.{is_delimiter}
 use Rattle.mdconstructs_inlines.specs.StringEvents.{is_string_special}
 
--- data goes on at the byte: it is no white space, and no line ending, no construct and no delimiter run may begin with it
+-- data goes on at the byte: it is no white space, and no line ending, no construct, no delimiter run, no bracket and no end may begin with it
 abbrev pub is_in_data : ℕ → Bool
-is_in_data byte = not (is_white byte || (is_line_feed byte || (some_first marked_grammars byte || is_delimiter byte)))
+is_in_data byte = not (is_white byte || (is_line_feed byte || (some_first marked_grammars byte || (is_delimiter byte || is_of_bracket byte))))
 
 -- data of a string does
 abbrev pub is_in_string : ℕ → Bool

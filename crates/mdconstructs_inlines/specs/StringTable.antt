@@ -29,7 +29,7 @@ tried_in_strings = record escapes { otherwise = StringBeforeData } ∷ record re
 abbrev pub string_constructs : List (Construct Found TextByte Unit Unit)
 string_constructs = tried_in_strings
 
--- Before a string. It has no delimiter run, so the resolver will change nothing
+-- Before a string. It has no bracket and no delimiter run, so the resolver will change nothing
 abbrev pub string_start_rows : (previous current : Option TextByte) → Rows Unit Unit
 string_start_rows _ _ = row (write registers ∷ []) (Retry StringBefore)
 

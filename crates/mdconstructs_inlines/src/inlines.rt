@@ -6,26 +6,24 @@ ghost use Rattle.markdown_tokenizer.specs.Calls.{with_local};
 ghost use Rattle.markdown_tokenizer.specs.declared.waiting.Waits.TheVariants.{Byte};
 ghost use Rattle.markdown_tokenizer.specs.Configuration.{at_configuration};
 ghost use Rattle.markdown_tokenizer.specs.Sight.{sight_of};
-ghost use Rattle.mdconstructs_attention.specs.Emphasis.{paired};
 ghost use Rattle.mdconstructs_attention.specs.Places.{ArePlacesInside};
-ghost use Rattle.mdconstructs_attention.specs.RunEdits.{edits_of};
-ghost use Rattle.mdconstructs_attention.specs.Runs.{runs_in};
+ghost use Rattle.mdconstructs_links.specs.LinkEdits.{link_edits};
 ghost use Rattle.mdconstructs_tables.specs.Over.{unchanged};
 ghost use Rattle.mdconstructs_tables.specs.RowInvariant.{CanHoldNoted, DoesAll, IsCallable, begun, step_in};
 ghost use Rattle.mdconstructs_text.specs.TextBytes.{text_byte};
+ghost use Rattle.mdconstructs_inlines.specs.BracketRows.{bracket_rows};
 ghost use Rattle.mdconstructs_inlines.specs.InlineTable.{inline_start, line_start, line_white, inline_before, before_hard_break_escape, before_email, before_html, before_tag, inline_data, text_space, text_spaces, text_white, data_space, data_spaces, data_white, space_waits, CanEndData, data_goes_on, data_over, notes_white, reads_white, step_by, white_is_data, white_over};
 ghost use Rattle.mdconstructs_inlines.specs.StringTable.{string_start};
 
 use crate::attention::{attention_inside, attention_start, run_begins};
-use crate::names;
 use crate::over::{in_code, in_data, in_marks, in_quotes, in_string, in_uri};
 use crate::strings::{string_before, string_before_data, string_data};
+use crate::{brackets, names};
 use markdown_tokenizer::event::{self, Event};
 use markdown_tokenizer::state::{ByteSet, Machine, MachineTypes, Name, State, no_bytes};
 use markdown_tokenizer::subtokenize::Subresult;
 use markdown_tokenizer::tokenizer::{Fault, Tokenizer};
 use markdown_tokenizer::util::edit_map::EditMap;
-use mdconstructs_attention::emphasis::emphasize;
 use mdconstructs_inline_constructs::email::{email_atext, email_label, email_start, email_value};
 use mdconstructs_inline_constructs::hard_break::{
     break_escape_after, break_escape_start, break_escapes_are_on, trailing_breaks_are_on,
@@ -50,6 +48,8 @@ use mdconstructs_inline_constructs::reference::{
 use mdconstructs_inline_constructs::remembered_code::{
     remembered_between, remembered_chunk, remembered_open,
 };
+use mdconstructs_links::link_edits::put_links;
+use mdconstructs_resources::{names as resource_names, resource};
 use mdconstructs_tables::marker;
 use mdconstructs_text::autolink::{
     autolink_open, autolink_scheme, autolink_start, autolink_url, autolinks_are_on,
@@ -63,12 +63,12 @@ use mdconstructs_text::names as text_names;
 use mdconstructs_text::text::{data_at_break, text_before_data};
 use std::alloc::{AllocError, Global};
 
-/// Reads a text, from `TextStart`: code spans, autolinks, backslash escapes, hard breaks, character references and emphasis, if they are on, line endings and
-/// the white space beside them, and all else as data. Emphasis is made once all was read: until then its delimiter runs are attention
-/// sequences. It reads a string, from `StringStart`: backslash escapes and character references, if they are on, line endings, and all else as
+/// Reads a text, from `TextStart`: code spans, autolinks, backslash escapes, hard breaks, character references, links and images with
+/// resources, and emphasis, if they are on, line endings and the white space beside them, and all else as data. Links, images and emphasis are
+/// made once all was read: until then brackets are labels' starts and ends, and delimiter runs are attention sequences. It reads a string, from `StringStart`: backslash escapes and character references, if they are on, line endings, and all else as
 /// data.
 ///
-/// On n virtual bytes a run from `TextStart` takes at most 138 n + 4 calls, and one from `StringStart` 87 n + 2, whatever they are: what was looked for
+/// On n virtual bytes a run from `TextStart` takes at most 368 n + 4 calls, and one from `StringStart` 87 n + 2, whatever they are: what was looked for
 /// in vain is remembered (`inline_text_is_linear`, `strings_are_linear`). The cost that the machine states is a square (`cost_at_the_start`).
 #[derive(Drop)]
 pub struct Inlines {}
@@ -131,6 +131,12 @@ impl Machine for Inlines {
             names::DataWhite => data_white(t),
             Name::AttentionStart => attention_start(t),
             Name::AttentionInside => attention_inside(t),
+            Name::LabelStartLinkStart => brackets::link_start(t),
+            Name::LabelStartImageStart => brackets::image_start(t),
+            Name::LabelStartImageOpen => brackets::image_open(t),
+            Name::LabelEndStart => brackets::end_start(t),
+            Name::LabelEndOk => brackets::end_ok(alloc, t),
+            Name::LabelEndNok => brackets::end_nok(alloc, t),
             Name::RawTextStart => raw_text_start(t),
             Name::RawTextSequenceOpen => remembered_open(t),
             Name::RawTextBetween => remembered_between(t),
@@ -180,18 +186,39 @@ impl Machine for Inlines {
             Name::CharacterReferenceValue => reference_value(t),
             Name::HardBreakEscapeStart => break_escape_start(t),
             Name::HardBreakEscapeAfter => break_escape_after(t),
+            Name::LabelEndResourceStart => resource::resource_start(t),
+            Name::LabelEndResourceBefore => resource::resource_before(t),
+            resource_names::ResourceGapWhite => resource::gap_white(t),
+            resource_names::ResourceGapLine => resource::gap_line(t),
+            resource_names::ResourceGapLineWhite => resource::gap_line_white(t),
+            Name::LabelEndResourceOpen => resource::resource_open(t),
+            Name::DestinationEnclosedBefore => resource::enclosed_before(t),
+            Name::DestinationEnclosed => resource::enclosed(t),
+            Name::DestinationEnclosedEscape => resource::enclosed_escape(t),
+            resource_names::ResourceDestinationEnd => resource::destination_end(t),
+            Name::DestinationRaw => resource::raw(t),
+            Name::DestinationRawEscape => resource::raw_escape(t),
+            Name::LabelEndResourceDestinationAfter => resource::destination_after(t),
+            Name::TitleStart => resource::title_start(t),
+            Name::TitleBegin => resource::title_begin(t),
+            Name::TitleInside => resource::title_inside(t),
+            Name::TitleEscape => resource::title_escape(t),
+            Name::TitleAfterEol => resource::title_line(t),
+            resource_names::ResourceTitleWhite => resource::title_white(t),
+            resource_names::ResourceTitleEnd => resource::title_end(t),
+            Name::LabelEndResourceEnd => resource::resource_end(t),
             _ => unreachable!(),
         }
     }
 
-    /// Adds the edits that put emphasis in place of delimiter runs.
+    /// Adds the edits that put links, images and emphasis in place of brackets and delimiter runs.
     fn resolve<'a>(
         &self,
         alloc: Global,
         t: &mut Tokenizer<'a, Self>,
         name: (),
     ) -> Result<Option<Subresult>, Fault> {
-        let map = emphasis_edits(alloc, t.parse_state().bytes, t.events())?;
+        let map = linking_edits(alloc, t.parse_state().bytes, t.events())?;
         put_edits(t, map);
         Ok(None)
     }
@@ -207,14 +234,14 @@ fn begin<'a>(t: &mut Tokenizer<'a, Inlines>)
     t.tick();
 }
 
-/// The edits that put emphasis in place of delimiter runs.
-fn emphasis_edits(alloc: Global, bytes: &[u8], events: &[Event]) -> Result<EditMap, AllocError>
+/// The edits that put links, images and emphasis in place of brackets and delimiter runs.
+fn linking_edits(alloc: Global, bytes: &[u8], events: &[Event]) -> Result<EditMap, AllocError>
     requires balanced { IsBalanced events.now }
     requires room { ArePlacesInside bytes.now events.now }
-    ensures { IfOk result (λ map. map ≡ edits_of (paired (runs_in bytes.now events.now))) }
+    ensures { IfOk result (λ map. map ≡ link_edits bytes.now events.now) }
 {
     let mut map = EditMap::new(alloc);
-    emphasize(alloc, bytes, events, &mut map)?;
+    put_links(alloc, bytes, events, &mut map)?;
     Ok(map)
 }
 
@@ -348,8 +375,36 @@ fn inline_before<'a>(t: &mut Tokenizer<'a, Inlines>) -> Result<State, AllocError
             }
             Ok(State::Retry(Name::TextBeforeData))
         }
+        Some(b'[' | b'!' | b']') => bracket(t),
         Some(_) => Ok(State::Retry(Name::TextBeforeData)),
     }
+}
+
+/// Where a bracket or an end may begin: it is read or tried, or data is read.
+fn bracket<'a>(t: &mut Tokenizer<'a, Inlines>) -> Result<State, AllocError>
+    ensures { IfOk result (DoesAll (step_by bracket_rows t.old) t.old t.new) }
+{
+    if brackets::link_begins(t) {
+        return Ok(State::Retry(Name::LabelStartLinkStart));
+    }
+    if brackets::image_begins(t) {
+        t.attempt(
+            State::Next(Name::TextBefore),
+            State::Next(Name::TextBeforeData),
+        )?;
+        return Ok(State::Retry(Name::LabelStartImageStart));
+    }
+    if brackets::end_may_make(t) {
+        t.attempt(
+            State::Next(Name::LabelEndOk),
+            State::Next(Name::LabelEndNok),
+        )?;
+        return Ok(State::Retry(Name::LabelEndStart));
+    }
+    if brackets::end_is_awaited(t) {
+        return Ok(State::Retry(Name::LabelEndNok));
+    }
+    Ok(State::Retry(Name::TextBeforeData))
 }
 
 /// At a backslash that escapes nothing: a hard break is tried if it is on, or data is read.
@@ -430,8 +485,8 @@ fn inline_data<'a>(t: &mut Tokenizer<'a, Inlines>) -> Result<State, AllocError>
             Ok(State::Retry(Name::TextBefore))
         }
         Some(b' ' | b'\t') => note_white(t, names::DataSpace, names::DataWhite),
-        Some(b'*' | b'_') => {
-            if run_begins(t) {
+        Some(b'*' | b'_' | b'[' | b'!' | b']') => {
+            if brackets::mark_begins(t) {
                 t.exit(event::Name::Data)?;
                 return Ok(State::Retry(Name::TextBefore));
             }
@@ -612,8 +667,8 @@ fn data_goes_on<'a>(t: &mut Tokenizer<'a, Inlines>, byte: u8) -> Result<State, A
 {
     match byte {
         b'`' | b'<' | b'\\' | b'&' => Ok(State::Retry(Name::DataInside)),
-        b'*' | b'_' => {
-            if run_begins(t) {
+        b'*' | b'_' | b'[' | b'!' | b']' => {
+            if brackets::mark_begins(t) {
                 return Ok(State::Retry(Name::DataInside));
             }
             t.consume();

@@ -6,7 +6,7 @@ ghost use Rattle.markdown_tokenizer.specs.Alike.{LooksNoFurther};
 ghost use Rattle.mdconstructs_tables.specs.Refusals.{RulesRefuseNothing};
 ghost use Rattle.mdconstructs_machines.specs.Costs.{StartsAmong};
 ghost use Rattle.mdconstructs_inlines.specs.InlineRules.{inlines_rules};
-ghost use Rattle.mdconstructs_inlines.specs.LawStatements.{MakesEmphasis, ReadsChainsAsInlineText, ReadsChainsAsStrings, ReadsInlineText, ReadsStrings, RunsWithin, StaysReadyAfterInlineText, StaysReadyAfterStrings};
+ghost use Rattle.mdconstructs_inlines.specs.LawStatements.{MakesLinks, ReadsChainsAsInlineText, ReadsChainsAsStrings, ReadsInlineText, ReadsStrings, RunsWithin, StaysReadyAfterInlineText, StaysReadyAfterStrings};
 
 /// The machine has two starts, one for texts and one for strings. This is how many calls it takes at most from each, on n virtual bytes.
 pub fn cost_at_the_start()
@@ -19,9 +19,9 @@ pub fn no_document_is_refused()
     ensures { RulesRefuseNothing inlines_rules }
 {}
 
-/// A run that resolves returns the events that were read, with emphasis in place of their delimiter runs.
-pub fn emphasis_takes_the_place_of_runs()
-    ensures { MakesEmphasis }
+/// A run that resolves returns the events that were read, with links, images and emphasis in place of their brackets and delimiter runs.
+pub fn links_take_the_place_of_brackets()
+    ensures { MakesLinks }
 {}
 
 /// Inline text is what its definition says: a run that resolves returns `inline_events` of the document, and one that does not, the events
@@ -30,14 +30,15 @@ pub fn inline_text_is_read()
     ensures { ReadsInlineText }
 {}
 
-/// Inline text is read in linear time: a run from the start of texts on n virtual bytes makes at most 138 n + 4 calls, whatever the bytes
-/// are. What was looked for to the end in vain is remembered, and not looked for again.
+/// Inline text is read in linear time: a run from the start of texts on n virtual bytes makes at most 368 n + 4 calls, whatever the bytes
+/// are. What was looked for to the end in vain is remembered, and not looked for again; and all looks for tails of links together are
+/// linear.
 pub fn inline_text_is_linear()
-    ensures { RunsWithin TextStart (λ n. 138 * n + 4) }
+    ensures { RunsWithin TextStart (λ n. 368 * n + 4) }
 {}
 
 /// If the chains of text of a list can be read, `subtokenize` with `Inlines` replaces each chunk by its part of the inline text of the
-/// chain: emphasis goes over the lines of a paragraph.
+/// chain: links and emphasis go over the lines of a paragraph.
 pub fn chains_are_read_as_inline_text()
     ensures { ReadsChainsAsInlineText }
 {}

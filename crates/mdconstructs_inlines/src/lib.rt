@@ -1,7 +1,8 @@
-//! The machine of inline text: what the machine of texts reads, and emphasis; and strings.
+//! The machine of inline text: what the machine of texts reads, links, images and emphasis; and strings.
 #![tactic(auto)]
 
 mod attention;
+mod brackets;
 pub mod inlines;
 pub mod laws;
 pub mod names;

@@ -9,11 +9,11 @@ use markdown_tokenizer::state::ByteSet;
 static IN_DATA: ByteSet = [
     false, false, false, false, false, false, false, false, false, false, false, false, false,
     false, true, true, true, true, true, true, true, true, true, true, true, true, true, true,
-    true, true, true, true, false, true, true, true, true, true, false, true, true, true, false,
+    true, true, true, true, false, false, true, true, true, true, false, true, true, true, false,
     true, true, true, true, true, true, true, true, true, true, true, true, true, true, true, true,
     true, false, true, true, true, true, true, true, true, true, true, true, true, true, true,
     true, true, true, true, true, true, true, true, true, true, true, true, true, true, true, true,
-    true, true, false, true, true, false, false, true, true, true, true, true, true, true, true,
+    true, false, false, false, true, false, false, true, true, true, true, true, true, true, true,
     true, true, true, true, true, true, true, true, true, true, true, true, true, true, true, true,
     true, true, true, true, true, true, true, true, true, true, true, true, true, true, true, true,
     true, true, true, true, true, true, true, true, true, true, true, true, true, true, true, true,

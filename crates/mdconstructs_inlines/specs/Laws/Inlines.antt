@@ -1,5 +1,5 @@
--- The table of inline text passes the tests, with the numbers of its states; and its resolver makes emphasis. So the machine is lawful.
-use Rattle.std.proofs.Common.{◌≡◌, [], ◌∷◌, inl, inr, Option, None, Some, true, refl, sym, subst}
+-- The table of inline text passes the tests, with the numbers of its states; and its resolver makes links, images and emphasis. So the machine is lawful.
+use Rattle.std.proofs.Common.{◌≡◌, List, [], ◌∷◌, ◌++◌, inl, inr, Option, None, Some, true, refl, sym, subst}
 use Rattle.std.proofs.lemmas.List.Elements.{All-from_recursion}
 use Rattle.markdown_base.specs.declared.state.Name.{Name}
 use Rattle.markdown_base.specs.declared.state.State.TheVariants.{Next, Retry}
@@ -12,16 +12,18 @@ use Rattle.markdown_tokenizer.specs.Text.{Given}
 use Rattle.mdconstructs_tables.specs.Late.{IsLate}
 use Rattle.mdconstructs_tables.specs.Numbers.{by_left, priced_tests}
 use Rattle.mdconstructs_tables.specs.Plans.{KeepsKnown, AllKeepKnown}
-use Rattle.mdconstructs_tables.specs.Rows.{Cost, row, state, write}
+use Rattle.mdconstructs_tables.specs.Rows.{Cost, StateRows, row, state, write}
 use Rattle.mdconstructs_tables.specs.Unlinked.{RegisterNothing}
 use Rattle.mdconstructs_tables.proofs.Numbers.Enough.{numbered-late}
 use Rattle.mdconstructs_tables.proofs.Tables.Lawful.{planned-lawful}
-use Rattle.mdconstructs_attention.proofs.RunEdits.{emphasis-can-be-made}
+use Rattle.mdconstructs_links.proofs.LinkEdits.{links-can-be-made}
 use Rattle.mdconstructs_text.specs.TextBytes.{TextByte, line_feed, backtick, letter, digit, mark, is_backtick_class}
 use Rattle.mdconstructs_text.specs.TextCosts.{text_cost}
+use Rattle.mdconstructs_text.specs.Construct.{states_of}
+use Rattle.mdconstructs_inlines.specs.BracketRows.{bracket_states}
 use Rattle.mdconstructs_inlines.specs.RunRows.{run_states}
-use Rattle.mdconstructs_inlines.specs.InlineRules.{emphasis_edits, EndsEmphasised, inline_plan, inlines_rules}
-use Rattle.mdconstructs_inlines.specs.InlineTable.{begins_inline, follows_inline, inline_prices, inline_starts, later_states, inlines}
+use Rattle.mdconstructs_inlines.specs.InlineRules.{linking_edits, EndsLinked, inline_plan, inlines_rules}
+use Rattle.mdconstructs_inlines.specs.InlineTable.{begins_inline, follows_inline, inline_prices, inline_constructs, inline_starts, inlines, own_states}
 use Rattle.mdconstructs_inlines.specs.Registered.{EditsCanBeMade, is_first, link_makers}
 use Rattle.mdconstructs_inlines.specs.StringTable.{later_string_states, registers}
 use Rattle.mdconstructs_inlines.specs.Laws.Registered.{states-keep, registered-kept, registered-resolved}
@@ -34,7 +36,7 @@ tested previous _ = refl
 pub inlines-late : IsLate inlines begins_inline follows_inline
 inlines-late =
     numbered-late inlines is_backtick_class inline_prices begins_inline follows_inline (record {
-      priced = (refl, (refl, (refl, (refl, (refl, (refl, (refl, (refl, (refl, (refl, (refl, (refl, (refl, (refl, (refl, (refl, (refl, (refl, (refl, (refl, (refl, (refl, (refl, (refl, (refl, (refl, (refl, (refl, (refl, (refl, (refl, (refl, (refl, (refl, (refl, (refl, (refl, (refl, (refl, (refl, (refl, (refl, (refl, (refl, (refl, (refl, (refl, (refl, (refl, (refl, (refl, (refl, (refl, (refl, (refl, (refl, (refl, (refl, (refl, (refl, (refl, (refl, (refl, (refl, (refl, (refl, (refl, (refl, (refl, (refl, (refl, (refl, tt))))))))))))))))))))))))))))))))))))))))))))))))))))))))))))))))))))))));
+      priced = (refl, (refl, (refl, (refl, (refl, (refl, (refl, (refl, (refl, (refl, (refl, (refl, (refl, (refl, (refl, (refl, (refl, (refl, (refl, (refl, (refl, (refl, (refl, (refl, (refl, (refl, (refl, (refl, (refl, (refl, (refl, (refl, (refl, (refl, (refl, (refl, (refl, (refl, (refl, (refl, (refl, (refl, (refl, (refl, (refl, (refl, (refl, (refl, (refl, (refl, (refl, (refl, (refl, (refl, (refl, (refl, (refl, (refl, (refl, (refl, (refl, (refl, (refl, (refl, (refl, (refl, (refl, (refl, (refl, (refl, (refl, (refl, (refl, (refl, (refl, (refl, (refl, (refl, (refl, (refl, (refl, (refl, (refl, (refl, (refl, (refl, (refl, (refl, (refl, (refl, (refl, (refl, (refl, (refl, (refl, (refl, (refl, (refl, (refl, tt)))))))))))))))))))))))))))))))))))))))))))))))))))))))))))))))))))))))))))))))))))))))))))))))))));
       falls = refl;
       tested = tested;
       kept = λ local. refl;
@@ -62,7 +64,17 @@ linkless-strings : (b w : Option TextByte) → (link_makers later_string_states 
 linkless-strings b (Some line_feed) = (refl, tt)
 linkless-strings b _ = (refl, tt)
 
-linkless : (b w : Option TextByte) → (link_makers later_states b w ≡ []) × RegisterNothing later_states b w
+-- the states of brackets and resources
+linkless-brackets : (b w : Option TextByte) → (link_makers (bracket_states {R = Unit} {D = Unit}) b w ≡ []) × RegisterNothing (bracket_states {R = Unit} {D = Unit}) b w
+linkless-brackets b None = (refl, ((λ s k. (refl, refl)), ((λ s k. (refl, refl)), ((λ s k. (refl, refl)), tt))))
+linkless-brackets b (Some line_feed) = (refl, ((λ s k. (refl, refl)), ((λ s k. (refl, refl)), ((λ s k. (refl, refl)), ((λ s k. (refl, refl)), ((λ s k. (refl, refl)), ((λ s k. (refl, refl)), ((λ s k. (refl, refl)), ((λ s k. (refl, refl)), ((λ s k. (refl, refl)), ((λ s k. (refl, refl)), ((λ s k. (refl, refl)), ((λ s k. (refl, refl)), ((λ s k. (refl, refl)), ((λ s k. (refl, refl)), ((λ s k. (refl, refl)), tt))))))))))))))))
+linkless-brackets b (Some _) = (refl, ((λ s k. (refl, refl)), ((λ s k. (refl, refl)), ((λ s k. (refl, refl)), ((λ s k. (refl, refl)), ((λ s k. (refl, refl)), ((λ s k. (refl, refl)), ((λ s k. (refl, refl)), ((λ s k. (refl, refl)), ((λ s k. (refl, refl)), ((λ s k. (refl, refl)), ((λ s k. (refl, refl)), ((λ s k. (refl, refl)), ((λ s k. (refl, refl)), ((λ s k. (refl, refl)), ((λ s k. (refl, refl)), tt))))))))))))))))
+
+-- those between constructs, but the first, and those of constructs
+abbrev other_states : List (StateRows TextByte Unit Unit)
+other_states = own_states ++ states_of inline_constructs
+
+linkless : (b w : Option TextByte) → (link_makers other_states b w ≡ []) × RegisterNothing other_states b w
 linkless b None = (refl, ((λ s k. (refl, refl)), ((λ s k. (refl, refl)), ((λ s k. (refl, refl)), ((λ s k. (refl, refl)), ((λ s k. (refl, refl)), ((λ s k. (refl, refl)), ((λ s k. (refl, refl)), ((λ s k. (refl, refl)), ((λ s k. (refl, refl)), tt))))))))))
 linkless b (Some line_feed) = (refl, ((λ s k. (refl, refl)), ((λ s k. (refl, refl)), ((λ s k. (refl, refl)), ((λ s k. (refl, refl)), ((λ s k. (refl, refl)), ((λ s k. (refl, refl)), ((λ s k. (refl, refl)), ((λ s k. (refl, refl)), ((λ s k. (refl, refl)), ((λ s k. (refl, refl)), ((λ s k. (refl, refl)), ((λ s k. (refl, refl)), ((λ s k. (refl, refl)), ((λ s k. (refl, refl)), ((λ s k. (refl, refl)), ((λ s k. (refl, refl)), ((λ s k. (refl, refl)), ((λ s k. (refl, refl)), ((λ s k. (refl, refl)), ((λ s k. (refl, refl)), ((λ s k. (refl, refl)), ((λ s k. (refl, refl)), ((λ s k. (refl, refl)), ((λ s k. (refl, refl)), ((λ s k. (refl, refl)), ((λ s k. (refl, refl)), ((λ s k. (refl, refl)), ((λ s k. (refl, refl)), ((λ s k. (refl, refl)), ((λ s k. (refl, refl)), tt)))))))))))))))))))))))))))))))
 linkless b (Some backtick) = (refl, ((λ s k. (refl, refl)), ((λ s k. (refl, refl)), ((λ s k. (refl, refl)), ((λ s k. (refl, refl)), ((λ s k. (refl, refl)), ((λ s k. (refl, refl)), ((λ s k. (refl, refl)), ((λ s k. (refl, refl)), ((λ s k. (refl, refl)), ((λ s k. (refl, refl)), ((λ s k. (refl, refl)), ((λ s k. (refl, refl)), ((λ s k. (refl, refl)), ((λ s k. (refl, refl)), ((λ s k. (refl, refl)), ((λ s k. (refl, refl)), ((λ s k. (refl, refl)), ((λ s k. (refl, refl)), ((λ s k. (refl, refl)), ((λ s k. (refl, refl)), ((λ s k. (refl, refl)), ((λ s k. (refl, refl)), ((λ s k. (refl, refl)), ((λ s k. (refl, refl)), ((λ s k. (refl, refl)), ((λ s k. (refl, refl)), ((λ s k. (refl, refl)), ((λ s k. (refl, refl)), ((λ s k. (refl, refl)), ((λ s k. (refl, refl)), tt)))))))))))))))))))))))))))))))
@@ -71,25 +83,31 @@ linkless b (Some digit) = (refl, ((λ s k. (refl, refl)), ((λ s k. (refl, refl)
 linkless b (Some mark) = (refl, ((λ s k. (refl, refl)), ((λ s k. (refl, refl)), ((λ s k. (refl, refl)), ((λ s k. (refl, refl)), ((λ s k. (refl, refl)), ((λ s k. (refl, refl)), ((λ s k. (refl, refl)), ((λ s k. (refl, refl)), ((λ s k. (refl, refl)), ((λ s k. (refl, refl)), ((λ s k. (refl, refl)), ((λ s k. (refl, refl)), ((λ s k. (refl, refl)), ((λ s k. (refl, refl)), ((λ s k. (refl, refl)), ((λ s k. (refl, refl)), ((λ s k. (refl, refl)), ((λ s k. (refl, refl)), ((λ s k. (refl, refl)), ((λ s k. (refl, refl)), ((λ s k. (refl, refl)), ((λ s k. (refl, refl)), ((λ s k. (refl, refl)), ((λ s k. (refl, refl)), ((λ s k. (refl, refl)), ((λ s k. (refl, refl)), ((λ s k. (refl, refl)), ((λ s k. (refl, refl)), tt)))))))))))))))))))))))))))))
 linkless b (Some _) = (refl, ((λ s k. (refl, refl)), ((λ s k. (refl, refl)), ((λ s k. (refl, refl)), ((λ s k. (refl, refl)), ((λ s k. (refl, refl)), ((λ s k. (refl, refl)), ((λ s k. (refl, refl)), ((λ s k. (refl, refl)), ((λ s k. (refl, refl)), ((λ s k. (refl, refl)), ((λ s k. (refl, refl)), ((λ s k. (refl, refl)), ((λ s k. (refl, refl)), ((λ s k. (refl, refl)), ((λ s k. (refl, refl)), ((λ s k. (refl, refl)), ((λ s k. (refl, refl)), ((λ s k. (refl, refl)), ((λ s k. (refl, refl)), ((λ s k. (refl, refl)), ((λ s k. (refl, refl)), ((λ s k. (refl, refl)), ((λ s k. (refl, refl)), ((λ s k. (refl, refl)), ((λ s k. (refl, refl)), ((λ s k. (refl, refl)), ((λ s k. (refl, refl)), tt))))))))))))))))))))))))))))
 
+-- two lists of states keep what is known if each does
+both-keep : (xs ys : List (StateRows TextByte Unit Unit)) → AllKeepKnown inline_plan xs → AllKeepKnown inline_plan ys → AllKeepKnown inline_plan (xs ++ ys)
+both-keep [] ys h k = k
+both-keep (x ∷ xs) ys h k = (h.0, both-keep xs ys h.1 k)
+
 rows-keep : AllKeepKnown inline_plan inlines.states
 rows-keep =
-    let strings = states-keep inlines begins_inline follows_inline inline_starts tt emphasis_edits EndsEmphasised (λ s k. (refl, refl)) later_string_states refl linkless-strings in
-    let early = states-keep inlines begins_inline follows_inline inline_starts tt emphasis_edits EndsEmphasised (λ s k. (refl, refl)) run_states refl linkless-early in
-    let later = states-keep inlines begins_inline follows_inline inline_starts tt emphasis_edits EndsEmphasised (λ s k. (refl, refl)) later_states refl linkless in (
+    let strings = states-keep inlines begins_inline follows_inline inline_starts tt linking_edits EndsLinked (λ s k. (refl, refl)) later_string_states refl linkless-strings in
+    let early = states-keep inlines begins_inline follows_inline inline_starts tt linking_edits EndsLinked (λ s k. (refl, refl)) run_states refl linkless-early in
+    let later = states-keep inlines begins_inline follows_inline inline_starts tt linking_edits EndsLinked (λ s k. (refl, refl)) other_states refl linkless in
+    let of_brackets = states-keep inlines begins_inline follows_inline inline_starts tt linking_edits EndsLinked (λ s k. (refl, refl)) bracket_states refl linkless-brackets in (
       starts-keep StringStart StringBefore (text_cost (by_left 4 9 2)),
-      (strings.0, (strings.1.0, (strings.1.1.0, (early.0, (early.1.0, (starts-keep TextStart TextLineStart (text_cost (by_left 4 20 9)), later)))))),
+      (strings.0, (strings.1.0, (strings.1.1.0, (early.0, (early.1.0, (starts-keep TextStart TextLineStart (text_cost (by_left 4 20 9)), both-keep other_states bracket_states later of_brackets)))))),
     )
 
 -- ---- the resolver
 
-made : EditsCanBeMade emphasis_edits EndsEmphasised
+made : EditsCanBeMade linking_edits EndsLinked
 made g text events formed unlinked =
-    let (apart, is, balanced, none) = emphasis-can-be-made g.bytes events formed.balanced unlinked in
+    let (apart, is, balanced, none) = links-can-be-made g.bytes events formed.balanced unlinked in
     (apart, subst IsBalanced (sym is) balanced, subst HaveNoLinks (sym is) none, (events, formed, unlinked, is, subst HaveNoLinks (sym is) none))
 
 pub inlines-lawful : (g : Given) → IsLawful g (inlines_rules g)
 inlines-lawful g = planned-lawful inline_plan g (record {
   late = inlines-late;
-  kept = registered-kept inlines begins_inline follows_inline inline_starts tt emphasis_edits EndsEmphasised refl rows-keep (All-from_recursion (λ name. is_first inline_starts (Next name) ≡ true) inline_starts (refl, (refl, tt)));
-  resolved = registered-resolved inlines begins_inline follows_inline inline_starts tt emphasis_edits EndsEmphasised made;
+  kept = registered-kept inlines begins_inline follows_inline inline_starts tt linking_edits EndsLinked refl rows-keep (All-from_recursion (λ name. is_first inline_starts (Next name) ≡ true) inline_starts (refl, (refl, tt)));
+  resolved = registered-resolved inlines begins_inline follows_inline inline_starts tt linking_edits EndsLinked made;
 })

@@ -2,6 +2,8 @@ use Rattle.mdconstructs_inlines.proofs.Prelude.{refl, rules, callable, never-cal
 use Rattle.mdconstructs_tables.specs.Over.{unchanged}
 use Rattle.mdconstructs_tables.proofs.Rows.Calls.{did-step}
 use Rattle.mdconstructs_inlines.proofs.Priced.{at-any-cost}
+use Rattle.mdconstructs_resources.specs.ResourceRows.{resource_start, resource_before, gap_white, gap_line, gap_line_white, resource_open, enclosed_before, enclosed, enclosed_escape, destination_end, raw, raw_escape, destination_after, title_start, title_begin, title_inside, title_escape, title_line, title_white, title_end, resource_end}
+use Rattle.mdconstructs_inlines.specs.BracketRows.{link_start, image_start, image_open, end_start, end_ok, end_nok}
 use Rattle.mdconstructs_inlines.specs.StringTable.{string_data}
 use Rattle.mdconstructs_inlines.proofs.inlines.InlinesMachine.call.Goals as goal
 
@@ -385,3 +387,165 @@ returns-in-CharacterReferenceValue c = record { call_is_step = did-step inlines 
 
 pub returns-in-HardBreakEscapeAfter : goal.returns-in-HardBreakEscapeAfter
 returns-in-HardBreakEscapeAfter c = record { call_is_step = did-step inlines c.args.name break_escape_after _ _ _ _ (search rules) refl c.begin.ensures c.break_escape_after.ensures }
+
+pub link_start-requires : goal.link_start-requires
+link_start-requires c = callable inlines unchanged (λ local. refl) c.args.name link_start _ _ (search rules) refl c.requires.invariant.holds c.begin.ensures
+
+pub image_start-requires : goal.image_start-requires
+image_start-requires c = callable inlines unchanged (λ local. refl) c.args.name image_start _ _ (search rules) refl c.requires.invariant.holds c.begin.ensures
+
+pub image_open-requires : goal.image_open-requires
+image_open-requires c = callable inlines unchanged (λ local. refl) c.args.name image_open _ _ (search rules) refl c.requires.invariant.holds c.begin.ensures
+
+pub end_start-requires : goal.end_start-requires
+end_start-requires c = callable inlines unchanged (λ local. refl) c.args.name end_start _ _ (search rules) refl c.requires.invariant.holds c.begin.ensures
+
+pub end_ok-requires : goal.end_ok-requires
+end_ok-requires c = callable inlines unchanged (λ local. refl) c.args.name end_ok _ _ (search rules) refl c.requires.invariant.holds c.begin.ensures
+
+pub end_nok-requires : goal.end_nok-requires
+end_nok-requires c = callable inlines unchanged (λ local. refl) c.args.name end_nok _ _ (search rules) refl c.requires.invariant.holds c.begin.ensures
+
+pub resource_start-requires : goal.resource_start-requires
+resource_start-requires c = callable inlines unchanged (λ local. refl) c.args.name resource_start _ _ (search rules) refl c.requires.invariant.holds c.begin.ensures
+
+pub resource_before-requires : goal.resource_before-requires
+resource_before-requires c = callable inlines unchanged (λ local. refl) c.args.name resource_before _ _ (search rules) refl c.requires.invariant.holds c.begin.ensures
+
+pub gap_white-requires : goal.gap_white-requires
+gap_white-requires c = callable inlines unchanged (λ local. refl) c.args.name gap_white _ _ (search rules) refl c.requires.invariant.holds c.begin.ensures
+
+pub gap_line-requires : goal.gap_line-requires
+gap_line-requires c = callable inlines unchanged (λ local. refl) c.args.name gap_line _ _ (search rules) refl c.requires.invariant.holds c.begin.ensures
+
+pub gap_line_white-requires : goal.gap_line_white-requires
+gap_line_white-requires c = callable inlines unchanged (λ local. refl) c.args.name gap_line_white _ _ (search rules) refl c.requires.invariant.holds c.begin.ensures
+
+pub resource_open-requires : goal.resource_open-requires
+resource_open-requires c = callable inlines unchanged (λ local. refl) c.args.name resource_open _ _ (search rules) refl c.requires.invariant.holds c.begin.ensures
+
+pub enclosed_before-requires : goal.enclosed_before-requires
+enclosed_before-requires c = callable inlines unchanged (λ local. refl) c.args.name enclosed_before _ _ (search rules) refl c.requires.invariant.holds c.begin.ensures
+
+pub enclosed-requires : goal.enclosed-requires
+enclosed-requires c = callable inlines unchanged (λ local. refl) c.args.name enclosed _ _ (search rules) refl c.requires.invariant.holds c.begin.ensures
+
+pub enclosed_escape-requires : goal.enclosed_escape-requires
+enclosed_escape-requires c = callable inlines unchanged (λ local. refl) c.args.name enclosed_escape _ _ (search rules) refl c.requires.invariant.holds c.begin.ensures
+
+pub destination_end-requires : goal.destination_end-requires
+destination_end-requires c = callable inlines unchanged (λ local. refl) c.args.name destination_end _ _ (search rules) refl c.requires.invariant.holds c.begin.ensures
+
+pub raw-requires : goal.raw-requires
+raw-requires c = callable inlines unchanged (λ local. refl) c.args.name raw _ _ (search rules) refl c.requires.invariant.holds c.begin.ensures
+
+pub raw_escape-requires : goal.raw_escape-requires
+raw_escape-requires c = callable inlines unchanged (λ local. refl) c.args.name raw_escape _ _ (search rules) refl c.requires.invariant.holds c.begin.ensures
+
+pub destination_after-requires : goal.destination_after-requires
+destination_after-requires c = callable inlines unchanged (λ local. refl) c.args.name destination_after _ _ (search rules) refl c.requires.invariant.holds c.begin.ensures
+
+pub title_start-requires : goal.title_start-requires
+title_start-requires c = callable inlines unchanged (λ local. refl) c.args.name title_start _ _ (search rules) refl c.requires.invariant.holds c.begin.ensures
+
+pub title_begin-requires : goal.title_begin-requires
+title_begin-requires c = callable inlines unchanged (λ local. refl) c.args.name title_begin _ _ (search rules) refl c.requires.invariant.holds c.begin.ensures
+
+pub title_inside-requires : goal.title_inside-requires
+title_inside-requires c = callable inlines unchanged (λ local. refl) c.args.name title_inside _ _ (search rules) refl c.requires.invariant.holds c.begin.ensures
+
+pub title_escape-requires : goal.title_escape-requires
+title_escape-requires c = callable inlines unchanged (λ local. refl) c.args.name title_escape _ _ (search rules) refl c.requires.invariant.holds c.begin.ensures
+
+pub title_line-requires : goal.title_line-requires
+title_line-requires c = callable inlines unchanged (λ local. refl) c.args.name title_line _ _ (search rules) refl c.requires.invariant.holds c.begin.ensures
+
+pub title_white-requires : goal.title_white-requires
+title_white-requires c = callable inlines unchanged (λ local. refl) c.args.name title_white _ _ (search rules) refl c.requires.invariant.holds c.begin.ensures
+
+pub title_end-requires : goal.title_end-requires
+title_end-requires c = callable inlines unchanged (λ local. refl) c.args.name title_end _ _ (search rules) refl c.requires.invariant.holds c.begin.ensures
+
+pub resource_end-requires : goal.resource_end-requires
+resource_end-requires c = callable inlines unchanged (λ local. refl) c.args.name resource_end _ _ (search rules) refl c.requires.invariant.holds c.begin.ensures
+
+pub returns-in-LabelStartLinkStart : goal.returns-in-LabelStartLinkStart
+returns-in-LabelStartLinkStart c = record { call_is_step = did-step inlines c.args.name link_start _ _ _ _ (search rules) refl c.begin.ensures c.link_start.ensures }
+
+pub returns-in-LabelStartImageStart : goal.returns-in-LabelStartImageStart
+returns-in-LabelStartImageStart c = record { call_is_step = did-step inlines c.args.name image_start _ _ _ _ (search rules) refl c.begin.ensures c.image_start.ensures }
+
+pub returns-in-LabelStartImageOpen : goal.returns-in-LabelStartImageOpen
+returns-in-LabelStartImageOpen c = record { call_is_step = did-step inlines c.args.name image_open _ _ _ _ (search rules) refl c.begin.ensures c.image_open.ensures }
+
+pub returns-in-LabelEndStart : goal.returns-in-LabelEndStart
+returns-in-LabelEndStart c = record { call_is_step = did-step inlines c.args.name end_start _ _ _ _ (search rules) refl c.begin.ensures c.end_start.ensures }
+
+pub returns-in-LabelEndOk : goal.returns-in-LabelEndOk
+returns-in-LabelEndOk c = record { call_is_step = did-step inlines c.args.name end_ok _ _ _ _ (search rules) refl c.begin.ensures c.end_ok.ensures }
+
+pub returns-in-LabelEndNok : goal.returns-in-LabelEndNok
+returns-in-LabelEndNok c = record { call_is_step = did-step inlines c.args.name end_nok _ _ _ _ (search rules) refl c.begin.ensures c.end_nok.ensures }
+
+pub returns-in-LabelEndResourceStart : goal.returns-in-LabelEndResourceStart
+returns-in-LabelEndResourceStart c = record { call_is_step = did-step inlines c.args.name resource_start _ _ _ _ (search rules) refl c.begin.ensures c.resource_start.ensures }
+
+pub returns-in-LabelEndResourceBefore : goal.returns-in-LabelEndResourceBefore
+returns-in-LabelEndResourceBefore c = record { call_is_step = did-step inlines c.args.name resource_before _ _ _ _ (search rules) refl c.begin.ensures c.resource_before.ensures }
+
+pub returns-in-ResourceGapWhite : goal.returns-in-ResourceGapWhite
+returns-in-ResourceGapWhite c = record { call_is_step = did-step inlines c.args.name gap_white _ _ _ _ (search rules) refl c.begin.ensures c.gap_white.ensures }
+
+pub returns-in-ResourceGapLine : goal.returns-in-ResourceGapLine
+returns-in-ResourceGapLine c = record { call_is_step = did-step inlines c.args.name gap_line _ _ _ _ (search rules) refl c.begin.ensures c.gap_line.ensures }
+
+pub returns-in-ResourceGapLineWhite : goal.returns-in-ResourceGapLineWhite
+returns-in-ResourceGapLineWhite c = record { call_is_step = did-step inlines c.args.name gap_line_white _ _ _ _ (search rules) refl c.begin.ensures c.gap_line_white.ensures }
+
+pub returns-in-LabelEndResourceOpen : goal.returns-in-LabelEndResourceOpen
+returns-in-LabelEndResourceOpen c = record { call_is_step = did-step inlines c.args.name resource_open _ _ _ _ (search rules) refl c.begin.ensures c.resource_open.ensures }
+
+pub returns-in-DestinationEnclosedBefore : goal.returns-in-DestinationEnclosedBefore
+returns-in-DestinationEnclosedBefore c = record { call_is_step = did-step inlines c.args.name enclosed_before _ _ _ _ (search rules) refl c.begin.ensures c.enclosed_before.ensures }
+
+pub returns-in-DestinationEnclosed : goal.returns-in-DestinationEnclosed
+returns-in-DestinationEnclosed c = record { call_is_step = did-step inlines c.args.name enclosed _ _ _ _ (search rules) refl c.begin.ensures c.enclosed.ensures }
+
+pub returns-in-DestinationEnclosedEscape : goal.returns-in-DestinationEnclosedEscape
+returns-in-DestinationEnclosedEscape c = record { call_is_step = did-step inlines c.args.name enclosed_escape _ _ _ _ (search rules) refl c.begin.ensures c.enclosed_escape.ensures }
+
+pub returns-in-ResourceDestinationEnd : goal.returns-in-ResourceDestinationEnd
+returns-in-ResourceDestinationEnd c = record { call_is_step = did-step inlines c.args.name destination_end _ _ _ _ (search rules) refl c.begin.ensures c.destination_end.ensures }
+
+pub returns-in-DestinationRaw : goal.returns-in-DestinationRaw
+returns-in-DestinationRaw c = record { call_is_step = did-step inlines c.args.name raw _ _ _ _ (search rules) refl c.begin.ensures c.raw.ensures }
+
+pub returns-in-DestinationRawEscape : goal.returns-in-DestinationRawEscape
+returns-in-DestinationRawEscape c = record { call_is_step = did-step inlines c.args.name raw_escape _ _ _ _ (search rules) refl c.begin.ensures c.raw_escape.ensures }
+
+pub returns-in-LabelEndResourceDestinationAfter : goal.returns-in-LabelEndResourceDestinationAfter
+returns-in-LabelEndResourceDestinationAfter c = record { call_is_step = did-step inlines c.args.name destination_after _ _ _ _ (search rules) refl c.begin.ensures c.destination_after.ensures }
+
+pub returns-in-TitleStart : goal.returns-in-TitleStart
+returns-in-TitleStart c = record { call_is_step = did-step inlines c.args.name title_start _ _ _ _ (search rules) refl c.begin.ensures c.title_start.ensures }
+
+pub returns-in-TitleBegin : goal.returns-in-TitleBegin
+returns-in-TitleBegin c = record { call_is_step = did-step inlines c.args.name title_begin _ _ _ _ (search rules) refl c.begin.ensures c.title_begin.ensures }
+
+pub returns-in-TitleInside : goal.returns-in-TitleInside
+returns-in-TitleInside c = record { call_is_step = did-step inlines c.args.name title_inside _ _ _ _ (search rules) refl c.begin.ensures c.title_inside.ensures }
+
+pub returns-in-TitleEscape : goal.returns-in-TitleEscape
+returns-in-TitleEscape c = record { call_is_step = did-step inlines c.args.name title_escape _ _ _ _ (search rules) refl c.begin.ensures c.title_escape.ensures }
+
+pub returns-in-TitleAfterEol : goal.returns-in-TitleAfterEol
+returns-in-TitleAfterEol c = record { call_is_step = did-step inlines c.args.name title_line _ _ _ _ (search rules) refl c.begin.ensures c.title_line.ensures }
+
+pub returns-in-ResourceTitleWhite : goal.returns-in-ResourceTitleWhite
+returns-in-ResourceTitleWhite c = record { call_is_step = did-step inlines c.args.name title_white _ _ _ _ (search rules) refl c.begin.ensures c.title_white.ensures }
+
+pub returns-in-ResourceTitleEnd : goal.returns-in-ResourceTitleEnd
+returns-in-ResourceTitleEnd c = record { call_is_step = did-step inlines c.args.name title_end _ _ _ _ (search rules) refl c.begin.ensures c.title_end.ensures }
+
+pub returns-in-LabelEndResourceEnd : goal.returns-in-LabelEndResourceEnd
+returns-in-LabelEndResourceEnd c = record { call_is_step = did-step inlines c.args.name resource_end _ _ _ _ (search rules) refl c.begin.ensures c.resource_end.ensures }
