@@ -9,9 +9,9 @@ pub mod Chunks
 pub mod Forms
 pub mod InlineCuts
 pub mod InlineForms
-pub mod InlineOrder
 pub mod InlineSteps
 pub mod InlineTight
+pub mod ResourceSteps
 pub mod Segments
 pub mod Spans
 pub mod Strings

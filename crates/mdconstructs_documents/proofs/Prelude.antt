@@ -75,16 +75,12 @@ pub use Rattle.markdown_tokenizer.specs.Text.{CanFollow, FitsAfter, Given, IsDoc
 pub use Rattle.markdown_tokenizer.specs.declared.subtokenize.Subresult.{Subresult}
 pub use Rattle.markdown_tokenizer.specs.declared.tokenizer.fault.Fault.{Fault}
 pub use Rattle.markdown_tokenizer.specs.declared.tokenizer.fault.Fault.TheVariants.{Failed, Memory, Message as OfMessage}
-pub use Rattle.mdconstructs_attention.proofs.Beside.Kept.{beside-in}
-pub use Rattle.mdconstructs_attention.proofs.PairsKeep.{pairs-keep, pairs-keep-indices}
-pub use Rattle.mdconstructs_attention.proofs.RunEdits.{emphasis-can-be-made}
-pub use Rattle.mdconstructs_attention.proofs.RunTexts.{runs-and-texts}
+pub use Rattle.mdconstructs_attention.proofs.PairsKeep.{pairs-keep}
 pub use Rattle.mdconstructs_attention.specs.Beside.{AreBeside, IsBeside}
-pub use Rattle.mdconstructs_attention.specs.Emphasis.{Run, closings, data_of, events_of_runs, inner_name, later, markers_of, markers_of_all, openings, outer_name, paired, same, sequence_name, tail_events, unlinked_event}
-pub use Rattle.mdconstructs_attention.specs.LawStatements.{AreFresh}
+pub use Rattle.mdconstructs_attention.specs.Emphasis.{Run, closings, data_of, inner_name, later, markers_of, markers_of_all, openings, outer_name, paired, same, sequence_name, tail_events, unlinked_event}
 pub use Rattle.mdconstructs_attention.specs.Places.{Standing, markers, standing}
-pub use Rattle.mdconstructs_attention.specs.RunEdits.{HasRunsAt, in_place, index_of}
-pub use Rattle.mdconstructs_attention.specs.Runs.{depth_after, index_of_event, is_sequence, is_star_byte, run_at, runs_from, runs_in, text_before, text_behind, with_emphasis}
+pub use Rattle.mdconstructs_attention.specs.RunEdits.{in_place}
+pub use Rattle.mdconstructs_attention.specs.Runs.{is_sequence, is_star_byte}
 pub use Rattle.mdconstructs_documents.specs.ByteRanges.{AreRanges, FollowFrom, IsRangeFrom, is_in, seats_in, text_events_in}
 pub use Rattle.mdconstructs_documents.specs.Documents.{AreEventsOf, AreFlowEvents, AreFlowInlines, ChainsAreReadable, IsReadable, document, options_with, virtual_bytes}
 pub use Rattle.mdconstructs_documents.specs.FlowTextLaws.{InlinesAccount, InlinesAreFormed, InlinesAreRead}
@@ -137,7 +133,7 @@ pub use Rattle.mdconstructs_inline_constructs.specs.HtmlText.{html_of, piece_at,
 pub use Rattle.mdconstructs_inline_constructs.specs.Reference.{decimal, hexadecimal, mark_events, marks, named, reference_at}
 pub use Rattle.mdconstructs_inline_constructs.specs.WhiteSpace.{is_white_left, white_space, white_space_at}
 pub use Rattle.mdconstructs_inlines.proofs.InlineApart.{some-item}
-pub use Rattle.mdconstructs_inlines.proofs.InlineBuilt.{all-built, items-built, read-alone, read-balanced}
+pub use Rattle.mdconstructs_inlines.proofs.InlineBuilt.{all-built, read-alone, read-balanced}
 pub use Rattle.mdconstructs_inlines.proofs.InlineChains.{inline-alone, reads-texts}
 pub use Rattle.mdconstructs_inlines.proofs.Looks.{inlines-refuse-nothing}
 pub use Rattle.mdconstructs_inlines.proofs.StringChains.{reads-strings-of}

@@ -5,7 +5,7 @@ use Rattle.markdown_base.specs.declared.configuration.Constructs.{Constructs}
 use Rattle.markdown_base.specs.declared.event.Event.{Event}
 use Rattle.markdown_base.specs.Virtual.{Seat}
 use Rattle.mdconstructs_machines.specs.LineEvents.{lines_in}
-use Rattle.mdconstructs_attention.specs.Runs.{with_emphasis}
+use Rattle.mdconstructs_links.specs.Linked.{with_links}
 use Rattle.mdconstructs_flow_read.specs.LeafBlocks.{LeafBlock, leaf_blocks}
 use Rattle.mdconstructs_flow_read.specs.LeafEvents.{Mark, block_around, body, linked_from}
 use Rattle.mdconstructs_inlines.specs.InlineEvents.{inline_items}
@@ -30,7 +30,7 @@ module _ (texts strings : List Seat → List Event) where
 
 -- the events of virtual bytes of a document, as inline text
 abbrev pub inline_seat_events : Constructs → (bytes : List ℕ) → List Seat → List Event
-inline_seat_events on bytes seats = with_emphasis bytes (flat_map (item_events bytes) (inline_items on seats))
+inline_seat_events on bytes seats = with_links bytes (flat_map (item_events bytes) (inline_items on seats))
 
 -- `Flow` with inline text: each text is read as `Inlines` reads it
 abbrev pub flow_inlines : Constructs → (bytes : List ℕ) → List Seat → List Event

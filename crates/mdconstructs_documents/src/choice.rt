@@ -22,8 +22,8 @@ pub enum Which {
     Save,
     /// `text`: as `paragraphs`, but in the text of its chunks are code spans, autolinks and escapes.
     Text,
-    /// `flow`: the leaf blocks of CommonMark. In paragraphs and headings is inline text, with emphasis; in info strings
-    /// of fenced code are escapes and character references.
+    /// `flow`: the leaf blocks of CommonMark. In paragraphs and headings is inline text, with links, images and emphasis; in info
+    /// strings of fenced code are escapes and character references.
     Flow,
     /// `document`: block quotes and lists, and the leaf blocks in them, as `flow` reads these.
     Document,

@@ -53,8 +53,8 @@ pub fn events_of(
     }
 }
 
-/// The events of a document: its block quotes and lists, the leaf blocks in them, and each text of these read as inline text, so that emphasis
-/// stands in its block.
+/// The events of a document: its block quotes and lists, the leaf blocks in them, and each text of these read as inline text, so that links,
+/// images and emphasis stand in their blocks.
 ///
 /// The events are what a definition without states says of the document's lines (CommonMark, "Container blocks", "Leaf blocks" and "Inlines",
 /// without what the machines do not read yet). They are well formed: balanced, each void span empty, at places of the document, and in order

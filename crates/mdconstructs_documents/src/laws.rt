@@ -43,8 +43,9 @@ pub fn leaf_blocks_can_be_read_next()
     ensures { LeafBlocksCanBeReadNext }
 {}
 
-/// Where the texts of leaf blocks are read as inline text, each stands in its block, and so does emphasis: the list with the events of each
-/// chain's text in place of its chunks is what a definition says of the lines, whatever gaps are between these. It has neither chains nor parts.
+/// Where the texts of leaf blocks are read as inline text, each stands in its block, and so do links, images and emphasis: the list with the
+/// events of each chain's text in place of its chunks is what a definition says of the lines, whatever gaps are between these. It has
+/// neither chains nor parts.
 pub fn inline_texts_stand_in_their_blocks()
     ensures { InlinesAreRead }
 {}
@@ -55,14 +56,14 @@ pub fn inline_texts_and_strings_are_read_at_once()
     ensures { InlinesAreReadAtOnce }
 {}
 
-/// The events of a text's leaf blocks with inline text are well formed: emphasis keeps places in order, and each of its own is one of
-/// the document.
+/// The events of a text's leaf blocks with inline text are well formed: links, images and emphasis keep places in order, and each of their
+/// own is one of the document.
 pub fn inline_texts_in_their_blocks_are_well_formed()
     ensures { InlinesAreFormed }
 {}
 
-/// Each virtual byte of a text is in exactly one innermost span of the events of its leaf blocks with inline text: what emphasis puts in
-/// place of a delimiter run loses no byte, and no span of it is empty.
+/// Each virtual byte of a text is in exactly one innermost span of the events of its leaf blocks with inline text: what is put in
+/// place of brackets and delimiter runs loses no byte, and no span of it is empty.
 pub fn inline_texts_in_their_blocks_account_for_each_byte()
     ensures { InlinesAccount }
 {}

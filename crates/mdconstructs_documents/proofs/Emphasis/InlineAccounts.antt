@@ -1,15 +1,14 @@
 -- Each virtual byte of a text is in one innermost span of the events of leaf blocks with inline text.
-use Rattle.mdconstructs_documents.proofs.Prelude.{ℕ, List, [], ◌∷◌, ◌++◌, None, append_assoc, map, sym, subst, append-nil, AllByRecursion, flat_map, Constructs, Event, Point, Seat, end_after, point, every-back, every-front, empty_text, emphasis-can-be-made, AccountFor, lines_in, read-alone, read-balanced, read_events, string_seat_events, shown, AcrossGap, Course, course-every, course-on, text-course, AreSpans, Begins, accounts-kept, IsKeptBySpans, leaf_blocks, Mark, document, options_with, InlinesAccount, block_texts, inline_seat_events, read_marks}
-use Rattle.mdconstructs_documents.proofs.Emphasis.InlineRuns.{inline-runs}
-use Rattle.mdconstructs_documents.proofs.Emphasis.Pairs.{HaveAtoms, pairs-of-atoms, shut-account}
-use Rattle.mdconstructs_documents.proofs.Emphasis.Tracked.{runs-tracked}
+use Rattle.mdconstructs_documents.proofs.Prelude.{ℕ, List, [], ◌∷◌, ◌++◌, None, append_assoc, map, sym, subst, append-nil, AllByRecursion, flat_map, Constructs, Event, Point, Seat, end_after, every-back, every-front, AccountFor, lines_in, string_seat_events, shown, AcrossGap, Course, course-every, course-on, text-course, AreSpans, Begins, accounts-kept, IsKeptBySpans, leaf_blocks, Mark, InlinesAccount, block_texts, inline_seat_events, read_marks}
+use Rattle.mdconstructs_documents.proofs.Emphasis.InlineReads.{balanced-of, read-lined, read_of}
+use Rattle.mdconstructs_documents.proofs.Emphasis.Pairs.{Opens, shut-account}
 use Rattle.mdconstructs_documents.proofs.Emphasis.Runs.{balanced-opens, balanced-shut}
-use Rattle.mdconstructs_documents.proofs.Emphasis.Stand.{emphasis-accounts}
 use Rattle.mdconstructs_documents.proofs.FlowTexts.Accounts.{bare-marks, cut-spans, linked-account}
-use Rattle.mdconstructs_documents.proofs.FlowTexts.InlineSteps.{Opens, Steps, steps-virtual}
+use Rattle.mdconstructs_documents.proofs.FlowTexts.InlineSteps.{Steps, steps-virtual}
 use Rattle.mdconstructs_documents.proofs.FlowTexts.Spans.{texts-keep}
 use Rattle.mdconstructs_documents.proofs.FlowTexts.Strings.{string-cut}
 use Rattle.mdconstructs_documents.proofs.Innermost.Lined.{LinedFor}
+use Rattle.mdconstructs_links.proofs.Leaves.{links-balanced}
 
 begins-marks : (es : List Event) → Opens es → Begins (map (λ (e : Event). (e, None)) es)
 begins-marks [] h = tt
@@ -40,26 +39,16 @@ module _ (t : ℕ) (bytes : List ℕ) (on : Constructs) where
 
   -- inline text accounts for such virtual bytes, line by line
   pub inline-lined : (seats : List Seat) → AllByRecursion (Steps bytes) seats → (p : Point) (rest : List Seat) → Course AcrossGap t bytes p (seats ++ rest) → LinedFor (inline_seat_events on bytes seats) bytes seats
-  inline-lined seats steps p rest course =
-      let g = document (options_with on 4) bytes in
-      let text = record (empty_text (point 1 1 0 0)) { seats = seats } in
-      let es = read_events g text in
-      let cut = inline-runs bytes on seats in
-      let atoms = cut.0.atoms in
-      let have : HaveAtoms bytes es atoms = subst (λ l. HaveAtoms bytes l atoms) (sym cut.0.are) (pairs-of-atoms bytes atoms) in
-      let runs = runs-tracked bytes t atoms p rest (subst (λ l. Course AcrossGap t bytes p (l ++ rest)) cut.0.all course) (subst (AllByRecursion (Steps bytes)) cut.0.all steps) cut.1 in
-      subst (LinedFor (inline_seat_events on bytes seats) bytes) (sym cut.0.all) (emphasis-accounts bytes es atoms (read-balanced g text) have cut.0.lines runs)
+  inline-lined seats steps p rest course = read-lined t bytes on seats p rest course steps
 
   inline-spans : (seats : List Seat) → SpansThere (read_marks (inline_seat_events on bytes) bytes seats) seats
   inline-spans seats steps p rest course =
-      let g = document (options_with on 4) bytes in
-      let text = record (empty_text (point 1 1 0 0)) { seats = seats } in
       let read = inline_seat_events on bytes seats in
-      let made = emphasis-can-be-made bytes (read_events g text) (read-balanced g text) (read-alone g text) in
+      let balanced = links-balanced bytes (read_of t bytes on seats) (balanced-of t bytes on seats) in
       let account = (inline-lined seats steps p rest course).account in
       record {
-        begins = begins-marks read (balanced-opens made.2);
-        account = λ events more h. subst (λ l. AccountFor (l ++ events) bytes (seats ++ more)) (sym (bare-marks read)) (shut-account bytes read events seats more (balanced-shut made.2) account h);
+        begins = begins-marks read (balanced-opens balanced);
+        account = λ events more h. subst (λ l. AccountFor (l ++ events) bytes (seats ++ more)) (sym (bare-marks read)) (shut-account bytes read events seats more (balanced-shut balanced) account h);
       }
 
 pub inlines-account : InlinesAccount

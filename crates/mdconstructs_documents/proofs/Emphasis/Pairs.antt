@@ -46,6 +46,11 @@ pair-first e f es enters exits = rw (enters, exits) refl
 pair-enter : (e f : Event) (es : List Event) → e.kind ≡ Enter → f.kind ≡ Enter → innermost_pairs (e ∷ f ∷ es) ≡ innermost_pairs (f ∷ es)
 pair-enter e f es enters inner = rw (enters, inner) refl
 
+-- events begin with an enter, if there are any
+abbrev pub Opens : List Event → Type 0
+Opens [] = Unit {0}
+Opens (e ∷ es) = e.kind ≡ Enter
+
 -- the last event is no enter
 abbrev pub Shut : List Event → Type 0
 Shut [] = Unit {0}

@@ -2,9 +2,9 @@ use Rattle.mdconstructs_documents.proofs.Prelude.{◌≡◌, ℕ, ◌==◌, Bool
 use Rattle.std.proofs.Math.Bool.{or-false}
 -- Delimiter runs among atoms, by their virtual bytes: in a text they go byte by byte, and two that adjoin have different markers.
 use Rattle.mdconstructs_documents.proofs.Emphasis.Follow.{FollowFrom}
-use Rattle.mdconstructs_documents.proofs.Emphasis.RunAtoms.{AreWholeRuns, Differs, is_run}
-use Rattle.mdconstructs_documents.proofs.Emphasis.Runs.{AreRuns, HasOther}
-use Rattle.mdconstructs_documents.proofs.FlowTexts.InlineSteps.{AreDelimiters, Steps, delimiters-whole}
+use Rattle.mdconstructs_documents.proofs.Emphasis.RunAtoms.{AreDelimiters, AreWholeRuns, Stops}
+use Rattle.mdconstructs_documents.proofs.Emphasis.LinkAccounts.{AreGood, StopsAt, star_at}
+use Rattle.mdconstructs_documents.proofs.FlowTexts.InlineSteps.{Steps, delimiters-whole}
 
 -- two delimiters that are not equal are different markers
 markers-differ : (x y : ℕ) → is_delimiter x ≡ true → is_delimiter y ≡ true → (x ≡ y → ⊥) → same (x == 42) (y == 42) ≡ false
@@ -20,15 +20,16 @@ markers-differ x y h k differ = by (x == 42) (y == 42) refl refl
         absurd (differ (eqb-true x 95 one ∙ sym (eqb-true y 95 other)))
 
 module _ (bytes : List ℕ) where
-  star-is : (s : Seat) → Steps bytes s → is_delimiter s.byte ≡ true → is_star_byte (slice_get bytes (shown bytes s.point).index) ≡ (s.byte == 42)
+  star-is : (s : Seat) → Steps bytes s → is_delimiter s.byte ≡ true → star_at bytes s ≡ (s.byte == 42)
   star-is s steps is = let step = steps is in ap (λ (q : Point). is_star_byte (slice_get bytes q.index)) step.1 ∙ ap is_star_byte step.2
 
-  other-marker : (a : Atom) (atoms : List Atom) → Steps bytes a.first → AllByRecursion (Steps bytes) (seats_of atoms) → (is_run a ≡ true → AreDelimiters (atom_seats a)) → AreWholeRuns atoms → Differs a atoms → HasOther bytes a atoms
-  other-marker a [] step steps here whole differ = tt
-  other-marker a (b ∷ bs) step steps here whole differ = λ first second.
-      let one = star-is a.first step (here first).0 in
-      let other = star-is b.first steps.0 (whole.0 second).0 in
-      (λ i. same (one i) (other i)) ∙ markers-differ a.first.byte b.first.byte (here first).0 (whole.0 second).0 (differ first second)
+  -- where a run stops, its marker does
+  marker-stops : (s : Seat) (l : List Seat) → Steps bytes s → AllByRecursion (Steps bytes) l → is_delimiter s.byte ≡ true → Stops s.byte l → StopsAt bytes (star_at bytes s) l
+  marker-stops s [] step steps here stops = tt
+  marker-stops s (r ∷ rs) step steps here stops = λ there.
+      let one = star-is s step here in
+      let other = star-is r steps.0 there in
+      (λ i. same (one i) (other i)) ∙ markers-differ s.byte r.byte here there stops
 
   module _ (t : ℕ) where
     -- delimiters of a document that adjoin go byte by byte
@@ -40,7 +41,7 @@ module _ (bytes : List ℕ) where
         let there = track-place t bytes s.end (ss ++ rest) track.2 in
         (track.1.meets, there.is_shown ∙ end, subst (λ q. FollowFrom bytes q ss) end (follow-track s.end ss rest track.2 steps.1 are.1))
 
-    pub runs-tracked : (atoms : List Atom) (p : Point) (rest : List Seat) → Course AcrossGap t bytes p (seats_of atoms ++ rest) → AllByRecursion (Steps bytes) (seats_of atoms) → AreWholeRuns atoms → AreRuns bytes atoms
+    pub runs-tracked : (atoms : List Atom) (p : Point) (rest : List Seat) → Course AcrossGap t bytes p (seats_of atoms ++ rest) → AllByRecursion (Steps bytes) (seats_of atoms) → AreWholeRuns atoms → AreGood bytes atoms []
     runs-tracked [] p rest course steps whole = tt
     runs-tracked (a ∷ atoms) p rest course steps whole =
         let l = atom_seats a in
@@ -49,9 +50,15 @@ module _ (bytes : List ℕ) where
         let here = subst (Course AcrossGap t bytes p) (append_assoc l more rest) course in
         let front = every-front (Steps bytes) l more steps in
         let back = every-back (Steps bytes) l more steps in (
-          λ is.
-              let there = line-track t bytes p a.first a.others (more ++ rest) (delimiters-whole l (whole.0 is)) here in
-              follow-track o l [] (subst (Track t bytes o) (sym (append-nil l)) there) front (whole.0 is),
-          other-marker a atoms front.0 back whole.0 whole.2 whole.1,
+          (
+            (λ is.
+                let (are, stops) = whole.0 is in
+                let there = line-track t bytes p a.first a.others (more ++ rest) (delimiters-whole l are) here in (
+                  follow-track o l [] (subst (Track t bytes o) (sym (append-nil l)) there) front are,
+                  are.0,
+                  subst (StopsAt bytes (star_at bytes a.first)) (sym (append-nil more)) (marker-stops a.first more front.0 back are.0 stops),
+                )),
+            whole.1,
+          ),
           runs-tracked atoms (end_after p l) rest (course-on AcrossGap t bytes p l (more ++ rest) here) back whole.2,
         )

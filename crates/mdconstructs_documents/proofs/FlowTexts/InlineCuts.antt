@@ -1,7 +1,15 @@
--- The items of inline text can be cut into innermost spans: none goes over a line ending.
+-- The items of inline text can be cut into innermost spans, none of which goes over a line ending but at its end.
 use Rattle.markdown_base.proofs.Facts.Numbers.{unlike}
-use Rattle.mdconstructs_documents.proofs.Prelude.{◌≡◌, ℕ, ◌+◌, ◌≤◌, ◌&&◌, true, false, cond, List, [], ◌∷◌, length, take, drop, refl, sym, subst, arith, suc, drop-map, drop-take, length-drop, take-append-drop, flat_map, prefix_len, and-right, every-map, Constructs, AttentionSequence, Data, LineEnding, SpaceOrTab, Seat, is_white, is_line_ending, autolink-cut, code-span-cut, EachThere, there-holds, IsCut, OneLine, cut-append, cut-leaf, ItemCut, NoEnding, cuts, first-plain, one-taken, plain-add, plain-line, run-plain, escape-cut, backticks, is_backtick, is_line_feed, item_length, bytes_of, first_plain, item_events, email-cut, html-mark-cut, html-tag-cut, break-escape-cut, trailing-break-cut, reference-cut, white-run-cut, white-space-cut, is_white_left, or_parts, some-item, begins_run, data_length, data_run, delimiter_run, ends_data, ends_data_at, inline_grammars, inline_item_at, inline_items, line_break, run_length, run_or_part, up_to, is_delimiter}
-use Rattle.mdconstructs_documents.proofs.FlowTexts.InlineSteps.{AreDelimiters, run-delimiters}
+use Rattle.mdconstructs_documents.proofs.Prelude.{◌≡◌, ℕ, ◌+◌, ◌≤◌, ◌&&◌, true, false, cond, List, [], ◌∷◌, length, take, drop, refl, sym, subst, arith, suc, Some, drop-map, drop-take, take-append-drop, prefix_len, and-right, every-map, Constructs, AttentionSequence, Data, LineEnding, SpaceOrTab, Seat, is_white, is_line_ending, autolink-cut, code-span-cut, EachThere, IsCut, OneLine, cut-append, cut-leaf, ItemCut, NoEnding, first-plain, one-taken, plain-add, plain-line, run-plain, escape-cut, backticks, is_backtick, is_line_feed, bytes_of, first_plain, item_events, email-cut, html-mark-cut, html-tag-cut, break-escape-cut, trailing-break-cut, reference-cut, white-space-cut, is_white_left, or_parts, begins_run, data_length, data_run, delimiter_run, ends_data, ends_data_at, inline_grammars, line_break, run_length, run_or_part, up_to, is_delimiter, leaf, Found}
+use Rattle.std.proofs.lemmas.List.{length-map}
+use Rattle.markdown_base.specs.declared.event.Name.TheVariants.{LabelEnd, LabelLink, LabelMarker}
+use Rattle.mdconstructs_inlines.proofs.BracketBytes.{tail-within}
+use Rattle.mdconstructs_inlines.specs.Brackets.{label_end, link_bracket, lone_end}
+use Rattle.mdconstructs_resources.proofs.Resources.Cuts.{resource-cut}
+use Rattle.mdconstructs_resources.specs.Resource.{resource_grammar}
+use Rattle.mdconstructs_text.proofs.DeepSpans.Atoms.{cut-span}
+use Rattle.mdconstructs_documents.proofs.Emphasis.RunAtoms.{AreDelimiters}
+use Rattle.mdconstructs_documents.proofs.FlowTexts.InlineSteps.{run-delimiters}
 
 pub no-endings : (l : List Seat) → AreDelimiters l → NoEnding l
 no-endings l h = every-map (λ (s : Seat). is_delimiter s.byte ≡ true) (λ (s : Seat). is_line_ending s ≡ false) (λ s is. unlike is_delimiter 10 refl s.byte is) l h
@@ -56,12 +64,18 @@ module _ (bytes : List ℕ) (on : Constructs) where
   pub each-cut : (l : List Seat) → EachThere (ItemCut bytes l) inline_grammars (bytes_of l)
   each-cut l = (code-span-cut bytes l, (autolink-cut bytes l, (email-cut bytes l, (html-mark-cut bytes l, (html-tag-cut bytes l, (escape-cut bytes l, (break-escape-cut bytes l, (reference-cut bytes l, (trailing-break-cut bytes l, (white-space-cut bytes l, tt))))))))))
 
-  item-cut : (s : Seat) (ss : List Seat) → ItemCut bytes (s ∷ ss) (inline_item_at on (bytes_of (s ∷ ss)))
-  item-cut s ss = let l = s ∷ ss in there-holds (ItemCut bytes l) inline_grammars on (bytes_of l) (run_or_part on (bytes_of l)) (each-cut l) (other-cut s ss)
+  -- brackets and ends
+  pub link-cut : (l : List Seat) → ItemCut bytes l link_bracket
+  link-cut l = let m = take 1 l in cut-span bytes LabelLink m (leaf bytes LabelMarker m) (cut-leaf bytes LabelMarker m (one-taken l))
 
-  pub inline-cut : (seats : List Seat) → IsCut bytes (flat_map (item_events bytes) (inline_items on seats)) seats
-  inline-cut seats =
-      let n = prefix_len is_white (bytes_of seats) in
-      let few : length (drop n seats) ≤ length seats = omega (arith, length-drop n seats) in
-      subst (IsCut bytes (flat_map (item_events bytes) (inline_items on seats))) (take-append-drop n seats)
-      (cut-append bytes (white-run-cut bytes seats) (cuts bytes (inline_item_at on) item_length (item_events bytes) (some-item on) item-cut (length seats) (drop n seats) few))
+  pub lone-cut : (l : List Seat) → ItemCut bytes l lone_end
+  lone-cut l = cut-leaf bytes LabelMarker (take 1 l) (one-taken l)
+
+  pub end-cut : (s : Seat) (ss : List Seat) (tail : Found) → resource_grammar.front (bytes_of ss) ≡ Some tail → ItemCut bytes (s ∷ ss) (label_end tail)
+  end-cut s ss tail is =
+      let one : suc tail.size ≡ 1 + tail.size = omega arith in
+      let many = length-map ss (λ (x : Seat). x.byte) in
+      let fits : tail.size ≤ length ss = (let within = tail-within (bytes_of ss) tail is in omega (arith, many, within)) in
+      let m = s ∷ [] in
+      let mark = cut-span bytes LabelEnd m (leaf bytes LabelMarker m) (cut-leaf bytes LabelMarker m tt) in
+      subst (λ n. IsCut bytes (item_events bytes (label_end tail, take n (s ∷ ss))) (take n (s ∷ ss))) one (cut-append bytes mark (resource-cut bytes ss tail fits is))

@@ -1,12 +1,14 @@
 -- The events of leaf blocks with inline text are well formed: balanced, void spans empty, at places, and in order of these.
-use Rattle.mdconstructs_documents.proofs.Prelude.{ℕ, List, ◌++◌, sym, subst, AllByRecursion, flat_map, Constructs, ParseOptions, Event, Seat, end_after, point, names_after_balanced, every-back, every-front, IsWellFormed, IsDocument, empty_text, emphasis-can-be-made, lines_in, events_of, read-alone, read-balanced, read_events, string_seat_events, shown, whole_text, whole-is-text, AcrossGap, Course, across-none, course-every, text-course, Formed, FormsOver, over-kept, text-formed, IsKeptBySpans, leaf_blocks, Mark, AreFlowInlines, document, options_with, InlinesAreFormed, block_texts, inline_seat_events, read_marks}
+use Rattle.mdconstructs_documents.proofs.Prelude.{ℕ, List, ◌++◌, sym, subst, AllByRecursion, flat_map, Constructs, ParseOptions, Event, Seat, end_after, names_after_balanced, every-back, every-front, IsWellFormed, IsDocument, lines_in, events_of, string_seat_events, shown, whole_text, whole-is-text, AcrossGap, Course, Place, across-none, course-every, text-course, Formed, FormsOver, over-kept, text-formed, IsKeptBySpans, leaf_blocks, Mark, AreFlowInlines, document, InlinesAreFormed, block_texts, inline_seat_events, read_marks}
+use Rattle.mdconstructs_documents.proofs.Emphasis.InlineReads.{balanced-of, course-ends, read-bytewise, read_of}
 use Rattle.mdconstructs_documents.proofs.FlowTexts.Accounts.{bare-marks}
 use Rattle.mdconstructs_documents.proofs.FlowTexts.Forms.{Ordered, ordered-atoms, string-forms}
-use Rattle.mdconstructs_documents.proofs.FlowTexts.InlineCuts.{inline-cut}
-use Rattle.mdconstructs_documents.proofs.FlowTexts.InlineOrder.{ordered-emphasis}
-use Rattle.mdconstructs_documents.proofs.FlowTexts.InlineSteps.{Steps, all-steps, steps-virtual}
+use Rattle.mdconstructs_documents.proofs.Emphasis.InlineRuns.{inline-cut}
+use Rattle.mdconstructs_documents.proofs.FlowTexts.InlineSteps.{Steps, steps-virtual}
 use Rattle.mdconstructs_documents.proofs.FlowTexts.InlineTight.{inline-tight}
 use Rattle.mdconstructs_documents.proofs.FlowTexts.Spans.{texts-keep}
+use Rattle.mdconstructs_links.proofs.Leaves.{links-balanced}
+use Rattle.mdconstructs_links.proofs.LinkOrder.{links-ordered}
 
 -- ---- inline text
 module _ (t : ℕ) (bytes : List ℕ) (on : Constructs) where
@@ -28,18 +30,16 @@ module _ (t : ℕ) (bytes : List ℕ) (on : Constructs) where
 
   pub inline-forms : (seats : List Seat) → Formed_so (read_marks (inline_seat_events on bytes) bytes seats) seats
   inline-forms seats steps p rest course =
-      let g = document (options_with on 4) bytes in
-      let text = record (empty_text (point 1 1 0 0)) { seats = seats } in
-      let es = read_events g text in
-      let balanced = read-balanced g text in
-      let made = emphasis-can-be-made bytes es balanced (read-alone g text) in
+      let es = read_of t bytes on seats in
+      let balanced = balanced-of t bytes on seats in
       let cut = inline-cut bytes on seats in
       let q = end_after p seats in
       let ordered = ordered-atoms t bytes p cut.atoms rest (subst (λ l. Course AcrossGap t bytes p (l ++ rest)) cut.all course) in
       let placed = subst (λ l. Ordered t bytes p l q) (sym cut.are) (subst (λ l. Ordered t bytes p (events_of bytes cut.atoms) (end_after p l)) (sym cut.all) ordered) in
-      let whole = ordered-emphasis t bytes es balanced (all-steps t bytes on p seats rest course steps) p q placed in
+      let bytewise = read-bytewise t bytes on seats p rest course steps (Place t bytes) (course-ends t bytes p seats rest course) in
+      let whole = links-ordered (Place t bytes) bytes es p q balanced bytewise (record { order = placed.order; places = placed.places }) in
       subst (λ l. Formed t bytes p l q) (sym (bare-marks (inline_seat_events on bytes seats)))
-      (record { balanced = λ st. names_after_balanced made.2 st; tight = inline-tight on bytes seats; order = whole.order; places = whole.places })
+      (record { balanced = λ st. names_after_balanced (links-balanced bytes es balanced) st; tight = inline-tight on bytes seats; order = whole.order; places = whole.places })
 
 pub inlines-formed : InlinesAreFormed
 inlines-formed g text is =

@@ -1,26 +1,18 @@
--- Delimiter runs of inline text go byte by byte: none goes over a tab or a line ending; and no other item has an attention sequence.
-use Rattle.mdconstructs_documents.proofs.Prelude.{◌≡◌, inl, ℕ, zero, suc, ◌+◌, ◌-◌, ◌==◌, true, false, cond, List, [], ◌∷◌, ◌++◌, Option, Some, None, append_assoc, length, take, drop, refl, sym, ap, ◌∙◌, subst, arith, nat_tests, append-nil, is_ascii_punctuation, ◌&&◌, nat_le, nat_lt, not, option_map, slice_get, AllByRecursion, between, flat_map, prefix_len, eqb-true, take-append-drop, and-right, every-append, Constructs, Event, Enter, Exit, AttentionSequence, Autolink, AutolinkEmail, AutolinkMarker, AutolinkProtocol, CharacterEscape, CharacterEscapeMarker, CharacterEscapeValue, CharacterReference, CharacterReferenceMarker, CharacterReferenceMarkerHexadecimal, CharacterReferenceMarkerNumeric, CharacterReferenceMarkerSemi, CharacterReferenceValue, CodeText, CodeTextData, CodeTextSequence, Data, HardBreakEscape, HardBreakTrailing, HtmlText, HtmlTextData, LineEnding, SpaceOrTab, Point, is_enter, same_name, shown, Seat, begins_with_lf, end_after, in_tab, point, tab_width, virtual, virtual_from, shown-other, every-back, every-front, drop-first, and-left, later, is_white, event, leaf, span, EachThere, OfOption, there-holds, when-there, autolink, autolink_at, autolink_to, uri, backticks, has_byte_at, is_backslash, is_backtick, is_greater_than, is_less_than, is_line_feed, is_space, before_backtick_string, code_span, code_span_at, pieces, Found, Grammar, escape, escape_at, item_length, Part, line_ending, plain_run, bytes_of, cut, part_events, item_events, reference-holds, decimal, hexadecimal, mark_events, marks, named, reference_at, email, email_at, email_with, is_at_sign, is_atext, is_domain, is_domain_byte, html-there, marked, tag_length, html_of, piece_at, piece_events, piece_length, break_escape_at, hard_break_escape, hard_break_trailing, trailing_break_at, is_white_left, white_space, white_space_at, items-built, begins_run, data_length, data_run, delimiter_run, inline_grammars, inline_item_at, inline_items, line_break, run_length, run_or_part, is_delimiter, AcrossGap, Course, IsWhole, Place, Track, course-on, line-track, track-on, track-place}
+-- Delimiters of a document stand byte by byte; and the events of other items are of neither runs nor brackets.
+use Rattle.mdconstructs_documents.proofs.Prelude.{◌≡◌, inl, ℕ, zero, suc, ◌+◌, ◌==◌, true, false, cond, List, [], ◌∷◌, ◌++◌, Option, Some, None, length, take, drop, refl, sym, ◌∙◌, subst, arith, nat_tests, is_ascii_punctuation, ◌&&◌, nat_le, nat_lt, option_map, slice_get, AllByRecursion, between, flat_map, prefix_len, eqb-true, every-append, Event, Exit, Autolink, AutolinkEmail, AutolinkMarker, AutolinkProtocol, CharacterEscape, CharacterEscapeMarker, CharacterEscapeValue, CharacterReference, CharacterReferenceMarker, CharacterReferenceMarkerHexadecimal, CharacterReferenceMarkerNumeric, CharacterReferenceMarkerSemi, CharacterReferenceValue, CodeText, CodeTextData, CodeTextSequence, HardBreakEscape, HardBreakTrailing, HtmlText, HtmlTextData, LineEnding, SpaceOrTab, shown, Seat, begins_with_lf, end_after, in_tab, point, tab_width, virtual, virtual_from, shown-other, drop-first, later, is_white, event, leaf, span, EachThere, OfOption, when-there, autolink, autolink_at, autolink_to, uri, backticks, has_byte_at, is_backslash, is_backtick, is_greater_than, is_less_than, is_line_feed, is_space, before_backtick_string, code_span, code_span_at, pieces, Found, escape, escape_at, Part, line_ending, plain_run, bytes_of, cut, part_events, reference-holds, decimal, hexadecimal, mark_events, marks, named, reference_at, email, email_at, email_with, is_at_sign, is_atext, is_domain, is_domain_byte, html-there, marked, tag_length, html_of, piece_at, piece_events, piece_length, break_escape_at, hard_break_escape, hard_break_trailing, trailing_break_at, is_white_left, white_space, white_space_at, data_run, inline_grammars, line_break, run_length, is_delimiter, IsWhole}
 use Rattle.markdown_base.specs.declared.event.Name.{Name}
 use Rattle.mdconstructs_tables.proofs.Looks.Left.{at-front}
 use Rattle.mdconstructs_text.proofs.Texts.Built.{IsKeptBySpans}
 use Rattle.mdconstructs_inline_constructs.specs.Reference.{Kind}
 use Rattle.mdconstructs_inline_constructs.specs.HtmlText as html
 use Rattle.mdconstructs_inline_constructs.specs.HtmlText.{Piece}
-use Rattle.mdconstructs_documents.proofs.FlowTexts.InlineOrder.{Next, RunsStep, Walk, later-later, later-none}
+use Rattle.mdconstructs_documents.proofs.Emphasis.RunAtoms.{AreDelimiters, IsOther, is_special}
+use Rattle.mdconstructs_links.proofs.RunOrder.{later-later, later-none}
 
 -- ---- delimiters among virtual bytes
 -- behind a delimiter is the place one byte later; it is shown at itself; and it is the byte there
 abbrev pub Steps : List ℕ → Seat → Type 0
 Steps bytes s = is_delimiter s.byte ≡ true → (s.end ≡ later 1 s.point) × (shown bytes s.point ≡ s.point) × (slice_get bytes s.point.index ≡ Some s.byte)
-
--- an event is of no attention sequence
-abbrev pub IsOther : Event → Type 0
-IsOther e = same_name e.name AttentionSequence ≡ false
-
--- events begin with an enter, if there are any
-abbrev pub Opens : List Event → Type 0
-Opens [] = Unit {0}
-Opens (e ∷ es) = e.kind ≡ Enter
 
 module _ (bytes : List ℕ) where
   steps-tab : (b n l c i v : ℕ) → is_delimiter b ≡ false → AllByRecursion (Steps bytes) (in_tab b n l c i v)
@@ -68,9 +60,6 @@ module _ (bytes : List ℕ) where
   steps-virtual t = steps-from t 1 1 0 bytes refl
 
 -- ---- runs
-abbrev pub AreDelimiters : List Seat → Type 0
-AreDelimiters l = AllByRecursion (λ (s : Seat). is_delimiter s.byte ≡ true) l
-
 taken-like : (b : ℕ) (l : List Seat) → is_delimiter b ≡ true → AreDelimiters (take (prefix_len (λ c. c == b) (bytes_of l)) l)
 taken-like b [] h = tt
 taken-like b (s ∷ ss) h =
@@ -97,78 +86,24 @@ delimiters-whole [] h = tt
 delimiters-whole (s ∷ ss) h = inl (no-line-feed s.byte h.0, delimiters-whole ss h.1)
 
 module _ (t : ℕ) (bytes : List ℕ) where
-  walk-one : (p : Point) (n : ℕ) → Place t bytes p → Walk t bytes (later 1 p) n → Walk t bytes p (suc n)
-  walk-one p n here more zero l = subst (Place t bytes) (sym (later-none p)) here
-  walk-one p n here more (suc k) l =
-      let one : 1 + k ≡ suc k = omega arith in
-      subst (λ j. Place t bytes (later j p)) one (subst (Place t bytes) (later-later k 1 p) (more k (omega (arith, l))))
-
-  walk-track : (p : Point) (l rest : List Seat) → Track t bytes p (l ++ rest) → AllByRecursion (Steps bytes) l → AreDelimiters l → (end_after p l ≡ later (length l) p) × Walk t bytes p (length l)
-  walk-track p [] rest track steps are =
-      (sym (later-none p), λ k l. let none : 0 ≡ k = omega (arith, l) in subst (λ j. Place t bytes (later j p)) none (subst (Place t bytes) (sym (later-none p)) (track-place t bytes p rest track)))
-  walk-track p (s ∷ ss) rest track steps are =
-      let step = steps.0 are.0 in
-      let end : s.end ≡ later 1 p = step.0 ∙ ap (later 1) (sym step.1 ∙ track.1.meets) in
-      let more = walk-track s.end ss rest track.2 steps.1 are.1 in
-      let one : 1 + length ss ≡ length (s ∷ ss) = omega arith in (
-        more.0 ∙ ap (later (length ss)) end ∙ later-later (length ss) 1 p ∙ ap (λ n. later n p) one,
-        walk-one p (length ss) track.0 (subst (λ x. Walk t bytes x (length ss)) end more.1),
-      )
-
-  steps-between : (p : Point) (n : ℕ) → Walk t bytes p n → let m = (later n p).index - p.index in (later m p ≡ later n p) × Walk t bytes p m
-  steps-between p n h =
-      let same : n ≡ p.index + n - p.index = omega arith in
-      (ap (λ k. later k p) (sym same), subst (Walk t bytes p) same h)
-
-  run-steps : (p : Point) (l rest : List Seat) → Track t bytes p (l ++ rest) → AllByRecursion (Steps bytes) l → AreDelimiters l → RunsStep t bytes (leaf bytes AttentionSequence l)
-  run-steps p [] rest track steps are = tt
-  run-steps p (s ∷ ss) rest track steps are =
-      let n = length (s ∷ ss) in
-      let q = end_after s.end ss in
-      let there = track-place t bytes q rest (track-on t bytes p (s ∷ ss) rest track) in
-      let walk = walk-track p (s ∷ ss) rest track steps are in
-      let end : shown bytes q ≡ later n p = there.is_shown ∙ walk.0 in
-      let between = subst (λ (b : Point). let m = b.index - p.index in (later m p ≡ b) × Walk t bytes p m) (sym end) (steps-between p n walk.1) in
-      let both = subst (λ (a : Point). let m = (shown bytes q).index - a.index in (later m a ≡ shown bytes q) × Walk t bytes a m) (sym track.1.meets) between in
-      ((λ is. both), (tt, tt))
-
-  -- and so it is in any text, as no gap is in a run
-  runs-step : (p : Point) (l rest : List Seat) → Course AcrossGap t bytes p (l ++ rest) → AllByRecursion (Steps bytes) l → AreDelimiters l → RunsStep t bytes (leaf bytes AttentionSequence l)
-  runs-step p [] rest course steps are = tt
-  runs-step p (s ∷ ss) rest course steps are =
-      let l = s ∷ ss in
-      let o = shown bytes s.point in
-      run-steps o l [] (subst (Track t bytes o) (sym (append-nil l)) (line-track t bytes p s ss rest (delimiters-whole l are) course)) steps are
-
-  -- ---- events without attention sequences
-  free-next : (e : Event) (es : List Event) → IsOther e → Next t bytes e es
-  free-next e [] h = tt
-  free-next e (f ∷ es) h = λ is.
-      let first = and-left (is_enter e.kind && same_name e.name AttentionSequence) (not (is_enter f.kind) && same_name f.name AttentionSequence) is in
-      let no : true ≡ false = sym (and-right (is_enter e.kind) (same_name e.name AttentionSequence) first) ∙ h in
-      absurd (cc)
-
-  free-steps : (es : List Event) → AllByRecursion IsOther es → RunsStep t bytes es
-  free-steps [] h = tt
-  free-steps (e ∷ es) h = (free-next e es h.0, free-steps es h.1)
-
-  pub free-leaf : (n : Name) (seats : List Seat) → same_name n AttentionSequence ≡ false → AllByRecursion IsOther (leaf bytes n seats)
+  -- ---- events of neither runs nor brackets
+  pub free-leaf : (n : Name) (seats : List Seat) → is_special n ≡ false → AllByRecursion IsOther (leaf bytes n seats)
   free-leaf n [] h = tt
   free-leaf n (s ∷ ss) h = (h, (h, tt))
 
-  free-span : (n : Name) (seats : List Seat) (es : List Event) → same_name n AttentionSequence ≡ false → AllByRecursion IsOther es → AllByRecursion IsOther (span bytes n seats es)
+  pub free-span : (n : Name) (seats : List Seat) (es : List Event) → is_special n ≡ false → AllByRecursion IsOther es → AllByRecursion IsOther (span bytes n seats es)
   free-span n [] es h k = k
   free-span n (s ∷ ss) es h k = (h, every-append IsOther es (event bytes Exit n (end_after s.end ss) ∷ []) k (h, tt))
 
-  free-three : (a c : Name) (xs zs : List Seat) (inner : List Event) → same_name a AttentionSequence ≡ false → same_name c AttentionSequence ≡ false → AllByRecursion IsOther inner
+  pub free-three : (a c : Name) (xs zs : List Seat) (inner : List Event) → is_special a ≡ false → is_special c ≡ false → AllByRecursion IsOther inner
       → AllByRecursion IsOther (leaf bytes a xs ++ (inner ++ leaf bytes c zs))
   free-three a c xs zs inner h k i =
       every-append IsOther (leaf bytes a xs) (inner ++ leaf bytes c zs) (free-leaf a xs h) (every-append IsOther inner (leaf bytes c zs) i (free-leaf c zs k))
 
-  abbrev IsFree : Found → Type 0
+  abbrev pub IsFree : Found → Type 0
   IsFree found = (seats : List Seat) → AllByRecursion IsOther (found.events bytes seats)
 
-  pub free-part : (n : Name) → same_name n AttentionSequence ≡ false → (p : Part) (seats : List Seat) → AllByRecursion IsOther (part_events bytes n (p, seats))
+  pub free-part : (n : Name) → is_special n ≡ false → (p : Part) (seats : List Seat) → AllByRecursion IsOther (part_events bytes n (p, seats))
   free-part n h line_ending seats = free-leaf LineEnding seats refl
   free-part n h (plain_run m) seats = free-leaf n seats h
 
@@ -276,95 +211,3 @@ module _ (t : ℕ) (bytes : List ℕ) where
   -- of each construct
   pub free-each : (text : List ℕ) → EachThere IsFree inline_grammars text
   free-each text = (free-code-span text, (free-autolink text, (free-email text, (free-html text (marked text), (free-html text (tag_length text), (free-escape text, (free-break-escape text, (free-reference text, (free-trailing-break text, (free-white-space text, tt))))))))))
-
-  -- ---- one item behind another
-  opens-both : (xs ys : List Event) → Opens xs → Opens ys → Opens (xs ++ ys)
-  opens-both [] ys h k = k
-  opens-both (x ∷ xs) ys h k = h
-
-  opens-leaf : (n : Name) (seats : List Seat) → Opens (leaf bytes n seats)
-  opens-leaf n [] = tt
-  opens-leaf n (s ∷ ss) = refl
-
-  opens-span : (n : Name) (seats : List Seat) (es : List Event) → Opens es → Opens (span bytes n seats es)
-  opens-span n [] es h = h
-  opens-span n (s ∷ ss) es h = refl
-
-  opens-kept : IsKeptBySpans bytes Opens
-  opens-kept = record { none = tt; both = opens-both; alone = opens-leaf; around = λ n seats es other h. opens-span n seats es h }
-
-  next-opens : (x : Event) (ys : List Event) → Opens ys → Next t bytes x ys
-  next-opens x [] h = tt
-  next-opens x (y ∷ ys) h = λ is.
-      let second = and-right (is_enter x.kind && same_name x.name AttentionSequence) (not (is_enter y.kind) && same_name y.name AttentionSequence) is in
-      let exits = and-left (not (is_enter y.kind)) (same_name y.name AttentionSequence) second in
-      let no : not (is_enter Enter) ≡ true = subst (λ k. not (is_enter k) ≡ true) h exits in
-      absurd (cc)
-
-  steps-both : (xs ys : List Event) → RunsStep t bytes xs → RunsStep t bytes ys → Opens ys → RunsStep t bytes (xs ++ ys)
-  steps-both [] ys h k opens = k
-  steps-both (x ∷ []) ys h k opens = (next-opens x ys opens, k)
-  steps-both (x ∷ y ∷ xs) ys h k opens = (h.0, steps-both (y ∷ xs) ys h.1 k opens)
-
-  module _ (on : Constructs) where
-    abbrev ItemSteps : List Seat → Found → Type 0
-    ItemSteps l found = RunsStep t bytes (found.events bytes (take (item_length found) l))
-
-    free-item : (l : List Seat) (found : Found) → IsFree found → ItemSteps l found
-    free-item l found h = free-steps (found.events bytes (take (item_length found) l)) (h (take (item_length found) l))
-
-    free-option : (l : List Seat) (o : Option Found) → OfOption IsFree o → OfOption (ItemSteps l) o
-    free-option l None h = tt
-    free-option l (Some found) h = free-item l found h
-
-    part-course : (p : Point) (m : ℕ) (l rest : List Seat) → Course AcrossGap t bytes p (l ++ rest) → Course AcrossGap t bytes p (take m l ++ (drop m l ++ rest))
-    part-course p m l rest course = subst (Course AcrossGap t bytes p) (append_assoc (take m l) (drop m l) rest) (subst (λ x. Course AcrossGap t bytes p (x ++ rest)) (sym (take-append-drop m l)) course)
-
-    steps-taken : (m : ℕ) (l : List Seat) → AllByRecursion (Steps bytes) l → AllByRecursion (Steps bytes) (take m l)
-    steps-taken m l h = every-front (Steps bytes) (take m l) (drop m l) (subst (AllByRecursion (Steps bytes)) (sym (take-append-drop m l)) h)
-
-    steps-left : (m : ℕ) (l : List Seat) → AllByRecursion (Steps bytes) l → AllByRecursion (Steps bytes) (drop m l)
-    steps-left m l h = every-back (Steps bytes) (take m l) (drop m l) (subst (AllByRecursion (Steps bytes)) (sym (take-append-drop m l)) h)
-
-    other-steps : (p : Point) (s : Seat) (ss rest : List Seat) → Course AcrossGap t bytes p ((s ∷ ss) ++ rest) → AllByRecursion (Steps bytes) (s ∷ ss) → ItemSteps (s ∷ ss) (run_or_part on (bytes_of (s ∷ ss)))
-    other-steps p s ss rest course steps =
-        let l = s ∷ ss in
-        let n = run_length (bytes_of l) in
-        let line = line_break (prefix_len is_white (bytes_of ss)) in
-        let datum = data_run (data_length on (bytes_of l)) in
-        elim (begins_run on s.byte) as (λ x. (begins_run on s.byte) ≡ x → ItemSteps l (cond x (delimiter_run n) (cond (is_line_feed s.byte) line datum))) [
-          | true ↦ λ is. runs-step p (take n l) (drop n l ++ rest) (part-course p n l rest course) (steps-taken n l steps) (run-delimiters s ss (and-right on.attention (is_delimiter s.byte) is))
-          | false ↦ λ is. elim (is_line_feed s.byte) as (λ x. ItemSteps l (cond x line datum)) [
-            | true ↦ free-item l line (free-line-break (prefix_len is_white (bytes_of ss)))
-            | false ↦ free-item l datum (λ seats. free-leaf Data seats refl)
-          ]
-        ] refl
-
-    free-there : (l : List Seat) (grammars : List (Grammar Found)) (text : List ℕ) → EachThere IsFree grammars text → EachThere (ItemSteps l) grammars text
-    free-there l [] text h = tt
-    free-there l (grammar ∷ grammars) text h = (free-option l (grammar.front text) h.0, free-there l grammars text h.1)
-
-    item-steps : (p : Point) (s : Seat) (ss rest : List Seat) → Course AcrossGap t bytes p ((s ∷ ss) ++ rest) → AllByRecursion (Steps bytes) (s ∷ ss) → ItemSteps (s ∷ ss) (inline_item_at on (bytes_of (s ∷ ss)))
-    item-steps p s ss rest course steps =
-        let l = s ∷ ss in
-        let text = bytes_of l in there-holds (ItemSteps l) inline_grammars on text (run_or_part on text) (free-there l inline_grammars text (free-each text)) (other-steps p s ss rest course steps)
-
-    items-steps : (n : ℕ) (p : Point) (l rest : List Seat) → Course AcrossGap t bytes p (l ++ rest) → AllByRecursion (Steps bytes) l → RunsStep t bytes (flat_map (item_events bytes) (cut (inline_item_at on) item_length n l))
-    items-steps zero p l rest course steps = tt
-    items-steps (suc n) p [] rest course steps = tt
-    items-steps (suc n) p (s ∷ ss) rest course steps =
-        let l = s ∷ ss in
-        let item = inline_item_at on (bytes_of l) in
-        let m = item_length item in
-        let behind = drop m l in
-        let others = items-steps n (end_after p (take m l)) behind rest (course-on AcrossGap t bytes p (take m l) (behind ++ rest) (part-course p m l rest course)) (steps-left m l steps) in
-        steps-both (item_events bytes (item, take m l)) (flat_map (item_events bytes) (cut (inline_item_at on) item_length n behind)) (item-steps p s ss rest course steps) others (items-built bytes Opens opens-kept on n behind)
-
-    -- and so it is with the events of all items
-    pub all-steps : (p : Point) (l rest : List Seat) → Course AcrossGap t bytes p (l ++ rest) → AllByRecursion (Steps bytes) l → RunsStep t bytes (flat_map (item_events bytes) (inline_items on l))
-    all-steps p l rest course steps =
-        let n = prefix_len is_white (bytes_of l) in
-        let behind = drop n l in
-        let first = leaf bytes SpaceOrTab (take n l) in
-        let others = items-steps (length l) (end_after p (take n l)) behind rest (course-on AcrossGap t bytes p (take n l) (behind ++ rest) (part-course p n l rest course)) (steps-left n l steps) in
-        steps-both first (flat_map (item_events bytes) (cut (inline_item_at on) item_length (length l) behind)) (free-steps first (free-leaf SpaceOrTab (take n l) refl)) others (items-built bytes Opens opens-kept on (length l) behind)

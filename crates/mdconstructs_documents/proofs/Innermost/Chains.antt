@@ -17,8 +17,7 @@ use Rattle.mdconstructs_text.proofs.DeepSpans.Atoms.{none-account}
 use Rattle.mdconstructs_text.proofs.DeepSpans.Chains.{front-and-rest, front-at, front-upto, spans-placed}
 use Rattle.mdconstructs_text.proofs.DeepSpans.Chunks.{HasChunk, Stands, from_chunk, has-chunk, no-gap, place_behind, up-to-chunk}
 use Rattle.mdconstructs_text.proofs.DeepSpans.Places.{Upto as IsUpto, ends-line}
-use Rattle.mdconstructs_documents.proofs.FlowTexts.InlineSteps.{Opens}
-use Rattle.mdconstructs_documents.proofs.Emphasis.Pairs.{Shut, shut-account}
+use Rattle.mdconstructs_documents.proofs.Emphasis.Pairs.{Opens, Shut, shut-account}
 use Rattle.mdconstructs_documents.proofs.Emphasis.Runs.{balanced-opens, balanced-shut, opens-behind}
 use Rattle.mdconstructs_documents.proofs.InContainers.Order.{steady-pairs}
 use Rattle.mdconstructs_documents.proofs.Innermost.Cuts.{Ascends, EndsUpto, StartBehind, ascends-back, cut-stretches, cut-there, opened-account, rest-behind, shut-back}

@@ -5,8 +5,7 @@ use Rattle.mdconstructs_text.proofs.DeepSpans.Atoms.{EndsLine}
 use Rattle.mdconstructs_text.proofs.DeepSpans.Chains.{front-at}
 use Rattle.mdconstructs_text.proofs.DeepSpans.Places.{Upto as IsUpto}
 use Rattle.mdconstructs_containers.proofs.SeatFacts.{before_upto}
-use Rattle.mdconstructs_documents.proofs.FlowTexts.InlineSteps.{Opens}
-use Rattle.mdconstructs_documents.proofs.Emphasis.Pairs.{Shut}
+use Rattle.mdconstructs_documents.proofs.Emphasis.Pairs.{Opens, Shut}
 use Rattle.mdconstructs_documents.proofs.InContainers.Order.{Steady}
 use Rattle.mdconstructs_documents.proofs.Innermost.Lined.{InLine}
 
