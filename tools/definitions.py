@@ -1,7 +1,7 @@
 #!/usr/bin/env python3
 """Writes the list of definitions into docs/DEFINITIONS.md: of each file of `specs` of the public crates and of their parts, the first
-sentence of its first comment, a long one up to its colon; of files with rows of states only the name. What stands above the list is
-written by hand.
+sentence of its first comment, a long one up to its colon; of files with rows of states, costs, examples or statements of laws only the
+name. What stands above the list is written by hand.
 
 usage: tools/definitions.py [--check]     with --check it writes nothing, and prints what fails, and ends with 1 if something does
 """
@@ -44,7 +44,7 @@ def said(path):
 
 def short(sentence):
     """Returns a sentence, and of a long one what stands before its first colon or semicolon."""
-    return re.split(r"[:;] ", sentence)[0].removesuffix(".") + "." if len(sentence.split()) > 12 else sentence
+    return re.split(r"[:;] ", sentence)[0].removesuffix(".") + "." if len(sentence.split()) > 8 else sentence
 
 
 def section(crate):
@@ -57,7 +57,7 @@ def section(crate):
         text = said(path)
         if INNER.search(text):
             inner.append(f"`{name}`")
-        elif name.endswith("Rows") or crate in MACHINES:
+        elif name.endswith(("Rows", "Costs", "Examples", "LawStatements")) or crate in MACHINES:
             rows.append(f"`{name}`")
         else:
             first = short(re.split(r"(?<=[.]) (?=[A-Z`])", text)[0].removeprefix(f"{name}: "))
