@@ -9,7 +9,7 @@ taken out of the whole document, and if that still differs, the next one is soug
 It prints a row for each cause: how many documents, the smallest one, who is right, and by which words. The status is 1 if a difference has
 no name; its document is shown.
 
-usage: tools/random_documents.py PROGRAM COUNT [--seed S] [--machine NAME] [--cmark CMARK] [--show K] [--pieces N] [--wide] [--jobs J]
+usage: tools/random_documents.py PROGRAM COUNT [--seed S] [--machine NAME] [--cmark CMARK] [--show K] [--pieces N] [--wide] [--links] [--jobs J]
   PROGRAM         mdevents, or what prints events as it does
   COUNT           how many documents
   --seed S        the seed of the first one; without it, 1
@@ -18,6 +18,7 @@ usage: tools/random_documents.py PROGRAM COUNT [--seed S] [--machine NAME] [--cm
   --show K        the first K that differ, each with its causes; without it, none
   --pieces N      at most N pieces in a document; without it, 24
   --wide          more kinds of pieces: each kind of HTML, wide and long markers, CR LF, inline text
+  --links         brackets, and what stands behind them; no definitions, and no escapes or references, which are not read there
   --jobs J        so many documents at once; without it, 1
 """
 
@@ -39,6 +40,8 @@ CONTAINERS_TOO = [">  ", ">\t", "-   ", "-     ", "-\t", "+\n", "0. ", "1.\t", "
 LINES_TOO = ["é", "\n", "\r\n", "= =", "#\t", "## a #", "* * *", "- - -", "___\n", "```` \n", "~~~ a b", "``` a", "``", "` `", "_x_", "**", "__"]
 LINES_TOO += ["*a **b*", "\\*", "\\\n", "a  \n", "&#65;", "&nope;", "<a>", "</b>\n", "<b c='", "d'>", "<e@f.g>", "<pre>", "</pre>", "<script>"]
 LINES_TOO += ["</script>", "<!-- a -->", "<?", "?>", "<!A ", "<![CDATA[", "]]>"]
+# what --links adds, in place of backslashes and character references
+LINKS = ["[", "]", "](", ")", "![", "[a](b)", "![a](b)", "](b \"c", "\")", "](<", ">)", "[a *b](c)", "*", "(", "](b\n\"c\")"]
 
 MARKER = rb"(?:[-+*]|\d{1,9}[.)])"
 # what begins HTML that a blank line does not end
@@ -91,9 +94,11 @@ def with_line_feeds(text):
     return text.replace("\r\n", "\n").replace("\r", "\n")
 
 
-def one(generator, pieces, wide):
+def one(generator, pieces, wide, links=False):
     """A random document."""
     containers, lines = (CONTAINERS + CONTAINERS_TOO, LINES + LINES_TOO) if wide else (CONTAINERS, LINES)
+    if links:
+        lines = [it for it in lines if "\\" not in it and "&" not in it] + LINKS
     made = [generator.choice(generator.choice((containers, containers, lines))) for _ in range(generator.randint(1, pieces))]
     return "".join(made).encode()
 
@@ -200,10 +205,11 @@ def main():
     parser.add_argument("--show", type=int, default=0, help=argparse.SUPPRESS)
     parser.add_argument("--pieces", type=int, default=24, help=argparse.SUPPRESS)
     parser.add_argument("--wide", action="store_true", help=argparse.SUPPRESS)
+    parser.add_argument("--links", action="store_true", help=argparse.SUPPRESS)
     parser.add_argument("--jobs", type=int, default=1, help=argparse.SUPPRESS)
     words = parser.parse_args()
     generator = random.Random(words.seed)
-    documents = [one(generator, words.pieces, words.wide) for _ in range(words.count)]
+    documents = [one(generator, words.pieces, words.wide, words.links) for _ in range(words.count)]
     beside = Beside(words.program, words.machine, words.cmark)
     same = passed = differ = 0
     times, least = collections.Counter(), {}
