@@ -103,8 +103,9 @@ def tried(group):
             if ended:
                 came[left.pop(CALL)] = ("refused", "by its status") if ended[1] != "2" else ("PASSED", "status 2")
         if CASES in left:
-            given, output = (open(f"{crate}/{name}", encoding="utf-8").read() for name in ("stdin", "stdout"))
-            ran = subprocess.run(["rt", "try", "--seconds", "400"], cwd=crate, input=given, capture_output=True, text=True, errors="replace")
+            given, output, args = (open(f"{crate}/{name}", encoding="utf-8").read() for name in ("stdin", "stdout", "args"))
+            words = ["rt", "try", "--seconds", "400", "--", *args.splitlines()]
+            ran = subprocess.run(words, cwd=crate, input=given, capture_output=True, text=True, errors="replace")
             said = ran.stdout + ran.stderr
             if re.search(r"^run=ended", said, re.M):
                 came[left.pop(CASES)] = ("PASSED", "its stdout") if output in ran.stdout else ("refused", "by what it writes")

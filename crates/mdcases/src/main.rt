@@ -8,17 +8,22 @@
 //!
 //! Each document is read uncut, and then cut after each one, two and up to twelve virtual bytes. If a cut changes the events, they are
 //! written too, behind a word. `tools/cases.py` makes the input, and what must be written, of the files in `data`.
+//!
+//! Before that it makes the call of `mdevents`, with its own arguments. Those in `args` are not accepted, so that call reads and writes
+//! nothing, and its status is that of the program if all cases were answered.
 #![tactic(auto)]
 
 mod answer;
 mod case;
 
 use answer::answer_cases;
+use mdevents_program::call::answer_call;
 use std::process::ExitCode;
 
 fn main(rt: HostRuntime) -> ExitCode {
+    let called = answer_call(&rt, &mut rt.stdin(), &mut rt.stdout());
     match answer_cases(rt.alloc(), &mut rt.stdin(), &mut rt.stdout()) {
-        Ok(()) => ExitCode::SUCCESS,
+        Ok(()) => called,
         Err(failure) => {
             let _ = rt.eprintln(failure);
             ExitCode::FAILURE
