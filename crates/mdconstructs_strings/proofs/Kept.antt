@@ -74,12 +74,16 @@ is-exit : (k : Kind) → not (is_enter k) ≡ true → k ≡ Exit
 is-exit Enter h = absurd (false≢true h)
 is-exit Exit h = refl
 
-data-balanced : (e f : Event) → is_data e f ≡ true → IsBalanced (e ∷ f ∷ [])
-data-balanced e f h =
+-- a span of data: an enter, an exit and their name
+pub data-is : (e f : Event) → is_data e f ≡ true → (e.kind ≡ Enter) × (f.kind ≡ Exit) × (f.name ≡ e.name)
+data-is e f h =
     let both = and_parts (is_enter e.kind && same_name e.name Data) (not (is_enter f.kind) && same_name f.name Data) h in
     let one = and_parts (is_enter e.kind) (same_name e.name Data) both.0 in
     let two = and_parts (not (is_enter f.kind)) (same_name f.name Data) both.1 in
-    IsBalanced-pair e f (is-enter e.kind one.0) (is-exit f.kind two.0) (same_name-true f.name Data two.1 ∙ sym (same_name-true e.name Data one.1))
+    (is-enter e.kind one.0, is-exit f.kind two.0, same_name-true f.name Data two.1 ∙ sym (same_name-true e.name Data one.1))
+
+data-balanced : (e f : Event) → is_data e f ≡ true → IsBalanced (e ∷ f ∷ [])
+data-balanced e f h = let is = data-is e f h in IsBalanced-pair e f is.0 is.1 is.2
 
 module _ (on : Constructs) (t : ℕ) (bytes : List ℕ) where
   abbrev line : Event → Event → List Event
@@ -121,11 +125,14 @@ module _ (on : Constructs) (t : ℕ) (bytes : List ℕ) where
   ]
 
   -- an exit stays where it is
+  pub exit-first : (inside : Bool) (e : Event) (es : List Event) → e.kind ≡ Exit → read inside (e ∷ es) ≡ e ∷ read (in_string_after inside e) es
+  exit-first inside e [] h = refl
+  exit-first true e (f ∷ es) h =
+      ap (λ k. cond ((is_enter k && same_name e.name Data) && (not (is_enter f.kind) && same_name f.name Data)) (line e f ++ read true es) (e ∷ read (in_string_after true e) (f ∷ es))) h
+  exit-first false e (f ∷ es) h = refl
+
   exit-stays : (inside : Bool) (e : Event) (es : List Event) → e.kind ≡ Exit → slice_get (read inside (e ∷ es)) 0 ≡ Some e
-  exit-stays inside e [] h = refl
-  exit-stays true e (f ∷ es) h =
-      ap (λ k. slice_get (cond ((is_enter k && same_name e.name Data) && (not (is_enter f.kind) && same_name f.name Data)) (line e f ++ read true es) (e ∷ read (in_string_after true e) (f ∷ es))) 0) h
-  exit-stays false e (f ∷ es) h = refl
+  exit-stays inside e es h = ap (λ l. slice_get l 0) (exit-first inside e es h)
 
   void-tail : (e : Event) (es : List Event) → IsVoidTight (e ∷ es) → IsVoidTight es
   void-tail e es h = λ k f at enter void.

@@ -1,9 +1,12 @@
+pub mod Accounts
 pub mod Added
+pub mod Cuts
 mod Examples
 pub mod Fronts
 pub mod Kept
 pub mod Laid
 pub mod Listed
+pub mod Orders
 pub mod Places
 pub mod Plain
 pub mod Ranges

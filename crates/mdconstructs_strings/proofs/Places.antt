@@ -125,19 +125,20 @@ module _ (on : Constructs) (t : ℕ) (bytes : List ℕ) (d : 0 < t) where
   line-at : (p q : Point) → AreAtPlaces t bytes (line_as_string on t bytes p q)
   line-at p q = string-at bytes At on (seats_between t bytes p q) (All-filter (in_range p q) (Ends bytes At) (virtual t bytes) (each-ends [] (virtual t bytes) refl))
 
-  list-at : (inside : Bool) (es : List Event) → AreAtPlaces t bytes es → AreAtPlaces t bytes (with_strings_from on t bytes inside es)
-  list-at inside [] h = h
-  list-at inside (e ∷ []) h = h
-  list-at inside (e ∷ f ∷ es) h =
-      let P = λ (x : Event). IsPointOf t bytes x.point in
+-- what holds of the events of each line holds of all, if it did before
+module _ (on : Constructs) (t : ℕ) (bytes : List ℕ) (P : Event → Type 0) (line : (p q : Point) → All P (line_as_string on t bytes p q)) where
+  pub list-each : (inside : Bool) (es : List Event) → All P es → All P (with_strings_from on t bytes inside es)
+  list-each inside [] h = h
+  list-each inside (e ∷ []) h = h
+  list-each inside (e ∷ f ∷ es) h =
       let later = All-tail P e (f ∷ es) h in
-      let line = line_as_string on t bytes e.point f.point in
+      let here = line_as_string on t bytes e.point f.point in
       let rest = with_strings_from on t bytes inside es in
       let other = with_strings_from on t bytes (in_string_after inside e) (f ∷ es) in
-      elim (inside && is_data e f) as (λ b. AreAtPlaces t bytes (cond b (line ++ rest) (e ∷ other))) [
-        | true ↦ All-append P line rest (line-at e.point f.point) (list-at inside es (All-tail P f es later))
-        | false ↦ All-cons P e other (All-head P e (f ∷ es) h) (list-at (in_string_after inside e) (f ∷ es) later)
+      elim (inside && is_data e f) as (λ b. All P (cond b (here ++ rest) (e ∷ other))) [
+        | true ↦ All-append P here rest (line e.point f.point) (list-each inside es (All-tail P f es later))
+        | false ↦ All-cons P e other (All-head P e (f ∷ es) h) (list-each (in_string_after inside e) (f ∷ es) later)
       ]
 
 pub stand_at_places : StringsStandAtPlaces
-stand_at_places on t bytes es d h = list-at on t bytes d false es h
+stand_at_places on t bytes es d h = list-each on t bytes (λ e. IsPointOf t bytes e.point) (line-at on t bytes d) false es h

@@ -4,10 +4,13 @@ use Rattle.std.specs.List.{AllByRecursion}
 use Rattle.markdown_base.specs.declared.configuration.Constructs.{Constructs}
 use Rattle.markdown_base.specs.declared.event.Event.{Event}
 use Rattle.markdown_base.specs.declared.event.Name.TheVariants.{Data}
-use Rattle.markdown_base.specs.Events.{IsBalanced, IsVoidTight}
+use Rattle.markdown_base.specs.Events.{IsBalanced, IsInOrder, IsVoidTight}
 use Rattle.markdown_base.specs.Virtual.{Seat, virtual}
 use Rattle.markdown_tokenizer.specs.AtPlaces.{AreAtPlaces}
+use Rattle.markdown_tokenizer.specs.Engine.{IsWellFormed}
 use Rattle.markdown_tokenizer.specs.Plain.{HaveNoLinks}
+use Rattle.markdown_tokenizer.specs.Text.{Given}
+use Rattle.mdconstructs_machines.specs.Innermost.{AccountFor}
 use Rattle.mdconstructs_strings.specs.StringItems.{is_string_special, string_seat_events}
 use Rattle.mdconstructs_strings.specs.Strings.{in_string_after, is_data, with_strings, with_strings_from}
 use Rattle.mdconstructs_text.specs.Parts.{leaf}
@@ -20,6 +23,18 @@ StringsKeepLists = (on : Constructs) (t : ℕ) (bytes : List ℕ) (es : List Eve
 -- Where strings are read, events stand at places of the document, if they did
 abbrev pub StringsStandAtPlaces : Type 0
 StringsStandAtPlaces = (on : Constructs) (t : ℕ) (bytes : List ℕ) (es : List Event) → 0 < t → AreAtPlaces t bytes es → AreAtPlaces t bytes (with_strings on t bytes es)
+
+-- Where strings are read, events at places of the document stay in the order of these
+abbrev pub StringsKeepOrder : Type 0
+StringsKeepOrder = (on : Constructs) (t : ℕ) (bytes : List ℕ) (es : List Event) → 0 < t → AreAtPlaces t bytes es → IsInOrder bytes es → IsInOrder bytes (with_strings on t bytes es)
+
+-- Where strings are read, events stay well formed
+abbrev pub StringsStayWellFormed : Type 0
+StringsStayWellFormed = (on : Constructs) (g : Given) (es : List Event) → 0 < g.tab → IsWellFormed g es → IsWellFormed g (with_strings on g.tab g.bytes es)
+
+-- Where strings are read, each virtual byte of the document stays in exactly one innermost span, if it was
+abbrev pub StringsKeepInnermostSpans : Type 0
+StringsKeepInnermostSpans = (on : Constructs) (t : ℕ) (bytes : List ℕ) (es : List Event) → 0 < t → AccountFor es bytes (virtual t bytes) → AccountFor (with_strings on t bytes es) bytes (virtual t bytes)
 
 -- these are some of the virtual bytes of a document, one behind another
 abbrev pub AreOf : (t : ℕ) → List ℕ → List Seat → Type 0

@@ -6,7 +6,7 @@ ghost use Rattle.markdown_base.specs.Virtual.{IsWithinLimit};
 ghost use Rattle.markdown_tokenizer.specs.AtPlaces.{AreAtPlaces};
 ghost use Rattle.mdconstructs_strings.specs.Costs.{string_size};
 ghost use Rattle.mdconstructs_strings.specs.Reached.{begins_with_data};
-ghost use Rattle.mdconstructs_strings.specs.Strings.{in_string_after, is_data, is_string, line_as_string, seats_between, with_strings};
+ghost use Rattle.mdconstructs_strings.specs.Strings.{has_strings, in_string_after, is_data, is_string, line_as_string, seats_between, with_strings};
 
 use crate::placed::push_items;
 use crate::seats::range_between;
@@ -202,4 +202,30 @@ pub fn put_strings(
     ensures { IfOk result (λ out. out.items ≡ with_strings on.now tab bytes.now events.now) }
 {
     put_strings_uncounted::<Brand>(alloc, on, bytes, tab, events, Blank::new(1))
+}
+
+/// Whether events begin or end a string.
+fn has_strings(events: &[Event]) -> bool
+    ensures { result ≡ has_strings events.now }
+{
+    events.iter().any(|event| is_string(event.name))
+}
+
+/// The events of a document with their strings read, as `put_strings` has them. If there is no string among them, they are given back,
+/// and no memory is taken.
+pub fn with_strings(
+    alloc: Global,
+    on: &Constructs,
+    bytes: &[u8],
+    tab: TabSize,
+    events: Vec<Event>,
+) -> Result<Vec<Event>, AllocError>
+    requires limit { IsWithinLimit tab bytes.now }
+    requires places { AreAtPlaces tab bytes.now events.items }
+    ensures { IfOk result (λ out. out.items ≡ with_strings on.now tab bytes.now events.items) }
+{
+    if !has_strings(&events) {
+        return Ok(events);
+    }
+    put_strings(alloc, on, bytes, tab, &events)
 }
