@@ -18,7 +18,7 @@ usage: tools/random_documents.py PROGRAM COUNT [--seed S] [--machine NAME] [--cm
   --show K        the first K that differ, each with its causes; without it, none
   --pieces N      at most N pieces in a document; without it, 24
   --wide          more kinds of pieces: each kind of HTML, wide and long markers, CR LF, inline text
-  --links         brackets, and what stands behind them; no definitions, and no escapes or references, which are not read there
+  --links         brackets, and what stands behind them; no definitions, escapes or references
   --jobs J        so many documents at once; without it, 1
 """
 

@@ -14,6 +14,5 @@ pub mod InlineTight
 pub mod ResourceSteps
 pub mod Segments
 pub mod Spans
-pub mod Strings
 pub mod Textual
 pub mod Whole

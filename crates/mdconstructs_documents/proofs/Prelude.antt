@@ -122,7 +122,7 @@ pub use Rattle.mdconstructs_inline_constructs.proofs.HardBreaks.Cuts.{break-esca
 pub use Rattle.mdconstructs_inline_constructs.proofs.HtmlMarks.Bytes.{html-mark-cut}
 pub use Rattle.mdconstructs_inline_constructs.proofs.HtmlTags.Bytes.{html-tag-cut}
 pub use Rattle.mdconstructs_inline_constructs.proofs.HtmlTexts.Cuts.{html-there}
-pub use Rattle.mdconstructs_inline_constructs.proofs.References.Bytes.{reference-holds, references-apart}
+pub use Rattle.mdconstructs_inline_constructs.proofs.References.Bytes.{reference-holds}
 pub use Rattle.mdconstructs_inline_constructs.proofs.References.Cuts.{reference-cut}
 pub use Rattle.mdconstructs_inline_constructs.proofs.WhiteSpaces.Cuts.{white-run-cut, white-space-cut}
 pub use Rattle.mdconstructs_inline_constructs.specs.Email.{email, email_at, email_with, is_at_sign, is_atext, is_domain, is_domain_byte}
@@ -141,7 +141,7 @@ pub use Rattle.mdconstructs_inlines.proofs.StringRuns.{string-alone, string-buil
 pub use Rattle.mdconstructs_inlines.specs.InlineEvents.{begins_run, data_length, data_run, delimiter_run, ends_data, ends_data_at, inline_events, inline_grammars, inline_item_at, inline_items, line_break, read_events, run_length, run_or_part, up_to}
 pub use Rattle.mdconstructs_inlines.specs.InlineRules.{inlines_rules}
 pub use Rattle.mdconstructs_inlines.specs.RunRows.{is_delimiter}
-pub use Rattle.mdconstructs_inlines.specs.StringEvents.{is_string_special, string_data, string_events, string_grammars, string_item_at, string_part, string_seat_events}
+pub use Rattle.mdconstructs_inlines.specs.StringEvents.{string_events, string_seat_events}
 pub use Rattle.mdconstructs_machines.proofs.BlockReads.Accounts.{lines-are-all, paragraphs-account}
 pub use Rattle.mdconstructs_machines.proofs.Innermost.{enter-more, exit-more, span-more}
 pub use Rattle.mdconstructs_machines.proofs.LineReads.Accounts.{lines-account-for}
@@ -173,8 +173,7 @@ pub use Rattle.mdconstructs_text.proofs.Constructs.Apart.{EachThere, OfOption, t
 pub use Rattle.mdconstructs_text.proofs.DeepSpans.Atoms.{Atom, InOneLine, IsCut, MapCut, OneLine, all_at, atom_events, atom_seats, atoms-more, cut-append, cut-leaf, events_of, map-cut, open-atoms, seats_of}
 pub use Rattle.mdconstructs_text.proofs.DeepSpans.Chunks.{chain-seats, chunk_seats}
 pub use Rattle.mdconstructs_text.proofs.DeepSpans.Places.{chain-from, origin, place-shown, range-of}
-pub use Rattle.mdconstructs_text.proofs.DeepSpans.Stretches.{ItemCut, NoEnding, cuts, first-plain, one-taken, plain-add, plain-line, run-behind, run-plain}
-pub use Rattle.mdconstructs_text.proofs.Escapes.Bytes.{escapes-apart}
+pub use Rattle.mdconstructs_text.proofs.DeepSpans.Stretches.{ItemCut, NoEnding, cuts, first-plain, one-taken, plain-add, plain-line, run-plain}
 pub use Rattle.mdconstructs_text.proofs.Escapes.Cuts.{escape-cut}
 pub use Rattle.mdconstructs_text.proofs.NoRefusals.{text-refuses-nothing}
 pub use Rattle.mdconstructs_text.proofs.ParagraphTexts.Whole.{data-formed, read-as-data, read-as-texts, texts-formed}

@@ -4,11 +4,16 @@ use Rattle.markdown_base.specs.declared.event.Event.{Event}
 use Rattle.markdown_base.specs.Events.{IsVoidTight}
 use Rattle.markdown_tokenizer.specs.Text.{Given, IsDocument}
 use Rattle.mdconstructs_containers.specs.Blocks.{document_blocks}
-use Rattle.mdconstructs_inlines.specs.LawStatements.{with_inlines, with_strings}
+use Rattle.mdconstructs_inlines.specs.LawStatements.{with_inlines, with_strings as with_string_chunks}
+use Rattle.mdconstructs_strings.specs.Strings.{with_strings}
 
--- The events of a document: its blocks, with the inline text of each chain of text in place of its chunks, and then the events of each string
+-- The blocks of a document, with the inline text of each chain of text in place of its chunks, and then the events of each chunk of a string
+abbrev pub document_texts : Given → List Event
+document_texts g = with_string_chunks g (with_inlines g (document_blocks g))
+
+-- The events of a document: these, with the strings read in which destinations, titles and labels stand
 abbrev pub document_events : Given → List Event
-document_events g = with_strings g (with_inlines g (document_blocks g))
+document_events g = with_strings g.options.constructs g.tab g.bytes (document_texts g)
 
 -- Void spans of the events of each document are empty: no chunks of a paragraph's lines tear one
 abbrev pub DocumentEventsAreTight : Type 0

@@ -53,7 +53,7 @@ module _ (options : ParseOptions) (bytes : List ℕ) where
   abbrev pub AreDocumentBlocks : List Event → Type 0
   AreDocumentBlocks events = events ≡ document_blocks (document options bytes)
 
-  -- and with their texts read as inline text, and strings as strings
+  -- and with their texts read as inline text, and all strings as strings, also those of destinations, titles and labels
   abbrev pub AreDocumentEvents : List Event → Type 0
   AreDocumentEvents events = events ≡ document_events (document options bytes)
 

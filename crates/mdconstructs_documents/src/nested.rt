@@ -18,6 +18,7 @@ use mdconstructs_containers::letters::with_letters;
 use mdconstructs_containers::skeleton::skeleton_of;
 use mdconstructs_flow::flow::Flow;
 use mdconstructs_inlines::inlines::Inlines;
+use mdconstructs_strings::strings::with_strings;
 use std::alloc::Global;
 
 /// The containers of a document, and the leaf blocks in them.
@@ -69,7 +70,8 @@ fn with_leaf_blocks(
     with_ready_children(alloc, &Flow {}, bytes, options, events, None)
 }
 
-/// The events of a document with its containers: first its blocks, and then their texts and strings.
+/// The events of a document with its containers: first its blocks, then their texts and strings, and then the strings in which
+/// destinations, titles and labels stand.
 pub(crate) fn read_nested_events(
     alloc: Global,
     bytes: &[u8],
@@ -82,7 +84,8 @@ pub(crate) fn read_nested_events(
     ensures document { IsDocument (document options.now bytes.now) }
 {
     let events = read_blocks(alloc, bytes, options)?;
-    with_inline_text(alloc, bytes, options, events)
+    let texts = with_inline_text(alloc, bytes, options, events)?;
+    Ok(with_strings(alloc, &options.constructs, bytes, options.tab_size, texts)?)
 }
 
 /// The events with the inline text of each chain of text, and the events of each string, in place of their chunks. All chains are texts or

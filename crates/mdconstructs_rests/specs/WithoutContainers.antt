@@ -6,17 +6,22 @@ use Rattle.markdown_tokenizer.specs.Text.{IsDocument}
 use Rattle.mdconstructs_containers.specs.Blocks.{document_blocks}
 use Rattle.mdconstructs_containers.specs.Rows.{has_none, rows}
 use Rattle.mdconstructs_documents.specs.DocumentEvents.{document_events}
-use Rattle.mdconstructs_documents.specs.Documents.{AreFlowEvents, AreFlowInlines, document, virtual_bytes}
+use Rattle.mdconstructs_documents.specs.Documents.{AreFlowEvents, document, virtual_bytes}
+use Rattle.mdconstructs_documents.specs.FlowTexts.{flow_inlines}
 use Rattle.mdconstructs_machines.specs.LineEvents.{lines_in}
+use Rattle.mdconstructs_strings.specs.Strings.{with_strings}
 
 -- No line of a document begins a block quote or a list item, so none goes on with one
 abbrev pub begins_no_container : ParseOptions → (bytes : List ℕ) → Bool
 begins_no_container options bytes = list_all (λ row. has_none row.begun) (rows options.constructs (lines_in (virtual_bytes options bytes)))
 
--- Such a document has the events of its leaf blocks and no others: with its chunks, and with its texts and strings read
+-- Such a document has the events of its leaf blocks and no others: with its chunks, and with its texts and strings read. In the latter the
+-- strings are read, too, in which destinations, titles and labels stand
 abbrev pub DocumentsWithoutContainers : Type 0
 DocumentsWithoutContainers = (options : ParseOptions) (bytes : List ℕ) → IsDocument (document options bytes) → begins_no_container options bytes ≡ true
-    → AreFlowEvents options bytes (document_blocks (document options bytes)) × AreFlowInlines options bytes (document_events (document options bytes))
+    → let on = options.constructs in
+    AreFlowEvents options bytes (document_blocks (document options bytes))
+    × (document_events (document options bytes) ≡ with_strings on options.tab_size bytes (flow_inlines on bytes (virtual_bytes options bytes)))
 
 -- Where block quotes and lists are off, no line of a document begins one
 abbrev pub NoneBeginsWhereOff : Type 0

@@ -72,7 +72,8 @@ pub fn read_events_of_both()
 {}
 
 /// A document in which no line begins a block quote or a list item is read as its leaf blocks are, with their chunks, and with their texts
-/// and strings read. So is each document where block quotes and lists are off.
+/// and strings read, and then the strings in which destinations, titles and labels stand. So is each document where block quotes and lists
+/// are off.
 pub fn documents_without_containers()
     ensures read { DocumentsWithoutContainers }
     ensures off { NoneBeginsWhereOff }

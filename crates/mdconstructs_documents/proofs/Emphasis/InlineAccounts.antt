@@ -6,7 +6,7 @@ use Rattle.mdconstructs_documents.proofs.Emphasis.Runs.{balanced-opens, balanced
 use Rattle.mdconstructs_documents.proofs.FlowTexts.Accounts.{bare-marks, cut-spans, linked-account}
 use Rattle.mdconstructs_documents.proofs.FlowTexts.InlineSteps.{Steps, steps-virtual}
 use Rattle.mdconstructs_documents.proofs.FlowTexts.Spans.{texts-keep}
-use Rattle.mdconstructs_documents.proofs.FlowTexts.Strings.{string-cut}
+use Rattle.mdconstructs_strings.proofs.Cuts.{string-cut}
 use Rattle.mdconstructs_documents.proofs.Innermost.Lined.{LinedFor}
 use Rattle.mdconstructs_links.proofs.Leaves.{links-balanced}
 

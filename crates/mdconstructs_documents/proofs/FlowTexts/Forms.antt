@@ -3,7 +3,7 @@ use Rattle.mdconstructs_documents.proofs.Prelude.{◌≡◌, ℕ, List, [], ◌�
 use Rattle.markdown_base.specs.declared.event.Name.{Name}
 use Rattle.mdconstructs_text.proofs.Texts.Built.{IsKeptBySpans}
 use Rattle.mdconstructs_documents.proofs.FlowTexts.Accounts.{bare-marks}
-use Rattle.mdconstructs_documents.proofs.FlowTexts.Strings.{string-cut}
+use Rattle.mdconstructs_strings.proofs.Cuts.{string-cut}
 
 -- ---- shape: the events leave each stack of open names, and void spans are empty
 -- the events leave each stack of open names as it is

@@ -5,7 +5,7 @@ use Rattle.mdconstructs_documents.proofs.Emphasis.InlineReads.{balanced-of, read
 use Rattle.mdconstructs_documents.proofs.FlowTexts.Forms.{ordered-atoms}
 use Rattle.mdconstructs_documents.proofs.Emphasis.InlineRuns.{inline-cut}
 use Rattle.mdconstructs_documents.proofs.FlowTexts.InlineSteps.{Steps}
-use Rattle.mdconstructs_documents.proofs.FlowTexts.Strings.{string-cut}
+use Rattle.mdconstructs_strings.proofs.Cuts.{string-cut}
 use Rattle.mdconstructs_documents.proofs.InContainers.Places.{AllAt, EndsAt, last-end}
 use Rattle.mdconstructs_links.proofs.LinkOrder.{links-ordered}
 

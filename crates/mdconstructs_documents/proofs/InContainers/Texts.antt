@@ -10,8 +10,8 @@ use Rattle.markdown_children.specs.Children.{child_changes}
 use Rattle.markdown_edits.proofs.Edits.Survivors.{stays_unless_removed}
 use Rattle.markdown_edits.specs.Woven.{of_list, place_in}
 use Rattle.mdconstructs_containers.specs.Blocks.{document_blocks}
-use Rattle.mdconstructs_documents.specs.DocumentEvents.{document_events}
-use Rattle.mdconstructs_documents.specs.Documents.{AreDocumentBlocks, AreDocumentEvents}
+use Rattle.mdconstructs_documents.specs.DocumentEvents.{document_texts}
+use Rattle.mdconstructs_documents.specs.Documents.{AreDocumentBlocks}
 use Rattle.mdconstructs_documents.specs.Runs.{HasOnlyTexts}
 use Rattle.mdconstructs_documents.proofs.FlowTexts.AllChildren.{read-at-once, read-string, read-text, read_at}
 use Rattle.mdconstructs_documents.proofs.FlowTexts.Textual.{flow-textual}
@@ -68,8 +68,8 @@ module _ (laws : SkeletonLaws) (g : Given) (is : IsDocument g) where
   abbrev reads : ℕ → List Event
   reads c = read_at g is blocks blocks-textual (ready-for laws g is TextContent) (ready-for laws g is StringContent) c
 
-  pub events-at-once : (new : List Event) (sub : Subresult) → IsSubtokenized g inlines_rules None blocks new sub → new ≡ document_events g
-  events-at-once new sub h =
+  pub texts-at-once : (new : List Event) (sub : Subresult) → IsSubtokenized g inlines_rules None blocks new sub → new ≡ document_texts g
+  texts-at-once new sub h =
       read-at-once g is blocks blocks-textual (ready-for laws g is TextContent) (ready-for laws g is StringContent) new sub h
       ∙ all-at-once g blocks all-ready TextContent StringContent refl refl refl refl blocks-textual (inline_events g) (string_events g) (inline-alone g) (string-alone g) reads
       (read-text g is blocks blocks-textual (ready-for laws g is TextContent) (ready-for laws g is StringContent))
@@ -84,6 +84,6 @@ module _ (laws : SkeletonLaws) (options : ParseOptions) (bytes : List ℕ) (is :
   pub blocks-have-texts : HasOnlyTexts blocks
   blocks-have-texts = subst HasOnlyTexts (sym are) (blocks-textual laws (document options bytes) is)
 
-  pub events-of-document : (new : List Event) → HasChildren inlines_rules options bytes None blocks new → AreDocumentEvents options bytes new
-  events-of-document new h =
-      events-at-once laws (document options bytes) is new h.1.0 (subst (λ (es : List Event). IsSubtokenized (document options bytes) inlines_rules None es new h.1.0) are h.1.1)
+  pub texts-of-document : (new : List Event) → HasChildren inlines_rules options bytes None blocks new → new ≡ document_texts (document options bytes)
+  texts-of-document new h =
+      texts-at-once laws (document options bytes) is new h.1.0 (subst (λ (es : List Event). IsSubtokenized (document options bytes) inlines_rules None es new h.1.0) are h.1.1)

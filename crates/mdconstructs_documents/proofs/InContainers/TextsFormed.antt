@@ -13,7 +13,10 @@ use Rattle.mdconstructs_documents.proofs.InContainers.Skeletons.{SkeletonLaws}
 use Rattle.mdconstructs_containers.specs.Blocks.{document_blocks, document_skeleton}
 use Rattle.mdconstructs_inlines.specs.LawStatements.{with_inlines}
 use Rattle.mdconstructs_text.proofs.Paragraphs.ChainEvents.{all-begin, is-text}
-use Rattle.mdconstructs_documents.specs.DocumentEvents.{document_events}
+use Rattle.mdconstructs_strings.proofs.Kept.{strings_keep}
+use Rattle.mdconstructs_strings.proofs.Orders.{keep_order}
+use Rattle.mdconstructs_strings.proofs.Places.{stand_at_places}
+use Rattle.mdconstructs_documents.specs.DocumentEvents.{document_events, document_texts}
 use Rattle.mdconstructs_documents.proofs.FlowTexts.Accounts.{bare-marks}
 use Rattle.mdconstructs_documents.proofs.FlowTexts.Forms.{string-forms}
 use Rattle.mdconstructs_documents.proofs.FlowTexts.InlineForms.{inline-forms}
@@ -143,8 +146,19 @@ module _ (laws : SkeletonLaws) (g : Given) (is : IsDocument g) where
       stays-ready g.tab g.bytes (Some TextContent) blocks (content-ready TextContent) (Some StringContent) children (content-ready StringContent)
       (all-balanced g is TextContent blocks (content-ready TextContent) (inline_events g) (inline-orderly g) inline-stands) (alone starts)
 
-  pub events-orderly : IsOrderly g.tab g.bytes (document_events g)
-  events-orderly = read-orderly g is StringContent (with_inlines g blocks) strings-ready (string_events g) (string-orderly g) string-stands inlines-orderly
+  pub texts-orderly : IsOrderly g.tab g.bytes (document_texts g)
+  texts-orderly = read-orderly g is StringContent (with_inlines g blocks) strings-ready (string_events g) (string-orderly g) string-stands inlines-orderly
+
+  events-orderly : IsOrderly g.tab g.bytes (document_events g)
+  events-orderly =
+      let on = g.options.constructs in
+      let texts = document_texts g in
+      let h = texts-orderly in
+      record {
+        balanced = (strings_keep on g.tab g.bytes texts).0 h.balanced;
+        at_places = stand_at_places on g.tab g.bytes texts is.tab.0 h.at_places;
+        in_order = keep_order on g.tab g.bytes texts is.tab.0 h.at_places h.in_order;
+      }
 
   -- if void spans are empty too, they are well formed
   pub events-formed : IsVoidTight (document_events g) → IsWellFormed g (document_events g)

@@ -12,8 +12,8 @@ use Rattle.mdconstructs_documents.proofs.InContainers.Skeletons.{SkeletonLaws}
 use Rattle.mdconstructs_containers.specs.Blocks.{document_blocks}
 use Rattle.mdconstructs_inlines.specs.LawStatements.{with_inlines}
 use Rattle.mdconstructs_text.proofs.Paragraphs.ChainEvents.{all-begin, is-content, is-text}
-use Rattle.mdconstructs_documents.specs.DocumentEvents.{DocumentEventsAreTight}
-use Rattle.mdconstructs_documents.specs.DocumentEvents.{document_events}
+use Rattle.mdconstructs_strings.proofs.Kept.{strings_keep}
+use Rattle.mdconstructs_documents.specs.DocumentEvents.{DocumentEventsAreTight, document_texts}
 use Rattle.mdconstructs_documents.proofs.FlowChains.Blocks.{blocks-read-next}
 use Rattle.mdconstructs_documents.proofs.FlowTexts.InlineTight.{inline-tight}
 use Rattle.mdconstructs_documents.proofs.InContainers.Blocks.{bare, blocks-next, blocks_at, content-ready, shown, shown-is, shown-ready}
@@ -147,12 +147,12 @@ module _ (laws : SkeletonLaws) (g : Given) (is : IsDocument g) where
     each-string [] b = tt
     each-string (c ∷ cs) b = (string-tight g (chain_text g inlines c) (is-text g inlines is StringContent string-ready c b.0), each-string cs b.1)
 
-    pub events-tight : IsVoidTight (document_events g)
-    events-tight =
+    pub texts-tight : IsVoidTight (document_texts g)
+    texts-tight =
         let starts = fitting_starts (Some StringContent) inlines in
         let strings = map (λ c. string_events g (chain_text g inlines c)) starts in
         (children_fit g.tab g.bytes (Some StringContent) inlines string-ready strings).tight inlines-tight
         (each-string starts (all-begin g inlines is StringContent string-ready)) (lone-untorn g.tab g.bytes (Some StringContent) inlines string-ready inlines-lone strings)
 
-pub texts-tight : SkeletonLaws → InlinesHoldOnlyText → DocumentEventsAreTight
-texts-tight laws hold g is = events-tight laws g is hold
+pub events-tight : SkeletonLaws → InlinesHoldOnlyText → DocumentEventsAreTight
+events-tight laws hold g is = (strings_keep g.options.constructs g.tab g.bytes (document_texts g)).2 (texts-tight laws g is hold)

@@ -6,7 +6,7 @@ use Rattle.mdconstructs_inlines.specs.LawStatements.{with_inlines}
 use Rattle.mdconstructs_text.proofs.Paragraphs.ChainEvents.{all-begin, is-text}
 use Rattle.mdconstructs_documents.proofs.Emphasis.InlineAccounts.{inline-lined}
 use Rattle.mdconstructs_documents.proofs.FlowTexts.InlineSteps.{Steps, steps-virtual}
-use Rattle.mdconstructs_documents.proofs.FlowTexts.Strings.{string-cut}
+use Rattle.mdconstructs_strings.proofs.Cuts.{string-cut}
 use Rattle.mdconstructs_documents.proofs.InContainers.InlineHolds.{inlines-hold-text}
 use Rattle.mdconstructs_documents.proofs.InContainers.Skeletons.{SkeletonLaws, skeleton-laws}
 use Rattle.mdconstructs_documents.proofs.InContainers.TextsFormed.{content-ready, inline-orderly, string-orderly, strings-ready}
@@ -15,7 +15,8 @@ use Rattle.mdconstructs_documents.proofs.Innermost.Blocks.{blocks-account}
 use Rattle.mdconstructs_documents.proofs.Innermost.Chains.{IsReadWell, ReadsChain, children-account}
 use Rattle.mdconstructs_documents.proofs.Innermost.Lined.{lined-cut}
 use Rattle.mdconstructs_documents.proofs.Tiled.{tiled}
-use Rattle.mdconstructs_documents.specs.DocumentEvents.{document_events}
+use Rattle.mdconstructs_strings.proofs.Accounts.{keep_innermost}
+use Rattle.mdconstructs_documents.specs.DocumentEvents.{document_events, document_texts}
 use Rattle.mdconstructs_documents.specs.declared.choice.Which.TheVariants.{Document}
 
 -- ---- what any text and any string is read as
@@ -74,11 +75,14 @@ module _ (laws : SkeletonLaws) (g : Given) (is : IsDocument g) where
   read-strings [] b = tt
   read-strings (c ∷ cs) b = (string-well g (chain_text g inlines c) (is-text g inlines is StringContent lone-ready c b.0), read-strings cs b.1)
 
-  -- Each virtual byte of a document is in one innermost span of its events
-  pub events-account : AccountFor (document_events g) g.bytes (virtual g.tab g.bytes)
-  events-account =
+  texts-account : AccountFor (document_texts g) g.bytes (virtual g.tab g.bytes)
+  texts-account =
       let begin = all-begin g inlines is StringContent lone-ready in
       children-account g wide (Some StringContent) inlines lone-ready lone-gaps (λ c. string_events g (chain_text g inlines c)) (read-strings (fitting_starts (Some StringContent) inlines) begin) inlines-account
+
+  -- Each virtual byte of a document is in one innermost span of its events
+  pub events-account : AccountFor (document_events g) g.bytes (virtual g.tab g.bytes)
+  events-account = keep_innermost g.options.constructs g.tab g.bytes (document_texts g) wide texts-account
 
 -- So they tile the document, flat and deep
 pub document-tiles : TilesDocuments Document

@@ -44,10 +44,11 @@ use Rattle.mdconstructs_documents.proofs.FlowTexts.Chunks.{chain-is, chain-next,
 use Rattle.mdconstructs_documents.proofs.FlowTexts.Segments.{HasByte, IsKept}
 use Rattle.mdconstructs_documents.proofs.FlowTexts.Whole.{inlines-are-read}
 use Rattle.mdconstructs_documents.proofs.InContainers.Merged.{IsBare}
-use Rattle.mdconstructs_documents.specs.DocumentEvents.{document_events}
+use Rattle.mdconstructs_documents.specs.DocumentEvents.{document_events, document_texts}
 use Rattle.mdconstructs_documents.specs.Documents.{document}
 use Rattle.mdconstructs_documents.specs.FlowTexts.{flow_inlines}
-use Rattle.mdconstructs_inlines.specs.LawStatements.{with_inlines, with_strings}
+use Rattle.mdconstructs_inlines.specs.LawStatements.{with_inlines, with_strings as with_string_chunks}
+use Rattle.mdconstructs_strings.specs.Strings.{with_strings}
 use Rattle.mdconstructs_rests.proofs.Events.{full-lines, in-blocks}
 use Rattle.mdconstructs_rests.proofs.Links.{blocks-link-back}
 use Rattle.mdconstructs_rests.proofs.WithoutContainers.CutOff.{IsCutOff, IsPlain, cut-off}
@@ -250,8 +251,11 @@ module _ (g : Given) (is : IsDocument g) where
         ∙ read-by cut.front cut.back cut.seats cut.before cut.behind cut.front_plain cut.back_plain (sym (lines-are-all (virtual g.tab g.bytes)) ∙ cut.whole) (ap (chained_from 0 None) (marks-are ∙ cut.skeleton))
         ∙ ap (linked_from 0) (sym cut.blocks)
 
-    pub events-are : document_events g ≡ flow_inlines on g.bytes (virtual g.tab g.bytes)
-    events-are = ap (λ l. with_strings g (with_inlines g l)) blocks-are ∙ inlines-are-read g (whole_text g) (whole-is-text g is)
+    texts-are : document_texts g ≡ flow_inlines on g.bytes (virtual g.tab g.bytes)
+    texts-are = ap (λ l. with_string_chunks g (with_inlines g l)) blocks-are ∙ inlines-are-read g (whole_text g) (whole-is-text g is)
+
+    pub events-are : document_events g ≡ with_strings on g.tab g.bytes (flow_inlines on g.bytes (virtual g.tab g.bytes))
+    events-are = ap (with_strings on g.tab g.bytes) texts-are
 
 pub documents-without-containers : DocumentsWithoutContainers
 documents-without-containers options bytes is none = let g = document options bytes in (blocks-are g is none, events-are g is none)
