@@ -14,7 +14,7 @@ import sys
 TOP = os.path.dirname(os.path.dirname(os.path.realpath(__file__)))
 PARTS = {
     "markdown": ["markdown_base", "markdown_edits", "markdown_tokenizer", "markdown_children"],
-    "mdconstructs": ["mdconstructs_tables", "mdconstructs_machines", "mdconstructs_text", "mdconstructs_attention", "mdconstructs_references", "mdconstructs_inline_constructs", "mdconstructs_inlines", "mdconstructs_flow", "mdconstructs_flow_read", "mdconstructs_lines", "mdconstructs_containers", "mdconstructs_documents", "mdconstructs_rests"],
+    "mdconstructs": ["mdconstructs_tables", "mdconstructs_machines", "mdconstructs_text", "mdconstructs_attention", "mdconstructs_references", "mdconstructs_inline_constructs", "mdconstructs_strings", "mdconstructs_inlines", "mdconstructs_flow", "mdconstructs_flow_read", "mdconstructs_lines", "mdconstructs_containers", "mdconstructs_documents", "mdconstructs_rests"],
 }
 NAMED = {
     ("markdown_children", "specs", "LawStatements"): "ChildrenLawStatements",
@@ -57,6 +57,10 @@ NAMED = {
     ("mdconstructs_containers", "specs", "Over"): "ContainersOver",
     ("mdconstructs_documents", "proofs", "Innermost"): "InnermostInDocuments",
     ("mdconstructs_containers", "specs", "Costs"): "ContainerCosts",
+    ("mdconstructs_strings", "specs", "Costs"): "StringCosts",
+    ("mdconstructs_strings", "specs", "Laws"): "StringLaws",
+    ("mdconstructs_strings", "proofs", "Fronts"): "StringFronts",
+    ("mdconstructs_strings", "proofs", "Plain"): "StringPlain",
     ("mdconstructs_text", "specs", "Laws"): "TextLaws",
     ("mdconstructs_text", "proofs", "NoFurther"): "TextNoFurther",
     ("mdconstructs_text", "proofs", "NoRefusals"): "TextNoRefusals",

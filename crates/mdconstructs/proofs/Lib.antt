@@ -53,6 +53,17 @@ pub use Rattle.mdconstructs_inline_constructs.proofs.HtmlTexts
 pub use Rattle.mdconstructs_inline_constructs.proofs.References
 pub use Rattle.mdconstructs_inline_constructs.proofs.RememberedCode
 pub use Rattle.mdconstructs_inline_constructs.proofs.WhiteSpaces
+pub use Rattle.mdconstructs_strings.proofs.Accounts
+pub use Rattle.mdconstructs_strings.proofs.Added
+pub use Rattle.mdconstructs_strings.proofs.Cuts
+pub use Rattle.mdconstructs_strings.proofs.Fronts as StringFronts
+pub use Rattle.mdconstructs_strings.proofs.Kept
+pub use Rattle.mdconstructs_strings.proofs.Laid
+pub use Rattle.mdconstructs_strings.proofs.Listed
+pub use Rattle.mdconstructs_strings.proofs.Orders
+pub use Rattle.mdconstructs_strings.proofs.Places
+pub use Rattle.mdconstructs_strings.proofs.Plain as StringPlain
+pub use Rattle.mdconstructs_strings.proofs.Ranges
 pub use Rattle.mdconstructs_inlines.proofs.BracketBytes
 pub use Rattle.mdconstructs_inlines.proofs.BracketCalls
 pub use Rattle.mdconstructs_inlines.proofs.BracketReads

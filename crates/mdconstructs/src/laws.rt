@@ -38,6 +38,10 @@ pub use mdconstructs_rests::laws::{
     lines_of_both, read_events_of_both, rests_cut_blocks, rests_forget, rests_of_both,
     sections_give_events, virtual_of_both, wide_rests_cut_blocks,
 };
+pub use mdconstructs_strings::laws::{
+    data_is_read_as_string, plain_strings_stay, strings_keep_innermost_spans, strings_keep_lists,
+    strings_keep_order, strings_stand_at_places, strings_stay_well_formed,
+};
 pub use mdconstructs_tables::laws::{
     Calm, Knowledge, Planned, calm_rows_keep_what_is_known, fitting_tables_are_lawful,
     knowing_tables_are_lawful, knowing_tables_look_no_further, numbers_are_enough,
