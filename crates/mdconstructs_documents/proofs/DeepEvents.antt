@@ -1,6 +1,6 @@
 -- What is read with the children of chains of text: it is refused nowhere where rules refuse nothing, its chains can be read, and the
 -- definitions without states say what is read.
-use Rattle.mdconstructs_documents.proofs.Prelude.{Option, None, Some, whole_text, whole-is-text, arith, subst, sym, Content, TextContent, IsReady, inlines-refuse-nothing, inlines_rules, AreFlowInlines, IsSubtokenized, StartAmong, flow_events, read-as-data, read-as-texts, paragraph_texts, seat_events, Unmade, OfFault, NotReady, Memory, Failed, OfMessage, Result, Ok, Err, IsErrOf, IfErr, refl, ◌≡◌, ℕ, List, ⊎_elim, false, true, ap, ◌∙◌, ParseOptions, Event, Message, Name, start_configuration, IsRunRefused, Rules, Given, IsDocument, FlowStart, chain_of, text_of_chain, IsChildRefused, RulesRefuseNothing, none-refused, no-run-refused, Seat, document, virtual_bytes, Gives, GivesDeep, GivesUnready, HasRefusedChild, IsRefusedDeep, HasReadableChains, with_data, with_texts, data_events, paragraph_events, paragraphs_rules, IsReadAs, text_events, text_rules, HasChildren, AreFlowEvents, chains-read, reads-as-data, reads-items, paragraphs-by-blocks, text-by-blocks}
+use Rattle.mdconstructs_documents.proofs.Prelude.{Bool, Option, None, Some, whole_text, whole-is-text, arith, subst, sym, Content, TextContent, IsReady, inlines-refuse-nothing, inlines_rules, AreFlowInlines, IsSubtokenized, StartAmong, flow_events, read-as-data, read-as-texts, paragraph_texts, seat_events, Unmade, OfFault, NotReady, Memory, Failed, OfMessage, Result, Ok, Err, IsErrOf, IfErr, refl, ◌≡◌, ℕ, List, ⊎_elim, false, true, ap, ◌∙◌, ParseOptions, Event, Message, Name, start_configuration, IsRunRefused, Rules, Given, IsDocument, FlowStart, chain_of, text_of_chain, IsChildRefused, RulesRefuseNothing, none-refused, no-run-refused, Seat, document, virtual_bytes, Gives, GivesDeep, GivesUnready, HasRefusedChild, IsRefusedDeep, HasReadableChains, with_data, with_texts, data_events, paragraph_events, paragraphs_rules, IsReadAs, text_events, text_rules, HasChildren, AreFlowEvents, chains-read, reads-as-data, reads-items, paragraphs-by-blocks, text-by-blocks}
 use Rattle.mdconstructs_documents.proofs.FlowTexts.AllChildren.{all-children}
 use Rattle.mdconstructs_documents.proofs.FlowTexts.Textual.{each-ready, flow-textual, may-start-each}
 
@@ -55,8 +55,8 @@ with-texts options bytes is events h =
 -- what is read of leaf blocks, of which all chains are read by the machine of inline text
 module _ (options : ParseOptions) (bytes : List ℕ) where
   -- no child is refused
-  pub no-inline-refused : (wanted : Option Content) (old : List Event) (m : Message) → ¬ HasRefusedChild inlines_rules options bytes wanted old m
-  no-inline-refused wanted old m h = no-children-refused inlines_rules inlines-refuse-nothing options bytes wanted old m h
+  pub no-inline-refused : (defined : List ℕ → Bool) (wanted : Option Content) (old : List Event) (m : Message) → ¬ HasRefusedChild (inlines_rules defined) options bytes wanted old m
+  no-inline-refused defined wanted old m h = no-children-refused (inlines_rules defined) (inlines-refuse-nothing defined) options bytes wanted old m h
 
   -- of leaf blocks, all chains of which are read at once
   module _ (is : IsDocument (document options bytes)) (flat : List Event) (are : AreFlowEvents options bytes flat) where
@@ -67,9 +67,9 @@ module _ (options : ParseOptions) (bytes : List ℕ) where
     pub all-chains-ready : IsReady options.tab_size bytes None flat
     all-chains-ready = subst (IsReady options.tab_size bytes None) (sym are) (each-ready g (whole_text g) (whole-is-text g is))
 
-    pub all-may-start : StartAmong (inlines_rules g).starts None flat
-    all-may-start = subst (StartAmong (inlines_rules g).starts None) (sym are) (may-start-each (inlines_rules g).starts (0, omega arith, (cc)) (1, omega arith, (cc)) (flow_events options.constructs bytes (virtual_bytes options bytes)) (flow-textual g (whole_text g)))
+    pub all-may-start : (defined : List ℕ → Bool) → StartAmong (inlines_rules defined g).starts None flat
+    all-may-start defined = subst (StartAmong (inlines_rules defined g).starts None) (sym are) (may-start-each (inlines_rules defined g).starts (0, omega arith, (cc)) (1, omega arith, (cc)) (flow_events options.constructs bytes (virtual_bytes options bytes)) (flow-textual g (whole_text g)))
 
     -- with their children they are inline text and strings
-    pub flow-inlines : (new : List Event) → HasChildren inlines_rules options bytes None flat new → AreFlowInlines options bytes new
-    flow-inlines new h = all-children (document options bytes) (whole_text (document options bytes)) (whole-is-text (document options bytes) is) new h.1.0 (subst (λ (xs : List Event). IsSubtokenized g inlines_rules None xs new h.1.0) are h.1.1)
+    pub flow-inlines : (defined : List ℕ → Bool) (new : List Event) → HasChildren (inlines_rules defined) options bytes None flat new → AreFlowInlines options bytes new
+    flow-inlines defined new h = all-children defined (document options bytes) (whole_text (document options bytes)) (whole-is-text (document options bytes) is) new h.1.0 (subst (λ (xs : List Event). IsSubtokenized g (inlines_rules defined) None xs new h.1.0) are h.1.1)

@@ -1,5 +1,5 @@
 -- What is said of the events of leaf blocks with their texts.
-use Rattle.std.specs.Prelude.{◌≡◌, List, None}
+use Rattle.std.specs.Prelude.{◌≡◌, ℕ, Bool, List, None}
 use Rattle.markdown_base.specs.declared.event.Event.{Event}
 use Rattle.markdown_children.specs.Reads.{IsSubtokenized}
 use Rattle.markdown_tokenizer.specs.declared.subtokenize.Subresult.{Subresult}
@@ -17,10 +17,10 @@ abbrev pub InlinesAreRead : Type 0
 InlinesAreRead = (g : Given) (text : Text) → IsText g text
     → with_strings g (with_inlines g (flow_events g.options.constructs g.bytes text.seats)) ≡ flow_inlines g.options.constructs g.bytes text.seats
 
--- With the children of all their chains at once they are the same: as with those of chains of text, and then of strings
+-- With the children of all their chains at once they are the same: as with those of chains of text, and then of strings; whatever labels are defined
 abbrev pub InlinesAreReadAtOnce : Type 0
-InlinesAreReadAtOnce = (g : Given) (text : Text) (new : List Event) (sub : Subresult) → IsText g text → let flat = flow_events g.options.constructs g.bytes text.seats in
-    IsSubtokenized g inlines_rules None flat new sub → new ≡ with_strings g (with_inlines g flat)
+InlinesAreReadAtOnce = (defined : List ℕ → Bool) (g : Given) (text : Text) (new : List Event) (sub : Subresult) → IsText g text → let flat = flow_events g.options.constructs g.bytes text.seats in
+    IsSubtokenized g (inlines_rules defined) None flat new sub → new ≡ with_strings g (with_inlines g flat)
 
 -- with inline text they are well formed
 abbrev pub InlinesAreFormed : Type 0

@@ -18,6 +18,7 @@ use markdown_base::state::Name;
 use markdown_tokenizer::tokenizer::{Fault, cuts_every};
 use mdconstructs_flow::flow::Flow;
 use mdconstructs_inlines::inlines::Inlines;
+use mdconstructs_labels::labels::Labels;
 use mdconstructs_machines::back::Back;
 use mdconstructs_machines::deep::Deep;
 use mdconstructs_machines::lines::Lines;
@@ -209,7 +210,10 @@ fn read_flow_and_inlines(
     ensures document { IsDocument (document options.now bytes.now) }
 {
     let events = read_flow(alloc, bytes, options, cuts)?;
-    with_ready_children(alloc, &Inlines {}, bytes, options, events, None)
+    let machine = Inlines {
+        labels: Labels::new(alloc),
+    };
+    with_ready_children(alloc, &machine, bytes, options, events, None)
 }
 
 /// The places at which a document is cut.

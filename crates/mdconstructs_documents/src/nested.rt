@@ -8,6 +8,7 @@ ghost use Rattle.markdown_tokenizer.specs.Engine.{IsWellFormed};
 ghost use Rattle.markdown_tokenizer.specs.Text.{IsDocument};
 ghost use Rattle.mdconstructs_flow.specs.FlowKnows.{flow_rules};
 ghost use Rattle.mdconstructs_inlines.specs.InlineRules.{inlines_rules};
+ghost use Rattle.mdconstructs_labels.specs.Defined.{defines};
 ghost use Rattle.mdconstructs_documents.specs.Documents.{document, AreDocumentBlocks, AreDocumentEvents};
 ghost use Rattle.mdconstructs_documents.specs.Runs.{HasChildren, HasOnlyContent, HasOnlyTexts};
 
@@ -18,6 +19,7 @@ use mdconstructs_containers::letters::with_letters;
 use mdconstructs_containers::skeleton::skeleton_of;
 use mdconstructs_flow::flow::Flow;
 use mdconstructs_inlines::inlines::Inlines;
+use mdconstructs_labels::labels::Labels;
 use mdconstructs_strings::strings::with_strings;
 use std::alloc::Global;
 
@@ -84,23 +86,25 @@ pub(crate) fn read_nested_events(
     ensures document { IsDocument (document options.now bytes.now) }
 {
     let events = read_blocks(alloc, bytes, options)?;
-    let texts = with_inline_text(alloc, bytes, options, events)?;
+    let texts = with_inline_text(alloc, bytes, options, events, Labels::new(alloc))?;
     Ok(with_strings(alloc, &options.constructs, bytes, options.tab_size, texts)?)
 }
 
-/// The events with the inline text of each chain of text, and the events of each string, in place of their chunks. All chains are texts or
-/// strings, so all are read at once.
+/// The events with the inline text of each chain of text, and the events of each string, in place of their chunks, where
+/// these labels are defined. All chains are texts or strings, so all are read at once.
 fn with_inline_text(
     alloc: Global,
     bytes: &[u8],
     options: &ParseOptions,
     events: Vec<Event>,
+    labels: Labels,
 ) -> Result<Vec<Event>, Unmade>
     requires limit { IsWithinLimit options.now.tab_size bytes.now }
     requires texts { HasOnlyTexts events.items }
     requires ready { IsReady options.now.tab_size bytes.now None events.items }
-    ensures events { IfOk result (λ new. HasChildren inlines_rules options.now bytes.now None events.items new.items) }
+    ensures events { IfOk result (λ new. HasChildren (inlines_rules (defines labels)) options.now bytes.now None events.items new.items) }
     ensures err { IfErr result (λ unmade. unmade ≡ Unmade.Fault Memory) }
 {
-    with_ready_children(alloc, &Inlines {}, bytes, options, events, None)
+    let machine = Inlines { labels };
+    with_ready_children(alloc, &machine, bytes, options, events, None)
 }

@@ -56,15 +56,15 @@ blind-brackets b (Some _) = search rules
 blind : IsBlind inlines
 blind b w = both-blind unbracketed_states bracket_states b w (blind-others b w) (blind-brackets b w)
 
-module _ (g : Given) (text : Text) (flag : Bool) (start : Name) where
+module _ (defined : List ℕ → Bool) (g : Given) (text : Text) (flag : Bool) (start : Name) where
   -- from its starts the machine reads as its twin does
-  pub twin-reads : (r : Reading Unit Unit) → EndsIn g (inlines_rules g).step text 0 (start_configuration flag) [] (Next start) r
+  pub twin-reads : (r : Reading Unit Unit) → EndsIn g (inlines_rules defined g).step text 0 (start_configuration flag) [] (Next start) r
       → (n : ℕ) × EndsIn g (counted_step g) text 0 (start_configuration flag) [] (Next start) (reading_sized n r)
   twin-reads r ends = twins-read-alike inlines counts blind (λ local. refl) (λ local. (_, refl)) g text 0 (start_configuration flag) 0 [] (Next start) r ends
 
   -- and what the twin ends with the machine ends with
   pub ends-as-counted : (e : Ending) → EndsWith g text (counted_step g) (start_configuration flag) [] (Next start) e
-      → (r : Reading Unit Unit) → EndsIn g (inlines_rules g).step text 0 (start_configuration flag) [] (Next start) r → (r.answer ≡ Ok) × (r.configuration.events ≡ e.events)
+      → (r : Reading Unit Unit) → EndsIn g (inlines_rules defined g).step text 0 (start_configuration flag) [] (Next start) r → (r.answer ≡ Ok) × (r.configuration.events ≡ e.events)
   ends-as-counted e h r ends =
       let there = twin-reads r ends in
       ends-so g text (counted_step g) (start_configuration flag) (Next start) e h (reading_sized there.0 r) there.1

@@ -15,20 +15,20 @@ text_ending g text = record { events = read_events g text; spent = inline_budget
 
 -- Inline text is what its definition says
 pub reads-inline-text : ReadsInlineText
-reads-inline-text g events sub document =
+reads-inline-text defined g events sub document =
     let text = whole_text g in
     let is = whole-is-text g document in
-    let read = ends-as-counted g text false TextStart (text_ending g text) (inlines-read g text is false) in (
-      λ run. makes-links g events sub document run ∙ ap (with_links g.bytes) (read run.result run.ends).1,
+    let read = ends-as-counted defined g text false TextStart (text_ending g text) (inlines-read g text is false) in (
+      λ run. makes-links defined g events sub document run ∙ ap (with_links g.bytes) (read run.result run.ends).1,
       λ run. run.events ∙ ap (λ (k : Configuration Unit Unit). k.events) run.resolved.0 ∙ (read run.result run.ends).1,
     )
 
 -- and a run makes no more calls than so many for each virtual byte
 pub inline-text-is-linear : RunsWithin TextStart (λ n. 368 * n + 4)
-inline-text-is-linear g resolving events sub document run few =
+inline-text-is-linear defined g resolving events sub document run few =
     let text = whole_text g in
     let is = whole-is-text g document in
     let looks = tail-looks-linear g.options.constructs (bytes_of text.seats) in
     let size : length (bytes_of text.seats) ≡ length text.seats = length-map text.seats (λ (s : Seat). s.byte) in
-    let all = calls-within g text false TextStart (text_ending g text) (inlines-read g text is false) (omega (arith, few, looks, size)) run.result run.ends in
+    let all = calls-within defined g text false TextStart (text_ending g text) (inlines-read g text is false) (omega (arith, few, looks, size)) run.result run.ends in
     omega (arith, all, looks, size)

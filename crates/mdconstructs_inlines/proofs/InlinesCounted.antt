@@ -1,5 +1,5 @@
 -- The twin of the machine of inline text counts each of its calls: where few were counted, few were made, and the machine makes as many.
-use Rattle.mdconstructs_inlines.proofs.Prelude.{◌≡◌, ◌<◌, ◌≤◌, [], Bool, Option, None, Some, refl, sym, subst, arith, rules, Name, Next, start_configuration, EndsIn, Reading, Given, Text, one-end, TextByte, backtick, digit, letter, line_feed, mark, Ending, most, spent, inlines_rules, inlines}
+use Rattle.mdconstructs_inlines.proofs.Prelude.{ℕ, List, ◌≡◌, ◌<◌, ◌≤◌, [], Bool, Option, None, Some, refl, sym, subst, arith, rules, Name, Next, start_configuration, EndsIn, Reading, Given, Text, one-end, TextByte, backtick, digit, letter, line_feed, mark, Ending, most, spent, inlines_rules, inlines}
 use Rattle.mdconstructs_tables.specs.Twins.{reading_sized}
 use Rattle.mdconstructs_text.proofs.Texts.Leads.{EndsWith}
 use Rattle.mdconstructs_inlines.specs.BracketRows.{bracket_states}
@@ -27,13 +27,13 @@ keep-count b w = both-keep-count unbracketed_states bracket_states b w (keep-oth
 inlines-count : (g : Given) → CountsCalls (counted_step g)
 inlines-count g = table-counts counted g (λ local. refl) keep-count
 
-module _ (g : Given) (text : Text) where
+module _ (defined : List ℕ → Bool) (g : Given) (text : Text) where
   -- A reading from a start that is to end within so many calls that are counted makes no more, if they can all be counted
   pub calls-within : (flag : Bool) (start : Name) (e : Ending) → EndsWith g text (counted_step g) (start_configuration flag) [] (Next start) e → e.spent < most
-      → (r : Reading Unit Unit) → EndsIn g (inlines_rules g).step text 0 (start_configuration flag) [] (Next start) r → r.calls ≤ e.spent
+      → (r : Reading Unit Unit) → EndsIn g (inlines_rules defined g).step text 0 (start_configuration flag) [] (Next start) r → r.calls ≤ e.spent
   calls-within flag start e h few r ends =
       let there = h 0 in
-      let read = twin-reads g text flag start r ends in
+      let read = twin-reads defined g text flag start r ends in
       let q : Reading Unit Unit = reading_sized read.0 r in
       let same : q ≡ there.0 = one-end g (counted_step g) text 0 (start_configuration flag) [] (Next start) q there.0 read.1 there.1.0 in
       let spent-so : spent q.configuration.local ≤ e.spent = subst (λ (q : Reading Unit Unit). spent q.configuration.local ≤ e.spent) (sym same) there.1.2.1 in

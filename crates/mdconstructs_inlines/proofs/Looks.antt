@@ -1,6 +1,6 @@
 -- The machine of inline text refuses no document, by the test of its rows; and it looks no further than the byte that waits: its tests take
 -- nothing of the document but the options.
-use Rattle.mdconstructs_inlines.proofs.Prelude.{◌≡◌, ◌&&◌, ◌||◌, reverse, begins_bracket, begins_end, begins_image, begins_link, List, [], ◌∷◌, ◌++◌, Option, Some, None, refl, ap, AllByRecursion, ParseOptions, LooksNoFurther, IsAnsweredAlike, tests, tests_of, refusing, RulesRefuseNothing, steps-alike, table-steps, refuse-nothing, autolinks, passes, escapes, TextByte, line_feed, backtick, less, greater, backslash, colon, letter, digit, mark, ampersand, white, punctuation, blank, other, every-append, TextBeforeHardBreakEscape, every-back, every-front, StateRows, states_of, html-on-alike, html-tags-alike, emails, html_marks, html_tags, domain-ends-alike, hyphen-alike, label-alike, label-ends-alike, name-alike, name-ends-alike, break_escapes_are_on, space_waits, trailing_breaks_are_on, at_number_sign, at_semicolon, at_x, value_goes_on, value_is_whole, goes-on-alike, number-sign-alike, on-alike, semicolon-alike, whole-alike, x-alike, remembered_code_spans, inlines_rules, behind_escapes, inline_constructs, inline_start, inlines, own_states, is_delimiter, run_begins, run_goes_on, run_states, string_states}
+use Rattle.mdconstructs_inlines.proofs.Prelude.{ℕ, Bool, ◌≡◌, ◌&&◌, ◌||◌, reverse, begins_bracket, begins_end, begins_image, begins_link, List, [], ◌∷◌, ◌++◌, Option, Some, None, refl, ap, AllByRecursion, ParseOptions, LooksNoFurther, IsAnsweredAlike, tests, tests_of, refusing, RulesRefuseNothing, steps-alike, table-steps, refuse-nothing, autolinks, passes, escapes, TextByte, line_feed, backtick, less, greater, backslash, colon, letter, digit, mark, ampersand, white, punctuation, blank, other, every-append, TextBeforeHardBreakEscape, every-back, every-front, StateRows, states_of, html-on-alike, html-tags-alike, emails, html_marks, html_tags, domain-ends-alike, hyphen-alike, label-alike, label-ends-alike, name-alike, name-ends-alike, break_escapes_are_on, space_waits, trailing_breaks_are_on, at_number_sign, at_semicolon, at_x, value_goes_on, value_is_whole, goes-on-alike, number-sign-alike, on-alike, semicolon-alike, whole-alike, x-alike, remembered_code_spans, inlines_rules, behind_escapes, inline_constructs, inline_start, inlines, own_states, is_delimiter, run_begins, run_goes_on, run_states, string_states}
 use Rattle.mdconstructs_inlines.specs.BracketRows.{bracket_states, end_is_awaited, end_may_make, image_begins, kept_starts, link_begins, mark_begins, may_make, one_waits}
 use Rattle.mdconstructs_text.proofs.Texts.NoFurther.{autolinks as autolinks-on, code-spans, escapes as escapes-on, room, scheme, sizes}
 
@@ -8,8 +8,8 @@ none-refuses : (previous current : Option TextByte) → refusing inlines previou
 none-refuses previous (Some line_feed) = refl
 none-refuses previous _ = refl
 
-pub inlines-refuse-nothing : RulesRefuseNothing inlines_rules
-inlines-refuse-nothing = refuse-nothing inlines_rules (λ g s k name. table-steps inlines none-refuses g s k name) (λ g s k r m e. absurd (cc))
+pub inlines-refuse-nothing : (defined : List ℕ → Bool) → RulesRefuseNothing (inlines_rules defined)
+inlines-refuse-nothing defined = refuse-nothing (inlines_rules defined) (λ g s k name. table-steps inlines none-refuses g s k name) (λ g s k r m e. absurd (cc))
 
 begins : IsAnsweredAlike {R = Unit {0}} {D = Unit {0}} run_begins
 begins g h s k alike = ap (λ (o : ParseOptions). o.constructs.attention && passes is_delimiter s.current) alike.options
@@ -119,5 +119,5 @@ alike b w =
     let links = both-alike autolinks.states (emails.states ++ (html_marks.states ++ (html_tags.states ++ escaped))) b w (autolinks-alike b w) mails in
     both-alike between_states (states_of inline_constructs ++ bracket_states) b w (between-alike b w) (both-alike (states_of inline_constructs) bracket_states b w (both-alike remembered_code_spans.states (autolinks.states ++ (emails.states ++ (html_marks.states ++ (html_tags.states ++ escaped)))) b w (code-spans-alike b w) links) (brackets-alike b w))
 
-pub inlines-look : LooksNoFurther inlines_rules
-inlines-look g h text k name is same = steps-alike inlines alike g h _ k name same
+pub inlines-look : (defined : List ℕ → Bool) → LooksNoFurther (inlines_rules defined)
+inlines-look defined g h text k name is same = steps-alike inlines alike g h _ k name same

@@ -38,15 +38,15 @@ all-pass test set all byte e =
 
 -- the state of a name reads over a byte
 abbrev IsOver : Name → ℕ → Type 0
-IsOver name byte = (g : Given) → ReadsOver g (inlines_rules g) name byte
+IsOver name byte = (defined : List ℕ → Bool) (g : Given) → ReadsOver g (inlines_rules defined g) name byte
 
 -- it does if its rows in the table pick the row that consumes the byte
 reads-over : (state : StateRows TextByte Unit Unit) (name : Name) (byte : ℕ) → named inlines.states name ≡ Some state → PicksOver state name text_byte byte
     → (other : Name) → other.number ≡ name.number → IsOver other byte
 reads-over state name byte there over other is =
     subst (λ n. IsOver (record { number = n }) byte) (sym is)
-    (λ g text k choices n ready holds same current.
-    subst (λ n. (inlines_rules g).step (sight g text k) k n ≡ step_over k n) (sym same) (picked-read-over inlines state name byte (λ local. refl) there over g (sight g text k) k current))
+    (λ defined g text k choices n ready holds same current.
+    subst (λ n. (inlines_rules defined g).step (sight g text k) k n ≡ step_over k n) (sym same) (picked-read-over inlines state name byte (λ local. refl) there over g (sight g text k) k current))
 
 -- ---- data of inline text
 

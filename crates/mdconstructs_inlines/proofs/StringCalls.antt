@@ -126,6 +126,6 @@ module _ (g : Given) (text : Text) where
 
 -- So a run makes no more
 pub strings-are-linear : RunsWithin StringStart (λ n. 87 * n + 2)
-strings-are-linear g resolving events sub document run few =
+strings-are-linear defined g resolving events sub document run few =
     let text = whole_text g in
-    calls-within g text false StringStart (record { events = string_events g text; spent = string_budget g text }) (strings-within g text false) few run.result run.ends
+    calls-within defined g text false StringStart (record { events = string_events g text; spent = string_budget g text }) (strings-within g text false) few run.result run.ends

@@ -1,5 +1,5 @@
 -- The rules of the machine of inline text: once all was read, links, images and emphasis take the place of brackets and delimiter runs.
-use Rattle.std.specs.Prelude.{◌≡◌, List}
+use Rattle.std.specs.Prelude.{◌≡◌, ℕ, Bool, false, List}
 use Rattle.markdown_base.specs.declared.event.Event.{Event}
 use Rattle.markdown_edits.specs.Edits.{Edit}
 use Rattle.markdown_tokenizer.specs.Engine.{IsWellFormed}
@@ -26,5 +26,10 @@ EndsLinked g text events = (read : List Event) × IsWellFormed g read × HaveNoL
 abbrev pub inline_plan : Plan TextByte Unit Unit
 inline_plan = registered_plan inlines begins_inline follows_inline inline_starts tt linking_edits EndsLinked
 
-abbrev pub inlines_rules : Given → Rules Unit Unit
-inlines_rules = planned_rules inline_plan
+-- no label is defined
+abbrev pub no_labels : List ℕ → Bool
+no_labels label = false
+
+-- The rules of a machine whose labels define these. None asks which do
+abbrev pub inlines_rules : (defined : List ℕ → Bool) → Given → Rules Unit Unit
+inlines_rules defined = planned_rules inline_plan

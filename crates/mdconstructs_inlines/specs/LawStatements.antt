@@ -19,20 +19,20 @@ use Rattle.mdconstructs_inlines.specs.InlineRules.{inlines_rules}
 use Rattle.mdconstructs_inlines.specs.StringEvents.{string_events}
 
 -- these are the events of a run of the machine, from the start of texts, which resolves
-abbrev pub IsRunOfInlines : Given → List Event → Type 0
-IsRunOfInlines g events = (sub : Subresult) × IsRun g inlines_rules true TextStart events sub
+abbrev pub IsRunOfInlines : (defined : List ℕ → Bool) → Given → List Event → Type 0
+IsRunOfInlines defined g events = (sub : Subresult) × IsRun g (inlines_rules defined) true TextStart events sub
 
 -- For each document, a run that resolves returns the events with which its reading ends, with links, images and emphasis in place of their brackets and
 -- delimiter runs
 abbrev pub MakesLinks : Type 0
-MakesLinks = (g : Given) (events : List Event) (sub : Subresult) → IsDocument g → (run : IsRun g inlines_rules true TextStart events sub)
+MakesLinks = (defined : List ℕ → Bool) (g : Given) (events : List Event) (sub : Subresult) → IsDocument g → (run : IsRun g (inlines_rules defined) true TextStart events sub)
     → events ≡ with_links g.bytes run.result.configuration.events
 
 -- For each document, a run that resolves returns the events of inline text; and one that does not, the events that are read
 abbrev pub ReadsInlineText : Type 0
-ReadsInlineText = (g : Given) (events : List Event) (sub : Subresult) → IsDocument g
-    → (IsRun g inlines_rules true TextStart events sub → events ≡ inline_events g (whole_text g))
-    × (IsRun g inlines_rules false TextStart events sub → events ≡ read_events g (whole_text g))
+ReadsInlineText = (defined : List ℕ → Bool) (g : Given) (events : List Event) (sub : Subresult) → IsDocument g
+    → (IsRun g (inlines_rules defined) true TextStart events sub → events ≡ inline_events g (whole_text g))
+    × (IsRun g (inlines_rules defined) false TextStart events sub → events ≡ read_events g (whole_text g))
 
 -- the list with each chunk of each chain of text replaced by its part of the inline text of the chain
 abbrev pub with_inlines : Given → List Event → List Event
@@ -40,15 +40,15 @@ with_inlines g events = with_read g events (λ c. inline_events g (chain_text g 
 
 -- The machine makes that of each list whose chains of text can be read
 abbrev pub ReadsChainsAsInlineText : Type 0
-ReadsChainsAsInlineText = (g : Given) (events : List Event) → IsDocument g → IsReady g.tab g.bytes (Some TextContent) events → AreReadBy g events inlines_rules (with_inlines g events)
+ReadsChainsAsInlineText = (defined : List ℕ → Bool) (g : Given) (events : List Event) → IsDocument g → IsReady g.tab g.bytes (Some TextContent) events → AreReadBy g events (inlines_rules defined) (with_inlines g events)
 
 -- and leaves it ready for another content, if it was
 abbrev pub StaysReadyAfterInlineText : Type 0
-StaysReadyAfterInlineText = (g : Given) (events : List Event) → IsDocument g → IsReady g.tab g.bytes (Some TextContent) events → StaysReadyBy g events inlines_rules
+StaysReadyAfterInlineText = (defined : List ℕ → Bool) (g : Given) (events : List Event) → IsDocument g → IsReady g.tab g.bytes (Some TextContent) events → StaysReadyBy g events (inlines_rules defined)
 
 -- For each document, a run from the start of strings, resolving or not, returns the events of a string
 abbrev pub ReadsStrings : Type 0
-ReadsStrings = (g : Given) (resolving : Bool) (events : List Event) (sub : Subresult) → IsDocument g → IsRun g inlines_rules resolving StringStart events sub
+ReadsStrings = (defined : List ℕ → Bool) (g : Given) (resolving : Bool) (events : List Event) (sub : Subresult) → IsDocument g → IsRun g (inlines_rules defined) resolving StringStart events sub
     → events ≡ string_events g (whole_text g)
 
 -- the list with each chunk of each chain of strings replaced by its part of the events of the string that the chain is
@@ -57,15 +57,15 @@ with_strings g events = with_children (Some String) events (map (λ c. string_ev
 
 -- The machine makes that of each list whose chains of strings can be read
 abbrev pub ReadsChainsAsStrings : Type 0
-ReadsChainsAsStrings = (g : Given) (events new : List Event) (sub : Subresult) → IsDocument g → IsReady g.tab g.bytes (Some String) events
-    → IsSubtokenized g inlines_rules (Some String) events new sub → new ≡ with_strings g events
+ReadsChainsAsStrings = (defined : List ℕ → Bool) (g : Given) (events new : List Event) (sub : Subresult) → IsDocument g → IsReady g.tab g.bytes (Some String) events
+    → IsSubtokenized g (inlines_rules defined) (Some String) events new sub → new ≡ with_strings g events
 
 -- and leaves it ready for another content, if it was
 abbrev pub StaysReadyAfterStrings : Type 0
-StaysReadyAfterStrings = (g : Given) (events new : List Event) (sub : Subresult) (next : Option Content) → IsDocument g → IsReady g.tab g.bytes (Some String) events
-    → IsReady g.tab g.bytes next events → IsSubtokenized g inlines_rules (Some String) events new sub → IsReady g.tab g.bytes next new
+StaysReadyAfterStrings = (defined : List ℕ → Bool) (g : Given) (events new : List Event) (sub : Subresult) (next : Option Content) → IsDocument g → IsReady g.tab g.bytes (Some String) events
+    → IsReady g.tab g.bytes next events → IsSubtokenized g (inlines_rules defined) (Some String) events new sub → IsReady g.tab g.bytes next new
 
 -- For each document, a run from a start makes at most so many calls, by how many virtual bytes there are, if so many can be counted
 abbrev pub RunsWithin : Name → (calls : ℕ → ℕ) → Type 0
-RunsWithin start calls = (g : Given) (resolving : Bool) (events : List Event) (sub : Subresult) → IsDocument g → (run : IsRun g inlines_rules resolving start events sub)
+RunsWithin start calls = (defined : List ℕ → Bool) (g : Given) (resolving : Bool) (events : List Event) (sub : Subresult) → IsDocument g → (run : IsRun g (inlines_rules defined) resolving start events sub)
     → let most = calls (length (whole_text g).seats) in most < 2 ^ 64 - 1 → run.result.calls ≤ most

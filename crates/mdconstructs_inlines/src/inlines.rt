@@ -48,6 +48,7 @@ use mdconstructs_inline_constructs::reference::{
 use mdconstructs_inline_constructs::remembered_code::{
     remembered_between, remembered_chunk, remembered_open,
 };
+use mdconstructs_labels::labels::Labels;
 use mdconstructs_links::link_edits::put_links;
 use mdconstructs_resources::{names as resource_names, resource};
 use mdconstructs_tables::marker;
@@ -71,7 +72,10 @@ use std::alloc::{AllocError, Global};
 /// On n virtual bytes a run from `TextStart` takes at most 368 n + 4 calls, and one from `StringStart` 87 n + 2, whatever they are: what was looked for
 /// in vain is remembered (`inline_text_is_linear`, `strings_are_linear`). The cost that the machine states is a square (`cost_at_the_start`).
 #[derive(Drop)]
-pub struct Inlines {}
+pub struct Inlines {
+    /// The labels that are defined. No state asks for them: references by labels are not read.
+    pub labels: Labels,
+}
 
 impl MachineTypes for Inlines {
     type Resolver = ();
@@ -80,10 +84,11 @@ impl MachineTypes for Inlines {
 }
 
 impl Machine for Inlines {
+    ghost use Rattle.mdconstructs_labels.specs.Defined.{defines};
     ghost use Rattle.mdconstructs_inlines.specs.InlineRules.{inlines_rules};
     ghost use Rattle.mdconstructs_inlines.specs.Laws.Inlines.{inlines-lawful};
 
-    ghost rules = { λ _. inlines_rules };
+    ghost rules = { λ m. inlines_rules (defines m.labels) };
 
     /// Data reads over all bytes but those that may end it; and so do URIs of autolinks, raw HTML between marks, and values in quotes.
     #[inline(always)]
@@ -223,7 +228,7 @@ impl Machine for Inlines {
         Ok(None)
     }
 
-    ghost lawful = { λ _ g. inlines-lawful g };
+    ghost lawful = { λ m g. inlines-lawful (defines m.labels) g };
 }
 
 /// Begins a call: counts it, and does nothing else.

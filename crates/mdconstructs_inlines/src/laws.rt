@@ -1,6 +1,6 @@
-//! Laws about the machine of inline text. Each is a function that does nothing; its contract is the law.
+//! Laws about the machine of inline text, whatever its labels define. Each is a function that does nothing; its contract is the law.
 
-ghost use Rattle.std.specs.Prelude.{[], ◌∷◌, ◌+◌, ◌*◌};
+ghost use Rattle.std.specs.Prelude.{ℕ, [], ◌∷◌, ◌+◌, ◌*◌, Bool, List};
 ghost use Rattle.markdown_base.specs.declared.state.TheConstants.Name.{StringStart, TextStart};
 ghost use Rattle.markdown_tokenizer.specs.Alike.{LooksNoFurther};
 ghost use Rattle.mdconstructs_tables.specs.Refusals.{RulesRefuseNothing};
@@ -10,13 +10,13 @@ ghost use Rattle.mdconstructs_inlines.specs.LawStatements.{MakesLinks, ReadsChai
 
 /// The machine has two starts, one for texts and one for strings. This is how many calls it takes at most from each, on n virtual bytes.
 pub fn cost_at_the_start()
-    ensures text { StartsAmong inlines_rules (TextStart ∷ StringStart ∷ []) TextStart (λ n. 4 * n * n + 20 * n + 9) }
-    ensures string { StartsAmong inlines_rules (TextStart ∷ StringStart ∷ []) StringStart (λ n. 4 * n * n + 9 * n + 2) }
+    ensures text { (defined : List ℕ → Bool) → StartsAmong (inlines_rules defined) (TextStart ∷ StringStart ∷ []) TextStart (λ n. 4 * n * n + 20 * n + 9) }
+    ensures string { (defined : List ℕ → Bool) → StartsAmong (inlines_rules defined) (TextStart ∷ StringStart ∷ []) StringStart (λ n. 4 * n * n + 9 * n + 2) }
 {}
 
 /// No reading by the machine ends in a message, whatever the text and the state: it makes events of every document.
 pub fn no_document_is_refused()
-    ensures { RulesRefuseNothing inlines_rules }
+    ensures { (defined : List ℕ → Bool) → RulesRefuseNothing (inlines_rules defined) }
 {}
 
 /// A run that resolves returns the events that were read, with links, images and emphasis in place of their brackets and delimiter runs.
@@ -73,5 +73,5 @@ pub fn other_chains_stay_ready_after_strings()
 /// The machine looks no further than the byte that waits: of a document its tests take the options alone. So a tokenizer that it drives
 /// can go on in another document that begins alike.
 pub fn inline_text_looks_no_further()
-    ensures { LooksNoFurther inlines_rules }
+    ensures { (defined : List ℕ → Bool) → LooksNoFurther (inlines_rules defined) }
 {}

@@ -1,5 +1,5 @@
 -- The texts and strings of a document's blocks: what the machine of inline text makes of them, all at once.
-use Rattle.mdconstructs_documents.proofs.Prelude.{◌≡◌, ℕ, [], false, true, List, Option, Some, None, refl, sym, ap, ◌∙◌, subst, none-some, not, slice_get_within, Content, StringContent, TextContent, Event, IsBalanced, content_at, fits, fitting_starts, some_fits, IsReady, IsSubtokenized, Subresult, ParseOptions, HasChildren, Given, IsDocument, document, inline-alone, inline_events, string-alone, string_events, inlines_rules}
+use Rattle.mdconstructs_documents.proofs.Prelude.{Bool, ◌≡◌, ℕ, [], false, true, List, Option, Some, None, refl, sym, ap, ◌∙◌, subst, none-some, not, slice_get_within, Content, StringContent, TextContent, Event, IsBalanced, content_at, fits, fitting_starts, some_fits, IsReady, IsSubtokenized, Subresult, ParseOptions, HasChildren, Given, IsDocument, document, inline-alone, inline_events, string-alone, string_events, inlines_rules}
 use Rattle.std.proofs.lemmas.List.{length-map}
 use Rattle.std.specs.Prelude.{is_some}
 use Rattle.markdown_base.specs.declared.event.Content.TheVariants as content
@@ -68,9 +68,9 @@ module _ (laws : SkeletonLaws) (g : Given) (is : IsDocument g) where
   abbrev reads : ℕ → List Event
   reads c = read_at g is blocks blocks-textual (ready-for laws g is TextContent) (ready-for laws g is StringContent) c
 
-  pub texts-at-once : (new : List Event) (sub : Subresult) → IsSubtokenized g inlines_rules None blocks new sub → new ≡ document_texts g
-  texts-at-once new sub h =
-      read-at-once g is blocks blocks-textual (ready-for laws g is TextContent) (ready-for laws g is StringContent) new sub h
+  pub texts-at-once : (defined : List ℕ → Bool) (new : List Event) (sub : Subresult) → IsSubtokenized g (inlines_rules defined) None blocks new sub → new ≡ document_texts g
+  texts-at-once defined new sub h =
+      read-at-once g is blocks blocks-textual (ready-for laws g is TextContent) (ready-for laws g is StringContent) defined new sub h
       ∙ all-at-once g blocks all-ready TextContent StringContent refl refl refl refl blocks-textual (inline_events g) (string_events g) (inline-alone g) (string-alone g) reads
       (read-text g is blocks blocks-textual (ready-for laws g is TextContent) (ready-for laws g is StringContent))
       (read-string g is blocks blocks-textual (ready-for laws g is TextContent) (ready-for laws g is StringContent))
@@ -84,6 +84,6 @@ module _ (laws : SkeletonLaws) (options : ParseOptions) (bytes : List ℕ) (is :
   pub blocks-have-texts : HasOnlyTexts blocks
   blocks-have-texts = subst HasOnlyTexts (sym are) (blocks-textual laws (document options bytes) is)
 
-  pub texts-of-document : (new : List Event) → HasChildren inlines_rules options bytes None blocks new → new ≡ document_texts (document options bytes)
-  texts-of-document new h =
-      texts-at-once laws (document options bytes) is new h.1.0 (subst (λ (es : List Event). IsSubtokenized (document options bytes) inlines_rules None es new h.1.0) are h.1.1)
+  pub texts-of-document : (defined : List ℕ → Bool) (new : List Event) → HasChildren (inlines_rules defined) options bytes None blocks new → new ≡ document_texts (document options bytes)
+  texts-of-document defined new h =
+      texts-at-once laws (document options bytes) is defined new h.1.0 (subst (λ (es : List Event). IsSubtokenized (document options bytes) (inlines_rules defined) None es new h.1.0) are h.1.1)

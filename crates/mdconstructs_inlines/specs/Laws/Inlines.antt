@@ -1,5 +1,5 @@
 -- The table of inline text passes the tests, with the numbers of its states; and its resolver makes links, images and emphasis. So the machine is lawful.
-use Rattle.std.proofs.Common.{◌≡◌, List, [], ◌∷◌, ◌++◌, inl, inr, Option, None, Some, true, refl, sym, subst}
+use Rattle.std.proofs.Common.{◌≡◌, ℕ, Bool, List, [], ◌∷◌, ◌++◌, inl, inr, Option, None, Some, true, refl, sym, subst}
 use Rattle.std.proofs.lemmas.List.Elements.{All-from_recursion}
 use Rattle.markdown_base.specs.declared.state.Name.{Name}
 use Rattle.markdown_base.specs.declared.state.State.TheVariants.{Next, Retry}
@@ -105,8 +105,8 @@ made g text events formed unlinked =
     let (apart, is, balanced, none) = links-can-be-made g.bytes events formed.balanced unlinked in
     (apart, subst IsBalanced (sym is) balanced, subst HaveNoLinks (sym is) none, (events, formed, unlinked, is, subst HaveNoLinks (sym is) none))
 
-pub inlines-lawful : (g : Given) → IsLawful g (inlines_rules g)
-inlines-lawful g = planned-lawful inline_plan g (record {
+pub inlines-lawful : (defined : List ℕ → Bool) (g : Given) → IsLawful g (inlines_rules defined g)
+inlines-lawful defined g = planned-lawful inline_plan g (record {
   late = inlines-late;
   kept = registered-kept inlines begins_inline follows_inline inline_starts tt linking_edits EndsLinked refl rows-keep (All-from_recursion (λ name. is_first inline_starts (Next name) ≡ true) inline_starts (refl, (refl, tt)));
   resolved = registered-resolved inlines begins_inline follows_inline inline_starts tt linking_edits EndsLinked made;

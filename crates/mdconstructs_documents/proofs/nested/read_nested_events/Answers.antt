@@ -1,3 +1,4 @@
+use Rattle.mdconstructs_inlines.specs.InlineRules.{no_labels}
 use Rattle.mdconstructs_documents.proofs.InContainers.InlineHolds.{inlines-hold-text}
 use Rattle.mdconstructs_documents.proofs.InContainers.Tight.{events-tight}
 use Rattle.mdconstructs_documents.proofs.InContainers.Skeletons.{skeleton-laws}
@@ -20,14 +21,14 @@ with_strings-requires-clause-places c =
     let options = c.args.options.now in
     let bytes = c.args.bytes.now in
     let is = c.read_blocks.ensures.document in
-    let are = texts-of-document skeleton-laws options bytes is c.in_ok-events.events.items c.in_ok-events.ensures.events c.in_ok-texts.texts.items c.in_ok-texts.ensures.events in
+    let are = texts-of-document skeleton-laws options bytes is c.in_ok-events.events.items c.in_ok-events.ensures.events no_labels c.in_ok-texts.texts.items c.in_ok-texts.ensures.events in
     subst (AreAtPlaces options.tab_size bytes) (sym are) (texts-orderly skeleton-laws (document options bytes) is).at_places
 
 pub returns-clause-events : goal.returns-clause-events
 returns-clause-events c =
     let options = c.args.options.now in
     let bytes = c.args.bytes.now in
-    let are = texts-of-document skeleton-laws options bytes c.read_blocks.ensures.document c.in_ok-events.events.items c.in_ok-events.ensures.events c.in_ok-texts.texts.items c.in_ok-texts.ensures.events in
+    let are = texts-of-document skeleton-laws options bytes c.read_blocks.ensures.document c.in_ok-events.events.items c.in_ok-events.ensures.events no_labels c.in_ok-texts.texts.items c.in_ok-texts.ensures.events in
     c.in_ok-with_strings.ensures ∙ ap (with_strings options.constructs options.tab_size bytes) are
 
 pub returns-clause-formed : goal.returns-clause-formed
