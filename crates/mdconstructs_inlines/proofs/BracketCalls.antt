@@ -139,11 +139,15 @@ module _ (g : Given) (text : Text) (memory : TextMemory) (is : IsTextMemory memo
         plain-paid TextBefore (k + part_calls (item_length item)) item (as-data none) (unbracketed-plain on s.byte (bytes_of ss)) no-tick (omega (arith, few)) known paid
         (onward item (data-read-in g text p ended events after s ss here no-line no-run no-white))
 
+    -- how many events there are behind a bracket
+    abbrev behind : Found → ℕ
+    behind item = length (events ++ item_events g.bytes (item, take (item_length item) l))
+
     -- `[`
     link-is : begins_link on s.byte ≡ true → Adds TextBefore (joined_other on q bytes)
     link-is link =
         let there : bracket_at on q bytes ≡ Some link_bracket = ap (λ t. cond t (Some link_bracket) (cond (is_image_bracket on bytes) (Some image_bracket) (cond (begins_end on s.byte) (end_at q.waiting (bytes_of ss)) None))) link in
-        bracket-paid 2 _ link_bracket (joined-is (Some link_bracket) there) (keeps-more q.waiting (remembered local).starts Link known.1)
+        bracket-paid 2 _ link_bracket (joined-is (Some link_bracket) there) (keeps-more q.waiting (remembered local).starts Link (behind link_bracket) known.1)
         (pays-enough g text memory is budget 2 1 l (omega arith) (omega arith) (omega (arith, no-backticks s.byte (bytes_of ss) no-tick)) (omega arith)) (reads-link g text p ended events local s ss here link)
 
     -- `!`
@@ -169,8 +173,8 @@ module _ (g : Given) (text : Text) (memory : TextMemory) (is : IsTextMemory memo
             | true ↦ λ opens.
                 let there = image-there true (two ∙ (λ i. image i && opens i)) in
                 let fits : 2 ≤ length l = (let n : length ss ≡ suc (length vs) = ap length e in omega (arith, n)) in
-                bracket-paid 3 ((remembered local).starts ++ started Image ∷ []) image_bracket (joined-is (Some image_bracket) there) (keeps-more q.waiting (remembered local).starts Image known.1)
-                (pays-enough g text memory is budget 3 2 l (omega arith) fits (omega (arith, no-backticks s.byte (bytes_of ss) no-tick)) (omega arith)) (subst (λ l. AddsBracket g text 3 ((remembered local).starts ++ started Image ∷ []) p ended events local (s ∷ l) image_bracket) (sym e) (reads-image g text p ended events local s v vs (here ∙ ap (λ l. s ∷ l) e) image opens))
+                bracket-paid 3 ((remembered local).starts ++ started Image (behind image_bracket) ∷ []) image_bracket (joined-is (Some image_bracket) there) (keeps-more q.waiting (remembered local).starts Image (behind image_bracket) known.1)
+                (pays-enough g text memory is budget 3 2 l (omega arith) fits (omega (arith, no-backticks s.byte (bytes_of ss) no-tick)) (omega arith)) (subst (λ l. AddsBracket g text 3 ((remembered local).starts ++ started Image (length (events ++ item_events g.bytes (image_bracket, take 2 (s ∷ l)))) ∷ []) p ended events local (s ∷ l) image_bracket) (sym e) (reads-image g text p ended events local s v vs (here ∙ ap (λ l. s ∷ l) e) image opens))
             | false ↦ λ closed. image-data image no-end (ap (λ l. passes is_open_bracket (first_byte l)) e ∙ closed) (two ∙ (λ i. begins_image on s.byte && closed i) ∙ and-false (begins_image on s.byte))
           ] refl
 

@@ -50,11 +50,12 @@ module _ (g : Given) (text : Text) where
 
   module _ (p : ℕ) (ended : Bool) (events : List Event) (local : Local Unit Unit) (s : Seat) (ss : List Seat) (here : drop p text.seats ≡ s ∷ ss) where
     -- `[`
-    pub reads-link : begins_link g.options.constructs s.byte ≡ true → AddsBracket 2 (kept local ++ started Link ∷ []) p ended events local (s ∷ ss) link_bracket
+    pub reads-link : begins_link g.options.constructs s.byte ≡ true → AddsBracket 2 (kept local ++ started Link (length (events ++ item_events g.bytes (link_bracket, s ∷ []))) ∷ []) p ended events local (s ∷ ss) link_bracket
     reads-link is =
         let at = at-front text.seats p s ss here in
         let k = between_items p Byte ended events local in
-        let after = with_starts (kept local ++ started Link ∷ []) (counts (counts local)) in
+        let put : List Event → Local Unit Unit = λ l. with_starts (kept local ++ started Link (length l) ∷ []) (counts (counts local)) in
+        let after = put (events ++ item_events g.bytes (link_bracket, s ∷ [])) in
         let made = (((events ++ enters LabelLink p ∷ []) ++ enters LabelMarker p ∷ []) ++ exits LabelMarker p ∷ []) ++ exits LabelLink p ∷ [] in
         let same : made ≡ events ++ item_events g.bytes (link_bracket, s ∷ []) = simp (at, append_assoc) in (
           false,
@@ -63,7 +64,7 @@ module _ (g : Given) (text : Text) where
           λ es h.
               leads-row g text m (row [] (Retry LabelStartLinkStart)) k [] TextBefore es (links-begin g text k s.byte (ap byte_of at) is)
               (leads-row g text m (row (enter LabelLink ∷ enter LabelMarker ∷ consume ∷ exit LabelMarker ∷ exit LabelLink ∷ write (waits_more Link) ∷ []) (Next TextBefore)) (between_items p Byte ended events (counts local)) [] LabelStartLinkStart es refl
-              (subst (λ l. EndsWith g text m (between_items (p + 1) Nothing false l after) [] (Next TextBefore) es) (sym same) h)),
+              (subst (λ l. EndsWith g text m (between_items (p + 1) Nothing false l (put l)) [] (Next TextBefore) es) (sym same) h)),
         )
 
     -- ---- `!`
@@ -192,13 +193,14 @@ module _ (g : Given) (text : Text) where
 
   -- `![`
   pub reads-image : (p : ℕ) (ended : Bool) (events : List Event) (local : Local Unit Unit) (s v : Seat) (vs : List Seat) → (here : drop p text.seats ≡ s ∷ v ∷ vs) → begins_image g.options.constructs s.byte ≡ true → is_open_bracket v.byte ≡ true
-      → AddsBracket 3 (kept local ++ started Image ∷ []) p ended events local (s ∷ v ∷ vs) image_bracket
+      → AddsBracket 3 (kept local ++ started Image (length (events ++ item_events g.bytes (image_bracket, s ∷ v ∷ []))) ∷ []) p ended events local (s ∷ v ∷ vs) image_bracket
   reads-image p ended events local s v vs here is opens =
       let at = at-front text.seats p s (v ∷ vs) here in
       let behind = at-front text.seats (p + 1) v vs (drop-next text.seats p s (v ∷ vs) here) in
       let begun = begun_image p ended events local s (v ∷ vs) here in
       let k = shows (v ∷ vs) (LabelImage ∷ []) (p + 1) begun (counts (counts local)) in
-      let after = with_starts (kept local ++ started Image ∷ []) (counts (counts (counts local))) in
+      let put : List Event → Local Unit Unit = λ l. with_starts (kept local ++ started Image (length l) ∷ []) (counts (counts (counts local))) in
+      let after = put (events ++ item_events g.bytes (image_bracket, s ∷ v ∷ [])) in
       let made = ((begun ++ enters LabelMarker (p + 1) ∷ []) ++ exits LabelMarker (p + 1) ∷ []) ++ exits LabelImage (p + 1) ∷ [] in
       let same : made ≡ events ++ item_events g.bytes (image_bracket, s ∷ v ∷ []) = simp (at, behind, append_assoc) in
       let further : p + 1 + 1 ≡ p + 2 = omega arith in (
@@ -208,7 +210,7 @@ module _ (g : Given) (text : Text) where
         λ es h.
             image-begins p ended events local s (v ∷ vs) here is es
             (leads-tested g text m bracket_is_next image_open_rows k (outer TextBefore TextBeforeData p ended events ∷ []) LabelStartImageOpen es (ap byte_of behind) refl (ap (passes is_open_bracket) (ap byte_of behind) ∙ opens) refl
-            (leads-ok g text m (between_items (p + 1 + 1) Nothing false made after) (outer TextBefore TextBeforeData p ended events) [] es
-            (subst (λ q. EndsWith g text m (between_items q Nothing false made after) [] (Next TextBefore) es) (sym further)
-            (subst (λ l. EndsWith g text m (between_items (p + 2) Nothing false l after) [] (Next TextBefore) es) (sym same) h)))),
+            (leads-ok g text m (between_items (p + 1 + 1) Nothing false made (put made)) (outer TextBefore TextBeforeData p ended events) [] es
+            (subst (λ q. EndsWith g text m (between_items q Nothing false made (put made)) [] (Next TextBefore) es) (sym further)
+            (subst (λ l. EndsWith g text m (between_items (p + 2) Nothing false l (put l)) [] (Next TextBefore) es) (sym same) h)))),
       )

@@ -1,6 +1,6 @@
 -- The brackets that wait, as they are remembered and as they are kept: one that is kept says only of those behind it that were taken away whether a link
 -- was made behind it.
-use Rattle.mdconstructs_inlines.proofs.Prelude.{◌≡◌, ◌&&◌, ◌||◌, not, List, [], ◌∷◌, ◌++◌, Bool, true, false, cond, refl, sym, ap, ◌∙◌, subst, reverse, or-false, Bracket, before_link, waiting_behind}
+use Rattle.mdconstructs_inlines.proofs.Prelude.{◌≡◌, ℕ, ◌&&◌, ◌||◌, not, List, [], ◌∷◌, ◌++◌, Bool, true, false, cond, refl, sym, ap, ◌∙◌, subst, reverse, or-false, Bracket, before_link, waiting_behind}
 use Rattle.std.specs.Prelude.{map}
 use Rattle.std.proofs.lemmas.List.{reverse-append, reverse-reverse}
 use Rattle.markdown_tokenizer.specs.declared.tokenizer.state.LabelKind.{LabelKind}
@@ -58,8 +58,8 @@ all-inactive holds (b ∷ bs) (s ∷ ss) h = ((h.0.0, ap (λ t. t || not b.image
 
 -- ---- what is done with them
 -- one more waits
-pub keeps-more : (bs : List Bracket) (starts : List LabelStart) (kind : LabelKind) → Keeps bs starts → Keeps (record { image = is_image kind; inactive = false } ∷ bs) (starts ++ started kind ∷ [])
-keeps-more bs starts kind h = subst (AreKeptAs false (record { image = is_image kind; inactive = false } ∷ bs)) (sym (reverse-append starts (started kind ∷ []))) ((refl, refl), h)
+pub keeps-more : (bs : List Bracket) (starts : List LabelStart) (kind : LabelKind) (count : ℕ) → Keeps bs starts → Keeps (record { image = is_image kind; inactive = false } ∷ bs) (starts ++ started kind count ∷ [])
+keeps-more bs starts kind count h = subst (AreKeptAs false (record { image = is_image kind; inactive = false } ∷ bs)) (sym (reverse-append starts (started kind count ∷ []))) ((refl, refl), h)
 
 one-less : (bs : List Bracket) (ss : List LabelStart) → AreKeptAs false bs ss → AreKeptAs false (waiting_behind fails bs) (without_first false ss)
 one-less [] [] h = tt

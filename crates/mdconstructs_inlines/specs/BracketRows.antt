@@ -1,6 +1,6 @@
 -- Brackets and ends of labels: the part of a table that reads them. The brackets that wait are kept in what states share (`label_starts`), the last
 -- one last.
-use Rattle.std.specs.Prelude.{ℕ, ◌&&◌, ◌||◌, not, reverse, Bool, true, false, List, [], ◌∷◌, ◌++◌, Option, Some, None}
+use Rattle.std.specs.Prelude.{ℕ, ◌-◌, length, ◌&&◌, ◌||◌, not, reverse, Bool, true, false, cond, List, [], ◌∷◌, ◌++◌, Option, Some, None}
 use Rattle.markdown_base.specs.declared.event.Name.TheVariants.{LabelEnd, LabelImage, LabelImageMarker, LabelLink, LabelMarker}
 use Rattle.markdown_base.specs.declared.state.State.TheVariants.{Next, Retry, Ok, Nok}
 use Rattle.markdown_base.specs.declared.state.TheConstants.Name.{LabelEndNok, LabelEndOk, LabelEndResourceStart, LabelEndStart, LabelStartImageOpen, LabelStartImageStart, LabelStartLinkStart, TextBefore, TextBeforeData}
@@ -28,9 +28,13 @@ abbrev pub is_image : LabelKind → Bool
 is_image Image = true
 is_image _ = false
 
--- a bracket that was just read
-abbrev pub started : LabelKind → LabelStart
-started kind = record { kind = kind; start = (0, 0); inactive = false }
+-- how many events a bracket has
+abbrev pub bracket_events : LabelKind → ℕ
+bracket_events kind = cond (is_image kind) 6 4
+
+-- A bracket that was just read, so that there are so many events: the indices of its enter and of its exit are kept
+abbrev pub started : LabelKind → (count : ℕ) → LabelStart
+started kind count = record { kind = kind; start = (count - bracket_events kind, count - 1); inactive = false }
 
 -- a link is behind a bracket that is taken away, or is made of it
 abbrev pub holds_link : (made : Bool) → LabelStart → Bool
@@ -71,7 +75,7 @@ module _ {R D : Type 0} where
 
   -- a bracket waits
   abbrev pub waits_more : LabelKind → Configuration R D → Local R D
-  waits_more kind k = starts_are (kept_starts k ++ started kind ∷ []) k
+  waits_more kind k = starts_are (kept_starts k ++ started kind (length k.events) ∷ []) k
 
   -- the last one waits no more
   abbrev pub waits_less : (made : Bool) → Configuration R D → Local R D

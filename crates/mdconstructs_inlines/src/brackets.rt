@@ -1,7 +1,7 @@
 //! Brackets of links and images, and ends of labels (CommonMark, "Links" and "Images").
 //!
-//! The brackets that wait are kept in `label_starts`, the last one last: what each may begin, and whether a link is behind it, as far as
-//! the brackets behind it that wait are not asked.
+//! The brackets that wait are kept in `label_starts`, the last one last: what each may begin, where its events are, and whether a link is
+//! behind it, as far as the brackets behind it that wait are not asked.
 
 ghost use Rattle.std.specs.Prelude.{◌≡◌, IfOk, OnOk, reverse};
 ghost use Rattle.markdown_tokenizer.specs.Calls.{with_local};
@@ -9,7 +9,7 @@ ghost use Rattle.markdown_tokenizer.specs.Configuration.{at_configuration};
 ghost use Rattle.markdown_tokenizer.specs.Sight.{sight_of};
 ghost use Rattle.mdconstructs_tables.specs.RowInvariant.{DoesAll, IsCallable, step_in};
 ghost use Rattle.mdconstructs_text.specs.TextBytes.{text_byte};
-ghost use Rattle.mdconstructs_inlines.specs.BracketRows.{bracket_is_next, end_begins, end_is_awaited, end_may_make, end_nok, end_ok, end_start, image_begins, image_open, image_start, is_image, link_begins, link_start, mark_begins, may_make, one_waits, waits_less, waits_more, without_last};
+ghost use Rattle.mdconstructs_inlines.specs.BracketRows.{bracket_events, bracket_is_next, end_begins, end_is_awaited, end_may_make, end_nok, end_ok, end_start, image_begins, image_open, image_start, is_image, link_begins, link_start, mark_begins, may_make, one_waits, waits_less, waits_more, without_last};
 
 use crate::attention::run_begins;
 use markdown_base::owned::Items;
@@ -27,16 +27,25 @@ fn is_image(kind: LabelKind) -> bool
     kind == LabelKind::Image
 }
 
-/// A bracket more waits.
+/// How many events a bracket has.
+fn bracket_events(kind: LabelKind) -> usize
+    ensures { result ≡ bracket_events kind }
+{
+    if is_image(kind) { 6 } else { 4 }
+}
+
+/// A bracket more waits, which was just read.
 fn wait_more<'a, M: MachineTypes>(
     t: &mut Tokenizer<'a, M>,
     kind: LabelKind,
 ) -> Result<(), AllocError>
     ensures { OnOk result (t.new ≡ at_configuration t.old (with_local t.old.configuration (waits_more kind t.old.configuration))) }
 {
+    let count = t.events().len();
+    let enter = count.saturating_sub(bracket_events(kind));
     t.tokenize_state.label_starts.push(LabelStart {
         kind,
-        start: (0, 0),
+        start: (enter, count.saturating_sub(1)),
         inactive: false,
     })
 }
