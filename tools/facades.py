@@ -14,7 +14,7 @@ import sys
 TOP = os.path.dirname(os.path.dirname(os.path.realpath(__file__)))
 PARTS = {
     "markdown": ["markdown_base", "markdown_edits", "markdown_tokenizer", "markdown_children"],
-    "mdconstructs": ["mdconstructs_tables", "mdconstructs_machines", "mdconstructs_text", "mdconstructs_attention", "mdconstructs_references", "mdconstructs_inline_constructs", "mdconstructs_strings", "mdconstructs_inlines", "mdconstructs_flow", "mdconstructs_flow_read", "mdconstructs_lines", "mdconstructs_containers", "mdconstructs_documents", "mdconstructs_rests"],
+    "mdconstructs": ["mdconstructs_tables", "mdconstructs_machines", "mdconstructs_text", "mdconstructs_labels", "mdconstructs_attention", "mdconstructs_references", "mdconstructs_inline_constructs", "mdconstructs_strings", "mdconstructs_inlines", "mdconstructs_flow", "mdconstructs_flow_read", "mdconstructs_lines", "mdconstructs_containers", "mdconstructs_documents", "mdconstructs_rests"],
 }
 NAMED = {
     ("markdown_children", "specs", "LawStatements"): "ChildrenLawStatements",
@@ -43,6 +43,9 @@ NAMED = {
     ("mdconstructs_references", "proofs", "Parts"): "ReferenceParts",
     ("mdconstructs_references", "proofs", "Orders"): "ReferenceOrders",
     ("mdconstructs_references", "proofs", "Searches"): "ReferenceSearches",
+    ("mdconstructs_labels", "specs", "Costs"): "LabelCosts",
+    ("mdconstructs_labels", "specs", "Labels"): "NormalLabels",
+    ("mdconstructs_labels", "proofs", "Fronts"): "LabelFronts",
     ("mdconstructs_lines", "specs", "Breaks"): "LineBreaks",
     ("mdconstructs_lines", "specs", "Lines"): "LineFunctions",
     ("mdconstructs_lines", "specs", "Views"): "ContainerViews",

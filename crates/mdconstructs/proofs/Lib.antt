@@ -34,6 +34,13 @@ pub use Rattle.mdconstructs_text.proofs.Plain
 pub use Rattle.mdconstructs_text.proofs.Paragraphs as TextParagraphs
 pub use Rattle.mdconstructs_text.proofs.ParagraphTexts
 pub use Rattle.mdconstructs_text.proofs.Texts
+pub use Rattle.mdconstructs_labels.proofs.Folded
+pub use Rattle.mdconstructs_labels.proofs.Fronts as LabelFronts
+pub use Rattle.mdconstructs_labels.proofs.GivenBack
+pub use Rattle.mdconstructs_labels.proofs.Known
+pub use Rattle.mdconstructs_labels.proofs.LabelSteps
+pub use Rattle.mdconstructs_labels.proofs.Steps
+pub use Rattle.mdconstructs_labels.proofs.Paid
 pub use Rattle.mdconstructs_attention.proofs.Balance
 pub use Rattle.mdconstructs_attention.proofs.Beside
 pub use Rattle.mdconstructs_attention.proofs.PairsKeep

@@ -67,6 +67,12 @@ pub use Rattle.mdconstructs_text.specs.TextRules
 pub use Rattle.mdconstructs_text.specs.TextSizes
 pub use Rattle.mdconstructs_text.specs.TextTable
 pub use Rattle.mdconstructs_text.specs.Laws as TextLaws
+pub use Rattle.mdconstructs_labels.specs.Costs as LabelCosts
+pub use Rattle.mdconstructs_labels.specs.Defined
+pub use Rattle.mdconstructs_labels.specs.Definitions
+pub use Rattle.mdconstructs_labels.specs.Labels as NormalLabels
+pub use Rattle.mdconstructs_labels.specs.Resources
+pub use Rattle.mdconstructs_labels.specs.Tails
 pub use Rattle.mdconstructs_attention.specs.Beside
 pub use Rattle.mdconstructs_attention.specs.Classes
 pub use Rattle.mdconstructs_attention.specs.Costs as PairCosts
