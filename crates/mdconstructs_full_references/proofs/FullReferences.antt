@@ -1,0 +1,10 @@
+-- Full references, as a machine reads them.
+pub mod Built
+pub mod Counts
+pub mod Cuts
+pub mod Examples
+pub mod Labels
+pub mod Readings
+pub mod Steps
+pub mod Tested
+pub mod WholeLabels

@@ -1,0 +1,3 @@
+mod Prelude
+pub mod FullReferences
+pub mod Looks

@@ -1,0 +1,4 @@
+pub mod FullReference
+pub mod FullReferenceLooks
+pub mod FullReferenceRows
+pub mod Laws
