@@ -3,8 +3,10 @@ pub mod Built
 pub mod Counts
 pub mod Cuts
 pub mod Examples
+pub mod Known
 pub mod Labels
 pub mod Readings
+pub mod Sizes
 pub mod Steps
 pub mod Tested
 pub mod WholeLabels

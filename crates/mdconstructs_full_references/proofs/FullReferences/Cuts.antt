@@ -1,6 +1,6 @@
 -- The events of a full reference can be cut into innermost spans, none over a line ending but at its end: its parts stand end to end.
 use Rattle.std.proofs.Common.{◌≡◌, ◌==◌, ◌+◌, ◌-◌, ◌≤◌, ℕ, List, [], ◌∷◌, ◌++◌, Bool, true, false, cond, Some, None, arith, drop, length, refl, subst, sym, take}
-use Rattle.std.proofs.lemmas.List.{length-drop, length-take-le}
+use Rattle.std.proofs.lemmas.List.{length-drop, length-map, length-take-le}
 use Rattle.std.specs.List.{between, prefix_len}
 use Rattle.std.specs.Option.{option_and_then}
 use Rattle.markdown_base.specs.declared.event.Name.TheVariants.{Data, LineEnding, Reference, ReferenceMarker, ReferenceString}
@@ -12,6 +12,7 @@ use Rattle.mdconstructs_text.specs.Parts.{bytes_of, leaf, line_ending, part_even
 use Rattle.mdconstructs_resources.proofs.Resources.Lines.{part-positive}
 use Rattle.mdconstructs_resources.specs.Resource.{is_of_line, line_part, string_events}
 use Rattle.mdconstructs_full_references.specs.FullReference.{full_reference, full_reference_grammar, label_length, label_string, label_text}
+use Rattle.mdconstructs_full_references.proofs.FullReferences.Sizes.{full-reference-sizes}
 
 short-line : (l : List Seat) → length l ≤ 1 → OneLine l
 short-line [] h = tt
@@ -42,9 +43,11 @@ module _ (bytes : List ℕ) where
       (cut-leaf bytes ReferenceMarker (drop (1 + n) l) (short-line (drop (1 + n) l) (omega (arith, left, long)))))
 
   -- one is at the front of virtual bytes: its events can be cut
-  pub full-reference-cut : (wanted : List ℕ → Bool) (l : List Seat) (tail : Found) → tail.size ≤ length l → (full_reference_grammar wanted).front (bytes_of l) ≡ Some tail
+  pub full-reference-cut : (wanted : List ℕ → Bool) (l : List Seat) (tail : Found) → (full_reference_grammar wanted).front (bytes_of l) ≡ Some tail
       → IsCut bytes (tail.events bytes (take tail.size l)) (take tail.size l)
-  full-reference-cut wanted l tail fits is =
+  full-reference-cut wanted l tail is =
+      let sizes = full-reference-sizes wanted (bytes_of l) tail is in
+      let fits : tail.size ≤ length l = omega (arith, sizes.fits, length-map l (λ (y : Seat). y.byte)) in
       elim (label_length (bytes_of l)) as (λ o. option_and_then (λ n. cond (wanted (label_text n (bytes_of l))) (Some (full_reference n)) None) o ≡ Some tail → IsCut bytes (tail.events bytes (take tail.size l)) (take tail.size l)) [
         | None ↦ λ e. absurd (cc)
         | Some n ↦ elim (wanted (label_text n (bytes_of l))) as (λ t. cond t (Some (full_reference n)) None ≡ Some tail → IsCut bytes (tail.events bytes (take tail.size l)) (take tail.size l)) [

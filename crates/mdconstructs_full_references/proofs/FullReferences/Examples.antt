@@ -15,8 +15,8 @@ any label = true
 abbrev size_of : List ℕ → Option ℕ
 size_of text = option_map (λ (r : Found). r.size) ((full_reference_grammar any).front text)
 
-example_527 : size_of (codes "[bar]") ≡ Some 5
-example_527 = refl
+a-reference : size_of (codes "[bar]") ≡ Some 5
+a-reference = refl
 
 -- one that is not wanted is a label all the same
 not-wanted : (full_reference_grammar (λ label. false)).front (codes "[bar]") ≡ None

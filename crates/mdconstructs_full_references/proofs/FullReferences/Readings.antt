@@ -89,6 +89,11 @@ there-is is_wanted text =
       | false ↦ refl
     ]
 
+-- what is noted says whether a label is there
+pub noted-is : (local : Local Unit Unit) (there : Bool) → noted local ≡ flag there → (noted local == 1) ≡ there
+noted-is local true h = ap (λ n. n == 1) h
+noted-is local false h = ap (λ n. n == 1) h
+
 -- nothing of a label was read
 abbrev begun : Local Unit Unit → Local Unit Unit
 begun local = record local { tokenize_state = record local.tokenize_state { size_b = 0; marker = 0; marker_b = 0 } }
