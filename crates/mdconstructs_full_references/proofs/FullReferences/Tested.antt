@@ -1,4 +1,5 @@
--- The rows of full references pass the tests of tables, with their prices: in a table that tries one at each place, and reads a byte of data if none is there.
+-- The rows of full references pass the tests of tables, with their prices, and link no events: in a table that tries one at each place, and reads a byte of data if none
+-- is there.
 use Rattle.std.proofs.Common.{◌≡◌, ℕ, List, [], ◌∷◌, ◌==◌, Bool, Option, Some, None, refl}
 use Rattle.markdown_base.specs.declared.event.Name.TheVariants.{Data}
 use Rattle.markdown_base.specs.declared.state.Name.{Name}
@@ -10,6 +11,7 @@ use Rattle.markdown_tokenizer.specs.Text.{Given}
 use Rattle.mdconstructs_tables.specs.Numbers.{Price, AreEnough, by_left, priced_tests}
 use Rattle.mdconstructs_tables.specs.Over.{unchanged}
 use Rattle.mdconstructs_tables.specs.Rows.{Rows, Table, consume, enter, exit, row, state}
+use Rattle.mdconstructs_tables.specs.Unlinked.{LinksNothing, RegisterNothing, linking}
 use Rattle.mdconstructs_text.specs.Construct.{tries}
 use Rattle.mdconstructs_text.specs.TextBytes.{TextByte, line_feed, text_byte, is_backtick_class}
 use Rattle.mdconstructs_text.specs.TextCosts.{text_cost}
@@ -49,3 +51,11 @@ module _ (is_wanted : List ℕ → Bool) (wanted : Given → Sight → Configura
 
   enough : AreEnough trial is_backtick_class prices is_start is_home
   enough = record { priced = (refl, (refl, (refl, (refl, (refl, (refl, (refl, (refl, (refl, tt))))))))); falls = refl; tested = tested; kept = λ local. refl }
+
+  -- no event has a link, and what is written registers no resolver and makes no edit
+  linkless : (previous current : Option TextByte) → (linking trial.states previous current ≡ []) × RegisterNothing trial.states previous current
+  linkless previous None = (refl, ((λ s k. (refl, refl)), tt))
+  linkless previous (Some w) = (refl, ((λ s k. (refl, refl)), ((λ s k. (refl, refl)), ((λ s k. (refl, refl)), ((λ s k. (refl, refl)), ((λ s k. (refl, refl)), ((λ s k. (refl, refl)), ((λ s k. (refl, refl)), ((λ s k. (refl, refl)), ((λ s k. (refl, refl)), ((λ s k. (refl, refl)), ((λ s k. (refl, refl)), ((λ s k. (refl, refl)), ((λ s k. (refl, refl)), ((λ s k. (refl, refl)), ((λ s k. (refl, refl)), ((λ s k. (refl, refl)), ((λ s k. (refl, refl)), tt))))))))))))))))))
+
+  links-nothing : LinksNothing trial
+  links-nothing = record { first = λ s k. (refl, refl); rows = linkless }
