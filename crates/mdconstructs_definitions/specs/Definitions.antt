@@ -1,13 +1,14 @@
 -- The events of link reference definitions (CommonMark 0.31, 4.7), from the virtual bytes of their lines. Between two lines of a definition stand
 -- the line ending and the prefixes of the next line. The definitions have no states.
-use Rattle.std.specs.Prelude.{ℕ, ◌+◌, ◌-◌, not, Bool, true, false, cond, List, [], ◌∷◌, ◌++◌, drop, length, map, take, Some, None}
+use Rattle.std.specs.Prelude.{ℕ, ◌+◌, ◌-◌, Bool, true, false, cond, List, [], ◌∷◌, ◌++◌, drop, length, map, take, Some, None}
 use Rattle.std.specs.List.{flat_map, prefix_len}
-use Rattle.markdown_base.specs.declared.event.Content.TheVariants as content
 use Rattle.markdown_base.specs.declared.event.Name.{Name}
 use Rattle.markdown_base.specs.declared.event.Name.TheVariants as name
 use Rattle.markdown_base.specs.Virtual.{Seat}
 use Rattle.mdconstructs_machines.specs.LineEvents.{ending_of, line_text}
-use Rattle.mdconstructs_flow_read.specs.LeafEvents.{Mark, chunk_span, leaf_marks, span_marks, white}
+use Rattle.mdconstructs_flow_read.specs.LeafBlocks.{bytes_of}
+use Rattle.mdconstructs_flow_read.specs.LeafEvents.{Mark, leaf_marks, span_marks, white}
+use Rattle.mdconstructs_flow_read.specs.LineKinds.{indent}
 use Rattle.mdconstructs_containers.specs.Prefixes.{columns_of}
 use Rattle.mdconstructs_containers.specs.Rows.{Row, has_none}
 use Rattle.mdconstructs_containers.specs.Skeleton.{prefixes_marks}
@@ -48,14 +49,14 @@ between from to places = take (to - from) (drop from places)
 abbrev pub places_of : Stretch → List Place → List Place
 places_of s places = between s.from (end s) places
 
--- A line of a string, with its line ending; and what stands behind it before the next line
+-- A line of a string; and the line ending behind it, with the prefixes of the next line
 pub record StringLine : Type 0 where
   pub seats : List Seat
-  pub behind : List Mark
+  pub behind : List Place
 
 abbrev pub string_lines : List Place → List StringLine
 string_lines [] = []
-string_lines (ending_at ending prefixes marks ∷ places) = record { seats = ending; behind = marks } ∷ string_lines places
+string_lines (ending_at ending prefixes marks ∷ places) = record { seats = []; behind = ending_at ending prefixes marks ∷ [] } ∷ string_lines places
 string_lines (byte_at s ∷ places) = elim (string_lines places) [
   | [] ↦ record { seats = s ∷ []; behind = [] } ∷ []
   | line ∷ lines ↦ record line { seats = s ∷ line.seats } ∷ lines
@@ -89,16 +90,19 @@ module _ (bytes : List ℕ) where
       let n = prefix_len is_byte places in
       white bytes (seats_of (take n places)) ++ (flat_map ending_marks (take 1 (drop n places)) ++ white bytes (seats_of (drop (n + 1) places)))
 
-  -- the chunks of a string: one for each line
-  abbrev pub string_chunks : (has_previous : Bool) → List StringLine → List Mark
-  string_chunks has_previous [] = []
-  string_chunks has_previous (line ∷ lines) =
-      chunk_span bytes (Some (record { content = content.String; has_previous = has_previous; has_next = not (has_none lines) })) name.Data line.seats []
-      ++ (line.behind ++ string_chunks true lines)
+  -- a further line of a string: "the paragraph's raw content is formed by concatenating the lines and removing initial and final spaces or tabs" (4.8)
+  abbrev pub further_line : List Seat → List Mark
+  further_line seats = let n = indent (bytes_of seats) in white bytes (take n seats) ++ leaf_marks bytes name.Data (drop n seats)
+
+  -- the lines of a string, as data: what is escaped and referred to in them is read apart
+  abbrev pub line_marks : (is_first : Bool) → List StringLine → List Mark
+  line_marks is_first [] = []
+  line_marks is_first (line ∷ lines) =
+      cond is_first (leaf_marks bytes name.Data line.seats) (further_line line.seats) ++ (flat_map ending_marks line.behind ++ line_marks false lines)
 
   -- a string, if it is not empty
   abbrev pub string : Name → List Place → List Mark
-  string n places = span n places (string_chunks false (string_lines places))
+  string n places = span n places (line_marks true (string_lines places))
 
   -- a string between two marks
   abbrev pub marked : (mark inside : Name) → List Place → List Mark

@@ -152,8 +152,8 @@ parts_of_definitions =
           (SpaceOrTab, 7, 0) ∷ (DefinitionDestination, 7, 0) ∷ (DefinitionDestinationRaw, 7, 0) ∷ (DefinitionDestinationString, 7, 0) ∷
           (Data, 7, 0) ∷ (Data, 12, 0) ∷ (DefinitionDestinationString, 12, 0) ∷ (DefinitionDestinationRaw, 12, 0) ∷
           (DefinitionDestination, 12, 0) ∷ (SpaceOrTab, 12, 0) ∷ (SpaceOrTab, 13, 0) ∷ (DefinitionTitle, 13, 0) ∷ (DefinitionTitleMarker, 13, 0) ∷
-          (DefinitionTitleMarker, 14, 0) ∷ (DefinitionTitleString, 14, 0) ∷ (Data, 14, 0) ∷ (Data, 17, 0) ∷ (Data, 17, 0) ∷ (Data, 20, 0) ∷
-          (DefinitionTitleString, 20, 0) ∷ (DefinitionTitleMarker, 20, 0) ∷ (DefinitionTitleMarker, 21, 0) ∷ (DefinitionTitle, 21, 0) ∷
+          (DefinitionTitleMarker, 14, 0) ∷ (DefinitionTitleString, 14, 0) ∷ (Data, 14, 0) ∷ (Data, 16, 0) ∷ (LineEnding, 16, 0) ∷
+          (LineEnding, 17, 0) ∷ (Data, 17, 0) ∷ (Data, 20, 0) ∷ (DefinitionTitleString, 20, 0) ∷ (DefinitionTitleMarker, 20, 0) ∷ (DefinitionTitleMarker, 21, 0) ∷ (DefinitionTitle, 21, 0) ∷
           (Definition, 21, 0) ∷ (LineEnding, 21, 0) ∷ (LineEnding, 22, 0) ∷ (Data, 22, 0) ∷ (Data, 23, 0) ∷ (LineEnding, 23, 0) ∷
           (LineEnding, 24, 0) ∷ [];
       labels = codes "kea" ∷ [];
@@ -182,7 +182,8 @@ parts_of_definitions =
     (record {
       document = codes "[\nkea\n]: /bird\nb\n";
       events = (Definition, 0, 0) ∷ (DefinitionLabel, 0, 0) ∷ (DefinitionLabelMarker, 0, 0) ∷ (DefinitionLabelMarker, 1, 0) ∷
-          (DefinitionLabelString, 1, 0) ∷ (Data, 1, 0) ∷ (Data, 2, 0) ∷ (Data, 2, 0) ∷ (Data, 6, 0) ∷ (DefinitionLabelString, 6, 0) ∷
+          (DefinitionLabelString, 1, 0) ∷ (LineEnding, 1, 0) ∷ (LineEnding, 2, 0) ∷ (Data, 2, 0) ∷ (Data, 5, 0) ∷ (LineEnding, 5, 0) ∷
+          (LineEnding, 6, 0) ∷ (DefinitionLabelString, 6, 0) ∷
           (DefinitionLabelMarker, 6, 0) ∷ (DefinitionLabelMarker, 7, 0) ∷ (DefinitionLabel, 7, 0) ∷ (DefinitionMarker, 7, 0) ∷
           (DefinitionMarker, 8, 0) ∷ (SpaceOrTab, 8, 0) ∷ (SpaceOrTab, 9, 0) ∷ (DefinitionDestination, 9, 0) ∷ (DefinitionDestinationRaw, 9, 0) ∷
           (DefinitionDestinationString, 9, 0) ∷ (Data, 9, 0) ∷ (Data, 14, 0) ∷ (DefinitionDestinationString, 14, 0) ∷
@@ -483,7 +484,7 @@ definitions_in_containers =
           (DefinitionDestinationString, 9, 0) ∷ (Data, 9, 0) ∷ (Data, 14, 0) ∷ (DefinitionDestinationString, 14, 0) ∷
           (DefinitionDestinationRaw, 14, 0) ∷ (DefinitionDestination, 14, 0) ∷ (SpaceOrTab, 14, 0) ∷ (SpaceOrTab, 15, 0) ∷
           (DefinitionTitle, 15, 0) ∷ (DefinitionTitleMarker, 15, 0) ∷ (DefinitionTitleMarker, 16, 0) ∷ (DefinitionTitleString, 16, 0) ∷
-          (Data, 16, 0) ∷ (Data, 18, 0) ∷ (BlockQuotePrefix, 18, 0) ∷ (BlockQuoteMarker, 18, 0) ∷ (BlockQuoteMarker, 19, 0) ∷ (SpaceOrTab, 19, 0) ∷
+          (Data, 16, 0) ∷ (Data, 17, 0) ∷ (LineEnding, 17, 0) ∷ (LineEnding, 18, 0) ∷ (BlockQuotePrefix, 18, 0) ∷ (BlockQuoteMarker, 18, 0) ∷ (BlockQuoteMarker, 19, 0) ∷ (SpaceOrTab, 19, 0) ∷
           (SpaceOrTab, 20, 0) ∷ (BlockQuotePrefix, 20, 0) ∷ (Data, 20, 0) ∷ (Data, 21, 0) ∷ (DefinitionTitleString, 21, 0) ∷
           (DefinitionTitleMarker, 21, 0) ∷ (DefinitionTitleMarker, 22, 0) ∷ (DefinitionTitle, 22, 0) ∷ (Definition, 22, 0) ∷ (BlockQuote, 22, 0) ∷
           (LineEnding, 22, 0) ∷ (LineEnding, 23, 0) ∷ [];
@@ -541,7 +542,8 @@ definitions_in_containers =
           (DefinitionDestinationString, 9, 0) ∷ (Data, 9, 0) ∷ (Data, 14, 0) ∷ (DefinitionDestinationString, 14, 0) ∷
           (DefinitionDestinationRaw, 14, 0) ∷ (DefinitionDestination, 14, 0) ∷ (SpaceOrTab, 14, 0) ∷ (SpaceOrTab, 15, 0) ∷
           (DefinitionTitle, 15, 0) ∷ (DefinitionTitleMarker, 15, 0) ∷ (DefinitionTitleMarker, 16, 0) ∷ (DefinitionTitleString, 16, 0) ∷
-          (Data, 16, 0) ∷ (Data, 18, 0) ∷ (Data, 18, 0) ∷ (Data, 22, 0) ∷ (Data, 22, 0) ∷ (Data, 23, 0) ∷ (DefinitionTitleString, 23, 0) ∷
+          (Data, 16, 0) ∷ (Data, 17, 0) ∷ (LineEnding, 17, 0) ∷ (LineEnding, 18, 0) ∷ (Data, 18, 0) ∷ (Data, 21, 0) ∷ (LineEnding, 21, 0) ∷
+          (LineEnding, 22, 0) ∷ (Data, 22, 0) ∷ (Data, 23, 0) ∷ (DefinitionTitleString, 23, 0) ∷
           (DefinitionTitleMarker, 23, 0) ∷ (DefinitionTitleMarker, 24, 0) ∷ (DefinitionTitle, 24, 0) ∷ (Definition, 24, 0) ∷ (BlockQuote, 24, 0) ∷
           (LineEnding, 24, 0) ∷ (LineEnding, 25, 0) ∷ [];
       labels = codes "kea" ∷ [];
@@ -630,7 +632,7 @@ definitions_in_containers =
       document = codes "> [a\n> ]: /b\n";
       events = (BlockQuote, 0, 0) ∷ (BlockQuotePrefix, 0, 0) ∷ (BlockQuoteMarker, 0, 0) ∷ (BlockQuoteMarker, 1, 0) ∷ (SpaceOrTab, 1, 0) ∷
           (SpaceOrTab, 2, 0) ∷ (BlockQuotePrefix, 2, 0) ∷ (Definition, 2, 0) ∷ (DefinitionLabel, 2, 0) ∷ (DefinitionLabelMarker, 2, 0) ∷
-          (DefinitionLabelMarker, 3, 0) ∷ (DefinitionLabelString, 3, 0) ∷ (Data, 3, 0) ∷ (Data, 5, 0) ∷ (BlockQuotePrefix, 5, 0) ∷
+          (DefinitionLabelMarker, 3, 0) ∷ (DefinitionLabelString, 3, 0) ∷ (Data, 3, 0) ∷ (Data, 4, 0) ∷ (LineEnding, 4, 0) ∷ (LineEnding, 5, 0) ∷ (BlockQuotePrefix, 5, 0) ∷
           (BlockQuoteMarker, 5, 0) ∷ (BlockQuoteMarker, 6, 0) ∷ (SpaceOrTab, 6, 0) ∷ (SpaceOrTab, 7, 0) ∷ (BlockQuotePrefix, 7, 0) ∷
           (DefinitionLabelString, 7, 0) ∷ (DefinitionLabelMarker, 7, 0) ∷ (DefinitionLabelMarker, 8, 0) ∷ (DefinitionLabel, 8, 0) ∷
           (DefinitionMarker, 8, 0) ∷ (DefinitionMarker, 9, 0) ∷ (SpaceOrTab, 9, 0) ∷ (SpaceOrTab, 10, 0) ∷ (DefinitionDestination, 10, 0) ∷
@@ -654,15 +656,26 @@ links_from i (e ∷ es) = elim e.link [ None ↦ links_from (suc i) es | Some l 
 abbrev pub links_of_document : List ℕ → List (ℕ × Link)
 links_of_document document = links_from 0 (skeleton default_constructs document (virtual 4 document))
 
--- A label and a title of two lines each are strings of two chunks; the text behind them is one
+-- Definitions with a label and a title of two lines each, and text behind them: the text is one chunk, and strings have none
 abbrev pub with_strings : List ℕ
 with_strings = codes "> [a\n> b]: <> 'x\n> y'\n> c\nd\n"
 
-abbrev pub links_of_strings : List (ℕ × Link)
-links_of_strings =
-    (12, record { previous = None; next = Some 20; content = content.String }) ∷
-    (20, record { previous = Some 12; next = None; content = content.String }) ∷
-    (44, record { previous = None; next = Some 52; content = content.String }) ∷
-    (52, record { previous = Some 44; next = None; content = content.String }) ∷
-    (67, record { previous = None; next = None; content = content.Content }) ∷
-    []
+abbrev pub links_of_stretches : List (ℕ × Link)
+links_of_stretches = (71, record { previous = None; next = None; content = content.Content }) ∷ []
+
+-- White space in front of a further line of a string is no data, as in a paragraph
+abbrev pub white_in_string : Example
+white_in_string = record {
+  document = codes "[kea]: /b 'x \n\ty'\n";
+  events = (Definition, 0, 0) ∷ (DefinitionLabel, 0, 0) ∷ (DefinitionLabelMarker, 0, 0) ∷ (DefinitionLabelMarker, 1, 0) ∷
+      (DefinitionLabelString, 1, 0) ∷ (Data, 1, 0) ∷ (Data, 4, 0) ∷ (DefinitionLabelString, 4, 0) ∷ (DefinitionLabelMarker, 4, 0) ∷
+      (DefinitionLabelMarker, 5, 0) ∷ (DefinitionLabel, 5, 0) ∷ (DefinitionMarker, 5, 0) ∷ (DefinitionMarker, 6, 0) ∷ (SpaceOrTab, 6, 0) ∷
+      (SpaceOrTab, 7, 0) ∷ (DefinitionDestination, 7, 0) ∷ (DefinitionDestinationRaw, 7, 0) ∷ (DefinitionDestinationString, 7, 0) ∷
+      (Data, 7, 0) ∷ (Data, 9, 0) ∷ (DefinitionDestinationString, 9, 0) ∷ (DefinitionDestinationRaw, 9, 0) ∷ (DefinitionDestination, 9, 0) ∷
+      (SpaceOrTab, 9, 0) ∷ (SpaceOrTab, 10, 0) ∷ (DefinitionTitle, 10, 0) ∷ (DefinitionTitleMarker, 10, 0) ∷ (DefinitionTitleMarker, 11, 0) ∷
+      (DefinitionTitleString, 11, 0) ∷ (Data, 11, 0) ∷ (Data, 13, 0) ∷ (LineEnding, 13, 0) ∷ (LineEnding, 14, 0) ∷ (SpaceOrTab, 14, 0) ∷
+      (SpaceOrTab, 15, 0) ∷ (Data, 15, 0) ∷ (Data, 16, 0) ∷ (DefinitionTitleString, 16, 0) ∷ (DefinitionTitleMarker, 16, 0) ∷
+      (DefinitionTitleMarker, 17, 0) ∷ (DefinitionTitle, 17, 0) ∷ (Definition, 17, 0) ∷ (LineEnding, 17, 0) ∷ (LineEnding, 18, 0) ∷ [];
+  labels = codes "kea" ∷ [];
+  letters = [];
+}

@@ -1,7 +1,7 @@
 //! Laws about documents with link reference definitions. Each is a function that does nothing; its contract is the law.
 
 ghost use Rattle.std.specs.Prelude.{◌≡◌, map};
-ghost use Rattle.mdconstructs_definitions.specs.Examples.{read_of, links_of_document, links_of_strings, with_strings, parts_of_definitions, where_definitions_stand, text_behind_definitions, definitions_in_containers};
+ghost use Rattle.mdconstructs_definitions.specs.Examples.{read_of, links_of_document, links_of_stretches, white_in_string, with_strings, parts_of_definitions, where_definitions_stand, text_behind_definitions, definitions_in_containers};
 ghost use Rattle.mdconstructs_definitions.specs.Laws.{BlocksCanBeWithout, BlocksNeedBrackets, DefinitionsCanBeOff, DefinitionsNeedBrackets, SectionsHoldLines};
 
 /// What is read of fifty-one documents: the events of their skeletons, the labels that they define, and the bytes that are shown as letters.
@@ -12,9 +12,11 @@ pub fn definitions_of_documents()
     ensures containers { map (λ e. read_of e.document) definitions_in_containers ≡ definitions_in_containers }
 {}
 
-/// The strings of definitions are chunks, one a line, and those of one string are linked.
-pub fn strings_are_linked()
-    ensures { links_of_document with_strings ≡ links_of_strings }
+/// The chunks of a skeleton are those of its stretches alone: the strings of definitions have none. White space in front of a further line of a string
+/// is no data.
+pub fn only_stretches_are_chunks()
+    ensures chunks { links_of_document with_strings ≡ links_of_stretches }
+    ensures white { read_of white_in_string.document ≡ white_in_string }
 {}
 
 /// Where definitions are off, the skeleton, the letters and the blocks of a document are those of containers alone, and no label is defined.
