@@ -1,10 +1,16 @@
 pub mod Covered
+pub mod DefinitionLines
+pub mod DefinitionMarks
+pub mod DefinitionParts
+pub mod DefinitionSpans
 pub mod Examples
 pub mod HeldLemmas
 pub mod KnownLemmas
 pub mod KnownRows
+pub mod LaidParts
 pub mod Linked
 pub mod Longer
+pub mod PlainLetters
 pub mod RowTexts
 pub mod SectionLemmas
 pub mod TextLemmas

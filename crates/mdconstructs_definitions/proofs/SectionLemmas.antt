@@ -147,7 +147,7 @@ ten-back (suc n) (x ∷ xs) h = ten-back n xs (by (x == 10) h)
     by true e = absurd (false≢true (ap has_none e))
     by false e = e
 
-tens-in : (r : Row) (rs : List Row) → length (filter (λ c. c == 10) (text_in (r ∷ rs))) ≡ length rs
+pub tens-in : (r : Row) (rs : List Row) → length (filter (λ c. c == 10) (text_in (r ∷ rs))) ≡ length rs
 tens-in r [] = ap (λ l. length (filter (λ c. c == 10) l)) (append-nil (rest_of r)) ∙ ap (λ (l : List ℕ). length l) (ten-back r.columns (text_of r.line) (no-ten r.line))
 tens-in r (q ∷ qs) =
     ap (λ (l : List ℕ). length l) (filter-append (λ c. c == 10) (rest_of r) (10 ∷ text_in (q ∷ qs)) ∙ ap (λ (l : List ℕ). l ++ filter (λ c. c == 10) (10 ∷ text_in (q ∷ qs))) (ten-back r.columns (text_of r.line) (no-ten r.line)))

@@ -23,7 +23,7 @@ use Rattle.mdconstructs_definitions.specs.Within.{AreWithin, IsWithin, last_of, 
 
 -- ---- the same spans
 
-shared-all : (fs : List Frame) → shared fs fs ≡ length fs
+pub shared-all : (fs : List Frame) → shared fs fs ≡ length fs
 shared-all fs = ap (λ l. shared l l) (sym (append-nil fs)) ∙ shared_front fs [] [] ∙ plus
   where
     plus : length fs + 0 ≡ length fs

@@ -8,4 +8,5 @@ pub mod Rows
 pub mod Sections
 pub mod Seen
 pub mod Skeleton
+pub mod SkeletonLaws
 pub mod Within
