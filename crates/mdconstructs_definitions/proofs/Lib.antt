@@ -12,7 +12,13 @@ pub mod Linked
 pub mod Longer
 pub mod PlainLetters
 pub mod RowTexts
+pub mod SectionFrames
+pub mod SectionGoes
 pub mod SectionLemmas
+pub mod SectionSpans
+pub mod SectionTight
+pub mod SectionTurns
+pub mod SectionsReady
 pub mod TextLemmas
 pub mod Underlined
 pub mod Within

@@ -3,6 +3,7 @@
 ghost use Rattle.std.specs.Prelude.{◌≡◌, map};
 ghost use Rattle.mdconstructs_definitions.specs.Examples.{read_of, links_of_document, links_of_stretches, white_in_string, with_strings, parts_of_definitions, where_definitions_stand, text_behind_definitions, definitions_in_containers};
 ghost use Rattle.mdconstructs_definitions.specs.Laws.{BlocksCanBeWithout, BlocksNeedBrackets, DefinitionsCanBeOff, DefinitionsNeedBrackets, SectionsHoldLines};
+ghost use Rattle.mdconstructs_definitions.specs.SkeletonLaws.{LettersArePlain, SkeletonsAccount, SkeletonsAreFormed, SkeletonsAreReady, SkeletonsAreVoidTight, SkeletonsHaveChunks, SkeletonsHaveOneContent, SkeletonsHaveTextInGaps};
 
 /// What is read of fifty-one documents: the events of their skeletons, the labels that they define, and the bytes that are shown as letters.
 pub fn definitions_of_documents()
@@ -35,4 +36,35 @@ pub fn sections_hold_lines()
 pub fn definitions_need_brackets()
     ensures skeleton { DefinitionsNeedBrackets }
     ensures blocks { BlocksNeedBrackets }
+{}
+
+/// The letters with which leaf blocks are read of lazy underlines, and of text directly behind definitions, stand at bytes that are no tab and no
+/// part of a line ending.
+pub fn letters_are_plain()
+    ensures { LettersArePlain }
+{}
+
+/// Void spans of skeletons are empty: each is entered, and exited at once. Each event with a link is such a span's enter.
+pub fn void_spans_of_skeletons_are_empty()
+    ensures empty { SkeletonsAreVoidTight }
+    ensures chunks { SkeletonsHaveChunks }
+{}
+
+/// The skeleton of a document is well formed: balanced, void spans empty, at places of the document, and in order of these.
+pub fn skeletons_are_well_formed()
+    ensures { SkeletonsAreFormed }
+{}
+
+/// The chains of a document's skeleton can be read, all as leaf blocks: each chunk that is linked to another stands before it, and between the two
+/// is text of one line, from its beginning on, with whole spans over it.
+pub fn chains_of_skeletons_can_be_read()
+    ensures content { SkeletonsHaveOneContent }
+    ensures ready { SkeletonsAreReady }
+    ensures gaps { SkeletonsHaveTextInGaps }
+{}
+
+/// Each virtual byte of a document is in exactly one innermost span of its skeleton: none is lost between the parts of a definition, between the
+/// prefixes of a line and its chunk, or between two lines of a string.
+pub fn innermost_spans_of_skeletons_account_for_documents()
+    ensures { SkeletonsAccount }
 {}
