@@ -35,13 +35,13 @@ use Rattle.mdconstructs_containers.specs.Skeleton.{prefixes_marks}
 use Rattle.mdconstructs_labels.specs.declared.definitions.Definition.{Definition}
 use Rattle.mdconstructs_definitions.specs.Definitions.{all_seats, byte_at, definitions_marks, ending_at, places_in, seats_of}
 use Rattle.mdconstructs_definitions.proofs.DefinitionLines.{line_places}
-use Rattle.mdconstructs_definitions.proofs.DefinitionSpans.{AllHold, AreLaid, IsKept, definitions-kept}
+use Rattle.mdconstructs_definitions.proofs.DefinitionSpans.{AllHold, AreLaid, IsKeptByAnySpans, definitions-kept}
 
 -- ---- what is kept by spans
 
 module _ (bytes : List ℕ) where
   -- accounts of virtual bytes
-  pub accounts-kept-by : IsKept bytes (AreSpans bytes)
+  pub accounts-kept-by : IsKeptByAnySpans bytes (AreSpans bytes)
   accounts-kept-by = record {
     none = no-spans bytes (AreSpans bytes) (accounts-kept bytes);
     both = λ xs ys a b h k. spans-both bytes (AreSpans bytes) (accounts-kept bytes) h k;
@@ -54,7 +54,7 @@ module _ (bytes : List ℕ) where
       alone n (s ∷ ss) = record { begins = refl; account = λ events more h. span-more bytes _ _ events s ss more refl refl refl refl h }
 
   -- marks in order, at places
-  pub forms-kept-by : (t : ℕ) → IsKept bytes (Forms t bytes)
+  pub forms-kept-by : (t : ℕ) → IsKeptByAnySpans bytes (Forms t bytes)
   forms-kept-by t = record {
     none = no-spans bytes (Forms t bytes) (forms-kept t bytes);
     both = λ xs ys a b h k. spans-both bytes (Forms t bytes) (forms-kept t bytes) h k;
@@ -84,7 +84,7 @@ module _ (bytes : List ℕ) where
   abbrev AreShaped : List Mark → List Seat → Type 0
   AreShaped marks seats = Tight marks × Unlinked marks
 
-  shapes-kept-by : IsKept bytes AreShaped
+  shapes-kept-by : IsKeptByAnySpans bytes AreShaped
   shapes-kept-by = record {
     none = (tt, tt);
     both = λ xs ys a b h k. (tight_more xs ys h.0 k.0, unlinked_both xs ys h.1 k.1);
@@ -94,12 +94,12 @@ module _ (bytes : List ℕ) where
 
   -- ---- lines of definitions
 
-  bytes-hold : (P : List Mark → List Seat → Type 0) (kept : IsKept bytes P) (ss : List Seat) → AllHold bytes P kept (map byte_at ss)
+  bytes-hold : (P : List Mark → List Seat → Type 0) (kept : IsKeptByAnySpans bytes P) (ss : List Seat) → AllHold bytes P kept (map byte_at ss)
   bytes-hold P kept [] = tt
   bytes-hold P kept (s ∷ ss) = (tt, bytes-hold P kept ss)
 
   -- the prefixes between lines
-  places-hold : (P : List Mark → List Seat → Type 0) (kept : IsKept bytes P) → ((ps : List Prefix) (ss : List Seat) → IsWhole ss → P (prefixes_marks bytes ps ss) (take (columns_of ps) ss)) → (rs : List Row) → AllByRecursion RowFits rs
+  places-hold : (P : List Mark → List Seat → Type 0) (kept : IsKeptByAnySpans bytes P) → ((ps : List Prefix) (ss : List Seat) → IsWhole ss → P (prefixes_marks bytes ps ss) (take (columns_of ps) ss)) → (rs : List Row) → AllByRecursion RowFits rs
       → AllHold bytes P kept (places_in bytes rs)
   places-hold P kept prefixes [] h = tt
   places-hold P kept prefixes (r ∷ []) h = every-append _ (line_places bytes r) [] (bytes-hold P kept (drop r.columns (line_text r.line))) tt

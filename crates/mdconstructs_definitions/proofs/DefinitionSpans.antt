@@ -61,13 +61,13 @@ text-between a b m xs = sym (take-map text_byte (b - a) (drop a (take m xs))) �
 -- ---- what is kept by spans
 
 -- What is said of marks over virtual bytes is kept by marks behind others, and by spans, alone and around others
-pub record IsKept (bytes : List ℕ) (P : List Mark → List Seat → Type 0) : Type 0 where
+pub record IsKeptByAnySpans (bytes : List ℕ) (P : List Mark → List Seat → Type 0) : Type 0 where
   pub none : P [] []
   pub both : (xs ys : List Mark) (a b : List Seat) → P xs a → P ys b → P (xs ++ ys) (a ++ b)
   pub alone : (n : Name) (ss : List Seat) → P (leaf_marks bytes n ss) ss
   pub around : (n : Name) (ss : List Seat) (inside : List Mark) → is_void n ≡ false → P inside ss → P (span_marks bytes n ss inside) ss
 
-module _ (bytes : List ℕ) (P : List Mark → List Seat → Type 0) (kept : IsKept bytes P) where
+module _ (bytes : List ℕ) (P : List Mark → List Seat → Type 0) (kept : IsKeptByAnySpans bytes P) where
   -- marks over places
   abbrev Q : List Mark → List Place → Type 0
   Q marks xs = P marks (seats_of xs)
@@ -279,7 +279,7 @@ AreLaid [] xs = xs ≡ []
 AreLaid (d ∷ ds) xs = IsLaid (text_of xs) d × AllByRecursion (λ (x : Place). is_byte x ≡ false) (between d.size (d.size + 1) xs) × AreLaid ds (drop (d.size + 1) xs)
 
 -- what is kept by spans holds of the marks of definitions over their lines
-pub definitions-kept : (bytes : List ℕ) (P : List Mark → List Seat → Type 0) (kept : IsKept bytes P) (ds : List Definition) (xs : List Place) → AreLaid ds xs → AllHold bytes P kept xs → P (definitions_marks bytes ds xs) (seats_of xs)
+pub definitions-kept : (bytes : List ℕ) (P : List Mark → List Seat → Type 0) (kept : IsKeptByAnySpans bytes P) (ds : List Definition) (xs : List Place) → AreLaid ds xs → AllHold bytes P kept xs → P (definitions_marks bytes ds xs) (seats_of xs)
 definitions-kept bytes P kept [] xs laid h = subst (λ (ys : List Place). P [] (seats_of ys)) (sym laid) kept.none
 definitions-kept bytes P kept (d ∷ ds) xs laid h =
     let n = d.size in

@@ -37,7 +37,7 @@ use Rattle.mdconstructs_definitions.proofs.Covered.{rows_of}
 use Rattle.mdconstructs_definitions.proofs.DefinitionLines.{AreDefined}
 use Rattle.mdconstructs_definitions.proofs.DefinitionMarks.{definitions-are-shaped, definitions-form, forms-kept-by, seats-are}
 use Rattle.mdconstructs_definitions.proofs.KnownLemmas.{paragraph-is}
-use Rattle.mdconstructs_definitions.proofs.SectionTurns.{AreCut, InsideIs, IsLine, IsSection, all-of-sections, document-cut, document-lines, rows-fit}
+use Rattle.mdconstructs_definitions.proofs.SectionTurns.{AreCut, InsideIs, RowIs, SectionIs, all-of-sections, document-cut, document-lines, rows-fit}
 use Rattle.mdconstructs_containers.proofs.PrefixSpans.{leaf_is_unlinked}
 
 -- a part, with as many containers as go on at its first line
@@ -85,7 +85,7 @@ more-left n xs ys h = ap has_none (drop-append-le n xs ys (some-left n xs h)) �
 module _ (t : ℕ) (bytes : List ℕ) where
   -- ---- one section
 
-  module _ (s : Section) (is : IsSection bytes s) (fits : AllByRecursion IsLine (all_rows s.part)) (ends : LinesEnd (lines_of (all_rows s.part))) where
+  module _ (s : Section) (is : SectionIs bytes s) (fits : AllByRecursion RowIs (all_rows s.part)) (ends : LinesEnd (lines_of (all_rows s.part))) where
     abbrev p : Part
     p = s.part
 
@@ -313,7 +313,7 @@ module _ (t : ℕ) (bytes : List ℕ) where
   front-lines s ss = map-append (λ (x : Row). x.line) (all_rows s.part) (rows_of ss)
 
   -- the virtual bytes of a section and of those behind it
-  pub all-seats : (s : Section) (is : IsSection bytes s) (fits : AllByRecursion IsLine (all_rows s.part)) (ends : LinesEnd (lines_of (all_rows s.part))) (ss : List Section)
+  pub all-seats : (s : Section) (is : SectionIs bytes s) (fits : AllByRecursion RowIs (all_rows s.part)) (ends : LinesEnd (lines_of (all_rows s.part))) (ss : List Section)
       → all_of (lines_in_all (s ∷ ss)) ≡ seats s is fits ends ++ (ending s is fits ends ++ all_of (lines_in_all ss))
   all-seats s is fits ends ss =
       ap all_of (front-lines s ss) ∙ flat_map-append (λ (l : Line). l) (lines_of (all_rows s.part)) (lines_in_all ss) ∙ ap (λ l. l ++ all_of (lines_in_all ss)) (sym (section-seats s is fits ends))
@@ -327,7 +327,7 @@ module _ (t : ℕ) (bytes : List ℕ) where
     ends-rest s ss h = lines_end_behind t bytes on (lines_of (all_rows s.part)) (lines_in_all ss) (subst LinesEnd (front-lines s ss) h)
 
     -- what comes behind a section
-    sections-behind : (s : Section) (is : IsSection bytes s) (fits : AllByRecursion IsLine (all_rows s.part)) (ends : LinesEnd (lines_of (all_rows s.part))) (ss : List Section) → AreCut bytes s.part.frames ss → AllByRecursion IsLine (rows_of ss) → LinesEnd (lines_in_all ss)
+    sections-behind : (s : Section) (is : SectionIs bytes s) (fits : AllByRecursion RowIs (all_rows s.part)) (ends : LinesEnd (lines_of (all_rows s.part))) (ss : List Section) → AreCut bytes s.part.frames ss → AllByRecursion RowIs (rows_of ss) → LinesEnd (lines_in_all ss)
         → (q : Point) → shown bytes (end_of bytes s.part) ≡ q → Track t bytes q (ending s is fits ends ++ all_of (lines_in_all ss))
         → Goes t bytes s.part.frames q (behind_marks bytes s.part ss) [] (end_after q (ending s is fits ends ++ all_of (lines_in_all ss)))
     sections-behind s is fits ends [] are-cut rows-fit rows-end q here track =
@@ -341,7 +341,7 @@ module _ (t : ℕ) (bytes : List ℕ) where
         let p = s.part in
         let next = n.part in
         let turn = are-cut.0 in
-        let fits-next = every-front IsLine (all_rows next) (rows_of ss) rows-fit in
+        let fits-next = every-front RowIs (all_rows next) (rows_of ss) rows-fit in
         let ends-next = ends-front n ss rows-end in
         let kept = turn.kept in
         let ended = turn.ended in
@@ -362,7 +362,7 @@ module _ (t : ℕ) (bytes : List ℕ) where
         let whole : Goes t bytes kept a (section_marks bytes n) next.frames c =
         subst (λ (fs : List Frame). Goes t bytes kept a (section_marks bytes n) fs c) (sym turn.after_are) (section-goes n are-cut.1 fits-next ends-next kept a rest track1) in
         let shows : shown bytes (end_of bytes next) ≡ c = section-shown n are-cut.1 fits-next ends-next a rest track1 in
-        let tail = sections-behind n are-cut.1 fits-next ends-next ss are-cut.2 (every-back IsLine (all_rows next) (rows_of ss) rows-fit) (ends-rest n ss rows-end) c shows track2 in
+        let tail = sections-behind n are-cut.1 fits-next ends-next ss are-cut.2 (every-back RowIs (all_rows next) (rows_of ss) rows-fit) (ends-rest n ss rows-end) c shows track2 in
         let z = end_after c (last ++ rest) in
         let final : z ≡ end_after q (here-ends ++ all_of (lines_in_all (n ∷ ss))) =
         sym (end-after-append a text (last ++ rest)) ∙ ap (end_after a) (sym all) ∙ sym (end-after-append q here-ends (all_of (lines_in_all (n ∷ ss)))) in
@@ -371,12 +371,12 @@ module _ (t : ℕ) (bytes : List ℕ) where
         (goes_both t bytes kept q (ending_marks bytes p) kept a (section_marks bytes n ++ behind_marks bytes next ss) [] z end
         (goes_both t bytes kept a (section_marks bytes n) next.frames c (behind_marks bytes next ss) [] z whole tail)))
 
-    sections-go : (ss : List Section) (q : Point) → AreCut bytes [] ss → AllByRecursion IsLine (rows_of ss) → LinesEnd (lines_in_all ss) → Track t bytes q (all_of (lines_in_all ss)) → Goes t bytes [] q (sections_marks bytes ss) [] (end_after q (all_of (lines_in_all ss)))
+    sections-go : (ss : List Section) (q : Point) → AreCut bytes [] ss → AllByRecursion RowIs (rows_of ss) → LinesEnd (lines_in_all ss) → Track t bytes q (all_of (lines_in_all ss)) → Goes t bytes [] q (sections_marks bytes ss) [] (end_after q (all_of (lines_in_all ss)))
     sections-go [] q are-cut rows-fit rows-end track = goes_none t bytes [] q
     sections-go (n ∷ ss) q are-cut rows-fit rows-end track =
         let next = n.part in
         let turn = are-cut.0 in
-        let fits-next = every-front IsLine (all_rows next) (rows_of ss) rows-fit in
+        let fits-next = every-front RowIs (all_rows next) (rows_of ss) rows-fit in
         let ends-next = ends-front n ss rows-end in
         let kept = turn.kept in
         let text = seats n are-cut.1 fits-next ends-next in
@@ -391,7 +391,7 @@ module _ (t : ℕ) (bytes : List ℕ) where
         subst (λ (fs : List Frame). Goes t bytes fs q (section_marks bytes n) next.frames c) none
         (subst (λ (fs : List Frame). Goes t bytes kept q (section_marks bytes n) fs c) (sym turn.after_are) (section-goes n are-cut.1 fits-next ends-next kept q rest track1)) in
         let shows : shown bytes (end_of bytes next) ≡ c = section-shown n are-cut.1 fits-next ends-next q rest track1 in
-        let tail = sections-behind n are-cut.1 fits-next ends-next ss are-cut.2 (every-back IsLine (all_rows next) (rows_of ss) rows-fit) (ends-rest n ss rows-end) c shows track2 in
+        let tail = sections-behind n are-cut.1 fits-next ends-next ss are-cut.2 (every-back RowIs (all_rows next) (rows_of ss) rows-fit) (ends-rest n ss rows-end) c shows track2 in
         let z = end_after c (last ++ rest) in
         let final : z ≡ end_after q (all_of (lines_in_all (n ∷ ss))) = sym (end-after-append q text (last ++ rest)) ∙ ap (end_after q) (sym all) in
         subst (Goes t bytes [] q (section_marks bytes n ++ behind_marks bytes next ss) []) final (goes_both t bytes [] q (section_marks bytes n) next.frames c (behind_marks bytes next ss) [] z whole tail)

@@ -31,7 +31,7 @@ use Rattle.mdconstructs_definitions.proofs.Covered.{rows_of}
 use Rattle.mdconstructs_definitions.proofs.DefinitionLines.{AreDefined}
 use Rattle.mdconstructs_definitions.proofs.DefinitionMarks.{accounts-kept-by, definitions-are-spans}
 use Rattle.mdconstructs_definitions.proofs.SectionGoes.{all-seats, defined-seats, ending, ends-front, ends-rest, first-fits, fitted, inner, lines_in_all, others-fit, part, part-is, seats, text-behind}
-use Rattle.mdconstructs_definitions.proofs.SectionTurns.{AreCut, InsideIs, IsLine, IsSection, all-of-sections, document-cut, document-lines}
+use Rattle.mdconstructs_definitions.proofs.SectionTurns.{AreCut, InsideIs, RowIs, SectionIs, all-of-sections, document-cut, document-lines}
 
 module _ (t : ℕ) (bytes : List ℕ) where
   abbrev P : List Mark → List Seat → Type 0
@@ -40,7 +40,7 @@ module _ (t : ℕ) (bytes : List ℕ) where
   both-spans : (xs ys : List Mark) (a b : List Seat) → P xs a → P ys b → P (xs ++ ys) (a ++ b)
   both-spans xs ys a b h k = (accounts-kept-by bytes).both xs ys a b h k
 
-  module _ (s : Section) (is : IsSection bytes s) (fits : AllByRecursion IsLine (all_rows s.part)) (ends : LinesEnd (lines_of (all_rows s.part))) where
+  module _ (s : Section) (is : SectionIs bytes s) (fits : AllByRecursion RowIs (all_rows s.part)) (ends : LinesEnd (lines_of (all_rows s.part))) where
     abbrev within : List Seat
     within = inner t bytes s is fits ends
 
@@ -91,7 +91,7 @@ module _ (t : ℕ) (bytes : List ℕ) where
 
   module _ (on : Constructs) where
     -- what comes behind a section
-    behind-account : (s : Section) (is : IsSection bytes s) (fits : AllByRecursion IsLine (all_rows s.part)) (ends : LinesEnd (lines_of (all_rows s.part))) (ss : List Section) → AreCut bytes s.part.frames ss → AllByRecursion IsLine (rows_of ss) → LinesEnd (lines_in_all t bytes ss)
+    behind-account : (s : Section) (is : SectionIs bytes s) (fits : AllByRecursion RowIs (all_rows s.part)) (ends : LinesEnd (lines_of (all_rows s.part))) (ss : List Section) → AreCut bytes s.part.frames ss → AllByRecursion RowIs (rows_of ss) → LinesEnd (lines_in_all t bytes ss)
         → Accounts bytes (behind_marks bytes s.part ss) (ending t bytes s is fits ends ++ all_of (lines_in_all t bytes ss))
     behind-account s is fits ends [] are-cut rows-fit rows-end =
         let last = ending t bytes s is fits ends in
@@ -99,7 +99,7 @@ module _ (t : ℕ) (bytes : List ℕ) where
         (both_account bytes (exits bytes s.part.frames (end_of bytes s.part)) (ending_marks bytes s.part) [] last (exits_account bytes s.part.frames (end_of bytes s.part)) (section-ends-spans s is fits ends).account)
     behind-account s is fits ends (n ∷ ss) are-cut rows-fit rows-end =
         let p = s.part in
-        let fits-next = every-front IsLine (all_rows n.part) (rows_of ss) rows-fit in
+        let fits-next = every-front RowIs (all_rows n.part) (rows_of ss) rows-fit in
         let ends-next = ends-front t bytes on n ss rows-end in
         let here-ends = ending t bytes s is fits ends in
         let text = seats t bytes n are-cut.1 fits-next ends-next in
@@ -107,20 +107,20 @@ module _ (t : ℕ) (bytes : List ℕ) where
         let rest = all_of (lines_in_all t bytes ss) in
         let gone = drop (shared p.frames n.part.frames) p.frames in
         let more = section_marks bytes n ++ behind_marks bytes n.part ss in
-        let tail = behind-account n are-cut.1 fits-next ends-next ss are-cut.2 (every-back IsLine (all_rows n.part) (rows_of ss) rows-fit) (ends-rest t bytes on n ss rows-end) in
+        let tail = behind-account n are-cut.1 fits-next ends-next ss are-cut.2 (every-back RowIs (all_rows n.part) (rows_of ss) rows-fit) (ends-rest t bytes on n ss rows-end) in
         let here = both_account bytes (section_marks bytes n) (behind_marks bytes n.part ss) text (last ++ rest) (section-spans n are-cut.1 fits-next ends-next).account tail in
         subst (λ l. Accounts bytes (behind_marks bytes p (n ∷ ss)) (here-ends ++ l)) (sym (all-seats t bytes n are-cut.1 fits-next ends-next ss))
         (both_account bytes (exits bytes gone (end_of bytes p)) (ending_marks bytes p ++ more) [] (here-ends ++ (text ++ (last ++ rest))) (exits_account bytes gone (end_of bytes p))
         (both_account bytes (ending_marks bytes p) more here-ends (text ++ (last ++ rest)) (section-ends-spans s is fits ends).account here))
 
-    sections-account : (ss : List Section) → AreCut bytes [] ss → AllByRecursion IsLine (rows_of ss) → LinesEnd (lines_in_all t bytes ss) → Accounts bytes (sections_marks bytes ss) (all_of (lines_in_all t bytes ss))
+    sections-account : (ss : List Section) → AreCut bytes [] ss → AllByRecursion RowIs (rows_of ss) → LinesEnd (lines_in_all t bytes ss) → Accounts bytes (sections_marks bytes ss) (all_of (lines_in_all t bytes ss))
     sections-account [] are-cut rows-fit rows-end = λ events more h. h
     sections-account (n ∷ ss) are-cut rows-fit rows-end =
-        let fits-next = every-front IsLine (all_rows n.part) (rows_of ss) rows-fit in
+        let fits-next = every-front RowIs (all_rows n.part) (rows_of ss) rows-fit in
         let ends-next = ends-front t bytes on n ss rows-end in
         let text = seats t bytes n are-cut.1 fits-next ends-next in
         let last = ending t bytes n are-cut.1 fits-next ends-next in
-        let tail = behind-account n are-cut.1 fits-next ends-next ss are-cut.2 (every-back IsLine (all_rows n.part) (rows_of ss) rows-fit) (ends-rest t bytes on n ss rows-end) in
+        let tail = behind-account n are-cut.1 fits-next ends-next ss are-cut.2 (every-back RowIs (all_rows n.part) (rows_of ss) rows-fit) (ends-rest t bytes on n ss rows-end) in
         subst (Accounts bytes (sections_marks bytes (n ∷ ss))) (sym (all-seats t bytes n are-cut.1 fits-next ends-next ss))
         (both_account bytes (section_marks bytes n) (behind_marks bytes n.part ss) text (last ++ all_of (lines_in_all t bytes ss)) (section-spans n are-cut.1 fits-next ends-next).account tail)
 

@@ -20,7 +20,7 @@ use Rattle.mdconstructs_definitions.specs.Skeleton.{all_rows, behind_definitions
 use Rattle.mdconstructs_definitions.specs.SkeletonLaws.{SkeletonsAreVoidTight, SkeletonsHaveChunks}
 use Rattle.mdconstructs_definitions.proofs.Covered.{rows_of}
 use Rattle.mdconstructs_definitions.proofs.DefinitionMarks.{definitions-are-shaped}
-use Rattle.mdconstructs_definitions.proofs.SectionTurns.{AreCut, InsideIs, IsLine, IsSection, document-cut, document-lines, rows-fit}
+use Rattle.mdconstructs_definitions.proofs.SectionTurns.{AreCut, InsideIs, RowIs, SectionIs, document-cut, document-lines, rows-fit}
 
 module _ (bytes : List ℕ) where
   behind-tight : (part : Part) → Tight (behind_definitions bytes part)
@@ -35,7 +35,7 @@ module _ (bytes : List ℕ) where
           let x : Piece bytes = record p { before = []; seats = drop c p.seats } in
           tight_more (white bytes (take c p.seats)) (chunks_of bytes false (x ∷ ps)) (leaf_tight bytes name.SpaceOrTab (take c p.seats)) (chunks_tight bytes false (x ∷ ps) (tt, h.1))
 
-  inside-is-tight : (s : Section) → IsSection bytes s → AllByRecursion IsLine (all_rows s.part) → Tight (inside_marks bytes s.part s.inside)
+  inside-is-tight : (s : Section) → SectionIs bytes s → AllByRecursion RowIs (all_rows s.part) → Tight (inside_marks bytes s.part s.inside)
   inside-is-tight s is fits = by s.inside is.inside
     where
       by : (i : Inside) → InsideIs bytes s.part i → Tight (inside_marks bytes s.part i)
@@ -43,7 +43,7 @@ module _ (bytes : List ℕ) where
       by (lines false) h = inside_tight bytes s.part
       by (defined ds) h = (definitions-are-shaped bytes ds (all_rows s.part) h.0.laid (rows-fit (all_rows s.part) fits)).0
 
-  section-tight : (s : Section) → IsSection bytes s → AllByRecursion IsLine (all_rows s.part) → Tight (section_marks bytes s)
+  section-tight : (s : Section) → SectionIs bytes s → AllByRecursion RowIs (all_rows s.part) → Tight (section_marks bytes s)
   section-tight s is fits =
       let r = s.part.first in
       let went = take (length s.part.stands) r.went_on in
@@ -52,19 +52,19 @@ module _ (bytes : List ℕ) where
       tight_more (prefixes_marks bytes went r.line) (begun ++ inside) (prefixes_tight bytes went r.line)
       (tight_more begun inside (begun_all_tight bytes r.begun (drop (columns_of r.went_on) r.line)) (inside-is-tight s is fits))
 
-  behind-are-tight : (p : Part) (ss : List Section) → AreCut bytes p.frames ss → AllByRecursion IsLine (rows_of ss) → Tight (behind_marks bytes p ss)
+  behind-are-tight : (p : Part) (ss : List Section) → AreCut bytes p.frames ss → AllByRecursion RowIs (rows_of ss) → Tight (behind_marks bytes p ss)
   behind-are-tight p [] are-cut fits = tight_more (exits bytes p.frames (end_of bytes p)) (ending_marks bytes p) (exits_tight bytes p.frames (end_of bytes p)) (ending_tight bytes p)
   behind-are-tight p (n ∷ ss) are-cut fits =
       let gone = drop (shared p.frames n.part.frames) p.frames in
       let more = section_marks bytes n ++ behind_marks bytes n.part ss in
       tight_more (exits bytes gone (end_of bytes p)) (ending_marks bytes p ++ more) (exits_tight bytes gone (end_of bytes p))
       (tight_more (ending_marks bytes p) more (ending_tight bytes p)
-      (tight_more (section_marks bytes n) (behind_marks bytes n.part ss) (section-tight n are-cut.1 (every-front IsLine (all_rows n.part) (rows_of ss) fits)) (behind-are-tight n.part ss are-cut.2 (every-back IsLine (all_rows n.part) (rows_of ss) fits))))
+      (tight_more (section_marks bytes n) (behind_marks bytes n.part ss) (section-tight n are-cut.1 (every-front RowIs (all_rows n.part) (rows_of ss) fits)) (behind-are-tight n.part ss are-cut.2 (every-back RowIs (all_rows n.part) (rows_of ss) fits))))
 
-  sections-tight : (ss : List Section) → AreCut bytes [] ss → AllByRecursion IsLine (rows_of ss) → Tight (sections_marks bytes ss)
+  sections-tight : (ss : List Section) → AreCut bytes [] ss → AllByRecursion RowIs (rows_of ss) → Tight (sections_marks bytes ss)
   sections-tight [] are-cut fits = tt
   sections-tight (n ∷ ss) are-cut fits =
-      tight_more (section_marks bytes n) (behind_marks bytes n.part ss) (section-tight n are-cut.1 (every-front IsLine (all_rows n.part) (rows_of ss) fits)) (behind-are-tight n.part ss are-cut.2 (every-back IsLine (all_rows n.part) (rows_of ss) fits))
+      tight_more (section_marks bytes n) (behind_marks bytes n.part ss) (section-tight n are-cut.1 (every-front RowIs (all_rows n.part) (rows_of ss) fits)) (behind-are-tight n.part ss are-cut.2 (every-back RowIs (all_rows n.part) (rows_of ss) fits))
 
   all-sections-tight : (on : Constructs) (t : ℕ) → Tight (sections_marks bytes (sections on (rows on (lines_in (virtual t bytes)))))
   all-sections-tight on t =

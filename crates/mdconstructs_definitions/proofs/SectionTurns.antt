@@ -32,17 +32,17 @@ use Rattle.mdconstructs_definitions.proofs.PlainLetters.{open-not-blank}
 use Rattle.mdconstructs_definitions.proofs.Within.{shared-all}
 
 -- a line fits, and no paragraph is open behind a blank one
-pub record IsLine (r : Row) : Type 0 where
+pub record RowIs (r : Row) : Type 0 where
   pub fits : RowFits r
   pub open_behind : is_paragraph r.leaf ≡ true → is_blank_line (rest_of r) ≡ false
 
-pub rows-fit : (rs : List Row) → AllByRecursion IsLine rs → AllByRecursion RowFits rs
-rows-fit rs h = every-map IsLine RowFits (λ r k. k.fits) rs h
+pub rows-fit : (rs : List Row) → AllByRecursion RowIs rs → AllByRecursion RowFits rs
+rows-fit rs h = every-map RowIs RowFits (λ r k. k.fits) rs h
 
-not-blank : (r : Row) → IsLine r → is_paragraph r.leaf ≡ true → r.is_blank ≡ false
+not-blank : (r : Row) → RowIs r → is_paragraph r.leaf ≡ true → r.is_blank ≡ false
 not-blank r h e = h.fits.blank ∙ h.open_behind e
 
-is-filled : (r : Row) → IsLine r → is_paragraph r.leaf ≡ true → IsFilled r
+is-filled : (r : Row) → RowIs r → is_paragraph r.leaf ≡ true → IsFilled r
 is-filled r h e = by (rest_of r) (h.open_behind e)
   where
     by : (t : List ℕ) → is_blank_line t ≡ false → has_none t ≡ false
@@ -87,7 +87,7 @@ module _ (bytes : List ℕ) where
   InsideIs p (defined ds) = AreDefined bytes ds (all_rows p) × (p.first.is_blank ≡ false)
 
   -- A section: no more containers go on at its first line than it stands in, and nothing begins behind that
-  pub record IsSection (s : Section) : Type 0 where
+  pub record SectionIs (s : Section) : Type 0 where
     pub narrow : (s.part.first.is_blank ≡ false) ⊎ (has_none s.part.first.begun ≡ false) → length s.part.first.went_on ≤ length s.part.stands
     pub none_begin : AllByRecursion (λ (r : Row). has_none r.begun ≡ true) s.part.more
     pub alone : s.part.first.is_blank ≡ true → s.part.more ≡ []
@@ -96,16 +96,16 @@ module _ (bytes : List ℕ) where
   -- sections, one behind another, with the spans that are open before them
   abbrev pub AreCut : List Frame → List Section → Type 0
   AreCut fs [] = Unit {0}
-  AreCut fs (s ∷ ss) = Turn fs s.part.frames s.part.first.begun × IsSection s × AreCut s.part.frames ss
+  AreCut fs (s ∷ ss) = Turn fs s.part.frames s.part.first.begun × SectionIs s × AreCut s.part.frames ss
 
   module _ (on : Constructs) (around : Part) where
     abbrev IsIn : Row → Type 0
-    IsIn r = IsLine r × (length r.went_on ≤ length around.stands)
+    IsIn r = RowIs r × (length r.went_on ≤ length around.stands)
 
     -- a section in the spans of the part
     pub record IsInside (s : Section) : Type 0 where
       pub frames : s.part.frames ≡ around.frames
-      pub is : IsSection s
+      pub is : SectionIs s
 
     -- a part of the lines
     record IsPiece (p : Part) : Type 0 where
@@ -203,7 +203,7 @@ module _ (bytes : List ℕ) where
 
   module _ (on : Constructs) where
     -- the sections of a part
-    part-is-cut : (fs : List Frame) (p : Part) → IsTurned on fs p → AllByRecursion IsLine (all_rows p) → AllByRecursion (IsInside on p) (cut on p) × AreCut fs (cut on p)
+    part-is-cut : (fs : List Frame) (p : Part) → IsTurned on fs p → AllByRecursion RowIs (all_rows p) → AllByRecursion (IsInside on p) (cut on p) × AreCut fs (cut on p)
     part-is-cut fs p h ls = by p.first.is_blank refl (part-lines on p)
       where
         narrow : (p.first.is_blank ≡ false) ⊎ (has_none p.first.begun ≡ false) → length p.first.went_on ≤ length p.stands
@@ -213,7 +213,7 @@ module _ (bytes : List ℕ) where
             let went = length-map p.first.went_on (λ (q : Prefix). q.container) in
             omega (arith, size, both, went)
 
-        in-all : (rs : List Row) → AllByRecursion IsLine rs → AllByRecursion (λ (r : Row). length r.went_on ≤ length p.stands) rs → AllByRecursion (λ (r : Row). IsLine r × (length r.went_on ≤ length p.stands)) rs
+        in-all : (rs : List Row) → AllByRecursion RowIs rs → AllByRecursion (λ (r : Row). length r.went_on ≤ length p.stands) rs → AllByRecursion (λ (r : Row). RowIs r × (length r.went_on ≤ length p.stands)) rs
         in-all [] a b = tt
         in-all (r ∷ rs) a b = ((a.0, b.0), in-all rs a.1 b.1)
 
@@ -222,17 +222,17 @@ module _ (bytes : List ℕ) where
 
         by : (x : Bool) → p.first.is_blank ≡ x → rows_of (cut_by x) ≡ all_rows p → AllByRecursion (IsInside on p) (cut_by x) × AreCut fs (cut_by x)
         by true e all =
-            let one : IsSection (record { part = p; inside = lines false }) = record { narrow = narrow; none_begin = h.none_begin; alone = h.alone; inside = λ e. absurd (false≢true e) } in
+            let one : SectionIs (record { part = p; inside = lines false }) = record { narrow = narrow; none_begin = h.none_begin; alone = h.alone; inside = λ e. absurd (false≢true e) } in
             ((record { frames = refl; is = one }, tt), (h.turn, one, tt))
         by false e all =
             let inside = all-inside on p (suc (length p.more)) false (all_rows p) ((ls.0, narrow (inl e)), in-all p.more ls.1 h.narrow) h.none_begin in
             (inside, cut-first on p fs p.first p.more h.turn h.none_begin (cut_by false) inside all)
 
-    all-cut : (fs : List Frame) (ps : List Part) → AreTurned on fs ps → AllByRecursion IsLine (flat_map all_rows ps) → AreCut fs (flat_map (cut on) ps)
+    all-cut : (fs : List Frame) (ps : List Part) → AreTurned on fs ps → AllByRecursion RowIs (flat_map all_rows ps) → AreCut fs (flat_map (cut on) ps)
     all-cut fs [] h ls = tt
     all-cut fs (p ∷ ps) h ls =
-        let here = part-is-cut fs p h.0 (every-front IsLine (all_rows p) (flat_map all_rows ps) ls) in
-        cut-more on p fs (cut on p) (flat_map (cut on) ps) (some (cut on p) (part-lines on p)) here.0 here.1 (all-cut p.frames ps h.1 (every-back IsLine (all_rows p) (flat_map all_rows ps) ls))
+        let here = part-is-cut fs p h.0 (every-front RowIs (all_rows p) (flat_map all_rows ps) ls) in
+        cut-more on p fs (cut on p) (flat_map (cut on) ps) (some (cut on p) (part-lines on p)) here.0 here.1 (all-cut p.frames ps h.1 (every-back RowIs (all_rows p) (flat_map all_rows ps) ls))
       where
         some : (ss : List Section) → rows_of ss ≡ all_rows p → has_none ss ≡ false
         some [] e = absurd (false≢true (sym (ap has_none e)))
@@ -240,7 +240,7 @@ module _ (bytes : List ℕ) where
 
     -- ---- the lines of a document
 
-    rows-are-lines : (k : Known) (n : ℕ) (ls : List Line) → AllByRecursion LineIs ls → AllByRecursion IsLine (rows_from on k n ls)
+    rows-are-lines : (k : Known) (n : ℕ) (ls : List Line) → AllByRecursion LineIs ls → AllByRecursion RowIs (rows_from on k n ls)
     rows-are-lines k n [] h = tt
     rows-are-lines k n (l ∷ ls) h =
         let few = columns_within on k.before n l in
@@ -261,10 +261,10 @@ module _ (bytes : List ℕ) where
     document-cut ls h =
         let rs = rows on ls in
         let all = rows-are-lines (nothing on) 1 ls h in
-        all-cut [] (parts rs) (all-turned on ls) (subst (AllByRecursion IsLine) (sym (lines-of-parts (length rs) rs (omega arith))) all)
+        all-cut [] (parts rs) (all-turned on ls) (subst (AllByRecursion RowIs) (sym (lines-of-parts (length rs) rs (omega arith))) all)
 
-    pub document-lines : (ls : List Line) → AllByRecursion LineIs ls → AllByRecursion IsLine (rows_of (sections on (rows on ls)))
-    document-lines ls h = subst (AllByRecursion IsLine) (sym (sections-hold-lines on (rows on ls))) (rows-are-lines (nothing on) 1 ls h)
+    pub document-lines : (ls : List Line) → AllByRecursion LineIs ls → AllByRecursion RowIs (rows_of (sections on (rows on ls)))
+    document-lines ls h = subst (AllByRecursion RowIs) (sym (sections-hold-lines on (rows on ls))) (rows-are-lines (nothing on) 1 ls h)
 
     pub all-of-sections : (ls : List Line) → map (λ (r : Row). r.line) (rows_of (sections on (rows on ls))) ≡ ls
     all-of-sections ls = ap (map (λ (r : Row). r.line)) (sections-hold-lines on (rows on ls)) ∙ lines-of-rows (nothing on) 1 ls
