@@ -65,7 +65,7 @@ destination-inside (b ∷ bs) n e = by (b == 60) (enclosed_size false bs) (raw_s
     by false o None h k e = absurd (none-some n e)
     by false o (Some m) h k e = filled (m == 0) m (k m refl) e
 
-title-inside : (x : List ℕ) (n : ℕ) → title_size x ≡ Some n → n ≤ length x
+pub title-inside : (x : List ℕ) (n : ℕ) → title_size x ≡ Some n → n ≤ length x
 title-inside [] n e = absurd (none-some n e)
 title-inside (b ∷ bs) n e = by (title_end b) e
   where

@@ -47,7 +47,7 @@ module _ (w : List ℕ) where
   enclosed-longer hidden [] = refl
   enclosed-longer hidden (b ∷ bs) = ap (λ o. cond (is_plain 62 hidden b) (Some 0) (cond (is_plain 60 hidden b || (b == 10)) None (one_more o))) (enclosed-longer (hides hidden b) bs)
 
-  destination-longer : (x : List ℕ) → destination_size (x ++ 10 ∷ w) ≡ destination_size x
+  pub destination-longer : (x : List ℕ) → destination_size (x ++ 10 ∷ w) ≡ destination_size x
   destination-longer [] = refl
   destination-longer (b ∷ bs) = λ k. cond (b == 60) (option_map (λ n. n + 2) (enclosed-longer false bs k)) (option_and_then (λ n. cond (n == 0) None (Some n)) (raw-longer 0 false (b ∷ bs) k))
 
@@ -78,18 +78,18 @@ module _ (w : List ℕ) where
             | inr none ↦ inr (at bs (Some close) e ∙ ap (option_map (λ n. n + 2)) none, ap is_some e)
           ]
 
-  white-longer : (x : List ℕ) → prefix_len is_white (x ++ 10 ∷ w) ≡ prefix_len is_white x
+  pub white-longer : (x : List ℕ) → prefix_len is_white (x ++ 10 ∷ w) ≡ prefix_len is_white x
   white-longer [] = refl
   white-longer (b ∷ bs) = ap (λ n. cond (is_white b) (1 + n) 0) (white-longer bs)
 
-  drop-longer : (n : ℕ) (x : List ℕ) → n ≤ length x → drop n (x ++ 10 ∷ w) ≡ drop n x ++ 10 ∷ w
+  pub drop-longer : (n : ℕ) (x : List ℕ) → n ≤ length x → drop n (x ++ 10 ∷ w) ≡ drop n x ++ 10 ∷ w
   drop-longer n x h = drop-append-le n x (10 ∷ w) h
 
-  begins-longer : (c : ℕ) (x : List ℕ) → (10 == c) ≡ false → begins_with c (x ++ 10 ∷ w) ≡ begins_with c x
+  pub begins-longer : (c : ℕ) (x : List ℕ) → (10 == c) ≡ false → begins_with c (x ++ 10 ∷ w) ≡ begins_with c x
   begins-longer c [] e = e
   begins-longer c (b ∷ bs) e = refl
 
-  line-longer : (x : List ℕ) → line_left (x ++ 10 ∷ w) ≡ line_left x
+  pub line-longer : (x : List ℕ) → line_left (x ++ 10 ∷ w) ≡ line_left x
   line-longer x =
       let n = prefix_len is_white x in
       ap (λ m. cond (line_ends (drop m (x ++ 10 ∷ w))) (Some m) None) (white-longer x)
@@ -103,7 +103,7 @@ module _ (w : List ℕ) where
   gap_of n v u = cond (begins_with 10 v) (n + 1 + prefix_len is_white u) n
 
   -- white space goes on in the next line only if nothing else is left of the text
-  gap-longer : (z : List ℕ) → (gap (z ++ 10 ∷ w) ≡ gap z) ⊎ ((drop (gap z) z ≡ []) × (gap (z ++ 10 ∷ w) ≡ length z + 1 + prefix_len is_white w))
+  pub gap-longer : (z : List ℕ) → (gap (z ++ 10 ∷ w) ≡ gap z) ⊎ ((drop (gap z) z ≡ []) × (gap (z ++ 10 ∷ w) ≡ length z + 1 + prefix_len is_white w))
   gap-longer z = by (drop (prefix_len is_white z) z) refl
     where
       few : prefix_len is_white z ≤ length z
@@ -133,25 +133,25 @@ module _ (w : List ℕ) where
 
   -- ---- the parts of a definition
 
-  abbrev test : (from : ℕ) → List ℕ → (n : ℕ) → Bool
+  abbrev pub test : (from : ℕ) → List ℕ → (n : ℕ) → Bool
   test from text n = is_label (take n (drop (from + 1) text)) && begins_with 58 (drop (from + n + 2) text)
 
-  abbrev sized : (from : ℕ) → List ℕ → Option ℕ → Option Stretch
+  abbrev pub sized : (from : ℕ) → List ℕ → Option ℕ → Option Stretch
   sized from text o = option_and_then (λ n. cond (test from text n) (Some (stretch_at from (n + 2))) None) o
 
-  abbrev label_by : List ℕ → (from : ℕ) → Option Stretch
+  abbrev pub label_by : List ℕ → (from : ℕ) → Option Stretch
   label_by text from = cond (begins_with 91 (drop from text)) (sized from text (label_size (drop (from + 1) text))) None
 
-  abbrev destination_by : List ℕ → ℕ → Option Stretch
+  abbrev pub destination_by : List ℕ → ℕ → Option Stretch
   destination_by text from = option_map (stretch_at from) (destination_size (drop from text))
 
-  abbrev title_by : List ℕ → (at white : ℕ) → Option Stretch
+  abbrev pub title_by : List ℕ → (at white : ℕ) → Option Stretch
   title_by text at white = cond (white == 0) None (option_map (stretch_at (at + white)) (title_size (drop (at + white) text)))
 
-  abbrev by_destination : List ℕ → Stretch → Option Stretch → Option Definition
+  abbrev pub by_destination : List ℕ → Stretch → Option Stretch → Option Definition
   by_destination text l o = option_and_then (λ de. titled_or_not text l de (title_at text (end de))) o
 
-  abbrev by_label : List ℕ → Option Stretch → Option Definition
+  abbrev pub by_label : List ℕ → Option Stretch → Option Definition
   by_label text o = option_and_then (λ l. by_destination text l (destination_at text (end l + 1))) o
 
   pub label-longer : (x : List ℕ) (s : Stretch) → label_at x ≡ Some s → (label_at (x ++ 10 ∷ w) ≡ Some s) × (end s < length x)

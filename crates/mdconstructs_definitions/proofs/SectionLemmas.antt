@@ -81,7 +81,7 @@ module _ (t : ℕ) (bytes : List ℕ) where
   none-by (x ∷ xs) [] h = absurd h
   none-by (x ∷ xs) (r ∷ rs) h = refl
 
-  text-by : (xs : List RowAt) (all : List Row) → HaveTexts t bytes xs all → text_in (rows_by t bytes xs) ≡ text_in all
+  pub text-by : (xs : List RowAt) (all : List Row) → HaveTexts t bytes xs all → text_in (rows_by t bytes xs) ≡ text_in all
   text-by [] [] h = refl
   text-by [] (r ∷ rs) h = absurd h
   text-by (x ∷ xs) [] h = absurd h
@@ -127,10 +127,10 @@ none-defined on all is = ap (λ (b : Bool). cond b (lines_defined (text_in (para
 
 -- ---- definitions have no more lines than there are
 
-tens : List ℕ → ℕ
+abbrev pub tens : List ℕ → ℕ
 tens xs = length (filter (λ c. c == 10) xs)
 
-no-ten : (line : Line) → filter (λ c. c == 10) (text_of line) ≡ []
+pub no-ten : (line : Line) → filter (λ c. c == 10) (text_of line) ≡ []
 no-ten [] = refl
 no-ten (s ∷ ss) = by (s.byte == 10) refl (no-ten ss)
   where
@@ -138,7 +138,7 @@ no-ten (s ∷ ss) = by (s.byte == 10) refl (no-ten ss)
     by true e h = h
     by false e h = ap (λ (b : Bool). cond b (s.byte ∷ filter (λ c. c == 10) (text_of ss)) (filter (λ c. c == 10) (text_of ss))) e ∙ h
 
-ten-back : (n : ℕ) (xs : List ℕ) → filter (λ c. c == 10) xs ≡ [] → filter (λ c. c == 10) (drop n xs) ≡ []
+pub ten-back : (n : ℕ) (xs : List ℕ) → filter (λ c. c == 10) xs ≡ [] → filter (λ c. c == 10) (drop n xs) ≡ []
 ten-back zero xs h = h
 ten-back (suc n) [] h = refl
 ten-back (suc n) (x ∷ xs) h = ten-back n xs (by (x == 10) h)
@@ -153,7 +153,7 @@ tens-in r (q ∷ qs) =
     ap (λ (l : List ℕ). length l) (filter-append (λ c. c == 10) (rest_of r) (10 ∷ text_in (q ∷ qs)) ∙ ap (λ (l : List ℕ). l ++ filter (λ c. c == 10) (10 ∷ text_in (q ∷ qs))) (ten-back r.columns (text_of r.line) (no-ten r.line)))
     ∙ ap suc (tens-in q qs)
 
-few-lines : (rs : List Row) → lines_of (text_in rs) ≤ length rs
+pub few-lines : (rs : List Row) → lines_of (text_in rs) ≤ length rs
 few-lines [] = omega arith
 few-lines (r ∷ rs) = by (text_in (r ∷ rs)) (tens-in r rs)
   where

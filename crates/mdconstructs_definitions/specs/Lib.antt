@@ -3,8 +3,10 @@ pub mod Definitions
 pub mod Examples
 pub mod Held
 pub mod Known
+pub mod Labelled
 pub mod Laws
 pub mod Rows
+pub mod Sectioned
 pub mod Sections
 pub mod Seen
 pub mod Skeleton

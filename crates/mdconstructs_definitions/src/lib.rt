@@ -6,4 +6,5 @@ pub mod held;
 pub mod laws;
 pub mod rows;
 pub mod sections;
+pub mod skeleton;
 pub mod texts;

@@ -1,0 +1,88 @@
+-- Lines of a section, as the code has them.
+use Rattle.std.specs.Prelude.{◌≡◌, ◌≤◌, ℕ, suc, Bool, cond, List, [], ◌∷◌, ◌++◌, length, take}
+use Rattle.std.specs.List.{flat_map}
+use Rattle.markdown_base.specs.Places.{shown}
+use Rattle.markdown_base.specs.declared.configuration.Constructs.{Constructs}
+use Rattle.markdown_base.specs.Virtual.{point}
+use Rattle.mdconstructs_flow_read.specs.LeafEvents.{Mark}
+use Rattle.mdconstructs_flow_read.specs.LineKinds.{unindented}
+use Rattle.mdconstructs_lines.specs.Containers.{Container}
+use Rattle.mdconstructs_lines.specs.Lines.{place_after}
+use Rattle.mdconstructs_containers.specs.declared.parts.PartEnd.{PartEnd}
+use Rattle.mdconstructs_containers.specs.declared.prefixes.At.{At}
+use Rattle.mdconstructs_containers.specs.declared.spans.RowAt.{RowAt}
+use Rattle.mdconstructs_containers.specs.Letters.{lazy_underline}
+use Rattle.mdconstructs_containers.specs.Prefixes.{columns_of}
+use Rattle.mdconstructs_containers.specs.Rest.{AreLeft, ending_to}
+use Rattle.mdconstructs_containers.specs.Rows.{Row, has_none, rest_of}
+use Rattle.mdconstructs_containers.specs.Skeleton.{Part, end_of, ending_marks}
+use Rattle.mdconstructs_containers.specs.Spans.{IsRowIn}
+use Rattle.mdconstructs_containers.specs.Stretches.{AreFurther}
+use Rattle.mdconstructs_definitions.specs.Sections.{Section}
+use Rattle.mdconstructs_definitions.specs.Skeleton.{inside_marks, text_begin}
+use Rattle.mdconstructs_definitions.specs.Within.{within_marks}
+
+-- a line has text behind its prefixes and white space
+abbrev pub IsFilled : Row → Type 0
+IsFilled r = 1 ≤ length (unindented (rest_of r))
+
+-- the first of these lines has
+abbrev pub BeginsFilled : List Row → Type 0
+BeginsFilled [] = Unit {0}
+BeginsFilled (r ∷ rs) = IsFilled r
+
+-- what is read as a letter of lines of leaf blocks, of which the first may be text directly behind definitions
+abbrev pub letters_in : Constructs → (is_behind : Bool) → List Row → List ℕ
+letters_in on is_behind [] = []
+letters_in on is_behind (r ∷ rs) = cond is_behind (text_begin r) (lazy_underline on r) ++ flat_map (lazy_underline on) rs
+
+module _ (t : ℕ) (bytes : List ℕ) where
+  -- lines are the first of those that are left
+  pub record AreFirst (xs : List RowAt) (rs : List Row) : Type 0 where
+    pub stack : List Container
+    pub behind : List RowAt
+    pub rest : List Row
+    pub left : AreLeft bytes t stack (xs ++ behind) (rs ++ rest)
+    pub size : length xs ≡ length rs
+
+  -- The lines of a section: the first, and further ones, with which these containers go on
+  pub record IsSectionOf (stack : List Container) (x : RowAt) (xs : List RowAt) (p : Part) : Type 0 where
+    pub before : List Container
+    pub behind : List RowAt
+    pub rest : List Row
+    pub left : AreLeft bytes t before (x ∷ (xs ++ behind)) (p.first ∷ (p.more ++ rest))
+    pub further : AreFurther t bytes stack (suc left.number) x.span.next xs p.more
+
+  -- lines of a section that begins with a further line of a part
+  pub record IsLater (stack : List Container) (x : RowAt) (xs : List RowAt) (p : Part) : Type 0 where
+    pub is : IsSectionOf stack x xs p
+    pub row : IsRowIn t bytes stack is.left.number is.left.start x p.first
+    pub begun : p.first.begun ≡ []
+
+  -- lines of the further sections of a part: they go on with all its containers
+  abbrev pub AreLater : (stack : List Container) → List RowAt → List Section → Type 0
+  AreLater stack [] [] = Unit {0}
+  AreLater stack [] (s ∷ ss) = ⊥
+  AreLater stack (x ∷ xs) [] = ⊥
+  AreLater stack (x ∷ xs) (s ∷ ss) = IsLater stack x (take (length s.part.more) xs) s.part × (length stack ≤ length s.part.stands)
+
+  -- a place directly behind the prefixes of the first line of a section
+  pub record IsBegun (p : Part) (x : RowAt) (at : At) : Type 0 where
+    pub columns : at.columns ≡ cond p.first.is_blank (cond (has_none p.first.begun) (columns_of (take (length p.stands) p.first.went_on)) p.first.columns) p.first.columns
+    pub place : at.place ≡ place_after t bytes (point x.span.number 1 x.span.start 0) at.columns
+
+  -- a place is directly behind the prefixes of the first line of the first of these sections
+  abbrev pub AreBegun : List RowAt → List Section → At → Type 0
+  AreBegun [] ss at = Unit {0}
+  AreBegun (x ∷ xs) [] at = Unit {0}
+  AreBegun (x ∷ xs) (s ∷ ss) at = IsBegun s.part x at
+
+-- Sections of a part are written up to the inside of the first of these
+abbrev pub inside_from : (bytes : List ℕ) → List Section → (rest : List Mark) → List Mark
+inside_from bytes [] rest = rest
+inside_from bytes (s ∷ ss) rest = inside_marks bytes s.part s.inside ++ (within_marks bytes s.part ss ++ rest)
+
+-- a part ends so
+pub record HasEnd (bytes : List ℕ) (p : Part) (e : PartEnd) : Type 0 where
+  pub place : shown bytes (end_of bytes p) ≡ e.place
+  pub ending : ending_marks bytes p ≡ ending_to e

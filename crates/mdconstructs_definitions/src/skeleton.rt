@@ -1,0 +1,345 @@
+//! The skeleton of a document with link reference definitions.
+
+ghost use Rattle.std.specs.Prelude.{◌≡◌, ◌≤◌, ◌+◌, ◌-◌, ◌++◌, ◌&&◌, ◌||◌, cond, true, false, None, ℕ, List, [], ◌∷◌, IfOk, drop, is_some, length, map, not, take};
+ghost use Rattle.markdown_base.specs.declared.event.Name.TheVariants.{SpaceOrTab};
+ghost use Rattle.markdown_base.specs.Virtual.{IsWithinLimit, Seat, point};
+ghost use Rattle.mdconstructs_flow_read.specs.LeafEvents.{Mark};
+ghost use Rattle.mdconstructs_flow_read.specs.LeafBlocks.{bytes_of};
+ghost use Rattle.mdconstructs_flow_read.specs.LineKinds.{indent, underline_rank};
+ghost use Rattle.mdconstructs_lines.specs.Lines.{line_bytes, place_after};
+ghost use Rattle.mdconstructs_containers.specs.Costs.{HaveSizes};
+ghost use Rattle.mdconstructs_containers.specs.PlaceEvents.{HasColumns, span_at};
+ghost use Rattle.mdconstructs_containers.specs.Prefixes.{columns_of, going_on};
+ghost use Rattle.mdconstructs_containers.specs.Rest.{ending_to};
+ghost use Rattle.mdconstructs_containers.specs.Rows.{Row as RowOf, holds_ending};
+ghost use Rattle.mdconstructs_containers.specs.Skeleton.{Part as PartOf, prefixes_marks};
+ghost use Rattle.mdconstructs_containers.specs.SeatPlaces.{AreSeatsAt, events_of};
+ghost use Rattle.mdconstructs_containers.specs.Stretches.{end_at, last_at};
+ghost use Rattle.mdconstructs_containers.specs.Views.{leaf_of, open_of};
+ghost use Rattle.mdconstructs_containers.specs.Written.{Written};
+ghost use Rattle.mdconstructs_labels.specs.Defined.{defines};
+ghost use Rattle.mdconstructs_labels.specs.Definitions.{definitions};
+ghost use Rattle.mdconstructs_definitions.specs.Labelled.{IsInText, is_one_of};
+ghost use Rattle.mdconstructs_definitions.specs.Sectioned.{AreBegun, AreFirst, AreLater, BeginsFilled, HasEnd, IsBegun, IsFilled, IsSectionOf, inside_from, letters_in};
+ghost use Rattle.mdconstructs_definitions.specs.Sections.{Section as SectionOf, lines};
+ghost use Rattle.mdconstructs_definitions.specs.Skeleton.{all_rows, inside_marks, labels_in};
+ghost use Rattle.mdconstructs_definitions.specs.Within.{within_marks};
+
+use markdown_base::configuration::{Constructs, TabSize};
+use markdown_base::event::{Event, Point};
+use mdconstructs_containers::going::{Open, first_of};
+use mdconstructs_containers::parts::{PartEnd, write_ending};
+use mdconstructs_containers::prefixes::At;
+use mdconstructs_containers::skeleton::push_letter;
+use mdconstructs_containers::spans::{RowAt, start_of};
+use mdconstructs_containers::stretches::{prefixes_of, stretch};
+use mdconstructs_containers::writing::white;
+use mdconstructs_labels::definitions::Definition;
+use mdconstructs_labels::labels::Labels;
+use mdconstructs_lines::bytes::{behind, indent};
+use mdconstructs_lines::places::{moved, read_line};
+use mdconstructs_turns::Turns;
+use std::alloc::{AllocError, Global};
+use std::sync::ledger::Ledger;
+
+/// The skeleton of a document.
+#[derive(Drop)]
+pub struct Skeleton {
+    /// Its events.
+    pub events: Vec<Event>,
+    /// The indices of bytes that leaf blocks are read of as of a letter.
+    pub letters: Vec<usize>,
+    /// The labels that it defines.
+    pub labels: Labels,
+}
+
+/// The label of a definition in its text, without its brackets.
+fn written_label<'a>(definition: &Definition, text: &'a [u8]) -> &'a [u8]
+    requires { IsInText text.now definition.now }
+    ensures { result.now ≡ take (definition.now.label.size - 2) (drop (definition.now.label.from + 1) text.now) }
+{
+    let label = definition.label;
+    let from = label.from + 1;
+    &text[from..from + label.size - 2]
+}
+
+/// The labels of the definitions with which a text begins are defined.
+fn define_labels<L: Ledger>(
+    alloc: Global,
+    labels: &mut Labels,
+    defined: &[Definition],
+    text: &[u8],
+    turns: &mut Turns<L>,
+) -> Result<(), AllocError>
+    requires { defined.now ≡ definitions text.now }
+    ensures { IfOk result (λ _. (label : List ℕ) → defines labels.new label ≡ (defines labels.old label || is_one_of (labels_in defined.now text.now) label)) }
+{
+    let mut next = 0;
+    for definition in defined {
+        turns.add_one();
+        labels.define(alloc, written_label(definition, &text[next..]))?;
+        next += definition.size + 1;
+    }
+    Ok(())
+}
+
+/// The column of a line at which its text begins, behind its prefixes and white space. `line` is room for its bytes.
+fn text_columns<L: Ledger>(
+    bytes: &[u8],
+    tab: TabSize,
+    at: &RowAt,
+    line: &mut Vec<u8>,
+    turns: &mut Turns<L>,
+) -> Result<usize, AllocError>
+    requires inside { at.now.span.start ≤ length bytes.now }
+    requires within { let s = at.now.span in at.now.row.columns ≤ length (line_bytes tab s.number 1 s.start (drop s.start bytes.now)) }
+    ensures value { let s = at.now.span in IfOk result (λ n. n ≡ at.now.row.columns + indent (drop at.now.row.columns (line_bytes tab s.number 1 s.start (drop s.start bytes.now)))) }
+    ensures within { let s = at.now.span in IfOk result (λ n. n ≤ length (line_bytes tab s.number 1 s.start (drop s.start bytes.now))) }
+{
+    read_line(line, bytes, tab, at.span.start, turns)?;
+    let rest = behind(line.as_slice(), at.row.columns);
+    Ok(at.row.columns + indent(rest, turns))
+}
+
+/// The index of the byte at which a line's text begins goes to a list.
+fn push_begin<L: Ledger>(
+    letters: &mut Vec<usize>,
+    bytes: &[u8],
+    tab: TabSize,
+    at: &RowAt,
+    line: &mut Vec<u8>,
+    turns: &mut Turns<L>,
+) -> Result<(), AllocError>
+    requires inside { at.now.span.start ≤ length bytes.now }
+    requires columns { let s = at.now.span in HasColumns tab bytes.now (point s.number 1 s.start 0) (length (line_bytes tab s.number 1 s.start (drop s.start bytes.now))) }
+    requires within { let s = at.now.span in at.now.row.columns ≤ length (line_bytes tab s.number 1 s.start (drop s.start bytes.now)) }
+    ensures { let s = at.now.span in IfOk result (λ _. letters.new.items ≡ letters.old.items ++ (place_after tab bytes.now (point s.number 1 s.start 0) (at.now.row.columns + indent (drop at.now.row.columns (line_bytes tab s.number 1 s.start (drop s.start bytes.now))))).index ∷ []) }
+{
+    let columns = text_columns(bytes, tab, at, line, turns)?;
+    letters.push(moved(bytes, tab, start_of(at.span), columns, turns).index)?;
+    Ok(())
+}
+
+/// What is read as a letter of a line goes to a list: of text directly behind definitions its first byte, and else the first mark of a lazy
+/// underline.
+fn push_line<L: Ledger>(
+    letters: &mut Vec<usize>,
+    bytes: &[u8],
+    tab: TabSize,
+    on: &Constructs,
+    at: &RowAt,
+    is_behind: bool,
+    line: &mut Vec<u8>,
+    turns: &mut Turns<L>,
+) -> Result<(), AllocError>
+    requires inside { at.now.span.start ≤ length bytes.now }
+    requires columns { let s = at.now.span in HasColumns tab bytes.now (point s.number 1 s.start 0) (length (line_bytes tab s.number 1 s.start (drop s.start bytes.now))) }
+    requires within { let s = at.now.span in at.now.row.columns ≤ length (line_bytes tab s.number 1 s.start (drop s.start bytes.now)) }
+    ensures { let s = at.now.span in let rest = drop at.now.row.columns (line_bytes tab s.number 1 s.start (drop s.start bytes.now)) in let here = (place_after tab bytes.now (point s.number 1 s.start 0) (at.now.row.columns + indent rest)).index ∷ [] in IfOk result (λ _. letters.new.items ≡ letters.old.items ++ cond is_behind here (cond (at.now.row.is_lazy && is_some (underline_rank on.now rest)) here [])) }
+{
+    if is_behind {
+        return push_begin(letters, bytes, tab, at, line, turns);
+    }
+    push_letter(letters, bytes, tab, on, at, line, turns)
+}
+
+/// What is read as a letter of lines that leaf blocks are read from goes to a list. `is_behind`: the first is text directly behind definitions.
+fn push_letters<L: Ledger>(
+    letters: &mut Vec<usize>,
+    bytes: &[u8],
+    tab: TabSize,
+    on: &Constructs,
+    rows: &[RowAt],
+    is_behind: bool,
+    line: &mut Vec<u8>,
+    turns: &mut Turns<L>,
+) -> Result<(), AllocError>
+    ghost all: { List RowOf }
+    requires limit { IsWithinLimit tab bytes.now }
+    requires rows { AreFirst tab bytes.now rows.now all }
+    requires text { is_behind ≡ true → BeginsFilled all }
+    ensures { IfOk result (λ _. letters.new.items ≡ letters.old.items ++ letters_in on.now is_behind all) }
+{
+    let tab_size = tab.get();
+    prove!(tab_size >= 1);
+    let mut goes_first = is_behind;
+    for at in rows {
+        turns.add_one();
+        push_line(letters, bytes, tab, on, at, goes_first, line, turns)?;
+        goes_first = false;
+    }
+    Ok(())
+}
+
+/// The white space of the first line of a stretch directly behind definitions, from behind its prefixes on. Returns the place behind it; of another
+/// stretch nothing is written, and it begins where it did.
+fn write_front<L: Ledger>(
+    events: &mut Vec<Event>,
+    bytes: &[u8],
+    tab: TabSize,
+    first: &RowAt,
+    begin: At,
+    is_behind: bool,
+    line: &mut Vec<u8>,
+    turns: &mut Turns<L>,
+) -> Result<Point, AllocError>
+    requires inside { first.now.span.start ≤ length bytes.now }
+    requires columns { let s = first.now.span in HasColumns tab bytes.now (point s.number 1 s.start 0) (length (line_bytes tab s.number 1 s.start (drop s.start bytes.now))) }
+    requires within { let s = first.now.span in first.now.row.columns ≤ length (line_bytes tab s.number 1 s.start (drop s.start bytes.now)) }
+    requires begin { begin.columns ≡ first.now.row.columns }
+    requires place { let s = first.now.span in begin.place ≡ place_after tab bytes.now (point s.number 1 s.start 0) begin.columns }
+    ensures place { let s = first.now.span in IfOk result (λ p. p ≡ cond is_behind (place_after tab bytes.now (point s.number 1 s.start 0) (first.now.row.columns + indent (drop first.now.row.columns (line_bytes tab s.number 1 s.start (drop s.start bytes.now))))) begin.place) }
+    ensures events { let s = first.now.span in IfOk result (λ _. events.new.items ≡ events.old.items ++ cond is_behind (span_at tab bytes.now SpaceOrTab begin.place (indent (drop first.now.row.columns (line_bytes tab s.number 1 s.start (drop s.start bytes.now))))) []) }
+{
+    if !is_behind {
+        return Ok(begin.place);
+    }
+    let columns = text_columns(bytes, tab, first, line, turns)?;
+    let left = columns - begin.columns;
+    let place = white(events, bytes, tab, begin.place, left, turns)?;
+    Ok(place)
+}
+
+/// What is in a section of lines that leaf blocks are read from, behind the prefixes of its first line: white space of a blank line, or the chunks of
+/// a stretch. `is_behind`: it is directly behind definitions.
+fn write_lines<L: Ledger>(
+    events: &mut Vec<Event>,
+    bytes: &[u8],
+    tab: TabSize,
+    stack: &[Open],
+    first: &RowAt,
+    more: &[RowAt],
+    begin: At,
+    is_behind: bool,
+    end: Point,
+    line: &mut Vec<u8>,
+    turns: &mut Turns<L>,
+) -> Result<(), AllocError>
+    ghost part: { PartOf }
+    requires limit { IsWithinLimit tab bytes.now }
+    requires section { IsSectionOf tab bytes.now (map open_of stack.now) first.now more.now part }
+    requires begun { IsBegun tab bytes.now part first.now begin }
+    requires text { is_behind ≡ true → first.now.row.is_blank ≡ false }
+    requires end { let last = last_at first.now more.now in end ≡ end_at (not first.now.row.is_blank && holds_ending (leaf_of last.row.leaf)) last }
+    ensures { IfOk result (λ _. (rest : List Mark) → (all : List Mark) → Written events.old.items None false (inside_marks bytes.now part (lines is_behind) ++ rest) all → Written events.new.items None false rest all) }
+{
+    let tab_size = tab.get();
+    prove!(tab_size >= 1);
+    let is_blank = first.row.is_blank;
+    if is_blank {
+        let left = first.span.size - begin.columns;
+        white(events, bytes, tab, begin.place, left, turns)?;
+        return Ok(());
+    }
+    let from = write_front(events, bytes, tab, first, begin, is_behind, line, turns)?;
+    stretch(events, bytes, tab, stack, from, more, end, line, turns)?;
+    Ok(())
+}
+
+/// What is in a section of lines that leaf blocks are read from, behind the prefixes of its first line, with what is read as a letter of it.
+/// `is_behind`: it is directly behind definitions.
+fn write_text<L: Ledger>(
+    skeleton: &mut Skeleton,
+    bytes: &[u8],
+    tab: TabSize,
+    on: &Constructs,
+    stack: &[Open],
+    rows: &[RowAt],
+    first: &RowAt,
+    more: &[RowAt],
+    begin: At,
+    is_behind: bool,
+    end: Point,
+    line: &mut Vec<u8>,
+    turns: &mut Turns<L>,
+) -> Result<(), AllocError>
+    ghost part: { PartOf }
+    requires limit { IsWithinLimit tab bytes.now }
+    requires rows { rows.now ≡ first.now ∷ more.now }
+    requires section { IsSectionOf tab bytes.now (map open_of stack.now) first.now more.now part }
+    requires begun { IsBegun tab bytes.now part first.now begin }
+    requires text { is_behind ≡ true → (first.now.row.is_blank ≡ false) × IsFilled part.first }
+    requires end { let last = last_at first.now more.now in end ≡ end_at (not first.now.row.is_blank && holds_ending (leaf_of last.row.leaf)) last }
+    ensures events { IfOk result (λ _. (rest : List Mark) → (all : List Mark) → Written skeleton.old.events.items None false (inside_marks bytes.now part (lines is_behind) ++ rest) all → Written skeleton.new.events.items None false rest all) }
+    ensures letters { IfOk result (λ _. skeleton.new.letters.items ≡ skeleton.old.letters.items ++ letters_in on.now is_behind (all_rows part)) }
+    ensures labels { IfOk result (λ _. (label : List ℕ) → defines skeleton.new.labels label ≡ defines skeleton.old.labels label) }
+{
+    write_lines(
+        &mut skeleton.events,
+        bytes,
+        tab,
+        stack,
+        first,
+        more,
+        begin,
+        is_behind,
+        end,
+        line,
+        turns,
+    )?;
+    push_letters(
+        &mut skeleton.letters,
+        bytes,
+        tab,
+        on,
+        rows,
+        is_behind,
+        line,
+        turns,
+    )?;
+    Ok(())
+}
+
+/// Between two sections of a part: the line ending, and the prefixes of the next line. Returns the place behind them.
+fn go_to_section<L: Ledger>(
+    events: &mut Vec<Event>,
+    bytes: &[u8],
+    tab: TabSize,
+    stack: &[Open],
+    next: &RowAt,
+    end: PartEnd,
+    line: &mut Vec<u8>,
+    turns: &mut Turns<L>,
+) -> Result<At, AllocError>
+    requires inside { next.now.span.start ≤ length bytes.now }
+    requires columns { let s = next.now.span in HasColumns tab bytes.now (point s.number 1 s.start 0) (length (line_bytes tab s.number 1 s.start (drop s.start bytes.now))) }
+    requires many { next.now.row.many ≤ length stack.now }
+    requires sizes { HaveSizes (map open_of stack.now) }
+    ensures marks { let s = next.now.span in let t = line_bytes tab s.number 1 s.start (drop s.start bytes.now) in IfOk result (λ _. (seats : List Seat) → AreSeatsAt tab bytes.now (point s.number 1 s.start 0) seats → t ≡ bytes_of seats → events.new.items ≡ events.old.items ++ (events_of (ending_to end) ++ events_of (prefixes_marks bytes.now (going_on (take next.now.row.many (map open_of stack.now)) s.number t) seats))) }
+    ensures columns { let s = next.now.span in IfOk result (λ p. p.columns ≡ columns_of (going_on (take next.now.row.many (map open_of stack.now)) s.number (line_bytes tab s.number 1 s.start (drop s.start bytes.now)))) }
+    ensures place { let s = next.now.span in IfOk result (λ p. p.place ≡ place_after tab bytes.now (point s.number 1 s.start 0) p.columns) }
+{
+    write_ending(events, end)?;
+    let front = first_of(stack, next.row.many);
+    let at = prefixes_of(events, bytes, tab, front, next, line, turns)?;
+    Ok(at)
+}
+
+/// The next section of a part, if it has one: the line ending comes, and the prefixes of its first line. Returns the place behind them.
+fn go_on<L: Ledger>(
+    events: &mut Vec<Event>,
+    bytes: &[u8],
+    tab: TabSize,
+    stack: &[Open],
+    behind: &[RowAt],
+    end: PartEnd,
+    at: At,
+    line: &mut Vec<u8>,
+    turns: &mut Turns<L>,
+) -> Result<At, AllocError>
+    ghost sections: { PartOf × List SectionOf }
+    requires limit { IsWithinLimit tab bytes.now }
+    requires later { AreLater tab bytes.now (map open_of stack.now) behind.now sections.1 }
+    requires end { HasEnd bytes.now sections.0 end }
+    ensures begun { IfOk result (λ p. AreBegun tab bytes.now behind.now sections.1 p) }
+    ensures events { IfOk result (λ _. (rest : List Mark) → (all : List Mark) → Written events.old.items None false (within_marks bytes.now sections.0 sections.1 ++ rest) all → Written events.new.items None false (inside_from bytes.now sections.1 rest) all) }
+{
+    let tab_size = tab.get();
+    prove!(tab_size >= 1);
+    if behind.is_empty() {
+        return Ok(at);
+    }
+    let next = &behind[0];
+    let place = go_to_section(events, bytes, tab, stack, next, end, line, turns)?;
+    Ok(place)
+}
