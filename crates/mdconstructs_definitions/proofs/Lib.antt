@@ -12,6 +12,12 @@ pub mod KnownRows
 pub mod LaidParts
 pub mod Linked
 pub mod Longer
+pub mod MarksCursor
+pub mod MarksFits
+pub mod MarksLoop
+pub mod MarksParts
+pub mod MarksPlaces
+pub mod MarksText
 pub mod PlainDefinitions
 pub mod PlainLetters
 pub mod RowTexts

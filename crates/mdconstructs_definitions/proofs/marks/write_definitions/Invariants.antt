@@ -1,0 +1,18 @@
+use Rattle.std.proofs.Common.{◌≡◌, ◌≤◌, ◌++◌, drop, length, map}
+use Rattle.mdconstructs_labels.specs.Definitions.{definitions}
+use Rattle.mdconstructs_containers.specs.SeatPlaces.{events_of}
+use Rattle.mdconstructs_containers.specs.Views.{open_of}
+use Rattle.mdconstructs_definitions.specs.Cursor.{IsCursor, left_at, left_from}
+use Rattle.mdconstructs_definitions.specs.Definitions.{definitions_marks, text_of}
+use Rattle.mdconstructs_definitions.proofs.marks.write_definitions.Given as goal
+
+-- what is left of the text and of the definitions, and what is written of these
+abbrev pub invariant-loop-definition : goal.invariant-loop-definition
+invariant-loop-definition g l = record {
+  cursor : IsCursor l.tab l.bytes (map open_of l.stack) l.rows l.here;
+  next : l.next ≤ length l.text;
+  text : drop l.next l.text ≡ text_of (left_at l.tab l.bytes (map open_of l.stack) l.rows l.here);
+  defined : drop l.definition-index l.definitions ≡ definitions (drop l.next l.text);
+  events : l.events.items ++ events_of (definitions_marks l.bytes (drop l.definition-index l.definitions) (left_at l.tab l.bytes (map open_of l.stack) l.rows l.here))
+      ≡ l.initial.events.items ++ events_of (definitions_marks l.bytes l.definitions (left_from l.tab l.bytes (map open_of l.stack) l.fn.begin.columns l.rows));
+}

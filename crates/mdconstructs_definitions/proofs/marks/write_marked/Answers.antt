@@ -1,0 +1,67 @@
+use Rattle.std.proofs.Common.{drop, map, refl}
+use Rattle.mdconstructs_containers.specs.Views.{open_of}
+use Rattle.mdconstructs_definitions.proofs.MarksCursor.{has-columns, has-room, here-of}
+use Rattle.mdconstructs_definitions.proofs.MarksParts.{inside-few, last-mark, mark-left, marked-goes, marked-written}
+use Rattle.mdconstructs_definitions.proofs.marks.write_marked.Goals as goal
+
+pub write_leaf-requires : goal.write_leaf-requires
+write_leaf-requires g c =
+    let t = c.args.tab in
+    let bytes = c.args.bytes.now in
+    let stack = map open_of c.args.stack.now in
+    let xs = c.args.rows.now in
+    let here = here-of t bytes stack xs c.args.cursor c.requires.cursor in
+    let ys = drop c.args.cursor.row xs in
+    let at = c.args.cursor.at in
+    let one = mark-left t bytes stack xs c.args.cursor c.requires.cursor _ refl c.requires.marks.first in
+    record { columns = has-columns t bytes stack ys at here 1 one; room = has-room t bytes stack ys at here 1 one }
+
+pub write_string-requires : goal.write_string-requires
+write_string-requires g c =
+    let t = c.args.tab in
+    let bytes = c.args.bytes.now in
+    let stack = map open_of c.args.stack.now in
+    let xs = c.args.rows.now in
+    let fits = c.requires.marks in
+    let f = c.in_ok-first.ensures.goes stack xs c.requires.cursor (mark-left t bytes stack xs c.args.cursor c.requires.cursor _ refl fits.first) in
+    record { cursor = f.at; size = inside-few t bytes stack xs c.args.cursor c.in_ok-first.first c.in_ok-first.first c.args.size fits f }
+
+pub write_leaf-requires-2 : goal.write_leaf-requires-2
+write_leaf-requires-2 g c =
+    let t = c.args.tab in
+    let bytes = c.args.bytes.now in
+    let stack = map open_of c.args.stack.now in
+    let xs = c.args.rows.now in
+    let fits = c.requires.marks in
+    let f = c.in_ok-first.ensures.goes stack xs c.requires.cursor (mark-left t bytes stack xs c.args.cursor c.requires.cursor _ refl fits.first) in
+    let h = c.in_ok-last.ensures.goes in
+    let one = last-mark t bytes stack xs c.args.cursor c.in_ok-first.first c.in_ok-last.last c.args.size fits f h in
+    let last = c.in_ok-last.last in
+    let here = here-of t bytes stack xs last h.at in
+    record { columns = has-columns t bytes stack (drop last.row xs) last.at here 1 one; room = has-room t bytes stack (drop last.row xs) last.at here 1 one }
+
+pub returns-clause-events : goal.returns-clause-events
+returns-clause-events g c =
+    let t = c.args.tab in
+    let bytes = c.args.bytes.now in
+    let stack = map open_of c.args.stack.now in
+    let xs = c.args.rows.now in
+    let fits = c.requires.marks in
+    let f = c.in_ok-first.ensures.goes stack xs c.requires.cursor (mark-left t bytes stack xs c.args.cursor c.requires.cursor _ refl fits.first) in
+    let h = c.in_ok-last.ensures.goes in
+    let one = last-mark t bytes stack xs c.args.cursor c.in_ok-first.first c.in_ok-last.last c.args.size fits f h in
+    marked-written t bytes stack xs c.args.cursor c.in_ok-first.first c.in_ok-last.last c.args.size fits f h c.requires.cursor c.in_ok-end.end (c.in_ok-end.ensures.goes stack xs h.at one) c.args.all c.args.mark c.args.inside
+    c.args.events.now.items _ _ _ _ _ c.in_ok-enter.ensures (c.in_ok-first.ensures.events stack xs c.requires.cursor (mark-left t bytes stack xs c.args.cursor c.requires.cursor _ refl fits.first)) c.in_ok-last.ensures.events
+    (c.in_ok-end.ensures.events stack xs h.at one) c.in_ok-exit.ensures
+
+pub returns-clause-goes : goal.returns-clause-goes
+returns-clause-goes g c =
+    let t = c.args.tab in
+    let bytes = c.args.bytes.now in
+    let stack = map open_of c.args.stack.now in
+    let xs = c.args.rows.now in
+    let fits = c.requires.marks in
+    let f = c.in_ok-first.ensures.goes stack xs c.requires.cursor (mark-left t bytes stack xs c.args.cursor c.requires.cursor _ refl fits.first) in
+    let h = c.in_ok-last.ensures.goes in
+    let one = last-mark t bytes stack xs c.args.cursor c.in_ok-first.first c.in_ok-last.last c.args.size fits f h in
+    marked-goes t bytes stack xs c.args.cursor c.in_ok-first.first c.in_ok-last.last c.args.size fits f h c.in_ok-end.end (c.in_ok-end.ensures.goes stack xs h.at one)
