@@ -22,8 +22,8 @@ pub enum Machine {
     Save = 5,
     /// `text`: as `paragraphs`, but in the text of its chunks are code spans, autolinks and escapes.
     Text = 6,
-    /// `flow`: the leaf blocks of CommonMark. In paragraphs and headings is inline text, with emphasis; in info strings
-    /// of fenced code are escapes and character references.
+    /// `flow`: the leaf blocks of CommonMark. In paragraphs and headings is inline text, with links, images and emphasis; in info
+    /// strings of fenced code are escapes and character references.
     #[default]
     Flow = 7,
     /// `document`: block quotes and lists, and the leaf blocks in them, as `flow` reads these.
