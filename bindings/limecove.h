@@ -439,8 +439,8 @@ struct limecove_answer {
     size_t count;     /* events of the document, also if there are more than records; 0 if it was not read */
 };
 
-/* A document that was read, with its events in the library's memory. It begins as LIMECOVE_NO_READING, and only the library changes it. It
- * stays in its thread, and no copy of it is used beside it. */
+/* A document that was read, with its events in the library's memory. It begins as LIMECOVE_NO_READING, and only the library changes it. One
+ * thread at a time uses it, and no copy of it is used beside it. */
 struct limecove_reading {
     size_t is_open; /* 1 if it is open, 0 if it is not */
     void *list;     /* the events, if it is open */

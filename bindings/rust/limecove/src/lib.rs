@@ -21,9 +21,11 @@
 
 mod event;
 mod lines;
+mod list;
 mod names;
 mod reading;
 mod references;
+mod target;
 mod tree;
 
 /// The program of the page is tried too.
@@ -35,9 +37,11 @@ pub use crate::event::{
     spans, spans_by_start, with_ranges, Content, Event, Kind, Link, Point, Span, Spans, WithRanges,
 };
 pub use crate::lines::{LineColumn, LineIndex};
+pub use crate::list::{List, ListMarker};
 pub use crate::names::{Machine, Name, UnknownName};
 pub use crate::reading::{Iter, Reading};
 pub use crate::references::character_reference;
+pub use crate::target::Target;
 pub use crate::tree::{Node, Nodes, Tree};
 use std::error;
 use std::fmt;

@@ -27,8 +27,8 @@ impl fmt::Display for LineColumn {
 
 /// The lines of a document, to look up the line and the columns of a byte. Lines end with LF, CR LF or CR, as in [`Point`](crate::Point).
 ///
-/// It is made in one pass, and keeps 8 bytes for each line and 16 for each 256 bytes. To look up takes time in proportion to the
-/// logarithm of the number of lines, however long a line is.
+/// It is made in one pass, and keeps 8 bytes for each line and 16 for each 256 bytes. To look up a byte's place, or the byte of a place,
+/// takes time in proportion to the logarithm of the document's length, however long a line is.
 ///
 /// ```
 /// let index = limecove::LineIndex::new("a\né😀b")?;
@@ -150,6 +150,67 @@ impl<'a> LineIndex<'a> {
         }
     }
 
+    /// The byte of this line and this column in bytes, both from 1. `None` if the line has no such byte: its line ending is part of it,
+    /// and of the last line the document's end. It takes no longer for a long line.
+    ///
+    /// ```
+    /// let index = limecove::LineIndex::new("a\né😀b")?;
+    /// assert_eq!(index.byte_at(2, 7), Some(8));
+    /// assert_eq!(index.byte_at_characters(2, 3), Some(8));
+    /// assert_eq!(index.byte_at_utf16(2, 4), Some(8));
+    /// assert_eq!(index.byte_at(1, 3), None);
+    /// # Ok::<(), limecove::Error>(())
+    /// ```
+    pub fn byte_at(&self, line: usize, column: usize) -> Option<usize> {
+        let whole = self.whole_line(line)?;
+        let index = whole.start.checked_add(column.checked_sub(1)?)?;
+        (index <= whole.end).then_some(index)
+    }
+
+    /// The first byte of the character of this line and this column in characters, as [`byte_at`](LineIndex::byte_at).
+    pub fn byte_at_characters(&self, line: usize, column: usize) -> Option<usize> {
+        self.find(line, column, |count| count.characters)
+    }
+
+    /// The first byte of the character of this line and this column in units of UTF-16, as [`byte_at`](LineIndex::byte_at). A column
+    /// inside a character of two units is of that character.
+    pub fn byte_at_utf16(&self, line: usize, column: usize) -> Option<usize> {
+        self.find(line, column, |count| count.utf16)
+    }
+
+    /// The bytes of a line, with its line ending but for the last byte of that; of the last line all up to the end.
+    fn whole_line(&self, number: usize) -> Option<Range<usize>> {
+        let from = *self.starts.get(number.checked_sub(1)?)?;
+        let next = self.starts.get(number);
+        Some(from..next.map_or(self.document.len(), |next| next - 1))
+    }
+
+    /// The character of a column that is counted so: by halves to the last multiple of `STEP` before it, and then byte by byte.
+    fn find(&self, line: usize, column: usize, of: fn(Count) -> usize) -> Option<usize> {
+        let whole = self.whole_line(line)?;
+        let before = of(self.count(whole.start));
+        let wanted = before.checked_add(column.checked_sub(1)?)?;
+        let step = self.counts.partition_point(|count| of(*count) <= wanted) - 1;
+        let from = (step * STEP).max(whole.start);
+        let (mut count, mut last) = (self.count(from), None);
+        for index in from..=whole.end {
+            let byte = self.document.get(index).copied();
+            if byte.map_or(false, is_inner) {
+                continue;
+            }
+            if of(count) == wanted {
+                return Some(index);
+            }
+            // a character of two units
+            if of(count) > wanted {
+                return last;
+            }
+            last = Some(index);
+            count = count.and(self.document.get(index..=index).unwrap_or_default());
+        }
+        None
+    }
+
     /// What is before this index.
     fn count(&self, index: usize) -> Count {
         let step = index / STEP;
@@ -183,6 +244,11 @@ mod tests {
             for inner in 0..character.len_utf8() {
                 assert_eq!(index.line_column(at + inner), want, "{:?}", text);
             }
+            assert_eq!(index.byte_at(line, want.bytes), Some(at));
+            assert_eq!(index.byte_at_characters(line, want.characters), Some(at));
+            for unit in 0..character.len_utf16() {
+                assert_eq!(index.byte_at_utf16(line, want.utf16 + unit), Some(at));
+            }
             let next = text.as_bytes().get(at + 1);
             if character == '\n' || character == '\r' && next != Some(&b'\n') {
                 let bytes = index.line(line).unwrap();
@@ -192,6 +258,18 @@ mod tests {
         }
         assert_eq!(index.line_count(), line);
         assert_eq!(index.line(line), Some(start..text.len()));
+        let end = index.line_column(text.len());
+        for behind in [0, end.bytes + 1, usize::MAX] {
+            assert_eq!(index.byte_at(line, behind), None);
+        }
+        for behind in [0, end.utf16 + 1, usize::MAX] {
+            assert_eq!(index.byte_at_characters(line, behind), None);
+            assert_eq!(index.byte_at_utf16(line, behind), None);
+        }
+        assert_eq!(
+            (index.byte_at(0, 1), index.byte_at(line + 1, 1)),
+            (None, None)
+        );
         assert_eq!((index.line(0), index.line(line + 1)), (None, None));
         assert_eq!(index.line_column(usize::MAX).line, line);
     }
@@ -215,6 +293,18 @@ mod tests {
             let index = LineIndex::new(&bytes[..len]).unwrap();
             let places: Vec<_> = (0..=len + 1).map(|at| index.line_column(at)).collect();
             assert!(places.windows(2).all(|two| two[0] <= two[1]));
+            for place in places {
+                let at = index.byte_at(place.line, place.bytes).unwrap();
+                assert_eq!(index.line_column(at).line, place.line);
+                for column in [place.characters, place.utf16, place.bytes] {
+                    for found in [
+                        index.byte_at_characters(place.line, column),
+                        index.byte_at_utf16(place.line, column),
+                    ] {
+                        assert!(found.map_or(true, |at| at <= len));
+                    }
+                }
+            }
         }
         let inner = LineIndex::new(&[0x80; 600]).unwrap();
         assert_eq!(inner.line_column(599).to_string(), "1:1");
@@ -227,7 +317,10 @@ mod tests {
         let index = LineIndex::new(&text).unwrap();
         let mut columns = 0;
         for at in (0..text.len()).step_by(10) {
-            columns += index.line_column(at).characters;
+            let place = index.line_column(at);
+            columns += place.characters;
+            assert_eq!(index.byte_at_characters(1, place.characters), Some(at));
+            assert_eq!(index.byte_at_utf16(1, place.utf16), Some(at));
         }
         assert_eq!(columns, 24_999_850_000);
     }

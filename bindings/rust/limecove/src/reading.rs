@@ -2,6 +2,7 @@
 
 use crate::{Error, Event, Options, TextOptions};
 use limecove_sys::{Answer, ByteRange, Record, NO_READING};
+use std::cell::UnsafeCell;
 use std::fmt;
 use std::iter::FusedIterator;
 use std::mem::{size_of, MaybeUninit};
@@ -11,19 +12,27 @@ use std::sync::atomic::{AtomicBool, Ordering};
 
 /// A document that was read, with its events in the library's memory. It is given back when this is dropped.
 ///
+/// Its events are copied by `&self`, one at a time or some: to copy one takes the same time whichever it is. It can be moved to another
+/// thread. Several threads share it behind a lock: the library takes the list out of the reading and puts it back, to copy of it.
+///
 /// ```
 /// use limecove::{Name, Options, Reading};
 ///
-/// let mut reading = Reading::open("a `code` b", &Options::default())?;
+/// let reading = Reading::open("a `code` b", &Options::default())?;
 /// assert_eq!(reading.len(), 14);
 /// let code = reading.iter().find(|event| event.name() == Name::CodeText);
 /// assert_eq!(code.unwrap().point().index, 2);
 /// # Ok::<(), limecove::Error>(())
 /// ```
 pub struct Reading {
-    reading: limecove_sys::Reading,
+    /// What a call of the library left. A copy writes to it, and no reference to what is in it outlives a call.
+    reading: UnsafeCell<limecove_sys::Reading>,
     count: usize,
 }
+
+// SAFETY: a reading is numbers and a list in memory of `malloc`, of which nothing else has a pointer. The library keeps no other state,
+// of threads neither, and `free` takes blocks of each thread. It is not `Sync`: a copy writes to the reading.
+unsafe impl Send for Reading {}
 
 impl Reading {
     /// Reads a whole document.
@@ -109,10 +118,10 @@ impl Reading {
     fn of(open: impl FnOnce(&mut limecove_sys::Reading) -> Answer) -> Result<Reading, Error> {
         assert_version();
         let mut reading = Reading {
-            reading: NO_READING,
+            reading: UnsafeCell::new(NO_READING),
             count: 0,
         };
-        let answer = open(&mut reading.reading);
+        let answer = open(reading.reading.get_mut());
         debug_assert_eq!(answer.version, limecove_sys::VERSION);
         reading.count = answer.count;
         match answer.code {
@@ -135,14 +144,14 @@ impl Reading {
     }
 
     /// The event of this index, if there is one.
-    pub fn get(&mut self, index: usize) -> Option<Event> {
+    pub fn get(&self, index: usize) -> Option<Event> {
         let mut room = [MaybeUninit::uninit()];
         // SAFETY: that many were written.
         (self.copy(index, &mut room) == 1).then(|| unsafe { room[0].assume_init() })
     }
 
     /// The events, one after the other. They are copied some at a time.
-    pub fn iter(&mut self) -> Iter<'_> {
+    pub fn iter(&self) -> Iter<'_> {
         Iter {
             reading: self,
             next: 0,
@@ -156,7 +165,7 @@ impl Reading {
     /// # Errors
     ///
     /// If memory runs out.
-    pub fn to_vec(&mut self) -> Result<Vec<Event>, Error> {
+    pub fn to_vec(&self) -> Result<Vec<Event>, Error> {
         let mut events = Vec::new();
         let got = events.try_reserve_exact(self.count);
         got.map_err(|_| Error::OutOfMemory)?;
@@ -167,10 +176,11 @@ impl Reading {
     }
 
     /// Writes the events from this one on, as many as fit. Returns how many were written.
-    fn copy(&mut self, from: usize, room: &mut [MaybeUninit<Event>]) -> usize {
+    fn copy(&self, from: usize, room: &mut [MaybeUninit<Event>]) -> usize {
         let records = room.as_mut_ptr().cast::<Record>();
-        // SAFETY: the reading is as a call of the library left it, and the room is that of a reference. An event is a record.
-        unsafe { limecove_sys::limecove_copy(&mut self.reading, from, records, room.len()) }
+        // SAFETY: the reading is as a call of the library left it, and no other call has it: it is not `Sync`, and the library calls
+        // nothing of this program but the allocator, which has no reading. The room is that of a reference. An event is a record.
+        unsafe { limecove_sys::limecove_copy(self.reading.get(), from, records, room.len()) }
     }
 }
 
@@ -186,7 +196,7 @@ fn numbers_of(options: &TextOptions) -> limecove_sys::TextOptions {
 impl Drop for Reading {
     fn drop(&mut self) {
         // SAFETY: the reading is as a call of the library left it.
-        unsafe { limecove_sys::limecove_close(&mut self.reading) }
+        unsafe { limecove_sys::limecove_close(self.reading.get_mut()) }
     }
 }
 
@@ -196,7 +206,7 @@ impl fmt::Debug for Reading {
     }
 }
 
-impl<'a> IntoIterator for &'a mut Reading {
+impl<'a> IntoIterator for &'a Reading {
     type Item = Event;
     type IntoIter = Iter<'a>;
 
@@ -209,9 +219,9 @@ impl<'a> IntoIterator for &'a mut Reading {
 const ROOM: usize = 32;
 
 /// The events of a [`Reading`], in their order.
-#[derive(Debug)]
+#[derive(Clone, Debug)]
 pub struct Iter<'a> {
-    reading: &'a mut Reading,
+    reading: &'a Reading,
     next: usize,
     copied: usize,
     room: [MaybeUninit<Event>; ROOM],

@@ -1,7 +1,8 @@
 //! The spans of a document as a tree, and what they say: levels of headings, info strings, text.
 
 use crate::references::{character_reference, numeric};
-use crate::{tokenize, Error, Event, Kind, Name, Options, Span, TabSize};
+use crate::{tokenize, Error, Event, Kind, Name, Options, Span, TextOptions};
+use limecove_sys::{CHARACTER_ESCAPE, CHARACTER_REFERENCE};
 use std::fmt;
 use std::iter::FusedIterator;
 use std::ops::Range;
@@ -21,7 +22,8 @@ use std::str;
 #[derive(Clone)]
 pub struct Tree<'a> {
     document: &'a [u8],
-    tab_size: TabSize,
+    /// How text was read.
+    text: TextOptions,
     places: Vec<Place>,
 }
 
@@ -51,7 +53,7 @@ impl<'a> Tree<'a> {
     ) -> Result<Tree<'a>, Error> {
         let events = tokenize(document, options)?;
         let mut tree = Tree::new(document, &events)?;
-        tree.tab_size = options.text.tab_size;
+        tree.text = options.text;
         Ok(tree)
     }
 
@@ -101,7 +103,7 @@ impl<'a> Tree<'a> {
         }
         Ok(Tree {
             document: document.as_ref(),
-            tab_size: TabSize::default(),
+            text: TextOptions::default(),
             places,
         })
     }
@@ -244,7 +246,7 @@ impl<'a> Node<'a> {
             Name::CodeFenced => self.child(Name::CodeFencedFence),
             _ => None,
         };
-        let (mut text, mut blanks) = (Text(Vec::new()), None);
+        let (mut text, mut blanks) = (Text::new(), None);
         for part in fence.iter().flat_map(Node::children) {
             match part.name() {
                 Name::CodeFencedFenceInfo => text.add_nodes(&part)?,
@@ -282,7 +284,7 @@ impl<'a> Node<'a> {
     ///
     /// If it runs out of memory.
     pub fn decoded(&self) -> Result<Vec<u8>, Error> {
-        let mut text = Text(Vec::new());
+        let mut text = Text::new();
         text.add_node(self)?;
         Ok(text.0)
     }
@@ -329,10 +331,18 @@ impl<'a> Iterator for Nodes<'a> {
 impl FusedIterator for Nodes<'_> {}
 
 /// Text that is decoded. What it adds fails if memory runs out.
-struct Text(Vec<u8>);
+pub(crate) struct Text(Vec<u8>);
 
 impl Text {
-    fn add_bytes(&mut self, bytes: &[u8]) -> Result<(), Error> {
+    pub(crate) fn new() -> Text {
+        Text(Vec::new())
+    }
+
+    pub(crate) fn into_bytes(self) -> Vec<u8> {
+        self.0
+    }
+
+    pub(crate) fn add_bytes(&mut self, bytes: &[u8]) -> Result<(), Error> {
         let got = self.0.try_reserve(bytes.len());
         got.map_err(|_| Error::OutOfMemory)?;
         self.0.extend_from_slice(bytes);
@@ -340,7 +350,7 @@ impl Text {
     }
 
     /// Adds text of a document: NUL is U+FFFD.
-    fn add_text(&mut self, text: &[u8]) -> Result<(), Error> {
+    pub(crate) fn add_text(&mut self, text: &[u8]) -> Result<(), Error> {
         for (at, part) in text.split(|byte| *byte == 0).enumerate() {
             if at > 0 {
                 self.add_bytes("\u{fffd}".as_bytes())?;
@@ -387,7 +397,12 @@ impl Text {
                     self.add_nodes(&text)?;
                 }
             }
-            Name::HtmlText | Name::HtmlFlow | Name::CodeFencedFence => {}
+            Name::HtmlText
+            | Name::HtmlFlow
+            | Name::CodeFencedFence
+            | Name::Resource
+            | Name::Reference
+            | Name::Definition => {}
             _ => return Ok(false),
         }
         Ok(true)
@@ -408,6 +423,71 @@ impl Text {
                 None => self.add_text(reference.text()),
             },
         }
+    }
+
+    /// Adds a destination or a title: its lines, without the white space with which a further line begins.
+    pub(crate) fn add_string(&mut self, string: Option<Node<'_>>) -> Result<(), Error> {
+        let mut is_start = false;
+        for part in string.iter().flat_map(Node::children) {
+            let mut text = part.text();
+            while let (true, [b' ' | b'\t', rest @ ..]) = (is_start, text) {
+                text = rest;
+            }
+            match part.name() {
+                Name::Data => self.add_unescaped(text, &part.tree.text)?,
+                Name::LineEnding | Name::CharacterEscape | Name::CharacterReference => {
+                    self.add_node(&part)?;
+                }
+                // a prefix of a line, which then still starts
+                _ => continue,
+            }
+            is_start = part.name() == Name::LineEnding;
+        }
+        Ok(())
+    }
+
+    /// Adds text in which escapes and references are no spans, with what those stand for that are on.
+    fn add_unescaped(&mut self, mut text: &[u8], options: &TextOptions) -> Result<(), Error> {
+        while let Some(at) = text.iter().position(|byte| matches!(byte, b'\\' | b'&')) {
+            self.add_text(&text[..at])?;
+            text = &text[at..];
+            let is_on = |bit| options.constructs & bit != 0;
+            let size = match text {
+                [b'\\', mark, ..] if mark.is_ascii_punctuation() && is_on(CHARACTER_ESCAPE) => {
+                    self.add_bytes(&[*mark])?;
+                    2
+                }
+                [b'&', ..] if is_on(CHARACTER_REFERENCE) => self.add_first_reference(text)?,
+                _ => 0,
+            };
+            if size == 0 {
+                self.add_bytes(&text[..1])?;
+            }
+            text = &text[size.max(1)..];
+        }
+        self.add_text(text)
+    }
+
+    /// Adds the characters of the reference that text begins with. Returns its size: 0 if there is none.
+    fn add_first_reference(&mut self, text: &[u8]) -> Result<usize, Error> {
+        // the longest name has 31 bytes
+        let near = &text[1..text.len().min(34)];
+        let end = near.iter().position(|byte| *byte == b';');
+        let inner = match end.and_then(|end| str::from_utf8(&near[..end]).ok()) {
+            Some(inner) => inner,
+            None => return Ok(0),
+        };
+        let mut room = [0; 4];
+        let characters = match inner.strip_prefix('#') {
+            // seven digits, or an x and six
+            Some(digits) if digits.len() <= 7 => {
+                numeric(digits).map(|character| &*character.encode_utf8(&mut room))
+            }
+            Some(_) => None,
+            None => character_reference(inner),
+        };
+        self.add_bytes(characters.unwrap_or_default().as_bytes())?;
+        Ok(characters.map_or(0, |_| inner.len() + 2))
     }
 
     /// Adds the text of a code span: line endings are spaces, blanks at the start of a line are none of it, and a space at both ends
@@ -462,7 +542,7 @@ impl Text {
         if start.vs == 0 {
             return self.add_text(text);
         }
-        let size = chunk.tree.tab_size.get();
+        let size = chunk.tree.text.tab_size.get();
         for _ in start.column.saturating_sub(1) % size..size {
             self.add_bytes(b" ")?;
         }

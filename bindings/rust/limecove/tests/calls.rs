@@ -1,8 +1,8 @@
 //! Calls each function of the static library through its wrapper.
 
 use limecove::{
-    spans, spans_by_start, tokenize, tokenize_text, tokenize_text_in, Content, Error, Link,
-    Machine, Name, Options, TabSize, TextOptions, UnknownName,
+    spans, spans_by_start, tokenize, tokenize_text, tokenize_text_in, Content, Error, Machine,
+    Name, Options, Reading, TabSize, TextOptions, UnknownName,
 };
 use std::collections::HashSet;
 use std::num::NonZeroUsize;
@@ -79,7 +79,7 @@ fn ranges_are_read_as_one_text() {
         ]
     );
     assert_eq!(tokenize_text_in(document, &[], &text), Ok(Vec::new()));
-    let whole = tokenize_text_in(document, &[0..10], &text);
+    let whole = tokenize_text_in(document, std::slice::from_ref(&(0..10)), &text);
     assert_eq!(whole, tokenize_text(document, &text));
     let backwards = std::ops::Range { start: 1, end: 0 };
     for ranges in [
@@ -99,24 +99,14 @@ fn ranges_are_read_as_one_text() {
 fn chunks_are_linked() {
     let events = tokenize(b"a\nb", &by(Machine::Paragraphs)).unwrap();
     let links: Vec<_> = events.iter().map(|event| event.link()).collect();
-    let chunk = |previous, next| {
-        Some(Link {
-            previous,
-            next,
-            content: Content::Text,
-        })
-    };
-    assert_eq!(
-        links,
-        [
-            None,
-            chunk(None, Some(3)),
-            None,
-            chunk(Some(1), None),
-            None,
-            None
-        ]
-    );
+    let text = Some(Content::Text);
+    let shown = links.iter().map(|link| match link {
+        Some(link) => (Some(link.content), link.previous, link.next),
+        None => (None, None, None),
+    });
+    let none = (None, None, None);
+    let (first, second) = ((text, None, Some(3)), (text, Some(1), None));
+    assert!(shown.eq([none, first, none, second, none, none]));
     let deep = tokenize(b"a\nb", &Options::default()).unwrap();
     assert!(deep.iter().all(|event| event.link().is_none()));
 }
@@ -260,6 +250,41 @@ fn threads_can_read_at_the_same_time() {
             scope.spawn(|| {
                 for _ in 0..100 {
                     assert_eq!(lines(b"a `b` c\nd", &Options::default()), expected);
+                }
+            });
+        }
+    });
+}
+
+/// A reading is read by shared references, in another thread too, and is closed there.
+#[test]
+fn readings_are_shared_and_sent() {
+    let document = "a `b` *c*\n".repeat(100);
+    let expected = tokenize(&document, &Options::default()).unwrap();
+    let reading = Reading::open(&document, &Options::default()).unwrap();
+    let (mut one, mut other) = (reading.iter(), (&reading).into_iter());
+    for (index, event) in expected.iter().enumerate() {
+        assert_eq!(one.next(), Some(*event));
+        assert_eq!(
+            reading.get(expected.len() - 1 - index).map(|it| it.kind()),
+            { Some(expected[expected.len() - 1 - index].kind()) }
+        );
+        assert_eq!(other.next(), Some(*event));
+        assert_eq!(one.clone().count(), expected.len() - 1 - index);
+    }
+    assert_eq!((one.next(), reading.get(expected.len())), (None, None));
+    let moved = std::thread::spawn(move || {
+        let events = reading.to_vec();
+        drop(reading);
+        events
+    });
+    assert_eq!(moved.join().unwrap(), Ok(expected.clone()));
+    let locked = std::sync::Mutex::new(Reading::open(&document, &Options::default()).unwrap());
+    std::thread::scope(|scope| {
+        for _ in 0..4 {
+            scope.spawn(|| {
+                for (index, event) in expected.iter().enumerate() {
+                    assert_eq!(locked.lock().unwrap().get(index).as_ref(), Some(event));
                 }
             });
         }

@@ -127,6 +127,7 @@ impl Ends {
         for node in tree.nodes() {
             self.of_call(|| node.decoded());
             self.of_call(|| node.fence_info());
+            self.of_call(|| Ok(node.link()?.map(|to| (to.destination, to.title))));
         }
         self.of_call(|| Ok(LineIndex::new(document)?.line_count()));
     }
@@ -177,6 +178,9 @@ fn main() {
     }
     assert!(ends.out > 0 && ends.read > 0);
     let document = "# a *b* &nGt; ` c `\n\n~~~ d\\* e &amp;\n\tf\0\n~~~\n    g\n";
+    let events = tokenize(document, &Options::default()).expect("there is memory");
+    ends.of_tree(document, &events);
+    let document = "[a](b\\*c&copy; 'd &amp; e') ![f](<g>) <h:i> <j@k.l>";
     let events = tokenize(document, &Options::default()).expect("there is memory");
     ends.of_tree(document, &events);
     println!(

@@ -1,8 +1,8 @@
 //! What trees say of documents that the library reads.
 
 use limecove::{
-    spans_by_start, tokenize, with_ranges, Kind, LineIndex, Machine, Name, Options, TabSize,
-    TextOptions, Tree,
+    spans_by_start, tokenize, with_ranges, Kind, LineIndex, ListMarker, Machine, Name, Options,
+    TabSize, TextOptions, Tree,
 };
 
 /// The text of each span of these names, decoded.
@@ -111,6 +111,101 @@ fn prefixes_are_no_text() {
     }
 }
 
+/// What a list is, by CommonMark's words: marker, start, tightness.
+#[test]
+fn lists_are_known() {
+    use ListMarker::{Dash, Parenthesis, Period, Plus, Star};
+    let options = Options::default().machine(Machine::Document);
+    for (document, want) in [
+        ("- a\n- b", vec![(Dash, None, true)]),
+        ("+ a\n\n+ b", vec![(Plus, None, false)]),
+        ("* a\n\n  b", vec![(Star, None, false)]),
+        ("- a\n\n\nb", vec![(Dash, None, true)]),
+        ("-\n\n- a", vec![(Dash, None, false)]),
+        ("-\n- a", vec![(Dash, None, true)]),
+        ("0. a", vec![(Period, Some(0), true)]),
+        ("123456789) a", vec![(Parenthesis, Some(123_456_789), true)]),
+        ("- ~~~\n\n  ~~~\n- b", vec![(Dash, None, true)]),
+        ("- a\n  > b\n  >\n- c", vec![(Dash, None, true)]),
+        (
+            "- a\n- b\n+ c",
+            vec![(Dash, None, true), (Plus, None, true)],
+        ),
+        (
+            "- a\n\n  - b\n",
+            vec![(Dash, None, false), (Dash, None, true)],
+        ),
+        (
+            "- a\n  1. b\n\n  2. c\n",
+            vec![(Dash, None, true), (Period, Some(1), false)],
+        ),
+        ("> - a\n>\n> - b", vec![(Dash, None, false)]),
+        ("a", vec![]),
+    ] {
+        let tree = Tree::read(document, &options).unwrap();
+        let lists = tree.nodes().filter_map(|node| node.list());
+        let found: Vec<_> = lists.map(|it| (it.marker, it.start, it.is_tight)).collect();
+        assert_eq!(found, want, "{:?}", document);
+        for list in tree.nodes().filter_map(|node| node.list()) {
+            assert_eq!(list.is_ordered(), matches!(list.marker.byte(), b'.' | b')'));
+        }
+    }
+}
+
+/// Destination, title and label of the links and images of a document.
+fn targets(document: &str, options: &Options) -> Vec<[String; 3]> {
+    let tree = Tree::read(document, options).unwrap();
+    let found = tree.nodes().filter_map(|node| node.link().unwrap());
+    let text = |bytes: Vec<u8>| String::from_utf8(bytes).unwrap();
+    found
+        .map(|it| {
+            let title = it.title.map_or("-".to_string(), text);
+            let label = it.label.map(|label| label.decoded().unwrap());
+            [
+                text(it.destination),
+                title,
+                label.map_or("-".to_string(), text),
+            ]
+        })
+        .collect()
+}
+
+/// As CommonMark's rules for links have it.
+#[test]
+fn links_have_targets() {
+    let options = Options::default().machine(Machine::Document);
+    for (document, want) in [
+        ("[a](b)", [["b", "-", "a"]].to_vec()),
+        ("![*a* `b`](<c d> 'e')", vec![["c d", "e", "a b"]]),
+        ("[]()", vec![["", "-", "-"]]),
+        ("[a](<> \"\")", vec![["", "", "a"]]),
+        (
+            "[a](b\\)\\c&amp;&#x41;&#65;&no;&#x1234567; (t\\\"&copy;))",
+            vec![["b)\\c&AA&no;&#x1234567;", "t\"\u{a9}", "a"]],
+        ),
+        ("[a](b&amp\\;&)", vec![["b&amp;&", "-", "a"]]),
+        ("> [a](b\n> 'c\n>   d')", vec![["b", "c\nd", "a"]]),
+        ("[![a](b)](c)", vec![["c", "-", "a"], ["b", "-", "a"]]),
+        (
+            "<http://a.b?c&amp;\\*> <d@e.f>",
+            vec![
+                ["http://a.b?c&amp;\\*", "-", "http://a.b?c&amp;\\*"],
+                ["mailto:d@e.f", "-", "d@e.f"],
+            ],
+        ),
+        ("`[a](b)` \\[c](d)", vec![]),
+    ] {
+        assert_eq!(targets(document, &options), want, "{:?}", document);
+    }
+    let text = TextOptions::default();
+    let plain = options.text(text.character_escape(false).character_reference(false));
+    assert_eq!(targets("[a](\\*&lt;)", &plain), [["\\*&lt;", "-", "a"]]);
+    assert_eq!(
+        decoded("a [b *c*](d 'e') ![f](g)", &[Name::Paragraph]),
+        ["a b c f"]
+    );
+}
+
 const DOCUMENT: &str = "# a *b **c** d*\r\n\n~~~ x\r`e\n~~~\nf `g\nh` é\n<!--\n-->\n\n    i\n";
 
 #[test]
@@ -159,7 +254,7 @@ fn trees_have_all_spans() {
 /// Random bytes: nothing panics, what is decoded is UTF-8 if the document is, and lines are those of points.
 #[test]
 fn random_documents_have_trees() {
-    const PIECES: [&[u8]; 24] = [
+    const PIECES: [&[u8]; 32] = [
         b"a",
         b"\xc3\xa9",
         b"\xff",
@@ -184,6 +279,14 @@ fn random_documents_have_trees() {
         b"<b>",
         b"<c:d>",
         b"    ",
+        b"- ",
+        b"1. ",
+        b"> ",
+        b"[",
+        b"](",
+        b"<",
+        b")",
+        b" \"",
     ];
     let mut state = 1_u32;
     let mut below = move |n: usize| {
@@ -195,9 +298,14 @@ fn random_documents_have_trees() {
             .map(|_| PIECES[below(PIECES.len())])
             .collect();
         let document = pieces.concat();
-        let tree = Tree::read(&document, &Options::default()).unwrap();
+        let options = Options::default().machine(Machine::Document);
+        let tree = Tree::read(&document, &options).unwrap();
         let lines = LineIndex::new(&document).unwrap();
         for node in tree.nodes() {
+            let is_list = matches!(node.name(), Name::ListOrdered | Name::ListUnordered);
+            assert_eq!(node.list().is_some(), is_list);
+            let is_link = matches!(node.name(), Name::Link | Name::Image | Name::Autolink);
+            assert_eq!(node.link().unwrap().is_some(), is_link);
             let text = node.decoded().unwrap();
             let info = node.fence_info().unwrap().unwrap_or_default();
             if std::str::from_utf8(&document).is_ok() {
