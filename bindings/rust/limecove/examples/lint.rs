@@ -1,64 +1,221 @@
-//! A linter: `lint FILE..` prints each blank at the end of a line, each line of more than 120 characters, each bare address, each heading
-//! that skips a level, and each block of fenced code without a language. The status is 1 if there are any.
+//! A linter: `lint FILE..` prints what ten rules find, each by the name that markdownlint has for it. The status is 1 if there is anything.
 //!
-//! What is in code, in autolinks and in raw HTML is not looked at: each rule is one of spans.
+//! MD001 a heading skips a level. MD004 bullets differ. MD009 blanks end a line, and are not the two of a hard break. MD010 a tab. MD012 two
+//! blank lines. MD013 a line has more than 120 characters. MD034 a bare address. MD040 fenced code names no language. MD042 a link goes
+//! nowhere. MD045 an image has no description.
+//!
+//! They hold in quotes and lists too. What is in code and in raw HTML is not looked at. A line that begins as a definition may have a bare
+//! address: no definitions are read yet. It takes time in proportion to the document, in any nesting.
 
-use limecove::{Error, LineIndex, Machine, Name, Options, Tree};
+use limecove::{Error, LineIndex, ListMarker, Machine, Name, Node, Options, Tree};
 use std::collections::HashSet;
 use std::{env, fs, process};
 
 const LONGEST: usize = 120;
 
-/// Whether a span holds code, an address or raw HTML: a line with it may be long.
-fn is_quoted(name: Name) -> bool {
-    use Name::{Autolink, CodeFenced, CodeIndented, CodeText, HtmlFlow, HtmlText};
-    matches!(
-        name,
-        Autolink | CodeFenced | CodeIndented | CodeText | HtmlFlow | HtmlText
-    )
-}
-
 /// What is wrong in a document, in the order of its bytes: line, column in characters, and what.
 fn findings(document: &str) -> Result<Vec<String>, Error> {
     let tree = Tree::read(document, &Options::default().machine(Machine::Document))?;
     let lines = LineIndex::new(document)?;
-    let (mut all, mut quoted, mut last) = (Vec::new(), HashSet::new(), 6);
+    let mut linter = Linter::new(document, &lines);
     for node in tree.nodes() {
-        let (name, at, behind) = (node.name(), node.bytes().start, node.bytes().end);
-        if is_quoted(name) {
-            quoted.extend(lines.line_column(at).line..=lines.line_column(behind).line);
-        }
-        if let Some(level) = node.heading_level() {
-            if level > last + 1 {
-                all.push((at, "a heading that skips a level"));
-            }
-            last = level;
-        }
-        if name == Name::CodeFenced && node.fence_info()?.is_none() {
-            all.push((at, "fenced code without a language"));
-        }
-        let ends = document[behind..].is_empty() || document[behind..].starts_with(['\r', '\n']);
-        if ends && matches!(name, Name::SpaceOrTab | Name::HardBreakTrailing) {
-            all.push((at, "blanks at the end of a line"));
-        }
-        if name == Name::Data {
-            for scheme in ["https://", "http://"] {
-                let found = document[node.bytes()].match_indices(scheme);
-                all.extend(found.map(|(from, _)| (at + from, "an address without < and >")));
-            }
-        }
+        linter.node(&node)?;
     }
-    for (number, bytes) in (1..).map_while(|number| Some((number, lines.line(number)?))) {
-        let long = document[bytes.clone()].char_indices().nth(LONGEST);
-        if let (Some((from, _)), false) = (long, quoted.contains(&number)) {
-            all.push((bytes.start + from, "a line of more than 120 characters"));
-        }
-    }
-    all.sort_unstable();
-    let shown = all.iter();
+    linter.long_lines();
+    linter.found.sort_unstable();
+    let shown = linter.found.iter();
     Ok(shown
         .map(|(at, what)| format!("{}: {}", lines.line_column(*at), what))
         .collect())
+}
+
+/// What has been seen of a document.
+struct Linter<'a> {
+    document: &'a str,
+    lines: &'a LineIndex<'a>,
+    found: Vec<(usize, &'static str)>,
+    /// Where the last code or raw HTML ends, and the last fence.
+    code: usize,
+    fence: usize,
+    /// Where the last link ends.
+    link: usize,
+    /// The level of the last heading.
+    level: u8,
+    /// The first bullet.
+    bullet: Option<ListMarker>,
+    /// The number of the last blank line, and how many are before it.
+    blank: (usize, usize),
+    /// The number of the line that was last looked at, and whether it begins as a definition.
+    defined: (usize, bool),
+    /// The numbers of lines that may be long.
+    long: HashSet<usize>,
+}
+
+impl<'a> Linter<'a> {
+    fn new(document: &'a str, lines: &'a LineIndex<'a>) -> Linter<'a> {
+        Linter {
+            document,
+            lines,
+            found: Vec::new(),
+            code: 0,
+            fence: 0,
+            link: 0,
+            level: 6,
+            bullet: None,
+            blank: (0, 0),
+            defined: (0, false),
+            long: HashSet::new(),
+        }
+    }
+
+    fn say(&mut self, at: usize, what: &'static str) {
+        self.found.push((at, what));
+    }
+
+    /// Whether what begins here is in code or raw HTML. The line of a fence is not.
+    fn is_in_code(&self, at: usize) -> bool {
+        at < self.code && at >= self.fence
+    }
+
+    /// Looks at a span. Those in it come behind it.
+    fn node(&mut self, node: &Node<'_>) -> Result<(), Error> {
+        use Name::{CodeFenced, CodeIndented, CodeText, HtmlFlow, HtmlText};
+        let (name, bytes) = (node.name(), node.bytes());
+        match name {
+            CodeFenced | CodeIndented | CodeText | HtmlFlow | HtmlText => self.code = bytes.end,
+            Name::CodeFencedFence => self.fence = bytes.end,
+            Name::Link => self.link = bytes.end,
+            _ => {}
+        }
+        if node.heading_level().is_some() {
+            self.heading(node);
+        } else if name == CodeFenced && node.fence_info()?.is_none() {
+            self.say(bytes.start, "MD040 fenced code without a language");
+        } else if matches!(name, Name::Link | Name::Image) {
+            self.link(node)?;
+        } else if name == Name::ListUnordered {
+            self.list(node);
+        } else if name == Name::BlankLineEnding {
+            self.blank_line(node);
+        } else if name.is_void() && !self.is_in_code(bytes.start) {
+            self.blanks(node);
+            self.addresses(node);
+        }
+        let is_long = matches!(
+            name,
+            CodeFenced | CodeIndented | CodeText | HtmlFlow | HtmlText
+        );
+        if is_long || matches!(name, Name::Autolink | Name::Resource) {
+            let line = |at| self.lines.line_column(at).line;
+            self.long.extend(line(bytes.start)..=line(bytes.end));
+        }
+        Ok(())
+    }
+
+    fn heading(&mut self, node: &Node<'_>) {
+        let level = node.heading_level().unwrap_or(self.level);
+        if level > self.level + 1 {
+            self.say(node.bytes().start, "MD001 a heading that skips a level");
+        }
+        self.level = level;
+    }
+
+    fn link(&mut self, node: &Node<'_>) -> Result<(), Error> {
+        let at = node.bytes().start;
+        let target = match node.link()? {
+            Some(target) => target,
+            None => return Ok(()),
+        };
+        if node.name() == Name::Link {
+            if matches!(target.destination.as_slice(), b"" | b"#") {
+                self.say(at, "MD042 a link that goes nowhere");
+            }
+            return Ok(());
+        }
+        let words = target
+            .label
+            .map_or(Ok(Vec::new()), |label| label.decoded())?;
+        if words.iter().all(u8::is_ascii_whitespace) {
+            self.say(at, "MD045 an image without a description");
+        }
+        Ok(())
+    }
+
+    fn list(&mut self, node: &Node<'_>) {
+        let marker = node.list().map(|list| list.marker);
+        self.bullet = self.bullet.or(marker);
+        if marker != self.bullet {
+            let at = node.bytes().start;
+            self.say(at, "MD004 a bullet that differs from the first one");
+        }
+    }
+
+    fn blank_line(&mut self, node: &Node<'_>) {
+        let (at, line) = (node.bytes().start, node.span().start.line);
+        if self.is_in_code(at) {
+            return;
+        }
+        let (last, before) = self.blank;
+        let before = if line == last + 1 && last > 0 {
+            before + 1
+        } else {
+            0
+        };
+        self.blank = (line, before);
+        if before == 1 {
+            self.say(at, "MD012 more than one blank line");
+        }
+    }
+
+    /// Tabs, and blanks at the end of a line.
+    fn blanks(&mut self, node: &Node<'_>) {
+        let (at, text) = (node.bytes().start, node.text());
+        if let Some(tab) = text.iter().position(|byte| *byte == b'\t') {
+            self.say(at + tab, "MD010 a tab");
+        }
+        let behind = self.document.as_bytes().get(node.bytes().end);
+        let ends = matches!(behind, None | Some(b'\r' | b'\n'));
+        let is_break = node.name() == Name::HardBreakTrailing;
+        if ends && (node.name() == Name::SpaceOrTab || is_break && text.len() != 2) {
+            self.say(at, "MD009 blanks at the end of a line");
+        }
+    }
+
+    fn addresses(&mut self, node: &Node<'_>) {
+        let bytes = node.bytes();
+        if node.name() != Name::Data || bytes.start < self.link {
+            return;
+        }
+        for scheme in ["https://", "http://"] {
+            for (from, _) in self.document[bytes.clone()].match_indices(scheme) {
+                if !self.is_defined(bytes.start) {
+                    self.say(bytes.start + from, "MD034 an address without < and >");
+                }
+            }
+        }
+    }
+
+    /// Whether the line of this byte begins as a definition does, behind the marks of quotes and lists.
+    fn is_defined(&mut self, at: usize) -> bool {
+        let number = self.lines.line_column(at).line;
+        if self.defined.0 != number {
+            let line = self.lines.line(number).unwrap_or(0..0);
+            let text = self.document[line].trim_start_matches([' ', '\t', '>', '-', '*', '+']);
+            self.defined = (number, text.starts_with('[') && text.contains("]:"));
+        }
+        self.defined.1
+    }
+
+    fn long_lines(&mut self) {
+        let lines = self.lines;
+        for (number, bytes) in (1..).map_while(|number| Some((number, lines.line(number)?))) {
+            let long = self.document[bytes.clone()].char_indices().nth(LONGEST);
+            if let (Some((from, _)), false) = (long, self.long.contains(&number)) {
+                let what = "MD013 a line of more than 120 characters";
+                self.say(bytes.start + from, what);
+            }
+        }
+    }
 }
 
 fn main() {
@@ -77,56 +234,107 @@ fn main() {
 mod tests {
     use super::*;
 
+    /// Places and names of what is found, without words.
+    fn found(document: &str) -> String {
+        let all = findings(document).unwrap();
+        let short = all
+            .iter()
+            .map(|it| it.splitn(3, ' ').take(2).collect::<Vec<_>>().join(" "));
+        short.collect::<Vec<_>>().join(", ")
+    }
+
     #[test]
-    fn prose_is_looked_at() {
+    fn each_rule_finds_what_it_is_for() {
         let long = "é".repeat(121);
-        let document = format!("a \nb\t\r\nsee http://c.d\n{}\n", long);
-        let want = [
-            "1:2: blanks at the end of a line",
-            "2:2: blanks at the end of a line",
-            "3:5: an address without < and >",
-            "4:121: a line of more than 120 characters",
-        ];
-        assert_eq!(findings(&document).unwrap(), want);
+        for (document, want) in [
+            (
+                "# a\n\n### b\n\nc\n===\n\n### d\n",
+                "3:1: MD001, 8:1: MD001",
+            ),
+            ("## a\n\n### b\n\n# c\n", ""),
+            (
+                "- a\n\n1. b\n\n+ c\n\n- d\n\n* e\n",
+                "5:1: MD004, 9:1: MD004",
+            ),
+            ("- a\n  - b\n    * c\n", "3:5: MD004"),
+            (
+                "a \nb  \nc   \nd\t\ne  \n",
+                "1:2: MD009, 3:2: MD009, 4:2: MD009, 4:2: MD010, 5:2: MD009",
+            ),
+            ("a\tb\n\n-\tc\n", "1:2: MD010, 3:2: MD010"),
+            ("a\n\n\n\nb\n\nc\n\n\n", "3:1: MD012, 9:1: MD012"),
+            (&format!("{}\n", long), "1:121: MD013"),
+            ("a http://b.c *https://d*\n", "1:3: MD034, 1:15: MD034"),
+            ("```\na\n```\n\n~~~ b\n~~~\n", "1:1: MD040"),
+            (
+                "[a]() [b](#) [c](<>) [d](#e) [](f)\n",
+                "1:1: MD042, 1:7: MD042, 1:14: MD042",
+            ),
+            (
+                "![](a) ![ ](b) ![*c*](d) [![](e)](f)\n",
+                "1:1: MD045, 1:8: MD045, 1:27: MD045",
+            ),
+        ] {
+            assert_eq!(found(document), want, "{:?}", document);
+        }
+        let said = ["1:1: MD042 a link that goes nowhere"];
+        assert_eq!(findings("[a]()").unwrap(), said);
     }
 
     #[test]
-    fn quotes_and_items_are_looked_into() {
-        let document = "> a \n> \n-\t# b\n\n\t### c\n\n      d http://e.f\n";
-        let want = [
-            "1:4: blanks at the end of a line",
-            "2:2: blanks at the end of a line",
-            "5:2: a heading that skips a level",
-            "7:9: an address without < and >",
-        ];
-        assert_eq!(findings(document).unwrap(), want);
-        assert_eq!(findings("> ~~~ x\n> c \n> ~~~").unwrap(), [""; 0]);
+    fn quotes_and_lists_are_looked_into() {
+        let long = "é".repeat(121);
+        for (document, want) in [
+            ("> # a\n>\n> - ### b\n", "3:5: MD001"),
+            ("> - a\n\n1. + b\n", "3:4: MD004"),
+            ("> a \n> \n- b \n", "1:4: MD009, 2:2: MD009, 3:4: MD009"),
+            ("> - a\tb\n", "1:6: MD010"),
+            ("> a\n>\n>\n> b\n\n- c\n\n\n  d\n", "3:2: MD012, 8:1: MD012"),
+            (&format!("> - {}\n", long), "1:121: MD013"),
+            (
+                "> a\n> http://b.c\n\n- d http://e\n",
+                "2:3: MD034, 4:5: MD034",
+            ),
+            (
+                "> ```\n> a\n> ```\n\n- ~~~\n  b\n",
+                "1:3: MD040, 5:3: MD040",
+            ),
+            ("> [a\n> b]()\n\n- ![](c)\n", "1:3: MD042, 4:3: MD045"),
+        ] {
+            assert_eq!(found(document), want, "{:?}", document);
+        }
     }
 
     #[test]
-    fn code_autolinks_and_html_are_not() {
+    fn code_and_html_are_not() {
         let long = "c".repeat(121);
         for document in [
-            "`a \nb` <http://c.d> `http://e.f`\n",
-            "~~~ sh\nwget http://a.b \n~~~\n\n    http://c.d \n",
-            "<a href=\"http://b.c\">d</a>\n\n<!-- \nhttp://e.f\n-->\n",
-            &format!("`{}`\n\n    {}\n", long, long),
+            "~~~ sh\nwget http://a.b \n\n\n\tc\n### d\n- e\n* f\n[g]() ![](h)\n~~~\n",
+            "> ~~~ x\n> c \n> \n>\n>\n> \thttp://d\n> ~~~\n",
+            "- ~~~ x\n  a \n\n\n  \tb\n  ~~~\n",
+            "    http://c.d \n\n\n    \te\n",
+            "- a\n\n      [b]() \n      http://c\n",
+            "`a \nb` `\t` `[c](d)` `http://e.f` <http://g.h>\n",
+            "<a href=\"http://b.c\">d</a> <b\tc>\n\n<!-- \nhttp://e.f\t\n\n\n-->\n",
+            "[http://a](b) [a]: http://b\n",
+            "[a]: http://b\n\n> [c]: https://d\n",
+            &format!("`{}`\n\n    {}\n\n[a](http://{})\n", long, long, long),
         ] {
-            assert_eq!(findings(document).unwrap(), [""; 0], "{}", document);
+            assert_eq!(findings(document).unwrap(), [""; 0], "{:?}", document);
         }
-        assert_eq!(
-            findings("\\`a \n").unwrap(),
-            ["1:4: blanks at the end of a line"]
-        );
+        assert_eq!(found("\\`a \n"), "1:4: MD009");
+        assert_eq!(found("``` x \na \n```\n"), "1:6: MD009");
     }
 
+    /// Nothing is lost to lines that end otherwise, or to a document that ends early.
     #[test]
-    fn headings_and_fences_are_looked_at() {
-        let document = "## a\n### b\n\nc\n===\n#### d\n\n```\ne \n```\n\n``` sh\nf\n";
-        let want = [
-            "6:1: a heading that skips a level",
-            "8:1: fenced code without a language",
-        ];
-        assert_eq!(findings(document).unwrap(), want);
+    fn endings_make_no_difference() {
+        let document = "# a \n\n\n### b\tc\n\n- d\n* http://e";
+        let want = found(document);
+        assert!(want.contains("MD009") && want.contains("MD034"));
+        for ending in ["\r\n", "\r"] {
+            assert_eq!(found(&document.replace('\n', ending)), want);
+        }
+        assert_eq!(found(""), "");
     }
 }
