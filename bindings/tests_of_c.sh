@@ -23,9 +23,11 @@ cc -std=c11 -Wall -Wextra -pedantic -Werror -o "$work/layout" layout.c "$archive
 cc -x c++ -std=c++11 -Wall -Wextra -pedantic -Werror -c -o "$work/layout.o" layout.c
 cc -o "$work/layout" "$work/layout.o" "$archive"
 "$work/layout"
-say "the example in C"
-cc -std=c99 -Wall -Wextra -pedantic -Werror -o "$work/example" example.c "$archive"
-"$work/example" | diff example.out -
+say "the examples in C"
+for example in example outline; do
+    cc -std=c99 -Wall -Wextra -pedantic -Werror -o "$work/$example" $example.c "$archive"
+    "$work/$example" | diff $example.out -
+done
 
 compiler=cc
 command -v clang >/dev/null && compiler=clang
@@ -37,6 +39,17 @@ for sanitizer in address undefined; do
         say "$compiler has no $sanitizer sanitizer here"
     fi
 done
+say "the outline of a file, and of none, under:$sanitize"
+# shellcheck disable=SC2086
+$compiler -std=c99 -g -Wall -Wextra -Werror $sanitize -o "$work/outline" outline.c "$archive"
+printf '> # a\n>\n> b\r\n>  > e\n> ===\n- [c](<d>)\n' >"$work/file"
+"$work/outline" "$work/file" | tr '\n' '|' | grep -qx 'a|        a list|        to d|'
+printf '> # a #\n>\n> b\r\n>   e\n> ===\n- [c](<d>)\n' >"$work/file"
+"$work/outline" "$work/file" | tr '\n' '|' | grep -qx 'a|b e|        a list|        to d|'
+: >"$work/file"
+test -z "$("$work/outline" "$work/file")"
+if "$work/outline" "$work/none" 2>"$work/said"; then exit 1; fi
+grep -q 'cannot be read' "$work/said"
 say "every room, under:$sanitize"
 # shellcheck disable=SC2086
 $compiler -std=c99 -g -Wall -Wextra -Werror $sanitize -o "$work/rooms" rooms.c "$archive"
