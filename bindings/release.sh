@@ -58,13 +58,17 @@ The library was proved and built from its sources by \`bindings/build.sh\`; this
 - C: \`cc -Iinclude prog.c lib/liblimecove.a\`, or \`cc prog.c \$(PKG_CONFIG_PATH=lib/pkgconfig pkg-config --cflags --libs limecove)\`, which
   links \`lib/liblimecove.so.$layout\`. \`include/limecove.h\` says what each function does. To install, copy \`include\` and \`lib\` to \`/usr/local\`.
 - Rust: \`limecove = { path = ".../rust/limecove" }\` in \`Cargo.toml\`. It finds \`lib\` by itself. It needs Rust 1.63.
-- \`./test.sh\` builds and runs the tests: it needs cc, and for the crates cargo. It takes a minute or two, and no network.
+- Examples: \`c/outline.c\`, and in \`rust/limecove/examples\` linters, a highlighter and a writer of HTML.
+- \`./test.sh\` compares \`SHA256SUMS\`, and builds and runs the tests: it needs cc, and for the crates cargo. It takes a minute or two, and no
+  network.
 EOF
 cat >"$out/test.sh" <<'EOF'
 #!/bin/sh
-# Builds and runs the tests of this release. Needs cc; for the crates cargo. No network.
+# Compares the checksums, and builds and runs the tests of this release. Needs cc; for the crates cargo. No network.
 set -eu
 here=$(cd "$(dirname "$0")" && pwd)
+echo "release: each file is the one that was made"
+(cd "$here" && sha256sum --quiet --check SHA256SUMS)
 export CPATH=$here/include
 "$here/c/tests_of_c.sh" "$here/include/limecove.h" "$here/lib/liblimecove.a" "$here/c" 100 40
 work=$(mktemp -d)
@@ -84,5 +88,5 @@ fi
 echo "release: all is well"
 EOF
 chmod +x "$out/test.sh"
-(cd "$out" && find . -type f | LC_ALL=C sort | xargs sha256sum >SHA256SUMS)
+(cd "$out" && find . -type f ! -name SHA256SUMS | LC_ALL=C sort | xargs sha256sum >SHA256SUMS)
 echo "$out: version $version, layout $layout"

@@ -31,4 +31,9 @@ if [ -n "${cargo:-}" ]; then
         exit 1
     fi
 fi
+echo "release: a file that was changed is found out"
+echo >>"$work/limecove/include/limecove.h"
+if alone "$work/limecove/test.sh" >"$work/log" 2>&1 || ! grep -q 'limecove.h: FAILED' "$work/log"; then
+    exit 1
+fi
 echo "release: it stands alone"

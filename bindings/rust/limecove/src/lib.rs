@@ -10,11 +10,17 @@
 //! # Ok::<(), limecove::Error>(())
 //! ```
 //!
-//! What is read are leaf blocks (headings, code, HTML, thematic breaks, paragraphs) and inline text with emphasis; by
-//! [`Machine::Document`] block quotes and lists too. Links and images are not read yet.
+//! What is read are leaf blocks (headings, code, HTML, thematic breaks, paragraphs) and inline text with links, images and emphasis; by
+//! [`Machine::Document`] block quotes and lists too. Definitions, and links by reference, are not read yet.
 //!
-//! [`tokenize`] returns events, [`spans`] and [`spans_by_start`] what is between them. [`Tree`] is for linters and the like: the spans as
-//! a tree, with levels of headings, info strings and decoded text. [`LineIndex`] gives the line and the columns of a byte.
+//! | For | Use | Time and memory |
+//! |---|---|---|
+//! | events | [`tokenize`], [`with_ranges`] | linear in the document, as measured; 56 bytes an event |
+//! | a few events at a time | [`Reading`] | the list stays in the library; the same time for each event |
+//! | spans, flat | [`spans`], [`spans_by_start`] | linear in the events, in any nesting |
+//! | spans, as a tree | [`Tree`], [`Node`] | made in linear time; about 100 bytes a span |
+//! | what a span is | [`Node::heading_level`], [`list`](Node::list), [`link`](Node::link), [`fence_info`](Node::fence_info), [`decoded`](Node::decoded) | in the size of what it looks at |
+//! | lines and columns | [`LineIndex`], both ways | made in linear time; a logarithm to look up |
 //!
 //! The crate `limecove-sys` links `liblimecove.a`. If it is not found, set `LIMECOVE_LIB` to the folder that has it.
 #![deny(missing_docs)]
