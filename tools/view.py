@@ -6,7 +6,7 @@ usage: tools/view.py FILE [--program PROGRAM] [--machine NAME] [--tab N] [-o PAG
        tools/view.py --self-test
   FILE               the document
   --program PROGRAM  mdevents, or what prints events as it does; without it, crates/mdevents/out/mdevents of this checkout
-  --machine NAME     the machine that reads the document; without it, flow
+  --machine NAME     the machine that reads the document; without it, document
   --tab N            columns between tab stops; without it, 4
   -o PAGE            where the page goes; without it, to FILE with .html behind it
   --self-test        pages of a few documents, with events that are written by hand: each shows all of its document. No program
@@ -28,14 +28,17 @@ EVENT = re.compile(r"(enter|exit) (\w+) (\d+):(\d+) \((\d+)\+(\d+)\)")
 
 STYLE = """
 :root { color-scheme: light dark; }
-body { margin: 0; display: grid; grid-template: auto 1fr / 1fr 17em; height: 100vh; font: 15px/1.5 system-ui, sans-serif; }
-header { grid-column: 1 / 3; padding: .6em 1em; border-bottom: 1px solid #8886; min-height: 3.2em; }
+body { margin: 0; display: grid; grid-template: auto 1fr / 1fr 21em; height: 100vh; font: 15px/1.5 system-ui, sans-serif; }
+header { grid-column: 1 / 3; padding: .6em 1em; border-bottom: 1px solid #8886; }
 header b { font-weight: 600; }
+/* a height of its own: what is pointed at stays under the pointer */
+#path { height: 3.1em; overflow: auto; }
 #path span { padding: 0 .35em; border-radius: .25em; }
 #path i { opacity: .6; font-style: normal; }
 main { overflow: auto; padding: 1em; font: 14px/1.75 ui-monospace, monospace; white-space: pre-wrap; overflow-wrap: anywhere; }
 aside { overflow: auto; padding: .8em 1em; border-left: 1px solid #8886; font-size: 13px; }
 aside label { display: flex; gap: .5em; align-items: center; cursor: pointer; }
+aside label span { overflow: hidden; text-overflow: ellipsis; }
 aside output { margin-left: auto; opacity: .6; }
 main span { border-radius: 2px; }
 main .on { outline: 2px solid currentColor; outline-offset: -1px; }
@@ -147,7 +150,7 @@ def page(title, document, events, tab):
     body.append(shown(document, columns, at, (len(document), 0)))
     style = "".join(f".c-{name} {{ background: {colour(name, counts)}; }}\n" for name in sorted(counts))
     legend = "".join(
-        f'<label><input type="checkbox" value="{name}" checked><span class="c-{name}">{name}</span><output>{counts[name]:,}</output></label>\n'
+        f'<label><input type="checkbox" value="{name}" checked><span class="c-{name}" title="{name}">{name}</span><output>{counts[name]:,}</output></label>\n'
         for name in sorted(counts)
     )
     return f"""<!doctype html>
@@ -185,7 +188,7 @@ def main():
     words = argparse.ArgumentParser(usage=__doc__.split("usage: ")[1].split("\n  FILE")[0])
     words.add_argument("file", nargs="?")
     words.add_argument("--program", default=f"{HERE}/crates/mdevents/out/mdevents")
-    words.add_argument("--machine", default="flow")
+    words.add_argument("--machine", default="document")
     words.add_argument("--tab", type=int, default=4)
     words.add_argument("-o", dest="page")
     words.add_argument("--self-test", action="store_true")
