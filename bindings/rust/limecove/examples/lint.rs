@@ -37,8 +37,9 @@ struct Linter<'a> {
     /// Where the last code or raw HTML ends, and the last fence.
     code: usize,
     fence: usize,
-    /// Where the last link ends.
+    /// Where the last link ends, and the last image that is in no other.
     link: usize,
+    image: usize,
     /// The level of the last heading.
     level: u8,
     /// The first bullet.
@@ -60,6 +61,7 @@ impl<'a> Linter<'a> {
             code: 0,
             fence: 0,
             link: 0,
+            image: 0,
             level: 6,
             bullet: None,
             blank: (0, 0),
@@ -120,8 +122,15 @@ impl<'a> Linter<'a> {
         self.level = level;
     }
 
+    /// Links, and images. An image in the description of another is part of its words, which are read once.
     fn link(&mut self, node: &Node<'_>) -> Result<(), Error> {
         let at = node.bytes().start;
+        if node.name() == Name::Image {
+            if at < self.image {
+                return Ok(());
+            }
+            self.image = node.bytes().end;
+        }
         let target = match node.link()? {
             Some(target) => target,
             None => return Ok(()),
@@ -233,6 +242,7 @@ fn main() {
 #[cfg(test)]
 mod tests {
     use super::*;
+    use std::time::{Duration, Instant};
 
     /// Places and names of what is found, without words.
     fn found(document: &str) -> String {
@@ -274,6 +284,7 @@ mod tests {
                 "![](a) ![ ](b) ![*c*](d) [![](e)](f)\n",
                 "1:1: MD045, 1:8: MD045, 1:27: MD045",
             ),
+            ("![![](a)](b) ![![c](d)](e)\n", "1:1: MD045"),
         ] {
             assert_eq!(found(document), want, "{:?}", document);
         }
@@ -324,6 +335,25 @@ mod tests {
         }
         assert_eq!(found("\\`a \n"), "1:4: MD009");
         assert_eq!(found("``` x \na \n```\n"), "1:6: MD009");
+    }
+
+    /// No nesting takes time of its square.
+    #[test]
+    fn hostile_documents_take_no_longer() {
+        let start = Instant::now();
+        for (before, behind) in [
+            ("![", "](a)"),
+            ("[", "](a)"),
+            ("*a **b ", " b** a*"),
+            ("> ", ""),
+        ] {
+            let document = before.repeat(20_000) + "x" + &behind.repeat(20_000);
+            assert!(findings(&document).unwrap().len() < 20);
+        }
+        for line in ["http://a *b* ", "[a](http://b) ", "- a\tb\n", "\n\n\n"] {
+            findings(&line.repeat(10_000)).unwrap();
+        }
+        assert!(start.elapsed() < Duration::from_secs(60));
     }
 
     /// Nothing is lost to lines that end otherwise, or to a document that ends early.
