@@ -103,10 +103,10 @@ impl Writer {
             }
             Name::HtmlFlow => {
                 self.new_line();
-                self.raw(node);
+                self.raw(node)?;
                 self.new_line();
             }
-            Name::HtmlText => self.raw(node),
+            Name::HtmlText => self.raw(node)?,
             Name::Autolink => self.autolink(node)?,
             Name::Image => self.image(node)?,
             // where a link goes was written at its beginning
@@ -215,19 +215,18 @@ impl Writer {
     }
 
     /// Raw HTML as it stands, or as text.
-    fn raw(&mut self, node: &Node<'_>) {
+    fn raw(&mut self, node: &Node<'_>) -> Result<(), Error> {
         for part in node.children() {
             match part.name() {
                 Name::LineEnding | Name::BlankLineEnding => self.add("\n"),
                 Name::HtmlFlowData | Name::HtmlTextData if self.allowed.raw_html => {
-                    let text = part.text().split(|byte| *byte == 0);
-                    let text: Vec<&[u8]> = text.collect();
-                    self.html.extend(text.join("\u{fffd}".as_bytes()));
+                    self.html.extend(part.cut_text()?);
                 }
-                Name::HtmlFlowData | Name::HtmlTextData => self.add_text(part.text()),
+                Name::HtmlFlowData | Name::HtmlTextData => self.add_text(&part.cut_text()?),
                 _ => {}
             }
         }
+        Ok(())
     }
 
     fn add(&mut self, html: &str) {
@@ -352,6 +351,19 @@ mod tests {
             assert_eq!(lines(document, Allowed::default()), want, "{:?}", document);
             assert_eq!(lines(document, ALL), want, "{:?}", document);
         }
+    }
+
+    /// Of a tab that is partly an item's indentation the rest is spaces.
+    #[test]
+    fn tabs_that_are_cut_are_spaces() {
+        assert_eq!(
+            lines("- <b>\n\t\t<i>", ALL),
+            "<ul>|<li>|<b>|  \t<i>|</li>|</ul>|"
+        );
+        assert_eq!(
+            lines("-\ta\n\n\t\tb", ALL),
+            "<ul>|<li>|<p>a</p>|<pre><code>b|</code></pre>|</li>|</ul>|"
+        );
     }
 
     #[test]

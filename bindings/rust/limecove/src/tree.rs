@@ -164,6 +164,27 @@ impl<'a> Node<'a> {
         self.tree.document.get(self.bytes()).unwrap_or_default()
     }
 
+    /// The bytes that it covers, as code and HTML are shown: of a tab that it begins or ends in, spaces for the columns that are its own,
+    /// and U+FFFD for NUL. It takes time in proportion to the bytes.
+    ///
+    /// ```
+    /// use limecove::{Machine, Name, Options, Tree};
+    ///
+    /// let tree = Tree::read("- <b>\n\t<i>", &Options::default().machine(Machine::Document))?;
+    /// let html = tree.nodes().filter(|node| node.name() == Name::HtmlFlowData).last().unwrap();
+    /// assert_eq!((html.text(), html.cut_text()?.as_slice()), (&b"\t<i>"[..], &b"  <i>"[..]));
+    /// # Ok::<(), limecove::Error>(())
+    /// ```
+    ///
+    /// # Errors
+    ///
+    /// If it runs out of memory.
+    pub fn cut_text(&self) -> Result<Vec<u8>, Error> {
+        let mut text = Text::new();
+        text.add_cut(self)?;
+        Ok(text.0)
+    }
+
     /// The span that holds it, if one does.
     pub fn parent(&self) -> Option<Node<'a>> {
         self.place().parent.map(|index| Node { index, ..*self })
@@ -387,7 +408,7 @@ impl Text {
             | Name::AutolinkProtocol
             | Name::AutolinkEmail
             | Name::CodeTextData => self.add_text(node.text())?,
-            Name::CodeFlowChunk => self.add_chunk(node)?,
+            Name::CodeFlowChunk => self.add_cut(node)?,
             Name::LineEnding | Name::BlankLineEnding => self.add_bytes(b"\n")?,
             Name::CharacterReference => self.add_reference(node)?,
             Name::CodeText => self.add_code_text(node)?,
@@ -518,35 +539,47 @@ impl Text {
         Ok(())
     }
 
-    /// Adds the lines of a block of code, each with a line ending.
+    /// Adds the lines of a block of code, each with a line ending. The last line is one too if only white space of it is there, which is none
+    /// of the code, unless it is that of the closing fence.
     fn add_code(&mut self, code: &Node<'_>) -> Result<(), Error> {
-        let (mut is_open, from) = (code.name() == Name::CodeIndented, self.0.len());
+        let (mut is_open, mut has_begun) = (code.name() == Name::CodeIndented, false);
         for part in code.children() {
             match part.name() {
                 // the end of the line of the opening fence
                 Name::LineEnding if !is_open => is_open = true,
-                _ => {
+                Name::LineEnding => {
+                    self.add_bytes(b"\n")?;
+                    has_begun = false;
+                }
+                name => {
                     self.add_leaf(&part)?;
+                    has_begun = is_open && name != Name::CodeFencedFence;
                 }
             }
         }
-        match self.0[from..].last() {
-            None | Some(b'\n') => Ok(()),
-            Some(_) => self.add_bytes(b"\n"),
+        match has_begun {
+            true => self.add_bytes(b"\n"),
+            false => Ok(()),
         }
     }
 
-    /// Adds a line of code. If it begins in a tab, the columns that are left of it are spaces.
-    fn add_chunk(&mut self, chunk: &Node<'_>) -> Result<(), Error> {
-        let (start, text) = (chunk.span().start, chunk.text());
-        if start.vs == 0 {
-            return self.add_text(text);
+    /// Adds the bytes of a span, with spaces for the columns of a tab that it begins or ends in.
+    fn add_cut(&mut self, node: &Node<'_>) -> Result<(), Error> {
+        let (Span { start, end, .. }, size) = (node.span(), node.tree.text.tab_size.get());
+        if start.index == end.index {
+            return self.add_spaces(end.vs.saturating_sub(start.vs));
         }
-        let size = chunk.tree.text.tab_size.get();
-        for _ in start.column.saturating_sub(1) % size..size {
-            self.add_bytes(b" ")?;
+        let mut text = node.text();
+        if start.vs > 0 {
+            self.add_spaces(size - start.column.saturating_sub(1) % size)?;
+            text = text.get(1..).unwrap_or_default();
         }
-        self.add_text(text.get(1..).unwrap_or_default())
+        self.add_text(text)?;
+        self.add_spaces(end.vs)
+    }
+
+    fn add_spaces(&mut self, count: usize) -> Result<(), Error> {
+        (0..count).try_for_each(|_| self.add_bytes(b" "))
     }
 
     /// Removes blanks at the end.

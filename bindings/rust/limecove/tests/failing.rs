@@ -127,6 +127,7 @@ impl Ends {
         for node in tree.nodes() {
             self.of_call(|| node.decoded());
             self.of_call(|| node.fence_info());
+            self.of_call(|| node.cut_text());
             self.of_call(|| Ok(node.link()?.map(|to| (to.destination, to.title))));
         }
         self.of_call(|| Ok(LineIndex::new(document)?.line_count()));

@@ -82,6 +82,11 @@ fn code_is_its_lines() {
         ("  ~~~\n\ta\n   b\r\n~~~", "  a\n b\n"),
         ("\ta\n  \t b\n\n     c\n\n", "a\n b\n\n c\n"),
         ("    \\* &amp;\0", "\\* &amp;\u{fffd}\n"),
+        ("  ~~~\n  a\n  ", "a\n\n"),
+        ("  ~~~\n  ", "\n"),
+        ("~~~\na\n ", "a\n \n"),
+        ("  ~~~\n  a\n  ~~~\n", "a\n"),
+        ("\ta\n\t", "a\n"),
     ] {
         let names = [Name::CodeFenced, Name::CodeIndented];
         assert_eq!(decoded(document, &names), [text], "{:?}", document);
@@ -101,6 +106,8 @@ fn prefixes_are_no_text() {
         ("- > a `b\n  >   c`", Name::Paragraph, "a b c"),
         ("> ~~~ x\n> a\n>\n> b\n> ~~~", Name::CodeFenced, "a\n\nb\n"),
         ("1.  ```\n    a\n\tb\n", Name::CodeFenced, "a\nb\n"),
+        ("- ~~~\n  a\n  ~~~", Name::CodeFenced, "a\n"),
+        ("> ~~~\n> a\n>\n> ~~~", Name::CodeFenced, "a\n\n"),
         (">\t    a\n>\n>\t  b", Name::CodeIndented, "  a\n\nb\n"),
         ("- a\n  ===", Name::HeadingSetext, "a"),
     ] {
