@@ -34,6 +34,26 @@ pub struct Reading {
 // of threads neither, and `free` takes blocks of each thread. It is not `Sync`: a copy writes to the reading.
 unsafe impl Send for Reading {}
 
+/// A reading is not shared by threads without a lock.
+///
+/// ```compile_fail
+/// fn is_sync<T: Sync>() {}
+/// is_sync::<limecove::Reading>();
+/// ```
+///
+/// It can be sent to one, and what holds copies of events is both.
+///
+/// ```
+/// fn is_send<T: Send>() {}
+/// fn is_sync<T: Sync>() {}
+/// is_send::<limecove::Reading>();
+/// is_send::<limecove::Tree<'_>>();
+/// is_sync::<limecove::Tree<'_>>();
+/// is_sync::<limecove::Event>();
+/// ```
+#[cfg(doctest)]
+struct Threads;
+
 impl Reading {
     /// Reads a whole document.
     ///
