@@ -58,6 +58,14 @@ say "readings that are copied in rooms of each kind, under:$sanitize"
 # shellcheck disable=SC2086
 $compiler -std=c99 -g -Wall -Wextra -Werror $sanitize -o "$work/readings" readings.c "$archive"
 "$work/readings" "$rooms"
+racing=
+if echo 'int main(void) { return 0; }' | $compiler -x c -fsanitize=thread -o "$work/empty" - 2>/dev/null && "$work/empty"; then
+    racing=-fsanitize=thread
+fi
+say "readings that go from thread to thread, under: $racing"
+# shellcheck disable=SC2086
+$compiler -std=c99 -g -Wall -Wextra -Werror -pthread $racing -o "$work/threads" threads.c "$archive"
+"$work/threads" 50
 say "each allocation failing, under:$sanitize"
 # shellcheck disable=SC2086
 $compiler -std=c99 -g -Wall -Wextra -Werror $sanitize -Wl,--wrap=malloc,--wrap=realloc,--wrap=free -o "$work/failing" failing.c "$archive"
