@@ -63,7 +63,7 @@ module _ (on : Constructs) where
       by zero e = omega (arith, h, some-defined r rs e, length-drop (defined_in on (r ∷ rs)) (r ∷ rs))
       by (suc n) e = omega (arith, h, length-drop (defined_in on (drop n rs)) (drop n rs), length-drop n rs)
 
-  cut-lines : (b : ℕ) (x : Bool) (around : Part) (rs : List Row) → length rs ≤ b → rows_of (sections_in on b x around rs) ≡ rs
+  pub cut-lines : (b : ℕ) (x : Bool) (around : Part) (rs : List Row) → length rs ≤ b → rows_of (sections_in on b x around rs) ≡ rs
   cut-lines zero x around [] h = refl
   cut-lines zero x around (r ∷ rs) h = absurd (omega (arith, h))
   cut-lines (suc b) x around [] h = refl

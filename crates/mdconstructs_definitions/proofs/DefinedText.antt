@@ -1,5 +1,5 @@
 -- The lines of definitions, with which a paragraph begins: their text has the same definitions as that of the paragraph.
-use Rattle.std.proofs.Common.{◌≡◌, ◌⊎◌, inl, inr, ℕ, zero, suc, ◌+◌, ◌-◌, ◌<◌, ◌≤◌, Bool, true, false, cond, List, [], ◌∷◌, ◌++◌, append-nil, arith, drop, filter, length, length-append, length-take, refl, sym, ap, take, ◌∙◌}
+use Rattle.std.proofs.Common.{◌≡◌, ◌⊎◌, inl, inr, ℕ, suc, ◌+◌, ◌<◌, ◌≤◌, Bool, true, false, cond, List, [], ◌∷◌, ◌++◌, append-nil, arith, filter, length, length-append, refl, sym, ap, take, ◌∙◌}
 use Rattle.std.specs.Prelude.{◌==◌}
 use Rattle.std.specs.List.{prefix_len}
 use Rattle.std.proofs.lemmas.List.Elements.{filter-append}
@@ -11,7 +11,7 @@ use Rattle.mdconstructs_flow_read.specs.LeafBlocks.{text_of}
 use Rattle.mdconstructs_labels.specs.Definitions.{definitions, rest}
 use Rattle.mdconstructs_definitions.specs.Sections.{defined_in, lines_defined, lines_of, paragraph_of, text_in}
 use Rattle.mdconstructs_definitions.proofs.SectionLemmas.{few-lines, no-ten, ten-back, tens, tens-in}
-use Rattle.mdconstructs_definitions.proofs.Shorter.{Left, definitions-shorter, left-begins}
+use Rattle.mdconstructs_definitions.proofs.Shorter.{definitions-shorter, left-begins}
 
 tens-both : (xs ys : List ℕ) → tens (xs ++ ys) ≡ tens xs + tens ys
 tens-both xs ys = ap (λ (l : List ℕ). length l) (filter-append (λ c. c == 10) xs ys) ∙ length-append (filter (λ c. c == 10) xs) (filter (λ c. c == 10) ys)

@@ -28,6 +28,8 @@ pub mod SectionGoes
 pub mod SectionGoing
 pub mod SectionLemmas
 pub mod SectionLetters
+pub mod SectionLoop
+pub mod SectionSound
 pub mod SectionSpans
 pub mod SectionTight
 pub mod SectionTurns

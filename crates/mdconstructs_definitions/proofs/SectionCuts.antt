@@ -1,5 +1,5 @@
 -- Sections of a part are lines of it, one behind another.
-use Rattle.std.proofs.Common.{◌≡◌, ℕ, zero, suc, ◌+◌, ◌-◌, ◌*◌, ◌^◌, ◌<◌, ◌≤◌, List, [], ◌∷◌, ◌++◌, append_assoc, length, drop, take, refl, sym, ap, ◌∙◌, subst, arith}
+use Rattle.std.proofs.Common.{◌≡◌, ℕ, zero, suc, ◌+◌, ◌*◌, ◌^◌, ◌<◌, List, [], ◌∷◌, ◌++◌, append_assoc, length, drop, take, sym, ap, ◌∙◌, subst}
 use Rattle.std.proofs.lemmas.List.{take-append-drop}
 use Rattle.mdconstructs_lines.specs.Containers.{Container}
 use Rattle.mdconstructs_containers.specs.declared.spans.RowAt.{RowAt}
@@ -8,7 +8,7 @@ use Rattle.mdconstructs_containers.specs.Rest.{AreLeft}
 use Rattle.mdconstructs_containers.specs.Rows.{Row}
 use Rattle.mdconstructs_containers.specs.Skeleton.{Part}
 use Rattle.mdconstructs_containers.specs.Spans.{AreRowsIn, IsRowIn}
-use Rattle.mdconstructs_containers.specs.Stretches.{AreFurther, IsOutside}
+use Rattle.mdconstructs_containers.specs.Stretches.{AreFurther}
 use Rattle.mdconstructs_containers.proofs.PartFacts.{next_few, next_outside}
 use Rattle.mdconstructs_definitions.specs.Sectioned.{IsLater, IsSectionOf}
 

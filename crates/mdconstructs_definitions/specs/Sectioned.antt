@@ -1,6 +1,6 @@
 -- Lines of a section, as the code has them.
-use Rattle.std.specs.Prelude.{◌≡◌, ◌≤◌, ℕ, suc, Bool, cond, List, [], ◌∷◌, ◌++◌, length, take}
-use Rattle.std.specs.List.{flat_map}
+use Rattle.std.specs.Prelude.{◌≡◌, ◌≤◌, ◌==◌, ◌&&◌, not, ℕ, suc, ◌+◌, Bool, true, false, cond, List, [], ◌∷◌, ◌++◌, drop, length, take, Some, None}
+use Rattle.std.specs.List.{AllByRecursion, flat_map}
 use Rattle.markdown_base.specs.Places.{shown}
 use Rattle.markdown_base.specs.declared.configuration.Constructs.{Constructs}
 use Rattle.markdown_base.specs.Virtual.{point}
@@ -14,17 +14,26 @@ use Rattle.mdconstructs_containers.specs.declared.spans.RowAt.{RowAt}
 use Rattle.mdconstructs_containers.specs.Letters.{lazy_underline}
 use Rattle.mdconstructs_containers.specs.Prefixes.{columns_of}
 use Rattle.mdconstructs_containers.specs.Rest.{AreLeft, ending_to}
-use Rattle.mdconstructs_containers.specs.Rows.{Row, has_none, rest_of}
+use Rattle.mdconstructs_containers.specs.Rows.{Row, has_none, holds_ending, is_paragraph, rest_of}
 use Rattle.mdconstructs_containers.specs.Skeleton.{Part, end_of, ending_marks}
 use Rattle.mdconstructs_containers.specs.Spans.{IsRowIn}
-use Rattle.mdconstructs_containers.specs.Stretches.{AreFurther}
-use Rattle.mdconstructs_definitions.specs.Sections.{Section}
-use Rattle.mdconstructs_definitions.specs.Skeleton.{inside_marks, text_begin}
-use Rattle.mdconstructs_definitions.specs.Within.{within_marks}
+use Rattle.mdconstructs_containers.specs.Stretches.{AreFurther, end_at, last_at}
+use Rattle.mdconstructs_containers.specs.Views.{leaf_of}
+use Rattle.mdconstructs_labels.specs.Definitions.{definitions}
+use Rattle.mdconstructs_definitions.specs.Sections.{Inside, Section, defined, lines, text_in}
+use Rattle.mdconstructs_definitions.specs.Skeleton.{all_rows, inside_marks, text_begin}
+use Rattle.mdconstructs_definitions.specs.Within.{AreWithin, within_marks}
 
 -- a line has text behind its prefixes and white space
 abbrev pub IsFilled : Row → Type 0
 IsFilled r = 1 ≤ length (unindented (rest_of r))
+
+-- a line behind which a paragraph is open has text
+abbrev pub HasText : Row → Type 0
+HasText r = is_paragraph r.leaf ≡ true → (r.is_blank ≡ false) × IsFilled r
+
+abbrev pub HaveText : List Row → Type 0
+HaveText rs = AllByRecursion HasText rs
 
 -- the first of these lines has
 abbrev pub BeginsFilled : List Row → Type 0
@@ -77,12 +86,42 @@ module _ (t : ℕ) (bytes : List ℕ) where
   AreBegun (x ∷ xs) [] at = Unit {0}
   AreBegun (x ∷ xs) (s ∷ ss) at = IsBegun s.part x at
 
+-- What is in a section fits its lines: text directly behind definitions has text, and definitions are all of theirs
+abbrev pub IsSound : Part → Inside → Type 0
+IsSound p (lines false) = Unit {0}
+IsSound p (lines true) = (p.first.is_blank ≡ false) × IsFilled p.first
+IsSound p (defined ds) = (p.first.is_blank ≡ false) × (ds ≡ definitions (text_in (all_rows p)))
+
+-- Where lines of a section end, and the line ending behind them
+pub record IsEnd (x : RowAt) (xs : List RowAt) (e : PartEnd) : Type 0 where
+  pub blank : e.is_blank ≡ x.row.is_blank
+  pub place : e.place ≡ end_at (not x.row.is_blank && holds_ending (leaf_of (last_at x xs).row.leaf)) (last_at x xs)
+  pub behind : let last = last_at x xs in e.behind ≡ cond (not x.row.is_blank && holds_ending (leaf_of last.row.leaf)) None (cond (last.span.end == last.span.next) None (Some (point (last.span.number + 1) 1 last.span.next 0)))
+
 -- Sections of a part are written up to the inside of the first of these
 abbrev pub inside_from : (bytes : List ℕ) → List Section → (rest : List Mark) → List Mark
 inside_from bytes [] rest = rest
 inside_from bytes (s ∷ ss) rest = inside_marks bytes s.part s.inside ++ (within_marks bytes s.part ss ++ rest)
 
+abbrev pub AreSound : List Section → Type 0
+AreSound ss = AllByRecursion (λ s. IsSound s.part s.inside) ss
+
 -- a part ends so
 pub record HasEnd (bytes : List ℕ) (p : Part) (e : PartEnd) : Type 0 where
   pub place : shown bytes (end_of bytes p) ≡ e.place
   pub ending : ending_marks bytes p ≡ ending_to e
+
+-- the sections of a part, by its lines
+pub record AreSectionsOf (around : Part) (ss : List Section) : Type 0 where
+  pub within : AreWithin around ss
+  pub lines : flat_map (λ s. all_rows s.part) ss ≡ all_rows around
+  pub sound : AreSound ss
+
+-- lines of these sections, one behind another: none is left behind them
+abbrev pub AreInLines : (t : ℕ) (bytes : List ℕ) (stack : List Container) → List RowAt → List Section → Type 0
+AreInLines t bytes stack [] [] = Unit {0}
+AreInLines t bytes stack (x ∷ xs) [] = ⊥
+AreInLines t bytes stack [] (s ∷ ss) = ⊥
+AreInLines t bytes stack (x ∷ xs) (s ∷ ss) =
+    let n = length s.part.more in
+    IsSectionOf t bytes stack x (take n xs) s.part × (IsSound s.part s.inside × ((n ≤ length xs) × (AreLater t bytes stack (drop n xs) ss × AreInLines t bytes stack (drop n xs) ss)))

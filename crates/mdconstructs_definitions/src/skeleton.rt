@@ -1,6 +1,7 @@
 //! The skeleton of a document with link reference definitions.
 
 ghost use Rattle.std.specs.Prelude.{◌≡◌, ◌≤◌, ◌+◌, ◌-◌, ◌++◌, ◌&&◌, ◌||◌, cond, true, false, None, ℕ, List, [], ◌∷◌, IfOk, drop, is_some, length, map, not, take};
+ghost use Rattle.std.specs.List.{flat_map};
 ghost use Rattle.markdown_base.specs.declared.event.Name.TheVariants.{SpaceOrTab};
 ghost use Rattle.markdown_base.specs.Virtual.{IsWithinLimit, Seat, point};
 ghost use Rattle.mdconstructs_flow_read.specs.LeafEvents.{Mark};
@@ -19,18 +20,23 @@ ghost use Rattle.mdconstructs_containers.specs.Views.{leaf_of, open_of};
 ghost use Rattle.mdconstructs_containers.specs.Written.{Written};
 ghost use Rattle.mdconstructs_labels.specs.Defined.{defines};
 ghost use Rattle.mdconstructs_labels.specs.Definitions.{definitions};
+ghost use Rattle.mdconstructs_definitions.specs.Definitions.{definitions_marks, places_in};
 ghost use Rattle.mdconstructs_definitions.specs.Labelled.{IsInText, is_one_of};
-ghost use Rattle.mdconstructs_definitions.specs.Sectioned.{AreBegun, AreFirst, AreLater, BeginsFilled, HasEnd, IsBegun, IsFilled, IsSectionOf, inside_from, letters_in};
-ghost use Rattle.mdconstructs_definitions.specs.Sections.{Section as SectionOf, lines};
-ghost use Rattle.mdconstructs_definitions.specs.Skeleton.{all_rows, inside_marks, labels_in};
-ghost use Rattle.mdconstructs_definitions.specs.Within.{within_marks};
+ghost use Rattle.mdconstructs_definitions.specs.Sectioned.{AreBegun, AreFirst, AreInLines, AreLater, BeginsFilled, HasEnd, HaveText, IsBegun, IsEnd, IsFilled, IsSectionOf, AreSectionsOf, IsSound, inside_from, letters_in};
+ghost use Rattle.mdconstructs_definitions.specs.Sections.{Section as SectionOf, cut, lines, text_in};
+ghost use Rattle.mdconstructs_definitions.specs.Seen.{AreSections, inside_of};
+ghost use Rattle.mdconstructs_definitions.specs.Skeleton.{all_rows, inside_marks, labels_in, labels_of_section, letters_of_section};
+ghost use Rattle.mdconstructs_definitions.specs.Within.{last_of, within_marks};
 
+use crate::held::hold_lines;
+use crate::marks::write_definitions;
+use crate::sections::{Inside, Room, Section, sections_of};
 use markdown_base::configuration::{Constructs, TabSize};
 use markdown_base::event::{Event, Point};
 use mdconstructs_containers::going::{Open, first_of};
 use mdconstructs_containers::parts::{PartEnd, write_ending};
 use mdconstructs_containers::prefixes::At;
-use mdconstructs_containers::skeleton::push_letter;
+use mdconstructs_containers::skeleton::{end_of_part, push_letter};
 use mdconstructs_containers::spans::{RowAt, start_of};
 use mdconstructs_containers::stretches::{prefixes_of, stretch};
 use mdconstructs_containers::writing::white;
@@ -290,6 +296,130 @@ fn write_text<L: Ledger>(
     Ok(())
 }
 
+/// What is in a section of definitions, behind the prefixes of its first line; their labels are defined.
+fn write_defined<L: Ledger>(
+    alloc: Global,
+    skeleton: &mut Skeleton,
+    bytes: &[u8],
+    tab: TabSize,
+    stack: &[Open],
+    rows: &[RowAt],
+    first: &RowAt,
+    more: &[RowAt],
+    begin: At,
+    defined: &[Definition],
+    room: &mut Room,
+    turns: &mut Turns<L>,
+) -> Result<(), AllocError>
+    ghost part: { PartOf }
+    requires limit { IsWithinLimit tab bytes.now }
+    requires rows { rows.now ≡ first.now ∷ more.now }
+    requires section { IsSectionOf tab bytes.now (map open_of stack.now) first.now more.now part }
+    requires begun { IsBegun tab bytes.now part first.now begin }
+    requires text { first.now.row.is_blank ≡ false }
+    requires definitions { defined.now ≡ definitions (text_in (all_rows part)) }
+    ensures events { IfOk result (λ _. (rest : List Mark) → (all : List Mark) → Written skeleton.old.events.items None false (definitions_marks bytes.now defined.now (places_in bytes.now (all_rows part)) ++ rest) all → Written skeleton.new.events.items None false rest all) }
+    ensures letters { IfOk result (λ _. skeleton.new.letters.items ≡ skeleton.old.letters.items) }
+    ensures labels { IfOk result (λ _. (label : List ℕ) → defines skeleton.new.labels label ≡ (defines skeleton.old.labels label || is_one_of (labels_in defined.now (text_in (all_rows part))) label)) }
+{
+    hold_lines(&mut room.text, bytes, tab, rows, &mut room.line, turns)?;
+    let text = room.text.as_slice();
+    write_definitions(
+        &mut skeleton.events,
+        bytes,
+        tab,
+        stack,
+        rows,
+        begin,
+        defined,
+        text,
+        &mut room.line,
+        turns,
+    )?;
+    define_labels(alloc, &mut skeleton.labels, defined, text, turns)?;
+    Ok(())
+}
+
+/// What is in a section, behind the prefixes of its first line. Returns where it ends.
+fn write_section<L: Ledger>(
+    alloc: Global,
+    skeleton: &mut Skeleton,
+    bytes: &[u8],
+    tab: TabSize,
+    on: &Constructs,
+    stack: &[Open],
+    rows: &[RowAt],
+    first: &RowAt,
+    more: &[RowAt],
+    inside: &Inside,
+    begin: At,
+    room: &mut Room,
+    turns: &mut Turns<L>,
+) -> Result<PartEnd, AllocError>
+    ghost part: { PartOf }
+    requires limit { IsWithinLimit tab bytes.now }
+    requires rows { rows.now ≡ first.now ∷ more.now }
+    requires section { IsSectionOf tab bytes.now (map open_of stack.now) first.now more.now part }
+    requires begun { IsBegun tab bytes.now part first.now begin }
+    requires sound { IsSound part (inside_of inside.now) }
+    ensures end { IfOk result (λ e. IsEnd first.now more.now e) }
+    ensures events { IfOk result (λ _. (rest : List Mark) → (all : List Mark) → Written skeleton.old.events.items None false (inside_marks bytes.now part (inside_of inside.now) ++ rest) all → Written skeleton.new.events.items None false rest all) }
+    ensures letters { IfOk result (λ _. skeleton.new.letters.items ≡ skeleton.old.letters.items ++ letters_of_section on.now (record { part = part; inside = inside_of inside.now })) }
+    ensures labels { IfOk result (λ _. (label : List ℕ) → defines skeleton.new.labels label ≡ (defines skeleton.old.labels label || is_one_of (labels_of_section (record { part = part; inside = inside_of inside.now })) label)) }
+{
+    let tab_size = tab.get();
+    prove!(tab_size >= 1);
+    let end = end_of_part(first, more);
+    let place = end.place;
+    match inside {
+        Inside::Lines => write_text(
+            skeleton,
+            bytes,
+            tab,
+            on,
+            stack,
+            rows,
+            first,
+            more,
+            begin,
+            false,
+            place,
+            &mut room.line,
+            turns,
+        )?,
+        Inside::Behind => write_text(
+            skeleton,
+            bytes,
+            tab,
+            on,
+            stack,
+            rows,
+            first,
+            more,
+            begin,
+            true,
+            place,
+            &mut room.line,
+            turns,
+        )?,
+        Inside::Defined(definitions) => write_defined(
+            alloc,
+            skeleton,
+            bytes,
+            tab,
+            stack,
+            rows,
+            first,
+            more,
+            begin,
+            definitions.as_slice(),
+            room,
+            turns,
+        )?,
+    }
+    Ok(end)
+}
+
 /// Between two sections of a part: the line ending, and the prefixes of the next line. Returns the place behind them.
 fn go_to_section<L: Ledger>(
     events: &mut Vec<Event>,
@@ -342,4 +472,179 @@ fn go_on<L: Ledger>(
     let next = &behind[0];
     let place = go_to_section(events, bytes, tab, stack, next, end, line, turns)?;
     Ok(place)
+}
+
+/// A section that is written: how many lines it has, where it ends, and the place from which the next one goes on.
+#[derive(Clone, Copy)]
+struct SectionEnd {
+    lines: usize,
+    end: PartEnd,
+    next: At,
+}
+
+/// One section of a part, from behind the prefixes of its first line on up to the inside of the next one. `left` are the lines of it and of those behind
+/// it.
+fn write_one<L: Ledger>(
+    alloc: Global,
+    skeleton: &mut Skeleton,
+    bytes: &[u8],
+    tab: TabSize,
+    on: &Constructs,
+    stack: &[Open],
+    left: &[RowAt],
+    sections: &[Section],
+    index: usize,
+    begin: At,
+    room: &mut Room,
+    turns: &mut Turns<L>,
+) -> Result<SectionEnd, AllocError>
+    ghost given: { SectionOf × List SectionOf }
+    requires limit { IsWithinLimit tab bytes.now }
+    requires sections { AreSections (drop index sections.now) (given.0 ∷ given.1) }
+    requires lines { AreInLines tab bytes.now (map open_of stack.now) left.now (given.0 ∷ given.1) }
+    requires begun { AreBegun tab bytes.now left.now (given.0 ∷ given.1) begin }
+    ensures few { IfOk result (λ e. e.lines ≤ length left.now) }
+    ensures lines { IfOk result (λ e. AreInLines tab bytes.now (map open_of stack.now) (drop e.lines left.now) given.1) }
+    ensures begun { IfOk result (λ e. AreBegun tab bytes.now (drop e.lines left.now) given.1 e.next) }
+    ensures end { IfOk result (λ e. HasEnd bytes.now given.0.part e.end) }
+    ensures events { IfOk result (λ _. (rest : List Mark) → (all : List Mark) → Written skeleton.old.events.items None false (inside_from bytes.now (given.0 ∷ given.1) rest) all → Written skeleton.new.events.items None false (inside_from bytes.now given.1 rest) all) }
+    ensures letters { IfOk result (λ _. skeleton.new.letters.items ≡ skeleton.old.letters.items ++ letters_of_section on.now given.0) }
+    ensures labels { IfOk result (λ _. (label : List ℕ) → defines skeleton.new.labels label ≡ (defines skeleton.old.labels label || is_one_of (labels_of_section given.0) label)) }
+{
+    let tab_size = tab.get();
+    prove!(tab_size >= 1);
+    let section = &sections[index];
+    let lines = section.further + 1;
+    let end = write_section(
+        alloc,
+        skeleton,
+        bytes,
+        tab,
+        on,
+        stack,
+        &left[..lines],
+        &left[0],
+        &left[1..lines],
+        &section.inside,
+        begin,
+        room,
+        turns,
+    )?;
+    let next = go_on(
+        &mut skeleton.events,
+        bytes,
+        tab,
+        stack,
+        &left[lines..],
+        end,
+        begin,
+        &mut room.line,
+        turns,
+    )?;
+    Ok(SectionEnd { lines, end, next })
+}
+
+/// The sections of a part that is no blank line, from behind the prefixes of its first line on. Returns where the part ends.
+fn write_sections<L: Ledger>(
+    alloc: Global,
+    skeleton: &mut Skeleton,
+    bytes: &[u8],
+    tab: TabSize,
+    on: &Constructs,
+    stack: &[Open],
+    rows: &[RowAt],
+    first: &RowAt,
+    more: &[RowAt],
+    sections: &[Section],
+    begin: At,
+    room: &mut Room,
+    turns: &mut Turns<L>,
+) -> Result<PartEnd, AllocError>
+    ghost given: { PartOf × List SectionOf }
+    requires limit { IsWithinLimit tab bytes.now }
+    requires rows { rows.now ≡ first.now ∷ more.now }
+    requires section { IsSectionOf tab bytes.now (map open_of stack.now) first.now more.now given.0 }
+    requires stands { length stack.now ≤ length given.0.stands }
+    requires sections { AreSections sections.now given.1 }
+    requires are { AreSectionsOf given.0 given.1 }
+    requires begun { AreBegun tab bytes.now rows.now given.1 begin }
+    ensures end { IfOk result (λ e. HasEnd bytes.now (last_of given.0 given.1) e) }
+    ensures events { IfOk result (λ _. (rest : List Mark) → (all : List Mark) → Written skeleton.old.events.items None false (inside_from bytes.now given.1 rest) all → Written skeleton.new.events.items None false rest all) }
+    ensures letters { IfOk result (λ _. skeleton.new.letters.items ≡ skeleton.old.letters.items ++ flat_map (letters_of_section on.now) given.1) }
+    ensures labels { IfOk result (λ _. (label : List ℕ) → defines skeleton.new.labels label ≡ (defines skeleton.old.labels label || is_one_of (flat_map labels_of_section given.1) label)) }
+{
+    let tab_size = tab.get();
+    prove!(tab_size >= 1);
+    let mut end = end_of_part(first, more);
+    let mut at = begin;
+    let mut i = 0;
+    let mut k = 0;
+    while k < sections.len() {
+        turns.add_one();
+        let left = &rows[i..];
+        let one = write_one(
+            alloc, skeleton, bytes, tab, on, stack, left, sections, k, at, room, turns,
+        )?;
+        end = one.end;
+        at = one.next;
+        i += one.lines;
+        k += 1;
+    }
+    Ok(end)
+}
+
+/// What is in a part, behind the prefixes of its first line: a blank line, or its sections. Returns where the part ends.
+fn fill_part<L: Ledger>(
+    alloc: Global,
+    skeleton: &mut Skeleton,
+    bytes: &[u8],
+    tab: TabSize,
+    on: &Constructs,
+    stack: &[Open],
+    rows: &[RowAt],
+    first: &RowAt,
+    more: &[RowAt],
+    begin: At,
+    room: &mut Room,
+    turns: &mut Turns<L>,
+) -> Result<PartEnd, AllocError>
+    ghost part: { PartOf }
+    requires limit { IsWithinLimit tab bytes.now }
+    requires rows { rows.now ≡ first.now ∷ more.now }
+    requires section { IsSectionOf tab bytes.now (map open_of stack.now) first.now more.now part }
+    requires stands { part.first.is_blank ≡ false → length stack.now ≤ length part.stands }
+    requires texts { HaveText (all_rows part) }
+    requires begun { IsBegun tab bytes.now part first.now begin }
+    ensures end { IfOk result (λ e. HasEnd bytes.now (last_of part (cut on.now part)) e) }
+    ensures events { IfOk result (λ _. (rest : List Mark) → (all : List Mark) → Written skeleton.old.events.items None false (inside_from bytes.now (cut on.now part) rest) all → Written skeleton.new.events.items None false rest all) }
+    ensures letters { IfOk result (λ _. skeleton.new.letters.items ≡ skeleton.old.letters.items ++ flat_map (letters_of_section on.now) (cut on.now part)) }
+    ensures labels { IfOk result (λ _. (label : List ℕ) → defines skeleton.new.labels label ≡ (defines skeleton.old.labels label || is_one_of (flat_map labels_of_section (cut on.now part)) label)) }
+{
+    let tab_size = tab.get();
+    prove!(tab_size >= 1);
+    let is_blank = first.row.is_blank;
+    if is_blank {
+        let inside = Inside::Lines;
+        let only = write_section(
+            alloc, skeleton, bytes, tab, on, stack, rows, first, more, &inside, begin, room, turns,
+        )?;
+        return Ok(only);
+    }
+    let sections = sections_of(alloc, bytes, tab, on, rows, room, turns)?;
+    let end = write_sections(
+        alloc,
+        skeleton,
+        bytes,
+        tab,
+        on,
+        stack,
+        rows,
+        first,
+        more,
+        sections.as_slice(),
+        begin,
+        room,
+        turns,
+    )?;
+    Ok(end)
 }
