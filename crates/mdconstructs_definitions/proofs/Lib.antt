@@ -18,6 +18,8 @@ pub mod MarksLoop
 pub mod MarksParts
 pub mod MarksPlaces
 pub mod MarksText
+pub mod PartSections
+pub mod PartTexts
 pub mod PlainDefinitions
 pub mod PlainLetters
 pub mod RowTexts

@@ -58,7 +58,7 @@ sections-within on (suc b) x around (r ∷ rs) =
     let back = sections_in on b true around (drop d behind) in
     every-append (IsWithin around) front (middle ++ back) (undefined-within around _ (parts (take n all))) (every-append (IsWithin around) middle back (defining-within around _ (take d behind)) (sections-within on b true around (drop d behind)))
 
-within-next : (p q : Part) (ss : List Section) → q.frames ≡ p.frames → q.stands ≡ p.stands → AreWithin p ss → AreWithin q ss
+pub within-next : (p q : Part) (ss : List Section) → q.frames ≡ p.frames → q.stands ≡ p.stands → AreWithin p ss → AreWithin q ss
 within-next p q [] e f h = tt
 within-next p q (s ∷ ss) e f h = ((h.0.0 ∙ sym e, h.0.1 ∙ sym f), within-next p q ss e f h.1)
 

@@ -5,6 +5,7 @@ pub mod fronts;
 pub mod held;
 pub mod laws;
 pub mod marks;
+pub mod parts;
 pub mod rows;
 pub mod sections;
 pub mod skeleton;

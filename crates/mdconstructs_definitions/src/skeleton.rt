@@ -594,7 +594,7 @@ fn write_sections<L: Ledger>(
 }
 
 /// What is in a part, behind the prefixes of its first line: a blank line, or its sections. Returns where the part ends.
-fn fill_part<L: Ledger>(
+pub(crate) fn fill_part<L: Ledger>(
     alloc: Global,
     skeleton: &mut Skeleton,
     bytes: &[u8],

@@ -1,0 +1,173 @@
+use Rattle.std.proofs.Common.{◌≡◌, ℕ, zero, suc, ◌+◌, ◌-◌, ◌<◌, ◌≤◌, Bool, true, false, List, [], ◌∷◌, ◌++◌, length, take, drop, map, get_or, refl, sym, ap, ◌∙◌, subst, arith, length-drop, length-take}
+use Rattle.std.specs.Prelude.{◌||◌, None}
+use Rattle.std.specs.List.{flat_map}
+use Rattle.std.proofs.lemmas.List.{append-nil, drop_all, drop-drop, drop_more, take_rest}
+use Rattle.markdown_base.specs.declared.event.Event.{Event}
+use Rattle.mdconstructs_flow_read.specs.LeafEvents.{Mark}
+use Rattle.mdconstructs_lines.specs.Containers.{Container}
+use Rattle.mdconstructs_containers.specs.declared.ahead.Ahead.{Ahead}
+use Rattle.mdconstructs_containers.specs.declared.frames.Frame.{Frame}
+use Rattle.mdconstructs_containers.specs.declared.going.Open.{Open}
+use Rattle.mdconstructs_containers.specs.declared.parts.PartEnd.{PartEnd}
+use Rattle.mdconstructs_containers.specs.declared.spans.RowAt.{RowAt}
+use Rattle.mdconstructs_containers.specs.Ahead.{ahead_of}
+use Rattle.mdconstructs_containers.specs.Costs.{ArePaid, FirstIsNotLazy}
+use Rattle.mdconstructs_containers.specs.Frames.{frame_of}
+use Rattle.mdconstructs_containers.specs.Over.{AreEarlier}
+use Rattle.mdconstructs_containers.specs.Parts.{open_behind}
+use Rattle.mdconstructs_containers.specs.Rest.{AreLeft, ending_to, exits_to}
+use Rattle.mdconstructs_containers.specs.Rows.{Row}
+use Rattle.mdconstructs_containers.specs.SeatPlaces.{events_of}
+use Rattle.mdconstructs_containers.specs.Skeleton.{shared}
+use Rattle.mdconstructs_containers.specs.Spans.{AreRowsIn}
+use Rattle.mdconstructs_containers.specs.Views.{open_of}
+use Rattle.mdconstructs_containers.specs.Written.{Written}
+use Rattle.mdconstructs_containers.proofs.CostLemmas.{paid_behind}
+use Rattle.mdconstructs_containers.proofs.LineFacts.{outside_zero}
+use Rattle.mdconstructs_containers.proofs.PartLemmas.{earlier_later}
+use Rattle.mdconstructs_containers.proofs.RestLemmas.{next_of, none_left}
+use Rattle.mdconstructs_containers.proofs.RowFacts.{every_behind}
+use Rattle.mdconstructs_containers.proofs.WrittenLemmas.{write_init}
+use Rattle.mdconstructs_labels.specs.Defined.{defines}
+use Rattle.mdconstructs_definitions.specs.Labelled.{is_one_of}
+use Rattle.mdconstructs_definitions.specs.Sectioned.{HasText, HaveText}
+use Rattle.mdconstructs_definitions.specs.Sections.{sections}
+use Rattle.mdconstructs_definitions.specs.Skeleton.{labels_of_section, letters_of_section, sections_marks}
+use Rattle.mdconstructs_definitions.specs.Within.{rest_sections}
+use Rattle.mdconstructs_definitions.proofs.PartSections.{lines-left, lines_from, write-end}
+use Rattle.mdconstructs_definitions.proofs.RowTexts.{these-in}
+use Rattle.mdconstructs_definitions.proofs.SectionLemmas.{rows-few}
+use Rattle.mdconstructs_definitions.proofs.Within.{sections-init}
+use Rattle.mdconstructs_definitions.proofs.parts.skeleton_by.Goals as goal
+
+abbrev no_ahead : Ahead
+no_ahead = record { further = 0; many = 0; list = None }
+
+abbrev no_end : PartEnd
+no_end = record { is_blank = false; place = record { line = 1; column = 1; index = 0; vs = 0 }; behind = None }
+
+-- a line at an index, and those behind it
+line_at_index : (rows : List RowAt) (i : ℕ) (x d : RowAt) → i < length rows → x ≡ get_or rows i d → drop i rows ≡ x ∷ take (length rows - (i + 1)) (drop (i + 1) rows)
+line_at_index rows i x d h e = drop_more rows i d h ∙ (λ k. sym e k ∷ sym (take_rest rows (i + 1)) k)
+
+ahead_at : (aheads : List Ahead) (all : List Row) (size i : ℕ) → i < size → ((d : Ahead) (k : ℕ) → k < size → get_or aheads k d ≡ ahead_of (drop (size - k) all)) → get_or aheads (size - 1 - i) no_ahead ≡ ahead_of (drop (i + 1) all)
+ahead_at aheads all size i h f =
+    let at : size - (size - 1 - i) ≡ i + 1 = omega arith in
+    f no_ahead (size - 1 - i) (omega arith) ∙ ap (λ k. ahead_of (drop k all)) at
+
+-- the number of a line is that of its place
+numbers : (t : ℕ) (bytes : List ℕ) (stack : List Container) (number start : ℕ) (xs : List RowAt) (rs : List Row) (k : ℕ) (d : RowAt) → k < length xs → AreRowsIn t bytes stack number start xs rs → (get_or xs k d).span.number ≡ number + k
+numbers t bytes stack number start [] rs k d h are = absurd (omega (arith, h))
+numbers t bytes stack number start (x ∷ xs) [] k d h are = absurd are
+numbers t bytes stack number start (x ∷ xs) (r ∷ rs) zero d h are = omega (arith, are.0.placed.number_is)
+numbers t bytes stack number start (x ∷ xs) (r ∷ rs) (suc k) d h are = let e = numbers t bytes (open_behind stack r) (suc number) x.span.next xs rs k d (omega (arith, h)) are.1 in omega (arith, e)
+
+number_at : (t : ℕ) (bytes : List ℕ) (rows : List RowAt) (all : List Row) (i : ℕ) (x : RowAt) → i < length rows → x ≡ get_or rows i x → AreRowsIn t bytes [] 1 0 rows all → x.span.number ≡ i + 1
+number_at t bytes rows all i x h e are = let n = numbers t bytes [] 1 0 rows all i x h are in ap (λ (y : RowAt). y.span.number) e ∙ omega (arith, n)
+
+or-none : (b : Bool) → (b || false) ≡ b
+or-none true = refl
+or-none false = refl
+
+pub loop-i-init : goal.loop-i-init
+loop-i-init g c =
+    let bytes = c.args.bytes.now in
+    let ss = sections c.args.on.now g.all in
+    record {
+      within = omega arith;
+      left = subst (λ (l : List Open). AreLeft bytes c.args.tab (map open_of l) c.args.rows.now g.all) (sym c.new-stack.ensures.items) (record { number = 1; start = 0; are = c.requires.1.1.0; outside = outside_zero bytes; few = omega arith });
+      lazy = c.requires.1.1.1.1.1.0;
+      passed = λ k d a b. absurd (omega (arith, b));
+      stood = record { few = omega arith; spans = refl };
+      spans = refl;
+      written = subst (λ (l : List Frame). Written c.new.result.items None false (rest_sections bytes (map frame_of l) no_end ss) (sections_marks bytes ss)) (sym c.new-frames.ensures.items)
+          (subst (λ (es : List Event). Written es None false (rest_sections bytes [] no_end ss) (sections_marks bytes ss)) (sym c.new.ensures.items)
+          (subst (λ (m : List Mark). Written [] None false m (sections_marks bytes ss)) (sym (sections-init bytes ss no_end refl)) (write_init (sections_marks bytes ss))));
+      letters = ap (λ (l : List ℕ). l ++ flat_map (letters_of_section c.args.on.now) ss) c.new-2.ensures.items;
+      labels = λ label. ap (λ (b : Bool). b || is_one_of (flat_map labels_of_section ss) label) (c.new-3.ensures label);
+    }
+
+pub write_part-requires : goal.write_part-requires
+write_part-requires g c = λ lifetimes outlives.
+    let i = c.loop-i.i in
+    let t = c.args.tab in
+    let bytes = c.args.bytes.now in
+    let rows = c.args.rows.now in
+    let all = g.all in
+    let x = c.index-rows-i.result in
+    let slice = take (length rows - (i + 1)) (drop (i + 1) rows) in
+    let stack = map open_of c.loop-i.stack.items in
+    let split = line_at_index rows i x _ c.loop-i-test.true c.index-rows-i.is in
+    let next = next_of t bytes stack all x slice (drop i rows) i split c.loop-i.invariant.left in
+    let many : length rows ≡ length all = rows-few rows all (these-in t bytes [] 1 0 rows all c.requires.1.1.0).rows in
+    let given = lines-left rows all i next.row c.loop-i-test.true many next.is in
+    let left = subst (λ (p : Row × List Row). AreLeft bytes t stack (x ∷ slice) (p.0 ∷ p.1)) (sym given) next.left in
+    let ahead = ahead_at c.args.aheads.now all (length rows) i c.loop-i-test.true c.requires.1.1.1.1.0 ∙ ap (λ (p : Row × List Row). ahead_of p.1) (sym given) in
+    let lazy = subst (λ (p : Row × List Row). FirstIsNotLazy (p.0 ∷ p.1)) (sym given) (subst FirstIsNotLazy next.is c.loop-i.invariant.lazy) in
+    let paid = subst (λ (p : Row × List Row). ArePaid (p.0 ∷ p.1)) (sym given) (subst ArePaid next.is (paid_behind i all c.requires.1.1.1.1.1.1.0)) in
+    let texts = subst (λ (p : Row × List Row). HaveText (p.0 ∷ p.1)) (sym given) (subst HaveText next.is (every_behind HasText i all c.requires.1.1.1.1.1.1.1)) in
+    let passed = subst (λ (n : ℕ). AreEarlier n c.loop-i.passed.from c.loop-i.passed.to stack) (sym (number_at t bytes rows all i x c.loop-i-test.true c.index-rows-i.is c.requires.1.1.0)) c.loop-i.invariant.passed in
+    (outlives, (c.requires.1.0, (take_rest rows i ∙ split, (left, (ahead, (lazy, (paid, (texts, (c.loop-i.invariant.stood, (c.loop-i.invariant.spans, passed))))))))))
+
+pub loop-i-preserved : goal.loop-i-preserved
+loop-i-preserved g c =
+    let i = c.loop-i.i in
+    let t = c.args.tab in
+    let bytes = c.args.bytes.now in
+    let sections_on = sections c.args.on.now in
+    let rows = c.args.rows.now in
+    let all = g.all in
+    let lines = c.in_ok-part.part.lines in
+    let x = c.index-rows-i.result in
+    let slice = take (length rows - (i + 1)) (drop (i + 1) rows) in
+    let stack = map open_of c.write_part.new.stack.items in
+    let split = line_at_index rows i x _ c.loop-i-test.true c.index-rows-i.is in
+    let next = next_of t bytes (map open_of c.loop-i.stack.items) all x slice (drop i rows) i split c.loop-i.invariant.left in
+    let many : length rows ≡ length all = rows-few rows all (these-in t bytes [] 1 0 rows all c.requires.1.1.0).rows in
+    let given = lines-left rows all i next.row c.loop-i-test.true many next.is in
+    let on : (i + 1) + lines ≡ i + (1 + lines) = omega arith in
+    let rest : slice ≡ drop (i + 1) rows = take_rest rows (i + 1) in
+    let rows_is : drop lines slice ≡ drop (i + (1 + lines)) rows = ap (drop lines) rest ∙ drop-drop lines (i + 1) rows ∙ ap (λ k. drop k rows) on in
+    let all_is : drop lines (lines_from (length all - length (take (length rows - i) (drop i rows))) all).1 ≡ drop (i + (1 + lines)) all =
+    ap (λ (p : Row × List Row). drop lines p.1) given ∙ drop-drop lines (i + 1) all ∙ ap (λ k. drop k all) on in
+    let here : (lines_from (length all - length (take (length rows - i) (drop i rows))) all).0 ∷ (lines_from (length all - length (take (length rows - i) (drop i rows))) all).1 ≡ drop i all =
+    ap (λ (p : Row × List Row). p.0 ∷ p.1) given ∙ sym next.is in
+    let events = c.loop-i.skeleton.events.items in
+    let new = c.write_part.new.skeleton in
+    let f = letters_of_section c.args.on.now in
+    record {
+      within = omega (arith, c.in_ok-part.ensures.few, ap (λ (l : List RowAt). length l) rest, length-drop (i + 1) rows, c.loop-i-test.true);
+      left = subst (λ (l : List Row). AreLeft bytes t stack (drop (i + (1 + lines)) rows) l) all_is (subst (λ (l : List RowAt). AreLeft bytes t stack l (drop lines (lines_from (length all - length (take (length rows - i) (drop i rows))) all).1)) rows_is c.in_ok-part.ensures.left);
+      lazy = subst FirstIsNotLazy all_is c.in_ok-part.ensures.lazy;
+      passed = earlier_later x.span.number (i + (1 + lines) + 1) c.in_ok-part.part.passed.from c.in_ok-part.part.passed.to stack (omega (arith, number_at t bytes rows all i x c.loop-i-test.true c.index-rows-i.is c.requires.1.1.0)) c.in_ok-part.ensures.passed;
+      stood = c.in_ok-part.ensures.stood;
+      spans = c.in_ok-part.ensures.spans;
+      written = subst (λ (l : List Row). Written new.events.items None false (rest_sections bytes (map frame_of c.write_part.new.frames.items) c.in_ok-part.part.end (sections_on l)) (sections_marks bytes (sections_on all))) all_is
+          (c.in_ok-part.ensures.events (sections_marks bytes (sections_on all))
+          (subst (λ (l : List Row). Written events None false (rest_sections bytes (map frame_of c.loop-i.frames.items) c.loop-i.end (sections_on l)) (sections_marks bytes (sections_on all))) (sym here) c.loop-i.invariant.written));
+      letters = ap (λ l. new.letters.items ++ flat_map f (sections_on l)) (sym all_is) ∙ c.in_ok-part.ensures.letters ∙ ap (λ l. c.loop-i.skeleton.letters.items ++ flat_map f (sections_on l)) here ∙ c.loop-i.invariant.letters;
+      labels = λ label. ap (λ l. defines new.labels label || is_one_of (flat_map labels_of_section (sections_on l)) label) (sym all_is) ∙ c.in_ok-part.ensures.labels label
+          ∙ ap (λ l. defines c.loop-i.skeleton.labels label || is_one_of (flat_map labels_of_section (sections_on l)) label) here ∙ c.loop-i.invariant.labels label;
+    }
+
+pub returns : goal.returns
+returns g c =
+    let i = c.loop-i.i in
+    let bytes = c.args.bytes.now in
+    let on = c.args.on.now in
+    let rows = c.args.rows.now in
+    let all = g.all in
+    let none : drop i rows ≡ [] = drop_all i rows (omega arith) in
+    let stack = map open_of c.loop-i.stack.items in
+    let gone : drop i all ≡ [] = none_left c.args.tab bytes stack all (drop i all) (subst (λ (l : List RowAt). AreLeft bytes c.args.tab stack l (drop i all)) none c.loop-i.invariant.left) in
+    let nothing = ap (sections on) gone in
+    let fs = map frame_of c.loop-i.frames.items in
+    let none_kept : 0 + shared fs [] ≡ shared fs [] = omega arith in
+    let es = c.loop-i.skeleton.events.items in
+    let wrote = c.in_ok-end_part.ensures.events ∙ ap (λ n. es ++ (events_of (exits_to (drop n fs) c.loop-i.end.place) ++ events_of (ending_to c.loop-i.end))) none_kept in
+    let letters = c.loop-i.skeleton.letters.items in
+    record {
+      events = write-end bytes es c.end_part.new.events.items fs c.loop-i.end (sections on (drop i all)) (sections_marks bytes (sections on all)) nothing wrote c.loop-i.invariant.written;
+      letters = sym (append-nil letters) ∙ ap (λ l. letters ++ flat_map (letters_of_section on) l) (sym nothing) ∙ c.loop-i.invariant.letters;
+      labels = λ label. sym (or-none (defines c.loop-i.skeleton.labels label)) ∙ ap (λ l. defines c.loop-i.skeleton.labels label || is_one_of (flat_map labels_of_section l) label) (sym nothing) ∙ c.loop-i.invariant.labels label;
+    }
