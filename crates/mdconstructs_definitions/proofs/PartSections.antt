@@ -166,7 +166,7 @@ module _ (t : ℕ) (bytes : List ℕ) (some : 0 < t) (limit : t * length bytes +
         are = (
           left.are.0,
           subst (λ (l : List RowAt). AreRowsIn t bytes (open_behind stack r) (suc left.number) first.span.next l (take (cond r.is_blank 0 (further rs)) rs ++ drop lines rs)) (sym (take-append-drop lines behind))
-          (subst (AreRowsIn t bytes (open_behind stack r) (suc left.number) first.span.next behind) (sym (ap (λ n. take n rs ++ drop lines rs) (sym lines-are) ∙ take-append-drop lines rs)) left.are.1),
+              (subst (AreRowsIn t bytes (open_behind stack r) (suc left.number) first.span.next behind) (sym (ap (λ n. take n rs ++ drop lines rs) (sym lines-are) ∙ take-append-drop lines rs)) left.are.1),
         );
         outside = left.outside;
         few = left.few;

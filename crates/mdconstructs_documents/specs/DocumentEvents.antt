@@ -3,7 +3,7 @@ use Rattle.std.specs.Prelude.{List}
 use Rattle.markdown_base.specs.declared.event.Event.{Event}
 use Rattle.markdown_base.specs.Events.{IsVoidTight}
 use Rattle.markdown_tokenizer.specs.Text.{Given, IsDocument}
-use Rattle.mdconstructs_containers.specs.Blocks.{document_blocks}
+use Rattle.mdconstructs_definitions.specs.Blocks.{document_blocks}
 use Rattle.mdconstructs_inlines.specs.LawStatements.{with_inlines, with_strings as with_string_chunks}
 use Rattle.mdconstructs_strings.specs.Strings.{with_strings}
 

@@ -16,7 +16,7 @@ use Rattle.mdconstructs_machines.specs.LineEvents.{line_events, data_events, bac
 use Rattle.mdconstructs_machines.specs.ParagraphEvents.{paragraph_events}
 use Rattle.mdconstructs_text.specs.ParagraphTexts.{paragraph_texts}
 use Rattle.mdconstructs_text.specs.TextEvents.{seat_events}
-use Rattle.mdconstructs_containers.specs.Blocks.{document_blocks}
+use Rattle.mdconstructs_definitions.specs.Blocks.{document_blocks}
 use Rattle.mdconstructs_documents.specs.DocumentEvents.{document_events}
 use Rattle.mdconstructs_documents.specs.FlowTexts.{flow_inlines}
 use Rattle.mdconstructs_documents.specs.declared.choice.Choice.{Choice}

@@ -16,7 +16,7 @@ use crate::making::{Unmade, with_ready_children};
 use markdown_base::configuration::ParseOptions;
 use markdown_base::event::Event;
 use mdconstructs_containers::letters::with_letters;
-use mdconstructs_containers::skeleton::skeleton_of;
+use mdconstructs_definitions::parts::skeleton_with_definitions;
 use mdconstructs_flow::flow::Flow;
 use mdconstructs_inlines::inlines::Inlines;
 use mdconstructs_labels::labels::Labels;
@@ -39,7 +39,7 @@ pub(crate) fn read_blocks(
     ensures document { IsDocument (document options.now bytes.now) }
 {
     is_document(bytes, options);
-    let skeleton = skeleton_of(alloc, bytes, options.tab_size, &options.constructs)?;
+    let skeleton = skeleton_with_definitions(alloc, bytes, options.tab_size, &options.constructs)?;
     let letters = skeleton.letters.as_slice();
     if letters.is_empty() {
         return with_leaf_blocks(alloc, bytes, options, skeleton.events);

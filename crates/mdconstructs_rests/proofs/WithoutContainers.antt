@@ -1,5 +1,6 @@
 -- Documents without containers are read as their leaf blocks are.
 pub mod CutOff
+pub mod Defining
 pub mod Ends
 pub mod Leaves
 pub mod Off

@@ -9,8 +9,9 @@ use Rattle.markdown_edits.specs.Survivors.{KeepsLinks, StaysUnlessRemoved}
 use Rattle.markdown_edits.specs.Woven.{changed}
 use Rattle.markdown_children.specs.NextContent.{CanBeReadNext, IsReadyNext}
 use Rattle.mdconstructs_documents.proofs.InContainers.Skeletons.{SkeletonLaws}
-use Rattle.mdconstructs_containers.specs.Blocks.{document_blocks, document_skeleton, with_lazy_letters}
-use Rattle.mdconstructs_containers.specs.Letters.{lazy_underlines, with_letters}
+use Rattle.mdconstructs_definitions.specs.Blocks.{document_blocks, document_skeleton, shown_as_text}
+use Rattle.mdconstructs_containers.specs.Letters.{with_letters}
+use Rattle.mdconstructs_definitions.specs.Skeleton.{letters}
 use Rattle.mdconstructs_text.proofs.Paragraphs.ChainEvents.{all-begin, is-text}
 use Rattle.mdconstructs_documents.specs.Documents.{AreDocumentBlocks}
 use Rattle.mdconstructs_documents.proofs.FlowChains.Blocks.{blocks-read-next, chains-read-blocks}
@@ -20,11 +21,11 @@ use Rattle.mdconstructs_documents.proofs.InContainers.Rising.{filter-same}
 module _ (laws : SkeletonLaws) (g : Given) (is : IsDocument g) where
   -- where letters stand
   abbrev pub at : List ℕ
-  at = lazy_underlines g.options.constructs (virtual g.tab g.bytes)
+  at = letters g.options.constructs (virtual g.tab g.bytes)
 
   -- the document that leaf blocks are read of, and the skeleton
   abbrev pub shown : Given
-  shown = with_lazy_letters g
+  shown = shown_as_text g
 
   abbrev pub bare : List Event
   bare = document_skeleton g
@@ -85,7 +86,7 @@ module _ {R D : Type 0} (g : Given) (rules : Given → Rules R D) (old new : Lis
       }
 
 -- what the machine makes of the skeleton, over the document with letters
-pub blocks-are : SkeletonLaws → (options : ParseOptions) (bytes : List ℕ) → IsDocument (document options bytes) → (read : List ℕ) → read ≡ with_letters (lazy_underlines options.constructs (virtual options.tab_size bytes)) bytes
+pub blocks-are : SkeletonLaws → (options : ParseOptions) (bytes : List ℕ) → IsDocument (document options bytes) → (read : List ℕ) → read ≡ with_letters (letters options.constructs (virtual options.tab_size bytes)) bytes
     → (events new : List Event) → events ≡ document_skeleton (document options bytes) → HasChildren flow_rules options read None events new → AreDocumentBlocks options bytes new
 blocks-are laws options bytes is read same events new from h =
     let g = document options bytes in

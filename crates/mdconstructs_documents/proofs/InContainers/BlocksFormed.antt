@@ -7,7 +7,7 @@ use Rattle.markdown_children.proofs.Parts.AtPlaces.{with_children_at_places}
 use Rattle.markdown_children.proofs.Parts.InShape.{children_fit}
 use Rattle.markdown_children.specs.LawStatements.{IsWholeFrom}
 use Rattle.mdconstructs_documents.proofs.InContainers.Skeletons.{SkeletonLaws}
-use Rattle.mdconstructs_containers.specs.Blocks.{document_blocks}
+use Rattle.mdconstructs_definitions.specs.Blocks.{document_blocks}
 use Rattle.mdconstructs_text.proofs.Paragraphs.ChainEvents.{all-begin, is-text}
 use Rattle.mdconstructs_documents.proofs.InContainers.Blocks.{at, bare, blocks-next, blocks_at, content-ready, shown, shown-is}
 use Rattle.mdconstructs_documents.proofs.InContainers.Letters.{formed-back, formed-there}

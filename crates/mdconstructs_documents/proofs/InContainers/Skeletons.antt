@@ -1,27 +1,19 @@
--- What the laws of containers say of the skeleton of each document.
-use Rattle.std.proofs.Common.{◌≡◌, ℕ, [], subst, sym}
+-- What the laws say of the skeleton of each document.
+use Rattle.std.proofs.Common.{◌≡◌, ℕ}
 use Rattle.std.specs.Prelude.{None, Some}
 use Rattle.markdown_base.specs.declared.event.Content.{Content}
 use Rattle.markdown_base.specs.declared.event.Content.TheVariants as content
-use Rattle.markdown_base.specs.Virtual.{end_after, point, virtual}
+use Rattle.markdown_base.specs.Virtual.{virtual}
 use Rattle.markdown_edits.specs.Links.{content_at}
 use Rattle.markdown_children.specs.NextContent.{HasTextInGaps}
 use Rattle.markdown_children.specs.Ready.{IsReady}
 use Rattle.markdown_tokenizer.specs.Engine.{IsWellFormed}
 use Rattle.markdown_tokenizer.specs.Text.{Given, IsDocument}
-use Rattle.mdconstructs_machines.proofs.BlockReads.Accounts.{lines-are-all}
-use Rattle.mdconstructs_machines.specs.LineEvents.{all_of, lines_in}
-use Rattle.mdconstructs_flow_read.proofs.Marks.Courses.{Track, whole-track}
-use Rattle.mdconstructs_containers.proofs.PartGoes.{all_parts_go}
-use Rattle.mdconstructs_containers.proofs.PartSpans.{Goes}
-use Rattle.mdconstructs_containers.proofs.SeatFacts.{document_lines, lines_end}
-use Rattle.mdconstructs_containers.proofs.SkeletonChains.{idle, one_content_of}
-use Rattle.mdconstructs_containers.specs.Rows.{rows}
-use Rattle.mdconstructs_containers.specs.Skeleton.{parts, parts_marks}
-use Rattle.mdconstructs_containers.specs.Blocks.{document_skeleton}
-use Rattle.mdconstructs_containers.specs.Letters.{ArePlainFrom, lazy_underlines}
-use Rattle.mdconstructs_containers.proofs.PlainLetters.{lazy_letters_are_plain}
-use Rattle.mdconstructs_containers.proofs.SkeletonReady.{skeletons_are_formed, skeletons_are_ready, skeletons_have_text_in_gaps}
+use Rattle.mdconstructs_definitions.specs.Blocks.{document_skeleton}
+use Rattle.mdconstructs_containers.specs.Letters.{ArePlainFrom}
+use Rattle.mdconstructs_definitions.specs.Skeleton.{letters}
+use Rattle.mdconstructs_definitions.proofs.PlainLetters.{letters-are-plain}
+use Rattle.mdconstructs_definitions.proofs.SectionsReady.{skeletons-are-formed, skeletons-are-ready, skeletons-have-one-content, skeletons-have-text-in-gaps}
 
 -- it can be read, and is well formed; and letters can be put in it
 pub record SkeletonLaws : Type 0 where
@@ -30,25 +22,14 @@ pub record SkeletonLaws : Type 0 where
   pub of_content : (g : Given) → IsDocument g → (k : ℕ) (c : Content) → content_at (document_skeleton g) k ≡ Some c → c ≡ content.Content
   pub gaps : (g : Given) → IsDocument g → HasTextInGaps (Some content.Content) (document_skeleton g)
   pub formed : (g : Given) → IsDocument g → IsWellFormed g (document_skeleton g)
-  pub plain : (g : Given) → IsDocument g → ArePlainFrom 0 (lazy_underlines g.options.constructs (virtual g.tab g.bytes)) g.bytes
-
--- its chunks are all of content
-chunks-of-content : (g : Given) → IsDocument g → (k : ℕ) (c : Content) → content_at (document_skeleton g) k ≡ Some c → c ≡ content.Content
-chunks-of-content g is k c at =
-    let seats = virtual g.tab g.bytes in
-    let start = point 1 1 0 0 in
-    let marks = parts_marks g.bytes (parts (rows g.options.constructs (lines_in seats))) in
-    let goes : Goes g.tab g.bytes [] start marks [] (end_after start (all_of (lines_in seats))) =
-    all_parts_go g.tab g.bytes g.options.constructs (lines_in seats) start (document_lines g.tab g.bytes) (lines_end seats)
-    (subst (Track g.tab g.bytes start) (sym (lines-are-all seats)) (whole-track g.tab g.bytes is.tab.0)) in
-    one_content_of 0 k c None marks idle goes.runs at
+  pub plain : (g : Given) → IsDocument g → ArePlainFrom 0 (letters g.options.constructs (virtual g.tab g.bytes)) g.bytes
 
 pub skeleton-laws : SkeletonLaws
 skeleton-laws = record {
-  ready = λ g is. skeletons_are_ready g is (Some content.Content);
-  all_ready = λ g is. skeletons_are_ready g is None;
-  of_content = chunks-of-content;
-  gaps = λ g is. skeletons_have_text_in_gaps g is (Some content.Content);
-  formed = skeletons_are_formed;
-  plain = λ g is. lazy_letters_are_plain g.options.constructs g.tab g.bytes;
+  ready = λ g is. skeletons-are-ready g is (Some content.Content);
+  all_ready = λ g is. skeletons-are-ready g is None;
+  of_content = skeletons-have-one-content;
+  gaps = λ g is. skeletons-have-text-in-gaps g is (Some content.Content);
+  formed = skeletons-are-formed;
+  plain = λ g is. letters-are-plain g.options.constructs g.tab g.bytes;
 }

@@ -9,7 +9,7 @@ use Rattle.markdown_children.proofs.Parts.Staying.{ts}
 use Rattle.markdown_children.specs.Children.{child_changes}
 use Rattle.markdown_edits.proofs.Edits.Survivors.{stays_unless_removed}
 use Rattle.markdown_edits.specs.Woven.{of_list, place_in}
-use Rattle.mdconstructs_containers.specs.Blocks.{document_blocks}
+use Rattle.mdconstructs_definitions.specs.Blocks.{document_blocks}
 use Rattle.mdconstructs_documents.specs.DocumentEvents.{document_texts}
 use Rattle.mdconstructs_documents.specs.Documents.{AreDocumentBlocks}
 use Rattle.mdconstructs_documents.specs.Runs.{HasOnlyTexts}

@@ -10,7 +10,7 @@ use Rattle.markdown_children.proofs.Parts.Staying.{each-ready, stays-ready}
 use Rattle.markdown_children.specs.LawStatements.{IsWholeFrom}
 use Rattle.markdown_edits.proofs.Balanced.{balanced_from_open}
 use Rattle.mdconstructs_documents.proofs.InContainers.Skeletons.{SkeletonLaws}
-use Rattle.mdconstructs_containers.specs.Blocks.{document_blocks, document_skeleton}
+use Rattle.mdconstructs_definitions.specs.Blocks.{document_blocks, document_skeleton}
 use Rattle.mdconstructs_inlines.specs.LawStatements.{with_inlines}
 use Rattle.mdconstructs_text.proofs.Paragraphs.ChainEvents.{all-begin, is-text}
 use Rattle.mdconstructs_strings.proofs.Kept.{strings_keep}

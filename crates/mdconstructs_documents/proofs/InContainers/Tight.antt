@@ -9,7 +9,7 @@ use Rattle.markdown_children.proofs.Parts.Untorn.{none-cut, none-torn}
 use Rattle.markdown_children.specs.LawStatements.{NoneTorn}
 use Rattle.markdown_children.specs.NextContent.{CanBeReadNext, HasTextInGaps, HoldsOnlyText}
 use Rattle.mdconstructs_documents.proofs.InContainers.Skeletons.{SkeletonLaws}
-use Rattle.mdconstructs_containers.specs.Blocks.{document_blocks}
+use Rattle.mdconstructs_definitions.specs.Blocks.{document_blocks}
 use Rattle.mdconstructs_inlines.specs.LawStatements.{with_inlines}
 use Rattle.mdconstructs_text.proofs.Paragraphs.ChainEvents.{all-begin, is-content, is-text}
 use Rattle.mdconstructs_strings.proofs.Kept.{strings_keep}

@@ -1,9 +1,9 @@
 -- The blocks of a document account for it: its skeleton does, and so do the leaf blocks of each chain.
 use Rattle.mdconstructs_documents.proofs.Prelude.{◌≡◌, ℕ, ◌<◌, List, [], ◌∷◌, Some, true, map, sym, subst, arith, AllByRecursion, Event, virtual, begins, fitting_starts, Given, IsDocument, AccountFor, blocks-are-formed, chain_text}
 use Rattle.markdown_base.specs.declared.event.Content.TheVariants as content
-use Rattle.mdconstructs_containers.proofs.Innermost.Parts.{skeletons_account}
+use Rattle.mdconstructs_definitions.proofs.SectionSpans.{skeletons-account}
 use Rattle.mdconstructs_containers.proofs.LetterPlaces.{places_kept}
-use Rattle.mdconstructs_containers.specs.Blocks.{document_blocks}
+use Rattle.mdconstructs_definitions.specs.Blocks.{document_blocks}
 use Rattle.mdconstructs_containers.specs.Letters.{LettersKeepPlaces, lettered_seat}
 use Rattle.mdconstructs_text.proofs.Paragraphs.ChainEvents.{all-begin, is-text}
 use Rattle.mdconstructs_documents.proofs.InContainers.Blocks.{at, bare, blocks_at, content-ready, shown, shown-is}
@@ -29,7 +29,7 @@ module _ (laws : SkeletonLaws) (g : Given) (is : IsDocument g) where
   skeleton-there : AccountFor sk s.bytes (virtual s.tab s.bytes)
   skeleton-there =
       subst (AccountFor sk s.bytes) (sym kept.seats)
-      (account-moved g.bytes s.bytes (λ p. sym (kept.shown_at p)) sk (virtual g.tab g.bytes) (map (lettered_seat (at laws g is)) (virtual g.tab g.bytes)) (lettered-there (at laws g is) (virtual g.tab g.bytes)) (skeletons_account g is))
+      (account-moved g.bytes s.bytes (λ p. sym (kept.shown_at p)) sk (virtual g.tab g.bytes) (map (lettered_seat (at laws g is)) (virtual g.tab g.bytes)) (lettered-there (at laws g is) (virtual g.tab g.bytes)) (skeletons-account g is))
 
   reads : (cs : List ℕ) → AllByRecursion (λ c. begins (Some content.Content) sk c ≡ true) cs → AllByRecursion (ReadsChain s wide (Some content.Content) sk (content-ready laws g is) (laws.gaps g is) (blocks_at laws g is)) cs
   reads [] b = tt

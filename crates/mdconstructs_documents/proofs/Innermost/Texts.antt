@@ -1,7 +1,7 @@
 -- The events of a document account for it: its blocks do, and so do the texts and strings of these.
 use Rattle.mdconstructs_documents.proofs.Prelude.{◌≡◌, ℕ, ◌<◌, List, [], ◌∷◌, Some, false, true, sym, subst, append-nil, arith, AllByRecursion, StringContent, TextContent, Event, shown, virtual, begins, fitting_starts, IsReady, Given, IsDocument, IsText, Text, AccountFor, AcrossGap, Course, course-every, text-course, chain_text, inline_events, string_events, document, AreEventsOf, TilesDocuments, Tile}
 use Rattle.markdown_children.specs.NextContent.{HasTextInGaps}
-use Rattle.mdconstructs_containers.specs.Blocks.{document_blocks}
+use Rattle.mdconstructs_definitions.specs.Blocks.{document_blocks}
 use Rattle.mdconstructs_inlines.specs.LawStatements.{with_inlines}
 use Rattle.mdconstructs_text.proofs.Paragraphs.ChainEvents.{all-begin, is-text}
 use Rattle.mdconstructs_documents.proofs.Emphasis.InlineAccounts.{inline-lined}

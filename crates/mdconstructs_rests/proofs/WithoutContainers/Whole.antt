@@ -39,6 +39,7 @@ use Rattle.mdconstructs_containers.specs.Letters.{lazy_underline, lazy_underline
 use Rattle.mdconstructs_containers.specs.Rows.{Row, closed, has_none, rows}
 use Rattle.mdconstructs_containers.specs.Skeleton.{chained_from, parts_in, parts_marks}
 use Rattle.mdconstructs_containers.specs.Skeleton as skeletons
+use Rattle.mdconstructs_definitions.specs.Blocks as defined
 use Rattle.mdconstructs_documents.proofs.FlowTexts.Chained.{IsAt, first-at, kept-at, kept-starts, next-at, starts_in}
 use Rattle.mdconstructs_documents.proofs.FlowTexts.Chunks.{chain-is, chain-next, chain-starts}
 use Rattle.mdconstructs_documents.proofs.FlowTexts.Segments.{HasByte, IsKept}
@@ -51,6 +52,7 @@ use Rattle.mdconstructs_inlines.specs.LawStatements.{with_inlines, with_strings 
 use Rattle.mdconstructs_strings.specs.Strings.{with_strings}
 use Rattle.mdconstructs_rests.proofs.Events.{full-lines, in-blocks}
 use Rattle.mdconstructs_rests.proofs.Links.{blocks-link-back}
+use Rattle.mdconstructs_rests.proofs.WithoutContainers.Defining.{nothing-defined}
 use Rattle.mdconstructs_rests.proofs.WithoutContainers.CutOff.{IsCutOff, IsPlain, cut-off}
 use Rattle.mdconstructs_rests.proofs.WithoutContainers.OneChild.{IsFresh, linked-on, meet-below, moved_on, one-changed, placed-unlinked}
 use Rattle.mdconstructs_rests.proofs.WithoutContainers.PlainParts.{marks-alone, parts-alone, whole_marks}
@@ -251,11 +253,15 @@ module _ (g : Given) (is : IsDocument g) where
         ∙ read-by cut.front cut.back cut.seats cut.before cut.behind cut.front_plain cut.back_plain (sym (lines-are-all (virtual g.tab g.bytes)) ∙ cut.whole) (ap (chained_from 0 None) (marks-are ∙ cut.skeleton))
         ∙ ap (linked_from 0) (sym cut.blocks)
 
-    texts-are : document_texts g ≡ flow_inlines on g.bytes (virtual g.tab g.bytes)
-    texts-are = ap (λ l. with_string_chunks g (with_inlines g l)) blocks-are ∙ inlines-are-read g (whole_text g) (whole-is-text g is)
+    module _ (same : defined.document_blocks g ≡ document_blocks g) where
+      texts-are : document_texts g ≡ flow_inlines on g.bytes (virtual g.tab g.bytes)
+      texts-are = ap (λ l. with_string_chunks g (with_inlines g l)) (same ∙ blocks-are) ∙ inlines-are-read g (whole_text g) (whole-is-text g is)
 
-    pub events-are : document_events g ≡ with_strings on g.tab g.bytes (flow_inlines on g.bytes (virtual g.tab g.bytes))
-    events-are = ap (with_strings on g.tab g.bytes) texts-are
+      pub events-are : document_events g ≡ with_strings on g.tab g.bytes (flow_inlines on g.bytes (virtual g.tab g.bytes))
+      events-are = ap (with_strings on g.tab g.bytes) texts-are
 
 pub documents-without-containers : DocumentsWithoutContainers
-documents-without-containers options bytes is none = let g = document options bytes in (blocks-are g is none, events-are g is none)
+documents-without-containers options bytes is none nothing =
+    let g = document options bytes in
+    let same = nothing-defined options bytes nothing in
+    (same ∙ blocks-are g is none, events-are g is none same)

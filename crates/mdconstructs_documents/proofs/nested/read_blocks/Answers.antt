@@ -2,8 +2,9 @@ use Rattle.mdconstructs_documents.proofs.InContainers.Skeletons.{skeleton-laws}
 use Rattle.mdconstructs_documents.proofs.Prelude.{◌≡◌, ◌∙◌, [], length, None, ap, arith, sym, subst, IfOk-weaker, virtual, IsReady, IsWellFormed, document}
 use Rattle.std.proofs.lemmas.List.{nil_from_length}
 use Rattle.mdconstructs_documents.specs.Runs.{HasOnlyContent}
-use Rattle.mdconstructs_containers.specs.Blocks.{document_blocks, document_skeleton}
-use Rattle.mdconstructs_containers.specs.Letters.{lazy_underlines, with_letters}
+use Rattle.mdconstructs_definitions.specs.Blocks.{document_blocks, document_skeleton}
+use Rattle.mdconstructs_containers.specs.Letters.{with_letters}
+use Rattle.mdconstructs_definitions.specs.Skeleton.{letters}
 use Rattle.mdconstructs_containers.proofs.LetterLemmas.{no_letters}
 use Rattle.mdconstructs_documents.proofs.InContainers.Blocks.{blocks-are, shown-ready}
 use Rattle.mdconstructs_documents.proofs.InContainers.BlocksFormed.{blocks-well}
@@ -23,7 +24,7 @@ returns-then-is_empty-clause-events c =
     let bytes = c.args.bytes.now in
     let zero : length c.as_slice-letters.result.now ≡ 0 = grind arith in
     let none : c.as_slice-letters.result.now ≡ [] = nil_from_length c.as_slice-letters.result.now zero in
-    let at = lazy_underlines c.args.options.now.constructs (virtual c.args.options.now.tab_size bytes) in
+    let at = letters c.args.options.now.constructs (virtual c.args.options.now.tab_size bytes) in
     let no : [] ≡ at = sym none ∙ c.as_slice-letters.ensures.value ∙ c.in_ok-skeleton.ensures.letters in
     let same : bytes ≡ with_letters at bytes = sym (no_letters bytes) ∙ ap (λ l. with_letters l bytes) no in
     IfOk-weaker c.with_leaf_blocks.result _ _ (λ new h.
@@ -32,7 +33,7 @@ returns-then-is_empty-clause-events c =
 pub with_leaf_blocks-requires-2-clause-limit : goal.with_leaf_blocks-requires-2-clause-limit
 with_leaf_blocks-requires-2-clause-limit c =
     let bytes = c.args.bytes.now in
-    let at = lazy_underlines c.args.options.now.constructs (virtual c.args.options.now.tab_size bytes) in
+    let at = letters c.args.options.now.constructs (virtual c.args.options.now.tab_size bytes) in
     let letters = c.as_slice-letters.ensures.value ∙ c.in_ok-skeleton.ensures.letters in
     let same : c.as_slice.result.now ≡ with_letters at bytes = c.as_slice.ensures.value ∙ c.in_ok-shown.ensures ∙ ap (λ l. with_letters l bytes) letters in
     rw same (lettered-limit at c.args.options.now.tab_size bytes c.requires.limit)
@@ -44,7 +45,7 @@ pub with_leaf_blocks-requires-2-clause-ready : goal.with_leaf_blocks-requires-2-
 with_leaf_blocks-requires-2-clause-ready c =
     let bytes = c.args.bytes.now in
     let g = document c.args.options.now bytes in
-    let at = lazy_underlines c.args.options.now.constructs (virtual c.args.options.now.tab_size bytes) in
+    let at = letters c.args.options.now.constructs (virtual c.args.options.now.tab_size bytes) in
     let letters = c.as_slice-letters.ensures.value ∙ c.in_ok-skeleton.ensures.letters in
     let same : c.as_slice.result.now ≡ with_letters at bytes = c.as_slice.ensures.value ∙ c.in_ok-shown.ensures ∙ ap (λ l. with_letters l bytes) letters in
     let ready = shown-ready skeleton-laws g c.is_document.ensures None (skeleton-laws.all_ready g c.is_document.ensures) in
@@ -54,7 +55,7 @@ with_leaf_blocks-requires-2-clause-ready c =
 pub returns-clause-events : goal.returns-clause-events
 returns-clause-events c =
     let bytes = c.args.bytes.now in
-    let at = lazy_underlines c.args.options.now.constructs (virtual c.args.options.now.tab_size bytes) in
+    let at = letters c.args.options.now.constructs (virtual c.args.options.now.tab_size bytes) in
     let letters = c.as_slice-letters.ensures.value ∙ c.in_ok-skeleton.ensures.letters in
     let same : c.as_slice.result.now ≡ with_letters at bytes = c.as_slice.ensures.value ∙ c.in_ok-shown.ensures ∙ ap (λ l. with_letters l bytes) letters in
     IfOk-weaker c.with_leaf_blocks-2.result _ _ (λ new h.
