@@ -482,8 +482,8 @@ struct SectionEnd {
     next: At,
 }
 
-/// One section of a part, from behind the prefixes of its first line on up to the inside of the next one. `left` are the lines of it and of those behind
-/// it.
+/// One section of a part, from behind the prefixes of its first line on; and what stands before the inside of the next one, if it has one. `left` are
+/// its lines, and those of the sections behind it.
 fn write_one<L: Ledger>(
     alloc: Global,
     skeleton: &mut Skeleton,
