@@ -275,7 +275,7 @@ def item(document, span, is_tight):
     """The HTML of what is in an item."""
     made, is_text = "", True
     for inner in span.inner:
-        if inner.name in SILENT:
+        if inner.name == "Definition" or inner.name in SILENT:
             continue
         was_text, is_text = is_text, is_tight and inner.name == "Paragraph"
         html_of_it = inline(document, prefixless(inner).inner) if is_text else block(document, inner)
@@ -306,7 +306,7 @@ def block(document, span):
         return fenced(document, span)
     if name == "HtmlFlow":
         return lines_of(document, span.inner, "HtmlFlowData")
-    if name in SILENT:
+    if name == "Definition" or name in SILENT:
         return ""
     raise NoRule(f"no rule for {name} outside of blocks")
 

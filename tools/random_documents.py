@@ -9,7 +9,7 @@ taken out of the whole document, and if that still differs, the next one is soug
 It prints a row for each cause: how many documents, the smallest one, who is right, and by which words. The status is 1 if a difference has
 no name; its document is shown.
 
-usage: tools/random_documents.py PROGRAM COUNT [--seed S] [--machine NAME] [--cmark CMARK] [--show K] [--pieces N] [--wide] [--links] [--jobs J]
+usage: tools/random_documents.py PROGRAM COUNT [--seed S] [--machine NAME] [--cmark CMARK] [--show K] [--pieces N] [--wide] [--links] [--definitions] [--jobs J]
   PROGRAM         mdevents, or what prints events as it does
   COUNT           how many documents
   --seed S        the seed of the first one; without it, 1
@@ -19,11 +19,13 @@ usage: tools/random_documents.py PROGRAM COUNT [--seed S] [--machine NAME] [--cm
   --pieces N      at most N pieces in a document; without it, 24
   --wide          more kinds of pieces: each kind of HTML, wide and long markers, CR LF, inline text
   --links         brackets, and what stands behind them; no definitions, escapes or references
+  --definitions   link reference definitions and parts of them, each with a label of its own, which nothing refers to
   --jobs J        so many documents at once; without it, 1
 """
 
 import argparse
 import collections
+import itertools
 import multiprocessing
 import os
 import random
@@ -42,6 +44,8 @@ LINES_TOO += ["*a **b*", "\\*", "\\\n", "a  \n", "&#65;", "&nope;", "<a>", "</b>
 LINES_TOO += ["</script>", "<!-- a -->", "<?", "?>", "<!A ", "<![CDATA[", "]]>"]
 # what --links adds, in place of backslashes and character references
 LINKS = ["[", "]", "](", ")", "![", "[a](b)", "![a](b)", "](b \"c", "\")", "](<", ">)", "[a *b](c)", "*", "(", "](b\n\"c\")"]
+# what --definitions adds; `@` is another label each time
+DEFINITIONS = ["[@]: /b", "\n[@]: /b\n", "[@]: <b c> 'd'", "[@]:", "[@", "\n[@]: b \"c\nd\"\n", "]:", "\n/b", " 'c'\n", "\n\"c\"\n", "(c", ")", " x\n"]
 
 MARKER = rb"(?:[-+*]|\d{1,9}[.)])"
 # what begins HTML that a blank line does not end
@@ -94,13 +98,21 @@ def with_line_feeds(text):
     return text.replace("\r\n", "\n").replace("\r", "\n")
 
 
-def one(generator, pieces, wide, links=False):
+def labelled(made):
+    """Pieces in which each `@` is another label."""
+    numbers = itertools.count()
+    return [re.sub("@", lambda _: f"l{next(numbers)}", it) for it in made]
+
+
+def one(generator, pieces, wide, links=False, definitions=False):
     """A random document."""
     containers, lines = (CONTAINERS + CONTAINERS_TOO, LINES + LINES_TOO) if wide else (CONTAINERS, LINES)
     if links:
         lines = [it for it in lines if "\\" not in it and "&" not in it] + LINKS
+    if definitions:
+        lines = lines + DEFINITIONS + DEFINITIONS
     made = [generator.choice(generator.choice((containers, containers, lines))) for _ in range(generator.randint(1, pieces))]
-    return "".join(made).encode()
+    return "".join(labelled(made)).encode()
 
 
 class Beside:
@@ -206,10 +218,11 @@ def main():
     parser.add_argument("--pieces", type=int, default=24, help=argparse.SUPPRESS)
     parser.add_argument("--wide", action="store_true", help=argparse.SUPPRESS)
     parser.add_argument("--links", action="store_true", help=argparse.SUPPRESS)
+    parser.add_argument("--definitions", action="store_true", help=argparse.SUPPRESS)
     parser.add_argument("--jobs", type=int, default=1, help=argparse.SUPPRESS)
     words = parser.parse_args()
     generator = random.Random(words.seed)
-    documents = [one(generator, words.pieces, words.wide, words.links) for _ in range(words.count)]
+    documents = [one(generator, words.pieces, words.wide, words.links, words.definitions) for _ in range(words.count)]
     beside = Beside(words.program, words.machine, words.cmark)
     same = passed = differ = 0
     times, least = collections.Counter(), {}

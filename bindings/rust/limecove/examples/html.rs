@@ -109,8 +109,8 @@ impl Writer {
             Name::HtmlText => self.raw(node)?,
             Name::Autolink => self.autolink(node)?,
             Name::Image => self.image(node)?,
-            // where a link goes was written at its beginning
-            Name::Resource => {}
+            // where a link goes was written at its beginning, and definitions are not shown
+            Name::Resource | Name::Definition => {}
             _ => return Ok(false),
         }
         Ok(true)

@@ -4,8 +4,8 @@
 //! blank lines. MD013 a line has more than 120 characters. MD034 a bare address. MD040 fenced code names no language. MD042 a link goes
 //! nowhere. MD045 an image has no description.
 //!
-//! They hold in quotes and lists too. What is in code and in raw HTML is not looked at. A line that begins as a definition may have a bare
-//! address: no definitions are read yet. It takes time in proportion to the document, in any nesting.
+//! They hold in quotes and lists too. What is in code and in raw HTML is not looked at. A link and a definition may have a bare address. It
+//! takes time in proportion to the document, in any nesting.
 
 use limecove::{Error, LineIndex, ListMarker, Machine, Name, Node, Options, Tree};
 use std::collections::HashSet;
@@ -37,7 +37,7 @@ struct Linter<'a> {
     /// Where the last code or raw HTML ends, and the last fence.
     code: usize,
     fence: usize,
-    /// Where the last link ends, and the last image that is in no other.
+    /// Where the last link or definition ends, and the last image that is in no other.
     link: usize,
     image: usize,
     /// The level of the last heading.
@@ -46,8 +46,6 @@ struct Linter<'a> {
     bullet: Option<ListMarker>,
     /// The number of the last blank line, and how many are before it.
     blank: (usize, usize),
-    /// The number of the line that was last looked at, and whether it begins as a definition.
-    defined: (usize, bool),
     /// The numbers of lines that may be long.
     long: HashSet<usize>,
 }
@@ -65,7 +63,6 @@ impl<'a> Linter<'a> {
             level: 6,
             bullet: None,
             blank: (0, 0),
-            defined: (0, false),
             long: HashSet::new(),
         }
     }
@@ -86,7 +83,7 @@ impl<'a> Linter<'a> {
         match name {
             CodeFenced | CodeIndented | CodeText | HtmlFlow | HtmlText => self.code = bytes.end,
             Name::CodeFencedFence => self.fence = bytes.end,
-            Name::Link => self.link = bytes.end,
+            Name::Link | Name::Definition => self.link = bytes.end,
             _ => {}
         }
         if node.heading_level().is_some() {
@@ -107,7 +104,7 @@ impl<'a> Linter<'a> {
             name,
             CodeFenced | CodeIndented | CodeText | HtmlFlow | HtmlText
         );
-        if is_long || matches!(name, Name::Autolink | Name::Resource) {
+        if is_long || matches!(name, Name::Autolink | Name::Resource | Name::Definition) {
             let line = |at| self.lines.line_column(at).line;
             self.long.extend(line(bytes.start)..=line(bytes.end));
         }
@@ -197,22 +194,9 @@ impl<'a> Linter<'a> {
         }
         for scheme in ["https://", "http://"] {
             for (from, _) in self.document[bytes.clone()].match_indices(scheme) {
-                if !self.is_defined(bytes.start) {
-                    self.say(bytes.start + from, "MD034 an address without < and >");
-                }
+                self.say(bytes.start + from, "MD034 an address without < and >");
             }
         }
-    }
-
-    /// Whether the line of this byte begins as a definition does, behind the marks of quotes and lists.
-    fn is_defined(&mut self, at: usize) -> bool {
-        let number = self.lines.line_column(at).line;
-        if self.defined.0 != number {
-            let line = self.lines.line(number).unwrap_or(0..0);
-            let text = self.document[line].trim_start_matches([' ', '\t', '>', '-', '*', '+']);
-            self.defined = (number, text.starts_with('[') && text.contains("]:"));
-        }
-        self.defined.1
     }
 
     fn long_lines(&mut self) {
@@ -327,7 +311,7 @@ mod tests {
             "- a\n\n      [b]() \n      http://c\n",
             "`a \nb` `\t` `[c](d)` `http://e.f` <http://g.h>\n",
             "<a href=\"http://b.c\">d</a> <b\tc>\n\n<!-- \nhttp://e.f\t\n\n\n-->\n",
-            "[http://a](b) [a]: http://b\n",
+            "[http://a](b)\n",
             "[a]: http://b\n\n> [c]: https://d\n",
             &format!("`{}`\n\n    {}\n\n[a](http://{})\n", long, long, long),
         ] {

@@ -11,7 +11,7 @@
 //! ```
 //!
 //! What is read are leaf blocks (headings, code, HTML, thematic breaks, paragraphs) and inline text with links, images and emphasis; by
-//! [`Machine::Document`] block quotes and lists too. Definitions, and links by reference, are not read yet.
+//! [`Machine::Document`] block quotes, lists and link reference definitions too. Links by reference are not read yet.
 //!
 //! | For | Use | Time and memory |
 //! |---|---|---|

@@ -20,8 +20,8 @@ pub struct Target<'a> {
 impl<'a> Node<'a> {
     /// Where a link, an image or an autolink goes. `None` if it is none of these.
     ///
-    /// It takes time in proportion to the destination, the title and the children of the label. The library gives no spans for escapes
-    /// and references in destinations and titles yet: they are found here, unless they are off.
+    /// It takes time in proportion to the destination, the title and the children of the label. Only by [`Machine::Document`](crate::Machine)
+    /// are escapes and references in destinations and titles spans. They are found here, unless they are off.
     ///
     /// ```
     /// use limecove::{Name, Options, Tree};
