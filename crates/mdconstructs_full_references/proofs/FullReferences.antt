@@ -4,6 +4,7 @@ pub mod Counts
 pub mod Cuts
 pub mod Examples
 pub mod Known
+pub mod LabelEvents
 pub mod Labels
 pub mod Readings
 pub mod Sizes

@@ -1,10 +1,13 @@
 -- Rows that read full references. Whether a label is wanted is a test of what a row sees, which the machine gives.
-use Rattle.std.specs.Prelude.{ℕ, ◌+◌, ◌==◌, ◌&&◌, nat_le, Bool, false, cond, List, [], ◌∷◌, ◌++◌, Option, Some, None}
+use Rattle.std.specs.Prelude.{ℕ, ◌+◌, ◌==◌, ◌&&◌, not, nat_le, Bool, false, cond, List, [], ◌∷◌, ◌++◌, Option, Some, None}
+use Rattle.std.specs.List.{list_any}
+use Rattle.markdown_base.specs.declared.event.Event.{Event}
 use Rattle.markdown_base.specs.declared.event.Name.{Name as EventName}
 use Rattle.markdown_base.specs.declared.event.Name.TheVariants.{Data, LineEnding, Reference, ReferenceMarker, ReferenceString}
 use Rattle.markdown_base.specs.declared.state.Name.{Name}
 use Rattle.markdown_base.specs.declared.state.State.TheVariants.{Next, Retry, Ok, Nok}
 use Rattle.markdown_base.specs.declared.state.TheConstants.Name.{TextBeforeData, LabelEndReferenceFull, LabelStart, LabelInside, LabelEscape, LabelEolAfter}
+use Rattle.markdown_base.specs.Events.{is_enter, same_name}
 use Rattle.markdown_tokenizer.specs.Text.{Given}
 use Rattle.markdown_tokenizer.specs.Configuration.{Configuration, Local}
 use Rattle.markdown_tokenizer.specs.Sight.{Sight}
@@ -40,6 +43,16 @@ counted (Some b) count = with_byte b count
 abbrev pub filled : Option ℕ → (was : ℕ) → ℕ
 filled None was = was
 filled (Some b) was = filled_by b was
+
+-- ---- where the last label stands among events
+-- this enters the string of a label
+abbrev pub begins_label : Event → Bool
+begins_label e = is_enter e.kind && same_name e.name ReferenceString
+
+-- what stands behind the last event that does; nothing, if none does
+abbrev pub label_behind : List Event → List Event
+label_behind [] = []
+label_behind (e ∷ es) = cond (begins_label e && not (list_any begins_label es)) es (label_behind es)
 
 module _ {R D : Type 0} where
   -- nothing of a label was read, and none is noted

@@ -10,7 +10,7 @@
 //! How many characters were read is kept in `size_b`, whether another byte than white space was read in `marker`, and whether a label is there, though
 //! it is not wanted, in `marker_b`.
 
-ghost use Rattle.std.specs.Prelude.{◌≡◌, ◌==◌, IfOk};
+ghost use Rattle.std.specs.Prelude.{◌≡◌, ◌==◌, ◌≤◌, IfOk, drop, length};
 ghost use Rattle.markdown_tokenizer.specs.Calls.{with_local};
 ghost use Rattle.markdown_tokenizer.specs.Configuration.{at_configuration};
 ghost use Rattle.markdown_tokenizer.specs.Sight.{sight_of};
@@ -19,10 +19,10 @@ ghost use Rattle.mdconstructs_labels.specs.Tails.{is_white};
 ghost use Rattle.mdconstructs_resources.specs.ResourceRows.{shows, waits};
 ghost use Rattle.mdconstructs_tables.specs.RowInvariant.{DoesAll, IsCallable, step_in};
 ghost use Rattle.mdconstructs_text.specs.TextBytes.{text_byte};
-ghost use Rattle.mdconstructs_full_references.specs.FullReferenceRows.{counts_byte, is_label_read, known, label_begins, label_noted, one_more, with_byte, filled_by, reference_start, label_start, label_inside, label_escape, label_line, label_white, label_end};
+ghost use Rattle.mdconstructs_full_references.specs.FullReferenceRows.{begins_label, counts_byte, label_behind, is_label_read, known, label_begins, label_noted, one_more, with_byte, filled_by, reference_start, label_start, label_inside, label_escape, label_line, label_white, label_end};
 
 use crate::names;
-use markdown_tokenizer::event;
+use markdown_tokenizer::event::{self, Event, Kind};
 use markdown_tokenizer::state::{MachineTypes, Name, State};
 use markdown_tokenizer::tokenizer::Tokenizer;
 use mdconstructs_tables::marker;
@@ -234,6 +234,29 @@ pub fn label_end<'a, M: MachineTypes>(
             }
         }
     }
+}
+
+/// The index of the first event behind the last one that enters the string of a label, or the number of events if none does. Once a label was read, the
+/// events from there on are those of its string, and the exit of that.
+pub fn label_behind(events: &[Event]) -> usize
+    ensures behind { drop result events.now ≡ label_behind events.now }
+    ensures within { result ≤ length events.now }
+{
+    let mut at = events.len();
+    while at > 0 {
+        if begins_label(&events[at - 1]) {
+            return at;
+        }
+        at -= 1;
+    }
+    events.len()
+}
+
+/// Whether an event enters the string of a label.
+fn begins_label(event: &Event) -> bool
+    ensures { result ≡ begins_label event.now }
+{
+    event.kind == Kind::Enter && event.name == event::Name::ReferenceString
 }
 
 /// Whether this byte waits.

@@ -1,6 +1,6 @@
 -- How a machine reads full references: if a label is there that is wanted, it is read whole, with its events; if not, what was tried leaves nothing but a note
 -- of whether a label is there. And within how many calls.
-use Rattle.mdconstructs_full_references.proofs.Prelude.{◌≡◌, ℕ, ◌+◌, ◌*◌, ◌==◌, ◌||◌, ◌&&◌, List, [], ◌∷◌, ◌++◌, Bool, true, false, cond, Option, Some, None, refl, sym, ap, ◌∙◌, subst, arith, take, drop, length, length-append, length-drop, length-map, drop-next, append_assoc, take-take, take-length, take_at, option_and_then, Event, Enter, Exit, EventName, Reference, ReferenceMarker, Next, Retry, Nok, Name, LabelEndReferenceFull, LabelStart, Seat, Sight, Given, Text, Byte, Nothing, Choice, Configuration, Local, at-front, end_or, held, point_or, shows, counts, goes-next, EndsWith, Leads, Plays, between_items, leads-row, Found, item_length, bytes_of, byte_of, row, when, write, enter, consume, exit, before_class, class_of, row_step, text_byte}
+use Rattle.mdconstructs_full_references.proofs.Prelude.{◌≡◌, ℕ, ◌+◌, ◌*◌, ◌==◌, ◌||◌, ◌&&◌, List, [], ◌∷◌, ◌++◌, Bool, true, false, cond, Option, Some, None, refl, sym, ap, ◌∙◌, subst, arith, take, drop, length, length-append, length-drop, length-map, drop-next, append_assoc, take-take, take-length, take_at, option_and_then, Event, Enter, Exit, EventName, Reference, ReferenceMarker, Next, Retry, Nok, LabelEndReferenceFull, LabelStart, Seat, Sight, Given, Text, Byte, Nothing, Choice, Configuration, Local, at-front, end_or, held, point_or, shows, counts, goes-next, EndsWith, Leads, Plays, between_items, leads-row, Found, item_length, bytes_of, byte_of, row, when, write, enter, consume, exit, before_class, class_of, row_step, text_byte}
 use Rattle.std.specs.Prelude.{is_some, min}
 use Rattle.markdown_tokenizer.specs.declared.waiting.Waits.{Waits}
 use Rattle.markdown_tokenizer.specs.declared.waiting.Waits.TheVariants.{End}
@@ -8,19 +8,16 @@ use Rattle.markdown_base.specs.declared.state.State.{State}
 use Rattle.mdconstructs_machines.specs.Spans.{event}
 use Rattle.mdconstructs_labels.specs.Labels.{hides, is_label}
 use Rattle.mdconstructs_labels.specs.Tails.{bare_behind, begins_with, is_plain, label_size, marked_size, one_more}
-use Rattle.mdconstructs_text.proofs.Constructs.Listed.{outer}
-use Rattle.mdconstructs_text.proofs.Plain.Items.{DecidesIn, ReadsIn}
 use Rattle.mdconstructs_text.proofs.Texts.Steps.{leads-nok, leads-ok}
-use Rattle.mdconstructs_text.specs.Construct.{Between}
 use Rattle.mdconstructs_text.specs.TextEvents.{item_events}
 use Rattle.mdconstructs_resources.proofs.Resources.Readings.{attempt}
 use Rattle.mdconstructs_resources.proofs.Resources.Steps.{Does, yes, no, seen, enters_at, exits_past}
-use Rattle.mdconstructs_resources.proofs.Resources.Touched.{Touches, touched, touched-after, touched-call}
+use Rattle.mdconstructs_resources.proofs.Resources.Touched.{Touches, touched, touched-call}
 use Rattle.mdconstructs_resources.specs.ResourceLooks.{marked_look}
 use Rattle.mdconstructs_resources.specs.ResourceRows.{waits}
 use Rattle.mdconstructs_full_references.specs.FullReference.{full_reference, full_reference_grammar, label_length, label_text}
 use Rattle.mdconstructs_full_references.specs.FullReferenceLooks.{full_reference_look, label_look}
-use Rattle.mdconstructs_full_references.specs.FullReferenceRows.{full_references, label_begins, label_noted, reference_start_rows}
+use Rattle.mdconstructs_full_references.specs.FullReferenceRows.{label_begins, label_noted, reference_start_rows}
 use Rattle.mdconstructs_full_references.proofs.FullReferences.Counts.{flag}
 use Rattle.mdconstructs_full_references.proofs.FullReferences.Steps.{Finds, PlaysReferences, further, noted}
 use Rattle.mdconstructs_full_references.proofs.FullReferences.WholeLabels.{Tells, found_of, opened, reads-whole-label, with_noted}
@@ -98,7 +95,7 @@ noted-is local false h = ap (λ n. n == 1) h
 abbrev begun : Local Unit Unit → Local Unit Unit
 begun local = record local { tokenize_state = record local.tokenize_state { size_b = 0; marker = 0; marker_b = 0 } }
 
-module _ (g : Given) (text : Text) (m : Plays g text) (wanted : Given → Sight → Configuration Unit Unit → Bool) (r : PlaysReferences g text m wanted) (is_wanted : List ℕ → Bool) (told : Tells g text wanted is_wanted) where
+module _ (g : Given) (text : Text) (m : Plays g text) (wanted : Given → Sight → Configuration Unit Unit → Bool) (r : PlaysReferences g text m wanted) (is_wanted : ℕ → List ℕ → Bool) (told : Tells g text wanted is_wanted) where
   -- ---- what is found
   fails-start : (cs : List Choice) (p : ℕ) (waits : Waits) (ended : Bool) (events : List Event) (l : List Seat) (local : Local Unit Unit) → drop p text.seats ≡ l
       → Does g text m (held [] p waits ended events local) LabelEndReferenceFull (row (write (label_noted 0) ∷ []) Nok)
@@ -113,13 +110,13 @@ module _ (g : Given) (text : Text) (m : Plays g text) (wanted : Given → Sight 
 
   -- from a byte on
   reads-byte : (cs : List Choice) (p : ℕ) (ended : Bool) (events : List Event) (local : Local Unit Unit) (s : Seat) (ss : List Seat) → drop p text.seats ≡ s ∷ ss
-      → Finds g text m cs p (p + full_reference_look (bytes_of (s ∷ ss))) events (s ∷ ss) (2 * length (s ∷ ss) + 1) (held [] p Byte ended events local) LabelEndReferenceFull (answer is_wanted (bytes_of (s ∷ ss)))
+      → Finds g text m cs p (p + full_reference_look (bytes_of (s ∷ ss))) events (s ∷ ss) (2 * length (s ∷ ss) + 1) (held [] p Byte ended events local) LabelEndReferenceFull (answer (is_wanted (p + 1)) (bytes_of (s ∷ ss)))
   reads-byte cs p ended events local s ss at =
       let all = s ∷ ss in
       let far = p + full_reference_look (bytes_of all) in
       let n = 2 * length all + 1 in
       let k = held [] p Byte ended events local in
-      let rest = option_and_then (found_of is_wanted (bytes_of ss)) (label_size (bytes_of ss)) in
+      let rest = option_and_then (found_of (is_wanted (p + 1)) (bytes_of ss)) (label_size (bytes_of ss)) in
       let rows = row (write label_begins ∷ enter Reference ∷ enter ReferenceMarker ∷ consume ∷ exit ReferenceMarker ∷ []) (Next LabelStart) in
       let none_rows = row (write (label_noted 0) ∷ []) Nok in
       let has : Does g text m k LabelEndReferenceFull (when (waits 91) rows none_rows) =
@@ -199,19 +196,20 @@ module _ (g : Given) (text : Text) (m : Plays g text) (wanted : Given → Sight 
           λ e h. d.2 e (leads-ok g text m (between_items (p + size) Nothing false (events ++ item_events g.bytes (item, take size seats)) after) c cs e h),
         )
 
-    follows-so : Found_here (answer is_wanted (bytes_of seats)) → Here ((full_reference_grammar is_wanted).front (bytes_of seats)) (label_there (bytes_of seats))
+    follows-so : Found_here (answer (is_wanted (p + 1)) (bytes_of seats)) → Here ((full_reference_grammar (is_wanted (p + 1))).front (bytes_of seats)) (label_there (bytes_of seats))
     follows-so d =
-        subst (λ t. Here ((full_reference_grammar is_wanted).front (bytes_of seats)) t) (there-is is_wanted (bytes_of seats))
-        (subst (λ o. Here o (is_some (answer is_wanted (bytes_of seats)))) (front-is is_wanted (bytes_of seats)) (follows (answer is_wanted (bytes_of seats)) d))
+        subst (λ t. Here ((full_reference_grammar (is_wanted (p + 1))).front (bytes_of seats)) t) (there-is (is_wanted (p + 1)) (bytes_of seats))
+        (subst (λ o. Here o (is_some (answer (is_wanted (p + 1)) (bytes_of seats)))) (front-is (is_wanted (p + 1)) (bytes_of seats)) (follows (answer (is_wanted (p + 1)) (bytes_of seats)) d))
 
-  -- The theorem of full references, where an attempt waits that was made at any place before, with any of the events so far
+  -- The theorem of full references, where an attempt waits that was made at any place before, with any of the events so far. Which labels are wanted may
+  -- depend on the place where the label begins, behind the `[`
   pub references-follow : (ok nok : State) (stack : List EventName) (place : ℕ) (ended : Bool) (before more : List Event) (cs : List Choice) (p : ℕ) (local : Local Unit Unit) (l : List Seat) → drop p text.seats ≡ l
-      → Follows (reference_calls is_wanted (bytes_of l)) ok nok stack place ended before cs p (before ++ more) l (shows l [] p (before ++ more) local) (label_there (bytes_of l)) ((full_reference_grammar is_wanted).front (bytes_of l))
+      → Follows (reference_calls (is_wanted (p + 1)) (bytes_of l)) ok nok stack place ended before cs p (before ++ more) l (shows l [] p (before ++ more) local) (label_there (bytes_of l)) ((full_reference_grammar (is_wanted (p + 1))).front (bytes_of l))
   references-follow ok nok stack place ended before more cs p local l at =
       let events = before ++ more in
       let kept = λ (es : List Event) (h : take (length events) es ≡ events).
       sym (take-take (length before) (length events) es (omega (arith, length-append before more))) ∙ ap (take (length before)) h ∙ take_at before more (length before) refl in
-      elim l as (λ l. drop p text.seats ≡ l → Follows (reference_calls is_wanted (bytes_of l)) ok nok stack place ended before cs p events l (shows l [] p events local) (label_there (bytes_of l)) ((full_reference_grammar is_wanted).front (bytes_of l))) [
+      elim l as (λ l. drop p text.seats ≡ l → Follows (reference_calls (is_wanted (p + 1)) (bytes_of l)) ok nok stack place ended before cs p events l (shows l [] p events local) (label_there (bytes_of l)) ((full_reference_grammar (is_wanted (p + 1))).front (bytes_of l))) [
         | [] ↦ λ at.
             follows-so ok nok stack place ended before cs p events [] (shows [] [] p events local) at kept
             (fails-start (attempt ok nok stack place ended before ∷ cs) p End true events [] local at (record { row_is = r.start (shows [] [] p events local) }))
@@ -219,18 +217,3 @@ module _ (g : Given) (text : Text) (m : Plays g text) (wanted : Given → Sight 
             follows-so ok nok stack place ended before cs p events (s ∷ ss) (shows (s ∷ ss) [] p events local) at kept
             (reads-byte (attempt ok nok stack place ended before ∷ cs) p false events local s ss at)
       ] at
-
-  in-frame : (names : Between) (n : ℕ) (nok : Name) (p : ℕ) (ended : Bool) (events : List Event) (seats : List Seat) (k : Configuration Unit Unit) (there : Bool) (o : Option Found)
-      → Follows n (Next names.home) (Next nok) [] p ended events [] p events seats k there o
-      → DecidesIn g text m names n nok p ended events seats k (outer names.home nok p ended events ∷ []) (Retry LabelEndReferenceFull) o
-  in-frame names n nok p ended events seats k there None d = (d.0, touched-after n k.local d.0 d.1, d.3)
-  in-frame names n nok p ended events seats k there (Some item) d = (false, d.0, touched-after n k.local d.0 d.1, d.2)
-
-  -- The same as a construct in a list of constructs
-  pub references-read-in : (names : Between) → ReadsIn g text m names (reference_calls is_wanted) (full_references is_wanted wanted)
-  references-read-in names nok p ended events local s ss at first =
-      let all = s ∷ ss in
-      let k = between_items p Byte ended events local in
-      let o = (full_reference_grammar is_wanted).front (bytes_of all) in
-      in-frame names (reference_calls is_wanted (bytes_of all)) nok p ended events all k (label_there (bytes_of all)) o
-      (follows-so (Next names.home) (Next nok) [] p ended events [] p events all k at (λ es h. h) (reads-byte (outer names.home nok p ended events ∷ []) p ended events local s ss at))

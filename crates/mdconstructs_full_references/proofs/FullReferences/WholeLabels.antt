@@ -1,5 +1,6 @@
 -- How a whole label is read, with its brackets.
 use Rattle.mdconstructs_full_references.proofs.Prelude.{◌≡◌, ℕ, suc, ◌+◌, ◌*◌, ◌≤◌, ◌==◌, ◌&&◌, ◌||◌, not, nat_le, List, [], ◌∷◌, ◌++◌, Bool, true, false, cond, Option, Some, None, refl, sym, ap, ◌∙◌, subst, arith, take, drop, length, length-drop, option_and_then, drop-next, drop-drop, append_assoc, place-behind, take-map, take_at, Event, Enter, Exit, Data, LineEnding, Reference, ReferenceMarker, ReferenceString, Ok, Nok, LabelEolAfter, LabelStart, LabelEndReferenceFullEnd, Seat, Sight, sight, Given, Text, Byte, Nothing, Choice, Configuration, Local, at-front, held, end_or, point_or, counts, EndsWith, Plays, leads-row, Found, bytes_of, leaf, row, write, enter, exit, consume, behind-more, behind-none, feed-first}
+use Rattle.std.specs.Prelude.{◌<◌}
 use Rattle.markdown_base.proofs.Facts.Numbers.{unlike}
 use Rattle.mdconstructs_machines.specs.Spans.{event}
 use Rattle.mdconstructs_text.proofs.Plain.Stretches.{span-read}
@@ -17,10 +18,10 @@ use Rattle.mdconstructs_full_references.proofs.FullReferences.Counts.{label-is, 
 use Rattle.mdconstructs_full_references.proofs.FullReferences.Labels.{IsPassed, in_label, in_line, in_string, inside_look, label-ends, label-goes, label-opens, label_from, name_of, reads-label}
 use Rattle.mdconstructs_full_references.proofs.FullReferences.Steps.{Finds, IsCounted, PlaysReferences, counted-read, fails-here, left, fails, reads, stands, touched-read, with_read}
 
--- The test of a machine says whether a label is wanted, behind the events of its string
-pub record Tells (g : Given) (text : Text) (wanted : Given → Sight → Configuration Unit Unit → Bool) (is_wanted : List ℕ → Bool) : Type 0 where
-  pub says : (before : List Event) (q i : ℕ) (local : Local Unit Unit) (l : List Seat) → drop q text.seats ≡ l → 1 ≤ i → i ≤ length l
-      → let k = held (Reference ∷ []) (q + i) Byte false (before ++ label_string g.bytes (take i l)) local in wanted g (sight g text k) k ≡ is_wanted (bytes_of (take i l))
+-- The test of a machine says whether a label is wanted, behind the events of its string. It may depend on the place where the label begins
+pub record Tells (g : Given) (text : Text) (wanted : Given → Sight → Configuration Unit Unit → Bool) (is_wanted : ℕ → List ℕ → Bool) : Type 0 where
+  pub says : (before : List Event) (q i : ℕ) (local : Local Unit Unit) (l : List Seat) → drop q text.seats ≡ l → 1 ≤ i → i < length l
+      → let k = held (Reference ∷ []) (q + i) Byte false (before ++ label_string g.bytes (take i l)) local in wanted g (sight g text k) k ≡ is_wanted q (bytes_of (take i l))
 
 -- What is found behind a `[`, if so many bytes are there up to a `]`: maybe a label, and if it is wanted, a reference
 abbrev pub found_of : (is_wanted : List ℕ → Bool) → (behind : List ℕ) → (size : ℕ) → Option (Option Found)
@@ -46,7 +47,7 @@ none-is is_wanted (b ∷ bs) = refl
 inside-length : (i : ℕ) (l : List Seat) (z : Seat) (zs : List Seat) → drop i l ≡ z ∷ zs → i ≤ length l
 inside-length i l z zs there = omega (arith, length-drop i l, ap length there)
 
-module _ (g : Given) (text : Text) (m : Plays g text) (wanted : Given → Sight → Configuration Unit Unit → Bool) (r : PlaysReferences g text m wanted) (is_wanted : List ℕ → Bool) (told : Tells g text wanted is_wanted)
+module _ (g : Given) (text : Text) (m : Plays g text) (wanted : Given → Sight → Configuration Unit Unit → Bool) (r : PlaysReferences g text m wanted) (is_wanted : ℕ → List ℕ → Bool) (told : Tells g text wanted is_wanted)
     (cs : List Choice) (p far : ℕ) (events : List Event) (s : Seat) (ss : List Seat) (at : drop p text.seats ≡ s ∷ ss) where
   -- the events of its first bracket
   abbrev pub opened : List Event
@@ -69,7 +70,7 @@ module _ (g : Given) (text : Text) (m : Plays g text) (wanted : Given → Sight 
   -- at its last bracket it shows whether it is a label, and one that is wanted
   label-closed : (i q : ℕ) (local : Local Unit Unit) (z : Seat) (zs : List Seat) → 1 ≤ i → q ≡ p + 1 + i → drop q text.seats ≡ z ∷ zs → label_size (bytes_of ss) ≡ Some i → IsCounted local (bytes_of (take i ss)) → q ≤ far
       → Finds g text m cs p far events (s ∷ ss) (2 * length (z ∷ zs) + 1) (stands g text m cs p far events (s ∷ ss) (Reference ∷ []) q (opened ++ label_string g.bytes (take i ss)) local) LabelEndReferenceFullEnd
-      (found_of is_wanted (bytes_of ss) i)
+      (found_of (is_wanted (p + 1)) (bytes_of ss) i)
   label-closed i q local z zs some is there size_is counted within =
       let label = take i (bytes_of ss) in
       let w = opened ++ label_string g.bytes (take i ss) in
@@ -84,18 +85,18 @@ module _ (g : Given) (text : Text) (m : Plays g text) (wanted : Given → Sight 
       let read : (nat_le local.tokenize_state.size_b 999 && (local.tokenize_state.marker == 1)) ≡ is_label label =
       (λ j. nat_le (counted.count j) 999 && (counted.full j == 1)) ∙ read-is (characters (bytes_of (take i ss))) (is_filled (bytes_of (take i ss)))
       ∙ ap (λ bs. nat_le (characters bs) 999 && is_filled bs) (sym bytes_are) ∙ sym (label-is (bytes_of ss) i size_is) in
-      let said : wanted g (sight g text (held (Reference ∷ []) q Byte false whole after)) (held (Reference ∷ []) q Byte false whole after) ≡ is_wanted label =
+      let said : wanted g (sight g text (held (Reference ∷ []) q Byte false whole after)) (held (Reference ∷ []) q Byte false whole after) ≡ is_wanted (p + 1) label =
       (λ j. let k' = held (Reference ∷ []) (is j) Byte false (sym (append_assoc events opened (label_string g.bytes (take i ss))) j) after in wanted g (sight g text k') k')
-      ∙ told.says (events ++ opened) (p + 1) i after ss (drop-next text.seats p s ss at) some (inside-length i ss z zs inner_at) ∙ ap is_wanted (sym bytes_are) in
+      ∙ told.says (events ++ opened) (p + 1) i after ss (drop-next text.seats p s ss at) some (omega (arith, length-drop i ss, ap length inner_at)) ∙ ap (is_wanted (p + 1)) (sym bytes_are) in
       let left_is = length-drop (i + 2) (s ∷ ss) in
       let left_here = length-drop i ss in
       let left_all = ap length inner_at in
-      elim (is_label label) as (λ t. is_label label ≡ t → Now (cond t (Some (cond (is_wanted label) (Some (full_reference i)) None)) None)) [
+      elim (is_label label) as (λ t. is_label label ≡ t → Now (cond t (Some (cond (is_wanted (p + 1) label) (Some (full_reference i)) None)) None)) [
         | false ↦ λ e.
             fails-here g text m cs p far events (s ∷ ss) calls (Reference ∷ []) q w local LabelEndReferenceFullEnd z zs there (omega arith) within counted.none (no g text m k LabelEndReferenceFullEnd has (read ∙ e))
         | true ↦ λ e.
             let has1 = yes g text m k LabelEndReferenceFullEnd has (read ∙ e) in
-            elim (is_wanted label) as (λ t. is_wanted label ≡ t → Now (Some (cond t (Some (full_reference i)) None))) [
+            elim (is_wanted (p + 1) label) as (λ t. is_wanted (p + 1) label ≡ t → Now (Some (cond t (Some (full_reference i)) None))) [
               | true ↦ λ t.
                   let does = yes g text m k LabelEndReferenceFullEnd has1 (said ∙ t) in
                   let enters = enters_at g text ReferenceMarker q ∷ [] in
@@ -130,7 +131,7 @@ module _ (g : Given) (text : Text) (m : Plays g text) (wanted : Given → Sight 
   pub reads-whole-label : (local : Local Unit Unit) → IsCounted local [] → (l : List Seat) → ss ≡ l
       → (label_size (bytes_of ss) ≡ None → p + 1 + label_look (bytes_of ss) ≤ far) → ((i : ℕ) → label_size (bytes_of ss) ≡ Some i → p + 1 + i ≤ far)
       → Finds g text m cs p far events (s ∷ ss) (2 * length l + 2) (left g text m cs p far events (s ∷ ss) l (Reference ∷ []) (p + 1) opened local) LabelStart
-      (option_and_then (found_of is_wanted (bytes_of ss)) (label_size (bytes_of l)))
+      (option_and_then (found_of (is_wanted (p + 1)) (bytes_of ss)) (label_size (bytes_of l)))
   reads-whole-label local counted [] same short sized =
       fails g text m cs p far events (s ∷ ss) (2 * 0 + 2) [] (Reference ∷ []) (p + 1) opened local LabelStart (drop-next text.seats p s ss at ∙ same) (omega arith)
       (omega (arith, short (ap (λ l. label_size (bytes_of l)) same))) counted.none (r.begins _)
@@ -141,7 +142,7 @@ module _ (g : Given) (text : Text) (m : Plays g text) (wanted : Given → Sight 
       let there : drop q1 text.seats ≡ v ∷ vs = drop-next text.seats p s ss at ∙ same in
       let k = stands g text m cs p far events (s ∷ ss) (Reference ∷ []) q1 opened local in
       let calls = 2 * length (v ∷ vs) + 2 in
-      let f = found_of is_wanted (bytes_of ss) in
+      let f = found_of (is_wanted (p + 1)) (bytes_of ss) in
       let total = label_size (bytes_of (v ∷ vs)) in
       let total_is : label_size (bytes_of ss) ≡ total = ap (λ l. label_size (bytes_of l)) same in
       let look_is : label_look (bytes_of ss) ≡ label_look (bytes_of (v ∷ vs)) = ap (λ l. label_look (bytes_of l)) same in
@@ -177,7 +178,7 @@ module _ (g : Given) (text : Text) (m : Plays g text) (wanted : Given → Sight 
               | true ↦ λ ends_it.
                   let none = label-ends false b bs ends_it in
                   let room = sized 0 (total_is ∙ none) in
-                  subst (λ o. Finds g text m cs p far events (s ∷ ss) calls k LabelStart o) (sym (ap (option_and_then f) none ∙ none-is is_wanted (bytes_of ss)))
+                  subst (λ o. Finds g text m cs p far events (s ∷ ss) calls k LabelStart o) (sym (ap (option_and_then f) none ∙ none-is (is_wanted (p + 1)) (bytes_of ss)))
                   (fails-here g text m cs p far events (s ∷ ss) calls (Reference ∷ []) q1 opened local LabelStart v vs there (omega arith) (omega (arith, room)) counted.none does)
               | false ↦ λ other.
                   let none = label-opens false b bs other (bracket-is b e other) in
