@@ -1,10 +1,11 @@
 -- The step of the state between constructs, and that of data, at bytes at which no construct is tried.
 use Rattle.markdown_tokenizer.specs.Sight.{sight_of}
 use Rattle.mdconstructs_tables.specs.RowInvariant.{step_in}
-use Rattle.mdconstructs_inlines.proofs.Prelude.{begins-classed, data_goes_on, item_length, TokenizerValue, step_by, ◌≡◌, ◌⊎◌, inl, inr, ℕ, ◌&&◌, ◌||◌, List, [], ◌∷◌, Bool, true, false, cond, Option, Some, refl, sym, ap, ◌∙◌, Constructs, Data, Next, Retry, AttentionStart, DataInside, TextBefore, TextBeforeData, Configuration, Sight, Given, Rows, class_of, consume, exit, row, when, picked, step_of, is_white, is_line_feed, passes, reverse, Construct, Found, between_texts, some_begins, some_first, tried_at, TextByte, is_line_feed_class, punctuation, text_byte, line-classed, white-classed, is_white_class, marked_grammars, inline_before, inline_before_rows, inline_constructs, inline_data, inline_data_rows, begins_run, is_delimiter, run_begins, Attempt, choose, begins_bracket, begins_end, begins_image, begins_link, is_of_bracket, ends_data}
+use Rattle.mdconstructs_inlines.proofs.Prelude.{begins-classed, data_goes_on, item_length, TokenizerValue, step_by, ◌≡◌, inl, inr, ℕ, ◌&&◌, ◌||◌, List, [], ◌∷◌, Bool, true, false, cond, Option, Some, refl, sym, ap, ◌∙◌, Constructs, Data, Next, Retry, AttentionStart, DataInside, TextBefore, TextBeforeData, Configuration, Sight, Given, Rows, class_of, consume, exit, row, when, picked, step_of, is_white, is_line_feed, passes, reverse, Construct, Found, between_texts, some_begins, some_first, tried_at, TextByte, is_line_feed_class, punctuation, text_byte, line-classed, white-classed, is_white_class, marked_grammars, inline_before, inline_before_rows, inline_constructs, inline_data, inline_data_rows, begins_run, is_delimiter, run_begins, Attempt, choose, begins_bracket, begins_end, begins_image, begins_link, is_of_bracket}
 use Rattle.markdown_base.specs.declared.state.TheConstants.Name.{LabelEndNok, LabelEndOk, LabelEndStart, LabelStartImageStart, LabelStartLinkStart}
+use Rattle.mdconstructs_inlines.specs.declared.names.TheConstants.{LabelEndNotResource}
 use Rattle.mdconstructs_inlines.proofs.BracketBytes.{begins-none}
-use Rattle.mdconstructs_inlines.proofs.InlineApart.{begins_mark, inline-apart, or-parts, special-classed}
+use Rattle.mdconstructs_inlines.proofs.InlineApart.{inline-apart, or-parts, special-classed}
 use Rattle.mdconstructs_inlines.proofs.Playing.{before-class, data-class, ends_or_goes}
 use Rattle.mdconstructs_inlines.proofs.WhitePlays.{goes-class, goes_unless}
 use Rattle.mdconstructs_inlines.specs.BracketRows.{bracket_rows, end_is_awaited, end_may_make, image_begins, kept_starts, link_begins, mark_begins, may_make, one_waits}
@@ -34,7 +35,7 @@ module _ {M : Type 0} (t : TokenizerValue M Unit Unit) (b : ℕ) (at : (sight_of
       let (link, image, ends) = begins-none on b none in
       let starts = reverse (kept_starts t.configuration) in
       let lone : Rows Unit Unit = when end_is_awaited (row [] (Retry LabelEndNok)) (row [] (Retry TextBeforeData)) in
-      let tried : Rows Unit Unit = row (choose Attempt (Next LabelEndOk) (Next LabelEndNok) ∷ []) (Retry LabelEndStart) in
+      let tried : Rows Unit Unit = row (choose Attempt (Next LabelEndOk) (Next LabelEndNotResource) ∷ []) (Retry LabelEndStart) in
       let image_rows : Rows Unit Unit = row (choose Attempt (Next TextBefore) (Next TextBeforeData) ∷ []) (Retry LabelStartImageStart) in
       picks link_begins (row [] (Retry LabelStartLinkStart)) (when image_begins image_rows (when end_may_make tried lone)) false (ap (passes (begins_link on)) at ∙ link)
       ∙ picks image_begins image_rows (when end_may_make tried lone) false (ap (passes (begins_image on)) at ∙ image)

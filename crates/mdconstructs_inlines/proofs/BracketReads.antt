@@ -1,18 +1,16 @@
--- How the machine of inline text reads brackets and ends of labels between items; and in how many calls.
-use Rattle.markdown_base.specs.declared.event.Name.TheVariants.{LabelEnd, LabelImage, LabelImageMarker, LabelLink, LabelMarker}
-use Rattle.markdown_base.specs.declared.state.TheConstants.Name.{LabelEndNok, LabelEndOk, LabelEndResourceStart, LabelEndStart, LabelStartImageOpen, LabelStartImageStart, LabelStartLinkStart}
+-- How the machine of inline text reads brackets, and ends of labels that make nothing, between items; and in how many calls.
+use Rattle.markdown_base.specs.declared.event.Name.TheVariants.{LabelImage, LabelImageMarker, LabelLink, LabelMarker}
+use Rattle.markdown_base.specs.declared.state.TheConstants.Name.{LabelEndNok, LabelStartImageOpen, LabelStartImageStart, LabelStartLinkStart}
 use Rattle.markdown_tokenizer.specs.declared.tokenizer.state.LabelKind.TheVariants.{Image, Link}
 use Rattle.markdown_tokenizer.specs.declared.tokenizer.state.LabelStart.{LabelStart}
-use Rattle.mdconstructs_resources.proofs.Resources.Readings.{Follows, attempt, calls_for, resources-follow}
-use Rattle.mdconstructs_resources.specs.ResourceLooks.{resource_look}
 use Rattle.mdconstructs_text.proofs.Texts.Leads.{goes-next as goes-fed}
 use Rattle.mdconstructs_text.proofs.Texts.Steps.{leads-nok, leads-ok}
-use Rattle.mdconstructs_inlines.proofs.Prelude.{◌≡◌, ℕ, suc, ◌+◌, ◌*◌, ◌≤◌, ◌&&◌, ◌==◌, List, [], ◌∷◌, ◌++◌, Bool, true, false, cond, Option, Some, None, refl, sym, ap, ◌∙◌, subst, arith, length, take, drop, append_assoc, drop-drop, length-map, take-take, slice_get, Event, Enter, Exit, EventName, Name, Next, Nok, Ok, Retry, TextBefore, TextBeforeData, Seat, drop-next, Byte, Nothing, Choice, Local, byte_of, sight, Given, Text, row, write, enter, exit, consume, choose, Attempt, counts, row_step, class_of, text_byte, at-front, passes, between_texts, bytes_of, event, leaf, span, Found, item_length, item_events, outer, shows, first_byte, goes-back, goes-next, sees, Remembered, remembered, spent, Plays, EndsWith, Leads, between_items, leads-row, leads-tested, reverse, resource_grammar, begins_end, begins_image, begins_link, image_bracket, is_open_bracket, label_end, link_bracket, lone_end}
+use Rattle.mdconstructs_inlines.proofs.Prelude.{◌≡◌, ℕ, ◌+◌, ◌≤◌, List, [], ◌∷◌, ◌++◌, Bool, true, false, refl, sym, ap, ◌∙◌, subst, arith, length, take, drop, append_assoc, slice_get, Event, Enter, Exit, EventName, Next, Nok, Retry, TextBefore, TextBeforeData, Seat, drop-next, Byte, Nothing, Choice, Local, byte_of, Given, Text, row, write, enter, exit, consume, choose, Attempt, counts, row_step, class_of, text_byte, at-front, passes, event, Found, item_length, item_events, outer, shows, first_byte, goes-next, sees, Remembered, remembered, spent, Plays, EndsWith, Leads, between_items, leads-row, leads-tested, reverse, begins_end, begins_image, begins_link, image_bracket, is_open_bracket, link_bracket, lone_end}
 use Rattle.mdconstructs_text.proofs.Texts.Steps.{before_class}
 use Rattle.std.proofs.Math.Seq.{take-append_seam}
 use Rattle.markdown_tokenizer.specs.Sight.{end_or, point_or}
 use Rattle.mdconstructs_inlines.specs.BracketRows.{bracket_is_next, image_open_rows, may_make, one_waits, started, waits_less, waits_more, without_last}
-use Rattle.mdconstructs_inlines.proofs.Playing.{ends-alone, ends-make, images-begin, inlines_play, inlines_play_resources, links-begin}
+use Rattle.mdconstructs_inlines.proofs.Playing.{ends-alone, images-begin, inlines_play, links-begin}
 
 -- what is remembered but the brackets that wait
 abbrev pub unstarted : Remembered → Remembered
@@ -25,15 +23,15 @@ pub record Waits (n : ℕ) (starts : List LabelStart) (local after : Local Unit 
   pub starts_are : (remembered after).starts ≡ starts
 
 -- what states share, with these brackets
-abbrev with_starts : List LabelStart → Local Unit Unit → Local Unit Unit
+abbrev pub with_starts : List LabelStart → Local Unit Unit → Local Unit Unit
 with_starts starts local = record local { tokenize_state = record local.tokenize_state { label_starts = starts } }
 
-abbrev kept : Local Unit Unit → List LabelStart
+abbrev pub kept : Local Unit Unit → List LabelStart
 kept local = local.tokenize_state.label_starts
 
-module _ (g : Given) (text : Text) where
+module _ (defined : List ℕ → Bool) (g : Given) (text : Text) where
   abbrev m : Plays g text
-  m = inlines_play g text
+  m = inlines_play defined g text
 
   -- From between items an item is read, with its events; then these brackets wait
   abbrev pub AddsBracket : (n : ℕ) (starts : List LabelStart) (p : ℕ) (ended : Bool) (events : List Event) (local : Local Unit Unit) → List Seat → Found → Type 0
@@ -42,10 +40,10 @@ module _ (g : Given) (text : Text) where
       × Leads g text m (between_items p Byte ended events local) [] (Retry TextBefore) (between_items (p + item_length item) Nothing ended_after (events ++ item_events g.bytes (item, take (item_length item) seats)) after) [] (Next TextBefore)
 
   -- the place of a byte that waits, and where it ends
-  abbrev enters : EventName → ℕ → Event
+  abbrev pub enters : EventName → ℕ → Event
   enters name p = event g.bytes Enter name (point_or text.end (slice_get text.seats p))
 
-  abbrev exits : EventName → ℕ → Event
+  abbrev pub exits : EventName → ℕ → Event
   exits name p = event g.bytes Exit name (end_or text.end (slice_get text.seats p))
 
   module _ (p : ℕ) (ended : Bool) (events : List Event) (local : Local Unit Unit) (s : Seat) (ss : List Seat) (here : drop p text.seats ≡ s ∷ ss) where
@@ -62,7 +60,7 @@ module _ (g : Given) (text : Text) where
           after,
           record { calls = omega arith; same = refl; starts_are = refl },
           λ es h.
-              leads-row g text m (row [] (Retry LabelStartLinkStart)) k [] TextBefore es (links-begin g text k s.byte (ap byte_of at) is)
+              leads-row g text m (row [] (Retry LabelStartLinkStart)) k [] TextBefore es (links-begin defined g text k s.byte (ap byte_of at) is)
               (leads-row g text m (row (enter LabelLink ∷ enter LabelMarker ∷ consume ∷ exit LabelMarker ∷ exit LabelLink ∷ write (waits_more Link) ∷ []) (Next TextBefore)) (between_items p Byte ended events (counts local)) [] LabelStartLinkStart es refl
               (subst (λ l. EndsWith g text m (between_items (p + 1) Nothing false l (put l)) [] (Next TextBefore) es) (sym same) h)),
         )
@@ -79,7 +77,7 @@ module _ (g : Given) (text : Text) where
     image-begins is es h =
         let at = at-front text.seats p s ss here in
         let k = between_items p Byte ended events local in
-        leads-row g text m (row (choose Attempt (Next TextBefore) (Next TextBeforeData) ∷ []) (Retry LabelStartImageStart)) k [] TextBefore es (images-begin g text k s.byte (ap byte_of at) is)
+        leads-row g text m (row (choose Attempt (Next TextBefore) (Next TextBeforeData) ∷ []) (Retry LabelStartImageStart)) k [] TextBefore es (images-begin defined g text k s.byte (ap byte_of at) is)
         (leads-row g text m (row (enter LabelImage ∷ enter LabelImageMarker ∷ consume ∷ exit LabelImageMarker ∷ []) (Next LabelStartImageOpen)) (between_items p Byte ended events (counts local)) image_tried LabelStartImageStart es refl
         (goes-next g text m ss (LabelImage ∷ []) (p + 1) begun_image (counts (counts local)) image_tried LabelStartImageOpen (drop-next text.seats p s ss here) es h))
 
@@ -105,7 +103,7 @@ module _ (g : Given) (text : Text) where
 
     -- ---- `]`
     -- alone
-    lone-from : (after : Local Unit Unit)
+    pub lone-from : (after : Local Unit Unit)
         → Leads g text m (between_items p Byte ended events after) [] (Retry LabelEndNok) (between_items (p + 1) Nothing false (events ++ item_events g.bytes (lone_end, s ∷ [])) (with_starts (without_last false (kept after)) (counts after))) [] (Next TextBefore)
     lone-from after es h =
         let at = at-front text.seats p s ss here in
@@ -121,75 +119,8 @@ module _ (g : Given) (text : Text) where
           false,
           with_starts (without_last false (kept local)) (counts (counts local)),
           record { calls = omega arith; same = refl; starts_are = refl },
-          λ es h. leads-row g text m (row [] (Retry LabelEndNok)) k [] TextBefore es (ends-alone g text k s.byte (ap byte_of at) is may waits) (lone-from (counts local) es h),
+          λ es h. leads-row g text m (row [] (Retry LabelEndNok)) k [] TextBefore es (ends-alone defined g text k s.byte (ap byte_of at) is may waits) (lone-from (counts local) es h),
         )
-
-    -- that may make something: with a tail behind it, it does; if none is there, it is alone
-    abbrev pub EndRead : Option Found → Type 0
-    EndRead None = AddsBracket (4 * resource_look (bytes_of ss) + 5) (without_last false (kept local)) p ended events local (s ∷ ss) lone_end
-    EndRead (Some tail) = AddsBracket (4 * item_length tail + 4) (without_last true (kept local)) p ended events local (s ∷ ss) (label_end tail)
-
-    abbrev end_events : List Event
-    end_events = enters LabelEnd p ∷ enters LabelMarker p ∷ exits LabelMarker p ∷ exits LabelEnd p ∷ []
-
-    abbrev end_tried : List Choice
-    end_tried = attempt (Next LabelEndOk) (Next LabelEndNok) [] p ended events ∷ []
-
-    end-begins : begins_end g.options.constructs s.byte ≡ true → may_make (reverse (kept local)) ≡ true
-        → Leads g text m (between_items p Byte ended events local) [] (Retry TextBefore) (shows ss [] (p + 1) (events ++ end_events) (counts (counts local))) end_tried (Retry LabelEndResourceStart)
-    end-begins is may es h =
-        let at = at-front text.seats p s ss here in
-        let k = between_items p Byte ended events local in
-        let made = (((events ++ enters LabelEnd p ∷ []) ++ enters LabelMarker p ∷ []) ++ exits LabelMarker p ∷ []) ++ exits LabelEnd p ∷ [] in
-        let same : made ≡ events ++ end_events = simp append_assoc in
-        leads-row g text m (row (choose Attempt (Next LabelEndOk) (Next LabelEndNok) ∷ []) (Retry LabelEndStart)) k [] TextBefore es (ends-make g text k s.byte (ap byte_of at) is may)
-        (leads-row g text m (row (enter LabelEnd ∷ enter LabelMarker ∷ consume ∷ exit LabelMarker ∷ exit LabelEnd ∷ []) (Next LabelEndResourceStart)) (between_items p Byte ended events (counts local)) end_tried LabelEndStart es refl
-        (subst (λ l. EndsWith g text m (between_items (p + 1) Nothing false l (counts (counts local))) end_tried (Next LabelEndResourceStart) es) (sym same)
-        (goes-next g text m ss [] (p + 1) (events ++ end_events) (counts (counts local)) end_tried LabelEndResourceStart (drop-next text.seats p s ss here) es h)))
-
-    end-decided : begins_end g.options.constructs s.byte ≡ true → may_make (reverse (kept local)) ≡ true → (o : Option Found)
-        → Follows g text m (inlines_play_resources g text) (calls_for (bytes_of ss) o) (Next LabelEndOk) (Next LabelEndNok) [] p ended events [] (p + 1) (events ++ end_events) ss (shows ss [] (p + 1) (events ++ end_events) (counts (counts local))) o → EndRead o
-    end-decided is may None d =
-        let between = d.0 in
-        let after = with_starts (without_last false (kept between)) (counts between) in
-        let starts : kept between ≡ kept local = ap (λ (r : Remembered). r.starts) (ap remembered d.1.same) in (
-          false,
-          after,
-          record { calls = omega (arith, d.1.calls); same = ap (λ (l : Local Unit Unit). unstarted (remembered l)) d.1.same; starts_are = ap (without_last false) starts },
-          λ es h. end-begins is may es (d.2 es (goes-fed g text m.step (s ∷ ss) [] p ended events between [] LabelEndNok here es (lone-from between es h))),
-        )
-    end-decided is may (Some tail) d =
-        let at = at-front text.seats p s ss here in
-        let between = d.0 in
-        let n = item_length tail in
-        let after = with_starts (without_last true (kept between)) (counts between) in
-        let starts : kept between ≡ kept local = ap (λ (r : Remembered). r.starts) (ap remembered d.1.same) in
-        let made = (events ++ end_events) ++ item_events g.bytes (tail, take n ss) in
-        let more : 1 + n ≡ suc n = omega arith in
-        let place : p + 1 + n ≡ p + (1 + n) = omega arith in
-        let l = drop (p + 1 + n) text.seats in
-        let cut : take (1 + n) (s ∷ ss) ≡ s ∷ take n ss = ap (λ k. take k (s ∷ ss)) more in
-        let whole : end_events ++ item_events g.bytes (tail, take n ss) ≡ item_events g.bytes (label_end tail, s ∷ take n ss) =
-        ap (λ o. (event g.bytes Enter LabelEnd (point_or text.end o) ∷ event g.bytes Enter LabelMarker (point_or text.end o) ∷ event g.bytes Exit LabelMarker (end_or text.end o) ∷ event g.bytes Exit LabelEnd (end_or text.end o) ∷ []) ++ item_events g.bytes (tail, take n ss)) at in
-        let same : made ≡ events ++ item_events g.bytes (label_end tail, take (1 + n) (s ∷ ss)) =
-        append_assoc events end_events (item_events g.bytes (tail, take n ss)) ∙ ap (λ es. events ++ es) whole ∙ ap (λ xs. events ++ item_events g.bytes (label_end tail, xs)) (sym cut) in (
-          false,
-          after,
-          record { calls = omega (arith, d.1.calls); same = ap (λ (l : Local Unit Unit). unstarted (remembered l)) d.1.same; starts_are = ap (without_last true) starts },
-          λ es h.
-              end-begins is may es
-              (d.2 es
-              (goes-next g text m l [] (p + 1 + n) made between [] LabelEndOk refl es
-              (leads-row g text m (row (write (waits_less true) ∷ []) (Retry TextBefore)) (shows l [] (p + 1 + n) made between) [] LabelEndOk es refl
-              (goes-back g text m l [] (p + 1 + n) made after [] TextBefore refl es
-              (subst (λ q. EndsWith g text m (between_items q Nothing false made after) [] (Next TextBefore) es) (sym place)
-              (subst (λ xs. EndsWith g text m (between_items (p + (1 + n)) Nothing false xs after) [] (Next TextBefore) es) (sym same) h)))))),
-        )
-
-    pub reads-end : begins_end g.options.constructs s.byte ≡ true → may_make (reverse (kept local)) ≡ true → EndRead (resource_grammar.front (bytes_of ss))
-    reads-end is may =
-        end-decided is may (resource_grammar.front (bytes_of ss))
-        (resources-follow g text m (inlines_play_resources g text) (Next LabelEndOk) (Next LabelEndNok) [] p ended events end_events [] (p + 1) (counts (counts local)) ss (drop-next text.seats p s ss here))
 
   -- `![`
   pub reads-image : (p : ℕ) (ended : Bool) (events : List Event) (local : Local Unit Unit) (s v : Seat) (vs : List Seat) → (here : drop p text.seats ≡ s ∷ v ∷ vs) → begins_image g.options.constructs s.byte ≡ true → is_open_bracket v.byte ≡ true

@@ -8,11 +8,11 @@ use Rattle.mdconstructs_inlines.specs.BracketRows.{bracket_states}
 use Rattle.mdconstructs_text.proofs.Texts.Leads.{EndsWith}
 
 -- the table of the twin
-abbrev pub counted : Table TextByte Unit Unit
-counted = twin counts inlines
+abbrev pub counted : (defined : List ℕ → Bool) → Table TextByte Unit Unit
+counted defined = twin counts (inlines defined)
 
-abbrev pub counted_step : Given → Sight → Configuration Unit Unit → Name → Step Unit Unit
-counted_step g = table_step counted g
+abbrev pub counted_step : (defined : List ℕ → Bool) → Given → Sight → Configuration Unit Unit → Name → Step Unit Unit
+counted_step defined g = table_step (counted defined) g
 
 -- blind acts, rows and states are so whatever else holds behind them
 acts-more : (acts : List (Act Unit Unit)) (P Q : Type 0) → (P → Q) → ActsBlind acts P → ActsBlind acts Q
@@ -49,22 +49,22 @@ blind-others b (Some digit) = search rules
 blind-others b (Some mark) = search rules
 blind-others b (Some _) = search rules
 
-blind-brackets : (b w : Option TextByte) → StatesBlind (bracket_states {R = Unit {0}} {D = Unit {0}}) b w
-blind-brackets b None = search rules
-blind-brackets b (Some _) = search rules
+blind-brackets : (defined : List ℕ → Bool) (b w : Option TextByte) → StatesBlind (bracket_states {R = Unit {0}} {D = Unit {0}} defined) b w
+blind-brackets defined b None = search rules
+blind-brackets defined b (Some _) = search rules
 
-blind : IsBlind inlines
-blind b w = both-blind unbracketed_states bracket_states b w (blind-others b w) (blind-brackets b w)
+blind : (defined : List ℕ → Bool) → IsBlind (inlines defined)
+blind defined b w = both-blind unbracketed_states (bracket_states defined) b w (blind-others b w) (blind-brackets defined b w)
 
 module _ (defined : List ℕ → Bool) (g : Given) (text : Text) (flag : Bool) (start : Name) where
   -- from its starts the machine reads as its twin does
   pub twin-reads : (r : Reading Unit Unit) → EndsIn g (inlines_rules defined g).step text 0 (start_configuration flag) [] (Next start) r
-      → (n : ℕ) × EndsIn g (counted_step g) text 0 (start_configuration flag) [] (Next start) (reading_sized n r)
-  twin-reads r ends = twins-read-alike inlines counts blind (λ local. refl) (λ local. (_, refl)) g text 0 (start_configuration flag) 0 [] (Next start) r ends
+      → (n : ℕ) × EndsIn g (counted_step defined g) text 0 (start_configuration flag) [] (Next start) (reading_sized n r)
+  twin-reads r ends = twins-read-alike (inlines defined) counts (blind defined) (λ local. refl) (λ local. (_, refl)) g text 0 (start_configuration flag) 0 [] (Next start) r ends
 
   -- and what the twin ends with the machine ends with
-  pub ends-as-counted : (e : Ending) → EndsWith g text (counted_step g) (start_configuration flag) [] (Next start) e
+  pub ends-as-counted : (e : Ending) → EndsWith g text (counted_step defined g) (start_configuration flag) [] (Next start) e
       → (r : Reading Unit Unit) → EndsIn g (inlines_rules defined g).step text 0 (start_configuration flag) [] (Next start) r → (r.answer ≡ Ok) × (r.configuration.events ≡ e.events)
   ends-as-counted e h r ends =
       let there = twin-reads r ends in
-      ends-so g text (counted_step g) (start_configuration flag) (Next start) e h (reading_sized there.0 r) there.1
+      ends-so g text (counted_step defined g) (start_configuration flag) (Next start) e h (reading_sized there.0 r) there.1

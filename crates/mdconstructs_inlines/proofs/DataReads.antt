@@ -1,7 +1,7 @@
 -- How the machine of inline text reads data: up to a byte that something else may begin with; or up to white space with which its line ends, and then that
 -- too; and in how many calls.
 use Rattle.mdconstructs_text.proofs.Plain.Stretches.{past}
-use Rattle.mdconstructs_inlines.proofs.Prelude.{as_asked, ◌≡◌, ℕ, zero, suc, ◌+◌, ◌-◌, ◌*◌, ◌<◌, ◌≤◌, ◌&&◌, ◌||◌, List, [], ◌∷◌, ◌++◌, Bool, true, false, cond, Some, refl, sym, ap, ◌∙◌, subst, arith, append-nil, append_assoc, length, take, take-take, drop, drop-take, drop-drop, drop-map, length-drop, length-map, prefix_len, slice_get, drop-next, Constructs, Event, Exit, EventName, Data, Name, Next, Retry, DataInside, TextBefore, TextBeforeData, Seat, Byte, Nothing, Configuration, Local, byte_of, end_place, sight, Given, Text, at-front, is_white, counts, AddsItemIn, adds-more, BeginsData, data-begun, entered_data, goes-back, goes-next, leaf-read, past-is, past-stops, first_byte, shows, IsAfter, after-call, after-more, after-within, Ending, EndsWith, Leads, Plays, between_items, passes, between_texts, bytes_of, event, first_plain, item_events, item_length, leaf, leads-step, run-some, is_white_left, Found, consumed, entered, exited, data_length, ends_data, ends_data_at, up_to}
+use Rattle.mdconstructs_inlines.proofs.Prelude.{as_asked, ◌≡◌, ℕ, zero, suc, ◌+◌, ◌*◌, ◌<◌, ◌≤◌, ◌&&◌, ◌||◌, List, [], ◌∷◌, ◌++◌, Bool, true, false, cond, Some, refl, sym, ap, ◌∙◌, subst, arith, append-nil, append_assoc, length, take, take-take, drop, drop-take, drop-drop, drop-map, length-drop, length-map, prefix_len, slice_get, drop-next, Constructs, Event, Exit, EventName, Data, Name, Next, Retry, DataInside, TextBefore, TextBeforeData, Seat, Byte, Nothing, Configuration, Local, byte_of, end_place, sight, Given, Text, at-front, is_white, counts, AddsItemIn, adds-more, BeginsData, data-begun, entered_data, goes-back, goes-next, leaf-read, past-is, past-stops, first_byte, shows, IsAfter, after-call, after-more, after-within, Ending, EndsWith, Leads, Plays, between_items, passes, between_texts, bytes_of, event, first_plain, item_events, item_length, leaf, leads-step, run-some, is_white_left, Found, consumed, exited, data_length, ends_data, ends_data_at, up_to}
 use Rattle.mdconstructs_inlines.proofs.DataBytes.{data-within, data_joined, white-data, white_behind}
 use Rattle.mdconstructs_inlines.proofs.InlineApart.{white-plain}
 use Rattle.mdconstructs_inlines.proofs.WhiteBytes.{White, found-size, found_white, no_item, over-white, white-ends, white-last, white-none}

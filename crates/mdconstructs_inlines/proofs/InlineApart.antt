@@ -69,8 +69,8 @@ some-part on b bs =
 pub some-white : (on : Constructs) (b : ℕ) (bs : List ℕ) (other : Found) → 0 < item_length other → 0 < item_length (first_there white_grammars on (b ∷ bs) other)
 some-white on b bs other some = there-holds (λ (item : Found). 0 < item_length item) white_grammars on (b ∷ bs) other (trailing-break-some b bs, (white-space-some b bs, tt)) some
 
-pub some-item : (on : Constructs) (m : Memory) (b : ℕ) (bs : List ℕ) → 0 < item_length (inline_item_at on m (b ∷ bs))
-some-item on m b bs =
-    let part = bracket_or_part on m (b ∷ bs) in
+pub some-item : (on : Constructs) (defined : List ℕ → Bool) (doc : List ℕ) (m : Memory) (b : ℕ) (bs : List ℕ) → 0 < item_length (inline_item_at on defined doc m (b ∷ bs))
+some-item on defined doc m b bs =
+    let part = bracket_or_part on defined doc m (b ∷ bs) in
     let other = first_there white_grammars on (b ∷ bs) part in
-    positive text_byte item_length inline_constructs inline-apart on b bs other (some-white on b bs part (some-bracket on m (b ∷ bs) (run_or_part on (b ∷ bs)) (some-part on b bs)))
+    positive text_byte item_length inline_constructs inline-apart on b bs other (some-white on b bs part (some-bracket on defined doc m (b ∷ bs) (run_or_part on (b ∷ bs)) (some-part on b bs)))

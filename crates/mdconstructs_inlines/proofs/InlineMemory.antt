@@ -25,9 +25,9 @@ none-known flag of_instruction = refl
 none-known flag of_declaration = refl
 none-known flag of_cdata = refl
 
-module _ (g : Given) (text : Text) (is-text : IsText g text) where
+module _ (defined : List ℕ → Bool) (g : Given) (text : Text) (is-text : IsText g text) where
   abbrev m : Plays g text
-  m = inlines_play g text
+  m = inlines_play defined g text
 
   -- what is known of backtick strings holds of another memory that is alike in them
   code-alike : (p : ℕ) (local : Local Unit Unit) (r : Remembered) → r.runs ≡ (remembered local).runs → r.all_seen ≡ (remembered local).all_seen → knows_code g text is-text m p (remembered local) → knows_code g text is-text m p r
@@ -67,11 +67,11 @@ module _ (g : Given) (text : Text) (is-text : IsText g text) where
   module _ (budget : ℕ) where
     abbrev Decided : (own other : Potential) (toll : List ℕ → ℕ) (nok : Name) (p : ℕ) (ended : Bool) (events : List Event) → Local Unit Unit → Seat → List Seat → State → Option Found → Type 0
     Decided own other toll nok p ended events local s ss st o =
-        DecidedSo g text inline_memory memory-is budget own other toll nok p ended events local s ss (between_items p Byte ended events local) (outer TextBefore nok p ended events ∷ []) st o
+        DecidedSo defined g text inline_memory memory-is budget own other toll nok p ended events local s ss (between_items p Byte ended events local) (outer TextBefore nok p ended events ∷ []) st o
 
     -- ---- code spans
     code-decided : (nok : Name) (p : ℕ) (ended : Bool) (events : List Event) (local : Local Unit Unit) (s : Seat) (ss : List Seat) → is_backtick s.byte ≡ true → KnowsMarks text p (remembered local) → (st : State) (o : Option Found) → OfOption IsPlain o
-        → CodeDecided g text is-text m (inlines_play_code_spans g text) between_texts nok p ended events local s ss (between_items p Byte ended events local) (outer TextBefore nok p ended events ∷ []) st o
+        → CodeDecided g text is-text m (inlines_play_code_spans defined g text) between_texts nok p ended events local s ss (between_items p Byte ended events local) (outer TextBefore nok p ended events ∷ []) st o
         → Decided code_ahead marks_ahead code_toll nok p ended events local s ss st o
     code-decided nok p ended events local s ss tick marks st None mark d =
         let after = d.0 in
@@ -95,10 +95,10 @@ module _ (g : Given) (text : Text) (is-text : IsText g text) where
           d.8,
         )
 
-    pub code-remembers : RemembersSo g text inline_memory memory-is budget code_ahead marks_ahead code_toll then_data
+    pub code-remembers : RemembersSo defined g text inline_memory memory-is budget code_ahead marks_ahead code_toll then_data
     code-remembers nok p ended events local s ss here first sound =
         code-decided nok p ended events local s ss first sound.1 (Retry then_data.start) (then_data.grammar.front (bytes_of (s ∷ ss))) (code-plain (bytes_of (s ∷ ss)))
-        (remembered-code-read g text is-text m (inlines_play_code_spans g text) between_texts nok p ended events local s ss here first sound.0)
+        (remembered-code-read g text is-text m (inlines_play_code_spans defined g text) between_texts nok p ended events local s ss here first sound.0)
 
     -- ---- raw HTML between marks
     marks-decided : (nok : Name) (p : ℕ) (ended : Bool) (events : List Event) (local : Local Unit Unit) (s : Seat) (ss : List Seat) → (here : drop p text.seats ≡ s ∷ ss) → (s.byte == 60) ≡ true → inline_memory.sound p (remembered local)
@@ -136,14 +136,14 @@ module _ (g : Given) (text : Text) (is-text : IsText g text) where
           d.3,
         )
 
-    pub marks-remember : RemembersSo g text inline_memory memory-is budget marks_ahead code_ahead mark_toll then_tags
+    pub marks-remember : RemembersSo defined g text inline_memory memory-is budget marks_ahead code_ahead mark_toll then_tags
     marks-remember nok p ended events local s ss here first sound =
         marks-decided nok p ended events local s ss here first sound (Retry then_tags.start) (then_tags.grammar.front (bytes_of (s ∷ ss))) (html-marks-apart.some s.byte (bytes_of ss))
-        (mark-paid g text m between_texts (inlines_play_marks g text) is-text nok p ended events local s ss here first sound.1) (mark-within g text m between_texts (inlines_play_marks g text) is-text nok p ended events local s ss here first sound.1) (html-plain (bytes_of (s ∷ ss)) (marked (bytes_of (s ∷ ss))))
-        (html-marks-read g text m between_texts (inlines_play_marks g text) is-text nok p ended events local s ss here first sound.1)
+        (mark-paid g text m between_texts (inlines_play_marks defined g text) is-text nok p ended events local s ss here first sound.1) (mark-within g text m between_texts (inlines_play_marks defined g text) is-text nok p ended events local s ss here first sound.1) (html-plain (bytes_of (s ∷ ss)) (marked (bytes_of (s ∷ ss))))
+        (html-marks-read g text m between_texts (inlines_play_marks defined g text) is-text nok p ended events local s ss here first sound.1)
 
   -- So inline text is read item by item from its start, in so many calls
-  pub inlines-read : (flag : Bool) → EndsWith g text m (start_configuration flag) [] (Next TextStart) (record { events = read_events g text; spent = inline_budget g.options.constructs text.seats + 1 })
+  pub inlines-read : (flag : Bool) → EndsWith g text m (start_configuration flag) [] (Next TextStart) (record { events = read_events defined g text; spent = inline_budget g.options.constructs text.seats + 1 })
   inlines-read flag =
       let budget = inline_budget g.options.constructs text.seats in
-      inlines-within g text inline_memory memory-is budget (code-so g text inline_memory memory-is budget (code-remembers budget)) (marks-so g text inline_memory memory-is budget (marks-remember budget)) is-text (omega arith) flag
+      inlines-within defined g text inline_memory memory-is budget (code-so defined g text inline_memory memory-is budget (code-remembers budget)) (marks-so defined g text inline_memory memory-is budget (marks-remember budget)) is-text (omega arith) flag

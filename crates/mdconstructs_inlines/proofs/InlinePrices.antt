@@ -1,6 +1,7 @@
 -- What reading inline text may cost, and what is known while it is read: of code spans and raw HTML between marks by what is remembered, of brackets by those
 -- that wait; all else is paid by the bytes that are read, and looks for tags, autolinks, emails and tails by those up to where they end.
-use Rattle.mdconstructs_inlines.proofs.Prelude.{◌≡◌, ℕ, zero, suc, ◌+◌, ◌-◌, ◌*◌, ◌<◌, ◌≤◌, List, [], ◌∷◌, Bool, true, false, cond, Option, Some, None, refl, sym, ap, ◌∙◌, subst, arith, length, drop, length-drop, length-map, Constructs, Event, Seat, Given, Text, backticks, is_backtick, Found, item_length, bytes_of, from-less-ahead, from_less, OfOption, Remembered, Plays, tags-ahead-later, tags_ahead, Memory, after_item, begins_end, waiting_behind, remembered}
+use Rattle.mdconstructs_inlines.proofs.Prelude.{◌≡◌, ℕ, zero, suc, ◌+◌, ◌-◌, ◌*◌, ◌<◌, ◌≤◌, List, [], ◌∷◌, ◌++◌, take, drop-drop, item_events, Bool, true, false, cond, Option, Some, None, sym, ap, ◌∙◌, subst, arith, length, drop, length-drop, length-map, Constructs, Event, Seat, Given, Text, backticks, is_backtick, Found, item_length, bytes_of, from-less-ahead, from_less, OfOption, Remembered, Plays, tags-ahead-later, tags_ahead, Memory, after_item, begins_end, waiting_behind, remembered}
+use Rattle.markdown_tokenizer.specs.declared.tokenizer.state.LabelStart.{LabelStart}
 use Rattle.mdconstructs_inlines.proofs.BracketReads.{unstarted}
 use Rattle.mdconstructs_inlines.proofs.Budgets.{GoDown, IsSound, Pays, Potential, Prices}
 use Rattle.mdconstructs_inlines.proofs.FrontRuns.{no-backticks}
@@ -70,18 +71,46 @@ looks_left on l = tail_looks on (bytes_of l)
 abbrev pub inline_budget : Constructs → List Seat → ℕ
 inline_budget on l = 138 * length l + 3 + looks_left on l
 
+-- What is known of what is remembered of the items that were read: the brackets that wait are those that are kept; and the events so far, and the virtual
+-- bytes that are left, are those of the text
+pub record IsRemembered (text : Text) (q : Memory) (p : ℕ) (events : List Event) (starts : List LabelStart) : Type 0 where
+  pub keeps : Keeps q.waiting starts
+  pub events_are : q.events ≡ events
+  pub ahead_is : q.ahead ≡ drop p text.seats
+
+-- so it is behind an item, if these brackets are kept then
+pub remembered-behind : (bytes : List ℕ) (text : Text) (q : Memory) (p : ℕ) (events : List Event) (starts after : List LabelStart) (s : Seat) (ss : List Seat) (item : Found) → drop p text.seats ≡ s ∷ ss
+    → IsRemembered text q p events starts → let more = events ++ item_events bytes (item, take (item_length item) (s ∷ ss)) in Keeps (waiting_behind item.mark (length more) q.waiting) after
+    → IsRemembered text (after_item bytes q item) (p + item_length item) more after
+remembered-behind bytes text q p events starts after s ss item here h keeps =
+    let size = item_length item in
+    let ahead : q.ahead ≡ s ∷ ss = h.ahead_is ∙ here in
+    let more : q.events ++ item.events bytes (take size q.ahead) ≡ events ++ item.events bytes (take size (s ∷ ss)) = λ i. h.events_are i ++ item.events bytes (take size (ahead i)) in
+    record {
+      keeps = subst (λ es. Keeps (waiting_behind item.mark (length es) q.waiting) after) (sym more) keeps;
+      events_are = more;
+      ahead_is = ap (drop size) h.ahead_is ∙ drop-drop size p text.seats;
+    }
+
+-- a plain item leaves the brackets that wait as they are
+pub plain-behind : (bytes : List ℕ) (text : Text) (q : Memory) (p : ℕ) (events : List Event) (starts : List LabelStart) (s : Seat) (ss : List Seat) (item : Found) → drop p text.seats ≡ s ∷ ss → IsPlain item
+    → IsRemembered text q p events starts → IsRemembered text (after_item bytes q item) (p + item_length item) (events ++ item_events bytes (item, take (item_length item) (s ∷ ss))) starts
+plain-behind bytes text q p events starts s ss item here plain h =
+    let more = events ++ item_events bytes (item, take (item_length item) (s ∷ ss)) in
+    remembered-behind bytes text q p events starts starts s ss item here h (subst (λ mark. Keeps (waiting_behind mark (length more) q.waiting) starts) (sym plain) h.keeps)
+
 -- what is known depends on the brackets that wait
-abbrev pub inline_prices : Constructs → TextMemory → Prices Memory
-inline_prices on x = record {
+abbrev pub inline_prices : (defined : List ℕ → Bool) → Given → Text → TextMemory → Prices Memory
+inline_prices defined g text x = let on = g.options.constructs in record {
   potentials = free ∷ free ∷ free ∷ tags_left ∷ x.marks ∷ links_left ∷ links_left ∷ x.code ∷ [];
   toll = inline_toll;
   fixed = λ l. calls_a_byte * length l + looks_left on l;
-  after = after_item;
-  sound = λ m p events r. x.sound p r × Keeps m.waiting r.starts;
-  trying = λ m cs p events r. x.sound p r × Keeps m.waiting r.starts;
+  after = after_item g.bytes;
+  sound = λ m p events r. x.sound p r × IsRemembered text m p events r.starts;
+  trying = λ m cs p events r. x.sound p r × IsRemembered text m p events r.starts;
   plain = IsPlain;
-  other = joined_other on;
-  item = joined_item_at on;
+  other = joined_other on defined g.bytes;
+  item = joined_item_at on defined g.bytes;
 }
 
 -- what holds of a thing that is there, where less is asked
@@ -100,15 +129,15 @@ looks-drop on zero l = omega arith
 looks-drop on (suc n) [] = omega arith
 looks-drop on (suc n) (s ∷ ss) = omega (arith, looks-drop on n ss)
 
-module _ (g : Given) (text : Text) (memory : TextMemory) (is : IsTextMemory memory) (budget : ℕ) where
+module _ (defined : List ℕ → Bool) (g : Given) (text : Text) (memory : TextMemory) (is : IsTextMemory memory) (budget : ℕ) where
   abbrev pub on : Constructs
   on = g.options.constructs
 
   abbrev pub m : Plays g text
-  m = inlines_play g text
+  m = inlines_play defined g text
 
   abbrev pub x : Prices Memory
-  x = inline_prices on memory
+  x = inline_prices defined g text memory
 
   pub inline-down : GoDown x.potentials
   inline-down =
@@ -121,7 +150,7 @@ module _ (g : Given) (text : Text) (memory : TextMemory) (is : IsTextMemory memo
   inline-sound = record {
     passes = λ m c cs p events r s ss here none h. h;
     holds = λ m cs p events r h. h;
-    later = λ q p events r s ss item here plain h. (is.later p (p + item_length item) r (omega arith) h.0, subst (λ mark. Keeps (waiting_behind mark q.waiting) r.starts) (sym plain) h.1);
+    later = λ q p events r s ss item here plain h. (is.later p (p + item_length item) r (omega arith) h.0, plain-behind g.bytes text q p events r.starts s ss item here plain h.1);
   }
 
   -- ---- what its bytes pay for

@@ -7,6 +7,7 @@ pub mod CallsCounted
 mod Counted
 mod DataBytes
 mod DataReads
+pub mod EndReads
 mod FrontRuns
 pub mod InlineApart
 pub mod InlineBuilt
@@ -18,6 +19,8 @@ pub mod InlinePrices
 pub mod InlineReads
 pub mod InlinesCounted
 mod JoinedItems
+mod LabelBytes
+mod LabelReads
 mod LineReads
 pub mod Looks
 mod OverBytes

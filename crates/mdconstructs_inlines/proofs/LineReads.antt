@@ -18,9 +18,9 @@ module _ (before : Option TextByte) where
       by-class (λ w. line_white_rows before (Some w) ≡ row (exit SpaceOrTab ∷ []) (Retry TextBefore)) b
       (λ e. refl) (λ e. refl) (λ e. refl) (λ e. refl) (λ e. refl) (λ e. refl) (λ e. refl) (λ e f. refl) (λ e. refl) (λ e. refl) (λ e. absurd (cc)) (λ o e. refl) (λ o e. refl) (λ o n e. refl)
 
-module _ (g : Given) (text : Text) where
+module _ (defined : List ℕ → Bool) (g : Given) (text : Text) where
   abbrev m : Plays g text
-  m = inlines_play g text
+  m = inlines_play defined g text
 
   -- in a call more than it has bytes
   abbrev pub StartReadIn : List Seat → ℕ → List Event → Local Unit Unit → ℕ → Type 0
@@ -102,7 +102,7 @@ module _ (g : Given) (text : Text) where
         read.0,
         after-within (1 + (n + 1)) (n + 2) local read.0 (omega arith) (after-more 1 (n + 1) local (counts local) read.0 (after-call local) read.1),
         λ es h.
-            leads-row g text m (row (enter LineEnding ∷ consume ∷ exit LineEnding ∷ []) (Next TextLineStart)) (between_items p Byte ended events local) [] TextBefore es (line-row g text (between_items p Byte ended events local) (ap byte_of at ∙ ap Some is))
+            leads-row g text m (row (enter LineEnding ∷ consume ∷ exit LineEnding ∷ []) (Next TextLineStart)) (between_items p Byte ended events local) [] TextBefore es (line-row defined g text (between_items p Byte ended events local) (ap byte_of at ∙ ap Some is))
             (subst (λ l. EndsWith g text m (held [] (p + 1) Nothing false l (counts local)) [] (Next TextLineStart) es) (sym (line-ending-read g text events p s at))
             (goes-next g text m ss [] (p + 1) ending (counts local) [] TextLineStart next es
             (read.2 es

@@ -41,12 +41,12 @@ abbrev IsOver : Name → ℕ → Type 0
 IsOver name byte = (defined : List ℕ → Bool) (g : Given) → ReadsOver g (inlines_rules defined g) name byte
 
 -- it does if its rows in the table pick the row that consumes the byte
-reads-over : (state : StateRows TextByte Unit Unit) (name : Name) (byte : ℕ) → named inlines.states name ≡ Some state → PicksOver state name text_byte byte
+reads-over : (state : StateRows TextByte Unit Unit) (name : Name) (byte : ℕ) → ((defined : List ℕ → Bool) → named (inlines defined).states name ≡ Some state) → PicksOver state name text_byte byte
     → (other : Name) → other.number ≡ name.number → IsOver other byte
 reads-over state name byte there over other is =
     subst (λ n. IsOver (record { number = n }) byte) (sym is)
     (λ defined g text k choices n ready holds same current.
-    subst (λ n. (inlines_rules defined g).step (sight g text k) k n ≡ step_over k n) (sym same) (picked-read-over inlines state name byte (λ local. refl) there over g (sight g text k) k current))
+    subst (λ n. (inlines_rules defined g).step (sight g text k) k n ≡ step_over k n) (sym same) (picked-read-over (inlines defined) state name byte (λ local. refl) (there defined) over g (sight g text k) k current))
 
 -- ---- data of inline text
 
@@ -82,7 +82,7 @@ data-picks byte is before g s k current =
     ]
 
 pub data-over : (byte : ℕ) → is_in_data byte ≡ true → (name : Name) → name.number ≡ DataInside.number → IsOver name byte
-data-over byte is = reads-over inline_data DataInside byte refl (data-picks byte is)
+data-over byte is = reads-over inline_data DataInside byte (λ defined. refl) (data-picks byte is)
 
 -- ---- data of strings
 
@@ -90,7 +90,7 @@ string-picks : (byte : ℕ) → is_in_string byte ≡ true → PicksOver (string
 string-picks byte is before g s k current = ap (λ t. picked (string_data_row t) g s k) (string-special-classed byte ∙ not-true (is_string_special byte) is)
 
 pub string-over : (byte : ℕ) → is_in_string byte ≡ true → (name : Name) → name.number ≡ DataStart.number → IsOver name byte
-string-over byte is = reads-over string_data DataStart byte refl (string-picks byte is)
+string-over byte is = reads-over string_data DataStart byte (λ defined. refl) (string-picks byte is)
 
 -- ---- data of code spans
 
@@ -105,7 +105,7 @@ code-picks byte is before g s k current =
     ap (λ r. picked r g s k) (code-goes-on (text_byte byte) (line-classed byte ∙ line) (tick-classed byte ∙ tick) before)
 
 pub code-over : (byte : ℕ) → is_in_code byte ≡ true → (name : Name) → name.number ≡ RawTextData.number → IsOver name byte
-code-over byte is = reads-over raw_text_data RawTextData byte refl (code-picks byte is)
+code-over byte is = reads-over raw_text_data RawTextData byte (λ defined. refl) (code-picks byte is)
 
 -- ---- raw HTML between marks
 
@@ -124,7 +124,7 @@ mark-picks byte is before g s k current =
     ∙ ap (λ t. cond t (picked (row (write size_b_grows ∷ consume ∷ []) (Next HtmlTextMarkClose)) g s k) (picked (html_goes_on HtmlTextMarkInside) g s k)) among
 
 pub mark-over : (byte : ℕ) → is_in_marks byte ≡ true → (name : Name) → name.number ≡ HtmlTextMarkInside.number → IsOver name byte
-mark-over byte is = reads-over mark_inside HtmlTextMarkInside byte refl (mark-picks byte is)
+mark-over byte is = reads-over mark_inside HtmlTextMarkInside byte (λ defined. refl) (mark-picks byte is)
 
 -- ---- values in quotes
 
@@ -138,9 +138,9 @@ quote-picks byte is before g s k current =
     ∙ ap (λ t. cond t (picked after g s k) (picked inside g s k)) waits
 
 pub quote-over : (byte : ℕ) → is_in_quotes byte ≡ true → (name : Name) → name.number ≡ HtmlTextTagOpenAttributeValueQuoted.number → IsOver name byte
-quote-over byte is = reads-over html_text_value_quoted HtmlTextTagOpenAttributeValueQuoted byte refl (quote-picks byte is)
+quote-over byte is = reads-over html_text_value_quoted HtmlTextTagOpenAttributeValueQuoted byte (λ defined. refl) (quote-picks byte is)
 
 -- ---- URIs of autolinks
 
 pub uri-over : (byte : ℕ) → is_allowed byte ≡ true → (name : Name) → name.number ≡ AutolinkUrlInside.number → IsOver name byte
-uri-over byte is = reads-over autolink_url AutolinkUrlInside byte refl (λ before g s k current. ap (λ r. picked r g s k) (link-class before byte is))
+uri-over byte is = reads-over autolink_url AutolinkUrlInside byte (λ defined. refl) (λ before g s k current. ap (λ r. picked r g s k) (link-class before byte is))

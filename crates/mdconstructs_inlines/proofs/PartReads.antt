@@ -37,12 +37,12 @@ run-is-plain on b h = elim (is_white b) as (λ t. is_white b ≡ t → t ≡ fal
   | false ↦ λ other. refl
 ] refl
 
-module _ (g : Given) (text : Text) where
+module _ (defined : List ℕ → Bool) (g : Given) (text : Text) where
   abbrev on : Constructs
   on = g.options.constructs
 
   abbrev m : Plays g text
-  m = inlines_play g text
+  m = inlines_play defined g text
 
   -- what is there at a byte, by whether a run or a line ending is
   abbrev there : Bool → Bool → List ℕ → Found
@@ -67,7 +67,7 @@ module _ (g : Given) (text : Text) where
       let bytes = bytes_of (s ∷ ss) in
       let is = data-there s.byte (bytes_of ss) line run white in
       subst (PartRead TextBeforeData p ended events local (s ∷ ss)) is
-      (reads-data-run-in g text m (inlines_play_white g text) (inlines_begin_data g text) p ended events local s ss here)
+      (reads-data-run-in g text m (inlines_play_white defined g text) (inlines_begin_data defined g text) p ended events local s ss here)
 
   -- white space is
   white-read-in : (p : ℕ) (ended : Bool) (events : List Event) (local : Local Unit Unit) (s : Seat) (ss : List Seat) → drop p text.seats ≡ s ∷ ss → is_line_feed s.byte ≡ false → is_white s.byte ≡ true
@@ -76,7 +76,7 @@ module _ (g : Given) (text : Text) where
       let l = s ∷ ss in
       let bytes = bytes_of l in
       let n = prefix_len is_white bytes in
-      let plays = inlines_play_white g text in
+      let plays = inlines_play_white defined g text in
       let part = joined_part on bytes in
       elim (is_white_left bytes) as (λ t. is_white_left bytes ≡ t → PartRead TextBefore p ended events local l (unbracketed on bytes)) [
         | true ↦ λ left.
@@ -103,12 +103,12 @@ module _ (g : Given) (text : Text) where
             let white : is_white s.byte ≡ false = grind (arith, nat_tests) in
             let is : line_break k ≡ unbracketed on bytes = (λ i. there (sym (line-is-none on s.byte line) i) (sym line i) bytes) ∙ sym (white-none on s.byte (bytes_of ss) part white) in
             subst (PartRead TextBefore p ended events local l) is
-            (part-more (k + 2) TextBefore p ended events local l (line_break k) (omega arith) (reads-line-break-in g text p ended events local s ss here (eqb-true s.byte 10 line)))
+            (part-more (k + 2) TextBefore p ended events local l (line_break k) (omega arith) (reads-line-break-in defined g text p ended events local s ss here (eqb-true s.byte 10 line)))
         | false ↦ λ line h. elim (begins_run on s.byte) as (λ t. begins_run on s.byte ≡ t → (t || is_white s.byte) ≡ true → PartRead TextBefore p ended events local l (unbracketed on bytes)) [
           | true ↦ λ run i.
               let is : delimiter_run (run_length bytes) ≡ unbracketed on bytes = (λ i. there (sym run i) (is_line_feed s.byte) bytes) ∙ sym (white-none on s.byte (bytes_of ss) part (run-is-plain on s.byte run)) in
               subst (PartRead TextBefore p ended events local l) is
-              (part-more (run_length bytes + 2) TextBefore p ended events local l (delimiter_run (run_length bytes)) (omega arith) (reads-run-in g text p ended events local s ss here run))
+              (part-more (run_length bytes + 2) TextBefore p ended events local l (delimiter_run (run_length bytes)) (omega arith) (reads-run-in defined g text p ended events local s ss here run))
           | false ↦ λ none i. white-read-in p ended events local s ss here line i
         ] refl h
       ] refl own

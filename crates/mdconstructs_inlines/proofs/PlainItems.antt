@@ -1,5 +1,5 @@
 -- Items that leave the brackets that wait as they are: all but brackets and ends of labels.
-use Rattle.mdconstructs_inlines.proofs.Prelude.{◌≡◌, ℕ, ◌+◌, ◌&&◌, List, [], ◌∷◌, Bool, true, false, cond, Option, Some, None, refl, drop, take, prefix_len, option_map, Constructs, has_byte_at, is_white, is_line_feed, Found, OfOption, there-holds, begins_run, delimiter_run, line_break, run_length, reference, reference-holds, white_grammars}
+use Rattle.mdconstructs_inlines.proofs.Prelude.{◌≡◌, ℕ, ◌+◌, List, ◌∷◌, true, false, cond, Option, Some, None, refl, drop, take, prefix_len, option_map, Constructs, has_byte_at, is_white, is_line_feed, Found, OfOption, there-holds, begins_run, delimiter_run, line_break, run_length, reference-holds, white_grammars}
 use Rattle.mdconstructs_text.proofs.Constructs.Apart.{when-there}
 use Rattle.mdconstructs_text.specs.Autolink.{autolink, autolink_at, autolink_to, uri}
 use Rattle.mdconstructs_text.specs.Bytes.{backticks, is_backtick, is_greater_than, is_less_than}
@@ -11,8 +11,8 @@ use Rattle.mdconstructs_inline_constructs.specs.HardBreak.{break_escape_at, hard
 use Rattle.mdconstructs_inline_constructs.specs.HtmlText.{has_blank_line, html, html_of}
 use Rattle.mdconstructs_inline_constructs.specs.Reference.{reference_at}
 use Rattle.mdconstructs_inline_constructs.specs.WhiteSpace.{white_space, white_space_at}
-use Rattle.mdconstructs_inlines.proofs.DataBytes.{data_joined, joined_part}
-use Rattle.mdconstructs_inlines.proofs.WhiteBytes.{white_or}
+use Rattle.mdconstructs_inlines.proofs.DataBytes.{data_joined, joined_part, white_behind}
+use Rattle.mdconstructs_inlines.proofs.WhiteBytes.{no_item, white_or}
 
 -- it does nothing with them
 abbrev pub IsPlain : Found → Type 0
@@ -70,3 +70,7 @@ part-plain on b bs =
 
 pub unbracketed-plain : (on : Constructs) (b : ℕ) (bs : List ℕ) → IsPlain (white_or on (b ∷ bs) (joined_part on (b ∷ bs)))
 unbracketed-plain on b bs = there-holds IsPlain white_grammars on (b ∷ bs) (joined_part on (b ∷ bs)) (trailing-plain (b ∷ bs), (white-plain (b ∷ bs), tt)) (part-plain on b bs)
+
+-- nor does white space behind data
+pub white-behind-plain : (on : Constructs) (text : List ℕ) → IsPlain (white_behind on text)
+white-behind-plain on text = there-holds IsPlain white_grammars on text no_item (trailing-plain text, (white-plain text, tt)) refl

@@ -1,9 +1,11 @@
 -- The machine of inline text does what the rows of constructs say; and between them what bytes say.
 use Rattle.markdown_base.proofs.Common.{and-right}
-use Rattle.mdconstructs_inlines.proofs.Prelude.{◌≡◌, ◌⊎◌, inl, inr, ℕ, zero, suc, ◌==◌, ◌&&◌, ◌||◌, [], ◌∷◌, Bool, true, false, cond, Option, Some, None, refl, sym, ap, ◌∙◌, arith, nat_tests, Constructs, Data, LineEnding, Next, Retry, AttentionStart, DataInside, TextBefore, TextBeforeData, TextLineStart, with_local, Configuration, sight, Given, Text, Rows, class_of, consume, enter, exit, row, is_white, counts, row_step, is_line_feed, passes, between_texts, some_begins, tried_at, TextByte, is_line_feed_class, line_feed, punctuation, text_byte, white, PlaysCodeSpans, remembering, line-classed, BeginsData, HasRow, HasRows, Plays, tested, PlaysEmails, MarkPlace, at_cdata, at_comment, at_declaration, at_inside, at_open, mark_name, PlaysMarks, mark_rows, Place, PlaysTags, rows_of, state_of, PlaysBreakEscapes, PlaysReferences, between-remembered, code_memory, opening-remembered, white-classed, is_white_class, begins_run, ends_data, inline_before_rows, inline_constructs, inline_data_rows, is_delimiter, run_begins, and-false, eqb-true, reverse, Attempt, choose, when, begins_bracket, begins_end, begins_image, begins_link, is_of_bracket}
+use Rattle.mdconstructs_inlines.proofs.Prelude.{List, ◌≡◌, ◌⊎◌, inl, inr, ℕ, zero, suc, ◌==◌, ◌&&◌, ◌||◌, [], ◌∷◌, Bool, true, false, cond, Option, Some, None, refl, sym, ap, ◌∙◌, arith, nat_tests, Constructs, Data, LineEnding, Next, Retry, AttentionStart, DataInside, TextBefore, TextBeforeData, TextLineStart, with_local, Configuration, sight, Given, Text, Rows, class_of, consume, enter, exit, row, is_white, counts, row_step, is_line_feed, passes, between_texts, some_begins, tried_at, TextByte, is_line_feed_class, line_feed, punctuation, text_byte, white, PlaysCodeSpans, remembering, line-classed, BeginsData, HasRow, HasRows, Plays, tested, PlaysEmails, MarkPlace, at_cdata, at_comment, at_declaration, at_inside, at_open, mark_name, PlaysMarks, mark_rows, Place, PlaysTags, rows_of, state_of, PlaysBreakEscapes, PlaysReferences, between-remembered, code_memory, opening-remembered, white-classed, is_white_class, begins_run, ends_data, inline_before_rows, inline_constructs, inline_data_rows, is_delimiter, run_begins, and-false, eqb-true, reverse, Attempt, choose, when, begins_bracket, begins_end, begins_image, begins_link, is_of_bracket}
 use Rattle.markdown_base.specs.declared.state.TheConstants.Name.{LabelEndNok, LabelEndOk, LabelEndStart, LabelStartImageStart, LabelStartLinkStart}
+use Rattle.mdconstructs_full_references.proofs.FullReferences.Steps.{PlaysReferences as PlaysFullReferences}
 use Rattle.mdconstructs_resources.proofs.Resources.Steps.{PlaysResources}
-use Rattle.mdconstructs_inlines.specs.BracketRows.{bracket_rows, end_is_awaited, end_may_make, image_begins, kept_starts, link_begins, mark_begins, may_make, one_waits}
+use Rattle.mdconstructs_inlines.specs.declared.names.TheConstants.{LabelEndNotResource}
+use Rattle.mdconstructs_inlines.specs.BracketRows.{bracket_rows, end_is_awaited, end_may_make, image_begins, kept_starts, label_is_wanted, link_begins, mark_begins, may_make, one_waits}
 use Rattle.mdconstructs_inline_constructs.proofs.HtmlTags.Places as place
 use Rattle.mdconstructs_inlines.proofs.Counted.{counted_step}
 use Rattle.mdconstructs_inlines.proofs.InlineApart.{begins_mark, marked-classed, or-parts, punctuation-ends}
@@ -82,7 +84,7 @@ module _ (on : Constructs) (b : ℕ) where
     | false ↦ λ e i. bracket-class b (bracket-so i)
   ] refl is
 
-module _ (g : Given) (text : Text) where
+module _ (defined : List ℕ → Bool) (g : Given) (text : Text) where
   abbrev on : Constructs
   on = g.options.constructs
 
@@ -121,22 +123,22 @@ module _ (g : Given) (text : Text) where
   ] refl
 
   -- between constructs a line ending is read, a run begins, a bracket or an end is read, or constructs are tried
-  pub line-row : (k : Configuration Unit Unit) → (sight g text k).current ≡ Some 10 → HasRow g text (counted_step g) k TextBefore (row (enter LineEnding ∷ consume ∷ exit LineEnding ∷ []) (Next TextLineStart))
+  pub line-row : (k : Configuration Unit Unit) → (sight g text k).current ≡ Some 10 → HasRow g text (counted_step defined g) k TextBefore (row (enter LineEnding ∷ consume ∷ exit LineEnding ∷ []) (Next TextLineStart))
   line-row k at = ap (λ o. row_step g text k (inline_before_rows (behind k) (class_of text_byte o))) at
 
   at-punctuation : (k : Configuration Unit Unit) (b : ℕ) (t : Bool) → (sight g text k).current ≡ Some b → text_byte b ≡ punctuation → begins_run on b ≡ t
-      → HasRow g text (counted_step g) k TextBefore (cond t (row [] (Retry AttentionStart)) bracket_rows)
+      → HasRow g text (counted_step defined g) k TextBefore (cond t (row [] (Retry AttentionStart)) bracket_rows)
   at-punctuation k b t at class is =
       ap (λ o. row_step g text k (inline_before_rows (behind k) (class_of text_byte o))) at
       ∙ ap (λ w. row_step g text k (inline_before_rows (behind k) (Some w))) class
       ∙ tested g text run_begins (row [] (Retry AttentionStart)) bracket_rows k t (begins-here k b t at is)
 
-  pub runs-begin : (k : Configuration Unit Unit) (b : ℕ) → (sight g text k).current ≡ Some b → begins_run on b ≡ true → HasRow g text (counted_step g) k TextBefore (row [] (Retry AttentionStart))
+  pub runs-begin : (k : Configuration Unit Unit) (b : ℕ) → (sight g text k).current ≡ Some b → begins_run on b ≡ true → HasRow g text (counted_step defined g) k TextBefore (row [] (Retry AttentionStart))
   runs-begin k b at is = at-punctuation k b true at (delimiter-class b (and-right on.attention (is_delimiter b) is)) is
 
   -- the rows of ends
   abbrev tried_end : Rows Unit Unit
-  tried_end = row (choose Attempt (Next LabelEndOk) (Next LabelEndNok) ∷ []) (Retry LabelEndStart)
+  tried_end = row (choose Attempt (Next LabelEndOk) (Next LabelEndNotResource) ∷ []) (Retry LabelEndStart)
 
   abbrev lone_or_data : Rows Unit Unit
   lone_or_data = when end_is_awaited (row [] (Retry LabelEndNok)) (row [] (Retry TextBeforeData))
@@ -147,42 +149,42 @@ module _ (g : Given) (text : Text) where
   abbrev tried_image : Rows Unit Unit
   tried_image = row (choose Attempt (Next TextBefore) (Next TextBeforeData) ∷ []) (Retry LabelStartImageStart)
 
-  pub links-begin : (k : Configuration Unit Unit) (b : ℕ) → (sight g text k).current ≡ Some b → begins_link on b ≡ true → HasRow g text (counted_step g) k TextBefore (row [] (Retry LabelStartLinkStart))
+  pub links-begin : (k : Configuration Unit Unit) (b : ℕ) → (sight g text k).current ≡ Some b → begins_link on b ≡ true → HasRow g text (counted_step defined g) k TextBefore (row [] (Retry LabelStartLinkStart))
   links-begin k b at is =
       at-punctuation k b false at (bracket-class b (link-so on b is)) (no-run-there on b (link-so on b is))
       ∙ tested g text link_begins (row [] (Retry LabelStartLinkStart)) (when image_begins tried_image end_rows) k true (link-is k b true at is)
 
-  pub images-begin : (k : Configuration Unit Unit) (b : ℕ) → (sight g text k).current ≡ Some b → begins_image on b ≡ true → HasRow g text (counted_step g) k TextBefore tried_image
+  pub images-begin : (k : Configuration Unit Unit) (b : ℕ) → (sight g text k).current ≡ Some b → begins_image on b ≡ true → HasRow g text (counted_step defined g) k TextBefore tried_image
   images-begin k b at is =
       at-punctuation k b false at (bracket-class b (image-so on b is)) (no-run-there on b (image-so on b is))
       ∙ tested g text link_begins (row [] (Retry LabelStartLinkStart)) (when image_begins tried_image end_rows) k false (link-is k b false at (image-no-link on b is))
       ∙ tested g text image_begins tried_image end_rows k true (image-is k b true at is)
 
-  ends-there : (k : Configuration Unit Unit) (b : ℕ) → (sight g text k).current ≡ Some b → begins_end on b ≡ true → HasRow g text (counted_step g) k TextBefore end_rows
+  ends-there : (k : Configuration Unit Unit) (b : ℕ) → (sight g text k).current ≡ Some b → begins_end on b ≡ true → HasRow g text (counted_step defined g) k TextBefore end_rows
   ends-there k b at is =
       at-punctuation k b false at (bracket-class b (end-so on b is)) (no-run-there on b (end-so on b is))
       ∙ tested g text link_begins (row [] (Retry LabelStartLinkStart)) (when image_begins tried_image end_rows) k false (link-is k b false at (end-no-link on b is))
       ∙ tested g text image_begins tried_image end_rows k false (image-is k b false at (end-no-image on b is))
 
-  pub ends-make : (k : Configuration Unit Unit) (b : ℕ) → (sight g text k).current ≡ Some b → begins_end on b ≡ true → may_make (reverse (kept_starts k)) ≡ true → HasRow g text (counted_step g) k TextBefore tried_end
+  pub ends-make : (k : Configuration Unit Unit) (b : ℕ) → (sight g text k).current ≡ Some b → begins_end on b ≡ true → may_make (reverse (kept_starts k)) ≡ true → HasRow g text (counted_step defined g) k TextBefore tried_end
   ends-make k b at is may = ends-there k b at is ∙ tested g text end_may_make tried_end lone_or_data k true (makes-is k b true at is ∙ may)
 
   ends-fail : (k : Configuration Unit Unit) (b : ℕ) (t : Bool) → (sight g text k).current ≡ Some b → begins_end on b ≡ true → may_make (reverse (kept_starts k)) ≡ false → one_waits (reverse (kept_starts k)) ≡ t
-      → HasRow g text (counted_step g) k TextBefore (cond t (row [] (Retry LabelEndNok)) (row [] (Retry TextBeforeData)))
+      → HasRow g text (counted_step defined g) k TextBefore (cond t (row [] (Retry LabelEndNok)) (row [] (Retry TextBeforeData)))
   ends-fail k b t at is may waits =
       ends-there k b at is ∙ tested g text end_may_make tried_end lone_or_data k false (makes-is k b true at is ∙ may)
       ∙ tested g text end_is_awaited (row [] (Retry LabelEndNok)) (row [] (Retry TextBeforeData)) k t (awaited-is k b true at is ∙ waits)
 
   pub ends-alone : (k : Configuration Unit Unit) (b : ℕ) → (sight g text k).current ≡ Some b → begins_end on b ≡ true → may_make (reverse (kept_starts k)) ≡ false → one_waits (reverse (kept_starts k)) ≡ true
-      → HasRow g text (counted_step g) k TextBefore (row [] (Retry LabelEndNok))
+      → HasRow g text (counted_step defined g) k TextBefore (row [] (Retry LabelEndNok))
   ends-alone k b at is may waits = ends-fail k b true at is may waits
 
   pub ends-as-data : (k : Configuration Unit Unit) (b : ℕ) → (sight g text k).current ≡ Some b → begins_end on b ≡ true → may_make (reverse (kept_starts k)) ≡ false → one_waits (reverse (kept_starts k)) ≡ false
-      → HasRow g text (counted_step g) k TextBefore (row [] (Retry TextBeforeData))
+      → HasRow g text (counted_step defined g) k TextBefore (row [] (Retry TextBeforeData))
   ends-as-data k b at is may waits = ends-fail k b false at is may waits
 
   pub tried-between : (k : Configuration Unit Unit) (b : ℕ) → (sight g text k).current ≡ Some b → is_line_feed b ≡ false → begins_mark on b ≡ false → is_white b ≡ false
-      → HasRow g text (counted_step g) k TextBefore (tried_at between_texts inline_constructs (text_byte b))
+      → HasRow g text (counted_step defined g) k TextBefore (tried_at between_texts inline_constructs (text_byte b))
   tried-between k b at plain none other =
       let (run, bracket) = or-parts (begins_run on b) (begins_bracket on b) none in
       let (link, others) = or-parts (begins_link on b) (begins_image on b || begins_end on b) bracket in
@@ -201,7 +203,7 @@ module _ (g : Given) (text : Text) where
       ]
 
   -- in data it goes on at a byte that ends none, and ends at one that does and at the end
-  data-at : (k : Configuration Unit Unit) (b : ℕ) (t : Bool) → (sight g text k).current ≡ Some b → is_white b ≡ false → ends_data on b ≡ t → HasRow g text (counted_step g) k DataInside (ends_or_goes t)
+  data-at : (k : Configuration Unit Unit) (b : ℕ) (t : Bool) → (sight g text k).current ≡ Some b → is_white b ≡ false → ends_data on b ≡ t → HasRow g text (counted_step defined g) k DataInside (ends_or_goes t)
   data-at k b t at other ends =
       ap (λ o. row_step g text k (inline_data_rows (behind k) (class_of text_byte o))) at ∙ elim (data-class (text_byte b)) [
         | inl is ↦
@@ -212,19 +214,19 @@ module _ (g : Given) (text : Text) where
         | inr (inr rows) ↦ ap (row_step g text k) (rows.1 (behind k) ∙ ap ends_or_goes (marked-classed on b (no-mark b rows.0) ∙ ends))
       ]
 
-  pub data-on : (k : Configuration Unit Unit) (b : ℕ) → (sight g text k).current ≡ Some b → is_white b ≡ false → ends_data on b ≡ false → HasRow g text (counted_step g) k DataInside (row (consume ∷ []) (Next DataInside))
+  pub data-on : (k : Configuration Unit Unit) (b : ℕ) → (sight g text k).current ≡ Some b → is_white b ≡ false → ends_data on b ≡ false → HasRow g text (counted_step defined g) k DataInside (row (consume ∷ []) (Next DataInside))
   data-on k b at other ends = data-at k b false at other ends
 
-  pub data-ends : (k : Configuration Unit Unit) (b : ℕ) → (sight g text k).current ≡ Some b → is_white b ≡ false → ends_data on b ≡ true → HasRow g text (counted_step g) k DataInside (row (exit Data ∷ []) (Retry TextBefore))
+  pub data-ends : (k : Configuration Unit Unit) (b : ℕ) → (sight g text k).current ≡ Some b → is_white b ≡ false → ends_data on b ≡ true → HasRow g text (counted_step defined g) k DataInside (row (exit Data ∷ []) (Retry TextBefore))
   data-ends k b at other ends = data-at k b true at other ends
 
-  pub data-ends-last : (k : Configuration Unit Unit) → (sight g text k).current ≡ None → HasRow g text (counted_step g) k DataInside (row (exit Data ∷ []) (Retry TextBefore))
+  pub data-ends-last : (k : Configuration Unit Unit) → (sight g text k).current ≡ None → HasRow g text (counted_step defined g) k DataInside (row (exit Data ∷ []) (Retry TextBefore))
   data-ends-last k at = ap (λ o. row_step g text k (inline_data_rows (behind k) (class_of text_byte o))) at
 
   -- the twin that counts its calls reads constructs as others do
   abbrev pub inlines_play : Plays g text
   inlines_play = record {
-    step = counted_step g;
+    step = counted_step defined g;
     autolink_start = λ k. refl;
     autolink_open = λ k. refl;
     autolink_scheme = λ k. refl;
@@ -250,7 +252,7 @@ module _ (g : Given) (text : Text) where
   abbrev pub inlines_begin_data : BeginsData g text inlines_play
   inlines_begin_data = record { text_before_data = λ k. refl; data_at_break = λ k. refl }
 
-  abbrev pub inlines_play_break_escapes : PlaysBreakEscapes g text (counted_step g)
+  abbrev pub inlines_play_break_escapes : PlaysBreakEscapes g text (counted_step defined g)
   inlines_play_break_escapes = record { start = λ k. refl; after = λ k. refl }
 
   abbrev pub inlines_play_references : PlaysReferences g text inlines_play
@@ -285,7 +287,19 @@ module _ (g : Given) (text : Text) where
     ending = λ k. refl;
   }
 
-  pub tag-places : (s : Place) → HasRows g text (counted_step g) (state_of s) (rows_of s)
+  -- and full references
+  pub inlines_play_full_references : PlaysFullReferences g text inlines_play (label_is_wanted defined)
+  inlines_play_full_references = record {
+    start = λ k. refl;
+    begins = λ k. refl;
+    inside = λ k. refl;
+    escape = λ k. refl;
+    line = λ k. refl;
+    white = λ k. refl;
+    ending = λ k. refl;
+  }
+
+  pub tag-places : (s : Place) → HasRows g text (counted_step defined g) (state_of s) (rows_of s)
   tag-places place.opened = λ k. refl
   tag-places place.closed = λ k. refl
   tag-places place.closing_name = λ k. refl
@@ -301,10 +315,10 @@ module _ (g : Given) (text : Text) where
   tag-places place.bare = λ k. refl
   tag-places place.slashed = λ k. refl
 
-  abbrev pub inlines_play_tags : PlaysTags g text (counted_step g)
+  abbrev pub inlines_play_tags : PlaysTags g text (counted_step defined g)
   inlines_play_tags = record { start = λ k. refl; places = tag-places; after_line = λ k. refl; in_white = λ k. refl }
 
-  pub mark-places : (s : MarkPlace) → HasRows g text (counted_step g) (mark_name s) (mark_rows s)
+  pub mark-places : (s : MarkPlace) → HasRows g text (counted_step defined g) (mark_name s) (mark_rows s)
   mark-places at_open = λ k. refl
   mark-places at_declaration = λ k. refl
   mark-places at_comment = λ k. refl
@@ -312,5 +326,5 @@ module _ (g : Given) (text : Text) where
   mark-places (at_inside kind zero) = λ k. refl
   mark-places (at_inside kind (suc n)) = λ k. refl
 
-  abbrev pub inlines_play_marks : PlaysMarks g text (counted_step g)
+  abbrev pub inlines_play_marks : PlaysMarks g text (counted_step defined g)
   inlines_play_marks = record { start = λ k. refl; places = mark-places; after_line = λ k. refl; in_white = λ k. refl }

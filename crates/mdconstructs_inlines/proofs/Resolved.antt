@@ -9,7 +9,7 @@ pub resolved-so : (defined : List ℕ → Bool) (g : Given) (start : Name) → C
 resolved-so defined g start among text is flag r ends well final sub resolved =
     let k = r.configuration in
     let holds = holds-at-end g (inlines_rules defined) (inlines-lawful defined g).invariant_kept start among text is flag r ends well in
-    let known = goes-on inlines begins_inline follows_inline inline_starts tt linking_edits EndsLinked k [] _ refl holds.known in
+    let known = goes-on (inlines defined) begins_inline follows_inline inline_starts tt linking_edits EndsLinked k [] _ refl holds.known in
     let begun = with_resolvers (taken k) [] in
     let put : Configuration Unit Unit = record begun { local = record begun.local { map = linking_edits g k.events } } in
     let e : done (edits_made put) (Some (found k)) ≡ done final (Some sub) =

@@ -6,9 +6,9 @@ use Rattle.mdconstructs_inlines.proofs.Playing.{inlines_play, runs-begin}
 abbrev in_run : List EventName
 in_run = AttentionSequence ∷ []
 
-module _ (g : Given) (text : Text) where
+module _ (defined : List ℕ → Bool) (g : Given) (text : Text) where
   abbrev m : Plays g text
-  m = inlines_play g text
+  m = inlines_play defined g text
 
   -- the run ends at a place
   abbrev with_end : List Event → ℕ → List Event
@@ -85,7 +85,7 @@ module _ (g : Given) (text : Text) where
         after-within (1 + (1 + (rest + 1))) (n + 2) local read.0 (omega arith)
             (after-more 1 (1 + (rest + 1)) local (counts local) read.0 (after-call local) (after-more 1 (rest + 1) (counts local) (counts (counts local)) read.0 (after-call (counts local)) read.1)),
         λ es h.
-            leads-row g text m (row [] (Retry AttentionStart)) (between_items p Byte ended events local) [] TextBefore es (runs-begin g text (between_items p Byte ended events local) s.byte (ap byte_of at) is)
+            leads-row g text m (row [] (Retry AttentionStart)) (between_items p Byte ended events local) [] TextBefore es (runs-begin defined g text (between_items p Byte ended events local) s.byte (ap byte_of at) is)
             (leads-row g text m (row (enter AttentionSequence ∷ consume ∷ []) (Next AttentionInside)) (between_items p Byte ended events (counts local)) [] AttentionStart es refl
             (goes-next g text m ss in_run (p + 1) begun (counts (counts local)) [] AttentionInside next es
             (read.2 es

@@ -20,9 +20,9 @@ string-part-within b bs = elim (is_line_feed b) as (λ t. item_length (cond t (p
   | false ↦ omega (arith, prefix_len-le-length (λ c. not (is_string_special c)) bs)
 ]
 
-module _ (g : Given) (text : Text) (budget : ℕ) where
+module _ (defined : List ℕ → Bool) (g : Given) (text : Text) (budget : ℕ) where
   abbrev m : Plays g text
-  m = inlines_play g text
+  m = inlines_play defined g text
 
   -- what is left of the string
   abbrev left : ℕ → ℕ
@@ -64,7 +64,7 @@ module _ (g : Given) (text : Text) (budget : ℕ) where
         (d.0, d.1, omega (arith, few, knows, once.calls, d.2.calls, less, now), d.3)
 
   pub reads-paid : (c : Construct Found TextByte Unit Unit) (cs : List (Construct Found TextByte Unit Unit)) (calls : List ℕ → ℕ) → ((bs : List ℕ) → calls bs ≤ most_tried) → IsApart text_byte item_length c
-      → ReadsIn g text m between_strings calls c → ReadsBefore g text within_budget c cs
+      → ReadsIn g text m between_strings calls c → ReadsBefore defined g text within_budget c cs
   reads-paid c cs calls few apart reads nok p ended events local s ss here first is_on knows =
       paid c cs p events local s ss here knows (calls (bytes_of (s ∷ ss))) (few (bytes_of (s ∷ ss))) nok ended _ _ (c.grammar.front (bytes_of (s ∷ ss))) (apart.some s.byte (bytes_of ss))
       (reads nok p ended events (counts local) s ss here first)
@@ -80,42 +80,42 @@ module _ (g : Given) (text : Text) (budget : ℕ) where
       (read.0, read.1, omega (arith, knows, read.2.calls, rest, now, some), read.3)
 
   pub data-paid : (Knows : ℕ → List Event → Local Unit Unit → Type 0) → ((p : ℕ) (events : List Event) (local : Local Unit Unit) → Knows p events local → within_budget.at_data tt p events local)
-      → ReadsKnown g text within_budget Knows StringBeforeData (λ b. is_line_feed b ≡ false) string_part
+      → ReadsKnown defined g text within_budget Knows StringBeforeData (λ b. is_line_feed b ≡ false) string_part
   data-paid Knows pays p ended events local s ss here plain knows =
       let item = string_part (bytes_of (s ∷ ss)) in
       part-paid StringBeforeData p ended events local s ss here (pays p events local knows) item (some-part s.byte (bytes_of ss))
-      (omega (arith, string-part-within s.byte (bytes_of ss), length-map ss (λ x. x.byte))) (data-read-in g text p ended events local s ss here plain)
+      (omega (arith, string-part-within s.byte (bytes_of ss), length-map ss (λ x. x.byte))) (data-read-in defined g text p ended events local s ss here plain)
 
-  pub line-paid : ReadsKnown g text within_budget (within_budget.knows tt) StringBefore (λ b. is_line_feed b ≡ true) string_part
+  pub line-paid : ReadsKnown defined g text within_budget (within_budget.knows tt) StringBefore (λ b. is_line_feed b ≡ true) string_part
   line-paid p ended events local s ss here line knows =
       let item = string_part (bytes_of (s ∷ ss)) in
       part-paid StringBefore p ended events local s ss here (omega (arith, knows)) item (some-part s.byte (bytes_of ss))
-      (omega (arith, string-part-within s.byte (bytes_of ss), length-map ss (λ x. x.byte))) (line-read-in g text p ended events local s ss here line)
+      (omega (arith, string-part-within s.byte (bytes_of ss), length-map ss (λ x. x.byte))) (line-read-in defined g text p ended events local s ss here line)
 
-module _ (g : Given) (text : Text) where
+module _ (defined : List ℕ → Bool) (g : Given) (text : Text) where
   abbrev plays : Plays g text
-  plays = inlines_play g text
+  plays = inlines_play defined g text
 
   -- so many calls are enough: those of the bytes, the first and the last
   abbrev pub string_budget : ℕ
   string_budget = calls_a_byte * length text.seats + 2
 
   abbrev known : Knowledge Found TextByte (Unit {0})
-  known = within_budget g text string_budget
+  known = within_budget defined g text string_budget
 
   listed-in : IsListed g text plays.step between_strings text_byte item_length (item_events g.bytes) known is_line_feed (λ n. string_part) (λ n. string_constructs) string_budget
   listed-in =
-      strings-listed g text known string_budget (λ p events local s ss here plain knows. omega (arith, knows)) (λ p events local knows. (let once = after-call local in omega (arith, knows, once.calls)))
-      (reads-paid g text string_budget string_escapes (string_references ∷ []) escape_calls (λ bs. omega arith) string-apart.0 (escapes-reads-in g text plays between_strings))
-      (reads-paid g text string_budget string_references [] reference_calls (λ bs. omega arith) string-apart.1.0 (references-read-in g text plays (inlines_play_references g text) between_strings))
-      (λ cs. data-paid g text string_budget (known.tries tt cs) (λ p events local h. omega (arith, h))) (data-paid g text string_budget (known.at_data tt) (λ p events local h. h)) (line-paid g text string_budget)
+      strings-listed defined g text known string_budget (λ p events local s ss here plain knows. omega (arith, knows)) (λ p events local knows. (let once = after-call local in omega (arith, knows, once.calls)))
+      (reads-paid defined g text string_budget string_escapes (string_references ∷ []) escape_calls (λ bs. omega arith) string-apart.0 (escapes-reads-in g text plays between_strings))
+      (reads-paid defined g text string_budget string_references [] reference_calls (λ bs. omega arith) string-apart.1.0 (references-read-in g text plays (inlines_play_references defined g text) between_strings))
+      (λ cs. data-paid defined g text string_budget (known.tries tt cs) (λ p events local h. omega (arith, h))) (data-paid defined g text string_budget (known.at_data tt) (λ p events local h. h)) (line-paid defined g text string_budget)
 
   -- between constructs, before the first byte, all items are to be read
   from-between : (local : Local Unit Unit) → spent local ≤ 1 → EndsWith g text plays (between_items 0 Nothing false [] local) [] (Next StringBefore) (record { events = string_events g text; spent = string_budget })
   from-between local few =
       subst (λ items. EndsWith g text plays (between_items 0 Nothing false [] local) [] (Next StringBefore) (record { events = flat_map (item_events g.bytes) items; spent = string_budget }))
       (cut-same (string_item_at g.options.constructs) item_length (length text.seats) tt text.seats)
-      (items-read g text plays.step between_strings text_byte item_length (item_events g.bytes) known is_line_feed (λ n. string_part) (budget-kept g text string_budget) (λ n. string_constructs) string_budget listed-in
+      (items-read g text plays.step between_strings text_byte item_length (item_events g.bytes) known is_line_feed (λ n. string_part) (budget-kept defined g text string_budget) (λ n. string_constructs) string_budget listed-in
       (length text.seats) 0 tt false [] local text.seats refl (omega arith) (omega (arith, few)))
 
   -- A string is read from its start in so many calls
@@ -128,4 +128,4 @@ module _ (g : Given) (text : Text) where
 pub strings-are-linear : RunsWithin StringStart (λ n. 87 * n + 2)
 strings-are-linear defined g resolving events sub document run few =
     let text = whole_text g in
-    calls-within defined g text false StringStart (record { events = string_events g text; spent = string_budget g text }) (strings-within g text false) few run.result run.ends
+    calls-within defined g text false StringStart (record { events = string_events g text; spent = string_budget defined g text }) (strings-within defined g text false) few run.result run.ends

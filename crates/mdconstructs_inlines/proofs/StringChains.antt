@@ -8,7 +8,7 @@ use Rattle.mdconstructs_inlines.proofs.StringRuns.{calm-same, string-alone, stri
 -- what is read of any string, once all is resolved
 pub reads-strings-of : (defined : List ℕ → Bool) (g : Given) → ReadsTextsFrom StringStart g (inlines_rules defined) (string_events g)
 reads-strings-of defined g text is flag r ends well final sub resolved =
-    let read = (ends-as-counted defined g text flag StringStart (ending (string_events g text)) (strings-from-start g text flag) r ends).1 in
+    let read = (ends-as-counted defined g text flag StringStart (ending (string_events g text)) (strings-from-start defined g text flag) r ends).1 in
     (resolved-so defined g StringStart (1, omega arith, (cc)) text is flag r ends well final sub resolved).1 ∙ ap (λ es. edited (linking_edits g es) es) read
     ∙ calm-same g (string_events g text) (string-calm g text) (string-alone g text)
 
@@ -17,7 +17,7 @@ run-reads defined g events sub document true run =
     run.events ∙ reads-strings-of defined g (whole_text g) (whole-is-text g document) false run.result run.ends run.well run.final sub run.resolved
 run-reads defined g events sub document false run =
     let text = whole_text g in
-    let read = ends-as-counted defined g text false StringStart (ending (string_events g text)) (strings-from-start g text false) run.result run.ends in
+    let read = ends-as-counted defined g text false StringStart (ending (string_events g text)) (strings-from-start defined g text false) run.result run.ends in
     run.events ∙ ap (λ (k : Configuration Unit Unit). k.events) run.resolved.0 ∙ read.1
 
 pub reads-strings : ReadsStrings

@@ -27,9 +27,9 @@ string_data_row ends = cond ends (row (exit Data ∷ []) (Retry StringBefore)) (
 pub some-part : (b : ℕ) (bs : List ℕ) → 0 < item_length (string_part (b ∷ bs))
 some-part b bs = elim (is_line_feed b) as (λ t. 0 < item_length (cond t (part line_ending) (string_data (b ∷ bs)))) [ true ↦ omega arith | false ↦ omega arith ]
 
-module _ (g : Given) (text : Text) where
+module _ (defined : List ℕ → Bool) (g : Given) (text : Text) where
   abbrev m : Plays g text
-  m = inlines_play g text
+  m = inlines_play defined g text
 
   -- the class of the byte before
   abbrev behind : Configuration Unit Unit → Option TextByte
@@ -138,7 +138,7 @@ module _ (g : Given) (text : Text) where
   listed =
       strings-listed nothing_known most (λ p events local s ss here plain knows. tt) (λ p events local knows. counted-most local)
       (reads-before g text m between_strings string_escapes (string_references ∷ []) (escapes-read g text m between_strings))
-      (reads-before g text m between_strings string_references [] (references-read g text m (inlines_play_references g text) between_strings)) (λ cs. data-read) data-read line-read
+      (reads-before g text m between_strings string_references [] (references-read g text m (inlines_play_references defined g text) between_strings)) (λ cs. data-read) data-read line-read
 
   -- between constructs, before the first byte, all items are to be read
   from-between : (local : Local Unit Unit) → EndsWith g text m (between_items 0 Nothing false [] local) [] (Next StringBefore) (ending (string_events g text))

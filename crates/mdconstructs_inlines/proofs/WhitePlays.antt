@@ -1,6 +1,6 @@
 -- The machine of inline text reads white space by the rows of its states.
 use Rattle.markdown_tokenizer.specs.Sight.{sight_of}
-use Rattle.mdconstructs_inlines.proofs.Prelude.{TokenizerValue, step_by, ◌≡◌, ◌⊎◌, inl, inr, ℕ, ◌&&◌, ◌||◌, [], ◌∷◌, Bool, true, false, cond, Option, Some, None, refl, sym, ap, ◌∙◌, Constructs, Next, Retry, DataInside, TextBefore, DataWhite, Configuration, sight, Given, Text, Rows, class_of, consume, row, is_white, row_step, is_line_feed, passes, some_begins, TextByte, is_line_feed_class, line_feed, punctuation, text_byte, white, line-classed, HasRow, Plays, tested, white-class, begins_run, ends_data, inline_before_rows, inline_constructs, inline_data_rows, run_begins, not, subst, eqb-true, EventName, HardBreakTrailing, SpaceOrTab, Name, note, is_space, by-class, break_or_white, data_goes_on, data_over, data_space_rows, data_spaces_rows, data_white_rows, text_space_rows, text_spaces_rows, text_white_rows, white_is_data, white_over, space_waits, trailing_breaks_are_on, some_first, marked_grammars, DataSpace, DataSpaces, TextSpace, TextSpaces, TextWhite, when}
+use Rattle.mdconstructs_inlines.proofs.Prelude.{List, TokenizerValue, step_by, ◌≡◌, ◌⊎◌, inl, inr, ℕ, ◌&&◌, ◌||◌, [], ◌∷◌, Bool, true, false, cond, Option, Some, None, refl, sym, ap, ◌∙◌, Constructs, Next, Retry, DataInside, TextBefore, DataWhite, Configuration, sight, Given, Text, Rows, class_of, consume, row, is_white, row_step, is_line_feed, passes, some_begins, TextByte, is_line_feed_class, line_feed, punctuation, text_byte, white, line-classed, HasRow, Plays, tested, white-class, ends_data, inline_before_rows, inline_constructs, inline_data_rows, not, subst, eqb-true, EventName, HardBreakTrailing, SpaceOrTab, Name, note, is_space, by-class, break_or_white, data_goes_on, data_over, data_space_rows, data_spaces_rows, data_white_rows, text_space_rows, text_spaces_rows, text_white_rows, white_is_data, white_over, space_waits, trailing_breaks_are_on, some_first, marked_grammars, DataSpace, DataSpaces, TextSpace, TextSpaces, TextWhite, when}
 use Rattle.std.specs.Prelude.{is_some}
 use Rattle.mdconstructs_inlines.specs.BracketRows.{mark_begins}
 use Rattle.mdconstructs_text.specs.TextBytes as class
@@ -77,9 +77,9 @@ goes-class _ = inr ((λ e. absurd (cc)), refl)
 line-so : (b : ℕ) → ends_line (Some b) ≡ true → is_line_feed b ≡ true
 line-so b h = elim (is_line_feed b) as (λ t. not (not t) ≡ true → t ≡ true) [ true ↦ λ i. refl | false ↦ λ i. i ] h
 
-module _ (g : Given) (text : Text) where
+module _ (defined : List ℕ → Bool) (g : Given) (text : Text) where
   abbrev m : Plays g text
-  m = inlines_play g text
+  m = inlines_play defined g text
 
   abbrev on : Constructs
   on = g.options.constructs
@@ -189,10 +189,10 @@ module _ (g : Given) (text : Text) where
       elim (goes-class (text_byte b)) [
         | inl is ↦
             ap (λ w. row_step g text k (data_goes_on w)) is
-            ∙ tested g text mark_begins (row [] (Retry DataInside)) (row (consume ∷ []) (Next DataInside)) k t (marks-here g text k b t at (sym (punctuation-ends on b is) ∙ ends))
+            ∙ tested g text mark_begins (row [] (Retry DataInside)) (row (consume ∷ []) (Next DataInside)) k t (marks-here defined g text k b t at (sym (punctuation-ends on b is) ∙ ends))
         | inr (other, rows) ↦
             let marked : some_begins inline_constructs (text_byte b) ≡ (is_line_feed_class (text_byte b) || some_begins inline_constructs (text_byte b)) = sym (ap (λ t. t || some_begins inline_constructs (text_byte b)) (line-classed b ∙ line)) in
-            ap (row_step g text k) (rows ∙ ap goes_unless (marked ∙ marked-classed on b (no-mark g text b other) ∙ ends))
+            ap (row_step g text k) (rows ∙ ap goes_unless (marked ∙ marked-classed on b (no-mark defined g text b other) ∙ ends))
       ]
 
   -- the machine reads white space so
@@ -206,9 +206,9 @@ module _ (g : Given) (text : Text) where
     data_ends = in-data-ends;
     plain_other = text-goes-on;
     data_special = λ w k b at none line ends. in-data-seen w k b at none line ∙ data-goes k b true at line ends;
-    inside_on = λ k b at none ends. data-on g text k b at none ends;
-    inside_ends = λ k b at none ends. data-ends g text k b at none ends;
-    inside_ends_last = λ k at. data-ends-last g text k at;
+    inside_on = λ k b at none ends. data-on defined g text k b at none ends;
+    inside_ends = λ k b at none ends. data-ends defined g text k b at none ends;
+    inside_ends_last = λ k at. data-ends-last defined g text k at;
     data_other = λ w k b at none ends.
         let line : is_line_feed b ≡ false = (or-parts (is_line_feed b) (some_first marked_grammars b || begins_mark on b) ends).0 in
         in-data-seen w k b at none line ∙ data-goes k b false at line ends;

@@ -23,7 +23,7 @@ use Rattle.mdconstructs_inline_constructs.specs.Reference.{reference_grammar}
 use Rattle.mdconstructs_inline_constructs.specs.HtmlMarked.{html_mark_grammar}
 use Rattle.mdconstructs_inline_constructs.specs.HtmlTag.{html_tag_grammar}
 use Rattle.mdconstructs_inline_constructs.specs.WhiteSpace.{is_white_left, white_space, white_space_grammar}
-use Rattle.mdconstructs_inlines.specs.Brackets.{Memory, after_item, begins_bracket, bracket_at, nothing_waits}
+use Rattle.mdconstructs_inlines.specs.Brackets.{Memory, after_item, begins_bracket, bracket_at, nothing_read}
 use Rattle.mdconstructs_inlines.specs.RunRows.{is_delimiter}
 
 -- The constructs of inline text that begin with a mark: code spans, autolinks, email autolinks, raw HTML between marks, tags, backslash
@@ -85,25 +85,28 @@ module _ (on : Constructs) where
       (cond (has_byte_at text 0 is_line_feed) (line_break (prefix_len is_white (drop 1 text)))
       (data_run (data_length text)))
 
-  -- what is there where no construct is: a bracket or an end of a label, by the brackets that wait, or one of these
-  abbrev pub bracket_or_part : Memory → List ℕ → Found
-  bracket_or_part m text = or_else (bracket_at on m text) (run_or_part text)
+  -- which labels are defined, and the bytes of the document
+  module _ (defined : List ℕ → Bool) (bytes : List ℕ) where
+    -- what is there where no construct is: a bracket or an end of a label, by what is remembered, or one of these
+    abbrev pub bracket_or_part : Memory → List ℕ → Found
+    bracket_or_part m text = or_else (bracket_at on defined bytes m text) (run_or_part text)
 
-  -- The item at the front of a text, by the brackets that wait before it: a construct, a bracket, an end of a label, a run, a line ending, or data
-  abbrev pub inline_item_at : Memory → List ℕ → Found
-  inline_item_at m text = first_there inline_grammars on text (bracket_or_part m text)
+    -- The item at the front of a text, by what is remembered of those before it: a construct, a bracket, an end of a label, a run, a line ending, or data
+    abbrev pub inline_item_at : Memory → List ℕ → Found
+    inline_item_at m text = first_there inline_grammars on text (bracket_or_part m text)
 
-  -- the items of a text, each with its virtual bytes: the white space that it begins with, and then what is cut from the front; before the first one
-  -- no bracket waits
-  abbrev pub inline_items : List Seat → List (Found × List Seat)
-  inline_items seats =
-      let n = prefix_len is_white (bytes_of seats) in
-      (white_space n, take n seats) ∷ cut_remembering after_item inline_item_at item_length (length seats) nothing_waits (drop n seats)
+    -- the items of a text, each with its virtual bytes: the white space that it begins with, and then what is cut from the front
+    abbrev pub inline_items : List Seat → List (Found × List Seat)
+    inline_items seats =
+        let n = prefix_len is_white (bytes_of seats) in
+        (white_space n, take n seats) ∷ cut_remembering (after_item bytes) inline_item_at item_length (length seats) (after_item bytes (nothing_read seats) (white_space n)) (drop n seats)
 
--- the events that are read of a text: those of its items
-abbrev pub read_events : Given → Text → List Event
-read_events g text = flat_map (item_events g.bytes) (inline_items g.options.constructs text.seats)
+-- which labels are defined
+module _ (defined : List ℕ → Bool) where
+  -- the events that are read of a text: those of its items
+  abbrev pub read_events : Given → Text → List Event
+  read_events g text = flat_map (item_events g.bytes) (inline_items g.options.constructs defined g.bytes text.seats)
 
--- The events of inline text: those, with links, images and emphasis in place of its brackets and runs
-abbrev pub inline_events : Given → Text → List Event
-inline_events g text = with_links g.bytes (read_events g text)
+  -- The events of inline text: those, with links, images and emphasis in place of its brackets and runs
+  abbrev pub inline_events : Given → Text → List Event
+  inline_events g text = with_links g.bytes (read_events g text)

@@ -22,14 +22,14 @@ linking_edits g events = link_edits g.bytes events
 abbrev pub EndsLinked : Given → Text → List Event → Type 0
 EndsLinked g text events = (read : List Event) × IsWellFormed g read × HaveNoLinks read × (events ≡ with_links g.bytes read) × HaveNoLinks events
 
--- the plan of the machine
-abbrev pub inline_plan : Plan TextByte Unit Unit
-inline_plan = registered_plan inlines begins_inline follows_inline inline_starts tt linking_edits EndsLinked
+-- the plan of the machine, by which labels are defined
+abbrev pub inline_plan : (defined : List ℕ → Bool) → Plan TextByte Unit Unit
+inline_plan defined = registered_plan (inlines defined) begins_inline follows_inline inline_starts tt linking_edits EndsLinked
 
 -- no label is defined
 abbrev pub no_labels : List ℕ → Bool
 no_labels label = false
 
--- The rules of a machine whose labels define these. None asks which do
+-- The rules of a machine whose labels define these
 abbrev pub inlines_rules : (defined : List ℕ → Bool) → Given → Rules Unit Unit
-inlines_rules defined = planned_rules inline_plan
+inlines_rules defined = planned_rules (inline_plan defined)

@@ -1,11 +1,11 @@
 -- The table of the machine of inline text: a list of constructs, and brackets, delimiter runs, line endings and data between them.
-use Rattle.std.specs.Prelude.{◌||◌, ◌==◌, Bool, true, cond, List, [], ◌∷◌, ◌++◌, Option, Some, None}
+use Rattle.std.specs.Prelude.{ℕ, ◌||◌, ◌==◌, Bool, true, cond, List, [], ◌∷◌, ◌++◌, Option, Some, None}
 use Rattle.markdown_base.specs.declared.event.Name.{Name as EventName}
 use Rattle.markdown_base.specs.declared.event.Name.TheVariants.{Data, HardBreakTrailing, LineEnding, SpaceOrTab}
 use Rattle.markdown_base.specs.declared.state.Name.{Name}
 use Rattle.markdown_base.specs.declared.state.State.TheVariants.{Next, Retry, Ok}
-use Rattle.markdown_base.specs.declared.state.TheConstants.Name.{AttentionStart, DataInside, LabelEndOk, LabelEndStart, LabelStartImageStart, StringBefore, StringStart, TextBefore, TextBeforeData, TextBeforeHardBreakEscape, TextBeforeHtml, TextStart}
-use Rattle.mdconstructs_inlines.specs.declared.names.TheConstants.{DataSpace, DataSpaces, DataWhite, TextBeforeEmail, TextBeforeTag, TextLineStart, TextLineWhite, TextSpace, TextSpaces, TextWhite}
+use Rattle.markdown_base.specs.declared.state.TheConstants.Name.{AttentionStart, DataInside, LabelEndOk, LabelEndReferenceCollapsed, LabelEndStart, LabelStartImageStart, StringBefore, StringStart, TextBefore, TextBeforeHardBreakEscape, TextBeforeHtml, TextStart}
+use Rattle.mdconstructs_inlines.specs.declared.names.TheConstants.{DataSpace, DataSpaces, DataWhite, LabelEndReferenceStart, TextBeforeEmail, TextBeforeTag, TextLineStart, TextLineWhite, TextSpace, TextSpaces, TextWhite}
 use Rattle.markdown_tokenizer.specs.Configuration.{Configuration, Step, TokenizerValue}
 use Rattle.markdown_tokenizer.specs.Sight.{Sight, sight_of}
 use Rattle.markdown_tokenizer.specs.Text.{Given}
@@ -270,25 +270,29 @@ abbrev pub own_states : List (StateRows TextByte Unit Unit)
 own_states =
     line_start ∷ line_white ∷ inline_before ∷ before_hard_break_escape ∷ before_email ∷ before_html ∷ before_tag ∷ (data_states ++ (inline_data ∷ white_states))
 
--- the states of inline text but the first
-abbrev pub later_states : List (StateRows TextByte Unit Unit)
-later_states = own_states ++ (states_of inline_constructs ++ bracket_states)
+-- which labels are defined
+module _ (defined : List ℕ → Bool) where
+  -- the states of inline text but the first
+  abbrev pub later_states : List (StateRows TextByte Unit Unit)
+  later_states = own_states ++ (states_of inline_constructs ++ bracket_states defined)
 
--- all states, of inline text and of strings
-abbrev pub inline_states : List (StateRows TextByte Unit Unit)
-inline_states = string_states ++ (run_states ++ inline_start ∷ later_states)
+  -- all states, of inline text and of strings
+  abbrev pub inline_states : List (StateRows TextByte Unit Unit)
+  inline_states = string_states ++ (run_states ++ inline_start ∷ later_states)
 
 -- a reading starts before a text, or before a string
 abbrev pub inline_starts : List Name
 inline_starts = TextStart ∷ StringStart ∷ []
 
--- their table
-abbrev pub inlines : Table TextByte Unit Unit
-inlines = record { class = text_byte; first = unchanged; states = inline_states; starts = inline_starts }
+-- their table, by which labels are defined
+abbrev pub inlines : (defined : List ℕ → Bool) → Table TextByte Unit Unit
+inlines defined = record { class = text_byte; first = unchanged; states = inline_states defined; starts = inline_starts }
 
--- the states that begin a construct: they are called only if the construct is tried; and so are those of brackets of images and of ends
+-- the states that begin a construct: they are called only if the construct is tried; and so are those of brackets of images and of ends, and of references
 abbrev pub begins_inline : Name → Option TextByte → Bool
-begins_inline name w = (name.number == LabelStartImageStart.number) || ((name.number == LabelEndStart.number) || some_begun inline_constructs name w)
+begins_inline name w =
+    (name.number == LabelStartImageStart.number) || ((name.number == LabelEndStart.number)
+    || ((name.number == LabelEndReferenceStart.number) || ((name.number == LabelEndReferenceCollapsed.number) || some_begun inline_constructs name w)))
 
 -- the states that come next if a construct was there
 abbrev pub follows_inline : Name → Bool

@@ -31,16 +31,16 @@ MakesLinks = (defined : List ℕ → Bool) (g : Given) (events : List Event) (su
 -- For each document, a run that resolves returns the events of inline text; and one that does not, the events that are read
 abbrev pub ReadsInlineText : Type 0
 ReadsInlineText = (defined : List ℕ → Bool) (g : Given) (events : List Event) (sub : Subresult) → IsDocument g
-    → (IsRun g (inlines_rules defined) true TextStart events sub → events ≡ inline_events g (whole_text g))
-    × (IsRun g (inlines_rules defined) false TextStart events sub → events ≡ read_events g (whole_text g))
+    → (IsRun g (inlines_rules defined) true TextStart events sub → events ≡ inline_events defined g (whole_text g))
+    × (IsRun g (inlines_rules defined) false TextStart events sub → events ≡ read_events defined g (whole_text g))
 
--- the list with each chunk of each chain of text replaced by its part of the inline text of the chain
-abbrev pub with_inlines : Given → List Event → List Event
-with_inlines g events = with_read g events (λ c. inline_events g (chain_text g events c))
+-- the list with each chunk of each chain of text replaced by its part of the inline text of the chain, by which labels are defined
+abbrev pub with_inlines : (defined : List ℕ → Bool) → Given → List Event → List Event
+with_inlines defined g events = with_read g events (λ c. inline_events defined g (chain_text g events c))
 
 -- The machine makes that of each list whose chains of text can be read
 abbrev pub ReadsChainsAsInlineText : Type 0
-ReadsChainsAsInlineText = (defined : List ℕ → Bool) (g : Given) (events : List Event) → IsDocument g → IsReady g.tab g.bytes (Some TextContent) events → AreReadBy g events (inlines_rules defined) (with_inlines g events)
+ReadsChainsAsInlineText = (defined : List ℕ → Bool) (g : Given) (events : List Event) → IsDocument g → IsReady g.tab g.bytes (Some TextContent) events → AreReadBy g events (inlines_rules defined) (with_inlines defined g events)
 
 -- and leaves it ready for another content, if it was
 abbrev pub StaysReadyAfterInlineText : Type 0

@@ -9,13 +9,19 @@ ghost use Rattle.markdown_tokenizer.specs.Configuration.{at_configuration};
 ghost use Rattle.markdown_tokenizer.specs.Sight.{sight_of};
 ghost use Rattle.mdconstructs_tables.specs.RowInvariant.{DoesAll, IsCallable, step_in};
 ghost use Rattle.mdconstructs_text.specs.TextBytes.{text_byte};
-ghost use Rattle.mdconstructs_inlines.specs.BracketRows.{bracket_events, bracket_is_next, end_begins, end_is_awaited, end_may_make, end_nok, end_ok, end_start, image_begins, image_open, image_start, is_image, link_begins, link_start, mark_begins, may_make, one_waits, waits_less, waits_more, without_last};
+ghost use Rattle.mdconstructs_labels.specs.Defined.{defines};
+ghost use Rattle.mdconstructs_full_references.specs.FullReferenceRows.{label_end, label_is_there};
+ghost use Rattle.mdconstructs_inlines.specs.BracketRows.{bracket_events, bracket_is_next, close_is_next, collapsed_open, collapsed_start, end_after, end_begins, end_is_awaited, end_may_make, end_nok, end_ok, end_start, image_begins, image_open, image_start, is_image, label_is_wanted, link_begins, link_start, mark_begins, may_make, not_full, not_resource, one_waits, reference_end, waits_less, waits_more, without_last};
 
 use crate::attention::run_begins;
+use crate::labels::{label_is_wanted, own_label_is_defined};
+use crate::names;
 use markdown_base::owned::Items;
 use markdown_tokenizer::event;
 use markdown_tokenizer::state::{MachineTypes, Name, State};
 use markdown_tokenizer::tokenizer::{LabelKind, LabelStart, Tokenizer};
+use mdconstructs_full_references::full_reference;
+use mdconstructs_labels::labels::Labels;
 use mdconstructs_tables::marker;
 use std::alloc::{AllocError, Global};
 use std::mem::replace;
@@ -111,6 +117,20 @@ fn bracket_is_next<'a, M: MachineTypes>(t: &Tokenizer<'a, M>) -> bool
     t.current() == Some(b'[')
 }
 
+/// Whether `]` waits to be read.
+fn close_is_next<'a, M: MachineTypes>(t: &Tokenizer<'a, M>) -> bool
+    ensures { result ≡ close_is_next t.now.given (sight_of t.now) t.now.configuration }
+{
+    t.current() == Some(b']')
+}
+
+/// Whether it was noted that a label is there, of a full reference that is none.
+fn label_is_there<'a, M: MachineTypes>(t: &Tokenizer<'a, M>) -> bool
+    ensures { result ≡ label_is_there t.now.given (sight_of t.now) t.now.configuration }
+{
+    t.tokenize_state.marker_b == 1
+}
+
 /// Whether an end waits to be read: `]`, and those are on.
 fn end_begins<'a, M: MachineTypes>(t: &Tokenizer<'a, M>) -> bool
     ensures { result ≡ end_begins t.now.given (sight_of t.now) t.now.configuration }
@@ -191,6 +211,126 @@ pub(crate) fn end_start<'a, M: MachineTypes>(t: &mut Tokenizer<'a, M>) -> Result
     marker(t, event::Name::LabelMarker)?;
     t.exit(event::Name::LabelEnd)?;
     Ok(State::Next(Name::LabelEndResourceStart))
+}
+
+/// At `]` with no resource behind it: a full reference is tried.
+pub(crate) fn not_resource<'a, M: MachineTypes>(
+    t: &mut Tokenizer<'a, M>,
+) -> Result<State, AllocError>
+    requires { IsCallable text_byte not_resource t.old }
+    ensures { IfOk result (DoesAll (step_in text_byte not_resource t.old) t.old t.new) }
+{
+    t.attempt(
+        State::Next(Name::LabelEndOk),
+        State::Next(Name::LabelEndReferenceNotFull),
+    )?;
+    Ok(State::Retry(names::LabelEndReferenceStart))
+}
+
+/// At `]`: a full reference may follow.
+pub(crate) fn reference_end<'a, M: MachineTypes>(
+    t: &mut Tokenizer<'a, M>,
+) -> Result<State, AllocError>
+    requires { IsCallable text_byte reference_end t.old }
+    ensures { IfOk result (DoesAll (step_in text_byte reference_end t.old) t.old t.new) }
+{
+    t.enter(event::Name::LabelEnd)?;
+    marker(t, event::Name::LabelMarker)?;
+    t.exit(event::Name::LabelEnd)?;
+    Ok(State::Next(Name::LabelEndReferenceFull))
+}
+
+/// At the `]` of a label behind `]`: it is wanted if it is defined.
+pub(crate) fn wanted_label_end<'a, M: MachineTypes>(
+    alloc: Global,
+    t: &mut Tokenizer<'a, M>,
+    labels: &Labels,
+) -> Result<State, AllocError>
+    requires { IsCallable text_byte (label_end (label_is_wanted (defines labels.now))) t.old }
+    ensures { IfOk result (DoesAll (step_in text_byte (label_end (label_is_wanted (defines labels.now))) t.old) t.old t.new) }
+{
+    match t.current() {
+        None => full_reference::label_end(t, false),
+        Some(_) => {
+            let wanted = label_is_wanted(alloc, t, labels)?;
+            full_reference::label_end(t, wanted)
+        }
+    }
+}
+
+/// At `]` with no full reference behind it: something is made if no label is there, and the bracket's own label is defined.
+pub(crate) fn not_full<'a, M: MachineTypes>(
+    alloc: Global,
+    t: &mut Tokenizer<'a, M>,
+    labels: &Labels,
+) -> Result<State, AllocError>
+    requires { IsCallable text_byte (not_full (defines labels.now)) t.old }
+    ensures { IfOk result (DoesAll (step_in text_byte (not_full (defines labels.now)) t.old) t.old t.new) }
+{
+    if label_is_there(t) {
+        return Ok(State::Retry(Name::LabelEndNok));
+    }
+    if !own_label_is_defined(alloc, t, labels)? {
+        return Ok(State::Retry(Name::LabelEndNok));
+    }
+    t.enter(event::Name::LabelEnd)?;
+    marker(t, event::Name::LabelMarker)?;
+    t.exit(event::Name::LabelEnd)?;
+    Ok(State::Next(Name::LabelEndAfter))
+}
+
+/// Behind `]` that makes something by the bracket's own label: `[]` may follow.
+pub(crate) fn end_after<'a, M: MachineTypes>(t: &mut Tokenizer<'a, M>) -> Result<State, AllocError>
+    requires { IsCallable text_byte end_after t.old }
+    ensures { IfOk result (DoesAll (step_in text_byte end_after t.old) t.old t.new) }
+{
+    match t.current() {
+        None => Ok(State::Retry(Name::LabelEndOk)),
+        Some(_) => {
+            if !bracket_is_next(t) {
+                return Ok(State::Retry(Name::LabelEndOk));
+            }
+            t.attempt(State::Next(Name::LabelEndOk), State::Next(Name::LabelEndOk))?;
+            Ok(State::Retry(Name::LabelEndReferenceCollapsed))
+        }
+    }
+}
+
+/// At the `[` of `[]`.
+pub(crate) fn collapsed_start<'a, M: MachineTypes>(
+    t: &mut Tokenizer<'a, M>,
+) -> Result<State, AllocError>
+    requires { IsCallable text_byte collapsed_start t.old }
+    ensures { IfOk result (DoesAll (step_in text_byte collapsed_start t.old) t.old t.new) }
+{
+    match t.current() {
+        None => Ok(State::Nok),
+        Some(_) => {
+            t.enter(event::Name::Reference)?;
+            marker(t, event::Name::ReferenceMarker)?;
+            Ok(State::Next(Name::LabelEndReferenceCollapsedOpen))
+        }
+    }
+}
+
+/// Behind it: `]` may be next.
+pub(crate) fn collapsed_open<'a, M: MachineTypes>(
+    t: &mut Tokenizer<'a, M>,
+) -> Result<State, AllocError>
+    requires { IsCallable text_byte collapsed_open t.old }
+    ensures { IfOk result (DoesAll (step_in text_byte collapsed_open t.old) t.old t.new) }
+{
+    match t.current() {
+        None => Ok(State::Nok),
+        Some(_) => {
+            if !close_is_next(t) {
+                return Ok(State::Nok);
+            }
+            marker(t, event::Name::ReferenceMarker)?;
+            t.exit(event::Name::Reference)?;
+            Ok(State::Ok)
+        }
+    }
 }
 
 /// Behind the tail of a link or an image: its bracket waits no more.

@@ -24,6 +24,7 @@ use markdown_tokenizer::state::{ByteSet, Machine, MachineTypes, Name, State, no_
 use markdown_tokenizer::subtokenize::Subresult;
 use markdown_tokenizer::tokenizer::{Fault, Tokenizer};
 use markdown_tokenizer::util::edit_map::EditMap;
+use mdconstructs_full_references::{full_reference, names as reference_names};
 use mdconstructs_inline_constructs::email::{email_atext, email_label, email_start, email_value};
 use mdconstructs_inline_constructs::hard_break::{
     break_escape_after, break_escape_start, break_escapes_are_on, trailing_breaks_are_on,
@@ -65,15 +66,16 @@ use mdconstructs_text::text::{data_at_break, text_before_data};
 use std::alloc::{AllocError, Global};
 
 /// Reads a text, from `TextStart`: code spans, autolinks, backslash escapes, hard breaks, character references, links and images with
-/// resources, and emphasis, if they are on, line endings and the white space beside them, and all else as data. Links, images and emphasis are
-/// made once all was read: until then brackets are labels' starts and ends, and delimiter runs are attention sequences. It reads a string, from `StringStart`: backslash escapes and character references, if they are on, line endings, and all else as
-/// data.
+/// resources or by labels that are defined (full, collapsed and shortcut references), and emphasis, if they are on, line endings and the white space
+/// beside them, and all else as data. Links, images and emphasis are made once all was read: until then brackets are labels' starts and ends, and
+/// delimiter runs are attention sequences. It reads a string, from `StringStart`: backslash escapes and character references, if they are on, line
+/// endings, and all else as data.
 ///
-/// On n virtual bytes a run from `TextStart` takes at most 368 n + 4 calls, and one from `StringStart` 87 n + 2, whatever they are: what was looked for
+/// On n virtual bytes a run from `TextStart` takes at most 374 n + 4 calls, and one from `StringStart` 87 n + 2, whatever they are: what was looked for
 /// in vain is remembered (`inline_text_is_linear`, `strings_are_linear`). The cost that the machine states is a square (`cost_at_the_start`).
 #[derive(Drop)]
 pub struct Inlines {
-    /// The labels that are defined. No state asks for them: references by labels are not read.
+    /// The labels that are defined.
     pub labels: Labels,
 }
 
@@ -140,6 +142,21 @@ impl Machine for Inlines {
             Name::LabelStartImageStart => brackets::image_start(t),
             Name::LabelStartImageOpen => brackets::image_open(t),
             Name::LabelEndStart => brackets::end_start(t),
+            names::LabelEndNotResource => brackets::not_resource(t),
+            names::LabelEndReferenceStart => brackets::reference_end(t),
+            Name::LabelEndReferenceFull => full_reference::reference_start(t),
+            Name::LabelStart => full_reference::label_start(t),
+            Name::LabelInside => full_reference::label_inside(t),
+            Name::LabelEscape => full_reference::label_escape(t),
+            Name::LabelEolAfter => full_reference::label_line(t),
+            reference_names::LabelLineWhite => full_reference::label_white(t),
+            reference_names::LabelEndReferenceFullEnd => {
+                brackets::wanted_label_end(alloc, t, &self.labels)
+            }
+            Name::LabelEndReferenceNotFull => brackets::not_full(alloc, t, &self.labels),
+            Name::LabelEndAfter => brackets::end_after(t),
+            Name::LabelEndReferenceCollapsed => brackets::collapsed_start(t),
+            Name::LabelEndReferenceCollapsedOpen => brackets::collapsed_open(t),
             Name::LabelEndOk => brackets::end_ok(alloc, t),
             Name::LabelEndNok => brackets::end_nok(alloc, t),
             Name::RawTextStart => raw_text_start(t),
@@ -402,7 +419,7 @@ fn bracket<'a>(t: &mut Tokenizer<'a, Inlines>) -> Result<State, AllocError>
     if brackets::end_may_make(t) {
         t.attempt(
             State::Next(Name::LabelEndOk),
-            State::Next(Name::LabelEndNok),
+            State::Next(names::LabelEndNotResource),
         )?;
         return Ok(State::Retry(Name::LabelEndStart));
     }

@@ -30,11 +30,11 @@ pub fn inline_text_is_read()
     ensures { ReadsInlineText }
 {}
 
-/// Inline text is read in linear time: a run from the start of texts on n virtual bytes makes at most 368 n + 4 calls, whatever the bytes
+/// Inline text is read in linear time: a run from the start of texts on n virtual bytes makes at most 374 n + 4 calls, whatever the bytes
 /// are. What was looked for to the end in vain is remembered, and not looked for again; and all looks for tails of links together are
 /// linear.
 pub fn inline_text_is_linear()
-    ensures { RunsWithin TextStart (λ n. 368 * n + 4) }
+    ensures { RunsWithin TextStart (λ n. 374 * n + 4) }
 {}
 
 /// If the chains of text of a list can be read, `subtokenize` with `Inlines` replaces each chunk by its part of the inline text of the

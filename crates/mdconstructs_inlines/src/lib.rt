@@ -4,6 +4,7 @@
 mod attention;
 mod brackets;
 pub mod inlines;
+mod labels;
 pub mod laws;
 pub mod names;
 mod over;

@@ -32,3 +32,9 @@ pub const DataSpaces: Name = Name { number: 1_208 };
 
 /// Data: behind white space with a tab. The place before it is noted.
 pub const DataWhite: Name = Name { number: 1_209 };
+
+/// Label end: at `]` with no resource behind it. A full reference is tried.
+pub const LabelEndNotResource: Name = Name { number: 1_210 };
+
+/// Label end: at `]`, of which a full reference is tried.
+pub const LabelEndReferenceStart: Name = Name { number: 1_211 };

@@ -30,7 +30,7 @@ pub fn read_inline_text(
 ) -> Result<Vec<Event>, Fault>
     requires limit { IsWithinLimit options.now.tab_size bytes.now }
     requires cuts { AreCuts options.now.tab_size bytes.now cuts.now }
-    ensures ok { IfOk result (λ events. let g = given_by bytes.now options.now in events.items ≡ inline_events g (whole_text g)) }
+    ensures ok { IfOk result (λ events. let g = given_by bytes.now options.now in events.items ≡ inline_events no_labels g (whole_text g)) }
     ensures run { IfOk result (λ events. IsRunOfInlines no_labels (given_by bytes.now options.now) events.items) }
     ensures err { IfErr result (λ fault. fault ≡ Fault.Memory) }
 {

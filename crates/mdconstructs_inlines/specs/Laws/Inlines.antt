@@ -28,25 +28,25 @@ use Rattle.mdconstructs_inlines.specs.Registered.{EditsCanBeMade, is_first, link
 use Rattle.mdconstructs_inlines.specs.StringTable.{later_string_states, registers}
 use Rattle.mdconstructs_inlines.specs.Laws.Registered.{states-keep, registered-kept, registered-resolved}
 
-tested : (previous current : Option TextByte) → priced_tests inlines is_backtick_class inline_prices begins_inline follows_inline previous current ≡ ([], [], [])
-tested previous (Some line_feed) = refl
-tested previous _ = refl
+tested : (defined : List ℕ → Bool) (previous current : Option TextByte) → priced_tests (inlines defined) is_backtick_class inline_prices begins_inline follows_inline previous current ≡ ([], [], [])
+tested defined previous (Some line_feed) = refl
+tested defined previous _ = refl
 
 -- The table fits, and ends its choices late
-pub inlines-late : IsLate inlines begins_inline follows_inline
-inlines-late =
-    numbered-late inlines is_backtick_class inline_prices begins_inline follows_inline (record {
-      priced = (refl, (refl, (refl, (refl, (refl, (refl, (refl, (refl, (refl, (refl, (refl, (refl, (refl, (refl, (refl, (refl, (refl, (refl, (refl, (refl, (refl, (refl, (refl, (refl, (refl, (refl, (refl, (refl, (refl, (refl, (refl, (refl, (refl, (refl, (refl, (refl, (refl, (refl, (refl, (refl, (refl, (refl, (refl, (refl, (refl, (refl, (refl, (refl, (refl, (refl, (refl, (refl, (refl, (refl, (refl, (refl, (refl, (refl, (refl, (refl, (refl, (refl, (refl, (refl, (refl, (refl, (refl, (refl, (refl, (refl, (refl, (refl, (refl, (refl, (refl, (refl, (refl, (refl, (refl, (refl, (refl, (refl, (refl, (refl, (refl, (refl, (refl, (refl, (refl, (refl, (refl, (refl, (refl, (refl, (refl, (refl, (refl, (refl, (refl, tt)))))))))))))))))))))))))))))))))))))))))))))))))))))))))))))))))))))))))))))))))))))))))))))))))));
+pub inlines-late : (defined : List ℕ → Bool) → IsLate (inlines defined) begins_inline follows_inline
+inlines-late defined =
+    numbered-late (inlines defined) is_backtick_class inline_prices begins_inline follows_inline (record {
+      priced = (refl, (refl, (refl, (refl, (refl, (refl, (refl, (refl, (refl, (refl, (refl, (refl, (refl, (refl, (refl, (refl, (refl, (refl, (refl, (refl, (refl, (refl, (refl, (refl, (refl, (refl, (refl, (refl, (refl, (refl, (refl, (refl, (refl, (refl, (refl, (refl, (refl, (refl, (refl, (refl, (refl, (refl, (refl, (refl, (refl, (refl, (refl, (refl, (refl, (refl, (refl, (refl, (refl, (refl, (refl, (refl, (refl, (refl, (refl, (refl, (refl, (refl, (refl, (refl, (refl, (refl, (refl, (refl, (refl, (refl, (refl, (refl, (refl, (refl, (refl, (refl, (refl, (refl, (refl, (refl, (refl, (refl, (refl, (refl, (refl, (refl, (refl, (refl, (refl, (refl, (refl, (refl, (refl, (refl, (refl, (refl, (refl, (refl, (refl, (refl, (refl, (refl, (refl, (refl, (refl, (refl, (refl, (refl, (refl, (refl, (refl, (refl, tt))))))))))))))))))))))))))))))))))))))))))))))))))))))))))))))))))))))))))))))))))))))))))))))))))))))))))))))));
       falls = refl;
-      tested = tested;
+      tested = tested defined;
       kept = λ local. refl;
     })
 
 -- ---- what is known
 
 -- a state that registers the resolver and goes on
-starts-keep : (start next : Name) (cost : Cost) → KeepsKnown inline_plan (state start (λ b w. row (write registers ∷ []) (Retry next)) [] cost)
-starts-keep start next cost g text k choices b w is before here h = record {
+starts-keep : (defined : List ℕ → Bool) (start next : Name) (cost : Cost) → KeepsKnown (inline_plan defined) (state start (λ b w. row (write registers ∷ []) (Retry next)) [] cost)
+starts-keep defined start next cost g text k choices b w is before here h = record {
   unlinked = h.known.unlinked;
   unedited = h.known.unedited;
   registered = inl (elim h.known.registered [
@@ -65,10 +65,10 @@ linkless-strings b (Some line_feed) = (refl, tt)
 linkless-strings b _ = (refl, tt)
 
 -- the states of brackets and resources
-linkless-brackets : (b w : Option TextByte) → (link_makers (bracket_states {R = Unit} {D = Unit}) b w ≡ []) × RegisterNothing (bracket_states {R = Unit} {D = Unit}) b w
-linkless-brackets b None = (refl, ((λ s k. (refl, refl)), ((λ s k. (refl, refl)), ((λ s k. (refl, refl)), tt))))
-linkless-brackets b (Some line_feed) = (refl, ((λ s k. (refl, refl)), ((λ s k. (refl, refl)), ((λ s k. (refl, refl)), ((λ s k. (refl, refl)), ((λ s k. (refl, refl)), ((λ s k. (refl, refl)), ((λ s k. (refl, refl)), ((λ s k. (refl, refl)), ((λ s k. (refl, refl)), ((λ s k. (refl, refl)), ((λ s k. (refl, refl)), ((λ s k. (refl, refl)), ((λ s k. (refl, refl)), ((λ s k. (refl, refl)), ((λ s k. (refl, refl)), tt))))))))))))))))
-linkless-brackets b (Some _) = (refl, ((λ s k. (refl, refl)), ((λ s k. (refl, refl)), ((λ s k. (refl, refl)), ((λ s k. (refl, refl)), ((λ s k. (refl, refl)), ((λ s k. (refl, refl)), ((λ s k. (refl, refl)), ((λ s k. (refl, refl)), ((λ s k. (refl, refl)), ((λ s k. (refl, refl)), ((λ s k. (refl, refl)), ((λ s k. (refl, refl)), ((λ s k. (refl, refl)), ((λ s k. (refl, refl)), ((λ s k. (refl, refl)), tt))))))))))))))))
+linkless-brackets : (defined : List ℕ → Bool) (b w : Option TextByte) → (link_makers (bracket_states {R = Unit} {D = Unit} defined) b w ≡ []) × RegisterNothing (bracket_states {R = Unit} {D = Unit} defined) b w
+linkless-brackets defined b None = (refl, ((λ s k. (refl, refl)), ((λ s k. (refl, refl)), ((λ s k. (refl, refl)), ((λ s k. (refl, refl)), tt)))))
+linkless-brackets defined b (Some line_feed) = (refl, ((λ s k. (refl, refl)), ((λ s k. (refl, refl)), ((λ s k. (refl, refl)), ((λ s k. (refl, refl)), ((λ s k. (refl, refl)), ((λ s k. (refl, refl)), ((λ s k. (refl, refl)), ((λ s k. (refl, refl)), ((λ s k. (refl, refl)), ((λ s k. (refl, refl)), ((λ s k. (refl, refl)), ((λ s k. (refl, refl)), ((λ s k. (refl, refl)), ((λ s k. (refl, refl)), ((λ s k. (refl, refl)), ((λ s k. (refl, refl)), ((λ s k. (refl, refl)), ((λ s k. (refl, refl)), ((λ s k. (refl, refl)), ((λ s k. (refl, refl)), ((λ s k. (refl, refl)), ((λ s k. (refl, refl)), ((λ s k. (refl, refl)), ((λ s k. (refl, refl)), ((λ s k. (refl, refl)), ((λ s k. (refl, refl)), ((λ s k. (refl, refl)), ((λ s k. (refl, refl)), ((λ s k. (refl, refl)), ((λ s k. (refl, refl)), ((λ s k. (refl, refl)), ((λ s k. (refl, refl)), tt)))))))))))))))))))))))))))))))))
+linkless-brackets defined b (Some _) = (refl, ((λ s k. (refl, refl)), ((λ s k. (refl, refl)), ((λ s k. (refl, refl)), ((λ s k. (refl, refl)), ((λ s k. (refl, refl)), ((λ s k. (refl, refl)), ((λ s k. (refl, refl)), ((λ s k. (refl, refl)), ((λ s k. (refl, refl)), ((λ s k. (refl, refl)), ((λ s k. (refl, refl)), ((λ s k. (refl, refl)), ((λ s k. (refl, refl)), ((λ s k. (refl, refl)), ((λ s k. (refl, refl)), ((λ s k. (refl, refl)), ((λ s k. (refl, refl)), ((λ s k. (refl, refl)), ((λ s k. (refl, refl)), ((λ s k. (refl, refl)), ((λ s k. (refl, refl)), ((λ s k. (refl, refl)), ((λ s k. (refl, refl)), ((λ s k. (refl, refl)), ((λ s k. (refl, refl)), ((λ s k. (refl, refl)), ((λ s k. (refl, refl)), ((λ s k. (refl, refl)), ((λ s k. (refl, refl)), ((λ s k. (refl, refl)), ((λ s k. (refl, refl)), ((λ s k. (refl, refl)), tt)))))))))))))))))))))))))))))))))
 
 -- those between constructs, but the first, and those of constructs
 abbrev other_states : List (StateRows TextByte Unit Unit)
@@ -84,18 +84,18 @@ linkless b (Some mark) = (refl, ((λ s k. (refl, refl)), ((λ s k. (refl, refl))
 linkless b (Some _) = (refl, ((λ s k. (refl, refl)), ((λ s k. (refl, refl)), ((λ s k. (refl, refl)), ((λ s k. (refl, refl)), ((λ s k. (refl, refl)), ((λ s k. (refl, refl)), ((λ s k. (refl, refl)), ((λ s k. (refl, refl)), ((λ s k. (refl, refl)), ((λ s k. (refl, refl)), ((λ s k. (refl, refl)), ((λ s k. (refl, refl)), ((λ s k. (refl, refl)), ((λ s k. (refl, refl)), ((λ s k. (refl, refl)), ((λ s k. (refl, refl)), ((λ s k. (refl, refl)), ((λ s k. (refl, refl)), ((λ s k. (refl, refl)), ((λ s k. (refl, refl)), ((λ s k. (refl, refl)), ((λ s k. (refl, refl)), ((λ s k. (refl, refl)), ((λ s k. (refl, refl)), ((λ s k. (refl, refl)), ((λ s k. (refl, refl)), ((λ s k. (refl, refl)), tt))))))))))))))))))))))))))))
 
 -- two lists of states keep what is known if each does
-both-keep : (xs ys : List (StateRows TextByte Unit Unit)) → AllKeepKnown inline_plan xs → AllKeepKnown inline_plan ys → AllKeepKnown inline_plan (xs ++ ys)
-both-keep [] ys h k = k
-both-keep (x ∷ xs) ys h k = (h.0, both-keep xs ys h.1 k)
+both-keep : (defined : List ℕ → Bool) (xs ys : List (StateRows TextByte Unit Unit)) → AllKeepKnown (inline_plan defined) xs → AllKeepKnown (inline_plan defined) ys → AllKeepKnown (inline_plan defined) (xs ++ ys)
+both-keep defined [] ys h k = k
+both-keep defined (x ∷ xs) ys h k = (h.0, both-keep defined xs ys h.1 k)
 
-rows-keep : AllKeepKnown inline_plan inlines.states
-rows-keep =
-    let strings = states-keep inlines begins_inline follows_inline inline_starts tt linking_edits EndsLinked (λ s k. (refl, refl)) later_string_states refl linkless-strings in
-    let early = states-keep inlines begins_inline follows_inline inline_starts tt linking_edits EndsLinked (λ s k. (refl, refl)) run_states refl linkless-early in
-    let later = states-keep inlines begins_inline follows_inline inline_starts tt linking_edits EndsLinked (λ s k. (refl, refl)) other_states refl linkless in
-    let of_brackets = states-keep inlines begins_inline follows_inline inline_starts tt linking_edits EndsLinked (λ s k. (refl, refl)) bracket_states refl linkless-brackets in (
-      starts-keep StringStart StringBefore (text_cost (by_left 4 9 2)),
-      (strings.0, (strings.1.0, (strings.1.1.0, (early.0, (early.1.0, (starts-keep TextStart TextLineStart (text_cost (by_left 4 20 9)), both-keep other_states bracket_states later of_brackets)))))),
+rows-keep : (defined : List ℕ → Bool) → AllKeepKnown (inline_plan defined) (inlines defined).states
+rows-keep defined =
+    let strings = states-keep (inlines defined) begins_inline follows_inline inline_starts tt linking_edits EndsLinked (λ s k. (refl, refl)) later_string_states refl linkless-strings in
+    let early = states-keep (inlines defined) begins_inline follows_inline inline_starts tt linking_edits EndsLinked (λ s k. (refl, refl)) run_states refl linkless-early in
+    let later = states-keep (inlines defined) begins_inline follows_inline inline_starts tt linking_edits EndsLinked (λ s k. (refl, refl)) other_states refl linkless in
+    let of_brackets = states-keep (inlines defined) begins_inline follows_inline inline_starts tt linking_edits EndsLinked (λ s k. (refl, refl)) (bracket_states defined) refl (linkless-brackets defined) in (
+      starts-keep defined StringStart StringBefore (text_cost (by_left 4 9 2)),
+      (strings.0, (strings.1.0, (strings.1.1.0, (early.0, (early.1.0, (starts-keep defined TextStart TextLineStart (text_cost (by_left 4 20 9)), both-keep defined other_states (bracket_states defined) later of_brackets)))))),
     )
 
 -- ---- the resolver
@@ -106,8 +106,8 @@ made g text events formed unlinked =
     (apart, subst IsBalanced (sym is) balanced, subst HaveNoLinks (sym is) none, (events, formed, unlinked, is, subst HaveNoLinks (sym is) none))
 
 pub inlines-lawful : (defined : List ℕ → Bool) (g : Given) → IsLawful g (inlines_rules defined g)
-inlines-lawful defined g = planned-lawful inline_plan g (record {
-  late = inlines-late;
-  kept = registered-kept inlines begins_inline follows_inline inline_starts tt linking_edits EndsLinked refl rows-keep (All-from_recursion (λ name. is_first inline_starts (Next name) ≡ true) inline_starts (refl, (refl, tt)));
-  resolved = registered-resolved inlines begins_inline follows_inline inline_starts tt linking_edits EndsLinked made;
+inlines-lawful defined g = planned-lawful (inline_plan defined) g (record {
+  late = inlines-late defined;
+  kept = registered-kept (inlines defined) begins_inline follows_inline inline_starts tt linking_edits EndsLinked refl (rows-keep defined) (All-from_recursion (λ name. is_first inline_starts (Next name) ≡ true) inline_starts (refl, (refl, tt)));
+  resolved = registered-resolved (inlines defined) begins_inline follows_inline inline_starts tt linking_edits EndsLinked made;
 })

@@ -1,6 +1,6 @@
 -- Machines with one resolver keep what they know, and the resolver keeps the law of resolvers.
-use Rattle.std.proofs.Common.{◌≡◌, inl, inr, List, [], ◌∷◌, Bool, true, false, cond, not, Option, Some, None, refl, sym, ◌∙◌, subst}
-use Rattle.std.specs.Prelude.{All, filter, map}
+use Rattle.std.proofs.Common.{◌≡◌, inl, inr, List, [], ◌∷◌, Bool, true, false, not, Option, Some, None, refl, sym, ◌∙◌, subst}
+use Rattle.std.specs.Prelude.{All}
 use Rattle.std.proofs.lemmas.Bool.{and_parts, not-true}
 use Rattle.markdown_base.proofs.Facts.Lists.{none-left}
 use Rattle.std.proofs.lemmas.List.Elements.{All-weaker}

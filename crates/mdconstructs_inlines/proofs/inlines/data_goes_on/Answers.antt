@@ -1,4 +1,3 @@
-use Rattle.std.specs.Prelude.{IfOk}
 use Rattle.markdown_base.specs.declared.state.State.TheVariants.{Next}
 use Rattle.markdown_base.specs.declared.state.TheConstants.Name.{DataInside}
 use Rattle.markdown_tokenizer.specs.Sight.{sight_of}

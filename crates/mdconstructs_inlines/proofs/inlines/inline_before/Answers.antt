@@ -1,4 +1,3 @@
-use Rattle.std.specs.Prelude.{IfOk}
 use Rattle.markdown_base.specs.declared.state.State.TheVariants.{Retry}
 use Rattle.markdown_base.specs.declared.state.TheConstants.Name.{TextBeforeData}
 use Rattle.markdown_tokenizer.specs.Sight.{sight_of}

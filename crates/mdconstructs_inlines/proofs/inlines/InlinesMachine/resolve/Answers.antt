@@ -1,4 +1,4 @@
-use Rattle.mdconstructs_inlines.proofs.Prelude.{None, ap, sym, subst, ◌∙◌, done, ArePlacesInside, EndsLinked, linking_edits, begins_inline, follows_inline, inline_starts, inlines, before-resolver}
+use Rattle.mdconstructs_inlines.proofs.Prelude.{None, ap, sym, subst, ◌∙◌, done, ArePlacesInside, EndsLinked, linking_edits, begins_inline, follows_inline, inline_starts, inlines, no_labels, before-resolver}
 use Rattle.mdconstructs_links.specs.LinkEdits.{link_edits}
 use Rattle.mdconstructs_inlines.proofs.Room.{places-inside}
 use Rattle.mdconstructs_inlines.proofs.inlines.InlinesMachine.resolve.Goals as goal
@@ -6,7 +6,7 @@ use Rattle.mdconstructs_inlines.proofs.inlines.InlinesMachine.resolve.Goals as g
 pub linking_edits-requires-clause-room : goal.linking_edits-requires-clause-room
 linking_edits-requires-clause-room c =
     let t = c.args.t.now in
-    let h = before-resolver inlines begins_inline follows_inline inline_starts tt linking_edits EndsLinked t.given t.text c.args.name c.requires.invariant.0 t.configuration c.requires.invariant.1 in
+    let h = before-resolver (inlines no_labels) begins_inline follows_inline inline_starts tt linking_edits EndsLinked t.given t.text c.args.name c.requires.invariant.0 t.configuration c.requires.invariant.1 in
     let inside = places-inside t.given h.document t.configuration.events h.formed.at_places in
     subst (λ g. ArePlacesInside g.bytes c.events.result.now) (sym c.parse_state.ensures.given) (subst (ArePlacesInside t.given.bytes) (sym c.events.ensures) inside)
 
