@@ -1,6 +1,6 @@
 -- Lemmas on what is known before a line, where paragraphs may begin with definitions.
 use Rattle.std.proofs.Common.{◌≡◌, inl, inr, ℕ, suc, ◌+◌, ◌*◌, ◌<◌, ◌≤◌, Bool, true, false, cond, List, [], ◌∷◌, ◌++◌, append_assoc, arith, drop, length, length-append, length-drop, refl, sym, ap, subst, ◌∙◌}
-use Rattle.std.specs.Prelude.{◌&&◌, ◌||◌, is_some}
+use Rattle.std.specs.Prelude.{◌&&◌, ◌||◌, is_some, not}
 use Rattle.std.specs.List.{AllByRecursion}
 use Rattle.std.proofs.lemmas.Bool.{false≢true}
 use Rattle.std.proofs.lemmas.List.{append-nil, drop-drop}
@@ -17,15 +17,18 @@ use Rattle.mdconstructs_containers.specs.declared.rows.Row.{Row as CodeRow}
 use Rattle.mdconstructs_containers.specs.declared.spans.RowAt.{RowAt}
 use Rattle.mdconstructs_containers.specs.Ahead.{AreRows}
 use Rattle.mdconstructs_containers.specs.Prefixes.{containers_of}
-use Rattle.mdconstructs_containers.specs.Rows.{Before, Leaf, Row, closed, is_paragraph, nothing_known, open_fence, open_html, open_paragraph, rest_of}
+use Rattle.mdconstructs_containers.specs.Rows.{Before, Leaf, Row, closed, has_none, is_paragraph, nothing_known, open_fence, open_html, open_paragraph, rest_of}
 use Rattle.mdconstructs_containers.specs.Rows as without
 use Rattle.mdconstructs_containers.specs.Views.{IsRow, leaf_of}
 use Rattle.mdconstructs_containers.proofs.DocumentRows.{AreRowsBefore, are_rows_end, rows_push}
 use Rattle.mdconstructs_containers.proofs.FrameFacts.{old_after}
 use Rattle.mdconstructs_containers.proofs.RowFacts.{BeganBefore}
 use Rattle.mdconstructs_lines.proofs.LinesCut.{lines_follow}
-use Rattle.mdconstructs_definitions.specs.Known.{IsKept, IsNeverUsedUp}
+use Rattle.mdconstructs_definitions.specs.declared.rows.Known.{Known as CodeKnown}
+use Rattle.mdconstructs_definitions.specs.Known.{IsKept, IsKnown, IsNeverUsedUp, held, held_behind, is_held_used_up}
+use Rattle.mdconstructs_definitions.specs.Laws.{begins_with_bracket}
 use Rattle.mdconstructs_definitions.specs.Rows.{Known, is_used_up, known_after, row_of, rows, rows_from, text_after, underlines_nothing}
+use Rattle.mdconstructs_definitions.proofs.HeldTexts.{held-after}
 use Rattle.mdconstructs_definitions.proofs.Underlined.{underlined}
 
 -- ---- the leaf block
@@ -111,17 +114,24 @@ known-init on t bytes xs k n ex ek en =
     (subst (λ (c : Known). AreRowsBefore [] (known_left on t bytes c n 0) (rows on (lines_in (virtual t bytes)))) (sym ek)
     (subst (λ (m : ℕ). AreRowsBefore [] (known_left on t bytes nothing m 0) (rows on (lines_in (virtual t bytes)))) (sym en) here))
 
+-- the lines so far, and what is known behind them
+pub record AreRead (on : Constructs) (t : ℕ) (bytes : List ℕ) (xs : List RowAt) (code : CodeKnown) (number start : ℕ) : Type 0 where
+  pub known : Known
+  pub is : IsKnown code known
+  pub before : AreRowsBefore xs (known_left on t bytes known number start) (rows on (lines_in (virtual t bytes)))
+
 -- ---- what is paid
 
 -- a text that is never used up is not with a line more
 pub never-more : (text rest : List ℕ) → IsNeverUsedUp text → IsNeverUsedUp (text ++ 10 ∷ rest)
 never-more text rest never more = ap is_used_up (append_assoc text (10 ∷ rest) more) ∙ never (10 ∷ rest ++ more)
 
--- the text behind a line: `a`, it is text as it is; `u`, it is text as definitions alone come before it; `b`, it is behind the text before
-pub kept-next : (before after budget len : ℕ) (text rest new : List ℕ) (a u b : Bool) → new ≡ cond (u || a) (cond b (text ++ 10 ∷ rest) rest) [] → length rest ≤ len
-    → (u ≡ true → (b ≡ true) × (is_used_up text ≡ true) × IsNeverUsedUp (text ++ 10 ∷ rest)) → (a ≡ true → after ≤ before + 148 * len + 1651) → after ≤ before + 151 * len + 1671 + 16 * length text
+-- What is held behind a line: `a`, it is text as it is; `u`, it is text as definitions alone come before it; `b`, it is behind the text before; `h`, it
+-- is held
+pub kept-next : (before after budget len : ℕ) (text rest new : List ℕ) (a u b h : Bool) → new ≡ cond (u || a) (cond h (cond b (text ++ 10 ∷ rest) rest) []) [] → length rest ≤ len
+    → (u ≡ true → (b ≡ true) × (is_used_up text ≡ true) × IsNeverUsedUp (text ++ 10 ∷ rest)) → (a ≡ true → after ≤ before + 149 * len + 1652) → after ≤ before + 152 * len + 1672 + 16 * length text
     → IsKept before budget text → IsKept after (budget + 183 * len + 1703) new
-kept-next before after budget len text rest new a u b en few marks free cost kept = subst (IsKept after (budget + 183 * len + 1703)) (sym en) (by a u b marks free kept)
+kept-next before after budget len text rest new a u b h en few marks free cost kept = subst (IsKept after (budget + 183 * len + 1703)) (sym en) (by a u b h marks free kept)
   where
     long : length (text ++ 10 ∷ rest) ≡ length text + suc (length rest)
     long = length-append text (10 ∷ rest)
@@ -129,17 +139,22 @@ kept-next before after budget len text rest new a u b en few marks free cost kep
     none-used : {A : Type 0} → is_used_up text ≡ true → IsNeverUsedUp text → A
     none-used used never = absurd (false≢true (sym (never []) ∙ ap is_used_up (append-nil text) ∙ used))
 
-    by : (a u b : Bool) → (u ≡ true → (b ≡ true) × (is_used_up text ≡ true) × IsNeverUsedUp (text ++ 10 ∷ rest)) → (a ≡ true → after ≤ before + 148 * len + 1651)
-        → IsKept before budget text → IsKept after (budget + 183 * len + 1703) (cond (u || a) (cond b (text ++ 10 ∷ rest) rest) [])
-    by a true true marks free (inl h) = inr (omega (arith, h, few, long, cost), (marks refl).2)
-    by a true true marks free (inr h) = none-used (marks refl).1 h.1
-    by a true false marks free kept = absurd (false≢true (marks refl).0)
-    by true false true marks free (inl h) = let f = free refl in inl (omega (arith, h, few, long, f))
-    by true false true marks free (inr h) = let f = free refl in inr (omega (arith, h.0, few, long, f), never-more text rest h.1)
-    by true false false marks free (inl h) = let f = free refl in inl (omega (arith, h, few, f))
-    by true false false marks free (inr h) = let f = free refl in inl (omega (arith, h.0, few, f))
-    by false false b marks free (inl h) = let none : after + 32 * 0 ≤ budget + 183 * len + 1703 = omega (arith, h, cost) in inl none
-    by false false b marks free (inr h) = let none : after + 32 * 0 ≤ budget + 183 * len + 1703 = omega (arith, h.0, cost) in inl none
+    nothing : IsKept before budget text → IsKept after (budget + 183 * len + 1703) []
+    nothing (inl k) = let none : after + 32 * 0 ≤ budget + 183 * len + 1703 = omega (arith, k, cost) in inl none
+    nothing (inr k) = let none : after + 32 * 0 ≤ budget + 183 * len + 1703 = omega (arith, k.0, cost) in inl none
+
+    by : (a u b h : Bool) → (u ≡ true → (b ≡ true) × (is_used_up text ≡ true) × IsNeverUsedUp (text ++ 10 ∷ rest)) → (a ≡ true → after ≤ before + 149 * len + 1652)
+        → IsKept before budget text → IsKept after (budget + 183 * len + 1703) (cond (u || a) (cond h (cond b (text ++ 10 ∷ rest) rest) []) [])
+    by a true true true marks free (inl k) = inr (omega (arith, k, few, long, cost), (marks refl).2)
+    by a true true true marks free (inr k) = none-used (marks refl).1 k.1
+    by a true false true marks free kept = absurd (false≢true (marks refl).0)
+    by a true b false marks free kept = nothing kept
+    by true false true true marks free (inl k) = let f = free refl in inl (omega (arith, k, few, long, f))
+    by true false true true marks free (inr k) = let f = free refl in inr (omega (arith, k.0, few, long, f), never-more text rest k.1)
+    by true false false true marks free (inl k) = let f = free refl in inl (omega (arith, k, few, f))
+    by true false false true marks free (inr k) = let f = free refl in inl (omega (arith, k.0, few, f))
+    by true false b false marks free kept = nothing kept
+    by false false b h marks free kept = nothing kept
 
 -- ---- one line
 
@@ -153,29 +168,37 @@ module _ (on : Constructs) (k : Known) (number : ℕ) (line : Line) (t : List �
       row-changed number row (without.row_of on k.before number line) x _ is
       (ex ∙ (λ i. cond (on.definition && ((is.stays i && is_paragraph k.before.leaf) && (is_some (underline_rank on (drop (is.columns i) (sym et i))) && is_used_up k.text))) open_paragraph (is.leaf i)))
 
-  module _ (new : List ℕ) (en : new ≡ cond (is_paragraph (leaf_of x)) (cond (row.stays && is_paragraph k.before.leaf) (k.text ++ 10 ∷ drop row.columns t) (drop row.columns t)) []) where
-    pub next-text : new ≡ text_after k (row_of on k number line)
+  -- what is held of the text before it
+  module _ (new : List ℕ) (en : new ≡ cond (is_paragraph (leaf_of x)) (held_behind (row.stays && is_paragraph k.before.leaf) (held k.text) (drop row.columns t)) []) where
+    pub next-text : new ≡ held (text_after k (row_of on k number line))
     next-text =
         en
-        ∙ (λ i. cond (is_paragraph (next-row.leaf i)) (cond (is.stays i && is_paragraph k.before.leaf) (k.text ++ 10 ∷ drop (is.columns i) (sym et i)) (drop (is.columns i) (sym et i))) [])
+        ∙ held-after (is_paragraph (leaf_of x)) (row.stays && is_paragraph k.before.leaf) k.text (drop row.columns t)
+        ∙ (λ i. held (cond (is_paragraph (next-row.leaf i)) (cond (is.stays i && is_paragraph k.before.leaf) (k.text ++ 10 ∷ drop (is.columns i) (sym et i)) (drop (is.columns i) (sym et i))) []))
 
-    pub next-kept : (before after budget : ℕ) → (is_paragraph (leaf_of row.leaf) ≡ true → after ≤ before + 148 * length t + 1651) → after ≤ before + 151 * length t + 1671 + 16 * length k.text
-        → IsKept before budget k.text → IsKept after (budget + 183 * length t + 1703) new
-    next-kept before after budget free cost kept =
-        kept-next before after budget (length t) k.text (drop row.columns t) new (is_paragraph (leaf_of row.leaf)) looked (row.stays && is_paragraph k.before.leaf)
-        (en ∙ ap (λ (b : Bool). cond b (cond (row.stays && is_paragraph k.before.leaf) (k.text ++ 10 ∷ drop row.columns t) (drop row.columns t)) []) (ap is_paragraph ex ∙ either looked))
-        (omega (arith, length-drop row.columns t)) marks free cost kept
-      where
-        either : (u : Bool) → is_paragraph (cond u open_paragraph (leaf_of row.leaf)) ≡ (u || is_paragraph (leaf_of row.leaf))
-        either true = refl
-        either false = refl
+-- what is paid behind a line: a paragraph is open before it or not, with this text, of what is held; `own` is the leaf block without definitions
+module _ (on : Constructs) (is_behind : Bool) (text rest : List ℕ) (x own : Leaf) (ex : x ≡ cond (on.definition && (is_behind && (is_some (underline_rank on rest) && is_held_used_up text))) open_paragraph own)
+    (new : List ℕ) (en : new ≡ cond (is_paragraph x) (held_behind is_behind text rest) []) where
+  abbrev looks : Bool
+  looks = on.definition && (is_behind && (is_some (underline_rank on rest) && is_held_used_up text))
 
-        marks : looked ≡ true → ((row.stays && is_paragraph k.before.leaf) ≡ true) × (is_used_up k.text ≡ true) × IsNeverUsedUp (k.text ++ 10 ∷ drop row.columns t)
-        marks e =
-            let all = and-right on.definition _ e in
-            let last = and-right (row.stays && is_paragraph k.before.leaf) _ all in
-            let used = and-right (is_some (underline_rank on (drop row.columns t))) (is_used_up k.text) last in
-            (and-left (row.stays && is_paragraph k.before.leaf) _ all, used, underlined on k.text (drop row.columns t) used (and-left (is_some (underline_rank on (drop row.columns t))) (is_used_up k.text) last))
+  pub next-kept : (before after budget len : ℕ) → length rest ≤ len → (is_paragraph own ≡ true → after ≤ before + 149 * len + 1652) → after ≤ before + 152 * len + 1672 + 16 * length text
+      → IsKept before budget text → IsKept after (budget + 183 * len + 1703) new
+  next-kept before after budget len few free cost kept =
+      kept-next before after budget len text rest new (is_paragraph own) looks is_behind (cond is_behind (not (has_none text)) (begins_with_bracket rest))
+      (en ∙ ap (λ (b : Bool). cond b (held_behind is_behind text rest) []) (ap is_paragraph ex ∙ either looks))
+      few marks free cost kept
+    where
+      either : (u : Bool) → is_paragraph (cond u open_paragraph own) ≡ (u || is_paragraph own)
+      either true = refl
+      either false = refl
+
+      marks : looks ≡ true → (is_behind ≡ true) × (is_used_up text ≡ true) × IsNeverUsedUp (text ++ 10 ∷ rest)
+      marks e =
+          let all = and-right on.definition _ e in
+          let last = and-right is_behind _ all in
+          let used = and-right (not (has_none text)) (is_used_up text) (and-right (is_some (underline_rank on rest)) (is_held_used_up text) last) in
+          (and-left is_behind _ all, used, underlined on text rest used (and-left (is_some (underline_rank on rest)) (is_held_used_up text) last))
 
 -- a line is read before
 pub kept-read : (before mid after budget size len : ℕ) (text new : List ℕ) → mid ≤ before + 4 * size + 2 → size ≡ len → IsKept before budget text → ((budget : ℕ) → IsKept mid budget text → IsKept after (budget + 183 * len + 1703) new)

@@ -1,3 +1,4 @@
+pub mod BracketLemmas
 pub mod Covered
 pub mod DefinedText
 pub mod DefinitionLines
@@ -7,6 +8,7 @@ pub mod DefinitionSpans
 pub mod DefinitionsWithin
 pub mod Examples
 pub mod HeldLemmas
+pub mod HeldTexts
 pub mod KnownLemmas
 pub mod KnownRows
 pub mod LaidParts

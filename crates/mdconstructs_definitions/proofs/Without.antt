@@ -24,7 +24,7 @@ use Rattle.mdconstructs_containers.proofs.PartGoes.{none_in}
 use Rattle.mdconstructs_containers.proofs.RestLemmas.{further_few}
 use Rattle.mdconstructs_containers.specs.Letters.{lazy_underline, with_letters}
 use Rattle.mdconstructs_containers.specs.Prefixes.{containers_of}
-use Rattle.mdconstructs_containers.specs.Rows.{Leaf, Row, closed, has_none, is_paragraph, leaf_after, nothing_known, open_fence, open_html, open_paragraph, rest_of}
+use Rattle.mdconstructs_containers.specs.Rows.{Before, Leaf, Row, closed, has_none, is_paragraph, leaf_after, nothing_known, open_fence, open_html, open_paragraph, rest_of}
 use Rattle.mdconstructs_containers.specs.Blocks as blocks
 use Rattle.mdconstructs_containers.specs.Rows as without
 use Rattle.mdconstructs_containers.specs.Skeleton.{Part, chained_from, frames_at, further, parts, parts_in, standing}
@@ -263,12 +263,12 @@ rest-whole t h = no-rest t (no-definition t h)
 same-none : (n : ℕ) → n - n ≡ 0
 same-none n = omega (arith)
 
-none-defined-in : (t : List ℕ) → begins_with_bracket t ≡ false → lines_defined t ≡ 0
+pub none-defined-in : (t : List ℕ) → begins_with_bracket t ≡ false → lines_defined t ≡ 0
 none-defined-in t h = ap (λ x. lines_of t - lines_of x) (rest-whole t h) ∙ same-none (lines_of t)
 
-no-bracket-in : (rs : List Row) → AllByRecursion HasNoBracket rs → begins_with_bracket (text_in (paragraph_of rs)) ≡ false
-no-bracket-in [] h = refl
-no-bracket-in (r ∷ rs) h = by (is_paragraph r.leaf)
+-- nor is anything defined if the first line has no bracket in front
+pub bare-paragraph : (r : Row) (rs : List Row) → HasNoBracket r → begins_with_bracket (text_in (paragraph_of (r ∷ rs))) ≡ false
+bare-paragraph r rs bare = by (is_paragraph r.leaf)
   where
     further-text : (x : Bool) (t : List ℕ) → begins_with_bracket (cond x [] (10 ∷ t)) ≡ false
     further-text true t = refl
@@ -278,25 +278,29 @@ no-bracket-in (r ∷ rs) h = by (is_paragraph r.leaf)
     by true =
         let n = prefix_len (λ (row : Row). is_paragraph row.leaf) rs in
         ap (λ m. begins_with_bracket (text_in (take m (r ∷ rs)))) (one-before n)
-        ∙ bracket-append (rest_of r) (cond (has_none (take n rs)) [] (10 ∷ text_in (take n rs))) h.0 (further-text (has_none (take n rs)) (text_in (take n rs)))
+        ∙ bracket-append (rest_of r) (cond (has_none (take n rs)) [] (10 ∷ text_in (take n rs))) bare (further-text (has_none (take n rs)) (text_in (take n rs)))
     by false = refl
 
+no-bracket-in : (rs : List Row) → AllByRecursion HasNoBracket rs → begins_with_bracket (text_in (paragraph_of rs)) ≡ false
+no-bracket-in [] h = refl
+no-bracket-in (r ∷ rs) h = bare-paragraph r rs h.0
+
 -- a text that may be open, and is not used up
-abbrev IsPlain : List ℕ → Type 0
+abbrev pub IsPlain : List ℕ → Type 0
 IsPlain t = (begins_with_bracket t ≡ false) × (has_none t ≡ false)
 
-not-used-up : (t : List ℕ) → IsPlain t → is_used_up t ≡ false
+pub not-used-up : (t : List ℕ) → IsPlain t → is_used_up t ≡ false
 not-used-up t h = ap has_none (rest-whole t h.0) ∙ h.1
 
+pub filled-longer : (t more : List ℕ) → has_none (t ++ 10 ∷ more) ≡ false
+filled-longer [] more = refl
+filled-longer (b ∷ bs) more = refl
+
 plain-longer : (t more : List ℕ) → IsPlain t → IsPlain (t ++ 10 ∷ more)
-plain-longer t more h = (bracket-append t (10 ∷ more) h.0 refl, filled t)
-  where
-    filled : (t : List ℕ) → has_none (t ++ 10 ∷ more) ≡ false
-    filled [] = refl
-    filled (b ∷ bs) = refl
+plain-longer t more h = (bracket-append t (10 ∷ more) h.0 refl, filled-longer t more)
 
 module _ (on : Constructs) where
-  no-underline : (a s p u x : Bool) → (p ≡ true → x ≡ false) → (a && ((s && p) && (u && x))) ≡ false
+  pub no-underline : (a s p u x : Bool) → (p ≡ true → x ≡ false) → (a && ((s && p) && (u && x))) ≡ false
   no-underline a s true u x h = ap (λ y. a && ((s && true) && (u && y))) (h refl) ∙ by a s u
     where
       by : (a s u : Bool) → (a && ((s && true) && (u && false))) ≡ false
@@ -333,6 +337,25 @@ module _ (on : Constructs) where
   filled-line false false (open_fence fence) [] f h = either-closed (closes on fence []) (open_fence fence) refl h
   filled-line false false (open_html kind) [] f h = either-closed (cond (waits_for_blank kind) true (ends kind [])) (open_html kind) refl h
 
+  -- a line is text behind which a paragraph is open
+  pub leaf-open : (b : Before) (r : Row) → is_paragraph (without.known_after on b r).leaf ≡ true → is_paragraph r.leaf ≡ true
+  leaf-open b r = by r.is_left_blank r.is_lazy
+    where
+      by : (x y : Bool)
+          → is_paragraph (cond x (record b { depth = length r.went_on; leaf = closed }) (cond y (record b { leaf = r.leaf }) (record { stack = containers_of r.went_on ++ containers_of r.begun; depth = length (containers_of r.went_on ++ containers_of r.begun); leaf = r.leaf }))).leaf ≡ true
+          → is_paragraph r.leaf ≡ true
+      by true y e = absurd (false≢true e)
+      by false true e = e
+      by false false e = e
+
+  -- a line that is text is not empty
+  pub row-filled : (b : Before) (n : ℕ) (line : Line) → is_paragraph (without.row_of on b n line).leaf ≡ true → has_none (rest_of (without.row_of on b n line)) ≡ false
+  row-filled b n line open_row =
+      let row = without.row_of on b n line in
+      let lazy : row.is_lazy ≡ true → interrupts (line_kind on (rest_of row)) ≡ false =
+      λ e. lazy-text (length row.went_on == b.depth) (has_none row.begun) (is_paragraph b.leaf) (interrupts (line_kind on (rest_of row))) e in
+      filled-line row.is_left_blank row.is_lazy (cond row.stays b.leaf closed) (rest_of row) lazy open_row
+
   -- the open text is not used up
   abbrev Fits : Known → Type 0
   Fits k = is_paragraph k.before.leaf ≡ true → IsPlain k.text
@@ -347,13 +370,6 @@ module _ (on : Constructs) where
     abbrev row : Row
     row = without.row_of on k.before n line
 
-    leaf-of : (x y : Bool)
-        → is_paragraph (cond x (record k.before { depth = length row.went_on; leaf = closed }) (cond y (record k.before { leaf = row.leaf }) (record { stack = containers_of row.went_on ++ containers_of row.begun; depth = length (containers_of row.went_on ++ containers_of row.begun); leaf = row.leaf }))).leaf ≡ true
-        → is_paragraph row.leaf ≡ true
-    leaf-of true y e = absurd (false≢true e)
-    leaf-of false true e = e
-    leaf-of false false e = e
-
     either-text : (s p : Bool) → (p ≡ true → IsPlain k.text) → IsPlain (rest_of row) → IsPlain (cond (s && p) (k.text ++ 10 ∷ rest_of row) (rest_of row))
     either-text true true fits h = plain-longer k.text (rest_of row) (fits refl)
     either-text true false fits h = h
@@ -361,10 +377,8 @@ module _ (on : Constructs) where
 
     text-fits : Fits k → HasNoBracket row → Fits (known_after on k row)
     text-fits fits bare open_after =
-        let open_row = leaf-of row.is_left_blank row.is_lazy open_after in
-        let lazy : row.is_lazy ≡ true → interrupts (line_kind on (rest_of row)) ≡ false =
-        λ e. lazy-text (length row.went_on == k.before.depth) (has_none row.begun) (is_paragraph k.before.leaf) (interrupts (line_kind on (rest_of row))) e in
-        let filled = filled-line row.is_left_blank row.is_lazy (cond row.stays k.before.leaf closed) (rest_of row) lazy open_row in
+        let open_row = leaf-open k.before row open_after in
+        let filled = row-filled k.before n line open_row in
         subst IsPlain (sym (ap (λ x. cond x (cond (is_behind_text k.before row) (k.text ++ 10 ∷ rest_of row) (rest_of row)) []) open_row))
         (either-text row.stays (is_paragraph k.before.leaf) fits (bare, filled))
 

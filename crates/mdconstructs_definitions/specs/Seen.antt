@@ -4,7 +4,7 @@ use Rattle.markdown_base.specs.declared.configuration.Constructs.{Constructs}
 use Rattle.mdconstructs_lines.specs.Lines.{line_at}
 use Rattle.mdconstructs_containers.specs.declared.spans.RowAt.{RowAt}
 use Rattle.mdconstructs_containers.specs.Ahead.{AreRows}
-use Rattle.mdconstructs_containers.specs.Rows.{Row, closed, is_paragraph}
+use Rattle.mdconstructs_containers.specs.Rows.{Row, closed, is_paragraph, rest_of}
 use Rattle.mdconstructs_containers.specs.Views.{leaf_of}
 use Rattle.mdconstructs_labels.specs.Definitions.{definitions}
 use Rattle.mdconstructs_definitions.specs.declared.sections.Found.{Found}
@@ -12,6 +12,7 @@ use Rattle.mdconstructs_definitions.specs.declared.sections.Inside.{Inside as Co
 use Rattle.mdconstructs_definitions.specs.declared.sections.Inside.TheVariants as seen
 use Rattle.mdconstructs_definitions.specs.declared.sections.Section.{Section as CodeSection}
 use Rattle.mdconstructs_definitions.specs.Held.{HaveTexts}
+use Rattle.mdconstructs_definitions.specs.Laws.{begins_with_bracket}
 use Rattle.mdconstructs_definitions.specs.Sections.{Inside, Section, before_defined, defined, defined_in, lines, paragraph_of, text_in}
 
 -- what is in a section
@@ -72,6 +73,11 @@ pub record AreHeld (t : ℕ) (bytes : List ℕ) (xs : List RowAt) : Type 0 where
 pub record AreSome (xs : List RowAt) : Type 0 where
   pub all : List Row
   pub are : AreRows xs all
+
+-- the first of these lines has a bracket in front, behind its prefixes and white space
+abbrev pub begins_defining : List Row → Bool
+begins_defining [] = false
+begins_defining (r ∷ rs) = begins_with_bracket (rest_of r)
 
 module _ (on : Constructs) where
   -- the first of some lines in which a paragraph begins with definitions, and these

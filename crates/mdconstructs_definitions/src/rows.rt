@@ -1,6 +1,6 @@
 //! The lines of a document with their containers, where paragraphs may begin with definitions.
 
-ghost use Rattle.std.specs.Prelude.{◌≡◌, ◌≤◌, ◌<◌, ◌+◌, ◌*◌, ◌&&◌, ◌++◌, ◌∷◌, true, cond, ℕ, IfOk, [], is_some, length, drop, map};
+ghost use Rattle.std.specs.Prelude.{◌≡◌, ◌≤◌, ◌<◌, ◌+◌, ◌*◌, ◌&&◌, true, cond, ℕ, IfOk, [], is_some, length, drop, map};
 ghost use Rattle.markdown_base.specs.Virtual.{virtual};
 ghost use Rattle.mdconstructs_machines.specs.LineEvents.{lines_in};
 ghost use Rattle.mdconstructs_flow_read.specs.LeafBlocks.{Line, text_of};
@@ -11,11 +11,11 @@ ghost use Rattle.mdconstructs_containers.specs.Costs.{HaveSizes};
 ghost use Rattle.mdconstructs_containers.specs.Over.{AreBefore, AreOver};
 ghost use Rattle.mdconstructs_containers.specs.Rows.{closed, is_paragraph, open_paragraph};
 ghost use Rattle.mdconstructs_containers.specs.Spans.{ArePlaced, IsPlaced};
-ghost use Rattle.mdconstructs_containers.specs.Views.{IsRow, before_of, leaf_of, open_of};
-ghost use Rattle.mdconstructs_definitions.specs.Known.{IsKept, known_of};
-ghost use Rattle.mdconstructs_definitions.specs.Rows.{is_used_up, known_after, row_of, rows};
+ghost use Rattle.mdconstructs_containers.specs.Views.{IsRow, leaf_of, open_of};
+ghost use Rattle.mdconstructs_definitions.specs.Known.{IsKept, IsKnown, held_behind, is_held_used_up};
+ghost use Rattle.mdconstructs_definitions.specs.Rows.{Known as KnownOf, known_after, row_of, rows};
 
-use crate::texts::{hold, underlines_nothing};
+use crate::texts::{hold_defining, underlines_held};
 use markdown_base::configuration::{Constructs, TabSize};
 use mdconstructs_containers::leaves::{Leaf, is_paragraph};
 use mdconstructs_containers::rows::{Before, Row};
@@ -32,7 +32,7 @@ use std::sync::ledger::Ledger;
 pub(crate) struct Known {
     /// What is known without definitions.
     pub(crate) before: Before,
-    /// The text of the paragraph that is open, if one is.
+    /// What is held of the text of the paragraph that is open, if one is: all of it, if it begins with `[` behind white space, and else nothing.
     pub(crate) text: Vec<u8>,
 }
 
@@ -64,17 +64,17 @@ impl Known {
         requires over { AreOver number self.old.before.over self.old.before.depth self.old.before.stack.items }
         requires began { AreBefore number self.old.before.stack.items }
         requires sizes { HaveSizes (map open_of self.old.before.stack.items) }
-        ensures row { IfOk result (λ r. (line : Line) → text_of line ≡ t.now → IsRow number r (row_of on.now (known_of self.old) number line)) }
-        ensures known { IfOk result (λ _. (line : Line) → text_of line ≡ t.now → known_of self.new ≡ known_after on.now (known_of self.old) (row_of on.now (known_of self.old) number line)) }
+        ensures row { IfOk result (λ r. (known : KnownOf) → IsKnown self.old known → (line : Line) → text_of line ≡ t.now → IsRow number r (row_of on.now known number line)) }
+        ensures known { IfOk result (λ _. (known : KnownOf) → IsKnown self.old known → (line : Line) → text_of line ≡ t.now → IsKnown self.new (known_after on.now known (row_of on.now known number line))) }
         ensures within { IfOk result (λ r. r.columns ≤ length t.now) }
         ensures depth { IfOk result (λ _. (line : Line) → text_of line ≡ t.now → self.new.before.depth ≤ length self.new.before.stack.items) }
         ensures over { IfOk result (λ _. (line : Line) → text_of line ≡ t.now → AreOver (number + 1) self.new.before.over self.new.before.depth self.new.before.stack.items) }
         ensures kept { IfOk result (λ _. (line : Line) → text_of line ≡ t.now → (budget : ℕ) → IsKept (turns.old + self.old.before.over) budget self.old.text.items → IsKept (turns.new + self.new.before.over) (budget + 183 * length t.now + 1703) self.new.text.items) }
-        ensures turns { (line : Line) → text_of line ≡ t.now → turns.new ≤ turns.old + self.old.before.over + 146 * length t.now + 1669 + 16 * length self.old.text.items }
+        ensures turns { (line : Line) → text_of line ≡ t.now → turns.new ≤ turns.old + self.old.before.over + 147 * length t.now + 1670 + 16 * length self.old.text.items }
     {
         let mut row = self.before.row(alloc, on, number, t, turns)?;
         row.leaf = leaf_behind(on, self, &row, t, turns);
-        hold_row(&mut self.text, self.before.leaf, &row, t)?;
+        hold_row(&mut self.text, self.before.leaf, &row, t, turns)?;
         self.before.go_behind(number, &row, turns)?;
         Ok(row)
     }
@@ -90,7 +90,7 @@ fn leaf_behind<L: Ledger>(
     turns: &mut Turns<L>,
 ) -> Leaf
     requires { row.now.columns ≤ length t.now }
-    ensures value { leaf_of result ≡ cond (on.now.definition && ((row.now.stays && is_paragraph (leaf_of known.now.before.leaf)) && (is_some (underline_rank on.now (drop row.now.columns t.now)) && is_used_up known.now.text.items))) open_paragraph (leaf_of row.now.leaf) }
+    ensures value { leaf_of result ≡ cond (on.now.definition && ((row.now.stays && is_paragraph (leaf_of known.now.before.leaf)) && (is_some (underline_rank on.now (drop row.now.columns t.now)) && is_held_used_up known.now.text.items))) open_paragraph (leaf_of row.now.leaf) }
     ensures text { is_paragraph (leaf_of row.now.leaf) ≡ true → turns.new ≤ turns.old }
     ensures turns { turns.new ≤ turns.old + 3 * length t.now + 20 + 16 * length known.now.text.items }
 {
@@ -98,7 +98,7 @@ fn leaf_behind<L: Ledger>(
         return row.leaf;
     }
     let rest = behind(t, row.columns);
-    if underlines_nothing(
+    if underlines_held(
         on,
         known.before.leaf,
         row.stays,
@@ -112,17 +112,25 @@ fn leaf_behind<L: Ledger>(
     }
 }
 
-/// The text of the open paragraph behind a line, by that before it and the leaf block that goes on before it. `t` are the line's virtual bytes.
-fn hold_row(text: &mut Vec<u8>, leaf: Leaf, row: &Row, t: &[u8]) -> Result<(), AllocError>
+/// What is held of the text of the open paragraph behind a line, by that before it and the leaf block that goes on before it. `t` are the line's
+/// virtual bytes.
+fn hold_row<L: Ledger>(
+    text: &mut Vec<u8>,
+    leaf: Leaf,
+    row: &Row,
+    t: &[u8],
+    turns: &mut Turns<L>,
+) -> Result<(), AllocError>
     requires { row.now.columns ≤ length t.now }
-    ensures { IfOk result (λ _. text.new.items ≡ cond (is_paragraph (leaf_of row.now.leaf)) (cond (row.now.stays && is_paragraph (leaf_of leaf)) (text.old.items ++ 10 ∷ drop row.now.columns t.now) (drop row.now.columns t.now)) []) }
+    ensures text { IfOk result (λ _. text.new.items ≡ cond (is_paragraph (leaf_of row.now.leaf)) (held_behind (row.now.stays && is_paragraph (leaf_of leaf)) text.old.items (drop row.now.columns t.now)) []) }
+    ensures turns { turns.new ≤ turns.old + length t.now + 1 }
 {
     if !is_paragraph(row.leaf) {
         text.clear();
         return Ok(());
     }
     let goes_on = row.stays && is_paragraph(leaf);
-    hold(text, goes_on, behind(t, row.columns))
+    hold_defining(text, goes_on, behind(t, row.columns), turns)
 }
 
 /// The line with this number and this beginning, with its containers. What is known before it becomes what is known behind it. `line` is room for
@@ -145,15 +153,15 @@ fn next_row<L: Ledger>(
     requires sizes { HaveSizes (map open_of known.old.before.stack.items) }
     ensures number { IfOk result (λ at. at.span.number ≡ number) }
     ensures placed { IfOk result (λ at. IsPlaced tab bytes.now number start at) }
-    ensures row { IfOk result (λ at. IsRow number at.row (row_of on.now (known_of known.old) number (line_at tab number start (drop start bytes.now)))) }
-    ensures known { IfOk result (λ _. known_of known.new ≡ known_after on.now (known_of known.old) (row_of on.now (known_of known.old) number (line_at tab number start (drop start bytes.now)))) }
+    ensures row { IfOk result (λ at. (seen : KnownOf) → IsKnown known.old seen → IsRow number at.row (row_of on.now seen number (line_at tab number start (drop start bytes.now)))) }
+    ensures known { IfOk result (λ _. (seen : KnownOf) → IsKnown known.old seen → IsKnown known.new (known_after on.now seen (row_of on.now seen number (line_at tab number start (drop start bytes.now))))) }
     ensures next { IfOk result (λ at. at.span.next ≡ start + line_length (drop start bytes.now)) }
     ensures more { IfOk result (λ at. start < at.span.next) }
     ensures within { IfOk result (λ at. at.span.next ≤ length bytes.now) }
     ensures depth { IfOk result (λ _. known.new.before.depth ≤ length known.new.before.stack.items) }
     ensures over { IfOk result (λ _. AreOver (number + 1) known.new.before.over known.new.before.depth known.new.before.stack.items) }
     ensures kept { IfOk result (λ at. (budget : ℕ) → IsKept (turns.old + known.old.before.over) budget known.old.text.items → IsKept (turns.new + known.new.before.over) (budget + 187 * at.span.size + 1705) known.new.text.items) }
-    ensures turns { turns.new ≤ turns.old + known.old.before.over + 150 * length (line_bytes tab number 1 start (drop start bytes.now)) + 1671 + 16 * length known.old.text.items }
+    ensures turns { turns.new ≤ turns.old + known.old.before.over + 151 * length (line_bytes tab number 1 start (drop start bytes.now)) + 1672 + 16 * length known.old.text.items }
 {
     let end = read_text(line, bytes, tab, start, turns)?;
     let next = behind_ending(bytes, end);
@@ -171,7 +179,7 @@ fn next_row<L: Ledger>(
 /// The lines of a document, with their containers. Fails only for want of memory.
 ///
 /// It is linear: a text is looked at where an underline comes behind definitions alone, which is text then, so that a paragraph is looked at twice at
-/// most.
+/// most. Only the text of a paragraph that begins with `[` is kept.
 pub fn rows_with_definitions<L: Ledger>(
     alloc: Global,
     bytes: &[u8],

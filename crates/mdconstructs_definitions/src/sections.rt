@@ -9,10 +9,10 @@ ghost use Rattle.mdconstructs_containers.specs.Skeleton.{Part};
 ghost use Rattle.mdconstructs_labels.specs.declared.definitions.Definition.{Definition as DefinitionOf};
 ghost use Rattle.mdconstructs_labels.specs.Definitions.{definitions};
 ghost use Rattle.mdconstructs_definitions.specs.Sections.{Section as SectionOf, defined_in, defining, lines, paragraph_of, sections_in, text_in, undefined};
-ghost use Rattle.mdconstructs_definitions.specs.Seen.{AreHeld, AreSections, AreSome, AreThese, IsFound, begins_text_at, inside_of, is_text_at};
+ghost use Rattle.mdconstructs_definitions.specs.Seen.{AreHeld, AreSections, AreSome, AreThese, IsFound, begins_defining, begins_text_at, inside_of, is_text_at};
 
 use crate::fronts::front_of;
-use crate::held::hold_lines;
+use crate::held::{has_bracket, hold_lines};
 use crate::texts::lines_before;
 use markdown_base::configuration::{Constructs, TabSize};
 use mdconstructs_containers::ahead::{Ahead, aheads_of};
@@ -98,6 +98,25 @@ impl Defined {
     }
 }
 
+/// Whether the first of these lines begins with `[`, behind its prefixes and white space. Else it begins no definition.
+fn begins_defining<L: Ledger>(
+    bytes: &[u8],
+    tab: TabSize,
+    rows: &[RowAt],
+    line: &mut Vec<u8>,
+    turns: &mut Turns<L>,
+) -> Result<bool, AllocError>
+    requires { AreHeld tab bytes.now rows.now }
+    ensures { IfOk result (λ is. (all : List RowOf) → AreThese tab bytes.now rows.now all → is ≡ begins_defining all) }
+{
+    if rows.is_empty() {
+        return Ok(false);
+    }
+    let first = &rows[0];
+    let begins = has_bracket(bytes, tab, first, line, turns)?;
+    Ok(begins)
+}
+
 /// The definitions with which a paragraph begins in the first of these lines of a part, and how many lines they have.
 fn defined_in<L: Ledger>(
     alloc: Global,
@@ -113,6 +132,10 @@ fn defined_in<L: Ledger>(
     ensures definitions { IfOk result (λ d. (all : List RowOf) → AreThese tab bytes.now rows.now all → 1 ≤ d.lines → d.definitions.items ≡ definitions (text_in (paragraph_of all))) }
 {
     if !on.definition {
+        return Ok(Defined::none(alloc));
+    }
+    let begins = begins_defining(bytes, tab, rows, &mut room.line, turns)?;
+    if !begins {
         return Ok(Defined::none(alloc));
     }
     let size = paragraph_size(rows, turns);

@@ -1,15 +1,19 @@
 //! The text of a paragraph, which may begin with definitions: what its lines have behind their prefixes, joined by line feeds.
 
-ghost use Rattle.std.specs.Prelude.{◌≡◌, ◌≤◌, ◌+◌, ◌*◌, ◌++◌, ◌∷◌, ◌&&◌, ◌==◌, ◌-◌, cond, drop, filter, is_some, length, IfOk};
+ghost use Rattle.std.specs.Prelude.{◌≡◌, ◌≤◌, ◌+◌, ◌*◌, ◌++◌, ◌∷◌, ◌&&◌, ◌==◌, ◌-◌, cond, drop, filter, is_some, length, not, IfOk};
 ghost use Rattle.mdconstructs_flow_read.specs.LineKinds.{underline_rank};
-ghost use Rattle.mdconstructs_containers.specs.Rows.{is_paragraph};
+ghost use Rattle.mdconstructs_containers.specs.Rows.{has_none, is_paragraph};
 ghost use Rattle.mdconstructs_containers.specs.Views.{leaf_of};
+ghost use Rattle.mdconstructs_labels.specs.Tails.{begins_with};
+ghost use Rattle.mdconstructs_definitions.specs.Known.{held_behind, is_held_used_up};
+ghost use Rattle.mdconstructs_definitions.specs.Laws.{begins_with_bracket};
 ghost use Rattle.mdconstructs_definitions.specs.Rows.{is_used_up};
 ghost use Rattle.mdconstructs_definitions.specs.Sections.{lines_of, lines_defined};
 
 use markdown_base::configuration::Constructs;
 use mdconstructs_containers::leaves::{Leaf, is_paragraph};
 use mdconstructs_labels::definitions::definitions_counted;
+use mdconstructs_lines::bytes::unindented;
 use mdconstructs_lines::kinds::underline_rank;
 use mdconstructs_turns::Turns;
 use std::alloc::AllocError;
@@ -27,6 +31,62 @@ pub fn hold(text: &mut Vec<u8>, goes_on: bool, rest: &[u8]) -> Result<(), AllocE
     }
     text.extend_from_slice(rest)?;
     Ok(())
+}
+
+/// `[` comes first.
+fn is_at_bracket(t: &[u8]) -> bool
+    ensures { result ≡ begins_with 91 t.now }
+{
+    match t {
+        [first, ..] => *first == b'[',
+        [] => false,
+    }
+}
+
+/// Whether a text begins with `[`, behind white space. In one that does not, nothing is defined.
+pub(crate) fn begins_with_bracket<L: Ledger>(text: &[u8], turns: &mut Turns<L>) -> bool
+    ensures value { result ≡ begins_with_bracket text.now }
+    ensures turns { turns.new ≤ turns.old + length text.now + 1 }
+{
+    is_at_bracket(unindented(text, turns))
+}
+
+/// Whether a text has bytes.
+fn has_bytes(text: &[u8]) -> bool
+    ensures { result ≡ not (has_none text.now) }
+{
+    match text {
+        [] => false,
+        _ => true,
+    }
+}
+
+/// Whether a line goes to what is held of the text of a paragraph: its first line does if it begins with `[`, and a further one if the first did.
+fn is_held<L: Ledger>(text: &[u8], goes_on: bool, rest: &[u8], turns: &mut Turns<L>) -> bool
+    ensures value { result ≡ cond goes_on (not (has_none text.now)) (begins_with_bracket rest.now) }
+    ensures turns { turns.new ≤ turns.old + length rest.now + 1 }
+{
+    if goes_on {
+        return has_bytes(text);
+    }
+    begins_with_bracket(rest, turns)
+}
+
+/// A line goes to the text of a paragraph, as in `hold`, if something may be defined in it. Of another paragraph nothing is held.
+pub(crate) fn hold_defining<L: Ledger>(
+    text: &mut Vec<u8>,
+    goes_on: bool,
+    rest: &[u8],
+    turns: &mut Turns<L>,
+) -> Result<(), AllocError>
+    ensures text { IfOk result (λ _. text.new.items ≡ held_behind goes_on text.old.items rest.now) }
+    ensures turns { turns.new ≤ turns.old + length rest.now + 1 }
+{
+    if !is_held(text.as_slice(), goes_on, rest, turns) {
+        text.clear();
+        return Ok(());
+    }
+    hold(text, goes_on, rest)
 }
 
 /// Whether nothing is left of the text of a paragraph behind its definitions. It is linear: see `definitions_counted`.
@@ -55,6 +115,24 @@ pub fn underlines_nothing<L: Ledger>(
     on.definition
         && (stays && is_paragraph(leaf))
         && (underline_rank(on, rest, turns).is_some() && is_used_up(text, turns))
+}
+
+/// The same, by what is held of the text of the open paragraph: of one that does not begin with `[`, in which nothing is defined, it is nothing.
+pub(crate) fn underlines_held<L: Ledger>(
+    on: &Constructs,
+    leaf: Leaf,
+    stays: bool,
+    rest: &[u8],
+    text: &[u8],
+    turns: &mut Turns<L>,
+) -> bool
+    ensures value { result ≡ (on.now.definition && ((stays && is_paragraph (leaf_of leaf)) && (is_some (underline_rank on.now rest.now) && is_held_used_up text.now))) }
+    ensures turns { turns.new ≤ turns.old + (3 * length rest.now + 4) + (16 * length text.now + 16) }
+{
+    if !has_bytes(text) {
+        return false;
+    }
+    underlines_nothing(on, leaf, stays, rest, text, turns)
 }
 
 /// How many line feeds a text has.

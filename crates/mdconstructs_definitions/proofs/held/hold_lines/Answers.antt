@@ -12,8 +12,8 @@ use Rattle.mdconstructs_definitions.proofs.held.hold_lines.Goals as goal
 pub loop-at-init : goal.loop-at-init
 loop-at-init g c = record { left = c.requires.1; text = c.clear.ensures.items; goes_on = refl }
 
-pub read_line-requires : goal.read_line-requires
-read_line-requires g c =
+pub read_text-requires : goal.read_text-requires
+read_text-requires g c =
     let i = c.loop-at.at-index in
     let rows = c.args.rows.now in
     let x = c.at-item.result in
@@ -28,7 +28,7 @@ behind-rest-requires g c =
     let x = c.at-item.result in
     let split : drop i rows ≡ x ∷ drop (i + 1) rows = drop_more rows i x c.loop-at-test.true ∙ ap (λ (y : RowAt). y ∷ drop (i + 1) rows) (sym c.at-item.is) in
     let next = next-text c.args.tab c.args.bytes.now x (drop (i + 1) rows) i g.all (subst (λ (l : List RowAt). HaveTexts c.args.tab c.args.bytes.now l (drop i g.all)) split c.loop-at.invariant.left) in
-    omega (arith, next.has.columns, next.has.within, ap length next.has.text, ap length (c.in_ok-read_line.ensures.seats x.span.number))
+    omega (arith, next.has.columns, next.has.within, ap length next.has.text, ap length (c.in_ok-read_text.ensures.seats x.span.number))
 
 pub loop-at-preserved : goal.loop-at-preserved
 loop-at-preserved g c =
@@ -39,7 +39,7 @@ loop-at-preserved g c =
     let x = c.at-item.result in
     let split : drop i rows ≡ x ∷ drop (i + 1) rows = drop_more rows i x c.loop-at-test.true ∙ ap (λ (y : RowAt). y ∷ drop (i + 1) rows) (sym c.at-item.is) in
     let next = next-text t bytes x (drop (i + 1) rows) i g.all (subst (λ (l : List RowAt). HaveTexts t bytes l (drop i g.all)) split c.loop-at.invariant.left) in
-    let line : c.read_line.new.line.items ≡ text_of next.row.line = c.in_ok-read_line.ensures.seats x.span.number ∙ sym next.has.text in
+    let line : c.read_text.new.line.items ≡ text_of next.row.line = c.in_ok-read_text.ensures.seats x.span.number ∙ sym next.has.text in
     let rest : c.behind-rest.result.now ≡ rest_of next.row =
     c.behind-rest.ensures.value ∙ ap (λ l. drop x.row.columns l) (c.as_slice.ensures.value ∙ line) ∙ ap (λ n. drop n (text_of next.row.line)) next.has.columns in
     record {

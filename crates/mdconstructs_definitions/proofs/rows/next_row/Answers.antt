@@ -28,8 +28,8 @@ returns g c =
         size_is = size ∙ long;
         columns = omega (arith, c.in_ok-row.ensures.within, size, here);
       };
-      row = c.in_ok-row.ensures.row line text;
-      known = c.in_ok-row.ensures.known line text;
+      row = λ seen is. c.in_ok-row.ensures.row seen is line text;
+      known = λ seen is. c.in_ok-row.ensures.known seen is line text;
       next = next;
       more = next_more c.args.bytes.now c.args.start c.behind_ending-next.result c.requires.inside next;
       within = c.behind_ending-next.ensures.within;

@@ -1,16 +1,12 @@
 use Rattle.std.proofs.Common.{◌≤◌, ◌+◌, ◌*◌, ◌-◌, length}
 use Rattle.std.specs.List.{AllByRecursion}
-use Rattle.markdown_base.specs.Virtual.{virtual}
-use Rattle.mdconstructs_machines.specs.LineEvents.{lines_in}
 use Rattle.mdconstructs_containers.specs.Costs.{columns_in}
 use Rattle.mdconstructs_containers.specs.Over.{AreOver}
 use Rattle.mdconstructs_containers.specs.Spans.{ArePlaced}
 use Rattle.mdconstructs_containers.specs.Views.{before_of}
-use Rattle.mdconstructs_containers.proofs.DocumentRows.{AreRowsBefore}
 use Rattle.mdconstructs_containers.proofs.RowFacts.{BeganBefore}
-use Rattle.mdconstructs_definitions.specs.Known.{IsKept, known_of}
-use Rattle.mdconstructs_definitions.specs.Rows.{rows}
-use Rattle.mdconstructs_definitions.proofs.KnownLemmas.{known_left}
+use Rattle.mdconstructs_definitions.specs.Known.{IsKept}
+use Rattle.mdconstructs_definitions.proofs.KnownLemmas.{AreRead}
 use Rattle.mdconstructs_definitions.proofs.rows.rows_with_definitions.Given as goal
 
 abbrev pub invariant-loop-start : goal.invariant-loop-start
@@ -21,7 +17,7 @@ invariant-loop-start g l = record {
   began : AllByRecursion (BeganBefore (length l.found.items + 1)) (before_of l.known.before).stack;
   placed : ArePlaced l.tab l.bytes 1 0 l.found.items l.start;
   kept : IsKept (l.turns + l.known.before.over) (l.fn.turns + 1706 * columns_in l.found.items) l.known.text.items;
-  found : AreRowsBefore l.found.items (known_left l.on l.tab l.bytes (known_of l.known) (length l.found.items + 1) l.start) (rows l.on (lines_in (virtual l.tab l.bytes)));
+  read : AreRead l.on l.tab l.bytes l.found.items l.known (length l.found.items + 1) l.start;
 }
 
 abbrev pub decreases-loop-start : goal.decreases-loop-start

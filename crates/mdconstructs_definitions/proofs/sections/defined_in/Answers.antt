@@ -1,4 +1,5 @@
-use Rattle.std.proofs.Common.{◌≡◌, refl, take, ◌∙◌}
+use Rattle.std.proofs.Common.{◌≡◌, arith, refl, sym, take, ◌∙◌}
+use Rattle.mdconstructs_definitions.proofs.BracketLemmas.{bare-defined}
 use Rattle.mdconstructs_definitions.proofs.SectionLemmas.{paragraph-definitions, paragraph-lines, texts-by, these-front}
 use Rattle.mdconstructs_definitions.proofs.sections.defined_in.Goals as goal
 
@@ -7,6 +8,12 @@ hold_lines-requires g c κs within =
     let size = c.paragraph_size-size.result in
     let front = these-front c.args.tab c.args.bytes.now size c.args.rows.now c.requires.all c.requires.are in
     (within, texts-by c.args.tab c.args.bytes.now (take size c.args.rows.now) (take size c.requires.all) front.texts)
+
+pub returns-then-not-begins-clause-lines : goal.returns-then-not-begins-clause-lines
+returns-then-not-begins-clause-lines g c = λ all these. c.none-then-not-begins.ensures ∙ bare-defined c.args.on.now all (sym (c.in_ok-begins.ensures all these) ∙ c.if-not-begins.true)
+
+pub returns-then-not-begins-clause-definitions : goal.returns-then-not-begins-clause-definitions
+returns-then-not-begins-clause-definitions g c = λ all these some. absurd (omega (arith, some, c.none-then-not-begins.ensures))
 
 pub returns-clause-lines : goal.returns-clause-lines
 returns-clause-lines g c = λ all these.

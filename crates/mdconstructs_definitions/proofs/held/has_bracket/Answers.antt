@@ -1,0 +1,42 @@
+use Rattle.std.proofs.Common.{◌≡◌, ◌≤◌, ◌<◌, ℕ, List, ap, arith, drop, length, sym, take, ◌∙◌}
+use Rattle.std.specs.List.{list_all}
+use Rattle.std.specs.Prelude.{nat_le}
+use Rattle.std.proofs.lemmas.Bool.Decides.{nat_tests}
+use Rattle.markdown_base.proofs.Common.{and-right}
+use Rattle.markdown_base.proofs.Facts.Bools.{and-left}
+use Rattle.mdconstructs_lines.specs.Lines.{line_bytes}
+use Rattle.mdconstructs_containers.specs.Letters.{is_plain}
+use Rattle.mdconstructs_definitions.specs.Laws.{begins_with_bracket}
+use Rattle.mdconstructs_definitions.proofs.BracketLemmas.{front-says}
+use Rattle.mdconstructs_definitions.proofs.held.has_bracket.Goals as goal
+
+pub behind-plain-requires : goal.behind-plain-requires
+behind-plain-requires g c =
+    let n = c.args.at.now.row.columns in
+    let rest = c.behind-rest.result.now in
+    let few = and-left (nat_le n (length rest)) (list_all is_plain (take n rest)) (sym c.is_plain_front.ensures.value ∙ c.if-is_plain_front.true) in
+    grind (arith, nat_tests, few)
+
+pub returns-then-is_plain_front : goal.returns-then-is_plain_front
+returns-then-is_plain_front g c =
+    let t = c.args.tab in
+    let s = c.args.at.now.span in
+    let n = c.args.at.now.row.columns in
+    let rest = c.behind-rest.result.now in
+    let some : 0 < t = omega (arith, c.get-tab_size.ensures.least, c.get-tab_size.ensures.columns) in
+    let most : t ≤ 16 = omega (arith, c.get-tab_size.ensures.most, c.get-tab_size.ensures.columns) in
+    let plain = and-right (nat_le n (length rest)) (list_all is_plain (take n rest)) (sym c.is_plain_front.ensures.value ∙ c.if-is_plain_front.true) in
+    c.begins_with_bracket.ensures.value
+    ∙ ap begins_with_bracket c.behind-plain.ensures.value
+    ∙ front-says t some most s.number s.start n rest plain
+    ∙ ap (λ l. begins_with_bracket (drop n (line_bytes t s.number 1 s.start l))) c.behind-rest.ensures.value
+
+pub behind-text-requires : goal.behind-text-requires
+behind-text-requires g c =
+    let size = ap (λ (l : List ℕ). length l) (c.as_slice.ensures.value ∙ c.in_ok-read_text.ensures.seats c.args.at.now.span.number) in
+    omega (arith, size, c.requires.within)
+
+pub returns : goal.returns
+returns g c =
+    let n = c.args.at.now.row.columns in
+    c.begins_with_bracket-2.ensures.value ∙ ap begins_with_bracket (c.behind-text.ensures.value ∙ ap (λ l. drop n l) (c.as_slice.ensures.value ∙ c.in_ok-read_text.ensures.seats c.args.at.now.span.number))
