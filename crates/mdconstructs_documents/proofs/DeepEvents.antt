@@ -1,7 +1,9 @@
 -- What is read with the children of chains of text: it is refused nowhere where rules refuse nothing, its chains can be read, and the
 -- definitions without states say what is read.
 use Rattle.mdconstructs_documents.proofs.Prelude.{Bool, Option, None, Some, whole_text, whole-is-text, arith, subst, sym, Content, TextContent, IsReady, inlines-refuse-nothing, inlines_rules, AreFlowInlines, IsSubtokenized, StartAmong, flow_events, read-as-data, read-as-texts, paragraph_texts, seat_events, Unmade, OfFault, NotReady, Memory, Failed, OfMessage, Result, Ok, Err, IsErrOf, IfErr, refl, ◌≡◌, ℕ, List, ⊎_elim, false, true, ap, ◌∙◌, ParseOptions, Event, Message, Name, start_configuration, IsRunRefused, Rules, Given, IsDocument, FlowStart, chain_of, text_of_chain, IsChildRefused, RulesRefuseNothing, none-refused, no-run-refused, Seat, document, virtual_bytes, Gives, GivesDeep, GivesUnready, HasRefusedChild, IsRefusedDeep, HasReadableChains, with_data, with_texts, data_events, paragraph_events, paragraphs_rules, IsReadAs, text_events, text_rules, HasChildren, AreFlowEvents, chains-read, reads-as-data, reads-items, paragraphs-by-blocks, text-by-blocks}
+use Rattle.mdconstructs_inlines.specs.InlineRules.{no_labels}
 use Rattle.mdconstructs_documents.proofs.FlowTexts.AllChildren.{all-children}
+use Rattle.mdconstructs_documents.proofs.FlowTexts.Whole.{inlines_by}
 use Rattle.mdconstructs_documents.proofs.FlowTexts.Textual.{each-ready, flow-textual, may-start-each}
 
 -- what is not a message, not a failure before and not a list that cannot be read is want of memory
@@ -70,6 +72,9 @@ module _ (options : ParseOptions) (bytes : List ℕ) where
     pub all-may-start : (defined : List ℕ → Bool) → StartAmong (inlines_rules defined g).starts None flat
     all-may-start defined = subst (StartAmong (inlines_rules defined g).starts None) (sym are) (may-start-each (inlines_rules defined g).starts (0, omega arith, (cc)) (1, omega arith, (cc)) (flow_events options.constructs bytes (virtual_bytes options bytes)) (flow-textual g (whole_text g)))
 
-    -- with their children they are inline text and strings
-    pub flow-inlines : (defined : List ℕ → Bool) (new : List Event) → HasChildren (inlines_rules defined) options bytes None flat new → AreFlowInlines options bytes new
-    flow-inlines defined new h = all-children defined (document options bytes) (whole_text (document options bytes)) (whole-is-text (document options bytes) is) new h.1.0 (subst (λ (xs : List Event). IsSubtokenized g (inlines_rules defined) None xs new h.1.0) are h.1.1)
+    -- with their children they are inline text and strings, if no label is defined
+    pub flow-inlines : (defined : List ℕ → Bool) → ((label : List ℕ) → defined label ≡ false) → (new : List Event) → HasChildren (inlines_rules defined) options bytes None flat new → AreFlowInlines options bytes new
+    flow-inlines defined nothing new h =
+        let none : defined ≡ no_labels = λ i label. nothing label i in
+        let read = all-children defined g (whole_text g) (whole-is-text g is) new h.1.0 (subst (λ (xs : List Event). IsSubtokenized g (inlines_rules defined) None xs new h.1.0) are h.1.1) in
+        read ∙ ap (λ d. inlines_by d g (whole_text g)) none

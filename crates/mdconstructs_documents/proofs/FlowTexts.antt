@@ -14,5 +14,6 @@ pub mod InlineTight
 pub mod ResourceSteps
 pub mod Segments
 pub mod Spans
+pub mod Tails
 pub mod Textual
 pub mod Whole

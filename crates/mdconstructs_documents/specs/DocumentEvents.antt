@@ -1,15 +1,23 @@
 -- The events of a document: its containers, the leaf blocks in them, and the texts and strings of these. The definitions have no states.
-use Rattle.std.specs.Prelude.{List}
+use Rattle.std.specs.Prelude.{ℕ, Bool, List}
 use Rattle.markdown_base.specs.declared.event.Event.{Event}
 use Rattle.markdown_base.specs.Events.{IsVoidTight}
+use Rattle.markdown_base.specs.Virtual.{virtual}
 use Rattle.markdown_tokenizer.specs.Text.{Given, IsDocument}
 use Rattle.mdconstructs_definitions.specs.Blocks.{document_blocks}
+use Rattle.mdconstructs_definitions.specs.Labelled.{is_one_of}
+use Rattle.mdconstructs_definitions.specs.Skeleton.{written_labels}
 use Rattle.mdconstructs_inlines.specs.LawStatements.{with_inlines, with_strings as with_string_chunks}
 use Rattle.mdconstructs_strings.specs.Strings.{with_strings}
 
--- The blocks of a document, with the inline text of each chain of text in place of its chunks, and then the events of each chunk of a string
+-- A label is defined in a document: it is the same as that of one of its definitions (CommonMark, "Link reference definitions")
+abbrev pub is_defined_in : Given → List ℕ → Bool
+is_defined_in g label = is_one_of (written_labels g.options.constructs (virtual g.tab g.bytes)) label
+
+-- The blocks of a document, with the inline text of each chain of text in place of its chunks, by the labels that are defined in the document, and then
+-- the events of each chunk of a string
 abbrev pub document_texts : Given → List Event
-document_texts g = with_string_chunks g (with_inlines g (document_blocks g))
+document_texts g = with_string_chunks g (with_inlines (is_defined_in g) g (document_blocks g))
 
 -- The events of a document: these, with the strings read in which destinations, titles and labels stand
 abbrev pub document_events : Given → List Event

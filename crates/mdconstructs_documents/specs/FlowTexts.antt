@@ -1,5 +1,5 @@
 -- The events of a document's leaf blocks with their texts and strings read, from the virtual bytes of their lines. The definitions have no states.
-use Rattle.std.specs.Prelude.{ℕ, List, map, None}
+use Rattle.std.specs.Prelude.{ℕ, Bool, List, map, None}
 use Rattle.std.specs.List.{flat_map}
 use Rattle.markdown_base.specs.declared.configuration.Constructs.{Constructs}
 use Rattle.markdown_base.specs.declared.event.Event.{Event}
@@ -9,6 +9,7 @@ use Rattle.mdconstructs_links.specs.Linked.{with_links}
 use Rattle.mdconstructs_flow_read.specs.LeafBlocks.{LeafBlock, leaf_blocks}
 use Rattle.mdconstructs_flow_read.specs.LeafEvents.{Mark, block_around, body, linked_from}
 use Rattle.mdconstructs_inlines.specs.InlineEvents.{inline_items}
+use Rattle.mdconstructs_inlines.specs.InlineRules.{no_labels}
 use Rattle.mdconstructs_inlines.specs.StringEvents.{string_seat_events}
 use Rattle.mdconstructs_text.specs.TextEvents.{item_events}
 
@@ -28,10 +29,10 @@ module _ (texts strings : List Seat → List Event) where
   abbrev pub flow_read : Constructs → (bytes : List ℕ) → List Seat → List Event
   flow_read on bytes seats = linked_from 0 (flat_map (block_texts bytes) (leaf_blocks on (lines_in seats)))
 
--- the events of virtual bytes of a document, as inline text
-abbrev pub inline_seat_events : Constructs → (bytes : List ℕ) → List Seat → List Event
-inline_seat_events on bytes seats = with_links bytes (flat_map (item_events bytes) (inline_items on seats))
+-- the events of virtual bytes of a document, as inline text, by which labels are defined
+abbrev pub inline_seat_events : (defined : List ℕ → Bool) → Constructs → (bytes : List ℕ) → List Seat → List Event
+inline_seat_events defined on bytes seats = with_links bytes (flat_map (item_events bytes) (inline_items on defined bytes seats))
 
--- `Flow` with inline text: each text is read as `Inlines` reads it
+-- `Flow` with inline text: each text is read as `Inlines` reads it. Leaf blocks alone define no labels
 abbrev pub flow_inlines : Constructs → (bytes : List ℕ) → List Seat → List Event
-flow_inlines on bytes seats = flow_read (inline_seat_events on bytes) (string_seat_events on bytes) on bytes seats
+flow_inlines on bytes seats = flow_read (inline_seat_events no_labels on bytes) (string_seat_events on bytes) on bytes seats

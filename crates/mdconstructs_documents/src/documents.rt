@@ -54,12 +54,12 @@ pub fn events_of(
     }
 }
 
-/// The events of a document: its block quotes and lists, the leaf blocks in them, and each text of these read as inline text, so that links,
-/// images and emphasis stand in their blocks.
+/// The events of a document: its block quotes and lists, the leaf blocks and link reference definitions in them, and each text of these read as
+/// inline text. Links and images refer to the definitions of the whole document.
 ///
-/// The events are what a definition without states says of the document's lines (CommonMark, "Container blocks", "Leaf blocks" and "Inlines",
-/// without what the machines do not read yet). They are well formed: balanced, each void span empty, at places of the document, and in order
-/// of these. It fails only if it runs out of memory.
+/// The events are what a definition without states says of the document's lines (CommonMark, "Container blocks", "Leaf blocks" and "Inlines").
+/// They are well formed: balanced, each void span empty, at places of the document, and in order of these. It fails only if it runs out of
+/// memory.
 ///
 /// The document is there whole, and no cuts are chosen: lines are read by plain code, which takes no ranges, and each chain of chunks is read
 /// from these. [`read_leaf_blocks`] takes cuts.
@@ -79,11 +79,11 @@ pub fn read_document(
     }
 }
 
-/// The events of a document as leaf blocks alone: a marker of a block quote or list is text there. Each text of them is read as inline text.
-/// The document is cut at these places, which leave no trace in the events.
+/// The events of a document as leaf blocks alone: a marker of a block quote or list is text there, and so is a definition. Each text
+/// of them is read as inline text. The document is cut at these places, which leave no trace in the events.
 ///
-/// The events are what a definition without states says of the document's lines (CommonMark, "Leaf blocks" and "Inlines", without what
-/// the machines do not read yet). They are well formed, as those of [`read_document`]. It fails only if it runs out of memory.
+/// The events are what a definition without states says of the document's lines (CommonMark, "Leaf blocks" and "Inlines"). They are
+/// well formed, as those of [`read_document`]. It fails only if it runs out of memory.
 pub fn read_leaf_blocks(
     alloc: Global,
     bytes: &[u8],

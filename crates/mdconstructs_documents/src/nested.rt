@@ -1,11 +1,14 @@
 //! Documents with block quotes and lists: first these, with a chain of chunks for each stretch of lines, and then the leaf blocks of each chain.
 
 ghost use Rattle.std.specs.Prelude.{◌≡◌, IfErr, IfOk, None};
-ghost use Rattle.markdown_base.specs.Virtual.{IsWithinLimit};
+ghost use Rattle.markdown_base.specs.Virtual.{IsWithinLimit, virtual};
 ghost use Rattle.markdown_children.specs.Ready.{IsReady};
 ghost use Rattle.markdown_tokenizer.specs.declared.tokenizer.fault.Fault.TheVariants.{Memory};
 ghost use Rattle.markdown_tokenizer.specs.Engine.{IsWellFormed};
 ghost use Rattle.markdown_tokenizer.specs.Text.{IsDocument};
+ghost use Rattle.mdconstructs_definitions.specs.Blocks.{document_skeleton};
+ghost use Rattle.mdconstructs_definitions.specs.Labelled.{AreDefined};
+ghost use Rattle.mdconstructs_definitions.specs.Skeleton.{letters as letters_of, written_labels};
 ghost use Rattle.mdconstructs_flow.specs.FlowKnows.{flow_rules};
 ghost use Rattle.mdconstructs_inlines.specs.InlineRules.{inlines_rules};
 ghost use Rattle.mdconstructs_labels.specs.Defined.{defines};
@@ -23,10 +26,16 @@ use mdconstructs_labels::labels::Labels;
 use mdconstructs_strings::strings::with_strings;
 use std::alloc::Global;
 
+/// The blocks of a document, and what its definitions define.
+#[derive(Drop)]
+struct Blocks {
+    /// The events of its containers, and of the leaf blocks in them.
+    events: Vec<Event>,
+    /// The labels that it defines.
+    labels: Labels,
+}
+
 /// The containers of a document, and the leaf blocks in them.
-///
-/// Where a line that only goes on with a paragraph looks as an underline, leaf blocks are read of a copy of the document, with a letter for the
-/// underline's first byte. All places of it are the same.
 pub(crate) fn read_blocks(
     alloc: Global,
     bytes: &[u8],
@@ -38,14 +47,56 @@ pub(crate) fn read_blocks(
     ensures formed { IfOk result (λ events. IsWellFormed (document options.now bytes.now) events.items) }
     ensures document { IsDocument (document options.now bytes.now) }
 {
+    let blocks = read_blocks_and_labels(alloc, bytes, options)?;
+    Ok(blocks.events)
+}
+
+/// As [`read_blocks`], with the labels that the document defines.
+fn read_blocks_and_labels(
+    alloc: Global,
+    bytes: &[u8],
+    options: &ParseOptions,
+) -> Result<Blocks, Unmade>
+    requires limit { IsWithinLimit options.now.tab_size bytes.now }
+    ensures events { IfOk result (λ blocks. AreDocumentBlocks options.now bytes.now blocks.events.items) }
+    ensures labels { IfOk result (λ blocks. AreDefined blocks.labels (written_labels options.now.constructs (virtual options.now.tab_size bytes.now))) }
+    ensures err { IfErr result (λ unmade. unmade ≡ Unmade.Fault Memory) }
+    ensures formed { IfOk result (λ blocks. IsWellFormed (document options.now bytes.now) blocks.events.items) }
+    ensures document { IsDocument (document options.now bytes.now) }
+{
     is_document(bytes, options);
     let skeleton = skeleton_with_definitions(alloc, bytes, options.tab_size, &options.constructs)?;
+    let labels = skeleton.labels;
+    let bare = skeleton.events;
     let letters = skeleton.letters.as_slice();
+    let events = with_blocks(alloc, bytes, options, bare, letters)?;
+    Ok(Blocks { events, labels })
+}
+
+/// The skeleton of a document with the leaf blocks of each chain in place of its chunks.
+///
+/// Where a line that only goes on with a paragraph looks as an underline, leaf blocks are read of a copy of the document, with a letter for the
+/// underline's first byte. All places of it are the same.
+fn with_blocks(
+    alloc: Global,
+    bytes: &[u8],
+    options: &ParseOptions,
+    skeleton: Vec<Event>,
+    letters: &[usize],
+) -> Result<Vec<Event>, Unmade>
+    requires limit { IsWithinLimit options.now.tab_size bytes.now }
+    requires skeleton { skeleton.items ≡ document_skeleton (document options.now bytes.now) }
+    requires letters { letters.now ≡ letters_of options.now.constructs (virtual options.now.tab_size bytes.now) }
+    ensures events { IfOk result (λ events. AreDocumentBlocks options.now bytes.now events.items) }
+    ensures err { IfErr result (λ unmade. unmade ≡ Unmade.Fault Memory) }
+    ensures formed { IfOk result (λ events. IsWellFormed (document options.now bytes.now) events.items) }
+{
+    is_document(bytes, options);
     if letters.is_empty() {
-        return with_leaf_blocks(alloc, bytes, options, skeleton.events);
+        return with_leaf_blocks(alloc, bytes, options, skeleton);
     }
     let shown = with_letters(alloc, bytes, letters)?;
-    with_leaf_blocks(alloc, shown.as_slice(), options, skeleton.events)
+    with_leaf_blocks(alloc, shown.as_slice(), options, skeleton)
 }
 
 /// Bytes within the limit, with options, are a document.
@@ -72,8 +123,8 @@ fn with_leaf_blocks(
     with_ready_children(alloc, &Flow {}, bytes, options, events, None)
 }
 
-/// The events of a document with its containers: first its blocks, then their texts and strings, and then the strings in which
-/// destinations, titles and labels stand.
+/// The events of a document with its containers: first its blocks, then their texts and strings, by the labels that the document defines, and
+/// then the strings in which destinations, titles and labels stand.
 pub(crate) fn read_nested_events(
     alloc: Global,
     bytes: &[u8],
@@ -85,8 +136,8 @@ pub(crate) fn read_nested_events(
     ensures formed { IfOk result (λ events. IsWellFormed (document options.now bytes.now) events.items) }
     ensures document { IsDocument (document options.now bytes.now) }
 {
-    let events = read_blocks(alloc, bytes, options)?;
-    let texts = with_inline_text(alloc, bytes, options, events, Labels::new(alloc))?;
+    let blocks = read_blocks_and_labels(alloc, bytes, options)?;
+    let texts = with_inline_text(alloc, bytes, options, blocks.events, blocks.labels)?;
     Ok(with_strings(alloc, &options.constructs, bytes, options.tab_size, texts)?)
 }
 

@@ -1,5 +1,5 @@
 -- Each virtual byte of a text is in one innermost span of the events of leaf blocks with inline text.
-use Rattle.mdconstructs_documents.proofs.Prelude.{ℕ, List, [], ◌∷◌, ◌++◌, None, append_assoc, map, sym, subst, append-nil, AllByRecursion, flat_map, Constructs, Event, Point, Seat, end_after, every-back, every-front, AccountFor, lines_in, string_seat_events, shown, AcrossGap, Course, course-every, course-on, text-course, AreSpans, Begins, accounts-kept, IsKeptBySpans, leaf_blocks, Mark, InlinesAccount, block_texts, inline_seat_events, read_marks}
+use Rattle.mdconstructs_documents.proofs.Prelude.{ℕ, Bool, List, [], ◌∷◌, ◌++◌, None, append_assoc, map, sym, subst, append-nil, AllByRecursion, flat_map, Constructs, Event, Point, Seat, end_after, every-back, every-front, AccountFor, lines_in, string_seat_events, shown, AcrossGap, Course, course-every, course-on, text-course, AreSpans, Begins, accounts-kept, IsKeptBySpans, leaf_blocks, Mark, InlinesAccount, block_texts, inline_seat_events, read_marks}
 use Rattle.mdconstructs_documents.proofs.Emphasis.InlineReads.{balanced-of, read-lined, read_of}
 use Rattle.mdconstructs_documents.proofs.Emphasis.Pairs.{Opens, shut-account}
 use Rattle.mdconstructs_documents.proofs.Emphasis.Runs.{balanced-opens, balanced-shut}
@@ -8,6 +8,7 @@ use Rattle.mdconstructs_documents.proofs.FlowTexts.InlineSteps.{Steps, steps-vir
 use Rattle.mdconstructs_documents.proofs.FlowTexts.Spans.{texts-keep}
 use Rattle.mdconstructs_strings.proofs.Cuts.{string-cut}
 use Rattle.mdconstructs_documents.proofs.Innermost.Lined.{LinedFor}
+use Rattle.mdconstructs_inlines.specs.InlineRules.{no_labels}
 use Rattle.mdconstructs_links.proofs.Leaves.{links-balanced}
 
 begins-marks : (es : List Event) → Opens es → Begins (map (λ (e : Event). (e, None)) es)
@@ -38,14 +39,14 @@ module _ (t : ℕ) (bytes : List ℕ) (on : Constructs) where
       }
 
   -- inline text accounts for such virtual bytes, line by line
-  pub inline-lined : (seats : List Seat) → AllByRecursion (Steps bytes) seats → (p : Point) (rest : List Seat) → Course AcrossGap t bytes p (seats ++ rest) → LinedFor (inline_seat_events on bytes seats) bytes seats
-  inline-lined seats steps p rest course = read-lined t bytes on seats p rest course steps
+  pub inline-lined : (defined : List ℕ → Bool) (seats : List Seat) → AllByRecursion (Steps bytes) seats → (p : Point) (rest : List Seat) → Course AcrossGap t bytes p (seats ++ rest) → LinedFor (inline_seat_events defined on bytes seats) bytes seats
+  inline-lined defined seats steps p rest course = read-lined t bytes defined on seats p rest course steps
 
-  inline-spans : (seats : List Seat) → SpansThere (read_marks (inline_seat_events on bytes) bytes seats) seats
-  inline-spans seats steps p rest course =
-      let read = inline_seat_events on bytes seats in
-      let balanced = links-balanced bytes (read_of t bytes on seats) (balanced-of t bytes on seats) in
-      let account = (inline-lined seats steps p rest course).account in
+  inline-spans : (defined : List ℕ → Bool) (seats : List Seat) → SpansThere (read_marks (inline_seat_events defined on bytes) bytes seats) seats
+  inline-spans defined seats steps p rest course =
+      let read = inline_seat_events defined on bytes seats in
+      let balanced = links-balanced bytes (read_of t bytes defined on seats) (balanced-of t bytes defined on seats) in
+      let account = (inline-lined defined seats steps p rest course).account in
       record {
         begins = begins-marks read (balanced-opens balanced);
         account = λ events more h. subst (λ l. AccountFor (l ++ events) bytes (seats ++ more)) (sym (bare-marks read)) (shut-account bytes read events seats more (balanced-shut balanced) account h);
@@ -54,12 +55,12 @@ module _ (t : ℕ) (bytes : List ℕ) (on : Constructs) where
 pub inlines-account : InlinesAccount
 inlines-account g text is =
     let on = g.options.constructs in
-    let reads = inline_seat_events on g.bytes in
+    let reads = inline_seat_events no_labels on g.bytes in
     let strings = string_seat_events on g.bytes in
     let seats = text.seats in
     let p = shown g.bytes text.start in
     let course = text-course g text is in
     let steps = course-every AcrossGap g.tab g.bytes (Steps g.bytes) (steps-virtual g.bytes g.tab) p seats course in
     linked-account g.bytes (flat_map (block_texts reads strings g.bytes) (leaf_blocks on (lines_in seats))) seats
-    (texts-keep on reads strings g.bytes (SpansThere g.tab g.bytes on) (kept g.tab g.bytes on) (inline-spans g.tab g.bytes on)
+    (texts-keep on reads strings g.bytes (SpansThere g.tab g.bytes on) (kept g.tab g.bytes on) (inline-spans g.tab g.bytes on no_labels)
     (λ string steps p rest course. cut-spans g.bytes strings (string-cut on g.bytes) string) seats steps p [] (subst (Course AcrossGap g.tab g.bytes p) (sym (append-nil seats)) course))

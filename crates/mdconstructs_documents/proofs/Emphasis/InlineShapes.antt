@@ -1,16 +1,14 @@
 -- The brackets of inline text, as they are read, hold their markers alone.
-use Rattle.mdconstructs_documents.proofs.Prelude.{◌≡◌, ℕ, zero, suc, true, false, cond, inl, inr, List, [], ◌∷◌, ◌++◌, Option, Some, None, refl, sym, ◌∙◌, length, take, drop, flat_map, prefix_len, Constructs, AttentionSequence, Data, Enter, Event, Exit, SpaceOrTab, Seat, event, leaf, span, EachThere, OfOption, there-holds, Found, Grammar, bytes_of, item_events, item_length, is_white, has_byte_at, is_line_feed, data_length, data_run, delimiter_run, inline_grammars, inline_item_at, inline_items, line_break, run_length, run_or_part, begins_run}
+use Rattle.mdconstructs_documents.proofs.Prelude.{◌≡◌, ℕ, Bool, zero, suc, true, false, cond, inl, inr, List, [], ◌∷◌, ◌++◌, Option, Some, None, refl, sym, ◌∙◌, length, take, drop, flat_map, prefix_len, Constructs, AttentionSequence, Data, Enter, Event, Exit, SpaceOrTab, Seat, leaf, span, EachThere, OfOption, there-holds, Found, Grammar, bytes_of, item_events, item_length, is_white, has_byte_at, is_line_feed, data_length, data_run, delimiter_run, inline_grammars, inline_item_at, inline_items, line_break, run_length, run_or_part, begins_run, white_space}
 use Rattle.markdown_base.specs.declared.event.Name.{Name}
 use Rattle.markdown_base.specs.declared.event.Name.TheVariants.{LabelEnd, LabelImage, LabelImageMarker, LabelLink, LabelMarker}
 use Rattle.mdconstructs_inlines.proofs.BracketBytes.{bracket-holds}
-use Rattle.mdconstructs_inlines.specs.Brackets.{Memory, after_item, label_end, nothing_waits}
+use Rattle.mdconstructs_inlines.specs.Brackets.{Bracket, Memory, after_item, label_end, nothing_read, tail_of}
 use Rattle.mdconstructs_inlines.specs.InlineEvents.{bracket_or_part}
-use Rattle.mdconstructs_resources.specs.Resource.{resource_grammar}
 use Rattle.mdconstructs_text.specs.Parts.{cut_remembering}
-use Rattle.mdconstructs_documents.proofs.Emphasis.RunAtoms.{IsOther, is_label}
 use Rattle.mdconstructs_documents.proofs.Emphasis.Shapes.{AreShaped, others-shaped, shaped-both}
-use Rattle.mdconstructs_documents.proofs.FlowTexts.InlineSteps.{IsFree, free-each, free-leaf, free-line-break}
-use Rattle.mdconstructs_documents.proofs.FlowTexts.ResourceSteps.{free-resource}
+use Rattle.mdconstructs_documents.proofs.FlowTexts.InlineSteps.{IsFree, free-each, free-line-break}
+use Rattle.mdconstructs_documents.proofs.FlowTexts.Tails.{free-tail}
 
 module _ (bytes : List ℕ) where
   exits-not : (e : Event) → e.kind ≡ Exit → e.kind ≡ Enter → ⊥
@@ -67,12 +65,12 @@ module _ (bytes : List ℕ) where
   each-shaped [] text h = tt
   each-shaped (grammar ∷ grammars) text h = (option-shaped (grammar.front text) h.0, each-shaped grammars text h.1)
 
-  end-shaped : (text : List ℕ) (tail : Found) → resource_grammar.front text ≡ Some tail → Shaped (label_end tail)
-  end-shaped text tail is seats =
+  end-shaped : (defined : List ℕ → Bool) (m : Memory) (text : List ℕ) (b : Bracket) (tail : Found) → tail_of defined bytes b m text ≡ Some tail → Shaped (label_end tail)
+  end-shaped defined m text b tail is seats =
       shaped-both (span bytes LabelEnd (take 1 seats) (leaf bytes LabelMarker (take 1 seats))) (tail.events bytes (drop 1 seats)) (end-mark (take 1 seats))
-      (others-shaped (tail.events bytes (drop 1 seats)) (free-resource bytes text tail is (drop 1 seats)))
+      (others-shaped (tail.events bytes (drop 1 seats)) (free-tail bytes defined b m text tail is (drop 1 seats)))
 
-  module _ (on : Constructs) where
+  module _ (on : Constructs) (defined : List ℕ → Bool) where
     part-shaped : (text : List ℕ) → Shaped (run_or_part on text)
     part-shaped text =
         let line = line_break (prefix_len is_white (drop 1 text)) in
@@ -84,24 +82,25 @@ module _ (bytes : List ℕ) where
           ]
         ]
 
-    item-shaped : (m : Memory) (text : List ℕ) → Shaped (inline_item_at on m text)
+    item-shaped : (m : Memory) (text : List ℕ) → Shaped (inline_item_at on defined bytes m text)
     item-shaped m text =
-        there-holds Shaped inline_grammars on text (bracket_or_part on m text) (each-shaped inline_grammars text (free-each 4 bytes text))
-        (bracket-holds Shaped on m text (run_or_part on text) link-shaped (λ e. image-shaped) (marker-shaped LabelMarker) (end-shaped (drop 1 text)) (part-shaped text))
+        there-holds Shaped inline_grammars on text (bracket_or_part on defined bytes m text) (each-shaped inline_grammars text (free-each 4 bytes text))
+        (bracket-holds Shaped on defined bytes m text (run_or_part on text) link-shaped (λ e. image-shaped) (marker-shaped LabelMarker) (end-shaped defined m (drop 1 text)) (part-shaped text))
 
-    items-shaped : (n : ℕ) (q : Memory) (l : List Seat) → AreShaped (flat_map (item_events bytes) (cut_remembering after_item (inline_item_at on) item_length n q l))
+    items-shaped : (n : ℕ) (q : Memory) (l : List Seat) → AreShaped (flat_map (item_events bytes) (cut_remembering (after_item bytes) (inline_item_at on defined bytes) item_length n q l))
     items-shaped zero q l = tt
     items-shaped (suc n) q [] = tt
     items-shaped (suc n) q (s ∷ ss) =
         let l = s ∷ ss in
-        let item = inline_item_at on q (bytes_of l) in
+        let item = inline_item_at on defined bytes q (bytes_of l) in
         let m = item_length item in
-        let behind = after_item q item in
-        shaped-both (item_events bytes (item, take m l)) (flat_map (item_events bytes) (cut_remembering after_item (inline_item_at on) item_length n behind (drop m l))) (item-shaped q (bytes_of l) (take m l))
+        let behind = after_item bytes q item in
+        shaped-both (item_events bytes (item, take m l)) (flat_map (item_events bytes) (cut_remembering (after_item bytes) (inline_item_at on defined bytes) item_length n behind (drop m l))) (item-shaped q (bytes_of l) (take m l))
         (items-shaped n behind (drop m l))
 
-    pub inline-shaped : (seats : List Seat) → AreShaped (flat_map (item_events bytes) (inline_items on seats))
+    pub inline-shaped : (seats : List Seat) → AreShaped (flat_map (item_events bytes) (inline_items on defined bytes seats))
     inline-shaped seats =
         let n = prefix_len is_white (bytes_of seats) in
-        shaped-both (leaf bytes SpaceOrTab (take n seats)) (flat_map (item_events bytes) (cut_remembering after_item (inline_item_at on) item_length (length seats) nothing_waits (drop n seats)))
-        (marker-shaped SpaceOrTab (take n seats)) (items-shaped (length seats) nothing_waits (drop n seats))
+        let first = after_item bytes (nothing_read seats) (white_space n) in
+        shaped-both (leaf bytes SpaceOrTab (take n seats)) (flat_map (item_events bytes) (cut_remembering (after_item bytes) (inline_item_at on defined bytes) item_length (length seats) first (drop n seats)))
+        (marker-shaped SpaceOrTab (take n seats)) (items-shaped (length seats) first (drop n seats))

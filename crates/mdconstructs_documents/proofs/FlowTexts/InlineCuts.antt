@@ -1,12 +1,8 @@
 -- The items of inline text can be cut into innermost spans, none of which goes over a line ending but at its end.
 use Rattle.markdown_base.proofs.Facts.Numbers.{unlike}
-use Rattle.mdconstructs_documents.proofs.Prelude.{◌≡◌, ℕ, ◌+◌, ◌≤◌, ◌&&◌, true, false, cond, List, [], ◌∷◌, length, take, drop, refl, sym, subst, arith, suc, Some, drop-map, drop-take, take-append-drop, prefix_len, and-right, every-map, Constructs, AttentionSequence, Data, LineEnding, SpaceOrTab, Seat, is_white, is_line_ending, autolink-cut, code-span-cut, EachThere, IsCut, OneLine, cut-append, cut-leaf, ItemCut, NoEnding, first-plain, one-taken, plain-add, plain-line, run-plain, escape-cut, backticks, is_backtick, is_line_feed, bytes_of, first_plain, item_events, email-cut, html-mark-cut, html-tag-cut, break-escape-cut, trailing-break-cut, reference-cut, white-space-cut, is_white_left, or_parts, begins_run, data_length, data_run, delimiter_run, ends_data, ends_data_at, inline_grammars, line_break, run_length, run_or_part, up_to, is_delimiter, leaf, Found}
-use Rattle.std.proofs.lemmas.List.{length-map}
+use Rattle.mdconstructs_documents.proofs.Prelude.{◌≡◌, ℕ, ◌+◌, ◌&&◌, true, false, cond, List, [], ◌∷◌, take, drop, refl, sym, subst, arith, suc, drop-map, drop-take, take-append-drop, prefix_len, and-right, every-map, Constructs, AttentionSequence, Data, LineEnding, SpaceOrTab, Seat, is_white, is_line_ending, autolink-cut, code-span-cut, EachThere, IsCut, OneLine, cut-append, cut-leaf, ItemCut, NoEnding, first-plain, one-taken, plain-add, plain-line, run-plain, escape-cut, backticks, is_backtick, is_line_feed, bytes_of, first_plain, item_events, email-cut, html-mark-cut, html-tag-cut, break-escape-cut, trailing-break-cut, reference-cut, white-space-cut, is_white_left, or_parts, begins_run, data_length, data_run, delimiter_run, ends_data, ends_data_at, inline_grammars, line_break, run_length, run_or_part, up_to, is_delimiter, leaf, Found}
 use Rattle.markdown_base.specs.declared.event.Name.TheVariants.{LabelEnd, LabelLink, LabelMarker}
-use Rattle.mdconstructs_inlines.proofs.BracketBytes.{tail-within}
 use Rattle.mdconstructs_inlines.specs.Brackets.{label_end, link_bracket, lone_end}
-use Rattle.mdconstructs_resources.proofs.Resources.Cuts.{resource-cut}
-use Rattle.mdconstructs_resources.specs.Resource.{resource_grammar}
 use Rattle.mdconstructs_text.proofs.DeepSpans.Atoms.{cut-span}
 use Rattle.mdconstructs_documents.proofs.Emphasis.RunAtoms.{AreDelimiters}
 use Rattle.mdconstructs_documents.proofs.FlowTexts.InlineSteps.{run-delimiters}
@@ -71,11 +67,10 @@ module _ (bytes : List ℕ) (on : Constructs) where
   pub lone-cut : (l : List Seat) → ItemCut bytes l lone_end
   lone-cut l = cut-leaf bytes LabelMarker (take 1 l) (one-taken l)
 
-  pub end-cut : (s : Seat) (ss : List Seat) (tail : Found) → resource_grammar.front (bytes_of ss) ≡ Some tail → ItemCut bytes (s ∷ ss) (label_end tail)
-  end-cut s ss tail is =
+  -- an end whose tail can be cut
+  pub end-cut : (s : Seat) (ss : List Seat) (tail : Found) → ItemCut bytes ss tail → ItemCut bytes (s ∷ ss) (label_end tail)
+  end-cut s ss tail cut =
       let one : suc tail.size ≡ 1 + tail.size = omega arith in
-      let many = length-map ss (λ (x : Seat). x.byte) in
-      let fits : tail.size ≤ length ss = (let within = tail-within (bytes_of ss) tail is in omega (arith, many, within)) in
       let m = s ∷ [] in
       let mark = cut-span bytes LabelEnd m (leaf bytes LabelMarker m) (cut-leaf bytes LabelMarker m tt) in
-      subst (λ n. IsCut bytes (item_events bytes (label_end tail, take n (s ∷ ss))) (take n (s ∷ ss))) one (cut-append bytes mark (resource-cut bytes ss tail fits is))
+      subst (λ n. IsCut bytes (item_events bytes (label_end tail, take n (s ∷ ss))) (take n (s ∷ ss))) one (cut-append bytes mark cut)

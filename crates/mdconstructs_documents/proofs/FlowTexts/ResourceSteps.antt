@@ -13,15 +13,15 @@ use Rattle.mdconstructs_documents.proofs.Emphasis.RunAtoms.{IsOther, is_special}
 use Rattle.mdconstructs_documents.proofs.FlowTexts.InlineSteps.{free-leaf, free-part, free-span, free-three}
 
 module _ (bytes : List ℕ) where
-  abbrev Others : List Event → Type 0
+  abbrev pub Others : List Event → Type 0
   Others es = AllByRecursion IsOther es
 
-  free-marked : (name mark : Name) (inside : List Event) (seats : List Seat) → is_special name ≡ false → is_special mark ≡ false → Others inside → Others (in_marks bytes name mark inside seats)
+  pub free-marked : (name mark : Name) (inside : List Event) (seats : List Seat) → is_special name ≡ false → is_special mark ≡ false → Others inside → Others (in_marks bytes name mark inside seats)
   free-marked name mark inside seats h k i =
       free-span 4 bytes name seats (leaf bytes mark (take 1 seats) ++ (inside ++ leaf bytes mark (drop (length seats - 1) seats))) h
       (free-three 4 bytes mark mark (take 1 seats) (drop (length seats - 1) seats) inside k k i)
 
-  free-lines : (ps : List (Part × List Seat)) → Others (flat_map (part_events bytes Data) ps)
+  pub free-lines : (ps : List (Part × List Seat)) → Others (flat_map (part_events bytes Data) ps)
   free-lines [] = tt
   free-lines (p ∷ ps) = every-append IsOther (part_events bytes Data p) (flat_map (part_events bytes Data) ps) (free-part 4 bytes Data refl p.0 p.1) (free-lines ps)
 

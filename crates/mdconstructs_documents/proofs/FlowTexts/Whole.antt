@@ -1,12 +1,18 @@
 -- The events of leaf blocks, with what their chains of texts and then of strings are read as, are those of leaf blocks with their texts; and so with inline text.
-use Rattle.mdconstructs_documents.proofs.Prelude.{[], ◌≡◌, ◌<◌, ◌∙◌, List, map, refl, ap, arith, subst, sym, Event, Given, IsText, Point, Seat, None, Some, Content, point, content_at, fitting_starts, with_children, HaveNoLinks, Text, empty_text, shown, AcrossGap, Course, text-course, Mark, flow_events, linked_from, inline-alone, string-alone, string_seat_events, chain_text, with_read, InlinesAreRead, flow_inlines, flow_read, inline_seat_events}
+use Rattle.mdconstructs_documents.proofs.Prelude.{[], ◌≡◌, ◌<◌, ◌∙◌, ℕ, Bool, List, map, refl, ap, arith, subst, sym, Event, Given, IsText, Point, Seat, None, Some, Content, point, content_at, fitting_starts, with_children, HaveNoLinks, Text, empty_text, shown, AcrossGap, Course, text-course, Mark, flow_events, linked_from, inline-alone, string-alone, string_seat_events, chain_text, with_read, InlinesAreRead, flow_read, inline_seat_events}
 use Rattle.markdown_base.specs.declared.event.Content.TheVariants as content
+use Rattle.mdconstructs_inlines.specs.InlineRules.{no_labels}
+use Rattle.mdconstructs_inlines.specs.LawStatements.{with_inlines, with_strings}
 use Rattle.mdconstructs_documents.proofs.FlowTexts.BlockSegments.{all-segments, by_content, string-segments, text-segments}
 use Rattle.mdconstructs_documents.proofs.FlowTexts.ChainsRead.{texts-read}
 
 -- a text with these virtual bytes
 abbrev text_over : List Seat → Text
 text_over seats = record (empty_text (point 1 1 0 0)) { seats = seats }
+
+-- leaf blocks with their inline text, by which labels are defined
+abbrev pub inlines_by : (defined : List ℕ → Bool) → Given → Text → List Event
+inlines_by defined g text = let on = g.options.constructs in flow_read (inline_seat_events defined on g.bytes) (string_seat_events on g.bytes) on g.bytes text.seats
 
 module _ (g : Given) (text : Text) (is : IsText g text) where
   some : 0 < g.tab
@@ -59,12 +65,16 @@ module _ (g : Given) (text : Text) (is : IsText g text) where
       links content.String = string_alone
       links content.Text = alone
 
-  -- inline text and strings
-  pub all-inlines-are-read : let on = g.options.constructs in
-      with_children None flat (map (λ c. by_content g.bytes (inline_seat_events on g.bytes) (string_seat_events on g.bytes) (content_at flat c) (chain_text g flat c).seats) (fitting_starts None flat)) ≡ flow_inlines on g.bytes text.seats
-  all-inlines-are-read =
-      all-is-read (inline_seat_events g.options.constructs g.bytes) (string_seat_events g.options.constructs g.bytes) refl refl (λ seats. inline-alone g (text_over seats)) (λ seats. string-alone g (text_over seats))
+  -- inline text and strings, by which labels are defined: at once, and one behind the other
+  module _ (defined : List ℕ → Bool) where
+    pub all-inlines-are-read : let on = g.options.constructs in
+        with_children None flat (map (λ c. by_content g.bytes (inline_seat_events defined on g.bytes) (string_seat_events on g.bytes) (content_at flat c) (chain_text g flat c).seats) (fitting_starts None flat)) ≡ inlines_by defined g text
+    all-inlines-are-read =
+        all-is-read (inline_seat_events defined g.options.constructs g.bytes) (string_seat_events g.options.constructs g.bytes) refl refl (λ seats. inline-alone defined g (text_over seats)) (λ seats. string-alone g (text_over seats))
+
+    pub inlines-are-read-by : with_strings g (with_inlines defined g flat) ≡ inlines_by defined g text
+    inlines-are-read-by =
+        flow-is-read (inline_seat_events defined g.options.constructs g.bytes) (string_seat_events g.options.constructs g.bytes) refl refl (λ seats. inline-alone defined g (text_over seats)) (λ seats. string-alone g (text_over seats))
 
 pub inlines-are-read : InlinesAreRead
-inlines-are-read g text is =
-    flow-is-read g text is (inline_seat_events g.options.constructs g.bytes) (string_seat_events g.options.constructs g.bytes) refl refl (λ seats. inline-alone g (text_over seats)) (λ seats. string-alone g (text_over seats))
+inlines-are-read g text is = inlines-are-read-by g text is no_labels

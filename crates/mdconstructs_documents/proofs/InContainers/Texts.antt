@@ -10,7 +10,8 @@ use Rattle.markdown_children.specs.Children.{child_changes}
 use Rattle.markdown_edits.proofs.Edits.Survivors.{stays_unless_removed}
 use Rattle.markdown_edits.specs.Woven.{of_list, place_in}
 use Rattle.mdconstructs_definitions.specs.Blocks.{document_blocks}
-use Rattle.mdconstructs_documents.specs.DocumentEvents.{document_texts}
+use Rattle.mdconstructs_inlines.specs.LawStatements.{with_inlines, with_strings as with_string_chunks}
+use Rattle.mdconstructs_documents.specs.DocumentEvents.{document_texts, is_defined_in}
 use Rattle.mdconstructs_documents.specs.Documents.{AreDocumentBlocks}
 use Rattle.mdconstructs_documents.specs.Runs.{HasOnlyTexts}
 use Rattle.mdconstructs_documents.proofs.FlowTexts.AllChildren.{read-at-once, read-string, read-text, read_at}
@@ -65,16 +66,16 @@ module _ (laws : SkeletonLaws) (g : Given) (is : IsDocument g) where
   ]
 
   -- ---- and are read as texts, and then as strings
-  abbrev reads : ℕ → List Event
-  reads c = read_at g is blocks blocks-textual (ready-for laws g is TextContent) (ready-for laws g is StringContent) c
+  abbrev reads : (defined : List ℕ → Bool) → ℕ → List Event
+  reads defined c = read_at g is blocks blocks-textual (ready-for laws g is TextContent) (ready-for laws g is StringContent) defined c
 
-  pub texts-at-once : (defined : List ℕ → Bool) (new : List Event) (sub : Subresult) → IsSubtokenized g (inlines_rules defined) None blocks new sub → new ≡ document_texts g
+  pub texts-at-once : (defined : List ℕ → Bool) (new : List Event) (sub : Subresult) → IsSubtokenized g (inlines_rules defined) None blocks new sub → new ≡ with_string_chunks g (with_inlines defined g blocks)
   texts-at-once defined new sub h =
       read-at-once g is blocks blocks-textual (ready-for laws g is TextContent) (ready-for laws g is StringContent) defined new sub h
-      ∙ all-at-once g blocks all-ready TextContent StringContent refl refl refl refl blocks-textual (inline_events g) (string_events g) (inline-alone g) (string-alone g) reads
-      (read-text g is blocks blocks-textual (ready-for laws g is TextContent) (ready-for laws g is StringContent))
-      (read-string g is blocks blocks-textual (ready-for laws g is TextContent) (ready-for laws g is StringContent))
-      (all-texts laws g is IsBalanced (λ text one. (inline-orderly g text one).balanced)) (texts-torn laws g is inlines-hold-text)
+      ∙ all-at-once g blocks all-ready TextContent StringContent refl refl refl refl blocks-textual (inline_events defined g) (string_events g) (inline-alone defined g) (string-alone g) (reads defined)
+      (read-text g is blocks blocks-textual (ready-for laws g is TextContent) (ready-for laws g is StringContent) defined)
+      (read-string g is blocks blocks-textual (ready-for laws g is TextContent) (ready-for laws g is StringContent) defined)
+      (all-texts laws g is defined IsBalanced (λ text one. (inline-orderly defined g text one).balanced)) (texts-torn laws g is defined inlines-hold-text)
 
 -- what is made of the blocks of a document
 module _ (laws : SkeletonLaws) (options : ParseOptions) (bytes : List ℕ) (is : IsDocument (document options bytes)) (blocks : List Event) (are : AreDocumentBlocks options bytes blocks) where
@@ -84,6 +85,11 @@ module _ (laws : SkeletonLaws) (options : ParseOptions) (bytes : List ℕ) (is :
   pub blocks-have-texts : HasOnlyTexts blocks
   blocks-have-texts = subst HasOnlyTexts (sym are) (blocks-textual laws (document options bytes) is)
 
-  pub texts-of-document : (defined : List ℕ → Bool) (new : List Event) → HasChildren (inlines_rules defined) options bytes None blocks new → new ≡ document_texts (document options bytes)
-  texts-of-document defined new h =
-      texts-at-once laws (document options bytes) is defined new h.1.0 (subst (λ (es : List Event). IsSubtokenized (document options bytes) (inlines_rules defined) None es new h.1.0) are h.1.1)
+  -- by labels that are those of the document
+  pub texts-of-document : (defined : List ℕ → Bool) → ((label : List ℕ) → defined label ≡ is_defined_in (document options bytes) label) → (new : List Event) → HasChildren (inlines_rules defined) options bytes None blocks new
+      → new ≡ document_texts (document options bytes)
+  texts-of-document defined same new h =
+      let g = document options bytes in
+      let labels : defined ≡ is_defined_in g = λ i label. same label i in
+      texts-at-once laws g is defined new h.1.0 (subst (λ (es : List Event). IsSubtokenized g (inlines_rules defined) None es new h.1.0) are h.1.1)
+      ∙ ap (λ d. with_string_chunks g (with_inlines d g (document_blocks g))) labels

@@ -1,5 +1,5 @@
 -- The events of a document are balanced, at places and in order of these: so are its blocks, and so is what texts and strings are read as.
-use Rattle.mdconstructs_documents.proofs.Prelude.{◌≡◌, ℕ, List, [], ◌∷◌, ◌++◌, Some, true, length, map, range_with_len, sym, subst, AllByRecursion, append-nil, every-map, Content, StringContent, TextContent, Event, Point, IsBalanced, IsInOrder, IsVoidTight, tight-at, IsPointOf, IsShown, end_after, AreAtPlaces, HaveNoLinks, begins, chain_of, fitting_starts, with_children, IsReady, IsWellFormed, Given, IsDocument, IsText, Text, shown, AcrossGap, Course, course-every, text-course, Formed, Place, chain_text, inline_events, string_events, inline-alone, string_seat_events, inline_seat_events}
+use Rattle.mdconstructs_documents.proofs.Prelude.{◌≡◌, ℕ, Bool, List, [], ◌∷◌, ◌++◌, Some, true, length, map, range_with_len, sym, subst, AllByRecursion, append-nil, every-map, Content, StringContent, TextContent, Event, Point, IsBalanced, IsInOrder, IsVoidTight, tight-at, IsPointOf, IsShown, end_after, AreAtPlaces, HaveNoLinks, begins, chain_of, fitting_starts, with_children, IsReady, IsWellFormed, Given, IsDocument, IsText, Text, shown, AcrossGap, Course, course-every, text-course, Formed, Place, chain_text, inline_events, string_events, inline-alone, string_seat_events, inline_seat_events}
 use Rattle.std.proofs.lemmas.List.Elements.{All-from_recursion}
 use Rattle.std.specs.List.{AllZip}
 use Rattle.markdown_base.proofs.Orders.{order-pairs}
@@ -11,12 +11,12 @@ use Rattle.markdown_children.specs.LawStatements.{IsWholeFrom}
 use Rattle.markdown_edits.proofs.Balanced.{balanced_from_open}
 use Rattle.mdconstructs_documents.proofs.InContainers.Skeletons.{SkeletonLaws}
 use Rattle.mdconstructs_definitions.specs.Blocks.{document_blocks, document_skeleton}
-use Rattle.mdconstructs_inlines.specs.LawStatements.{with_inlines}
+use Rattle.mdconstructs_inlines.specs.LawStatements.{with_inlines, with_strings as with_string_chunks}
 use Rattle.mdconstructs_text.proofs.Paragraphs.ChainEvents.{all-begin, is-text}
 use Rattle.mdconstructs_strings.proofs.Kept.{strings_keep}
 use Rattle.mdconstructs_strings.proofs.Orders.{keep_order}
 use Rattle.mdconstructs_strings.proofs.Places.{stand_at_places}
-use Rattle.mdconstructs_documents.specs.DocumentEvents.{document_events, document_texts}
+use Rattle.mdconstructs_documents.specs.DocumentEvents.{document_events, document_texts, is_defined_in}
 use Rattle.mdconstructs_documents.proofs.FlowTexts.Accounts.{bare-marks}
 use Rattle.mdconstructs_documents.proofs.FlowTexts.Forms.{string-forms}
 use Rattle.mdconstructs_documents.proofs.FlowTexts.InlineForms.{inline-forms}
@@ -56,13 +56,6 @@ module _ (g : Given) (text : Text) (is : IsText g text) where
   whole-steps : AllByRecursion (Steps g.bytes) text.seats
   whole-steps = course-every AcrossGap g.tab g.bytes (Steps g.bytes) (steps-virtual g.bytes g.tab) from text.seats (text-course g text is)
 
-  pub inline-orderly : IsOrderly g.tab g.bytes (inline_events g text)
-  inline-orderly =
-      let on = g.options.constructs in
-      let formed = inline-forms g.tab g.bytes on text.seats whole-steps from [] whole-course in
-      let to = end_after from text.seats in
-      formed-orderly g.tab g.bytes from (inline_events g text) to (subst (λ l. Formed g.tab g.bytes from l to) (bare-marks (inline_seat_events on g.bytes text.seats)) formed)
-
   pub string-orderly : IsOrderly g.tab g.bytes (string_events g text)
   string-orderly =
       let on = g.options.constructs in
@@ -76,6 +69,15 @@ module _ (g : Given) (text : Text) (is : IsText g text) where
       let to = end_after from text.seats in
       let formed : Formed g.tab g.bytes from (string_events g text) to = subst (λ l. Formed g.tab g.bytes from l to) (bare-marks (string_seat_events on g.bytes text.seats)) (string-forms g.tab g.bytes on text.seats from [] whole-course) in
       tight-at (string_events g text) formed.tight
+
+-- so is inline text, by which labels are defined
+pub inline-orderly : (defined : List ℕ → Bool) (g : Given) (text : Text) → IsText g text → IsOrderly g.tab g.bytes (inline_events defined g text)
+inline-orderly defined g text is =
+    let on = g.options.constructs in
+    let start = from g text is in
+    let formed = inline-forms g.tab g.bytes on defined text.seats (whole-steps g text is) start [] (whole-course g text is) in
+    let to = end_after start text.seats in
+    formed-orderly g.tab g.bytes start (inline_events defined g text) to (subst (λ l. Formed g.tab g.bytes start l to) (bare-marks (inline_seat_events defined on g.bytes text.seats)) formed)
 
 -- ---- chains of a content, each read so
 module _ (g : Given) (is : IsDocument g) (content : Content) (events : List Event) (ready : IsReady g.tab g.bytes (Some content) events) (reads : Text → List Event)
@@ -123,37 +125,42 @@ module _ (laws : SkeletonLaws) (g : Given) (is : IsDocument g) where
   pub content-ready : (wanted : Content) → IsReady g.tab g.bytes (Some wanted) blocks
   content-ready wanted = blocks-ready laws g is (Some wanted) (each-ready g.tab g.bytes (document_skeleton g) (laws.all_ready g is) wanted)
 
-  inline-stands : (At : Point → Type 0) (text : Text) → IsText g text → AllByRecursion (EndsAt At g.bytes) text.seats → AllByRecursion (λ (e : Event). At e.point) (inline_events g text)
-  inline-stands At text one ends = inline-at At g.bytes g.tab g.options.constructs text.seats (shown g.bytes text.start) [] (whole-course g text one) (whole-steps g text one) ends
-
   string-stands : (At : Point → Type 0) (text : Text) → IsText g text → AllByRecursion (EndsAt At g.bytes) text.seats → AllByRecursion (λ (e : Event). At e.point) (string_events g text)
   string-stands At text one ends = string-at At g.bytes g.options.constructs text.seats ends
 
   blocks-orderly : IsOrderly g.tab g.bytes blocks
   blocks-orderly = let h = blocks-well laws g is in record { balanced = h.balanced; at_places = h.at_places; in_order = h.in_order }
 
-  inlines-orderly : IsOrderly g.tab g.bytes (with_inlines g blocks)
-  inlines-orderly = read-orderly g is TextContent blocks (content-ready TextContent) (inline_events g) (inline-orderly g) inline-stands blocks-orderly
+  -- their texts and strings, by which labels are defined
+  module _ (defined : List ℕ → Bool) where
+    abbrev inlines : List Event
+    inlines = with_inlines defined g blocks
 
-  alone : (cs : List ℕ) → AllByRecursion HaveNoLinks (map (λ c. inline_events g (chain_text g blocks c)) cs)
-  alone [] = tt
-  alone (c ∷ cs) = (inline-alone g (chain_text g blocks c), alone cs)
+    inline-stands : (At : Point → Type 0) (text : Text) → IsText g text → AllByRecursion (EndsAt At g.bytes) text.seats → AllByRecursion (λ (e : Event). At e.point) (inline_events defined g text)
+    inline-stands At text one ends = inline-at At g.bytes defined g.tab g.options.constructs text.seats (shown g.bytes text.start) [] (whole-course g text one) (whole-steps g text one) ends
 
-  pub strings-ready : IsReady g.tab g.bytes (Some StringContent) (with_inlines g blocks)
-  strings-ready =
-      let starts = fitting_starts (Some TextContent) blocks in
-      let children = map (λ c. inline_events g (chain_text g blocks c)) starts in
-      stays-ready g.tab g.bytes (Some TextContent) blocks (content-ready TextContent) (Some StringContent) children (content-ready StringContent)
-      (all-balanced g is TextContent blocks (content-ready TextContent) (inline_events g) (inline-orderly g) inline-stands) (alone starts)
+    inlines-orderly : IsOrderly g.tab g.bytes inlines
+    inlines-orderly = read-orderly g is TextContent blocks (content-ready TextContent) (inline_events defined g) (inline-orderly defined g) inline-stands blocks-orderly
 
-  pub texts-orderly : IsOrderly g.tab g.bytes (document_texts g)
-  texts-orderly = read-orderly g is StringContent (with_inlines g blocks) strings-ready (string_events g) (string-orderly g) string-stands inlines-orderly
+    alone : (cs : List ℕ) → AllByRecursion HaveNoLinks (map (λ c. inline_events defined g (chain_text g blocks c)) cs)
+    alone [] = tt
+    alone (c ∷ cs) = (inline-alone defined g (chain_text g blocks c), alone cs)
+
+    pub strings-ready : IsReady g.tab g.bytes (Some StringContent) inlines
+    strings-ready =
+        let starts = fitting_starts (Some TextContent) blocks in
+        let children = map (λ c. inline_events defined g (chain_text g blocks c)) starts in
+        stays-ready g.tab g.bytes (Some TextContent) blocks (content-ready TextContent) (Some StringContent) children (content-ready StringContent)
+        (all-balanced g is TextContent blocks (content-ready TextContent) (inline_events defined g) (inline-orderly defined g) inline-stands) (alone starts)
+
+    pub texts-orderly : IsOrderly g.tab g.bytes (with_string_chunks g inlines)
+    texts-orderly = read-orderly g is StringContent inlines strings-ready (string_events g) (string-orderly g) string-stands inlines-orderly
 
   events-orderly : IsOrderly g.tab g.bytes (document_events g)
   events-orderly =
       let on = g.options.constructs in
       let texts = document_texts g in
-      let h = texts-orderly in
+      let h = texts-orderly (is_defined_in g) in
       record {
         balanced = (strings_keep on g.tab g.bytes texts).0 h.balanced;
         at_places = stand_at_places on g.tab g.bytes texts is.tab.0 h.at_places;

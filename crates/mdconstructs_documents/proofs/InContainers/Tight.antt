@@ -1,5 +1,5 @@
 -- Void spans of the events of a document are empty: there is text where something is between two chunks of a text, and strings are one chunk.
-use Rattle.mdconstructs_documents.proofs.Prelude.{◌≡◌, ℕ, ◌<◌, List, [], ◌∷◌, Option, Some, true, map, inl, ap, ◌∙◌, arith, AllByRecursion, Content, StringContent, TextContent, Event, IsVoidTight, begins, content_at, some_fits, fitting_starts, IsReady, Given, IsDocument, IsText, Text, chain_text, flow_events, blocks-meet, inline_events, string_events, inline-alone, tight-at}
+use Rattle.mdconstructs_documents.proofs.Prelude.{◌≡◌, ℕ, Bool, ◌<◌, List, [], ◌∷◌, Option, Some, true, map, inl, ap, ◌∙◌, arith, AllByRecursion, Content, StringContent, TextContent, Event, IsVoidTight, begins, content_at, some_fits, fitting_starts, IsReady, Given, IsDocument, IsText, Text, chain_text, flow_events, blocks-meet, inline_events, string_events, inline-alone, tight-at}
 use Rattle.std.specs.List.{AllZip}
 use Rattle.markdown_base.specs.declared.event.Content.TheVariants as content
 use Rattle.markdown_children.proofs.Parts.InShape.{children_fit}
@@ -10,10 +10,10 @@ use Rattle.markdown_children.specs.LawStatements.{NoneTorn}
 use Rattle.markdown_children.specs.NextContent.{CanBeReadNext, HasTextInGaps, HoldsOnlyText}
 use Rattle.mdconstructs_documents.proofs.InContainers.Skeletons.{SkeletonLaws}
 use Rattle.mdconstructs_definitions.specs.Blocks.{document_blocks}
-use Rattle.mdconstructs_inlines.specs.LawStatements.{with_inlines}
+use Rattle.mdconstructs_inlines.specs.LawStatements.{with_inlines, with_strings as with_string_chunks}
 use Rattle.mdconstructs_text.proofs.Paragraphs.ChainEvents.{all-begin, is-content, is-text}
 use Rattle.mdconstructs_strings.proofs.Kept.{strings_keep}
-use Rattle.mdconstructs_documents.specs.DocumentEvents.{DocumentEventsAreTight, document_texts}
+use Rattle.mdconstructs_documents.specs.DocumentEvents.{DocumentEventsAreTight, document_texts, is_defined_in}
 use Rattle.mdconstructs_documents.proofs.FlowChains.Blocks.{blocks-read-next}
 use Rattle.mdconstructs_documents.proofs.FlowTexts.InlineTight.{inline-tight}
 use Rattle.mdconstructs_documents.proofs.InContainers.Blocks.{bare, blocks-next, blocks_at, content-ready, shown, shown-is, shown-ready}
@@ -23,7 +23,7 @@ use Rattle.mdconstructs_documents.proofs.InContainers.TextsFormed.{content-ready
 
 -- Void spans of inline text hold bytes of the text alone
 abbrev pub InlinesHoldOnlyText : Type 0
-InlinesHoldOnlyText = (g : Given) (text : Text) → IsText g text → HoldsOnlyText g text (inline_events g text)
+InlinesHoldOnlyText = (defined : List ℕ → Bool) (g : Given) (text : Text) → IsText g text → HoldsOnlyText g text (inline_events defined g text)
 
 module _ (laws : SkeletonLaws) (g : Given) (is : IsDocument g) where
   -- ---- the blocks
@@ -86,73 +86,76 @@ module _ (laws : SkeletonLaws) (g : Given) (is : IsDocument g) where
   abbrev blocks : List Event
   blocks = document_blocks g
 
-  abbrev texts : List (List Event)
-  texts = map (λ c. inline_events g (chain_text g blocks c)) (fitting_starts (Some TextContent) blocks)
-
-  abbrev inlines : List Event
-  inlines = with_inlines g blocks
-
   text-ready : IsReady g.tab g.bytes (Some TextContent) blocks
   text-ready = blocks-ready-for laws g is TextContent
 
-  each-text : (P : List Event → Type 0) → ((text : Text) → IsText g text → P (inline_events g text)) → (cs : List ℕ) → AllByRecursion (λ c. begins (Some TextContent) blocks c ≡ true) cs
-      → AllByRecursion P (map (λ c. inline_events g (chain_text g blocks c)) cs)
-  each-text P holds [] b = tt
-  each-text P holds (c ∷ cs) b = (holds (chain_text g blocks c) (is-text g blocks is TextContent text-ready c b.0), each-text P holds cs b.1)
+  -- by which labels are defined
+  module _ (defined : List ℕ → Bool) where
+    abbrev texts : List (List Event)
+    texts = map (λ c. inline_events defined g (chain_text g blocks c)) (fitting_starts (Some TextContent) blocks)
 
-  pub all-texts : (P : List Event → Type 0) → ((text : Text) → IsText g text → P (inline_events g text)) → AllByRecursion P texts
-  all-texts P holds = each-text P holds (fitting_starts (Some TextContent) blocks) (all-begin g blocks is TextContent text-ready)
+    abbrev inlines : List Event
+    inlines = with_inlines defined g blocks
 
-  text-alone : (text : Text) → IsText g text → IsReady g.tab g.bytes (Some StringContent) (inline_events g text)
-  text-alone text one = alone-ready g.tab g.bytes (Some StringContent) (inline_events g text) (inline-orderly g text one).balanced (inline-alone g text)
+    each-text : (P : List Event → Type 0) → ((text : Text) → IsText g text → P (inline_events defined g text)) → (cs : List ℕ) → AllByRecursion (λ c. begins (Some TextContent) blocks c ≡ true) cs
+        → AllByRecursion P (map (λ c. inline_events defined g (chain_text g blocks c)) cs)
+    each-text P holds [] b = tt
+    each-text P holds (c ∷ cs) b = (holds (chain_text g blocks c) (is-text g blocks is TextContent text-ready c b.0), each-text P holds cs b.1)
 
-  module _ (hold : InlinesHoldOnlyText) where
-    can : (cs : List ℕ) → AllByRecursion (λ c. begins (Some TextContent) blocks c ≡ true) cs
-        → AllZip (λ c child. CanBeReadNext g (Some StringContent) (chain_text g blocks c) child) cs (map (λ c. inline_events g (chain_text g blocks c)) cs)
-    can [] b = tt
-    can (c ∷ cs) b =
-        let text = chain_text g blocks c in
-        let one = is-text g blocks is TextContent text-ready c b.0 in
-        let orderly = inline-orderly g text one in (
-          record {
-            ready = text-alone text one;
-            shown = λ i e within. (orderly.at_places i e within, orderly.in_order.1 i e within);
-            tight = tight-at (inline_events g text) (inline-tight g.options.constructs g.bytes text.seats);
-            whole = hold g text one;
-          },
-          can cs b.1,
-        )
+    pub all-texts : (P : List Event → Type 0) → ((text : Text) → IsText g text → P (inline_events defined g text)) → AllByRecursion P texts
+    all-texts P holds = each-text P holds (fitting_starts (Some TextContent) blocks) (all-begin g blocks is TextContent text-ready)
 
-    pub texts-torn : NoneTorn (Some TextContent) blocks texts
-    texts-torn =
-        let tab = is.tab.0 in
-        let some : 0 < g.tab = omega (arith, tab) in
-        none-torn g some (Some TextContent) blocks text-ready (Some StringContent) texts (blocks-gaps TextContent) (can (fitting_starts (Some TextContent) blocks) (all-begin g blocks is TextContent text-ready))
+    text-alone : (text : Text) → IsText g text → IsReady g.tab g.bytes (Some StringContent) (inline_events defined g text)
+    text-alone text one = alone-ready g.tab g.bytes (Some StringContent) (inline_events defined g text) (inline-orderly defined g text one).balanced (inline-alone defined g text)
 
-    inlines-tight : IsVoidTight inlines
-    inlines-tight =
-        (children_fit g.tab g.bytes (Some TextContent) blocks text-ready texts).tight (blocks-well laws g is).void_tight
-        (all-texts IsVoidTight (λ text one. tight-at (inline_events g text) (inline-tight g.options.constructs g.bytes text.seats))) texts-torn
+    module _ (hold : InlinesHoldOnlyText) where
+      can : (cs : List ℕ) → AllByRecursion (λ c. begins (Some TextContent) blocks c ≡ true) cs
+          → AllZip (λ c child. CanBeReadNext g (Some StringContent) (chain_text g blocks c) child) cs (map (λ c. inline_events defined g (chain_text g blocks c)) cs)
+      can [] b = tt
+      can (c ∷ cs) b =
+          let text = chain_text g blocks c in
+          let one = is-text g blocks is TextContent text-ready c b.0 in
+          let orderly = inline-orderly defined g text one in (
+            record {
+              ready = text-alone text one;
+              shown = λ i e within. (orderly.at_places i e within, orderly.in_order.1 i e within);
+              tight = tight-at (inline_events defined g text) (inline-tight defined g.options.constructs g.bytes text.seats);
+              whole = hold defined g text one;
+            },
+            can cs b.1,
+          )
 
-    pub inlines-lone : HasLoneChunks (Some StringContent) inlines
-    inlines-lone =
-        stay-lone g.tab g.bytes (Some TextContent) blocks text-ready texts (Some StringContent) (blocks-ready-for laws g is StringContent) (all-texts (IsReady g.tab g.bytes (Some StringContent)) text-alone)
-        (none-cut (Some TextContent) blocks texts texts-torn) blocks-lone (all-texts (HasLoneChunks (Some StringContent)) (λ text one. alone-lone (Some StringContent) (inline_events g text) (inline-alone g text)))
+      pub texts-torn : NoneTorn (Some TextContent) blocks texts
+      texts-torn =
+          let tab = is.tab.0 in
+          let some : 0 < g.tab = omega (arith, tab) in
+          none-torn g some (Some TextContent) blocks text-ready (Some StringContent) texts (blocks-gaps TextContent) (can (fitting_starts (Some TextContent) blocks) (all-begin g blocks is TextContent text-ready))
 
-    -- ---- and their strings
-    string-ready : IsReady g.tab g.bytes (Some StringContent) inlines
-    string-ready = strings-ready laws g is
+      inlines-tight : IsVoidTight inlines
+      inlines-tight =
+          (children_fit g.tab g.bytes (Some TextContent) blocks text-ready texts).tight (blocks-well laws g is).void_tight
+          (all-texts IsVoidTight (λ text one. tight-at (inline_events defined g text) (inline-tight defined g.options.constructs g.bytes text.seats))) texts-torn
 
-    each-string : (cs : List ℕ) → AllByRecursion (λ c. begins (Some StringContent) inlines c ≡ true) cs → AllByRecursion IsVoidTight (map (λ c. string_events g (chain_text g inlines c)) cs)
-    each-string [] b = tt
-    each-string (c ∷ cs) b = (string-tight g (chain_text g inlines c) (is-text g inlines is StringContent string-ready c b.0), each-string cs b.1)
+      pub inlines-lone : HasLoneChunks (Some StringContent) inlines
+      inlines-lone =
+          stay-lone g.tab g.bytes (Some TextContent) blocks text-ready texts (Some StringContent) (blocks-ready-for laws g is StringContent) (all-texts (IsReady g.tab g.bytes (Some StringContent)) text-alone)
+          (none-cut (Some TextContent) blocks texts texts-torn) blocks-lone
+          (all-texts (HasLoneChunks (Some StringContent)) (λ text one. alone-lone (Some StringContent) (inline_events defined g text) (inline-alone defined g text)))
 
-    pub texts-tight : IsVoidTight (document_texts g)
-    texts-tight =
-        let starts = fitting_starts (Some StringContent) inlines in
-        let strings = map (λ c. string_events g (chain_text g inlines c)) starts in
-        (children_fit g.tab g.bytes (Some StringContent) inlines string-ready strings).tight inlines-tight
-        (each-string starts (all-begin g inlines is StringContent string-ready)) (lone-untorn g.tab g.bytes (Some StringContent) inlines string-ready inlines-lone strings)
+      -- ---- and their strings
+      string-ready : IsReady g.tab g.bytes (Some StringContent) inlines
+      string-ready = strings-ready laws g is defined
+
+      each-string : (cs : List ℕ) → AllByRecursion (λ c. begins (Some StringContent) inlines c ≡ true) cs → AllByRecursion IsVoidTight (map (λ c. string_events g (chain_text g inlines c)) cs)
+      each-string [] b = tt
+      each-string (c ∷ cs) b = (string-tight g (chain_text g inlines c) (is-text g inlines is StringContent string-ready c b.0), each-string cs b.1)
+
+      pub texts-tight : IsVoidTight (with_string_chunks g inlines)
+      texts-tight =
+          let starts = fitting_starts (Some StringContent) inlines in
+          let strings = map (λ c. string_events g (chain_text g inlines c)) starts in
+          (children_fit g.tab g.bytes (Some StringContent) inlines string-ready strings).tight inlines-tight
+          (each-string starts (all-begin g inlines is StringContent string-ready)) (lone-untorn g.tab g.bytes (Some StringContent) inlines string-ready inlines-lone strings)
 
 pub events-tight : SkeletonLaws → InlinesHoldOnlyText → DocumentEventsAreTight
-events-tight laws hold g is = (strings_keep g.options.constructs g.tab g.bytes (document_texts g)).2 (texts-tight laws g is hold)
+events-tight laws hold g is = (strings_keep g.options.constructs g.tab g.bytes (document_texts g)).2 (texts-tight laws g is (is_defined_in g) hold)
