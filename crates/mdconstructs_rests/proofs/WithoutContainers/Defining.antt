@@ -1,14 +1,20 @@
--- A document that defines nothing has the blocks of its containers alone.
-use Rattle.mdconstructs_rests.proofs.Prelude.{◌≡◌, ℕ, List, [], ◌∷◌, Bool, true, false, refl, sym, and-left, and-right, AllByRecursion}
+-- A document that defines nothing has the blocks of its containers alone, and no label is defined in it.
+use Rattle.mdconstructs_rests.proofs.Prelude.{◌≡◌, ℕ, List, [], ◌∷◌, Bool, true, false, map, refl, sym, ap, and-left, and-right, AllByRecursion}
 use Rattle.std.specs.Prelude.{◌||◌, not}
 use Rattle.std.specs.List.{list_all}
 use Rattle.markdown_base.specs.declared.configuration.ParseOptions.{ParseOptions}
+use Rattle.markdown_tokenizer.specs.Text.{Given}
 use Rattle.mdconstructs_containers.specs.Blocks.{document_blocks}
 use Rattle.mdconstructs_containers.specs.Rows.{Row, rest_of, rows}
-use Rattle.mdconstructs_definitions.proofs.Without.{blocks-can-be-without, blocks-need-brackets}
+use Rattle.mdconstructs_definitions.proofs.Without.{blocks-can-be-without, blocks-need-brackets, definitions-can-be-off, definitions-need-brackets}
 use Rattle.mdconstructs_definitions.specs.Blocks as defined
-use Rattle.mdconstructs_definitions.specs.Laws.{HasNoBracket, begins_with_bracket}
+use Rattle.mdconstructs_definitions.specs.Labelled.{is_one_of}
+use Rattle.mdconstructs_definitions.specs.Laws.{HasNoBracket, NothingIsDefined, begins_with_bracket}
+use Rattle.mdconstructs_definitions.specs.Skeleton.{written_labels}
+use Rattle.mdconstructs_documents.specs.DocumentEvents.{is_defined_in}
 use Rattle.mdconstructs_documents.specs.Documents.{document, virtual_bytes}
+use Rattle.mdconstructs_inlines.specs.InlineRules.{no_labels}
+use Rattle.mdconstructs_labels.specs.Labels.{normalised}
 use Rattle.mdconstructs_machines.specs.LineEvents.{lines_in}
 use Rattle.mdconstructs_rests.specs.WithoutContainers.{defines_nothing}
 
@@ -23,12 +29,33 @@ every-bare (row ∷ all) h =
     let more = list_all (λ (other : Row). not (begins_with_bracket (rest_of other))) all in
     (is-other (begins_with_bracket (rest_of row)) (and-left here more h), every-bare all (and-right here more h))
 
-pub nothing-defined : (options : ParseOptions) (bytes : List ℕ) → defines_nothing options bytes ≡ true → defined.document_blocks (document options bytes) ≡ document_blocks (document options bytes)
-nothing-defined options bytes = by options.constructs.definition refl
-  where
-    bare : Bool
-    bare = list_all (λ (row : Row). not (begins_with_bracket (rest_of row))) (rows options.constructs (lines_in (virtual_bytes options bytes)))
+-- so its definitions are none, and their labels are none
+none-normalised : (labels : List (List ℕ)) → map normalised labels ≡ [] → labels ≡ []
+none-normalised [] h = refl
+none-normalised (label ∷ labels) h = absurd (cc)
 
-    by : (b : Bool) → options.constructs.definition ≡ b → (not b || bare) ≡ true → defined.document_blocks (document options bytes) ≡ document_blocks (document options bytes)
-    by false off h = blocks-can-be-without (document options bytes) off
-    by true on h = blocks-need-brackets (document options bytes) (every-bare (rows options.constructs (lines_in (virtual_bytes options bytes))) h)
+module _ (options : ParseOptions) (bytes : List ℕ) (nothing : defines_nothing options bytes ≡ true) where
+  abbrev g : Given
+  g = document options bytes
+
+  abbrev bare : Bool
+  bare = list_all (λ (row : Row). not (begins_with_bracket (rest_of row))) (rows options.constructs (lines_in (virtual_bytes options bytes)))
+
+  -- what holds where definitions are off, and where no line has a bracket in front, holds
+  by : (P : Type 0) → (options.constructs.definition ≡ false → P) → (AllByRecursion HasNoBracket (rows options.constructs (lines_in (virtual_bytes options bytes))) → P) → P
+  by P off none = cases options.constructs.definition refl nothing
+    where
+      cases : (b : Bool) → options.constructs.definition ≡ b → (not b || bare) ≡ true → P
+      cases false e h = off e
+      cases true e h = none (every-bare (rows options.constructs (lines_in (virtual_bytes options bytes))) h)
+
+  pub nothing-defined : defined.document_blocks g ≡ document_blocks g
+  nothing-defined = by (defined.document_blocks g ≡ document_blocks g) (blocks-can-be-without g) (blocks-need-brackets g)
+
+  -- no label is defined
+  pub no-label-defined : is_defined_in g ≡ no_labels
+  no-label-defined =
+      let on = options.constructs in
+      let seats = virtual_bytes options bytes in
+      let none : NothingIsDefined on bytes seats = by (NothingIsDefined on bytes seats) (λ off. definitions-can-be-off on off bytes seats) (definitions-need-brackets on bytes seats) in
+      ap is_one_of (none-normalised (written_labels on seats) none.no_labels)

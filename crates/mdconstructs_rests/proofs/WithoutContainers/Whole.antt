@@ -6,7 +6,6 @@ use Rattle.std.proofs.lemmas.Option.{none-some, slice_get_within}
 use Rattle.markdown_base.proofs.Common.{every-append}
 use Rattle.markdown_base.specs.declared.event.Content.{Content}
 use Rattle.markdown_base.specs.declared.event.Content.TheVariants as content
-use Rattle.markdown_base.specs.declared.event.Name.{Name}
 use Rattle.markdown_base.specs.declared.event.Name.TheVariants as name
 use Rattle.markdown_base.specs.Events.{EndsBelow}
 use Rattle.markdown_base.specs.Places.{in_range}
@@ -45,14 +44,15 @@ use Rattle.mdconstructs_documents.proofs.FlowTexts.Chunks.{chain-is, chain-next,
 use Rattle.mdconstructs_documents.proofs.FlowTexts.Segments.{HasByte, IsKept}
 use Rattle.mdconstructs_documents.proofs.FlowTexts.Whole.{inlines-are-read}
 use Rattle.mdconstructs_documents.proofs.InContainers.Merged.{IsBare}
-use Rattle.mdconstructs_documents.specs.DocumentEvents.{document_events, document_texts}
+use Rattle.mdconstructs_documents.specs.DocumentEvents.{document_events, document_texts, is_defined_in}
 use Rattle.mdconstructs_documents.specs.Documents.{document}
 use Rattle.mdconstructs_documents.specs.FlowTexts.{flow_inlines}
+use Rattle.mdconstructs_inlines.specs.InlineRules.{no_labels}
 use Rattle.mdconstructs_inlines.specs.LawStatements.{with_inlines, with_strings as with_string_chunks}
 use Rattle.mdconstructs_strings.specs.Strings.{with_strings}
 use Rattle.mdconstructs_rests.proofs.Events.{full-lines, in-blocks}
 use Rattle.mdconstructs_rests.proofs.Links.{blocks-link-back}
-use Rattle.mdconstructs_rests.proofs.WithoutContainers.Defining.{nothing-defined}
+use Rattle.mdconstructs_rests.proofs.WithoutContainers.Defining.{no-label-defined, nothing-defined}
 use Rattle.mdconstructs_rests.proofs.WithoutContainers.CutOff.{IsCutOff, IsPlain, cut-off}
 use Rattle.mdconstructs_rests.proofs.WithoutContainers.OneChild.{IsFresh, linked-on, meet-below, moved_on, one-changed, placed-unlinked}
 use Rattle.mdconstructs_rests.proofs.WithoutContainers.PlainParts.{marks-alone, parts-alone, whole_marks}
@@ -253,9 +253,10 @@ module _ (g : Given) (is : IsDocument g) where
         ∙ read-by cut.front cut.back cut.seats cut.before cut.behind cut.front_plain cut.back_plain (sym (lines-are-all (virtual g.tab g.bytes)) ∙ cut.whole) (ap (chained_from 0 None) (marks-are ∙ cut.skeleton))
         ∙ ap (linked_from 0) (sym cut.blocks)
 
-    module _ (same : defined.document_blocks g ≡ document_blocks g) where
+    module _ (same : defined.document_blocks g ≡ document_blocks g) (nothing : is_defined_in g ≡ no_labels) where
       texts-are : document_texts g ≡ flow_inlines on g.bytes (virtual g.tab g.bytes)
-      texts-are = ap (λ l. with_string_chunks g (with_inlines g l)) (same ∙ blocks-are) ∙ inlines-are-read g (whole_text g) (whole-is-text g is)
+      texts-are =
+          (λ i. with_string_chunks g (with_inlines (nothing i) g ((same ∙ blocks-are) i))) ∙ inlines-are-read g (whole_text g) (whole-is-text g is)
 
       pub events-are : document_events g ≡ with_strings on g.tab g.bytes (flow_inlines on g.bytes (virtual g.tab g.bytes))
       events-are = ap (with_strings on g.tab g.bytes) texts-are
@@ -264,4 +265,4 @@ pub documents-without-containers : DocumentsWithoutContainers
 documents-without-containers options bytes is none nothing =
     let g = document options bytes in
     let same = nothing-defined options bytes nothing in
-    (same ∙ blocks-are g is none, events-are g is none same)
+    (same ∙ blocks-are g is none, events-are g is none same (no-label-defined options bytes nothing))
