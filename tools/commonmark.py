@@ -78,7 +78,13 @@ def reference(marked):
 
 def address(text):
     """An address as an attribute has it."""
-    return escaped(urllib.parse.quote(text, safe="-_.+!*(),%#@?=;:/$~&'"))
+    return escaped(urllib.parse.quote(text, safe="-_.+!*(),%#@?=;:/$~&'")).replace("'", "&#x27;")
+
+
+class Document(bytes):
+    """A document's bytes, with what its definitions say: a target and a title, or None, by the label in the form by which labels are compared."""
+
+    definitions = {}
 
 
 class Inline:
@@ -126,10 +132,14 @@ class Inline:
 
     def link(self, span):
         """A link, or an image, whose text is shown without tags."""
-        # (the resource behind the label: one in the label's text is of another link)
-        tail = [it for it in span.inner if it.name == "Resource"]
-        target, title = (plain(self.document, last[0].inner) if tail and (last := found(tail[0], f"Resource{name}String")) else None for name in ("Destination", "Title"))
+        # (the tail behind the label: one in the label's text is of another link)
+        tail = [it for it in span.inner if it.name in ("Resource", "Reference")]
         text = [it for label in span.inner if label.name == "Label" for inner in label.inner if inner.name == "LabelText" for it in inner.inner]
+        if tail and tail[0].name == "Resource":
+            target, title = parts(self.document, tail[0], "Resource")
+        else:
+            label = found(tail[0], "ReferenceString") if tail else []
+            target, title = self.document.definitions[normal(spelled(self.document, label[0].inner if label else text))]
         attribute = "" if title is None else f' title="{escaped(title)}"'
         if span.name == "Link":
             self.write(f'<a href="{address(target or "")}"{attribute}>')
@@ -163,6 +173,32 @@ def bytes_of(document, span):
     width = TAB - (column - vs - 1) % TAB
     first = " " * (width - vs) if vs else ""
     return first + document[start + (vs > 0) : end].decode("utf-8", "replace") + " " * end_vs
+
+
+def spelled(document, spans):
+    """The bytes of a label, as they are written: those of its innermost spans, without the prefixes of containers."""
+    return "".join(spelled(document, it.inner) if it.inner else bytes_of(document, it) for it in spans if it.name != "BlockQuotePrefix")
+
+
+def normal(label):
+    """The form by which labels are compared."""
+    return " ".join(label.split()).lower().upper()
+
+
+def parts(document, span, kind):
+    """The target and the title of a resource or a definition; None for one that is not there."""
+    return tuple(plain(document, last[0].inner) if (last := found(span, f"{kind}{name}String")) else None for name in ("Destination", "Title"))
+
+
+def definitions_in(document, spans):
+    """What the definitions of a document say, by their labels. The first one of a label counts."""
+    known = {}
+    for span in spans:
+        more = definitions_in(document, span.inner)
+        if span.name == "Definition":
+            more = {normal(spelled(document, found(span, "DefinitionLabelString")[0].inner)): parts(document, span, "Definition")}
+        known = {**more, **known}
+    return known
 
 
 def plain(document, spans):
@@ -313,7 +349,10 @@ def block(document, span):
 
 def rendered(document, printed):
     """The HTML of a document whose events are printed so."""
-    return "".join(block(document, span) for span in spans_of(printed))
+    spans = spans_of(printed)
+    document = Document(document)
+    document.definitions = definitions_in(document, spans)
+    return "".join(block(document, span) for span in spans)
 
 
 def events_of(document, program, machine):

@@ -9,7 +9,7 @@ taken out of the whole document, and if that still differs, the next one is soug
 It prints a row for each cause: how many documents, the smallest one, who is right, and by which words. The status is 1 if a difference has
 no name; its document is shown.
 
-usage: tools/random_documents.py PROGRAM COUNT [--seed S] [--machine NAME] [--cmark CMARK] [--show K] [--pieces N] [--wide] [--links] [--definitions] [--jobs J]
+usage: tools/random_documents.py PROGRAM COUNT [--seed S] [--machine NAME] [--cmark CMARK] [--show K] [--pieces N] [--wide] [--links] [--definitions] [--references] [--jobs J]
   PROGRAM         mdevents, or what prints events as it does
   COUNT           how many documents
   --seed S        the seed of the first one; without it, 1
@@ -18,8 +18,9 @@ usage: tools/random_documents.py PROGRAM COUNT [--seed S] [--machine NAME] [--cm
   --show K        the first K that differ, each with its causes; without it, none
   --pieces N      at most N pieces in a document; without it, 24
   --wide          more kinds of pieces: each kind of HTML, wide and long markers, CR LF, inline text
-  --links         brackets, and what stands behind them; no definitions, escapes or references
+  --links         brackets, and what stands behind them; no escapes and character references
   --definitions   link reference definitions and parts of them, each with a label of its own, which nothing refers to
+  --references    definitions of a few labels, and what refers to these: full, collapsed and shortcut references, of links and of images
   --jobs J        so many documents at once; without it, 1
 """
 
@@ -46,6 +47,10 @@ LINES_TOO += ["</script>", "<!-- a -->", "<?", "?>", "<!A ", "<![CDATA[", "]]>"]
 LINKS = ["[", "]", "](", ")", "![", "[a](b)", "![a](b)", "](b \"c", "\")", "](<", ">)", "[a *b](c)", "*", "(", "](b\n\"c\")"]
 # what --definitions adds; `@` is another label each time
 DEFINITIONS = ["[@]: /b", "\n[@]: /b\n", "[@]: <b c> 'd'", "[@]:", "[@", "\n[@]: b \"c\nd\"\n", "]:", "\n/b", " 'c'\n", "\n\"c\"\n", "(c", ")", " x\n"]
+# what --references adds: `r` and `r s` are defined in some documents, `u` is in none
+REFERENCES = ["[r]", "[R]", "[x][r]", "[r][]", "![r]", "![x][R]", "[r s]", "[R\ns]", "[x][R  s]", "[x][u]", "[r][u]", "[u][r]", "[u]", "[r][ ]", "[ ]"]
+REFERENCES += ["[", "]", "][r]", "][]", "![", "[r][", "[x *y][r]", "*", "[r](b)", "[r](", "\\[", "\\]", "`", "[`r`]", "[[r]]", "[x [r]][r]", "[r]b"]
+REFERENCES += ["[r]: /b", "\n[r]: /b 'c'\n", "\n[R s]: <d>\n", "\n\n[r]: <d> \"e\nf\"\n", "\n[r\ns]: /g\n", "\n\n> [r]: /h\n", "[R]: i\n", "[u"]
 
 MARKER = rb"(?:[-+*]|\d{1,9}[.)])"
 # what begins HTML that a blank line does not end
@@ -89,6 +94,8 @@ CAUSES = [
           rb"\n[ \t>]*[ \t]\S", put(rb"\1", rb"(?<=\n)((?: {0,3}>)*)[ \t]+(?=\S)")),
     Cause("an escaped `&` begins what would be a reference, in an info string", "here", "2.4: what is escaped has not its meaning for Markdown",
           INFO, put(rb"\1 ", INFO)),
+    Cause("white space alone is between brackets behind a reference by its own label", "here", "6.3: a label has a character that is no white space",
+          rb"\]\[[ \t\n]+\]", put(rb"] [ ]", rb"\]\[[ \t\n]+\]")),
     Cause("a declaration begins with a small letter", "here", "4.6: `<!` and an ASCII letter", DECLARATION, put(rb"<! ", DECLARATION)),
 ]
 
@@ -104,13 +111,15 @@ def labelled(made):
     return [re.sub("@", lambda _: f"l{next(numbers)}", it) for it in made]
 
 
-def one(generator, pieces, wide, links=False, definitions=False):
+def one(generator, pieces, wide, links=False, definitions=False, references=False):
     """A random document."""
     containers, lines = (CONTAINERS + CONTAINERS_TOO, LINES + LINES_TOO) if wide else (CONTAINERS, LINES)
     if links:
         lines = [it for it in lines if "\\" not in it and "&" not in it] + LINKS
     if definitions:
         lines = lines + DEFINITIONS + DEFINITIONS
+    if references:
+        lines = lines + REFERENCES + REFERENCES
     made = [generator.choice(generator.choice((containers, containers, lines))) for _ in range(generator.randint(1, pieces))]
     return "".join(labelled(made)).encode()
 
@@ -126,18 +135,11 @@ class Beside:
         return real_files.ours(document, self.program, self.machine), real_files.by_cmark(self.cmark, document, "html")
 
     def differ(self, document):
-        """Whether it is read otherwise; not if cmark finds in it what the machine does not read."""
+        """Whether it is read otherwise."""
         if document not in self.known:
             made, wanted = self.both(document)
-            self.known[document] = made != wanted and not self.is_passed(document)
+            self.known[document] = made != wanted
         return self.known[document]
-
-    def is_passed(self, document):
-        """Whether cmark finds in it what the machine does not read."""
-        if b"[" not in document:  # cmark's XML says no more of an autolink than that it is a link
-            return False
-        tags = real_files.by_cmark(self.cmark, document, "xml")
-        return "<link " in tags or "<image " in tags
 
     def smallest(self, document, others):
         """A document of which no line and no character can go, so that it still differs, and not by the other causes alone."""
@@ -190,14 +192,10 @@ class Beside:
 
 
 def reading(task):
-    """Whether a document is the same, whether it is passed over, and the causes by which it differs."""
+    """Whether a document is the same, and the causes by which it differs."""
     beside, document = task
     made, wanted = beside.both(document)
-    if made == wanted:
-        return True, False, []
-    if beside.is_passed(document):
-        return False, True, []
-    return False, False, beside.explained(document)
+    return made == wanted, [] if made == wanted else beside.explained(document)
 
 
 def show(beside, document, causes):
@@ -219,17 +217,18 @@ def main():
     parser.add_argument("--wide", action="store_true", help=argparse.SUPPRESS)
     parser.add_argument("--links", action="store_true", help=argparse.SUPPRESS)
     parser.add_argument("--definitions", action="store_true", help=argparse.SUPPRESS)
+    parser.add_argument("--references", action="store_true", help=argparse.SUPPRESS)
     parser.add_argument("--jobs", type=int, default=1, help=argparse.SUPPRESS)
     words = parser.parse_args()
     generator = random.Random(words.seed)
-    documents = [one(generator, words.pieces, words.wide, words.links, words.definitions) for _ in range(words.count)]
+    documents = [one(generator, words.pieces, words.wide, words.links, words.definitions, words.references) for _ in range(words.count)]
     beside = Beside(words.program, words.machine, words.cmark)
-    same = passed = differ = 0
+    same = differ = 0
     times, least = collections.Counter(), {}
     with multiprocessing.Pool(words.jobs) as pool:
         readings = pool.imap(reading, ((beside, it) for it in documents), chunksize=50)
-        for document, (is_same, is_passed, causes) in zip(documents, readings):
-            same, passed, differ = same + is_same, passed + is_passed, differ + bool(causes)
+        for document, (is_same, causes) in zip(documents, readings):
+            same, differ = same + is_same, differ + bool(causes)
             if causes and (differ <= words.show or causes[-1][0] is None):
                 show(beside, document, causes)
             times.update({name for name, _ in causes})
@@ -240,7 +239,7 @@ def main():
     for cause in CAUSES:
         if times[cause.name]:
             print(f"| {times[cause.name]} | {cause.name} | {least[cause.name]!r} | {cause.right} | {cause.words} |")
-    print(f"{same} of {words.count} are the same, {passed} passed over, {differ} differ, {times[None]} by a cause without a name; seed {words.seed}")
+    print(f"{same} of {words.count} are the same, {differ} differ, {times[None]} by a cause without a name; seed {words.seed}")
     sys.exit(times[None] > 0)
 
 

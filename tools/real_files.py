@@ -25,7 +25,7 @@ import commonmark
 
 sys.setrecursionlimit(1_000_000)
 # cmark's names of what a machine does not read, as they begin its XML's tags
-UNREAD = {"flow": ("list", "block_quote", "link", "image"), "document": ("link", "image")}
+UNREAD = {"flow": ("list", "block_quote", "link", "image"), "document": ()}
 
 
 def files_in(folder):
