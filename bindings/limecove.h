@@ -34,8 +34,11 @@ extern "C" {
 #endif
 
 /* The version of this header. limecove_version() and each answer have that of the library. It changes with each layout and meaning
- * that changes. It stays if a function, a code, a construct, a machine or a name is added, with the next number. */
-#define LIMECOVE_VERSION 3
+ * that changes. It stays if a function, a code, a construct, a machine or a name is added, with the next number.
+ *
+ * Since version 4 LIMECOVE_BLOCK_QUOTE and the bits after it are needed for what was on without bits: a sum that is written out, as the 16383
+ * that LIMECOVE_ALL_CONSTRUCTS was, has it off. limecove_default_options() choose LIMECOVE_DOCUMENT. */
+#define LIMECOVE_VERSION 4
 
 /* An index in a record's link that there is not. */
 #define LIMECOVE_NO_INDEX ((size_t)-1)
@@ -70,7 +73,13 @@ enum limecove_construct {
     LIMECOVE_HEADING_SETEXT = 2048,       /* setext headings */
     LIMECOVE_HTML_FLOW = 4096,            /* HTML blocks */
     LIMECOVE_THEMATIC_BREAK = 8192,       /* thematic breaks */
-    LIMECOVE_ALL_CONSTRUCTS = 16383
+    LIMECOVE_BLOCK_QUOTE = 16384,         /* block quotes */
+    LIMECOVE_LIST_ITEM = 32768,           /* list items */
+    LIMECOVE_LABEL_START_LINK = 65536,    /* starts of link labels */
+    LIMECOVE_LABEL_START_IMAGE = 131072,  /* starts of image labels */
+    LIMECOVE_LABEL_END = 262144,          /* ends of labels: without it there are no links and no images */
+    LIMECOVE_DEFINITION = 524288,         /* link reference definitions */
+    LIMECOVE_ALL_CONSTRUCTS = 1048575
 };
 
 /* Whether a span begins or ends. */
@@ -89,17 +98,22 @@ enum limecove_content {
 };
 
 /* written by names.py: begin */
-/* The machines that read. */
+/* The machines that read: LIMECOVE_DOCUMENT whole documents; LIMECOVE_FLOW the same without block quotes, lists and definitions;
+ * LIMECOVE_TEXT paragraphs with code spans, autolinks and escapes alone; LIMECOVE_PARAGRAPHS paragraphs of data. */
 enum limecove_machine {
-    LIMECOVE_LINES = 0,
     LIMECOVE_PARAGRAPHS = 1,
-    LIMECOVE_PEEK = 2,
-    LIMECOVE_DEEP = 3,
-    LIMECOVE_BACK = 4,
-    LIMECOVE_SAVE = 5,
     LIMECOVE_TEXT = 6,
     LIMECOVE_FLOW = 7,
     LIMECOVE_DOCUMENT = 8
+};
+
+/* More machines, for tests of the library alone: what they read is no Markdown. */
+enum limecove_test_machine {
+    LIMECOVE_LINES = 0,
+    LIMECOVE_PEEK = 2,
+    LIMECOVE_DEEP = 3,
+    LIMECOVE_BACK = 4,
+    LIMECOVE_SAVE = 5
 };
 
 /* What a span is. */
@@ -407,7 +421,7 @@ struct limecove_options {
     size_t tab_size;     /* how many columns tab stops are apart, from 1 to 16; 0 is 4 */
     uint64_t constructs; /* the sum of the bits of limecove_construct that are on */
     size_t cut;          /* after how many virtual bytes the document is cut each time, which changes no event; 0 for never */
-    uint32_t machine;    /* of limecove_machine */
+    uint32_t machine;    /* of limecove_machine, or of limecove_test_machine */
     uint32_t deep;       /* if it is not 0, the chunks that LIMECOVE_PARAGRAPHS, LIMECOVE_TEXT, LIMECOVE_FLOW or LIMECOVE_DOCUMENT links are read too */
 };
 
@@ -458,15 +472,15 @@ LIMECOVE_INLINE struct limecove_text_options limecove_default_text_options(void)
     return options;
 }
 
-/* The whole document: leaf blocks, inline text with emphasis in them, and tab stops at every 4 columns. With LIMECOVE_DOCUMENT as the
- * machine, block quotes and lists too. */
+/* The whole document: block quotes, lists and definitions, leaf blocks, inline text with links and emphasis in them, and tab stops at every 4
+ * columns. */
 LIMECOVE_INLINE struct limecove_options limecove_default_options(void) {
     struct limecove_options options;
     options.size = sizeof options;
     options.tab_size = 4;
     options.constructs = LIMECOVE_ALL_CONSTRUCTS;
     options.cut = 0;
-    options.machine = LIMECOVE_FLOW;
+    options.machine = LIMECOVE_DOCUMENT;
     options.deep = 1;
     return options;
 }

@@ -55,6 +55,10 @@ def proved_machines():
     return numbered((name, number) for number, name in re.findall(r"\(nat_eq n (\d+)\) \(Some ([A-Z]\w+)\)", text))
 
 
+# Machines that read no Markdown: the engine is tested by them.
+TEST_MACHINES = ["Lines", "Peek", "Deep", "Back", "Save"]
+
+
 def snake(name):
     return re.sub(r"(?<!^)(?=[A-Z])", "_", name).upper()
 
@@ -65,17 +69,24 @@ def void_names():
     return set(re.findall(r"\w+", text.split("void_names =")[1]))
 
 
-def enum_in_c(about, name, prefix, variants):
-    """An enum with numbers from 0 on. The last one has no comma, as C90 wants it."""
-    lines = [f"    {prefix}{snake(variant)} = {number}," for number, variant in enumerate(variants)]
+def enum_in_c(about, name, prefix, variants, left_out=()):
+    """An enum with numbers from 0 on, and without some variants. The last one has no comma, as C90 wants it."""
+    lines = [f"    {prefix}{snake(variant)} = {number}," for number, variant in enumerate(variants) if variant not in left_out]
     return [f"/* {about} */", f"enum limecove_{name} {{", *lines[:-1], lines[-1][:-1], "};"]
+
+
+MACHINES_IN_C = """The machines that read: LIMECOVE_DOCUMENT whole documents; LIMECOVE_FLOW the same without block quotes, lists and definitions;
+ * LIMECOVE_TEXT paragraphs with code spans, autolinks and escapes alone; LIMECOVE_PARAGRAPHS paragraphs of data."""
+TEST_MACHINES_IN_C = "More machines, for tests of the library alone: what they read is no Markdown."
 
 
 def header(old, names, machines):
     """The header with the enums between its two marks."""
     voids = void_names()
     assert voids <= set(names), "a void name is no name"
-    lines = enum_in_c("The machines that read.", "machine", "LIMECOVE_", machines) + [""]
+    lines = enum_in_c(MACHINES_IN_C, "machine", "LIMECOVE_", machines, TEST_MACHINES) + [""]
+    others = [it for it in machines if it not in TEST_MACHINES]
+    lines += enum_in_c(TEST_MACHINES_IN_C, "test_machine", "LIMECOVE_", machines, others) + [""]
     lines += enum_in_c("What a span is.", "name", "LIMECOVE_NAME_", names) + [""]
     lines += ["/* X(NAME, \"Name\", is_void) for each name, in the order of their numbers: define X, and use it. */", "#define LIMECOVE_EACH_NAME(X) \\"]
     each = [f'    X({snake(name)}, "{name}", {int(name in voids)}) \\' for name in names]
@@ -88,17 +99,29 @@ def header(old, names, machines):
 def rust_enum(name, about, variants, comments, derives):
     lines = [f"/// {about} More may be added.", f"#[derive({derives})]", "#[non_exhaustive]", "#[repr(u32)]", f"pub enum {name} {{"]
     for number, variant in enumerate(variants):
+        is_machine = name == "Machine"
+        if is_machine and variant in TEST_MACHINES:
+            lines += ["    /// For tests of the library alone.", "    ///"]
         lines += [f"    {line}" for line in comments[variant]]
-        if variant == "Flow" and name == "Machine":
+        if is_machine and variant in TEST_MACHINES:
+            lines.append("    #[doc(hidden)]")
+        if is_machine and variant == "Document":
             lines.append("    #[default]")
         lines.append(f"    {variant} = {number},")
     return lines + ["}", ""]
 
 
-def rust_all(name, variants):
-    """The list of all variants, and the name of each as text."""
-    lines = [f"impl {name} {{", "    /// All of them, in the order of their numbers.", f"    pub const ALL: &'static [{name}] = &["]
-    lines += [f"        {name}::{variant}," for variant in variants] + ["    ];", ""]
+def rust_list(name, of, variants):
+    return [f"    pub const {of}: &'static [{name}] = &[", *[f"        {name}::{variant}," for variant in variants], "    ];", ""]
+
+
+def rust_all(name, variants, for_tests=()):
+    """The list of all variants, but for those for tests, which have another, and the name of each as text."""
+    all_of_them = "All that read Markdown" if for_tests else "All of them"
+    lines = [f"impl {name} {{", f"    /// {all_of_them}, in the order of their numbers."]
+    lines += rust_list(name, "ALL", [it for it in variants if it not in for_tests])
+    if for_tests:
+        lines += ["    /// Those for tests of the library alone, which read no Markdown.", "    #[doc(hidden)]", *rust_list(name, "FOR_TESTS", for_tests)]
     lines += ["    /// As it is declared.", "    pub const fn as_str(self) -> &'static str {", "        match self {"]
     return lines + [f'            {name}::{variant} => "{variant}",' for variant in variants] + ["        }", "    }", ""]
 
@@ -117,7 +140,7 @@ def rust(names, machines):
     machine_comments = comments_of(CRATES / "mdconstructs_documents/src/choice.rt", "Which")
     lines = ["//! Names of spans and machines, with their numbers. Written by `bindings/names.py`.", "", "use std::fmt;", "use std::str::FromStr;", ""]
     lines += rust_enum("Machine", "A machine: what reads a document.", machines, machine_comments, "Clone, Copy, Debug, Default, PartialEq, Eq, Hash")[:-1]
-    lines += ["", *rust_all("Machine", machines)[:-1], "}", ""]
+    lines += ["", *rust_all("Machine", machines, TEST_MACHINES)[:-1], "}", ""]
     lines += rust_enum("Name", "What a span is. A *void* name is that of a span that holds no other.", names, name_comments, derives)[:-1]
     lines += ["", *rust_all("Name", names), *rust_void("Name", [name for name in names if name in void_names()])]
     lines += ["    /// The name of a number, if there is one.", "    pub(crate) fn of(number: u32) -> Option<Name> {"]
@@ -126,7 +149,8 @@ def rust(names, machines):
         lines += ["/// As it is declared.", f"impl fmt::Display for {name} {{", "    fn fmt(&self, f: &mut fmt::Formatter<'_>) -> fmt::Result {"]
         lines += ["        f.pad(self.as_str())", "    }", "}", ""]
         lines += ["/// From its name as it is declared.", f"impl FromStr for {name} {{", "    type Err = UnknownName;", ""]
-        lines += [f"    fn from_str(text: &str) -> Result<{name}, UnknownName> {{", f"        let mut all = {name}::ALL.iter();"]
+        tests = ".chain(Machine::FOR_TESTS)" if name == "Machine" else ""
+        lines += [f"    fn from_str(text: &str) -> Result<{name}, UnknownName> {{", f"        let mut all = {name}::ALL.iter(){tests};"]
         lines += ["        all.find(|it| it.as_str() == text)", "            .copied()", "            .ok_or(UnknownName)", "    }", "}", ""]
     lines += ["/// A text is the name of nothing.", "#[derive(Clone, Copy, Debug, PartialEq, Eq)]", "pub struct UnknownName;", ""]
     lines += ["impl fmt::Display for UnknownName {", "    fn fmt(&self, f: &mut fmt::Formatter<'_>) -> fmt::Result {"]
@@ -200,7 +224,7 @@ def differences():
     c = numbers(HEADER, r"#define LIMECOVE_(VERSION) (\d+)")
     c |= enum_numbers("code") | enum_numbers("construct")
     for other, theirs in [(FOREIGN, rust), (HEADER, c)]:
-        if len(root) != 10 or len(bits) != 15 or theirs != root | bits:
+        if len(root) != 10 or len(bits) != 21 or theirs != root | bits:
             lines.append(f"{other}: the numbers are {theirs}, and {root | bits} in code.rt and choose.rt")
     contents = numbers(LIMECOVE / "specs/Records.antt", r"(?m)^content_number (\w+) = (\d+)$")
     contents["CONTENT"] = contents.pop("CONTENTOFCONTENT", None)

@@ -144,7 +144,6 @@ int main(int argc, char **argv) {
         fprintf(stderr, "%s cannot be read\n", argv[1]);
         return 1;
     }
-    options.machine = LIMECOVE_DOCUMENT;
     struct limecove_answer answer = limecove_open(document, len, &options, &reading);
     if (answer.code == LIMECOVE_READ)
         while ((written = limecove_copy(&reading, next, records, ROOM)) > 0) {

@@ -1,4 +1,5 @@
-/* Every room from none to more than enough: the first events are written, as many as fit, and no byte behind them.
+/* Every room from none to more than enough: the first events are written, as many as fit, and no byte behind them. And each construct on and
+ * off.
  * usage: rooms COUNT   (so many random documents, each in every way) */
 #include "cases.h"
 
@@ -100,8 +101,76 @@ static void texts_of_numbers(void) {
     CHECK(limecove_code_text(LIMECOVE_NO_SUCH_RANGES + 1) == NULL);
 }
 
+/* Whether a document has a span of this name, with these constructs. */
+static int has(const char *document, uint64_t constructs, uint32_t name) {
+    struct limecove_options options = limecove_default_options();
+    struct limecove_record records[64];
+    options.constructs = constructs;
+    struct limecove_answer answer = limecove_read((const uint8_t *)document, strlen(document), &options, records, 64);
+    CHECK(answer.code == LIMECOVE_READ && answer.count <= 64);
+    for (size_t i = 0; i < answer.count; i++)
+        if (records[i].name == name)
+            return 1;
+    return 0;
+}
+
+/* Each construct has its bit: without it there is none, and with all there is one. */
+static void constructs_have_bits(void) {
+    static const struct {
+        const char *document;
+        uint64_t bit;
+        uint32_t name;
+    } each[] = {
+        {"`a`", LIMECOVE_CODE_TEXT, LIMECOVE_NAME_CODE_TEXT},
+        {"<ab:c>", LIMECOVE_AUTOLINK, LIMECOVE_NAME_AUTOLINK},
+        {"\\*", LIMECOVE_CHARACTER_ESCAPE, LIMECOVE_NAME_CHARACTER_ESCAPE},
+        {"*a*", LIMECOVE_ATTENTION, LIMECOVE_NAME_EMPHASIS},
+        {"&lt;", LIMECOVE_CHARACTER_REFERENCE, LIMECOVE_NAME_CHARACTER_REFERENCE},
+        {"a\\\nb", LIMECOVE_HARD_BREAK_ESCAPE, LIMECOVE_NAME_HARD_BREAK_ESCAPE},
+        {"a  \nb", LIMECOVE_HARD_BREAK_TRAILING, LIMECOVE_NAME_HARD_BREAK_TRAILING},
+        {"a <b>", LIMECOVE_HTML_TEXT, LIMECOVE_NAME_HTML_TEXT},
+        {"~~~", LIMECOVE_CODE_FENCED, LIMECOVE_NAME_CODE_FENCED},
+        {"    a", LIMECOVE_CODE_INDENTED, LIMECOVE_NAME_CODE_INDENTED},
+        {"# a", LIMECOVE_HEADING_ATX, LIMECOVE_NAME_HEADING_ATX},
+        {"a\n=", LIMECOVE_HEADING_SETEXT, LIMECOVE_NAME_HEADING_SETEXT},
+        {"<b>", LIMECOVE_HTML_FLOW, LIMECOVE_NAME_HTML_FLOW},
+        {"***", LIMECOVE_THEMATIC_BREAK, LIMECOVE_NAME_THEMATIC_BREAK},
+        {"> a", LIMECOVE_BLOCK_QUOTE, LIMECOVE_NAME_BLOCK_QUOTE},
+        {"- a", LIMECOVE_LIST_ITEM, LIMECOVE_NAME_LIST_ITEM},
+        {"[a](b)", LIMECOVE_LABEL_START_LINK, LIMECOVE_NAME_LINK},
+        {"![a](b)", LIMECOVE_LABEL_START_IMAGE, LIMECOVE_NAME_IMAGE},
+        {"[a](b)", LIMECOVE_LABEL_END, LIMECOVE_NAME_LINK},
+        {"[a]: b", LIMECOVE_DEFINITION, LIMECOVE_NAME_DEFINITION},
+    };
+    uint64_t bits = 0;
+    for (size_t i = 0; i < sizeof each / sizeof *each; i++) {
+        CHECK(has(each[i].document, LIMECOVE_ALL_CONSTRUCTS, each[i].name));
+        CHECK(!has(each[i].document, LIMECOVE_ALL_CONSTRUCTS - each[i].bit, each[i].name));
+        bits += each[i].bit;
+    }
+    CHECK(bits == LIMECOVE_ALL_CONSTRUCTS);
+}
+
+/* Without quotes, lists and definitions, a document without links is read as its leaf blocks are. */
+static void without_containers(const uint8_t *document, size_t len) {
+    static struct limecove_record whole[4096], blocks[4096];
+    struct limecove_options options = limecove_default_options();
+    struct limecove_answer answer;
+    size_t count;
+    options.constructs -= LIMECOVE_BLOCK_QUOTE + LIMECOVE_LIST_ITEM + LIMECOVE_DEFINITION;
+    answer = limecove_read(document, len, &options, whole, 4096);
+    CHECK(answer.code == LIMECOVE_READ && answer.count <= 4096);
+    count = answer.count;
+    options.machine = LIMECOVE_FLOW;
+    answer = limecove_read(document, len, &options, blocks, 4096);
+    CHECK(answer.code == LIMECOVE_READ && answer.count == count);
+    for (size_t i = 0; i < count; i++)
+        CHECK(same_record(&whole[i], &blocks[i]));
+}
+
 int main(int argc, char **argv) {
     ask_version();
+    constructs_have_bits();
     null_is_none();
     refused();
     no_ranges();
@@ -109,6 +178,7 @@ int main(int argc, char **argv) {
     for (long n = argc > 1 ? atol(argv[1]) : 200; n > 0; n--) {
         size_t len;
         uint8_t *document = random_document(&len);
+        without_containers(document, len);
         for (size_t way = 0; way < WAYS; way++) {
             static struct limecove_record all[4096];
             struct limecove_text_options text = random_text_options();

@@ -35,7 +35,7 @@ is_yes n = not (nat_eq n 0)
 
 -- a sum of bits has the bits of constructs alone
 abbrev pub are_constructs : ℕ → Bool
-are_constructs bits = nat_lt bits 16384
+are_constructs bits = nat_lt bits 1048576
 
 -- why options choose nothing, as codes
 abbrev pub other_size : ℕ
@@ -77,22 +77,28 @@ text_choice_of options =
 abbrev pub has_bit : ℕ → ℕ → Bool
 has_bit bits bit = is_yes (bit_and bits bit)
 
--- each construct that has a bit is on if its bit is there; the others are as in CommonMark
+-- each construct that has a bit is on if its bit is there; the others are none of CommonMark's, and off
 abbrev pub constructs_of : ℕ → Constructs
 constructs_of bits = record default_constructs {
   attention = has_bit bits 8;
   autolink = has_bit bits 2;
+  block_quote = has_bit bits 16384;
   character_escape = has_bit bits 4;
   character_reference = has_bit bits 16;
   code_fenced = has_bit bits 256;
   code_indented = has_bit bits 512;
   code_text = has_bit bits 1;
+  definition = has_bit bits 524288;
   hard_break_escape = has_bit bits 32;
   hard_break_trailing = has_bit bits 64;
   heading_atx = has_bit bits 1024;
   heading_setext = has_bit bits 2048;
   html_flow = has_bit bits 4096;
   html_text = has_bit bits 128;
+  label_end = has_bit bits 262144;
+  label_start_image = has_bit bits 131072;
+  label_start_link = has_bit bits 65536;
+  list_item = has_bit bits 32768;
   thematic_break = has_bit bits 8192;
 }
 

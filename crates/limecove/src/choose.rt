@@ -38,8 +38,20 @@ pub const HEADING_SETEXT: u64 = 2048;
 pub const HTML_FLOW: u64 = 4096;
 /// The bit of thematic breaks.
 pub const THEMATIC_BREAK: u64 = 8192;
+/// The bit of block quotes.
+pub const BLOCK_QUOTE: u64 = 16384;
+/// The bit of list items.
+pub const LIST_ITEM: u64 = 32768;
+/// The bit of starts of link labels.
+pub const LABEL_START_LINK: u64 = 65536;
+/// The bit of starts of image labels.
+pub const LABEL_START_IMAGE: u64 = 131072;
+/// The bit of ends of labels, with what follows them: without it there are no links and no images.
+pub const LABEL_END: u64 = 262144;
+/// The bit of link reference definitions.
+pub const DEFINITION: u64 = 524288;
 /// The bits of all constructs.
-pub const ALL_CONSTRUCTS: u64 = 16383;
+pub const ALL_CONSTRUCTS: u64 = 1048575;
 
 /// How many bytes `TextOptions` has.
 pub const TEXT_OPTIONS_SIZE: usize = 24;
@@ -70,8 +82,8 @@ pub struct Options {
     pub constructs: u64,
     /// After how many virtual bytes the document is cut each time. If it is 0, the document is not cut.
     pub cut: usize,
-    /// The machine that reads: 0 for lines, 1 for paragraphs, 2 for peek, 3 for deep, 4 for back, 5 for save, 6 for text, 7 for
-    /// flow, 8 for document.
+    /// The machine that reads: 1 for paragraphs, 6 for text, 7 for flow, 8 for document. Those of the other numbers are for tests of the
+    /// engine: 0 for lines, 2 for peek, 3 for deep, 4 for back, 5 for save.
     pub machine: u32,
     /// If it is not 0, the chunks of text that the machine links are read too. Only paragraphs, text, flow and document
     /// link any.
@@ -130,24 +142,30 @@ pub(crate) fn choose_text(options: &TextOptions) -> Result<TabSize, u32>
     Ok(tab)
 }
 
-/// The constructs that a sum of bits has on. Those that have no bit are as in CommonMark.
+/// The constructs that a sum of bits has on. Those that have no bit are none of CommonMark's, and off.
 pub(crate) fn constructs_of(bits: u64) -> Constructs
     ensures { result ≡ constructs_of bits }
 {
     Constructs {
         attention: bits & ATTENTION != 0,
         autolink: bits & AUTOLINK != 0,
+        block_quote: bits & BLOCK_QUOTE != 0,
         character_escape: bits & CHARACTER_ESCAPE != 0,
         character_reference: bits & CHARACTER_REFERENCE != 0,
         code_fenced: bits & CODE_FENCED != 0,
         code_indented: bits & CODE_INDENTED != 0,
         code_text: bits & CODE_TEXT != 0,
+        definition: bits & DEFINITION != 0,
         hard_break_escape: bits & HARD_BREAK_ESCAPE != 0,
         hard_break_trailing: bits & HARD_BREAK_TRAILING != 0,
         heading_atx: bits & HEADING_ATX != 0,
         heading_setext: bits & HEADING_SETEXT != 0,
         html_flow: bits & HTML_FLOW != 0,
         html_text: bits & HTML_TEXT != 0,
+        label_end: bits & LABEL_END != 0,
+        label_start_image: bits & LABEL_START_IMAGE != 0,
+        label_start_link: bits & LABEL_START_LINK != 0,
+        list_item: bits & LIST_ITEM != 0,
         thematic_break: bits & THEMATIC_BREAK != 0,
         ..Constructs::default()
     }

@@ -3,9 +3,10 @@
 ghost use Rattle.std.specs.Prelude.{◌≡◌};
 
 use crate::choose::{
-    ALL_CONSTRUCTS, ATTENTION, AUTOLINK, CHARACTER_ESCAPE, CHARACTER_REFERENCE, CODE_FENCED,
-    CODE_INDENTED, CODE_TEXT, HARD_BREAK_ESCAPE, HARD_BREAK_TRAILING, HEADING_ATX, HEADING_SETEXT,
-    HTML_FLOW, HTML_TEXT, OPTIONS_SIZE, TEXT_OPTIONS_SIZE, THEMATIC_BREAK,
+    ALL_CONSTRUCTS, ATTENTION, AUTOLINK, BLOCK_QUOTE, CHARACTER_ESCAPE, CHARACTER_REFERENCE,
+    CODE_FENCED, CODE_INDENTED, CODE_TEXT, DEFINITION, HARD_BREAK_ESCAPE, HARD_BREAK_TRAILING,
+    HEADING_ATX, HEADING_SETEXT, HTML_FLOW, HTML_TEXT, LABEL_END, LABEL_START_IMAGE,
+    LABEL_START_LINK, LIST_ITEM, OPTIONS_SIZE, TEXT_OPTIONS_SIZE, THEMATIC_BREAK,
 };
 use crate::code::{
     LINKS_NO_TEXT, NO_SUCH_CONSTRUCT, NO_SUCH_MACHINE, NO_SUCH_RANGES, NO_SUCH_TAB_SIZE,
@@ -14,7 +15,7 @@ use crate::code::{
 
 /// The value of each number.
 pub fn numbers_are_stated()
-    ensures version { VERSION ≡ 3 }
+    ensures version { VERSION ≡ 4 }
     ensures read { READ ≡ 0 }
     ensures out_of_memory { OUT_OF_MEMORY ≡ 1 }
     ensures too_long { TOO_LONG ≡ 2 }
@@ -26,6 +27,8 @@ pub fn numbers_are_stated()
     ensures no_such_ranges { NO_SUCH_RANGES ≡ 8 }
     ensures text_constructs { (CODE_TEXT ≡ 1) × (AUTOLINK ≡ 2) × (CHARACTER_ESCAPE ≡ 4) × (ATTENTION ≡ 8) × (CHARACTER_REFERENCE ≡ 16) × (HARD_BREAK_ESCAPE ≡ 32) × (HARD_BREAK_TRAILING ≡ 64) × (HTML_TEXT ≡ 128) }
     ensures flow_constructs { (CODE_FENCED ≡ 256) × (CODE_INDENTED ≡ 512) × (HEADING_ATX ≡ 1024) × (HEADING_SETEXT ≡ 2048) × (HTML_FLOW ≡ 4096) × (THEMATIC_BREAK ≡ 8192) }
-    ensures all_constructs { ALL_CONSTRUCTS ≡ 16383 }
+    ensures container_constructs { (BLOCK_QUOTE ≡ 16384) × (LIST_ITEM ≡ 32768) }
+    ensures label_constructs { (LABEL_START_LINK ≡ 65536) × (LABEL_START_IMAGE ≡ 131072) × (LABEL_END ≡ 262144) × (DEFINITION ≡ 524288) }
+    ensures all_constructs { ALL_CONSTRUCTS ≡ 1048575 }
     ensures sizes { (TEXT_OPTIONS_SIZE ≡ 24) × (OPTIONS_SIZE ≡ 40) }
 {}

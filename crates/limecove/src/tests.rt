@@ -1,7 +1,8 @@
 //! Calls of the functions, as a program in C makes them.
 
 use crate::choose::{
-    ALL_CONSTRUCTS, AUTOLINK, CHARACTER_ESCAPE, OPTIONS_SIZE, Options, TEXT_OPTIONS_SIZE,
+    ALL_CONSTRUCTS, AUTOLINK, BLOCK_QUOTE, CHARACTER_ESCAPE, DEFINITION, LABEL_END,
+    LABEL_START_IMAGE, LABEL_START_LINK, LIST_ITEM, OPTIONS_SIZE, Options, TEXT_OPTIONS_SIZE,
     TextOptions,
 };
 use crate::code::{
@@ -143,8 +144,8 @@ fn heading() -> [Record; 10] {
     ]
 }
 
-/// And without headings: a paragraph.
-fn no_heading() -> [Record; 4] {
+/// Of three bytes that begin nothing, or nothing that is on: a paragraph.
+fn paragraph() -> [Record; 4] {
     [
         at(0, Name::Paragraph, 1, 1, 0),
         at(0, Name::Data, 1, 1, 0),
@@ -275,16 +276,58 @@ fn documents_are_read_by_blocks(rt: HostRuntime) {
         ..by(7, 1)
     };
     assert!(rt; reads(rt.alloc(), b"# a", &all, &heading()));
-    assert!(rt; reads(rt.alloc(), b"# a", &by(7, 1), &no_heading()));
+    assert!(rt; reads(rt.alloc(), b"# a", &by(7, 1), &paragraph()));
+}
+
+/// The options of whole documents, with these constructs.
+fn whole(constructs: u64) -> Options {
+    Options {
+        constructs,
+        ..by(8, 1)
+    }
 }
 
 /// The machine of documents reads block quotes, also where the document is to be cut; that of leaf blocks has none.
 #[test]
 fn documents_are_read_with_containers(rt: HostRuntime) {
-    assert!(rt; reads(rt.alloc(), b"> a", &by(8, 1), &quote()));
-    let cut = Options { cut: 1, ..by(8, 1) };
+    let quotes = whole(BLOCK_QUOTE);
+    assert!(rt; reads(rt.alloc(), b"> a", &quotes, &quote()));
+    let cut = Options { cut: 1, ..quotes };
     assert!(rt; reads(rt.alloc(), b"> a", &cut, &quote()));
-    assert!(rt; reads(rt.alloc(), b"> a", &by(7, 1), &no_heading()));
+    let blocks = Options {
+        machine: 7,
+        ..quotes
+    };
+    assert!(rt; reads(rt.alloc(), b"> a", &blocks, &paragraph()));
+    assert!(rt; reads(rt.alloc(), b"> a", &by(8, 1), &paragraph()));
+}
+
+/// Whether a document has a span of this name, with these constructs.
+fn has(alloc: Global, document: &[u8], constructs: u64, name: Name) -> bool {
+    let mut records = [OLD; 40];
+    let answer = limecove_read(alloc, document, &whole(constructs), &mut records);
+    answer.code == READ && records.iter().any(|record| record.name == name as u32)
+}
+
+/// Without its bit there is none of a construct, and without those of all constructs that it does not need there is one.
+#[test]
+fn constructs_have_bits(rt: HostRuntime) {
+    let links = LABEL_START_LINK | LABEL_END;
+    let images = LABEL_START_IMAGE | LABEL_END;
+    let constructs: [(&[u8], u64, u64, Name); 7] = [
+        (b"> a", BLOCK_QUOTE, BLOCK_QUOTE, Name::BlockQuote),
+        (b"- a", LIST_ITEM, LIST_ITEM, Name::ListItem),
+        (b"[a](b)", LABEL_START_LINK, links, Name::Link),
+        (b"[a](b)", LABEL_END, links, Name::Link),
+        (b"![a](b)", LABEL_START_IMAGE, images, Name::Image),
+        (b"![a](b)", LABEL_END, images, Name::Image),
+        (b"[a]: b", DEFINITION, DEFINITION, Name::Definition),
+    ];
+    for (document, bit, needed, name) in &constructs {
+        assert!(rt; has(rt.alloc(), document, ALL_CONSTRUCTS, *name));
+        assert!(rt; has(rt.alloc(), document, *needed, *name));
+        assert!(rt; !has(rt.alloc(), document, ALL_CONSTRUCTS & !*bit, *name));
+    }
 }
 
 #[test]
@@ -467,7 +510,7 @@ fn options_that_choose_nothing_are_refused(rt: HostRuntime) {
 
 #[test]
 fn the_version_is_told(rt: HostRuntime) {
-    assert!(rt; limecove_version() == 3);
+    assert!(rt; limecove_version() == 4);
 }
 
 /// Options with a value of its own in each field.
@@ -492,7 +535,7 @@ fn fields_lie_in_their_order(rt: HostRuntime) -> Result<(), AllocError> {
     let want =
         "Record { kind: 1, content: 2, name: 3, line: 4, column: 5, index: 6, vs: 7, previous: 8, next: 9 }, \
         Options { size: 1, tab_size: 2, constructs: 3, cut: 4, machine: 5, deep: 6 }, \
-        TextOptions { size: 1, tab_size: 2, constructs: 3 }, Answer { code: 1, version: 3, count: 3 }, \
+        TextOptions { size: 1, tab_size: 2, constructs: 3 }, Answer { code: 1, version: 4, count: 3 }, \
         ByteRange { from: 1, to: 2 }, Reading { is_open: 0, kept: Kept }";
     let (mut numbers, mut of_options, mut of_text) = (OLD, OLD, OLD);
     let answer = limecove_echo(

@@ -12,7 +12,7 @@ use core::ffi::c_void;
 use core::ptr::null_mut;
 
 /// The version of these declarations. [`limecove_version`] has that of the library, and is asked first.
-pub const VERSION: u32 = 3;
+pub const VERSION: u32 = 4;
 
 /// The document was read.
 pub const READ: u32 = 0;
@@ -62,8 +62,20 @@ pub const HEADING_SETEXT: u64 = 2048;
 pub const HTML_FLOW: u64 = 4096;
 /// The bit of thematic breaks.
 pub const THEMATIC_BREAK: u64 = 8192;
-/// The bits of all constructs.
-pub const ALL_CONSTRUCTS: u64 = 16383;
+/// The bit of block quotes.
+pub const BLOCK_QUOTE: u64 = 16384;
+/// The bit of list items.
+pub const LIST_ITEM: u64 = 32768;
+/// The bit of starts of link labels.
+pub const LABEL_START_LINK: u64 = 65536;
+/// The bit of starts of image labels.
+pub const LABEL_START_IMAGE: u64 = 131072;
+/// The bit of ends of labels, with what follows them: without it there are no links and no images.
+pub const LABEL_END: u64 = 262144;
+/// The bit of link reference definitions.
+pub const DEFINITION: u64 = 524288;
+/// The bits of all constructs. Up to version 3 they were 16383, and those from [`BLOCK_QUOTE`] on were on without bits.
+pub const ALL_CONSTRUCTS: u64 = 1048575;
 
 /// An index in a record's link that there is not.
 pub const NO_INDEX: usize = usize::MAX;
@@ -104,7 +116,7 @@ pub struct Options {
     pub constructs: u64,
     /// After how many virtual bytes the document is cut each time. If it is 0, the document is not cut.
     pub cut: usize,
-    /// The number of the machine that reads.
+    /// The number of the machine that reads: 1 for paragraphs, 6 for text, 7 for flow, 8 for document. 0 and 2 to 5 are for tests.
     pub machine: u32,
     /// If it is not 0, the chunks of text that the machine links are read too.
     pub deep: u32,

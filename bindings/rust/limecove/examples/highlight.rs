@@ -1,10 +1,10 @@
 //! A highlighter: `highlight FILE` prints a document with colours for a terminal. Headings and strong emphasis are bold, emphasis is
-//! italic, what a link shows is underlined, code is green, addresses are blue, titles and info strings are magenta, raw HTML and references
-//! are yellow, and the marks of all are grey. Without colours it prints the document's bytes, each once and in order.
+//! italic, what a link shows is underlined, code is green, addresses are blue, titles and info strings are magenta, raw HTML, character
+//! references and labels are yellow, and the marks of all are grey. Without colours it prints the document's bytes, each once and in order.
 //!
 //! It goes over the events once: it takes time in proportion to the document, and as many codes as spans begin and end.
 
-use limecove::{tokenize, Error, Kind, Machine, Name, Options};
+use limecove::{tokenize, Error, Kind, Name, Options};
 use std::io::Write;
 use std::{env, fs, io};
 
@@ -38,11 +38,19 @@ fn look(name: Name) -> Option<Look> {
         Name::Emphasis => ITALIC,
         Name::LabelText => UNDERLINED,
         Name::CodeTextData | Name::CodeFlowChunk => GREEN,
-        Name::AutolinkProtocol | Name::AutolinkEmail | Name::ResourceDestinationString => BLUE,
-        Name::ResourceTitleString | Name::CodeFencedFenceInfo | Name::CodeFencedFenceMeta => {
-            MAGENTA
-        }
-        Name::HtmlFlowData | Name::HtmlTextData | Name::CharacterReferenceValue => YELLOW,
+        Name::AutolinkProtocol
+        | Name::AutolinkEmail
+        | Name::DefinitionDestinationString
+        | Name::ResourceDestinationString => BLUE,
+        Name::CodeFencedFenceInfo
+        | Name::CodeFencedFenceMeta
+        | Name::DefinitionTitleString
+        | Name::ResourceTitleString => MAGENTA,
+        Name::HtmlFlowData
+        | Name::HtmlTextData
+        | Name::CharacterReferenceValue
+        | Name::DefinitionLabelString
+        | Name::ReferenceString => YELLOW,
         Name::AutolinkMarker
         | Name::BlockQuoteMarker
         | Name::CharacterEscapeMarker
@@ -52,6 +60,10 @@ fn look(name: Name) -> Option<Look> {
         | Name::CharacterReferenceMarkerSemi
         | Name::CodeFencedFenceSequence
         | Name::CodeTextSequence
+        | Name::DefinitionDestinationLiteralMarker
+        | Name::DefinitionLabelMarker
+        | Name::DefinitionMarker
+        | Name::DefinitionTitleMarker
         | Name::EmphasisSequence
         | Name::HardBreakEscape
         | Name::HardBreakTrailing
@@ -61,6 +73,7 @@ fn look(name: Name) -> Option<Look> {
         | Name::LabelMarker
         | Name::ListItemMarker
         | Name::ListItemValue
+        | Name::ReferenceMarker
         | Name::ResourceDestinationLiteralMarker
         | Name::ResourceMarker
         | Name::ResourceTitleMarker
@@ -75,7 +88,7 @@ fn highlighted(document: &[u8]) -> Result<Vec<u8>, Error> {
     let (mut shown, mut at) = (Vec::new(), 0);
     // how many spans of each style are open, as emphasis may be in emphasis; and the colours that are open
     let (mut open, mut colours) = ([0; STYLES.len()], Vec::new());
-    for event in tokenize(document, &Options::default().machine(Machine::Document))? {
+    for event in tokenize(document, &Options::default())? {
         let look = match look(event.name()) {
             Some(look) => look,
             None => continue,
@@ -146,7 +159,7 @@ mod tests {
     }
 
     /// A document with each construct, and how it is shown.
-    const CONSTRUCTS: [(&str, &str); 17] = [
+    const CONSTRUCTS: [(&str, &str); 18] = [
         ("a `b` c\n", "a {.`}{Cb}{.`} c\n"),
         ("<de:f> <g@h.i>", "{.<}{Lde:f}{.>} {.<}{Lg@h.i}{.>}"),
         (
@@ -176,6 +189,10 @@ mod tests {
         ),
         ("a\\\nb  \nc", "a{.\\}\nb{.  }\nc"),
         ("[]()", "{.[}{.]}{.(}{.)}"),
+        (
+            "> [c d]: <e> 'f'",
+            "{.>} {.[}{Hc d}{.]}{.:} {.<}{Le}{.>} {.'}{Tf}{.'}",
+        ),
     ];
 
     #[test]
@@ -189,7 +206,7 @@ mod tests {
     #[test]
     fn no_mark_is_plain() {
         let whole = CONSTRUCTS.map(|(document, _)| document).join("\n\n");
-        let events = tokenize(&whole, &Options::default().machine(Machine::Document)).unwrap();
+        let events = tokenize(&whole, &Options::default()).unwrap();
         let names: HashSet<_> = events.iter().map(|event| event.name()).collect();
         let void = names.iter().filter(|name| name.is_void());
         let plain: HashSet<_> = void.filter(|name| look(**name).is_none()).collect();

@@ -4,7 +4,7 @@
 //! `--raw-html` asks for it. An address whose scheme is not one of a few is left out, unless `--any-scheme` asks for it. The output is
 //! UTF-8, whatever the document is. It takes time in proportion to the document, and no more stack in deep nesting.
 
-use limecove::{Error, Machine, Name, Node, Options, Tree};
+use limecove::{Error, Name, Node, Options, Tree};
 use std::io::{self, Read, Write};
 
 /// What is written too, though it is not safe in a stranger's document.
@@ -19,7 +19,7 @@ const SCHEMES: [&str; 4] = ["http", "https", "mailto", "xmpp"];
 
 /// A document as HTML.
 fn html(document: &[u8], allowed: Allowed) -> Result<String, Error> {
-    let tree = Tree::read(document, &Options::default().machine(Machine::Document))?;
+    let tree = Tree::read(document, &Options::default())?;
     let (mut writer, mut passed) = (Writer::new(allowed), None);
     for node in tree.nodes() {
         let depth = node.span().depth;
@@ -110,7 +110,7 @@ impl Writer {
             Name::Autolink => self.autolink(node)?,
             Name::Image => self.image(node)?,
             // where a link goes was written at its beginning, and definitions are not shown
-            Name::Resource | Name::Definition => {}
+            Name::Resource | Name::Reference | Name::Definition => {}
             _ => return Ok(false),
         }
         Ok(true)

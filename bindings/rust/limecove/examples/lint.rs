@@ -7,7 +7,7 @@
 //! They hold in quotes and lists too. What is in code and in raw HTML is not looked at. A link and a definition may have a bare address. It
 //! takes time in proportion to the document, in any nesting.
 
-use limecove::{Error, LineIndex, ListMarker, Machine, Name, Node, Options, Tree};
+use limecove::{Error, LineIndex, ListMarker, Name, Node, Options, Tree};
 use std::collections::HashSet;
 use std::{env, fs, process};
 
@@ -15,7 +15,7 @@ const LONGEST: usize = 120;
 
 /// What is wrong in a document, in the order of its bytes: line, column in characters, and what.
 fn findings(document: &str) -> Result<Vec<String>, Error> {
-    let tree = Tree::read(document, &Options::default().machine(Machine::Document))?;
+    let tree = Tree::read(document, &Options::default())?;
     let lines = LineIndex::new(document)?;
     let mut linter = Linter::new(document, &lines);
     for node in tree.nodes() {

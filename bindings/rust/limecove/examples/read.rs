@@ -13,7 +13,8 @@ fn main() {
         _ => panic!("usage: read MACHINE [--deep] FILE TIMES"),
     };
     let known = |it: &&Machine| it.as_str().to_lowercase() == *machine;
-    let machine = *Machine::ALL.iter().find(known).expect("a machine");
+    let mut machines = Machine::ALL.iter().chain(Machine::FOR_TESTS);
+    let machine = *machines.find(known).expect("a machine");
     let options = Options::default().machine(machine).deep(deep);
     let document = fs::read(file).expect("a file");
     let mut count = 0;

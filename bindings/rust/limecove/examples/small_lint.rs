@@ -1,8 +1,8 @@
-//! A linter in 40 lines: `small_lint FILE..` has five rules, in quotes and lists too. The last three are not for code and links.
-use limecove::{Error, LineIndex, Machine, Name, Options, Tree};
+//! A linter in 40 lines: `small_lint FILE..` has five rules, in quotes and lists too. The last three are not for code, links and definitions.
+use limecove::{Error, LineIndex, Name, Options, Tree};
 
 pub fn findings(document: &str) -> Result<Vec<String>, Error> {
-    let tree = Tree::read(document, &Options::default().machine(Machine::Document))?;
+    let tree = Tree::read(document, &Options::default())?;
     let lines = LineIndex::new(document)?;
     let (mut found, mut level, mut passed) = (Vec::new(), 6, 0);
     for node in tree.nodes() {
@@ -15,8 +15,8 @@ pub fn findings(document: &str) -> Result<Vec<String>, Error> {
         if name == Name::CodeFenced && node.fence_info()?.is_none() {
             say("fenced code without a language");
         }
-        use Name::{CodeFenced, CodeIndented, CodeText, Link};
-        if matches!(name, CodeFenced | CodeIndented | CodeText | Link) {
+        use Name::{CodeFenced as Fenced, CodeIndented, CodeText, Definition, Link};
+        if matches!(name, Fenced | CodeIndented | CodeText | Definition | Link) {
             passed = end;
         }
         let behind = document.as_bytes().get(end).unwrap_or(&b'\n');

@@ -10,8 +10,8 @@
 //! # Ok::<(), limecove::Error>(())
 //! ```
 //!
-//! What is read are leaf blocks (headings, code, HTML, thematic breaks, paragraphs) and inline text with links, images and emphasis; by
-//! [`Machine::Document`] block quotes, lists and link reference definitions too. Links by reference are not read yet.
+//! What is read are block quotes, lists, leaf blocks (headings, code, HTML, thematic breaks, link reference definitions, paragraphs), and
+//! inline text with links, images and emphasis. Links by reference are not read yet.
 //!
 //! | For | Use | Time and memory |
 //! |---|---|---|
@@ -80,8 +80,8 @@ impl Default for TabSize {
     }
 }
 
-/// How text is read. The default: all constructs of CommonMark that are read, and tab stops at every 4 columns. [`tokenize_text`] reads
-/// code spans, autolinks and backslash escapes; the other constructs are read in whole documents.
+/// How text is read. The default: all constructs of CommonMark, and tab stops at every 4 columns. [`tokenize_text`] reads code spans,
+/// autolinks and backslash escapes; the other constructs are read in whole documents.
 ///
 /// ```
 /// let options = limecove::TextOptions::default().autolink(false);
@@ -104,12 +104,15 @@ impl Default for TextOptions {
     }
 }
 
-/// The constructs of leaf blocks.
-const BLOCKS: u64 = limecove_sys::CODE_FENCED
+/// The constructs of blocks.
+const BLOCKS: u64 = limecove_sys::BLOCK_QUOTE
+    | limecove_sys::CODE_FENCED
     | limecove_sys::CODE_INDENTED
+    | limecove_sys::DEFINITION
     | limecove_sys::HEADING_ATX
     | limecove_sys::HEADING_SETEXT
     | limecove_sys::HTML_FLOW
+    | limecove_sys::LIST_ITEM
     | limecove_sys::THEMATIC_BREAK;
 
 impl TextOptions {
@@ -168,6 +171,24 @@ impl TextOptions {
         self.with(limecove_sys::HTML_TEXT, is_on)
     }
 
+    /// The same, with or without starts of link labels: without them there are no links.
+    #[must_use]
+    pub const fn label_start_link(self, is_on: bool) -> TextOptions {
+        self.with(limecove_sys::LABEL_START_LINK, is_on)
+    }
+
+    /// The same, with or without starts of image labels: without them there are no images.
+    #[must_use]
+    pub const fn label_start_image(self, is_on: bool) -> TextOptions {
+        self.with(limecove_sys::LABEL_START_IMAGE, is_on)
+    }
+
+    /// The same, with or without ends of labels, with what follows them: without them there are no links and no images.
+    #[must_use]
+    pub const fn label_end(self, is_on: bool) -> TextOptions {
+        self.with(limecove_sys::LABEL_END, is_on)
+    }
+
     /// The same, with a construct on or off.
     const fn with(mut self, bit: u64, is_on: bool) -> TextOptions {
         self.constructs = if is_on {
@@ -179,15 +200,17 @@ impl TextOptions {
     }
 }
 
-/// How a document is read. The default: all of it, leaf blocks and the inline text in them.
+/// How a document is read. The default: all of it, by [`Machine::Document`], and the inline text in its blocks.
 ///
 /// ```
 /// use limecove::{tokenize, Machine, Options};
 ///
-/// let events = tokenize("ab", &Options::default().machine(Machine::Lines))?;
-/// assert_eq!(events[1].to_string(), "enter Data 1:1 (0+0)");
-/// let events = tokenize("- a", &Options::default().machine(Machine::Document))?;
+/// let events = tokenize("- a", &Options::default())?;
 /// assert_eq!(events[1].to_string(), "enter ListItem 1:1 (0+0)");
+/// for options in [Options::default().list_item(false), Options::default().machine(Machine::Flow)] {
+///     let events = tokenize("- a", &options)?;
+///     assert_eq!(events[0].to_string(), "enter Paragraph 1:1 (0+0)");
+/// }
 /// # Ok::<(), limecove::Error>(())
 /// ```
 #[derive(Clone, Copy, Debug, PartialEq, Eq, Hash)]
@@ -202,7 +225,7 @@ pub struct Options {
 impl Default for Options {
     fn default() -> Options {
         Options {
-            machine: Machine::Flow,
+            machine: Machine::default(),
             deep: true,
             cut: None,
             blocks: BLOCKS,
@@ -238,6 +261,24 @@ impl Options {
     pub const fn text(mut self, text: TextOptions) -> Options {
         self.text = text;
         self
+    }
+
+    /// The same, with or without block quotes.
+    #[must_use]
+    pub const fn block_quote(self, is_on: bool) -> Options {
+        self.with(limecove_sys::BLOCK_QUOTE, is_on)
+    }
+
+    /// The same, with or without list items.
+    #[must_use]
+    pub const fn list_item(self, is_on: bool) -> Options {
+        self.with(limecove_sys::LIST_ITEM, is_on)
+    }
+
+    /// The same, with or without link reference definitions.
+    #[must_use]
+    pub const fn definition(self, is_on: bool) -> Options {
+        self.with(limecove_sys::DEFINITION, is_on)
     }
 
     /// The same, with or without fenced code.
@@ -321,7 +362,7 @@ impl fmt::Display for Error {
 
 impl error::Error for Error {}
 
-/// Reads a whole document with the default options, once: its leaf blocks, and the inline text in them, with emphasis.
+/// Reads a whole document with the default options, once: its blocks, and the inline text in them.
 ///
 /// # Errors
 ///

@@ -69,9 +69,9 @@ impl Node<'_> {
     /// proportion to its spans, in any nesting.
     ///
     /// ```
-    /// use limecove::{ListMarker, Machine, Options, Tree};
+    /// use limecove::{ListMarker, Options, Tree};
     ///
-    /// let tree = Tree::read("7) a\n\n8) b", &Options::default().machine(Machine::Document))?;
+    /// let tree = Tree::read("7) a\n\n8) b", &Options::default())?;
     /// let list = tree.children().next().unwrap().list().unwrap();
     /// assert_eq!((list.marker, list.start, list.is_tight), (ListMarker::Parenthesis, Some(7), false));
     /// # Ok::<(), limecove::Error>(())

@@ -8,40 +8,60 @@ use std::str::FromStr;
 #[non_exhaustive]
 #[repr(u32)]
 pub enum Machine {
+    /// For tests of the library alone.
+    ///
     /// `lines`: each line is a paragraph of data.
+    #[doc(hidden)]
     Lines = 0,
     /// `paragraphs`: adjacent lines are a paragraph. Each line is a chunk of text, linked to the chunk before.
     Paragraphs = 1,
+    /// For tests of the library alone.
+    ///
     /// `peek`: looks at the whole text first, and then reads each line as data.
+    #[doc(hidden)]
     Peek = 2,
+    /// For tests of the library alone.
+    ///
     /// `deep`: tries something at each byte, which fails, and then reads each line as data.
+    #[doc(hidden)]
     Deep = 3,
+    /// For tests of the library alone.
+    ///
     /// `back`: reads the first line as data, looks over the next line, goes back, and reads the rest as one more data.
+    #[doc(hidden)]
     Back = 4,
+    /// For tests of the library alone.
+    ///
     /// `save`: passes the first line, tries something after it, which fails, and reads each line of the rest as data.
+    #[doc(hidden)]
     Save = 5,
     /// `text`: as `paragraphs`, but in the text of its chunks are code spans, autolinks and escapes.
     Text = 6,
     /// `flow`: the leaf blocks of CommonMark. In paragraphs and headings is inline text, with links, images and emphasis; in info
     /// strings of fenced code are escapes and character references.
-    #[default]
     Flow = 7,
     /// `document`: block quotes and lists, and the leaf blocks in them, as `flow` reads these.
+    #[default]
     Document = 8,
 }
 
 impl Machine {
-    /// All of them, in the order of their numbers.
+    /// All that read Markdown, in the order of their numbers.
     pub const ALL: &'static [Machine] = &[
-        Machine::Lines,
         Machine::Paragraphs,
+        Machine::Text,
+        Machine::Flow,
+        Machine::Document,
+    ];
+
+    /// Those for tests of the library alone, which read no Markdown.
+    #[doc(hidden)]
+    pub const FOR_TESTS: &'static [Machine] = &[
+        Machine::Lines,
         Machine::Peek,
         Machine::Deep,
         Machine::Back,
         Machine::Save,
-        Machine::Text,
-        Machine::Flow,
-        Machine::Document,
     ];
 
     /// As it is declared.
@@ -731,7 +751,7 @@ impl FromStr for Machine {
     type Err = UnknownName;
 
     fn from_str(text: &str) -> Result<Machine, UnknownName> {
-        let mut all = Machine::ALL.iter();
+        let mut all = Machine::ALL.iter().chain(Machine::FOR_TESTS);
         all.find(|it| it.as_str() == text)
             .copied()
             .ok_or(UnknownName)

@@ -168,9 +168,9 @@ impl<'a> Node<'a> {
     /// and U+FFFD for NUL. It takes time in proportion to the bytes.
     ///
     /// ```
-    /// use limecove::{Machine, Name, Options, Tree};
+    /// use limecove::{Name, Options, Tree};
     ///
-    /// let tree = Tree::read("- <b>\n\t<i>", &Options::default().machine(Machine::Document))?;
+    /// let tree = Tree::read("- <b>\n\t<i>", &Options::default())?;
     /// let html = tree.nodes().filter(|node| node.name() == Name::HtmlFlowData).last().unwrap();
     /// assert_eq!((html.text(), html.cut_text()?.as_slice()), (&b"\t<i>"[..], &b"  <i>"[..]));
     /// # Ok::<(), limecove::Error>(())

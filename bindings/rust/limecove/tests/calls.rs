@@ -161,6 +161,57 @@ fn constructs_can_be_off() {
     }
 }
 
+/// A document, the name of a span in it, and what turns its construct on or off.
+type Whole = (&'static str, Name, fn(Options, bool) -> Options);
+
+/// With a construct of blocks or of labels off, there is none of it.
+#[test]
+fn constructs_of_whole_documents_can_be_off() {
+    let constructs: [Whole; 13] = [
+        ("> a", Name::BlockQuote, Options::block_quote),
+        ("- a", Name::ListItem, Options::list_item),
+        ("[a]: b", Name::Definition, Options::definition),
+        ("~~~", Name::CodeFenced, Options::code_fenced),
+        ("    a", Name::CodeIndented, Options::code_indented),
+        ("# a", Name::HeadingAtx, Options::heading_atx),
+        ("a\n=", Name::HeadingSetext, Options::heading_setext),
+        ("<b>", Name::HtmlFlow, Options::html_flow),
+        ("***", Name::ThematicBreak, Options::thematic_break),
+        ("[a](b)", Name::Link, |all, is_on| {
+            all.text(TextOptions::default().label_start_link(is_on))
+        }),
+        ("![a](b)", Name::Image, |all, is_on| {
+            all.text(TextOptions::default().label_start_image(is_on))
+        }),
+        ("[a](b)", Name::Link, |all, is_on| {
+            all.text(TextOptions::default().label_end(is_on))
+        }),
+        ("![a](b)", Name::Image, |all, is_on| {
+            all.text(TextOptions::default().label_end(is_on))
+        }),
+    ];
+    for (document, name, turned) in constructs {
+        let found = |options: &Options| {
+            let events = tokenize(document, options).unwrap();
+            events.iter().any(|event| event.name() == name)
+        };
+        let off = turned(Options::default(), false);
+        assert!(found(&Options::default()), "{}", document);
+        assert!(!found(&off) && found(&turned(off, true)), "{}", document);
+    }
+}
+
+/// The public machines are those that read Markdown, and each has its name.
+#[test]
+fn test_machines_are_not_in_the_list() {
+    use Machine::{Document, Flow, Paragraphs, Text};
+    assert_eq!(Machine::ALL, [Paragraphs, Text, Flow, Document]);
+    assert_eq!(Machine::default(), Document);
+    for &machine in Machine::ALL.iter().chain(Machine::FOR_TESTS) {
+        assert_eq!(machine.as_str().parse(), Ok(machine));
+    }
+}
+
 #[test]
 fn tab_sizes_are_from_1_to_16() {
     for columns in [0, 17, usize::MAX] {
@@ -178,7 +229,7 @@ fn tab_sizes_are_from_1_to_16() {
 /// No options are refused: `deep` makes no difference to a machine that links nothing.
 #[test]
 fn each_machine_can_be_deep() {
-    for &machine in Machine::ALL {
+    for &machine in Machine::ALL.iter().chain(Machine::FOR_TESTS) {
         let flat = tokenize("a `b`", &by(machine)).unwrap();
         let deep = tokenize("a `b`", &Options::default().machine(machine)).unwrap();
         assert_eq!(flat != deep, machine.links_text());

@@ -167,7 +167,7 @@ fn main() {
     ];
     let mut ends = Ends::default();
     for document in documents {
-        for &machine in Machine::ALL {
+        for &machine in Machine::ALL.iter().chain(Machine::FOR_TESTS) {
             for deep in [false, true] {
                 if !deep || machine.links_text() {
                     let options = Options::default().machine(machine).deep(deep);

@@ -60,10 +60,8 @@ impl Random {
 
 /// The ways in which the program reads: each machine, and four with their texts.
 fn ways() -> Vec<(Machine, bool)> {
-    let mut ways: Vec<_> = Machine::ALL
-        .iter()
-        .map(|machine| (*machine, false))
-        .collect();
+    let machines = Machine::ALL.iter().chain(Machine::FOR_TESTS);
+    let mut ways: Vec<_> = machines.map(|machine| (*machine, false)).collect();
     ways.extend([
         (Machine::Paragraphs, true),
         (Machine::Text, true),

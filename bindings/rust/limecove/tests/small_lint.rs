@@ -23,7 +23,7 @@ fn each_rule_is_found_in_quotes_and_lists_too() {
         ("1. a\t\r\n", "1:5: blanks at the end of a line"),
         ("- a\tb", "1:3: a tab"),
         ("a http://b.c\n", "1:1: an address without < and >"),
-        ("[http://a.b](c) <http://d.e>\n", ""),
+        ("[http://a.b](c) <http://d.e>\n\n[f]: http://g.h\n", ""),
     ] {
         assert_eq!(
             findings(document).unwrap().join("\n"),

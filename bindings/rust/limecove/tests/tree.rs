@@ -1,8 +1,8 @@
 //! What trees say of documents that the library reads.
 
 use limecove::{
-    spans_by_start, tokenize, with_ranges, Kind, LineIndex, ListMarker, Machine, Name, Options,
-    TabSize, TextOptions, Tree,
+    spans_by_start, tokenize, with_ranges, Kind, LineIndex, ListMarker, Name, Options, TabSize,
+    TextOptions, Tree,
 };
 
 /// The text of each span of these names, decoded.
@@ -100,7 +100,7 @@ fn code_is_its_lines() {
 /// What is in quotes and items is decoded as outside of them.
 #[test]
 fn prefixes_are_no_text() {
-    let options = Options::default().machine(Machine::Document);
+    let options = Options::default();
     for (document, name, text) in [
         ("> a\n> b\nc", Name::Paragraph, "a\nb\nc"),
         ("- > a `b\n  >   c`", Name::Paragraph, "a b c"),
@@ -122,7 +122,7 @@ fn prefixes_are_no_text() {
 #[test]
 fn lists_are_known() {
     use ListMarker::{Dash, Parenthesis, Period, Plus, Star};
-    let options = Options::default().machine(Machine::Document);
+    let options = Options::default();
     for (document, want) in [
         ("- a\n- b", vec![(Dash, None, true)]),
         ("+ a\n\n+ b", vec![(Plus, None, false)]),
@@ -180,7 +180,7 @@ fn targets(document: &str, options: &Options) -> Vec<[String; 3]> {
 /// As CommonMark's rules for links have it.
 #[test]
 fn links_have_targets() {
-    let options = Options::default().machine(Machine::Document);
+    let options = Options::default();
     for (document, want) in [
         ("[a](b)", [["b", "-", "a"]].to_vec()),
         ("![*a* `b`](<c d> 'e')", vec![["c d", "e", "a b"]]),
@@ -261,7 +261,7 @@ fn trees_have_all_spans() {
 /// Random bytes: nothing panics, what is decoded is UTF-8 if the document is, and lines are those of points.
 #[test]
 fn random_documents_have_trees() {
-    const PIECES: [&[u8]; 32] = [
+    const PIECES: [&[u8]; 36] = [
         b"a",
         b"\xc3\xa9",
         b"\xff",
@@ -294,6 +294,10 @@ fn random_documents_have_trees() {
         b"<",
         b")",
         b" \"",
+        b"]",
+        b"[a]",
+        b"][A]",
+        b"\n\n[a]: b\n",
     ];
     let mut state = 1_u32;
     let mut below = move |n: usize| {
@@ -305,7 +309,7 @@ fn random_documents_have_trees() {
             .map(|_| PIECES[below(PIECES.len())])
             .collect();
         let document = pieces.concat();
-        let options = Options::default().machine(Machine::Document);
+        let options = Options::default();
         let tree = Tree::read(&document, &options).unwrap();
         let lines = LineIndex::new(&document).unwrap();
         for node in tree.nodes() {
