@@ -19,12 +19,13 @@
 //! | a few events at a time | [`Reading`] | the list stays in the library; the same time for each event |
 //! | spans, flat | [`spans`], [`spans_by_start`] | linear in the events, in any nesting |
 //! | spans, as a tree | [`Tree`], [`Node`] | made in linear time; about 100 bytes a span |
-//! | what a span is | [`Node::heading_level`], [`list`](Node::list), [`link`](Node::link), [`fence_info`](Node::fence_info), [`decoded`](Node::decoded) | in the size of what it looks at |
+//! | what a span is | [`Node::heading_level`], [`list`](Node::list), [`link`](Node::link), [`definition`](Node::definition), [`fence_info`](Node::fence_info), [`decoded`](Node::decoded) | in the size of what it looks at |
 //! | lines and columns | [`LineIndex`], both ways | made in linear time; a logarithm to look up |
 //!
 //! The crate `limecove-sys` links `liblimecove.a`. If it is not found, set `LIMECOVE_LIB` to the folder that has it.
 #![deny(missing_docs)]
 
+mod definitions;
 mod event;
 mod lines;
 mod list;

@@ -15,10 +15,13 @@ pub struct Target<'a> {
     /// The span of what is shown, or of an image described, if there is something. Its children are inline text; [`Node::decoded`] has
     /// its words.
     pub label: Option<Node<'a>>,
+    /// The definition that says so, if it is a link or an image by reference.
+    pub definition: Option<Node<'a>>,
 }
 
 impl<'a> Node<'a> {
-    /// Where a link, an image or an autolink goes. `None` if it is none of these.
+    /// Where a link, an image or an autolink goes. `None` if it is none of these. By reference it goes where its
+    /// [`definition`](Node::definition) says; without one, as no document has it, that is `None` too.
     ///
     /// It takes time in proportion to the destination, the title and the children of the label. Only by [`Machine::Document`](crate::Machine)
     /// are escapes and references in destinations and titles spans. They are found here, unless they are off.
@@ -44,21 +47,21 @@ impl<'a> Node<'a> {
             Name::Autolink => return self.autolink(),
             _ => return Ok(None),
         }
-        let resource = match self.child(Name::Resource) {
-            Some(resource) => resource,
+        let definition = self.definition()?;
+        let said = match self.child(Name::Resource).or(definition) {
+            Some(said) => said,
             None => return Ok(None),
         };
         let (mut destination, mut title) = (Text::new(), None);
-        for part in resource.children() {
+        for part in said.children() {
             match part.name() {
-                Name::ResourceDestination => {
+                Name::ResourceDestination | Name::DefinitionDestination => {
                     let mut forms = part.children();
-                    let string = forms.find_map(|it| it.child(Name::ResourceDestinationString));
-                    destination.add_string(string)?;
+                    destination.add_string(forms.find_map(|form| string_in(&form)))?;
                 }
-                Name::ResourceTitle => {
+                Name::ResourceTitle | Name::DefinitionTitle => {
                     let mut text = Text::new();
-                    text.add_string(part.child(Name::ResourceTitleString))?;
+                    text.add_string(string_in(&part))?;
                     title = Some(text.into_bytes());
                 }
                 _ => {}
@@ -69,6 +72,7 @@ impl<'a> Node<'a> {
             destination: destination.into_bytes(),
             title,
             label: label.and_then(|label| label.child(Name::LabelText)),
+            definition,
         }))
     }
 
@@ -89,6 +93,20 @@ impl<'a> Node<'a> {
             destination: destination.into_bytes(),
             title: None,
             label: Some(address),
+            definition: None,
         }))
     }
+}
+
+/// The string of a destination or a title, between its marks.
+fn string_in<'a>(of: &Node<'a>) -> Option<Node<'a>> {
+    of.children().find(|part| {
+        matches!(
+            part.name(),
+            Name::ResourceDestinationString
+                | Name::ResourceTitleString
+                | Name::DefinitionDestinationString
+                | Name::DefinitionTitleString
+        )
+    })
 }

@@ -1,5 +1,6 @@
 //! The spans of a document as a tree, and what they say: levels of headings, info strings, text.
 
+use crate::definitions::Definitions;
 use crate::references::{character_reference, numeric};
 use crate::{tokenize, Error, Event, Kind, Name, Options, Span, TextOptions};
 use limecove_sys::{CHARACTER_ESCAPE, CHARACTER_REFERENCE};
@@ -8,7 +9,8 @@ use std::iter::FusedIterator;
 use std::ops::Range;
 use std::str;
 
-/// The spans of a document as a tree. It keeps about 100 bytes for each span, and is made in time in proportion to the events.
+/// The spans of a document as a tree. It keeps about 100 bytes for each span, and the labels of definitions, and is made in time in
+/// proportion to the events; labels are sorted.
 ///
 /// ```
 /// use limecove::{Options, Tree};
@@ -25,6 +27,8 @@ pub struct Tree<'a> {
     /// How text was read.
     text: TextOptions,
     places: Vec<Place>,
+    /// What links by reference refer to.
+    pub(crate) definitions: Definitions,
 }
 
 /// A span, and where it is in the tree.
@@ -101,11 +105,19 @@ impl<'a> Tree<'a> {
         for enter in open {
             places[enter].behind = places.len();
         }
-        Ok(Tree {
+        let mut tree = Tree {
             document: document.as_ref(),
             text: TextOptions::default(),
             places,
-        })
+            definitions: Definitions::default(),
+        };
+        tree.definitions = Definitions::of(&tree)?;
+        Ok(tree)
+    }
+
+    /// The span of this index.
+    pub(crate) fn node(&self, index: usize) -> Node<'_> {
+        Node { tree: self, index }
     }
 
     /// All spans, in the order in which they begin: each comes before the spans in it.
@@ -140,6 +152,11 @@ pub struct Node<'a> {
 }
 
 impl<'a> Node<'a> {
+    /// The tree that it is in.
+    pub(crate) fn tree(&self) -> &'a Tree<'a> {
+        self.tree
+    }
+
     fn place(&self) -> &'a Place {
         &self.tree.places[self.index]
     }
@@ -387,6 +404,17 @@ impl Text {
         while let Some(node) = nodes.next() {
             if self.add_leaf(&node)? {
                 nodes.range.start = node.place().behind;
+            }
+        }
+        Ok(())
+    }
+
+    /// Adds the bytes of a span as they are written, without the marks of quotes that its lines begin with.
+    pub(crate) fn add_written(&mut self, of: &Node<'_>) -> Result<(), Error> {
+        for node in of.descendants() {
+            let is_leaf = node.children().next().is_none();
+            if is_leaf && node.name() != Name::BlockQuoteMarker {
+                self.add_bytes(node.text())?;
             }
         }
         Ok(())

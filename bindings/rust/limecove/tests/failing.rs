@@ -129,6 +129,7 @@ impl Ends {
             self.of_call(|| node.fence_info());
             self.of_call(|| node.cut_text());
             self.of_call(|| Ok(node.link()?.map(|to| (to.destination, to.title))));
+            self.of_call(|| Ok(node.definition()?.map(|it| it.span())));
         }
         self.of_call(|| Ok(LineIndex::new(document)?.line_count()));
     }
@@ -181,9 +182,13 @@ fn main() {
     let document = "# a *b* &nGt; ` c `\n\n~~~ d\\* e &amp;\n\tf\0\n~~~\n    g\n";
     let events = tokenize(document, &Options::default()).expect("there is memory");
     ends.of_tree(document, &events);
-    let document = "[a](b\\*c&copy; 'd &amp; e') ![f](<g>) <h:i> <j@k.l>";
-    let events = tokenize(document, &Options::default()).expect("there is memory");
-    ends.of_tree(document, &events);
+    for document in [
+        "[a](b\\*c&copy; 'd &amp; e') ![f](<g>) <h:i> <j@k.l>",
+        "[a][B] ![b][]\n\n> [b]: c\\* 'd &amp;'\n> [e\n> f]: <g>\n\n[ B ]: h\n\n[e\n f]",
+    ] {
+        let events = tokenize(document, &Options::default()).expect("there is memory");
+        ends.of_tree(document, &events);
+    }
     println!(
         "{} calls ran out of memory, and {} managed without",
         ends.out, ends.read

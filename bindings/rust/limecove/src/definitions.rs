@@ -1,0 +1,205 @@
+//! Definitions: what links and images by reference refer to.
+
+use crate::tree::{Text, Tree};
+use crate::{Error, Name, Node};
+use std::str;
+
+/// The definitions of a document: of each label the first one, by its label and the index of its span, in the order of labels.
+#[derive(Clone, Debug, Default)]
+pub(crate) struct Definitions(Vec<(Vec<u8>, usize)>);
+
+impl Definitions {
+    /// Those of a tree.
+    pub(crate) fn of(tree: &Tree<'_>) -> Result<Definitions, Error> {
+        let mut found = Vec::new();
+        for (index, node) in tree.nodes().enumerate() {
+            if node.name() != Name::Definition {
+                continue;
+            }
+            let label = node.child(Name::DefinitionLabel);
+            if let Some(label) = label.and_then(|it| it.child(Name::DefinitionLabelString)) {
+                found.try_reserve(1).map_err(|_| Error::OutOfMemory)?;
+                found.push((normalised(&label)?, index));
+            }
+        }
+        // by label, and then by place
+        found.sort_unstable();
+        found.dedup_by(|later, first| later.0 == first.0);
+        Ok(Definitions(found))
+    }
+
+    /// The index of the span that defines a label.
+    fn get(&self, label: &[u8]) -> Option<usize> {
+        let found = self.0.binary_search_by(|(known, _)| known[..].cmp(label));
+        found.ok().map(|at| self.0[at].1)
+    }
+}
+
+impl<'a> Node<'a> {
+    /// The definition that a link or an image refers to: the first one of its label. `None` if it has a resource, as `(b)` in `[a](b)`,
+    /// is no link or image, or nothing defines its label.
+    ///
+    /// Its label is what is in the brackets behind it, or else in its own. Two labels are the same also if they differ in how much white space
+    /// is in them, or in lower and upper case. It takes time in proportion to the label, and a logarithm to look it up.
+    ///
+    /// # Errors
+    ///
+    /// If it runs out of memory.
+    pub fn definition(&self) -> Result<Option<Node<'a>>, Error> {
+        let is_reference =
+            matches!(self.name(), Name::Link | Name::Image) && self.child(Name::Resource).is_none();
+        if !is_reference {
+            return Ok(None);
+        }
+        let behind = self.child(Name::Reference);
+        let label = match behind.and_then(|it| it.child(Name::ReferenceString)) {
+            Some(label) => Some(label),
+            None => self
+                .child(Name::Label)
+                .and_then(|it| it.child(Name::LabelText)),
+        };
+        let label = match label {
+            Some(label) => normalised(&label)?,
+            None => return Ok(None),
+        };
+        let tree = self.tree();
+        Ok(tree.definitions.get(&label).map(|index| tree.node(index)))
+    }
+}
+
+/// A label as it is compared: each run of white space is a space, none is at an end, and letters are in lower and then in upper case. Of
+/// bytes that are no UTF-8 only ASCII letters change.
+fn normalised(label: &Node<'_>) -> Result<Vec<u8>, Error> {
+    let mut written = Text::new();
+    written.add_written(label)?;
+    folded(&written.into_bytes())
+}
+
+fn folded(written: &[u8]) -> Result<Vec<u8>, Error> {
+    let mut collapsed = Text::new();
+    let words = written.split(|byte| matches!(byte, b' ' | b'\t' | b'\n' | b'\r'));
+    for (at, word) in words.filter(|word| !word.is_empty()).enumerate() {
+        collapsed.add_bytes(if at > 0 { b" " } else { b"" })?;
+        collapsed.add_bytes(word)?;
+    }
+    let mut collapsed = collapsed.into_bytes();
+    let characters = match str::from_utf8(&collapsed) {
+        Ok(text) => text.chars(),
+        Err(_) => {
+            collapsed.make_ascii_uppercase();
+            return Ok(collapsed);
+        }
+    };
+    let mut folded = Text::new();
+    for upper in characters
+        .flat_map(char::to_lowercase)
+        .flat_map(char::to_uppercase)
+    {
+        folded.add_bytes(upper.encode_utf8(&mut [0; 4]).as_bytes())?;
+    }
+    Ok(folded.into_bytes())
+}
+
+#[cfg(test)]
+mod tests {
+    use super::*;
+    use crate::event::tests::event;
+    use crate::{Event, Kind};
+    use std::ops::Range;
+
+    /// The events of spans in the order of their starts: each is in those before it that cover it.
+    fn events(of: &[(Name, Range<usize>)]) -> Vec<Event> {
+        let (mut all, mut open) = (Vec::new(), Vec::<(Name, usize)>::new());
+        let ends = std::iter::once((Name::Paragraph, usize::MAX..usize::MAX));
+        for (name, range) in of.iter().cloned().chain(ends) {
+            while let Some(&(inner, end)) = open.last().filter(|(_, end)| *end < range.end) {
+                all.push(event(Kind::Exit, inner, end));
+                open.pop();
+            }
+            if range.start < usize::MAX {
+                all.push(event(Kind::Enter, name, range.start));
+                open.push((name, range.end));
+            }
+        }
+        all
+    }
+
+    /// The three forms of references, one to nothing, and two definitions of one label, of which the first is meant.
+    #[test]
+    fn references_go_where_their_definitions_say() {
+        let document =
+            "[Foo  bar]: </u&amp;> 't'\n[FOO BAR]: /v\n\n[x][foo\tBAR] ![FoO Bar][] [fOo bar] [no]";
+        let span = |name, text: &str| {
+            let from = document.find(text).unwrap();
+            (name, from..from + text.len())
+        };
+        let list = events(&[
+            span(Name::Definition, "[Foo  bar]: </u&amp;> 't'"),
+            span(Name::DefinitionLabel, "[Foo  bar]"),
+            span(Name::DefinitionLabelString, "Foo  bar"),
+            span(Name::Data, "Foo  bar"),
+            span(Name::DefinitionDestination, "</u&amp;>"),
+            span(Name::DefinitionDestinationLiteral, "</u&amp;>"),
+            span(Name::DefinitionDestinationString, "/u&amp;"),
+            span(Name::Data, "/u&amp;"),
+            span(Name::DefinitionTitle, "'t'"),
+            span(Name::DefinitionTitleString, "t"),
+            span(Name::Data, "t"),
+            span(Name::Definition, "[FOO BAR]: /v"),
+            span(Name::DefinitionLabel, "[FOO BAR]"),
+            span(Name::DefinitionLabelString, "FOO BAR"),
+            span(Name::Data, "FOO BAR"),
+            span(Name::Link, "[x][foo\tBAR]"),
+            span(Name::Label, "[x]"),
+            span(Name::LabelText, "x"),
+            span(Name::Reference, "[foo\tBAR]"),
+            span(Name::ReferenceString, "foo\tBAR"),
+            span(Name::Data, "foo\tBAR"),
+            span(Name::Image, "![FoO Bar][]"),
+            span(Name::Label, "![FoO Bar]"),
+            span(Name::LabelText, "FoO Bar"),
+            span(Name::Data, "FoO Bar"),
+            span(Name::Reference, "[]"),
+            span(Name::Link, "[fOo bar]"),
+            span(Name::Label, "[fOo bar]"),
+            span(Name::LabelText, "fOo bar"),
+            span(Name::Data, "fOo bar"),
+            span(Name::Link, "[no]"),
+            span(Name::Label, "[no]"),
+            span(Name::LabelText, "no"),
+            span(Name::Data, "no"),
+        ]);
+        let tree = Tree::new(document, &list).unwrap();
+        let is_link = |node: &Node<'_>| matches!(node.name(), Name::Link | Name::Image);
+        let links: Vec<_> = tree.nodes().filter(is_link).collect();
+        assert_eq!(links.len(), 4);
+        for link in &links[..3] {
+            let target = link.link().unwrap().unwrap();
+            assert_eq!(target.destination, b"/u&");
+            assert_eq!(target.title.as_deref(), Some(&b"t"[..]));
+            assert_eq!(target.definition.unwrap().bytes().start, 0);
+            assert_eq!(target.label.unwrap().name(), Name::LabelText);
+        }
+        assert!(links[3].link().unwrap().is_none());
+        assert!(tree.node(0).definition().unwrap().is_none());
+    }
+
+    #[test]
+    fn labels_are_compared_without_case_and_white_space() {
+        for (one, other) in [
+            ("Foo", "fOO"),
+            (" a \t\r\n b ", "A B"),
+            ("\u{1e9e}", "SS"),
+            (
+                "\u{3b1}\u{3c3} \u{3b1}\u{3c2}",
+                "\u{391}\u{3a3} \u{391}\u{3a3}",
+            ),
+            ("\u{df}", "ss"),
+        ] {
+            assert_eq!(folded(one.as_bytes()), folded(other.as_bytes()), "{}", one);
+        }
+        assert_ne!(folded(b"a b"), folded(b"ab"));
+        assert_ne!(folded("a\u{a0}b".as_bytes()), folded(b"a b"));
+        assert_eq!(folded(b"\xffa\xc3\xa9").unwrap(), b"\xffA\xc3\xa9");
+    }
+}
