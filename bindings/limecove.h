@@ -472,8 +472,7 @@ LIMECOVE_INLINE struct limecove_text_options limecove_default_text_options(void)
     return options;
 }
 
-/* The whole document: block quotes, lists and definitions, leaf blocks, inline text with links and emphasis in them, and tab stops at every 4
- * columns. */
+/* The whole document, with all of CommonMark, and tab stops at every 4 columns. */
 LIMECOVE_INLINE struct limecove_options limecove_default_options(void) {
     struct limecove_options options;
     options.size = sizeof options;

@@ -1,5 +1,5 @@
-/* Prints the outline of a document: its headings, each indented by its level, and below them where links go and which lists there are. It
- * reads the whole document, quotes and lists too, and copies its events some at a time.
+/* Prints the outline of a document: its headings, each indented by its level, and below them where links and definitions go, and which
+ * lists there are. It reads the whole document, quotes and lists too, and copies its events some at a time.
  * usage: outline [FILE]   (without a file, of the document below) */
 #include "../limecove.h"
 #include <stdio.h>
@@ -16,6 +16,8 @@ static const char sample[] = "# Trees\n"
                              "> 2. Fir\n"
                              ">\n"
                              ">    ### In a `list`\n"
+                             "\n"
+                             "[ash]: <ash.html>\n"
                              "\n"
                              "How they\n"
                              "grow\n"
@@ -92,6 +94,7 @@ static void on_event(const struct limecove_record *event, const uint8_t *documen
             break;
         case LIMECOVE_NAME_HEADING_ATX_SEQUENCE:
         case LIMECOVE_NAME_RESOURCE_DESTINATION_STRING:
+        case LIMECOVE_NAME_DEFINITION_DESTINATION_STRING:
         case LIMECOVE_NAME_AUTOLINK_PROTOCOL:
             *from = event->index;
             break;
@@ -122,6 +125,7 @@ static void on_event(const struct limecove_record *event, const uint8_t *documen
         print(heading->level - 1, "", document, heading->from, heading->to);
         break;
     case LIMECOVE_NAME_RESOURCE_DESTINATION_STRING:
+    case LIMECOVE_NAME_DEFINITION_DESTINATION_STRING:
     case LIMECOVE_NAME_AUTOLINK_PROTOCOL:
         print(8, "to ", document, *from, event->index);
         break;

@@ -343,6 +343,7 @@ mod tests {
             ("- a\n\n  b\n-\n", "<ul>|<li>|<p>a</p>|<p>b</p>|</li>|<li></li>|</ul>|"),
             ("1. a\n   - b\n\n     c\n", "<ol>|<li>a|<ul>|<li>|<p>b</p>|<p>c</p>|</li>|</ul>|</li>|</ol>|"),
             ("[a *b*](c?d&e \"f\\\"\")", "<p><a href=\"c?d&amp;e\" title=\"f&quot;\">a <em>b</em></a></p>|"),
+            ("[a][b] ![*b*\nc][b] [B]\n\n[b]: /d 'e&amp;'", "<p><a href=\"/d\" title=\"e&amp;\">a</a> <img src=\"/d\" alt=\"b c\" title=\"e&amp;\" /> <a href=\"/d\" title=\"e&amp;\">B</a></p>|"),
             ("[![a\n*b*](c)](d)", "<p><a href=\"d\"><img src=\"c\" alt=\"a b\" /></a></p>|"),
             ("<http://a.b?\u{e9}&> <c@d.e>", "<p><a href=\"http://a.b?%C3%A9&amp;\">http://a.b?\u{e9}&amp;</a> <a href=\"mailto:c@d.e\">c@d.e</a></p>|"),
             ("a &lt; &amp; \\< \"", "<p>a &lt; &amp; &lt; &quot;</p>|"),

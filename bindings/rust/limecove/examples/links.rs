@@ -63,5 +63,13 @@ mod tests {
             "3:3: Definition of nothing",
         ];
         assert_eq!(listed(document.as_bytes()).unwrap(), want);
+        let document = "[a][b] ![B][] [b]\n\n> [ B ]: c 'd'\n\n[b]: e\n";
+        let want = [
+            "1:1: Link to c, \"d\", by 3:3",
+            "1:8: Image to c, \"d\", by 3:3",
+            "1:15: Link to c, \"d\", by 3:3",
+            "5:1: Definition of nothing",
+        ];
+        assert_eq!(listed(document.as_bytes()).unwrap(), want);
     }
 }

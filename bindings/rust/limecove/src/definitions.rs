@@ -42,6 +42,16 @@ impl<'a> Node<'a> {
     /// Its label is what is in the brackets behind it, or else in its own. Two labels are the same also if they differ in how much white space
     /// is in them, or in lower and upper case. It takes time in proportion to the label, and a logarithm to look it up.
     ///
+    /// ```
+    /// use limecove::{Name, Options, Tree};
+    ///
+    /// let tree = Tree::read("[a][B]\n\n[b]: c 'd'", &Options::default())?;
+    /// let link = tree.nodes().find(|node| node.name() == Name::Link).unwrap();
+    /// assert_eq!(link.definition()?.unwrap().text(), b"[b]: c 'd'");
+    /// assert_eq!(link.link()?.unwrap().destination, b"c");
+    /// # Ok::<(), limecove::Error>(())
+    /// ```
+    ///
     /// # Errors
     ///
     /// If it runs out of memory.

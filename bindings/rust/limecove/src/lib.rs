@@ -10,8 +10,8 @@
 //! # Ok::<(), limecove::Error>(())
 //! ```
 //!
-//! What is read are block quotes, lists, leaf blocks (headings, code, HTML, thematic breaks, link reference definitions, paragraphs), and
-//! inline text with links, images and emphasis. Links by reference are not read yet.
+//! What is read is all of CommonMark: block quotes, lists, leaf blocks (headings, code, HTML, thematic breaks, link reference definitions,
+//! paragraphs), and inline text with links and images, also by reference, and emphasis.
 //!
 //! | For | Use | Time and memory |
 //! |---|---|---|

@@ -213,6 +213,43 @@ fn links_have_targets() {
     );
 }
 
+/// As CommonMark's rules for references have it: they go where the first definition of their label says, wherever it stands.
+#[test]
+fn references_have_targets() {
+    for (document, want) in [
+        ("[a][b]\n\n[B]: c 'd'", [["c", "d", "a"]].to_vec()),
+        (
+            "[a]: b\n[A]: c\n\n[a][] [d][A]",
+            vec![["b", "-", "a"], ["b", "-", "d"]],
+        ),
+        (
+            "![*a* `e`][]\n\n[*a*  `E`]: <c\\*&amp;> \"&lt;\"",
+            vec![["c*&", "<", "a e"]],
+        ),
+        (
+            "> [a\n> b]\n\n- [ A\tB ]: c\n  'd\n    e'",
+            vec![["c", "d\ne", "a\nb"]],
+        ),
+        ("[a\\]][\u{3a3}]\n\n[\u{3c2}]: <>", vec![["", "-", "a]"]]),
+        ("[a](b)\n\n[a]: c", vec![["b", "-", "a"]]),
+        ("[a][b]\n\n[a]: c", vec![]),
+        (
+            "[![a]][b]\n\n[a]: c\n[b]: d",
+            vec![["d", "-", "a"], ["c", "-", "a"]],
+        ),
+    ] {
+        let found = targets(document, &Options::default());
+        assert_eq!(found, want, "{:?}", document);
+    }
+    let tree = Tree::read("[a]\n\n> [A]: b\n\n[a]: c", &Options::default()).unwrap();
+    let link = tree.nodes().find(|node| node.name() == Name::Link);
+    let definition = link.unwrap().link().unwrap().unwrap().definition.unwrap();
+    assert_eq!(
+        (definition.text(), definition.bytes()),
+        (&b"[A]: b"[..], 7..13)
+    );
+}
+
 const DOCUMENT: &str = "# a *b **c** d*\r\n\n~~~ x\r`e\n~~~\nf `g\nh` é\n<!--\n-->\n\n    i\n";
 
 #[test]
