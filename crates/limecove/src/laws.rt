@@ -1,6 +1,8 @@
 //! What holds of the numbers that a caller in C or Rust compares with its own.
 
 ghost use Rattle.std.specs.Prelude.{◌≡◌};
+ghost use Rattle.markdown.specs.Presets.{default_constructs};
+ghost use Rattle.limecove.specs.Choices.{constructs_of};
 
 use crate::choose::{
     ALL_CONSTRUCTS, ATTENTION, AUTOLINK, BLOCK_QUOTE, CHARACTER_ESCAPE, CHARACTER_REFERENCE,
@@ -13,7 +15,7 @@ use crate::code::{
     OTHER_SIZE, OUT_OF_MEMORY, READ, TOO_LONG, VERSION,
 };
 
-/// The value of each number.
+/// The value of each number; and with all bits the constructs are CommonMark's.
 pub fn numbers_are_stated()
     ensures version { VERSION ≡ 4 }
     ensures read { READ ≡ 0 }
@@ -30,5 +32,6 @@ pub fn numbers_are_stated()
     ensures container_constructs { (BLOCK_QUOTE ≡ 16384) × (LIST_ITEM ≡ 32768) }
     ensures label_constructs { (LABEL_START_LINK ≡ 65536) × (LABEL_START_IMAGE ≡ 131072) × (LABEL_END ≡ 262144) × (DEFINITION ≡ 524288) }
     ensures all_constructs { ALL_CONSTRUCTS ≡ 1048575 }
+    ensures commonmark { constructs_of ALL_CONSTRUCTS ≡ default_constructs }
     ensures sizes { (TEXT_OPTIONS_SIZE ≡ 24) × (OPTIONS_SIZE ≡ 40) }
 {}
