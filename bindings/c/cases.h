@@ -33,8 +33,8 @@ static inline size_t below(size_t n) {
 /* A document of up to 30 pieces, in a block of its very length (of one byte if it is empty). */
 static inline uint8_t *random_document(size_t *len) {
     static const char *const pieces[] = {"a", "bc", " ", "\t", "\n", "\n", "\r", "\r\n", "`", "``", "<", ">", "<ab:c>", "\\", "\\*", "> ", "\xff", "*",
-                                          "- ", "1. ", "  ", "\n\n", "```"};
-    char text[30 * 6];
+                                          "- ", "1. ", "  ", "\n\n", "```", "[", "![", "]", "[a]", "](b)", "\n\n[a]: b"};
+    char text[30 * 8];
     *len = 0;
     for (size_t n = below(30); n > 0; n--) {
         const char *piece = pieces[below(sizeof pieces / sizeof *pieces)];
@@ -66,7 +66,7 @@ static inline size_t ranges_of_lines(const uint8_t *document, size_t len, struct
 /* A way to read: one of the nine machines, paragraphs, text, flow or document with their texts, text by limecove_read_text and
  * limecove_open_text, or the lines without quote marks by limecove_read_text_in and limecove_open_text_in. */
 #define WAYS 15
-#define MOST_LINES 180
+#define MOST_LINES 240
 
 /* The options of each way but the last two. */
 static inline struct limecove_options options_of(size_t way, struct limecove_text_options text, size_t cut) {

@@ -20,7 +20,7 @@ impl Random {
 
     /// A document of up to 40 pieces that the machines tell apart.
     fn document(&mut self) -> Vec<u8> {
-        const PIECES: [&[u8]; 29] = [
+        const PIECES: [&[u8]; 35] = [
             b"a",
             b"bc",
             b" ",
@@ -50,6 +50,12 @@ impl Random {
             b"  ",
             b"\n\n",
             b"```",
+            b"[",
+            b"![",
+            b"]",
+            b"[a]",
+            b"](b)",
+            b"\n\n[a]: b\n",
         ];
         (0..self.below(40))
             .flat_map(|_| PIECES[self.below(PIECES.len() as u64) as usize])
