@@ -58,7 +58,7 @@ The library was proved and built from its sources by \`bindings/build.sh\`; this
 - C: \`cc -Iinclude prog.c lib/liblimecove.a\`, or \`cc prog.c \$(PKG_CONFIG_PATH=lib/pkgconfig pkg-config --cflags --libs limecove)\`, which
   links \`lib/liblimecove.so.$layout\`. \`include/limecove.h\` says what each function does. To install, copy \`include\` and \`lib\` to \`/usr/local\`.
 - Rust: \`limecove = { path = ".../rust/limecove" }\` in \`Cargo.toml\`. It finds \`lib\` by itself. It needs Rust 1.63.
-- Examples: \`c/outline.c\`, and in \`rust/limecove/examples\` linters, a highlighter and a writer of HTML.
+- Examples: \`c/outline.c\`, and in \`rust/limecove/examples\` linters, a highlighter, a list of links and a writer of HTML.
 - \`./test.sh\` compares \`SHA256SUMS\`, and builds and runs the tests: it needs cc, and for the crates cargo. It takes a minute or two, and no
   network.
 EOF
