@@ -40,7 +40,8 @@ pub enum Machine {
     /// `flow`: the leaf blocks of CommonMark. In paragraphs and headings is inline text, with links, images and emphasis; in info
     /// strings of fenced code are escapes and character references.
     Flow = 7,
-    /// `document`: block quotes and lists, and the leaf blocks in them, as `flow` reads these.
+    /// `document`: block quotes and lists, and the leaf blocks and link reference definitions in them. Inline text is as in `flow`, with
+    /// links and images by these definitions too.
     #[default]
     Document = 8,
 }
